@@ -1,0 +1,22 @@
+// The rounding r of every stage: a quotient to the nearest whole number, halves towards plus infinity. Every other crate calls
+// `round_div` for its rounding and cites the laws of `round`, so that another rounding is another definition, here alone.
+ghost use mathlib.Core.Path.{_≡_};
+ghost use Prim.Native.Nat.{_^_, _≤_};
+ghost use lib.IntN.{ℤ, pos, natAbs};
+ghost use lib.Signed.{_≤ℤ_, _<ℤ_};
+ghost use Rattle.rounding.specs.Round.{round};
+
+// r(n / d). The machine's division cuts towards zero, so a multiple of the divisor lifts the dividend above zero first and is
+// taken off the quotient again. With a divisor that the compiler sees, what is left of the division is a shift or a product.
+pub fn round_div(n: i64, d: i64) -> i64
+    requires positive { ⌜ pos 0 <ℤ d ⌝ }
+    requires divisor { ⌜ d ≤ℤ pos (2 ^ 36) ⌝ }
+    requires dividend { ⌜ natAbs n ≤ 2 ^ 60 ⌝ }
+    ensures { λ r. ⌜ r ≡ round n d ⌝ }
+{
+    let m = 2 * d;
+    let lift = 4611686018427387904 / m;
+    let t = 2 * n + d + lift * m;
+    let q = t as u64 / m as u64;
+    q as i64 - lift
+}
