@@ -1,0 +1,213 @@
+-- What each fault's absence says, and the rings of an accepted mesh: as many links as a vertex has corners lead back, and fewer do not;
+-- likewise for the steps around a face.
+-- Assumes nothing.
+use mathlib.Core.Path.{_≡_, refl, ap, _∙_, sym, subst}
+use mathlib.Core.Bool.{Bool, true, false, not, _||_, true≢false}
+use mathlib.Core.Logic.{⊎-elim}
+use mathlib.Core.List.{List}
+use Prim.Native.Nat.{ℕ, zero, suc, _+_, _-_, _/_, _%_, _<_, _≤_}
+use native.Mathlib.Omega.{arith}
+use lib.Dec.{ltb, eqb}
+use lib.ListN.{length, getD}
+use borrow.Author.Tests.{eqb-true, eq-eqb, leb-false, ltb-true, ltb-false, lt-ltb, le-ltb, not-false}
+use Rattle.mesh.specs.Limits.{leastSides, mostSides, mostVertices, mostFaces, mostCorners}
+use Rattle.mesh.specs.Scan.{iterate}
+use Rattle.mesh.specs.Lists.{Mesh, vertexCount, faceCount, cornerCount}
+use Rattle.mesh.specs.Corners.{sumOf, firstOf, sidesOf, next}
+use Rattle.mesh.specs.Links.{vertexOf, link, names, valence, lowest}
+use Rattle.mesh.specs.Faults.{outside, fault4, fault5, fault6, fault7, fault8, fault9, fault10, fault11, fault12, fault13, after, ringLength, met, verdict, Accepted, Closed}
+use Rattle.mesh.specs.Theorems.{Returns}
+use Rattle.mesh.proofs.Scans.{ways, first-le, first-passes, none}
+use Rattle.mesh.proofs.Faces.{first-from, first-to, first-same, sides-same, next-inner, next-last}
+use Rattle.mesh.proofs.Links.{link-in, link-vertex, link-injective}
+use Rattle.mesh.proofs.Rings.{Turns, turn, all-met, iterate-zero, iterate-suc, iterate-swap, iterate-add}
+use Rattle.mesh.proofs.Verdicts.{sound-left, sound-right, single-sound, lowest-sound}
+
+-- no fault of 4 to 13
+pub record Sound (M : Mesh) : Type 0 where
+  pub four : fault4 (length (M .coordinates)) (faceCount M) (cornerCount M) ≡ false
+  pub five : (f : ℕ) → f < faceCount M → fault5 (M .sides) f ≡ false
+  pub six : fault6 (M .sides) (cornerCount M) ≡ false
+  pub seven : (i : ℕ) → i < length (M .coordinates) → fault7 (M .coordinates) i ≡ false
+  pub eight : (c : ℕ) → c < cornerCount M → fault8 (vertexCount M) (M .corners) c ≡ false
+  pub nine : (c : ℕ) → c < cornerCount M → fault9 (M .sides) (M .corners) c ≡ false
+  pub ten : (c : ℕ) → c < cornerCount M → fault10 (M .sides) (M .corners) c ≡ false
+  pub eleven : (c : ℕ) → c < cornerCount M → fault11 (M .sides) (M .corners) c ≡ false
+  pub twelve : (u : ℕ) → u < vertexCount M → fault12 (M .corners) u ≡ false
+  pub thirteen : (u : ℕ) → u < vertexCount M → fault13 (M .sides) (M .corners) u ≡ false
+
+pub sound-of : (M : Mesh) → Accepted M → Sound M
+unfolding verdict
+sound-of M e4 =
+    let e5 = sound-right _ _ e4 in
+    let e6 = sound-right _ _ e5 in
+    let e7 = sound-right _ _ e6 in
+    let e8 = sound-right _ _ e7 in
+    let e9 = sound-right _ _ e8 in
+    let e10 = sound-right _ _ e9 in
+    let e11 = sound-right _ _ e10 in
+    let e12 = sound-right _ _ e11 in
+    record {
+      four = single-sound _ _ _ (sound-left _ _ e4);
+      five = lowest-sound _ _ _ (sound-left _ _ e5);
+      six = single-sound _ _ _ (sound-left _ _ e6);
+      seven = lowest-sound _ _ _ (sound-left _ _ e7);
+      eight = lowest-sound _ _ _ (sound-left _ _ e8);
+      nine = lowest-sound _ _ _ (sound-left _ _ e9);
+      ten = lowest-sound _ _ _ (sound-left _ _ e10);
+      eleven = lowest-sound _ _ _ (sound-left _ _ e11);
+      twelve = lowest-sound _ _ _ (sound-left _ _ e12);
+      thirteen = lowest-sound _ _ _ (sound-right _ _ e12);
+    }
+
+none-left : (a b : Bool) → a || b ≡ false → a ≡ false
+none-left true b e = e
+none-left false b e = refl
+
+none-right : (a b : Bool) → a || b ≡ false → b ≡ false
+none-right true b e = absurd (true≢false e)
+none-right false b e = e
+
+or-true : (b : Bool) → b || true ≡ true
+or-true true = refl
+or-true false = refl
+
+-- a number's place in a range, and the test
+module _ (low high n : ℕ) where
+  pub at-least : outside low high n ≡ false → low ≤ n
+  at-least e = ltb-false n low (none-left (ltb n low) (ltb high n) e)
+
+  pub at-most : outside low high n ≡ false → n ≤ high
+  at-most e = ltb-false high n (none-right (ltb n low) (ltb high n) e)
+
+  pub outside-low : n < low → outside low high n ≡ true
+  outside-low h = rw (lt-ltb n low h)
+
+  pub outside-high : high < n → outside low high n ≡ true
+  outside-high h = rw (lt-ltb high n h) (or-true (ltb n low))
+
+  pub inside : low ≤ n → n ≤ high → outside low high n ≡ false
+  inside a h = rw (le-ltb n low a, le-ltb high n h)
+
+-- no fault of 4
+module _ (n f c : ℕ) (e : fault4 n f c ≡ false) where
+  after-thirds : outside 1 mostVertices (n / 3) || (outside 1 mostFaces f || outside 1 mostCorners c) ≡ false
+  unfolding fault4
+  after-thirds = none-right (not (eqb (n % 3) 0)) _ e
+
+  pub few-vertices : n / 3 ≤ mostVertices
+  few-vertices = at-most 1 mostVertices (n / 3) (none-left (outside 1 mostVertices (n / 3)) _ after-thirds)
+
+  pub few-faces : f ≤ mostFaces
+  few-faces = at-most 1 mostFaces f (none-left (outside 1 mostFaces f) (outside 1 mostCorners c) (none-right (outside 1 mostVertices (n / 3)) _ after-thirds))
+
+  pub few-corners : c ≤ mostCorners
+  few-corners = at-most 1 mostCorners c (none-right (outside 1 mostFaces f) (outside 1 mostCorners c) (none-right (outside 1 mostVertices (n / 3)) _ after-thirds))
+
+  pub some-corner : 1 ≤ c
+  some-corner = at-least 1 mostCorners c (none-right (outside 1 mostFaces f) (outside 1 mostCorners c) (none-right (outside 1 mostVertices (n / 3)) _ after-thirds))
+
+-- no fault of 5, 6, 8 and 12
+pub sides-within : (sides : List ℕ) (f : ℕ) → fault5 sides f ≡ false → (leastSides ≤ getD sides f 0) × (getD sides f 0 ≤ mostSides)
+unfolding fault5
+sides-within sides f e = (at-least leastSides mostSides (getD sides f 0) e, at-most leastSides mostSides (getD sides f 0) e)
+
+pub sums-of : (sides : List ℕ) (count : ℕ) → fault6 sides count ≡ false → sumOf sides ≡ count
+unfolding fault6
+sums-of sides count e = eqb-true _ _ (not-false _ e)
+
+pub named-of : (count : ℕ) (corners : List ℕ) (c : ℕ) → fault8 count corners c ≡ false → vertexOf corners c < count
+unfolding fault8
+named-of count corners c e = leb-false _ _ e
+
+pub valence-within : (corners : List ℕ) (u : ℕ) → fault12 corners u ≡ false → (leastSides ≤ valence corners u) × (valence corners u ≤ mostSides)
+unfolding fault12
+valence-within corners u e = (at-least leastSides mostSides (valence corners u) e, at-most leastSides mostSides (valence corners u) e)
+
+pub closed-of : (M : Mesh) → Sound M → Closed (M .sides) (M .corners)
+closed-of M s = record { sums = sums-of (M .sides) (cornerCount M) (s .six); ten = s .ten; eleven = s .eleven }
+
+-- the links of closed tables, at a vertex that some corner names
+module _ (sides corners : List ℕ) (k : Closed sides corners) (u c₀ : ℕ) (h₀ : c₀ < length corners) (e₀ : vertexOf corners c₀ ≡ u) where
+  names-of : (c : ℕ) → names corners u c ≡ true → vertexOf corners c ≡ u
+  unfolding names
+  names-of c e = eqb-true _ _ e
+
+  of-names : (c : ℕ) → vertexOf corners c ≡ u → names corners u c ≡ true
+  unfolding names
+  of-names c e = eq-eqb _ _ e
+
+  lowest-in : lowest corners u < length corners
+  unfolding lowest
+  lowest-in = omega (arith, first-le (length corners) (names corners u) c₀ (of-names c₀ e₀))
+
+  lowest-names : names corners u (lowest corners u) ≡ true
+  unfolding lowest
+  lowest-names = first-passes (length corners) (names corners u) lowest-in
+
+  pub turns : Turns (length corners) (names corners u) (link sides corners) (lowest corners u)
+  turns =
+      record {
+        start-in = lowest-in;
+        start-of = lowest-names;
+        step-in = λ c h e. link-in sides corners k c h;
+        step-of = λ c h e. of-names (link sides corners c) (link-vertex sides corners k c h ∙ names-of c e);
+        injective = λ c d hc hd ec ed q. link-injective sides corners k c d hc hd q;
+      }
+
+  -- fault 13 is that the ring of the lowest corner is not as long as the vertex has corners
+  pub ring-full : fault13 sides corners u ≡ false → ringLength sides corners u ≡ valence corners u
+  unfolding fault13 ringLength met after valence
+  ring-full e = all-met (length corners) (names corners u) (link sides corners) (lowest corners u) turns (none (length corners) _ e)
+
+  pub link-turn : fault13 sides corners u ≡ false → Returns (link sides corners) (valence corners u) c₀
+  unfolding fault13 ringLength met after valence
+  link-turn e = turn (length corners) (names corners u) (link sides corners) (lowest corners u) turns (none (length corners) _ e) c₀ h₀ (of-names c₀ e₀)
+
+-- as many links as the vertex has corners lead back to a corner, and fewer do not
+pub links-return : (M : Mesh) → Accepted M → (c : ℕ) → c < cornerCount M → Returns (link (M .sides) (M .corners)) (valence (M .corners) (vertexOf (M .corners) c)) c
+links-return M a c h =
+    let s = sound-of M a in
+    link-turn (M .sides) (M .corners) (closed-of M s) (vertexOf (M .corners) c) c h refl (s .thirteen _ (named-of (vertexCount M) (M .corners) c (s .eight c h)))
+
+-- as many steps to the next corner as the face has sides lead back, and fewer do not
+module _ (sides : List ℕ) (c : ℕ) (h : c < sumOf sides) where
+  inner : (j : ℕ) → j < sidesOf sides c → (firstOf sides (firstOf sides c + j) ≡ firstOf sides c) × (sidesOf sides (firstOf sides c + j) ≡ sidesOf sides c)
+  inner j l = (first-same sides c h (firstOf sides c + j) (omega arith) (omega arith), sides-same sides c h (firstOf sides c + j) (omega arith) (omega arith))
+
+  run : (j : ℕ) → j < sidesOf sides c → iterate j (next sides) (firstOf sides c) ≡ firstOf sides c + j
+  run zero l = iterate-zero (next sides) (firstOf sides c) ∙ omega arith
+  run (suc j) l =
+      let i = inner j (omega arith) in
+      iterate-suc (next sides) j (firstOf sides c) ∙ ap (next sides) (run j (omega arith)) ∙ next-inner sides (firstOf sides c + j) (omega arith) ∙ omega arith
+
+  round : (n : ℕ) → n ≡ sidesOf sides c → iterate n (next sides) (firstOf sides c) ≡ firstOf sides c
+  round zero e = absurd (omega (arith, first-from sides c h, first-to sides c h))
+  round (suc j) e =
+      let i = inner j (omega arith) in
+      iterate-suc (next sides) j (firstOf sides c) ∙ ap (next sides) (run j (omega arith)) ∙ next-last sides (firstOf sides c + j) (omega arith) ∙ i .0
+
+  pub next-turn : Returns (next sides) (sidesOf sides c) c
+  next-turn =
+      let f = first-from sides c h in
+      let t = first-to sides c h in
+      let p = c - firstOf sides c in
+      let q : iterate p (next sides) (firstOf sides c) ≡ c = run p (omega arith) ∙ omega arith in
+      let w = round (sidesOf sides c) refl in
+      record {
+        back =
+            subst (λ (x : ℕ). iterate (sidesOf sides c) (next sides) x ≡ x) q
+            (iterate-swap (next sides) (sidesOf sides c) p (firstOf sides c) ∙ ap (iterate p (next sides)) w);
+        before = λ j a b r.
+            let r' : iterate (j + p) (next sides) (firstOf sides c) ≡ c =
+            sym (iterate-add (next sides) j p (firstOf sides c)) ∙ ap (iterate j (next sides)) q ∙ r in
+            ⊎-elim
+            (λ l. let l' : j + p < sidesOf sides c = ltb-true _ _ l in omega (arith, run (j + p) l'))
+            (λ l. let l' : sidesOf sides c ≤ j + p = ltb-false _ _ l in
+            let m = j + p - sidesOf sides c in
+            let e : j + p ≡ m + sidesOf sides c = omega arith in
+            let z : iterate (m + sidesOf sides c) (next sides) (firstOf sides c) ≡ firstOf sides c + m =
+            sym (iterate-add (next sides) m (sidesOf sides c) (firstOf sides c)) ∙ ap (iterate m (next sides)) w ∙ run m (omega arith) in
+            omega (arith, sym (ap (λ (k : ℕ). iterate k (next sides) (firstOf sides c)) e) ∙ r', z))
+            (ways (ltb (j + p) (sidesOf sides c)));
+      }
