@@ -123,17 +123,17 @@ module _ (sides corners : List ℕ) (k : Closed sides corners) where
   link-injective c d hc hd e = sym (unlink-link c hc) ∙ ap (λ (x : ℕ). previous sides (link sides corners (previous sides x))) e ∙ unlink-link d hd
 
 -- the values of a function, one by one
-module _ (f : ℕ → ℕ) where
+module _ {A : Type 0} (f : ℕ → A) where
   pub values-length : (at n : ℕ) → length (valuesFrom f at n) ≡ n
   unfolding valuesFrom
   values-length at zero = refl
   values-length at (suc n) = ap suc (values-length (suc at) n)
 
-  pub values-at : (at n i : ℕ) → i < n → getD (valuesFrom f at n) i 0 ≡ f (at + i)
+  pub values-at : (z : A) (at n i : ℕ) → i < n → getD (valuesFrom f at n) i z ≡ f (at + i)
   unfolding valuesFrom
-  values-at at zero i l = absurd (omega arith)
-  values-at at (suc n) zero l = ap f (let q : at ≡ at + 0 = omega arith in q)
-  values-at at (suc n) (suc i) l = values-at (suc at) n i (omega arith) ∙ ap f (let q : suc at + i ≡ at + suc i = omega arith in q)
+  values-at z at zero i l = absurd (omega arith)
+  values-at z at (suc n) zero l = ap f (let q : at ≡ at + 0 = omega arith in q)
+  values-at z at (suc n) (suc i) l = values-at z (suc at) n i (omega arith) ∙ ap f (let q : suc at + i ≡ at + suc i = omega arith in q)
 
 -- the link table, entry by entry
 module _ (M : Mesh) where
@@ -144,7 +144,7 @@ module _ (M : Mesh) where
   pub link-table-at : (c : ℕ) → c < length (M .corners) → getD (linkTable M) c 0 ≡ link (M .sides) (M .corners) c
   unfolding linkTable
   link-table-at c h =
-      values-at (link (M .sides) (M .corners)) 0 (length (M .corners)) c h
+      values-at (link (M .sides) (M .corners)) 0 0 (length (M .corners)) c h
       ∙ ap (link (M .sides) (M .corners)) (let q : 0 + c ≡ c = omega arith in q)
 
   pub link-table-is : (table : List ℕ) → length table ≡ length (M .corners) → ((c : ℕ) → c < length (M .corners) → getD table c 0 ≡ link (M .sides) (M .corners) c)

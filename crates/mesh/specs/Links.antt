@@ -29,7 +29,7 @@ unfoldable pub link : List ℕ → List ℕ → ℕ → ℕ
 link sides corners c = firstBelow (length corners) (linked sides corners c)
 
 -- the values of a function at `left` numbers from `at` on
-unfoldable pub valuesFrom : (ℕ → ℕ) → ℕ → ℕ → List ℕ
+unfoldable pub valuesFrom : {A : Type 0} → (ℕ → A) → ℕ → ℕ → List A
 valuesFrom f at zero = []
 valuesFrom f at (suc left) = f at ∷ valuesFrom f (suc at) left
 

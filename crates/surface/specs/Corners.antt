@@ -1,0 +1,35 @@
+-- A mesh as the construction sees it on one axis: functions of its corners; and the laws that an accepted mesh gives them.
+-- Assumes nothing.
+use mathlib.Core.Path.{_≡_}
+use Prim.Native.Nat.{ℕ, _≤_, _<_, _^_}
+use lib.IntN.{ℤ, natAbs}
+use Rattle.mesh.specs.Limits.{leastSides, mostSides}
+use Rattle.mesh.specs.Scan.{iterate}
+
+pub record Corners : Type 0 where
+  pub count : ℕ
+  pub next : ℕ → ℕ
+  pub previous : ℕ → ℕ
+  pub link : ℕ → ℕ
+  -- sides of a corner's face, corners of its vertex
+  pub sides : ℕ → ℕ
+  pub valence : ℕ → ℕ
+  -- a corner's refined point, in ticks
+  pub refined : ℕ → ℤ
+
+pub record Sound (K : Corners) : Type 0 where
+  pub next-in : (c : ℕ) → c < K .count → K .next c < K .count
+  pub previous-in : (c : ℕ) → c < K .count → K .previous c < K .count
+  pub link-in : (c : ℕ) → c < K .count → K .link c < K .count
+  pub next-previous : (c : ℕ) → c < K .count → K .next (K .previous c) ≡ c
+  pub previous-next : (c : ℕ) → c < K .count → K .previous (K .next c) ≡ c
+  pub link-previous-link : (c : ℕ) → c < K .count → K .link (K .previous (K .link c)) ≡ K .next c
+  pub face-closes : (c : ℕ) → c < K .count → iterate (K .sides c) (K .next) c ≡ c
+  pub vertex-closes : (c : ℕ) → c < K .count → iterate (K .valence c) (K .link) c ≡ c
+  pub sides-next : (c : ℕ) → c < K .count → K .sides (K .next c) ≡ K .sides c
+  pub valence-link : (c : ℕ) → c < K .count → K .valence (K .link c) ≡ K .valence c
+  pub sides-least : (c : ℕ) → c < K .count → leastSides ≤ K .sides c
+  pub sides-most : (c : ℕ) → c < K .count → K .sides c ≤ mostSides
+  pub valence-least : (c : ℕ) → c < K .count → leastSides ≤ K .valence c
+  pub valence-most : (c : ℕ) → c < K .count → K .valence c ≤ mostSides
+  pub refined-size : (c : ℕ) → c < K .count → natAbs (K .refined c) ≤ 2 ^ 24
