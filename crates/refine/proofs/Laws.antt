@@ -4,22 +4,31 @@ use mathlib.Core.Path.{_≡_, refl, ap, _∙_, sym, subst}
 use mathlib.Core.Bool.{Bool, true, false}
 use mathlib.Core.Logic.{⊎-elim}
 use mathlib.Core.List.{List}
-use Prim.Native.Nat.{ℕ, zero, suc, _+_, _-_, _<_, _≤_}
+use Prim.Native.Nat.{ℕ, zero, suc, _+_, _-_, _*_, _^_, _<_, _≤_}
 use native.Mathlib.Numerals.{add-one}
 use native.Mathlib.Omega.{arith}
 use borrow.Author.Count.{below-more}
-use lib.Dec.{eqb}
+use lib.Dec.{eqb, lit≤, lit<}
+use mir.Syntax.{w64}
+use mir.Val.{SFits}
+use Rattle.integers.specs.Sum.{sum}
+use Rattle.integers.proofs.Sum.{sum-abs}
+use Rattle.integers.proofs.Machine.{abs-fits}
+use lib.IntN.{ℤ, pos, natAbs, _*ℤ_}
+use Rattle.integers.proofs.Laws.{abs-mul-le}
 use lib.ListN.{length, getD, set, replicate, getD-replicate}
 use lib.Seq.{getD-set-same, getD-set-other}
 use borrow.Author.Tests.{eqb-true, eqb-false, eq-eqb}
-use Rattle.mesh.specs.Limits.{leastSides, mostSides, mostVertices, mostCorners}
+use Rattle.mesh.specs.Limits.{leastSides, mostSides, mostVertices, mostCorners, mostCoordinate}
+use Rattle.mesh.specs.Lists.{meshOf}
 use Rattle.mesh.specs.Scan.{countBelow}
 use Rattle.mesh.specs.Corners.{startOf, firstOf, sidesOf, previous}
 use Rattle.mesh.specs.Links.{vertexOf, names, valence}
 use Rattle.mesh.proofs.Scans.{ways, compared}
 use Rattle.mesh.proofs.Faces.{face-at, start-zero, start-next, previous-first, previous-inner}
 use Rattle.mesh.proofs.Rings.{count-hit, count-miss}
-use Rattle.refine.specs.Tables.{Filled, FaceTables, Faces, Vertices}
+use Rattle.surface.specs.Refined.{ticks}
+use Rattle.refine.specs.Tables.{Filled, FaceTables, Faces, Vertices, Placed}
 
 -- one place more
 pub filled-set : {A : Type 0} (z : A) (f : ℕ → A) (table : List A) (c : ℕ) (v : A) → Filled z f table c → c < length table → v ≡ f c → Filled z f (set table c v) (c + 1)
@@ -101,3 +110,31 @@ count-small corners v c h =
 pub valence-is : (corners : List ℕ) (u : ℕ) → countBelow (length corners) (names corners u) ≡ valence corners u
 unfolding valence
 valence-is corners u = refl
+
+-- ---- ticks and their sums
+pub tick-size : (z : ℤ) → natAbs z ≤ mostCoordinate → natAbs (pos 256 *ℤ z) ≤ 2 ^ 24
+tick-size z h = abs-mul-le (pos 256) z 256 mostCoordinate (lit≤ tt) h
+
+module _ (coordinates : List ℤ) (corners : List ℕ) (p : Placed coordinates corners) (axis c : ℕ) (a : axis < 3) (h : c < length corners) where
+  pub tick-in : 3 * vertexOf corners c + axis < length coordinates
+  tick-in = omega (arith, p .named c h)
+
+  pub coordinate-size : natAbs (getD coordinates (3 * vertexOf corners c + axis) (pos 0)) ≤ mostCoordinate
+  coordinate-size = p .within (3 * vertexOf corners c + axis) tick-in
+
+  pub ticks-size : (sides : List ℕ) → natAbs (ticks (meshOf coordinates sides corners) axis c) ≤ 2 ^ 24
+  unfolding ticks
+  ticks-size sides = tick-size (getD coordinates (3 * vertexOf corners c + axis) (pos 0)) coordinate-size
+
+-- the sum of the vertices of n corners from `start` on
+module _ (coordinates : List ℤ) (corners : List ℕ) (p : Placed coordinates corners) (axis start : ℕ) (a : axis < 3) where
+  pub sum-size : (sides : List ℕ) (n : ℕ) → start + n ≤ length corners
+      → natAbs (sum (λ j. ticks (meshOf coordinates sides corners) axis (start + j)) n) ≤ n * 2 ^ 24
+  sum-size sides n h =
+      sum-abs (λ j. ticks (meshOf coordinates sides corners) axis (start + j)) n (2 ^ 24)
+      (λ j l. ticks-size coordinates corners p axis (start + j) a (omega arith) sides)
+
+  pub sum-fits : (sides : List ℕ) (n : ℕ) → start + n ≤ length corners → n ≤ mostSides
+      → SFits w64 (sum (λ j. ticks (meshOf coordinates sides corners) axis (start + j)) n)
+  sum-fits sides n h l =
+      abs-fits w64 (sum (λ j. ticks (meshOf coordinates sides corners) axis (start + j)) n) (2 ^ 28) (omega (arith, sum-size sides n h)) (lit< tt)

@@ -2,7 +2,7 @@
 -- Assumes nothing.
 use mathlib.Core.Path.{_≡_}
 use mathlib.Core.List.{List}
-use Prim.Native.Nat.{ℕ, _<_, _≤_, _/_}
+use Prim.Native.Nat.{ℕ, _*_, _^_, _<_, _≤_, _/_}
 use lib.ListN.{length, getD}
 use lib.IntN.{ℤ, pos, natAbs}
 use Rattle.mesh.specs.Limits.{leastSides, mostSides, mostVertices, mostCorners, mostCoordinate}
@@ -41,3 +41,12 @@ pub record Refinable (M : Mesh) : Type 0 where
   pub faces : Faces (M .sides)
   pub sums : sumOf (M .sides) ≡ cornerCount M
   pub placed : Placed (M .coordinates) (M .corners)
+
+-- the sizes of what one refined point is computed from: ticks within 2^24, and as many of them in the sum as the face has sides
+pub record Ticks (total before here after : ℤ) (n : ℕ) : Type 0 where
+  pub least : leastSides ≤ n
+  pub most : n ≤ mostSides
+  pub total-size : natAbs total ≤ n * 2 ^ 24
+  pub before-size : natAbs before ≤ 2 ^ 24
+  pub here-size : natAbs here ≤ 2 ^ 24
+  pub after-size : natAbs after ≤ 2 ^ 24

@@ -1,6 +1,7 @@
 // Tables over the corners of an accepted mesh, each filled in one pass: the previous corner and the sides of the face, the corners of
 // the vertex, and on one axis the refined point. A face's sum is formed once and serves all its corners.
 ghost use mathlib.Core.Path.{_≡_};
+ghost use mathlib.Core.List.{List};
 ghost use Prim.Native.Nat.{ℕ, _+_, _*_, _^_, _≤_, _<_};
 ghost use lib.ListN.{length, getD, replicate};
 ghost use lib.IntN.{ℤ, pos, natAbs, _+ℤ_, _*ℤ_};
@@ -11,7 +12,7 @@ ghost use Rattle.mesh.specs.Scan.{countBelow};
 ghost use Rattle.mesh.specs.Corners.{sumOf, startOf, next, previous};
 ghost use Rattle.mesh.specs.Links.{vertexOf, names, valence};
 ghost use Rattle.surface.specs.Refined.{ticks, faceSum, refinedPoint};
-ghost use Rattle.refine.specs.Tables.{Filled, FaceTables, Faces, Vertices, Placed, Refinable};
+ghost use Rattle.refine.specs.Tables.{Filled, FaceTables, Faces, Vertices, Placed, Refinable, Ticks};
 
 use rounding::round_div;
 
@@ -79,4 +80,58 @@ pub fn fill_valences(corners: &[u16], valences: &mut [u8])
         valences[c] = counts[u];
         c += 1;
     }
+}
+
+// P: the vertex of a corner on an axis, in ticks.
+fn tick(coordinates: &[i32], corners: &[u16], axis: usize, c: usize) -> i64
+    requires placed { ⌜ Placed (now coordinates) (now corners) ⌝ }
+    requires corner { ⌜ (axis < 3) × (c < length (now corners)) ⌝ }
+    ensures { λ r. ⌜ ((sides : List ℕ) → r ≡ ticks (meshOf (now (coordinates .entry)) sides (now (corners .entry))) axis c) ⌝ }
+{
+    let v = corners[c] as usize;
+    256 * coordinates[3 * v + axis] as i64
+}
+
+// Σ: the sum of the vertices of `n` corners from `start` on.
+fn face_sum(coordinates: &[i32], corners: &[u16], axis: usize, start: usize, n: usize) -> i64
+    requires placed { ⌜ Placed (now coordinates) (now corners) ⌝ }
+    requires face { ⌜ (axis < 3) × (start + n ≤ length (now corners)) × (n ≤ 12) ⌝ }
+    ensures { λ r. ⌜ ((sides : List ℕ) → r ≡ sum (λ j. ticks (meshOf (now (coordinates .entry)) sides (now (corners .entry))) axis (start + j)) n) ⌝ }
+{
+    let mut total: i64 = 0;
+    let mut j = 0;
+    while j < n {
+        total += tick(coordinates, corners, axis, start + j);
+        j += 1;
+    }
+    total
+}
+
+// r(t / 8n); the side counts of a mesh have divisors that the compiler sees.
+fn divide(t: i64, n: u8) -> i64
+    requires { ⌜ (1 ≤ n) × (natAbs t ≤ 2 ^ 60) ⌝ }
+    ensures { λ r. ⌜ r ≡ round t (pos 8 *ℤ pos n) ⌝ }
+{
+    match n {
+        3 => round_div(t, 24),
+        4 => round_div(t, 32),
+        5 => round_div(t, 40),
+        6 => round_div(t, 48),
+        7 => round_div(t, 56),
+        8 => round_div(t, 64),
+        9 => round_div(t, 72),
+        10 => round_div(t, 80),
+        11 => round_div(t, 88),
+        12 => round_div(t, 96),
+        _ => round_div(t, 8 * n as i64),
+    }
+}
+
+// V from Σ, the vertices of the previous corner, of the corner and of the next, and the sides of the face.
+fn refined(total: i64, before: i64, here: i64, after: i64, n: u8) -> i32
+    requires { ⌜ Ticks total before here after n ⌝ }
+    ensures { λ r. ⌜ r ≡ round (pos 2 *ℤ total +ℤ pos n *ℤ (before +ℤ pos 4 *ℤ here +ℤ after)) (pos 8 *ℤ pos n) ⌝ }
+{
+    let t = 2 * total + n as i64 * (before + 4 * here + after);
+    divide(t, n) as i32
 }
