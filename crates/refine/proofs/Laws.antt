@@ -10,12 +10,19 @@ use native.Mathlib.Omega.{arith}
 use borrow.Author.Count.{below-more}
 use lib.Dec.{eqb, lit≤, lit<}
 use mir.Syntax.{w64}
-use mir.Val.{SFits}
+use mir.Val.{SFits, toZ}
+use mir.Facts.{toZ-pos}
 use Rattle.integers.specs.Sum.{sum}
 use Rattle.integers.proofs.Sum.{sum-abs}
 use Rattle.integers.proofs.Machine.{abs-fits}
-use lib.IntN.{ℤ, pos, natAbs, _*ℤ_}
-use Rattle.integers.proofs.Laws.{abs-mul-le}
+use lib.IntN.{ℤ, pos, natAbs, negℤ, _+ℤ_, _-ℤ_, _*ℤ_}
+use lib.Signed.{_≤ℤ_, _<ℤ_}
+use native.Mathlib.Nat.{le-trans}
+use Rattle.integers.proofs.Diff.{as-diff, diff}
+use Rattle.integers.proofs.Poly.{over, poly}
+use Rattle.integers.proofs.Laws.{abs-mul-le, abs-add-le, mul-le, lt-or-ge}
+use Rattle.rounding.specs.Round.{round, Near}
+use Rattle.rounding.proofs.Laws.{round-near}
 use lib.ListN.{length, getD, set, replicate, getD-replicate}
 use lib.Seq.{getD-set-same, getD-set-other}
 use borrow.Author.Tests.{eqb-true, eqb-false, eq-eqb}
@@ -28,7 +35,7 @@ use Rattle.mesh.proofs.Scans.{ways, compared}
 use Rattle.mesh.proofs.Faces.{face-at, start-zero, start-next, previous-first, previous-inner}
 use Rattle.mesh.proofs.Rings.{count-hit, count-miss}
 use Rattle.surface.specs.Refined.{ticks}
-use Rattle.refine.specs.Tables.{Filled, FaceTables, Faces, Vertices, Placed}
+use Rattle.refine.specs.Tables.{Filled, FaceTables, Faces, Vertices, Placed, Ticks}
 
 -- one place more
 pub filled-set : {A : Type 0} (z : A) (f : ℕ → A) (table : List A) (c : ℕ) (v : A) → Filled z f table c → c < length table → v ≡ f c → Filled z f (set table c v) (c + 1)
@@ -138,3 +145,74 @@ module _ (coordinates : List ℤ) (corners : List ℕ) (p : Placed coordinates c
       → SFits w64 (sum (λ j. ticks (meshOf coordinates sides corners) axis (start + j)) n)
   sum-fits sides n h l =
       abs-fits w64 (sum (λ j. ticks (meshOf coordinates sides corners) axis (start + j)) n) (2 ^ 28) (omega (arith, sum-size sides n h)) (lit< tt)
+
+-- ---- a quotient within k, where the dividend is within k times the divisor
+too-high : (n d q k : ℤ) → pos 0 <ℤ d → Near n d q → n ≤ℤ (d *ℤ k) → (d *ℤ (k +ℤ pos 1)) ≤ℤ (d *ℤ q) → ⊥
+too-high = over 4 _ λ ρ. simp (poly, ρ) (omega arith)
+
+too-low : (n d q k : ℤ) → pos 0 <ℤ d → Near n d q → negℤ (d *ℤ k) ≤ℤ n → (d *ℤ q) ≤ℤ (d *ℤ (negℤ k -ℤ pos 1)) → ⊥
+too-low = over 4 _ λ ρ. simp (poly, ρ) (omega arith)
+
+step-up : (a b : ℤ) → a <ℤ b → (a +ℤ pos 1) ≤ℤ b
+step-up = over 2 _ λ ρ. simp (poly, ρ) (omega arith)
+
+step-down : (a b : ℤ) → a <ℤ b → a ≤ℤ (b -ℤ pos 1)
+step-down = over 2 _ λ ρ. simp (poly, ρ) (omega arith)
+
+weaken : (d : ℤ) → pos 0 <ℤ d → pos 0 ≤ℤ d
+weaken = over 1 _ λ ρ. simp (poly, ρ) (omega arith)
+
+between : (q k : ℤ) (m : ℕ) → k ≡ pos m → negℤ k ≤ℤ q → q ≤ℤ k → natAbs q ≤ m
+between q k m e a b = as-diff q λ p n eq. let a′ = simp (diff, eq, e) at a in let b′ = simp (diff, eq, e) at b in simp (diff, eq) (omega arith)
+
+pub quotient-size : (n d : ℤ) (m : ℕ) → pos 0 <ℤ d → negℤ (d *ℤ pos m) ≤ℤ n → n ≤ℤ (d *ℤ pos m) → natAbs (round n d) ≤ m
+quotient-size n d m h a b =
+    let q = round n d in
+    let near : Near n d q = round-near n d h in
+    between q (pos m) m refl
+    (⊎-elim (λ (l : q <ℤ negℤ (pos m)). absurd (too-low n d q (pos m) h near a (mul-le d q (negℤ (pos m) -ℤ pos 1) (weaken d h) (step-down q (negℤ (pos m)) l)))) (λ l. l) (lt-or-ge q (negℤ (pos m))))
+    (⊎-elim (λ (l : pos m <ℤ q). absurd (too-high n d q (pos m) h near b (mul-le d (pos m +ℤ pos 1) q (weaken d h) (step-up (pos m) q l)))) (λ l. l) (lt-or-ge (pos m) q))
+
+-- ---- the sizes on the way to a refined point
+abbrev pub around : ℤ → ℤ → ℤ → ℤ
+around before here after = before +ℤ pos 4 *ℤ here +ℤ after
+
+abbrev pub eightfold : ℤ → ℤ → ℤ → ℤ → ℕ → ℤ
+eightfold total before here after n = pos 2 *ℤ total +ℤ pos n *ℤ around before here after
+
+pub record Steps (total before here after : ℤ) (n : ℕ) : Type 0 where
+  pub read : toZ w64 n ≡ pos n
+  pub twice : SFits w64 (pos 2 *ℤ total)
+  pub fourfold : SFits w64 (pos 4 *ℤ here)
+  pub two : SFits w64 (before +ℤ pos 4 *ℤ here)
+  pub three : SFits w64 (around before here after)
+  pub product : SFits w64 (pos n *ℤ around before here after)
+  pub all : SFits w64 (eightfold total before here after n)
+  pub size : natAbs (eightfold total before here after n) ≤ 8 * n * 2 ^ 24
+  pub result : natAbs (round (eightfold total before here after n) (pos 8 *ℤ pos n)) ≤ 2 ^ 24
+
+near-sizes : (b h a : ℤ) → natAbs b ≤ 2 ^ 24 → natAbs h ≤ 2 ^ 24 → natAbs a ≤ 2 ^ 24
+    → SFits w64 (pos 4 *ℤ h) × SFits w64 (b +ℤ pos 4 *ℤ h) × SFits w64 (around b h a) × (natAbs (around b h a) ≤ 6 * 2 ^ 24)
+near-sizes = over 3 _ λ ρ. simp (poly, ρ) (omega arith)
+
+of-size : (z : ℤ) (k : ℕ) → natAbs z ≤ k → (negℤ (pos k) ≤ℤ z) × (z ≤ℤ pos k)
+of-size z k h = as-diff z λ p n e. let h′ = simp (diff, e) at h in simp (diff, e) (omega arith)
+
+pub steps : (total before here after : ℤ) (n : ℕ) → Ticks total before here after n → Steps total before here after n
+steps total before here after n t =
+    let s = near-sizes before here after (t .before-size) (t .here-size) (t .after-size) in
+    let w = abs-mul-le (pos 2) total 2 (n * 2 ^ 24) (lit≤ tt) (t .total-size) in
+    let p = abs-mul-le (pos n) (around before here after) n (6 * 2 ^ 24) (omega arith) (s .3) in
+    let e : natAbs (eightfold total before here after n) ≤ 8 * n * 2 ^ 24 = le-trans (abs-add-le (pos 2 *ℤ total) (pos n *ℤ around before here after) _ _ w p) (omega arith) in
+    let b = of-size (eightfold total before here after n) (8 * n * 2 ^ 24) e in
+    record {
+      read = toZ-pos w64 (omega (arith, t .most));
+      twice = abs-fits w64 (pos 2 *ℤ total) (2 ^ 40) (le-trans w (omega (arith, t .most))) (lit< tt);
+      fourfold = s .0;
+      two = s .1;
+      three = s .2;
+      product = abs-fits w64 (pos n *ℤ around before here after) (2 ^ 40) (le-trans p (omega (arith, t .most))) (lit< tt);
+      all = abs-fits w64 (eightfold total before here after n) (2 ^ 40) (le-trans e (omega (arith, t .most))) (lit< tt);
+      size = e;
+      result = quotient-size (eightfold total before here after n) (pos 8 *ℤ pos n) (2 ^ 24) (let l : pos 0 <ℤ pos (8 * n) = simp diff (omega (arith, t .least)) in l) (b .0) (b .1);
+    }
