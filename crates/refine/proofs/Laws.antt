@@ -27,15 +27,15 @@ use lib.ListN.{length, getD, set, replicate, getD-replicate}
 use lib.Seq.{getD-set-same, getD-set-other}
 use borrow.Author.Tests.{eqb-true, eqb-false, eq-eqb}
 use Rattle.mesh.specs.Limits.{leastSides, mostSides, mostVertices, mostCorners, mostCoordinate}
-use Rattle.mesh.specs.Lists.{meshOf}
+use Rattle.mesh.specs.Lists.{Mesh, meshOf, faceCount, cornerCount}
 use Rattle.mesh.specs.Scan.{countBelow}
-use Rattle.mesh.specs.Corners.{startOf, firstOf, sidesOf, previous}
+use Rattle.mesh.specs.Corners.{sumOf, startOf, faceOf, firstOf, sidesOf, next, previous}
 use Rattle.mesh.specs.Links.{vertexOf, names, valence}
 use Rattle.mesh.proofs.Scans.{ways, compared}
-use Rattle.mesh.proofs.Faces.{face-at, start-zero, start-next, previous-first, previous-inner}
+use Rattle.mesh.proofs.Faces.{face-at, start-zero, start-ends, previous-first, previous-inner, next-below, previous-below}
 use Rattle.mesh.proofs.Rings.{count-hit, count-miss}
-use Rattle.surface.specs.Refined.{ticks}
-use Rattle.refine.specs.Tables.{Filled, FaceTables, Faces, Vertices, Placed, Ticks}
+use Rattle.surface.specs.Refined.{ticks, faceSum, refinedPoint}
+use Rattle.refine.specs.Tables.{Filled, FaceTables, Faces, Vertices, Placed, Refinable, Ticks}
 
 -- one place more
 pub filled-set : {A : Type 0} (z : A) (f : ℕ → A) (table : List A) (c : ℕ) (v : A) → Filled z f table c → c < length table → v ≡ f c → Filled z f (set table c v) (c + 1)
@@ -180,7 +180,7 @@ around before here after = before +ℤ pos 4 *ℤ here +ℤ after
 abbrev pub eightfold : ℤ → ℤ → ℤ → ℤ → ℕ → ℤ
 eightfold total before here after n = pos 2 *ℤ total +ℤ pos n *ℤ around before here after
 
-pub record Steps (total before here after : ℤ) (n : ℕ) : Type 0 where
+pub record Sizes (total before here after : ℤ) (n : ℕ) : Type 0 where
   pub read : toZ w64 n ≡ pos n
   pub twice : SFits w64 (pos 2 *ℤ total)
   pub fourfold : SFits w64 (pos 4 *ℤ here)
@@ -198,8 +198,8 @@ near-sizes = over 3 _ λ ρ. simp (poly, ρ) (omega arith)
 of-size : (z : ℤ) (k : ℕ) → natAbs z ≤ k → (negℤ (pos k) ≤ℤ z) × (z ≤ℤ pos k)
 of-size z k h = as-diff z λ p n e. let h′ = simp (diff, e) at h in simp (diff, e) (omega arith)
 
-pub steps : (total before here after : ℤ) (n : ℕ) → Ticks total before here after n → Steps total before here after n
-steps total before here after n t =
+pub sizes : (total before here after : ℤ) (n : ℕ) → Ticks total before here after n → Sizes total before here after n
+sizes total before here after n t =
     let s = near-sizes before here after (t .before-size) (t .here-size) (t .after-size) in
     let w = abs-mul-le (pos 2) total 2 (n * 2 ^ 24) (lit≤ tt) (t .total-size) in
     let p = abs-mul-le (pos n) (around before here after) n (6 * 2 ^ 24) (omega arith) (s .3) in
@@ -216,3 +216,39 @@ steps total before here after n t =
       size = e;
       result = quotient-size (eightfold total before here after n) (pos 8 *ℤ pos n) (2 ^ 24) (let l : pos 0 <ℤ pos (8 * n) = simp diff (omega (arith, t .least)) in l) (b .0) (b .1);
     }
+
+-- ---- the corners of face f of a mesh
+module _ (M : Mesh) (R : Refinable M) (f : ℕ) (l : f < faceCount M) where
+  pub end-in : startOf (M .sides) f + getD (M .sides) f 0 ≤ cornerCount M
+  end-in = omega (arith, start-ends (M .sides) f l, R .sums)
+
+  refined-is : (axis c : ℕ) → faceOf (M .sides) c ≡ f
+      → refinedPoint M axis c
+      ≡ round
+      (eightfold (sum (λ j. ticks M axis (startOf (M .sides) f + j)) (getD (M .sides) f 0)) (ticks M axis (previous (M .sides) c)) (ticks M axis c) (ticks M axis (next (M .sides) c)) (getD (M .sides) f 0))
+      (pos 8 *ℤ pos (getD (M .sides) f 0))
+  unfolding refinedPoint faceSum sidesOf
+  refined-is axis c e = rw e
+
+  -- from the values that the code has of a corner: their sizes, and the refined point
+  module _ (start c p q axis : ℕ) (e : start ≡ startOf (M .sides) f) (a : start ≤ c) (b : c < start + getD (M .sides) f 0) (ep : p ≡ previous (M .sides) c) (eq : q ≡ next (M .sides) c)
+      (ax : axis < 3) (T B H A : ℤ) (eT : T ≡ sum (λ j. ticks M axis (start + j)) (getD (M .sides) f 0)) (eB : B ≡ ticks M axis p) (eH : H ≡ ticks M axis c) (eA : A ≡ ticks M axis q) where
+    inside : c < sumOf (M .sides)
+    inside = omega (arith, end-in, R .sums)
+
+    size-at : (d : ℕ) → d < sumOf (M .sides) → natAbs (ticks M axis d) ≤ 2 ^ 24
+    size-at d h = ticks-size (M .coordinates) (M .corners) (R .placed) axis d ax (omega (arith, R .sums)) (M .sides)
+
+    pub point-sizes : Ticks T B H A (getD (M .sides) f 0)
+    point-sizes =
+        record {
+          least = R .faces .least f l;
+          most = R .faces .most f l;
+          total-size = rw eT (sum-size (M .coordinates) (M .corners) (R .placed) axis start ax (M .sides) (getD (M .sides) f 0) (omega (arith, end-in)));
+          before-size = rw (eB, ep) (size-at (previous (M .sides) c) (previous-below (M .sides) c inside));
+          here-size = rw eH (size-at c inside);
+          after-size = rw (eA, eq) (size-at (next (M .sides) c) (next-below (M .sides) c inside));
+        }
+
+    pub point-is : round (eightfold T B H A (getD (M .sides) f 0)) (pos 8 *ℤ pos (getD (M .sides) f 0)) ≡ refinedPoint M axis c
+    point-is = rw (eT, eB, eH, eA, ep, eq, e) (sym (refined-is axis c (face-at (M .sides) f c (omega arith) (omega arith) l)))

@@ -7,7 +7,7 @@ use lib.ListN.{length, getD}
 use lib.IntN.{ℤ, pos, natAbs}
 use Rattle.mesh.specs.Limits.{leastSides, mostSides, mostVertices, mostCorners, mostCoordinate}
 use Rattle.mesh.specs.Lists.{Mesh, cornerCount}
-use Rattle.mesh.specs.Corners.{sumOf, sidesOf, previous}
+use Rattle.mesh.specs.Corners.{sumOf, sidesOf, next, previous}
 use Rattle.mesh.specs.Links.{vertexOf, valence}
 
 -- the table holds f's value at every place below n; z is what a place past the table's end reads as
@@ -18,6 +18,13 @@ Filled z f table n = (c : ℕ) → c < n → getD table c z ≡ f c
 pub record FaceTables (sides previouses counts : List ℕ) (n : ℕ) : Type 0 where
   pub previouses-are : Filled 0 (previous sides) previouses n
   pub counts-are : Filled 0 (sidesOf sides) counts n
+
+-- the tables of next and previous corners, of all corners of the faces
+pub record Steps (sides nexts previouses : List ℕ) : Type 0 where
+  pub nexts-are : Filled 0 (next sides) nexts (sumOf sides)
+  pub previouses-are : Filled 0 (previous sides) previouses (sumOf sides)
+  pub nexts-long : length nexts ≡ mostCorners
+  pub previouses-long : length previouses ≡ mostCorners
 
 -- side counts within their limits, and no more corners than a mesh may have
 pub record Faces (sides : List ℕ) : Type 0 where

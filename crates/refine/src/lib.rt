@@ -12,7 +12,7 @@ ghost use Rattle.mesh.specs.Scan.{countBelow};
 ghost use Rattle.mesh.specs.Corners.{sumOf, startOf, next, previous};
 ghost use Rattle.mesh.specs.Links.{vertexOf, names, valence};
 ghost use Rattle.surface.specs.Refined.{ticks, faceSum, refinedPoint};
-ghost use Rattle.refine.specs.Tables.{Filled, FaceTables, Faces, Vertices, Placed, Refinable, Ticks};
+ghost use Rattle.refine.specs.Tables.{Filled, FaceTables, Steps, Faces, Vertices, Placed, Refinable, Ticks};
 
 use rounding::round_div;
 
@@ -134,4 +134,44 @@ fn refined(total: i64, before: i64, here: i64, after: i64, n: u8) -> i32
 {
     let t = 2 * total + n as i64 * (before + 4 * here + after);
     divide(t, n) as i32
+}
+
+// The refined points of one face, whose first corner is `start`: its sum is formed once.
+fn fill_face_points(coordinates: &[i32], sides: &[u8], corners: &[u16], nexts: &[u16], previouses: &[u16], axis: usize, f: usize, start: usize, points: &mut [i32])
+    requires mesh { ⌜ Refinable (meshOf (now coordinates) (now sides) (now corners)) ⌝ }
+    requires face { ⌜ (axis < 3) × (f < length (now sides)) × (start ≡ startOf (now sides) f) ⌝ }
+    requires tables { ⌜ Steps (now sides) (now nexts) (now previouses) ⌝ }
+    requires points { ⌜ (length (now points) ≡ 8192) × Filled (pos 0) (refinedPoint (meshOf (now coordinates) (now sides) (now corners)) axis) (now points) (startOf (now sides) f) ⌝ }
+    ensures { λ _. ⌜ Filled (pos 0) (refinedPoint (meshOf (now (coordinates .entry)) (now (sides .entry)) (now (corners .entry))) axis) (now (points .exit)) (startOf (now (sides .entry)) (f + 1)) ⌝ }
+{
+    let n = sides[f];
+    let end = start + n as usize;
+    let total = face_sum(coordinates, corners, axis, start, n as usize);
+    let mut c = start;
+    while c < end {
+        let p = previouses[c] as usize;
+        let q = nexts[c] as usize;
+        let before = tick(coordinates, corners, axis, p);
+        let here = tick(coordinates, corners, axis, c);
+        let after = tick(coordinates, corners, axis, q);
+        points[c] = refined(total, before, here, after, n);
+        c += 1;
+    }
+}
+
+// The refined point of every corner on an axis.
+pub fn fill_points(coordinates: &[i32], sides: &[u8], corners: &[u16], nexts: &[u16], previouses: &[u16], axis: usize, points: &mut [i32])
+    requires mesh { ⌜ Refinable (meshOf (now coordinates) (now sides) (now corners)) ⌝ }
+    requires axis { ⌜ axis < 3 ⌝ }
+    requires tables { ⌜ Steps (now sides) (now nexts) (now previouses) ⌝ }
+    requires long { ⌜ length (now points) ≡ 8192 ⌝ }
+    ensures { λ _. ⌜ Filled (pos 0) (refinedPoint (meshOf (now (coordinates .entry)) (now (sides .entry)) (now (corners .entry))) axis) (now (points .exit)) (sumOf (now (sides .entry))) ⌝ }
+{
+    let mut start = 0;
+    let mut f = 0;
+    while f < sides.len() {
+        fill_face_points(coordinates, sides, corners, nexts, previouses, axis, f, start, points);
+        start += sides[f] as usize;
+        f += 1;
+    }
 }

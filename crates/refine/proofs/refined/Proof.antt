@@ -8,7 +8,7 @@ use mir.Val.{SFits, toZ, ofZ}
 use mir.Facts.{toZ-ofZ}
 use Rattle.integers.proofs.Machine.{abs-fits}
 use Rattle.rounding.specs.Round.{round}
-use Rattle.refine.proofs.Laws.{Steps, steps, eightfold}
+use Rattle.refine.proofs.Laws.{Sizes, sizes, eightfold}
 use native.Mathlib.Omega.{arith}
 use borrow.Author.Needs.{needs}
 use Rattle.refine.proofs.refined.Statement.{statement}
@@ -17,8 +17,8 @@ use Rattle.refine.proofs.refined.Reads as reads
 use Rattle.refine.proofs.refined.Lts as lts
 use Rattle.refine.proofs.divide.Reads as divide-reads
 
-facts : (s : lts.Start (divide-reads.Asked, divide-reads.Learnt) reads.Pre reads.Post) → Steps (s .args .total) (s .args .before) (s .args .here) (s .args .after) (s .args .n)
-facts s = steps (s .args .total) (s .args .before) (s .args .here) (s .args .after) (s .args .n) (s .pre)
+facts : (s : lts.Start (divide-reads.Asked, divide-reads.Learnt) reads.Pre reads.Post) → Sizes (s .args .total) (s .args .before) (s .args .here) (s .args .after) (s .args .n)
+facts s = sizes (s .args .total) (s .args .before) (s .args .here) (s .args .after) (s .args .n) (s .pre)
 
 -- what `divide` answered
 module _ (c : lts.After-divide (divide-reads.Asked, divide-reads.Learnt) reads.Pre reads.Post) where
