@@ -37,11 +37,7 @@ impl Order {
 
 /// The faults 4 to 8, which need no table.
 fn check_lists(lists: Lists) -> Result<(), Refusal> {
-    let Lists {
-        coordinates,
-        sides,
-        corners,
-    } = lists;
+    let Lists { coordinates, sides, corners } = lists;
     let vertices = coordinates.len() / 3;
     let out_of = |count: usize, most: usize| count == 0 || count > most;
     if coordinates.len() % 3 != 0
@@ -51,10 +47,7 @@ fn check_lists(lists: Lists) -> Result<(), Refusal> {
     {
         return refuse(4, 0);
     }
-    if let Some(face) = sides
-        .iter()
-        .position(|&s| usize::from(s) < FEWEST || usize::from(s) > MOST)
-    {
+    if let Some(face) = sides.iter().position(|&s| usize::from(s) < FEWEST || usize::from(s) > MOST) {
         return refuse(5, face);
     }
     let sum: usize = sides.iter().map(|&s| usize::from(s)).sum();

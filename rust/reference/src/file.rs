@@ -42,21 +42,11 @@ fn read(bytes: &[u8], length: u64) -> Result<(Vec<i32>, Vec<u8>, Vec<u16>), Refu
     let (coordinates, rest) = bytes[HEADER..].split_at(12 * vertices);
     let (sides, corners) = rest.split_at(faces);
     let lists = (
-        coordinates
-            .chunks_exact(4)
-            .map(|b| i32::from_le_bytes([b[0], b[1], b[2], b[3]]))
-            .collect::<Vec<_>>(),
+        coordinates.chunks_exact(4).map(|b| i32::from_le_bytes([b[0], b[1], b[2], b[3]])).collect::<Vec<_>>(),
         sides.to_vec(),
-        corners
-            .chunks_exact(2)
-            .map(|b| u16::from_le_bytes([b[0], b[1]]))
-            .collect::<Vec<_>>(),
+        corners.chunks_exact(2).map(|b| u16::from_le_bytes([b[0], b[1]])).collect::<Vec<_>>(),
     );
-    check_mesh(Lists {
-        coordinates: &lists.0,
-        sides: &lists.1,
-        corners: &lists.2,
-    })?;
+    check_mesh(Lists { coordinates: &lists.0, sides: &lists.1, corners: &lists.2 })?;
     Ok(lists)
 }
 
@@ -69,11 +59,7 @@ pub fn decode(
     corners: &mut [u16],
 ) -> Result<Lengths, Refusal> {
     let (read_coordinates, read_sides, read_corners) = read(bytes, length)?;
-    let lengths = Lengths {
-        coordinates: read_coordinates.len(),
-        sides: read_sides.len(),
-        corners: read_corners.len(),
-    };
+    let lengths = Lengths { coordinates: read_coordinates.len(), sides: read_sides.len(), corners: read_corners.len() };
     let lent = [coordinates.len(), sides.len(), corners.len()];
     for (lent, asked) in lent.into_iter().zip([lengths.coordinates, lengths.sides, lengths.corners]) {
         if lent < asked {
@@ -109,12 +95,7 @@ pub fn summary(bytes: &[u8], length: u64) -> Result<Counts, Refusal> {
     for &side_count in &sides {
         by_number[usize::from(side_count)].1 += 1;
     }
-    Ok(Counts {
-        vertices: coordinates.len() / 3,
-        faces: sides.len(),
-        corners: corners.len(),
-        by_number,
-    })
+    Ok(Counts { vertices: coordinates.len() / 3, faces: sides.len(), corners: corners.len(), by_number })
 }
 
 impl std::fmt::Display for Counts {

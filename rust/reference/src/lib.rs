@@ -40,8 +40,5 @@ pub struct Refusal {
 
 /// A refusal as an error.
 fn refuse<T>(number: u32, place: usize) -> Result<T, Refusal> {
-    Err(Refusal {
-        number,
-        place: place as u64,
-    })
+    Err(Refusal { number, place: place as u64 })
 }

@@ -96,11 +96,7 @@ fn around<const M: usize>(points: &[Point]) -> Around {
     let towards = |shift: usize| {
         each(3 * m * ONE, |x| (0..M).map(|j| points[j][x] * Weights::<M>::TOWARDS[(j + shift) % M]).sum())
     };
-    Around {
-        centre: each(m, sum),
-        ahead: towards(0),
-        behind: towards(1),
-    }
+    Around { centre: each(m, sum), ahead: towards(0), behind: towards(1) }
 }
 
 /// What the four sides of a corner's quad-net are made of, by the numbers of the sides.
@@ -131,13 +127,7 @@ const OPPOSITE: [usize; 4] = [2, 3, 0, 1];
 impl<'a> Surface<'a> {
     fn new(lists: Lists<'a>, order: Order, links: Vec<u16>) -> Surface<'a> {
         let corners = lists.corners.len();
-        Surface {
-            lists,
-            order,
-            links,
-            refined: vec![[0; 3]; corners],
-            known: vec![false; corners],
-        }
+        Surface { lists, order, links, refined: vec![[0; 3]; corners], known: vec![false; corners] }
     }
 
     fn linked(&self, corner: usize) -> usize {
@@ -241,31 +231,15 @@ pub fn row_of<const LENGTH: usize>(grid: &[[Point; LENGTH]; LENGTH], side: usize
 /// The b points and the a points of a quad-net.
 #[inline(always)]
 fn control_points(net: &Net) -> ([[Point; 5]; 5], [[Point; 4]; 4]) {
-    let Net {
-        refined,
-        neighbour,
-        head,
-        tail,
-        x: xs,
-        y: ys,
-        cosine,
-        ..
-    } = net;
+    let Net { refined, neighbour, head, tail, x: xs, y: ys, cosine, .. } = net;
     let mut b = [[[0; 3]; 5]; 5];
     let mut a = [[[0; 3]; 4]; 4];
     let half = |p: Point, q: Point| each(2, |x| p[x] + q[x]);
-    let inner: [Point; 4] = std::array::from_fn(|s| {
-        each(6, |x| 3 * xs[s][x] + 3 * ys[s][x] + refined[x] - neighbour[s][x])
-    });
+    let inner: [Point; 4] =
+        std::array::from_fn(|s| each(6, |x| 3 * xs[s][x] + 3 * ys[s][x] + refined[x] - neighbour[s][x]));
     for s in 0..4 {
         let [h, t] = [head[s], tail[s]];
-        let outer = [
-            h,
-            each(4, |x| h[x] + 3 * xs[s][x]),
-            half(xs[s], ys[s]),
-            each(4, |x| 3 * ys[s][x] + t[x]),
-            t,
-        ];
+        let outer = [h, each(4, |x| h[x] + 3 * xs[s][x]), half(xs[s], ys[s]), each(4, |x| 3 * ys[s][x] + t[x]), t];
         for (along, point) in outer.into_iter().enumerate() {
             let (row, column) = place(s, along, 0, 4);
             b[row][column] = point;
@@ -279,9 +253,7 @@ fn control_points(net: &Net) -> ([[Point; 5]; 5], [[Point; 4]; 4]) {
         let second = each(1 << 33, |x| {
             c * h[x] + 3 * (ONE - c) * xs[s][x] + 2 * c * ys[s][x] + ONE * other_x[x] + (1 << 32) * n[x]
         });
-        let third = each(1 << 33, |x| {
-            (3 * ONE - c) * ys[s][x] + c * t[x] + (1 << 32) * n[x] + ONE * other_y[x]
-        });
+        let third = each(1 << 33, |x| (3 * ONE - c) * ys[s][x] + c * t[x] + (1 << 32) * n[x] + ONE * other_y[x]);
         for (along, point) in [(1, second), (2, third)] {
             let (row, column) = place(s, along, 0, 3);
             a[row][column] = point;

@@ -1,17 +1,13 @@
 //! The checked examples of 01.
 
-use reference::{build, check, conditions, cosine, decode, encode, link, links_of, nets, round, summary, Lists, Refusal};
+use reference::{
+    build, check, conditions, cosine, decode, encode, link, links_of, nets, round, summary, Lists, Refusal,
+};
 
 /// The cube of corners ±3: on z = 3 the corner at (3, 3, 3) leaves to (3, -3, 3).
-const COORDINATES: [i32; 24] = [
-    3, 3, 3, 3, -3, 3, -3, -3, 3, -3, 3, 3, 3, 3, -3, 3, -3, -3, -3, -3, -3, -3, 3, -3,
-];
+const COORDINATES: [i32; 24] = [3, 3, 3, 3, -3, 3, -3, -3, 3, -3, 3, 3, 3, 3, -3, 3, -3, -3, -3, -3, -3, -3, 3, -3];
 const CORNERS: [u16; 24] = [0, 1, 2, 3, 4, 7, 6, 5, 1, 0, 4, 5, 2, 1, 5, 6, 3, 2, 6, 7, 0, 3, 7, 4];
-const CUBE: Lists = Lists {
-    coordinates: &COORDINATES,
-    sides: &[4; 6],
-    corners: &CORNERS,
-};
+const CUBE: Lists = Lists { coordinates: &COORDINATES, sides: &[4; 6], corners: &CORNERS };
 
 fn refusal(number: u32, place: u64) -> Result<(), Refusal> {
     Err(Refusal { number, place })
@@ -56,18 +52,12 @@ fn rounding_and_row_six() {
 
 #[test]
 fn refused_meshes() {
-    let flat = Lists {
-        coordinates: &[0; 9],
-        sides: &[3, 3],
-        corners: &[0, 1, 2, 0, 2, 1],
-    };
+    let flat = Lists { coordinates: &[0; 9], sides: &[3, 3], corners: &[0, 1, 2, 0, 2, 1] };
     assert_eq!(check(flat), refusal(12, 0));
     let touching = Lists {
         coordinates: &[0; 21],
         sides: &[3; 8],
-        corners: &[
-            0, 1, 2, 0, 2, 3, 0, 3, 1, 1, 3, 2, 0, 4, 5, 0, 5, 6, 0, 6, 4, 4, 6, 5,
-        ],
+        corners: &[0, 1, 2, 0, 2, 3, 0, 3, 1, 1, 3, 2, 0, 4, 5, 0, 5, 6, 0, 6, 4, 4, 6, 5],
     };
     assert_eq!(check(touching), refusal(13, 0));
 }
@@ -77,10 +67,7 @@ fn limits() {
     let with = |number: i32| {
         let mut coordinates = COORDINATES;
         coordinates[10] = number;
-        check(Lists {
-            coordinates: &coordinates,
-            ..CUBE
-        })
+        check(Lists { coordinates: &coordinates, ..CUBE })
     };
     assert_eq!(with(65_536), Ok(()));
     assert_eq!(with(-65_536), Ok(()));
@@ -89,19 +76,12 @@ fn limits() {
 
     for n in [12, 13] {
         let tables = shapes::Tables::of(&shapes::Solid::prism(n));
-        let lists = Lists {
-            coordinates: &tables.coordinates,
-            sides: &tables.sides,
-            corners: &tables.corners,
-        };
+        let lists = Lists { coordinates: &tables.coordinates, sides: &tables.sides, corners: &tables.corners };
         assert_eq!(check(lists), if n == 12 { Ok(()) } else { refusal(5, 0) });
     }
     for (vertices, number, place) in [(2_048, 12, 8), (2_049, 4, 0)] {
         let coordinates = vec![0; 3 * vertices];
-        let lists = Lists {
-            coordinates: &coordinates,
-            ..CUBE
-        };
+        let lists = Lists { coordinates: &coordinates, ..CUBE };
         assert_eq!(check(lists), refusal(number, place));
     }
 }

@@ -6,18 +6,11 @@ use shapes::{damage, random_tables, Random, Tables, DAMAGES};
 
 /// The lowest place of the first fault of 4 to 13, or the links.
 fn literal(tables: &Tables) -> Result<Vec<usize>, Refusal> {
-    let Tables {
-        coordinates,
-        sides,
-        corners,
-    } = tables;
+    let Tables { coordinates, sides, corners } = tables;
     let count = corners.len();
     let vertices = coordinates.len() / 3;
     let fault = |number: u32, place: Option<usize>| match place {
-        Some(place) => Err(Refusal {
-            number,
-            place: place as u64,
-        }),
+        Some(place) => Err(Refusal { number, place: place as u64 }),
         None => Ok(()),
     };
     let bad_lengths = coordinates.len() % 3 != 0
@@ -58,11 +51,7 @@ fn literal(tables: &Tables) -> Result<Vec<usize>, Refusal> {
 }
 
 fn lists(tables: &Tables) -> Lists<'_> {
-    Lists {
-        coordinates: &tables.coordinates,
-        sides: &tables.sides,
-        corners: &tables.corners,
-    }
+    Lists { coordinates: &tables.coordinates, sides: &tables.sides, corners: &tables.corners }
 }
 
 #[test]

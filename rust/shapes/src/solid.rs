@@ -3,7 +3,7 @@
 
 use std::collections::HashMap;
 
-use crate::{Random, MOST};
+use crate::{Random, MAX_FACES, MAX_VERTICES, MOST};
 
 /// Points, and faces as cycles of point numbers, all listed the same way round.
 #[derive(Clone, Debug)]
@@ -65,10 +65,7 @@ impl Solid {
         let points = ring(n, 0.0, RADIUS, -RADIUS / 2.0).chain(ring(n, 0.0, RADIUS, RADIUS / 2.0));
         let mut faces = vec![(0..n).rev().collect(), (n..2 * n).collect()];
         faces.extend((0..n).map(|k| vec![k, (k + 1) % n, n + (k + 1) % n, n + k]));
-        Solid {
-            points: points.collect(),
-            faces,
-        }
+        Solid { points: points.collect(), faces }
     }
 
     pub fn antiprism(n: usize) -> Solid {
@@ -78,20 +75,14 @@ impl Solid {
             faces.push(vec![k, (k + 1) % n, n + k]);
             faces.push(vec![(k + 1) % n, n + (k + 1) % n, n + k]);
         }
-        Solid {
-            points: points.collect(),
-            faces,
-        }
+        Solid { points: points.collect(), faces }
     }
 
     pub fn pyramid(n: usize) -> Solid {
         let points = ring(n, 0.0, RADIUS, -RADIUS / 2.0).chain([at_angle(0.0, 0.0, RADIUS)]);
         let mut faces = vec![(0..n).rev().collect()];
         faces.extend((0..n).map(|k| vec![k, (k + 1) % n, n]));
-        Solid {
-            points: points.collect(),
-            faces,
-        }
+        Solid { points: points.collect(), faces }
     }
 
     pub fn bipyramid(n: usize) -> Solid {
@@ -101,10 +92,7 @@ impl Solid {
             faces.push(vec![(k + 1) % n, k, n]);
             faces.push(vec![k, (k + 1) % n, n + 1]);
         }
-        Solid {
-            points: ring(n, 0.0, RADIUS, 0.0).chain(tips).collect(),
-            faces,
-        }
+        Solid { points: ring(n, 0.0, RADIUS, 0.0).chain(tips).collect(), faces }
     }
 
     /// A torus of p times q four-sided faces; both at least 3.
@@ -124,9 +112,7 @@ impl Solid {
 
     fn edges(&self) -> Edges {
         let faces = self.faces.iter().enumerate();
-        faces
-            .flat_map(|(number, face)| edges_of(face).map(move |edge| (edge, number)))
-            .collect()
+        faces.flat_map(|(number, face)| edges_of(face).map(move |edge| (edge, number))).collect()
     }
 
     /// The points that the edges of `point` lead to, in link order, and the face that each of these edges leaves along.
@@ -198,9 +184,8 @@ impl Solid {
         };
         let mut faces = Vec::new();
         for face in &self.faces {
-            let mut cut: Vec<usize> = edges_of(face)
-                .flat_map(|(from, to)| [number(from, to), number(to, from)])
-                .collect();
+            let mut cut: Vec<usize> =
+                edges_of(face).flat_map(|(from, to)| [number(from, to), number(to, from)]).collect();
             cut.dedup();
             faces.push(cut);
         }
@@ -238,7 +223,8 @@ impl Solid {
         for (number, face) in self.faces.iter().enumerate() {
             for (from, to) in edges_of(face).filter(|(from, to)| from < to) {
                 let other = edges[&(to, from)];
-                faces.push([(number, to), (number, from), (other, from), (other, to)].map(|key| numbers[&key]).to_vec());
+                faces
+                    .push([(number, to), (number, from), (other, from), (other, to)].map(|key| numbers[&key]).to_vec());
             }
         }
         for (point, star) in self.stars().iter().enumerate() {
@@ -260,8 +246,8 @@ impl Solid {
         self.faces.iter().map(Vec::len).sum()
     }
 
-    /// Changes faces, edges and points at random, `times` times where it can be done, within 12 sides, 12 corners of a
-    /// point and `most_corners` corners.
+    /// Changes faces, edges and points at random, `times` times where it can be done, within `most_corners` corners and
+    /// the limits of 01.
     pub fn roughened(self, random: &mut Random, times: usize, most_corners: usize) -> Solid {
         let mut work = Rough::new(self);
         for _ in 0..times {
@@ -269,15 +255,20 @@ impl Solid {
             let sides = work.solid.faces[face].len();
             let at = random.below(sides);
             let point = work.solid.faces[face][at];
-            let room = most_corners.saturating_sub(work.corners);
+            let room = |corners: usize, points: usize, faces: usize| {
+                work.corners + corners <= most_corners
+                    && work.solid.points.len() + points <= MAX_VERTICES
+                    && work.solid.faces.len() + faces <= MAX_FACES
+            };
+            let ring = work.degree[point];
             match random.below(4) {
-                0 if room >= 2 && sides >= 4 => {
+                0 if sides >= 4 && room(2, 0, 1) => {
                     let across = 2 + random.below(sides - 3);
                     work.split(face, at, (at + across) % sides);
                 }
-                1 if room >= 2 * sides => work.stellate(face),
+                1 if room(2 * sides, 1, sides - 1) => work.stellate(face),
                 2 => work.merge(point, work.solid.faces[face][(at + 1) % sides]),
-                3 if room >= 2 * work.degree[point] => work.cut(face, point),
+                3 if room(2 * ring, ring - 1, 1) => work.cut(face, point),
                 _ => {}
             }
         }
@@ -299,12 +290,7 @@ impl Rough {
         for &point in solid.faces.iter().flatten() {
             degree[point] += 1;
         }
-        Rough {
-            edges: solid.edges(),
-            corners: solid.corners(),
-            degree,
-            solid,
-        }
+        Rough { edges: solid.edges(), corners: solid.corners(), degree, solid }
     }
 
     /// Puts a face in the place of face `number`, or after the last one.

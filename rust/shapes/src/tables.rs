@@ -28,14 +28,8 @@ pub enum Places {
 }
 
 impl Places {
-    pub const ALL: [Places; 6] = [
-        Places::Own,
-        Places::Shaken,
-        Places::Anywhere,
-        Places::Extreme,
-        Places::Small,
-        Places::One,
-    ];
+    pub const ALL: [Places; 6] =
+        [Places::Own, Places::Shaken, Places::Anywhere, Places::Extreme, Places::Small, Places::One];
 
     fn of(self, points: &[[i32; 3]], random: &mut Random) -> Vec<i32> {
         let most = LARGEST_COORDINATE;
