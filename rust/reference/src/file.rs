@@ -1,0 +1,123 @@
+//! The file of 01: reading it into lent lists, writing it, and the lines that `inspect` prints.
+
+use crate::check::check_mesh;
+use crate::{refuse, Lists, Refusal, MAX_CORNERS, MAX_FACES, MAX_VERTICES, MOST};
+
+const HEADER: usize = 11;
+/// The refusal of a lent list that is too short for the file; 01 has no number for it.
+pub const LENT_TOO_SHORT: u32 = 255;
+
+/// The lengths of the three lists that a file holds.
+#[derive(Clone, Copy, Debug, PartialEq, Eq)]
+pub struct Lengths {
+    pub coordinates: usize,
+    pub sides: usize,
+    pub corners: usize,
+}
+
+/// The three lists of a file without a fault of 1 to 13. The file is the first `length` of the bytes; a file of which
+/// not all bytes are held is turned down as one of another length (3), after 4.
+fn read(bytes: &[u8], length: u64) -> Result<(Vec<i32>, Vec<u8>, Vec<u16>), Refusal> {
+    let held = bytes.len().min(usize::try_from(length).unwrap_or(usize::MAX));
+    let bytes = &bytes[..held];
+    if held < HEADER || !bytes.starts_with(b"DMS") {
+        return refuse(1, 0);
+    }
+    let short = |at: usize| u16::from_le_bytes([bytes[at], bytes[at + 1]]);
+    if short(3) != 1 {
+        return refuse(2, 0);
+    }
+    let [vertices, faces, corners] = [5, 7, 9].map(|at| usize::from(short(at)));
+    let asked = HEADER + 12 * vertices + faces + 2 * corners;
+    if length != asked as u64 {
+        return refuse(3, 0);
+    }
+    let within = |count: usize, most: usize| (1..=most).contains(&count);
+    if !(within(vertices, MAX_VERTICES) && within(faces, MAX_FACES) && within(corners, MAX_CORNERS)) {
+        return refuse(4, 0);
+    }
+    if held != asked {
+        return refuse(3, 0);
+    }
+    let (coordinates, rest) = bytes[HEADER..].split_at(12 * vertices);
+    let (sides, corners) = rest.split_at(faces);
+    let lists = (
+        coordinates.chunks_exact(4).map(|b| i32::from_le_bytes([b[0], b[1], b[2], b[3]])).collect::<Vec<_>>(),
+        sides.to_vec(),
+        corners.chunks_exact(2).map(|b| u16::from_le_bytes([b[0], b[1]])).collect::<Vec<_>>(),
+    );
+    check_mesh(Lists { coordinates: &lists.0, sides: &lists.1, corners: &lists.2 })?;
+    Ok(lists)
+}
+
+/// Reads a file into the beginnings of three lent lists, or leaves them as they are and says why.
+pub fn decode(
+    bytes: &[u8],
+    length: u64,
+    coordinates: &mut [i32],
+    sides: &mut [u8],
+    corners: &mut [u16],
+) -> Result<Lengths, Refusal> {
+    let (read_coordinates, read_sides, read_corners) = read(bytes, length)?;
+    let lengths = Lengths { coordinates: read_coordinates.len(), sides: read_sides.len(), corners: read_corners.len() };
+    let lent = [coordinates.len(), sides.len(), corners.len()];
+    for (lent, asked) in lent.into_iter().zip([lengths.coordinates, lengths.sides, lengths.corners]) {
+        if lent < asked {
+            return refuse(LENT_TOO_SHORT, asked);
+        }
+    }
+    coordinates[..lengths.coordinates].copy_from_slice(&read_coordinates);
+    sides[..lengths.sides].copy_from_slice(&read_sides);
+    corners[..lengths.corners].copy_from_slice(&read_corners);
+    Ok(lengths)
+}
+
+/// What `inspect` prints of a mesh: its size, and for each m the vertices with m corners and the faces with m sides.
+#[derive(Clone, Debug, PartialEq, Eq)]
+pub struct Counts {
+    pub vertices: usize,
+    pub faces: usize,
+    pub corners: usize,
+    pub by_number: [(usize, usize); MOST + 1],
+}
+
+/// The counts of a file, or its refusal.
+pub fn summary(bytes: &[u8], length: u64) -> Result<Counts, Refusal> {
+    let (coordinates, sides, corners) = read(bytes, length)?;
+    let mut by_number = [(0, 0); MOST + 1];
+    let mut named = vec![0; coordinates.len() / 3];
+    for &vertex in &corners {
+        named[usize::from(vertex)] += 1;
+    }
+    for count in named {
+        by_number[count].0 += 1;
+    }
+    for &side_count in &sides {
+        by_number[usize::from(side_count)].1 += 1;
+    }
+    Ok(Counts { vertices: coordinates.len() / 3, faces: sides.len(), corners: corners.len(), by_number })
+}
+
+impl std::fmt::Display for Counts {
+    /// The lines of `inspect`.
+    fn fmt(&self, out: &mut std::fmt::Formatter) -> std::fmt::Result {
+        writeln!(out, "mesh {} {} {}", self.vertices, self.faces, self.corners)?;
+        for (number, &(vertices, faces)) in self.by_number.iter().enumerate() {
+            if (vertices, faces) != (0, 0) {
+                writeln!(out, "{number} {vertices} {faces}")?;
+            }
+        }
+        Ok(())
+    }
+}
+
+/// The file of three lists, whatever they hold; counts are cut to 16 bits.
+pub fn encode(lists: Lists) -> Vec<u8> {
+    let mut bytes = b"DMS".to_vec();
+    let counts = [1, lists.coordinates.len() / 3, lists.sides.len(), lists.corners.len()];
+    bytes.extend(counts.into_iter().flat_map(|count| (count as u16).to_le_bytes()));
+    bytes.extend(lists.coordinates.iter().flat_map(|c| c.to_le_bytes()));
+    bytes.extend(lists.sides);
+    bytes.extend(lists.corners.iter().flat_map(|v| v.to_le_bytes()));
+    bytes
+}
