@@ -11,3 +11,4 @@ pub mod Faces
 pub mod Border
 pub mod Roundings
 pub mod Sizes
+pub mod Agree
