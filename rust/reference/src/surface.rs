@@ -295,8 +295,7 @@ pub fn build(lists: Lists, links: &[u16], first: usize, count: usize, output: &m
     if let Some(corner) = links.iter().zip(&table).position(|(lent, own)| lent != own) {
         return refuse(15, corner);
     }
-    let end = first.checked_add(count);
-    if count == 0 || end.is_none_or(|end| end > table.len()) {
+    if count == 0 || first > table.len() || count > table.len() - first {
         return refuse(16, first);
     }
     if output.len() != NUMBERS_OF_A_CORNER * count {
@@ -305,7 +304,7 @@ pub fn build(lists: Lists, links: &[u16], first: usize, count: usize, output: &m
     let mut surface = Surface::new(lists, order, table);
     for (corner, written) in (first..).zip(output.chunks_exact_mut(NUMBERS_OF_A_CORNER)) {
         let (b, a) = control_points(&surface.net(corner));
-        let points = b.as_flattened().iter().chain(a.as_flattened());
+        let points = b.iter().flatten().chain(a.iter().flatten());
         for (numbers, point) in written.chunks_exact_mut(3).zip(points) {
             for (number, &value) in numbers.iter_mut().zip(point) {
                 *number = value as i32;
