@@ -15,9 +15,16 @@ pub struct Lengths {
     pub corners: usize,
 }
 
-/// The three lists of a file without a fault of 1 to 13. The file is the first `length` of the bytes; a file of which
+/// The three lists that a file holds.
+struct Held {
+    coordinates: Vec<i32>,
+    sides: Vec<u8>,
+    corners: Vec<u16>,
+}
+
+/// The lists of a file without a fault of 1 to 13. The file is the first `length` of the bytes; a file of which
 /// not all bytes are held is turned down as one of another length (3), after 4.
-fn read(bytes: &[u8], length: u64) -> Result<(Vec<i32>, Vec<u8>, Vec<u16>), Refusal> {
+fn read(bytes: &[u8], length: u64) -> Result<Held, Refusal> {
     let held = bytes.len().min(usize::try_from(length).unwrap_or(usize::MAX));
     let bytes = &bytes[..held];
     if held < HEADER || !bytes.starts_with(b"DMS") {
@@ -41,12 +48,12 @@ fn read(bytes: &[u8], length: u64) -> Result<(Vec<i32>, Vec<u8>, Vec<u16>), Refu
     }
     let (coordinates, rest) = bytes[HEADER..].split_at(12 * vertices);
     let (sides, corners) = rest.split_at(faces);
-    let lists = (
-        coordinates.chunks_exact(4).map(|b| i32::from_le_bytes([b[0], b[1], b[2], b[3]])).collect::<Vec<_>>(),
-        sides.to_vec(),
-        corners.chunks_exact(2).map(|b| u16::from_le_bytes([b[0], b[1]])).collect::<Vec<_>>(),
-    );
-    check_mesh(Lists { coordinates: &lists.0, sides: &lists.1, corners: &lists.2 })?;
+    let lists = Held {
+        coordinates: coordinates.chunks_exact(4).map(|b| i32::from_le_bytes([b[0], b[1], b[2], b[3]])).collect(),
+        sides: sides.to_vec(),
+        corners: corners.chunks_exact(2).map(|b| u16::from_le_bytes([b[0], b[1]])).collect(),
+    };
+    check_mesh(Lists { coordinates: &lists.coordinates, sides: &lists.sides, corners: &lists.corners })?;
     Ok(lists)
 }
 
@@ -58,17 +65,17 @@ pub fn decode(
     sides: &mut [u8],
     corners: &mut [u16],
 ) -> Result<Lengths, Refusal> {
-    let (read_coordinates, read_sides, read_corners) = read(bytes, length)?;
-    let lengths = Lengths { coordinates: read_coordinates.len(), sides: read_sides.len(), corners: read_corners.len() };
+    let held = read(bytes, length)?;
+    let lengths = Lengths { coordinates: held.coordinates.len(), sides: held.sides.len(), corners: held.corners.len() };
     let lent = [coordinates.len(), sides.len(), corners.len()];
     for (lent, asked) in lent.into_iter().zip([lengths.coordinates, lengths.sides, lengths.corners]) {
         if lent < asked {
             return refuse(LENT_TOO_SHORT, asked);
         }
     }
-    coordinates[..lengths.coordinates].copy_from_slice(&read_coordinates);
-    sides[..lengths.sides].copy_from_slice(&read_sides);
-    corners[..lengths.corners].copy_from_slice(&read_corners);
+    coordinates[..lengths.coordinates].copy_from_slice(&held.coordinates);
+    sides[..lengths.sides].copy_from_slice(&held.sides);
+    corners[..lengths.corners].copy_from_slice(&held.corners);
     Ok(lengths)
 }
 
@@ -83,7 +90,7 @@ pub struct Counts {
 
 /// The counts of a file, or its refusal.
 pub fn summary(bytes: &[u8], length: u64) -> Result<Counts, Refusal> {
-    let (coordinates, sides, corners) = read(bytes, length)?;
+    let Held { coordinates, sides, corners } = read(bytes, length)?;
     let mut by_number = [(0, 0); MOST + 1];
     let mut named = vec![0; coordinates.len() / 3];
     for &vertex in &corners {
