@@ -210,7 +210,8 @@ impl<'a> Surface<'a> {
     }
 }
 
-/// Row and column of the b point that stands `along` steps from a side's head and `inwards` steps from the side.
+/// Row and column of the point that stands `along` steps from a side's head and `inwards` steps from the side, in a grid
+/// whose last row and column are `last`: 4 for b, 3 for a.
 #[inline(always)]
 const fn place(side: usize, along: usize, inwards: usize, last: usize) -> (usize, usize) {
     match side {
@@ -221,7 +222,7 @@ const fn place(side: usize, along: usize, inwards: usize, last: usize) -> (usize
     }
 }
 
-/// The row of `outer` b points (last = 4) or of a points (last = 3) of a side, from its head.
+/// The row of b points or of a points along a side, from its head.
 pub fn row_of<const LENGTH: usize>(grid: &[[Point; LENGTH]; LENGTH], side: usize) -> [Point; LENGTH] {
     std::array::from_fn(|along| {
         let (row, column) = place(side, along, 0, LENGTH - 1);
@@ -308,6 +309,7 @@ pub fn build(lists: Lists, links: &[u16], first: usize, count: usize, output: &m
         let points = b.iter().flatten().chain(a.iter().flatten());
         for (numbers, point) in written.chunks_exact_mut(3).zip(points) {
             for (number, &value) in numbers.iter_mut().zip(point) {
+                // no control point reaches 2^25
                 *number = value as i32;
             }
         }
