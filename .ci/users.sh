@@ -9,6 +9,7 @@ library=${MAHUNOPI_LIB:-$PWD/target/staticlib}
 MAHUNOPI_LIB=$library
 CARGO_NET_OFFLINE=true
 export MAHUNOPI_LIB CARGO_NET_OFFLINE
+command -v cargo >/dev/null || PATH=$PATH:$HOME/.cargo/bin
 work=$(mktemp -d) || exit 2
 trap 'rm -rf "$work"' EXIT
 warnings='-Wall -Wextra -Wpedantic -Wconversion -Wshadow -Werror'
