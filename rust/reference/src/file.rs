@@ -1,6 +1,9 @@
-//! The file of 01: reading it into lent lists, writing it, and the lines that `inspect` prints.
+//! The file of 01: reading it into lent lists, writing it, and the lines that the programs print of it.
 
-use crate::check::check_mesh;
+use std::fmt::Write;
+
+use crate::check::{check_mesh, links_of};
+use crate::surface::{build, NUMBERS_OF_A_CORNER};
 use crate::{refuse, Lists, Refusal, MAX_CORNERS, MAX_FACES, MAX_VERTICES, MOST};
 
 const HEADER: usize = 11;
@@ -116,6 +119,37 @@ impl std::fmt::Display for Counts {
         }
         Ok(())
     }
+}
+
+/// The line that both programs print of a refused file.
+fn refused(refusal: Refusal) -> String {
+    format!("refused {} {}\n", refusal.number, refusal.place)
+}
+
+/// What `inspect` prints of a file.
+pub fn inspect(bytes: &[u8]) -> String {
+    summary(bytes, bytes.len() as u64).map_or_else(refused, |counts| counts.to_string())
+}
+
+/// What `patches` prints of a file: for each corner a line with its number and a line for each of its control points.
+pub fn patches(bytes: &[u8]) -> String {
+    let held = match read(bytes, bytes.len() as u64) {
+        Ok(held) => held,
+        Err(refusal) => return refused(refusal),
+    };
+    let lists = Lists { coordinates: &held.coordinates, sides: &held.sides, corners: &held.corners };
+    let count = held.corners.len();
+    let mut output = vec![0; NUMBERS_OF_A_CORNER * count];
+    let built = links_of(lists).and_then(|links| build(lists, &links, 0, count, &mut output));
+    built.expect("a file without a fault has a mesh without a fault");
+    let mut text = String::new();
+    for (corner, numbers) in output.chunks_exact(NUMBERS_OF_A_CORNER).enumerate() {
+        writeln!(text, "corner {corner}").expect("a string takes every line");
+        for point in numbers.chunks_exact(3) {
+            writeln!(text, "{} {} {}", point[0], point[1], point[2]).expect("a string takes every line");
+        }
+    }
+    text
 }
 
 /// The file of three lists, whatever they hold; counts are cut to 16 bits.

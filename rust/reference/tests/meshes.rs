@@ -1,6 +1,6 @@
 //! The sample meshes are what their page says of them.
 
-use reference::summary;
+use reference::inspect;
 
 #[test]
 fn every_sample_has_the_lines_of_the_page() {
@@ -12,10 +12,7 @@ fn every_sample_has_the_lines_of_the_page() {
         let cells: Vec<&str> = row.split('|').map(str::trim).collect();
         let (name, said) = (cells[1], cells[3]);
         let bytes = std::fs::read(format!("{folder}/{name}.dms")).unwrap();
-        let printed = match summary(&bytes, bytes.len() as u64) {
-            Ok(counts) => counts.to_string(),
-            Err(refusal) => format!("refused {} {}\n", refusal.number, refusal.place),
-        };
+        let printed = inspect(&bytes);
         let printed: Vec<String> = printed.lines().map(|line| format!("`{line}`")).collect();
         assert_eq!(printed.join(", "), said, "{name}");
         rows += 1;
