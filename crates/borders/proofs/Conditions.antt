@@ -17,7 +17,7 @@ use Rattle.surface.proofs.Faces.{Defect, HeadRule, TailRule}
 use Rattle.surface.proofs.Border.{Border}
 use Rattle.surface.proofs.Roundings.{SecondRow, ThirdRow, secondSum, thirdSum, outer1-is, outer2-is, outer3-is, N-is, a0-is, a1-is, a2-is, a3-is}
 use Rattle.borders.specs.Rounding.{OffByHalf}
-use Rattle.borders.specs.Demand.{one, Kept}
+use Rattle.borders.specs.Demand.{one, InBounds}
 
 -- every rounded value is
 half : (n d q : ℤ) → Passes (ltZ (pos 0) d) → q ≡ round n d → OffByHalf n d q
@@ -42,7 +42,7 @@ Fourth Y T b a â = pos 4 *ℤ one *ℤ (a +ℤ â -ℤ pos 2 *ℤ b) -ℤ pos 3
 first : (C H X X* X^ o o* o^ a â : ℤ)
     → OffByHalf (H +ℤ pos 3 *ℤ X) (pos 4) o → OffByHalf (H +ℤ pos 3 *ℤ X*) (pos 4) o* → OffByHalf (H +ℤ pos 3 *ℤ X^) (pos 4) o^
     → OffByHalf (o +ℤ o*) (pos 2) a → OffByHalf (o +ℤ o^) (pos 2) â
-    → HeadRule C H X X* X^ → Kept (First C H X H a â)
+    → HeadRule C H X X* X^ → InBounds (First C H X H a â)
 first = over 10 _ λ ρ. simp (poly, ρ) (omega arith)
 
 second : (C H X Y v w X* X^ N M o a â : ℤ)
@@ -50,7 +50,7 @@ second : (C H X Y v w X* X^ N M o a â : ℤ)
     → OffByHalf (pos 3 *ℤ X +ℤ pos 3 *ℤ Y +ℤ v -ℤ w) (pos 6) N → OffByHalf (pos 3 *ℤ X +ℤ pos 3 *ℤ Y +ℤ w -ℤ v) (pos 6) M
     → OffByHalf (SecondRow (pos (2 ^ 30)) (pos (2 ^ 32)) C H X Y X* N) (pos (2 ^ 33)) a
     → OffByHalf (SecondRow (pos (2 ^ 30)) (pos (2 ^ 32)) C H X Y X^ M) (pos (2 ^ 33)) â
-    → HeadRule C H X X* X^ → Kept (Second C H X Y o a â)
+    → HeadRule C H X X* X^ → InBounds (Second C H X Y o a â)
 second = over 13 _ λ ρ. simp (poly, ρ) (omega arith)
 
 third : (C T X Y v w Y* Y^ N M o a â : ℤ)
@@ -58,13 +58,13 @@ third : (C T X Y v w Y* Y^ N M o a â : ℤ)
     → OffByHalf (pos 3 *ℤ X +ℤ pos 3 *ℤ Y +ℤ v -ℤ w) (pos 6) N → OffByHalf (pos 3 *ℤ X +ℤ pos 3 *ℤ Y +ℤ w -ℤ v) (pos 6) M
     → OffByHalf (ThirdRow (pos (3 * 2 ^ 30)) (pos (2 ^ 30)) (pos (2 ^ 32)) C T Y Y* N) (pos (2 ^ 33)) a
     → OffByHalf (ThirdRow (pos (3 * 2 ^ 30)) (pos (2 ^ 30)) (pos (2 ^ 32)) C T Y Y^ M) (pos (2 ^ 33)) â
-    → TailRule T Y Y* Y^ → Kept (Third C X Y T o a â)
+    → TailRule T Y Y* Y^ → InBounds (Third C X Y T o a â)
 third = over 13 _ λ ρ. simp (poly, ρ) (omega arith)
 
 fourth : (T Y Y* Y^ o o* o^ a â : ℤ)
     → OffByHalf (pos 3 *ℤ Y +ℤ T) (pos 4) o → OffByHalf (pos 3 *ℤ Y* +ℤ T) (pos 4) o* → OffByHalf (pos 3 *ℤ Y^ +ℤ T) (pos 4) o^
     → OffByHalf (o +ℤ o*) (pos 2) a → OffByHalf (o +ℤ o^) (pos 2) â
-    → TailRule T Y Y* Y^ → Kept (Fourth Y T o a â)
+    → TailRule T Y Y* Y^ → InBounds (Fourth Y T o a â)
 fourth = over 9 _ λ ρ. simp (poly, ρ) (omega arith)
 
 -- ---- the two sides at a head have one head, those at a tail one tail
@@ -103,7 +103,7 @@ module _ (K : Corners) (c : ℕ) (s : Side) (d : ℕ) (t : Side) (e : Border K c
   here-N : N K c s ≡ round (pos 3 *ℤ X K c s +ℤ pos 3 *ℤ Y K c s +ℤ K .refined c -ℤ K .refined d) (pos 6)
   here-N = rw (e .there) at (N-is K c s)
 
-  pub first-within : Kept (First (C K c s) (H K c s) (X K c s) (H K c s) (a0 K c s) (a0 K d t))
+  pub first-within : InBounds (First (C K c s) (H K c s) (X K c s) (H K c s) (a0 K c s) (a0 K d t))
   first-within =
       first (C K c s) (H K c s) (X K c s) (X K c (atHead s)) (X K d (atHead t))
       (outer1 K c s) (outer1 K c (atHead s)) (outer1 K d (atHead t)) (a0 K c s) (a0 K d t)
@@ -111,21 +111,21 @@ module _ (K : Corners) (c : ℕ) (s : Side) (d : ℕ) (t : Side) (e : Border K c
       (half _ _ _ tt (rw (head-shared K d t, e .same-H) at (outer1-is K d (atHead t))))
       (half _ _ _ tt (a0-is K c s)) (half _ _ _ tt (rw same-outer1 at (a0-is K d t))) (e .head-rule)
 
-  pub second-within : Kept (Second (C K c s) (H K c s) (X K c s) (Y K c s) (outer1 K c s) (a1 K c s) (a1 K d t))
+  pub second-within : InBounds (Second (C K c s) (H K c s) (X K c s) (Y K c s) (outer1 K c s) (a1 K c s) (a1 K d t))
   second-within =
       second (C K c s) (H K c s) (X K c s) (Y K c s) (K .refined c) (K .refined d) (X K c (atHead s)) (X K d (atHead t))
       (N K c s) (N K d t) (outer1 K c s) (a1 K c s) (a1 K d t)
       (half _ _ _ tt (outer1-is K c s)) (half _ _ _ tt here-N) (half _ _ _ tt back-N)
       (half _ _ _ tt (a1-is K c s)) (half _ _ _ tt (rw (e .same-C, e .same-H, e .same-X, e .same-Y) at (a1-is K d t))) (e .head-rule)
 
-  pub third-within : Kept (Third (C K c s) (X K c s) (Y K c s) (T K c s) (outer2 K c s) (a2 K c s) (a2 K d t))
+  pub third-within : InBounds (Third (C K c s) (X K c s) (Y K c s) (T K c s) (outer2 K c s) (a2 K c s) (a2 K d t))
   third-within =
       third (C K c s) (T K c s) (X K c s) (Y K c s) (K .refined c) (K .refined d) (Y K c (atTail s)) (Y K d (atTail t))
       (N K c s) (N K d t) (outer2 K c s) (a2 K c s) (a2 K d t)
       (half _ _ _ tt (outer2-is K c s)) (half _ _ _ tt here-N) (half _ _ _ tt back-N)
       (half _ _ _ tt (a2-is K c s)) (half _ _ _ tt (rw (e .same-C, e .same-T, e .same-Y) at (a2-is K d t))) (e .tail-rule)
 
-  pub fourth-within : Kept (Fourth (Y K c s) (T K c s) (outer3 K c s) (a3 K c s) (a3 K d t))
+  pub fourth-within : InBounds (Fourth (Y K c s) (T K c s) (outer3 K c s) (a3 K c s) (a3 K d t))
   fourth-within =
       fourth (T K c s) (Y K c s) (Y K c (atTail s)) (Y K d (atTail t))
       (outer3 K c s) (outer3 K c (atTail s)) (outer3 K d (atTail t)) (a3 K c s) (a3 K d t)

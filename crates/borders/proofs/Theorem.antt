@@ -15,57 +15,25 @@ use Rattle.surface.specs.Net.{Side, side0, side1, side2, side3, neighbour, acro
 use Rattle.surface.specs.Refined.{cornersOf}
 use Rattle.surface.proofs.Border.{Border, border}
 use Rattle.surface.proofs.Hull.{corners-sound}
-use Rattle.borders.specs.Demand.{Output, Wrote, Holds, written, outerRow, aRow, first, second, third, fourth, Kept, beside, here, there, of, Smooth, Borders}
+use Rattle.borders.specs.Demand.{Output, Wrote, Holds, written, outerRow, aRow, first, second, third, fourth, InBounds, beside, here, there, miss, Smooth, Borders}
 use Rattle.borders.proofs.Conditions.{head-shared, tail-shared, same-outer1, same-outer2, same-outer3, first-within, second-within, third-within, fourth-within}
 use Rattle.borders.proofs.Written.{accepted, corner-of, written-is}
 
 -- ---- the points of a net along a side
+swapped : (x y : ℤ) → round (x +ℤ y) (pos 2) ≡ round (y +ℤ x) (pos 2)
+swapped x y = ap (λ (z : ℤ). round z (pos 2)) (add-comm x y)
+
 module _ (K : Corners) (c : ℕ) where
   abbrev points : ℕ → ℤ
   points k = getD (net K c) k (pos 0)
 
-  -- a point that two sides share is written once
-  a0-shared : (s : Side) → a0 K c (atHead s) ≡ a0 K c s
-  unfolding a0
-  a0-shared side0 = ap (λ (z : ℤ). round z (pos 2)) (add-comm (outer1 K c side3) (outer1 K c side0))
-  a0-shared side1 = ap (λ (z : ℤ). round z (pos 2)) (add-comm (outer1 K c side2) (outer1 K c side1))
-  a0-shared side2 = ap (λ (z : ℤ). round z (pos 2)) (add-comm (outer1 K c side1) (outer1 K c side2))
-  a0-shared side3 = ap (λ (z : ℤ). round z (pos 2)) (add-comm (outer1 K c side0) (outer1 K c side3))
-
-  a3-shared : (s : Side) → a3 K c (atTail s) ≡ a3 K c s
-  unfolding a3
-  a3-shared side0 = ap (λ (z : ℤ). round z (pos 2)) (add-comm (outer3 K c side1) (outer3 K c side0))
-  a3-shared side1 = ap (λ (z : ℤ). round z (pos 2)) (add-comm (outer3 K c side0) (outer3 K c side1))
-  a3-shared side2 = ap (λ (z : ℤ). round z (pos 2)) (add-comm (outer3 K c side3) (outer3 K c side2))
-  a3-shared side3 = ap (λ (z : ℤ). round z (pos 2)) (add-comm (outer3 K c side2) (outer3 K c side3))
-
+  -- the ends and the first and last a points, which two sides share
   outer-0 : (s : Side) → outerRow points s 0 ≡ H K c s
   unfolding net bGrid aGrid
   outer-0 side0 = refl
   outer-0 side1 = head-shared K c side1
   outer-0 side2 = refl
   outer-0 side3 = head-shared K c side3
-
-  outer-1 : (s : Side) → outerRow points s 1 ≡ outer1 K c s
-  unfolding net bGrid aGrid
-  outer-1 side0 = refl
-  outer-1 side1 = refl
-  outer-1 side2 = refl
-  outer-1 side3 = refl
-
-  outer-2 : (s : Side) → outerRow points s 2 ≡ outer2 K c s
-  unfolding net bGrid aGrid
-  outer-2 side0 = refl
-  outer-2 side1 = refl
-  outer-2 side2 = refl
-  outer-2 side3 = refl
-
-  outer-3 : (s : Side) → outerRow points s 3 ≡ outer3 K c s
-  unfolding net bGrid aGrid
-  outer-3 side0 = refl
-  outer-3 side1 = refl
-  outer-3 side2 = refl
-  outer-3 side3 = refl
 
   outer-4 : (s : Side) → outerRow points s 4 ≡ T K c s
   unfolding net bGrid aGrid
@@ -75,32 +43,27 @@ module _ (K : Corners) (c : ℕ) where
   outer-4 side3 = refl
 
   row-0 : (s : Side) → aRow points s 0 ≡ a0 K c s
-  unfolding net bGrid aGrid
+  unfolding net bGrid aGrid a0
   row-0 side0 = refl
-  row-0 side1 = a0-shared side1
+  row-0 side1 = swapped (outer1 K c side2) (outer1 K c side1)
   row-0 side2 = refl
-  row-0 side3 = a0-shared side3
-
-  row-1 : (s : Side) → aRow points s 1 ≡ a1 K c s
-  unfolding net bGrid aGrid
-  row-1 side0 = refl
-  row-1 side1 = refl
-  row-1 side2 = refl
-  row-1 side3 = refl
-
-  row-2 : (s : Side) → aRow points s 2 ≡ a2 K c s
-  unfolding net bGrid aGrid
-  row-2 side0 = refl
-  row-2 side1 = refl
-  row-2 side2 = refl
-  row-2 side3 = refl
+  row-0 side3 = swapped (outer1 K c side0) (outer1 K c side3)
 
   row-3 : (s : Side) → aRow points s 3 ≡ a3 K c s
-  unfolding net bGrid aGrid
+  unfolding net bGrid aGrid a3
   row-3 side0 = refl
-  row-3 side1 = a3-shared side1
-  row-3 side2 = a3-shared side2
+  row-3 side1 = swapped (outer3 K c side0) (outer3 K c side1)
+  row-3 side2 = swapped (outer3 K c side3) (outer3 K c side2)
   row-3 side3 = refl
+
+  -- the points that belong to one side
+  inner : (s : Side) → (outerRow points s 1 ≡ outer1 K c s) × (outerRow points s 2 ≡ outer2 K c s) × (outerRow points s 3 ≡ outer3 K c s)
+      × (aRow points s 1 ≡ a1 K c s) × (aRow points s 2 ≡ a2 K c s)
+  unfolding net bGrid aGrid
+  inner side0 = (refl, refl, refl, refl, refl)
+  inner side1 = (refl, refl, refl, refl, refl)
+  inner side2 = (refl, refl, refl, refl, refl)
+  inner side3 = (refl, refl, refl, refl, refl)
 
 -- ---- rows look at the 41 points only
 module _ (p q : ℕ → ℤ) (same : (k : ℕ) → k < 41 → p k ≡ q k) where
@@ -133,37 +96,37 @@ module _ (K : Corners) (c : ℕ) (s : Side) (d : ℕ) (t : Side) (e : Border K c
 
   curve : (j : ℕ) → j < 5 → outerRow (points K c) s j ≡ outerRow (points K d) t j
   curve zero l = outer-0 K c s ∙ sym (outer-0 K d t ∙ e .same-H)
-  curve (suc zero) l = outer-1 K c s ∙ sym (outer-1 K d t ∙ same-outer1 K c s d t e)
-  curve (suc (suc zero)) l = outer-2 K c s ∙ sym (outer-2 K d t ∙ same-outer2 K c s d t e)
-  curve (suc (suc (suc zero))) l = outer-3 K c s ∙ sym (outer-3 K d t ∙ same-outer3 K c s d t e)
+  curve (suc zero) l = inner K c s .0 ∙ sym (inner K d t .0 ∙ same-outer1 K c s d t e)
+  curve (suc (suc zero)) l = inner K c s .1 ∙ sym (inner K d t .1 ∙ same-outer2 K c s d t e)
+  curve (suc (suc (suc zero))) l = inner K c s .2 ∙ sym (inner K d t .2 ∙ same-outer3 K c s d t e)
   curve (suc (suc (suc (suc zero)))) l = outer-4 K c s ∙ sym (outer-4 K d t ∙ e .same-T)
   curve (suc (suc (suc (suc (suc j))))) l = absurd (omega arith)
 
   common : (j : ℕ) → j < 5 → outerRow p s j ≡ outerRow q t j
   common j l = here-outer j l ∙ curve j l ∙ sym (there-outer j l)
 
-  first-holds : Kept (first K c s (outerRow p s) (aRow p s) (aRow q t))
+  first-holds : InBounds (first K c s (outerRow p s) (aRow p s) (aRow q t))
   unfolding first
   first-holds =
       rw (here-outer 0 (omega arith) ∙ outer-0 K c s, here-a 0 (omega arith) ∙ row-0 K c s, there-a 0 (omega arith) ∙ row-0 K d t)
       (first-within K c s d t e)
 
-  second-holds : Kept (second K c s (outerRow p s) (aRow p s) (aRow q t))
+  second-holds : InBounds (second K c s (outerRow p s) (aRow p s) (aRow q t))
   unfolding second
   second-holds =
-      rw (here-outer 1 (omega arith) ∙ outer-1 K c s, here-a 1 (omega arith) ∙ row-1 K c s, there-a 1 (omega arith) ∙ row-1 K d t)
+      rw (here-outer 1 (omega arith) ∙ inner K c s .0, here-a 1 (omega arith) ∙ inner K c s .3, there-a 1 (omega arith) ∙ inner K d t .3)
       (second-within K c s d t e)
 
-  third-holds : Kept (third K c s (outerRow p s) (aRow p s) (aRow q t))
+  third-holds : InBounds (third K c s (outerRow p s) (aRow p s) (aRow q t))
   unfolding third
   third-holds =
-      rw (here-outer 2 (omega arith) ∙ outer-2 K c s, here-a 2 (omega arith) ∙ row-2 K c s, there-a 2 (omega arith) ∙ row-2 K d t)
+      rw (here-outer 2 (omega arith) ∙ inner K c s .1, here-a 2 (omega arith) ∙ inner K c s .4, there-a 2 (omega arith) ∙ inner K d t .4)
       (third-within K c s d t e)
 
-  fourth-holds : Kept (fourth K c s (outerRow p s) (aRow p s) (aRow q t))
+  fourth-holds : InBounds (fourth K c s (outerRow p s) (aRow p s) (aRow q t))
   unfolding fourth
   fourth-holds =
-      rw (here-outer 3 (omega arith) ∙ outer-3 K c s, here-a 3 (omega arith) ∙ row-3 K c s, there-a 3 (omega arith) ∙ row-3 K d t)
+      rw (here-outer 3 (omega arith) ∙ inner K c s .2, here-a 3 (omega arith) ∙ row-3 K c s, there-a 3 (omega arith) ∙ row-3 K d t)
       (fourth-within K c s d t e)
 
 -- the neighbouring corner is the same on each axis
@@ -185,8 +148,8 @@ demand3 M A B wA wB c s hc hd axis small =
     let hq = written-is M B wB d hd axis small in
     record {
       curve = common K c s d t e (written A axis c) (written B axis d) hp hq;
-      first-kept = first-holds K c s d t e (written A axis c) (written B axis d) hp hq;
-      second-kept = second-holds K c s d t e (written A axis c) (written B axis d) hp hq;
-      third-kept = third-holds K c s d t e (written A axis c) (written B axis d) hp hq;
-      fourth-kept = fourth-holds K c s d t e (written A axis c) (written B axis d) hp hq;
+      first-bounded = first-holds K c s d t e (written A axis c) (written B axis d) hp hq;
+      second-bounded = second-holds K c s d t e (written A axis c) (written B axis d) hp hq;
+      third-bounded = third-holds K c s d t e (written A axis c) (written B axis d) hp hq;
+      fourth-bounded = fourth-holds K c s d t e (written A axis c) (written B axis d) hp hq;
     }

@@ -80,11 +80,11 @@ module _ (K : Corners) (c : ℕ) (s : Side) (b a â : ℕ → ℤ) where
   fourth = pos 4 *ℤ one *ℤ (a 3 +ℤ â 3 -ℤ pos 2 *ℤ b 3) -ℤ pos 3 *ℤ one *ℤ (T K c s -ℤ Y K c s)
 
 -- within -13 to 13
-abbrev pub mostTicks : ℕ
-mostTicks = 13
+abbrev pub mostMiss : ℕ
+mostMiss = 13
 
-abbrev pub Kept : ℤ → Type 0
-Kept z = natAbs z ≤ mostTicks * 2 ^ 30
+abbrev pub InBounds : ℤ → Type 0
+InBounds z = natAbs z ≤ mostMiss * 2 ^ 30
 
 -- ---- a border: the side s of c with the neighbour's side; the quad-net of c stands in the output A, the neighbour's in B
 -- the neighbouring corner, which is the same on each axis
@@ -99,16 +99,16 @@ module _ (M : Mesh) (A B : Output) (axis c : ℕ) (s : Side) where
   there k = written B axis (beside M c s) k
 
   -- a condition of this side on this axis
-  abbrev pub of : (Corners → ℕ → Side → (ℕ → ℤ) → (ℕ → ℤ) → (ℕ → ℤ) → ℤ) → ℤ
-  of condition = condition (cornersOf M axis) c s (outerRow here s) (aRow here s) (aRow there (across s))
+  abbrev pub miss : (Corners → ℕ → Side → (ℕ → ℤ) → (ℕ → ℤ) → (ℕ → ℤ) → ℤ) → ℤ
+  miss condition = condition (cornersOf M axis) c s (outerRow here s) (aRow here s) (aRow there (across s))
 
 pub record Smooth (M : Mesh) (A B : Output) (axis c : ℕ) (s : Side) : Type 0 where
   -- the five points of the common curve are the same numbers in both
   pub curve : (j : ℕ) → j < 5 → outerRow (here M A B axis c s) s j ≡ outerRow (there M A B axis c s) (across s) j
-  pub first-kept : Kept (of M A B axis c s first)
-  pub second-kept : Kept (of M A B axis c s second)
-  pub third-kept : Kept (of M A B axis c s third)
-  pub fourth-kept : Kept (of M A B axis c s fourth)
+  pub first-bounded : InBounds (miss M A B axis c s first)
+  pub second-bounded : InBounds (miss M A B axis c s second)
+  pub third-bounded : InBounds (miss M A B axis c s third)
+  pub fourth-bounded : InBounds (miss M A B axis c s fourth)
 
 -- ---- every border with the one quad-net in A and the other in B
 abbrev pub Borders : Mesh → Output → Output → Type 0
