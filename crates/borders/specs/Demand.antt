@@ -1,5 +1,6 @@
 -- Demand 3, as "The four conditions across a side" of 01 has it: of the points that building writes, as calls leave them in their outputs.
 -- The theorem is `demand3` in proofs/Theorem.antt: `Borders M A B` of any two calls on M that are not refused, and of a call with itself.
+-- Such a call can be made for every range of an accepted mesh (proofs/Ranges.antt, `range-wrote`), so every border of it is spoken of (`every-border`).
 -- Assumes nothing.
 use mathlib.Core.Path.{_≡_}
 use mathlib.Core.List.{List}
@@ -10,7 +11,7 @@ use Rattle.mesh.specs.Lists.{Mesh}
 use Rattle.mesh.specs.declared.Answer.the-variants.{Done}
 use Rattle.surface.specs.Corners.{Corners}
 use Rattle.surface.specs.Net.{Side, side0, side1, side2, side3, neighbour, across, H, T, X, Y, C}
-use Rattle.surface.specs.Refined.{cornersOf}
+use Rattle.surface.specs.Refined.{cornersOf, nets}
 use Rattle.surface.specs.Building.{Built}
 
 -- ---- a call's output
@@ -25,6 +26,10 @@ pub record Wrote (M : Mesh) (O : Output) : Type 0 where
   pub links : List ℕ
   pub old : List ℤ
   pub call : Built M links (O .first) (O .count) old Done (O .numbers)
+
+-- what such a call leaves
+abbrev pub outputOf : Mesh → ℕ → ℕ → Output
+outputOf M first count = record { numbers = nets M first count; first = first; count = count }
 
 -- corner c is in its range
 abbrev pub Holds : Output → ℕ → Type 0
