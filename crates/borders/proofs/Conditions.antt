@@ -2,20 +2,19 @@
 -- Each is one linear argument over the products of the values (notes of the budget: 12.6, 11.6, 11 and 11 ticks are the worst that can be).
 -- Assumes nothing.
 use mathlib.Core.Path.{_≡_, refl}
-use Prim.Native.Nat.{ℕ, _*_, _^_, _≤_}
+use Prim.Native.Nat.{ℕ, _*_, _^_}
 use native.Mathlib.Omega.{arith}
 use lib.Dec.{T as Passes}
-use lib.IntN.{ℤ, pos, _+ℤ_, _-ℤ_, _*ℤ_, negℤ, natAbs}
-use lib.Signed.{ltZ, _≤ℤ_}
+use lib.IntN.{ℤ, pos, _+ℤ_, _-ℤ_, _*ℤ_}
+use lib.Signed.{ltZ}
 use Rattle.integers.proofs.Poly.{over, poly}
 use Rattle.rounding.specs.Round.{round, Near}
 use Rattle.rounding.proofs.Laws.{near-is}
 use Rattle.surface.specs.Corners.{Corners}
-use Rattle.surface.specs.Net.{Side, side0, side1, side2, side3, neighbour, atHead, atTail, H, T, X, Y, N, C, outer1, outer2, outer3, a0, a1, a2, a3}
-use Rattle.surface.proofs.Within.{Within}
-use Rattle.surface.proofs.Faces.{Defect, HeadRule, TailRule}
+use Rattle.surface.specs.Net.{Side, side0, side1, side2, side3, atHead, atTail, H, T, X, Y, N, C, outer1, outer2, outer3, a0, a1, a2, a3}
+use Rattle.surface.proofs.Faces.{HeadRule, TailRule}
 use Rattle.surface.proofs.Border.{Border}
-use Rattle.surface.proofs.Roundings.{SecondRow, ThirdRow, secondSum, thirdSum, outer1-is, outer2-is, outer3-is, N-is, a0-is, a1-is, a2-is, a3-is}
+use Rattle.surface.proofs.Roundings.{SecondRow, ThirdRow, outer1-is, outer2-is, outer3-is, N-is, a0-is, a1-is, a2-is, a3-is}
 use Rattle.borders.specs.Rounding.{OffByHalf}
 use Rattle.borders.specs.Demand.{one, InBounds}
 

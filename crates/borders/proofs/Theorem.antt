@@ -2,20 +2,19 @@
 -- The points read in an output are those of the net; along a side these are the values that a border relates.
 -- Assumes nothing.
 use mathlib.Core.Path.{_≡_, refl, sym, ap, _∙_}
-use mathlib.Core.List.{List, []}
-use Prim.Native.Nat.{ℕ, zero, suc, _+_, _-_, _*_, _^_, _≤_, _<_}
+use Prim.Native.Nat.{ℕ, zero, suc, _+_, _-_, _*_, _<_}
 use native.Mathlib.Omega.{arith}
 use lib.ListN.{getD}
-use lib.IntN.{ℤ, pos, _+ℤ_, _-ℤ_, _*ℤ_, natAbs}
+use lib.IntN.{ℤ, pos, _+ℤ_}
 use Rattle.integers.proofs.Laws.{add-comm}
 use Rattle.rounding.specs.Round.{round}
 use Rattle.mesh.specs.Lists.{Mesh}
-use Rattle.surface.specs.Corners.{Corners, Sound}
-use Rattle.surface.specs.Net.{Side, side0, side1, side2, side3, neighbour, across, atHead, atTail, H, T, X, Y, C, outer1, outer2, outer3, a0, a1, a2, a3, bGrid, aGrid, net}
+use Rattle.surface.specs.Corners.{Corners}
+use Rattle.surface.specs.Net.{Side, side0, side1, side2, side3, neighbour, across, H, T, outer1, outer2, outer3, a0, a1, a2, a3, bGrid, aGrid, net}
 use Rattle.surface.specs.Refined.{cornersOf}
 use Rattle.surface.proofs.Border.{Border, border}
 use Rattle.surface.proofs.Hull.{corners-sound}
-use Rattle.borders.specs.Demand.{Output, Wrote, Holds, written, outerRow, aRow, first, second, third, fourth, InBounds, beside, here, there, miss, Smooth, Borders}
+use Rattle.borders.specs.Demand.{Output, Wrote, written, outerRow, aRow, first, second, third, fourth, InBounds, beside, Borders}
 use Rattle.borders.proofs.Conditions.{head-shared, tail-shared, same-outer1, same-outer2, same-outer3, first-within, second-within, third-within, fourth-within}
 use Rattle.borders.proofs.Written.{accepted, corner-of, written-is}
 

@@ -1,17 +1,16 @@
 -- What a call of building that is not refused tells: the mesh is accepted, its range lies within the corners,
 -- and point k of corner c on an axis, read in the output, is that of the corner's net.
 -- Assumes nothing.
-use mathlib.Core.Path.{_≡_, refl, sym, ap, _∙_, subst}
-use mathlib.Core.Bool.{Bool, true, false, not, _||_, true≢false}
+use mathlib.Core.Path.{_≡_, sym, ap, _∙_}
+use mathlib.Core.Bool.{Bool, true, false, _||_, true≢false}
 use mathlib.Core.List.{List}
 use Prim.Native.Nat.{ℕ, _+_, _-_, _*_, _/_, _%_, _≤_, _<_}
 use native.Mathlib.Omega.{arith}
 use borrow.Author.Tests.{ltb-false}
-use lib.Dec.{ltb, eqb}
-use lib.ListN.{length, getD}
+use lib.Dec.{eqb}
+use lib.ListN.{getD}
 use lib.IntN.{ℤ, pos}
 use Rattle.mesh.specs.Lists.{Mesh, cornerCount}
-use Rattle.mesh.specs.Links.{valuesFrom}
 use Rattle.mesh.specs.Faults.{linkVerdict, Accepted}
 use Rattle.mesh.proofs.Verdicts.{sound-left, sound-right, single-sound}
 use Rattle.mesh.proofs.Links.{values-at}
