@@ -20,7 +20,7 @@ cube =
     (pos 3 ∷ pos 3 ∷ pos 3 ∷ pos 3 ∷ negsuc 2 ∷ pos 3 ∷ negsuc 2 ∷ negsuc 2 ∷ pos 3 ∷ negsuc 2 ∷ pos 3 ∷ pos 3
     ∷ pos 3 ∷ pos 3 ∷ negsuc 2 ∷ pos 3 ∷ negsuc 2 ∷ negsuc 2 ∷ negsuc 2 ∷ negsuc 2 ∷ negsuc 2 ∷ negsuc 2 ∷ pos 3 ∷ negsuc 2 ∷ [])
     (replicate 6 4)
-    (0 ∷ 1 ∷ 2 ∷ 3 ∷ 4 ∷ 7 ∷ 6 ∷ 5 ∷ 0 ∷ 4 ∷ 5 ∷ 1 ∷ 3 ∷ 2 ∷ 6 ∷ 7 ∷ 0 ∷ 3 ∷ 7 ∷ 4 ∷ 1 ∷ 5 ∷ 6 ∷ 2 ∷ [])
+    (0 ∷ 1 ∷ 2 ∷ 3 ∷ 4 ∷ 7 ∷ 6 ∷ 5 ∷ 1 ∷ 0 ∷ 4 ∷ 5 ∷ 2 ∷ 1 ∷ 5 ∷ 6 ∷ 3 ∷ 2 ∷ 6 ∷ 7 ∷ 0 ∷ 3 ∷ 7 ∷ 4 ∷ [])
 
 abbrev pub twoTriangles : Mesh
 twoTriangles = meshOf (replicate 9 (pos 0)) (3 ∷ 3 ∷ []) (0 ∷ 1 ∷ 2 ∷ 0 ∷ 2 ∷ 1 ∷ [])

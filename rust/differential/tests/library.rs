@@ -33,8 +33,9 @@ fn random_meshes_and_ranges() {
     let mut largest = [0; 4];
     each_case(1_500, 1, |_, random| {
         let tables = random_tables(random);
-        let Some((links, output, misses)) = whole(&tables, random) else {
-            return;
+        let (links, output, misses) = match whole(&tables, random) {
+            Some(built) => built,
+            None => return,
         };
         accepted += 1;
         corners += links.len();
@@ -148,8 +149,9 @@ fn wrong_lengths_links_and_ranges() {
     each_case(1_500, 5, |_, random| {
         let tables = random_tables(random);
         let corners = tables.corners.len();
-        let Ok(mut links) = link(&tables, corners, random) else {
-            return;
+        let mut links = match link(&tables, corners, random) {
+            Ok(links) => links,
+            Err(_) => return,
         };
         let _ = link(&tables, *random.pick(&[0, 1, corners - 1, corners + 1, 2 * corners]), random);
         match random.below(8) {
@@ -245,4 +247,27 @@ fn files_beyond_every_limit() {
             assert_eq!((refusal.number, refusal.place), (number, 0), "{counts:?}, length {length}");
         }
     }
+}
+
+/// The sample meshes, from their files to their control points.
+#[test]
+fn sample_meshes() {
+    let mut random = Random::new(8);
+    let folder = concat!(env!("CARGO_MANIFEST_DIR"), "/../../meshes");
+    let (mut accepted, mut refused) = (0, 0);
+    for file in std::fs::read_dir(folder).expect("the folder of samples") {
+        let path = file.expect("a file").path();
+        if path.extension().map_or(true, |extension| extension != "dms") {
+            continue;
+        }
+        let bytes = std::fs::read(&path).expect("the bytes");
+        match decode(&bytes, bytes.len() as u64, ENOUGH, &mut random) {
+            Ok(tables) => {
+                assert!(whole(&tables, &mut random).is_some());
+                accepted += 1;
+            }
+            Err(_) => refused += 1,
+        }
+    }
+    assert_eq!((accepted, refused), (5, 1));
 }

@@ -35,6 +35,12 @@ impl Order {
     }
 }
 
+/// The first entry that is wrong. Nearly always none is, so a pass without branches looks first.
+fn find<T>(list: &[T], wrong: impl Fn(&T) -> bool) -> Option<usize> {
+    let any = list.iter().fold(false, |any, entry| any | wrong(entry));
+    any.then(|| list.iter().position(wrong)).flatten()
+}
+
 /// The faults 4 to 8, which need no table.
 fn check_lists(lists: Lists) -> Result<(), Refusal> {
     let Lists { coordinates, sides, corners } = lists;
@@ -47,7 +53,7 @@ fn check_lists(lists: Lists) -> Result<(), Refusal> {
     {
         return refuse(4, 0);
     }
-    if let Some(face) = sides.iter().position(|&s| usize::from(s) < FEWEST || usize::from(s) > MOST) {
+    if let Some(face) = find(sides, |&s| usize::from(s) < FEWEST || usize::from(s) > MOST) {
         return refuse(5, face);
     }
     let sum: usize = sides.iter().map(|&s| usize::from(s)).sum();
@@ -55,10 +61,10 @@ fn check_lists(lists: Lists) -> Result<(), Refusal> {
         return refuse(6, sum);
     }
     let beyond = |&c: &i32| !(-LARGEST_COORDINATE..=LARGEST_COORDINATE).contains(&c);
-    if let Some(position) = coordinates.iter().position(beyond) {
+    if let Some(position) = find(coordinates, beyond) {
         return refuse(7, position);
     }
-    if let Some(corner) = corners.iter().position(|&v| usize::from(v) >= vertices) {
+    if let Some(corner) = find(corners, |&v| usize::from(v) >= vertices) {
         return refuse(8, corner);
     }
     Ok(())

@@ -1,6 +1,9 @@
-//! The file of 01: reading it into lent lists, writing it, and the lines that `inspect` prints.
+//! The file of 01: reading it into lent lists, writing it, and the lines that the programs print of it.
 
-use crate::check::check_mesh;
+use std::fmt::Write;
+
+use crate::check::{check_mesh, links_of};
+use crate::surface::{build, NUMBERS_OF_A_CORNER};
 use crate::{refuse, Lists, Refusal, MAX_CORNERS, MAX_FACES, MAX_VERTICES, MOST};
 
 const HEADER: usize = 11;
@@ -15,9 +18,16 @@ pub struct Lengths {
     pub corners: usize,
 }
 
-/// The three lists of a file without a fault of 1 to 13. The file is the first `length` of the bytes; a file of which
+/// The three lists that a file holds.
+struct Held {
+    coordinates: Vec<i32>,
+    sides: Vec<u8>,
+    corners: Vec<u16>,
+}
+
+/// The lists of a file without a fault of 1 to 13. The file is the first `length` of the bytes; a file of which
 /// not all bytes are held is turned down as one of another length (3), after 4.
-fn read(bytes: &[u8], length: u64) -> Result<(Vec<i32>, Vec<u8>, Vec<u16>), Refusal> {
+fn read(bytes: &[u8], length: u64) -> Result<Held, Refusal> {
     let held = bytes.len().min(usize::try_from(length).unwrap_or(usize::MAX));
     let bytes = &bytes[..held];
     if held < HEADER || !bytes.starts_with(b"DMS") {
@@ -41,12 +51,12 @@ fn read(bytes: &[u8], length: u64) -> Result<(Vec<i32>, Vec<u8>, Vec<u16>), Refu
     }
     let (coordinates, rest) = bytes[HEADER..].split_at(12 * vertices);
     let (sides, corners) = rest.split_at(faces);
-    let lists = (
-        coordinates.chunks_exact(4).map(|b| i32::from_le_bytes([b[0], b[1], b[2], b[3]])).collect::<Vec<_>>(),
-        sides.to_vec(),
-        corners.chunks_exact(2).map(|b| u16::from_le_bytes([b[0], b[1]])).collect::<Vec<_>>(),
-    );
-    check_mesh(Lists { coordinates: &lists.0, sides: &lists.1, corners: &lists.2 })?;
+    let lists = Held {
+        coordinates: coordinates.chunks_exact(4).map(|b| i32::from_le_bytes([b[0], b[1], b[2], b[3]])).collect(),
+        sides: sides.to_vec(),
+        corners: corners.chunks_exact(2).map(|b| u16::from_le_bytes([b[0], b[1]])).collect(),
+    };
+    check_mesh(Lists { coordinates: &lists.coordinates, sides: &lists.sides, corners: &lists.corners })?;
     Ok(lists)
 }
 
@@ -58,17 +68,17 @@ pub fn decode(
     sides: &mut [u8],
     corners: &mut [u16],
 ) -> Result<Lengths, Refusal> {
-    let (read_coordinates, read_sides, read_corners) = read(bytes, length)?;
-    let lengths = Lengths { coordinates: read_coordinates.len(), sides: read_sides.len(), corners: read_corners.len() };
+    let held = read(bytes, length)?;
+    let lengths = Lengths { coordinates: held.coordinates.len(), sides: held.sides.len(), corners: held.corners.len() };
     let lent = [coordinates.len(), sides.len(), corners.len()];
     for (lent, asked) in lent.into_iter().zip([lengths.coordinates, lengths.sides, lengths.corners]) {
         if lent < asked {
             return refuse(LENT_TOO_SHORT, asked);
         }
     }
-    coordinates[..lengths.coordinates].copy_from_slice(&read_coordinates);
-    sides[..lengths.sides].copy_from_slice(&read_sides);
-    corners[..lengths.corners].copy_from_slice(&read_corners);
+    coordinates[..lengths.coordinates].copy_from_slice(&held.coordinates);
+    sides[..lengths.sides].copy_from_slice(&held.sides);
+    corners[..lengths.corners].copy_from_slice(&held.corners);
     Ok(lengths)
 }
 
@@ -83,7 +93,7 @@ pub struct Counts {
 
 /// The counts of a file, or its refusal.
 pub fn summary(bytes: &[u8], length: u64) -> Result<Counts, Refusal> {
-    let (coordinates, sides, corners) = read(bytes, length)?;
+    let Held { coordinates, sides, corners } = read(bytes, length)?;
     let mut by_number = [(0, 0); MOST + 1];
     let mut named = vec![0; coordinates.len() / 3];
     for &vertex in &corners {
@@ -109,6 +119,37 @@ impl std::fmt::Display for Counts {
         }
         Ok(())
     }
+}
+
+/// The line that both programs print of a refused file.
+fn refused(refusal: Refusal) -> String {
+    format!("refused {} {}\n", refusal.number, refusal.place)
+}
+
+/// What `inspect` prints of a file.
+pub fn inspect(bytes: &[u8]) -> String {
+    summary(bytes, bytes.len() as u64).map_or_else(refused, |counts| counts.to_string())
+}
+
+/// What `patches` prints of a file: for each corner a line with its number and a line for each of its control points.
+pub fn patches(bytes: &[u8]) -> String {
+    let held = match read(bytes, bytes.len() as u64) {
+        Ok(held) => held,
+        Err(refusal) => return refused(refusal),
+    };
+    let lists = Lists { coordinates: &held.coordinates, sides: &held.sides, corners: &held.corners };
+    let count = held.corners.len();
+    let mut output = vec![0; NUMBERS_OF_A_CORNER * count];
+    let built = links_of(lists).and_then(|links| build(lists, &links, 0, count, &mut output));
+    built.expect("a file without a fault has a mesh without a fault");
+    let mut text = String::new();
+    for (corner, numbers) in output.chunks_exact(NUMBERS_OF_A_CORNER).enumerate() {
+        writeln!(text, "corner {corner}").expect("a string takes every line");
+        for point in numbers.chunks_exact(3) {
+            writeln!(text, "{} {} {}", point[0], point[1], point[2]).expect("a string takes every line");
+        }
+    }
+    text
 }
 
 /// The file of three lists, whatever they hold; counts are cut to 16 bits.

@@ -21,7 +21,7 @@ pub fn round(numerator: i64, denominator: i64) -> i64 {
 /// `round` of a formula over the three coordinates.
 #[inline(always)]
 fn each(denominator: i64, numerator: impl Fn(usize) -> i64) -> Point {
-    [0, 1, 2].map(|axis| round(numerator(axis), denominator))
+    [round(numerator(0), denominator), round(numerator(1), denominator), round(numerator(2), denominator)]
 }
 
 /// A mesh without a fault and the refined points of the faces met so far.
@@ -64,7 +64,8 @@ fn refine<const N: usize>(vertices: &[Point], refined: &mut [Point]) {
     let vertices: &[Point; N] = vertices.try_into().expect("N vertices");
     let refined: &mut [Point; N] = refined.try_into().expect("N points");
     let n = N as i64;
-    let sum = [0, 1, 2].map(|axis| vertices.iter().map(|p| p[axis]).sum::<i64>());
+    let sum = |axis: usize| vertices.iter().map(|p| p[axis]).sum::<i64>();
+    let sum = [sum(0), sum(1), sum(2)];
     for (i, point) in refined.iter_mut().enumerate() {
         let before = vertices[(i + N - 1) % N];
         let after = vertices[(i + 1) % N];
@@ -153,7 +154,7 @@ impl<'a> Surface<'a> {
         for (point, &vertex) in vertices.iter_mut().zip(&self.lists.corners[face.clone()]) {
             let at = 3 * usize::from(vertex);
             let grid = &self.lists.coordinates[at..at + 3];
-            *point = [0, 1, 2].map(|axis| TICKS * i64::from(grid[axis]));
+            *point = [TICKS * i64::from(grid[0]), TICKS * i64::from(grid[1]), TICKS * i64::from(grid[2])];
         }
         let n = face.len();
         self.known[face.clone()].fill(true);
@@ -180,7 +181,8 @@ impl<'a> Surface<'a> {
     /// The refined face of an edge, through its four corners in turn.
     #[inline(always)]
     fn edge(&mut self, corners: [usize; 4]) -> Around {
-        around::<4>(&corners.map(|corner| self.refined(corner)))
+        let [a, b, c, d] = corners;
+        around::<4>(&[self.refined(a), self.refined(b), self.refined(c), self.refined(d)])
     }
 
     fn net(&mut self, corner: usize) -> Net {
@@ -195,21 +197,21 @@ impl<'a> Surface<'a> {
         let (n, face) = self.ring(corner, |surface, c| surface.order.next(c));
         let leaving = self.edge([corner, next, self.order.previous(link), link]);
         let arriving = self.edge([corner, back, beyond, previous]);
-        let neighbour_corner = [link, next, previous, back];
         Net {
             refined: self.refined(corner),
-            neighbour: neighbour_corner.map(|c| self.refined(c)),
+            neighbour: [self.refined(link), self.refined(next), self.refined(previous), self.refined(back)],
             head: [vertex.centre, face.centre, face.centre, vertex.centre],
             tail: [leaving.centre, leaving.centre, arriving.centre, arriving.centre],
             x: [vertex.ahead, face.ahead, face.behind, vertex.behind],
             y: [leaving.behind, leaving.ahead, arriving.behind, arriving.ahead],
             cosine: [cosine(m, 1), cosine(n, 1), cosine(n, 1), cosine(m, 1)],
-            neighbour_corner,
+            neighbour_corner: [link, next, previous, back],
         }
     }
 }
 
-/// Row and column of the b point that stands `along` steps from a side's head and `inwards` steps from the side.
+/// Row and column of the point that stands `along` steps from a side's head and `inwards` steps from the side, in a grid
+/// whose last row and column are `last`: 4 for b, 3 for a.
 #[inline(always)]
 const fn place(side: usize, along: usize, inwards: usize, last: usize) -> (usize, usize) {
     match side {
@@ -220,7 +222,7 @@ const fn place(side: usize, along: usize, inwards: usize, last: usize) -> (usize
     }
 }
 
-/// The row of `outer` b points (last = 4) or of a points (last = 3) of a side, from its head.
+/// The row of b points or of a points along a side, from its head.
 pub fn row_of<const LENGTH: usize>(grid: &[[Point; LENGTH]; LENGTH], side: usize) -> [Point; LENGTH] {
     std::array::from_fn(|along| {
         let (row, column) = place(side, along, 0, LENGTH - 1);
@@ -295,8 +297,7 @@ pub fn build(lists: Lists, links: &[u16], first: usize, count: usize, output: &m
     if let Some(corner) = links.iter().zip(&table).position(|(lent, own)| lent != own) {
         return refuse(15, corner);
     }
-    let end = first.checked_add(count);
-    if count == 0 || end.is_none_or(|end| end > table.len()) {
+    if count == 0 || first > table.len() || count > table.len() - first {
         return refuse(16, first);
     }
     if output.len() != NUMBERS_OF_A_CORNER * count {
@@ -305,9 +306,10 @@ pub fn build(lists: Lists, links: &[u16], first: usize, count: usize, output: &m
     let mut surface = Surface::new(lists, order, table);
     for (corner, written) in (first..).zip(output.chunks_exact_mut(NUMBERS_OF_A_CORNER)) {
         let (b, a) = control_points(&surface.net(corner));
-        let points = b.as_flattened().iter().chain(a.as_flattened());
+        let points = b.iter().flatten().chain(a.iter().flatten());
         for (numbers, point) in written.chunks_exact_mut(3).zip(points) {
             for (number, &value) in numbers.iter_mut().zip(point) {
+                // no control point reaches 2^25
                 *number = value as i32;
             }
         }

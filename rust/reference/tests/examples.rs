@@ -1,7 +1,7 @@
 //! The checked examples of 01.
 
 use reference::{
-    build, check, conditions, cosine, decode, encode, link, links_of, nets, round, summary, Lists, Refusal,
+    build, check, conditions, cosine, decode, encode, inspect, link, links_of, nets, patches, round, Lists, Refusal,
 };
 
 /// The cube of corners ±3: on z = 3 the corner at (3, 3, 3) leaves to (3, -3, 3).
@@ -91,7 +91,10 @@ fn the_file() {
     let bytes = encode(CUBE);
     assert_eq!(bytes.len(), 11 + 12 * 8 + 6 + 2 * 24);
     let length = bytes.len() as u64;
-    assert_eq!(summary(&bytes, length).unwrap().to_string(), "mesh 8 6 24\n3 8 0\n4 0 6\n");
+    assert_eq!(inspect(&bytes), "mesh 8 6 24\n3 8 0\n4 0 6\n");
+    assert!(patches(&bytes).starts_with("corner 0\n512 512 512\n544 448 544\n"));
+    assert_eq!(patches(&bytes).lines().count(), 24 * (1 + 41));
+    assert_eq!(inspect(&bytes[1..]), "refused 1 0\n");
     let (mut coordinates, mut sides, mut corners) = ([9; 25], [9; 7], [9; 25]);
     decode(&bytes, length, &mut coordinates, &mut sides, &mut corners).unwrap();
     assert_eq!(coordinates[..24], COORDINATES);

@@ -88,8 +88,9 @@ fn repeat(tables: &mut Tables, random: &mut Random) {
 
 /// A face is listed twice, turned over, or begins with the edge of another.
 fn double(tables: &mut Tables, random: &mut Random) {
-    let Some((face, first, sides)) = some_face(tables, random) else {
-        return;
+    let (face, first, sides) = match some_face(tables, random) {
+        Some(found) => found,
+        None => return,
     };
     let corners = first..first + sides;
     match random.below(3) {
@@ -109,8 +110,9 @@ fn double(tables: &mut Tables, random: &mut Random) {
 
 /// A face is left out, or a corner leads elsewhere.
 fn open(tables: &mut Tables, random: &mut Random) {
-    let Some((face, first, sides)) = some_face(tables, random) else {
-        return;
+    let (face, first, sides) = match some_face(tables, random) {
+        Some(found) => found,
+        None => return,
     };
     if random.once_in(2) {
         tables.sides.remove(face);
