@@ -11,7 +11,7 @@ use Rattle.mesh.specs.Lists.{Mesh}
 use Rattle.mesh.specs.declared.Answer.the-variants.{Done}
 use Rattle.surface.specs.Corners.{Corners}
 use Rattle.surface.specs.Net.{Side, side0, side1, side2, side3, neighbour, across, H, T, X, Y, C}
-use Rattle.surface.specs.Refined.{cornersOf, nets}
+use Rattle.surface.specs.Refined.{cornersOf, perCorner, nets}
 use Rattle.surface.specs.Building.{Built}
 
 -- ---- a call's output
@@ -35,9 +35,9 @@ outputOf M first count = record { numbers = nets M first count; first = first; c
 abbrev pub Holds : Output → ℕ → Type 0
 Holds O c = (O .first ≤ c) × (c < O .first + O .count)
 
--- point k of corner c on an axis: 123 numbers a corner, x, y, z of each of its 41 points
+-- point k of corner c on an axis: `perCorner` numbers a corner, x, y, z of each of its 41 points
 unfoldable pub written : Output → ℕ → ℕ → ℕ → ℤ
-written O axis c k = getD (O .numbers) (123 * (c - O .first) + 3 * k + axis) (pos 0)
+written O axis c k = getD (O .numbers) (perCorner * (c - O .first) + 3 * k + axis) (pos 0)
 
 -- ---- the points p of a quad-net on one axis: five rows of five b points, then four rows of four a points
 module _ (p : ℕ → ℤ) where
