@@ -8,9 +8,9 @@ use Prim.Native.Nat.{ℕ, zero, suc, _+_, _-_, _*_, _^_, _<_, _≤_}
 use native.Mathlib.Omega.{arith}
 use lib.ListN.{getD}
 use lib.IntN.{ℤ, pos, _+ℤ_, _-ℤ_, _*ℤ_, negℤ, natAbs}
-use lib.Signed.{leZ, _<ℤ_, _≤ℤ_}
+use lib.Signed.{leZ, _≤ℤ_}
 use Rattle.integers.specs.Sum.{sum}
-use Rattle.integers.proofs.Diff.{as-diff, diff}
+use Rattle.integers.proofs.Diff.{diff}
 use Rattle.integers.proofs.Poly.{over, poly}
 use Rattle.integers.proofs.Laws.{abs-mul-le}
 use Rattle.integers.proofs.Sum.{sum-abs}
