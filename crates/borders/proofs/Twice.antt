@@ -8,8 +8,8 @@ use Rattle.mesh.specs.Lists.{Mesh}
 use Rattle.mesh.specs.declared.Answer.{Answer}
 use Rattle.mesh.specs.declared.Answer.the-variants.{Done}
 use Rattle.surface.specs.Building.{Built}
-use Rattle.borders.specs.Demand.{Wrote}
-use Rattle.borders.specs.Twice.{outputAt, BuiltTwice}
+use Rattle.borders.specs.Demand.{outputAt, Wrote}
+use Rattle.borders.specs.Twice.{BuiltTwice}
 use Rattle.borders.proofs.Theorem.{demand3}
 
 wrote : (M : Mesh) (links : List ℕ) (first count : ℕ) (old out : List ℤ) (r : Answer) → Built M links first count old r out → r ≡ Done

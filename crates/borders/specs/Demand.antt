@@ -20,6 +20,9 @@ pub record Output : Type 0 where
   pub first : ℕ
   pub count : ℕ
 
+abbrev pub outputAt : List ℤ → ℕ → ℕ → Output
+outputAt numbers first count = record { numbers = numbers; first = first; count = count }
+
 -- a call of building on M that is not refused left it so
 pub record Wrote (M : Mesh) (O : Output) : Type 0 where
   pub links : List ℕ
@@ -28,7 +31,7 @@ pub record Wrote (M : Mesh) (O : Output) : Type 0 where
 
 -- what such a call leaves
 abbrev pub outputOf : Mesh → ℕ → ℕ → Output
-outputOf M first count = record { numbers = nets M first count; first = first; count = count }
+outputOf M first count = outputAt (nets M first count) first count
 
 -- corner c is in its range
 abbrev pub Holds : Output → ℕ → Type 0

@@ -8,7 +8,7 @@ use Rattle.mesh.specs.Lists.{Mesh}
 use Rattle.mesh.specs.declared.Answer.{Answer}
 use Rattle.mesh.specs.declared.Answer.the-variants.{Done}
 use Rattle.surface.specs.Building.{Built}
-use Rattle.borders.specs.Demand.{Output, Borders}
+use Rattle.borders.specs.Demand.{Output, outputAt, Borders}
 
 -- every border within and between two outputs
 pub record Joined (M : Mesh) (A B : Output) : Type 0 where
@@ -16,10 +16,6 @@ pub record Joined (M : Mesh) (A B : Output) : Type 0 where
   pub within-second : Borders M B B
   pub forth : Borders M A B
   pub back : Borders M B A
-
--- an output that holds these numbers, for `count` corners from `first` on
-abbrev pub outputAt : List ℤ → ℕ → ℕ → Output
-outputAt numbers first count = record { numbers = numbers; first = first; count = count }
 
 -- the calls for `count1` corners from `first1` on and for `count2` from `first2` on, with outputs that held old1 and old2,
 -- answer r1 and r2 and leave out1 and out2
