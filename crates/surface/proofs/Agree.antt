@@ -15,7 +15,8 @@ use Rattle.surface.specs.Net.{End, vertex, leaving, face, arriving, Side
 use Rattle.surface.proofs.Rings.{iterate-in, neighbour-in, ring-in}
 use Rattle.surface.proofs.Faces.{toward-same}
 
-iterate-same : (f g : ℕ → ℕ) (n : ℕ) → ((c : ℕ) → c < n → f c < n) → ((c : ℕ) → c < n → f c ≡ g c) → (j c : ℕ) → c < n → iterate j f c ≡ iterate j g c
+iterate-same : (f g : ℕ → ℕ) (n : ℕ) → ((c : ℕ) → c < n → f c < n) → ((c : ℕ) → c < n → f c ≡ g c)
+    → (j c : ℕ) → c < n → iterate j f c ≡ iterate j g c
 unfolding iterate
 iterate-same f g n h e zero c l = refl
 iterate-same f g n h e (suc j) c l = e (iterate j f c) (iterate-in f n h j c l) ∙ ap g (iterate-same f g n h e j c l)
