@@ -1,0 +1,55 @@
+-- Numbers below zero by their bits, and a list read into the beginning of a lent space, value by value.
+-- Assumes nothing.
+use mathlib.Core.Path.{_≡_, refl, ap, _∙_, sym}
+use mathlib.Core.List.{List, [], _∷_, _++_}
+use Prim.Native.Nat.{ℕ, zero, suc, _+_, _^_, _-_, _<_, _≤_}
+use native.Mathlib.Numerals.{add-one}
+use native.Mathlib.Omega.{arith}
+use lib.ListN.{length, getD, drop, set, length-append, length-drop}
+use lib.Seq.{drop-cons, set-at, append-snoc}
+use lib.IntN.{ℤ, pos, negsuc, _-ℤ_}
+use mir.Syntax.{w32}
+use mir.Val.{toZ, ofZ}
+use mir.ValLaws.{toZ-pos, toZ-neg}
+use Rattle.mesh.specs.Links.{valuesFrom}
+use Rattle.format.specs.Format.{begins}
+
+zero-add : (n : ℕ) → 0 + n ≡ n
+zero-add n = omega arith
+
+pub minus-from-one : (n : ℕ) → negsuc 0 -ℤ pos n ≡ negsuc n
+minus-from-one zero = refl
+minus-from-one (suc n) = ap (λ (k : ℕ). negsuc (suc k)) (zero-add n)
+
+pub length-values : {A : Type 0} (f : ℕ → A) (at left : ℕ) → length (valuesFrom f at left) ≡ left
+unfolding valuesFrom
+length-values f at zero = refl
+length-values f at (suc left) = ap suc (length-values f (suc at) left)
+
+values-snoc : {A : Type 0} (f : ℕ → A) (at left : ℕ) → valuesFrom f at (suc left) ≡ valuesFrom f at left ++ (f (at + left) ∷ [])
+unfolding valuesFrom
+values-snoc f at zero = rw (add-zero at)
+  where
+    add-zero : (n : ℕ) → n + 0 ≡ n
+    add-zero n = omega arith
+values-snoc f at (suc left) = ap (λ l. f at ∷ l) (values-snoc f (suc at) left ∙ ap (λ (k : ℕ). valuesFrom f (suc at) left ++ (f k ∷ [])) (omega arith))
+
+-- one store of a fill from the front
+module _ {A : Type 0} (f : ℕ → A) (old : List A) where
+  abbrev pub Filled : ℕ → List A → Type 0
+  Filled i out = out ≡ valuesFrom f 0 i ++ drop i old
+
+  pub filled-none : Filled 0 old
+  unfolding valuesFrom
+  filled-none = refl
+
+  pub filled-step : (i : ℕ) (out : List A) (x d : A) → i < length old → Filled i out → x ≡ f i → Filled (i + 1) (set out i x)
+  filled-step i out x d h e q =
+      rw (e, q, add-one, drop-cons old i d h, values-snoc f 0 i, zero-add i, append-snoc)
+      (set-at (valuesFrom f 0 i) (getD old i d) (drop (suc i) old) (f i) i (length-values f 0 i))
+
+  pub filled-all : (i n : ℕ) (out : List A) → i ≡ n → Filled i out → out ≡ begins (valuesFrom f 0 n) old
+  filled-all i n out q e = rw (length-values f 0 n, ← q) e
+
+  pub filled-length : (i : ℕ) (out : List A) → i ≤ length old → Filled i out → length out ≡ length old
+  filled-length i out h e = rw e (simp (length-append, length-values, length-drop) (omega arith))
