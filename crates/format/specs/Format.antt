@@ -38,13 +38,13 @@ marked file = eqb (byteAt file 0) 68 && (eqb (byteAt file 1) 77 && eqb (byteAt f
 unfoldable pub known : List ℕ → Bool
 known file = eqb (halfAt file 3) 1
 
-unfoldable pub verticesOf : List ℕ → ℕ
+abbrev pub verticesOf : List ℕ → ℕ
 verticesOf file = halfAt file 5
 
-unfoldable pub facesOf : List ℕ → ℕ
+abbrev pub facesOf : List ℕ → ℕ
 facesOf file = halfAt file 7
 
-unfoldable pub cornersOf : List ℕ → ℕ
+abbrev pub cornersOf : List ℕ → ℕ
 cornersOf file = halfAt file 9
 
 -- ---- where the lists start, and the length that 3 asks: 11 + 12 times vertices + faces + 2 times corners
@@ -74,6 +74,10 @@ fileMesh file =
     (valuesFrom (sideIn file (sidesStart file)) 0 (facesOf file))
     (valuesFrom (cornerIn file (cornersStart file)) 0 (cornersOf file))
 
+-- 4, of the lists that the counts announce
+abbrev pub countsVerdict : List ℕ → Verdict
+countsVerdict file = single 4 (fault4 (3 * verticesOf file) (facesOf file) (cornersOf file)) 0
+
 -- ---- what the header says of a file of which `counted` bytes were counted and these are held: 1, 2, 3, and 4 from the counts.
 -- The last line is our own: where fewer bytes are held than counted, 01 leaves the answer free, and it is 3 here.
 unfoldable pub headerVerdict : List ℕ → ℕ → Verdict
@@ -81,7 +85,7 @@ headerVerdict file counted =
     single 1 (ltb (length file) headerLength || not (marked file)) 0
     orElse single 2 (not (known file)) 0
     orElse single 3 (not (eqb counted (expectedLength file))) 0
-    orElse single 4 (fault4 (3 * verticesOf file) (facesOf file) (cornersOf file)) 0
+    orElse countsVerdict file
     orElse single 3 (ltb (length file) counted) 0
 
 -- a list in the beginning of a lent space, whose further entries keep their contents

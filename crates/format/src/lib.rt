@@ -8,20 +8,12 @@ ghost use mir.Syntax.{w32};
 ghost use mir.Val.{toZ};
 ghost use Rattle.mesh.specs.Answers.{stated};
 ghost use Rattle.mesh.specs.Links.{valuesFrom};
-ghost use Rattle.format.specs.Format.{halfAt, wordAt, signedAt, headerLength, coordinateIn, sideIn, cornerIn, begins};
+ghost use Rattle.format.specs.Format.{halfAt, wordAt, signedAt, headerLength, marked, known, verticesOf, facesOf, cornersOf, sidesStart, cornersStart, expectedLength, coordinateIn, sideIn, cornerIn, countsVerdict, headerVerdict, begins};
 
 use mesh::Answer;
 
-// The header's length, and where its numbers stand.
+// The header's length.
 pub const HEADER: usize = 11;
-
-pub const VERSION_AT: usize = 3;
-
-pub const VERTICES_AT: usize = 5;
-
-pub const FACES_AT: usize = 7;
-
-pub const CORNERS_AT: usize = 9;
 
 fn wide(byte: u8) -> u16
     ensures { λ r. ⌜ (r ≡ byte) × (r < 256) ⌝ }
@@ -80,6 +72,108 @@ fn coordinate(file: &[u8], at: usize) -> i32
     ensures { λ r. ⌜ r ≡ signedAt (now (file .entry)) at ⌝ }
 {
     signed(word(file, at))
+}
+
+// Whether the file begins with the mark DMS.
+fn has_mark(file: &[u8]) -> bool
+    requires { ⌜ headerLength ≤ length (now file) ⌝ }
+    ensures { λ r. ⌜ r ≡ marked (now (file .entry)) ⌝ }
+{
+    if file[0] != 0x44 {
+        return false;
+    }
+    if file[1] != 0x4D {
+        return false;
+    }
+    file[2] == 0x53
+}
+
+// Whether the version is one that is read.
+fn has_version(file: &[u8]) -> bool
+    requires { ⌜ headerLength ≤ length (now file) ⌝ }
+    ensures { λ r. ⌜ r ≡ known (now (file .entry)) ⌝ }
+{
+    half(file, 3) == 1
+}
+
+// The header's counts of vertices, faces and corners.
+pub fn vertices(file: &[u8]) -> usize
+    requires { ⌜ headerLength ≤ length (now file) ⌝ }
+    ensures { λ r. ⌜ (r ≡ verticesOf (now (file .entry))) × (r < 65536) ⌝ }
+{
+    half(file, 5) as usize
+}
+
+pub fn faces(file: &[u8]) -> usize
+    requires { ⌜ headerLength ≤ length (now file) ⌝ }
+    ensures { λ r. ⌜ (r ≡ facesOf (now (file .entry))) × (r < 65536) ⌝ }
+{
+    half(file, 7) as usize
+}
+
+pub fn corners(file: &[u8]) -> usize
+    requires { ⌜ headerLength ≤ length (now file) ⌝ }
+    ensures { λ r. ⌜ (r ≡ cornersOf (now (file .entry))) × (r < 65536) ⌝ }
+{
+    half(file, 9) as usize
+}
+
+// Where the side counts start, where the corner list starts, and the length that 3 asks.
+pub fn sides_start(file: &[u8]) -> usize
+    requires { ⌜ headerLength ≤ length (now file) ⌝ }
+    ensures { λ r. ⌜ (r ≡ sidesStart (now (file .entry))) × (r < 786443) ⌝ }
+{
+    HEADER + 12 * vertices(file)
+}
+
+pub fn corners_start(file: &[u8]) -> usize
+    requires { ⌜ headerLength ≤ length (now file) ⌝ }
+    ensures { λ r. ⌜ (r ≡ cornersStart (now (file .entry))) × (r < 851979) ⌝ }
+{
+    sides_start(file) + faces(file)
+}
+
+pub fn expected_length(file: &[u8]) -> usize
+    requires { ⌜ headerLength ≤ length (now file) ⌝ }
+    ensures { λ r. ⌜ (r ≡ expectedLength (now (file .entry))) × (r < 983051) ⌝ }
+{
+    corners_start(file) + 2 * corners(file)
+}
+
+// Check 4, of the header's counts.
+fn check_counts(file: &[u8]) -> Answer
+    requires { ⌜ headerLength ≤ length (now file) ⌝ }
+    ensures { λ r. ⌜ stated r ≡ countsVerdict (now (file .entry)) ⌝ }
+{
+    lists::check_lengths(3 * vertices(file), faces(file), corners(file))
+}
+
+// What the header says, of a file of `counted` bytes: 1, 2, 3, 4 from the counts, and last that all its bytes are held.
+pub fn check_header(file: &[u8], counted: usize) -> Answer
+    ensures { λ r. ⌜ stated r ≡ headerVerdict (now (file .entry)) counted ⌝ }
+{
+    if file.len() < HEADER {
+        return Answer::Refused(1, 0);
+    }
+    if !has_mark(file) {
+        return Answer::Refused(1, 0);
+    }
+    if !has_version(file) {
+        return Answer::Refused(2, 0);
+    }
+    if counted != expected_length(file) {
+        return Answer::Refused(3, 0);
+    }
+    let counts = check_counts(file);
+    match counts {
+        Answer::Refused(number, place) => Answer::Refused(number, place),
+        Answer::Done => {
+            if file.len() < counted {
+                return Answer::Refused(3, 0);
+            }
+            Answer::Done
+        }
+    }
 }
 
 // The coordinates, into the beginning of a lent space.
