@@ -12,6 +12,7 @@ use mir.Syntax.{w32}
 use mir.Val.{toZ, ofZ}
 use mir.ValLaws.{toZ-pos, toZ-neg}
 use Rattle.mesh.specs.Links.{valuesFrom}
+use Rattle.mesh.proofs.Links.{values-length}
 use Rattle.format.specs.Format.{begins}
 
 zero-add : (n : ℕ) → 0 + n ≡ n
@@ -20,11 +21,6 @@ zero-add n = omega arith
 pub minus-from-one : (n : ℕ) → negsuc 0 -ℤ pos n ≡ negsuc n
 minus-from-one zero = refl
 minus-from-one (suc n) = ap (λ (k : ℕ). negsuc (suc k)) (zero-add n)
-
-pub length-values : {A : Type 0} (f : ℕ → A) (at left : ℕ) → length (valuesFrom f at left) ≡ left
-unfolding valuesFrom
-length-values f at zero = refl
-length-values f at (suc left) = ap suc (length-values f (suc at) left)
 
 values-snoc : {A : Type 0} (f : ℕ → A) (at left : ℕ) → valuesFrom f at (suc left) ≡ valuesFrom f at left ++ (f (at + left) ∷ [])
 unfolding valuesFrom
@@ -46,10 +42,10 @@ module _ {A : Type 0} (f : ℕ → A) (old : List A) where
   pub filled-step : (i : ℕ) (out : List A) (x d : A) → i < length old → Filled i out → x ≡ f i → Filled (i + 1) (set out i x)
   filled-step i out x d h e q =
       rw (e, q, add-one, drop-cons old i d h, values-snoc f 0 i, zero-add i, append-snoc)
-      (set-at (valuesFrom f 0 i) (getD old i d) (drop (suc i) old) (f i) i (length-values f 0 i))
+      (set-at (valuesFrom f 0 i) (getD old i d) (drop (suc i) old) (f i) i (values-length f 0 i))
 
   pub filled-all : (i n : ℕ) (out : List A) → i ≡ n → Filled i out → out ≡ begins (valuesFrom f 0 n) old
-  filled-all i n out q e = rw (length-values f 0 n, ← q) e
+  filled-all i n out q e = rw (values-length f 0 n, ← q) e
 
   pub filled-length : (i : ℕ) (out : List A) → i ≤ length old → Filled i out → length out ≡ length old
-  filled-length i out h e = rw e (simp (length-append, length-values, length-drop) (omega arith))
+  filled-length i out h e = rw e (simp (length-append, values-length, length-drop) (omega arith))
