@@ -12,15 +12,7 @@ use Rattle.mesh.specs.Limits.{mostVertices, mostFaces, mostCorners}
 use Rattle.mesh.specs.Faults.{Verdict, sound, fault, single, _orElse_, outside, fault4}
 use Rattle.mesh.proofs.Ranges.{none-left, none-right, at-most}
 use Rattle.mesh.proofs.Verdicts.{sound-left, sound-right, single-sound}
-use Rattle.format.specs.Format.{headerLength, marked, known, verticesOf, facesOf, cornersOf, expectedLength, countsVerdict, headerVerdict}
-
--- what is known of a file whose header passes: its lists lie within it and within the limits
-pub record Sized (file : List ℕ) : Type 0 where
-  pub header : headerLength ≤ length file
-  pub body : expectedLength file ≤ length file
-  pub vertices : verticesOf file ≤ mostVertices
-  pub faces : facesOf file ≤ mostFaces
-  pub corners : cornersOf file ≤ mostCorners
+use Rattle.format.specs.Format.{headerLength, marked, known, verticesOf, facesOf, cornersOf, expectedLength, countsVerdict, headerVerdict, Sized}
 
 module _ (file : List ℕ) (counted : ℕ) where
   pub too-short : length file < headerLength → fault 1 0 ≡ headerVerdict file counted

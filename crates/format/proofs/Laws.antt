@@ -1,19 +1,17 @@
--- Numbers below zero by their bits, and a list read into the beginning of a lent space, value by value.
+-- Numbers below zero by their bits; a list read into the beginning of a lent space, value by value; the lengths of a file's lists.
 -- Assumes nothing.
 use mathlib.Core.Path.{_≡_, refl, ap, _∙_, sym}
 use mathlib.Core.List.{List, [], _∷_, _++_}
-use Prim.Native.Nat.{ℕ, zero, suc, _+_, _^_, _-_, _<_, _≤_}
+use Prim.Native.Nat.{ℕ, zero, suc, _+_, _*_, _<_, _≤_}
 use native.Mathlib.Numerals.{add-one}
 use native.Mathlib.Omega.{arith}
-use lib.ListN.{length, getD, drop, set, length-append, length-drop}
-use lib.Seq.{drop-cons, set-at, append-snoc}
+use lib.ListN.{length, getD, take, drop, set, length-append, length-drop}
+use lib.Seq.{drop-cons, set-at, take-at, append-snoc}
 use lib.IntN.{ℤ, pos, negsuc, _-ℤ_}
-use mir.Syntax.{w32}
-use mir.Val.{toZ, ofZ}
-use mir.ValLaws.{toZ-pos, toZ-neg}
+use Rattle.mesh.specs.Lists.{Mesh, vertexCount, faceCount, cornerCount}
 use Rattle.mesh.specs.Links.{valuesFrom}
 use Rattle.mesh.proofs.Links.{values-length}
-use Rattle.format.specs.Format.{begins}
+use Rattle.format.specs.Format.{begins, coordinateIn, sideIn, cornerIn, verticesOf, facesOf, cornersOf, sidesStart, cornersStart, fileMesh}
 
 zero-add : (n : ℕ) → 0 + n ≡ n
 zero-add n = omega arith
@@ -49,3 +47,43 @@ module _ {A : Type 0} (f : ℕ → A) (old : List A) where
 
   pub filled-length : (i : ℕ) (out : List A) → i ≤ length old → Filled i out → length out ≡ length old
   filled-length i out h e = rw e (simp (length-append, values-length, length-drop) (omega arith))
+
+-- what was read is found again in the beginning of the space
+module _ {A : Type 0} (f : ℕ → A) (n : ℕ) (old out : List A) (e : out ≡ begins (valuesFrom f 0 n) old) where
+  pub read-back : take n out ≡ valuesFrom f 0 n
+  read-back = rw e (take-at (valuesFrom f 0 n) (drop (length (valuesFrom f 0 n)) old) n (values-length f 0 n))
+
+  pub read-length : n ≡ length (take n out)
+  read-length = sym (ap length read-back ∙ values-length f 0 n)
+
+module _ (file : List ℕ) where
+  pub file-coordinates : length (fileMesh file .coordinates) ≡ 3 * verticesOf file
+  unfolding fileMesh
+  file-coordinates = values-length (coordinateIn file) 0 (3 * verticesOf file)
+
+  pub file-vertices : vertexCount (fileMesh file) ≡ verticesOf file
+  file-vertices = rw file-coordinates (omega arith)
+
+  pub file-faces : faceCount (fileMesh file) ≡ facesOf file
+  unfolding fileMesh
+  file-faces = values-length (sideIn file (sidesStart file)) 0 (facesOf file)
+
+  pub file-corners : cornerCount (fileMesh file) ≡ cornersOf file
+  unfolding fileMesh
+  file-corners = values-length (cornerIn file (cornersStart file)) 0 (cornersOf file)
+
+  -- the lists, read into lent spaces, are those of the file's mesh
+  pub coordinates-read : (n : ℕ) (old out : List ℤ) → n ≡ 3 * verticesOf file → out ≡ begins (valuesFrom (coordinateIn file) 0 n) old
+      → take n out ≡ fileMesh file .coordinates
+  unfolding fileMesh
+  coordinates-read n old out q e = read-back (coordinateIn file) n old out e ∙ rw q
+
+  pub sides-read : (start n : ℕ) (old out : List ℕ) → start ≡ sidesStart file → n ≡ facesOf file → out ≡ begins (valuesFrom (sideIn file start) 0 n) old
+      → take n out ≡ fileMesh file .sides
+  unfolding fileMesh
+  sides-read start n old out p q e = read-back (sideIn file start) n old out e ∙ rw (p, q)
+
+  pub corners-read : (start n : ℕ) (old out : List ℕ) → start ≡ cornersStart file → n ≡ cornersOf file → out ≡ begins (valuesFrom (cornerIn file start) 0 n) old
+      → take n out ≡ fileMesh file .corners
+  unfolding fileMesh
+  corners-read start n old out p q e = read-back (cornerIn file start) n old out e ∙ rw (p, q)

@@ -3,12 +3,13 @@
 -- Assumes nothing.
 use mathlib.Core.Bool.{Bool, not, _&&_, _||_}
 use mathlib.Core.List.{List, _++_}
-use Prim.Native.Nat.{ℕ, _+_, _*_}
+use Prim.Native.Nat.{ℕ, _+_, _*_, _≤_}
 use lib.Dec.{ltb, eqb}
 use lib.ListN.{length, getD, drop}
 use lib.IntN.{ℤ}
 use mir.Syntax.{w32}
 use mir.Val.{toZ}
+use Rattle.mesh.specs.Limits.{mostVertices, mostFaces, mostCorners}
 use Rattle.mesh.specs.Lists.{Mesh, meshOf}
 use Rattle.mesh.specs.Links.{valuesFrom}
 use Rattle.mesh.specs.Faults.{Verdict, _orElse_, single, fault4}
@@ -87,6 +88,14 @@ headerVerdict file counted =
     orElse single 3 (not (eqb counted (expectedLength file))) 0
     orElse countsVerdict file
     orElse single 3 (ltb (length file) counted) 0
+
+-- what a header that passes says: the lists lie within the file and within the limits
+pub record Sized (file : List ℕ) : Type 0 where
+  pub header : headerLength ≤ length file
+  pub body : expectedLength file ≤ length file
+  pub vertices : verticesOf file ≤ mostVertices
+  pub faces : facesOf file ≤ mostFaces
+  pub corners : cornersOf file ≤ mostCorners
 
 -- a list in the beginning of a lent space, whose further entries keep their contents
 abbrev pub begins : {A : Type 0} → List A → List A → List A

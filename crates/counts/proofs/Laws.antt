@@ -17,7 +17,7 @@ use Rattle.mesh.specs.Links.{valuesFrom}
 use Rattle.mesh.proofs.Scans.{ways}
 use Rattle.mesh.proofs.Links.{values-length, values-at}
 use Rattle.mesh.proofs.Rings.{count-hit, count-miss, count-le}
-use Rattle.tallies.specs.Tally.{stands, tallyTo}
+use Rattle.counts.specs.Tally.{stands, tallyTo}
 
 pub tally-length : (values : List ℕ) (i size : ℕ) → length (tallyTo values i size) ≡ size
 unfolding tallyTo

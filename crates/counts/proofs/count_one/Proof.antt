@@ -2,10 +2,10 @@ use mathlib.Core.Path.{sym}
 use lib.Seq.{set-out}
 use native.Mathlib.Omega.{arith}
 use borrow.Author.Needs.{needs}
-use Rattle.tallies.proofs.count_one.Statement.{statement}
-use Rattle.tallies.proofs.count_one.Tie as tie
-use Rattle.tallies.proofs.count_one.Reads as reads
-use Rattle.tallies.proofs.count_one.Lts as lts
+use Rattle.counts.proofs.count_one.Statement.{statement}
+use Rattle.counts.proofs.count_one.Tie as tie
+use Rattle.counts.proofs.count_one.Reads as reads
+use Rattle.counts.proofs.count_one.Lts as lts
 
 -- src/lib.rt:14:17
 mul-n : tie.Need-mul-n
