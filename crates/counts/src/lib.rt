@@ -18,11 +18,11 @@ pub const NUMBERS: usize = MOST_SIDES + 1;
 
 // A file's vertices, faces and corners; and for each m how many vertices have m corners and how many faces m sides.
 pub struct Counts {
-    vertices: usize,
-    faces: usize,
-    corners: usize,
-    cornered: [u16; NUMBERS],
-    sided: [u16; NUMBERS],
+    pub vertices: usize,
+    pub faces: usize,
+    pub corners: usize,
+    pub cornered: [u16; NUMBERS],
+    pub sided: [u16; NUMBERS],
 }
 
 // One more of m, where the table reaches it.
@@ -65,9 +65,9 @@ pub fn count(file: &[u8]) -> Counts
     requires { ⌜ Sized (now file) ⌝ }
     ensures { λ r. ⌜ Counted (now (file .entry)) r ⌝ }
 {
-    let vertices = format::vertices(file);
-    let faces = format::faces(file);
-    let corners = format::corners(file);
+    let vertices = format::vertex_count(file);
+    let faces = format::face_count(file);
+    let corners = format::corner_count(file);
     let mut sides = [0u8; MOST_FACES];
     format::read_sides(file, format::sides_start(file), faces, &mut sides);
     let mut list = [0u16; MOST_CORNERS];

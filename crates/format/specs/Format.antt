@@ -1,6 +1,7 @@
 -- The mesh file: a header of mark, version and three counts, then the coordinates, the side counts and the corner list.
 -- All numbers have their low byte first.
 -- Assumes nothing.
+use mathlib.Core.Path.{_≡_}
 use mathlib.Core.Bool.{Bool, not, _&&_, _||_}
 use mathlib.Core.List.{List, _++_}
 use Prim.Native.Nat.{ℕ, _+_, _*_, _≤_}
@@ -100,3 +101,15 @@ pub record Sized (file : List ℕ) : Type 0 where
 -- a list in the beginning of a lent space, whose further entries keep their contents
 abbrev pub begins : {A : Type 0} → List A → List A → List A
 begins new old = new ++ drop (length new) old
+
+-- lent spaces of these lengths have room for the lists
+pub record Room (file : List ℕ) (coordinates sides corners : ℕ) : Type 0 where
+  pub coordinates-fit : 3 * verticesOf file ≤ coordinates
+  pub sides-fit : facesOf file ≤ sides
+  pub corners-fit : cornersOf file ≤ corners
+
+-- the lists of the file's mesh stand in the beginnings of the spaces
+pub record ListsRead (file : List ℕ) (coordinates : List ℤ) (sides corners : List ℕ) (coordinates' : List ℤ) (sides' corners' : List ℕ) : Type 0 where
+  pub coordinates-hold : coordinates' ≡ begins (fileMesh file .coordinates) coordinates
+  pub sides-hold : sides' ≡ begins (fileMesh file .sides) sides
+  pub corners-hold : corners' ≡ begins (fileMesh file .corners) corners

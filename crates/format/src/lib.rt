@@ -8,7 +8,7 @@ ghost use mir.Syntax.{w32};
 ghost use mir.Val.{toZ};
 ghost use Rattle.mesh.specs.Answers.{stated};
 ghost use Rattle.mesh.specs.Links.{valuesFrom};
-ghost use Rattle.format.specs.Format.{halfAt, wordAt, signedAt, headerLength, marked, known, verticesOf, facesOf, cornersOf, sidesStart, cornersStart, expectedLength, coordinateIn, sideIn, cornerIn, countsVerdict, headerVerdict, begins};
+ghost use Rattle.format.specs.Format.{halfAt, wordAt, signedAt, headerLength, marked, known, verticesOf, facesOf, cornersOf, sidesStart, cornersStart, expectedLength, coordinateIn, sideIn, cornerIn, countsVerdict, headerVerdict, Sized, Room, ListsRead, begins};
 
 use mesh::Answer;
 
@@ -97,21 +97,21 @@ fn has_version(file: &[u8]) -> bool
 }
 
 // The header's counts of vertices, faces and corners.
-pub fn vertices(file: &[u8]) -> usize
+pub fn vertex_count(file: &[u8]) -> usize
     requires { ⌜ headerLength ≤ length (now file) ⌝ }
     ensures { λ r. ⌜ (r ≡ verticesOf (now (file .entry))) × (r < 65536) ⌝ }
 {
     half(file, 5) as usize
 }
 
-pub fn faces(file: &[u8]) -> usize
+pub fn face_count(file: &[u8]) -> usize
     requires { ⌜ headerLength ≤ length (now file) ⌝ }
     ensures { λ r. ⌜ (r ≡ facesOf (now (file .entry))) × (r < 65536) ⌝ }
 {
     half(file, 7) as usize
 }
 
-pub fn corners(file: &[u8]) -> usize
+pub fn corner_count(file: &[u8]) -> usize
     requires { ⌜ headerLength ≤ length (now file) ⌝ }
     ensures { λ r. ⌜ (r ≡ cornersOf (now (file .entry))) × (r < 65536) ⌝ }
 {
@@ -123,21 +123,21 @@ pub fn sides_start(file: &[u8]) -> usize
     requires { ⌜ headerLength ≤ length (now file) ⌝ }
     ensures { λ r. ⌜ (r ≡ sidesStart (now (file .entry))) × (r < 786443) ⌝ }
 {
-    HEADER + 12 * vertices(file)
+    HEADER + 12 * vertex_count(file)
 }
 
 pub fn corners_start(file: &[u8]) -> usize
     requires { ⌜ headerLength ≤ length (now file) ⌝ }
     ensures { λ r. ⌜ (r ≡ cornersStart (now (file .entry))) × (r < 851979) ⌝ }
 {
-    sides_start(file) + faces(file)
+    sides_start(file) + face_count(file)
 }
 
 pub fn expected_length(file: &[u8]) -> usize
     requires { ⌜ headerLength ≤ length (now file) ⌝ }
     ensures { λ r. ⌜ (r ≡ expectedLength (now (file .entry))) × (r < 983051) ⌝ }
 {
-    corners_start(file) + 2 * corners(file)
+    corners_start(file) + 2 * corner_count(file)
 }
 
 // Check 4, of the header's counts.
@@ -145,7 +145,7 @@ fn check_counts(file: &[u8]) -> Answer
     requires { ⌜ headerLength ≤ length (now file) ⌝ }
     ensures { λ r. ⌜ stated r ≡ countsVerdict (now (file .entry)) ⌝ }
 {
-    lists::check_lengths(3 * vertices(file), faces(file), corners(file))
+    lists::check_lengths(3 * vertex_count(file), face_count(file), corner_count(file))
 }
 
 // What the header says, of a file of `counted` bytes: 1, 2, 3, 4 from the counts, and last that all its bytes are held.
@@ -210,4 +210,14 @@ pub fn read_corners(file: &[u8], start: usize, count: usize, out: &mut [u16])
         out[c] = half(file, start + 2 * c);
         c += 1;
     }
+}
+
+// The three lists of a file whose header passes, into spaces that have room for them.
+pub fn read_lists(file: &[u8], coordinates: &mut [i32], sides: &mut [u8], corners: &mut [u16])
+    requires { ⌜ Sized (now file) × Room (now file) (length (now coordinates)) (length (now sides)) (length (now corners)) ⌝ }
+    ensures { λ _. ⌜ ListsRead (now (file .entry)) (now (coordinates .entry)) (now (sides .entry)) (now (corners .entry)) (now (coordinates .exit)) (now (sides .exit)) (now (corners .exit)) ⌝ }
+{
+    read_coordinates(file, 3 * vertex_count(file), coordinates);
+    read_sides(file, sides_start(file), face_count(file), sides);
+    read_corners(file, corners_start(file), corner_count(file), corners);
 }

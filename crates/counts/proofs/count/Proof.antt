@@ -14,25 +14,25 @@ use Rattle.counts.proofs.count.Reads as reads
 use Rattle.counts.proofs.count.Lts as lts
 use Rattle.counts.proofs.tally.Reads as tally-reads
 use Rattle.counts.proofs.tally_bytes.Reads as tally-bytes-reads
-use Rattle.format.proofs.corners.Reads as corners-reads
+use Rattle.format.proofs.corner_count.Reads as corners-reads
 use Rattle.format.proofs.corners_start.Reads as corners-start-reads
-use Rattle.format.proofs.faces.Reads as faces-reads
+use Rattle.format.proofs.face_count.Reads as faces-reads
 use Rattle.format.proofs.read_corners.Reads as read-corners-reads
 use Rattle.format.proofs.read_sides.Reads as read-sides-reads
 use Rattle.format.proofs.sides_start.Reads as sides-start-reads
-use Rattle.format.proofs.vertices.Reads as vertices-reads
+use Rattle.format.proofs.vertex_count.Reads as vertices-reads
 
 -- src/lib.rt:68:9
-vertices-requires : tie.Need-vertices-requires
-vertices-requires c κs = search needs
+vertex-count-requires : tie.Need-vertex-count-requires
+vertex-count-requires c κs = search needs
 
 -- src/lib.rt:69:9
-faces-requires : tie.Need-faces-requires
-faces-requires c κs = search needs
+face-count-requires : tie.Need-face-count-requires
+face-count-requires c κs = search needs
 
 -- src/lib.rt:70:9
-corners-requires : tie.Need-corners-requires
-corners-requires c κs = search needs
+corner-count-requires : tie.Need-corner-count-requires
+corner-count-requires c κs = search needs
 
 -- src/lib.rt:72:30
 sides-start-requires : tie.Need-sides-start-requires
@@ -55,8 +55,8 @@ slice-aggregate-read-corners : tie.Need-slice-aggregate-read-corners
 slice-aggregate-read-corners c = search needs
 
 -- src/lib.rt:74:5
-read-corners-requires : tie.Need-read-corners-requires
-read-corners-requires c κs = search needs
+read-corner-count-requires : tie.Need-read-corner-count-requires
+read-corner-count-requires c κs = search needs
 
 -- src/lib.rt:76:11
 array-share-prefix-list : tie.Need-array-share-prefix-list
@@ -88,7 +88,7 @@ slice-aggregate-tally-4 c = search needs
 
 -- src/lib.rt:78:5
 tally-requires-2 : tie.Need-tally-requires-2
-tally-requires-2 c κs = (omega (arith, prefix-length _ _ mostVertices (c .before .before .before .before .before .before .before .before .before .before .before .before .before .before .before .before .vertices .result) (c .before .before .before .tally .ensures) (search needs)), refl)
+tally-requires-2 c κs = (omega (arith, prefix-length _ _ mostVertices (c .before .before .before .before .before .before .before .before .before .before .before .before .before .before .before .before .vertex-count .result) (c .before .before .before .tally .ensures) (search needs)), refl)
 
 -- src/lib.rt:80:17
 array-share-prefix-sides : tie.Need-array-share-prefix-sides
@@ -110,9 +110,9 @@ tally-bytes-requires c κs = (omega (arith, read-length _ _ _ _ (c .before .befo
 returns : tie.Need-returns
 returns c = 
     let file = c .before .before .before .before .before .before .before .before .before .before .before .before .before .before .before .before .before .before .before .before .before .before .before .before .args .file .now in
-    let v = c .before .before .before .before .before .before .before .before .before .before .before .before .before .before .before .before .before .before .before .before .before .before .vertices in
-    let f = c .before .before .before .before .before .before .before .before .before .before .before .before .before .before .before .before .before .before .before .before .before .faces in
-    let k = c .before .before .before .before .before .before .before .before .before .before .before .before .before .before .before .before .before .before .before .before .corners in
+    let v = c .before .before .before .before .before .before .before .before .before .before .before .before .before .before .before .before .before .before .before .before .before .before .vertex-count in
+    let f = c .before .before .before .before .before .before .before .before .before .before .before .before .before .before .before .before .before .before .before .before .before .face-count in
+    let k = c .before .before .before .before .before .before .before .before .before .before .before .before .before .before .before .before .before .before .before .before .corner-count in
     let sides = sides-read file _ _ _ _ (c .before .before .before .before .before .before .before .before .before .before .before .before .before .before .before .before .before .before .before .sides-start .ensures .0) (f .ensures .0) (c .before .before .before .before .before .before .before .before .before .before .before .before .before .before .before .before .before .read-sides .ensures) in
     let corners = corners-read file _ _ _ _ (c .before .before .before .before .before .before .before .before .before .before .before .before .before .before .before .corners-start .ensures .0) (k .ensures .0) (c .before .before .before .before .before .before .before .before .before .before .before .before .before .read-corners .ensures) in
     record
@@ -129,15 +129,15 @@ pub count-spec : {M : Type 1} → statement M
 count-spec =
     tie.close
     (tie.spec
-    vertices-requires
-    faces-requires
-    corners-requires
+    vertex-count-requires
+    face-count-requires
+    corner-count-requires
     sides-start-requires
     slice-aggregate-read-sides
     read-sides-requires
     corners-start-requires
     slice-aggregate-read-corners
-    read-corners-requires
+    read-corner-count-requires
     array-share-prefix-list
     slice-aggregate-tally
     slice-aggregate-tally-2
