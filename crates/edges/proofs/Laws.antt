@@ -14,11 +14,12 @@ use Rattle.mesh.specs.Limits.{mostCorners, mostVertices}
 use Rattle.mesh.specs.Scan.{someBelow}
 use Rattle.mesh.specs.Corners.{next}
 use Rattle.mesh.specs.Links.{vertexOf, leavesTo, names, sameEdge, reverseEdge, link, reverse}
+use Rattle.mesh.specs.Tables.{NextsTo}
 use Rattle.mesh.specs.Faults.{sound, fault, lowestOf, fault10, fault11, Closed}
 use Rattle.mesh.proofs.Scans.{fails-step, clash, compared, and-left, and-right, some-true, some-false}
 use Rattle.mesh.proofs.Verdicts.{lowest-hit, lowest-none}
 use Rattle.mesh.proofs.Links.{unique, reverse-in, reverse-vertex, reverse-to, link-is}
-use Rattle.tables.specs.Filled.{lastBelow, NextsTo, EarliersTo, HeadsTo, edge, Chain}
+use Rattle.tables.specs.Filled.{lastBelow, EarliersTo, HeadsTo, edge, Chain}
 use Rattle.tables.proofs.Laws.{last-le, last-passes, last-none, last-skip}
 use Rattle.edges.specs.Searched.{Searchable, LinksTo}
 

@@ -6,20 +6,17 @@ use Prim.Native.Nat.{ℕ, _<_}
 use lib.ListN.{length, getD}
 use Rattle.mesh.specs.Limits.{mostVertices}
 use Rattle.mesh.specs.Links.{link}
+use Rattle.mesh.specs.Tables.{NextsTo}
 use Rattle.mesh.specs.Faults.{lowestOf, fault11, Closed}
 use Rattle.mesh.specs.Answers.{stated}
 use Rattle.mesh.specs.declared.Answer.{Answer}
-use Rattle.tables.specs.Filled.{Walkable, HeadsTo, NextsTo}
+use Rattle.tables.specs.Filled.{Walkable, HeadsTo}
 
 pub record Searchable (corners nexts earliers heads : List ℕ) : Type 0 where
   pub walk : Walkable corners nexts earliers
   pub heads-length : length heads ≡ mostVertices
   pub heads-are : HeadsTo corners heads (length corners)
   pub named : (c : ℕ) → c < length corners → getD corners c 0 < mostVertices
-
--- a table that holds the link of every corner
-unfoldable pub LinkTable : List ℕ → List ℕ → List ℕ → Type 0
-LinkTable sides corners links = (c : ℕ) → c < length corners → getD links c 0 ≡ link sides corners c
 
 -- the links below c
 unfoldable pub LinksTo : List ℕ → List ℕ → List ℕ → ℕ → Type 0

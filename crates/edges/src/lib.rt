@@ -5,9 +5,10 @@ ghost use mathlib.Core.List.{List};
 ghost use Prim.Native.Nat.{ℕ, _<_};
 ghost use lib.ListN.{length, getD};
 ghost use Rattle.mesh.specs.Limits.{mostCorners};
+ghost use Rattle.mesh.specs.Tables.{NextsTo};
 ghost use Rattle.mesh.specs.Faults.{lowestOf, fault10};
 ghost use Rattle.mesh.specs.Answers.{stated};
-ghost use Rattle.tables.specs.Filled.{lastBelow, NextsTo, edge};
+ghost use Rattle.tables.specs.Filled.{lastBelow, edge};
 ghost use Rattle.edges.specs.Searched.{Searchable, Reversed};
 
 // Check 10: no leaving edge already left an earlier corner.

@@ -14,9 +14,10 @@ use borrow.Author.Tests.{eq-eqb, ne-eqb, eqb-true}
 use Rattle.mesh.specs.Limits.{mostVertices}
 use Rattle.mesh.specs.Corners.{startOf, firstOf, sidesOf}
 use Rattle.mesh.specs.Links.{names}
+use Rattle.mesh.specs.Tables.{NextsTo}
 use Rattle.mesh.proofs.Scans.{ways, compared, and-true}
 use Rattle.mesh.proofs.Faces.{face-at, start-zero, start-next, next-inner, next-last}
-use Rattle.tables.specs.Filled.{lastBelow, FaceFilled, NextsTo, EarliersTo, HeadsTo, edge, Chain, Walkable}
+use Rattle.tables.specs.Filled.{lastBelow, FaceFilled, EarliersTo, HeadsTo, edge, Chain, Walkable}
 
 -- one face, filled below c
 pub record Part (start : ℕ) (old new : List ℕ) (c : ℕ) : Type 0 where

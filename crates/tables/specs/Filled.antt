@@ -8,7 +8,6 @@ use lib.Dec.{eqb}
 use lib.ListN.{length, getD}
 use Rattle.mesh.specs.Limits.{mostCorners, mostVertices}
 use Rattle.mesh.specs.Scan.{pickN}
-use Rattle.mesh.specs.Corners.{next}
 use Rattle.mesh.specs.Links.{vertexOf, names}
 
 -- one more than the highest number below n that passes the test; 0 where none does
@@ -21,10 +20,6 @@ pub record FaceFilled (start end : ℕ) (old new : List ℕ) : Type 0 where
   pub inner : (c : ℕ) → start ≤ c → c + 1 < end → getD new c 0 ≡ c + 1
   pub last : (c : ℕ) → c + 1 ≡ end → getD new c 0 ≡ start
   pub before : (c : ℕ) → c < start → getD new c 0 ≡ getD old c 0
-
--- the table of next corners, below a corner
-unfoldable pub NextsTo : List ℕ → List ℕ → ℕ → Type 0
-NextsTo sides nexts end = (c : ℕ) → c < end → getD nexts c 0 ≡ next sides c
 
 -- the table of earlier corners of the same vertex, below a corner: 0 for none, else one more than the corner
 unfoldable pub EarliersTo : List ℕ → List ℕ → ℕ → Type 0

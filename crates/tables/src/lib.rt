@@ -5,7 +5,8 @@ ghost use Prim.Native.Nat.{ℕ, _≤_, _<_};
 ghost use lib.ListN.{length, getD, replicate};
 ghost use Rattle.mesh.specs.Limits.{leastSides, mostVertices, mostCorners};
 ghost use Rattle.mesh.specs.Corners.{sumOf};
-ghost use Rattle.tables.specs.Filled.{lastBelow, FaceFilled, NextsTo, EarliersTo, HeadsTo, edge, Chain, Walkable};
+ghost use Rattle.mesh.specs.Tables.{NextsTo};
+ghost use Rattle.tables.specs.Filled.{lastBelow, FaceFilled, EarliersTo, HeadsTo, edge, Chain, Walkable};
 
 // The next corner of every corner.
 pub fn fill_nexts(sides: &[u8], nexts: &mut [u16])

@@ -4,8 +4,9 @@ use lib.ListN.{length, getD}
 use denote.Ref.{now}
 use Rattle.mesh.specs.Limits.{mostCorners}
 use Rattle.mesh.specs.Corners.{startOf}
+use Rattle.mesh.specs.Tables.{NextsTo}
 use Rattle.mesh.proofs.Faces.{start-zero, start-next, start-all, start-ends}
-use Rattle.tables.specs.Filled.{NextsTo, FaceFilled}
+use Rattle.tables.specs.Filled.{FaceFilled}
 use Rattle.tables.proofs.Laws.{nexts-none, nexts-step}
 use native.Mathlib.Omega.{arith}
 use borrow.Author.Needs.{needs}
