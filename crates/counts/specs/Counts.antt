@@ -9,7 +9,6 @@ use Rattle.mesh.specs.Limits.{mostSides}
 use Rattle.mesh.specs.Scan.{countBelow}
 use Rattle.mesh.specs.Lists.{Mesh, vertexCount, faceCount, cornerCount}
 use Rattle.mesh.specs.Links.{valuesFrom, valence}
-use Rattle.format.specs.Format.{fileMesh}
 use Rattle.counts.specs.declared.Counts.{Counts}
 
 -- how many vertices have m corners, and how many faces m sides
@@ -23,10 +22,10 @@ facesWith M m = countBelow (faceCount M) (λ f. eqb (getD (M .sides) f 0) m)
 unfoldable pub forEach : (ℕ → ℕ) → List ℕ
 forEach f = valuesFrom f 0 (mostSides + 1)
 
--- the counts are those of the file's mesh
-pub record Counted (file : List ℕ) (r : Counts) : Type 0 where
-  pub vertices : r .vertices ≡ vertexCount (fileMesh file)
-  pub faces : r .faces ≡ faceCount (fileMesh file)
-  pub corners : r .corners ≡ cornerCount (fileMesh file)
-  pub cornered : r .cornered ≡ forEach (verticesWith (fileMesh file))
-  pub sided : r .sided ≡ forEach (facesWith (fileMesh file))
+-- the counts are the mesh's own
+pub record Counted (M : Mesh) (r : Counts) : Type 0 where
+  pub vertices : r .vertices ≡ vertexCount M
+  pub faces : r .faces ≡ faceCount M
+  pub corners : r .corners ≡ cornerCount M
+  pub cornered : r .cornered ≡ forEach (verticesWith M)
+  pub sided : r .sided ≡ forEach (facesWith M)

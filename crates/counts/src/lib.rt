@@ -2,21 +2,20 @@
 // A tally says how often each number stands in a list. The corner list's tally holds the corners of each vertex; the tally of
 // those, and that of the side counts, are the numbers for each m.
 ghost use mathlib.Core.Path.{_≡_};
-ghost use Prim.Native.Nat.{_+_, _<_, _≤_};
+ghost use Prim.Native.Nat.{_+_, _/_, _<_, _≤_};
 ghost use lib.ListN.{length, getD, set, replicate};
-ghost use Rattle.format.specs.Format.{Sized};
+ghost use Rattle.mesh.specs.Limits.{mostVertices, mostFaces, mostCorners};
+ghost use Rattle.mesh.specs.Lists.{meshOf};
 ghost use Rattle.counts.specs.Tally.{tallyOf};
 ghost use Rattle.counts.specs.Counts.{Counted};
 
-use mesh::MOST_CORNERS;
-use mesh::MOST_FACES;
 use mesh::MOST_SIDES;
 use mesh::MOST_VERTICES;
 
 // How many numbers m there are, from 0 to the most sides or corners.
 pub const NUMBERS: usize = MOST_SIDES + 1;
 
-// A file's vertices, faces and corners; and for each m how many vertices have m corners and how many faces m sides.
+// A mesh's vertices, faces and corners; and for each m how many vertices have m corners and how many faces m sides.
 pub struct Counts {
     pub vertices: usize,
     pub faces: usize,
@@ -60,28 +59,22 @@ pub fn tally_bytes(values: &[u8], table: &mut [u16])
     }
 }
 
-// The counts of a file whose header passes.
-pub fn count(file: &[u8]) -> Counts
-    requires { ⌜ Sized (now file) ⌝ }
-    ensures { λ r. ⌜ Counted (now (file .entry)) r ⌝ }
+// The counts of a mesh within the limits.
+pub fn count(coordinates: &[i32], sides: &[u8], corners: &[u16]) -> Counts
+    requires { ⌜ (length (now coordinates) / 3 ≤ mostVertices) × ((length (now sides) ≤ mostFaces) × (length (now corners) ≤ mostCorners)) ⌝ }
+    ensures { λ r. ⌜ Counted (meshOf (now (coordinates .entry)) (now (sides .entry)) (now (corners .entry))) r ⌝ }
 {
-    let vertices = format::vertex_count(file);
-    let faces = format::face_count(file);
-    let corners = format::corner_count(file);
-    let mut sides = [0u8; MOST_FACES];
-    format::read_sides(file, format::sides_start(file), faces, &mut sides);
-    let mut list = [0u16; MOST_CORNERS];
-    format::read_corners(file, format::corners_start(file), corners, &mut list);
+    let vertices = coordinates.len() / 3;
     let mut valences = [0u16; MOST_VERTICES];
-    tally(&list[..corners], &mut valences);
+    tally(corners, &mut valences);
     let mut cornered = [0u16; NUMBERS];
     tally(&valences[..vertices], &mut cornered);
     let mut sided = [0u16; NUMBERS];
-    tally_bytes(&sides[..faces], &mut sided);
+    tally_bytes(sides, &mut sided);
     Counts {
         vertices: vertices,
-        faces: faces,
-        corners: corners,
+        faces: sides.len(),
+        corners: corners.len(),
         cornered: cornered,
         sided: sided,
     }

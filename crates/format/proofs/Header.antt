@@ -8,9 +8,9 @@ use native.Mathlib.Omega.{arith}
 use lib.Dec.{ltb, eqb}
 use lib.ListN.{length}
 use borrow.Author.Tests.{lt-ltb, le-ltb, eq-eqb, ne-eqb, ltb-false, eqb-true, not-false}
-use Rattle.mesh.specs.Limits.{mostVertices, mostFaces, mostCorners}
-use Rattle.mesh.specs.Faults.{Verdict, sound, fault, single, _orElse_, outside, fault4}
-use Rattle.mesh.proofs.Ranges.{none-left, none-right, at-most}
+use Rattle.mesh.specs.Faults.{Verdict, sound, fault, single, _orElse_, fault4}
+use Rattle.mesh.proofs.Ranges.{none-left}
+use Rattle.mesh.proofs.Accepted.{few-vertices, few-faces, few-corners}
 use Rattle.mesh.proofs.Verdicts.{sound-left, sound-right, single-sound}
 use Rattle.format.specs.Format.{headerLength, marked, known, verticesOf, facesOf, cornersOf, expectedLength, countsVerdict, headerVerdict, Sized}
 
@@ -50,14 +50,6 @@ module _ (file : List ℕ) (counted : ℕ) where
           unfolding headerVerdict single _orElse_
           passes q l = rw (le-ltb (length file) headerLength h, m, k, eq-eqb counted (expectedLength file) e, ← q, le-ltb (length file) counted l)
 
-within : (n f c : ℕ) → fault4 (3 * n) f c ≡ false → (n ≤ mostVertices) × ((f ≤ mostFaces) × (c ≤ mostCorners))
-unfolding fault4
-within n f c e =
-    let r = none-right (not (eqb ((3 * n) % 3) 0)) _ e in
-    let s = none-right (outside 1 mostVertices ((3 * n) / 3)) _ r in
-    (omega (arith, at-most 1 mostVertices ((3 * n) / 3) (none-left (outside 1 mostVertices ((3 * n) / 3)) _ r)),
-    (at-most 1 mostFaces f (none-left (outside 1 mostFaces f) _ s), at-most 1 mostCorners c (none-right (outside 1 mostFaces f) _ s)))
-
 pub header-sized : (file : List ℕ) (counted : ℕ) → headerVerdict file counted ≡ sound → Sized file
 unfolding headerVerdict
 header-sized file counted e =
@@ -66,12 +58,12 @@ header-sized file counted e =
     let e2 = sound-right _ _ e1 in
     let three = eqb-true counted (expectedLength file) (not-false _ (single-sound 3 _ 0 (sound-left _ _ e2))) in
     let e3 = sound-right _ _ e2 in
-    let four = within (verticesOf file) (facesOf file) (cornersOf file) (single-sound 4 _ 0 (sound-left _ _ e3)) in
+    let four : fault4 (3 * verticesOf file) (facesOf file) (cornersOf file) ≡ false = single-sound 4 _ 0 (sound-left _ _ e3) in
     let held = ltb-false (length file) counted (single-sound 3 _ 0 (sound-right _ _ e3)) in
     record
       { header = ltb-false (length file) headerLength one
       ; body = omega arith
-      ; vertices = four .0
-      ; faces = four .1 .0
-      ; corners = four .1 .1
+      ; vertices = omega (arith, few-vertices _ _ _ four)
+      ; faces = few-faces _ _ _ four
+      ; corners = few-corners _ _ _ four
       }

@@ -8,7 +8,7 @@ use native.Mathlib.Omega.{arith}
 use lib.ListN.{length, getD, take, drop, set, length-append, length-drop}
 use lib.Seq.{drop-cons, set-at, take-at, append-snoc}
 use lib.IntN.{ℤ, pos, negsuc, _-ℤ_}
-use Rattle.mesh.specs.Lists.{Mesh, vertexCount, faceCount, cornerCount}
+use Rattle.mesh.specs.Lists.{Mesh}
 use Rattle.mesh.specs.Links.{valuesFrom}
 use Rattle.mesh.proofs.Links.{values-length}
 use Rattle.format.specs.Format.{begins, coordinateIn, sideIn, cornerIn, verticesOf, facesOf, cornersOf, sidesStart, cornersStart, fileMesh}
@@ -49,41 +49,38 @@ module _ {A : Type 0} (f : ℕ → A) (old : List A) where
   filled-length i out h e = rw e (simp (length-append, values-length, length-drop) (omega arith))
 
 -- what was read is found again in the beginning of the space
-module _ {A : Type 0} (f : ℕ → A) (n : ℕ) (old out : List A) (e : out ≡ begins (valuesFrom f 0 n) old) where
-  pub read-back : take n out ≡ valuesFrom f 0 n
-  read-back = rw e (take-at (valuesFrom f 0 n) (drop (length (valuesFrom f 0 n)) old) n (values-length f 0 n))
+module _ {A : Type 0} (n : ℕ) (new old out : List A) (q : n ≡ length new) (e : out ≡ begins new old) where
+  pub read-back : take n out ≡ new
+  read-back = rw e (take-at new (drop (length new) old) n (sym q))
 
   pub read-length : n ≡ length (take n out)
-  read-length = sym (ap length read-back ∙ values-length f 0 n)
+  read-length = q ∙ sym (ap length read-back)
 
 module _ (file : List ℕ) where
-  pub file-coordinates : length (fileMesh file .coordinates) ≡ 3 * verticesOf file
+  pub file-coordinates : 3 * verticesOf file ≡ length (fileMesh file .coordinates)
   unfolding fileMesh
-  file-coordinates = values-length (coordinateIn file) 0 (3 * verticesOf file)
+  file-coordinates = sym (values-length (coordinateIn file) 0 (3 * verticesOf file))
 
-  pub file-vertices : vertexCount (fileMesh file) ≡ verticesOf file
-  file-vertices = rw file-coordinates (omega arith)
-
-  pub file-faces : faceCount (fileMesh file) ≡ facesOf file
+  pub file-faces : facesOf file ≡ length (fileMesh file .sides)
   unfolding fileMesh
-  file-faces = values-length (sideIn file (sidesStart file)) 0 (facesOf file)
+  file-faces = sym (values-length (sideIn file (sidesStart file)) 0 (facesOf file))
 
-  pub file-corners : cornerCount (fileMesh file) ≡ cornersOf file
+  pub file-corners : cornersOf file ≡ length (fileMesh file .corners)
   unfolding fileMesh
-  file-corners = values-length (cornerIn file (cornersStart file)) 0 (cornersOf file)
+  file-corners = sym (values-length (cornerIn file (cornersStart file)) 0 (cornersOf file))
 
-  -- the lists, read into lent spaces, are those of the file's mesh
+  -- the lists, as they are read, are those of the file's mesh
   pub coordinates-read : (n : ℕ) (old out : List ℤ) → n ≡ 3 * verticesOf file → out ≡ begins (valuesFrom (coordinateIn file) 0 n) old
-      → take n out ≡ fileMesh file .coordinates
+      → out ≡ begins (fileMesh file .coordinates) old
   unfolding fileMesh
-  coordinates-read n old out q e = read-back (coordinateIn file) n old out e ∙ rw q
+  coordinates-read n old out q e = rw q at e
 
   pub sides-read : (start n : ℕ) (old out : List ℕ) → start ≡ sidesStart file → n ≡ facesOf file → out ≡ begins (valuesFrom (sideIn file start) 0 n) old
-      → take n out ≡ fileMesh file .sides
+      → out ≡ begins (fileMesh file .sides) old
   unfolding fileMesh
-  sides-read start n old out p q e = read-back (sideIn file start) n old out e ∙ rw (p, q)
+  sides-read start n old out p q e = rw (p, q) at e
 
   pub corners-read : (start n : ℕ) (old out : List ℕ) → start ≡ cornersStart file → n ≡ cornersOf file → out ≡ begins (valuesFrom (cornerIn file start) 0 n) old
-      → take n out ≡ fileMesh file .corners
+      → out ≡ begins (fileMesh file .corners) old
   unfolding fileMesh
-  corners-read start n old out p q e = read-back (cornerIn file start) n old out e ∙ rw (p, q)
+  corners-read start n old out p q e = rw (p, q) at e
