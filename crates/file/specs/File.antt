@@ -29,10 +29,14 @@ fileVerdict file counted = headerVerdict file counted orElse verdict (fileMesh f
 abbrev pub noCounts : Counts
 noCounts = record { vertices = 0; faces = 0; corners = 0; cornered = replicate (mostSides + 1) 0; sided = replicate (mostSides + 1) 0 }
 
-pub record Surveyed (file : List ℕ) (counted : ℕ) (r : Summary) : Type 0 where
-  pub answers : stated (r .answer) ≡ fileVerdict file counted
-  pub counts : fileVerdict file counted ≡ sound → Counted file (r .counts)
-  pub none : (k p : ℕ) → fileVerdict file counted ≡ fault k p → r .counts ≡ noCounts
+-- what is answered of a mesh, or of a file that has it, whose checks give this verdict
+pub record Surveyed (M : Mesh) (v : Verdict) (r : Summary) : Type 0 where
+  pub answers : stated (r .answer) ≡ v
+  pub counts : v ≡ sound → Counted M (r .counts)
+  pub none : (k p : ℕ) → v ≡ fault k p → r .counts ≡ noCounts
+
+abbrev pub FileSurveyed : List ℕ → ℕ → Summary → Type 0
+FileSurveyed file counted r = Surveyed (fileMesh file) (fileVerdict file counted) r
 
 -- our own number, outside 01's list: a lent space is shorter than its list (place: the list's length)
 abbrev pub noRoom : ℕ

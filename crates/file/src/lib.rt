@@ -3,10 +3,11 @@
 ghost use mathlib.Core.Path.{_≡_};
 ghost use Prim.Native.Nat.{_<_, _≤_};
 ghost use lib.ListN.{length};
+ghost use Rattle.mesh.specs.Lists.{meshOf};
 ghost use Rattle.mesh.specs.Faults.{verdict};
 ghost use Rattle.mesh.specs.Answers.{stated};
-ghost use Rattle.format.specs.Format.{fileMesh, Sized};
-ghost use Rattle.file.specs.File.{fileOf, fileVerdict, noCounts, Surveyed, DecodedTo};
+ghost use Rattle.format.specs.Format.{headerLength, fileMesh, Sized};
+ghost use Rattle.file.specs.File.{fileOf, noCounts, Surveyed, FileSurveyed, roomVerdict, decodeVerdict, DecodedTo};
 
 use counts::Counts;
 use counts::NUMBERS;
@@ -37,7 +38,7 @@ pub const NO_ROOM: u8 = 255;
 
 // The counts of the file, from the bytes read and the length counted.
 pub fn survey(bytes: &[u8], counted: usize) -> Summary
-    ensures { λ r. ⌜ Surveyed (fileOf (now (bytes .entry)) counted) counted r ⌝ }
+    ensures { λ r. ⌜ FileSurveyed (fileOf (now (bytes .entry)) counted) counted r ⌝ }
 {
     let held = least(bytes.len(), counted);
     survey_file(&bytes[..held], counted)
@@ -89,54 +90,49 @@ fn refused(number: u8, place: usize) -> Decoded
     }
 }
 
-// Checks 1 to 13 of a file of `counted` bytes.
-fn check_file(file: &[u8], counted: usize) -> Answer
-    ensures { λ r. ⌜ stated r ≡ fileVerdict (now (file .entry)) counted ⌝ }
+// The same as `survey`, of the file itself.
+fn survey_file(file: &[u8], counted: usize) -> Summary
+    ensures { λ r. ⌜ FileSurveyed (now (file .entry)) counted r ⌝ }
 {
     let header = format::check_header(file, counted);
     if let Answer::Refused(number, place) = header {
-        return Answer::Refused(number, place);
+        return Summary {
+            answer: Answer::Refused(number, place),
+            counts: none(),
+        };
     }
-    check_lists(file)
+    survey_lists(file)
 }
 
-// Checks 4 to 13 of the lists of a file whose header passes.
-fn check_lists(file: &[u8]) -> Answer
+// Checks 4 to 13 and the counts, of the lists of a file whose header passes.
+fn survey_lists(file: &[u8]) -> Summary
     requires { ⌜ Sized (now file) ⌝ }
-    ensures { λ r. ⌜ stated r ≡ verdict (fileMesh (now (file .entry))) ⌝ }
+    ensures { λ r. ⌜ Surveyed (fileMesh (now (file .entry))) (verdict (fileMesh (now (file .entry)))) r ⌝ }
 {
+    let mut coordinates = [0i32; MOST_NUMBERS];
+    let mut sides = [0u8; MOST_FACES];
+    let mut corners = [0u16; MOST_CORNERS];
+    format::read_lists(file, &mut coordinates, &mut sides, &mut corners);
     let numbers = 3 * format::vertex_count(file);
     let faces = format::face_count(file);
     let count = format::corner_count(file);
-    let mut coordinates = [0i32; MOST_NUMBERS];
-    format::read_coordinates(file, numbers, &mut coordinates);
-    let mut sides = [0u8; MOST_FACES];
-    format::read_sides(file, format::sides_start(file), faces, &mut sides);
-    let mut corners = [0u16; MOST_CORNERS];
-    format::read_corners(file, format::corners_start(file), count, &mut corners);
-    let mut nexts = [0u16; MOST_CORNERS];
-    let mut links = [0u16; MOST_CORNERS];
-    checks::check(
-        &coordinates[..numbers],
-        &sides[..faces],
-        &corners[..count],
-        &mut nexts,
-        &mut links,
-    )
+    survey_mesh(&coordinates[..numbers], &sides[..faces], &corners[..count])
 }
 
-// The same as `survey`, of the file itself.
-fn survey_file(file: &[u8], counted: usize) -> Summary
-    ensures { λ r. ⌜ Surveyed (now (file .entry)) counted r ⌝ }
+// Checks 4 to 13 and the counts, of a mesh's lists.
+pub fn survey_mesh(coordinates: &[i32], sides: &[u8], corners: &[u16]) -> Summary
+    ensures { λ r. ⌜ Surveyed (meshOf (now (coordinates .entry)) (now (sides .entry)) (now (corners .entry))) (verdict (meshOf (now (coordinates .entry)) (now (sides .entry)) (now (corners .entry)))) r ⌝ }
 {
-    let answer = check_file(file, counted);
+    let mut nexts = [0u16; MOST_CORNERS];
+    let mut links = [0u16; MOST_CORNERS];
+    let answer = checks::check(coordinates, sides, corners, &mut nexts, &mut links);
     if let Answer::Refused(number, place) = answer {
         return Summary {
             answer: Answer::Refused(number, place),
             counts: none(),
         };
     }
-    let counts = counts::count(file);
+    let counts = counts::count(coordinates, sides, corners);
     Summary {
         answer: Answer::Done,
         counts: counts,
@@ -170,7 +166,8 @@ fn decode_file(
 fn check_decode(file: &[u8], counted: usize, coordinates: usize, sides: usize, corners: usize) -> Answer
     ensures { λ r. ⌜ stated r ≡ decodeVerdict (now (file .entry)) counted coordinates sides corners ⌝ }
 {
-    let answer = check_file(file, counted);
+    let summary = survey_file(file, counted);
+    let answer = summary.answer;
     if let Answer::Refused(number, place) = answer {
         return Answer::Refused(number, place);
     }

@@ -7,31 +7,31 @@ use Rattle.file.proofs.decode.Lts as lts
 use Rattle.file.proofs.decode_file.Reads as decode-file-reads
 use Rattle.file.proofs.least.Reads as least-reads
 
--- src/lib.rt:56:9
+-- src/lib.rt:57:9
 least-requires : tie.Need-least-requires
 least-requires c κs = search needs
 
--- src/lib.rt:57:17
+-- src/lib.rt:58:17
 slice-aggregate-decode-file : tie.Need-slice-aggregate-decode-file
 slice-aggregate-decode-file c = ?
 
--- src/lib.rt:57:5
+-- src/lib.rt:58:5
 decode-file-requires : tie.Need-decode-file-requires
 decode-file-requires c κs = search needs
 
--- src/lib.rt:47:1
+-- src/lib.rt:48:1
 same-length : tie.Need-same-length
 same-length c = search needs
 
--- src/lib.rt:47:1
+-- src/lib.rt:48:1
 same-length-2 : tie.Need-same-length-2
 same-length-2 c = search needs
 
--- src/lib.rt:47:1
+-- src/lib.rt:48:1
 same-length-3 : tie.Need-same-length-3
 same-length-3 c = search needs
 
--- src/lib.rt:47:1
+-- src/lib.rt:48:1
 returns : tie.Need-returns
 returns c = ?
 

@@ -7,19 +7,19 @@ use Rattle.file.proofs.survey.Lts as lts
 use Rattle.file.proofs.least.Reads as least-reads
 use Rattle.file.proofs.survey_file.Reads as survey-file-reads
 
--- src/lib.rt:42:9
+-- src/lib.rt:43:9
 least-requires : tie.Need-least-requires
 least-requires c κs = search needs
 
--- src/lib.rt:43:17
+-- src/lib.rt:44:17
 slice-aggregate-survey-file : tie.Need-slice-aggregate-survey-file
 slice-aggregate-survey-file c = ?
 
--- src/lib.rt:43:5
+-- src/lib.rt:44:5
 survey-file-requires : tie.Need-survey-file-requires
 survey-file-requires c κs = search needs
 
--- src/lib.rt:39:1
+-- src/lib.rt:40:1
 returns : tie.Need-returns
 returns c = ?
 
