@@ -1,3 +1,6 @@
+use Rattle.mesh.proofs.Verdicts.{passed, stop, past}
+use Rattle.file.specs.File.{roomVerdict, decodeVerdict}
+use Rattle.file.proofs.Laws.{file-sized}
 use native.Mathlib.Omega.{arith}
 use borrow.Author.Needs.{needs}
 use Rattle.file.proofs.check_decode.Statement.{statement}
@@ -17,18 +20,22 @@ enum-known-answer c = search needs
 
 -- src/lib.rt:172:9
 returns : tie.Need-returns
-returns c = ?
+unfolding decodeVerdict
+returns c = stop _ (c .before .before .before .survey-file .ensures .answers) _ _ (c .before .answer .given .1) (roomVerdict (c .before .before .before .before .before .args .file .now) (c .before .before .before .before .before .args .coordinates) (c .before .before .before .before .before .args .sides) (c .before .before .before .before .before .args .corners))
 
 enum-told : tie.Need-enum-told
 enum-told c = search needs
 
 -- src/lib.rt:174:5
 check-room-requires : tie.Need-check-room-requires
-check-room-requires c κs = ?
+check-room-requires c κs = file-sized (c .before .before .before .before .args .file .now) (c .before .before .before .before .args .counted) (passed _ (c .before .before .survey-file .ensures .answers) (c .enum-told .given .1)) .header
 
 -- src/lib.rt:166:1
 returns-2 : tie.Need-returns-2
-returns-2 c = ?
+unfolding decodeVerdict
+returns-2 c =
+    past (passed _ (c .before .before .before .survey-file .ensures .answers) (c .before .enum-told .given .1))
+    (roomVerdict (c .before .before .before .before .before .args .file .now) (c .before .before .before .before .before .args .coordinates) (c .before .before .before .before .before .args .sides) (c .before .before .before .before .before .args .corners)) (c .check-room .ensures)
 
 pub check-decode-spec : {M : Type 1} → statement M
 check-decode-spec =

@@ -1,3 +1,6 @@
+use mathlib.Core.Path.{ap}
+use Prim.Native.Nat.{ℕ, _*_}
+use Rattle.file.proofs.Laws.{no-coordinates, no-sides, no-corners, all-room}
 use native.Mathlib.Omega.{arith}
 use borrow.Author.Needs.{needs}
 use Rattle.file.proofs.check_room.Statement.{statement}
@@ -18,7 +21,7 @@ mul-numbers c = search needs
 
 -- src/lib.rt:184:9
 returns : tie.Need-returns
-returns c = ?
+returns c = no-coordinates (c .before .before .before .args .file .now) (c .before .before .before .args .coordinates) (c .before .before .before .args .sides) (c .before .before .before .args .corners) _ (ap (λ (n : ℕ). 3 * n) (c .before .vertex-count .ensures .0)) (c .if1 .taken)
 
 -- src/lib.rt:186:9
 face-count-requires : tie.Need-face-count-requires
@@ -26,7 +29,7 @@ face-count-requires c κs = search needs
 
 -- src/lib.rt:188:9
 returns-2 : tie.Need-returns-2
-returns-2 c = ?
+returns-2 c = no-sides (c .before .before .before .before .before .args .file .now) (c .before .before .before .before .before .args .coordinates) (c .before .before .before .before .before .args .sides) (c .before .before .before .before .before .args .corners) (omega (arith, c .before .before .before .vertex-count .ensures .0)) _ (c .before .face-count .ensures .0) (c .if2 .taken)
 
 -- src/lib.rt:190:9
 corner-count-requires : tie.Need-corner-count-requires
@@ -34,11 +37,11 @@ corner-count-requires c κs = search needs
 
 -- src/lib.rt:192:9
 returns-3 : tie.Need-returns-3
-returns-3 c = ?
+returns-3 c = no-corners (c .before .before .before .before .before .before .before .args .file .now) (c .before .before .before .before .before .before .before .args .coordinates) (c .before .before .before .before .before .before .before .args .sides) (c .before .before .before .before .before .before .before .args .corners) (omega (arith, c .before .before .before .before .before .vertex-count .ensures .0)) (omega (arith, c .before .before .before .face-count .ensures .0)) _ (c .before .corner-count .ensures .0) (c .if3 .taken)
 
 -- src/lib.rt:178:1
 returns-4 : tie.Need-returns-4
-returns-4 c = ?
+returns-4 c = all-room (c .before .before .before .before .before .before .before .args .file .now) (c .before .before .before .before .before .before .before .args .coordinates) (c .before .before .before .before .before .before .before .args .sides) (c .before .before .before .before .before .before .before .args .corners) (omega (arith, c .before .before .before .before .before .vertex-count .ensures .0)) (omega (arith, c .before .before .before .face-count .ensures .0)) (omega (arith, c .before .corner-count .ensures .0))
 
 pub check-room-spec : {M : Type 1} → statement M
 check-room-spec =

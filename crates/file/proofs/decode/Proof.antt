@@ -1,3 +1,6 @@
+use mathlib.Core.Path.{sym}
+use lib.Seq.{length-take-le}
+use Rattle.file.proofs.Laws.{held-bytes, decode-held}
 use native.Mathlib.Omega.{arith}
 use borrow.Author.Needs.{needs}
 use Rattle.file.proofs.decode.Statement.{statement}
@@ -13,7 +16,7 @@ least-requires c κs = search needs
 
 -- src/lib.rt:58:17
 slice-aggregate-decode-file : tie.Need-slice-aggregate-decode-file
-slice-aggregate-decode-file c = ?
+slice-aggregate-decode-file c = sym (length-take-le _ (c .before .before .before .before .before .args .bytes .now) (c .before .least .ensures .0))
 
 -- src/lib.rt:58:5
 decode-file-requires : tie.Need-decode-file-requires
@@ -33,7 +36,10 @@ same-length-3 c = search needs
 
 -- src/lib.rt:48:1
 returns : tie.Need-returns
-returns c = ?
+returns c = 
+    decode-held _ _ _ _ _ _ _ _ _ _
+    (held-bytes (c .before .before .before .before .before .before .before .before .before .before .before .before .before .before .args .bytes .now) (c .before .before .before .before .before .before .before .before .before .before .least .result) (c .before .before .before .before .before .before .before .before .before .before .before .before .before .before .args .counted) (c .before .before .before .before .before .before .before .before .before .before .least .ensures .1 .0) (c .before .before .before .before .before .before .before .before .before .before .least .ensures .1 .1))
+    (c .before .before .before .before .before .decode-file .ensures)
 
 pub decode-spec : {M : Type 1} → statement M
 decode-spec =

@@ -1,3 +1,9 @@
+use Rattle.mesh.specs.Faults.{verdict}
+use Rattle.mesh.proofs.Verdicts.{passed, stop}
+use Rattle.format.specs.Format.{fileMesh}
+use Rattle.format.proofs.Header.{header-sized}
+use Rattle.file.specs.File.{fileVerdict}
+use Rattle.file.proofs.Laws.{refused-survey, later-survey}
 use native.Mathlib.Omega.{arith}
 use borrow.Author.Needs.{needs}
 use Rattle.file.proofs.survey_file.Statement.{statement}
@@ -22,18 +28,24 @@ none-requires c κs = search needs
 
 -- src/lib.rt:99:9
 returns : tie.Need-returns
-returns c = ?
+unfolding fileVerdict
+returns c = 
+    let M = fileMesh (c .before .before .before .before .before .before .args .file .now) in
+    refused-survey M _ _ _ _ (stop _ (c .before .before .before .before .check-header .ensures) _ _ (c .before .before .header .given .1) (verdict M)) (c .none .ensures)
 
 enum-told : tie.Need-enum-told
 enum-told c = search needs
 
 -- src/lib.rt:104:5
 survey-lists-requires : tie.Need-survey-lists-requires
-survey-lists-requires c κs = ?
+survey-lists-requires c κs = header-sized (c .before .before .before .before .args .file .now) (c .before .before .before .before .args .counted) (passed _ (c .before .before .check-header .ensures) (c .enum-told .given .1))
 
 -- src/lib.rt:94:1
 returns-2 : tie.Need-returns-2
-returns-2 c = ?
+unfolding fileVerdict
+returns-2 c = 
+    let M = fileMesh (c .before .before .before .before .before .args .file .now) in
+    later-survey M (verdict M) _ (passed _ (c .before .before .before .check-header .ensures) (c .before .enum-told .given .1)) (c .survey-lists .ensures)
 
 pub survey-file-spec : {M : Type 1} → statement M
 survey-file-spec =

@@ -1,3 +1,11 @@
+use mathlib.Core.Path.{ap, subst, _∙_}
+use Prim.Native.Nat.{ℕ, _*_}
+use Rattle.mesh.specs.Lists.{Mesh}
+use Rattle.mesh.specs.Faults.{verdict}
+use Rattle.format.specs.Format.{fileMesh}
+use Rattle.format.proofs.Laws.{read-length, file-coordinates, file-faces, file-corners}
+use Rattle.file.specs.File.{Surveyed}
+use Rattle.file.proofs.Laws.{mesh-read}
 use native.Mathlib.Omega.{arith}
 use borrow.Author.Needs.{needs}
 use Rattle.file.proofs.survey_lists.Statement.{statement}
@@ -48,7 +56,9 @@ array-share-prefix-coordinates c = search needs
 
 -- src/lib.rt:119:17
 slice-aggregate-survey-mesh : tie.Need-slice-aggregate-survey-mesh
-slice-aggregate-survey-mesh c = ?
+slice-aggregate-survey-mesh c = 
+    let file = c .before .before .before .before .before .before .before .before .before .before .before .before .args .file .now in
+    read-length _ (fileMesh file .coordinates) _ _ (ap (λ (n : ℕ). 3 * n) (c .before .before .before .vertex-count .ensures .0) ∙ file-coordinates file) (c .before .before .before .before .before .before .before .read-lists .ensures .coordinates-hold)
 
 -- src/lib.rt:119:42
 array-share-prefix-sides : tie.Need-array-share-prefix-sides
@@ -56,7 +66,9 @@ array-share-prefix-sides c = search needs
 
 -- src/lib.rt:119:42
 slice-aggregate-survey-mesh-2 : tie.Need-slice-aggregate-survey-mesh-2
-slice-aggregate-survey-mesh-2 c = ?
+slice-aggregate-survey-mesh-2 c = 
+    let file = c .before .before .before .before .before .before .before .before .before .before .before .before .before .args .file .now in
+    read-length _ (fileMesh file .sides) _ _ (c .before .before .before .face-count .ensures .0 ∙ file-faces file) (c .before .before .before .before .before .before .before .before .read-lists .ensures .sides-hold)
 
 -- src/lib.rt:119:59
 array-share-prefix-corners : tie.Need-array-share-prefix-corners
@@ -64,7 +76,9 @@ array-share-prefix-corners c = search needs
 
 -- src/lib.rt:119:59
 slice-aggregate-survey-mesh-3 : tie.Need-slice-aggregate-survey-mesh-3
-slice-aggregate-survey-mesh-3 c = ?
+slice-aggregate-survey-mesh-3 c = 
+    let file = c .before .before .before .before .before .before .before .before .before .before .before .before .before .before .args .file .now in
+    read-length _ (fileMesh file .corners) _ _ (c .before .before .before .corner-count .ensures .0 ∙ file-corners file) (c .before .before .before .before .before .before .before .before .before .read-lists .ensures .corners-hold)
 
 -- src/lib.rt:119:5
 survey-mesh-requires : tie.Need-survey-mesh-requires
@@ -72,7 +86,11 @@ survey-mesh-requires c κs = search needs
 
 -- src/lib.rt:108:1
 returns : tie.Need-returns
-returns c = ?
+returns c = 
+    let file = c .before .before .before .before .before .before .before .before .before .before .before .before .before .before .before .args .file .now in
+    let read = mesh-read file _ _ _ _ _ _ _ _ _ (ap (λ (n : ℕ). 3 * n) (c .before .before .before .before .before .before .vertex-count .ensures .0)) (c .before .before .before .before .before .face-count .ensures .0)
+        (c .before .before .before .before .corner-count .ensures .0) (c .before .before .before .before .before .before .before .before .before .before .read-lists .ensures) in
+    subst (λ (M : Mesh). Surveyed M (verdict M) (c .survey-mesh .result)) read (c .survey-mesh .ensures)
 
 pub survey-lists-spec : {M : Type 1} → statement M
 survey-lists-spec =
