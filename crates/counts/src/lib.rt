@@ -8,7 +8,6 @@ ghost use Rattle.mesh.specs.Limits.{mostVertices, mostFaces, mostCorners};
 ghost use Rattle.mesh.specs.Lists.{meshOf};
 ghost use Rattle.counts.specs.Tally.{tallyOf};
 ghost use Rattle.counts.specs.Counts.{Counted};
-
 use mesh::MOST_SIDES;
 use mesh::MOST_VERTICES;
 

@@ -66,7 +66,7 @@ mesh-read file n f k oc cs os ok ss ks p q r h =
     rw (
       read-back n (fileMesh file .coordinates) oc cs (p ∙ file-coordinates file) (h .coordinates-hold),
       read-back f (fileMesh file .sides) os ss (q ∙ file-faces file) (h .sides-hold),
-      read-back k (fileMesh file .corners) ok ks (r ∙ file-corners file) (h .corners-hold)
+      read-back k (fileMesh file .corners) ok ks (r ∙ file-corners file) (h .corners-hold),
     )
 
 -- ---- decoding
@@ -97,11 +97,11 @@ module _ (file : List ℕ) (a b c : ℕ) where
   unfolding roomVerdict
   room-of e =
       let later = sound-right _ _ e in
-      record
-        { coordinates-fit = ltb-false a _ (single-sound noRoom _ _ (sound-left _ _ e))
-        ; sides-fit = ltb-false b _ (single-sound noRoom _ _ (sound-left _ _ later))
-        ; corners-fit = ltb-false c _ (single-sound noRoom _ _ (sound-right _ _ later))
-        }
+      record {
+        coordinates-fit = ltb-false a _ (single-sound noRoom _ _ (sound-left _ _ e));
+        sides-fit = ltb-false b _ (single-sound noRoom _ _ (sound-left _ _ later));
+        corners-fit = ltb-false c _ (single-sound noRoom _ _ (sound-right _ _ later));
+      }
 
 module _ (file : List ℕ) (counted : ℕ) (a b c : ℕ) (e : decodeVerdict file counted a b c ≡ sound) where
   pub decode-sized : Sized file
@@ -117,30 +117,30 @@ module _ (file : List ℕ) (counted : ℕ) (coordinates : List ℤ) (sides corne
       → fault k p ≡ decodeVerdict file counted (length coordinates) (length sides) (length corners)
       → DecodedTo file counted coordinates sides corners r coordinates sides corners
   refused-decode r k p q n f m e =
-      record
-        { answers = rw q e
-        ; coordinates-length = rw q n
-        ; sides-length = rw q f
-        ; corners-length = rw q m
-        ; coordinates-hold = rw q
-        ; sides-hold = rw q
-        ; corners-hold = rw q
-        }
+      record {
+        answers = rw q e;
+        coordinates-length = rw q n;
+        sides-length = rw q f;
+        corners-length = rw q m;
+        coordinates-hold = rw q;
+        sides-hold = rw q;
+        corners-hold = rw q;
+      }
 
   pub done-decode : (n f k : ℕ) (coordinates' : List ℤ) (sides' corners' : List ℕ) → n ≡ 3 * verticesOf file → f ≡ facesOf file → k ≡ cornersOf file
       → sound ≡ decodeVerdict file counted (length coordinates) (length sides) (length corners)
       → ListsRead file coordinates sides corners coordinates' sides' corners'
       → DecodedTo file counted coordinates sides corners (record { answer = Done; coordinates = n; sides = f; corners = k }) coordinates' sides' corners'
   done-decode n f k coordinates' sides' corners' p q r e h =
-      record
-        { answers = e
-        ; coordinates-length = p ∙ file-coordinates file
-        ; sides-length = q ∙ file-faces file
-        ; corners-length = r ∙ file-corners file
-        ; coordinates-hold = h .coordinates-hold
-        ; sides-hold = h .sides-hold
-        ; corners-hold = h .corners-hold
-        }
+      record {
+        answers = e;
+        coordinates-length = p ∙ file-coordinates file;
+        sides-length = q ∙ file-faces file;
+        corners-length = r ∙ file-corners file;
+        coordinates-hold = h .coordinates-hold;
+        sides-hold = h .sides-hold;
+        corners-hold = h .corners-hold;
+      }
 
 -- the bytes held are the file
 pub decode-held : (held file : List ℕ) (counted : ℕ) (coordinates : List ℤ) (sides corners : List ℕ) (r : Decoded)

@@ -60,10 +60,10 @@ header-sized file counted e =
     let e3 = sound-right _ _ e2 in
     let four : fault4 (3 * verticesOf file) (facesOf file) (cornersOf file) ≡ false = single-sound 4 _ 0 (sound-left _ _ e3) in
     let held = ltb-false (length file) counted (single-sound 3 _ 0 (sound-right _ _ e3)) in
-    record
-      { header = ltb-false (length file) headerLength one
-      ; body = omega arith
-      ; vertices = omega (arith, few-vertices _ _ _ four)
-      ; faces = few-faces _ _ _ four
-      ; corners = few-corners _ _ _ four
-      }
+    record {
+      header = ltb-false (length file) headerLength one;
+      body = omega arith;
+      vertices = omega (arith, few-vertices _ _ _ four);
+      faces = few-faces _ _ _ four;
+      corners = few-corners _ _ _ four;
+    }

@@ -9,7 +9,6 @@ ghost use mir.Val.{toZ};
 ghost use Rattle.mesh.specs.Answers.{stated};
 ghost use Rattle.mesh.specs.Links.{valuesFrom};
 ghost use Rattle.format.specs.Format.{halfAt, wordAt, signedAt, headerLength, marked, known, verticesOf, facesOf, cornersOf, sidesStart, cornersStart, expectedLength, coordinateIn, sideIn, cornerIn, countsVerdict, headerVerdict, Sized, Room, ListsRead, begins};
-
 use mesh::Answer;
 
 // The header's length.

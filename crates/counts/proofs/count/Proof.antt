@@ -35,7 +35,7 @@ slice-aggregate-tally-3 c = search needs
 
 -- src/lib.rt:71:5
 tally-requires-2 : tie.Need-tally-requires-2
-tally-requires-2 c κs = 
+tally-requires-2 c κs =
     let few = c .before .before .before .before .before .before .before .pre .0 in
     (omega (arith, prefix-length _ _ mostVertices (length (c .before .before .before .before .before .before .before .args .coordinates .now) / 3) (c .before .before .before .tally .ensures) few), refl)
 
@@ -49,16 +49,16 @@ tally-bytes-requires c κs = search needs
 
 -- src/lib.rt:63:1
 returns : tie.Need-returns
-returns c = 
+returns c =
     let s = c .before .before .before .before .before .before .before .before .before .before .before .before in
     let M = meshOf (s .args .coordinates .now) (s .args .sides .now) (s .args .corners .now) in
-    record
-      { vertices = refl
-      ; faces = refl
-      ; corners = refl
-      ; cornered = cornered-is M (vertexCount M) _ (c .before .before .before .before .before .before .before .before .tally .ensures) (s .pre .0) _ refl (c .before .before .before .before .tally2 .ensures)
-      ; sided = sided-is M _ (c .before .tally-bytes .ensures)
-      }
+    record {
+      vertices = refl;
+      faces = refl;
+      corners = refl;
+      cornered = cornered-is M (vertexCount M) _ (c .before .before .before .before .before .before .before .before .tally .ensures) (s .pre .0) _ refl (c .before .before .before .before .tally2 .ensures);
+      sided = sided-is M _ (c .before .tally-bytes .ensures);
+    }
 
 pub count-spec : {M : Type 1} → statement M
 count-spec =

@@ -31,7 +31,7 @@ cast-count-one c = omega (arith, c .shared-slice-known2 .given (c .before .befor
 
 -- src/lib.rt:38:9
 count-one-requires : tie.Need-count-one-requires Inv-loop μ-loop
-count-one-requires c κs = 
+count-one-requires c κs =
     let s = c .before .before .before .before .before .before in
     let l = c .before .before .before .loop in
     tally-room (s .args .values .now) (l .table) (l .i) (length (s .args .table .now)) (l .inv .1) _ (omega arith)
@@ -46,21 +46,21 @@ loop-less c = search needs
 
 -- src/lib.rt:37:5
 loop-again : tie.Need-loop-again Inv-loop μ-loop
-loop-again c = 
+loop-again c =
     let s = c .before .before .before .before .before .before .before .before .before in
     let l = c .before .before .before .before .before .before .loop in
     (search needs, c .before .before .count-one .ensures ∙ tally-turn (s .args .values .now) (l .table) (l .i) (length (s .args .table .now)) (l .inv .1))
 
 -- src/lib.rt:32:1
 same-length : tie.Need-same-length Inv-loop μ-loop
-same-length c = 
+same-length c =
     let s = c .before .before .before .before in
     let l = c .before .loop in
     ap length (l .inv .1) ∙ tally-length (s .args .values .now) (l .i) (length (s .args .table .now))
 
 -- src/lib.rt:32:1
 returns : tie.Need-returns Inv-loop μ-loop
-returns c = 
+returns c =
     let s = c .before .before .before .before in
     let l = c .before .loop in
     let q : l .i ≡ length (s .args .values .now) = omega arith in

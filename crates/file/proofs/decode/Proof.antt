@@ -36,7 +36,7 @@ same-length-3 c = search needs
 
 -- src/lib.rt:48:1
 returns : tie.Need-returns
-returns c = 
+returns c =
     decode-held _ _ _ _ _ _ _ _ _ _
     (held-bytes (c .before .before .before .before .before .before .before .before .before .before .before .before .before .before .args .bytes .now) (c .before .before .before .before .before .before .before .before .before .before .least .result) (c .before .before .before .before .before .before .before .before .before .before .before .before .before .before .args .counted) (c .before .before .before .before .before .before .before .before .before .before .least .ensures .1 .0) (c .before .before .before .before .before .before .before .before .before .before .least .ensures .1 .1))
     (c .before .before .before .before .before .decode-file .ensures)

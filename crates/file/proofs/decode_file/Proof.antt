@@ -30,7 +30,7 @@ refused-requires c κs = search needs
 
 -- src/lib.rt:154:9
 returns : tie.Need-returns
-returns c = 
+returns c =
     let r = c .refused .ensures in
     refused-decode (c .before .before .before .before .before .before .before .before .args .file .now) (c .before .before .before .before .before .before .before .before .args .counted) (c .before .before .before .before .before .before .before .before .args .coordinates .now) (c .before .before .before .before .before .before .before .before .args .sides .now) (c .before .before .before .before .before .before .before .before .args .corners .now) _ _ _ (r .0) (r .1) (r .2) (r .3)
     (sym (ap stated (c .before .before .answer .given .1)) ∙ c .before .before .before .before .check-decode .ensures)
@@ -40,7 +40,7 @@ enum-told c = search needs
 
 -- src/lib.rt:156:5
 read-lists-requires : tie.Need-read-lists-requires
-read-lists-requires c κs = 
+read-lists-requires c κs =
     let e = (sym (c .before .before .before .before .before .check-decode .ensures) ∙ ap stated (c .before .before .before .enum-told .given .1)) in
     (decode-sized (c .before .before .before .before .before .before .before .before .before .args .file .now) (c .before .before .before .before .before .before .before .before .before .args .counted) (length (c .before .before .before .before .before .before .before .before .before .args .coordinates .now)) (length (c .before .before .before .before .before .before .before .before .before .args .sides .now)) (length (c .before .before .before .before .before .before .before .before .before .args .corners .now)) e, decode-room (c .before .before .before .before .before .before .before .before .before .args .file .now) (c .before .before .before .before .before .before .before .before .before .args .counted) (length (c .before .before .before .before .before .before .before .before .before .args .coordinates .now)) (length (c .before .before .before .before .before .before .before .before .before .args .sides .now)) (length (c .before .before .before .before .before .before .before .before .before .args .corners .now)) e)
 
@@ -74,7 +74,7 @@ same-length-3 c = search needs
 
 -- src/lib.rt:143:1
 returns-2 : tie.Need-returns-2
-returns-2 c = 
+returns-2 c =
     done-decode (c .before .before .before .before .before .before .before .before .before .before .before .before .before .before .before .before .before .before .args .file .now) (c .before .before .before .before .before .before .before .before .before .before .before .before .before .before .before .before .before .before .args .counted) (c .before .before .before .before .before .before .before .before .before .before .before .before .before .before .before .before .before .before .args .coordinates .now) (c .before .before .before .before .before .before .before .before .before .before .before .before .before .before .before .before .before .before .args .sides .now) (c .before .before .before .before .before .before .before .before .before .before .before .before .before .before .before .before .before .before .args .corners .now) _ _ _ _ _ _ (ap (λ (n : ℕ). 3 * n) (c .before .before .vertex-count .ensures .0)) (c .before .face-count .ensures .0) (c .corner-count .ensures .0)
     (sym (ap stated (c .before .before .before .before .before .before .before .before .before .before .before .before .enum-told .given .1)) ∙ c .before .before .before .before .before .before .before .before .before .before .before .before .before .before .check-decode .ensures) (c .before .before .before .before .before .before .before .before .read-lists .ensures)
 

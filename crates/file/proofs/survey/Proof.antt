@@ -27,7 +27,7 @@ survey-file-requires c κs = search needs
 
 -- src/lib.rt:40:1
 returns : tie.Need-returns
-returns c = 
+returns c =
     let s = c .before .before .before .before in
     subst (λ (file : List ℕ). FileSurveyed file (s .args .counted) (c .survey-file .result))
     (held-bytes (c .before .before .before .before .args .bytes .now) (c .before .before .least .result) (c .before .before .before .before .args .counted) (c .before .before .least .ensures .1 .0) (c .before .before .least .ensures .1 .1))

@@ -29,7 +29,7 @@ none-requires c κs = search needs
 -- src/lib.rt:99:9
 returns : tie.Need-returns
 unfolding fileVerdict
-returns c = 
+returns c =
     let M = fileMesh (c .before .before .before .before .before .before .args .file .now) in
     refused-survey M _ _ _ _ (stop _ (c .before .before .before .before .check-header .ensures) _ _ (c .before .before .header .given .1) (verdict M)) (c .none .ensures)
 
@@ -43,7 +43,7 @@ survey-lists-requires c κs = header-sized (c .before .before .before .before .a
 -- src/lib.rt:94:1
 returns-2 : tie.Need-returns-2
 unfolding fileVerdict
-returns-2 c = 
+returns-2 c =
     let M = fileMesh (c .before .before .before .before .before .args .file .now) in
     later-survey M (verdict M) _ (passed _ (c .before .before .before .check-header .ensures) (c .before .enum-told .given .1)) (c .survey-lists .ensures)
 

@@ -56,7 +56,7 @@ array-share-prefix-coordinates c = search needs
 
 -- src/lib.rt:119:17
 slice-aggregate-survey-mesh : tie.Need-slice-aggregate-survey-mesh
-slice-aggregate-survey-mesh c = 
+slice-aggregate-survey-mesh c =
     let file = c .before .before .before .before .before .before .before .before .before .before .before .before .args .file .now in
     read-length _ (fileMesh file .coordinates) _ _ (ap (λ (n : ℕ). 3 * n) (c .before .before .before .vertex-count .ensures .0) ∙ file-coordinates file) (c .before .before .before .before .before .before .before .read-lists .ensures .coordinates-hold)
 
@@ -66,7 +66,7 @@ array-share-prefix-sides c = search needs
 
 -- src/lib.rt:119:42
 slice-aggregate-survey-mesh-2 : tie.Need-slice-aggregate-survey-mesh-2
-slice-aggregate-survey-mesh-2 c = 
+slice-aggregate-survey-mesh-2 c =
     let file = c .before .before .before .before .before .before .before .before .before .before .before .before .before .args .file .now in
     read-length _ (fileMesh file .sides) _ _ (c .before .before .before .face-count .ensures .0 ∙ file-faces file) (c .before .before .before .before .before .before .before .before .read-lists .ensures .sides-hold)
 
@@ -76,7 +76,7 @@ array-share-prefix-corners c = search needs
 
 -- src/lib.rt:119:59
 slice-aggregate-survey-mesh-3 : tie.Need-slice-aggregate-survey-mesh-3
-slice-aggregate-survey-mesh-3 c = 
+slice-aggregate-survey-mesh-3 c =
     let file = c .before .before .before .before .before .before .before .before .before .before .before .before .before .before .args .file .now in
     read-length _ (fileMesh file .corners) _ _ (c .before .before .before .corner-count .ensures .0 ∙ file-corners file) (c .before .before .before .before .before .before .before .before .before .read-lists .ensures .corners-hold)
 
@@ -86,10 +86,10 @@ survey-mesh-requires c κs = search needs
 
 -- src/lib.rt:108:1
 returns : tie.Need-returns
-returns c = 
+returns c =
     let file = c .before .before .before .before .before .before .before .before .before .before .before .before .before .before .before .args .file .now in
     let read = mesh-read file _ _ _ _ _ _ _ _ _ (ap (λ (n : ℕ). 3 * n) (c .before .before .before .before .before .before .vertex-count .ensures .0)) (c .before .before .before .before .before .face-count .ensures .0)
-        (c .before .before .before .before .corner-count .ensures .0) (c .before .before .before .before .before .before .before .before .before .before .read-lists .ensures) in
+    (c .before .before .before .before .corner-count .ensures .0) (c .before .before .before .before .before .before .before .before .before .before .read-lists .ensures) in
     subst (λ (M : Mesh). Surveyed M (verdict M) (c .survey-mesh .result)) read (c .survey-mesh .ensures)
 
 pub survey-lists-spec : {M : Type 1} → statement M

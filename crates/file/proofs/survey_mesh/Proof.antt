@@ -27,7 +27,7 @@ none-requires c κs = search needs
 
 -- src/lib.rt:130:9
 returns : tie.Need-returns
-returns c = 
+returns c =
     let M = meshOf (c .before .before .before .before .before .before .before .before .before .args .coordinates .now) (c .before .before .before .before .before .before .before .before .before .args .sides .now) (c .before .before .before .before .before .before .before .before .before .args .corners .now) in
     refused-survey M (verdict M) _ _ _ (sym (ap stated (c .before .before .answer .given .1)) ∙ c .before .before .before .before .check .ensures .answers) (c .none .ensures)
 
@@ -40,7 +40,7 @@ count-requires c κs = limits (meshOf (c .before .before .before .before .before
 
 -- src/lib.rt:123:1
 returns-2 : tie.Need-returns-2
-returns-2 c = 
+returns-2 c =
     let M = meshOf (c .before .before .before .before .before .before .before .before .args .coordinates .now) (c .before .before .before .before .before .before .before .before .args .sides .now) (c .before .before .before .before .before .before .before .before .args .corners .now) in
     done-survey M (verdict M) _ (sym (ap stated (c .before .enum-told .given .1)) ∙ c .before .before .before .check .ensures .answers) (c .count .ensures)
 
