@@ -2,34 +2,31 @@
 -- no range of its corners is refused.
 -- Assumes nothing.
 use mathlib.Core.Path.{_≡_, refl, sym, ap, _∙_}
-use mathlib.Core.Bool.{Bool, true, false, not}
-use mathlib.Core.List.{List}
+use mathlib.Core.Bool.{false, not}
 use Prim.Native.Nat.{ℕ, _+_, _*_, _≤_, _<_}
 use native.Mathlib.Omega.{arith}
 use borrow.Author.Tests.{le-ltb, eq-eqb, ne-eqb}
-use lib.Dec.{ltb, eqb}
+use lib.Dec.{eqb}
 use lib.ListN.{length, getD}
-use lib.IntN.{ℤ}
 use Rattle.mesh.specs.Lists.{Mesh, cornerCount}
 use Rattle.mesh.specs.Links.{link, linkTable}
-use Rattle.mesh.specs.Faults.{Verdict, sound, _orElse_, linkVerdict, Accepted}
+use Rattle.mesh.specs.Faults.{sound, linkVerdict, Accepted}
 use Rattle.mesh.proofs.Verdicts.{orElse-sound, single-miss, lowest-none}
 use Rattle.mesh.proofs.Links.{values-length, length-link-table, link-table-at}
-use Rattle.surface.specs.Corners.{Corners}
 use Rattle.surface.specs.Net.{Side}
-use Rattle.surface.specs.Refined.{cornersOf, numberAt, nets}
+use Rattle.surface.specs.Refined.{cornersOf, perCorner, numberAt, nets}
 use Rattle.surface.specs.Building.{fault15, fault16, fault17, buildVerdict}
 use Rattle.surface.proofs.Rings.{neighbour-in}
 use Rattle.surface.proofs.Hull.{corners-sound}
-use Rattle.borders.specs.Demand.{Output, Wrote, outputOf, beside, Smooth}
+use Rattle.borders.specs.Demand.{Output, Wrote, outputOf, Smooth}
 use Rattle.borders.proofs.Theorem.{demand3}
 
 equal : (m n : ℕ) → m ≡ n → not (eqb m n) ≡ false
 equal m n e = ap not (eq-eqb m n e)
 
-length-nets : (M : Mesh) (first count : ℕ) → length (nets M first count) ≡ 123 * count
+length-nets : (M : Mesh) (first count : ℕ) → length (nets M first count) ≡ perCorner * count
 unfolding nets
-length-nets M first count = values-length (numberAt M first) 0 (123 * count)
+length-nets M first count = values-length (numberAt M first) 0 (perCorner * count)
 
 module _ (M : Mesh) (ok : Accepted M) (first count : ℕ) (some : 0 < count) (fits : first + count ≤ cornerCount M) where
   no15 : (c : ℕ) → c < cornerCount M → fault15 M (linkTable M) c ≡ false
@@ -42,7 +39,7 @@ module _ (M : Mesh) (ok : Accepted M) (first count : ℕ) (some : 0 < count) (fi
 
   no17 : fault17 count (length (nets M first count)) ≡ false
   unfolding fault17
-  no17 = equal (length (nets M first count)) (123 * count) (length-nets M first count)
+  no17 = equal (length (nets M first count)) (perCorner * count) (length-nets M first count)
 
   not-refused : buildVerdict M (linkTable M) first count (length (nets M first count)) ≡ sound
   unfolding buildVerdict linkVerdict

@@ -2,20 +2,19 @@
 -- The points read in an output are those of the net; along a side these are the values that a border relates.
 -- Assumes nothing.
 use mathlib.Core.Path.{_≡_, refl, sym, ap, _∙_}
-use mathlib.Core.List.{List, []}
-use Prim.Native.Nat.{ℕ, zero, suc, _+_, _-_, _*_, _^_, _≤_, _<_}
+use Prim.Native.Nat.{ℕ, zero, suc, _+_, _-_, _*_, _<_}
 use native.Mathlib.Omega.{arith}
 use lib.ListN.{getD}
-use lib.IntN.{ℤ, pos, _+ℤ_, _-ℤ_, _*ℤ_, natAbs}
+use lib.IntN.{ℤ, pos, _+ℤ_}
 use Rattle.integers.proofs.Laws.{add-comm}
 use Rattle.rounding.specs.Round.{round}
 use Rattle.mesh.specs.Lists.{Mesh}
-use Rattle.surface.specs.Corners.{Corners, Sound}
-use Rattle.surface.specs.Net.{Side, side0, side1, side2, side3, neighbour, across, atHead, atTail, H, T, X, Y, C, outer1, outer2, outer3, a0, a1, a2, a3, bGrid, aGrid, net}
+use Rattle.surface.specs.Corners.{Corners}
+use Rattle.surface.specs.Net.{Side, side0, side1, side2, side3, neighbour, across, H, T, X, Y, C, outer1, outer2, outer3, a0, a1, a2, a3, bGrid, aGrid, net}
 use Rattle.surface.specs.Refined.{cornersOf}
 use Rattle.surface.proofs.Border.{Border, border}
 use Rattle.surface.proofs.Hull.{corners-sound}
-use Rattle.borders.specs.Demand.{Output, Wrote, Holds, written, outerRow, aRow, first, second, third, fourth, InBounds, beside, here, there, miss, Smooth, Borders}
+use Rattle.borders.specs.Demand.{Output, Wrote, written, outerRow, aRow, first, second, third, fourth, InBounds, beside, Borders}
 use Rattle.borders.proofs.Conditions.{head-shared, tail-shared, same-outer1, same-outer2, same-outer3, first-within, second-within, third-within, fourth-within}
 use Rattle.borders.proofs.Written.{accepted, corner-of, written-is}
 
@@ -105,29 +104,29 @@ module _ (K : Corners) (c : ℕ) (s : Side) (d : ℕ) (t : Side) (e : Border K c
   common : (j : ℕ) → j < 5 → outerRow p s j ≡ outerRow q t j
   common j l = here-outer j l ∙ curve j l ∙ sym (there-outer j l)
 
-  first-holds : InBounds (first K c s (outerRow p s) (aRow p s) (aRow q t))
-  unfolding first
-  first-holds =
-      rw (here-outer 0 (omega arith) ∙ outer-0 K c s, here-a 0 (omega arith) ∙ row-0 K c s, there-a 0 (omega arith) ∙ row-0 K d t)
-      (first-within K c s d t e)
+  -- a condition at place j of the rows, from the values b, a and â that stand there
+  abbrev Condition : Type 0
+  Condition = ℤ → ℤ → ℤ → ℤ → ℤ → ℤ → ℤ → ℤ → ℤ
 
-  second-holds : InBounds (second K c s (outerRow p s) (aRow p s) (aRow q t))
-  unfolding second
-  second-holds =
-      rw (here-outer 1 (omega arith) ∙ inner K c s .0, here-a 1 (omega arith) ∙ inner K c s .3, there-a 1 (omega arith) ∙ inner K d t .3)
-      (second-within K c s d t e)
+  abbrev at : Condition → ℤ → ℤ → ℤ → ℤ
+  at condition b a â = condition (H K c s) (T K c s) (X K c s) (Y K c s) (C K c s) b a â
 
-  third-holds : InBounds (third K c s (outerRow p s) (aRow p s) (aRow q t))
-  unfolding third
-  third-holds =
-      rw (here-outer 2 (omega arith) ∙ inner K c s .1, here-a 2 (omega arith) ∙ inner K c s .4, there-a 2 (omega arith) ∙ inner K d t .4)
-      (third-within K c s d t e)
+  bounded : (condition : Condition) (j : ℕ) → j < 4 → (b a â : ℤ)
+      → outerRow (points K c) s j ≡ b → aRow (points K c) s j ≡ a → aRow (points K d) t j ≡ â → InBounds (at condition b a â)
+      → InBounds (at condition (outerRow p s j) (aRow p s j) (aRow q t j))
+  bounded condition j l b a â eb ea eâ h = rw (here-outer j (omega arith) ∙ eb, here-a j l ∙ ea, there-a j l ∙ eâ) h
 
-  fourth-holds : InBounds (fourth K c s (outerRow p s) (aRow p s) (aRow q t))
-  unfolding fourth
-  fourth-holds =
-      rw (here-outer 3 (omega arith) ∙ inner K c s .2, here-a 3 (omega arith) ∙ row-3 K c s, there-a 3 (omega arith) ∙ row-3 K d t)
-      (fourth-within K c s d t e)
+  first-holds : InBounds (at first (outerRow p s 0) (aRow p s 0) (aRow q t 0))
+  first-holds = bounded first 0 (omega arith) _ _ _ (outer-0 K c s) (row-0 K c s) (row-0 K d t) (first-within K c s d t e)
+
+  second-holds : InBounds (at second (outerRow p s 1) (aRow p s 1) (aRow q t 1))
+  second-holds = bounded second 1 (omega arith) _ _ _ (inner K c s .0) (inner K c s .3) (inner K d t .3) (second-within K c s d t e)
+
+  third-holds : InBounds (at third (outerRow p s 2) (aRow p s 2) (aRow q t 2))
+  third-holds = bounded third 2 (omega arith) _ _ _ (inner K c s .1) (inner K c s .4) (inner K d t .4) (third-within K c s d t e)
+
+  fourth-holds : InBounds (at fourth (outerRow p s 3) (aRow p s 3) (aRow q t 3))
+  fourth-holds = bounded fourth 3 (omega arith) _ _ _ (inner K c s .2) (row-3 K c s) (row-3 K d t) (fourth-within K c s d t e)
 
 -- the neighbouring corner is the same on each axis
 beside-is : (M : Mesh) (axis c : ℕ) (s : Side) → neighbour (cornersOf M axis) c s ≡ beside M c s

@@ -9,9 +9,8 @@ use lib.ListN.{getD}
 use lib.IntN.{ℤ, pos, _+ℤ_, _-ℤ_, _*ℤ_, natAbs}
 use Rattle.mesh.specs.Lists.{Mesh}
 use Rattle.mesh.specs.declared.Answer.the-variants.{Done}
-use Rattle.surface.specs.Corners.{Corners}
 use Rattle.surface.specs.Net.{Side, side0, side1, side2, side3, neighbour, across, H, T, X, Y, C}
-use Rattle.surface.specs.Refined.{cornersOf, nets}
+use Rattle.surface.specs.Refined.{cornersOf, perCorner, nets}
 use Rattle.surface.specs.Building.{Built}
 
 -- ---- a call's output
@@ -21,6 +20,9 @@ pub record Output : Type 0 where
   pub first : ℕ
   pub count : ℕ
 
+abbrev pub outputAt : List ℤ → ℕ → ℕ → Output
+outputAt numbers first count = record { numbers = numbers; first = first; count = count }
+
 -- a call of building on M that is not refused left it so
 pub record Wrote (M : Mesh) (O : Output) : Type 0 where
   pub links : List ℕ
@@ -29,15 +31,15 @@ pub record Wrote (M : Mesh) (O : Output) : Type 0 where
 
 -- what such a call leaves
 abbrev pub outputOf : Mesh → ℕ → ℕ → Output
-outputOf M first count = record { numbers = nets M first count; first = first; count = count }
+outputOf M first count = outputAt (nets M first count) first count
 
 -- corner c is in its range
 abbrev pub Holds : Output → ℕ → Type 0
 Holds O c = (O .first ≤ c) × (c < O .first + O .count)
 
--- point k of corner c on an axis: 123 numbers a corner, x, y, z of each of its 41 points
+-- point k of corner c on an axis: `perCorner` numbers a corner, x, y, z of each of its 41 points
 unfoldable pub written : Output → ℕ → ℕ → ℕ → ℤ
-written O axis c k = getD (O .numbers) (123 * (c - O .first) + 3 * k + axis) (pos 0)
+written O axis c k = getD (O .numbers) (perCorner * (c - O .first) + 3 * k + axis) (pos 0)
 
 -- ---- the points p of a quad-net on one axis: five rows of five b points, then four rows of four a points
 module _ (p : ℕ → ℤ) where
@@ -60,29 +62,27 @@ module _ (p : ℕ → ℤ) where
   aRow side2 j = a 3 (3 - j)
   aRow side3 j = a j 0
 
--- ---- the four conditions of a side, times 2^30: `one` stands for 1 and C for c
+-- ---- the four conditions, times 2^30: `one` stands for 1 and C for c. H, T, X, Y and C are the side's;
+-- b, a and â are points of the outer row, of the a row and of the neighbour's a row, at the place that the condition names
 abbrev pub one : ℤ
 one = pos (2 ^ 30)
 
--- of its H, T, X, Y, C, with outer row b, a row a and the neighbour's a row â
-module _ (K : Corners) (c : ℕ) (s : Side) (b a â : ℕ → ℤ) where
+module _ (H T X Y C b a â : ℤ) where
   -- 4(a0 + â0 - 2b0) - 3(1 + c)(X - H)
-  unfoldable pub first : ℤ
-  first = pos 4 *ℤ one *ℤ (a 0 +ℤ â 0 -ℤ pos 2 *ℤ b 0) -ℤ pos 3 *ℤ (one +ℤ C K c s) *ℤ (X K c s -ℤ H K c s)
+  abbrev pub first : ℤ
+  first = pos 4 *ℤ one *ℤ (a +ℤ â -ℤ pos 2 *ℤ b) -ℤ pos 3 *ℤ (one +ℤ C) *ℤ (X -ℤ H)
 
   -- 4(a1 + â1 - 2b1) - 2(1 + c)(Y - X) - (X - H)
-  unfoldable pub second : ℤ
-  second =
-      pos 4 *ℤ one *ℤ (a 1 +ℤ â 1 -ℤ pos 2 *ℤ b 1) -ℤ pos 2 *ℤ (one +ℤ C K c s) *ℤ (Y K c s -ℤ X K c s) -ℤ one *ℤ (X K c s -ℤ H K c s)
+  abbrev pub second : ℤ
+  second = pos 4 *ℤ one *ℤ (a +ℤ â -ℤ pos 2 *ℤ b) -ℤ pos 2 *ℤ (one +ℤ C) *ℤ (Y -ℤ X) -ℤ one *ℤ (X -ℤ H)
 
   -- 4(a2 + â2 - 2b2) - (1 + c)(T - Y) - 2(Y - X)
-  unfoldable pub third : ℤ
-  third =
-      pos 4 *ℤ one *ℤ (a 2 +ℤ â 2 -ℤ pos 2 *ℤ b 2) -ℤ (one +ℤ C K c s) *ℤ (T K c s -ℤ Y K c s) -ℤ pos 2 *ℤ one *ℤ (Y K c s -ℤ X K c s)
+  abbrev pub third : ℤ
+  third = pos 4 *ℤ one *ℤ (a +ℤ â -ℤ pos 2 *ℤ b) -ℤ (one +ℤ C) *ℤ (T -ℤ Y) -ℤ pos 2 *ℤ one *ℤ (Y -ℤ X)
 
   -- 4(a3 + â3 - 2b3) - 3(T - Y)
-  unfoldable pub fourth : ℤ
-  fourth = pos 4 *ℤ one *ℤ (a 3 +ℤ â 3 -ℤ pos 2 *ℤ b 3) -ℤ pos 3 *ℤ one *ℤ (T K c s -ℤ Y K c s)
+  abbrev pub fourth : ℤ
+  fourth = pos 4 *ℤ one *ℤ (a +ℤ â -ℤ pos 2 *ℤ b) -ℤ pos 3 *ℤ one *ℤ (T -ℤ Y)
 
 -- within -13 to 13
 abbrev pub mostMiss : ℕ
@@ -103,17 +103,19 @@ module _ (M : Mesh) (A B : Output) (axis c : ℕ) (s : Side) where
   abbrev pub there : ℕ → ℤ
   there k = written B axis (beside M c s) k
 
-  -- a condition of this side on this axis
-  abbrev pub miss : (Corners → ℕ → Side → (ℕ → ℤ) → (ℕ → ℤ) → (ℕ → ℤ) → ℤ) → ℤ
-  miss condition = condition (cornersOf M axis) c s (outerRow here s) (aRow here s) (aRow there (across s))
+  -- a condition of this side on this axis, at place j of the rows
+  abbrev pub miss : (ℤ → ℤ → ℤ → ℤ → ℤ → ℤ → ℤ → ℤ → ℤ) → ℕ → ℤ
+  miss condition j =
+      let K = cornersOf M axis in
+      condition (H K c s) (T K c s) (X K c s) (Y K c s) (C K c s) (outerRow here s j) (aRow here s j) (aRow there (across s) j)
 
 pub record Smooth (M : Mesh) (A B : Output) (axis c : ℕ) (s : Side) : Type 0 where
   -- the five points of the common curve are the same numbers in both
   pub curve : (j : ℕ) → j < 5 → outerRow (here M A B axis c s) s j ≡ outerRow (there M A B axis c s) (across s) j
-  pub first-bounded : InBounds (miss M A B axis c s first)
-  pub second-bounded : InBounds (miss M A B axis c s second)
-  pub third-bounded : InBounds (miss M A B axis c s third)
-  pub fourth-bounded : InBounds (miss M A B axis c s fourth)
+  pub first-bounded : InBounds (miss M A B axis c s first 0)
+  pub second-bounded : InBounds (miss M A B axis c s second 1)
+  pub third-bounded : InBounds (miss M A B axis c s third 2)
+  pub fourth-bounded : InBounds (miss M A B axis c s fourth 3)
 
 -- ---- every border with the one quad-net in A and the other in B
 abbrev pub Borders : Mesh → Output → Output → Type 0

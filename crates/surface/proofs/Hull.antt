@@ -1,26 +1,24 @@
 -- The refined point of a corner is a rounded mean of vertices, so it stays within their size: 2^24 ticks.
 -- The corners of an accepted mesh then have all laws of `Sound`: the absence of faults gives them (mesh: `manifold`).
 -- Assumes nothing.
-use mathlib.Core.Path.{_≡_, refl, sym, subst}
+use mathlib.Core.Path.{_≡_, refl}
 use mathlib.Core.Bool.{Bool, true, false, _||_, true≢false}
 use mathlib.Core.Logic.{⊎-elim}
-use mathlib.Core.List.{List}
 use Prim.Native.Nat.{ℕ, _+_, _-_, _*_, _^_, _<_, _≤_}
 use native.Mathlib.Omega.{arith}
 use borrow.Author.Tests.{ltb-true, ltb-false}
 use lib.Dec.{ltb}
 use lib.ListN.{length, getD, List·getD-eq-default}
-use lib.IntN.{ℤ, pos, negsuc, _+ℤ_, _-ℤ_, _*ℤ_, negℤ, natAbs}
-use lib.Signed.{ltZ, _<ℤ_, _≤ℤ_}
-use Rattle.integers.specs.Sum.{sum}
+use lib.IntN.{ℤ, pos, negsuc, _+ℤ_, _*ℤ_, natAbs}
+use lib.Signed.{ltZ, _<ℤ_}
 use Rattle.integers.proofs.Diff.{as-diff, diff}
 use Rattle.integers.proofs.Poly.{over, poly}
 use Rattle.integers.proofs.Laws.{nonneg, abs-mul-le}
 use Rattle.integers.proofs.Sum.{sum-abs}
 use Rattle.rounding.specs.Round.{Near}
 use Rattle.rounding.proofs.Laws.{round-near}
-use Rattle.mesh.specs.Limits.{leastSides, mostCoordinate}
-use Rattle.mesh.specs.Lists.{Mesh, cornerCount}
+use Rattle.mesh.specs.Limits.{mostCoordinate}
+use Rattle.mesh.specs.Lists.{Mesh}
 use Rattle.mesh.specs.Corners.{startOf, faceOf, sidesOf, next, previous}
 use Rattle.mesh.specs.Links.{vertexOf}
 use Rattle.mesh.specs.Faults.{fault7, Accepted}
