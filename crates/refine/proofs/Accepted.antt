@@ -1,42 +1,16 @@
--- An accepted mesh gives what the tables are filled from: sides, names and coordinates are within their limits.
+-- An accepted mesh gives what refined points are computed from.
 -- Assumes nothing.
-use Prim.Native.Nat.{ℕ, _<_}
-use native.Mathlib.Omega.{arith}
-use lib.ListN.{length}
-use Rattle.mesh.specs.Lists.{Mesh, vertexCount, faceCount, cornerCount}
-use Rattle.mesh.specs.Links.{vertexOf}
+use Rattle.mesh.specs.Lists.{Mesh, cornerCount}
 use Rattle.mesh.specs.Faults.{Accepted}
-use Rattle.mesh.proofs.Accepted.{sound-of, few-vertices, few-corners, sides-within, sums-of, named-of, valence-within}
+use Rattle.mesh.proofs.Accepted.{sound-of, sums-of}
 use Rattle.surface.proofs.Hull.{coordinate-size}
-use Rattle.refine.specs.Tables.{Faces, Vertices, Refinable}
+use Rattle.corner_tables.proofs.Accepted.{vertex-in, faces-of}
+use Rattle.refine.specs.Sources.{Refinable}
 
-module _ (M : Mesh) (a : Accepted M) where
-  pub faces-of : Faces (M .sides)
-  faces-of =
-      let s = sound-of M a in
-      record {
-        few = omega (arith, few-corners (length (M .coordinates)) (faceCount M) (cornerCount M) (s .four), sums-of (M .sides) (cornerCount M) (s .six));
-        least = λ f h. sides-within (M .sides) f (s .five f h) .0;
-        most = λ f h. sides-within (M .sides) f (s .five f h) .1;
-      }
-
-  vertex-in : (c : ℕ) → c < cornerCount M → vertexOf (M .corners) c < vertexCount M
-  vertex-in c h = named-of (vertexCount M) (M .corners) c (sound-of M a .eight c h)
-
-  pub vertices-of : Vertices (M .corners)
-  vertices-of =
-      let s = sound-of M a in
-      record {
-        few = few-corners (length (M .coordinates)) (faceCount M) (cornerCount M) (s .four);
-        named = λ c h. omega (arith, vertex-in c h, few-vertices (length (M .coordinates)) (faceCount M) (cornerCount M) (s .four));
-        most = λ c h. valence-within (M .corners) (vertexOf (M .corners) c) (s .twelve (vertexOf (M .corners) c) (vertex-in c h)) .1;
-      }
-
-  pub refinable-of : Refinable M
-  refinable-of =
-      let s = sound-of M a in
-      record {
-        faces = faces-of;
-        sums = sums-of (M .sides) (cornerCount M) (s .six);
-        placed = record { named = vertex-in; within = λ i h. coordinate-size M a i };
-      }
+pub refinable-of : (M : Mesh) → Accepted M → Refinable M
+refinable-of M a =
+    record {
+      faces = faces-of M a;
+      sums = sums-of (M .sides) (cornerCount M) (sound-of M a .six);
+      placed = record { named = vertex-in M a; within = λ i h. coordinate-size M a i };
+    }

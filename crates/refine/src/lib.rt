@@ -1,83 +1,83 @@
-// Tables over the corners of an accepted mesh, each filled in one pass: the previous corner and the sides of the face, the corners of
-// the vertex, and on one axis the refined point. A face's sum is formed once and serves all its corners.
+// The refined points of a mesh on one axis, in a table over its corners. A face's sum is formed once and serves all its corners.
+use rounding::round_div;
 ghost use mathlib.Core.Path.{_≡_};
 ghost use mathlib.Core.List.{List};
-ghost use Prim.Native.Nat.{ℕ, _+_, _*_, _^_, _≤_, _<_};
-ghost use lib.ListN.{length, getD, replicate};
-ghost use lib.IntN.{ℤ, pos, natAbs, _+ℤ_, _*ℤ_};
+ghost use Prim.Native.Nat.{ℕ, _+_, _^_, _≤_, _<_};
+ghost use lib.ListN.{length};
+ghost use lib.IntN.{pos, natAbs, _+ℤ_, _*ℤ_};
 ghost use Rattle.integers.specs.Sum.{sum};
 ghost use Rattle.rounding.specs.Round.{round};
+ghost use Rattle.mesh.specs.Limits.{mostSides, mostCorners};
 ghost use Rattle.mesh.specs.Lists.{meshOf};
-ghost use Rattle.mesh.specs.Scan.{countBelow};
-ghost use Rattle.mesh.specs.Corners.{sumOf, startOf, next, previous};
-ghost use Rattle.mesh.specs.Links.{vertexOf, names, valence};
-ghost use Rattle.surface.specs.Refined.{ticks, faceSum, refinedPoint};
-ghost use Rattle.refine.specs.Tables.{Filled, FaceTables, Steps, Faces, Vertices, Placed, Refinable, Ticks};
+ghost use Rattle.mesh.specs.Corners.{sumOf, startOf};
+ghost use Rattle.surface.specs.Refined.{ticks, refinedPoint};
+ghost use Rattle.corner_tables.specs.Tables.{Filled};
+ghost use Rattle.refine.specs.Sources.{Steps, Placed, Refinable, Ticks};
 
-use rounding::round_div;
-
-// One face, whose first corner is `start`.
-fn fill_face(sides: &[u8], f: usize, start: usize, previouses: &mut [u16], counts: &mut [u8])
-    requires faces { ⌜ Faces (now sides) ⌝ }
-    requires face { ⌜ (f < length (now sides)) × (start ≡ startOf (now sides) f) ⌝ }
-    requires long { ⌜ (length (now previouses) ≡ 8192) × (length (now counts) ≡ 8192) ⌝ }
-    requires before { ⌜ FaceTables (now sides) (now previouses) (now counts) (startOf (now sides) f) ⌝ }
-    ensures { λ _. ⌜ FaceTables (now (sides .entry)) (now (previouses .exit)) (now (counts .exit)) (startOf (now (sides .entry)) (f + 1)) ⌝ }
-{
-    let n = sides[f];
-    let end = start + n as usize;
-    let mut last = end - 1;
-    let mut c = start;
-    while c < end {
-        previouses[c] = last as u16;
-        counts[c] = n;
-        last = c;
-        c += 1;
-    }
-}
-
-// The previous corner of every corner, and the sides of its face.
-pub fn fill_faces(sides: &[u8], previouses: &mut [u16], counts: &mut [u8])
-    requires faces { ⌜ Faces (now sides) ⌝ }
-    requires long { ⌜ (length (now previouses) ≡ 8192) × (length (now counts) ≡ 8192) ⌝ }
-    ensures { λ _. ⌜ FaceTables (now (sides .entry)) (now (previouses .exit)) (now (counts .exit)) (sumOf (now (sides .entry))) ⌝ }
+// The refined point of every corner on an axis.
+pub fn fill_points(
+    coordinates: &[i32],
+    sides: &[u8],
+    corners: &[u16],
+    nexts: &[u16],
+    previouses: &[u16],
+    axis: usize,
+    points: &mut [i32],
+)
+    requires mesh { ⌜ Refinable (meshOf (now coordinates) (now sides) (now corners)) ⌝ }
+    requires axis { ⌜ axis < 3 ⌝ }
+    requires tables { ⌜ Steps (now sides) (now nexts) (now previouses) ⌝ }
+    requires long { ⌜ length (now points) ≡ mostCorners ⌝ }
+    ensures { λ _. ⌜ Filled (pos 0) (refinedPoint (meshOf (now (coordinates .entry)) (now (sides .entry)) (now (corners .entry))) axis) (now (points .exit)) (sumOf (now (sides .entry))) ⌝ }
 {
     let mut start = 0;
     let mut f = 0;
     while f < sides.len() {
-        fill_face(sides, f, start, previouses, counts);
+        fill_face_points(
+            coordinates,
+            sides,
+            corners,
+            nexts,
+            previouses,
+            axis,
+            f,
+            start,
+            points,
+        );
         start += sides[f] as usize;
         f += 1;
     }
 }
 
-// How many corners name each vertex.
-fn count_corners(corners: &[u16], counts: &mut [u8])
-    requires corners { ⌜ Vertices (now corners) ⌝ }
-    requires zeros { ⌜ now counts ≡ replicate 2048 0 ⌝ }
-    ensures { λ _. ⌜ Filled 0 (valence (now (corners .entry))) (now (counts .exit)) 2048 ⌝ }
+// The refined points of one face, whose first corner is `start`: its sum is formed once.
+fn fill_face_points(
+    coordinates: &[i32],
+    sides: &[u8],
+    corners: &[u16],
+    nexts: &[u16],
+    previouses: &[u16],
+    axis: usize,
+    f: usize,
+    start: usize,
+    points: &mut [i32],
+)
+    requires mesh { ⌜ Refinable (meshOf (now coordinates) (now sides) (now corners)) ⌝ }
+    requires face { ⌜ (axis < 3) × (f < length (now sides)) × (start ≡ startOf (now sides) f) ⌝ }
+    requires tables { ⌜ Steps (now sides) (now nexts) (now previouses) ⌝ }
+    requires points { ⌜ (length (now points) ≡ mostCorners) × Filled (pos 0) (refinedPoint (meshOf (now coordinates) (now sides) (now corners)) axis) (now points) (startOf (now sides) f) ⌝ }
+    ensures { λ _. ⌜ Filled (pos 0) (refinedPoint (meshOf (now (coordinates .entry)) (now (sides .entry)) (now (corners .entry))) axis) (now (points .exit)) (startOf (now (sides .entry)) (f + 1)) ⌝ }
 {
-    let mut c = 0;
-    while c < corners.len() {
-        let u = corners[c] as usize;
-        let n = counts[u];
-        counts[u] = n + 1;
-        c += 1;
-    }
-}
-
-// The corners of its vertex, of every corner.
-pub fn fill_valences(corners: &[u16], valences: &mut [u8])
-    requires corners { ⌜ Vertices (now corners) ⌝ }
-    requires long { ⌜ length (now valences) ≡ 8192 ⌝ }
-    ensures { λ _. ⌜ ((c : ℕ) → c < length (now (corners .entry)) → getD (now (valences .exit)) c 0 ≡ valence (now (corners .entry)) (vertexOf (now (corners .entry)) c)) ⌝ }
-{
-    let mut counts = [0u8; 2048];
-    count_corners(corners, &mut counts);
-    let mut c = 0;
-    while c < corners.len() {
-        let u = corners[c] as usize;
-        valences[c] = counts[u];
+    let n = sides[f];
+    let end = start + n as usize;
+    let total = face_sum(coordinates, corners, axis, start, n as usize);
+    let mut c = start;
+    while c < end {
+        let p = previouses[c] as usize;
+        let q = nexts[c] as usize;
+        let before = tick(coordinates, corners, axis, p);
+        let here = tick(coordinates, corners, axis, c);
+        let after = tick(coordinates, corners, axis, q);
+        points[c] = refined(total, before, here, after, n);
         c += 1;
     }
 }
@@ -95,7 +95,7 @@ fn tick(coordinates: &[i32], corners: &[u16], axis: usize, c: usize) -> i64
 // Σ: the sum of the vertices of `n` corners from `start` on.
 fn face_sum(coordinates: &[i32], corners: &[u16], axis: usize, start: usize, n: usize) -> i64
     requires placed { ⌜ Placed (now coordinates) (now corners) ⌝ }
-    requires face { ⌜ (axis < 3) × (start + n ≤ length (now corners)) × (n ≤ 12) ⌝ }
+    requires face { ⌜ (axis < 3) × (start + n ≤ length (now corners)) × (n ≤ mostSides) ⌝ }
     ensures { λ r. ⌜ ((sides : List ℕ) → r ≡ sum (λ j. ticks (meshOf (now (coordinates .entry)) sides (now (corners .entry))) axis (start + j)) n) ⌝ }
 {
     let mut total: i64 = 0;
@@ -134,44 +134,4 @@ fn refined(total: i64, before: i64, here: i64, after: i64, n: u8) -> i32
 {
     let t = 2 * total + n as i64 * (before + 4 * here + after);
     divide(t, n) as i32
-}
-
-// The refined points of one face, whose first corner is `start`: its sum is formed once.
-fn fill_face_points(coordinates: &[i32], sides: &[u8], corners: &[u16], nexts: &[u16], previouses: &[u16], axis: usize, f: usize, start: usize, points: &mut [i32])
-    requires mesh { ⌜ Refinable (meshOf (now coordinates) (now sides) (now corners)) ⌝ }
-    requires face { ⌜ (axis < 3) × (f < length (now sides)) × (start ≡ startOf (now sides) f) ⌝ }
-    requires tables { ⌜ Steps (now sides) (now nexts) (now previouses) ⌝ }
-    requires points { ⌜ (length (now points) ≡ 8192) × Filled (pos 0) (refinedPoint (meshOf (now coordinates) (now sides) (now corners)) axis) (now points) (startOf (now sides) f) ⌝ }
-    ensures { λ _. ⌜ Filled (pos 0) (refinedPoint (meshOf (now (coordinates .entry)) (now (sides .entry)) (now (corners .entry))) axis) (now (points .exit)) (startOf (now (sides .entry)) (f + 1)) ⌝ }
-{
-    let n = sides[f];
-    let end = start + n as usize;
-    let total = face_sum(coordinates, corners, axis, start, n as usize);
-    let mut c = start;
-    while c < end {
-        let p = previouses[c] as usize;
-        let q = nexts[c] as usize;
-        let before = tick(coordinates, corners, axis, p);
-        let here = tick(coordinates, corners, axis, c);
-        let after = tick(coordinates, corners, axis, q);
-        points[c] = refined(total, before, here, after, n);
-        c += 1;
-    }
-}
-
-// The refined point of every corner on an axis.
-pub fn fill_points(coordinates: &[i32], sides: &[u8], corners: &[u16], nexts: &[u16], previouses: &[u16], axis: usize, points: &mut [i32])
-    requires mesh { ⌜ Refinable (meshOf (now coordinates) (now sides) (now corners)) ⌝ }
-    requires axis { ⌜ axis < 3 ⌝ }
-    requires tables { ⌜ Steps (now sides) (now nexts) (now previouses) ⌝ }
-    requires long { ⌜ length (now points) ≡ 8192 ⌝ }
-    ensures { λ _. ⌜ Filled (pos 0) (refinedPoint (meshOf (now (coordinates .entry)) (now (sides .entry)) (now (corners .entry))) axis) (now (points .exit)) (sumOf (now (sides .entry))) ⌝ }
-{
-    let mut start = 0;
-    let mut f = 0;
-    while f < sides.len() {
-        fill_face_points(coordinates, sides, corners, nexts, previouses, axis, f, start, points);
-        start += sides[f] as usize;
-        f += 1;
-    }
 }

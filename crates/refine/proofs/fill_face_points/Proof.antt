@@ -1,7 +1,10 @@
-use mathlib.Core.Path.{_≡_, refl, ap, _∙_, sym, subst}
-use Prim.Native.Nat.{ℕ, _+_, _-_, _*_, _^_, _≤_, _<_}
-use lib.ListN.{length, getD, set, length-set}
-use lib.IntN.{ℤ, pos, natAbs, _+ℤ_, _*ℤ_}
+-- The refined points of one face meet their contract: those of the corners below `c` are filled, and the values of the calls give the next.
+-- Assumes nothing.
+use Rattle.mesh.specs.Limits.{mostCorners}
+use mathlib.Core.Path.{_≡_, _∙_}
+use Prim.Native.Nat.{ℕ, _+_, _-_, _*_, _≤_, _<_}
+use lib.ListN.{length, getD, length-set}
+use lib.IntN.{ℤ, pos, _*ℤ_}
 use denote.Ref.{now}
 use mir.Syntax.{w32, w64}
 use mir.Val.{SFits, toZ, ofZ}
@@ -11,21 +14,18 @@ use Rattle.mesh.specs.Corners.{sumOf, startOf, next, previous}
 use Rattle.mesh.proofs.Faces.{start-next, next-below, previous-below}
 use Rattle.surface.specs.Refined.{refinedPoint}
 use Rattle.rounding.specs.Round.{round}
-use Rattle.refine.specs.Tables.{Filled, Ticks}
-use Rattle.refine.proofs.Laws.{filled-set, end-in, eightfold, point-sizes, point-is}
+use Rattle.refine.specs.Sources.{Ticks}
+use Rattle.corner_tables.specs.Tables.{Filled}
+use Rattle.corner_tables.proofs.Laws.{filled-set}
+use Rattle.refine.proofs.Laws.{end-in, eightfold, point-sizes, point-is}
 use native.Mathlib.Omega.{arith}
 use borrow.Author.Needs.{needs}
 use Rattle.refine.proofs.fill_face_points.Statement.{statement}
 use Rattle.refine.proofs.fill_face_points.Tie as tie
-use Rattle.refine.proofs.fill_face_points.Reads as reads
-use Rattle.refine.proofs.fill_face_points.Lts as lts
-use Rattle.refine.proofs.face_sum.Reads as face-sum-reads
-use Rattle.refine.proofs.refined.Reads as refined-reads
-use Rattle.refine.proofs.tick.Reads as tick-reads
 
 abbrev Inv-loop : tie.InvT-loop
 Inv-loop coordinates sides corners nexts previouses axis f start points₀ n end total c₀ points c =
-    (start ≤ c) × (c ≤ end) × (end ≤ length corners) × (length corners ≤ 8192) × (length points ≡ 8192) × Filled (pos 0) (refinedPoint (meshOf coordinates sides corners) axis) points c
+    (start ≤ c) × (c ≤ end) × (end ≤ length corners) × (length corners ≤ mostCorners) × (length points ≡ mostCorners) × Filled (pos 0) (refinedPoint (meshOf coordinates sides corners) axis) points c
 
 abbrev μ-loop : tie.MeasureT-loop
 μ-loop coordinates sides corners nexts previouses axis f start points₀ n end total c₀ points c = end - c
@@ -90,31 +90,25 @@ module _ (c : tie.After-tick3 Inv-loop μ-loop) where
         point-is (mesh s) (s .pre .0) (s .args .f) face (s .args .start) at _ _ (s .args .axis) e low high p q (s .pre .1 .0 .0) total before here after eT eB eH eA,
       )
 
--- src/lib.rt:147:13
 shared-slice-read-n : tie.Need-shared-slice-read-n Inv-loop μ-loop
 shared-slice-read-n c = search needs
 
--- src/lib.rt:148:23
 cast-end : tie.Need-cast-end Inv-loop μ-loop
 cast-end c = omega (arith, c .shared-slice-known5 .given (c .before .before .before .before .before .args .f))
 
--- src/lib.rt:148:15
 add-end : tie.Need-add-end Inv-loop μ-loop
 add-end c = let s = c .before .before .before .before .before in omega (arith, end-in (mesh s) (s .pre .0) (s .args .f) (s .pre .1 .0 .1), s .pre .1 .0 .2, s .pre .0 .sums, s .pre .0 .faces .few)
 
--- src/lib.rt:149:61
 cast-face-sum : tie.Need-cast-face-sum Inv-loop μ-loop
 cast-face-sum c = omega (arith, c .shared-slice-known5 .given (c .before .before .before .before .before .args .f))
 
--- src/lib.rt:149:9
 face-sum-requires : tie.Need-face-sum-requires Inv-loop μ-loop
-face-sum-requires c κs = 
+face-sum-requires c κs =
     let s = c .before .before .before .before .before in
     (s .pre .0 .placed, (s .pre .1 .0 .0, omega (arith, end-in (mesh s) (s .pre .0) (s .args .f) (s .pre .1 .0 .1), s .pre .1 .0 .2), s .pre .0 .faces .most (s .args .f) (s .pre .1 .0 .1)))
 
--- src/lib.rt:151:5
 loop-holds : tie.Need-loop-holds Inv-loop μ-loop
-loop-holds c = 
+loop-holds c =
     let s = c .before .before .before .before .before .before in (
       omega arith,
       omega arith,
@@ -124,65 +118,50 @@ loop-holds c =
       rw (s .pre .1 .0 .2) (s .pre .1 .1 .1 .1),
     )
 
--- src/lib.rt:152:17
 mul-p : tie.Need-mul-p Inv-loop μ-loop
 mul-p c = search needs
 
--- src/lib.rt:152:17
 shared-slice-read-p : tie.Need-shared-slice-read-p Inv-loop μ-loop
 shared-slice-read-p c = search needs
 
--- src/lib.rt:152:17
 cast-p : tie.Need-cast-p Inv-loop μ-loop
 cast-p c = omega (arith, c .shared-slice-known6 .given (c .before .before .loop .c))
 
--- src/lib.rt:153:17
 mul-q : tie.Need-mul-q Inv-loop μ-loop
 mul-q c = search needs
 
--- src/lib.rt:153:17
 shared-slice-read-q : tie.Need-shared-slice-read-q Inv-loop μ-loop
 shared-slice-read-q c = search needs
 
--- src/lib.rt:153:17
 cast-q : tie.Need-cast-q Inv-loop μ-loop
 cast-q c = omega (arith, c .shared-slice-known7 .given (c .before .before .before .loop .c))
 
--- src/lib.rt:154:13
 tick-requires : tie.Need-tick-requires Inv-loop μ-loop
 tick-requires c κs = let s = c .before .before .before .before .before .before .before .before .before .before in let l = c .before .before .before .loop in (s .pre .0 .placed, (s .pre .1 .0 .0, previous-in s (l .c) (omega arith)))
 
--- src/lib.rt:155:13
 tick-requires-2 : tie.Need-tick-requires-2 Inv-loop μ-loop
 tick-requires-2 c κs = let s = c .before .before .before .before .before .before .before .before .before .before .before in (s .pre .0 .placed, (s .pre .1 .0 .0, omega arith))
 
--- src/lib.rt:156:13
 tick-requires-3 : tie.Need-tick-requires-3 Inv-loop μ-loop
 tick-requires-3 c κs = let s = c .before .before .before .before .before .before .before .before .before .before .before .before in let l = c .before .before .before .before .before .loop in (s .pre .0 .placed, (s .pre .1 .0 .0, next-in s (l .c) (omega arith)))
 
--- src/lib.rt:157:21
 refined-requires : tie.Need-refined-requires Inv-loop μ-loop
 refined-requires c κs = made c .0
 
--- src/lib.rt:157:9
 mul-t23 : tie.Need-mul-t23 Inv-loop μ-loop
 mul-t23 c = search needs
 
--- src/lib.rt:157:9
 slice-set-from-points : tie.Need-slice-set-from-points Inv-loop μ-loop
 slice-set-from-points c = search needs
 
--- src/lib.rt:158:9
 add-c : tie.Need-add-c Inv-loop μ-loop
 add-c c = search needs
 
--- src/lib.rt:151:5
 loop-less : tie.Need-loop-less Inv-loop μ-loop
 loop-less c = search needs
 
--- src/lib.rt:151:5
 loop-again : tie.Need-loop-again Inv-loop μ-loop
-loop-again c = 
+loop-again c =
     let l = c .before .before .before .before .before .before .before .loop in
     let f : SFits w32 (c .refined .result) = search needs in
     let t = made (c .before) in (
@@ -194,13 +173,11 @@ loop-again c =
       filled-set (pos 0) _ (l .points) (l .c) (toZ w32 (ofZ w32 (c .refined .result))) (l .inv .5) (omega arith) (toZ-ofZ f ∙ c .refined .ensures ∙ t .1),
     )
 
--- src/lib.rt:140:1
 same-length : tie.Need-same-length Inv-loop μ-loop
 same-length c = search needs
 
--- src/lib.rt:140:1
 returns : tie.Need-returns Inv-loop μ-loop
-returns c = 
+returns c =
     let s = c .before .before .before .before .before .before .before .before in
     let l = c .before .loop in
     let e : l .c ≡ startOf (now (s .args .sides)) (s .args .f + 1) = omega (arith, start-next (now (s .args .sides)) (s .args .f) (s .pre .1 .0 .1), s .pre .1 .0 .2) in

@@ -1,5 +1,7 @@
-use mathlib.Core.Path.{_≡_, ap, _∙_, sym}
-use Rattle.mesh.proofs.Verdicts.{single-hit, single-miss, lowest-hit, lowest-none}
+-- Check 15 meets its contract: the tables agree below `c`, and an entry that differs is the lowest fault.
+-- Assumes nothing.
+use mathlib.Core.Path.{_≡_, sym}
+use Rattle.mesh.proofs.Verdicts.{lowest-hit, lowest-none}
 use Prim.Native.Nat.{ℕ, _-_, _≤_, _<_}
 use lib.ListN.{length, getD}
 use denote.Ref.{now}
@@ -11,8 +13,6 @@ use native.Mathlib.Omega.{arith}
 use borrow.Author.Needs.{needs}
 use Rattle.requests.proofs.check_links.Statement.{statement}
 use Rattle.requests.proofs.check_links.Tie as tie
-use Rattle.requests.proofs.check_links.Reads as reads
-use Rattle.requests.proofs.check_links.Lts as lts
 
 abbrev Inv-loop : tie.InvT-loop
 Inv-loop table links c₀ c = (c ≤ length links) × ((j : ℕ) → j < c → getD links j 0 ≡ getD table j 0)
@@ -20,50 +20,40 @@ Inv-loop table links c₀ c = (c ≤ length links) × ((j : ℕ) → j < c → g
 abbrev μ-loop : tie.MeasureT-loop
 μ-loop table links c₀ c = length links - c
 
--- src/lib.rt:62:5
 loop-holds : tie.Need-loop-holds Inv-loop μ-loop
 loop-holds c = (omega arith, λ j h. absurd (omega arith))
 
--- src/lib.rt:63:12
 mul-if1 : tie.Need-mul-if1 Inv-loop μ-loop
 mul-if1 c = search needs
 
--- src/lib.rt:63:12
 shared-slice-read-if1 : tie.Need-shared-slice-read-if1 Inv-loop μ-loop
 shared-slice-read-if1 c = search needs
 
--- src/lib.rt:63:24
 mul-if1-2 : tie.Need-mul-if1-2 Inv-loop μ-loop
 mul-if1-2 c = search needs
 
--- src/lib.rt:63:24
 shared-slice-read-if1-2 : tie.Need-shared-slice-read-if1-2 Inv-loop μ-loop
 shared-slice-read-if1-2 c = omega arith
 
--- src/lib.rt:64:13
 returns : tie.Need-returns Inv-loop μ-loop
-returns c = 
+returns c =
     let s = c .before .before .before .before .before in
     let l = c .before .before .before .before .loop in
     λ M e t. let h : l .c < cornerCount M = omega arith in
     sym (lowest-hit 15 (cornerCount M) (fault15 M (now (s .args .links))) (l .c) h (links-differ M (now (s .args .table)) (now (s .args .links)) t (l .c) h (c .if1 .taken))
     (λ j k. links-agree M (now (s .args .table)) (now (s .args .links)) t j (omega arith) (l .inv .1 j k)))
 
--- src/lib.rt:66:9
 add-c : tie.Need-add-c Inv-loop μ-loop
 add-c c = search needs
 
--- src/lib.rt:62:5
 loop-less : tie.Need-loop-less Inv-loop μ-loop
 loop-less c = search needs
 
--- src/lib.rt:62:5
 loop-again : tie.Need-loop-again Inv-loop μ-loop
 loop-again c = let s = c .before .before .before .before .before in let l = c .before .before .before .before .loop in (search needs, below-more (λ j. getD (now (s .args .links)) j 0 ≡ getD (now (s .args .table)) j 0) (l .c) (l .inv .1) (c .if1 .left))
 
--- src/lib.rt:57:1
 returns-2 : tie.Need-returns-2 Inv-loop μ-loop
-returns-2 c = 
+returns-2 c =
     let s = c .before .before in
     let l = c .before .loop in
     λ M e t. sym (lowest-none 15 (cornerCount M) (fault15 M (now (s .args .links)))

@@ -1,5 +1,7 @@
-use mathlib.Core.Path.{_≡_, ap, _∙_, sym}
-use Prim.Native.Nat.{ℕ, _+_, _≤_, _<_}
+-- Checks 14 to 17 meet their contract: each stops the chain with its fault or is passed.
+-- Assumes nothing.
+use mathlib.Core.Path.{_≡_, _∙_, sym}
+use Prim.Native.Nat.{_+_, _≤_, _<_}
 use mathlib.Core.Bool.{not}
 use lib.Dec.{eqb}
 use lib.ListN.{length}
@@ -15,12 +17,6 @@ use native.Mathlib.Omega.{arith}
 use borrow.Author.Needs.{needs}
 use Rattle.requests.proofs.check_request.Statement.{statement}
 use Rattle.requests.proofs.check_request.Tie as tie
-use Rattle.requests.proofs.check_request.Reads as reads
-use Rattle.requests.proofs.check_request.Lts as lts
-use Rattle.requests.proofs.check_length.Reads as check-length-reads
-use Rattle.requests.proofs.check_links.Reads as check-links-reads
-use Rattle.requests.proofs.check_range.Reads as check-range-reads
-use Rattle.requests.proofs.check_room.Reads as check-room-reads
 
 -- after check 14
 module _ (t : tie.After-enum-told) where
@@ -58,15 +54,12 @@ module _ (t : tie.After-enum-told3) where
   in-range : (0 < s16 .args .count) × (s16 .args .first + s16 .args .count ≤ s16 .args .corners)
   in-range = range-of _ _ _ (passed (t .before .before .check-range .result) (t .before .before .check-range .ensures) (t .enum-told3 .given .1))
 
--- src/lib.rt:31:9
 check-length-requires : tie.Need-check-length-requires
 check-length-requires c κs = search needs
 
--- src/lib.rt:32:28
 enum-known-a14 : tie.Need-enum-known-a14
 enum-known-a14 c = search needs
 
--- src/lib.rt:33:9
 returns : tie.Need-returns
 unfolding requestFaults
 returns c = λ M e t. stop (c .before .before .before .check-length .result) (as-14 M (c .before .before .before .before .before .before .args .corners) e (length (now (c .before .before .before .before .before .before .args .links))) (c .before .before .before .check-length .ensures)) (c .before .a14 .given .0 .0) (c .before .a14 .given .0 .1 .0) (c .before .a14 .given .1) _
@@ -74,50 +67,42 @@ returns c = λ M e t. stop (c .before .before .before .check-length .result) (as
 enum-told : tie.Need-enum-told
 enum-told c = search needs
 
--- src/lib.rt:35:9
 check-links-requires : tie.Need-check-links-requires
 check-links-requires c κs = omega (arith, same-length c, c .before .before .before .before .before .pre .1)
 
--- src/lib.rt:36:28
 enum-known-a15 : tie.Need-enum-known-a15
 enum-known-a15 c = search needs
 
--- src/lib.rt:37:9
 returns-2 : tie.Need-returns-2
 unfolding requestFaults
-returns-2 c = 
+returns-2 c =
     let t14 = c .before .before .before .before in
     λ M e t. past (past-14 t14 M e) _ (stop (c .before .before .before .check-links .result) (c .before .before .before .check-links .ensures M (e ∙ sym (same-length t14)) t) (c .before .a15 .given .0 .0) (c .before .a15 .given .0 .1 .0) (c .before .a15 .given .1) _)
 
 enum-told-2 : tie.Need-enum-told-2
 enum-told-2 c = search needs
 
--- src/lib.rt:39:9
 check-range-requires : tie.Need-check-range-requires
 check-range-requires c κs = search needs
 
--- src/lib.rt:40:28
 enum-known-a16 : tie.Need-enum-known-a16
 enum-known-a16 c = search needs
 
--- src/lib.rt:41:9
 returns-3 : tie.Need-returns-3
 unfolding requestFaults
-returns-3 c = 
+returns-3 c =
     let t15 = c .before .before .before .before in
     λ M e t. past (past-14 (t15 .before .before .before) M e) _ (past (past-15 t15 M e t) _ (stop (c .before .before .before .check-range .result) (as-16 M (c .before .before .before .before .before .before .before .before .before .before .before .before .args .corners) e (c .before .before .before .before .before .before .before .before .before .before .before .before .args .first) (c .before .before .before .before .before .before .before .before .before .before .before .before .args .count) (c .before .before .before .check-range .ensures)) (c .before .a16 .given .0 .0) (c .before .a16 .given .0 .1 .0) (c .before .a16 .given .1) _))
 
 enum-told-3 : tie.Need-enum-told-3
 enum-told-3 c = search needs
 
--- src/lib.rt:43:5
 check-room-requires : tie.Need-check-room-requires
 check-room-requires c κs = omega (arith, in-range c .1, c .before .before .before .before .before .before .before .before .before .before .before .pre .0)
 
--- src/lib.rt:20:1
 returns-4 : tie.Need-returns-4
 unfolding requestFaults
-returns-4 c = 
+returns-4 c =
     let t16 = c .before in
     let t15 = t16 .before .before .before in
     λ M e t. past (past-14 (t15 .before .before .before) M e) _ (past (past-15 t15 M e t) _ (past (past-16 t16 M e) _ (c .check-room .ensures)))

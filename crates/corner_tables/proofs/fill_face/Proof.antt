@@ -1,46 +1,39 @@
-use mathlib.Core.Path.{_≡_, refl, ap, _∙_, sym, subst}
+-- One face meets its contract: the corners below `c` are filled, and `last` is the corner before `c`, at first the face's last.
+-- Assumes nothing.
+use Rattle.mesh.specs.Limits.{mostCorners}
+use mathlib.Core.Path.{_≡_, _∙_, sym, subst}
 use Prim.Native.Nat.{ℕ, _+_, _≤_, _<_, _-_}
-use lib.ListN.{length, getD, set, length-set, length-replicate, replicate}
+use lib.ListN.{length, getD, length-set}
 use denote.Ref.{now}
-use Rattle.mesh.specs.Scan.{countBelow}
-use Rattle.mesh.specs.Corners.{sidesOf, startOf, previous}
-use Rattle.mesh.specs.Links.{vertexOf, names, valence}
-use Rattle.mesh.proofs.Faces.{start-zero, start-next, start-ends, start-all}
-use Rattle.mesh.proofs.Rings.{count-le}
-use Rattle.refine.specs.Tables.{Filled, FaceTables, Faces, Vertices}
-use Rattle.refine.proofs.Laws.{sides-is, previous-start, previous-later, tables-set, counted-none, counted-set, tables-none, count-grows, filled-set}
+use Rattle.mesh.specs.Corners.{startOf, previous}
+use Rattle.mesh.proofs.Faces.{start-next, start-ends}
+use Rattle.corner_tables.specs.Tables.{FaceTables}
+use Rattle.corner_tables.proofs.Laws.{sides-is, previous-start, previous-later, tables-set}
 use native.Mathlib.Omega.{arith}
 use borrow.Author.Needs.{needs}
-use Rattle.refine.proofs.fill_face.Statement.{statement}
-use Rattle.refine.proofs.fill_face.Tie as tie
-use Rattle.refine.proofs.fill_face.Reads as reads
-use Rattle.refine.proofs.fill_face.Lts as lts
+use Rattle.corner_tables.proofs.fill_face.Statement.{statement}
+use Rattle.corner_tables.proofs.fill_face.Tie as tie
 
 abbrev Inv-loop : tie.InvT-loop
-Inv-loop sides f start previouses₀ counts₀ n end last₀ c₀ previouses counts last c = (start ≤ c) × (c ≤ end) × (end ≤ 8192) × (last < 8192) × (c < end → last ≡ previous sides c) × (length previouses ≡ 8192) × (length counts ≡ 8192) × FaceTables sides previouses counts c
+Inv-loop sides f start previouses₀ counts₀ n end last₀ c₀ previouses counts last c = (start ≤ c) × (c ≤ end) × (end ≤ mostCorners) × (last < mostCorners) × (c < end → last ≡ previous sides c) × (length previouses ≡ mostCorners) × (length counts ≡ mostCorners) × FaceTables sides previouses counts c
 
 abbrev μ-loop : tie.MeasureT-loop
 μ-loop sides f start previouses₀ counts₀ n end last₀ c₀ previouses counts last c = end - c
 
--- src/lib.rt:26:13
 shared-slice-read-n : tie.Need-shared-slice-read-n Inv-loop μ-loop
 shared-slice-read-n c = search needs
 
--- src/lib.rt:27:23
 cast-end : tie.Need-cast-end Inv-loop μ-loop
 cast-end c = omega (arith, c .shared-slice-known .given (c .before .args .f))
 
--- src/lib.rt:27:15
 add-end : tie.Need-add-end Inv-loop μ-loop
 add-end c = omega (arith, c .shared-slice-known .given (c .before .args .f), start-ends (now (c .before .args .sides)) (c .before .args .f) (c .before .pre .1 .0 .0), c .before .pre .0 .few)
 
--- src/lib.rt:28:20
 sub-last : tie.Need-sub-last Inv-loop μ-loop
 sub-last c = omega (arith, c .before .pre .0 .least (c .before .args .f) (c .before .pre .1 .0 .0))
 
--- src/lib.rt:30:5
 loop-holds : tie.Need-loop-holds Inv-loop μ-loop
-loop-holds c = 
+loop-holds c =
     let s = c .before in
     let l = s .pre .1 .0 .0 in
     let e = start-ends (now (s .args .sides)) (s .args .f) l in
@@ -55,33 +48,26 @@ loop-holds c =
       rw (s .pre .1 .0 .1) (s .pre .1 .1 .1),
     )
 
--- src/lib.rt:31:25
 cast-previouses : tie.Need-cast-previouses Inv-loop μ-loop
 cast-previouses c = search needs
 
--- src/lib.rt:31:9
 mul-previouses : tie.Need-mul-previouses Inv-loop μ-loop
 mul-previouses c = omega arith
 
--- src/lib.rt:31:9
 slice-write-previouses : tie.Need-slice-write-previouses Inv-loop μ-loop
 slice-write-previouses c = omega arith
 
--- src/lib.rt:32:9
 slice-write-counts : tie.Need-slice-write-counts Inv-loop μ-loop
 slice-write-counts c = omega arith
 
--- src/lib.rt:34:9
 add-c : tie.Need-add-c Inv-loop μ-loop
 add-c c = omega arith
 
--- src/lib.rt:30:5
 loop-less : tie.Need-loop-less Inv-loop μ-loop
 loop-less c = search needs
 
--- src/lib.rt:30:5
 loop-again : tie.Need-loop-again Inv-loop μ-loop
-loop-again c = 
+loop-again c =
     let s = c .before .before .before in
     let l = c .before .loop in
     let h = s .pre .1 .0 .0 in
@@ -97,17 +83,14 @@ loop-again c =
           (l .inv .4 (c .loop-test .taken)) (sym (sides-is (now (s .args .sides)) (s .args .f) h (l .c) (omega arith) (omega arith))),
     )
 
--- src/lib.rt:19:1
 same-length : tie.Need-same-length Inv-loop μ-loop
 same-length c = search needs
 
--- src/lib.rt:19:1
 same-length-2 : tie.Need-same-length-2 Inv-loop μ-loop
 same-length-2 c = search needs
 
--- src/lib.rt:19:1
 returns : tie.Need-returns Inv-loop μ-loop
-returns c = 
+returns c =
     let s = c .before .before .before in
     let l = c .before .loop in
     subst (λ (n : ℕ). FaceTables (now (s .args .sides)) (l .previouses) (l .counts) n)
