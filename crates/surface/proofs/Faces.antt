@@ -1,0 +1,280 @@
+-- One refined face: where its ring starts does not matter, and how far three neighbouring face points are from the rule of the cosine table.
+-- Of rounding it is used that it is off by at most half; of the table its fourth rule, that C(m,1) is not below -1/2, and that row 4 is exact.
+-- Assumes nothing.
+use mathlib.Core.Path.{_≡_, refl, sym, ap, _∙_}
+use mathlib.Core.Logic.{_⊎_, ⊎-elim}
+use Prim.Native.Nat.{ℕ, zero, suc, _+_, _-_, _*_, _^_, _<_, _≤_}
+use native.Mathlib.Omega.{arith}
+use lib.IntN.{ℤ, pos, _+ℤ_, _-ℤ_, _*ℤ_, negℤ, natAbs}
+use lib.Signed.{_<ℤ_, _≤ℤ_}
+use Rattle.integers.specs.Sum.{sum}
+use Rattle.integers.proofs.Poly.{over, poly}
+use Rattle.integers.proofs.Diff.{diff}
+use Rattle.integers.proofs.Laws.{abs-mul-le, mul-le, lt-or-ge, nonneg}
+use Rattle.integers.proofs.Sum.{sum-same, sum-abs, cycle, cycle-one, Cyclic}
+use Rattle.rounding.specs.Round.{round, Near}
+use Rattle.rounding.proofs.Laws.{round-near}
+use Rattle.mesh.specs.Limits.{leastSides, mostSides}
+use Rattle.cosines.specs.Table.{cosine}
+use Rattle.cosines.specs.Rules.{rest}
+use Rattle.cosines.proofs.Rules.{rules, period, cosine-size, bottom, exact, quarter}
+use Rattle.surface.specs.Face.{weight, centre, toward}
+use Rattle.surface.proofs.Within.{Within, within-times, within-cancel, abs-within, positive}
+
+-- ---- where the ring starts
+pub toward-same : (p q : ℕ → ℤ) (m i j : ℕ) → ((k : ℕ) → k < m → p (i + k) ≡ q (j + k)) → toward p m i ≡ toward q m j
+unfolding toward
+toward-same p q m i j h =
+    ap (λ (z : ℤ). round z (pos (3 * 2 ^ 30) *ℤ pos m))
+    (sum-same (λ k. p (i + k) *ℤ weight m k) (λ k. q (j + k) *ℤ weight m k) m (λ k l. ap (λ (z : ℤ). z *ℤ weight m k) (h k l)))
+
+pub centre-same : (p q : ℕ → ℤ) (m s : ℕ) → Cyclic p m → ((j : ℕ) → j < m → q j ≡ p (j + s)) → centre q m ≡ centre p m
+unfolding centre
+centre-same p q m s cyc h = ap (λ (z : ℤ). round z (pos m)) (sum-same q (λ j. p (j + s)) m h ∙ cycle p m cyc s)
+
+-- ---- each is the rounding of its sum
+gather : (ℕ → ℤ) → ℕ → ℕ → ℤ
+gather p m i = sum (λ k. p (i + k) *ℤ weight m k) m
+
+pub toward-near : (p : ℕ → ℤ) (m i : ℕ) → 0 < m → Near (sum (λ k. p (i + k) *ℤ weight m k) m) (pos (3 * 2 ^ 30) *ℤ pos m) (toward p m i)
+unfolding toward
+toward-near p m i h = round-near _ _ (some m h)
+  where
+    some : (m : ℕ) → 0 < m → pos 0 <ℤ (pos (3 * 2 ^ 30) *ℤ pos m)
+    some m h = simp diff (omega arith)
+
+pub centre-near : (p : ℕ → ℤ) (m : ℕ) → 0 < m → Near (sum p m) (pos m) (centre p m)
+unfolding centre
+centre-near p m h = round-near _ _ (positive m h)
+
+-- ---- sums
+weight-period : (m k : ℕ) → weight m (k + m) ≡ weight m k
+unfolding weight
+weight-period m k = cc (period m k, ap (cosine m) (turn m k), period m (k + (m - 1)))
+  where
+    turn : (m k : ℕ) → k + m + (m - 1) ≡ k + (m - 1) + m
+    turn m k = omega arith
+
+-- the paper's own numbering: the sum over j of V[j] · (3·2^30 + 2C(m,k) + 2C(m,k-1)) with k = j - i, read modulo m
+pub toward-by-place : (p : ℕ → ℤ) (m i : ℕ) → i ≤ m → Cyclic p m
+    → toward p m i ≡ round (sum (λ j. p j *ℤ weight m (j + (m - i))) m) (pos (3 * 2 ^ 30) *ℤ pos m)
+unfolding toward
+toward-by-place p m i l cyc =
+    ap (λ (z : ℤ). round z (pos (3 * 2 ^ 30) *ℤ pos m))
+    (sum-same (λ k. p (i + k) *ℤ weight m k) (λ k. p (k + i) *ℤ weight m (k + i + (m - i))) m
+    (λ k h. cc (ap p (swapped k), ap (weight m) (whole k), weight-period m k))
+    ∙ cycle (λ j. p j *ℤ weight m (j + (m - i))) m (λ j. cc (cyc j, ap (weight m) (later j), weight-period m (j + (m - i)))) i)
+  where
+    swapped : (k : ℕ) → i + k ≡ k + i
+    swapped k = omega arith
+
+    whole : (k : ℕ) → k + i + (m - i) ≡ k + m
+    whole k = omega arith
+
+    later : (j : ℕ) → j + m + (m - i) ≡ j + (m - i) + m
+    later j = omega arith
+
+combine : (f g p q r : ℕ → ℤ) (a b c : ℤ) (n : ℕ) → ((k : ℕ) → r k ≡ a *ℤ (f k +ℤ g k) -ℤ b *ℤ p k -ℤ c *ℤ q k)
+    → sum r n ≡ a *ℤ (sum f n +ℤ sum g n) -ℤ b *ℤ sum p n -ℤ c *ℤ sum q n
+unfolding sum
+combine f g p q r a b c zero h = none a b c
+  where
+    none : (a b c : ℤ) → pos 0 ≡ a *ℤ (pos 0 +ℤ pos 0) -ℤ b *ℤ pos 0 -ℤ c *ℤ pos 0
+    none = over 3 _ λ ρ. simp (poly, ρ) (omega arith)
+combine f g p q r a b c (suc n) h =
+    more a b c (sum f n) (sum g n) (sum p n) (sum q n) (sum r n) (f n) (g n) (p n) (q n) (r n) (combine f g p q r a b c n h) (h n)
+  where
+    more : (a b c sf sg sp sq sr f g p q r : ℤ) → sr ≡ a *ℤ (sf +ℤ sg) -ℤ b *ℤ sp -ℤ c *ℤ sq → r ≡ a *ℤ (f +ℤ g) -ℤ b *ℤ p -ℤ c *ℤ q
+        → sr +ℤ r ≡ a *ℤ ((sf +ℤ f) +ℤ (sg +ℤ g)) -ℤ b *ℤ (sp +ℤ p) -ℤ c *ℤ (sq +ℤ q)
+    more = over 13 _ λ ρ. simp poly (omega arith)
+
+-- what a point v leaves over by the rests r and s of the recurrence at k and at k - 1
+abbrev Left : ℤ → ℤ → ℤ → ℤ
+Left v r s = v *ℤ (pos 2 *ℤ r +ℤ pos 2 *ℤ s)
+
+module _ (p : ℕ → ℤ) (m : ℕ) (some : leastSides ≤ m) (cyc : Cyclic p m) (i : ℕ) where
+  -- the sums of the face points after and before the i-th, with the ring as the i-th has it
+  after : gather p m (i + 1) ≡ sum (λ k. p (i + k) *ℤ weight m (k + (m - 1))) m
+  unfolding gather
+  after =
+      sum-same (λ k. p (i + 1 + k) *ℤ weight m k) (λ k. p (i + (k + 1)) *ℤ weight m (k + 1 + (m - 1))) m
+      (λ k l. cc (ap p (turn1 k), ap (weight m) (turn2 k), weight-period m k))
+      ∙ cycle-one (λ k. p (i + k) *ℤ weight m (k + (m - 1))) m
+      (λ k. cc (ap p (turn3 k), cyc (i + k), ap (weight m) (turn4 k), weight-period m (k + (m - 1))))
+    where
+      turn1 : (k : ℕ) → i + 1 + k ≡ i + (k + 1)
+      turn1 k = omega arith
+
+      turn2 : (k : ℕ) → k + 1 + (m - 1) ≡ k + m
+      turn2 k = omega arith
+
+      turn3 : (k : ℕ) → i + (k + m) ≡ i + k + m
+      turn3 k = omega arith
+
+      turn4 : (k : ℕ) → k + m + (m - 1) ≡ k + (m - 1) + m
+      turn4 k = omega arith
+
+  before : gather p m (i + (m - 1)) ≡ sum (λ k. p (i + k) *ℤ weight m (k + 1)) m
+  unfolding gather
+  before =
+      sym (cycle-one (λ k. p (i + (m - 1) + k) *ℤ weight m k) m (λ k. cc (ap p (turn1 k), cyc (i + (m - 1) + k), weight-period m k)))
+      ∙ sum-same (λ k. p (i + (m - 1) + (k + 1)) *ℤ weight m (k + 1)) (λ k. p (i + k) *ℤ weight m (k + 1)) m (λ k l. cc (ap p (turn2 k), cyc (i + k)))
+    where
+      turn1 : (k : ℕ) → i + (m - 1) + (k + m) ≡ i + (m - 1) + k + m
+      turn1 k = omega arith
+
+      turn2 : (k : ℕ) → i + (m - 1) + (k + 1) ≡ i + k + m
+      turn2 k = omega arith
+
+  total : sum (λ k. p (i + k)) m ≡ sum p m
+  total = sum-same (λ k. p (i + k)) (λ k. p (k + i)) m (λ k l. ap p (turn k)) ∙ cycle p m cyc i
+    where
+      turn : (k : ℕ) → i + k ≡ k + i
+      turn k = omega arith
+
+  leftOver : ℕ → ℤ
+  leftOver k = Left (p (i + k)) (rest m k) (rest m (k + (m - 1)))
+
+  one : (k : ℕ) → leftOver k
+      ≡ pos (2 ^ 30) *ℤ (p (i + k) *ℤ weight m (k + (m - 1)) +ℤ p (i + k) *ℤ weight m (k + 1))
+      -ℤ pos (6 * 2 ^ 30) *ℤ (pos (2 ^ 30) -ℤ cosine m 1) *ℤ p (i + k)
+      -ℤ pos 2 *ℤ cosine m 1 *ℤ (p (i + k) *ℤ weight m k)
+  unfolding leftOver weight
+  one k =
+      terms (p (i + k)) (cosine m (k + 1)) (cosine m k) (cosine m (k + (m - 1))) (cosine m (k + (m - 1) + (m - 1))) (cosine m 1)
+      (cosine m (k + (m - 1) + 1)) (cosine m (k + 1 + (m - 1)))
+      (ap (cosine m) (turn1 k) ∙ period m k) (ap (cosine m) (turn2 k) ∙ period m k)
+    where
+      turn1 : (k : ℕ) → k + (m - 1) + 1 ≡ k + m
+      turn1 k = omega arith
+
+      turn2 : (k : ℕ) → k + 1 + (m - 1) ≡ k + m
+      turn2 k = omega arith
+
+      terms : (v a b c d e b1 b2 : ℤ) → b1 ≡ b → b2 ≡ b
+          → Left v (pos (2 ^ 30) *ℤ (a +ℤ c) -ℤ pos 2 *ℤ e *ℤ b) (pos (2 ^ 30) *ℤ (b1 +ℤ d) -ℤ pos 2 *ℤ e *ℤ c)
+          ≡ pos (2 ^ 30) *ℤ (v *ℤ (pos (3 * 2 ^ 30) +ℤ pos 2 *ℤ c +ℤ pos 2 *ℤ d) +ℤ v *ℤ (pos (3 * 2 ^ 30) +ℤ pos 2 *ℤ a +ℤ pos 2 *ℤ b2))
+          -ℤ pos (6 * 2 ^ 30) *ℤ (pos (2 ^ 30) -ℤ e) *ℤ v
+          -ℤ pos 2 *ℤ e *ℤ (v *ℤ (pos (3 * 2 ^ 30) +ℤ pos 2 *ℤ b +ℤ pos 2 *ℤ c))
+      terms v a b c d e b1 b2 h1 h2 = rw (h1, h2) (plain v a b c d e)
+        where
+          plain : (v a b c d e : ℤ)
+              → Left v (pos (2 ^ 30) *ℤ (a +ℤ c) -ℤ pos 2 *ℤ e *ℤ b) (pos (2 ^ 30) *ℤ (b +ℤ d) -ℤ pos 2 *ℤ e *ℤ c)
+              ≡ pos (2 ^ 30) *ℤ (v *ℤ (pos (3 * 2 ^ 30) +ℤ pos 2 *ℤ c +ℤ pos 2 *ℤ d) +ℤ v *ℤ (pos (3 * 2 ^ 30) +ℤ pos 2 *ℤ a +ℤ pos 2 *ℤ b))
+              -ℤ pos (6 * 2 ^ 30) *ℤ (pos (2 ^ 30) -ℤ e) *ℤ v
+              -ℤ pos 2 *ℤ e *ℤ (v *ℤ (pos (3 * 2 ^ 30) +ℤ pos 2 *ℤ b +ℤ pos 2 *ℤ c))
+          plain = over 6 _ λ ρ. simp (poly, ρ) (omega arith)
+
+  -- what the three sums and the sum of the points leave over
+  combined : sum leftOver m
+      ≡ pos (2 ^ 30) *ℤ (gather p m (i + 1) +ℤ gather p m (i + (m - 1)))
+      -ℤ pos (6 * 2 ^ 30) *ℤ (pos (2 ^ 30) -ℤ cosine m 1) *ℤ sum p m
+      -ℤ pos 2 *ℤ cosine m 1 *ℤ gather p m i
+  unfolding gather
+  combined = rw (after, before, ← total)
+      (combine (λ k. p (i + k) *ℤ weight m (k + (m - 1))) (λ k. p (i + k) *ℤ weight m (k + 1)) (λ k. p (i + k)) (λ k. p (i + k) *ℤ weight m k) leftOver
+      (pos (2 ^ 30)) (pos (6 * 2 ^ 30) *ℤ (pos (2 ^ 30) -ℤ cosine m 1)) (pos 2 *ℤ cosine m 1) m one)
+
+  left-over-size : (R : ℕ) → ((k : ℕ) → natAbs (rest m k) ≤ R) → ((j : ℕ) → natAbs (p j) ≤ 2 ^ 24) → natAbs (sum leftOver m) ≤ m * (2 ^ 24 * (4 * R))
+  unfolding leftOver
+  left-over-size R h l =
+      sum-abs leftOver m (2 ^ 24 * (4 * R))
+      (λ k n. abs-mul-le (p (i + k)) (pos 2 *ℤ rest m k +ℤ pos 2 *ℤ rest m (k + (m - 1))) (2 ^ 24) (4 * R) (l (i + k))
+      (twice (rest m k) (rest m (k + (m - 1))) (h k) (h (k + (m - 1)))))
+    where
+      twice : (a b : ℤ) → natAbs a ≤ R → natAbs b ≤ R → natAbs (pos 2 *ℤ a +ℤ pos 2 *ℤ b) ≤ 4 * R
+      twice = over 2 _ λ ρ. simp (poly, ρ) (omega arith)
+
+-- ---- from the sums to the rounded points
+-- 2^30 (X* + X^) - 2 (2^30 - C) H - 2 C X: how far a face point's two neighbours are from the rule
+abbrev pub Defect : ℤ → ℤ → ℤ → ℤ → ℤ → ℤ
+Defect C H X X* X^ = pos (2 ^ 30) *ℤ (X* +ℤ X^) -ℤ pos 2 *ℤ (pos (2 ^ 30) -ℤ C) *ℤ H -ℤ pos 2 *ℤ C *ℤ X
+
+-- M stands for m; F, G, U for the sums of a face point, of the next and of the one before; P for the sum of the points; L for what is left over
+abbrev Rounded : ℤ → ℤ → ℤ → ℤ → ℤ → ℤ → ℤ → ℤ → ℤ → ℤ → Type 0
+Rounded S3 M C S G U P H X* X^ = Near G (S3 *ℤ M) X* × Near U (S3 *ℤ M) X^ × Within ((S -ℤ C) *ℤ (pos 2 *ℤ (M *ℤ H -ℤ P))) ((S -ℤ C) *ℤ M)
+
+core-up : (M C F G U P L H X X* X^ B : ℤ) → Rounded (pos (3 * 2 ^ 30)) M C (pos (2 ^ 30)) G U P H X* X^
+    → Within (C *ℤ (pos 2 *ℤ (pos (3 * 2 ^ 30) *ℤ M *ℤ X -ℤ F))) (C *ℤ (pos (3 * 2 ^ 30) *ℤ M))
+    → L ≡ pos (2 ^ 30) *ℤ (G +ℤ U) -ℤ pos (6 * 2 ^ 30) *ℤ (pos (2 ^ 30) -ℤ C) *ℤ P -ℤ pos 2 *ℤ C *ℤ F
+    → Within L (M *ℤ (pos (3 * 2 ^ 30) *ℤ B))
+    → Within (M *ℤ Defect C H X X* X^) (M *ℤ (pos (2 * 2 ^ 30) +ℤ B))
+core-up = over 12 _ λ ρ. simp (poly, ρ) (omega arith)
+
+core-down : (M C F G U P L H X X* X^ B : ℤ) → Rounded (pos (3 * 2 ^ 30)) M C (pos (2 ^ 30)) G U P H X* X^
+    → Within (negℤ C *ℤ (pos 2 *ℤ (pos (3 * 2 ^ 30) *ℤ M *ℤ X -ℤ F))) (negℤ C *ℤ (pos (3 * 2 ^ 30) *ℤ M))
+    → L ≡ pos (2 ^ 30) *ℤ (G +ℤ U) -ℤ pos (6 * 2 ^ 30) *ℤ (pos (2 ^ 30) -ℤ C) *ℤ P -ℤ pos 2 *ℤ C *ℤ F
+    → Within L (M *ℤ (pos (3 * 2 ^ 30) *ℤ B))
+    → (M *ℤ negℤ (pos (2 ^ 29))) ≤ℤ (M *ℤ C)
+    → Within (M *ℤ Defect C H X X* X^) (M *ℤ (pos (3 * 2 ^ 30) +ℤ B))
+core-down = over 12 _ λ ρ. simp (poly, ρ) (omega arith)
+
+below-room : (C : ℤ) → natAbs C ≤ 2 ^ 30 → pos 0 ≤ℤ (pos (2 ^ 30) -ℤ C)
+below-room = over 1 _ λ ρ. simp (poly, ρ) (omega arith)
+
+minus-room : (C : ℤ) → C <ℤ pos 0 → pos 0 ≤ℤ negℤ C
+minus-room = over 1 _ λ ρ. simp (poly, ρ) (omega arith)
+
+wider : (D B : ℤ) → Within D (pos (2 * 2 ^ 30) +ℤ B) → Within D (pos (3 * 2 ^ 30) +ℤ B)
+wider = over 2 _ λ ρ. simp (poly, ρ) (omega arith)
+
+module _ (M C F G U P L H X X* X^ B : ℤ) (some : pos 0 <ℤ M) (top : natAbs C ≤ 2 ^ 30)
+    (near-X : Near F (pos (3 * 2 ^ 30) *ℤ M) X) (near-X* : Near G (pos (3 * 2 ^ 30) *ℤ M) X*) (near-X^ : Near U (pos (3 * 2 ^ 30) *ℤ M) X^)
+    (near-H : Near P M H)
+    (sums : L ≡ pos (2 ^ 30) *ℤ (G +ℤ U) -ℤ pos (6 * 2 ^ 30) *ℤ (pos (2 ^ 30) -ℤ C) *ℤ P -ℤ pos 2 *ℤ C *ℤ F)
+    (left : Within L (M *ℤ (pos (3 * 2 ^ 30) *ℤ B))) where
+  rounded : Rounded (pos (3 * 2 ^ 30)) M C (pos (2 ^ 30)) G U P H X* X^
+  rounded = (near-X*, near-X^, within-times (pos (2 ^ 30) -ℤ C) (pos 2 *ℤ (M *ℤ H -ℤ P)) M (below-room C top) near-H)
+
+  -- C not below 0
+  up : pos 0 ≤ℤ C → Within (Defect C H X X* X^) (pos (2 * 2 ^ 30) +ℤ B)
+  up h =
+      within-cancel M (Defect C H X X* X^) (pos (2 * 2 ^ 30) +ℤ B) some
+      (core-up M C F G U P L H X X* X^ B rounded
+      (within-times C (pos 2 *ℤ (pos (3 * 2 ^ 30) *ℤ M *ℤ X -ℤ F)) (pos (3 * 2 ^ 30) *ℤ M) h near-X) sums left)
+
+  -- C below 0, and not below -1/2
+  down : negℤ (pos (2 ^ 29)) ≤ℤ C → pos 0 ≤ℤ M → C <ℤ pos 0 → Within (Defect C H X X* X^) (pos (3 * 2 ^ 30) +ℤ B)
+  down low n h =
+      within-cancel M (Defect C H X X* X^) (pos (3 * 2 ^ 30) +ℤ B) some
+      (core-down M C F G U P L H X X* X^ B rounded
+      (within-times (negℤ C) (pos 2 *ℤ (pos (3 * 2 ^ 30) *ℤ M *ℤ X -ℤ F)) (pos (3 * 2 ^ 30) *ℤ M) (minus-room C h) near-X) sums left
+      (mul-le M (negℤ (pos (2 ^ 29))) C n low))
+
+  either-way : negℤ (pos (2 ^ 29)) ≤ℤ C → pos 0 ≤ℤ M → Within (Defect C H X X* X^) (pos (3 * 2 ^ 30) +ℤ B)
+  either-way low n = ⊎-elim (down low n) (λ h. wider (Defect C H X X* X^) B (up h)) (lt-or-ge C (pos 0))
+
+-- the head's rule: 3 for rounding, and 1/16 for the table
+abbrev pub HeadRule : ℤ → ℤ → ℤ → ℤ → ℤ → Type 0
+HeadRule C H X X* X^ = Within (Defect C H X X* X^) (pos (3 * 2 ^ 30) +ℤ pos (2 ^ 26))
+
+module _ (p : ℕ → ℤ) (m : ℕ) (some : leastSides ≤ m) (most : m ≤ mostSides) (cyc : Cyclic p m) (small : (j : ℕ) → natAbs (p j) ≤ 2 ^ 24) (i : ℕ) where
+  pub head-defect : HeadRule (cosine m 1) (centre p m) (toward p m i) (toward p m (i + 1)) (toward p m (i + (m - 1)))
+  unfolding gather
+  head-defect =
+      let here : 0 < m = omega arith in
+      either-way (pos m) (cosine m 1) (gather p m i) (gather p m (i + 1)) (gather p m (i + (m - 1))) (sum p m) (sum (leftOver p m some cyc i) m)
+      (centre p m) (toward p m i) (toward p m (i + 1)) (toward p m (i + (m - 1))) (pos (2 ^ 26))
+      (positive m here) (cosine-size m some most 1)
+      (toward-near p m i here) (toward-near p m (i + 1) here) (toward-near p m (i + (m - 1)) here) (centre-near p m here)
+      (combined p m some cyc i)
+      (abs-within (sum (leftOver p m some cyc i) m) m (2 ^ 24 * (4 * (3 * 2 ^ 30))) (left-over-size p m some cyc i (3 * 2 ^ 30) (rules m some most .recurs) small))
+      (bottom m some most) (nonneg m)
+
+-- the tail's rule: the row of four sides is exact
+abbrev pub TailRule : ℤ → ℤ → ℤ → ℤ → Type 0
+TailRule T Y Y* Y^ = Within (Defect (pos 0) T Y Y* Y^) (pos (2 * 2 ^ 30) +ℤ pos 0)
+
+module _ (p : ℕ → ℤ) (cyc : Cyclic p 4) (small : (j : ℕ) → natAbs (p j) ≤ 2 ^ 24) (i : ℕ) where
+  pub tail-defect : TailRule (centre p 4) (toward p 4 i) (toward p 4 (i + 1)) (toward p 4 (i + 3))
+  unfolding gather
+  tail-defect =
+      let some : leastSides ≤ 4 = omega arith in
+      let here : 0 < 4 = omega arith in
+      let none : (k : ℕ) → natAbs (rest 4 k) ≤ 0 = λ k. rw (exact k) (omega arith) in
+      up (pos 4) (pos 0) (gather p 4 i) (gather p 4 (i + 1)) (gather p 4 (i + 3)) (sum p 4) (sum (leftOver p 4 some cyc i) 4)
+      (centre p 4) (toward p 4 i) (toward p 4 (i + 1)) (toward p 4 (i + 3)) (pos 0)
+      (positive 4 here) (omega arith) (toward-near p 4 i here) (toward-near p 4 (i + 1) here) (toward-near p 4 (i + 3) here) (centre-near p 4 here)
+      (rw quarter at (combined p 4 some cyc i))
+      (abs-within (sum (leftOver p 4 some cyc i) 4) 4 0 (left-over-size p 4 some cyc i 0 none small))
+      (nonneg 0)

@@ -1,0 +1,4 @@
+pub mod Within
+pub mod Rings
+pub mod Faces
+pub mod Border
