@@ -1,4 +1,13 @@
+-- Laws of the construction.
+--     Within      bounds on both sides of zero
+--     Rings       the refined faces round a corner as rings
+--     Faces       centre and face points of one refined face, and the table's rule among them
+--     Border      what the two sides of a border have in common, and the two rules across it
+--     Roundings   each value is off by at most half
+--     Sizes       every value, every sum before a division and every written number
 pub mod Within
 pub mod Rings
 pub mod Faces
 pub mod Border
+pub mod Roundings
+pub mod Sizes

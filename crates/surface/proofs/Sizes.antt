@@ -1,0 +1,306 @@
+-- Sizes at a corner of an accepted mesh: the ends, the face points, the inner points and all 41 points, and the sums before each division.
+-- The weights of a face point add up, signs dropped, to at most 10/9 of its divisor: one computed test over all rows (`heavy`).
+-- Assumes nothing.
+use mathlib.Core.Path.{_≡_, refl, subst}
+use mathlib.Core.Bool.{Bool}
+use mathlib.Core.List.{List, [], _∷_}
+use Prim.Native.Nat.{ℕ, zero, suc, _+_, _-_, _*_, _^_, _<_, _≤_}
+use native.Mathlib.Omega.{arith}
+use lib.ListN.{getD}
+use lib.IntN.{ℤ, pos, _+ℤ_, _-ℤ_, _*ℤ_, negℤ, natAbs}
+use lib.Signed.{leZ, _<ℤ_, _≤ℤ_}
+use Rattle.integers.specs.Sum.{sum}
+use Rattle.integers.proofs.Diff.{as-diff, diff}
+use Rattle.integers.proofs.Poly.{over, poly}
+use Rattle.integers.proofs.Laws.{abs-mul-le}
+use Rattle.integers.proofs.Sum.{sum-abs}
+use Rattle.integers.proofs.Below.{below-at}
+use Rattle.rounding.specs.Round.{round, Near}
+use Rattle.rounding.proofs.Laws.{near-is}
+use Rattle.mesh.specs.Limits.{leastSides, mostSides}
+use Rattle.cosines.specs.Table.{lastRow, table, cosine}
+use Rattle.cosines.proofs.Rules.{bottom, cosine-size}
+use Rattle.surface.specs.Corners.{Corners, Sound}
+use Rattle.surface.specs.Face.{weight, centre, toward}
+use Rattle.surface.specs.Net.{Side, side0, side1, side2, side3, head, tail, neighbour, atHead, atTail, opposite, size, headPlace, tailPlace, points, H, T, X, Y, N, C, outer1, outer2, outer3, a0, a1, a2, a3, middle, bHead, bTail, aHead, aTail, b22, bGrid, aGrid, net}
+use Rattle.surface.proofs.Within.{Within, within-cancel, abs-within, positive}
+use Rattle.surface.proofs.Faces.{toward-near, centre-near}
+use Rattle.surface.proofs.Rings.{neighbour-in, points-small, size-least, size-most}
+use Rattle.surface.proofs.Roundings.{SecondRow, ThirdRow, secondSum, thirdSum, near-outer1, near-outer2, near-outer3, near-N, near-a0, near-a1, near-a2, near-a3, near-middle}
+
+-- ---- the weights of a row
+heavy-test : ℕ → Bool
+heavy-test a = leZ (pos 3 *ℤ sum (λ k. pos (natAbs (weight (a + leastSides) k))) (a + leastSides)) (pos (10 * 2 ^ 30) *ℤ pos (a + leastSides))
+
+heavy : (m : ℕ) → leastSides ≤ m → m ≤ mostSides → (pos 3 *ℤ sum (λ k. pos (natAbs (weight m k))) m) ≤ℤ (pos (10 * 2 ^ 30) *ℤ pos m)
+unfolding table cosine weight sum heavy-test
+heavy m low high =
+    subst (λ (n : ℕ). (pos 3 *ℤ sum (λ k. pos (natAbs (weight n k))) n) ≤ℤ (pos (10 * 2 ^ 30) *ℤ pos n)) (let e : m - leastSides + leastSides ≡ m = omega arith in e)
+    (record { le = below-at heavy-test (lastRow - 2) tt (m - leastSides) (omega arith) })
+
+weighted : (p w : ℕ → ℤ) (B n : ℕ) → ((k : ℕ) → natAbs (p k) ≤ B) → Within (sum (λ k. p k *ℤ w k) n) (pos B *ℤ sum (λ k. pos (natAbs (w k))) n)
+unfolding sum
+weighted p w B zero h = simp diff (omega arith)
+weighted p w B (suc n) h =
+    more (sum (λ k. p k *ℤ w k) n) (sum (λ k. pos (natAbs (w k))) n) (p n *ℤ w n) (pos (natAbs (w n))) (pos B) (weighted p w B n h)
+    (abs-within (p n *ℤ w n) B (natAbs (w n)) (abs-mul-le (p n) (w n) B (natAbs (w n)) (h n) (omega arith)))
+  where
+    more : (s a x b B : ℤ) → Within s (B *ℤ a) → Within x (B *ℤ b) → Within (s +ℤ x) (B *ℤ (a +ℤ b))
+    more = over 5 _ λ ρ. simp poly (omega arith)
+
+-- ---- one refined face of points up to 2^24
+mean : (M P Q : ℤ) → Within P (M *ℤ pos (2 ^ 24)) → Near P M Q → Within (M *ℤ (pos 2 *ℤ Q)) (M *ℤ pos (2 * 2 ^ 24 + 1))
+mean = over 3 _ λ ρ. simp (poly, ρ) (omega arith)
+
+pub halve : (Q : ℤ) → Within (pos 2 *ℤ Q) (pos (2 * 2 ^ 24 + 1)) → natAbs Q ≤ 2 ^ 24
+halve = over 1 _ λ ρ. simp (poly, ρ) (omega arith)
+
+face-mean : (M G W Q : ℤ) → (pos 3 *ℤ W) ≤ℤ (pos (10 * 2 ^ 30) *ℤ M) → Within G (pos (2 ^ 24) *ℤ W) → Near G (pos (3 * 2 ^ 30) *ℤ M) Q
+    → Within (M *ℤ (pos 18 *ℤ Q)) (M *ℤ pos (20 * 2 ^ 24 + 9))
+face-mean = over 4 _ λ ρ. simp (poly, ρ) (omega arith)
+
+ninth : (Q : ℤ) → Within (pos 18 *ℤ Q) (pos (20 * 2 ^ 24 + 9)) → natAbs Q ≤ 2 ^ 24 + 2 ^ 21
+ninth = over 1 _ λ ρ. simp (poly, ρ) (omega arith)
+
+before : (G W M : ℤ) → (pos 3 *ℤ W) ≤ℤ (pos (10 * 2 ^ 30) *ℤ M) → Within G (pos (2 ^ 24) *ℤ W) → M ≤ℤ pos mostSides → natAbs G ≤ 2 ^ 60
+before = over 3 _ λ ρ. simp (poly, ρ) (omega arith)
+
+module _ (p : ℕ → ℤ) (m : ℕ) (low : leastSides ≤ m) (high : m ≤ mostSides) (small : (j : ℕ) → natAbs (p j) ≤ 2 ^ 24) where
+  pub centre-size : natAbs (centre p m) ≤ 2 ^ 24
+  centre-size =
+      let here : 0 < m = omega arith in
+      halve (centre p m) (within-cancel (pos m) (pos 2 *ℤ centre p m) (pos (2 * 2 ^ 24 + 1)) (positive m here)
+      (mean (pos m) (sum p m) (centre p m) (abs-within (sum p m) m (2 ^ 24) (sum-abs p m (2 ^ 24) (λ j l. small j))) (centre-near p m here)))
+
+  bounded : (i : ℕ) → Within (sum (λ k. p (i + k) *ℤ weight m k) m) (pos (2 ^ 24) *ℤ sum (λ k. pos (natAbs (weight m k))) m)
+  bounded i = weighted (λ k. p (i + k)) (weight m) (2 ^ 24) m (λ k. small (i + k))
+
+  pub toward-size : (i : ℕ) → natAbs (toward p m i) ≤ 2 ^ 24 + 2 ^ 21
+  toward-size i =
+      let here : 0 < m = omega arith in
+      ninth (toward p m i) (within-cancel (pos m) (pos 18 *ℤ toward p m i) (pos (20 * 2 ^ 24 + 9)) (positive m here)
+      (face-mean (pos m) (sum (λ k. p (i + k) *ℤ weight m k) m) (sum (λ k. pos (natAbs (weight m k))) m) (toward p m i)
+      (heavy m low high) (bounded i) (toward-near p m i here)))
+
+  -- the sum of a face point before its division; a weight; and the sum as far as a loop has come
+  pub gather-size : (i : ℕ) → natAbs (sum (λ k. p (i + k) *ℤ weight m k) m) ≤ 2 ^ 60
+  gather-size i =
+      before (sum (λ k. p (i + k) *ℤ weight m k) m) (sum (λ k. pos (natAbs (weight m k))) m) (pos m) (heavy m low high) (bounded i) (simp diff (omega arith))
+
+  pub weight-size : (k : ℕ) → natAbs (weight m k) ≤ 7 * 2 ^ 30
+  unfolding weight
+  weight-size k = seven (cosine m k) (cosine m (k + (m - 1))) (cosine-size m low high k) (cosine-size m low high (k + (m - 1)))
+    where
+      seven : (x y : ℤ) → natAbs x ≤ 2 ^ 30 → natAbs y ≤ 2 ^ 30 → natAbs (pos (3 * 2 ^ 30) +ℤ pos 2 *ℤ x +ℤ pos 2 *ℤ y) ≤ 7 * 2 ^ 30
+      seven = over 2 _ λ ρ. simp (poly, ρ) (omega arith)
+
+  pub so-far-size : (i n : ℕ) → n ≤ m → natAbs (sum (λ k. p (i + k) *ℤ weight m k) n) ≤ 2 ^ 61
+  so-far-size i n l =
+      let h = sum-abs (λ k. p (i + k) *ℤ weight m k) n (2 ^ 24 * (7 * 2 ^ 30))
+      (λ k q. abs-mul-le (p (i + k)) (weight m k) (2 ^ 24) (7 * 2 ^ 30) (small (i + k)) (weight-size k)) in
+      omega arith
+
+-- ---- plain integers; Q is the rounded value
+inner : (x y v w Q : ℤ) → natAbs x ≤ 2 ^ 24 + 2 ^ 21 → natAbs y ≤ 2 ^ 24 + 2 ^ 21 → natAbs v ≤ 2 ^ 24 → natAbs w ≤ 2 ^ 24
+    → Near (pos 3 *ℤ x +ℤ pos 3 *ℤ y +ℤ v -ℤ w) (pos 6) Q → natAbs Q ≤ 2 ^ 24 + 2 ^ 23
+inner = over 5 _ λ ρ. simp (poly, ρ) (omega arith)
+
+quarter-of : (h x Q : ℤ) → natAbs h ≤ 2 ^ 24 → natAbs x ≤ 2 ^ 24 + 2 ^ 21 → Near (h +ℤ pos 3 *ℤ x) (pos 4) Q → natAbs Q ≤ 2 ^ 24 + 2 ^ 21
+quarter-of = over 3 _ λ ρ. simp (poly, ρ) (omega arith)
+
+quarter-to : (h x Q : ℤ) → natAbs h ≤ 2 ^ 24 → natAbs x ≤ 2 ^ 24 + 2 ^ 21 → Near (pos 3 *ℤ x +ℤ h) (pos 4) Q → natAbs Q ≤ 2 ^ 24 + 2 ^ 21
+quarter-to = over 3 _ λ ρ. simp (poly, ρ) (omega arith)
+
+half-of : (k : ℕ) (x y Q : ℤ) → natAbs x ≤ k → natAbs y ≤ k → Near (x +ℤ y) (pos 2) Q → natAbs Q ≤ k
+half-of k = over 3 _ λ ρ. simp (poly, ρ) (omega arith)
+
+middle-of : (n o g l x y h t Q : ℤ) → natAbs n ≤ 2 ^ 24 + 2 ^ 23 → natAbs o ≤ 2 ^ 24 + 2 ^ 23 → natAbs g ≤ 2 ^ 24 + 2 ^ 23 → natAbs l ≤ 2 ^ 24 + 2 ^ 23
+    → natAbs x ≤ 2 ^ 24 + 2 ^ 21 → natAbs y ≤ 2 ^ 24 + 2 ^ 21 → natAbs h ≤ 2 ^ 24 → natAbs t ≤ 2 ^ 24
+    → Near (pos 14 *ℤ n +ℤ pos 2 *ℤ (o -ℤ g -ℤ l) +ℤ pos 3 *ℤ (x +ℤ y) -ℤ h -ℤ t) (pos 16) Q → natAbs Q ≤ 2 ^ 26 - 1
+middle-of = over 9 _ λ ρ. simp (poly, ρ) (omega arith)
+
+-- the sums of the second and third a points, and what they are rounded to
+second-sum : (c h x y x* n : ℤ) → natAbs (c *ℤ h) ≤ 2 ^ 30 * 2 ^ 24 → natAbs ((pos (2 ^ 30) -ℤ c) *ℤ x) ≤ 3 * 2 ^ 29 * (2 ^ 24 + 2 ^ 21)
+    → natAbs (c *ℤ y) ≤ 2 ^ 30 * (2 ^ 24 + 2 ^ 21) → natAbs x* ≤ 2 ^ 24 + 2 ^ 21 → natAbs n ≤ 2 ^ 24 + 2 ^ 23
+    → natAbs (SecondRow (pos (2 ^ 30)) (pos (2 ^ 32)) c h x y x* n) ≤ 2 ^ 58
+second-sum = over 6 _ λ ρ. simp (poly, ρ) (omega arith)
+
+third-sum : (c t y y* n : ℤ) → natAbs ((pos (3 * 2 ^ 30) -ℤ c) *ℤ y) ≤ 7 * 2 ^ 29 * (2 ^ 24 + 2 ^ 21) → natAbs (c *ℤ t) ≤ 2 ^ 30 * 2 ^ 24
+    → natAbs y* ≤ 2 ^ 24 + 2 ^ 21 → natAbs n ≤ 2 ^ 24 + 2 ^ 23
+    → natAbs (ThirdRow (pos (3 * 2 ^ 30)) (pos (2 ^ 30)) (pos (2 ^ 32)) c t y y* n) ≤ 2 ^ 58
+third-sum = over 5 _ λ ρ. simp (poly, ρ) (omega arith)
+
+eighth : (z Q : ℤ) → natAbs z ≤ 2 ^ 58 → Near z (pos (2 ^ 33)) Q → natAbs Q ≤ 2 ^ 26 - 1
+eighth = over 2 _ λ ρ. simp (poly, ρ) (omega arith)
+
+one-less : (c : ℤ) → negℤ (pos (2 ^ 29)) ≤ℤ c → natAbs c ≤ 2 ^ 30 → natAbs (pos (2 ^ 30) -ℤ c) ≤ 3 * 2 ^ 29
+one-less = over 1 _ λ ρ. simp (poly, ρ) (omega arith)
+
+three-less : (c : ℤ) → negℤ (pos (2 ^ 29)) ≤ℤ c → natAbs c ≤ 2 ^ 30 → natAbs (pos (3 * 2 ^ 30) -ℤ c) ≤ 7 * 2 ^ 29
+three-less = over 1 _ λ ρ. simp (poly, ρ) (omega arith)
+
+-- what every written number is
+abbrev pub Small : ℤ → Type 0
+Small z = natAbs z ≤ 2 ^ 26 - 1
+
+half-small : (x y : ℤ) → Small x → Small y → Small (round (x +ℤ y) (pos 2))
+half-small x y h l = half-of (2 ^ 26 - 1) x y (round (x +ℤ y) (pos 2)) h l (near-is (x +ℤ y) (pos 2) (round (x +ℤ y) (pos 2)) tt refl)
+
+-- ---- of a corner's sides
+module _ (K : Corners) (ok : Sound K) (c : ℕ) (here : c < K .count) where
+  pub H-size : (s : Side) → natAbs (H K c s) ≤ 2 ^ 24
+  unfolding H
+  H-size s =
+      centre-size (points K c (head s)) (size K c (head s)) (size-least K ok c here (head s)) (size-most K ok c here (head s)) (points-small K ok c here (head s))
+
+  pub T-size : (s : Side) → natAbs (T K c s) ≤ 2 ^ 24
+  unfolding T
+  T-size s =
+      centre-size (points K c (tail s)) (size K c (tail s)) (size-least K ok c here (tail s)) (size-most K ok c here (tail s)) (points-small K ok c here (tail s))
+
+  pub X-size : (s : Side) → natAbs (X K c s) ≤ 2 ^ 24 + 2 ^ 21
+  unfolding X
+  X-size s =
+      toward-size (points K c (head s)) (size K c (head s)) (size-least K ok c here (head s)) (size-most K ok c here (head s)) (points-small K ok c here (head s))
+      (headPlace K c s)
+
+  pub Y-size : (s : Side) → natAbs (Y K c s) ≤ 2 ^ 24 + 2 ^ 21
+  unfolding Y
+  Y-size s =
+      toward-size (points K c (tail s)) (size K c (tail s)) (size-least K ok c here (tail s)) (size-most K ok c here (tail s)) (points-small K ok c here (tail s))
+      (tailPlace s)
+
+  pub N-size : (s : Side) → natAbs (N K c s) ≤ 2 ^ 24 + 2 ^ 23
+  N-size s =
+      inner (X K c s) (Y K c s) (K .refined c) (K .refined (neighbour K c s)) (N K c s) (X-size s) (Y-size s)
+      (ok .refined-size c here) (ok .refined-size _ (neighbour-in K ok c here s)) (near-N K c s)
+
+  pub C-size : (s : Side) → natAbs (C K c s) ≤ 2 ^ 30
+  unfolding C
+  C-size s = cosine-size (size K c (head s)) (size-least K ok c here (head s)) (size-most K ok c here (head s)) 1
+
+  pub C-bottom : (s : Side) → negℤ (pos (2 ^ 29)) ≤ℤ C K c s
+  unfolding C
+  C-bottom s = bottom (size K c (head s)) (size-least K ok c here (head s)) (size-most K ok c here (head s))
+
+  -- the products of the second and third a points
+  pub CH-size : (s : Side) → natAbs (C K c s *ℤ H K c s) ≤ 2 ^ 30 * 2 ^ 24
+  CH-size s = abs-mul-le (C K c s) (H K c s) (2 ^ 30) (2 ^ 24) (C-size s) (H-size s)
+
+  pub CT-size : (s : Side) → natAbs (C K c s *ℤ T K c s) ≤ 2 ^ 30 * 2 ^ 24
+  CT-size s = abs-mul-le (C K c s) (T K c s) (2 ^ 30) (2 ^ 24) (C-size s) (T-size s)
+
+  pub CY-size : (s : Side) → natAbs (C K c s *ℤ Y K c s) ≤ 2 ^ 30 * (2 ^ 24 + 2 ^ 21)
+  CY-size s = abs-mul-le (C K c s) (Y K c s) (2 ^ 30) (2 ^ 24 + 2 ^ 21) (C-size s) (Y-size s)
+
+  -- (1 - c) X and (3 - c) Y, times 2^30
+  pub lessX-size : (s : Side) → natAbs ((pos (2 ^ 30) -ℤ C K c s) *ℤ X K c s) ≤ 3 * 2 ^ 29 * (2 ^ 24 + 2 ^ 21)
+  lessX-size s =
+      abs-mul-le (pos (2 ^ 30) -ℤ C K c s) (X K c s) (3 * 2 ^ 29) (2 ^ 24 + 2 ^ 21) (one-less (C K c s) (C-bottom s) (C-size s)) (X-size s)
+
+  pub lessY-size : (s : Side) → natAbs ((pos (3 * 2 ^ 30) -ℤ C K c s) *ℤ Y K c s) ≤ 7 * 2 ^ 29 * (2 ^ 24 + 2 ^ 21)
+  lessY-size s =
+      abs-mul-le (pos (3 * 2 ^ 30) -ℤ C K c s) (Y K c s) (7 * 2 ^ 29) (2 ^ 24 + 2 ^ 21) (three-less (C K c s) (C-bottom s) (C-size s)) (Y-size s)
+
+  pub a1-sum : (s : Side) → natAbs (secondSum K c s) ≤ 2 ^ 58
+  a1-sum s =
+      second-sum (C K c s) (H K c s) (X K c s) (Y K c s) (X K c (atHead s)) (N K c s) (CH-size s) (lessX-size s) (CY-size s) (X-size (atHead s)) (N-size s)
+
+  pub a2-sum : (s : Side) → natAbs (thirdSum K c s) ≤ 2 ^ 58
+  a2-sum s = third-sum (C K c s) (T K c s) (Y K c s) (Y K c (atTail s)) (N K c s) (lessY-size s) (CT-size s) (Y-size (atTail s)) (N-size s)
+
+  -- ---- the points
+  pub outer1-size : (s : Side) → natAbs (outer1 K c s) ≤ 2 ^ 24 + 2 ^ 21
+  outer1-size s = quarter-of (H K c s) (X K c s) (outer1 K c s) (H-size s) (X-size s) (near-outer1 K c s)
+
+  pub outer2-size : (s : Side) → natAbs (outer2 K c s) ≤ 2 ^ 24 + 2 ^ 21
+  outer2-size s = half-of (2 ^ 24 + 2 ^ 21) (X K c s) (Y K c s) (outer2 K c s) (X-size s) (Y-size s) (near-outer2 K c s)
+
+  pub outer3-size : (s : Side) → natAbs (outer3 K c s) ≤ 2 ^ 24 + 2 ^ 21
+  outer3-size s = quarter-to (T K c s) (Y K c s) (outer3 K c s) (T-size s) (Y-size s) (near-outer3 K c s)
+
+  pub a0-size : (s : Side) → natAbs (a0 K c s) ≤ 2 ^ 24 + 2 ^ 21
+  a0-size s =
+      half-of (2 ^ 24 + 2 ^ 21) (outer1 K c s) (outer1 K c (atHead s)) (a0 K c s) (outer1-size s) (outer1-size (atHead s)) (near-a0 K c s)
+
+  pub a1-size : (s : Side) → Small (a1 K c s)
+  a1-size s = eighth (secondSum K c s) (a1 K c s) (a1-sum s) (near-a1 K c s)
+
+  pub a2-size : (s : Side) → Small (a2 K c s)
+  a2-size s = eighth (thirdSum K c s) (a2 K c s) (a2-sum s) (near-a2 K c s)
+
+  pub a3-size : (s : Side) → natAbs (a3 K c s) ≤ 2 ^ 24 + 2 ^ 21
+  a3-size s =
+      half-of (2 ^ 24 + 2 ^ 21) (outer3 K c s) (outer3 K c (atTail s)) (a3 K c s) (outer3-size s) (outer3-size (atTail s)) (near-a3 K c s)
+
+  pub middle-size : (s : Side) → Small (middle K c s)
+  middle-size s =
+      middle-of (N K c s) (N K c (opposite s)) (N K c (atHead s)) (N K c (atTail s)) (X K c (atHead s)) (Y K c (atTail s)) (H K c s) (T K c s) (middle K c s)
+      (N-size s) (N-size (opposite s)) (N-size (atHead s)) (N-size (atTail s)) (X-size (atHead s)) (Y-size (atTail s)) (H-size s) (T-size s) (near-middle K c s)
+
+  pub bHead-size : (s : Side) → Small (bHead K c s)
+  unfolding bHead
+  bHead-size s = half-small (a1 K c (atHead s)) (a1 K c s) (a1-size (atHead s)) (a1-size s)
+
+  pub bTail-size : (s : Side) → Small (bTail K c s)
+  unfolding bTail
+  bTail-size s = half-small (a2 K c s) (a2 K c (atTail s)) (a2-size s) (a2-size (atTail s))
+
+  pub aHead-size : (s : Side) → Small (aHead K c s)
+  unfolding aHead
+  aHead-size s = half-small (middle K c s) (middle K c (atHead s)) (middle-size s) (middle-size (atHead s))
+
+  pub aTail-size : (s : Side) → Small (aTail K c s)
+  unfolding aTail
+  aTail-size s = half-small (middle K c s) (middle K c (atTail s)) (middle-size s) (middle-size (atTail s))
+
+  pub b22-size : Small (b22 K c)
+  unfolding b22
+  b22-size = half-small (aTail K c side0) (aTail K c side3) (aTail-size side0) (aTail-size side3)
+
+-- ---- all 41
+infixr 25 _then_
+data All : List ℤ → Type 0 where
+  none : All []
+  _then_ : {z : ℤ} {l : List ℤ} → Small z → All l → All (z ∷ l)
+
+all-at : (l : List ℤ) → All l → (j : ℕ) → Small (getD l j (pos 0))
+all-at [] none j = omega arith
+all-at (z ∷ l) (h then t) zero = h
+all-at (z ∷ l) (h then t) (suc j) = all-at l t j
+
+module _ (K : Corners) (ok : Sound K) (c : ℕ) (here : c < K .count) where
+  wide : (z : ℤ) → natAbs z ≤ 2 ^ 24 + 2 ^ 21 → Small z
+  wide z h = omega arith
+
+  all-small : All (net K c)
+  unfolding net bGrid aGrid
+  all-small =
+      let h : (s : Side) → Small (H K c s) = λ s. wide (H K c s) (omega (arith, H-size K ok c here s)) in
+      let t : (s : Side) → Small (T K c s) = λ s. wide (T K c s) (omega (arith, T-size K ok c here s)) in
+      let b1 : (s : Side) → Small (outer1 K c s) = λ s. wide (outer1 K c s) (outer1-size K ok c here s) in
+      let b2 : (s : Side) → Small (outer2 K c s) = λ s. wide (outer2 K c s) (outer2-size K ok c here s) in
+      let b3 : (s : Side) → Small (outer3 K c s) = λ s. wide (outer3 K c s) (outer3-size K ok c here s) in
+      let r0 : (s : Side) → Small (a0 K c s) = λ s. wide (a0 K c s) (a0-size K ok c here s) in
+      let r1 : (s : Side) → Small (a1 K c s) = a1-size K ok c here in
+      let r2 : (s : Side) → Small (a2 K c s) = a2-size K ok c here in
+      let r3 : (s : Side) → Small (a3 K c s) = λ s. wide (a3 K c s) (a3-size K ok c here s) in
+      let m : (s : Side) → Small (middle K c s) = middle-size K ok c here in
+      let bh : (s : Side) → Small (bHead K c s) = bHead-size K ok c here in
+      let bt : (s : Side) → Small (bTail K c s) = bTail-size K ok c here in
+      let ah : (s : Side) → Small (aHead K c s) = aHead-size K ok c here in
+      let at : (s : Side) → Small (aTail K c s) = aTail-size K ok c here in
+      h side0 then b1 side0 then b2 side0 then b3 side0 then t side0
+      then b1 side3 then bh side0 then m side0 then bt side0 then b3 side1
+      then b2 side3 then m side3 then b22-size K ok c here then m side1 then b2 side1
+      then b3 side3 then bt side3 then m side2 then bh side1 then b1 side1
+      then t side3 then b3 side2 then b2 side2 then b1 side2 then h side2
+      then r0 side0 then r1 side0 then r2 side0 then r3 side0
+      then r1 side3 then ah side0 then at side0 then r2 side1
+      then r2 side3 then at side3 then ah side1 then r1 side1
+      then r3 side3 then r2 side2 then r1 side2 then r0 side2
+      then none
+
+  -- every number that is written fits 32 bits
+  pub net-size : (j : ℕ) → Small (getD (net K c) j (pos 0))
+  net-size j = all-at (net K c) all-small j
