@@ -5,6 +5,15 @@ ghost use Prim.Native.Nat.{_^_, _≤_};
 ghost use lib.IntN.{ℤ, pos, natAbs};
 ghost use lib.Signed.{_≤ℤ_, _<ℤ_};
 ghost use Rattle.rounding.specs.Round.{round};
+ghost use Rattle.rounding.specs.Lift.{Lifts};
+
+// A number whose product with m lies between every dividend of `round_div` and what is left of the width above it.
+fn lift(m: i64) -> i64
+    requires { ⌜ (pos 0 <ℤ m) × (m ≤ℤ pos (2 ^ 37)) ⌝ }
+    ensures { λ r. ⌜ Lifts m r ⌝ }
+{
+    4611686018427387904 / m
+}
 
 // r(n / d). The machine's division cuts towards zero, so a multiple of the divisor lifts the dividend above zero first and is
 // taken off the quotient again. With a divisor that the compiler sees, what is left of the division is a shift or a product.
@@ -15,8 +24,8 @@ pub fn round_div(n: i64, d: i64) -> i64
     ensures { λ r. ⌜ r ≡ round n d ⌝ }
 {
     let m = 2 * d;
-    let lift = 4611686018427387904 / m;
-    let t = 2 * n + d + lift * m;
+    let l = lift(m);
+    let t = 2 * n + d + l * m;
     let q = t as u64 / m as u64;
-    q as i64 - lift
+    q as i64 - l
 }
