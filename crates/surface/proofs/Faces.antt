@@ -48,7 +48,7 @@ unfolding centre
 centre-near p m h = round-near _ _ (positive m h)
 
 -- ---- sums
-weight-period : (m k : ℕ) → weight m (k + m) ≡ weight m k
+pub weight-period : (m k : ℕ) → weight m (k + m) ≡ weight m k
 unfolding weight
 weight-period m k = cc (period m k, ap (cosine m) (turn m k), period m (k + (m - 1)))
   where

@@ -17,10 +17,10 @@ pub iterate-first : (f : ℕ → ℕ) (j c : ℕ) → iterate j f (f c) ≡ iter
 unfolding iterate
 iterate-first f j c = iterate-add f j 1 c
 
-iterate-round : (f : ℕ → ℕ) (j m c : ℕ) → iterate m f c ≡ c → iterate (j + m) f c ≡ iterate j f c
+pub iterate-round : (f : ℕ → ℕ) (j m c : ℕ) → iterate m f c ≡ c → iterate (j + m) f c ≡ iterate j f c
 iterate-round f j m c h = sym (iterate-add f j m c) ∙ ap (iterate j f) h
 
-iterate-in : (f : ℕ → ℕ) (n : ℕ) → ((c : ℕ) → c < n → f c < n) → (j c : ℕ) → c < n → iterate j f c < n
+pub iterate-in : (f : ℕ → ℕ) (n : ℕ) → ((c : ℕ) → c < n → f c < n) → (j c : ℕ) → c < n → iterate j f c < n
 unfolding iterate
 iterate-in f n h zero c l = l
 iterate-in f n h (suc j) c l = h (iterate j f c) (iterate-in f n h j c l)
