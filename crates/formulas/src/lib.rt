@@ -6,6 +6,22 @@ ghost use lib.IntN.{ℤ, pos, natAbs, _+ℤ_, _-ℤ_, _*ℤ_};
 ghost use Rattle.rounding.specs.Round.{round};
 ghost use Rattle.formulas.specs.Sizes.{Corner, FacePoint, Value, Written, Row};
 
+// The centre of a four-sided refined face.
+pub fn mean(a: i64, b: i64, c: i64, d: i64) -> i64
+    requires { ⌜ Corner a × Corner b × Corner c × Corner d ⌝ }
+    ensures { λ r. ⌜ (r ≡ round (a +ℤ b +ℤ c +ℤ d) (pos 4)) × Corner r ⌝ }
+{
+    rounding::round_div(a + b + c + d, 4)
+}
+
+// The point of a four-sided refined face towards its side from a to b: the weights 5/12, 5/12, 1/12, 1/12.
+pub fn toward(a: i64, b: i64, c: i64, d: i64) -> i64
+    requires { ⌜ Corner a × Corner b × Corner c × Corner d ⌝ }
+    ensures { λ r. ⌜ (r ≡ round (pos 5 *ℤ a +ℤ pos 5 *ℤ b +ℤ c +ℤ d) (pos 12)) × Corner r ⌝ }
+{
+    rounding::round_div(5 * a + 5 * b + c + d, 12)
+}
+
 // Half the sum of two points.
 pub fn half(a: i64, b: i64) -> i64
     requires { ⌜ Written a × Written b ⌝ }

@@ -1,0 +1,155 @@
+-- One way round a ring of steps: the sums that the code forms are those of the face points, and every sum on the way fits.
+-- Assumes nothing.
+use mathlib.Core.Path.{_≡_, refl, sym, ap, _∙_}
+use mathlib.Core.List.{List}
+use Prim.Native.Nat.{ℕ, _+_, _-_, _*_, _^_, _≤_, _<_}
+use native.Mathlib.Omega.{arith}
+use native.Mathlib.Nat.{le-trans, mul-le-mul-right}
+use native.Mathlib.Numerals.{add-one}
+use lib.Dec.{lit<, lit≤}
+use lib.ListN.{length, getD}
+use lib.IntN.{ℤ, pos, natAbs, _+ℤ_, _*ℤ_}
+use mir.Syntax.{w32, w64}
+use mir.Val.{SFits, ofZ, toZ}
+use mir.Facts.{toZ-ofZ}
+use Rattle.integers.specs.Sum.{sum}
+use Rattle.integers.proofs.Laws.{abs-mul-le, abs-add-le}
+use Rattle.integers.proofs.Machine.{abs-fits}
+use Rattle.integers.proofs.Sum.{Cyclic, sum-same, sum-abs, cycle-one, sum-more}
+use Rattle.mesh.specs.Scan.{iterate}
+use Rattle.mesh.proofs.Rings.{iterate-suc}
+use Rattle.surface.specs.Face.{weight}
+use Rattle.surface.proofs.Rings.{iterate-in, iterate-round}
+use Rattle.surface.proofs.Faces.{weight-period}
+use Rattle.surface.proofs.Sizes.{weight-size, gather-size}
+use Rattle.faces.specs.Ring.{around, Ring}
+
+-- ---- the sums of a ring p of m points, numbered from its corner
+ahead-sum : (p : ℕ → ℤ) (m : ℕ) → sum (λ k. p k *ℤ weight m k) m ≡ sum (λ k. p (0 + k) *ℤ weight m k) m
+ahead-sum p m = sum-same _ _ m (λ k l. ap (λ (j : ℕ). p j *ℤ weight m k) (zero k))
+  where
+    zero : (k : ℕ) → k ≡ 0 + k
+    zero k = omega arith
+
+behind-sum : (p : ℕ → ℤ) (m : ℕ) → 3 ≤ m → Cyclic p m → sum (λ k. p k *ℤ weight m (k + 1)) m ≡ sum (λ k. p (m - 1 + k) *ℤ weight m k) m
+behind-sum p m low cyc =
+    sum-same (λ k. p k *ℤ weight m (k + 1)) (λ k. p (m - 1 + (k + 1)) *ℤ weight m (k + 1)) m (λ k l. cc (cyc k, ap p (whole k)))
+    ∙ cycle-one (λ k. p (m - 1 + k) *ℤ weight m k) m (λ k. cc (ap p (later k), cyc (m - 1 + k), weight-period m k))
+  where
+    whole : (k : ℕ) → m - 1 + (k + 1) ≡ k + m
+    whole k = omega arith
+
+    later : (k : ℕ) → m - 1 + (k + m) ≡ m - 1 + k + m
+    later k = omega arith
+
+-- ---- a ring of steps
+module _ (points : List ℤ) (steps : List ℕ) (c m : ℕ) (r : Ring points steps c m) where
+  pub at-in : (j : ℕ) → iterate j (λ i. getD steps i 0) c < r .count
+  at-in j = iterate-in (λ i. getD steps i 0) (r .count) (r .step-in) j c (r .here)
+
+  pub small : (j : ℕ) → natAbs (around points steps c j) ≤ 2 ^ 24
+  unfolding around
+  small j = r .point-size (iterate j (λ i. getD steps i 0) c) (at-in j)
+
+  pub cyclic : Cyclic (around points steps c) m
+  unfolding around
+  cyclic j = ap (λ (i : ℕ). getD points i (pos 0)) (iterate-round (λ i. getD steps i 0) j m c (r .closes))
+
+  weight-fits : (k : ℕ) → natAbs (weight m k) ≤ 7 * 2 ^ 30
+  weight-fits = weight-size (around points steps c) m (r .least) (r .most) small
+
+  term-size : (j k : ℕ) → natAbs (around points steps c j *ℤ weight m k) ≤ 2 ^ 24 * (7 * 2 ^ 30)
+  term-size j k = abs-mul-le (around points steps c j) (weight m k) (2 ^ 24) (7 * 2 ^ 30) (small j) (weight-fits k)
+
+  -- what the turn at j asks of the machine: the point, its two products, and the three sums with them
+  pub record Turn (j : ℕ) : Type 0 where
+    pub narrow : SFits w32 (around points steps c j)
+    pub point : SFits w64 (around points steps c j)
+    pub weights : SFits w64 (weight m j) × SFits w64 (weight m (j + 1))
+    pub total : SFits w64 (sum (around points steps c) j +ℤ around points steps c j)
+    pub products : SFits w64 (around points steps c j *ℤ weight m j) × SFits w64 (around points steps c j *ℤ weight m (j + 1))
+    pub ahead : SFits w64 (sum (λ k. around points steps c k *ℤ weight m k) j +ℤ around points steps c j *ℤ weight m j)
+    pub behind : SFits w64 (sum (λ k. around points steps c k *ℤ weight m (k + 1)) j +ℤ around points steps c j *ℤ weight m (j + 1))
+
+  more-fits : (f : ℕ → ℤ) (j B : ℕ) → j < m → B ≤ 2 ^ 57 → ((k : ℕ) → natAbs (f k) ≤ B) → SFits w64 (sum f j +ℤ f j)
+  more-fits f j B l b h =
+      abs-fits w64 (sum f j +ℤ f j) (13 * B)
+      (let s = abs-add-le (sum f j) (f j) (j * B) B (sum-abs f j B (λ k q. h k)) (h j) in bound j B (natAbs (sum f j +ℤ f j)) (omega arith) s)
+      (omega arith)
+    where
+      bound : (j B z : ℕ) → j ≤ 12 → z ≤ j * B + B → z ≤ 13 * B
+      bound j B z l h = le-trans h (omega (arith, mul-le-mul-right B l))
+
+  pub turn : (j : ℕ) → j < m → Turn j
+  turn j l = record {
+    narrow = abs-fits w32 (around points steps c j) (2 ^ 24) (small j) (lit< tt);
+    point = abs-fits w64 (around points steps c j) (2 ^ 24) (small j) (lit< tt);
+    weights = (abs-fits w64 (weight m j) (7 * 2 ^ 30) (weight-fits j) (lit< tt), abs-fits w64 (weight m (j + 1)) (7 * 2 ^ 30) (weight-fits (j + 1)) (lit< tt));
+    total = more-fits (around points steps c) j (2 ^ 24) l (lit≤ tt) small;
+    products = (abs-fits w64 _ (2 ^ 24 * (7 * 2 ^ 30)) (term-size j j) (lit< tt), abs-fits w64 _ (2 ^ 24 * (7 * 2 ^ 30)) (term-size j (j + 1)) (lit< tt));
+    ahead = more-fits (λ k. around points steps c k *ℤ weight m k) j (2 ^ 24 * (7 * 2 ^ 30)) l (lit≤ tt) (λ k. term-size k k);
+    behind = more-fits (λ k. around points steps c k *ℤ weight m (k + 1)) j (2 ^ 24 * (7 * 2 ^ 30)) l (lit≤ tt) (λ k. term-size k (k + 1));
+  }
+
+-- ---- the same in the machine's numbers: a signed local is its bits, and an element is read through both widths
+abbrev pub plain : ℤ → ℤ
+plain z = toZ w64 (ofZ w64 z)
+
+abbrev pub read : List ℤ → ℕ → ℤ
+read points at = plain (toZ w32 (ofZ w32 (getD points at (pos 0))))
+
+module _ (points : List ℤ) (steps : List ℕ) (c m : ℕ) where
+  -- before the turn at j
+  abbrev pub Came : ℕ → ℕ → ℕ → ℕ → ℕ → ℕ → Type 0
+  Came total ahead behind w at j =
+      (j ≤ m) × (at ≡ iterate j (λ i. getD steps i 0) c)
+      × (toZ w64 total ≡ sum (around points steps c) j)
+      × (toZ w64 ahead ≡ sum (λ k. around points steps c k *ℤ weight m k) j)
+      × (toZ w64 behind ≡ sum (λ k. around points steps c k *ℤ weight m (k + 1)) j)
+      × (toZ w64 w ≡ weight m j)
+
+  -- what the turn asks, and what it leaves; u is the next weight
+  pub record Goes (total ahead behind w at j : ℕ) (u : ℤ) : Type 0 where
+    pub cast : SFits w64 (toZ w32 (ofZ w32 (getD points at (pos 0))))
+    pub add-total : SFits w64 (toZ w64 total +ℤ read points at)
+    pub mul-ahead : SFits w64 (read points at *ℤ toZ w64 w)
+    pub add-ahead : SFits w64 (toZ w64 ahead +ℤ plain (read points at *ℤ toZ w64 w))
+    pub mul-behind : SFits w64 (read points at *ℤ plain u)
+    pub add-behind : SFits w64 (toZ w64 behind +ℤ plain (read points at *ℤ plain u))
+    pub total-is : plain (toZ w64 total +ℤ read points at) ≡ sum (around points steps c) (j + 1)
+    pub ahead-is : plain (toZ w64 ahead +ℤ plain (read points at *ℤ toZ w64 w)) ≡ sum (λ k. around points steps c k *ℤ weight m k) (j + 1)
+    pub behind-is : plain (toZ w64 behind +ℤ plain (read points at *ℤ plain u)) ≡ sum (λ k. around points steps c k *ℤ weight m (k + 1)) (j + 1)
+    pub weight-is : plain u ≡ weight m (j + 1)
+    pub at-is : getD steps at 0 ≡ iterate (j + 1) (λ i. getD steps i 0) c
+    pub below : (at < length points) × (at < length steps)
+
+  pub goes : Ring points steps c m → (total ahead behind w at j : ℕ) (u : ℤ) → j < m → Came total ahead behind w at j → u ≡ weight m (j + 1) → Goes total ahead behind w at j u
+  unfolding around
+  goes r total ahead behind w at j u l came e =
+      let t = turn points steps c m r j l in
+      let v = around points steps c j in
+      let p : getD points at (pos 0) ≡ v = ap (λ (i : ℕ). getD points i (pos 0)) (came .1) in
+      let a : toZ w32 (ofZ w32 (getD points at (pos 0))) ≡ v = ap (λ (z : ℤ). toZ w32 (ofZ w32 z)) p ∙ toZ-ofZ (t .narrow) in
+      let d : read points at ≡ v = ap plain a ∙ toZ-ofZ (t .point) in
+      let f : plain u ≡ weight m (j + 1) = ap plain e ∙ toZ-ofZ (t .weights .1) in
+      let i = at-in points steps c m r j in
+      record {
+        cast = rw a (t .point);
+        add-total = rw (d, came .2) (t .total);
+        mul-ahead = rw (d, came .5) (t .products .0);
+        add-ahead = rw (d, came .5, toZ-ofZ (t .products .0), came .3) (t .ahead);
+        mul-behind = rw (d, f) (t .products .1);
+        add-behind = rw (d, f, toZ-ofZ (t .products .1), came .4) (t .behind);
+        total-is = rw (d, came .2) (toZ-ofZ (t .total) ∙ sym (sum-more (around points steps c) j));
+        ahead-is = rw (d, came .5, toZ-ofZ (t .products .0), came .3) (toZ-ofZ (t .ahead) ∙ sym (sum-more (λ k. around points steps c k *ℤ weight m k) j));
+        behind-is = rw (d, f, toZ-ofZ (t .products .1), came .4) (toZ-ofZ (t .behind) ∙ sym (sum-more (λ k. around points steps c k *ℤ weight m (k + 1)) j));
+        weight-is = f;
+        at-is = ap (λ (i : ℕ). getD steps i 0) (came .1) ∙ sym (iterate-suc (λ i. getD steps i 0) j c) ∙ ap (λ (n : ℕ). iterate n (λ i. getD steps i 0) c) (sym (add-one j));
+        below = (rw (came .1) (omega (arith, r .points-hold)), rw (came .1) (omega (arith, r .steps-hold)));
+      }
+
+  -- the weight that the first turn has
+  pub first : Ring points steps c m → (u : ℤ) → u ≡ weight m (m - 1 + 1) → plain u ≡ weight m 0
+  first r u e =
+      let f : u ≡ weight m 0 = e ∙ ap (weight m) (omega (arith, r .least)) ∙ weight-period m 0 in
+      ap plain f ∙ toZ-ofZ (abs-fits w64 (weight m 0) (7 * 2 ^ 30) (weight-fits points steps c m r 0) (lit< tt))
