@@ -9,20 +9,26 @@ use native.Mathlib.Numerals.{add-one}
 use lib.Dec.{lit<, lit≤}
 use lib.ListN.{length, getD}
 use lib.IntN.{ℤ, pos, natAbs, _+ℤ_, _*ℤ_}
+use lib.Signed.{ltZ-yes}
 use mir.Syntax.{w32, w64}
 use mir.Val.{SFits, ofZ, toZ}
 use mir.Facts.{toZ-ofZ}
 use Rattle.integers.specs.Sum.{sum}
-use Rattle.integers.proofs.Laws.{abs-mul-le, abs-add-le}
+use Rattle.integers.proofs.Poly.{over, poly}
+use Rattle.integers.proofs.Laws.{abs-mul-le, abs-add-le, zero-add}
 use Rattle.integers.proofs.Machine.{abs-fits}
-use Rattle.integers.proofs.Sum.{Cyclic, sum-same, sum-abs, cycle-one, sum-more}
+use Rattle.integers.proofs.Sum.{Cyclic, sum-same, sum-abs, cycle-one, sum-more, cycle}
 use Rattle.mesh.specs.Scan.{iterate}
 use Rattle.mesh.proofs.Rings.{iterate-suc}
-use Rattle.surface.specs.Face.{weight}
+use Rattle.surface.specs.Face.{centre, weight, toward}
 use Rattle.surface.proofs.Rings.{iterate-in, iterate-round}
 use Rattle.surface.proofs.Faces.{weight-period}
-use Rattle.surface.proofs.Sizes.{weight-size, gather-size}
-use Rattle.faces.specs.Ring.{around, Ring}
+use Rattle.surface.proofs.Sizes.{weight-size, gather-size, centre-size, toward-size}
+use Rattle.rounding.specs.Round.{round}
+use Rattle.rounding.proofs.Laws.{round-scale}
+use Rattle.cosines.specs.Table.{table, cosine}
+use Rattle.faces.specs.Ring.{around, Ring, IsFace}
+use Rattle.faces.specs.declared.Face.{Face}
 
 -- ---- the sums of a ring p of m points, numbered from its corner
 ahead-sum : (p : ℕ → ℤ) (m : ℕ) → sum (λ k. p k *ℤ weight m k) m ≡ sum (λ k. p (0 + k) *ℤ weight m k) m
@@ -153,3 +159,52 @@ module _ (points : List ℤ) (steps : List ℕ) (c m : ℕ) where
   first r u e =
       let f : u ≡ weight m 0 = e ∙ ap (weight m) (omega (arith, r .least)) ∙ weight-period m 0 in
       ap plain f ∙ toZ-ofZ (abs-fits w64 (weight m 0) (7 * 2 ^ 30) (weight-fits points steps c m r 0) (lit< tt))
+
+-- ---- the face points of the ring, from its sums
+module _ (points : List ℤ) (steps : List ℕ) (c m : ℕ) (r : Ring points steps c m) where
+  pub total-size : natAbs (sum (around points steps c) m) ≤ 2 ^ 60
+  total-size = let h = sum-abs (around points steps c) m (2 ^ 24) (λ j l. small points steps c m r j) in omega (arith, r .most)
+
+  pub ahead-size : natAbs (sum (λ k. around points steps c k *ℤ weight m k) m) ≤ 2 ^ 60
+  ahead-size = rw (ahead-sum (around points steps c) m) (gather-size (around points steps c) m (r .least) (r .most) (small points steps c m r) 0)
+
+  pub behind-size : natAbs (sum (λ k. around points steps c k *ℤ weight m (k + 1)) m) ≤ 2 ^ 60
+  behind-size =
+      rw (behind-sum (around points steps c) m (r .least) (cyclic points steps c m r))
+      (gather-size (around points steps c) m (r .least) (r .most) (small points steps c m r) (m - 1))
+
+  pub ring-is : (f : Face) → f .centre ≡ round (sum (around points steps c) m) (pos m)
+      → f .ahead ≡ round (sum (λ k. around points steps c k *ℤ weight m k) m) (pos (3 * 2 ^ 30) *ℤ pos m)
+      → f .behind ≡ round (sum (λ k. around points steps c k *ℤ weight m (k + 1)) m) (pos (3 * 2 ^ 30) *ℤ pos m)
+      → IsFace (around points steps c) m 0 (m - 1) f
+  unfolding centre toward
+  ring-is f e a b =
+      let p = around points steps c in
+      let x : f .ahead ≡ toward p m 0 = a ∙ ap (λ (z : ℤ). round z (pos (3 * 2 ^ 30) *ℤ pos m)) (ahead-sum p m) in
+      let y : f .behind ≡ toward p m (m - 1) = b ∙ ap (λ (z : ℤ). round z (pos (3 * 2 ^ 30) *ℤ pos m)) (behind-sum p m (r .least) (cyclic points steps c m r)) in
+      record {
+        centre = e;
+        ahead = x;
+        behind = y;
+        centre-size = rw e (centre-size p m (r .least) (r .most) (small points steps c m r));
+        ahead-size = rw x (toward-size p m (r .least) (r .most) (small points steps c m r) 0);
+        behind-size = rw y (toward-size p m (r .least) (r .most) (small points steps c m r) (m - 1));
+      }
+
+-- ---- a ring of four: its weights are 5, 5, 1 and 1 times 2^30
+four : (f : ℕ → ℤ) → sum f 4 ≡ f 0 +ℤ f 1 +ℤ f 2 +ℤ f 3
+unfolding sum
+four f = ap (λ (z : ℤ). z +ℤ f 1 +ℤ f 2 +ℤ f 3) (zero-add (f 0))
+
+exact : (a b c d : ℤ) → a *ℤ pos 5368709120 +ℤ b *ℤ pos 5368709120 +ℤ c *ℤ pos 1073741824 +ℤ d *ℤ pos 1073741824 ≡ pos (2 ^ 30) *ℤ (pos 5 *ℤ a +ℤ pos 5 *ℤ b +ℤ c +ℤ d)
+exact = over 4 _ λ ρ. simp (poly, ρ) (omega arith)
+
+pub toward-four : (p : ℕ → ℤ) (i : ℕ) → toward p 4 i ≡ round (pos 5 *ℤ p (i + 0) +ℤ pos 5 *ℤ p (i + 1) +ℤ p (i + 2) +ℤ p (i + 3)) (pos 12)
+unfolding toward weight cosine table
+toward-four p i =
+    ap (λ (z : ℤ). round z (pos 12884901888)) (four (λ k. p (i + k) *ℤ weight 4 k) ∙ exact (p (i + 0)) (p (i + 1)) (p (i + 2)) (p (i + 3)))
+    ∙ round-scale (pos (2 ^ 30)) (pos 5 *ℤ p (i + 0) +ℤ pos 5 *ℤ p (i + 1) +ℤ p (i + 2) +ℤ p (i + 3)) (pos 12) (ltZ-yes tt) (ltZ-yes tt)
+
+pub centre-four : (p : ℕ → ℤ) → Cyclic p 4 → (i : ℕ) → centre p 4 ≡ round (p (0 + i) +ℤ p (1 + i) +ℤ p (2 + i) +ℤ p (3 + i)) (pos 4)
+unfolding centre
+centre-four p cyc i = ap (λ (z : ℤ). round z (pos 4)) (sym (cycle p 4 cyc i) ∙ four (λ j. p (j + i)))

@@ -6,6 +6,7 @@ use Prim.Native.Nat.{ℕ, _+_, _-_, _^_, _≤_, _<_}
 use lib.ListN.{length, getD}
 use lib.IntN.{ℤ, pos, natAbs, _*ℤ_}
 use Rattle.integers.specs.Sum.{sum}
+use Rattle.integers.proofs.Sum.{Cyclic}
 use Rattle.mesh.specs.Limits.{leastSides, mostSides}
 use Rattle.mesh.specs.Scan.{iterate}
 use Rattle.formulas.specs.Sizes.{Corner, FacePoint}
@@ -43,3 +44,7 @@ pub record IsFace (p : ℕ → ℤ) (m i j : ℕ) (r : Face) : Type 0 where
   pub centre-size : Corner (r .centre)
   pub ahead-size : FacePoint (r .ahead)
   pub behind-size : FacePoint (r .behind)
+
+-- the face of any ring of four that has these points in turn from its place i
+pub record IsEdgeFace (here after far before : ℤ) (r : Face) : Type 0 where
+  pub faces : (p : ℕ → ℤ) → Cyclic p 4 → (i : ℕ) → p i ≡ here → p (i + 1) ≡ after → p (i + 2) ≡ far → p (i + 3) ≡ before → IsFace p 4 i (i + 3) r
