@@ -9,11 +9,12 @@ use native.Mathlib.Numerals.{add-one}
 use lib.Dec.{lit<, lit≤}
 use lib.ListN.{length, getD}
 use lib.IntN.{ℤ, pos, natAbs, _+ℤ_, _*ℤ_}
-use lib.Signed.{ltZ-yes}
+use lib.Signed.{_≤ℤ_, _<ℤ_, ltZ-yes}
 use mir.Syntax.{w32, w64}
 use mir.Val.{SFits, ofZ, toZ}
 use mir.Facts.{toZ-ofZ}
 use Rattle.integers.specs.Sum.{sum}
+use Rattle.integers.proofs.Diff.{diff}
 use Rattle.integers.proofs.Poly.{over, poly}
 use Rattle.integers.proofs.Laws.{abs-mul-le, abs-add-le, zero-add}
 use Rattle.integers.proofs.Machine.{abs-fits}
@@ -27,7 +28,8 @@ use Rattle.surface.proofs.Sizes.{weight-size, gather-size, centre-size, toward-
 use Rattle.rounding.specs.Round.{round}
 use Rattle.rounding.proofs.Laws.{round-scale}
 use Rattle.cosines.specs.Table.{table, cosine}
-use Rattle.faces.specs.Ring.{around, Ring, IsFace}
+use Rattle.formulas.specs.Sizes.{Corner, FacePoint}
+use Rattle.faces.specs.Ring.{around, Ring, IsFace, IsEdgeFace}
 use Rattle.faces.specs.declared.Face.{Face}
 
 -- ---- the sums of a ring p of m points, numbered from its corner
@@ -208,3 +210,50 @@ toward-four p i =
 pub centre-four : (p : ℕ → ℤ) → Cyclic p 4 → (i : ℕ) → centre p 4 ≡ round (p (0 + i) +ℤ p (1 + i) +ℤ p (2 + i) +ℤ p (3 + i)) (pos 4)
 unfolding centre
 centre-four p cyc i = ap (λ (z : ℤ). round z (pos 4)) (sym (cycle p 4 cyc i) ∙ four (λ j. p (j + i)))
+
+module _ (here after far before : ℤ) (r : Face)
+    (e : r .centre ≡ round (here +ℤ after +ℤ far +ℤ before) (pos 4)) (a : r .ahead ≡ round (pos 5 *ℤ here +ℤ pos 5 *ℤ after +ℤ far +ℤ before) (pos 12))
+    (b : r .behind ≡ round (pos 5 *ℤ before +ℤ pos 5 *ℤ here +ℤ after +ℤ far) (pos 12))
+    (se : Corner (r .centre)) (sa : Corner (r .ahead)) (sb : Corner (r .behind)) where
+  wider : (z : ℤ) → Corner z → FacePoint z
+  wider z h = omega arith
+
+  pub edge-is : IsEdgeFace here after far before r
+  edge-is = record {
+    faces = λ p cyc i p0 p1 p2 p3.
+        let turn : (j : ℕ) → p (i + 3 + (j + 1)) ≡ p (i + j) = λ j. ap p (later i j) ∙ cyc (i + j) in
+        record {
+          centre = cc (e, centre-four p cyc i, ap p (swap 0 i), ap p (swap 1 i), ap p (swap 2 i), ap p (swap 3 i), ap p (none i));
+          ahead = cc (a, toward-four p i, ap p (none i));
+          behind = cc (b, toward-four p (i + 3), ap p (none (i + 3)), turn 0, turn 1, turn 2, ap p (none i));
+          centre-size = se;
+          ahead-size = wider (r .ahead) sa;
+          behind-size = wider (r .behind) sb;
+        };
+  }
+    where
+      later : (i j : ℕ) → i + 3 + (j + 1) ≡ i + j + 4
+      later i j = omega arith
+
+      swap : (j i : ℕ) → j + i ≡ i + j
+      swap j i = omega arith
+
+      none : (i : ℕ) → i + 0 ≡ i
+      none i = omega arith
+
+-- ---- a division, in the machine's numbers
+pub divided : (n d e r : ℤ) → SFits w64 n → SFits w64 r → d ≡ e → r ≡ round (plain n) d → plain r ≡ round n e
+divided n d e r fn fr h q = toZ-ofZ fr ∙ q ∙ cc (h, toZ-ofZ fn)
+
+pub sized : (n y : ℤ) → n ≡ y → natAbs y ≤ 2 ^ 60 → natAbs (plain n) ≤ 2 ^ 60
+sized n y e h = rw (e, toZ-ofZ (abs-fits w64 y (2 ^ 60) h (lit< tt))) h
+
+pub quotient : (n y d r : ℤ) → n ≡ y → natAbs y ≤ 2 ^ 60 → SFits w64 r → r ≡ round (plain n) d → plain r ≡ round y d
+quotient n y d r e h f q = divided n d d r (rw e (abs-fits w64 y (2 ^ 60) h (lit< tt))) f refl q ∙ ap (λ (z : ℤ). round z d) e
+
+-- a divisor that is a count, or a count of weights
+pub count-divides : (m : ℕ) → 3 ≤ m → m ≤ 12 → (pos 0 <ℤ pos m) × ((pos m) ≤ℤ pos (2 ^ 36))
+count-divides m l h = simp diff (omega arith)
+
+pub weights-divide : (m : ℕ) → 3 ≤ m → m ≤ 12 → SFits w64 (pos (3221225472 * m)) × ((pos 0 <ℤ pos (3221225472 * m)) × ((pos (3221225472 * m)) ≤ℤ pos (2 ^ 36)))
+weights-divide m l h = simp diff (omega arith)
