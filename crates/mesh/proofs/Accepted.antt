@@ -2,14 +2,14 @@
 -- likewise for the steps around a face.
 -- Assumes nothing.
 use mathlib.Core.Path.{_≡_, refl, ap, _∙_, sym, subst}
-use mathlib.Core.Bool.{Bool, true, false, not, _||_, true≢false}
+use mathlib.Core.Bool.{true, false, not, _||_}
 use mathlib.Core.Logic.{⊎-elim}
 use mathlib.Core.List.{List}
 use Prim.Native.Nat.{ℕ, zero, suc, _+_, _-_, _/_, _%_, _<_, _≤_}
 use native.Mathlib.Omega.{arith}
 use lib.Dec.{ltb, eqb}
 use lib.ListN.{length, getD}
-use borrow.Author.Tests.{eqb-true, eq-eqb, leb-false, ltb-true, ltb-false, lt-ltb, le-ltb, not-false}
+use borrow.Author.Tests.{eqb-true, eq-eqb, leb-false, ltb-true, ltb-false, not-false}
 use Rattle.mesh.specs.Limits.{leastSides, mostSides, mostVertices, mostFaces, mostCorners}
 use Rattle.mesh.specs.Scan.{iterate}
 use Rattle.mesh.specs.Lists.{Mesh, vertexCount, faceCount, cornerCount}
@@ -17,6 +17,7 @@ use Rattle.mesh.specs.Corners.{sumOf, firstOf, sidesOf, next}
 use Rattle.mesh.specs.Links.{vertexOf, link, names, valence, lowest}
 use Rattle.mesh.specs.Faults.{outside, fault4, fault5, fault6, fault7, fault8, fault9, fault10, fault11, fault12, fault13, after, ringLength, met, verdict, Accepted, Closed}
 use Rattle.mesh.specs.Theorems.{Returns}
+use Rattle.mesh.proofs.Ranges.{none-left, none-right, at-least, at-most}
 use Rattle.mesh.proofs.Scans.{ways, first-le, first-passes, none}
 use Rattle.mesh.proofs.Faces.{first-from, first-to, first-same, sides-same, next-inner, next-last}
 use Rattle.mesh.proofs.Links.{link-in, link-vertex, link-injective}
@@ -59,35 +60,6 @@ sound-of M e4 =
       twelve = lowest-sound _ _ _ (sound-left _ _ e12);
       thirteen = lowest-sound _ _ _ (sound-right _ _ e12);
     }
-
-none-left : (a b : Bool) → a || b ≡ false → a ≡ false
-none-left true b e = e
-none-left false b e = refl
-
-none-right : (a b : Bool) → a || b ≡ false → b ≡ false
-none-right true b e = absurd (true≢false e)
-none-right false b e = e
-
-or-true : (b : Bool) → b || true ≡ true
-or-true true = refl
-or-true false = refl
-
--- a number's place in a range, and the test
-module _ (low high n : ℕ) where
-  pub at-least : outside low high n ≡ false → low ≤ n
-  at-least e = ltb-false n low (none-left (ltb n low) (ltb high n) e)
-
-  pub at-most : outside low high n ≡ false → n ≤ high
-  at-most e = ltb-false high n (none-right (ltb n low) (ltb high n) e)
-
-  pub outside-low : n < low → outside low high n ≡ true
-  outside-low h = rw (lt-ltb n low h)
-
-  pub outside-high : high < n → outside low high n ≡ true
-  outside-high h = rw (lt-ltb high n h) (or-true (ltb n low))
-
-  pub inside : low ≤ n → n ≤ high → outside low high n ≡ false
-  inside a h = rw (le-ltb n low a, le-ltb high n h)
 
 -- no fault of 4
 module _ (n f c : ℕ) (e : fault4 n f c ≡ false) where

@@ -3,6 +3,7 @@ pub mod Scan
 pub mod Lists
 pub mod Corners
 pub mod Links
+pub mod Tables
 pub mod Faults
 pub mod Answers
 pub mod Theorems

@@ -5,9 +5,13 @@
 --     Border      what the two sides of a border have in common, and the two rules across it
 --     Roundings   each value is off by at most half
 --     Sizes       every value, every sum before a division and every written number
+--     Hull        the refined point's size; the corners of an accepted mesh have the laws of `Sound`
+--     Agree       corners that agree have the same nets
 pub mod Within
 pub mod Rings
 pub mod Faces
 pub mod Border
 pub mod Roundings
 pub mod Sizes
+pub mod Hull
+pub mod Agree

@@ -1,12 +1,12 @@
--- Each value of a net is off by at most half from what it is the rounding of. Nothing else of rounding is used for sizes and borders.
+-- Each value of a net is the rounding of a sum over a divisor (`outer1-is` ..); `near-is` of rounding makes of it that the value is off by at most half.
+-- Nothing else of rounding is used for sizes and borders.
 -- Assumes nothing.
 use mathlib.Core.Path.{_≡_, refl}
 use Prim.Native.Nat.{ℕ, _*_, _^_}
 use lib.IntN.{ℤ, pos, _+ℤ_, _-ℤ_, _*ℤ_}
-use Rattle.rounding.specs.Round.{Near}
-use Rattle.rounding.proofs.Laws.{near-is}
+use Rattle.rounding.specs.Round.{round}
 use Rattle.surface.specs.Corners.{Corners}
-use Rattle.surface.specs.Net.{Side, side0, side1, side2, side3, neighbour, atHead, atTail, opposite, H, T, X, Y, N, C, outer1, outer2, outer3, a0, a1, a2, a3, middle}
+use Rattle.surface.specs.Net.{Side, neighbour, atHead, atTail, opposite, H, T, X, Y, N, C, outer1, outer2, outer3, a0, a1, a2, a3, middle}
 
 -- what the second and the third a point are divided out of; S is 2^30, S3 and S4 three and four times that
 abbrev pub SecondRow : ℤ → ℤ → ℤ → ℤ → ℤ → ℤ → ℤ → ℤ → ℤ
@@ -22,41 +22,43 @@ module _ (K : Corners) (c : ℕ) (s : Side) where
   abbrev pub thirdSum : ℤ
   thirdSum = ThirdRow (pos (3 * 2 ^ 30)) (pos (2 ^ 30)) (pos (2 ^ 32)) (C K c s) (T K c s) (Y K c s) (Y K c (atTail s)) (N K c s)
 
+-- ---- what each value is the rounding of
 module _ (K : Corners) (c : ℕ) (s : Side) where
-  pub near-outer1 : Near (H K c s +ℤ pos 3 *ℤ X K c s) (pos 4) (outer1 K c s)
+  pub outer1-is : outer1 K c s ≡ round (H K c s +ℤ pos 3 *ℤ X K c s) (pos 4)
   unfolding outer1
-  near-outer1 = near-is (H K c s +ℤ pos 3 *ℤ X K c s) (pos 4) (outer1 K c s) tt refl
+  outer1-is = refl
 
-  pub near-outer2 : Near (X K c s +ℤ Y K c s) (pos 2) (outer2 K c s)
+  pub outer2-is : outer2 K c s ≡ round (X K c s +ℤ Y K c s) (pos 2)
   unfolding outer2
-  near-outer2 = near-is (X K c s +ℤ Y K c s) (pos 2) (outer2 K c s) tt refl
+  outer2-is = refl
 
-  pub near-outer3 : Near (pos 3 *ℤ Y K c s +ℤ T K c s) (pos 4) (outer3 K c s)
+  pub outer3-is : outer3 K c s ≡ round (pos 3 *ℤ Y K c s +ℤ T K c s) (pos 4)
   unfolding outer3
-  near-outer3 = near-is (pos 3 *ℤ Y K c s +ℤ T K c s) (pos 4) (outer3 K c s) tt refl
+  outer3-is = refl
 
-  pub near-N : Near (pos 3 *ℤ X K c s +ℤ pos 3 *ℤ Y K c s +ℤ K .refined c -ℤ K .refined (neighbour K c s)) (pos 6) (N K c s)
+  pub N-is : N K c s ≡ round (pos 3 *ℤ X K c s +ℤ pos 3 *ℤ Y K c s +ℤ K .refined c -ℤ K .refined (neighbour K c s)) (pos 6)
   unfolding N
-  near-N = near-is (pos 3 *ℤ X K c s +ℤ pos 3 *ℤ Y K c s +ℤ K .refined c -ℤ K .refined (neighbour K c s)) (pos 6) (N K c s) tt refl
+  N-is = refl
 
-  pub near-a0 : Near (outer1 K c s +ℤ outer1 K c (atHead s)) (pos 2) (a0 K c s)
+  pub a0-is : a0 K c s ≡ round (outer1 K c s +ℤ outer1 K c (atHead s)) (pos 2)
   unfolding a0
-  near-a0 = near-is (outer1 K c s +ℤ outer1 K c (atHead s)) (pos 2) (a0 K c s) tt refl
+  a0-is = refl
 
-  pub near-a1 : Near (secondSum K c s) (pos (2 ^ 33)) (a1 K c s)
+  pub a1-is : a1 K c s ≡ round (secondSum K c s) (pos (2 ^ 33))
   unfolding a1
-  near-a1 = near-is (secondSum K c s) (pos (2 ^ 33)) (a1 K c s) tt refl
+  a1-is = refl
 
-  pub near-a2 : Near (thirdSum K c s) (pos (2 ^ 33)) (a2 K c s)
+  pub a2-is : a2 K c s ≡ round (thirdSum K c s) (pos (2 ^ 33))
   unfolding a2
-  near-a2 = near-is (thirdSum K c s) (pos (2 ^ 33)) (a2 K c s) tt refl
+  a2-is = refl
 
-  pub near-a3 : Near (outer3 K c s +ℤ outer3 K c (atTail s)) (pos 2) (a3 K c s)
+  pub a3-is : a3 K c s ≡ round (outer3 K c s +ℤ outer3 K c (atTail s)) (pos 2)
   unfolding a3
-  near-a3 = near-is (outer3 K c s +ℤ outer3 K c (atTail s)) (pos 2) (a3 K c s) tt refl
+  a3-is = refl
 
-  pub near-middle :
-      Near (pos 14 *ℤ N K c s +ℤ pos 2 *ℤ (N K c (opposite s) -ℤ N K c (atHead s) -ℤ N K c (atTail s))
-      +ℤ pos 3 *ℤ (X K c (atHead s) +ℤ Y K c (atTail s)) -ℤ H K c s -ℤ T K c s) (pos 16) (middle K c s)
+  pub middle-is : middle K c s
+      ≡ round
+      (pos 14 *ℤ N K c s +ℤ pos 2 *ℤ (N K c (opposite s) -ℤ N K c (atHead s) -ℤ N K c (atTail s))
+      +ℤ pos 3 *ℤ (X K c (atHead s) +ℤ Y K c (atTail s)) -ℤ H K c s -ℤ T K c s) (pos 16)
   unfolding middle
-  near-middle = near-is _ (pos 16) (middle K c s) tt refl
+  middle-is = refl

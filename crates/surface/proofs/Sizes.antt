@@ -26,7 +26,7 @@ use Rattle.surface.specs.Net.{Side, side0, side1, side2, side3, head, ta
 use Rattle.surface.proofs.Within.{Within, within-cancel, abs-within, positive}
 use Rattle.surface.proofs.Faces.{toward-near, centre-near}
 use Rattle.surface.proofs.Rings.{neighbour-in, points-small, size-least, size-most}
-use Rattle.surface.proofs.Roundings.{SecondRow, ThirdRow, secondSum, thirdSum, near-outer1, near-outer2, near-outer3, near-N, near-a0, near-a1, near-a2, near-a3, near-middle}
+use Rattle.surface.proofs.Roundings.{SecondRow, ThirdRow, secondSum, thirdSum, outer1-is, outer2-is, outer3-is, N-is, a0-is, a1-is, a2-is, a3-is, middle-is}
 
 -- ---- the weights of a row
 heavy-test : ℕ → Bool
@@ -173,7 +173,7 @@ module _ (K : Corners) (ok : Sound K) (c : ℕ) (here : c < K .count) where
   pub N-size : (s : Side) → natAbs (N K c s) ≤ 2 ^ 24 + 2 ^ 23
   N-size s =
       inner (X K c s) (Y K c s) (K .refined c) (K .refined (neighbour K c s)) (N K c s) (X-size s) (Y-size s)
-      (ok .refined-size c here) (ok .refined-size _ (neighbour-in K ok c here s)) (near-N K c s)
+      (ok .refined-size c here) (ok .refined-size _ (neighbour-in K ok c here s)) (near-is _ _ _ tt (N-is K c s))
 
   pub C-size : (s : Side) → natAbs (C K c s) ≤ 2 ^ 30
   unfolding C
@@ -211,32 +211,32 @@ module _ (K : Corners) (ok : Sound K) (c : ℕ) (here : c < K .count) where
 
   -- ---- the points
   pub outer1-size : (s : Side) → natAbs (outer1 K c s) ≤ 2 ^ 24 + 2 ^ 21
-  outer1-size s = quarter-of (H K c s) (X K c s) (outer1 K c s) (H-size s) (X-size s) (near-outer1 K c s)
+  outer1-size s = quarter-of (H K c s) (X K c s) (outer1 K c s) (H-size s) (X-size s) (near-is _ _ _ tt (outer1-is K c s))
 
   pub outer2-size : (s : Side) → natAbs (outer2 K c s) ≤ 2 ^ 24 + 2 ^ 21
-  outer2-size s = half-of (2 ^ 24 + 2 ^ 21) (X K c s) (Y K c s) (outer2 K c s) (X-size s) (Y-size s) (near-outer2 K c s)
+  outer2-size s = half-of (2 ^ 24 + 2 ^ 21) (X K c s) (Y K c s) (outer2 K c s) (X-size s) (Y-size s) (near-is _ _ _ tt (outer2-is K c s))
 
   pub outer3-size : (s : Side) → natAbs (outer3 K c s) ≤ 2 ^ 24 + 2 ^ 21
-  outer3-size s = quarter-to (T K c s) (Y K c s) (outer3 K c s) (T-size s) (Y-size s) (near-outer3 K c s)
+  outer3-size s = quarter-to (T K c s) (Y K c s) (outer3 K c s) (T-size s) (Y-size s) (near-is _ _ _ tt (outer3-is K c s))
 
   pub a0-size : (s : Side) → natAbs (a0 K c s) ≤ 2 ^ 24 + 2 ^ 21
   a0-size s =
-      half-of (2 ^ 24 + 2 ^ 21) (outer1 K c s) (outer1 K c (atHead s)) (a0 K c s) (outer1-size s) (outer1-size (atHead s)) (near-a0 K c s)
+      half-of (2 ^ 24 + 2 ^ 21) (outer1 K c s) (outer1 K c (atHead s)) (a0 K c s) (outer1-size s) (outer1-size (atHead s)) (near-is _ _ _ tt (a0-is K c s))
 
   pub a1-size : (s : Side) → Small (a1 K c s)
-  a1-size s = eighth (secondSum K c s) (a1 K c s) (a1-sum s) (near-a1 K c s)
+  a1-size s = eighth (secondSum K c s) (a1 K c s) (a1-sum s) (near-is _ _ _ tt (a1-is K c s))
 
   pub a2-size : (s : Side) → Small (a2 K c s)
-  a2-size s = eighth (thirdSum K c s) (a2 K c s) (a2-sum s) (near-a2 K c s)
+  a2-size s = eighth (thirdSum K c s) (a2 K c s) (a2-sum s) (near-is _ _ _ tt (a2-is K c s))
 
   pub a3-size : (s : Side) → natAbs (a3 K c s) ≤ 2 ^ 24 + 2 ^ 21
   a3-size s =
-      half-of (2 ^ 24 + 2 ^ 21) (outer3 K c s) (outer3 K c (atTail s)) (a3 K c s) (outer3-size s) (outer3-size (atTail s)) (near-a3 K c s)
+      half-of (2 ^ 24 + 2 ^ 21) (outer3 K c s) (outer3 K c (atTail s)) (a3 K c s) (outer3-size s) (outer3-size (atTail s)) (near-is _ _ _ tt (a3-is K c s))
 
   pub middle-size : (s : Side) → Small (middle K c s)
   middle-size s =
       middle-of (N K c s) (N K c (opposite s)) (N K c (atHead s)) (N K c (atTail s)) (X K c (atHead s)) (Y K c (atTail s)) (H K c s) (T K c s) (middle K c s)
-      (N-size s) (N-size (opposite s)) (N-size (atHead s)) (N-size (atTail s)) (X-size (atHead s)) (Y-size (atTail s)) (H-size s) (T-size s) (near-middle K c s)
+      (N-size s) (N-size (opposite s)) (N-size (atHead s)) (N-size (atTail s)) (X-size (atHead s)) (Y-size (atTail s)) (H-size s) (T-size s) (near-is _ _ _ tt (middle-is K c s))
 
   pub bHead-size : (s : Side) → Small (bHead K c s)
   unfolding bHead

@@ -12,7 +12,7 @@ use Rattle.mesh.specs.Links.{link}
 use Rattle.mesh.specs.Faults.{Verdict, _orElse_, single, lowestOf, linkVerdict}
 use Rattle.mesh.specs.Answers.{stated, kept}
 use Rattle.mesh.specs.declared.Answer.{Answer}
-use Rattle.surface.specs.Refined.{nets}
+use Rattle.surface.specs.Refined.{perCorner, nets}
 
 -- 15: the link table differs from what linking writes
 unfoldable pub fault15 : Mesh → List ℕ → ℕ → Bool
@@ -24,7 +24,7 @@ fault16 M first count = eqb count 0 || ltb (cornerCount M) (first + count)
 
 -- 17: the output's length
 unfoldable pub fault17 : ℕ → ℕ → Bool
-fault17 count n = not (eqb n (123 * count))
+fault17 count n = not (eqb n (perCorner * count))
 
 -- building is checked by 4 to 17; n is the output's length
 unfoldable pub buildVerdict : Mesh → List ℕ → ℕ → ℕ → ℕ → Verdict

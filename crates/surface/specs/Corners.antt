@@ -33,3 +33,13 @@ pub record Sound (K : Corners) : Type 0 where
   pub valence-least : (c : ℕ) → c < K .count → leastSides ≤ K .valence c
   pub valence-most : (c : ℕ) → c < K .count → K .valence c ≤ mostSides
   pub refined-size : (c : ℕ) → c < K .count → natAbs (K .refined c) ≤ 2 ^ 24
+
+-- two descriptions that agree at each corner
+pub record Agree (K L : Corners) : Type 0 where
+  pub count : K .count ≡ L .count
+  pub next : (c : ℕ) → c < K .count → K .next c ≡ L .next c
+  pub previous : (c : ℕ) → c < K .count → K .previous c ≡ L .previous c
+  pub link : (c : ℕ) → c < K .count → K .link c ≡ L .link c
+  pub sides : (c : ℕ) → c < K .count → K .sides c ≡ L .sides c
+  pub valence : (c : ℕ) → c < K .count → K .valence c ≡ L .valence c
+  pub refined : (c : ℕ) → c < K .count → K .refined c ≡ L .refined c

@@ -41,10 +41,14 @@ cornersOf M axis = record {
   refined = refinedPoint M axis;
 }
 
--- number i of the output for the corners from `first` on: 123 numbers a corner, x, y, z of each of its 41 points
+-- the numbers that building writes for a corner: x, y, z of each of its 41 points
+abbrev pub perCorner : ℕ
+perCorner = 123
+
+-- number i of the output for the corners from `first` on
 unfoldable pub numberAt : Mesh → ℕ → ℕ → ℤ
-numberAt M first i = getD (net (cornersOf M (i % 3)) (first + i / 123)) (i % 123 / 3) (pos 0)
+numberAt M first i = getD (net (cornersOf M (i % 3)) (first + i / perCorner)) (i % perCorner / 3) (pos 0)
 
 -- what building writes for `count` corners from `first` on
 unfoldable pub nets : Mesh → ℕ → ℕ → List ℤ
-nets M first count = valuesFrom (numberAt M first) 0 (123 * count)
+nets M first count = valuesFrom (numberAt M first) 0 (perCorner * count)

@@ -1,0 +1,81 @@
+#!/bin/sh
+# The library as its users take it: the header as C11 and as C++17, the C example, the sample meshes, the Rust tests.
+# Needs target/staticlib/libmahunopi.a (`rt staticlib mahunopi`; MAHUNOPI_LIB names another directory that has it) and
+# what .ci/install installs. Prints a line for each check and last `users: N passed, M failed`, where every Rust test
+# counts; the status is 0 when none failed.
+set -u
+cd "$(dirname "$0")/.." || exit 2
+library=${MAHUNOPI_LIB:-$PWD/target/staticlib}
+MAHUNOPI_LIB=$library
+CARGO_NET_OFFLINE=true
+export MAHUNOPI_LIB CARGO_NET_OFFLINE
+command -v cargo >/dev/null || PATH=$PATH:$HOME/.cargo/bin
+work=$(mktemp -d) || exit 2
+trap 'rm -rf "$work"' EXIT
+warnings='-Wall -Wextra -Wpedantic -Wconversion -Wshadow -Werror'
+passed=0
+failed=0
+
+# check NAME COMMAND..: runs the command, and shows what it says only where it fails
+check() {
+    name=$1
+    shift
+    if "$@" >"$work/said" 2>&1; then
+        echo "users: $name: passed"
+        passed=$((passed + 1))
+    else
+        echo "users: $name: FAILED"
+        sed 's/^/    /' "$work/said"
+        failed=$((failed + 1))
+    fi
+}
+
+example() {
+    # shellcheck disable=SC2086
+    "$@" $warnings -O2 -Iinclude examples/cube.c -o "$work/cube" -L"$library" -lmahunopi &&
+        "$work/cube" >"$work/printed" && diff examples/cube.expected "$work/printed"
+}
+
+samples() {
+    for text in meshes/*.txt; do
+        meshes/make-dms "$text" | cmp - "${text%.txt}.dms" || return 1
+    done
+}
+
+# Every test that cargo runs counts as one; what does not compile counts as one that fails.
+rust_tests() {
+    cargo test --manifest-path rust/Cargo.toml --workspace --release --offline --locked --no-fail-fast \
+        >"$work/cargo" 2>&1
+    status=$?
+    counts=$(awk '
+        /^test result:/ { passed += $4; failed += $6 }
+        END { printf "%d %d\n", passed, failed }' "$work/cargo")
+    run=${counts% *}
+    wrong=${counts#* }
+    if [ $status -ne 0 ] && [ "$wrong" -eq 0 ]; then
+        wrong=1
+    fi
+    if [ $status -eq 0 ] && [ "$run" -eq 0 ]; then
+        wrong=1
+    fi
+    passed=$((passed + run))
+    failed=$((failed + wrong))
+    if [ "$wrong" -eq 0 ]; then
+        echo "users: Rust tests and documentation examples: $run passed"
+    else
+        echo "users: Rust tests and documentation examples: $run passed, $wrong FAILED"
+        grep -v -e '^test .* ok$' -e '^$' "$work/cargo" | sed 's/^/    /'
+    fi
+}
+
+# shellcheck disable=SC2086
+{
+    check 'header as C11' gcc -std=c11 $warnings -fsyntax-only -x c include/mahunopi.h
+    check 'header as C++17' g++ -std=c++17 $warnings -fsyntax-only -x c++ include/mahunopi.h
+}
+check 'example in C11 prints what it should' example gcc -std=c11
+check 'example in C++17 prints what it should' example g++ -std=c++17 -x c++
+check 'sample meshes are what make-dms makes of their texts' samples
+rust_tests
+echo "users: $passed passed, $failed failed"
+[ "$failed" -eq 0 ]

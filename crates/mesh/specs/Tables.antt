@@ -1,0 +1,16 @@
+-- What tables over the corners hold.
+-- Assumes nothing.
+use mathlib.Core.Path.{_≡_}
+use mathlib.Core.List.{List}
+use Prim.Native.Nat.{ℕ, _<_}
+use lib.ListN.{length, getD}
+use Rattle.mesh.specs.Corners.{next}
+use Rattle.mesh.specs.Links.{link}
+
+-- the next corner of each corner below `end`
+unfoldable pub NextsTo : List ℕ → List ℕ → ℕ → Type 0
+NextsTo sides nexts end = (c : ℕ) → c < end → getD nexts c 0 ≡ next sides c
+
+-- the link of each corner
+unfoldable pub LinkTable : List ℕ → List ℕ → List ℕ → Type 0
+LinkTable sides corners links = (c : ℕ) → c < length corners → getD links c 0 ≡ link sides corners c

@@ -1,0 +1,74 @@
+-- Check 12 meets its contract: no vertex before `u` is at fault.
+-- Assumes nothing.
+use mathlib.Core.Path.{_≡_, sym}
+use mathlib.Core.Bool.{false}
+use mathlib.Core.Logic.{⊎-elim}
+use Prim.Native.Nat.{ℕ, _≤_, _<_, _-_}
+use denote.Ref.{now}
+use borrow.Author.Tests.{ltb-true, ltb-false}
+use Rattle.mesh.specs.Limits.{leastSides, mostSides}
+use Rattle.mesh.specs.Links.{valence}
+use Rattle.mesh.specs.Faults.{fault12}
+use Rattle.mesh.proofs.Ranges.{outside-low, outside-high, inside}
+use Rattle.mesh.proofs.Scans.{fails-step}
+use Rattle.mesh.proofs.Verdicts.{lowest-hit, lowest-none}
+use native.Mathlib.Omega.{arith}
+use borrow.Author.Needs.{needs}
+use Rattle.rings.proofs.check_valences.Statement.{statement}
+use Rattle.rings.proofs.check_valences.Tie as tie
+
+abbrev Inv-loop : tie.InvT-loop
+Inv-loop corners earliers heads vertices u₀ u = (u ≤ vertices) × ((j : ℕ) → j < u → fault12 corners j ≡ false)
+
+abbrev μ-loop : tie.MeasureT-loop
+μ-loop corners earliers heads vertices u₀ u = vertices - u
+
+loop-holds : tie.Need-loop-holds Inv-loop μ-loop
+loop-holds c = (omega arith, λ j l. absurd (omega arith))
+
+gather-requires : tie.Need-gather-requires Inv-loop μ-loop
+gather-requires c κs = search needs
+
+returns : tie.Need-returns Inv-loop μ-loop
+unfolding fault12
+returns c = let s = c .before .before .before .before .before .before .before .before in let l = c .before .before .before .before .loop in let g = c .before .before .gather in
+    let v = valence (now (s .args .corners)) (l .u) in
+    sym (lowest-hit 12 (s .args .vertices) (fault12 (now (s .args .corners))) (l .u) (search needs)
+    (⊎-elim
+    (λ w. outside-low leastSides mostSides v (omega (arith, g .ensures .count-is, w .taken)))
+    (λ w. outside-high leastSides mostSides v (omega (arith, g .ensures .count-is, ltb-true mostSides (g .result .count) (w .2 .taken))))
+    (c .if1 .came))
+    (l .inv .1))
+
+add-u : tie.Need-add-u Inv-loop μ-loop
+add-u c = search needs
+
+loop-less : tie.Need-loop-less Inv-loop μ-loop
+loop-less c = search needs
+
+loop-again : tie.Need-loop-again Inv-loop μ-loop
+unfolding fault12
+loop-again c = let s = c .before .before .before .before .before .before .before .before .before .before in let l = c .before .before .before .before .before .before .loop in let g = c .before .before .before .before .gather in
+    let v = valence (now (s .args .corners)) (l .u) in (
+      search needs,
+      fails-step (fault12 (now (s .args .corners))) (l .u) (l .inv .1)
+          (inside leastSides mostSides v (omega (arith, g .ensures .count-is, c .before .before .if1 .left)) (omega (arith, g .ensures .count-is, ltb-false mostSides (g .result .count) (c .if2 .left)))),
+    )
+
+returns-2 : tie.Need-returns-2 Inv-loop μ-loop
+returns-2 c = let s = c .before .before .before .before .before in let l = c .before .loop in
+    sym (lowest-none 12 (s .args .vertices) (fault12 (now (s .args .corners))) (λ j h. l .inv .1 j (omega arith)))
+
+pub check-valences-spec : {M : Type 1} → statement M
+check-valences-spec =
+    tie.close
+    (tie.spec
+    Inv-loop
+    μ-loop
+    loop-holds
+    gather-requires
+    returns
+    add-u
+    loop-less
+    loop-again
+    returns-2)

@@ -1,0 +1,150 @@
+//! Times of the proved library beside the independent implementation in plain Rust, in one run:
+//!
+//!     cargo run --release --offline -p bench [SECONDS]
+//!
+//! Linking and building are given in nanoseconds per corner, a range of 64 corners in microseconds per call. Each figure
+//! is the least of many passes, which take turns between the two; SECONDS (1 by default) is what one figure may take.
+
+use std::time::{Duration, Instant};
+
+use mahunopi::{Mesh, NUMBERS_OF_A_CORNER};
+use reference::Lists;
+use shapes::{Places, Random, Solid, Tables};
+
+/// The corners of a range, where a mesh has as many.
+const RANGE: usize = 64;
+/// A pass repeats a call until it takes about this long.
+const PASS: Duration = Duration::from_micros(200);
+
+/// The least time of one call, of the library and of the reference.
+#[derive(Clone, Copy)]
+struct Pair {
+    library: f64,
+    reference: f64,
+}
+
+impl Pair {
+    fn ratio(self) -> f64 {
+        self.library / self.reference
+    }
+}
+
+/// The least seconds that one call takes, over passes of both that take turns for `budget`.
+fn least(budget: Duration, mut library: impl FnMut(), mut reference: impl FnMut()) -> Pair {
+    let pass = |call: &mut dyn FnMut(), times: u32| {
+        let start = Instant::now();
+        for _ in 0..times {
+            call();
+        }
+        start.elapsed()
+    };
+    let times_of = |call: &mut dyn FnMut()| {
+        let once = pass(call, 1).min(pass(call, 1)).max(Duration::from_nanos(20));
+        (PASS.as_nanos() / once.as_nanos()).max(1) as u32
+    };
+    let times = [times_of(&mut library), times_of(&mut reference)];
+    let mut best = [Duration::MAX; 2];
+    let start = Instant::now();
+    while start.elapsed() < budget {
+        best[0] = best[0].min(pass(&mut library, times[0]));
+        best[1] = best[1].min(pass(&mut reference, times[1]));
+    }
+    Pair {
+        library: best[0].as_secs_f64() / f64::from(times[0]),
+        reference: best[1].as_secs_f64() / f64::from(times[1]),
+    }
+}
+
+/// The figures of a mesh.
+struct Figures {
+    name: &'static str,
+    corners: usize,
+    link: Pair,
+    build: Pair,
+    range: Pair,
+}
+
+fn measure(name: &'static str, solid: &Solid, budget: Duration) -> Figures {
+    let mut random = Random::new(9);
+    let Tables { coordinates, sides, corners } = Tables::relabelled(solid, Places::Shaken, &mut random);
+    let mesh = Mesh { coordinates, sides, corners };
+    let lists = Lists { coordinates: &mesh.coordinates, sides: &mesh.sides, corners: &mesh.corners };
+    let count = mesh.corners.len();
+    let accepted = "an accepted mesh";
+
+    let mut tables = [vec![0; count], vec![0; count]];
+    let [library, plain] = &mut tables;
+    let link = least(
+        budget,
+        || mahunopi::link_into(&mesh, library).expect(accepted),
+        || reference::link(lists, plain).expect(accepted),
+    );
+    let [links, plain] = tables;
+    assert!(links == plain, "{name}: the link tables differ");
+
+    let build = |first: usize, count: usize| {
+        let mut outputs = [vec![0; NUMBERS_OF_A_CORNER * count], vec![0; NUMBERS_OF_A_CORNER * count]];
+        let [library, plain] = &mut outputs;
+        let pair = least(
+            budget,
+            || mahunopi::build_into(&mesh, &links, first, count, library).expect(accepted),
+            || reference::build(lists, &links, first, count, plain).expect(accepted),
+        );
+        assert!(outputs[0] == outputs[1], "{name}: the control points differ");
+        pair
+    };
+    let range = RANGE.min(count);
+    Figures { name, corners: count, link, build: build(0, count), range: build((count - range) / 2, range) }
+}
+
+fn main() {
+    let seconds = std::env::args().nth(1).map_or(1.0, |text| text.parse().expect("a number of seconds"));
+    let budget = Duration::from_secs_f64(seconds);
+    let mut random = Random::new(10);
+    let prisms = (1..85).fold(Solid::prism(12), |all, _| all.with(Solid::prism(12)));
+    let irregular = Solid::torus(20, 30).roughened(&mut random, 20_000, 8_000);
+    let meshes = [
+        ("cube", Solid::cube()),
+        ("85 twelve-sided prisms", prisms),
+        ("torus", Solid::torus(32, 64)),
+        ("mixed irregular mesh", irregular),
+        ("torus", Solid::torus(16, 16)),
+        ("torus", Solid::torus(16, 32)),
+        ("torus", Solid::torus(32, 32)),
+    ];
+    println!(
+        "| mesh | corners | linking, ns per corner | plain | ratio | building, ns per corner | plain | ratio \
+              | range of {RANGE}, µs | plain | ratio | range over linking |"
+    );
+    println!("|---|---|---|---|---|---|---|---|---|---|---|---|");
+    let mut figures = Vec::new();
+    for (name, solid) in &meshes {
+        let found = measure(name, solid, budget);
+        let each = 1e9 / found.corners as f64;
+        let Figures { link, build, range, .. } = found;
+        println!(
+            "| {} | {} | {:.1} | {:.1} | {:.2} | {:.0} | {:.0} | {:.2} | {:.1} | {:.1} | {:.2} | {:.2} |",
+            found.name,
+            found.corners,
+            each * link.library,
+            each * link.reference,
+            link.ratio(),
+            each * build.library,
+            each * build.reference,
+            build.ratio(),
+            1e6 * range.library,
+            1e6 * range.reference,
+            range.ratio(),
+            range.library / link.library,
+        );
+        figures.push(found);
+    }
+    // the torus of 8,192 corners against that of 1,024, per corner
+    let [large, small] = [&figures[2], &figures[4]];
+    let growth = |time: fn(&Figures) -> f64| time(large) / time(small) * small.corners as f64 / large.corners as f64;
+    println!();
+    println!("| growth per corner from {} to {} corners | library | plain |", small.corners, large.corners);
+    println!("|---|---|---|");
+    println!("| linking | {:.2} | {:.2} |", growth(|f| f.link.library), growth(|f| f.link.reference));
+    println!("| building | {:.2} | {:.2} |", growth(|f| f.build.library), growth(|f| f.build.reference));
+}

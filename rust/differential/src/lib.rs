@@ -1,0 +1,158 @@
+//! Calls the proved library and the independent implementation with the same input and the same contents of every lent
+//! space, and demands the same answer and the same contents afterwards. What is left alone is checked too: the place
+//! when the library is done, the lengths after a refusal.
+
+use mahunopi::raw;
+use reference::{Lengths, Lists, Refusal};
+use shapes::{Random, Tables};
+
+/// What `place` and the lengths hold before a call.
+const UNTOUCHED: u64 = 0xfeed_0000_0000_beef;
+
+pub fn lists(tables: &Tables) -> Lists<'_> {
+    Lists { coordinates: &tables.coordinates, sides: &tables.sides, corners: &tables.corners }
+}
+
+/// The library's answer; fails where it is done and the place is not left alone.
+fn answer(number: u32, place: u64) -> Result<(), Refusal> {
+    if number == 0 {
+        assert_eq!(place, UNTOUCHED, "the place changes without a refusal");
+        return Ok(());
+    }
+    Err(Refusal { number, place })
+}
+
+fn same<T: PartialEq + std::fmt::Debug>(what: &str, library: &[T], reference: &[T]) {
+    if let Some(at) = library.iter().zip(reference).position(|(a, b)| a != b) {
+        let (a, b) = (&library[at], &reference[at]);
+        panic!("{what}[{at}] is {a:?} after the library's call, {b:?} after the reference's");
+    }
+}
+
+/// Linking with a lent table of `length` entries; the links where both are done.
+pub fn link(tables: &Tables, length: usize, random: &mut Random) -> Result<Vec<u16>, Refusal> {
+    let mut links: Vec<u16> = (0..length).map(|_| random.bits() as u16).collect();
+    let mut expected = links.clone();
+    let mut place = UNTOUCHED;
+    // SAFETY: each pointer goes with the length of its own list
+    let number = unsafe {
+        raw::mahunopi_link(
+            tables.coordinates.as_ptr(),
+            tables.coordinates.len(),
+            tables.sides.as_ptr(),
+            tables.sides.len(),
+            tables.corners.as_ptr(),
+            tables.corners.len(),
+            links.as_mut_ptr(),
+            links.len(),
+            &mut place,
+        )
+    };
+    let result = reference::link(lists(tables), &mut expected);
+    assert_eq!(answer(number, place), result, "linking answers otherwise");
+    same("links", &links, &expected);
+    result.map(|()| links)
+}
+
+/// Building into a lent output of `length` numbers; the control points where both are done.
+pub fn build(
+    tables: &Tables,
+    links: &[u16],
+    first: usize,
+    count: usize,
+    length: usize,
+    random: &mut Random,
+) -> Result<Vec<i32>, Refusal> {
+    let mut output: Vec<i32> = (0..length).map(|_| random.bits() as i32).collect();
+    let mut expected = output.clone();
+    let mut place = UNTOUCHED;
+    // SAFETY: each pointer goes with the length of its own list
+    let number = unsafe {
+        raw::mahunopi_build(
+            tables.coordinates.as_ptr(),
+            tables.coordinates.len(),
+            tables.sides.as_ptr(),
+            tables.sides.len(),
+            tables.corners.as_ptr(),
+            tables.corners.len(),
+            links.as_ptr(),
+            links.len(),
+            first,
+            count,
+            output.as_mut_ptr(),
+            output.len(),
+            &mut place,
+        )
+    };
+    let result = reference::build(lists(tables), links, first, count, &mut expected);
+    assert_eq!(answer(number, place), result, "building answers otherwise");
+    same("output", &output, &expected);
+    result.map(|()| output)
+}
+
+/// Reading the bytes as a file of `length` bytes into lent lists with `spaces` entries.
+pub fn decode(bytes: &[u8], length: u64, spaces: [usize; 3], random: &mut Random) -> Result<Tables, Refusal> {
+    let mut read = Tables {
+        coordinates: (0..spaces[0]).map(|_| random.bits() as i32).collect(),
+        sides: (0..spaces[1]).map(|_| random.bits() as u8).collect(),
+        corners: (0..spaces[2]).map(|_| random.bits() as u16).collect(),
+    };
+    let mut expected = read.clone();
+    let mut place = UNTOUCHED;
+    let mut lengths = [UNTOUCHED; 3];
+    let [coordinate_count, side_count, corner_count] = &mut lengths;
+    // SAFETY: each pointer goes with the length of its own list
+    let number = unsafe {
+        raw::mahunopi_decode(
+            bytes.as_ptr(),
+            bytes.len(),
+            length,
+            read.coordinates.as_mut_ptr(),
+            read.coordinates.len(),
+            read.sides.as_mut_ptr(),
+            read.sides.len(),
+            read.corners.as_mut_ptr(),
+            read.corners.len(),
+            coordinate_count,
+            side_count,
+            corner_count,
+            &mut place,
+        )
+    };
+    let result =
+        reference::decode(bytes, length, &mut expected.coordinates, &mut expected.sides, &mut expected.corners);
+    assert_eq!(answer(number, place), result.map(|_| ()), "decoding answers otherwise");
+    same("coordinates", &read.coordinates, &expected.coordinates);
+    same("sides", &read.sides, &expected.sides);
+    same("corners", &read.corners, &expected.corners);
+    let asked = match result {
+        Ok(Lengths { coordinates, sides, corners }) => [coordinates, sides, corners].map(|length| length as u64),
+        Err(_) => [UNTOUCHED; 3],
+    };
+    assert_eq!(lengths, asked, "decoding gives other lengths");
+    let Lengths { coordinates, sides, corners } = result?;
+    read.coordinates.truncate(coordinates);
+    read.sides.truncate(sides);
+    read.corners.truncate(corners);
+    Ok(read)
+}
+
+/// Runs a check for each case number, and says which one failed. MAHUNOPI_CASES in the environment multiplies the
+/// number of cases; MAHUNOPI_CASE runs one alone.
+pub fn each_case(cases: u64, seed: u64, mut check: impl FnMut(u64, &mut Random)) {
+    let number = |name: &str| std::env::var(name).ok().map(|text| text.parse::<u64>().expect("a whole number"));
+    let times = number("MAHUNOPI_CASES").unwrap_or(1);
+    let range = match number("MAHUNOPI_CASE") {
+        Some(case) => case..case + 1,
+        None => 0..cases * times,
+    };
+    for case in range {
+        // what a case draws depends on its number alone
+        let mut random = Random::new(seed.wrapping_mul(0x1_0000_0001).wrapping_add(case << 20));
+        let run = std::panic::AssertUnwindSafe(|| check(case, &mut random));
+        if let Err(failure) = std::panic::catch_unwind(run) {
+            eprintln!("case {case} failed; MAHUNOPI_CASE={case} runs it alone");
+            std::panic::resume_unwind(failure);
+        }
+    }
+}

@@ -1,0 +1,273 @@
+//! The proved library against the independent implementation, on meshes from fixed seeds.
+
+use differential::{build, decode, each_case, link, lists};
+use reference::conditions::{borders, BOUND};
+use reference::{encode, LENT_TOO_SHORT, NUMBERS_OF_A_CORNER};
+use shapes::{damage, random_tables, Places, Random, Solid, Tables, DAMAGES};
+
+/// Spaces that every file fits in.
+const ENOUGH: [usize; 3] = [6_144, 4_096, 8_192];
+
+/// Links a mesh, builds it whole, and measures the borders from what the library wrote.
+fn whole(tables: &Tables, random: &mut Random) -> Option<(Vec<u16>, Vec<i32>, [i64; 4])> {
+    let corners = tables.corners.len();
+    let links = link(tables, corners, random).ok()?;
+    let output = build(tables, &links, 0, corners, NUMBERS_OF_A_CORNER * corners, random).expect("an accepted mesh");
+    let found = borders(lists(tables), &output).expect("an accepted mesh");
+    assert_eq!((found.met, found.split), (2 * corners, 0), "a common curve differs between two nets");
+    assert!(found.largest.iter().all(|&miss| miss <= BOUND), "a condition is missed: {:?}", found.largest);
+    Some((links, output, found.largest))
+}
+
+/// Builds a range and compares it with the same range of the whole.
+fn range(tables: &Tables, links: &[u16], whole: &[i32], first: usize, count: usize, random: &mut Random) {
+    let numbers = NUMBERS_OF_A_CORNER * first..NUMBERS_OF_A_CORNER * (first + count);
+    let part = build(tables, links, first, count, numbers.len(), random).expect("a range of an accepted mesh");
+    assert!(part == whole[numbers], "a range differs from the same corners of the whole");
+}
+
+#[test]
+fn random_meshes_and_ranges() {
+    let mut accepted = 0;
+    let mut corners = 0;
+    let mut largest = [0; 4];
+    each_case(1_500, 1, |_, random| {
+        let tables = random_tables(random);
+        let (links, output, misses) = match whole(&tables, random) {
+            Some(built) => built,
+            None => return,
+        };
+        accepted += 1;
+        corners += links.len();
+        for (all, miss) in largest.iter_mut().zip(misses) {
+            *all = miss.max(*all);
+        }
+        for _ in 0..2 {
+            let first = random.below(links.len());
+            let count = 1 + random.below(links.len() - first);
+            range(&tables, &links, &output, first, count, random);
+            range(&tables, &links, &output, first, 1, random);
+        }
+        let bytes = encode(lists(&tables));
+        let read = decode(&bytes, bytes.len() as u64, ENOUGH, random).expect("the file of an accepted mesh");
+        assert!(read == tables, "the file of a mesh reads otherwise");
+    });
+    let ticks = largest.map(|miss| miss as f64 / (1u64 << 30) as f64);
+    println!("accepted {accepted} meshes of {corners} corners; largest misses {ticks:.3?} of 13");
+    assert!(accepted > 0);
+}
+
+#[test]
+fn families_with_all_kinds_of_coordinates() {
+    let mut random = Random::new(2);
+    let mut solids = Vec::new();
+    for n in 3..=12 {
+        for solid in [Solid::prism(n), Solid::antiprism(n), Solid::pyramid(n), Solid::bipyramid(n)] {
+            solids.push(solid.dual());
+            solids.push(solid.rectified());
+            solids.push(solid.expanded());
+            solids.push(solid);
+        }
+        solids.push(Solid::prism(n).dual().rectified());
+        solids.push(Solid::torus(3, n));
+        solids.push(Solid::torus(n, n).dual());
+    }
+    for n in 3..=6 {
+        solids.push(Solid::prism(n).truncated());
+        solids.push(Solid::antiprism(n).truncated());
+        solids.push(Solid::prism(n).stellated());
+        solids.push(Solid::torus(n, 5).truncated().with(Solid::torus(4, n).stellated()));
+    }
+    for (number, solid) in solids.iter().enumerate() {
+        assert!(whole(&Tables::of(solid), &mut random).is_some(), "solid {number} is refused");
+        for places in Places::ALL {
+            let tables = Tables::relabelled(solid, places, &mut random);
+            assert!(whole(&tables, &mut random).is_some(), "solid {number} is refused with {places:?}");
+        }
+    }
+}
+
+/// Meshes at the limits: 8,192 corners, 4,096 faces, 2,048 vertices.
+#[test]
+fn largest_meshes() {
+    let mut random = Random::new(3);
+    let prisms = (1..85).fold(Solid::prism(12), |all, _| all.with(Solid::prism(12)));
+    let tetrahedra = (1..512).fold(Solid::tetrahedron(), |all, _| all.with(Solid::tetrahedron()));
+    let irregular = Solid::torus(32, 40).roughened(&mut random, 3_000, 8_000);
+    let meshes = [
+        (Solid::torus(32, 64), 8_192),
+        (Solid::torus(3, 682), 8_184),
+        (Solid::torus(16, 32).stellated(), 6_144),
+        (tetrahedra, 6_144),
+        (prisms, 6_120),
+        (irregular, 0),
+    ];
+    for (number, (solid, corners)) in meshes.iter().enumerate() {
+        for places in [Places::Anywhere, Places::Extreme] {
+            let tables = Tables::relabelled(solid, places, &mut random);
+            assert!(*corners == 0 || tables.corners.len() == *corners);
+            let (links, output, _) = whole(&tables, &mut random).unwrap_or_else(|| panic!("mesh {number} is refused"));
+            let end = links.len();
+            for (first, count) in [(0, 1), (end - 1, 1), (end / 2 - 32, 64), (1, end - 1), (0, end - 1)] {
+                range(&tables, &links, &output, first, count, &mut random);
+            }
+        }
+    }
+}
+
+/// Each fault of 4 to 13 alone, and mixed with others.
+#[test]
+fn damaged_meshes() {
+    let mut seen = [0; 18];
+    each_case(3_000, 4, |case, random| {
+        let mut tables = random_tables(random);
+        let sound_corners = tables.corners.len();
+        damage(&mut tables, DAMAGES.start() + (case % DAMAGES.count() as u64) as u32, random);
+        if random.once_in(3) {
+            damage(&mut tables, DAMAGES.start() + random.below(DAMAGES.count()) as u32, random);
+        }
+        let corners = tables.corners.len();
+        let length = *random.pick(&[corners, corners, sound_corners, corners + 1, 0]);
+        if let Err(refusal) = link(&tables, length, random) {
+            seen[refusal.number as usize] += 1;
+        }
+        // building is refused for the same reason, whatever else it is given
+        let links: Vec<u16> = (0..length).map(|_| random.bits() as u16).collect();
+        let outputs = 123 * random.below(4);
+        let _ = build(&tables, &links, random.below(corners + 2), random.below(4), outputs, random);
+        let bytes = encode(lists(&tables));
+        let _ = decode(&bytes, bytes.len() as u64, ENOUGH, random);
+    });
+    println!("refused by linking, 4 to 14: {:?}", &seen[4..15]);
+    assert!(std::env::var_os("MAHUNOPI_CASE").is_some() || seen[4..15].iter().all(|&n| n > 0), "{seen:?}");
+}
+
+/// 14 to 17: wrong lengths, links and ranges of sound meshes.
+#[test]
+fn wrong_lengths_links_and_ranges() {
+    let mut seen = [0; 18];
+    each_case(1_500, 5, |_, random| {
+        let tables = random_tables(random);
+        let corners = tables.corners.len();
+        let mut links = match link(&tables, corners, random) {
+            Ok(links) => links,
+            Err(_) => return,
+        };
+        let _ = link(&tables, *random.pick(&[0, 1, corners - 1, corners + 1, 2 * corners]), random);
+        match random.below(8) {
+            0 => drop(links.pop()),
+            1 => links.push(0),
+            2 => links.clear(),
+            3 | 4 => {
+                for _ in 0..1 + random.below(3) {
+                    let at = random.below(corners);
+                    links[at] = *random.pick(&[links[at] ^ 1, links[at].wrapping_add(1), corners as u16, u16::MAX, 0]);
+                }
+            }
+            5 => {
+                // the inverse table: every entry is a corner of the right vertex
+                let forward = links.clone();
+                for (corner, &linked) in forward.iter().enumerate() {
+                    links[usize::from(linked)] = corner as u16;
+                }
+            }
+            _ => {}
+        }
+        let first = *random.pick(&[0, 1, corners / 2, corners - 1, corners, corners + 1, usize::MAX, 1 << 32]);
+        let count = *random.pick(&[0, 1, 2, 64, corners, corners - 1, corners + 1, usize::MAX, 1 << 32]);
+        let right = if count <= corners { 123 * count } else { 123 };
+        let length = *random.pick(&[right, right, right, right.saturating_sub(1), right + 1, 0, right + 123]);
+        if let Err(refusal) = build(&tables, &links, first, count, length, random) {
+            seen[refusal.number as usize] += 1;
+        }
+    });
+    println!("refused by building, 14 to 17: {:?}", &seen[14..]);
+    assert!(std::env::var_os("MAHUNOPI_CASE").is_some() || seen[14..].iter().all(|&n| n > 0), "{seen:?}");
+}
+
+/// 1 to 3 and the rest: files with wrong headers, lengths and bytes, and lent lists of every size.
+#[test]
+fn damaged_files() {
+    let mut seen = [0; 256];
+    each_case(3_000, 6, |_, random| {
+        let mut tables = random_tables(random);
+        if random.once_in(4) {
+            damage(&mut tables, DAMAGES.start() + random.below(DAMAGES.count()) as u32, random);
+        }
+        let mut bytes = encode(lists(&tables));
+        let mut spaces = ENOUGH;
+        let sound = bytes.len();
+        match random.below(9) {
+            0 => bytes.truncate(random.below(14)),
+            1 => bytes[random.below(5)] ^= 1 << random.below(8),
+            2 => bytes[5 + random.below(6)] ^= 1 << random.below(8),
+            3 => bytes.truncate(random.below(sound)),
+            4 => bytes.extend((0..1 + random.below(3)).map(|_| 0)),
+            5 => {
+                for _ in 0..1 + random.below(3) {
+                    bytes[random.below(sound)] = random.bits() as u8;
+                }
+            }
+            6 | 7 => {
+                // the lengths of the lists, or one entry more or less
+                let asked = [tables.coordinates.len(), tables.sides.len(), tables.corners.len()];
+                spaces = asked.map(|asked| *random.pick(&[asked, asked, asked, asked + 1, asked.saturating_sub(1), 0]));
+            }
+            _ => {}
+        }
+        let held = bytes.len() as u64;
+        let length = match random.below(24) {
+            0 => held + 1,
+            1 => held.saturating_sub(1),
+            2 => held + (1 << 32),
+            3 => u64::MAX,
+            4 => random.below(14) as u64,
+            5 => sound as u64,
+            _ => held,
+        };
+        let answer = decode(&bytes, length, spaces, random);
+        seen[answer.map_or_else(|refusal| refusal.number as usize, |_| 0)] += 1;
+    });
+    println!("read {}, refused by 1 to 13: {:?}, too short {}", seen[0], &seen[1..14], seen[LENT_TOO_SHORT as usize]);
+    assert!(std::env::var_os("MAHUNOPI_CASE").is_some() || seen[..14].iter().all(|&n| n > 0), "{:?}", &seen[..14]);
+}
+
+/// Files whose counts ask for more bytes than any buffer: with the length that 3 asks they are 4.
+#[test]
+fn files_beyond_every_limit() {
+    let mut random = Random::new(7);
+    for counts in [[65_535u16; 3], [2_049, 1, 1], [1, 4_097, 1], [1, 1, 8_193], [0, 1, 1], [1, 0, 1], [1, 1, 0], [0; 3]]
+    {
+        let mut bytes = b"DMS\x01\x00".to_vec();
+        bytes.extend(counts.iter().flat_map(|count| count.to_le_bytes()));
+        let [vertices, faces, corners] = counts.map(u64::from);
+        let asked = 11 + 12 * vertices + faces + 2 * corners;
+        for (length, number) in [(asked, 4), (asked + 1, 3), (asked.max(12) - 1, if asked == 11 { 4 } else { 3 })] {
+            let refusal = decode(&bytes, length, ENOUGH, &mut random).expect_err("counts beyond the limits");
+            assert_eq!((refusal.number, refusal.place), (number, 0), "{counts:?}, length {length}");
+        }
+    }
+}
+
+/// The sample meshes, from their files to their control points.
+#[test]
+fn sample_meshes() {
+    let mut random = Random::new(8);
+    let folder = concat!(env!("CARGO_MANIFEST_DIR"), "/../../meshes");
+    let (mut accepted, mut refused) = (0, 0);
+    for file in std::fs::read_dir(folder).expect("the folder of samples") {
+        let path = file.expect("a file").path();
+        if path.extension().map_or(true, |extension| extension != "dms") {
+            continue;
+        }
+        let bytes = std::fs::read(&path).expect("the bytes");
+        match decode(&bytes, bytes.len() as u64, ENOUGH, &mut random) {
+            Ok(tables) => {
+                assert!(whole(&tables, &mut random).is_some());
+                accepted += 1;
+            }
+            Err(_) => refused += 1,
+        }
+    }
+    assert_eq!((accepted, refused), (5, 1));
+}

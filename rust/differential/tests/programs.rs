@@ -1,0 +1,119 @@
+//! The programs `inspect` and `patches`, as `rt ci` leaves them in target/bin, against what the independent
+//! implementation prints. MAHUNOPI_BIN names another directory that has them. A program whose crate is not in the
+//! repository is passed over.
+
+use std::fs::File;
+use std::io::Write;
+use std::path::{Path, PathBuf};
+use std::process::{Command, Stdio};
+
+use differential::{each_case, lists};
+use reference::{encode, inspect, patches};
+use shapes::{damage, random_tables, Places, Random, Solid, Tables, DAMAGES};
+
+/// The program's executable, where the repository has its crate.
+fn program(name: &str) -> Option<PathBuf> {
+    let root = Path::new(env!("CARGO_MANIFEST_DIR")).join("../..");
+    let directory = std::env::var_os("MAHUNOPI_BIN").map_or_else(|| root.join("target/bin"), PathBuf::from);
+    if !root.join("crates").join(name).is_dir() {
+        println!("the repository has no crate {name}");
+        return None;
+    }
+    let path = directory.join(name);
+    assert!(path.is_file(), "{} is not there: run `rt check {name}`", path.display());
+    Some(path)
+}
+
+/// What the program prints of a file that stands on a disk.
+fn of_file(program: &Path, bytes: &[u8]) -> String {
+    let name = format!("mahunopi-{}-{:?}.dms", std::process::id(), std::thread::current().id());
+    let path = std::env::temp_dir().join(name);
+    std::fs::write(&path, bytes).expect("a file to read from");
+    let file = File::open(&path).expect("the file");
+    let output = Command::new(program).stdin(Stdio::from(file)).output().expect("a run");
+    std::fs::remove_file(&path).expect("the file to remove");
+    String::from_utf8(output.stdout).expect("plain text")
+}
+
+/// What the program prints of a file that reaches it in pieces.
+fn of_pieces(program: &Path, bytes: &[u8], piece: usize) -> String {
+    let mut child =
+        Command::new(program).stdin(Stdio::piped()).stdout(Stdio::piped()).spawn().expect("a run of the program");
+    let mut input = child.stdin.take().expect("its input");
+    let pieces: Vec<Vec<u8>> = bytes.chunks(piece).map(<[u8]>::to_vec).collect();
+    let writer = std::thread::spawn(move || {
+        for piece in pieces {
+            // a program that has seen enough of a file may close its input
+            if input.write_all(&piece).and_then(|()| input.flush()).is_err() {
+                break;
+            }
+        }
+    });
+    let output = child.wait_with_output().expect("its output");
+    writer.join().expect("the writer");
+    String::from_utf8(output.stdout).expect("plain text")
+}
+
+/// Files of all kinds: sound, damaged, cut, longer than they say.
+fn random_file(random: &mut Random) -> Vec<u8> {
+    let mut tables = random_tables(random);
+    if random.once_in(2) {
+        damage(&mut tables, DAMAGES.start() + random.below(DAMAGES.count()) as u32, random);
+    }
+    let mut bytes = encode(lists(&tables));
+    match random.below(8) {
+        0 => bytes.truncate(random.below(14)),
+        1 => bytes.truncate(random.below(bytes.len())),
+        2 => bytes.extend([0; 3]),
+        3 => bytes[random.below(11)] ^= 1 << random.below(8),
+        _ => {}
+    }
+    bytes
+}
+
+/// Files at and beyond the limits: the largest mesh, and counts that ask for more bytes than any buffer has.
+fn large_files() -> Vec<Vec<u8>> {
+    let mut random = Random::new(11);
+    let torus = Tables::relabelled(&Solid::torus(32, 64), Places::Extreme, &mut random);
+    let mut files = vec![encode(lists(&torus)), Vec::new()];
+    let mut longer = files[0].clone();
+    longer.push(0);
+    files.push(longer);
+    for more in [-1, 0, 1, 5_000_000] {
+        let mut bytes = b"DMS\x01\x00\xff\xff\xff\xff\xff\xff".to_vec();
+        let asked = 11 + (12 + 1 + 2) * 65_535;
+        bytes.resize((asked + more) as usize, 7);
+        files.push(bytes);
+    }
+    files
+}
+
+fn compare(name: &str, expected: fn(&[u8]) -> String, cases: u64, seed: u64) {
+    let path = match program(name) {
+        Some(path) => path,
+        None => return,
+    };
+    for (number, bytes) in large_files().iter().enumerate() {
+        assert!(of_file(&path, bytes) == expected(bytes), "{name} prints otherwise of large file {number}");
+        assert!(of_pieces(&path, bytes, 4_099) == expected(bytes), "{name} prints otherwise of pieces {number}");
+    }
+    each_case(cases, seed, |_, random| {
+        let bytes = random_file(random);
+        let printed = if random.once_in(2) {
+            of_file(&path, &bytes)
+        } else {
+            of_pieces(&path, &bytes, *random.pick(&[1, 7, 11, 512, 65_536]))
+        };
+        assert!(printed == expected(&bytes), "{name} prints otherwise");
+    });
+}
+
+#[test]
+fn inspect_prints_counts_and_refusals() {
+    compare("inspect", inspect, 300, 12);
+}
+
+#[test]
+fn patches_prints_every_control_point() {
+    compare("patches", patches, 100, 13);
+}

@@ -1,0 +1,234 @@
+//! Null and empty spaces, sizes of zero and lengths beyond 32 bits meet a refusal and nothing else, for the library's
+//! own functions and for the safe ones.
+
+use std::ptr::{null, null_mut};
+
+use mahunopi::{build, decode, link, raw, Mesh, Refusal};
+
+const BEYOND: usize = 1 << 32;
+const UNTOUCHED: u64 = 0x1234_5678_9abc_def0;
+
+fn cube() -> Mesh {
+    Mesh {
+        coordinates: vec![3, 3, 3, 3, -3, 3, -3, -3, 3, -3, 3, 3, 3, 3, -3, 3, -3, -3, -3, -3, -3, -3, 3, -3],
+        sides: vec![4; 6],
+        corners: vec![0, 1, 2, 3, 4, 7, 6, 5, 1, 0, 4, 5, 2, 1, 5, 6, 3, 2, 6, 7, 0, 3, 7, 4],
+    }
+}
+
+/// Linking of the cube with these lengths in the place of its own. Every list has its own entries only: a length that
+/// names more has to be refused before they are looked at.
+fn link_with(coordinates: usize, sides: usize, corners: usize, links: usize) -> (u32, u64) {
+    let mesh = cube();
+    let mut table = [7; 24];
+    let mut place = UNTOUCHED;
+    let number = unsafe {
+        raw::mahunopi_link(
+            mesh.coordinates.as_ptr(),
+            coordinates,
+            mesh.sides.as_ptr(),
+            sides,
+            mesh.corners.as_ptr(),
+            corners,
+            table.as_mut_ptr(),
+            links,
+            &mut place,
+        )
+    };
+    assert_eq!(table == [7; 24], number != 0);
+    (number, place)
+}
+
+/// Building of the cube with these lengths.
+fn build_with(links: usize, first: usize, count: usize, output: usize) -> (u32, u64) {
+    let mesh = cube();
+    let table = link(&mesh).unwrap();
+    let mut numbers = [7; 123];
+    let mut place = UNTOUCHED;
+    let number = unsafe {
+        raw::mahunopi_build(
+            mesh.coordinates.as_ptr(),
+            24,
+            mesh.sides.as_ptr(),
+            6,
+            mesh.corners.as_ptr(),
+            24,
+            table.as_ptr(),
+            links,
+            first,
+            count,
+            numbers.as_mut_ptr(),
+            output,
+            &mut place,
+        )
+    };
+    assert_eq!(numbers == [7; 123], number != 0);
+    (number, place)
+}
+
+#[test]
+fn lengths_beyond_32_bits() {
+    assert_eq!(link_with(24, 6, 24, 24), (0, UNTOUCHED));
+    for beyond in [BEYOND - 1, BEYOND, BEYOND + 24, 3 << 32, usize::MAX / 8] {
+        assert_eq!(link_with(beyond, 6, 24, 24), (4, 0));
+        assert_eq!(link_with(BEYOND + 24, 6, 24, beyond), (4, 0));
+        assert_eq!(link_with(24, beyond, 24, 24), (4, 0));
+        assert_eq!(link_with(24, 6, beyond, 24), (4, 0));
+        assert_eq!(link_with(24, 6, 24, beyond), (14, beyond as u64));
+        assert_eq!(build_with(beyond, 0, 1, 123), (14, beyond as u64));
+        assert_eq!(build_with(24, 0, 1, beyond), (17, beyond as u64));
+    }
+    assert_eq!(link_with(24, BEYOND + 6, 24, 24), (4, 0));
+}
+
+#[test]
+fn ranges_beyond_every_width() {
+    assert_eq!(build_with(24, 23, 1, 123), (0, UNTOUCHED));
+    let far = [24, 65_536, BEYOND - 1, BEYOND, BEYOND + 1, usize::MAX - 1, usize::MAX];
+    for first in far {
+        for count in [0, 1, 2, 24] {
+            assert_eq!(build_with(24, first, count, 123), (16, first as u64));
+        }
+        for count in far {
+            assert_eq!(build_with(24, first, count, 123), (16, first as u64));
+        }
+    }
+    for count in far.into_iter().skip(1) {
+        assert_eq!(build_with(24, 0, count, 123), (16, 0));
+        assert_eq!(build_with(24, 1, count, 0), (16, 1));
+    }
+    assert_eq!(build_with(24, 5, 0, 0), (16, 5));
+    assert_eq!(build_with(24, 5, 1, 0), (17, 0));
+    assert_eq!(build_with(24, 5, 1, 122), (17, 122));
+    assert_eq!(build_with(0, 5, 1, 123), (14, 0));
+}
+
+#[test]
+fn null_spaces() {
+    let mesh = cube();
+    let mut place = UNTOUCHED;
+    unsafe {
+        let nothing = raw::mahunopi_link(null(), 0, null(), 0, null(), 0, null_mut(), 0, &mut place);
+        assert_eq!((nothing, place), (4, 0));
+        place = UNTOUCHED;
+        let (coordinates, sides, corners) = (mesh.coordinates.as_ptr(), mesh.sides.as_ptr(), mesh.corners.as_ptr());
+        let no_table = raw::mahunopi_link(coordinates, 24, sides, 6, corners, 24, null_mut(), 0, &mut place);
+        assert_eq!((no_table, place), (14, 0));
+        for (c, s, v) in [(0, 6, 24), (24, 0, 24), (24, 6, 0)] {
+            place = UNTOUCHED;
+            let number = raw::mahunopi_link(
+                if c == 0 { null() } else { coordinates },
+                c,
+                if s == 0 { null() } else { sides },
+                s,
+                if v == 0 { null() } else { corners },
+                v,
+                null_mut(),
+                0,
+                &mut place,
+            );
+            assert_eq!((number, place), (4, 0));
+        }
+        place = UNTOUCHED;
+        let nothing = raw::mahunopi_build(null(), 0, null(), 0, null(), 0, null(), 0, 0, 0, null_mut(), 0, &mut place);
+        assert_eq!((nothing, place), (4, 0));
+        let links = link(&mesh).unwrap();
+        place = UNTOUCHED;
+        let no_output = raw::mahunopi_build(
+            coordinates,
+            24,
+            sides,
+            6,
+            corners,
+            24,
+            links.as_ptr(),
+            24,
+            3,
+            1,
+            null_mut(),
+            0,
+            &mut place,
+        );
+        assert_eq!((no_output, place), (17, 0));
+    }
+}
+
+/// The answer of reading `bytes` as a file of `length` bytes into no space at all.
+fn decode_nowhere(bytes: &[u8], length: u64) -> (u32, u64, [u64; 3]) {
+    let mut place = UNTOUCHED;
+    let mut lengths = [UNTOUCHED; 3];
+    let [coordinates, sides, corners] = &mut lengths;
+    let number = unsafe {
+        raw::mahunopi_decode(
+            if bytes.is_empty() { null() } else { bytes.as_ptr() },
+            bytes.len(),
+            length,
+            null_mut(),
+            0,
+            null_mut(),
+            0,
+            null_mut(),
+            0,
+            coordinates,
+            sides,
+            corners,
+            &mut place,
+        )
+    };
+    (number, place, lengths)
+}
+
+#[test]
+fn files_of_odd_lengths() {
+    let kept = [UNTOUCHED; 3];
+    let mesh = cube();
+    let mut file = b"DMS\x01\x00\x08\x00\x06\x00\x18\x00".to_vec();
+    file.extend(mesh.coordinates.iter().flat_map(|c| c.to_le_bytes()));
+    file.extend(&mesh.sides);
+    file.extend(mesh.corners.iter().flat_map(|v| v.to_le_bytes()));
+    let length = file.len() as u64;
+    assert_eq!(decode(&file), Ok(mesh));
+    // no space to write to
+    assert_eq!(decode_nowhere(&file, length), (255, 24, kept));
+    // lengths that are another number's in 32 bits, or in any width
+    for far in [0, 10, 1 << 32, (1 << 32) + length, u64::MAX, u64::MAX - 10] {
+        let number = if far < 11 { 1 } else { 3 };
+        assert_eq!(decode_nowhere(&file, far), (number, 0, kept));
+        assert_eq!(decode_nowhere(&[], far), (1, 0, kept));
+        assert_eq!(decode_nowhere(&file[..10], far), (1, 0, kept));
+    }
+    // bytes that are not held, and bytes after the file's end
+    assert_eq!(decode_nowhere(&file[..100], length), (3, 0, kept));
+    file.extend([1, 2, 3]);
+    assert_eq!(decode_nowhere(&file, length), (255, 24, kept));
+    assert_eq!(decode_nowhere(&file, length + 3), (3, 0, kept));
+}
+
+#[test]
+fn safe_functions_on_odd_lengths() {
+    let refusal = |number: u32, place: u64| Refusal { number, place };
+    let nothing = Mesh::default();
+    assert_eq!(link(&nothing), Err(refusal(4, 0)));
+    assert_eq!(build(&nothing, &[], 0, 0), Err(refusal(4, 0)));
+    assert_eq!(decode(&[]), Err(refusal(1, 0)));
+    let mesh = cube();
+    let links = link(&mesh).unwrap();
+    assert_eq!(build(&mesh, &links, 0, 0), Err(refusal(16, 0)));
+    for far in [25, BEYOND, usize::MAX] {
+        assert_eq!(build(&mesh, &links, 0, far), Err(refusal(16, 0)));
+        assert_eq!(build(&mesh, &links, far, 1), Err(refusal(16, far as u64)));
+        assert_eq!(build(&mesh, &links, far, far), Err(refusal(16, far as u64)));
+    }
+    let many = Mesh { corners: vec![0; 8_193], ..cube() };
+    assert_eq!(link(&many), Err(refusal(4, 0)));
+    assert_eq!(build(&many, &links, 0, 8_193), Err(refusal(4, 0)));
+}
+
+#[test]
+fn every_number_has_words() {
+    for number in 1..=17 {
+        let words = Refusal { number, place: 5 }.to_string();
+        assert!(words.starts_with(&format!("refused by {number}: ")) && !words.contains("no such number"));
+        assert_eq!(words.contains("is 5)"), number > 4, "{words}");
+    }
+}

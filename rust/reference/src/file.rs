@@ -1,0 +1,164 @@
+//! The file of 01: reading it into lent lists, writing it, and the lines that the programs print of it.
+
+use std::fmt::Write;
+
+use crate::check::{check_mesh, links_of};
+use crate::surface::{build, NUMBERS_OF_A_CORNER};
+use crate::{refuse, Lists, Refusal, MAX_CORNERS, MAX_FACES, MAX_VERTICES, MOST};
+
+const HEADER: usize = 11;
+/// The refusal of a lent list that is too short for the file; 01 has no number for it.
+pub const LENT_TOO_SHORT: u32 = 255;
+
+/// The lengths of the three lists that a file holds.
+#[derive(Clone, Copy, Debug, PartialEq, Eq)]
+pub struct Lengths {
+    pub coordinates: usize,
+    pub sides: usize,
+    pub corners: usize,
+}
+
+/// The three lists that a file holds.
+struct Held {
+    coordinates: Vec<i32>,
+    sides: Vec<u8>,
+    corners: Vec<u16>,
+}
+
+/// The lists of a file without a fault of 1 to 13. The file is the first `length` of the bytes; a file of which
+/// not all bytes are held is turned down as one of another length (3), after 4.
+fn read(bytes: &[u8], length: u64) -> Result<Held, Refusal> {
+    let held = bytes.len().min(usize::try_from(length).unwrap_or(usize::MAX));
+    let bytes = &bytes[..held];
+    if held < HEADER || !bytes.starts_with(b"DMS") {
+        return refuse(1, 0);
+    }
+    let short = |at: usize| u16::from_le_bytes([bytes[at], bytes[at + 1]]);
+    if short(3) != 1 {
+        return refuse(2, 0);
+    }
+    let [vertices, faces, corners] = [5, 7, 9].map(|at| usize::from(short(at)));
+    let asked = HEADER + 12 * vertices + faces + 2 * corners;
+    if length != asked as u64 {
+        return refuse(3, 0);
+    }
+    let within = |count: usize, most: usize| (1..=most).contains(&count);
+    if !(within(vertices, MAX_VERTICES) && within(faces, MAX_FACES) && within(corners, MAX_CORNERS)) {
+        return refuse(4, 0);
+    }
+    if held != asked {
+        return refuse(3, 0);
+    }
+    let (coordinates, rest) = bytes[HEADER..].split_at(12 * vertices);
+    let (sides, corners) = rest.split_at(faces);
+    let lists = Held {
+        coordinates: coordinates.chunks_exact(4).map(|b| i32::from_le_bytes([b[0], b[1], b[2], b[3]])).collect(),
+        sides: sides.to_vec(),
+        corners: corners.chunks_exact(2).map(|b| u16::from_le_bytes([b[0], b[1]])).collect(),
+    };
+    check_mesh(Lists { coordinates: &lists.coordinates, sides: &lists.sides, corners: &lists.corners })?;
+    Ok(lists)
+}
+
+/// Reads a file into the beginnings of three lent lists, or leaves them as they are and says why.
+pub fn decode(
+    bytes: &[u8],
+    length: u64,
+    coordinates: &mut [i32],
+    sides: &mut [u8],
+    corners: &mut [u16],
+) -> Result<Lengths, Refusal> {
+    let held = read(bytes, length)?;
+    let lengths = Lengths { coordinates: held.coordinates.len(), sides: held.sides.len(), corners: held.corners.len() };
+    let lent = [coordinates.len(), sides.len(), corners.len()];
+    for (lent, asked) in lent.into_iter().zip([lengths.coordinates, lengths.sides, lengths.corners]) {
+        if lent < asked {
+            return refuse(LENT_TOO_SHORT, asked);
+        }
+    }
+    coordinates[..lengths.coordinates].copy_from_slice(&held.coordinates);
+    sides[..lengths.sides].copy_from_slice(&held.sides);
+    corners[..lengths.corners].copy_from_slice(&held.corners);
+    Ok(lengths)
+}
+
+/// What `inspect` prints of a mesh: its size, and for each m the vertices with m corners and the faces with m sides.
+#[derive(Clone, Debug, PartialEq, Eq)]
+pub struct Counts {
+    pub vertices: usize,
+    pub faces: usize,
+    pub corners: usize,
+    pub by_number: [(usize, usize); MOST + 1],
+}
+
+/// The counts of a file, or its refusal.
+pub fn summary(bytes: &[u8], length: u64) -> Result<Counts, Refusal> {
+    let Held { coordinates, sides, corners } = read(bytes, length)?;
+    let mut by_number = [(0, 0); MOST + 1];
+    let mut named = vec![0; coordinates.len() / 3];
+    for &vertex in &corners {
+        named[usize::from(vertex)] += 1;
+    }
+    for count in named {
+        by_number[count].0 += 1;
+    }
+    for &side_count in &sides {
+        by_number[usize::from(side_count)].1 += 1;
+    }
+    Ok(Counts { vertices: coordinates.len() / 3, faces: sides.len(), corners: corners.len(), by_number })
+}
+
+impl std::fmt::Display for Counts {
+    /// The lines of `inspect`.
+    fn fmt(&self, out: &mut std::fmt::Formatter) -> std::fmt::Result {
+        writeln!(out, "mesh {} {} {}", self.vertices, self.faces, self.corners)?;
+        for (number, &(vertices, faces)) in self.by_number.iter().enumerate() {
+            if (vertices, faces) != (0, 0) {
+                writeln!(out, "{number} {vertices} {faces}")?;
+            }
+        }
+        Ok(())
+    }
+}
+
+/// The line that both programs print of a refused file.
+fn refused(refusal: Refusal) -> String {
+    format!("refused {} {}\n", refusal.number, refusal.place)
+}
+
+/// What `inspect` prints of a file.
+pub fn inspect(bytes: &[u8]) -> String {
+    summary(bytes, bytes.len() as u64).map_or_else(refused, |counts| counts.to_string())
+}
+
+/// What `patches` prints of a file: for each corner a line with its number and a line for each of its control points.
+pub fn patches(bytes: &[u8]) -> String {
+    let held = match read(bytes, bytes.len() as u64) {
+        Ok(held) => held,
+        Err(refusal) => return refused(refusal),
+    };
+    let lists = Lists { coordinates: &held.coordinates, sides: &held.sides, corners: &held.corners };
+    let count = held.corners.len();
+    let mut output = vec![0; NUMBERS_OF_A_CORNER * count];
+    let built = links_of(lists).and_then(|links| build(lists, &links, 0, count, &mut output));
+    built.expect("a file without a fault has a mesh without a fault");
+    let mut text = String::new();
+    for (corner, numbers) in output.chunks_exact(NUMBERS_OF_A_CORNER).enumerate() {
+        writeln!(text, "corner {corner}").expect("a string takes every line");
+        for point in numbers.chunks_exact(3) {
+            writeln!(text, "{} {} {}", point[0], point[1], point[2]).expect("a string takes every line");
+        }
+    }
+    text
+}
+
+/// The file of three lists, whatever they hold; counts are cut to 16 bits.
+pub fn encode(lists: Lists) -> Vec<u8> {
+    let mut bytes = b"DMS".to_vec();
+    let counts = [1, lists.coordinates.len() / 3, lists.sides.len(), lists.corners.len()];
+    bytes.extend(counts.into_iter().flat_map(|count| (count as u16).to_le_bytes()));
+    bytes.extend(lists.coordinates.iter().flat_map(|c| c.to_le_bytes()));
+    bytes.extend(lists.sides);
+    bytes.extend(lists.corners.iter().flat_map(|v| v.to_le_bytes()));
+    bytes
+}

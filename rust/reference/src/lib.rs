@@ -1,0 +1,44 @@
+//! An independent implementation of document 01, in plain Rust: the file, the check of a mesh, linking, building and
+//! the four conditions across a side. It is written from the papers alone and shares nothing with the proved library,
+//! so that the two can be compared; nobody has proved it.
+
+mod check;
+pub mod conditions;
+mod cosines;
+mod file;
+mod surface;
+
+pub use check::{check, link, links_of};
+pub use cosines::cosine;
+pub use file::{decode, encode, inspect, patches, summary, Counts, Lengths, LENT_TOO_SHORT};
+pub use surface::{build, nets, round, Net, Point, NUMBERS_OF_A_CORNER};
+
+/// The most vertices, faces and corners that a mesh may have.
+pub const MAX_VERTICES: usize = 2_048;
+pub const MAX_FACES: usize = 4_096;
+pub const MAX_CORNERS: usize = 8_192;
+/// The fewest and the most sides of a face, and corners of a vertex.
+pub const FEWEST: usize = 3;
+pub const MOST: usize = 12;
+/// The largest coordinate, in grid steps; the smallest is its negative.
+pub const LARGEST_COORDINATE: i32 = 65_536;
+
+/// The three lists of a mesh: coordinates, side counts, vertex numbers of the corners.
+#[derive(Clone, Copy, Debug)]
+pub struct Lists<'a> {
+    pub coordinates: &'a [i32],
+    pub sides: &'a [u8],
+    pub corners: &'a [u16],
+}
+
+/// Why an input is turned down: the number in 01's list, and the place.
+#[derive(Clone, Copy, Debug, PartialEq, Eq)]
+pub struct Refusal {
+    pub number: u32,
+    pub place: u64,
+}
+
+/// A refusal as an error.
+fn refuse<T>(number: u32, place: usize) -> Result<T, Refusal> {
+    Err(Refusal { number, place: place as u64 })
+}

@@ -1,0 +1,19 @@
+//! Closed meshes for tests and benchmarks: solids and tori, operators and random changes on them, ways to relabel and
+//! to damage their lists. Everything comes from a seed, so that a failing case can be made again.
+
+mod damage;
+mod random;
+mod solid;
+mod tables;
+
+pub use damage::{damage, pinch, DAMAGES};
+pub use random::Random;
+pub use solid::Solid;
+pub use tables::{random_tables, Places, Tables};
+
+/// The limits of 01.
+const MAX_VERTICES: usize = 2_048;
+const MAX_FACES: usize = 4_096;
+const MAX_CORNERS: usize = 8_192;
+const MOST: usize = 12;
+const LARGEST_COORDINATE: i32 = 65_536;
