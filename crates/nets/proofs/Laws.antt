@@ -1,0 +1,117 @@
+-- Numbers placed in threes: one more, row after row, and the whole net.
+-- Assumes nothing.
+use mathlib.Core.Path.{_≡_, refl, sym, ap, _∙_, subst}
+use mathlib.Core.Bool.{Bool, true, false, not}
+use mathlib.Core.List.{List, [], _∷_, _++_, append-assoc}
+use Prim.Native.Nat.{ℕ, zero, suc, _+_, _-_, _*_, _≤_, _<_}
+use native.Mathlib.Numerals.{add-one}
+use native.Mathlib.Omega.{arith}
+use lib.Dec.{T, ltb, ltb→lt, nltb→le}
+use lib.ListN.{length, getD, take, set, length-set, length-append, List·getD-append}
+use lib.Seq.{take-suc, getD-append-add, getD-set-same, getD-set-other, length-take-le}
+use lib.IntN.{ℤ, pos}
+use Rattle.surface.specs.Corners.{Corners}
+use Rattle.surface.specs.Net.{net, rows, bGrid, aGrid}
+use Rattle.nets.specs.Put.{Placed, Put}
+
+pub placed-none : (old : List ℤ) (from : ℕ) → Placed old old from []
+placed-none old from = record { same = refl; points-are = λ p h. absurd (omega arith); others = λ i n. refl }
+
+pub placed-one : (old : List ℤ) (from : ℕ) (v : ℤ) → from < length old → Placed old (set old from v) from (v ∷ [])
+placed-one old from v h = record {
+  same = length-set old from v;
+  points-are = λ p l. let e : p ≡ 0 = omega arith in rw e (ap (λ (i : ℕ). getD (set old from v) i (pos 0)) (none from) ∙ getD-set-same old from v (pos 0) h);
+  others = λ i n. getD-set-other old from i v (pos 0) (λ e. n 0 (omega arith) (e ∙ sym (none from)));
+}
+  where
+    none : (from : ℕ) → from + 3 * 0 ≡ from
+    none from = omega arith
+
+-- two runs, the second where the first ends
+pub placed-append : (old mid new : List ℤ) (from at : ℕ) (xs ys : List ℤ) → at ≡ from + 3 * length xs → Placed old mid from xs → Placed mid new at ys
+    → Placed old new from (xs ++ ys)
+placed-append old mid new from at xs ys e p q = record {
+  same = q .same ∙ p .same;
+  points-are = λ k h. which k (simp length-append at h) (ltb k (length xs)) (λ t. ltb→lt k (length xs) t) (λ t. nltb→le k (length xs) t);
+  others = λ i n.
+      q .others i (λ j l f. n (length xs + j) (simp length-append (omega arith)) (omega arith))
+      ∙ p .others i (λ j l f. n j (simp length-append (omega arith)) f);
+}
+  where
+    which : (k : ℕ) → k < length xs + length ys → (b : Bool) → (T b → k < length xs) → (T (not b) → length xs ≤ k)
+        → getD new (from + 3 * k) (pos 0) ≡ getD (xs ++ ys) k (pos 0)
+    which k h true f g =
+        let l : k < length xs = f tt in
+        q .others (from + 3 * k) (λ j m w. omega arith) ∙ p .points-are k l ∙ sym (List·getD-append xs ys (pos 0) k l)
+    which k h false f g =
+        let l : length xs ≤ k = g tt in
+        let d : k ≡ length xs + (k - length xs) = omega arith in
+        let w : from + 3 * k ≡ at + 3 * (k - length xs) = omega arith in
+        ap (λ (i : ℕ). getD new i (pos 0)) w ∙ q .points-are (k - length xs) (omega arith) ∙ sym (getD-append-add xs ys (k - length xs) (pos 0))
+        ∙ ap (λ (i : ℕ). getD (xs ++ ys) i (pos 0)) (sym d)
+
+-- ---- a row, number by number
+pub row-step : (old mid : List ℤ) (from at j : ℕ) (row : List ℤ) → j < length row → at ≡ from + 3 * j → at < length mid → Placed old mid from (take j row)
+    → Placed old (set mid at (getD row j (pos 0))) from (take (j + 1) row)
+row-step old mid from at j row l e h p =
+    rw (add-one, take-suc row j (pos 0) l)
+    (placed-append old mid _ from at (take j row) (getD row j (pos 0) ∷ [])
+    (e ∙ ap (λ (n : ℕ). from + 3 * n) (sym (length-take-le j row (omega arith)))) p (placed-one mid at (getD row j (pos 0)) h))
+
+-- ---- a grid, row by row; its rows have n numbers each
+rows-append : (g h : List (List ℤ)) → rows (g ++ h) ≡ rows g ++ rows h
+rows-append [] h = refl
+rows-append (r ∷ g) h = ap (λ (l : List ℤ). r ++ l) (rows-append g h) ∙ sym (append-assoc r (rows g) (rows h))
+
+rows-more : (g : List (List ℤ)) (i : ℕ) → i < length g → rows (take (i + 1) g) ≡ rows (take i g) ++ getD g i []
+rows-more g i l = rw (add-one, take-suc g i [] l) (rows-append (take i g) (getD g i [] ∷ []) ∙ ap (λ (l : List ℤ). rows (take i g) ++ l) (empty (getD g i [])))
+  where
+    empty : (l : List ℤ) → l ++ [] ≡ l
+    empty [] = refl
+    empty (x ∷ l) = ap (λ (k : List ℤ). x ∷ k) (empty l)
+
+-- after i rows
+abbrev pub Rowed : List ℤ → List ℤ → ℕ → List (List ℤ) → ℕ → ℕ → Type 0
+Rowed old new from g n i = (length (rows (take i g)) ≡ n * i) × Placed old new from (rows (take i g))
+
+pub grid-step : (old mid new : List ℤ) (from at : ℕ) (g : List (List ℤ)) (n i : ℕ) → i < length g → length (getD g i []) ≡ n → at ≡ from + 3 * (n * i)
+    → Rowed old mid from g n i → Placed mid new at (getD g i []) → Rowed old new from g n (i + 1)
+grid-step old mid new from at g n i l r e p q = (
+  rw (rows-more g i l) (length-append (rows (take i g)) (getD g i []) ∙ more (p .0) r),
+  rw (rows-more g i l) (placed-append old mid new from at (rows (take i g)) (getD g i []) (e ∙ ap (λ (k : ℕ). from + 3 * k) (sym (p .0))) (p .1) q),
+)
+  where
+    more : {a b : ℕ} → a ≡ n * i → b ≡ n → a + b ≡ n * (i + 1)
+    more e f = omega arith
+
+-- a number of a grid, in its row
+pub rows-at : (g : List (List ℤ)) (n : ℕ) → ((i : ℕ) → i < length g → length (getD g i []) ≡ n) → (i j : ℕ) → i < length g → j < n
+    → getD (rows g) (n * i + j) (pos 0) ≡ getD (getD g i []) j (pos 0)
+rows-at [] n h i j l m = absurd (omega arith)
+rows-at (r ∷ g) n h zero j l m =
+    let k : length r ≡ n = h 0 l in
+    ap (λ (x : ℕ). getD (r ++ rows g) x (pos 0)) (start n j) ∙ List·getD-append r (rows g) (pos 0) j (omega arith)
+  where
+    start : (n j : ℕ) → n * 0 + j ≡ j
+    start n j = omega arith
+rows-at (r ∷ g) n h (suc i) j l m =
+    let k : length r ≡ n = h 0 (omega arith) in
+    ap (λ (x : ℕ). getD (r ++ rows g) x (pos 0)) (next (length r) n i j k) ∙ getD-append-add r (rows g) (n * i + j) (pos 0)
+    ∙ rows-at g n (λ a b. h (suc a) (omega arith)) i j (omega arith) m
+  where
+    next : (s n i j : ℕ) → s ≡ n → n * suc i + j ≡ s + (n * i + j)
+    next s n i j e = omega arith
+
+-- ---- the net: its b grid, then its a grid
+pub put-is : (K : Corners) (c axis at : ℕ) (old mid new : List ℤ) → Placed old mid (at + axis) (rows (bGrid K c)) → Placed mid new (at + axis + 75) (rows (aGrid K c))
+    → Put K c axis at old new
+unfolding net bGrid aGrid
+put-is K c axis at old mid new p q =
+    let r : Placed old new (at + axis) (net K c) = placed-append old mid new (at + axis) (at + axis + 75) (rows (bGrid K c)) (rows (aGrid K c)) refl p q in
+    record {
+      points-are = λ k h. ap (λ (i : ℕ). getD new i (pos 0)) (turned k) ∙ r .points-are k h;
+      others = λ i n. r .others i (λ k h e. n k h (e ∙ sym (turned k)));
+    }
+  where
+    turned : (k : ℕ) → at + 3 * k + axis ≡ at + axis + 3 * k
+    turned k = omega arith
