@@ -3,13 +3,19 @@
 use mathlib.Core.Path.{_≡_, refl, sym, ap, _∙_, subst}
 use mathlib.Core.Bool.{Bool, true, false, not}
 use mathlib.Core.List.{List, [], _∷_, _++_, append-assoc}
-use Prim.Native.Nat.{ℕ, zero, suc, _+_, _-_, _*_, _≤_, _<_}
+use Prim.Native.Nat.{ℕ, zero, suc, _+_, _-_, _*_, _^_, _≤_, _<_}
 use native.Mathlib.Numerals.{add-one}
 use native.Mathlib.Omega.{arith}
-use lib.Dec.{T, ltb, ltb→lt, nltb→le}
+use lib.Dec.{T, ltb, ltb→lt, nltb→le, lit<}
 use lib.ListN.{length, getD, take, set, length-set, length-append, List·getD-append}
 use lib.Seq.{take-suc, getD-append-add, getD-set-same, getD-set-other, length-take-le}
 use lib.IntN.{ℤ, pos}
+use mir.Syntax.{w32, w64}
+use mir.Val.{SFits, ofZ, toZ}
+use mir.Facts.{toZ-ofZ}
+use Rattle.integers.proofs.Machine.{abs-fits}
+use Rattle.formulas.specs.Sizes.{Written}
+use Rattle.faces.proofs.Laws.{plain}
 use Rattle.surface.specs.Corners.{Corners}
 use Rattle.surface.specs.Net.{net, rows, bGrid, aGrid}
 use Rattle.nets.specs.Put.{Placed, Put}
@@ -115,3 +121,10 @@ put-is K c axis at old mid new p q =
   where
     turned : (k : ℕ) → at + 3 * k + axis ≡ at + axis + 3 * k
     turned k = omega arith
+
+-- ---- a number that is written, in 32 bits
+pub number : (z : ℤ) → Written z → SFits w32 (plain z) × (toZ w32 (ofZ w32 (plain z)) ≡ z)
+number z h =
+    let e = toZ-ofZ (abs-fits w64 z (2 ^ 26 - 1) h (lit< tt)) in
+    let f = abs-fits w32 z (2 ^ 26 - 1) h (lit< tt) in
+    rw e (f, toZ-ofZ f)
