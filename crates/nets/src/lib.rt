@@ -25,7 +25,7 @@ fn put_row(row: &[i64], out: &mut [i32], from: usize)
 
 // The five rows of five b points.
 fn put_b(g: [[i64; 5]; 5], out: &mut [i32], from: usize)
-    requires { ⌜ (from + 75 ≤ length (now out) + 2) × ((i j : ℕ) → i < 5 → j < 5 → Written (getD (getD g i []) j (pos 0))) ⌝ }
+    requires { ⌜ (from + 75 ≤ length (now out) + 2) × ((i : ℕ) → i < 5 → length (getD g i []) ≡ 5) × ((i j : ℕ) → i < 5 → j < 5 → Written (getD (getD g i []) j (pos 0))) ⌝ }
     ensures { λ _. ⌜ Placed (now (out .entry)) (now (out .exit)) from (rows g) ⌝ }
 {
     let mut i: usize = 0;
@@ -38,7 +38,7 @@ fn put_b(g: [[i64; 5]; 5], out: &mut [i32], from: usize)
 
 // The four rows of four a points.
 fn put_a(g: [[i64; 4]; 4], out: &mut [i32], from: usize)
-    requires { ⌜ (from + 48 ≤ length (now out) + 2) × ((i j : ℕ) → i < 4 → j < 4 → Written (getD (getD g i []) j (pos 0))) ⌝ }
+    requires { ⌜ (from + 48 ≤ length (now out) + 2) × ((i : ℕ) → i < 4 → length (getD g i []) ≡ 4) × ((i j : ℕ) → i < 4 → j < 4 → Written (getD (getD g i []) j (pos 0))) ⌝ }
     ensures { λ _. ⌜ Placed (now (out .entry)) (now (out .exit)) from (rows g) ⌝ }
 {
     let mut i: usize = 0;
