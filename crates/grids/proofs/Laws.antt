@@ -45,7 +45,7 @@ value-written z h = written z (omega arith)
 pub row : (z : ℤ) → Row z → Row (plain z)
 row z h = rw (toZ-ofZ (row-fits z h)) h
 
-value-is : (z y : ℤ) → Value z → z ≡ y → plain z ≡ y
+pub value-is : (z y : ℤ) → Value z → z ≡ y → plain z ≡ y
 value-is z y h e = toZ-ofZ (value-fits z h) ∙ e
 
 written-is : (z y : ℤ) → Written z → z ≡ y → plain z ≡ y

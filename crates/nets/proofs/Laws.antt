@@ -16,8 +16,14 @@ use mir.Facts.{toZ-ofZ}
 use Rattle.integers.proofs.Machine.{abs-fits}
 use Rattle.formulas.specs.Sizes.{Written}
 use Rattle.faces.proofs.Laws.{plain}
-use Rattle.surface.specs.Corners.{Corners}
-use Rattle.surface.specs.Net.{net, rows, bGrid, aGrid}
+use Rattle.surface.specs.Corners.{Corners, Sound}
+use Rattle.surface.specs.Net.{side0, side1, side2, side3, net, rows, bGrid, aGrid}
+use Rattle.surface.proofs.Sizes.{net-size}
+use Rattle.sides.specs.declared.NetSides.{NetSides}
+use Rattle.sides.specs.Values.{FourSides}
+use Rattle.grids.specs.declared.RowValues.{RowValues}
+use Rattle.grids.specs.Rows.{RowsOf, AllRows, AllSized, IsAGrid, IsBGrid}
+use Rattle.grids.proofs.Laws.{value-is}
 use Rattle.nets.specs.Put.{Placed, Put}
 
 pub placed-none : (old : List ℤ) (from : ℕ) → Placed old old from []
@@ -128,3 +134,78 @@ number z h =
     let e = toZ-ofZ (abs-fits w64 z (2 ^ 26 - 1) h (lit< tt)) in
     let f = abs-fits w32 z (2 ^ 26 - 1) h (lit< tt) in
     rw e (f, toZ-ofZ f)
+
+-- ---- the grids of a corner, as the calls give them
+module _ (K : Corners) (c : ℕ) (n : NetSides) (f : FourSides K c n) (r0 r1 r2 r3 : RowValues)
+    (o0 : RowsOf (n .side0) (n .side3) (n .side1) (n .side2) r0) (o1 : RowsOf (n .side1) (n .side2) (n .side0) (n .side3) r1)
+    (o2 : RowsOf (n .side2) (n .side1) (n .side3) (n .side0) r2) (o3 : RowsOf (n .side3) (n .side0) (n .side2) (n .side1) r3) where
+  pub all-sized : AllSized r0 r1 r2 r3
+  all-sized = record { rows0 = o0 .sized; rows1 = o1 .sized; rows2 = o2 .sized; rows3 = o3 .sized }
+
+  all-rows : AllRows K c r0 r1 r2 r3
+  all-rows =
+      let i0 = f .side0 .0 in
+      let i1 = f .side1 .0 in
+      let i2 = f .side2 .0 in
+      let i3 = f .side3 .0 in
+      record {
+        rows0 = o0 .rows K c side0 i0 i3 i1 i2;
+        rows1 = o1 .rows K c side1 i1 i2 i0 i3;
+        rows2 = o2 .rows K c side2 i2 i1 i3 i0;
+        rows3 = o3 .rows K c side3 i3 i0 i2 i1;
+      }
+
+  pub a-is : (a : List (List ℤ)) → IsAGrid r0 r1 r2 r3 a → a ≡ aGrid K c
+  a-is a h = h .grid K c all-rows
+
+  pub b-is : (a b : List (List ℤ)) → IsAGrid r0 r1 r2 r3 a
+      → IsBGrid (plain (n .side0 .head)) (plain (n .side0 .tail)) (plain (n .side2 .head)) (plain (n .side3 .tail)) r0 r1 r2 r3 a b → b ≡ bGrid K c
+  b-is a b ha hb =
+      hb .grid K c
+      (record {
+        end0 = value-is (n .side0 .head) _ (f .side0 .1 .head) (f .side0 .0 .head);
+        end1 = value-is (n .side0 .tail) _ (f .side0 .1 .tail) (f .side0 .0 .tail);
+        end2 = value-is (n .side2 .head) _ (f .side2 .1 .head) (f .side2 .0 .head);
+        end3 = value-is (n .side3 .tail) _ (f .side3 .1 .tail) (f .side3 .0 .tail);
+      })
+      all-rows (a-is a ha)
+
+-- ---- their shape and the sizes of their numbers
+b-long : (K : Corners) (c i : ℕ) → i < 5 → length (getD (bGrid K c) i []) ≡ 5
+unfolding bGrid
+b-long K c zero h = refl
+b-long K c (suc zero) h = refl
+b-long K c (suc (suc zero)) h = refl
+b-long K c (suc (suc (suc zero))) h = refl
+b-long K c (suc (suc (suc (suc zero)))) h = refl
+b-long K c (suc (suc (suc (suc (suc i))))) h = absurd (omega arith)
+
+a-long : (K : Corners) (c i : ℕ) → i < 4 → length (getD (aGrid K c) i []) ≡ 4
+unfolding aGrid
+a-long K c zero h = refl
+a-long K c (suc zero) h = refl
+a-long K c (suc (suc zero)) h = refl
+a-long K c (suc (suc (suc zero))) h = refl
+a-long K c (suc (suc (suc (suc i)))) h = absurd (omega arith)
+
+module _ (K : Corners) (ok : Sound K) (c : ℕ) (here : c < K .count) where
+  b-written : (i j : ℕ) → i < 5 → j < 5 → Written (getD (getD (bGrid K c) i []) j (pos 0))
+  unfolding net bGrid
+  b-written i j l m =
+      rw (← rows-at (bGrid K c) 5 (λ i h. b-long K c i h) i j l m, ← List·getD-append (rows (bGrid K c)) (rows (aGrid K c)) (pos 0) (5 * i + j) (omega arith))
+      (net-size K ok c here (5 * i + j))
+
+  a-written : (i j : ℕ) → i < 4 → j < 4 → Written (getD (getD (aGrid K c) i []) j (pos 0))
+  unfolding net bGrid aGrid
+  a-written i j l m =
+      rw (← rows-at (aGrid K c) 4 (λ i h. a-long K c i h) i j l m, ← getD-append-add (rows (bGrid K c)) (rows (aGrid K c)) (4 * i + j) (pos 0))
+      (net-size K ok c here (25 + (4 * i + j)))
+
+  -- of lists that are these grids
+  pub b-fine : (b : List (List ℤ)) → b ≡ bGrid K c
+      → ((i : ℕ) → i < 5 → length (getD b i []) ≡ 5) × ((i j : ℕ) → i < 5 → j < 5 → Written (getD (getD b i []) j (pos 0)))
+  b-fine b e = rw e (b-long K c, b-written)
+
+  pub a-fine : (a : List (List ℤ)) → a ≡ aGrid K c
+      → ((i : ℕ) → i < 4 → length (getD a i []) ≡ 4) × ((i j : ℕ) → i < 4 → j < 4 → Written (getD (getD a i []) j (pos 0)))
+  a-fine a e = rw e (a-long K c, a-written)

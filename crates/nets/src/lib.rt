@@ -70,6 +70,7 @@ pub fn put_net(
         λ _. ⌜ Put (tabled count (now (nexts .entry)) (now (previouses .entry)) (now (links .entry)) (now (sides .entry)) (now (valences .entry)) (now (points .entry))) c axis at (now (out .entry)) (now (out .exit)) ⌝
     }
 {
+    let from = at + axis;
     let n = sides::net_sides(points, nexts, previouses, links, sides, valences, count, c);
     let s0 = n.side0;
     let s1 = n.side1;
@@ -81,6 +82,6 @@ pub fn put_net(
     let r3 = grids::side_rows(s3, s0, s2, s1);
     let a = grids::a_grid(r0, r1, r2, r3);
     let b = grids::b_grid(s0.head, s0.tail, s2.head, s3.tail, r0, r1, r2, r3, a);
-    put_b(b, out, at + axis);
-    put_a(a, out, at + axis + 75);
+    put_b(b, out, from);
+    put_a(a, out, from + 75);
 }
