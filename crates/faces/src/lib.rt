@@ -53,7 +53,11 @@ fn ring_sums(points: &[i32], steps: &[u16], c: usize, m: usize) -> Sums
         at = steps[at] as usize;
         j += 1;
     }
-    Sums { total: total, ahead: ahead, behind: behind }
+    Sums {
+        total: total,
+        ahead: ahead,
+        behind: behind,
+    }
 }
 
 // A sum over the m corners of a ring by m. The divisors of most meshes are written out, so that each is a product and a shift.

@@ -49,30 +49,30 @@ pub fn inner(x: i64, y: i64, v: i64, w: i64) -> i64
 // The second point of an a row; s is X of the other side at the head.
 pub fn second(c: i64, h: i64, x: i64, y: i64, s: i64, n: i64) -> i64
     requires { ⌜ Row c × Value h × Value x × Value y × Value s × Value n ⌝ }
-    ensures {
-        λ r. ⌜ (r ≡ round (c *ℤ h +ℤ pos 3 *ℤ (pos (2 ^ 30) -ℤ c) *ℤ x +ℤ pos 2 *ℤ c *ℤ y +ℤ pos (2 ^ 30) *ℤ s +ℤ pos (2 ^ 32) *ℤ n) (pos (2 ^ 33))) × Written r ⌝
-    }
+    ensures { λ r. ⌜ (r ≡ round (c *ℤ h +ℤ pos 3 *ℤ (pos (2 ^ 30) -ℤ c) *ℤ x +ℤ pos 2 *ℤ c *ℤ y +ℤ pos (2 ^ 30) *ℤ s +ℤ pos (2 ^ 32) *ℤ n) (pos (2 ^ 33))) × Written r ⌝ }
 {
-    rounding::round_div(c * h + 3 * (1073741824 - c) * x + 2 * c * y + 1073741824 * s + 4294967296 * n, 8589934592)
+    rounding::round_div(
+        c * h + 3 * (1073741824 - c) * x + 2 * c * y + 1073741824 * s + 4294967296 * n,
+        8589934592,
+    )
 }
 
 // The third point of an a row; c is the head's too, s is Y of the other side at the tail.
 pub fn third(c: i64, t: i64, y: i64, s: i64, n: i64) -> i64
     requires { ⌜ Row c × Value t × Value y × Value s × Value n ⌝ }
-    ensures {
-        λ r. ⌜ (r ≡ round ((pos (3 * 2 ^ 30) -ℤ c) *ℤ y +ℤ c *ℤ t +ℤ pos (2 ^ 32) *ℤ n +ℤ pos (2 ^ 30) *ℤ s) (pos (2 ^ 33))) × Written r ⌝
-    }
+    ensures { λ r. ⌜ (r ≡ round ((pos (3 * 2 ^ 30) -ℤ c) *ℤ y +ℤ c *ℤ t +ℤ pos (2 ^ 32) *ℤ n +ℤ pos (2 ^ 30) *ℤ s) (pos (2 ^ 33))) × Written r ⌝ }
 {
-    rounding::round_div((3221225472 - c) * y + c * t + 4294967296 * n + 1073741824 * s, 8589934592)
+    rounding::round_div(
+        (3221225472 - c) * y + c * t + 4294967296 * n + 1073741824 * s,
+        8589934592,
+    )
 }
 
 // The middle of the row next to an outer row: n is N of the side, o of the opposite one, g and l of the adjoining ones; x and y
 // are X* and Y*.
 pub fn middle(n: i64, o: i64, g: i64, l: i64, x: i64, y: i64, h: i64, t: i64) -> i64
     requires { ⌜ Value n × Value o × Value g × Value l × Value x × Value y × Value h × Value t ⌝ }
-    ensures {
-        λ r. ⌜ (r ≡ round (pos 14 *ℤ n +ℤ pos 2 *ℤ (o -ℤ g -ℤ l) +ℤ pos 3 *ℤ (x +ℤ y) -ℤ h -ℤ t) (pos 16)) × Written r ⌝
-    }
+    ensures { λ r. ⌜ (r ≡ round (pos 14 *ℤ n +ℤ pos 2 *ℤ (o -ℤ g -ℤ l) +ℤ pos 3 *ℤ (x +ℤ y) -ℤ h -ℤ t) (pos 16)) × Written r ⌝ }
 {
     rounding::round_div(14 * n + 2 * (o - g - l) + 3 * (x + y) - h - t, 16)
 }

@@ -66,39 +66,39 @@ module _ (f g l o : SideValues) (z : Sized f × Sized g × Sized l × Sized o) (
     (e4 : Rounds (plain (f .cosine) *ℤ plain (f .head) +ℤ pos 3 *ℤ (pos (2 ^ 30) -ℤ plain (f .cosine)) *ℤ plain (f .x) +ℤ pos 2 *ℤ plain (f .cosine) *ℤ plain (f .y) +ℤ pos (2 ^ 30) *ℤ plain (g .x) +ℤ pos (2 ^ 32) *ℤ plain (f .inner)) (pos (2 ^ 33)) q4)
     (e5 : Rounds ((pos (3 * 2 ^ 30) -ℤ plain (f .cosine)) *ℤ plain (f .y) +ℤ plain (f .cosine) *ℤ plain (f .tail) +ℤ pos (2 ^ 32) *ℤ plain (f .inner) +ℤ pos (2 ^ 30) *ℤ plain (l .y)) (pos (2 ^ 33)) q5)
     (e6 : Rounds (pos 14 *ℤ plain (f .inner) +ℤ pos 2 *ℤ (plain (o .inner) -ℤ plain (g .inner) -ℤ plain (l .inner)) +ℤ pos 3 *ℤ (plain (g .x) +ℤ plain (l .y)) -ℤ plain (f .head) -ℤ plain (f .tail)) (pos 16) q6)
-    where
-  pub rows-of : RowsOf f g l o (record { outer1 = plain q1; outer2 = plain q2; outer3 = plain q3; a1 = plain q4; a2 = plain q5; middle = plain q6 })
-  unfolding outer1 outer2 outer3 a1 a2 middle
-  rows-of = record {
-    rows = λ K c s i ig il io.
-        let h = value-is (f .head) _ (z .0 .head) (i .head) in
-        let t = value-is (f .tail) _ (z .0 .tail) (i .tail) in
-        let x = value-is (f .x) _ (z .0 .x) (i .x) in
-        let y = value-is (f .y) _ (z .0 .y) (i .y) in
-        let n = value-is (f .inner) _ (z .0 .inner) (i .inner) in
-        let k = row-is (f .cosine) _ (z .0 .cosine) (i .cosine) in
-        let gx = value-is (g .x) _ (z .1 .x) (ig .x) in
-        let gn = value-is (g .inner) _ (z .1 .inner) (ig .inner) in
-        let ly = value-is (l .y) _ (z .2 .y) (il .y) in
-        let ln = value-is (l .inner) _ (z .2 .inner) (il .inner) in
-        let on = value-is (o .inner) _ (z .3 .inner) (io .inner) in
-        record {
-          outer1 = written-is q1 _ (e1 .1) (e1 .0 ∙ cc (h, x));
-          outer2 = written-is q2 _ (e2 .1) (e2 .0 ∙ cc (x, y));
-          outer3 = written-is q3 _ (e3 .1) (e3 .0 ∙ cc (t, y, add-comm (T K c s) (pos 3 *ℤ Y K c s)));
-          a1 = written-is q4 _ (e4 .1) (e4 .0 ∙ cc (k, h, x, y, gx, n));
-          a2 = written-is q5 _ (e5 .1) (e5 .0 ∙ cc (k, t, y, ly, n));
-          middle = written-is q6 _ (e6 .1) (e6 .0 ∙ cc (n, on, gn, ln, gx, ly, h, t));
-        };
-    sized = record {
-      outer1 = written q1 (e1 .1);
-      outer2 = written q2 (e2 .1);
-      outer3 = written q3 (e3 .1);
-      a1 = written q4 (e4 .1);
-      a2 = written q5 (e5 .1);
-      middle = written q6 (e6 .1);
-    };
-  }
+  where
+    pub rows-of : RowsOf f g l o (record { outer1 = plain q1; outer2 = plain q2; outer3 = plain q3; a1 = plain q4; a2 = plain q5; middle = plain q6 })
+    unfolding outer1 outer2 outer3 a1 a2 middle
+    rows-of = record {
+      rows = λ K c s i ig il io.
+          let h = value-is (f .head) _ (z .0 .head) (i .head) in
+          let t = value-is (f .tail) _ (z .0 .tail) (i .tail) in
+          let x = value-is (f .x) _ (z .0 .x) (i .x) in
+          let y = value-is (f .y) _ (z .0 .y) (i .y) in
+          let n = value-is (f .inner) _ (z .0 .inner) (i .inner) in
+          let k = row-is (f .cosine) _ (z .0 .cosine) (i .cosine) in
+          let gx = value-is (g .x) _ (z .1 .x) (ig .x) in
+          let gn = value-is (g .inner) _ (z .1 .inner) (ig .inner) in
+          let ly = value-is (l .y) _ (z .2 .y) (il .y) in
+          let ln = value-is (l .inner) _ (z .2 .inner) (il .inner) in
+          let on = value-is (o .inner) _ (z .3 .inner) (io .inner) in
+          record {
+            outer1 = written-is q1 _ (e1 .1) (e1 .0 ∙ cc (h, x));
+            outer2 = written-is q2 _ (e2 .1) (e2 .0 ∙ cc (x, y));
+            outer3 = written-is q3 _ (e3 .1) (e3 .0 ∙ cc (t, y, add-comm (T K c s) (pos 3 *ℤ Y K c s)));
+            a1 = written-is q4 _ (e4 .1) (e4 .0 ∙ cc (k, h, x, y, gx, n));
+            a2 = written-is q5 _ (e5 .1) (e5 .0 ∙ cc (k, t, y, ly, n));
+            middle = written-is q6 _ (e6 .1) (e6 .0 ∙ cc (n, on, gn, ln, gx, ly, h, t));
+          };
+      sized = record {
+        outer1 = written q1 (e1 .1);
+        outer2 = written q2 (e2 .1);
+        outer3 = written q3 (e3 .1);
+        a1 = written q4 (e4 .1);
+        a2 = written q5 (e5 .1);
+        middle = written q6 (e6 .1);
+      };
+    }
 
 -- ---- the grids
 abbrev pub Half : ℤ → ℤ → ℤ → Type 0

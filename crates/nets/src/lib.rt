@@ -63,12 +63,8 @@ pub fn put_net(
     out: &mut [i32],
     at: usize,
 )
-    requires {
-        ⌜ Tables count (now nexts) (now previouses) (now links) (now sides) (now valences) (now points) c × (axis < 3) × (at + 123 ≤ length (now out)) ⌝
-    }
-    ensures {
-        λ _. ⌜ Put (tabled count (now (nexts .entry)) (now (previouses .entry)) (now (links .entry)) (now (sides .entry)) (now (valences .entry)) (now (points .entry))) c axis at (now (out .entry)) (now (out .exit)) ⌝
-    }
+    requires { ⌜ Tables count (now nexts) (now previouses) (now links) (now sides) (now valences) (now points) c × (axis < 3) × (at + 123 ≤ length (now out)) ⌝ }
+    ensures { λ _. ⌜ Put (tabled count (now (nexts .entry)) (now (previouses .entry)) (now (links .entry)) (now (sides .entry)) (now (valences .entry)) (now (points .entry))) c axis at (now (out .entry)) (now (out .exit)) ⌝ }
 {
     let from = at + axis;
     let n = sides::net_sides(points, nexts, previouses, links, sides, valences, count, c);

@@ -50,10 +50,8 @@ fn point(points: &[i32], c: usize) -> i64
 
 // The face through four corners in turn.
 fn edge_through(points: &[i32], here: usize, after: usize, far: usize, before: usize) -> Edge
-    requires {
-        ⌜ ((here < length (now points)) × (after < length (now points)) × (far < length (now points)) × (before < length (now points)))
-        × (Corner (getD (now points) here (pos 0)) × Corner (getD (now points) after (pos 0)) × Corner (getD (now points) far (pos 0)) × Corner (getD (now points) before (pos 0))) ⌝
-    }
+    requires { ⌜ ((here < length (now points)) × (after < length (now points)) × (far < length (now points)) × (before < length (now points)))
+        × (Corner (getD (now points) here (pos 0)) × Corner (getD (now points) after (pos 0)) × Corner (getD (now points) far (pos 0)) × Corner (getD (now points) before (pos 0))) ⌝ }
     ensures { λ r. ⌜ Through (now (points .entry)) here after far before r ⌝ }
 {
     let v = point(points, here);
@@ -74,9 +72,7 @@ fn edge_through(points: &[i32], here: usize, after: usize, far: usize, before: u
 // The face of the leaving edge of c.
 fn leaving_edge(points: &[i32], nexts: &[u16], previouses: &[u16], links: &[u16], c: usize) -> Edge
     requires { ⌜ Reach (now nexts) (now previouses) (now links) (now points) c ⌝ }
-    ensures {
-        λ r. ⌜ Through (now (points .entry)) c (getD (now (nexts .entry)) c 0) (getD (now (previouses .entry)) (getD (now (links .entry)) c 0) 0) (getD (now (links .entry)) c 0) r ⌝
-    }
+    ensures { λ r. ⌜ Through (now (points .entry)) c (getD (now (nexts .entry)) c 0) (getD (now (previouses .entry)) (getD (now (links .entry)) c 0) 0) (getD (now (links .entry)) c 0) r ⌝ }
 {
     let here = walk::Walker { corner: c };
     let next = here.next(nexts);
@@ -88,9 +84,7 @@ fn leaving_edge(points: &[i32], nexts: &[u16], previouses: &[u16], links: &[u16]
 // The face of the arriving edge of c, which leaves the previous corner.
 fn arriving_edge(points: &[i32], nexts: &[u16], previouses: &[u16], links: &[u16], c: usize) -> Edge
     requires { ⌜ Reach (now nexts) (now previouses) (now links) (now points) c ⌝ }
-    ensures {
-        λ r. ⌜ Through (now (points .entry)) c (getD (now (previouses .entry)) (getD (now (links .entry)) (getD (now (previouses .entry)) c 0) 0) 0) (getD (now (links .entry)) (getD (now (previouses .entry)) c 0) 0) (getD (now (previouses .entry)) c 0) r ⌝
-    }
+    ensures { λ r. ⌜ Through (now (points .entry)) c (getD (now (previouses .entry)) (getD (now (links .entry)) (getD (now (previouses .entry)) c 0) 0) 0) (getD (now (links .entry)) (getD (now (previouses .entry)) c 0) 0) (getD (now (previouses .entry)) c 0) r ⌝ }
 {
     let here = walk::Walker { corner: c };
     let previous = here.previous(previouses);
@@ -140,9 +134,7 @@ pub fn net_sides(
     c: usize,
 ) -> NetSides
     requires { ⌜ Tables count (now nexts) (now previouses) (now links) (now sides) (now valences) (now points) c ⌝ }
-    ensures {
-        λ r. ⌜ FourSides (tabled count (now (nexts .entry)) (now (previouses .entry)) (now (links .entry)) (now (sides .entry)) (now (valences .entry)) (now (points .entry))) c r ⌝
-    }
+    ensures { λ r. ⌜ FourSides (tabled count (now (nexts .entry)) (now (previouses .entry)) (now (links .entry)) (now (sides .entry)) (now (valences .entry)) (now (points .entry))) c r ⌝ }
 {
     let m = count_at(valences, c);
     let n = count_at(sides, c);
@@ -152,9 +144,46 @@ pub fn net_sides(
     let arriving = arriving_edge(points, nexts, previouses, links, c);
     let k = cosines::cosine(m, 1);
     let l = cosines::cosine(n, 1);
-    let side0 = side(vertex.centre, leaving.centre, vertex.ahead, leaving.behind, leaving.here, leaving.before, k);
-    let side1 = side(face.centre, leaving.centre, face.ahead, leaving.ahead, leaving.here, leaving.after, l);
-    let side2 = side(face.centre, arriving.centre, face.behind, arriving.behind, arriving.here, arriving.before, l);
-    let side3 = side(vertex.centre, arriving.centre, vertex.behind, arriving.ahead, arriving.here, arriving.after, k);
-    NetSides { side0: side0, side1: side1, side2: side2, side3: side3 }
+    let side0 = side(
+        vertex.centre,
+        leaving.centre,
+        vertex.ahead,
+        leaving.behind,
+        leaving.here,
+        leaving.before,
+        k,
+    );
+    let side1 = side(
+        face.centre,
+        leaving.centre,
+        face.ahead,
+        leaving.ahead,
+        leaving.here,
+        leaving.after,
+        l,
+    );
+    let side2 = side(
+        face.centre,
+        arriving.centre,
+        face.behind,
+        arriving.behind,
+        arriving.here,
+        arriving.before,
+        l,
+    );
+    let side3 = side(
+        vertex.centre,
+        arriving.centre,
+        vertex.behind,
+        arriving.ahead,
+        arriving.here,
+        arriving.after,
+        k,
+    );
+    NetSides {
+        side0: side0,
+        side1: side1,
+        side2: side2,
+        side3: side3,
+    }
 }

@@ -40,11 +40,11 @@ returns c =
     let g : SFits w64 (t .result) = search needs in
     let h : SFits w64 (u .result) = search needs in
     let e : m .result ≡ round (x .here +ℤ x .after +ℤ x .far +ℤ x .before) (pos 4)
-        = simp (toZ-ofZ, k .here, k .after, k .far, k .before) at (m .ensures .0) in
+    = simp (toZ-ofZ, k .here, k .after, k .far, k .before) at (m .ensures .0) in
     let a : t .result ≡ round (pos 5 *ℤ x .here +ℤ pos 5 *ℤ x .after +ℤ x .far +ℤ x .before) (pos 12)
-        = simp (toZ-ofZ, k .here, k .after, k .far, k .before) at (t .ensures .0) in
+    = simp (toZ-ofZ, k .here, k .after, k .far, k .before) at (t .ensures .0) in
     let b : u .result ≡ round (pos 5 *ℤ x .before +ℤ pos 5 *ℤ x .here +ℤ x .after +ℤ x .far) (pos 12)
-        = simp (toZ-ofZ, k .here, k .after, k .far, k .before) at (u .ensures .0) in
+    = simp (toZ-ofZ, k .here, k .after, k .far, k .before) at (u .ensures .0) in
     edge-is (x .here) (x .after) (x .far) (x .before) _ (toZ-ofZ f ∙ e) (toZ-ofZ g ∙ a) (toZ-ofZ h ∙ b) (rw (toZ-ofZ f) (m .ensures .1))
     (rw (toZ-ofZ g) (t .ensures .1)) (rw (toZ-ofZ h) (u .ensures .1))
 

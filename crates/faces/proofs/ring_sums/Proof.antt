@@ -29,7 +29,7 @@ abbrev μ-loop : tie.MeasureT-loop
 turn : (a : lts.At-loop (weight-after-reads.Asked, weight-after-reads.Learnt) reads.Pre reads.Post Inv-loop μ-loop) (u : ℤ)
     → a .loop .j < a .before .before .before .args .m → u ≡ weight (a .before .before .before .args .m) (a .loop .j + 1)
     → Goes (a .before .before .before .args .points .now) (a .before .before .before .args .steps .now) (a .before .before .before .args .c)
-      (a .before .before .before .args .m) (a .loop .total) (a .loop .ahead) (a .loop .behind) (a .loop .w) (a .loop .at) (a .loop .j) u
+    (a .before .before .before .args .m) (a .loop .total) (a .loop .ahead) (a .loop .behind) (a .loop .w) (a .loop .at) (a .loop .j) u
 turn a u l e =
     let s = a .before .before .before in
     goes (s .args .points .now) (s .args .steps .now) (s .args .c) (s .args .m) (s .pre) _ _ _ _ _ _ u l (a .loop .inv) e

@@ -86,7 +86,7 @@ returns c =
     let s = c .before .before .before in
     let k = facts c in
     let e : pos 3221225472 +ℤ pos 2 *ℤ c .before .cosine .result +ℤ pos 2 *ℤ c .cosine2 .result ≡ weight (s .args .m) (s .args .j + 1)
-        = cc (weight-of (s .args .m) (s .args .j) (s .pre .2), chosen (c .before .before) .1, c .before .cosine .ensures, c .cosine2 .ensures) in
+    = cc (weight-of (s .args .m) (s .args .j) (s .pre .2), chosen (c .before .before) .1, c .before .cosine .ensures, c .cosine2 .ensures) in
     simp (toZ-ofZ, k .0, k .1, k .2, k .3, k .4, k .5) e
 
 pub weight-after-spec : {M : Type 1} → statement M

@@ -12,22 +12,22 @@ use Rattle.grids.proofs.b_grid.Lts as lts
 use Rattle.formulas.proofs.half.Reads as half-reads
 
 half-requires : tie.Need-half-requires
-half-requires c κs = 
+half-requires c κs =
     let s = c .before .before in
     (written (s .args .r3 .a1) (s .pre .0 .rows3 .a1), written (s .args .r0 .a1) (s .pre .0 .rows0 .a1))
 
 half-requires-2 : tie.Need-half-requires-2
-half-requires-2 c κs = 
+half-requires-2 c κs =
     let s = c .before .before .before .before .before in
     (written (s .args .r0 .a2) (s .pre .0 .rows0 .a2), written (s .args .r1 .a2) (s .pre .0 .rows1 .a2))
 
 half-requires-3 : tie.Need-half-requires-3
-half-requires-3 c κs = 
+half-requires-3 c κs =
     let s = c .before .before .before .before .before .before .before .before in
     (written (s .args .r3 .a2) (s .pre .0 .rows3 .a2), written (s .args .r2 .a2) (s .pre .0 .rows2 .a2))
 
 half-requires-4 : tie.Need-half-requires-4
-half-requires-4 c κs = 
+half-requires-4 c κs =
     let s = c .before .before .before .before .before .before .before .before .before .before .before in
     (written (s .args .r2 .a1) (s .pre .0 .rows2 .a1), written (s .args .r1 .a1) (s .pre .0 .rows1 .a1))
 
@@ -44,12 +44,12 @@ index-2-half-2 : tie.Need-index-2-half-2
 index-2-half-2 c = search needs
 
 half-requires-5 : tie.Need-half-requires-5
-half-requires-5 c κs = 
+half-requires-5 c κs =
     let s = c .before .before .before .before .before .before .before .before .before .before .before .before .before .before in
     (written (getD (getD (s .args .t9) 1 []) 2 (pos 0)) (s .pre .1), written (getD (getD (s .args .t9) 2 []) 1 (pos 0)) (s .pre .2))
 
 returns : tie.Need-returns
-returns c = 
+returns c =
     let s = c .before .before .before .before .before .before .before .before .before .before .before .before .before .before .before .before .before .before .before .before .before .before .before .before .before in
     let k = s .fits in
     b-grid-is (s .args .e0) (s .args .e1) (s .args .e2) (s .args .e3) (k .e0) (k .e1) (k .e2) (k .e3) (s .args .r0) (s .args .r1) (s .args .r2) (s .args .r3)

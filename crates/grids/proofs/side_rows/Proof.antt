@@ -21,7 +21,7 @@ quarter-requires-2 : tie.Need-quarter-requires-2
 quarter-requires-2 c κs = let s = c .before .before .before .before .before .before .before .before .before .before .before .before .before in (value (s .args .f .tail) (s .pre .0 .tail), value (s .args .f .y) (s .pre .0 .y))
 
 second-requires : tie.Need-second-requires
-second-requires c κs = 
+second-requires c κs =
     let s = c .before .before .before .before .before .before .before .before .before .before .before .before .before .before in (
       row (s .args .f .cosine) (s .pre .0 .cosine),
       value (s .args .f .head) (s .pre .0 .head),
@@ -32,7 +32,7 @@ second-requires c κs =
     )
 
 third-requires : tie.Need-third-requires
-third-requires c κs = 
+third-requires c κs =
     let s = c .before .before .before .before .before .before .before .before .before .before .before .before .before .before .before in (
       row (s .args .f .cosine) (s .pre .0 .cosine),
       value (s .args .f .tail) (s .pre .0 .tail),
@@ -42,7 +42,7 @@ third-requires c κs =
     )
 
 middle-requires : tie.Need-middle-requires
-middle-requires c κs = 
+middle-requires c κs =
     let s = c .before .before .before .before .before .before .before .before .before .before .before .before .before .before .before .before in (
       value (s .args .f .inner) (s .pre .0 .inner),
       value (s .args .o .inner) (s .pre .3 .inner),
@@ -55,7 +55,7 @@ middle-requires c κs =
     )
 
 returns : tie.Need-returns
-returns c = 
+returns c =
     let s = c .before .before .before .before .before .before .before .before .before .before .before .before .before .before .before .before .before in
     rows-of (s .args .f) (s .args .g) (s .args .l) (s .args .o) (s .pre) _ _ _ _ _ _ (c .before .before .before .before .before .quarter .ensures) (c .before .before .before .before .half .ensures) (c .before .before .before .quarter2 .ensures)
     (c .before .before .second .ensures) (c .before .third .ensures) (c .middle .ensures)

@@ -47,7 +47,7 @@ add-put-row c = search needs
 
 -- src/lib.rt:34:9
 put-row-requires : tie.Need-put-row-requires Inv-loop μ-loop
-put-row-requires c κs = 
+put-row-requires c κs =
     let a = c .before .before .before .before in
     let s = a .before in
     let l = c .before .before .before .loop-test .taken in
@@ -66,7 +66,7 @@ loop-less c = search needs
 
 -- src/lib.rt:32:5
 loop-again : tie.Need-loop-again Inv-loop μ-loop
-loop-again c = 
+loop-again c =
     let a = c .before .before .before .before .before .before in
     let s = a .before in
     let l = c .before .before .before .before .before .loop-test .taken in
@@ -78,7 +78,7 @@ same-length c = c .before .loop .inv .1 .1 .same
 
 -- src/lib.rt:27:1
 returns : tie.Need-returns Inv-loop μ-loop
-returns c = 
+returns c =
     let s = c .before .before in
     let l = c .before .loop in
     subst (λ (g : List (List ℤ)). Placed (s .args .out .now) (l .out) (s .args .from) (rows g)) (take-all (l .i) (s .args .t1) (omega (arith, s .good .0 .1 .0 .1))) (l .inv .1 .1)

@@ -56,14 +56,14 @@ a-grid-requires : tie.Need-a-grid-requires
 a-grid-requires c κs = search needs
 
 b-grid-requires : tie.Need-b-grid-requires
-b-grid-requires c κs = 
+b-grid-requires c κs =
     let a = c .before .before .before .before in
     let s = a .before .before .before .before .before .before .before .before .before .before .before .before .before .before .before in
     let w = a-fine (mesh s) (s .pre .0 .sound) (s .args .c) (s .pre .0 .here) _ (a-grid a) .1 in
     (all-sized (mesh s) (s .args .c) _ (a .before .before .before .before .before .before .before .before .before .net-sides .ensures) _ _ _ _ (a .before .before .before .before .side-rows .ensures) (a .before .before .before .side-rows2 .ensures) (a .before .before .side-rows3 .ensures) (a .before .side-rows4 .ensures), w 1 2 (lit< tt) (lit< tt), w 2 1 (lit< tt) (lit< tt))
 
 put-b-requires : tie.Need-put-b-requires
-put-b-requires c κs = 
+put-b-requires c κs =
     let s = c .before .before .before .before .before .before .before .before .before .before .before .before .before .before .before .before .before .before .before .before .before in
     let w = b-fine (mesh s) (s .pre .0 .sound) (s .args .c) (s .pre .0 .here) _ (b-grid (c .before)) in
     (omega (arith, s .pre .1, s .pre .2), w .0, w .1)
@@ -72,7 +72,7 @@ add-put-a : tie.Need-add-put-a
 add-put-a c = let s = c .before .before .before .before .before .before .before .before .before .before .before .before .before .before .before .before .before .before .before .before .before .before .before .before in omega (arith, s .pre .1, s .pre .2)
 
 put-a-requires : tie.Need-put-a-requires
-put-a-requires c κs = 
+put-a-requires c κs =
     let s = c .before .before .before .before .before .before .before .before .before .before .before .before .before .before .before .before .before .before .before .before .before .before .before .before in
     let w = a-fine (mesh s) (s .pre .0 .sound) (s .args .c) (s .pre .0 .here) _ (a-grid (c .before .before .before .before .before .before .before .before .before)) in
     (omega (arith, s .pre .1, s .pre .2, c .before .before .put-b .ensures .same), w .0, w .1)
@@ -81,7 +81,7 @@ same-length : tie.Need-same-length
 same-length c = search needs
 
 returns : tie.Need-returns
-returns c = 
+returns c =
     let s = c .before .before .before .before .before .before .before .before .before .before .before .before .before .before .before .before .before .before .before .before .before .before .before .before .before .before in
     let b = c .before .before .before .before .put-b .ensures in
     let a = c .before .put-a .ensures in

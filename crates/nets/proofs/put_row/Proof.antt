@@ -56,7 +56,7 @@ loop-less : tie.Need-loop-less Inv-loop μ-loop
 loop-less c = search needs
 
 loop-again : tie.Need-loop-again Inv-loop μ-loop
-loop-again c = 
+loop-again c =
     let s = c .before .before .before in
     let l = c .before .before .loop in
     let n = number (getD (s .args .row .now) (l .j) (pos 0)) (s .pre .1 _ (c .before .loop-test .taken)) in (
@@ -68,7 +68,7 @@ same-length : tie.Need-same-length Inv-loop μ-loop
 same-length c = c .before .loop .inv .1 .same
 
 returns : tie.Need-returns Inv-loop μ-loop
-returns c = 
+returns c =
     let s = c .before .before in
     let l = c .before .loop in
     subst (λ (r : List ℤ). Placed (s .args .out .now) (l .out) (s .args .from) r) (take-all (l .j) (s .args .row .now) (omega arith)) (l .inv .1)

@@ -27,7 +27,7 @@ previous-requires-2 c κs =
     let s = c .before .before .before .before .before in
     let r = s .pre in
     let l : c .linked .result .corner ≡ getD (s .args .links .now) (getD (s .args .previouses .now) (s .args .c) 0) 0
-        = c .linked .ensures ∙ ap (λ (i : ℕ). getD (s .args .links .now) i 0) (c .before .previous .ensures) in
+    = c .linked .ensures ∙ ap (λ (i : ℕ). getD (s .args .links .now) i 0) (c .before .previous .ensures) in
     rw l (within (s .args .nexts .now) (s .args .previouses .now) (s .args .links .now) (s .args .points .now) (s .args .c) r _ (r .link-in _ (r .previous-in (s .args .c) (r .here))) .0 .1)
 
 edge-through-requires : tie.Need-edge-through-requires
@@ -36,9 +36,9 @@ edge-through-requires c κs =
     let r = s .pre in
     let p = c .before .before .previous .ensures in
     let l : c .before .linked .result .corner ≡ getD (s .args .links .now) (getD (s .args .previouses .now) (s .args .c) 0) 0
-        = c .before .linked .ensures ∙ ap (λ (i : ℕ). getD (s .args .links .now) i 0) p in
+    = c .before .linked .ensures ∙ ap (λ (i : ℕ). getD (s .args .links .now) i 0) p in
     let a : c .previous2 .result .corner ≡ getD (s .args .previouses .now) (getD (s .args .links .now) (getD (s .args .previouses .now) (s .args .c) 0) 0) 0
-        = c .previous2 .ensures ∙ ap (λ (i : ℕ). getD (s .args .previouses .now) i 0) l in
+    = c .previous2 .ensures ∙ ap (λ (i : ℕ). getD (s .args .previouses .now) i 0) l in
     let w = within (s .args .nexts .now) (s .args .previouses .now) (s .args .links .now) (s .args .points .now) (s .args .c) r in
     let ip = r .previous-in (s .args .c) (r .here) in
     let wc = w _ (r .here) in
@@ -52,9 +52,9 @@ returns c =
     let s = c .before .before .before .before .before .before .before in
     let p = c .before .before .before .previous .ensures in
     let l : c .before .before .linked .result .corner ≡ getD (s .args .links .now) (getD (s .args .previouses .now) (s .args .c) 0) 0
-        = c .before .before .linked .ensures ∙ ap (λ (i : ℕ). getD (s .args .links .now) i 0) p in
+    = c .before .before .linked .ensures ∙ ap (λ (i : ℕ). getD (s .args .links .now) i 0) p in
     let a : c .before .previous2 .result .corner ≡ getD (s .args .previouses .now) (getD (s .args .links .now) (getD (s .args .previouses .now) (s .args .c) 0) 0) 0
-        = c .before .previous2 .ensures ∙ ap (λ (i : ℕ). getD (s .args .previouses .now) i 0) l in
+    = c .before .previous2 .ensures ∙ ap (λ (i : ℕ). getD (s .args .previouses .now) i 0) l in
     rw (a, l, p) at (c .edge-through .ensures)
 
 pub arriving-edge-spec : {M : Type 1} → statement M

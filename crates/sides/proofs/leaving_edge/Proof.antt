@@ -33,7 +33,7 @@ edge-through-requires c κs =
     let n = c .before .before .next .ensures in
     let l = c .before .linked .ensures in
     let f : c .previous .result .corner ≡ getD (s .args .previouses .now) (getD (s .args .links .now) (s .args .c) 0) 0
-        = c .previous .ensures ∙ ap (λ (i : ℕ). getD (s .args .previouses .now) i 0) l in
+    = c .previous .ensures ∙ ap (λ (i : ℕ). getD (s .args .previouses .now) i 0) l in
     let w = within (s .args .nexts .now) (s .args .previouses .now) (s .args .links .now) (s .args .points .now) (s .args .c) r in
     let wc = w _ (r .here) in
     let wn = w _ (r .next-in (s .args .c) (r .here)) in
@@ -46,7 +46,7 @@ returns c =
     let s = c .before .before .before .before .before .before .before in
     let l = c .before .before .linked .ensures in
     let f : c .before .previous .result .corner ≡ getD (s .args .previouses .now) (getD (s .args .links .now) (s .args .c) 0) 0
-        = c .before .previous .ensures ∙ ap (λ (i : ℕ). getD (s .args .previouses .now) i 0) l in
+    = c .before .previous .ensures ∙ ap (λ (i : ℕ). getD (s .args .previouses .now) i 0) l in
     rw (c .before .before .before .next .ensures, f, l) at (c .edge-through .ensures)
 
 pub leaving-edge-spec : {M : Type 1} → statement M

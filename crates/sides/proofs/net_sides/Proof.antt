@@ -22,8 +22,7 @@ use Rattle.sides.proofs.side.Reads as side-reads
 -- all faces and cosines are computed
 abbrev State : Type 0
 State =
-    lts.After-cosine2
-    (
+    lts.After-cosine2 (
       count-at-reads.Asked,
       count-at-reads.Learnt,
       ring-face-reads.Asked,
@@ -42,7 +41,7 @@ State =
 
 part0 : (a : State)
     → Parts (K (a .before .before .before .before .before .before .before .before .before .before .before .before .before .args .count) (a .before .before .before .before .before .before .before .before .before .before .before .before .before .args .nexts .now) (a .before .before .before .before .before .before .before .before .before .before .before .before .before .args .previouses .now) (a .before .before .before .before .before .before .before .before .before .before .before .before .before .args .links .now) (a .before .before .before .before .before .before .before .before .before .before .before .before .before .args .sides .now) (a .before .before .before .before .before .before .before .before .before .before .before .before .before .args .valences .now) (a .before .before .before .before .before .before .before .before .before .before .before .before .before .args .points .now) (a .before .before .before .before .before .before .before .before .before .before .before .before .before .args .c) (a .before .before .before .before .before .before .before .before .before .before .before .before .before .pre)) (a .before .before .before .before .before .before .before .before .before .before .before .before .before .args .c) side0 (a .before .before .before .before .before .ring-face .result .centre) (a .before .before .before .leaving-edge .result .centre) (a .before .before .before .before .before .ring-face .result .ahead) (a .before .before .before .leaving-edge .result .behind)
-      (a .before .before .before .leaving-edge .result .here) (a .before .before .before .leaving-edge .result .before) (a .before .cosine .result)
+    (a .before .before .before .leaving-edge .result .here) (a .before .before .before .leaving-edge .result .before) (a .before .cosine .result)
 unfolding H T C
 part0 a =
     let s = a .before .before .before .before .before .before .before .before .before .before .before .before .before in
@@ -60,7 +59,7 @@ part0 a =
 
 part1 : (a : State)
     → Parts (K (a .before .before .before .before .before .before .before .before .before .before .before .before .before .args .count) (a .before .before .before .before .before .before .before .before .before .before .before .before .before .args .nexts .now) (a .before .before .before .before .before .before .before .before .before .before .before .before .before .args .previouses .now) (a .before .before .before .before .before .before .before .before .before .before .before .before .before .args .links .now) (a .before .before .before .before .before .before .before .before .before .before .before .before .before .args .sides .now) (a .before .before .before .before .before .before .before .before .before .before .before .before .before .args .valences .now) (a .before .before .before .before .before .before .before .before .before .before .before .before .before .args .points .now) (a .before .before .before .before .before .before .before .before .before .before .before .before .before .args .c) (a .before .before .before .before .before .before .before .before .before .before .before .before .before .pre)) (a .before .before .before .before .before .before .before .before .before .before .before .before .before .args .c) side1 (a .before .before .before .before .ring-face2 .result .centre) (a .before .before .before .leaving-edge .result .centre) (a .before .before .before .before .ring-face2 .result .ahead) (a .before .before .before .leaving-edge .result .ahead)
-      (a .before .before .before .leaving-edge .result .here) (a .before .before .before .leaving-edge .result .after) (a .cosine2 .result)
+    (a .before .before .before .leaving-edge .result .here) (a .before .before .before .leaving-edge .result .after) (a .cosine2 .result)
 unfolding H T C
 part1 a =
     let s = a .before .before .before .before .before .before .before .before .before .before .before .before .before in
@@ -78,7 +77,7 @@ part1 a =
 
 part2 : (a : State)
     → Parts (K (a .before .before .before .before .before .before .before .before .before .before .before .before .before .args .count) (a .before .before .before .before .before .before .before .before .before .before .before .before .before .args .nexts .now) (a .before .before .before .before .before .before .before .before .before .before .before .before .before .args .previouses .now) (a .before .before .before .before .before .before .before .before .before .before .before .before .before .args .links .now) (a .before .before .before .before .before .before .before .before .before .before .before .before .before .args .sides .now) (a .before .before .before .before .before .before .before .before .before .before .before .before .before .args .valences .now) (a .before .before .before .before .before .before .before .before .before .before .before .before .before .args .points .now) (a .before .before .before .before .before .before .before .before .before .before .before .before .before .args .c) (a .before .before .before .before .before .before .before .before .before .before .before .before .before .pre)) (a .before .before .before .before .before .before .before .before .before .before .before .before .before .args .c) side2 (a .before .before .before .before .ring-face2 .result .centre) (a .before .before .arriving-edge .result .centre) (a .before .before .before .before .ring-face2 .result .behind) (a .before .before .arriving-edge .result .behind)
-      (a .before .before .arriving-edge .result .here) (a .before .before .arriving-edge .result .before) (a .cosine2 .result)
+    (a .before .before .arriving-edge .result .here) (a .before .before .arriving-edge .result .before) (a .cosine2 .result)
 unfolding H T C
 part2 a =
     let s = a .before .before .before .before .before .before .before .before .before .before .before .before .before in
@@ -96,7 +95,7 @@ part2 a =
 
 part3 : (a : State)
     → Parts (K (a .before .before .before .before .before .before .before .before .before .before .before .before .before .args .count) (a .before .before .before .before .before .before .before .before .before .before .before .before .before .args .nexts .now) (a .before .before .before .before .before .before .before .before .before .before .before .before .before .args .previouses .now) (a .before .before .before .before .before .before .before .before .before .before .before .before .before .args .links .now) (a .before .before .before .before .before .before .before .before .before .before .before .before .before .args .sides .now) (a .before .before .before .before .before .before .before .before .before .before .before .before .before .args .valences .now) (a .before .before .before .before .before .before .before .before .before .before .before .before .before .args .points .now) (a .before .before .before .before .before .before .before .before .before .before .before .before .before .args .c) (a .before .before .before .before .before .before .before .before .before .before .before .before .before .pre)) (a .before .before .before .before .before .before .before .before .before .before .before .before .before .args .c) side3 (a .before .before .before .before .before .ring-face .result .centre) (a .before .before .arriving-edge .result .centre) (a .before .before .before .before .before .ring-face .result .behind) (a .before .before .arriving-edge .result .ahead)
-      (a .before .before .arriving-edge .result .here) (a .before .before .arriving-edge .result .after) (a .before .cosine .result)
+    (a .before .before .arriving-edge .result .here) (a .before .before .arriving-edge .result .after) (a .before .cosine .result)
 unfolding H T C
 part3 a =
     let s = a .before .before .before .before .before .before .before .before .before .before .before .before .before in
@@ -131,37 +130,37 @@ arriving-edge-requires : tie.Need-arriving-edge-requires
 arriving-edge-requires c κs = let s = c .before .before .before .before .before .before .before .before .before .before in reach (s .args .count) (s .args .nexts .now) (s .args .previouses .now) (s .args .links .now) (s .args .sides .now) (s .args .valences .now) (s .args .points .now) (s .args .c) (s .pre)
 
 cosine-requires : tie.Need-cosine-requires
-cosine-requires c κs = 
+cosine-requires c κs =
     let s = c .before .before .before .before .before .before .before .before .before .before .before in
     let r = vertex-ring (s .args .count) (s .args .nexts .now) (s .args .previouses .now) (s .args .links .now) (s .args .sides .now) (s .args .valences .now) (s .args .points .now) (s .args .c) (s .pre) _ (c .before .before .before .before .before .count-at .ensures) in
     (r .least, r .most, omega (arith, r .least))
 
 cosine-requires-2 : tie.Need-cosine-requires-2
-cosine-requires-2 c κs = 
+cosine-requires-2 c κs =
     let s = c .before .before .before .before .before .before .before .before .before .before .before .before in
     let r = face-ring (s .args .count) (s .args .nexts .now) (s .args .previouses .now) (s .args .links .now) (s .args .sides .now) (s .args .valences .now) (s .args .points .now) (s .args .c) (s .pre) _ (c .before .before .before .before .before .count-at2 .ensures) in
     (r .least, r .most, omega (arith, r .least))
 
 side-requires : tie.Need-side-requires
-side-requires c κs = 
+side-requires c κs =
     let a = c .before .before .before .before .before .before in
     let s = a .before .before .before .before .before .before .before .before .before .before .before .before .before in
     sizes (K (s .args .count) (s .args .nexts .now) (s .args .previouses .now) (s .args .links .now) (s .args .sides .now) (s .args .valences .now) (s .args .points .now) (s .args .c) (s .pre)) (s .pre .sound) (s .args .c) (s .pre .here) side0 _ _ _ _ _ _ _ (part0 a)
 
 side-requires-2 : tie.Need-side-requires-2
-side-requires-2 c κs = 
+side-requires-2 c κs =
     let a = c .before .before .before .before .before .before .before .before .before .before .before .before .before in
     let s = a .before .before .before .before .before .before .before .before .before .before .before .before .before in
     sizes (K (s .args .count) (s .args .nexts .now) (s .args .previouses .now) (s .args .links .now) (s .args .sides .now) (s .args .valences .now) (s .args .points .now) (s .args .c) (s .pre)) (s .pre .sound) (s .args .c) (s .pre .here) side1 _ _ _ _ _ _ _ (part1 a)
 
 side-requires-3 : tie.Need-side-requires-3
-side-requires-3 c κs = 
+side-requires-3 c κs =
     let a = c .before .before .before .before .before .before .before .before .before .before .before .before .before .before .before .before .before .before .before .before in
     let s = a .before .before .before .before .before .before .before .before .before .before .before .before .before in
     sizes (K (s .args .count) (s .args .nexts .now) (s .args .previouses .now) (s .args .links .now) (s .args .sides .now) (s .args .valences .now) (s .args .points .now) (s .args .c) (s .pre)) (s .pre .sound) (s .args .c) (s .pre .here) side2 _ _ _ _ _ _ _ (part2 a)
 
 side-requires-4 : tie.Need-side-requires-4
-side-requires-4 c κs = 
+side-requires-4 c κs =
     let a = c .before .before .before .before .before .before .before .before .before .before .before .before .before .before .before .before .before .before .before .before .before .before .before .before .before .before .before in
     let s = a .before .before .before .before .before .before .before .before .before .before .before .before .before in
     sizes (K (s .args .count) (s .args .nexts .now) (s .args .previouses .now) (s .args .links .now) (s .args .sides .now) (s .args .valences .now) (s .args .points .now) (s .args .c) (s .pre)) (s .pre .sound) (s .args .c) (s .pre .here) side3 _ _ _ _ _ _ _ (part3 a)
