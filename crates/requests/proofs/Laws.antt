@@ -76,6 +76,7 @@ verdict-is M links first count n = orElse-assoc (verdict M) _ _
 
 -- a request with no fault
 pub record Granted (M : Mesh) (first count n : ℕ) : Type 0 where
+  pub some : 0 < count
   pub within : first + count ≤ cornerCount M
   pub room : n ≡ perCorner * count
 
@@ -84,6 +85,7 @@ unfolding requestFaults fault16 fault17
 granted M links first count n e14 =
     let e16 = sound-right _ _ (sound-right _ _ e14) in
     record {
+      some = range-of (cornerCount M) first count (sound-left _ _ e16) .0;
       within = range-of (cornerCount M) first count (sound-left _ _ e16) .1;
       room = eqb-true _ _ (not-false _ (single-sound 17 _ _ (sound-right _ _ e16)));
     }

@@ -9,7 +9,7 @@ use Rattle.mesh.proofs.Verdicts.{passed, past}
 use Rattle.requests.specs.Request.{requestFaults}
 use Rattle.requests.proofs.Laws.{Granted, granted}
 use Rattle.mesh.specs.Faults.{sound}
-use Rattle.building.proofs.Laws.{few}
+use Rattle.writing.proofs.Laws.{few}
 use native.Mathlib.Omega.{arith}
 use borrow.Author.Needs.{needs}
 use Rattle.building.proofs.answer.Statement.{statement}
@@ -47,7 +47,7 @@ write-nets-requires : tie.Need-write-nets-requires
 write-nets-requires c κs =
     let s = c .before .before .before .before .before .before .before .before .before .before in
     let g = grants (c .before .before .before) in
-    (s .pre .0, (record { nexts-are = s .pre .1 .0; links-are = s .pre .1 .1; nexts-long = search needs; links-long = search needs }, (g .within, g .room)))
+    (s .pre .0, (record { nexts-are = s .pre .1 .0; links-are = s .pre .1 .1; nexts-long = search needs; links-long = search needs }, (g .some, g .within, g .room)))
 
 same-length : tie.Need-same-length
 same-length c = search needs

@@ -7,12 +7,12 @@ use denote.Ref.{now}
 use Rattle.mesh.specs.Limits.{mostCorners}
 use Rattle.surface.specs.Refined.{perCorner}
 use Rattle.sides.specs.Tabled.{tabled}
-use Rattle.building.specs.Written.{AxisWritten}
-use Rattle.building.proofs.Laws.{axis-none, axis-step}
+use Rattle.writing.specs.Written.{AxisWritten}
+use Rattle.writing.proofs.Laws.{axis-none, axis-step}
 use native.Mathlib.Omega.{arith}
 use borrow.Author.Needs.{needs}
-use Rattle.building.proofs.write_axis.Statement.{statement}
-use Rattle.building.proofs.write_axis.Tie as tie
+use Rattle.writing.proofs.write_axis.Statement.{statement}
+use Rattle.writing.proofs.write_axis.Tie as tie
 
 abbrev Inv-loop : tie.InvT-loop
 Inv-loop points nexts previouses links sides valences n first count axis out₀ k₀ out k = (k ≤ count) × (length out ≡ perCorner * count) × AxisWritten (tabled n nexts previouses links sides valences points) first k axis out₀ out
@@ -21,7 +21,7 @@ abbrev μ-loop : tie.MeasureT-loop
 μ-loop points nexts previouses links sides valences n first count axis out₀ k₀ out k = count - k
 
 loop-holds : tie.Need-loop-holds Inv-loop μ-loop
-loop-holds c = let s = c .before .before .before .before .before in (omega arith, s .pre .1 .1 .2, axis-none _ _ _ _)
+loop-holds c = let s = c .before .before .before .before .before in (omega arith, s .pre .1 .1 .3, axis-none _ _ _ _)
 
 add-put-net : tie.Need-add-put-net Inv-loop μ-loop
 add-put-net c = search needs
@@ -37,7 +37,7 @@ put-net-requires c κs =
     let n : s .args .n ≤ mostCorners = s .pre .1 .0 .2 in (
       record {
         sound = s .pre .0;
-        here = omega (arith, s .pre .1 .1 .0);
+        here = omega (arith, s .pre .1 .1 .1);
         nexts-hold = omega (arith, long .nexts-long);
         previouses-hold = omega (arith, long .previouses-long);
         links-hold = omega (arith, long .links-long);
@@ -45,7 +45,7 @@ put-net-requires c κs =
         valences-hold = omega (arith, long .valences-long);
         points-hold = omega (arith, s .pre .1 .0 .1);
       },
-      s .pre .1 .1 .1,
+      s .pre .1 .1 .2,
       omega (arith, l .inv .1),
     )
 
@@ -62,7 +62,7 @@ loop-again c =
     let p = c .before .put-net in (
       omega arith,
       p .kept .1 .1 .1 .1 .1 .1 .1 .1 .1 .0 ∙ l .inv .1,
-      axis-step _ (s .args .first) (l .k) (s .args .axis) (perCorner * l .k) (now (s .args .out)) (l .out) (p .last .1 .1 .1 .1 .1 .1 .1 .1 .1 .0) (s .pre .1 .1 .1) refl (l .inv .2) (p .ensures),
+      axis-step _ (s .args .first) (l .k) (s .args .axis) (perCorner * l .k) (now (s .args .out)) (l .out) (p .last .1 .1 .1 .1 .1 .1 .1 .1 .1 .0) (s .pre .1 .1 .2) refl (l .inv .2) (p .ensures),
     )
 
 same-length : tie.Need-same-length Inv-loop μ-loop

@@ -8,14 +8,14 @@ use denote.Ref.{now}
 use Rattle.mesh.specs.Lists.{Mesh, meshOf}
 use Rattle.mesh.specs.Limits.{mostCorners}
 use Rattle.surface.specs.Refined.{perCorner, refinedPoint}
-use Rattle.building.specs.Written.{Written}
-use Rattle.building.proofs.Laws.{written-all, written-none, tabled-sound, written-next, steps-of, by-corners, few}
+use Rattle.writing.specs.Written.{Written}
+use Rattle.writing.proofs.Laws.{written-all, written-none, tabled-sound, written-next, steps-of, by-corners, few}
 use Rattle.corner_tables.specs.Tables.{Filled}
 use Rattle.refine.proofs.Accepted.{refinable-of}
 use native.Mathlib.Omega.{arith}
 use borrow.Author.Needs.{needs}
-use Rattle.building.proofs.write_axes.Statement.{statement}
-use Rattle.building.proofs.write_axes.Tie as tie
+use Rattle.writing.proofs.write_axes.Statement.{statement}
+use Rattle.writing.proofs.write_axes.Tie as tie
 
 abbrev Inv-loop : tie.InvT-loop
 Inv-loop coordinates sides corners nexts previouses links counts valences first count out₀ points₀ n axis₀ out points axis =
@@ -33,7 +33,7 @@ filled : (c : tie.After-fill-points Inv-loop μ-loop) → Filled (pos 0) (refine
 filled c = let s = c .before .before .before .before .before .before .before .before .before .before .before in by-corners (mesh s) (s .pre .0) (pos 0) (refinedPoint (mesh s) (c .before .before .before .loop .axis)) (c .fill-points .last .1 .1 .1 .1 .1 .1 .0) (c .fill-points .ensures)
 
 loop-holds : tie.Need-loop-holds Inv-loop μ-loop
-loop-holds c = let s = c .before .before .before .before .before .before .before in (omega arith, refl, s .pre .1 .1 .1 .1, written-none (mesh s) (s .args .first) (s .args .count) (now (s .args .out)))
+loop-holds c = let s = c .before .before .before .before .before .before .before in (omega arith, refl, s .pre .1 .1 .1 .2, written-none (mesh s) (s .args .first) (s .args .count) (now (s .args .out)))
 
 slice-aggregate-fill-points : tie.Need-slice-aggregate-fill-points Inv-loop μ-loop
 slice-aggregate-fill-points c = search needs
@@ -42,7 +42,7 @@ fill-points-requires : tie.Need-fill-points-requires Inv-loop μ-loop
 fill-points-requires c κs =
     let s = c .before .before .before .before .before .before .before .before .before .before in
     let l = c .before .before .loop in
-    (refinable-of (mesh s) (s .pre .0), (c .before .loop-test .taken, (steps-of (mesh s) (s .pre .0) _ _ _ _ _ (s .pre .1 .0) (s .pre .1 .1 .0), l .inv .1)))
+    (refinable-of (mesh s) (s .pre .0), (omega arith, (steps-of (mesh s) (s .pre .0) _ _ _ _ _ (s .pre .1 .0) (s .pre .1 .1 .0), l .inv .1)))
 
 slice-aggregate-write-axis : tie.Need-slice-aggregate-write-axis Inv-loop μ-loop
 slice-aggregate-write-axis c = search needs
@@ -52,7 +52,7 @@ write-axis-requires c κs =
     let s = c .before .before .before .before .before .before .before .before .before .before .before .before .before .before in
     let l = c .before .before .before .before .before .before .loop in
     let f = c .before .before .before in
-    (tabled-sound (mesh s) (s .pre .0) _ _ _ _ _ (f .fill-points .last .1 .1 .1 .1 .1 .1 .0) (l .axis) (s .pre .1 .0) (filled f), ((s .pre .1 .1 .0, f .fill-points .kept .1 .1 .1 .1 .1 .1 .0 ∙ l .inv .1, few (mesh s) (s .pre .0)), (s .pre .1 .1 .1 .0, c .before .before .before .before .before .loop-test .taken, l .inv .2)))
+    (tabled-sound (mesh s) (s .pre .0) _ _ _ _ _ (f .fill-points .last .1 .1 .1 .1 .1 .1 .0) (l .axis) (s .pre .1 .0) (filled f), ((s .pre .1 .1 .0, f .fill-points .kept .1 .1 .1 .1 .1 .1 .0 ∙ l .inv .1, few (mesh s) (s .pre .0)), (s .pre .1 .1 .1 .0, s .pre .1 .1 .1 .1, omega arith, l .inv .2)))
 
 add-axis : tie.Need-add-axis Inv-loop μ-loop
 add-axis c = search needs
@@ -70,7 +70,7 @@ loop-again c =
       f .fill-points .kept .1 .1 .1 .1 .1 .1 .0 ∙ l .inv .1,
       w .kept .1 .1 .1 .1 .1 .1 .1 .1 .1 .1 .0 ∙ l .inv .2,
       written-next (mesh s) (s .pre .0) (now (s .args .nexts)) (now (s .args .previouses)) (now (s .args .links)) (now (s .args .counts)) (now (s .args .valences)) (f .fill-points .last .1 .1 .1 .1 .1 .1 .0) (l .axis) (s .pre .1 .0) (filled f)
-          (s .args .first) (s .args .count) (l .out) (w .last .1 .1 .1 .1 .1 .1 .1 .1 .1 .1 .0) (c .before .before .before .before .before .before .before .loop-test .taken) (s .pre .1 .1 .1 .0) (l .inv .3) (w .ensures),
+          (s .args .first) (s .args .count) (l .out) (w .last .1 .1 .1 .1 .1 .1 .1 .1 .1 .1 .0) (omega arith) (s .pre .1 .1 .1 .1) (l .inv .3) (w .ensures),
     )
 
 same-length : tie.Need-same-length Inv-loop μ-loop

@@ -4,10 +4,10 @@ use mathlib.Core.Path.{refl}
 use denote.Ref.{now}
 use Rattle.mesh.specs.Lists.{Mesh, meshOf}
 use Rattle.corner_tables.proofs.Accepted.{faces-of, vertices-of}
-use Rattle.building.proofs.Laws.{tables-of}
+use Rattle.writing.proofs.Laws.{tables-of}
 use borrow.Author.Needs.{needs}
-use Rattle.building.proofs.write_nets.Statement.{statement}
-use Rattle.building.proofs.write_nets.Tie as tie
+use Rattle.writing.proofs.write_nets.Statement.{statement}
+use Rattle.writing.proofs.write_nets.Tie as tie
 
 abbrev mesh : tie.Start → Mesh
 mesh s = meshOf (now (s .args .coordinates)) (now (s .args .sides)) (now (s .args .corners))
@@ -42,7 +42,7 @@ write-axes-requires c κs =
     let f = c .before .before .before .before .before .before .before .before .before .fill-faces in
     let v = c .before .before .before .before .before .fill-valences in
     let g = s .pre .1 .0 in
-    (s .pre .0, (tables-of (mesh s) (s .pre .0) _ _ _ _ _ g (f .ensures) (v .ensures), (record { nexts-long = g .nexts-long; previouses-long = f .kept .1 .0; links-long = g .links-long; sides-long = f .kept .1 .1 .0; valences-long = v .kept .1 .0 }, (s .pre .1 .1 .0, s .pre .1 .1 .1))))
+    (s .pre .0, (tables-of (mesh s) (s .pre .0) _ _ _ _ _ g (f .ensures) (v .ensures), (record { nexts-long = g .nexts-long; previouses-long = f .kept .1 .0; links-long = g .links-long; sides-long = f .kept .1 .1 .0; valences-long = v .kept .1 .0 }, s .pre .1 .1)))
 
 same-length : tie.Need-same-length
 same-length c = search needs

@@ -27,7 +27,7 @@ use Rattle.refine.specs.Sources.{Steps}
 use Rattle.refine.proofs.Accepted.{refinable-of}
 use Rattle.sides.specs.Tabled.{tabled}
 use Rattle.nets.specs.Put.{Put}
-use Rattle.building.specs.Written.{Given, MeshTables, Long, pointsOf, AxisWritten, Written}
+use Rattle.writing.specs.Written.{Given, MeshTables, Long, pointsOf, AxisWritten, Written}
 
 -- ---- place i of the output holds point `i % perCorner / 3` of corner `i / perCorner` on axis `i % 3`
 place : (i : ℕ) → perCorner * (i / perCorner) + 3 * (i % perCorner / 3) + i % 3 ≡ i

@@ -10,18 +10,11 @@ use Rattle.mesh.specs.Lists.{Mesh, cornerCount}
 use Rattle.mesh.specs.Corners.{sidesOf, next, previous}
 use Rattle.mesh.specs.Links.{vertexOf, link, valence}
 use Rattle.mesh.specs.Tables.{NextsTo, LinkTable}
-use Rattle.mesh.specs.Answers.{stated, kept}
-use Rattle.mesh.specs.declared.Answer.{Answer}
+use Rattle.mesh.specs.Answers.{kept}
 use Rattle.surface.specs.Corners.{Corners}
 use Rattle.surface.specs.Net.{net}
-use Rattle.surface.specs.Refined.{cornersOf, perCorner, nets}
-use Rattle.requests.specs.Request.{requestFaults}
+use Rattle.surface.specs.Refined.{cornersOf, perCorner}
 use Rattle.corner_tables.specs.Tables.{Filled}
-
--- a call on an accepted mesh, as `Built` has it of any
-pub record Answered (M : Mesh) (links : List ℕ) (first count : ℕ) (old : List ℤ) (r : Answer) (out : List ℤ) : Type 0 where
-  pub answers : stated r ≡ requestFaults M links first count (length old)
-  pub holds : out ≡ kept (stated r) (nets M first count) old
 
 -- the tables that checking the mesh leaves
 pub record Given (M : Mesh) (nexts links : List ℕ) : Type 0 where

@@ -1,0 +1,17 @@
+-- A call of building on an accepted mesh: what is left to answer and to write after the check of 4 to 13.
+-- Assumes nothing.
+use mathlib.Core.Path.{_≡_}
+use mathlib.Core.List.{List}
+use Prim.Native.Nat.{ℕ}
+use lib.ListN.{length}
+use lib.IntN.{ℤ}
+use Rattle.mesh.specs.Lists.{Mesh}
+use Rattle.mesh.specs.Answers.{stated, kept}
+use Rattle.mesh.specs.declared.Answer.{Answer}
+use Rattle.surface.specs.Refined.{nets}
+use Rattle.requests.specs.Request.{requestFaults}
+
+-- a call on an accepted mesh, as `Built` has it of any
+pub record Answered (M : Mesh) (links : List ℕ) (first count : ℕ) (old : List ℤ) (r : Answer) (out : List ℤ) : Type 0 where
+  pub answers : stated r ≡ requestFaults M links first count (length old)
+  pub holds : out ≡ kept (stated r) (nets M first count) old
