@@ -1,10 +1,9 @@
 -- The ways out of surveying and decoding, as laws over lists: what each answers, and what the spaces then hold.
 -- Assumes nothing.
-use mathlib.Core.Path.{_≡_, refl, ap, _∙_, sym, subst}
-use mathlib.Core.Bool.{Bool, true, false}
+use mathlib.Core.Path.{_≡_, ap, _∙_, sym, subst}
 use mathlib.Core.Logic.{⊎-elim}
 use mathlib.Core.List.{List}
-use Prim.Native.Nat.{ℕ, _+_, _*_, _<_, _≤_}
+use Prim.Native.Nat.{ℕ, _*_, _<_, _≤_}
 use native.Mathlib.Omega.{arith}
 use lib.Dec.{ltb}
 use lib.ListN.{length, take}
@@ -13,14 +12,12 @@ use lib.IntN.{ℤ}
 use borrow.Author.Tests.{lt-ltb, le-ltb, ltb-true, ltb-false}
 use Rattle.mesh.specs.Limits.{mostVertices, mostFaces, mostCorners}
 use Rattle.mesh.specs.Lists.{Mesh, meshOf, vertexCount, faceCount, cornerCount}
-use Rattle.mesh.specs.Faults.{Verdict, sound, fault, single, _orElse_, verdict, Accepted}
-use Rattle.mesh.specs.Answers.{stated, kept}
-use Rattle.mesh.specs.declared.Answer.{Answer}
+use Rattle.mesh.specs.Faults.{Verdict, sound, fault, single, _orElse_, Accepted}
 use Rattle.mesh.specs.declared.Answer.the-variants.{Done, Refused}
 use Rattle.mesh.proofs.Scans.{ways}
 use Rattle.mesh.proofs.Accepted.{sound-of, few-vertices, few-faces, few-corners}
 use Rattle.mesh.proofs.Verdicts.{orElse-sound, sound-left, sound-right, single-sound}
-use Rattle.format.specs.Format.{verticesOf, facesOf, cornersOf, fileMesh, headerVerdict, Sized, Room, ListsRead}
+use Rattle.format.specs.Format.{verticesOf, facesOf, cornersOf, fileMesh, Sized, Room, ListsRead}
 use Rattle.format.proofs.Laws.{read-back, file-coordinates, file-faces, file-corners}
 use Rattle.format.proofs.Header.{header-sized}
 use Rattle.counts.specs.Counts.{Counted}
@@ -66,7 +63,7 @@ mesh-read file n f k oc cs os ok ss ks p q r h =
     rw (
       read-back n (fileMesh file .coordinates) oc cs (p ∙ file-coordinates file) (h .coordinates-hold),
       read-back f (fileMesh file .sides) os ss (q ∙ file-faces file) (h .sides-hold),
-      read-back k (fileMesh file .corners) ok ks (r ∙ file-corners file) (h .corners-hold)
+      read-back k (fileMesh file .corners) ok ks (r ∙ file-corners file) (h .corners-hold),
     )
 
 -- ---- decoding
@@ -97,11 +94,11 @@ module _ (file : List ℕ) (a b c : ℕ) where
   unfolding roomVerdict
   room-of e =
       let later = sound-right _ _ e in
-      record
-        { coordinates-fit = ltb-false a _ (single-sound noRoom _ _ (sound-left _ _ e))
-        ; sides-fit = ltb-false b _ (single-sound noRoom _ _ (sound-left _ _ later))
-        ; corners-fit = ltb-false c _ (single-sound noRoom _ _ (sound-right _ _ later))
-        }
+      record {
+        coordinates-fit = ltb-false a _ (single-sound noRoom _ _ (sound-left _ _ e));
+        sides-fit = ltb-false b _ (single-sound noRoom _ _ (sound-left _ _ later));
+        corners-fit = ltb-false c _ (single-sound noRoom _ _ (sound-right _ _ later));
+      }
 
 module _ (file : List ℕ) (counted : ℕ) (a b c : ℕ) (e : decodeVerdict file counted a b c ≡ sound) where
   pub decode-sized : Sized file
@@ -117,30 +114,30 @@ module _ (file : List ℕ) (counted : ℕ) (coordinates : List ℤ) (sides corne
       → fault k p ≡ decodeVerdict file counted (length coordinates) (length sides) (length corners)
       → DecodedTo file counted coordinates sides corners r coordinates sides corners
   refused-decode r k p q n f m e =
-      record
-        { answers = rw q e
-        ; coordinates-length = rw q n
-        ; sides-length = rw q f
-        ; corners-length = rw q m
-        ; coordinates-hold = rw q
-        ; sides-hold = rw q
-        ; corners-hold = rw q
-        }
+      record {
+        answers = rw q e;
+        coordinates-length = rw q n;
+        sides-length = rw q f;
+        corners-length = rw q m;
+        coordinates-hold = rw q;
+        sides-hold = rw q;
+        corners-hold = rw q;
+      }
 
   pub done-decode : (n f k : ℕ) (coordinates' : List ℤ) (sides' corners' : List ℕ) → n ≡ 3 * verticesOf file → f ≡ facesOf file → k ≡ cornersOf file
       → sound ≡ decodeVerdict file counted (length coordinates) (length sides) (length corners)
       → ListsRead file coordinates sides corners coordinates' sides' corners'
       → DecodedTo file counted coordinates sides corners (record { answer = Done; coordinates = n; sides = f; corners = k }) coordinates' sides' corners'
   done-decode n f k coordinates' sides' corners' p q r e h =
-      record
-        { answers = e
-        ; coordinates-length = p ∙ file-coordinates file
-        ; sides-length = q ∙ file-faces file
-        ; corners-length = r ∙ file-corners file
-        ; coordinates-hold = h .coordinates-hold
-        ; sides-hold = h .sides-hold
-        ; corners-hold = h .corners-hold
-        }
+      record {
+        answers = e;
+        coordinates-length = p ∙ file-coordinates file;
+        sides-length = q ∙ file-faces file;
+        corners-length = r ∙ file-corners file;
+        coordinates-hold = h .coordinates-hold;
+        sides-hold = h .sides-hold;
+        corners-hold = h .corners-hold;
+      }
 
 -- the bytes held are the file
 pub decode-held : (held file : List ℕ) (counted : ℕ) (coordinates : List ℤ) (sides corners : List ℕ) (r : Decoded)

@@ -8,7 +8,6 @@ ghost use Rattle.mesh.specs.Faults.{verdict};
 ghost use Rattle.mesh.specs.Answers.{stated};
 ghost use Rattle.format.specs.Format.{headerLength, fileMesh, Sized};
 ghost use Rattle.file.specs.File.{fileOf, noCounts, Surveyed, FileSurveyed, roomVerdict, decodeVerdict, DecodedTo};
-
 use counts::Counts;
 use counts::NUMBERS;
 use mesh::Answer;
@@ -163,7 +162,13 @@ fn decode_file(
 }
 
 // All that decoding into spaces of these lengths refuses.
-fn check_decode(file: &[u8], counted: usize, coordinates: usize, sides: usize, corners: usize) -> Answer
+fn check_decode(
+    file: &[u8],
+    counted: usize,
+    coordinates: usize,
+    sides: usize,
+    corners: usize,
+) -> Answer
     ensures { λ r. ⌜ stated r ≡ decodeVerdict (now (file .entry)) counted coordinates sides corners ⌝ }
 {
     let summary = survey_file(file, counted);
