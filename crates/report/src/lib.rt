@@ -1,7 +1,6 @@
 // What `inspect` does: it reads a mesh file from a descriptor and prints what `file::survey` answers.
 // The file is counted on past the buffer, to its end or past the length that 3 asks, so that 3 and 4 can be told apart.
 ghost use Prim.Native.Nat.{_≤_, _<_};
-
 use counts::Counts;
 use counts::NUMBERS;
 use libc::STDOUT_FILENO;
