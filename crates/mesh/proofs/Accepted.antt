@@ -15,7 +15,7 @@ use Rattle.mesh.specs.Scan.{iterate}
 use Rattle.mesh.specs.Lists.{Mesh, vertexCount, faceCount, cornerCount}
 use Rattle.mesh.specs.Corners.{sumOf, firstOf, sidesOf, next}
 use Rattle.mesh.specs.Links.{vertexOf, link, names, valence, lowest}
-use Rattle.mesh.specs.Faults.{outside, fault4, fault5, fault6, fault7, fault8, fault9, fault10, fault11, fault12, fault13, after, ringLength, met, verdict, Accepted, Closed}
+use Rattle.mesh.specs.Faults.{outside, fault4, fault5, fault6, fault7, fault8, fault9, fault10, fault11, fault12, fault13, after, ringLength, met, listFaults, linkFaults, verdict, Accepted, Closed}
 use Rattle.mesh.specs.Theorems.{Returns}
 use Rattle.mesh.proofs.Ranges.{none-left, none-right, at-least, at-most}
 use Rattle.mesh.proofs.Scans.{ways, first-le, first-passes, none}
@@ -38,14 +38,14 @@ pub record Sound (M : Mesh) : Type 0 where
   pub thirteen : (u : ℕ) → u < vertexCount M → fault13 (M .sides) (M .corners) u ≡ false
 
 pub sound-of : (M : Mesh) → Accepted M → Sound M
-unfolding verdict
-sound-of M e4 =
+unfolding verdict listFaults linkFaults
+sound-of M e =
+    let e4 = sound-left (listFaults M) (linkFaults M) e in
     let e5 = sound-right _ _ e4 in
     let e6 = sound-right _ _ e5 in
     let e7 = sound-right _ _ e6 in
     let e8 = sound-right _ _ e7 in
-    let e9 = sound-right _ _ e8 in
-    let e10 = sound-right _ _ e9 in
+    let e10 = sound-right (listFaults M) (linkFaults M) e in
     let e11 = sound-right _ _ e10 in
     let e12 = sound-right _ _ e11 in
     record {
@@ -54,7 +54,7 @@ sound-of M e4 =
       six = single-sound _ _ _ (sound-left _ _ e6);
       seven = lowest-sound _ _ _ (sound-left _ _ e7);
       eight = lowest-sound _ _ _ (sound-left _ _ e8);
-      nine = lowest-sound _ _ _ (sound-left _ _ e9);
+      nine = lowest-sound _ _ _ (sound-right _ _ e8);
       ten = lowest-sound _ _ _ (sound-left _ _ e10);
       eleven = lowest-sound _ _ _ (sound-left _ _ e11);
       twelve = lowest-sound _ _ _ (sound-left _ _ e12);

@@ -61,13 +61,12 @@ pub lowest-none : (k n : ℕ) (f : ℕ → Bool) → ((j : ℕ) → j < n → f 
 unfolding lowestOf
 lowest-none k n f h = single-miss k (firstBelow n f) (some-false n f h)
 
--- the ways out of and past a check whose answer states a verdict, as code meets them
-module _ {v : Verdict} (a : Answer) (e : stated a ≡ v) where
-  pub passed : a ≡ Done → v ≡ sound
-  passed q = sym e ∙ ap stated q
+-- a check whose answer states a verdict, as code meets it: it stops the chain, or is passed
+pub stop : {v : Verdict} (a : Answer) → stated a ≡ v → (k p : ℕ) → a ≡ Refused k p → (rest : Verdict) → fault k p ≡ v orElse rest
+stop a e k p q rest = sym (orElse-fault k p rest (sym e ∙ ap stated q))
 
-  pub stop : (k p : ℕ) → a ≡ Refused k p → (rest : Verdict) → fault k p ≡ v orElse rest
-  stop k p q rest = sym (orElse-fault k p rest (sym e ∙ ap stated q))
+pub passed : {v : Verdict} (a : Answer) → stated a ≡ v → a ≡ Done → v ≡ sound
+passed a e q = sym e ∙ ap stated q
 
-  pub past : a ≡ Done → {w : Verdict} (rest : Verdict) → w ≡ rest → w ≡ v orElse rest
-  past q rest r = r ∙ sym (orElse-sound rest (passed q))
+pub past : {v : Verdict} → v ≡ sound → {w : Verdict} (rest : Verdict) → w ≡ rest → w ≡ v orElse rest
+past e rest r = r ∙ sym (orElse-sound rest e)

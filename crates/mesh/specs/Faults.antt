@@ -91,19 +91,26 @@ met sides corners u c = someBelow (ringLength sides corners u) (λ j. eqb (after
 unfoldable pub fault13 : List ℕ → List ℕ → ℕ → Bool
 fault13 sides corners u = someBelow (length corners) (λ c. names corners u c && not (met sides corners u c))
 
--- each is tried over the whole input before the next
-unfoldable pub verdict : Mesh → Verdict
-verdict M =
+-- each is tried over the whole input before the next: 4 to 9, of the lists themselves
+unfoldable pub listFaults : Mesh → Verdict
+listFaults M =
     single 4 (fault4 (length (M .coordinates)) (faceCount M) (cornerCount M)) 0
     orElse lowestOf 5 (faceCount M) (fault5 (M .sides))
     orElse single 6 (fault6 (M .sides) (cornerCount M)) (sumOf (M .sides))
     orElse lowestOf 7 (length (M .coordinates)) (fault7 (M .coordinates))
     orElse lowestOf 8 (cornerCount M) (fault8 (vertexCount M) (M .corners))
     orElse lowestOf 9 (cornerCount M) (fault9 (M .sides) (M .corners))
-    orElse lowestOf 10 (cornerCount M) (fault10 (M .sides) (M .corners))
+
+-- then 10 to 13, of edges and vertices
+unfoldable pub linkFaults : Mesh → Verdict
+linkFaults M =
+    lowestOf 10 (cornerCount M) (fault10 (M .sides) (M .corners))
     orElse lowestOf 11 (cornerCount M) (fault11 (M .sides) (M .corners))
     orElse lowestOf 12 (vertexCount M) (fault12 (M .corners))
     orElse lowestOf 13 (vertexCount M) (fault13 (M .sides) (M .corners))
+
+unfoldable pub verdict : Mesh → Verdict
+verdict M = listFaults M orElse linkFaults M
 
 abbrev pub Accepted : Mesh → Type 0
 Accepted M = verdict M ≡ sound

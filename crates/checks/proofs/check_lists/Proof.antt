@@ -1,0 +1,129 @@
+-- Checks 4 to 9 meet their contract: each stops the chain with its fault or is passed.
+-- Assumes nothing.
+use Rattle.mesh.specs.Faults.{listFaults}
+use Rattle.mesh.proofs.Verdicts.{stop, passed, past, single-sound}
+use Rattle.mesh.proofs.Accepted.{few-faces, few-corners, sums-of}
+use borrow.Author.Needs.{needs}
+use Rattle.checks.proofs.check_lists.Statement.{statement}
+use Rattle.checks.proofs.check_lists.Tie as tie
+
+check-lengths-requires : tie.Need-check-lengths-requires
+check-lengths-requires c κs = search needs
+
+enum-known-a4 : tie.Need-enum-known-a4
+enum-known-a4 c = search needs
+
+returns : tie.Need-returns
+unfolding listFaults
+returns c = stop (c .before .before .before .check-lengths .result) (c .before .before .before .check-lengths .ensures) (c .before .a4 .given .0 .0) (c .before .a4 .given .0 .1 .0) (c .before .a4 .given .1) _
+
+enum-told : tie.Need-enum-told
+enum-told c = search needs
+
+check-sides-requires : tie.Need-check-sides-requires
+check-sides-requires c κs = search needs
+
+enum-known-a5 : tie.Need-enum-known-a5
+enum-known-a5 c = search needs
+
+returns-2 : tie.Need-returns-2
+unfolding listFaults
+returns-2 c = let t4 = c .before .before .before .before in
+    past (passed (t4 .before .before .check-lengths .result) (t4 .before .before .check-lengths .ensures) (t4 .enum-told .given .1)) _
+    (stop (c .before .before .before .check-sides .result) (c .before .before .before .check-sides .ensures) (c .before .a5 .given .0 .0) (c .before .a5 .given .0 .1 .0) (c .before .a5 .given .1) _)
+
+enum-told-2 : tie.Need-enum-told-2
+enum-told-2 c = search needs
+
+check-sum-requires : tie.Need-check-sum-requires
+check-sum-requires c κs = let t5 = c in let t4 = t5 .before .before .before in
+    few-faces _ _ _ (single-sound 4 _ 0 (passed (t4 .before .before .check-lengths .result) (t4 .before .before .check-lengths .ensures) (t4 .enum-told .given .1)))
+
+enum-known-a6 : tie.Need-enum-known-a6
+enum-known-a6 c = search needs
+
+returns-3 : tie.Need-returns-3
+unfolding listFaults
+returns-3 c = let t5 = c .before .before .before .before in let t4 = t5 .before .before .before in
+    past (passed (t4 .before .before .check-lengths .result) (t4 .before .before .check-lengths .ensures) (t4 .enum-told .given .1)) _
+    (past (passed (t5 .before .before .check-sides .result) (t5 .before .before .check-sides .ensures) (t5 .enum-told2 .given .1)) _
+    (stop (c .before .before .before .check-sum .result) (c .before .before .before .check-sum .ensures) (c .before .a6 .given .0 .0) (c .before .a6 .given .0 .1 .0) (c .before .a6 .given .1) _))
+
+enum-told-3 : tie.Need-enum-told-3
+enum-told-3 c = search needs
+
+check-coordinates-requires : tie.Need-check-coordinates-requires
+check-coordinates-requires c κs = search needs
+
+enum-known-a7 : tie.Need-enum-known-a7
+enum-known-a7 c = search needs
+
+returns-4 : tie.Need-returns-4
+unfolding listFaults
+returns-4 c = let t6 = c .before .before .before .before in let t5 = t6 .before .before .before in let t4 = t5 .before .before .before in
+    past (passed (t4 .before .before .check-lengths .result) (t4 .before .before .check-lengths .ensures) (t4 .enum-told .given .1)) _
+    (past (passed (t5 .before .before .check-sides .result) (t5 .before .before .check-sides .ensures) (t5 .enum-told2 .given .1)) _
+    (past (passed (t6 .before .before .check-sum .result) (t6 .before .before .check-sum .ensures) (t6 .enum-told3 .given .1)) _
+    (stop (c .before .before .before .check-coordinates .result) (c .before .before .before .check-coordinates .ensures) (c .before .a7 .given .0 .0) (c .before .a7 .given .0 .1 .0) (c .before .a7 .given .1) _)))
+
+enum-told-4 : tie.Need-enum-told-4
+enum-told-4 c = search needs
+
+check-names-requires : tie.Need-check-names-requires
+check-names-requires c κs = search needs
+
+enum-known-a8 : tie.Need-enum-known-a8
+enum-known-a8 c = search needs
+
+returns-5 : tie.Need-returns-5
+unfolding listFaults
+returns-5 c = let t7 = c .before .before .before .before in let t6 = t7 .before .before .before in let t5 = t6 .before .before .before in let t4 = t5 .before .before .before in
+    past (passed (t4 .before .before .check-lengths .result) (t4 .before .before .check-lengths .ensures) (t4 .enum-told .given .1)) _
+    (past (passed (t5 .before .before .check-sides .result) (t5 .before .before .check-sides .ensures) (t5 .enum-told2 .given .1)) _
+    (past (passed (t6 .before .before .check-sum .result) (t6 .before .before .check-sum .ensures) (t6 .enum-told3 .given .1)) _
+    (past (passed (t7 .before .before .check-coordinates .result) (t7 .before .before .check-coordinates .ensures) (t7 .enum-told4 .given .1)) _
+    (stop (c .before .before .before .check-names .result) (c .before .before .before .check-names .ensures) (c .before .a8 .given .0 .0) (c .before .a8 .given .0 .1 .0) (c .before .a8 .given .1) _))))
+
+enum-told-5 : tie.Need-enum-told-5
+enum-told-5 c = search needs
+
+check-faces-requires : tie.Need-check-faces-requires
+check-faces-requires c κs = let t8 = c in let t7 = t8 .before .before .before in let t6 = t7 .before .before .before in let t5 = t6 .before .before .before in let t4 = t5 .before .before .before in
+    (sums-of _ _ (single-sound 6 _ _ (passed (t6 .before .before .check-sum .result) (t6 .before .before .check-sum .ensures) (t6 .enum-told3 .given .1))), few-corners _ _ _ (single-sound 4 _ 0 (passed (t4 .before .before .check-lengths .result) (t4 .before .before .check-lengths .ensures) (t4 .enum-told .given .1))))
+
+returns-6 : tie.Need-returns-6
+unfolding listFaults
+returns-6 c = let t8 = c .before in let t7 = t8 .before .before .before in let t6 = t7 .before .before .before in let t5 = t6 .before .before .before in let t4 = t5 .before .before .before in
+    past (passed (t4 .before .before .check-lengths .result) (t4 .before .before .check-lengths .ensures) (t4 .enum-told .given .1)) _
+    (past (passed (t5 .before .before .check-sides .result) (t5 .before .before .check-sides .ensures) (t5 .enum-told2 .given .1)) _
+    (past (passed (t6 .before .before .check-sum .result) (t6 .before .before .check-sum .ensures) (t6 .enum-told3 .given .1)) _
+    (past (passed (t7 .before .before .check-coordinates .result) (t7 .before .before .check-coordinates .ensures) (t7 .enum-told4 .given .1)) _
+    (past (passed (t8 .before .before .check-names .result) (t8 .before .before .check-names .ensures) (t8 .enum-told5 .given .1)) _
+    (c .check-faces .ensures)))))
+
+pub check-lists-spec : {M : Type 1} → statement M
+check-lists-spec =
+    tie.close
+    (tie.spec
+    check-lengths-requires
+    enum-known-a4
+    returns
+    enum-told
+    check-sides-requires
+    enum-known-a5
+    returns-2
+    enum-told-2
+    check-sum-requires
+    enum-known-a6
+    returns-3
+    enum-told-3
+    check-coordinates-requires
+    enum-known-a7
+    returns-4
+    enum-told-4
+    check-names-requires
+    enum-known-a8
+    returns-5
+    enum-told-5
+    check-faces-requires
+    returns-6)

@@ -1,0 +1,33 @@
+-- What the shared check of 4 to 13 answers, and what its scratch tables hold.
+-- Assumes nothing.
+use mathlib.Core.Path.{_≡_}
+use mathlib.Core.List.{List}
+use Prim.Native.Nat.{ℕ, _<_, _≤_}
+use lib.ListN.{getD}
+use Rattle.mesh.specs.Limits.{leastSides, mostVertices, mostCorners}
+use Rattle.mesh.specs.Lists.{Mesh, vertexCount, faceCount, cornerCount}
+use Rattle.mesh.specs.Corners.{sumOf}
+use Rattle.mesh.specs.Links.{vertexOf}
+use Rattle.mesh.specs.Tables.{NextsTo, LinkTable}
+use Rattle.mesh.specs.Faults.{sound, linkFaults, verdict, Accepted}
+use Rattle.mesh.specs.Answers.{stated}
+use Rattle.mesh.specs.declared.Answer.{Answer}
+
+-- of every mesh; a refused one leaves the two tables with any contents, an accepted one fills them for its corners
+pub record Checked (M : Mesh) (r : Answer) (nexts links : List ℕ) : Type 0 where
+  pub answers : stated r ≡ verdict M
+  pub nexts-are : Accepted M → NextsTo (M .sides) nexts (cornerCount M)
+  pub links-are : Accepted M → LinkTable (M .sides) (M .corners) links
+
+-- what the checks 4 to 9 leave for the later ones
+pub record Listed (M : Mesh) : Type 0 where
+  pub few : vertexCount M ≤ mostVertices
+  pub small : cornerCount M ≤ mostCorners
+  pub sums : sumOf (M .sides) ≡ cornerCount M
+  pub sided : (f : ℕ) → f < faceCount M → leastSides ≤ getD (M .sides) f 0
+  pub named : (c : ℕ) → c < cornerCount M → vertexOf (M .corners) c < vertexCount M
+
+-- the checks 10 to 13
+pub record Joined (M : Mesh) (r : Answer) (links : List ℕ) : Type 0 where
+  pub answers : stated r ≡ linkFaults M
+  pub holds : stated r ≡ sound → LinkTable (M .sides) (M .corners) links

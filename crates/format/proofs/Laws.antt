@@ -1,0 +1,85 @@
+-- Numbers below zero by their bits; a list read into the beginning of a lent space, value by value; the lengths of a file's lists.
+-- Assumes nothing.
+use mathlib.Core.Path.{_≡_, refl, ap, _∙_, sym}
+use mathlib.Core.List.{List, [], _∷_, _++_}
+use Prim.Native.Nat.{ℕ, zero, suc, _+_, _*_, _<_, _≤_}
+use native.Mathlib.Numerals.{add-one}
+use native.Mathlib.Omega.{arith}
+use lib.ListN.{length, getD, take, drop, set, length-append, length-drop}
+use lib.Seq.{drop-cons, set-at, take-at, append-snoc}
+use lib.IntN.{ℤ, pos, negsuc, _-ℤ_}
+use Rattle.mesh.specs.Links.{valuesFrom}
+use Rattle.mesh.proofs.Links.{values-length}
+use Rattle.format.specs.Format.{begins, coordinateIn, sideIn, cornerIn, verticesOf, facesOf, cornersOf, sidesStart, cornersStart, fileMesh}
+
+zero-add : (n : ℕ) → 0 + n ≡ n
+zero-add n = omega arith
+
+pub minus-from-one : (n : ℕ) → negsuc 0 -ℤ pos n ≡ negsuc n
+minus-from-one zero = refl
+minus-from-one (suc n) = ap (λ (k : ℕ). negsuc (suc k)) (zero-add n)
+
+values-snoc : {A : Type 0} (f : ℕ → A) (at left : ℕ) → valuesFrom f at (suc left) ≡ valuesFrom f at left ++ (f (at + left) ∷ [])
+unfolding valuesFrom
+values-snoc f at zero = rw (add-zero at)
+  where
+    add-zero : (n : ℕ) → n + 0 ≡ n
+    add-zero n = omega arith
+values-snoc f at (suc left) = ap (λ l. f at ∷ l) (values-snoc f (suc at) left ∙ ap (λ (k : ℕ). valuesFrom f (suc at) left ++ (f k ∷ [])) (omega arith))
+
+-- one store of a fill from the front
+module _ {A : Type 0} (f : ℕ → A) (old : List A) where
+  abbrev pub Filled : ℕ → List A → Type 0
+  Filled i out = out ≡ valuesFrom f 0 i ++ drop i old
+
+  pub filled-none : Filled 0 old
+  unfolding valuesFrom
+  filled-none = refl
+
+  pub filled-step : (i : ℕ) (out : List A) (x d : A) → i < length old → Filled i out → x ≡ f i → Filled (i + 1) (set out i x)
+  filled-step i out x d h e q =
+      rw (e, q, add-one, drop-cons old i d h, values-snoc f 0 i, zero-add i, append-snoc)
+      (set-at (valuesFrom f 0 i) (getD old i d) (drop (suc i) old) (f i) i (values-length f 0 i))
+
+  pub filled-all : (i n : ℕ) (out : List A) → i ≡ n → Filled i out → out ≡ begins (valuesFrom f 0 n) old
+  filled-all i n out q e = rw (values-length f 0 n, ← q) e
+
+  pub filled-length : (i : ℕ) (out : List A) → i ≤ length old → Filled i out → length out ≡ length old
+  filled-length i out h e = rw e (simp (length-append, values-length, length-drop) (omega arith))
+
+-- what was read is found again in the beginning of the space
+module _ {A : Type 0} (n : ℕ) (new old out : List A) (q : n ≡ length new) (e : out ≡ begins new old) where
+  pub read-back : take n out ≡ new
+  read-back = rw e (take-at new (drop (length new) old) n (sym q))
+
+  pub read-length : n ≡ length (take n out)
+  read-length = q ∙ sym (ap length read-back)
+
+module _ (file : List ℕ) where
+  pub file-coordinates : 3 * verticesOf file ≡ length (fileMesh file .coordinates)
+  unfolding fileMesh
+  file-coordinates = sym (values-length (coordinateIn file) 0 (3 * verticesOf file))
+
+  pub file-faces : facesOf file ≡ length (fileMesh file .sides)
+  unfolding fileMesh
+  file-faces = sym (values-length (sideIn file (sidesStart file)) 0 (facesOf file))
+
+  pub file-corners : cornersOf file ≡ length (fileMesh file .corners)
+  unfolding fileMesh
+  file-corners = sym (values-length (cornerIn file (cornersStart file)) 0 (cornersOf file))
+
+  -- the lists, as they are read, are those of the file's mesh
+  pub coordinates-read : (n : ℕ) (old out : List ℤ) → n ≡ 3 * verticesOf file → out ≡ begins (valuesFrom (coordinateIn file) 0 n) old
+      → out ≡ begins (fileMesh file .coordinates) old
+  unfolding fileMesh
+  coordinates-read n old out q e = rw q at e
+
+  pub sides-read : (start n : ℕ) (old out : List ℕ) → start ≡ sidesStart file → n ≡ facesOf file → out ≡ begins (valuesFrom (sideIn file start) 0 n) old
+      → out ≡ begins (fileMesh file .sides) old
+  unfolding fileMesh
+  sides-read start n old out p q e = rw (p, q) at e
+
+  pub corners-read : (start n : ℕ) (old out : List ℕ) → start ≡ cornersStart file → n ≡ cornersOf file → out ≡ begins (valuesFrom (cornerIn file start) 0 n) old
+      → out ≡ begins (fileMesh file .corners) old
+  unfolding fileMesh
+  corners-read start n old out p q e = rw (p, q) at e
