@@ -35,7 +35,7 @@ fn count_one(table: &mut [u16], m: usize)
 }
 
 // The tally of 16-bit numbers.
-pub fn tally(values: &[u16], table: &mut [u16])
+fn tally(values: &[u16], table: &mut [u16])
     requires { ⌜ (length (now values) ≤ 65535) × (now table ≡ replicate (length (now table)) 0) ⌝ }
     ensures { λ _. ⌜ now (table .exit) ≡ tallyOf (now (values .entry)) (length (now (table .entry))) ⌝ }
 {
@@ -47,7 +47,7 @@ pub fn tally(values: &[u16], table: &mut [u16])
 }
 
 // The tally of bytes.
-pub fn tally_bytes(values: &[u8], table: &mut [u16])
+fn tally_bytes(values: &[u8], table: &mut [u16])
     requires { ⌜ (length (now values) ≤ 65535) × (now table ≡ replicate (length (now table)) 0) ⌝ }
     ensures { λ _. ⌜ now (table .exit) ≡ tallyOf (now (values .entry)) (length (now (table .entry))) ⌝ }
 {

@@ -2,7 +2,7 @@
 // of a mesh face are rings of steps through a table; the four-sided face of an edge is given by its points.
 ghost use mathlib.Core.Path.{_≡_};
 ghost use Prim.Native.Nat.{_+_, _-_, _*_, _^_, _≤_, _<_};
-ghost use lib.IntN.{ℤ, pos, natAbs, _+ℤ_, _*ℤ_};
+ghost use lib.IntN.{pos, natAbs, _*ℤ_};
 ghost use Rattle.rounding.specs.Round.{round};
 ghost use Rattle.cosines.specs.Table.{lastRow};
 ghost use Rattle.surface.specs.Face.{weight};

@@ -1,10 +1,9 @@
 -- The ways out of surveying and decoding, as laws over lists: what each answers, and what the spaces then hold.
 -- Assumes nothing.
-use mathlib.Core.Path.{_≡_, refl, ap, _∙_, sym, subst}
-use mathlib.Core.Bool.{Bool, true, false}
+use mathlib.Core.Path.{_≡_, ap, _∙_, sym, subst}
 use mathlib.Core.Logic.{⊎-elim}
 use mathlib.Core.List.{List}
-use Prim.Native.Nat.{ℕ, _+_, _*_, _<_, _≤_}
+use Prim.Native.Nat.{ℕ, _*_, _<_, _≤_}
 use native.Mathlib.Omega.{arith}
 use lib.Dec.{ltb}
 use lib.ListN.{length, take}
@@ -13,14 +12,12 @@ use lib.IntN.{ℤ}
 use borrow.Author.Tests.{lt-ltb, le-ltb, ltb-true, ltb-false}
 use Rattle.mesh.specs.Limits.{mostVertices, mostFaces, mostCorners}
 use Rattle.mesh.specs.Lists.{Mesh, meshOf, vertexCount, faceCount, cornerCount}
-use Rattle.mesh.specs.Faults.{Verdict, sound, fault, single, _orElse_, verdict, Accepted}
-use Rattle.mesh.specs.Answers.{stated, kept}
-use Rattle.mesh.specs.declared.Answer.{Answer}
+use Rattle.mesh.specs.Faults.{Verdict, sound, fault, single, _orElse_, Accepted}
 use Rattle.mesh.specs.declared.Answer.the-variants.{Done, Refused}
 use Rattle.mesh.proofs.Scans.{ways}
 use Rattle.mesh.proofs.Accepted.{sound-of, few-vertices, few-faces, few-corners}
 use Rattle.mesh.proofs.Verdicts.{orElse-sound, sound-left, sound-right, single-sound}
-use Rattle.format.specs.Format.{verticesOf, facesOf, cornersOf, fileMesh, headerVerdict, Sized, Room, ListsRead}
+use Rattle.format.specs.Format.{verticesOf, facesOf, cornersOf, fileMesh, Sized, Room, ListsRead}
 use Rattle.format.proofs.Laws.{read-back, file-coordinates, file-faces, file-corners}
 use Rattle.format.proofs.Header.{header-sized}
 use Rattle.counts.specs.Counts.{Counted}

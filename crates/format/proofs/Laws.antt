@@ -8,7 +8,6 @@ use native.Mathlib.Omega.{arith}
 use lib.ListN.{length, getD, take, drop, set, length-append, length-drop}
 use lib.Seq.{drop-cons, set-at, take-at, append-snoc}
 use lib.IntN.{ℤ, pos, negsuc, _-ℤ_}
-use Rattle.mesh.specs.Lists.{Mesh}
 use Rattle.mesh.specs.Links.{valuesFrom}
 use Rattle.mesh.proofs.Links.{values-length}
 use Rattle.format.specs.Format.{begins, coordinateIn, sideIn, cornerIn, verticesOf, facesOf, cornersOf, sidesStart, cornersStart, fileMesh}

@@ -80,15 +80,16 @@ fileMesh file =
 abbrev pub countsVerdict : List ℕ → Verdict
 countsVerdict file = single 4 (fault4 (3 * verticesOf file) (facesOf file) (cornersOf file)) 0
 
--- ---- what the header says of a file of which `counted` bytes were counted and these are held: 1, 2, 3, and 4 from the counts.
--- The last line is our own: where fewer bytes are held than counted, 01 leaves the answer free, and it is 3 here.
-unfoldable pub headerVerdict : List ℕ → ℕ → Verdict
-headerVerdict file counted =
+-- ---- what the header says of a file of which `counted` bytes were counted and these are held: 1, 2 and 3; 4 from the counts;
+-- and a line of our own: where fewer bytes are held than counted, 01 leaves the answer free, and it is 3 here
+unfoldable pub lengthVerdict : List ℕ → ℕ → Verdict
+lengthVerdict file counted =
     single 1 (ltb (length file) headerLength || not (marked file)) 0
     orElse single 2 (not (known file)) 0
     orElse single 3 (not (eqb counted (expectedLength file))) 0
-    orElse countsVerdict file
-    orElse single 3 (ltb (length file) counted) 0
+
+unfoldable pub headerVerdict : List ℕ → ℕ → Verdict
+headerVerdict file counted = lengthVerdict file counted orElse countsVerdict file orElse single 3 (ltb (length file) counted) 0
 
 -- what a header that passes says: the lists lie within the file and within the limits
 pub record Sized (file : List ℕ) : Type 0 where

@@ -8,7 +8,7 @@ ghost use mir.Syntax.{w32};
 ghost use mir.Val.{toZ};
 ghost use Rattle.mesh.specs.Answers.{stated};
 ghost use Rattle.mesh.specs.Links.{valuesFrom};
-ghost use Rattle.format.specs.Format.{halfAt, wordAt, signedAt, headerLength, marked, known, verticesOf, facesOf, cornersOf, sidesStart, cornersStart, expectedLength, coordinateIn, sideIn, cornerIn, countsVerdict, headerVerdict, Sized, Room, ListsRead, begins};
+ghost use Rattle.format.specs.Format.{halfAt, wordAt, signedAt, headerLength, marked, known, verticesOf, facesOf, cornersOf, sidesStart, cornersStart, expectedLength, coordinateIn, sideIn, cornerIn, countsVerdict, lengthVerdict, headerVerdict, Sized, Room, ListsRead, begins};
 use mesh::Answer;
 
 // The header's length.
@@ -27,7 +27,7 @@ fn wider(half: u16) -> u32
 }
 
 // The 16-bit number at a place, low byte first.
-pub fn half(file: &[u8], at: usize) -> u16
+fn half(file: &[u8], at: usize) -> u16
     requires { ⌜ at + 1 < length (now file) ⌝ }
     ensures { λ r. ⌜ (r ≡ halfAt (now (file .entry)) at) × (r < 65536) ⌝ }
 {
@@ -118,14 +118,14 @@ pub fn corner_count(file: &[u8]) -> usize
 }
 
 // Where the side counts start, where the corner list starts, and the length that 3 asks.
-pub fn sides_start(file: &[u8]) -> usize
+fn sides_start(file: &[u8]) -> usize
     requires { ⌜ headerLength ≤ length (now file) ⌝ }
     ensures { λ r. ⌜ (r ≡ sidesStart (now (file .entry))) × (r < 786443) ⌝ }
 {
     HEADER + 12 * vertex_count(file)
 }
 
-pub fn corners_start(file: &[u8]) -> usize
+fn corners_start(file: &[u8]) -> usize
     requires { ⌜ headerLength ≤ length (now file) ⌝ }
     ensures { λ r. ⌜ (r ≡ cornersStart (now (file .entry))) × (r < 851979) ⌝ }
 {
@@ -147,9 +147,9 @@ fn check_counts(file: &[u8]) -> Answer
     lists::check_lengths(3 * vertex_count(file), face_count(file), corner_count(file))
 }
 
-// What the header says, of a file of `counted` bytes: 1, 2, 3, 4 from the counts, and last that all its bytes are held.
-pub fn check_header(file: &[u8], counted: usize) -> Answer
-    ensures { λ r. ⌜ stated r ≡ headerVerdict (now (file .entry)) counted ⌝ }
+// Checks 1, 2 and 3 of a file of `counted` bytes.
+fn check_length(file: &[u8], counted: usize) -> Answer
+    ensures { λ r. ⌜ stated r ≡ lengthVerdict (now (file .entry)) counted ⌝ }
 {
     if file.len() < HEADER {
         return Answer::Refused(1, 0);
@@ -163,20 +163,29 @@ pub fn check_header(file: &[u8], counted: usize) -> Answer
     if counted != expected_length(file) {
         return Answer::Refused(3, 0);
     }
-    let counts = check_counts(file);
-    match counts {
-        Answer::Refused(number, place) => Answer::Refused(number, place),
-        Answer::Done => {
-            if file.len() < counted {
-                return Answer::Refused(3, 0);
-            }
-            Answer::Done
-        }
+    Answer::Done
+}
+
+// What the header says, of a file of `counted` bytes: 1, 2, 3, 4 from the counts, and last that all its bytes are held.
+pub fn check_header(file: &[u8], counted: usize) -> Answer
+    ensures { λ r. ⌜ stated r ≡ headerVerdict (now (file .entry)) counted ⌝ }
+{
+    let length = check_length(file, counted);
+    if let Answer::Refused(number, place) = length {
+        return Answer::Refused(number, place);
     }
+    let counts = check_counts(file);
+    if let Answer::Refused(number, place) = counts {
+        return Answer::Refused(number, place);
+    }
+    if file.len() < counted {
+        return Answer::Refused(3, 0);
+    }
+    Answer::Done
 }
 
 // The coordinates, into the beginning of a lent space.
-pub fn read_coordinates(file: &[u8], count: usize, out: &mut [i32])
+fn read_coordinates(file: &[u8], count: usize, out: &mut [i32])
     requires { ⌜ (headerLength + 4 * count ≤ length (now file)) × (count ≤ length (now out)) ⌝ }
     ensures { λ _. ⌜ now (out .exit) ≡ begins (valuesFrom (coordinateIn (now (file .entry))) 0 count) (now (out .entry)) ⌝ }
 {
@@ -188,7 +197,7 @@ pub fn read_coordinates(file: &[u8], count: usize, out: &mut [i32])
 }
 
 // The side counts, from the place where they start.
-pub fn read_sides(file: &[u8], start: usize, count: usize, out: &mut [u8])
+fn read_sides(file: &[u8], start: usize, count: usize, out: &mut [u8])
     requires { ⌜ (start + count ≤ length (now file)) × (count ≤ length (now out)) ⌝ }
     ensures { λ _. ⌜ now (out .exit) ≡ begins (valuesFrom (sideIn (now (file .entry)) start) 0 count) (now (out .entry)) ⌝ }
 {
@@ -200,7 +209,7 @@ pub fn read_sides(file: &[u8], start: usize, count: usize, out: &mut [u8])
 }
 
 // The corner list, from the place where it starts.
-pub fn read_corners(file: &[u8], start: usize, count: usize, out: &mut [u16])
+fn read_corners(file: &[u8], start: usize, count: usize, out: &mut [u16])
     requires { ⌜ (start + 2 * count ≤ length (now file)) × (count ≤ length (now out)) ⌝ }
     ensures { λ _. ⌜ now (out .exit) ≡ begins (valuesFrom (cornerIn (now (file .entry)) start) 0 count) (now (out .entry)) ⌝ }
 {

@@ -1,12 +1,12 @@
 -- What the calls of the formulas give is what the definitions of rows and grids have, number by number.
 -- Assumes nothing.
-use mathlib.Core.Path.{_≡_, refl, sym, ap, _∙_}
+use mathlib.Core.Path.{_≡_, ap, _∙_}
 use mathlib.Core.List.{List, [], _∷_}
-use Prim.Native.Nat.{ℕ, _*_, _-_, _^_, _≤_}
+use Prim.Native.Nat.{_*_, _-_, _^_}
 use native.Mathlib.Omega.{arith}
 use lib.Dec.{lit<}
 use lib.ListN.{getD}
-use lib.IntN.{ℤ, pos, natAbs, _+ℤ_, _-ℤ_, _*ℤ_}
+use lib.IntN.{ℤ, pos, _+ℤ_, _-ℤ_, _*ℤ_}
 use mir.Syntax.{w64}
 use mir.Val.{SFits}
 use mir.Facts.{toZ-ofZ}
@@ -16,12 +16,11 @@ use Rattle.integers.proofs.Machine.{abs-fits}
 use Rattle.rounding.specs.Round.{round}
 use Rattle.formulas.specs.Sizes.{Value, Written, Row}
 use Rattle.faces.proofs.Laws.{plain}
-use Rattle.surface.specs.Corners.{Corners}
-use Rattle.surface.specs.Net.{side0, side1, side2, side3, H, T, X, Y, N, C, outer1, outer2, outer3, a0, a1, a2, a3, middle, aHead, aTail, bHead, bTail, b22, bGrid, aGrid}
+use Rattle.surface.specs.Net.{side0, side3, T, Y, outer1, outer2, outer3, a0, a1, a2, a3, middle, aHead, aTail, bHead, bTail, b22, bGrid, aGrid}
 use Rattle.sides.specs.declared.SideValues.{SideValues}
-use Rattle.sides.specs.Values.{IsSide, Sized}
+use Rattle.sides.specs.Values.{Sized}
 use Rattle.grids.specs.declared.RowValues.{RowValues}
-use Rattle.grids.specs.Rows.{IsRows, RowsSized, RowsOf, AllRows, AllSized, IsAGrid, Ends, IsBGrid}
+use Rattle.grids.specs.Rows.{RowsOf, AllSized, IsAGrid, IsBGrid}
 
 -- ---- the machine's number of a value is the value
 value-fits : (z : ℤ) → Value z → SFits w64 z

@@ -4,11 +4,11 @@ use mathlib.Core.Path.{_≡_}
 use mathlib.Core.List.{List}
 use Prim.Native.Nat.{ℕ}
 use lib.IntN.{ℤ}
-use Rattle.formulas.specs.Sizes.{Value, Written}
+use Rattle.formulas.specs.Sizes.{Written}
 use Rattle.surface.specs.Corners.{Corners}
 use Rattle.surface.specs.Net.{Side, side0, side1, side2, side3, atHead, atTail, opposite, H, T, outer1, outer2, outer3, a1, a2, middle, bGrid, aGrid}
 use Rattle.sides.specs.declared.SideValues.{SideValues}
-use Rattle.sides.specs.Values.{IsSide, Sized}
+use Rattle.sides.specs.Values.{IsSide}
 use Rattle.grids.specs.declared.RowValues.{RowValues}
 
 -- the outer row's second, third and fourth point, the a row's second and third, and the middle

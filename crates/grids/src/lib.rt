@@ -1,10 +1,8 @@
 // The rows along a side of a quad-net and the two grids of its control points, on one axis: one function for the rows of four
 // sides, then four rows of four a points and five rows of five b points.
-ghost use mathlib.Core.Path.{_≡_};
 ghost use mathlib.Core.List.{[]};
-ghost use Prim.Native.Nat.{ℕ, _<_};
 ghost use lib.ListN.{getD};
-ghost use lib.IntN.{ℤ, pos};
+ghost use lib.IntN.{pos};
 ghost use Rattle.formulas.specs.Sizes.{Written};
 ghost use Rattle.sides.specs.Values.{Sized};
 ghost use Rattle.grids.specs.Rows.{RowsOf, AllSized, IsAGrid, IsBGrid};

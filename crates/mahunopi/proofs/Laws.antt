@@ -12,9 +12,11 @@ use Rattle.mesh.specs.Answers.{stated, kept}
 use Rattle.mesh.specs.declared.Answer.{Answer}
 use Rattle.mesh.specs.declared.Answer.the-variants.{Done, Refused}
 use Rattle.linking.specs.Linked.{Linked}
+use Rattle.surface.specs.Refined.{nets}
+use Rattle.surface.specs.Building.{buildVerdict, Built}
 use Rattle.file.specs.File.{DecodedTo}
 use Rattle.file.specs.declared.Decoded.{Decoded}
-use Rattle.mahunopi.specs.Calls.{States, LinkCall, Lengths, three, lentVerdict, DecodeCall}
+use Rattle.mahunopi.specs.Calls.{States, LinkCall, BuildCall, Lengths, three, lentVerdict, DecodeCall}
 
 -- the verdict v that the answer r states
 module _ (v : Verdict) (r : Answer) (before : ℕ) (e : stated r ≡ v) where
@@ -30,6 +32,16 @@ module _ (M : Mesh) (old : List ℕ) (r : Answer) (links : List ℕ) (before : �
 
   pub link-refused : (n p : ℕ) → r ≡ Refused n p → LinkCall M old before n p links
   link-refused n p d = record { answers = states-refused _ r before (l .answers) n p d; holds = l .holds }
+
+module _ (M : Mesh) (links : List ℕ) (first count : ℕ) (old : List ℤ) (r : Answer) (out : List ℤ) (before : ℕ) (b : Built M links first count old r out) where
+  written : out ≡ kept (buildVerdict M links first count (length old)) (nets M first count) old
+  written = subst (λ (v : Verdict). out ≡ kept v (nets M first count) old) (b .answers) (b .holds)
+
+  pub build-done : r ≡ Done → BuildCall M links first count old before 0 before out
+  build-done d = record { answers = states-done _ r before (b .answers) d; holds = written }
+
+  pub build-refused : (n p : ℕ) → r ≡ Refused n p → BuildCall M links first count old before n p out
+  build-refused n p d = record { answers = states-refused _ r before (b .answers) n p d; holds = written }
 
 -- ---- decoding
 kept-new : {A : Type 0} (v : Verdict) (new old x : A) → v ≡ sound → x ≡ new → x ≡ kept v new old

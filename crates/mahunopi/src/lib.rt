@@ -2,7 +2,7 @@
 // wraps one of Rattle's and says the same: 0 for done, else 01's number, with the place behind `place`.
 use mesh::Answer;
 ghost use Rattle.mesh.specs.Lists.{meshOf};
-ghost use Rattle.mahunopi.specs.Calls.{LinkCall, three, DecodeCall};
+ghost use Rattle.mahunopi.specs.Calls.{LinkCall, BuildCall, three, DecodeCall};
 ghost use Rattle.file.specs.File.{fileOf};
 
 // Linking.
@@ -17,6 +17,30 @@ pub extern "C" fn mahunopi_link(
     ensures { λ r. ⌜ LinkCall (meshOf (now (coordinates .entry)) (now (sides .entry)) (now (corners .entry))) (now (links .entry)) (now (place .entry)) r (now (place .exit)) (now (links .exit)) ⌝ }
 {
     let a = linking::link(coordinates, sides, corners, links);
+    match a {
+        Answer::Done => 0,
+        Answer::Refused(number, at) => {
+            *place = at as u64;
+            number as u32
+        }
+    }
+}
+
+// Building.
+#[no_mangle]
+pub extern "C" fn mahunopi_build(
+    coordinates: &[i32],
+    sides: &[u8],
+    corners: &[u16],
+    links: &[u16],
+    first: usize,
+    count: usize,
+    output: &mut [i32],
+    place: &mut u64,
+) -> u32
+    ensures { λ r. ⌜ BuildCall (meshOf (now (coordinates .entry)) (now (sides .entry)) (now (corners .entry))) (now (links .entry)) first count (now (output .entry)) (now (place .entry)) r (now (place .exit)) (now (output .exit)) ⌝ }
+{
+    let a = building::build(coordinates, sides, corners, links, first, count, output);
     match a {
         Answer::Done => 0,
         Answer::Refused(number, at) => {

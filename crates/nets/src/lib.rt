@@ -1,10 +1,10 @@
 // The quad-net of one corner on one axis: its 41 control points from the tables of the mesh, by value as two grids, and then
 // written out, every third number of the corner's part of the output.
 ghost use mathlib.Core.Path.{_≡_};
-ghost use mathlib.Core.List.{List, []};
+ghost use mathlib.Core.List.{[]};
 ghost use Prim.Native.Nat.{ℕ, _+_, _*_, _≤_, _<_};
 ghost use lib.ListN.{length, getD};
-ghost use lib.IntN.{ℤ, pos};
+ghost use lib.IntN.{pos};
 ghost use Rattle.formulas.specs.Sizes.{Written};
 ghost use Rattle.surface.specs.Net.{rows};
 ghost use Rattle.sides.specs.Tabled.{tabled, Tables};

@@ -1,14 +1,13 @@
 // What `inspect` does: it reads a mesh file from a descriptor and prints what `file::survey` answers.
 // The file is counted on past the buffer, to its end or past the length that 3 asks, so that 3 and 4 can be told apart.
 ghost use Prim.Native.Nat.{_≤_, _<_};
-
 use counts::Counts;
 use counts::NUMBERS;
 use libc::STDOUT_FILENO;
 use mesh::Answer;
 
 // The buffer holds every file that 3 and 4 let pass, with room for two bytes more for each corner.
-const BUFFER: usize = 61451;
+pub const BUFFER: usize = 61451;
 
 const SPILL: usize = 4096;
 
@@ -26,7 +25,7 @@ pub fn inspect(fd: i32) {
 }
 
 // The file's length, of which these bytes were read first: counted to its end or past the length that 3 asks.
-fn count_on(fd: i32, held: &[u8]) -> usize {
+pub fn count_on(fd: i32, held: &[u8]) -> usize {
     if held.len() < BUFFER {
         return held.len();
     }
@@ -52,7 +51,7 @@ fn spilled(fd: i32) -> usize
 }
 
 // `refused`, the number and the place.
-fn print_refusal(number: u8, place: usize) {
+pub fn print_refusal(number: u8, place: usize) {
     text(b"refused ");
     decimal(number as usize);
     text(b" ");

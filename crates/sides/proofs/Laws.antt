@@ -1,26 +1,24 @@
 -- The faces at a corner, as the code has them from the tables, are those of the definitions; and so are the sides made from them.
 -- Assumes nothing.
-use mathlib.Core.Path.{_≡_, refl, sym, ap, _∙_, subst}
+use mathlib.Core.Path.{_≡_, refl, ap, _∙_, subst}
 use mathlib.Core.List.{List}
 use Prim.Native.Nat.{ℕ, _+_, _-_, _^_, _≤_, _<_}
 use native.Mathlib.Omega.{arith}
 use lib.Dec.{lit<}
 use lib.ListN.{length, getD}
-use lib.IntN.{ℤ, pos, negℤ, natAbs, _+ℤ_, _-ℤ_, _*ℤ_}
+use lib.IntN.{ℤ, pos, natAbs}
 use lib.Signed.{_≤ℤ_}
 use mir.Syntax.{w64}
 use mir.Val.{SFits}
 use mir.Facts.{toZ-ofZ}
 use Rattle.integers.proofs.Poly.{over, poly}
 use Rattle.integers.proofs.Machine.{abs-fits}
-use Rattle.integers.proofs.Sum.{Cyclic}
-use Rattle.rounding.specs.Round.{round}
 use Rattle.formulas.specs.Sizes.{Corner, FacePoint, Row}
 use Rattle.faces.specs.Ring.{around, Ring, IsFace, IsEdgeFace}
 use Rattle.faces.specs.declared.Face.{Face}
 use Rattle.faces.proofs.Laws.{plain}
 use Rattle.surface.specs.Corners.{Corners, Sound}
-use Rattle.surface.specs.Face.{centre, toward}
+use Rattle.surface.specs.Face.{centre}
 use Rattle.surface.specs.Net.{leaving, arriving, Side, side0, side1, side2, side3, neighbour, quad, points, H, T, X, Y, N, C}
 use Rattle.surface.proofs.Rings.{points-cyclic, neighbour-in}
 use Rattle.surface.proofs.Faces.{toward-same}

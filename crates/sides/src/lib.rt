@@ -1,8 +1,8 @@
 // The four sides of a corner's quad-net on one axis: H, T, X, Y, N and C of each, from the tables of the mesh.
 ghost use mathlib.Core.Path.{_≡_};
-ghost use Prim.Native.Nat.{_+_, _≤_, _<_};
+ghost use Prim.Native.Nat.{_<_};
 ghost use lib.ListN.{length, getD};
-ghost use lib.IntN.{ℤ, pos};
+ghost use lib.IntN.{pos};
 ghost use Rattle.formulas.specs.Sizes.{Corner, FacePoint, Row};
 ghost use Rattle.sides.specs.Tabled.{tabled, Tables, Reach};
 ghost use Rattle.sides.specs.Values.{Through, Made, FourSides};

@@ -1,41 +1,32 @@
+-- A number that the table does not reach changes nothing.
+-- Assumes nothing.
 use mathlib.Core.Path.{sym}
 use lib.Seq.{set-out}
-use native.Mathlib.Omega.{arith}
 use borrow.Author.Needs.{needs}
 use Rattle.counts.proofs.count_one.Statement.{statement}
 use Rattle.counts.proofs.count_one.Tie as tie
-use Rattle.counts.proofs.count_one.Reads as reads
-use Rattle.counts.proofs.count_one.Lts as lts
 
--- src/lib.rt:14:17
 mul-n : tie.Need-mul-n
 mul-n c = search needs
 
--- src/lib.rt:14:17
 slice-read-n : tie.Need-slice-read-n
 slice-read-n c = search needs
 
--- src/lib.rt:15:20
 add-table : tie.Need-add-table
 add-table c = search needs
 
--- src/lib.rt:15:9
 mul-table : tie.Need-mul-table
 mul-table c = search needs
 
--- src/lib.rt:15:9
 slice-write-table : tie.Need-slice-write-table
 slice-write-table c = search needs
 
--- src/lib.rt:9:1
 same-length : tie.Need-same-length
 same-length c = search needs
 
--- src/lib.rt:9:1
 returns : tie.Need-returns
 returns c = search needs
 
--- src/lib.rt:9:1
 returns-2 : tie.Need-returns-2
 returns-2 c = sym (set-out (c .before .args .table .now) (c .before .args .m) _ (c .if1 .left))
 

@@ -6,38 +6,28 @@ use mir.Val.{SFits}
 use Rattle.faces.proofs.Laws.{total-size, ahead-size, behind-size, ring-is, sized, quotient}
 use Rattle.faces.proofs.ring_face.Statement.{statement}
 use Rattle.faces.proofs.ring_face.Tie as tie
-use Rattle.faces.proofs.ring_face.Reads as reads
-use Rattle.faces.proofs.ring_face.Lts as lts
-use Rattle.faces.proofs.by_count.Reads as by-count-reads
-use Rattle.faces.proofs.by_weights.Reads as by-weights-reads
-use Rattle.faces.proofs.ring_sums.Reads as ring-sums-reads
 
--- src/lib.rt:96:9
 ring-sums-requires : tie.Need-ring-sums-requires
 ring-sums-requires c κs = search needs
 
--- src/lib.rt:98:17
 by-count-requires : tie.Need-by-count-requires
 by-count-requires c κs =
     let s = c .before .before .before in
     let z = total-size (s .args .points .now) (s .args .steps .now) (s .args .c) (s .args .m) (s .pre) in
     (s .pre .least, s .pre .most, sized _ _ (c .before .ring-sums .ensures .total) z)
 
--- src/lib.rt:99:16
 by-weights-requires : tie.Need-by-weights-requires
 by-weights-requires c κs =
     let s = c .before .before .before .before .before in
     let z = ahead-size (s .args .points .now) (s .args .steps .now) (s .args .c) (s .args .m) (s .pre) in
     (s .pre .least, s .pre .most, sized _ _ (c .before .before .before .ring-sums .ensures .ahead) z)
 
--- src/lib.rt:100:17
 by-weights-requires-2 : tie.Need-by-weights-requires-2
 by-weights-requires-2 c κs =
     let s = c .before .before .before .before .before .before .before in
     let z = behind-size (s .args .points .now) (s .args .steps .now) (s .args .c) (s .args .m) (s .pre) in
     (s .pre .least, s .pre .most, sized _ _ (c .before .before .before .before .before .ring-sums .ensures .behind) z)
 
--- src/lib.rt:92:1
 returns : tie.Need-returns
 returns c =
     let s = c .before .before .before .before .before .before .before .before in

@@ -2,16 +2,14 @@
 -- below j. What a turn asks and leaves is the law `goes`.
 -- Assumes nothing.
 use mathlib.Core.Path.{_≡_, refl, sym, ap, _∙_}
-use Prim.Native.Nat.{ℕ, _+_, _-_, _<_}
+use Prim.Native.Nat.{_+_, _-_, _<_}
 use native.Mathlib.Omega.{arith}
 use borrow.Author.Needs.{needs}
-use lib.ListN.{getD}
-use lib.IntN.{ℤ, _*ℤ_}
+use lib.IntN.{ℤ}
 use Rattle.integers.specs.Sum.{sum}
 use Rattle.integers.proofs.Sum.{sum-zero}
 use Rattle.mesh.proofs.Rings.{iterate-zero}
 use Rattle.surface.specs.Face.{weight}
-use Rattle.faces.specs.Ring.{around, Ring}
 use Rattle.faces.proofs.Laws.{Came, Goes, goes, first}
 use Rattle.faces.proofs.ring_sums.Statement.{statement}
 use Rattle.faces.proofs.ring_sums.Tie as tie

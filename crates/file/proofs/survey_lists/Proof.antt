@@ -1,95 +1,79 @@
+-- The lists that were read are those of the file's mesh, so what is answered of them is answered of it.
+-- Assumes nothing.
 use mathlib.Core.Path.{ap, subst, _∙_}
 use Prim.Native.Nat.{ℕ, _*_}
+use borrow.Author.Needs.{needs}
 use Rattle.mesh.specs.Lists.{Mesh}
 use Rattle.mesh.specs.Faults.{verdict}
 use Rattle.format.specs.Format.{fileMesh}
 use Rattle.format.proofs.Laws.{read-length, file-coordinates, file-faces, file-corners}
 use Rattle.file.specs.File.{Surveyed}
 use Rattle.file.proofs.Laws.{mesh-read}
-use native.Mathlib.Omega.{arith}
-use borrow.Author.Needs.{needs}
 use Rattle.file.proofs.survey_lists.Statement.{statement}
 use Rattle.file.proofs.survey_lists.Tie as tie
-use Rattle.file.proofs.survey_lists.Reads as reads
-use Rattle.file.proofs.survey_lists.Lts as lts
-use Rattle.file.proofs.survey_mesh.Reads as survey-mesh-reads
-use Rattle.format.proofs.corner_count.Reads as corner-count-reads
-use Rattle.format.proofs.face_count.Reads as face-count-reads
-use Rattle.format.proofs.read_lists.Reads as read-lists-reads
-use Rattle.format.proofs.vertex_count.Reads as vertex-count-reads
 
--- src/lib.rt:115:30
 slice-aggregate-read-lists : tie.Need-slice-aggregate-read-lists
 slice-aggregate-read-lists c = search needs
 
--- src/lib.rt:115:48
 slice-aggregate-read-lists-2 : tie.Need-slice-aggregate-read-lists-2
 slice-aggregate-read-lists-2 c = search needs
 
--- src/lib.rt:115:60
 slice-aggregate-read-lists-3 : tie.Need-slice-aggregate-read-lists-3
 slice-aggregate-read-lists-3 c = search needs
 
--- src/lib.rt:115:5
 read-lists-requires : tie.Need-read-lists-requires
 read-lists-requires c κs = search needs
 
--- src/lib.rt:116:23
 vertex-count-requires : tie.Need-vertex-count-requires
 vertex-count-requires c κs = search needs
 
--- src/lib.rt:116:19
 mul-numbers : tie.Need-mul-numbers
 mul-numbers c = search needs
 
--- src/lib.rt:117:9
 face-count-requires : tie.Need-face-count-requires
 face-count-requires c κs = search needs
 
--- src/lib.rt:118:9
 corner-count-requires : tie.Need-corner-count-requires
 corner-count-requires c κs = search needs
 
--- src/lib.rt:119:17
 array-share-prefix-coordinates : tie.Need-array-share-prefix-coordinates
 array-share-prefix-coordinates c = search needs
 
--- src/lib.rt:119:17
 slice-aggregate-survey-mesh : tie.Need-slice-aggregate-survey-mesh
 slice-aggregate-survey-mesh c =
     let file = c .before .before .before .before .before .before .before .before .before .before .before .before .args .file .now in
-    read-length _ (fileMesh file .coordinates) _ _ (ap (λ (n : ℕ). 3 * n) (c .before .before .before .vertex-count .ensures .0) ∙ file-coordinates file) (c .before .before .before .before .before .before .before .read-lists .ensures .coordinates-hold)
+    read-length _ (fileMesh file .coordinates) _ _ (ap (λ (n : ℕ). 3 * n) (c .before .before .before .vertex-count .ensures .0) ∙ file-coordinates file)
+    (c .before .before .before .before .before .before .before .read-lists .ensures .coordinates-hold)
 
--- src/lib.rt:119:42
 array-share-prefix-sides : tie.Need-array-share-prefix-sides
 array-share-prefix-sides c = search needs
 
--- src/lib.rt:119:42
 slice-aggregate-survey-mesh-2 : tie.Need-slice-aggregate-survey-mesh-2
 slice-aggregate-survey-mesh-2 c =
     let file = c .before .before .before .before .before .before .before .before .before .before .before .before .before .args .file .now in
-    read-length _ (fileMesh file .sides) _ _ (c .before .before .before .face-count .ensures .0 ∙ file-faces file) (c .before .before .before .before .before .before .before .before .read-lists .ensures .sides-hold)
+    read-length _ (fileMesh file .sides) _ _ (c .before .before .before .face-count .ensures .0 ∙ file-faces file)
+    (c .before .before .before .before .before .before .before .before .read-lists .ensures .sides-hold)
 
--- src/lib.rt:119:59
 array-share-prefix-corners : tie.Need-array-share-prefix-corners
 array-share-prefix-corners c = search needs
 
--- src/lib.rt:119:59
 slice-aggregate-survey-mesh-3 : tie.Need-slice-aggregate-survey-mesh-3
 slice-aggregate-survey-mesh-3 c =
     let file = c .before .before .before .before .before .before .before .before .before .before .before .before .before .before .args .file .now in
-    read-length _ (fileMesh file .corners) _ _ (c .before .before .before .corner-count .ensures .0 ∙ file-corners file) (c .before .before .before .before .before .before .before .before .before .read-lists .ensures .corners-hold)
+    read-length _ (fileMesh file .corners) _ _ (c .before .before .before .corner-count .ensures .0 ∙ file-corners file)
+    (c .before .before .before .before .before .before .before .before .before .read-lists .ensures .corners-hold)
 
--- src/lib.rt:119:5
 survey-mesh-requires : tie.Need-survey-mesh-requires
 survey-mesh-requires c κs = search needs
 
--- src/lib.rt:108:1
 returns : tie.Need-returns
 returns c =
-    let file = c .before .before .before .before .before .before .before .before .before .before .before .before .before .before .before .args .file .now in
-    let read = mesh-read file _ _ _ _ _ _ _ _ _ (ap (λ (n : ℕ). 3 * n) (c .before .before .before .before .before .before .vertex-count .ensures .0)) (c .before .before .before .before .before .face-count .ensures .0)
-    (c .before .before .before .before .corner-count .ensures .0) (c .before .before .before .before .before .before .before .before .before .before .read-lists .ensures) in
+    let s = c .before .before .before .before .before .before .before .before .before .before .before .before .before .before .before in
+    let counts = c .before .before .before .before in
+    let read =
+    mesh-read (s .args .file .now) _ _ _ _ _ _ _ _ _ (ap (λ (n : ℕ). 3 * n) (counts .before .before .vertex-count .ensures .0))
+    (counts .before .face-count .ensures .0) (counts .corner-count .ensures .0) (c .before .before .before .before .before .before .before .before .before .before .read-lists .ensures)
+    in
     subst (λ (M : Mesh). Surveyed M (verdict M) (c .survey-mesh .result)) read (c .survey-mesh .ensures)
 
 pub survey-lists-spec : {M : Type 1} → statement M

@@ -1,9 +1,7 @@
--- A number below zero: -1 less n, whose bits are those of n below 2 ^ 31.
+-- A number below zero is -1 less n; n is below 2 ^ 31, so the difference is exact and its bits give it back.
 -- Assumes nothing.
-use mathlib.Core.Path.{_≡_}
-use lib.IntN.{pos, negsuc, _-ℤ_}
+use lib.IntN.{negsuc}
 use mir.Syntax.{w32}
-use mir.Val.{SFits, toZ}
 use mir.ValLaws.{toZ-pos, toZ-ofZ}
 use borrow.Author.Needs.{needs}
 use Rattle.format.proofs.Laws.{minus-from-one}

@@ -1,37 +1,30 @@
+-- Each byte decides, or leaves it to the next.
+-- Assumes nothing.
 use borrow.Author.Tests.{eq-eqb, ne-eqb}
-use Rattle.format.specs.Format.{byteAt, marked}
-use native.Mathlib.Omega.{arith}
 use borrow.Author.Needs.{needs}
+use Rattle.format.specs.Format.{byteAt, marked}
 use Rattle.format.proofs.has_mark.Statement.{statement}
 use Rattle.format.proofs.has_mark.Tie as tie
-use Rattle.format.proofs.has_mark.Reads as reads
-use Rattle.format.proofs.has_mark.Lts as lts
 
--- src/lib.rt:82:8
 shared-slice-read-if1 : tie.Need-shared-slice-read-if1
 shared-slice-read-if1 c = search needs
 
--- src/lib.rt:83:9
 returns : tie.Need-returns
 unfolding marked
 returns c = let f = c .before .before .args .file .now in rw (ne-eqb (byteAt f 0) 68 (c .if1 .taken))
 
--- src/lib.rt:85:8
 shared-slice-read-if2 : tie.Need-shared-slice-read-if2
 shared-slice-read-if2 c = search needs
 
--- src/lib.rt:86:9
 returns-2 : tie.Need-returns-2
 unfolding marked
 returns-2 c =
     let f = c .before .before .before .before .args .file .now in
     rw (eq-eqb (byteAt f 0) 68 (c .before .before .if1 .left), ne-eqb (byteAt f 1) 77 (c .if2 .taken))
 
--- src/lib.rt:88:5
 shared-slice-read-result : tie.Need-shared-slice-read-result
 shared-slice-read-result c = search needs
 
--- src/lib.rt:78:1
 returns-3 : tie.Need-returns-3
 unfolding marked
 returns-3 c =

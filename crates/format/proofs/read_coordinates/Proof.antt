@@ -1,18 +1,17 @@
+-- After i turns the first i values stand in the space and the others are as they were.
+-- Assumes nothing.
+use mathlib.Core.Path.{_≡_, refl, _∙_}
+use Prim.Native.Nat.{_-_, _≤_}
+use native.Mathlib.Omega.{arith}
 use lib.IntN.{pos}
+use lib.ListN.{length, length-set}
 use mir.Syntax.{w32}
 use mir.ValLaws.{toZ-ofZ}
-use Prim.Native.Nat.{_+_, _*_, _-_, _≤_}
-use mathlib.Core.Path.{_≡_, refl, _∙_}
-use lib.ListN.{length, length-set}
+use borrow.Author.Needs.{needs}
 use Rattle.format.specs.Format.{coordinateIn}
 use Rattle.format.proofs.Laws.{Filled, filled-none, filled-step, filled-all}
-use native.Mathlib.Omega.{arith}
-use borrow.Author.Needs.{needs}
 use Rattle.format.proofs.read_coordinates.Statement.{statement}
 use Rattle.format.proofs.read_coordinates.Tie as tie
-use Rattle.format.proofs.read_coordinates.Reads as reads
-use Rattle.format.proofs.read_coordinates.Lts as lts
-use Rattle.format.proofs.coordinate.Reads as coordinate-reads
 
 abbrev Inv-loop : tie.InvT-loop
 Inv-loop file count out₀ i₀ out i = (i ≤ count) × ((length out ≡ length out₀) × Filled (coordinateIn file) out₀ i out)
@@ -20,42 +19,33 @@ Inv-loop file count out₀ i₀ out i = (i ≤ count) × ((length out ≡ length
 abbrev μ-loop : tie.MeasureT-loop
 μ-loop file count out₀ i₀ out i = count - i
 
--- src/lib.rt:91:5
 loop-holds : tie.Need-loop-holds Inv-loop μ-loop
 loop-holds c =
     let s = c .before in
     let f = coordinateIn (s .args .file .now) in
     (search needs, (refl, filled-none f (s .args .out .now)))
 
--- src/lib.rt:92:44
 mul-coordinate : tie.Need-mul-coordinate Inv-loop μ-loop
 mul-coordinate c = search needs
 
--- src/lib.rt:92:35
 add-coordinate : tie.Need-add-coordinate Inv-loop μ-loop
 add-coordinate c = search needs
 
--- src/lib.rt:92:18
 coordinate-requires : tie.Need-coordinate-requires Inv-loop μ-loop
 coordinate-requires c κs = search needs
 
--- src/lib.rt:92:9
 mul-t9 : tie.Need-mul-t9 Inv-loop μ-loop
 mul-t9 c = search needs
 
--- src/lib.rt:92:9
 slice-set-from-out : tie.Need-slice-set-from-out Inv-loop μ-loop
 slice-set-from-out c = search needs
 
--- src/lib.rt:93:9
 add-i : tie.Need-add-i Inv-loop μ-loop
 add-i c = search needs
 
--- src/lib.rt:91:5
 loop-less : tie.Need-loop-less Inv-loop μ-loop
 loop-less c = search needs
 
--- src/lib.rt:91:5
 loop-again : tie.Need-loop-again Inv-loop μ-loop
 loop-again c =
     let s = c .before .before .before .before in
@@ -63,11 +53,9 @@ loop-again c =
     let l = c .before .before .loop in
     (search needs, (rw length-set (l .inv .1 .0), filled-step f (s .args .out .now) (l .i) (l .out) _ (pos 0) (omega arith) (l .inv .1 .1) (toZ-ofZ w32 (c .coordinate .result) (record { sfits = c .coordinate .ok }) ∙ c .coordinate .ensures)))
 
--- src/lib.rt:86:1
 same-length : tie.Need-same-length Inv-loop μ-loop
 same-length c = search needs
 
--- src/lib.rt:86:1
 returns : tie.Need-returns Inv-loop μ-loop
 returns c =
     let s = c .before .before .before in

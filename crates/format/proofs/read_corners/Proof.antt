@@ -1,15 +1,14 @@
-use Prim.Native.Nat.{_+_, _*_, _-_, _≤_}
+-- After c turns the first c values stand in the space and the others are as they were.
+-- Assumes nothing.
 use mathlib.Core.Path.{_≡_, refl}
+use Prim.Native.Nat.{_-_, _≤_}
+use native.Mathlib.Omega.{arith}
 use lib.ListN.{length, length-set}
+use borrow.Author.Needs.{needs}
 use Rattle.format.specs.Format.{cornerIn}
 use Rattle.format.proofs.Laws.{Filled, filled-none, filled-step, filled-all}
-use native.Mathlib.Omega.{arith}
-use borrow.Author.Needs.{needs}
 use Rattle.format.proofs.read_corners.Statement.{statement}
 use Rattle.format.proofs.read_corners.Tie as tie
-use Rattle.format.proofs.read_corners.Reads as reads
-use Rattle.format.proofs.read_corners.Lts as lts
-use Rattle.format.proofs.half.Reads as half-reads
 
 abbrev Inv-loop : tie.InvT-loop
 Inv-loop file start count out₀ c₀ out c = (c ≤ count) × ((length out ≡ length out₀) × Filled (cornerIn file start) out₀ c out)
@@ -17,42 +16,33 @@ Inv-loop file start count out₀ c₀ out c = (c ≤ count) × ((length out ≡ 
 abbrev μ-loop : tie.MeasureT-loop
 μ-loop file start count out₀ c₀ out c = count - c
 
--- src/lib.rt:115:5
 loop-holds : tie.Need-loop-holds Inv-loop μ-loop
 loop-holds c =
     let s = c .before .before in
     let f = cornerIn (s .args .file .now) (s .args .start) in
     (search needs, (refl, filled-none f (s .args .out .now)))
 
--- src/lib.rt:116:37
 mul-half : tie.Need-mul-half Inv-loop μ-loop
 mul-half c = search needs
 
--- src/lib.rt:116:29
 add-half : tie.Need-add-half Inv-loop μ-loop
 add-half c = search needs
 
--- src/lib.rt:116:18
 half-requires : tie.Need-half-requires Inv-loop μ-loop
 half-requires c κs = search needs
 
--- src/lib.rt:116:9
 mul-out : tie.Need-mul-out Inv-loop μ-loop
 mul-out c = search needs
 
--- src/lib.rt:116:9
 slice-write-out : tie.Need-slice-write-out Inv-loop μ-loop
 slice-write-out c = search needs
 
--- src/lib.rt:117:9
 add-c : tie.Need-add-c Inv-loop μ-loop
 add-c c = search needs
 
--- src/lib.rt:115:5
 loop-less : tie.Need-loop-less Inv-loop μ-loop
 loop-less c = search needs
 
--- src/lib.rt:115:5
 loop-again : tie.Need-loop-again Inv-loop μ-loop
 loop-again c =
     let s = c .before .before .before .before .before in
@@ -60,11 +50,9 @@ loop-again c =
     let l = c .before .before .loop in
     (search needs, (rw length-set (l .inv .1 .0), filled-step f (s .args .out .now) (l .c) (l .out) _ 0 (omega arith) (l .inv .1 .1) (c .half .ensures .0)))
 
--- src/lib.rt:110:1
 same-length : tie.Need-same-length Inv-loop μ-loop
 same-length c = search needs
 
--- src/lib.rt:110:1
 returns : tie.Need-returns Inv-loop μ-loop
 returns c =
     let s = c .before .before .before .before in

@@ -1,14 +1,14 @@
-use Prim.Native.Nat.{_+_, _*_, _-_, _≤_}
+-- After f turns the first f values stand in the space and the others are as they were.
+-- Assumes nothing.
 use mathlib.Core.Path.{_≡_, refl}
+use Prim.Native.Nat.{_-_, _≤_}
+use native.Mathlib.Omega.{arith}
 use lib.ListN.{length, length-set}
+use borrow.Author.Needs.{needs}
 use Rattle.format.specs.Format.{sideIn}
 use Rattle.format.proofs.Laws.{Filled, filled-none, filled-step, filled-all}
-use native.Mathlib.Omega.{arith}
-use borrow.Author.Needs.{needs}
 use Rattle.format.proofs.read_sides.Statement.{statement}
 use Rattle.format.proofs.read_sides.Tie as tie
-use Rattle.format.proofs.read_sides.Reads as reads
-use Rattle.format.proofs.read_sides.Lts as lts
 
 abbrev Inv-loop : tie.InvT-loop
 Inv-loop file start count out₀ f₀ out f = (f ≤ count) × ((length out ≡ length out₀) × Filled (sideIn file start) out₀ f out)
@@ -16,34 +16,27 @@ Inv-loop file start count out₀ f₀ out f = (f ≤ count) × ((length out ≡ 
 abbrev μ-loop : tie.MeasureT-loop
 μ-loop file start count out₀ f₀ out f = count - f
 
--- src/lib.rt:103:5
 loop-holds : tie.Need-loop-holds Inv-loop μ-loop
 loop-holds c =
     let s = c in
     let f = sideIn (s .args .file .now) (s .args .start) in
     (search needs, (refl, filled-none f (s .args .out .now)))
 
--- src/lib.rt:104:23
 add-out : tie.Need-add-out Inv-loop μ-loop
 add-out c = search needs
 
--- src/lib.rt:104:18
 shared-slice-read-out : tie.Need-shared-slice-read-out Inv-loop μ-loop
 shared-slice-read-out c = search needs
 
--- src/lib.rt:104:9
 slice-write-out : tie.Need-slice-write-out Inv-loop μ-loop
 slice-write-out c = search needs
 
--- src/lib.rt:105:9
 add-f : tie.Need-add-f Inv-loop μ-loop
 add-f c = search needs
 
--- src/lib.rt:103:5
 loop-less : tie.Need-loop-less Inv-loop μ-loop
 loop-less c = search needs
 
--- src/lib.rt:103:5
 loop-again : tie.Need-loop-again Inv-loop μ-loop
 loop-again c =
     let s = c .before .before .before in
@@ -51,11 +44,9 @@ loop-again c =
     let l = c .before .before .loop in
     (search needs, (rw length-set (l .inv .1 .0), filled-step f (s .args .out .now) (l .f) (l .out) _ 0 (omega arith) (l .inv .1 .1) (refl)))
 
--- src/lib.rt:98:1
 same-length : tie.Need-same-length Inv-loop μ-loop
 same-length c = search needs
 
--- src/lib.rt:98:1
 returns : tie.Need-returns Inv-loop μ-loop
 returns c =
     let s = c .before .before in

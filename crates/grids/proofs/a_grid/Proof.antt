@@ -3,9 +3,6 @@
 use Rattle.grids.proofs.Laws.{written, a-grid-is}
 use Rattle.grids.proofs.a_grid.Statement.{statement}
 use Rattle.grids.proofs.a_grid.Tie as tie
-use Rattle.grids.proofs.a_grid.Reads as reads
-use Rattle.grids.proofs.a_grid.Lts as lts
-use Rattle.formulas.proofs.half.Reads as half-reads
 
 half-requires : tie.Need-half-requires
 half-requires c κs =

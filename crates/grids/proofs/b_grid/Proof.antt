@@ -7,9 +7,6 @@ use lib.IntN.{pos}
 use Rattle.grids.proofs.Laws.{written, b-grid-is}
 use Rattle.grids.proofs.b_grid.Statement.{statement}
 use Rattle.grids.proofs.b_grid.Tie as tie
-use Rattle.grids.proofs.b_grid.Reads as reads
-use Rattle.grids.proofs.b_grid.Lts as lts
-use Rattle.formulas.proofs.half.Reads as half-reads
 
 half-requires : tie.Need-half-requires
 half-requires c κs =

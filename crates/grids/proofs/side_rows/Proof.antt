@@ -3,13 +3,6 @@
 use Rattle.grids.proofs.Laws.{value, value-written, row, rows-of}
 use Rattle.grids.proofs.side_rows.Statement.{statement}
 use Rattle.grids.proofs.side_rows.Tie as tie
-use Rattle.grids.proofs.side_rows.Reads as reads
-use Rattle.grids.proofs.side_rows.Lts as lts
-use Rattle.formulas.proofs.half.Reads as half-reads
-use Rattle.formulas.proofs.middle.Reads as middle-reads
-use Rattle.formulas.proofs.quarter.Reads as quarter-reads
-use Rattle.formulas.proofs.second.Reads as second-reads
-use Rattle.formulas.proofs.third.Reads as third-reads
 
 quarter-requires : tie.Need-quarter-requires
 quarter-requires c κs = let s = c .before .before .before .before .before .before .before .before .before .before .before in (value (s .args .f .head) (s .pre .0 .head), value (s .args .f .x) (s .pre .0 .x))

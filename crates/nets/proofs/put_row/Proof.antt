@@ -1,11 +1,11 @@
 -- `nets::put_row` meets its contract. The invariant: the first j numbers are placed.
 -- Assumes nothing.
-use mathlib.Core.Path.{_≡_, refl, sym, ap, _∙_, subst}
+use mathlib.Core.Path.{refl, subst}
 use mathlib.Core.List.{List}
-use Prim.Native.Nat.{ℕ, _+_, _-_, _*_, _≤_, _<_}
+use Prim.Native.Nat.{_+_, _-_, _*_, _≤_, _<_}
 use native.Mathlib.Omega.{arith}
 use borrow.Author.Needs.{needs}
-use lib.ListN.{length, take, getD, set}
+use lib.ListN.{length, take, getD}
 use lib.Seq.{take-all}
 use lib.IntN.{ℤ, pos}
 use Rattle.nets.specs.Put.{Placed}

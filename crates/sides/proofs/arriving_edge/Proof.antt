@@ -7,11 +7,6 @@ use lib.ListN.{getD}
 use Rattle.sides.proofs.Laws.{within}
 use Rattle.sides.proofs.arriving_edge.Statement.{statement}
 use Rattle.sides.proofs.arriving_edge.Tie as tie
-use Rattle.sides.proofs.arriving_edge.Reads as reads
-use Rattle.sides.proofs.arriving_edge.Lts as lts
-use Rattle.sides.proofs.edge_through.Reads as edge-through-reads
-use Rattle.walk.proofs.Walker.linked.Reads as linked-reads
-use Rattle.walk.proofs.Walker.previous.Reads as previous-reads
 
 previous-requires : tie.Need-previous-requires
 previous-requires c κs = search needs

@@ -1,18 +1,11 @@
 -- `sides::edge_through` meets its contract: the points are read, and the face is that of any ring with these points.
 -- Assumes nothing.
-use mathlib.Core.Path.{_≡_, _∙_}
 use borrow.Author.Needs.{needs}
-use lib.IntN.{ℤ}
 use mir.Syntax.{w64}
 use mir.Val.{SFits}
-use mir.Facts.{toZ-ofZ}
 use Rattle.sides.proofs.Laws.{corner-plain, edge-plain}
 use Rattle.sides.proofs.edge_through.Statement.{statement}
 use Rattle.sides.proofs.edge_through.Tie as tie
-use Rattle.sides.proofs.edge_through.Reads as reads
-use Rattle.sides.proofs.edge_through.Lts as lts
-use Rattle.faces.proofs.edge_face.Reads as edge-face-reads
-use Rattle.sides.proofs.point.Reads as point-reads
 
 point-requires : tie.Need-point-requires
 point-requires c κs = search needs

@@ -7,12 +7,6 @@ use lib.ListN.{getD}
 use Rattle.sides.proofs.Laws.{within}
 use Rattle.sides.proofs.leaving_edge.Statement.{statement}
 use Rattle.sides.proofs.leaving_edge.Tie as tie
-use Rattle.sides.proofs.leaving_edge.Reads as reads
-use Rattle.sides.proofs.leaving_edge.Lts as lts
-use Rattle.sides.proofs.edge_through.Reads as edge-through-reads
-use Rattle.walk.proofs.Walker.linked.Reads as linked-reads
-use Rattle.walk.proofs.Walker.next.Reads as next-reads
-use Rattle.walk.proofs.Walker.previous.Reads as previous-reads
 
 next-requires : tie.Need-next-requires
 next-requires c κs = search needs

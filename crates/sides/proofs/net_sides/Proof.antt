@@ -1,10 +1,9 @@
 -- `sides::net_sides` meets its contract: each call's face is the definition's, and each side is made from the parts that the table of sides names.
 -- Assumes nothing.
-use mathlib.Core.Path.{_≡_, _∙_, ap}
+use mathlib.Core.Path.{_∙_, ap}
 use Prim.Native.Nat.{ℕ}
 use native.Mathlib.Omega.{arith}
 use borrow.Author.Needs.{needs}
-use lib.IntN.{ℤ}
 use Rattle.cosines.specs.Table.{cosine}
 use Rattle.surface.specs.Net.{side0, side1, side2, side3, H, T, C}
 use Rattle.sides.proofs.Laws.{K, reach, vertex-ring, face-ring, vertex-is, face-is, leaving-is, arriving-is, Parts, sizes, made-is}

@@ -1,7 +1,6 @@
 -- `sides::point` meets its contract.
 -- Assumes nothing.
 use mathlib.Core.Path.{_∙_}
-use native.Mathlib.Omega.{arith}
 use borrow.Author.Needs.{needs}
 use lib.ListN.{getD}
 use lib.IntN.{pos}
@@ -10,9 +9,6 @@ use mir.Val.{SFits}
 use mir.Facts.{toZ-ofZ}
 use Rattle.sides.proofs.point.Statement.{statement}
 use Rattle.sides.proofs.point.Tie as tie
-use Rattle.sides.proofs.point.Reads as reads
-use Rattle.sides.proofs.point.Lts as lts
-use Rattle.sides.proofs.wide.Reads as wide-reads
 
 mul-wide : tie.Need-mul-wide
 mul-wide c = search needs

@@ -12,9 +12,6 @@ use Rattle.rounding.specs.Round.{round}
 use Rattle.formulas.specs.Sizes.{FacePoint, Value}
 use Rattle.sides.proofs.side.Statement.{statement}
 use Rattle.sides.proofs.side.Tie as tie
-use Rattle.sides.proofs.side.Reads as reads
-use Rattle.sides.proofs.side.Lts as lts
-use Rattle.formulas.proofs.inner.Reads as inner-reads
 
 inner-requires : tie.Need-inner-requires
 inner-requires c κs = search needs
