@@ -28,7 +28,7 @@ join-requires : tie.Need-join-requires
 join-requires c κs = let s = c .before .before .before .before .before .before .before .before .before .before .before .before in let e = c .before .before .before .before .before .fill-earliers in
     let M = meshOf (now (s .args .coordinates)) (now (s .args .sides)) (now (s .args .corners)) in
     let k = searchable M (now (s .args .nexts)) (e .last .1 .0) (e .last .1 .1 .0) (s .pre .0) (s .pre .1) (s .pre .2) (e .kept .1 .0) (e .kept .1 .1 .0) (e .ensures .0) (e .ensures .1) in
-    (s .pre .0, s .pre .1, k, s .pre .3)
+    (s .pre, k)
 
 same-length : tie.Need-same-length
 same-length c = search needs

@@ -20,7 +20,7 @@ returns : tie.Need-returns
 unfolding linkFaults
 returns c = let s = c .before .before .before .before .before .before .before .before .before .before in let a = c .before .before .before .check-repeats in let sides = now (s .args .sides) in
     let M = meshOf (now (s .args .coordinates)) sides (now (s .args .corners)) in
-    refused M (now (s .args .links)) (c .before .a10 .given .0 .0) (c .before .a10 .given .0 .1 .0) (stop (a .result) (a .ensures sides (s .pre .1)) _ _ (c .before .a10 .given .1) _)
+    refused M (now (s .args .links)) (c .before .a10 .given .0 .0) (c .before .a10 .given .0 .1 .0) (stop (a .result) (a .ensures sides (s .pre .0 .1)) _ _ (c .before .a10 .given .1) _)
 
 enum-told : tie.Need-enum-told
 enum-told c = search needs
@@ -39,8 +39,8 @@ unfolding linkFaults
 returns-2 c = let t10 = c .before .before .before .before .before .before .before in let s = t10 .before .before .before .before .before .before .before .before .before in let a = c .before .before .before .before .before .check-reverses in let sides = now (s .args .sides) in
     let M = meshOf (now (s .args .coordinates)) sides (now (s .args .corners)) in
     refused M (a .last .1 .1 .1 .1 .0) (c .before .a11 .given .0 .0) (c .before .a11 .given .0 .1 .0)
-    (past (passed (t10 .before .before .check-repeats .result) (t10 .before .before .check-repeats .ensures sides (s .pre .1)) (t10 .enum-told .given .1)) _
-    (stop (a .result) (a .ensures .answers sides (s .pre .1)) _ _ (c .before .a11 .given .1) _))
+    (past (passed (t10 .before .before .check-repeats .result) (t10 .before .before .check-repeats .ensures sides (s .pre .0 .1)) (t10 .enum-told .given .1)) _
+    (stop (a .result) (a .ensures .answers sides (s .pre .0 .1)) _ _ (c .before .a11 .given .1) _))
 
 enum-told-2 : tie.Need-enum-told-2
 enum-told-2 c = search needs
@@ -59,8 +59,8 @@ unfolding linkFaults
 returns-3 c = let t11 = c .before .before .before .before in let t10 = t11 .before .before .before .before .before .before in let s = t10 .before .before .before .before .before .before .before .before .before in let a = c .before .before .before .check-valences in let sides = now (s .args .sides) in
     let M = meshOf (now (s .args .coordinates)) sides (now (s .args .corners)) in
     refused M (t11 .before .before .before .before .check-reverses .last .1 .1 .1 .1 .0) (c .before .a12 .given .0 .0) (c .before .a12 .given .0 .1 .0)
-    (past (passed (t10 .before .before .check-repeats .result) (t10 .before .before .check-repeats .ensures sides (s .pre .1)) (t10 .enum-told .given .1)) _
-    (past (passed (t11 .before .before .before .before .check-reverses .result) (t11 .before .before .before .before .check-reverses .ensures .answers sides (s .pre .1)) (t11 .enum-told2 .given .1)) _
+    (past (passed (t10 .before .before .check-repeats .result) (t10 .before .before .check-repeats .ensures sides (s .pre .0 .1)) (t10 .enum-told .given .1)) _
+    (past (passed (t11 .before .before .before .before .check-reverses .result) (t11 .before .before .before .before .check-reverses .ensures .answers sides (s .pre .0 .1)) (t11 .enum-told2 .given .1)) _
     (stop (a .result) (a .ensures) _ _ (c .before .a12 .given .1) _)))
 
 enum-told-3 : tie.Need-enum-told-3
@@ -69,10 +69,10 @@ enum-told-3 c = search needs
 check-rings-requires : tie.Need-check-rings-requires
 check-rings-requires c κs = let t12 = c .before in let t11 = t12 .before .before .before in let t10 = t11 .before .before .before .before .before .before in let s = t10 .before .before .before .before .before .before .before .before .before in let sides = now (s .args .sides) in
     let M = meshOf (now (s .args .coordinates)) sides (now (s .args .corners)) in (
-      s .pre .0 .few,
-      gathered (M .corners) (now (s .args .nexts)) (now (s .args .earliers)) (now (s .args .heads)) (s .pre .2),
-      followed M (now (s .args .nexts)) (t11 .before .before .before .before .check-reverses .last .1 .1 .1 .1 .0) (s .pre .0) (s .pre .1) (passed (t10 .before .before .check-repeats .result) (t10 .before .before .check-repeats .ensures sides (s .pre .1)) (t10 .enum-told .given .1)) (passed (t11 .before .before .before .before .check-reverses .result) (t11 .before .before .before .before .check-reverses .ensures .answers sides (s .pre .1)) (t11 .enum-told2 .given .1)) (t11 .before .before .before .before .check-reverses .ensures .holds)
-          (t11 .before .before .before .before .check-reverses .kept .1 .1 .1 .1 .0 ∙ s .pre .3) (passed (t12 .before .before .check-valences .result) (t12 .before .before .check-valences .ensures) (t12 .enum-told3 .given .1)),
+      s .pre .0 .0 .few,
+      gathered (M .corners) (now (s .args .nexts)) (now (s .args .earliers)) (now (s .args .heads)) (s .pre .1),
+      followed M (now (s .args .nexts)) (t11 .before .before .before .before .check-reverses .last .1 .1 .1 .1 .0) (s .pre .0 .0) (s .pre .0 .1) (passed (t10 .before .before .check-repeats .result) (t10 .before .before .check-repeats .ensures sides (s .pre .0 .1)) (t10 .enum-told .given .1)) (passed (t11 .before .before .before .before .check-reverses .result) (t11 .before .before .before .before .check-reverses .ensures .answers sides (s .pre .0 .1)) (t11 .enum-told2 .given .1)) (t11 .before .before .before .before .check-reverses .ensures .holds)
+          (t11 .before .before .before .before .check-reverses .kept .1 .1 .1 .1 .0 ∙ s .pre .0 .3) (passed (t12 .before .before .check-valences .result) (t12 .before .before .check-valences .ensures) (t12 .enum-told3 .given .1)),
     )
 
 same-length-3 : tie.Need-same-length-3
@@ -82,11 +82,11 @@ returns-4 : tie.Need-returns-4
 unfolding linkFaults
 returns-4 c = let t12 = c .before .before in let t11 = t12 .before .before .before in let t10 = t11 .before .before .before .before .before .before in let s = t10 .before .before .before .before .before .before .before .before .before in let sides = now (s .args .sides) in
     let M = meshOf (now (s .args .coordinates)) sides (now (s .args .corners)) in
-    let k = closed M (now (s .args .nexts)) (t11 .before .before .before .before .check-reverses .last .1 .1 .1 .1 .0) (s .pre .0) (s .pre .1) (passed (t10 .before .before .check-repeats .result) (t10 .before .before .check-repeats .ensures sides (s .pre .1)) (t10 .enum-told .given .1)) (passed (t11 .before .before .before .before .check-reverses .result) (t11 .before .before .before .before .check-reverses .ensures .answers sides (s .pre .1)) (t11 .enum-told2 .given .1)) (t11 .before .before .before .before .check-reverses .ensures .holds) in
-    let t = table M (now (s .args .nexts)) (t11 .before .before .before .before .check-reverses .last .1 .1 .1 .1 .0) (s .pre .0) (s .pre .1) (passed (t10 .before .before .check-repeats .result) (t10 .before .before .check-repeats .ensures sides (s .pre .1)) (t10 .enum-told .given .1)) (passed (t11 .before .before .before .before .check-reverses .result) (t11 .before .before .before .before .check-reverses .ensures .answers sides (s .pre .1)) (t11 .enum-told2 .given .1)) (t11 .before .before .before .before .check-reverses .ensures .holds) in
+    let k = closed M (now (s .args .nexts)) (t11 .before .before .before .before .check-reverses .last .1 .1 .1 .1 .0) (s .pre .0 .0) (s .pre .0 .1) (passed (t10 .before .before .check-repeats .result) (t10 .before .before .check-repeats .ensures sides (s .pre .0 .1)) (t10 .enum-told .given .1)) (passed (t11 .before .before .before .before .check-reverses .result) (t11 .before .before .before .before .check-reverses .ensures .answers sides (s .pre .0 .1)) (t11 .enum-told2 .given .1)) (t11 .before .before .before .before .check-reverses .ensures .holds) in
+    let t = table M (now (s .args .nexts)) (t11 .before .before .before .before .check-reverses .last .1 .1 .1 .1 .0) (s .pre .0 .0) (s .pre .0 .1) (passed (t10 .before .before .check-repeats .result) (t10 .before .before .check-repeats .ensures sides (s .pre .0 .1)) (t10 .enum-told .given .1)) (passed (t11 .before .before .before .before .check-reverses .result) (t11 .before .before .before .before .check-reverses .ensures .answers sides (s .pre .0 .1)) (t11 .enum-told2 .given .1)) (t11 .before .before .before .before .check-reverses .ensures .holds) in
     joined M (t11 .before .before .before .before .check-reverses .last .1 .1 .1 .1 .0) (c .check-rings .result)
-    (past (passed (t10 .before .before .check-repeats .result) (t10 .before .before .check-repeats .ensures sides (s .pre .1)) (t10 .enum-told .given .1)) _
-    (past (passed (t11 .before .before .before .before .check-reverses .result) (t11 .before .before .before .before .check-reverses .ensures .answers sides (s .pre .1)) (t11 .enum-told2 .given .1)) _
+    (past (passed (t10 .before .before .check-repeats .result) (t10 .before .before .check-repeats .ensures sides (s .pre .0 .1)) (t10 .enum-told .given .1)) _
+    (past (passed (t11 .before .before .before .before .check-reverses .result) (t11 .before .before .before .before .check-reverses .ensures .answers sides (s .pre .0 .1)) (t11 .enum-told2 .given .1)) _
     (past (passed (t12 .before .before .check-valences .result) (t12 .before .before .check-valences .ensures) (t12 .enum-told3 .given .1)) _
     (c .check-rings .ensures sides k t)))) t
 
