@@ -47,7 +47,9 @@ loop-less : tie.Need-loop-less Inv-loop μ-loop
 loop-less c = search needs
 
 loop-again : tie.Need-loop-again Inv-loop μ-loop
-loop-again c = let s = c .before .before .before .before .before .before .before .before .before in let l = c .before .before .before .before .before .before .loop in
+loop-again c =
+    let s = c .before .before .before .before .before .before .before .before .before in
+    let l = c .before .before .before .before .before .before .loop in
     let h : l .f < length (now (s .args .sides)) = search needs in
     let n = start-next (now (s .args .sides)) (l .f) h in (
       search needs,
