@@ -1,3 +1,5 @@
+-- `repeat_of` meets its contract: the earlier corners of c's vertex are those of its chain.
+-- Assumes nothing.
 use Prim.Native.Nat.{_-_}
 use lib.ListN.{getD}
 use denote.Ref.{now}

@@ -17,7 +17,8 @@ use Rattle.lists.proofs.check_faces.Statement.{statement}
 use Rattle.lists.proofs.check_faces.Tie as tie
 
 abbrev Inv-loop2 : tie.InvT-loop2
-Inv-loop2 sides corners start f count end c₀ c = (f < length sides) × (start ≡ startOf sides f) × (end ≡ start + getD sides f 0) × (start ≤ c) × (c ≤ end) × ((j : ℕ) → j < c → fault9 sides corners j ≡ false)
+Inv-loop2 sides corners start f count end c₀ c =
+    (f < length sides) × (start ≡ startOf sides f) × (end ≡ start + getD sides f 0) × (start ≤ c) × (c ≤ end) × ((j : ℕ) → j < c → fault9 sides corners j ≡ false)
 
 abbrev μ-loop2 : tie.MeasureT-loop2
 μ-loop2 sides corners start f count end c₀ c = end - c

@@ -1,3 +1,5 @@
+-- `fill_nexts` meets its contract: the faces before `f` are filled, and face `f` starts where they end.
+-- Assumes nothing.
 use mathlib.Core.Path.{_≡_, _∙_, sym, subst}
 use Prim.Native.Nat.{ℕ, _+_, _≤_, _<_, _-_}
 use lib.ListN.{length, getD}
