@@ -3,7 +3,7 @@
 use mathlib.Core.Path.{_≡_}
 use mathlib.Core.List.{List}
 use Prim.Native.Nat.{ℕ, _<_, _≤_}
-use lib.ListN.{getD}
+use lib.ListN.{length, getD}
 use Rattle.mesh.specs.Limits.{leastSides, mostVertices, mostCorners}
 use Rattle.mesh.specs.Lists.{Mesh, vertexCount, faceCount, cornerCount}
 use Rattle.mesh.specs.Corners.{sumOf}
@@ -26,6 +26,11 @@ pub record Listed (M : Mesh) : Type 0 where
   pub sums : sumOf (M .sides) ≡ cornerCount M
   pub sided : (f : ℕ) → f < faceCount M → leastSides ≤ getD (M .sides) f 0
   pub named : (c : ℕ) → c < cornerCount M → vertexOf (M .corners) c < vertexCount M
+
+-- what the checks 10 to 13 ask: the table of next corners is filled, and that of links has room
+abbrev pub Joinable : Mesh → List ℕ → List ℕ → Type 0
+Joinable M nexts links =
+    Listed M × NextsTo (M .sides) nexts (cornerCount M) × (length nexts ≡ mostCorners) × (length links ≡ mostCorners)
 
 -- the checks 10 to 13
 pub record Joined (M : Mesh) (r : Answer) (links : List ℕ) : Type 0 where

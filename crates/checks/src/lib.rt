@@ -3,14 +3,11 @@ use mesh::Answer;
 use mesh::MOST_CORNERS;
 use mesh::MOST_VERTICES;
 ghost use mathlib.Core.Path.{_≡_};
-ghost use lib.ListN.{length};
-ghost use Rattle.mesh.specs.Limits.{mostCorners};
 ghost use Rattle.mesh.specs.Lists.{meshOf};
-ghost use Rattle.mesh.specs.Tables.{NextsTo};
 ghost use Rattle.mesh.specs.Faults.{listFaults};
 ghost use Rattle.mesh.specs.Answers.{stated};
 ghost use Rattle.edges.specs.Searched.{Searchable};
-ghost use Rattle.checks.specs.Checked.{Checked, Listed, Joined};
+ghost use Rattle.checks.specs.Checked.{Checked, Joinable, Joined};
 
 // Checks 4 to 13. The two tables are scratch: of an accepted mesh they then hold the next corner and the link of every corner.
 pub fn check(
@@ -65,7 +62,7 @@ fn check_links(
     nexts: &[u16],
     links: &mut [u16],
 ) -> Answer
-    requires { ⌜ Listed (meshOf (now coordinates) (now sides) (now corners)) × NextsTo (now sides) (now nexts) (length (now corners)) × (length (now nexts) ≡ mostCorners) × (length (now links) ≡ mostCorners) ⌝ }
+    requires { ⌜ Joinable (meshOf (now coordinates) (now sides) (now corners)) (now nexts) (now links) ⌝ }
     ensures { λ r. ⌜ Joined (meshOf (now (coordinates .entry)) (now (sides .entry)) (now (corners .entry))) r (now (links .exit)) ⌝ }
 {
     let mut earliers = [0u16; MOST_CORNERS];
@@ -84,7 +81,7 @@ fn join(
     heads: &[u16],
     links: &mut [u16],
 ) -> Answer
-    requires { ⌜ Listed (meshOf (now coordinates) (now sides) (now corners)) × NextsTo (now sides) (now nexts) (length (now corners)) × Searchable (now corners) (now nexts) (now earliers) (now heads) × (length (now links) ≡ mostCorners) ⌝ }
+    requires { ⌜ Joinable (meshOf (now coordinates) (now sides) (now corners)) (now nexts) (now links) × Searchable (now corners) (now nexts) (now earliers) (now heads) ⌝ }
     ensures { λ r. ⌜ Joined (meshOf (now (coordinates .entry)) (now (sides .entry)) (now (corners .entry))) r (now (links .exit)) ⌝ }
 {
     let a10 = edges::check_repeats(corners, nexts, earliers, heads);

@@ -21,7 +21,7 @@ use Rattle.mesh.proofs.Verdicts.{lowest-hit, lowest-none}
 use Rattle.mesh.proofs.Links.{unique, reverse-in, reverse-vertex, reverse-to, link-is}
 use Rattle.tables.specs.Filled.{lastBelow, EarliersTo, HeadsTo, edge, Chain}
 use Rattle.tables.proofs.Laws.{last-le, last-passes, last-none, last-skip}
-use Rattle.edges.specs.Searched.{Searchable, LinksTo}
+use Rattle.edges.specs.Searched.{Searchable, LinksTo, repeatOf, reverseOf}
 
 -- a last one below n is one below n
 module _ (n : ℕ) (f g : ℕ → Bool) (s : (d : ℕ) → d < n → f d ≡ g d) where
@@ -44,24 +44,24 @@ module _ (sides corners nexts : List ℕ) (k : NextsTo sides nexts (length corne
   unfolding reverseEdge edge names leavesTo NextsTo
   same-reverse d l = rw (k c h, k d l)
 
-  pub repeated : (r : ℕ) → r ≡ lastBelow c (edge corners nexts (getD corners c 0) (getD corners (getD nexts c 0) 0)) → (r ≡ 0 → ⊥) → fault10 sides corners c ≡ true
+  pub repeated : (r : ℕ) → r ≡ repeatOf corners nexts c → (r ≡ 0 → ⊥) → fault10 sides corners c ≡ true
   unfolding fault10
   repeated r e n = last-some c _ _ same-edge (λ q. n (e ∙ q))
 
-  pub unrepeated : (r : ℕ) → r ≡ lastBelow c (edge corners nexts (getD corners c 0) (getD corners (getD nexts c 0) 0)) → r ≡ 0 → fault10 sides corners c ≡ false
+  pub unrepeated : (r : ℕ) → r ≡ repeatOf corners nexts c → r ≡ 0 → fault10 sides corners c ≡ false
   unfolding fault10
   unrepeated r e n = last-no c _ _ same-edge (sym e ∙ n)
 
-  pub no-reverse : (r : ℕ) → r ≡ lastBelow (length corners) (edge corners nexts (getD corners (getD nexts c 0) 0) (getD corners c 0)) → r ≡ 0 → fault11 sides corners c ≡ true
+  pub no-reverse : (r : ℕ) → r ≡ reverseOf corners nexts c → r ≡ 0 → fault11 sides corners c ≡ true
   unfolding fault11
   no-reverse r e n = ap not (last-no (length corners) _ _ same-reverse (sym e ∙ n))
 
-  pub has-reverse : (r : ℕ) → r ≡ lastBelow (length corners) (edge corners nexts (getD corners (getD nexts c 0) 0) (getD corners c 0)) → (r ≡ 0 → ⊥) → fault11 sides corners c ≡ false
+  pub has-reverse : (r : ℕ) → r ≡ reverseOf corners nexts c → (r ≡ 0 → ⊥) → fault11 sides corners c ≡ false
   unfolding fault11
   has-reverse r e n = ap not (last-some (length corners) _ _ same-reverse (λ q. n (e ∙ q)))
 
   -- the corner after the reverse is the link
-  pub link-found : Closed sides corners → (r : ℕ) → r ≡ lastBelow (length corners) (edge corners nexts (getD corners (getD nexts c 0) 0) (getD corners c 0)) → (r ≡ 0 → ⊥)
+  pub link-found : Closed sides corners → (r : ℕ) → r ≡ reverseOf corners nexts c → (r ≡ 0 → ⊥)
       → getD nexts (r - 1) 0 ≡ link sides corners c
   unfolding NextsTo reverseEdge
   link-found z r e n =
@@ -139,7 +139,7 @@ module _ (corners nexts links : List ℕ) (c : ℕ) where
   unfolding LinksTo
   links-none sides n z d l = absurd (omega arith)
 
-  module _ (h : c < length corners) (t : LinksTo corners nexts links c) (r : ℕ) (e : r ≡ lastBelow (length corners) (edge corners nexts (getD corners (getD nexts c 0) 0) (getD corners c 0))) where
+  module _ (h : c < length corners) (t : LinksTo corners nexts links c) (r : ℕ) (e : r ≡ reverseOf corners nexts c) where
     pub links-step : c < length links → (r ≡ 0 → ⊥) → LinksTo corners nexts (set links c (getD nexts (r - 1) 0)) (c + 1)
     unfolding LinksTo
     links-step b ne sides n z d l =

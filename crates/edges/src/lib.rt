@@ -1,20 +1,16 @@
 // Checks 10 and 11: edges that leave twice, and edges that have no reverse; the links come out of the search for reverses.
 use mesh::Answer;
 ghost use mathlib.Core.Path.{_≡_};
-ghost use mathlib.Core.List.{List};
-ghost use Prim.Native.Nat.{ℕ, _<_};
-ghost use lib.ListN.{length, getD};
+ghost use Prim.Native.Nat.{_<_};
+ghost use lib.ListN.{length};
 ghost use Rattle.mesh.specs.Limits.{mostCorners, mostVertices};
-ghost use Rattle.mesh.specs.Tables.{NextsTo};
-ghost use Rattle.mesh.specs.Faults.{lowestOf, fault10};
-ghost use Rattle.mesh.specs.Answers.{stated};
 ghost use Rattle.tables.specs.Filled.{lastBelow, edge};
-ghost use Rattle.edges.specs.Searched.{Searchable, Reversed};
+ghost use Rattle.edges.specs.Searched.{Searchable, Unrepeated, Reversed, repeatOf, reverseOf};
 
 // Check 10: no leaving edge already left an earlier corner.
 pub fn check_repeats(corners: &[u16], nexts: &[u16], earliers: &[u16], heads: &[u16]) -> Answer
     requires { ⌜ Searchable (now corners) (now nexts) (now earliers) (now heads) ⌝ }
-    ensures { λ r. ⌜ ((sides : List ℕ) → NextsTo sides (now (nexts .entry)) (length (now (corners .entry))) → stated r ≡ lowestOf 10 (length (now (corners .entry))) (fault10 sides (now (corners .entry)))) ⌝ }
+    ensures { λ r. ⌜ Unrepeated (now (corners .entry)) (now (nexts .entry)) r ⌝ }
 {
     let mut c = 0;
     while c < corners.len() {
@@ -54,7 +50,7 @@ pub fn check_reverses(
 // An earlier corner whose leaving edge is c's: one more than it, or 0.
 fn repeat_of(corners: &[u16], nexts: &[u16], earliers: &[u16], heads: &[u16], c: usize) -> u16
     requires { ⌜ (c < length (now corners)) × Searchable (now corners) (now nexts) (now earliers) (now heads) ⌝ }
-    ensures { λ r. ⌜ r ≡ lastBelow c (edge (now (corners .entry)) (now (nexts .entry)) (getD (now (corners .entry)) c 0) (getD (now (corners .entry)) (getD (now (nexts .entry)) c 0) 0)) ⌝ }
+    ensures { λ r. ⌜ r ≡ repeatOf (now (corners .entry)) (now (nexts .entry)) c ⌝ }
 {
     let e = nexts[c] as usize;
     let w = corners[e];
@@ -65,7 +61,7 @@ fn repeat_of(corners: &[u16], nexts: &[u16], earliers: &[u16], heads: &[u16], c:
 // A corner whose leaving edge is the reverse of c's: one more than it, or 0.
 fn reverse_of(corners: &[u16], nexts: &[u16], earliers: &[u16], heads: &[u16], c: usize) -> u16
     requires { ⌜ (c < length (now corners)) × Searchable (now corners) (now nexts) (now earliers) (now heads) ⌝ }
-    ensures { λ r. ⌜ r ≡ lastBelow (length (now (corners .entry))) (edge (now (corners .entry)) (now (nexts .entry)) (getD (now (corners .entry)) (getD (now (nexts .entry)) c 0) 0) (getD (now (corners .entry)) c 0)) ⌝ }
+    ensures { λ r. ⌜ r ≡ reverseOf (now (corners .entry)) (now (nexts .entry)) c ⌝ }
 {
     let e = nexts[c] as usize;
     let w = corners[e];

@@ -8,6 +8,10 @@ use lib.ListN.{length, getD}
 use Rattle.mesh.specs.Limits.{leastSides, mostCorners, mostVertices}
 use Rattle.mesh.specs.Scan.{pickN, firstBelow, iterate}
 use Rattle.mesh.specs.Links.{valence, lowest}
+use Rattle.mesh.specs.Tables.{LinkTable}
+use Rattle.mesh.specs.Faults.{lowestOf, fault13, Closed}
+use Rattle.mesh.specs.Answers.{stated}
+use Rattle.mesh.specs.declared.Answer.{Answer}
 use Rattle.tables.specs.Filled.{EarliersTo, HeadsTo}
 
 -- the tables of the vertices' corners
@@ -38,3 +42,8 @@ pub record Followed (corners links : List ℕ) (vertices : ℕ) : Type 0 where
   pub links-length : length corners ≤ length links
   pub links-in : (c : ℕ) → c < length corners → getD links c 0 < length corners
   pub named : (u : ℕ) → u < vertices → leastSides ≤ valence corners u
+
+-- what check 13 answers, for all side counts that the links belong to
+abbrev pub Ringed : List ℕ → List ℕ → ℕ → Answer → Type 0
+Ringed corners links vertices r =
+    (sides : List ℕ) → Closed sides corners → LinkTable sides corners links → stated r ≡ lowestOf 13 vertices (fault13 sides corners)

@@ -4,14 +4,12 @@ use mesh::LEAST_SIDES;
 use mesh::MOST_SIDES;
 use walk::Walker;
 ghost use mathlib.Core.Path.{_≡_};
-ghost use mathlib.Core.List.{List};
 ghost use Prim.Native.Nat.{ℕ, _≤_, _<_};
 ghost use lib.ListN.{length, getD};
 ghost use Rattle.mesh.specs.Limits.{mostVertices};
-ghost use Rattle.mesh.specs.Tables.{LinkTable};
-ghost use Rattle.mesh.specs.Faults.{lowestOf, fault12, fault13, Closed};
+ghost use Rattle.mesh.specs.Faults.{lowestOf, fault12};
 ghost use Rattle.mesh.specs.Answers.{stated};
-ghost use Rattle.rings.specs.Ring.{Gathered, Counted, ringWithin, Followed};
+ghost use Rattle.rings.specs.Ring.{Gathered, Counted, ringWithin, Followed, Ringed};
 
 // The corners of a vertex: how many, and the lowest.
 struct Gathering {
@@ -44,7 +42,7 @@ pub fn check_rings(
     vertices: usize,
 ) -> Answer
     requires { ⌜ (vertices ≤ mostVertices) × Gathered (now corners) (now earliers) (now heads) × Followed (now corners) (now links) vertices ⌝ }
-    ensures { λ r. ⌜ ((sides : List ℕ) → Closed sides (now (corners .entry)) → LinkTable sides (now (corners .entry)) (now (links .entry)) → stated r ≡ lowestOf 13 vertices (fault13 sides (now (corners .entry)))) ⌝ }
+    ensures { λ r. ⌜ Ringed (now (corners .entry)) (now (links .entry)) vertices r ⌝ }
 {
     let mut u = 0;
     while u < vertices {

@@ -5,9 +5,10 @@ use mathlib.Core.Bool.{Bool, _&&_}
 use mathlib.Core.List.{List}
 use Prim.Native.Nat.{ℕ, zero, suc, _+_, _<_, _≤_}
 use lib.Dec.{eqb}
-use lib.ListN.{length, getD}
-use Rattle.mesh.specs.Limits.{mostCorners, mostVertices}
+use lib.ListN.{length, getD, replicate}
+use Rattle.mesh.specs.Limits.{leastSides, mostCorners, mostVertices}
 use Rattle.mesh.specs.Scan.{pickN}
+use Rattle.mesh.specs.Corners.{sumOf}
 use Rattle.mesh.specs.Links.{vertexOf, names}
 
 -- one more than the highest number below n that passes the test; 0 where none does
@@ -44,3 +45,15 @@ pub record Walkable (corners nexts earliers : List ℕ) : Type 0 where
   pub earliers-length : length earliers ≡ mostCorners
   pub nexts-in : (c : ℕ) → c < length corners → getD nexts c 0 < length corners
   pub earliers-are : EarliersTo corners earliers (length corners)
+
+-- what filling the next corners asks
+abbrev pub Fillable : List ℕ → List ℕ → Type 0
+Fillable sides nexts = (sumOf sides ≤ mostCorners) × ((f : ℕ) → f < length sides → leastSides ≤ getD sides f 0) × (length nexts ≡ mostCorners)
+
+-- what filling the chains asks, and gives
+abbrev pub Chainable : List ℕ → List ℕ → List ℕ → Type 0
+Chainable corners earliers heads =
+    (length corners ≤ mostCorners) × ((c : ℕ) → c < length corners → vertexOf corners c < mostVertices) × (length earliers ≡ mostCorners) × (heads ≡ replicate mostVertices 0)
+
+abbrev pub Chained : List ℕ → List ℕ → List ℕ → Type 0
+Chained corners earliers heads = EarliersTo corners earliers (length corners) × HeadsTo corners heads (length corners)

@@ -2,15 +2,15 @@
 // of a vertex form a falling chain. An edge is looked up on the chain of its vertex.
 ghost use mathlib.Core.Path.{_≡_};
 ghost use Prim.Native.Nat.{ℕ, _≤_, _<_};
-ghost use lib.ListN.{length, getD, replicate};
-ghost use Rattle.mesh.specs.Limits.{leastSides, mostVertices, mostCorners};
+ghost use lib.ListN.{length};
+ghost use Rattle.mesh.specs.Limits.{mostCorners};
 ghost use Rattle.mesh.specs.Corners.{sumOf};
 ghost use Rattle.mesh.specs.Tables.{NextsTo};
-ghost use Rattle.tables.specs.Filled.{lastBelow, FaceFilled, EarliersTo, HeadsTo, edge, Chain, Walkable};
+ghost use Rattle.tables.specs.Filled.{lastBelow, FaceFilled, edge, Chain, Walkable, Fillable, Chainable, Chained};
 
 // The next corner of every corner.
 pub fn fill_nexts(sides: &[u8], nexts: &mut [u16])
-    requires { ⌜ (sumOf (now sides) ≤ mostCorners) × ((f : ℕ) → f < length (now sides) → leastSides ≤ getD (now sides) f 0) × (length (now nexts) ≡ mostCorners) ⌝ }
+    requires { ⌜ Fillable (now sides) (now nexts) ⌝ }
     ensures { λ _. ⌜ NextsTo (now (sides .entry)) (now (nexts .exit)) (sumOf (now (sides .entry))) ⌝ }
 {
     let mut start = 0;
@@ -38,8 +38,8 @@ fn fill_face(nexts: &mut [u16], start: usize, end: usize)
 
 // The earlier corner of the same vertex, of every corner; the highest corner of every vertex.
 pub fn fill_earliers(corners: &[u16], earliers: &mut [u16], heads: &mut [u16])
-    requires { ⌜ (length (now corners) ≤ mostCorners) × ((c : ℕ) → c < length (now corners) → getD (now corners) c 0 < mostVertices) × (length (now earliers) ≡ mostCorners) × (now heads ≡ replicate mostVertices 0) ⌝ }
-    ensures { λ _. ⌜ EarliersTo (now (corners .entry)) (now (earliers .exit)) (length (now (corners .entry))) × HeadsTo (now (corners .entry)) (now (heads .exit)) (length (now (corners .entry))) ⌝ }
+    requires { ⌜ Chainable (now corners) (now earliers) (now heads) ⌝ }
+    ensures { λ _. ⌜ Chained (now (corners .entry)) (now (earliers .exit)) (now (heads .exit)) ⌝ }
 {
     let mut c = 0;
     while c < corners.len() {

@@ -16,7 +16,9 @@ slice-aggregate-fill-earliers-2 : tie.Need-slice-aggregate-fill-earliers-2
 slice-aggregate-fill-earliers-2 c = search needs
 
 fill-earliers-requires : tie.Need-fill-earliers-requires
-fill-earliers-requires c κs = let s = c .before .before .before .before .before .before in (s .pre .0 .small, (λ d l. omega (arith, s .pre .0 .named d l, s .pre .0 .few)), refl, refl)
+fill-earliers-requires c κs =
+    let s = c .before .before .before .before .before .before in
+    (s .pre .0 .small, (λ d l. omega (arith, s .pre .0 .named d l, s .pre .0 .few)), refl, refl)
 
 slice-aggregate-join : tie.Need-slice-aggregate-join
 slice-aggregate-join c = search needs
@@ -25,10 +27,12 @@ slice-aggregate-join-2 : tie.Need-slice-aggregate-join-2
 slice-aggregate-join-2 c = search needs
 
 join-requires : tie.Need-join-requires
-join-requires c κs = let s = c .before .before .before .before .before .before .before .before .before .before .before .before in let e = c .before .before .before .before .before .fill-earliers in
+join-requires c κs =
+    let s = c .before .before .before .before .before .before .before .before .before .before .before .before in
+    let e = c .before .before .before .before .before .fill-earliers in
     let M = meshOf (now (s .args .coordinates)) (now (s .args .sides)) (now (s .args .corners)) in
     let k = searchable M (now (s .args .nexts)) (e .last .1 .0) (e .last .1 .1 .0) (s .pre .0) (s .pre .1) (s .pre .2) (e .kept .1 .0) (e .kept .1 .1 .0) (e .ensures .0) (e .ensures .1) in
-    (s .pre .0, s .pre .1, k, s .pre .3)
+    (s .pre, k)
 
 same-length : tie.Need-same-length
 same-length c = search needs

@@ -15,7 +15,10 @@ enum-known-a4 c = search needs
 
 returns : tie.Need-returns
 unfolding listFaults
-returns c = stop (c .before .before .before .check-lengths .result) (c .before .before .before .check-lengths .ensures) (c .before .a4 .given .0 .0) (c .before .a4 .given .0 .1 .0) (c .before .a4 .given .1) _
+returns c =
+    let a = c .before .before .before .check-lengths in
+    let r = c .before .a4 .given in
+    stop (a .result) (a .ensures) (r .0 .0) (r .0 .1 .0) (r .1) _
 
 enum-told : tie.Need-enum-told
 enum-told c = search needs
@@ -28,26 +31,36 @@ enum-known-a5 c = search needs
 
 returns-2 : tie.Need-returns-2
 unfolding listFaults
-returns-2 c = let t4 = c .before .before .before .before in
-    past (passed (t4 .before .before .check-lengths .result) (t4 .before .before .check-lengths .ensures) (t4 .enum-told .given .1)) _
-    (stop (c .before .before .before .check-sides .result) (c .before .before .before .check-sides .ensures) (c .before .a5 .given .0 .0) (c .before .a5 .given .0 .1 .0) (c .before .a5 .given .1) _)
+returns-2 c =
+    let t4 = c .before .before .before .before in
+    let four = passed (t4 .before .before .check-lengths .result) (t4 .before .before .check-lengths .ensures) (t4 .enum-told .given .1) in
+    let a = c .before .before .before .check-sides in
+    let r = c .before .a5 .given in
+    past four _ (stop (a .result) (a .ensures) (r .0 .0) (r .0 .1 .0) (r .1) _)
 
 enum-told-2 : tie.Need-enum-told-2
 enum-told-2 c = search needs
 
 check-sum-requires : tie.Need-check-sum-requires
-check-sum-requires c κs = let t5 = c in let t4 = t5 .before .before .before in
-    few-faces _ _ _ (single-sound 4 _ 0 (passed (t4 .before .before .check-lengths .result) (t4 .before .before .check-lengths .ensures) (t4 .enum-told .given .1)))
+check-sum-requires c κs =
+    let t5 = c in
+    let t4 = t5 .before .before .before in
+    let four = passed (t4 .before .before .check-lengths .result) (t4 .before .before .check-lengths .ensures) (t4 .enum-told .given .1) in
+    few-faces _ _ _ (single-sound 4 _ 0 four)
 
 enum-known-a6 : tie.Need-enum-known-a6
 enum-known-a6 c = search needs
 
 returns-3 : tie.Need-returns-3
 unfolding listFaults
-returns-3 c = let t5 = c .before .before .before .before in let t4 = t5 .before .before .before in
-    past (passed (t4 .before .before .check-lengths .result) (t4 .before .before .check-lengths .ensures) (t4 .enum-told .given .1)) _
-    (past (passed (t5 .before .before .check-sides .result) (t5 .before .before .check-sides .ensures) (t5 .enum-told2 .given .1)) _
-    (stop (c .before .before .before .check-sum .result) (c .before .before .before .check-sum .ensures) (c .before .a6 .given .0 .0) (c .before .a6 .given .0 .1 .0) (c .before .a6 .given .1) _))
+returns-3 c =
+    let t5 = c .before .before .before .before in
+    let t4 = t5 .before .before .before in
+    let four = passed (t4 .before .before .check-lengths .result) (t4 .before .before .check-lengths .ensures) (t4 .enum-told .given .1) in
+    let five = passed (t5 .before .before .check-sides .result) (t5 .before .before .check-sides .ensures) (t5 .enum-told2 .given .1) in
+    let a = c .before .before .before .check-sum in
+    let r = c .before .a6 .given in
+    past four _ (past five _ (stop (a .result) (a .ensures) (r .0 .0) (r .0 .1 .0) (r .1) _))
 
 enum-told-3 : tie.Need-enum-told-3
 enum-told-3 c = search needs
@@ -60,11 +73,16 @@ enum-known-a7 c = search needs
 
 returns-4 : tie.Need-returns-4
 unfolding listFaults
-returns-4 c = let t6 = c .before .before .before .before in let t5 = t6 .before .before .before in let t4 = t5 .before .before .before in
-    past (passed (t4 .before .before .check-lengths .result) (t4 .before .before .check-lengths .ensures) (t4 .enum-told .given .1)) _
-    (past (passed (t5 .before .before .check-sides .result) (t5 .before .before .check-sides .ensures) (t5 .enum-told2 .given .1)) _
-    (past (passed (t6 .before .before .check-sum .result) (t6 .before .before .check-sum .ensures) (t6 .enum-told3 .given .1)) _
-    (stop (c .before .before .before .check-coordinates .result) (c .before .before .before .check-coordinates .ensures) (c .before .a7 .given .0 .0) (c .before .a7 .given .0 .1 .0) (c .before .a7 .given .1) _)))
+returns-4 c =
+    let t6 = c .before .before .before .before in
+    let t5 = t6 .before .before .before in
+    let t4 = t5 .before .before .before in
+    let four = passed (t4 .before .before .check-lengths .result) (t4 .before .before .check-lengths .ensures) (t4 .enum-told .given .1) in
+    let five = passed (t5 .before .before .check-sides .result) (t5 .before .before .check-sides .ensures) (t5 .enum-told2 .given .1) in
+    let six = passed (t6 .before .before .check-sum .result) (t6 .before .before .check-sum .ensures) (t6 .enum-told3 .given .1) in
+    let a = c .before .before .before .check-coordinates in
+    let r = c .before .a7 .given in
+    past four _ (past five _ (past six _ (stop (a .result) (a .ensures) (r .0 .0) (r .0 .1 .0) (r .1) _)))
 
 enum-told-4 : tie.Need-enum-told-4
 enum-told-4 c = search needs
@@ -77,29 +95,47 @@ enum-known-a8 c = search needs
 
 returns-5 : tie.Need-returns-5
 unfolding listFaults
-returns-5 c = let t7 = c .before .before .before .before in let t6 = t7 .before .before .before in let t5 = t6 .before .before .before in let t4 = t5 .before .before .before in
-    past (passed (t4 .before .before .check-lengths .result) (t4 .before .before .check-lengths .ensures) (t4 .enum-told .given .1)) _
-    (past (passed (t5 .before .before .check-sides .result) (t5 .before .before .check-sides .ensures) (t5 .enum-told2 .given .1)) _
-    (past (passed (t6 .before .before .check-sum .result) (t6 .before .before .check-sum .ensures) (t6 .enum-told3 .given .1)) _
-    (past (passed (t7 .before .before .check-coordinates .result) (t7 .before .before .check-coordinates .ensures) (t7 .enum-told4 .given .1)) _
-    (stop (c .before .before .before .check-names .result) (c .before .before .before .check-names .ensures) (c .before .a8 .given .0 .0) (c .before .a8 .given .0 .1 .0) (c .before .a8 .given .1) _))))
+returns-5 c =
+    let t7 = c .before .before .before .before in
+    let t6 = t7 .before .before .before in
+    let t5 = t6 .before .before .before in
+    let t4 = t5 .before .before .before in
+    let four = passed (t4 .before .before .check-lengths .result) (t4 .before .before .check-lengths .ensures) (t4 .enum-told .given .1) in
+    let five = passed (t5 .before .before .check-sides .result) (t5 .before .before .check-sides .ensures) (t5 .enum-told2 .given .1) in
+    let six = passed (t6 .before .before .check-sum .result) (t6 .before .before .check-sum .ensures) (t6 .enum-told3 .given .1) in
+    let seven = passed (t7 .before .before .check-coordinates .result) (t7 .before .before .check-coordinates .ensures) (t7 .enum-told4 .given .1) in
+    let a = c .before .before .before .check-names in
+    let r = c .before .a8 .given in
+    past four _ (past five _ (past six _ (past seven _ (stop (a .result) (a .ensures) (r .0 .0) (r .0 .1 .0) (r .1) _))))
 
 enum-told-5 : tie.Need-enum-told-5
 enum-told-5 c = search needs
 
 check-faces-requires : tie.Need-check-faces-requires
-check-faces-requires c κs = let t8 = c in let t7 = t8 .before .before .before in let t6 = t7 .before .before .before in let t5 = t6 .before .before .before in let t4 = t5 .before .before .before in
-    (sums-of _ _ (single-sound 6 _ _ (passed (t6 .before .before .check-sum .result) (t6 .before .before .check-sum .ensures) (t6 .enum-told3 .given .1))), few-corners _ _ _ (single-sound 4 _ 0 (passed (t4 .before .before .check-lengths .result) (t4 .before .before .check-lengths .ensures) (t4 .enum-told .given .1))))
+check-faces-requires c κs =
+    let t8 = c in
+    let t7 = t8 .before .before .before in
+    let t6 = t7 .before .before .before in
+    let t5 = t6 .before .before .before in
+    let t4 = t5 .before .before .before in
+    let four = passed (t4 .before .before .check-lengths .result) (t4 .before .before .check-lengths .ensures) (t4 .enum-told .given .1) in
+    let six = passed (t6 .before .before .check-sum .result) (t6 .before .before .check-sum .ensures) (t6 .enum-told3 .given .1) in
+    (sums-of _ _ (single-sound 6 _ _ six), few-corners _ _ _ (single-sound 4 _ 0 four))
 
 returns-6 : tie.Need-returns-6
 unfolding listFaults
-returns-6 c = let t8 = c .before in let t7 = t8 .before .before .before in let t6 = t7 .before .before .before in let t5 = t6 .before .before .before in let t4 = t5 .before .before .before in
-    past (passed (t4 .before .before .check-lengths .result) (t4 .before .before .check-lengths .ensures) (t4 .enum-told .given .1)) _
-    (past (passed (t5 .before .before .check-sides .result) (t5 .before .before .check-sides .ensures) (t5 .enum-told2 .given .1)) _
-    (past (passed (t6 .before .before .check-sum .result) (t6 .before .before .check-sum .ensures) (t6 .enum-told3 .given .1)) _
-    (past (passed (t7 .before .before .check-coordinates .result) (t7 .before .before .check-coordinates .ensures) (t7 .enum-told4 .given .1)) _
-    (past (passed (t8 .before .before .check-names .result) (t8 .before .before .check-names .ensures) (t8 .enum-told5 .given .1)) _
-    (c .check-faces .ensures)))))
+returns-6 c =
+    let t8 = c .before in
+    let t7 = t8 .before .before .before in
+    let t6 = t7 .before .before .before in
+    let t5 = t6 .before .before .before in
+    let t4 = t5 .before .before .before in
+    let four = passed (t4 .before .before .check-lengths .result) (t4 .before .before .check-lengths .ensures) (t4 .enum-told .given .1) in
+    let five = passed (t5 .before .before .check-sides .result) (t5 .before .before .check-sides .ensures) (t5 .enum-told2 .given .1) in
+    let six = passed (t6 .before .before .check-sum .result) (t6 .before .before .check-sum .ensures) (t6 .enum-told3 .given .1) in
+    let seven = passed (t7 .before .before .check-coordinates .result) (t7 .before .before .check-coordinates .ensures) (t7 .enum-told4 .given .1) in
+    let eight = passed (t8 .before .before .check-names .result) (t8 .before .before .check-names .ensures) (t8 .enum-told5 .given .1) in
+    past four _ (past five _ (past six _ (past seven _ (past eight _ (c .check-faces .ensures)))))
 
 pub check-lists-spec : {M : Type 1} → statement M
 check-lists-spec =

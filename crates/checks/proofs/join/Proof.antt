@@ -18,9 +18,13 @@ enum-known-a10 c = search needs
 
 returns : tie.Need-returns
 unfolding linkFaults
-returns c = let s = c .before .before .before .before .before .before .before .before .before .before in let a = c .before .before .before .check-repeats in let sides = now (s .args .sides) in
+returns c =
+    let s = c .before .before .before .before .before .before .before .before .before .before in
+    let a = c .before .before .before .check-repeats in
+    let sides = now (s .args .sides) in
     let M = meshOf (now (s .args .coordinates)) sides (now (s .args .corners)) in
-    refused M (now (s .args .links)) (c .before .a10 .given .0 .0) (c .before .a10 .given .0 .1 .0) (stop (a .result) (a .ensures sides (s .pre .1)) _ _ (c .before .a10 .given .1) _)
+    refused M (now (s .args .links)) (c .before .a10 .given .0 .0) (c .before .a10 .given .0 .1 .0)
+    (stop (a .result) (a .ensures sides (s .pre .0 .1)) _ _ (c .before .a10 .given .1) _)
 
 enum-told : tie.Need-enum-told
 enum-told c = search needs
@@ -36,11 +40,16 @@ same-length c = search needs
 
 returns-2 : tie.Need-returns-2
 unfolding linkFaults
-returns-2 c = let t10 = c .before .before .before .before .before .before .before in let s = t10 .before .before .before .before .before .before .before .before .before in let a = c .before .before .before .before .before .check-reverses in let sides = now (s .args .sides) in
+returns-2 c =
+    let t10 = c .before .before .before .before .before .before .before in
+    let s = t10 .before .before .before .before .before .before .before .before .before in
+    let sides = now (s .args .sides) in
     let M = meshOf (now (s .args .coordinates)) sides (now (s .args .corners)) in
+    let r10 = t10 .before .before .check-repeats in
+    let ten = passed (r10 .result) (r10 .ensures sides (s .pre .0 .1)) (t10 .enum-told .given .1) in
+    let a = c .before .before .before .before .before .check-reverses in
     refused M (a .last .1 .1 .1 .1 .0) (c .before .a11 .given .0 .0) (c .before .a11 .given .0 .1 .0)
-    (past (passed (t10 .before .before .check-repeats .result) (t10 .before .before .check-repeats .ensures sides (s .pre .1)) (t10 .enum-told .given .1)) _
-    (stop (a .result) (a .ensures .answers sides (s .pre .1)) _ _ (c .before .a11 .given .1) _))
+    (past ten _ (stop (a .result) (a .ensures .answers sides (s .pre .0 .1)) _ _ (c .before .a11 .given .1) _))
 
 enum-told-2 : tie.Need-enum-told-2
 enum-told-2 c = search needs
@@ -56,23 +65,42 @@ same-length-2 c = search needs
 
 returns-3 : tie.Need-returns-3
 unfolding linkFaults
-returns-3 c = let t11 = c .before .before .before .before in let t10 = t11 .before .before .before .before .before .before in let s = t10 .before .before .before .before .before .before .before .before .before in let a = c .before .before .before .check-valences in let sides = now (s .args .sides) in
+returns-3 c =
+    let t11 = c .before .before .before .before in
+    let t10 = t11 .before .before .before .before .before .before in
+    let s = t10 .before .before .before .before .before .before .before .before .before in
+    let sides = now (s .args .sides) in
     let M = meshOf (now (s .args .coordinates)) sides (now (s .args .corners)) in
-    refused M (t11 .before .before .before .before .check-reverses .last .1 .1 .1 .1 .0) (c .before .a12 .given .0 .0) (c .before .a12 .given .0 .1 .0)
-    (past (passed (t10 .before .before .check-repeats .result) (t10 .before .before .check-repeats .ensures sides (s .pre .1)) (t10 .enum-told .given .1)) _
-    (past (passed (t11 .before .before .before .before .check-reverses .result) (t11 .before .before .before .before .check-reverses .ensures .answers sides (s .pre .1)) (t11 .enum-told2 .given .1)) _
-    (stop (a .result) (a .ensures) _ _ (c .before .a12 .given .1) _)))
+    let r10 = t10 .before .before .check-repeats in
+    let ten = passed (r10 .result) (r10 .ensures sides (s .pre .0 .1)) (t10 .enum-told .given .1) in
+    let r11 = t11 .before .before .before .before .check-reverses in
+    let eleven = passed (r11 .result) (r11 .ensures .answers sides (s .pre .0 .1)) (t11 .enum-told2 .given .1) in
+    let links = r11 .last .1 .1 .1 .1 .0 in
+    let a = c .before .before .before .check-valences in
+    refused M links (c .before .a12 .given .0 .0) (c .before .a12 .given .0 .1 .0) (past ten _ (past eleven _ (stop (a .result) (a .ensures) _ _ (c .before .a12 .given .1) _)))
 
 enum-told-3 : tie.Need-enum-told-3
 enum-told-3 c = search needs
 
 check-rings-requires : tie.Need-check-rings-requires
-check-rings-requires c κs = let t12 = c .before in let t11 = t12 .before .before .before in let t10 = t11 .before .before .before .before .before .before in let s = t10 .before .before .before .before .before .before .before .before .before in let sides = now (s .args .sides) in
-    let M = meshOf (now (s .args .coordinates)) sides (now (s .args .corners)) in (
-      s .pre .0 .few,
-      gathered (M .corners) (now (s .args .nexts)) (now (s .args .earliers)) (now (s .args .heads)) (s .pre .2),
-      followed M (now (s .args .nexts)) (t11 .before .before .before .before .check-reverses .last .1 .1 .1 .1 .0) (s .pre .0) (s .pre .1) (passed (t10 .before .before .check-repeats .result) (t10 .before .before .check-repeats .ensures sides (s .pre .1)) (t10 .enum-told .given .1)) (passed (t11 .before .before .before .before .check-reverses .result) (t11 .before .before .before .before .check-reverses .ensures .answers sides (s .pre .1)) (t11 .enum-told2 .given .1)) (t11 .before .before .before .before .check-reverses .ensures .holds)
-          (t11 .before .before .before .before .check-reverses .kept .1 .1 .1 .1 .0 ∙ s .pre .3) (passed (t12 .before .before .check-valences .result) (t12 .before .before .check-valences .ensures) (t12 .enum-told3 .given .1)),
+check-rings-requires c κs =
+    let t12 = c .before in
+    let t11 = t12 .before .before .before in
+    let t10 = t11 .before .before .before .before .before .before in
+    let s = t10 .before .before .before .before .before .before .before .before .before in
+    let sides = now (s .args .sides) in
+    let M = meshOf (now (s .args .coordinates)) sides (now (s .args .corners)) in
+    let r10 = t10 .before .before .check-repeats in
+    let ten = passed (r10 .result) (r10 .ensures sides (s .pre .0 .1)) (t10 .enum-told .given .1) in
+    let r11 = t11 .before .before .before .before .check-reverses in
+    let eleven = passed (r11 .result) (r11 .ensures .answers sides (s .pre .0 .1)) (t11 .enum-told2 .given .1) in
+    let links = r11 .last .1 .1 .1 .1 .0 in
+    let r12 = t12 .before .before .check-valences in
+    let twelve = passed (r12 .result) (r12 .ensures) (t12 .enum-told3 .given .1) in
+    let nexts = now (s .args .nexts) in (
+      s .pre .0 .0 .few,
+      gathered (M .corners) nexts (now (s .args .earliers)) (now (s .args .heads)) (s .pre .1),
+      followed M nexts links (s .pre .0 .0) (s .pre .0 .1) ten eleven (r11 .ensures .holds) (r11 .kept .1 .1 .1 .1 .0 ∙ s .pre .0 .3) twelve,
     )
 
 same-length-3 : tie.Need-same-length-3
@@ -80,15 +108,24 @@ same-length-3 c = search needs
 
 returns-4 : tie.Need-returns-4
 unfolding linkFaults
-returns-4 c = let t12 = c .before .before in let t11 = t12 .before .before .before in let t10 = t11 .before .before .before .before .before .before in let s = t10 .before .before .before .before .before .before .before .before .before in let sides = now (s .args .sides) in
+returns-4 c =
+    let t12 = c .before .before in
+    let t11 = t12 .before .before .before in
+    let t10 = t11 .before .before .before .before .before .before in
+    let s = t10 .before .before .before .before .before .before .before .before .before in
+    let sides = now (s .args .sides) in
     let M = meshOf (now (s .args .coordinates)) sides (now (s .args .corners)) in
-    let k = closed M (now (s .args .nexts)) (t11 .before .before .before .before .check-reverses .last .1 .1 .1 .1 .0) (s .pre .0) (s .pre .1) (passed (t10 .before .before .check-repeats .result) (t10 .before .before .check-repeats .ensures sides (s .pre .1)) (t10 .enum-told .given .1)) (passed (t11 .before .before .before .before .check-reverses .result) (t11 .before .before .before .before .check-reverses .ensures .answers sides (s .pre .1)) (t11 .enum-told2 .given .1)) (t11 .before .before .before .before .check-reverses .ensures .holds) in
-    let t = table M (now (s .args .nexts)) (t11 .before .before .before .before .check-reverses .last .1 .1 .1 .1 .0) (s .pre .0) (s .pre .1) (passed (t10 .before .before .check-repeats .result) (t10 .before .before .check-repeats .ensures sides (s .pre .1)) (t10 .enum-told .given .1)) (passed (t11 .before .before .before .before .check-reverses .result) (t11 .before .before .before .before .check-reverses .ensures .answers sides (s .pre .1)) (t11 .enum-told2 .given .1)) (t11 .before .before .before .before .check-reverses .ensures .holds) in
-    joined M (t11 .before .before .before .before .check-reverses .last .1 .1 .1 .1 .0) (c .check-rings .result)
-    (past (passed (t10 .before .before .check-repeats .result) (t10 .before .before .check-repeats .ensures sides (s .pre .1)) (t10 .enum-told .given .1)) _
-    (past (passed (t11 .before .before .before .before .check-reverses .result) (t11 .before .before .before .before .check-reverses .ensures .answers sides (s .pre .1)) (t11 .enum-told2 .given .1)) _
-    (past (passed (t12 .before .before .check-valences .result) (t12 .before .before .check-valences .ensures) (t12 .enum-told3 .given .1)) _
-    (c .check-rings .ensures sides k t)))) t
+    let r10 = t10 .before .before .check-repeats in
+    let ten = passed (r10 .result) (r10 .ensures sides (s .pre .0 .1)) (t10 .enum-told .given .1) in
+    let r11 = t11 .before .before .before .before .check-reverses in
+    let eleven = passed (r11 .result) (r11 .ensures .answers sides (s .pre .0 .1)) (t11 .enum-told2 .given .1) in
+    let links = r11 .last .1 .1 .1 .1 .0 in
+    let r12 = t12 .before .before .check-valences in
+    let twelve = passed (r12 .result) (r12 .ensures) (t12 .enum-told3 .given .1) in
+    let nexts = now (s .args .nexts) in
+    let k = closed M nexts links (s .pre .0 .0) (s .pre .0 .1) ten eleven (r11 .ensures .holds) in
+    let t = table M nexts links (s .pre .0 .0) (s .pre .0 .1) ten eleven (r11 .ensures .holds) in
+    joined M links (c .check-rings .result) (past ten _ (past eleven _ (past twelve _ (c .check-rings .ensures sides k t)))) t
 
 pub join-spec : {M : Type 1} → statement M
 join-spec =

@@ -43,7 +43,9 @@ loop-again c = let s = c .before .before .before .before .before .before .before
     )
 
 returns-2 : tie.Need-returns-2 Inv-loop μ-loop
-returns-2 c = let s = c .before .before .before .before .before .before in let l = c .before .loop in fails-all fault10 (now (s .args .corners)) (now (s .args .nexts)) 10 (l .c) (l .inv .1) (c .loop-test .left)
+returns-2 c =
+    let s = c .before .before .before .before .before .before in
+    let l = c .before .loop in fails-all fault10 (now (s .args .corners)) (now (s .args .nexts)) 10 (l .c) (l .inv .1) (c .loop-test .left)
 
 pub check-repeats-spec : {M : Type 1} → statement M
 check-repeats-spec =

@@ -47,7 +47,9 @@ mul-links : tie.Need-mul-links Inv-loop μ-loop
 mul-links c = search needs
 
 shared-slice-read-links : tie.Need-shared-slice-read-links Inv-loop μ-loop
-shared-slice-read-links c = let s = c .before .before .before .before .before .before .before .before .before .before in let l = c .before .before .before .before .loop in
+shared-slice-read-links c =
+    let s = c .before .before .before .before .before .before .before .before .before .before in
+    let l = c .before .before .before .before .loop in
     let xs = now (s .args .corners) in let ns = now (s .args .nexts) in
     let ne : c .before .before .reverse-of .result ≡ 0 → ⊥ = c .before .if1 .left in
     omega (
@@ -71,7 +73,9 @@ loop-less : tie.Need-loop-less Inv-loop μ-loop
 loop-less c = search needs
 
 loop-again : tie.Need-loop-again Inv-loop μ-loop
-loop-again c = let s = c .before .before .before .before .before .before .before .before .before .before in let l = c .before .before .before .before .loop in
+loop-again c =
+    let s = c .before .before .before .before .before .before .before .before .before .before in
+    let l = c .before .before .before .before .loop in
     let h : l .c < length (now (s .args .corners)) = search needs in
     let xs = now (s .args .corners) in let ns = now (s .args .nexts) in
     let r = c .before .before .reverse-of .result in (

@@ -15,10 +15,14 @@ shared-slice-read-e : tie.Need-shared-slice-read-e
 shared-slice-read-e c = search needs
 
 cast-e : tie.Need-cast-e
-cast-e c = let s = c .before .before .before .before .before in omega (arith, next-small (now (s .args .corners)) (now (s .args .nexts)) (now (s .args .earliers)) (now (s .args .heads)) (s .pre .1) (s .args .c) (s .pre .0))
+cast-e c =
+    let s = c .before .before .before .before .before in
+    omega (arith, next-small (now (s .args .corners)) (now (s .args .nexts)) (now (s .args .earliers)) (now (s .args .heads)) (s .pre .1) (s .args .c) (s .pre .0))
 
 mul-w : tie.Need-mul-w
-mul-w c = let s = c .before .before .before .before .before in omega (arith, next-small (now (s .args .corners)) (now (s .args .nexts)) (now (s .args .earliers)) (now (s .args .heads)) (s .pre .1) (s .args .c) (s .pre .0))
+mul-w c =
+    let s = c .before .before .before .before .before in
+    omega (arith, next-small (now (s .args .corners)) (now (s .args .nexts)) (now (s .args .earliers)) (now (s .args .heads)) (s .pre .1) (s .args .c) (s .pre .0))
 
 shared-slice-read-w : tie.Need-shared-slice-read-w
 shared-slice-read-w c = let s = c .before .before .before .before .before .before in s .pre .1 .walk .nexts-in (s .args .c) (s .pre .0)

@@ -34,7 +34,9 @@ returns-2 c = let a = c .before .before .before .check in let s = c .before .bef
     link-14 M (now (s .args .links)) sound (c .if1 .taken)
 
 copy-requires : tie.Need-copy-requires
-copy-requires c κs = let a = c .before .before .before .before .before .check in let s = c .before .before .before .before .before .before .before .before .before .before .before in
+copy-requires c κs =
+    let a = c .before .before .before .before .before .check in
+    let s = c .before .before .before .before .before .before .before .before .before .before .before in
     let M = meshOf (now (s .args .coordinates)) (now (s .args .sides)) (now (s .args .corners)) in
     let sound = passed (a .result) (a .ensures .answers) (c .before .before .before .enum-told .given .1) in
     omega (arith, c .before .before .if1 .left, few-corners (length (M .coordinates)) (length (M .sides)) (length (M .corners)) (sound-of M sound .four))
@@ -43,7 +45,9 @@ same-length : tie.Need-same-length
 same-length c = search needs
 
 returns-3 : tie.Need-returns-3
-returns-3 c = let a = c .before .before .before .before .before .before .before .before .check in let s = c .before .before .before .before .before .before .before .before .before .before .before .before .before .before in
+returns-3 c =
+    let a = c .before .before .before .before .before .before .before .before .check in
+    let s = c .before .before .before .before .before .before .before .before .before .before .before .before .before .before in
     let M = meshOf (now (s .args .coordinates)) (now (s .args .sides)) (now (s .args .corners)) in
     let sound = passed (a .result) (a .ensures .answers) (c .before .before .before .before .before .before .enum-told .given .1) in
     link-done M (now (s .args .links)) sound (a .last .1 .1 .1 .1 .0) (c .before .before .copy .last .1 .0) (c .before .before .before .before .before .if1 .left) (c .before .before .copy .kept .1 .0)

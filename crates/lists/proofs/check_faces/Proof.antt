@@ -17,7 +17,8 @@ use Rattle.lists.proofs.check_faces.Statement.{statement}
 use Rattle.lists.proofs.check_faces.Tie as tie
 
 abbrev Inv-loop2 : tie.InvT-loop2
-Inv-loop2 sides corners start f count end c₀ c = (f < length sides) × (start ≡ startOf sides f) × (end ≡ start + getD sides f 0) × (start ≤ c) × (c ≤ end) × ((j : ℕ) → j < c → fault9 sides corners j ≡ false)
+Inv-loop2 sides corners start f count end c₀ c =
+    (f < length sides) × (start ≡ startOf sides f) × (end ≡ start + getD sides f 0) × (start ≤ c) × (c ≤ end) × ((j : ℕ) → j < c → fault9 sides corners j ≡ false)
 
 abbrev μ-loop2 : tie.MeasureT-loop2
 μ-loop2 sides corners start f count end c₀ c = end - c
@@ -38,25 +39,36 @@ cast-count : tie.Need-cast-count Inv-loop2 μ-loop2 Inv-loop μ-loop
 cast-count c = omega (arith, c .shared-slice-known3 .given (c .before .before .loop .f))
 
 add-end : tie.Need-add-end Inv-loop2 μ-loop2 Inv-loop μ-loop
-add-end c = let s = c .before .before .before .before .before in omega (arith, s .pre .0, s .pre .1, start-ends (now (s .args .sides)) (c .before .before .loop .f) (search needs))
+add-end c =
+    let s = c .before .before .before .before .before in
+    omega (arith, s .pre .0, s .pre .1, start-ends (now (s .args .sides)) (c .before .before .loop .f) (search needs))
 
 loop2-holds : tie.Need-loop2-holds Inv-loop2 μ-loop2 Inv-loop μ-loop
 loop2-holds c = (search needs, c .before .before .loop .inv .1, refl, omega arith, omega arith, c .before .before .loop .inv .2)
 
 seen-requires : tie.Need-seen-requires Inv-loop2 μ-loop2 Inv-loop μ-loop
-seen-requires c κs = let s = c .before .before .before .before .before .before .before in let o = c .before .before .before .before .loop in let l = c .before .loop2 in
+seen-requires c κs =
+    let s = c .before .before .before .before .before .before .before in
+    let o = c .before .before .before .before .loop in
+    let l = c .before .loop2 in
     let e = start-ends (now (s .args .sides)) (o .f) (l .inv .0) in
     (omega (arith, e, s .pre .0, l .inv .1), l .inv .3)
 
 returns : tie.Need-returns Inv-loop2 μ-loop2 Inv-loop μ-loop
-returns c = let s = c .before .before .before .before .before .before .before .before .before in let o = c .before .before .before .before .before .before .loop in let l = c .before .before .before .loop2 in
+returns c =
+    let s = c .before .before .before .before .before .before .before .before .before in
+    let o = c .before .before .before .before .before .before .loop in
+    let l = c .before .before .before .loop2 in
     let e = start-ends (now (s .args .sides)) (o .f) (l .inv .0) in
     sym (lowest-hit 9 (length (now (s .args .corners))) (fault9 (now (s .args .sides)) (now (s .args .corners))) (l .c) (omega (arith, e, s .pre .0, l .inv .1))
     (doubled (now (s .args .sides)) (now (s .args .corners)) (o .f) (l .c) (o .start) (c .before .seen .result) _ (l .inv .0) (l .inv .1) (l .inv .3) (search needs) (c .before .seen .ensures) (c .if1 .taken))
     (l .inv .5))
 
 add-c : tie.Need-add-c Inv-loop2 μ-loop2 Inv-loop μ-loop
-add-c c = let s = c .before .before .before .before .before .before .before .before .before in let o = c .before .before .before .before .before .before .loop in let l = c .before .before .before .loop2 in
+add-c c =
+    let s = c .before .before .before .before .before .before .before .before .before in
+    let o = c .before .before .before .before .before .before .loop in
+    let l = c .before .before .before .loop2 in
     let e = start-ends (now (s .args .sides)) (o .f) (l .inv .0) in
     omega (arith, e, s .pre .0, s .pre .1, l .inv .1)
 
@@ -64,7 +76,10 @@ loop2-less : tie.Need-loop2-less Inv-loop2 μ-loop2 Inv-loop μ-loop
 loop2-less c = search needs
 
 loop2-again : tie.Need-loop2-again Inv-loop2 μ-loop2 Inv-loop μ-loop
-loop2-again c = let s = c .before .before .before .before .before .before .before .before .before in let o = c .before .before .before .before .before .before .loop in let l = c .before .before .before .loop2 in
+loop2-again c =
+    let s = c .before .before .before .before .before .before .before .before .before in
+    let o = c .before .before .before .before .before .before .loop in
+    let l = c .before .before .before .loop2 in
     let e = start-ends (now (s .args .sides)) (o .f) (l .inv .0) in (
       l .inv .0,
       l .inv .1,
@@ -82,7 +97,10 @@ loop-less : tie.Need-loop-less Inv-loop2 μ-loop2 Inv-loop μ-loop
 loop-less c = search needs
 
 loop-again : tie.Need-loop-again Inv-loop2 μ-loop2 Inv-loop μ-loop
-loop-again c = let s = c .before .before .before .before .before .before .before in let o = c .before .before .before .before .loop in let l = c .before .loop2 in
+loop-again c =
+    let s = c .before .before .before .before .before .before .before in
+    let o = c .before .before .before .before .loop in
+    let l = c .before .loop2 in
     (search needs, omega (arith, l .inv .1, start-next (now (s .args .sides)) (o .f) (l .inv .0)), λ j h. l .inv .5 j (omega (arith, c .loop2-test .left)))
 
 returns-2 : tie.Need-returns-2 Inv-loop2 μ-loop2 Inv-loop μ-loop

@@ -51,7 +51,9 @@ loop-again c = let s = c .before .before .before .before in let l = c .before .b
     (search needs, fails-step (fault8 (s .args .vertices) xs) (l .c) (l .inv .1) (lt-leb (s .args .vertices) (getD xs (l .c) 0) (c .if1 .left)))
 
 returns-2 : tie.Need-returns-2 Inv-loop μ-loop
-returns-2 c = let l = c .before .loop in sym (lowest-none 8 _ (fault8 (c .before .before .args .vertices) (now (c .before .before .args .corners))) (λ j h. l .inv .1 j (omega arith)))
+returns-2 c =
+    let l = c .before .loop in
+    sym (lowest-none 8 _ (fault8 (c .before .before .args .vertices) (now (c .before .before .args .corners))) (λ j h. l .inv .1 j (omega arith)))
 
 pub check-names-spec : {M : Type 1} → statement M
 check-names-spec =

@@ -35,7 +35,8 @@ shared-slice-read-w c = search needs
 
 returns : tie.Need-returns Inv-loop μ-loop
 returns c = let s = c .before .before .before .before .before in let l = c .before .before .before .loop in
-    sym (some-true (s .args .c) (sameVertexFrom (s .args .first) (now (s .args .corners)) (s .args .c)) (l .d) (search needs) (same-vertex (s .args .first) (now (s .args .corners)) (s .args .c) (l .d) (l .inv .0) (c .if1 .taken)))
+    sym (some-true (s .args .c) (sameVertexFrom (s .args .first) (now (s .args .corners)) (s .args .c)) (l .d) (search needs)
+    (same-vertex (s .args .first) (now (s .args .corners)) (s .args .c) (l .d) (l .inv .0) (c .if1 .taken)))
 
 add-d : tie.Need-add-d Inv-loop μ-loop
 add-d c = search needs
@@ -44,8 +45,12 @@ loop-less : tie.Need-loop-less Inv-loop μ-loop
 loop-less c = search needs
 
 loop-again : tie.Need-loop-again Inv-loop μ-loop
-loop-again c = let s = c .before .before .before .before .before in let l = c .before .before .before .loop in
-    (search needs, search needs, fails-step (sameVertexFrom (s .args .first) (now (s .args .corners)) (s .args .c)) (l .d) (l .inv .2) (other-vertex (s .args .first) (now (s .args .corners)) (s .args .c) (l .d) (l .inv .0) (c .if1 .left)))
+loop-again c = let s = c .before .before .before .before .before in let l = c .before .before .before .loop in (
+  search needs,
+  search needs,
+  fails-step (sameVertexFrom (s .args .first) (now (s .args .corners)) (s .args .c)) (l .d) (l .inv .2)
+      (other-vertex (s .args .first) (now (s .args .corners)) (s .args .c) (l .d) (l .inv .0) (c .if1 .left)),
+)
 
 returns-2 : tie.Need-returns-2 Inv-loop μ-loop
 returns-2 c = let s = c .before .before .before in let l = c .before .loop in

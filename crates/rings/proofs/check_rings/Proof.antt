@@ -27,7 +27,10 @@ ring-requires c κs = let s = c .before .before .before .before .before .before 
     (omega (arith, i, c .gather .ensures .lowest-is i), s .pre .2 .links-in, s .pre .2 .links-length)
 
 returns : tie.Need-returns Inv-loop μ-loop
-returns c = let s = c .before .before .before .before .before .before .before .before .before .before in let l = c .before .before .before .before .before .loop in let g = c .before .before .before .gather in
+returns c =
+    let s = c .before .before .before .before .before .before .before .before .before .before in
+    let l = c .before .before .before .before .before .loop in
+    let g = c .before .before .before .gather in
     let h : l .u < s .args .vertices = search needs in
     whole-torn (now (s .args .corners)) (now (s .args .links)) (l .u) (s .args .vertices) (l .inv .1) (s .pre .2) h (g .result .count) (g .result .lowest)
     (c .before .before .ring .result) (g .ensures) (c .before .before .ring .ensures) (c .if1 .taken)
@@ -39,7 +42,10 @@ loop-less : tie.Need-loop-less Inv-loop μ-loop
 loop-less c = search needs
 
 loop-again : tie.Need-loop-again Inv-loop μ-loop
-loop-again c = let s = c .before .before .before .before .before .before .before .before .before .before in let l = c .before .before .before .before .before .loop in let g = c .before .before .before .gather in
+loop-again c =
+    let s = c .before .before .before .before .before .before .before .before .before .before in
+    let l = c .before .before .before .before .before .loop in
+    let g = c .before .before .before .gather in
     let h : l .u < s .args .vertices = search needs in (
       search needs,
       whole-more (now (s .args .corners)) (now (s .args .links)) (l .u) (s .args .vertices) (l .inv .1) (s .pre .2) h (g .result .count) (g .result .lowest)

@@ -31,7 +31,10 @@ gather-requires c κs = search needs
 
 returns : tie.Need-returns Inv-loop μ-loop
 unfolding fault12
-returns c = let s = c .before .before .before .before .before .before .before .before in let l = c .before .before .before .before .loop in let g = c .before .before .gather in
+returns c =
+    let s = c .before .before .before .before .before .before .before .before in
+    let l = c .before .before .before .before .loop in
+    let g = c .before .before .gather in
     let v = valence (now (s .args .corners)) (l .u) in
     sym (lowest-hit 12 (s .args .vertices) (fault12 (now (s .args .corners))) (l .u) (search needs)
     (⊎-elim
@@ -48,7 +51,10 @@ loop-less c = search needs
 
 loop-again : tie.Need-loop-again Inv-loop μ-loop
 unfolding fault12
-loop-again c = let s = c .before .before .before .before .before .before .before .before .before .before in let l = c .before .before .before .before .before .before .loop in let g = c .before .before .before .before .gather in
+loop-again c =
+    let s = c .before .before .before .before .before .before .before .before .before .before in
+    let l = c .before .before .before .before .before .before .loop in
+    let g = c .before .before .before .before .gather in
     let v = valence (now (s .args .corners)) (l .u) in (
       search needs,
       fails-step (fault12 (now (s .args .corners))) (l .u) (l .inv .1)

@@ -13,7 +13,8 @@ use Rattle.rings.proofs.gather.Statement.{statement}
 use Rattle.rings.proofs.gather.Tie as tie
 
 abbrev Inv-loop : tie.InvT-loop
-Inv-loop corners earliers heads u count₀ lowest₀ at₀ count low at = On corners u at × (count + countBelow at (names corners u) ≡ valence corners u) × (at ≡ 0 → lowest corners u < length corners → low ≡ lowest corners u)
+Inv-loop corners earliers heads u count₀ lowest₀ at₀ count low at =
+    On corners u at × (count + countBelow at (names corners u) ≡ valence corners u) × (at ≡ 0 → lowest corners u < length corners → low ≡ lowest corners u)
 
 abbrev μ-loop : tie.MeasureT-loop
 μ-loop corners earliers heads u count₀ lowest₀ at₀ count lowest at = at
@@ -25,8 +26,11 @@ shared-slice-read-at : tie.Need-shared-slice-read-at Inv-loop μ-loop
 shared-slice-read-at c = search needs
 
 loop-holds : tie.Need-loop-holds Inv-loop μ-loop
-loop-holds c = let s = c .before in
-    (on-head (now (s .args .corners)) (now (s .args .earliers)) (now (s .args .heads)) (s .pre .1) (s .args .u) (s .pre .0), counted-head (now (s .args .corners)) (now (s .args .earliers)) (now (s .args .heads)) (s .pre .1) (s .args .u) (s .pre .0), lowest-head (now (s .args .corners)) (now (s .args .earliers)) (now (s .args .heads)) (s .pre .1) (s .args .u) (s .pre .0))
+loop-holds c = let s = c .before in (
+  on-head (now (s .args .corners)) (now (s .args .earliers)) (now (s .args .heads)) (s .pre .1) (s .args .u) (s .pre .0),
+  counted-head (now (s .args .corners)) (now (s .args .earliers)) (now (s .args .heads)) (s .pre .1) (s .args .u) (s .pre .0),
+  lowest-head (now (s .args .corners)) (now (s .args .earliers)) (now (s .args .heads)) (s .pre .1) (s .args .u) (s .pre .0),
+)
 
 sub-lowest : tie.Need-sub-lowest Inv-loop μ-loop
 sub-lowest c = search needs

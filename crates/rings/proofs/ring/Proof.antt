@@ -31,7 +31,8 @@ loop-less c = search needs
 
 loop-again : tie.Need-loop-again Inv-loop μ-loop
 loop-again c = let s = c .before .before .before .before .before in let l = c .before .before .before .loop in
-    around-next (now (s .args .links)) (s .args .count) (s .args .start) (s .args .bound) (l .left) (l .len) (l .w .corner) (l .inv) (search needs) (c .before .linked .result .corner) (c .before .linked .ensures) (s .pre .1 (l .w .corner) (l .inv .within)) (c .if2 .left)
+    around-next (now (s .args .links)) (s .args .count) (s .args .start) (s .args .bound) (l .left) (l .len) (l .w .corner) (l .inv)
+    (search needs) (c .before .linked .result .corner) (c .before .linked .ensures) (s .pre .1 (l .w .corner) (l .inv .within)) (c .if2 .left)
 
 returns : tie.Need-returns Inv-loop μ-loop
 returns c = let s = c .before .before .before in let l = c .before .loop in
@@ -39,7 +40,8 @@ returns c = let s = c .before .before .before in let l = c .before .loop in
 
 returns-2 : tie.Need-returns-2 Inv-loop μ-loop
 returns-2 c = let s = c .before .before .before .before .before in let l = c .before .before .before .loop in
-    ring-back (now (s .args .links)) (s .args .count) (s .args .start) (s .args .bound) (l .left) (l .len) (l .w .corner) (l .inv) (search needs) (c .before .linked .result .corner) (c .before .linked .ensures) (c .if2 .taken)
+    ring-back (now (s .args .links)) (s .args .count) (s .args .start) (s .args .bound) (l .left) (l .len) (l .w .corner) (l .inv)
+    (search needs) (c .before .linked .result .corner) (c .before .linked .ensures) (c .if2 .taken)
 
 pub ring-spec : {M : Type 1} → statement M
 ring-spec =

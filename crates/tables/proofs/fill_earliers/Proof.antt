@@ -1,3 +1,5 @@
+-- `fill_earliers` meets its contract: the heads hold the highest corner below `c` of each vertex, which is the earlier corner of `c`.
+-- Assumes nothing.
 use mathlib.Core.Path.{_≡_, ap, _∙_, sym, subst}
 use Prim.Native.Nat.{ℕ, _+_, _≤_, _<_, _-_}
 use lib.ListN.{length, getD, length-set, length-replicate}
@@ -12,13 +14,20 @@ use Rattle.tables.proofs.fill_earliers.Tie as tie
 use Rattle.mesh.specs.Limits.{mostCorners, mostVertices}
 
 abbrev Inv-loop : tie.InvT-loop
-Inv-loop corners earliers₀ heads₀ c₀ earliers heads c = (c ≤ length corners) × (length earliers ≡ mostCorners) × (length heads ≡ mostVertices) × EarliersTo corners earliers c × HeadsTo corners heads c
+Inv-loop corners earliers₀ heads₀ c₀ earliers heads c =
+    (c ≤ length corners) × (length earliers ≡ mostCorners) × (length heads ≡ mostVertices) × EarliersTo corners earliers c × HeadsTo corners heads c
 
 abbrev μ-loop : tie.MeasureT-loop
 μ-loop corners earliers₀ heads₀ c₀ earliers heads c = length corners - c
 
 loop-holds : tie.Need-loop-holds Inv-loop μ-loop
-loop-holds c = (search needs, search needs, ap length (c .pre .3) ∙ length-replicate {A = ℕ} mostVertices 0, earliers-none _ _, subst (λ (l : List ℕ). HeadsTo (now (c .args .corners)) l 0) (sym (c .pre .3)) (heads-none (now (c .args .corners))))
+loop-holds c = (
+  search needs,
+  search needs,
+  ap length (c .pre .3) ∙ length-replicate {A = ℕ} mostVertices 0,
+  earliers-none _ _,
+  subst (λ (l : List ℕ). HeadsTo (now (c .args .corners)) l 0) (sym (c .pre .3)) (heads-none (now (c .args .corners))),
+)
 
 mul-u : tie.Need-mul-u Inv-loop μ-loop
 mul-u c = search needs

@@ -1,3 +1,5 @@
+-- `fill_face` meets its contract: the corners of the face below `c` point to the one after them, and what lies before the face is kept.
+-- Assumes nothing.
 use mathlib.Core.Path.{_≡_, _∙_, sym}
 use Prim.Native.Nat.{_+_, _≤_, _<_, _-_}
 use lib.ListN.{length, length-set}

@@ -1,3 +1,5 @@
+-- `find` meets its contract: what the chain passed over has other edges, so the highest corner with the edge lies on the rest of it.
+-- Assumes nothing.
 use mathlib.Core.Path.{_≡_}
 use Prim.Native.Nat.{_≤_, _-_}
 use lib.ListN.{length}
