@@ -93,6 +93,16 @@ pub fn read_lists(file: &[u8], coordinates: &mut [i32], sides: &mut [u8], corner
     ensures { λ _. ⌜ ListsRead (now (file .entry)) (now (coordinates .entry)) (now (sides .entry)) (now (corners .entry)) (now (coordinates .exit)) (now (sides .exit)) (now (corners .exit)) ⌝ }
 {
     read_coordinates(file, 3 * format::vertex_count(file), coordinates);
-    read_sides(file, format::sides_start(file), format::face_count(file), sides);
-    read_corners(file, format::corners_start(file), format::corner_count(file), corners);
+    read_sides(
+        file,
+        format::sides_start(file),
+        format::face_count(file),
+        sides,
+    );
+    read_corners(
+        file,
+        format::corners_start(file),
+        format::corner_count(file),
+        corners,
+    );
 }
