@@ -91,13 +91,6 @@ module _ (corners nexts earliers heads : List ℕ) (k : Searchable corners nexts
   unfolding EarliersTo
   earlier-is = k .walk .earliers-are c h
 
-  pub next-named : getD corners (getD nexts c 0) 0 < mostVertices
-  next-named = k .named (getD nexts c 0) (k .walk .nexts-in c h)
-
-  pub head-is : getD heads (getD corners (getD nexts c 0) 0) 0 ≡ lastBelow (length corners) (names corners (getD corners (getD nexts c 0) 0))
-  unfolding HeadsTo
-  head-is = k .heads-are (getD corners (getD nexts c 0) 0) next-named
-
   pub next-small : getD nexts c 0 < mostCorners
   next-small = omega (arith, k .walk .nexts-in c h, k .walk .small)
 
@@ -107,14 +100,16 @@ module _ (corners nexts earliers heads : List ℕ) (k : Searchable corners nexts
   pub repeat-is : (r w : ℕ) → ((u : ℕ) → Chain corners u (getD earliers c 0) → r ≡ lastBelow (getD earliers c 0) (edge corners nexts u w)) → r ≡ lastBelow c (edge corners nexts (getD corners c 0) w)
   repeat-is r w f = f (getD corners c 0) (chain-start corners nexts _ c _ earlier-is) ∙ chain-all corners nexts (getD corners c 0) c (getD earliers c 0) earlier-is w
 
-  pub reverse-le : getD heads (getD corners (getD nexts c 0) 0) 0 ≤ length corners
-  reverse-le = chain-le corners nexts (getD corners (getD nexts c 0) 0) (length corners) (getD heads (getD corners (getD nexts c 0) 0) 0) head-is
+module _ (corners nexts earliers heads : List ℕ) (k : Searchable corners nexts earliers heads) (u : ℕ) (h : u < mostVertices) where
+  head-is : getD heads u 0 ≡ lastBelow (length corners) (names corners u)
+  unfolding HeadsTo
+  head-is = k .heads-are u h
 
-  pub reverse-is : (r w : ℕ) → ((u : ℕ) → Chain corners u (getD heads (getD corners (getD nexts c 0) 0) 0) → r ≡ lastBelow (getD heads (getD corners (getD nexts c 0) 0) 0) (edge corners nexts u w))
-      → r ≡ lastBelow (length corners) (edge corners nexts (getD corners (getD nexts c 0) 0) w)
-  reverse-is r w f =
-      f (getD corners (getD nexts c 0) 0) (chain-start corners nexts _ (length corners) _ head-is)
-      ∙ chain-all corners nexts (getD corners (getD nexts c 0) 0) (length corners) (getD heads (getD corners (getD nexts c 0) 0) 0) head-is w
+  pub leaving-le : getD heads u 0 ≤ length corners
+  leaving-le = chain-le corners nexts u (length corners) (getD heads u 0) head-is
+
+  pub leaving-is : (r w : ℕ) → ((v : ℕ) → Chain corners v (getD heads u 0) → r ≡ lastBelow (getD heads u 0) (edge corners nexts v w)) → r ≡ lastBelow (length corners) (edge corners nexts u w)
+  leaving-is r w f = f u (chain-start corners nexts u (length corners) _ head-is) ∙ chain-all corners nexts u (length corners) (getD heads u 0) head-is w
 
 -- the scans: no corner below c is at fault, for all side counts that the table of next corners belongs to
 pub Fails : (List ℕ → List ℕ → ℕ → Bool) → List ℕ → List ℕ → ℕ → Type 0

@@ -4,7 +4,7 @@ ghost use mathlib.Core.Path.{_≡_};
 ghost use mathlib.Core.List.{List};
 ghost use Prim.Native.Nat.{ℕ, _<_};
 ghost use lib.ListN.{length, getD};
-ghost use Rattle.mesh.specs.Limits.{mostCorners};
+ghost use Rattle.mesh.specs.Limits.{mostCorners, mostVertices};
 ghost use Rattle.mesh.specs.Tables.{NextsTo};
 ghost use Rattle.mesh.specs.Faults.{lowestOf, fault10};
 ghost use Rattle.mesh.specs.Answers.{stated};
@@ -68,8 +68,16 @@ fn reverse_of(corners: &[u16], nexts: &[u16], earliers: &[u16], heads: &[u16], c
     ensures { λ r. ⌜ r ≡ lastBelow (length (now (corners .entry))) (edge (now (corners .entry)) (now (nexts .entry)) (getD (now (corners .entry)) (getD (now (nexts .entry)) c 0) 0) (getD (now (corners .entry)) c 0)) ⌝ }
 {
     let e = nexts[c] as usize;
-    let w = corners[e] as usize;
+    let w = corners[e];
     let u = corners[c];
-    let from = heads[w];
-    tables::find(corners, nexts, earliers, from, u)
+    leaving(corners, nexts, earliers, heads, w, u)
+}
+
+// A corner that an edge from vertex u to vertex w leaves: one more than it, or 0.
+fn leaving(corners: &[u16], nexts: &[u16], earliers: &[u16], heads: &[u16], u: u16, w: u16) -> u16
+    requires { ⌜ (u < mostVertices) × Searchable (now corners) (now nexts) (now earliers) (now heads) ⌝ }
+    ensures { λ r. ⌜ r ≡ lastBelow (length (now (corners .entry))) (edge (now (corners .entry)) (now (nexts .entry)) u w) ⌝ }
+{
+    let from = heads[u as usize];
+    tables::find(corners, nexts, earliers, from, w)
 }

@@ -1,21 +1,22 @@
 -- Two descriptions of a mesh that agree at each corner give the same nets, and the laws of one hold of the other:
 -- the construction looks at no other number than a corner.
 -- Assumes nothing.
-use mathlib.Core.Path.{_≡_, refl, sym, ap, _∙_, subst}
-use Prim.Native.Nat.{ℕ, zero, suc, _+_, _-_, _*_, _%_, _^_, _<_, _≤_}
+use mathlib.Core.Path.{_≡_, refl, sym, ap, _∙_}
+use Prim.Native.Nat.{ℕ, zero, suc, _+_, _-_, _<_}
 use native.Mathlib.Omega.{arith}
-use lib.IntN.{ℤ, pos, _*ℤ_}
+use lib.IntN.{ℤ, pos}
 use Rattle.integers.proofs.Sum.{sum-same}
 use Rattle.rounding.specs.Round.{round}
 use Rattle.cosines.specs.Table.{cosine}
 use Rattle.mesh.specs.Scan.{iterate}
 use Rattle.surface.specs.Corners.{Corners, Sound, Agree}
 use Rattle.surface.specs.Face.{centre, toward}
-use Rattle.surface.specs.Net.{End, vertex, leaving, face, arriving, Side, side0, side1, side2, side3, head, tail, neighbour, pick, quad, size, ring, points, headPlace, tailPlace, H, T, X, Y, N, C, outer1, outer2, outer3, a0, a1, a2, a3, middle, bHead, bTail, aHead, aTail, b22, bGrid, aGrid, net}
+use Rattle.surface.specs.Net.{End, vertex, leaving, face, arriving, Side, side0, side1, side2, side3, head, tail, neighbour, quad, size, ring, points, headPlace, H, T, X, Y, N, C, outer1, outer2, outer3, a0, a1, a2, a3, middle, bHead, bTail, aHead, aTail, b22, bGrid, aGrid, net}
 use Rattle.surface.proofs.Rings.{iterate-in, neighbour-in, ring-in}
 use Rattle.surface.proofs.Faces.{toward-same}
 
-iterate-same : (f g : ℕ → ℕ) (n : ℕ) → ((c : ℕ) → c < n → f c < n) → ((c : ℕ) → c < n → f c ≡ g c) → (j c : ℕ) → c < n → iterate j f c ≡ iterate j g c
+iterate-same : (f g : ℕ → ℕ) (n : ℕ) → ((c : ℕ) → c < n → f c < n) → ((c : ℕ) → c < n → f c ≡ g c)
+    → (j c : ℕ) → c < n → iterate j f c ≡ iterate j g c
 unfolding iterate
 iterate-same f g n h e zero c l = refl
 iterate-same f g n h e (suc j) c l = e (iterate j f c) (iterate-in f n h j c l) ∙ ap g (iterate-same f g n h e j c l)

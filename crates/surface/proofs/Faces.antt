@@ -1,8 +1,8 @@
 -- One refined face: where its ring starts does not matter, and how far three neighbouring face points are from the rule of the cosine table.
 -- Of rounding it is used that it is off by at most half; of the table its fourth rule, that C(m,1) is not below -1/2, and that row 4 is exact.
 -- Assumes nothing.
-use mathlib.Core.Path.{_≡_, refl, sym, ap, _∙_}
-use mathlib.Core.Logic.{_⊎_, ⊎-elim}
+use mathlib.Core.Path.{_≡_, sym, ap, _∙_}
+use mathlib.Core.Logic.{⊎-elim}
 use Prim.Native.Nat.{ℕ, zero, suc, _+_, _-_, _*_, _^_, _<_, _≤_}
 use native.Mathlib.Omega.{arith}
 use lib.IntN.{ℤ, pos, _+ℤ_, _-ℤ_, _*ℤ_, negℤ, natAbs}
@@ -140,10 +140,8 @@ module _ (p : ℕ → ℤ) (m : ℕ) (some : leastSides ≤ m) (cyc : Cyclic p m
       -ℤ pos (6 * 2 ^ 30) *ℤ (pos (2 ^ 30) -ℤ cosine m 1) *ℤ p (i + k)
       -ℤ pos 2 *ℤ cosine m 1 *ℤ (p (i + k) *ℤ weight m k)
   unfolding leftOver weight
-  one k =
-      terms (p (i + k)) (cosine m (k + 1)) (cosine m k) (cosine m (k + (m - 1))) (cosine m (k + (m - 1) + (m - 1))) (cosine m 1)
-      (cosine m (k + (m - 1) + 1)) (cosine m (k + 1 + (m - 1)))
-      (ap (cosine m) (turn1 k) ∙ period m k) (ap (cosine m) (turn2 k) ∙ period m k)
+  one k = rw (ap (cosine m) (turn1 k) ∙ period m k, ap (cosine m) (turn2 k) ∙ period m k)
+      (terms (p (i + k)) (cosine m (k + 1)) (cosine m k) (cosine m (k + (m - 1))) (cosine m (k + (m - 1) + (m - 1))) (cosine m 1))
     where
       turn1 : (k : ℕ) → k + (m - 1) + 1 ≡ k + m
       turn1 k = omega arith
@@ -151,19 +149,12 @@ module _ (p : ℕ → ℤ) (m : ℕ) (some : leastSides ≤ m) (cyc : Cyclic p m
       turn2 : (k : ℕ) → k + 1 + (m - 1) ≡ k + m
       turn2 k = omega arith
 
-      terms : (v a b c d e b1 b2 : ℤ) → b1 ≡ b → b2 ≡ b
-          → Left v (pos (2 ^ 30) *ℤ (a +ℤ c) -ℤ pos 2 *ℤ e *ℤ b) (pos (2 ^ 30) *ℤ (b1 +ℤ d) -ℤ pos 2 *ℤ e *ℤ c)
-          ≡ pos (2 ^ 30) *ℤ (v *ℤ (pos (3 * 2 ^ 30) +ℤ pos 2 *ℤ c +ℤ pos 2 *ℤ d) +ℤ v *ℤ (pos (3 * 2 ^ 30) +ℤ pos 2 *ℤ a +ℤ pos 2 *ℤ b2))
+      terms : (v a b c d e : ℤ)
+          → Left v (pos (2 ^ 30) *ℤ (a +ℤ c) -ℤ pos 2 *ℤ e *ℤ b) (pos (2 ^ 30) *ℤ (b +ℤ d) -ℤ pos 2 *ℤ e *ℤ c)
+          ≡ pos (2 ^ 30) *ℤ (v *ℤ (pos (3 * 2 ^ 30) +ℤ pos 2 *ℤ c +ℤ pos 2 *ℤ d) +ℤ v *ℤ (pos (3 * 2 ^ 30) +ℤ pos 2 *ℤ a +ℤ pos 2 *ℤ b))
           -ℤ pos (6 * 2 ^ 30) *ℤ (pos (2 ^ 30) -ℤ e) *ℤ v
           -ℤ pos 2 *ℤ e *ℤ (v *ℤ (pos (3 * 2 ^ 30) +ℤ pos 2 *ℤ b +ℤ pos 2 *ℤ c))
-      terms v a b c d e b1 b2 h1 h2 = rw (h1, h2) (plain v a b c d e)
-        where
-          plain : (v a b c d e : ℤ)
-              → Left v (pos (2 ^ 30) *ℤ (a +ℤ c) -ℤ pos 2 *ℤ e *ℤ b) (pos (2 ^ 30) *ℤ (b +ℤ d) -ℤ pos 2 *ℤ e *ℤ c)
-              ≡ pos (2 ^ 30) *ℤ (v *ℤ (pos (3 * 2 ^ 30) +ℤ pos 2 *ℤ c +ℤ pos 2 *ℤ d) +ℤ v *ℤ (pos (3 * 2 ^ 30) +ℤ pos 2 *ℤ a +ℤ pos 2 *ℤ b))
-              -ℤ pos (6 * 2 ^ 30) *ℤ (pos (2 ^ 30) -ℤ e) *ℤ v
-              -ℤ pos 2 *ℤ e *ℤ (v *ℤ (pos (3 * 2 ^ 30) +ℤ pos 2 *ℤ b +ℤ pos 2 *ℤ c))
-          plain = over 6 _ λ ρ. simp (poly, ρ) (omega arith)
+      terms = over 6 _ λ ρ. simp (poly, ρ) (omega arith)
 
   -- what the three sums and the sum of the points leave over
   combined : sum leftOver m
@@ -172,7 +163,8 @@ module _ (p : ℕ → ℤ) (m : ℕ) (some : leastSides ≤ m) (cyc : Cyclic p m
       -ℤ pos 2 *ℤ cosine m 1 *ℤ gather p m i
   unfolding gather
   combined = rw (after, before, ← total)
-      (combine (λ k. p (i + k) *ℤ weight m (k + (m - 1))) (λ k. p (i + k) *ℤ weight m (k + 1)) (λ k. p (i + k)) (λ k. p (i + k) *ℤ weight m k) leftOver
+      (combine (λ k. p (i + k) *ℤ weight m (k + (m - 1))) (λ k. p (i + k) *ℤ weight m (k + 1)) (λ k. p (i + k)) (λ k. p (i + k) *ℤ weight m k)
+      leftOver
       (pos (2 ^ 30)) (pos (6 * 2 ^ 30) *ℤ (pos (2 ^ 30) -ℤ cosine m 1)) (pos 2 *ℤ cosine m 1) m one)
 
   left-over-size : (R : ℕ) → ((k : ℕ) → natAbs (rest m k) ≤ R) → ((j : ℕ) → natAbs (p j) ≤ 2 ^ 24) → natAbs (sum leftOver m) ≤ m * (2 ^ 24 * (4 * R))
@@ -248,7 +240,8 @@ module _ (M C F G U P L H X X* X^ B : ℤ) (some : pos 0 <ℤ M) (top : natAbs C
 abbrev pub HeadRule : ℤ → ℤ → ℤ → ℤ → ℤ → Type 0
 HeadRule C H X X* X^ = Within (Defect C H X X* X^) (pos (3 * 2 ^ 30) +ℤ pos (2 ^ 26))
 
-module _ (p : ℕ → ℤ) (m : ℕ) (some : leastSides ≤ m) (most : m ≤ mostSides) (cyc : Cyclic p m) (small : (j : ℕ) → natAbs (p j) ≤ 2 ^ 24) (i : ℕ) where
+module _ (p : ℕ → ℤ) (m : ℕ) (some : leastSides ≤ m) (most : m ≤ mostSides) (cyc : Cyclic p m)
+    (small : (j : ℕ) → natAbs (p j) ≤ 2 ^ 24) (i : ℕ) where
   pub head-defect : HeadRule (cosine m 1) (centre p m) (toward p m i) (toward p m (i + 1)) (toward p m (i + (m - 1)))
   unfolding gather
   head-defect =
@@ -258,7 +251,8 @@ module _ (p : ℕ → ℤ) (m : ℕ) (some : leastSides ≤ m) (most : m ≤ mos
       (positive m here) (cosine-size m some most 1)
       (toward-near p m i here) (toward-near p m (i + 1) here) (toward-near p m (i + (m - 1)) here) (centre-near p m here)
       (combined p m some cyc i)
-      (abs-within (sum (leftOver p m some cyc i) m) m (2 ^ 24 * (4 * (3 * 2 ^ 30))) (left-over-size p m some cyc i (3 * 2 ^ 30) (rules m some most .recurs) small))
+      (abs-within (sum (leftOver p m some cyc i) m) m (2 ^ 24 * (4 * (3 * 2 ^ 30)))
+      (left-over-size p m some cyc i (3 * 2 ^ 30) (rules m some most .recurs) small))
       (bottom m some most) (nonneg m)
 
 -- the tail's rule: the row of four sides is exact

@@ -1,26 +1,24 @@
 -- The refined point of a corner is a rounded mean of vertices, so it stays within their size: 2^24 ticks.
 -- The corners of an accepted mesh then have all laws of `Sound`: the absence of faults gives them (mesh: `manifold`).
 -- Assumes nothing.
-use mathlib.Core.Path.{_≡_, refl, sym, subst}
+use mathlib.Core.Path.{_≡_, refl}
 use mathlib.Core.Bool.{Bool, true, false, _||_, true≢false}
 use mathlib.Core.Logic.{⊎-elim}
-use mathlib.Core.List.{List}
 use Prim.Native.Nat.{ℕ, _+_, _-_, _*_, _^_, _<_, _≤_}
 use native.Mathlib.Omega.{arith}
 use borrow.Author.Tests.{ltb-true, ltb-false}
 use lib.Dec.{ltb}
 use lib.ListN.{length, getD, List·getD-eq-default}
-use lib.IntN.{ℤ, pos, negsuc, _+ℤ_, _-ℤ_, _*ℤ_, negℤ, natAbs}
-use lib.Signed.{ltZ, _<ℤ_, _≤ℤ_}
-use Rattle.integers.specs.Sum.{sum}
+use lib.IntN.{ℤ, pos, negsuc, _+ℤ_, _*ℤ_, natAbs}
+use lib.Signed.{ltZ, _<ℤ_}
 use Rattle.integers.proofs.Diff.{as-diff, diff}
 use Rattle.integers.proofs.Poly.{over, poly}
 use Rattle.integers.proofs.Laws.{nonneg, abs-mul-le}
 use Rattle.integers.proofs.Sum.{sum-abs}
-use Rattle.rounding.specs.Round.{Near}
+use Rattle.rounding.specs.Round.{round, Near}
 use Rattle.rounding.proofs.Laws.{round-near}
-use Rattle.mesh.specs.Limits.{leastSides, mostCoordinate}
-use Rattle.mesh.specs.Lists.{Mesh, cornerCount}
+use Rattle.mesh.specs.Limits.{mostCoordinate}
+use Rattle.mesh.specs.Lists.{Mesh}
 use Rattle.mesh.specs.Corners.{startOf, faceOf, sidesOf, next, previous}
 use Rattle.mesh.specs.Links.{vertexOf}
 use Rattle.mesh.specs.Faults.{fault7, Accepted}
@@ -67,22 +65,25 @@ eighths = over 6 _ λ ρ. simp (poly, ρ) (omega arith)
 some : (m : ℕ) → 0 < m → pos 0 <ℤ (pos 8 *ℤ pos m)
 some m h = simp diff (omega arith)
 
+pub point-size : (n : ℕ) (s x y z : ℤ) → 0 < n → natAbs s ≤ n * 2 ^ 24 → natAbs x ≤ 2 ^ 24 → natAbs y ≤ 2 ^ 24 → natAbs z ≤ 2 ^ 24
+    → natAbs (round (pos 2 *ℤ s +ℤ pos n *ℤ (x +ℤ pos 4 *ℤ y +ℤ z)) (pos 8 *ℤ pos n)) ≤ 2 ^ 24
+point-size n s x y z h hs hx hy hz =
+    let q : ℤ = round (pos 2 *ℤ s +ℤ pos n *ℤ (x +ℤ pos 4 *ℤ y +ℤ z)) (pos 8 *ℤ pos n) in
+    halve q (within-cancel (pos n) (pos 2 *ℤ q) (pos (2 * 2 ^ 24 + 1)) (positive n h)
+    (eighths (pos n) s x y z q
+    (abs-within s n (2 ^ 24) hs)
+    (within-times (pos n) (x +ℤ pos 4 *ℤ y +ℤ z) (pos (6 * 2 ^ 24)) (nonneg n) (six x y z hx hy hz))
+    (round-near _ _ (some n h))))
+
 pub refined-size : (M : Mesh) → Accepted M → (axis c : ℕ) → 0 < sidesOf (M .sides) c → natAbs (refinedPoint M axis c) ≤ 2 ^ 24
 unfolding refinedPoint faceSum sidesOf
 refined-size M a axis c here =
-    let n : ℕ = sidesOf (M .sides) c in
-    let s : ℤ = faceSum M axis (faceOf (M .sides) c) in
-    let x : ℤ = ticks M axis (previous (M .sides) c) in
-    let y : ℤ = ticks M axis c in
-    let z : ℤ = ticks M axis (next (M .sides) c) in
-    let q : ℤ = refinedPoint M axis c in
     let start : ℕ = startOf (M .sides) (faceOf (M .sides) c) in
-    halve q (within-cancel (pos n) (pos 2 *ℤ q) (pos (2 * 2 ^ 24 + 1)) (positive n here)
-    (eighths (pos n) s x y z q
-    (abs-within s n (2 ^ 24) (sum-abs (λ j. ticks M axis (start + j)) n (2 ^ 24) (λ j l. ticks-size M a axis (start + j))))
-    (within-times (pos n) (x +ℤ pos 4 *ℤ y +ℤ z) (pos (6 * 2 ^ 24)) (nonneg n)
-    (six x y z (ticks-size M a axis (previous (M .sides) c)) (ticks-size M a axis c) (ticks-size M a axis (next (M .sides) c))))
-    (round-near _ _ (some n here))))
+    let before : ℤ = ticks M axis (previous (M .sides) c) in
+    let after : ℤ = ticks M axis (next (M .sides) c) in
+    point-size (sidesOf (M .sides) c) (faceSum M axis (faceOf (M .sides) c)) before (ticks M axis c) after here
+    (sum-abs (λ j. ticks M axis (start + j)) (sidesOf (M .sides) c) (2 ^ 24) (λ j l. ticks-size M a axis (start + j)))
+    (ticks-size M a axis (previous (M .sides) c)) (ticks-size M a axis c) (ticks-size M a axis (next (M .sides) c))
 
 -- ---- the laws of an accepted mesh, on any axis
 pub corners-sound : (M : Mesh) → Accepted M → (axis : ℕ) → Sound (cornersOf M axis)

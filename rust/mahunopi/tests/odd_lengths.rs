@@ -191,11 +191,17 @@ fn files_of_odd_lengths() {
     // no space to write to
     assert_eq!(decode_nowhere(&file, length), (255, 24, kept));
     // lengths that are another number's in 32 bits, or in any width
-    for far in [0, 10, 1 << 32, (1 << 32) + length, u64::MAX, u64::MAX - 10] {
-        let number = if far < 11 { 1 } else { 3 };
-        assert_eq!(decode_nowhere(&file, far), (number, 0, kept));
+    for far in [1 << 32, (1 << 32) + length, u64::MAX, u64::MAX - 10] {
+        assert_eq!(decode_nowhere(&file, far), (3, 0, kept));
         assert_eq!(decode_nowhere(&[], far), (1, 0, kept));
         assert_eq!(decode_nowhere(&file[..10], far), (1, 0, kept));
+    }
+    for short in 0..11 {
+        assert_eq!(decode_nowhere(&file[..short], short as u64), (1, 0, kept));
+        // more bytes than the file has: 01 does not say which of 1 to 3 it is
+        let (number, place, lengths) = decode_nowhere(&file, short as u64);
+        assert!((1..=3).contains(&number));
+        assert_eq!((place, lengths), (0, kept));
     }
     // bytes that are not held, and bytes after the file's end
     assert_eq!(decode_nowhere(&file[..100], length), (3, 0, kept));

@@ -58,9 +58,10 @@ fn lengths(tables: &mut Tables, random: &mut Random) {
         3 => drop(tables.coordinates.pop()),
         4 => tables.coordinates.push(0),
         5 => tables.coordinates.extend([7, 8]),
-        6 => tables.coordinates.resize(3 * (MAX_VERTICES + 1), 1),
-        7 => tables.sides.resize(MAX_FACES + 1, 3),
-        _ => tables.corners.resize(MAX_CORNERS + 1, 0),
+        // at the limit, which shows a later fault, or beyond it
+        6 => tables.coordinates.resize(3 * (MAX_VERTICES + random.below(2)), 1),
+        7 => tables.sides.resize(MAX_FACES + random.below(2), 3),
+        _ => tables.corners.resize(MAX_CORNERS + random.below(2), 0),
     }
 }
 

@@ -1,7 +1,8 @@
-use Prim.Native.Nat.{_-_}
+-- `reverse_of` meets its contract: the reverse of c's leaving edge runs from the next corner's vertex to c's.
+-- Assumes nothing.
 use lib.ListN.{getD}
 use denote.Ref.{now}
-use Rattle.edges.proofs.Laws.{next-small, next-named, reverse-le, reverse-is}
+use Rattle.edges.proofs.Laws.{next-small}
 use native.Mathlib.Omega.{arith}
 use borrow.Author.Needs.{needs}
 use Rattle.edges.proofs.reverse_of.Statement.{statement}
@@ -22,26 +23,20 @@ mul-w c = let s = c .before .before .before .before .before in omega (arith, nex
 shared-slice-read-w : tie.Need-shared-slice-read-w
 shared-slice-read-w c = let s = c .before .before .before .before .before .before in s .pre .1 .walk .nexts-in (s .args .c) (s .pre .0)
 
-cast-w : tie.Need-cast-w
-cast-w c = let s = c .before .before .before .before .before .before in omega (arith, next-named (now (s .args .corners)) (now (s .args .nexts)) (now (s .args .earliers)) (now (s .args .heads)) (s .pre .1) (s .args .c) (s .pre .0))
-
 mul-u : tie.Need-mul-u
 mul-u c = search needs
 
 shared-slice-read-u : tie.Need-shared-slice-read-u
 shared-slice-read-u c = search needs
 
-mul-from : tie.Need-mul-from
-mul-from c = let s = c .before .before .before .before .before .before .before in omega (arith, next-named (now (s .args .corners)) (now (s .args .nexts)) (now (s .args .earliers)) (now (s .args .heads)) (s .pre .1) (s .args .c) (s .pre .0))
-
-shared-slice-read-from : tie.Need-shared-slice-read-from
-shared-slice-read-from c = let s = c .before .before .before .before .before .before .before .before in omega (arith, next-named (now (s .args .corners)) (now (s .args .nexts)) (now (s .args .earliers)) (now (s .args .heads)) (s .pre .1) (s .args .c) (s .pre .0), s .pre .1 .heads-length)
-
-find-requires : tie.Need-find-requires
-find-requires c κs = let s = c .before .before .before .before .before .before .before .before in (reverse-le (now (s .args .corners)) (now (s .args .nexts)) (now (s .args .earliers)) (now (s .args .heads)) (s .pre .1) (s .args .c) (s .pre .0), s .pre .1 .walk)
+leaving-requires : tie.Need-leaving-requires
+leaving-requires c κs = let s = c .before .before .before .before .before .before .before in
+    let here = s .pre .1 .named (s .args .c) (s .pre .0) in
+    let there = s .pre .1 .named (getD (now (s .args .nexts)) (s .args .c) 0) (s .pre .1 .walk .nexts-in (s .args .c) (s .pre .0)) in
+    (omega (arith, here, there), s .pre .1)
 
 returns : tie.Need-returns
-returns c = let s = c .before .before .before .before .before .before .before .before .before in reverse-is (now (s .args .corners)) (now (s .args .nexts)) (now (s .args .earliers)) (now (s .args .heads)) (s .pre .1) (s .args .c) (s .pre .0) (c .find .result) (getD (now (s .args .corners)) (s .args .c) 0) (c .find .ensures)
+returns c = search needs
 
 pub reverse-of-spec : {M : Type 1} → statement M
 reverse-of-spec =
@@ -52,10 +47,7 @@ reverse-of-spec =
     cast-e
     mul-w
     shared-slice-read-w
-    cast-w
     mul-u
     shared-slice-read-u
-    mul-from
-    shared-slice-read-from
-    find-requires
+    leaving-requires
     returns)

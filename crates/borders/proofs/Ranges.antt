@@ -1,0 +1,62 @@
+-- Demand 3 speaks of every border of every accepted mesh: with the link table that linking writes and an output of the right length,
+-- no range of its corners is refused.
+-- Assumes nothing.
+use mathlib.Core.Path.{_≡_, refl, sym, ap, _∙_}
+use mathlib.Core.Bool.{false, not}
+use Prim.Native.Nat.{ℕ, _+_, _*_, _≤_, _<_}
+use native.Mathlib.Omega.{arith}
+use borrow.Author.Tests.{le-ltb, eq-eqb, ne-eqb}
+use lib.Dec.{eqb}
+use lib.ListN.{length, getD}
+use Rattle.mesh.specs.Lists.{Mesh, cornerCount}
+use Rattle.mesh.specs.Links.{link, linkTable}
+use Rattle.mesh.specs.Faults.{sound, linkVerdict, Accepted}
+use Rattle.mesh.proofs.Verdicts.{orElse-sound, single-miss, lowest-none}
+use Rattle.mesh.proofs.Links.{values-length, length-link-table, link-table-at}
+use Rattle.surface.specs.Net.{Side}
+use Rattle.surface.specs.Refined.{cornersOf, perCorner, numberAt, nets}
+use Rattle.surface.specs.Building.{fault15, fault16, fault17, buildVerdict}
+use Rattle.surface.proofs.Rings.{neighbour-in}
+use Rattle.surface.proofs.Hull.{corners-sound}
+use Rattle.borders.specs.Demand.{Output, Wrote, outputOf, Smooth}
+use Rattle.borders.proofs.Theorem.{demand3}
+
+equal : (m n : ℕ) → m ≡ n → not (eqb m n) ≡ false
+equal m n e = ap not (eq-eqb m n e)
+
+length-nets : (M : Mesh) (first count : ℕ) → length (nets M first count) ≡ perCorner * count
+unfolding nets
+length-nets M first count = values-length (numberAt M first) 0 (perCorner * count)
+
+module _ (M : Mesh) (ok : Accepted M) (first count : ℕ) (some : 0 < count) (fits : first + count ≤ cornerCount M) where
+  no15 : (c : ℕ) → c < cornerCount M → fault15 M (linkTable M) c ≡ false
+  unfolding fault15
+  no15 c l = equal (getD (linkTable M) c 0) (link (M .sides) (M .corners) c) (link-table-at M c l)
+
+  no16 : fault16 M first count ≡ false
+  unfolding fault16
+  no16 = rw (ne-eqb count 0 (λ e. omega arith), le-ltb (cornerCount M) (first + count) fits)
+
+  no17 : fault17 count (length (nets M first count)) ≡ false
+  unfolding fault17
+  no17 = equal (length (nets M first count)) (perCorner * count) (length-nets M first count)
+
+  not-refused : buildVerdict M (linkTable M) first count (length (nets M first count)) ≡ sound
+  unfolding buildVerdict linkVerdict
+  not-refused =
+      orElse-sound _ (orElse-sound _ ok ∙ single-miss 14 (length (linkTable M)) (equal (length (linkTable M)) (cornerCount M) (length-link-table M)))
+      ∙ orElse-sound _ (lowest-none 15 (cornerCount M) (fault15 M (linkTable M)) no15)
+      ∙ orElse-sound _ (single-miss 16 first no16)
+      ∙ single-miss 17 (length (nets M first count)) no17
+
+  pub range-wrote : Wrote M (outputOf M first count)
+  range-wrote = record { links = linkTable M; old = nets M first count; call = record { answers = sym not-refused; holds = refl } }
+
+-- every border of an accepted mesh, as one call for all corners leaves it
+pub every-border : (M : Mesh) → Accepted M → (c : ℕ) → c < cornerCount M → (s : Side) → (axis : ℕ) → axis < 3
+    → Smooth M (outputOf M 0 (cornerCount M)) (outputOf M 0 (cornerCount M)) axis c s
+every-border M ok c here s axis small =
+    let whole : Output = outputOf M 0 (cornerCount M) in
+    let w : Wrote M (outputOf M 0 (cornerCount M)) = range-wrote M ok 0 (cornerCount M) (omega arith) (omega arith) in
+    let d = neighbour-in (cornersOf M 0) (corners-sound M ok 0) c here s in
+    demand3 M whole whole w w c s (omega arith, omega arith) (omega arith, omega (arith, d)) axis small

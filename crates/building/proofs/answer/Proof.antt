@@ -1,0 +1,70 @@
+-- On an accepted mesh: checks 14 to 17 refuse and the output is as it was, or the range is within the corners and the output has its places.
+-- Assumes nothing.
+use mathlib.Core.Path.{_≡_, refl, ap, _∙_, sym}
+use lib.ListN.{length}
+use denote.Ref.{now}
+use Rattle.mesh.specs.Lists.{Mesh, meshOf}
+use Rattle.mesh.specs.Answers.{stated}
+use Rattle.mesh.proofs.Verdicts.{passed, past}
+use Rattle.requests.specs.Request.{requestFaults}
+use Rattle.requests.proofs.Laws.{Granted, granted}
+use Rattle.mesh.specs.Faults.{sound}
+use Rattle.building.proofs.Laws.{few}
+use native.Mathlib.Omega.{arith}
+use borrow.Author.Needs.{needs}
+use Rattle.building.proofs.answer.Statement.{statement}
+use Rattle.building.proofs.answer.Tie as tie
+
+abbrev mesh : tie.Start → Mesh
+mesh s = meshOf (now (s .args .coordinates)) (now (s .args .sides)) (now (s .args .corners))
+
+-- past the checks
+module _ (t : tie.After-enum-told) where
+  abbrev start : tie.Start
+  start = t .before .before .before .before .before .before .before
+
+  accepts : requestFaults (mesh start) (now (start .args .links)) (start .args .first) (start .args .count) (length (now (start .args .out))) ≡ sound
+  accepts = passed (t .before .before .check-request .result) (t .before .before .check-request .ensures (mesh start) refl (start .pre .1 .1)) (t .enum-told .given .1)
+
+  grants : Granted (mesh start) (start .args .first) (start .args .count) (length (now (start .args .out)))
+  grants = granted (mesh start) (now (start .args .links)) (start .args .first) (start .args .count) (length (now (start .args .out))) accepts
+
+check-request-requires : tie.Need-check-request-requires
+check-request-requires c κs = let s = c .before .before .before .before in (few (mesh s) (s .pre .0), omega (arith, few (mesh s) (s .pre .0)))
+
+enum-known-a : tie.Need-enum-known-a
+enum-known-a c = search needs
+
+returns : tie.Need-returns
+returns c =
+    let s = c .before .before .before .before .before .before .before .before in
+    record { answers = ap stated (sym (c .before .a .given .1)) ∙ c .before .before .before .check-request .ensures (mesh s) refl (s .pre .1 .1); holds = refl }
+
+enum-told : tie.Need-enum-told
+enum-told c = search needs
+
+write-nets-requires : tie.Need-write-nets-requires
+write-nets-requires c κs =
+    let s = c .before .before .before .before .before .before .before .before .before .before in
+    let g = grants (c .before .before .before) in
+    (s .pre .0, (record { nexts-are = s .pre .1 .0; links-are = s .pre .1 .1; nexts-long = search needs; links-long = search needs }, (g .within, g .room)))
+
+same-length : tie.Need-same-length
+same-length c = search needs
+
+returns-2 : tie.Need-returns-2
+returns-2 c =
+    let s = c .before .before .before .before .before .before .before .before .before .before .before .before in
+    record { answers = sym (accepts (c .before .before .before .before .before)); holds = c .before .write-nets .ensures }
+
+pub answer-spec : {M : Type 1} → statement M
+answer-spec =
+    tie.close
+    (tie.spec
+    check-request-requires
+    enum-known-a
+    returns
+    enum-told
+    write-nets-requires
+    same-length
+    returns-2)

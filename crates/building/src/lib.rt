@@ -1,0 +1,196 @@
+// Building: writes the control points of a range of corners, or answers why the call is refused and leaves the output as it was.
+use mesh::Answer;
+use mesh::MOST_CORNERS;
+use requests::PER_CORNER;
+ghost use mathlib.Core.Path.{_≡_};
+ghost use Prim.Native.Nat.{ℕ, _+_, _*_, _≤_, _<_};
+ghost use lib.ListN.{length};
+ghost use lib.IntN.{pos};
+ghost use Rattle.mesh.specs.Limits.{mostCorners};
+ghost use Rattle.mesh.specs.Lists.{meshOf};
+ghost use Rattle.mesh.specs.Tables.{NextsTo, LinkTable};
+ghost use Rattle.mesh.specs.Faults.{Accepted};
+ghost use Rattle.surface.specs.Corners.{Sound};
+ghost use Rattle.surface.specs.Refined.{nets, perCorner};
+ghost use Rattle.surface.specs.Building.{Built};
+ghost use Rattle.sides.specs.Tabled.{tabled};
+ghost use Rattle.building.specs.Written.{Answered, Given, MeshTables, Long, AxisWritten};
+
+// Checks 4 to 17, then the control points. Nothing is written to the output before the last check has passed.
+pub fn build(
+    coordinates: &[i32],
+    sides: &[u8],
+    corners: &[u16],
+    links: &[u16],
+    first: usize,
+    count: usize,
+    out: &mut [i32],
+) -> Answer
+    ensures { λ r. ⌜ Built (meshOf (now (coordinates .entry)) (now (sides .entry)) (now (corners .entry))) (now (links .entry)) first count (now (out .entry)) r (now (out .exit)) ⌝ }
+{
+    let mut nexts = [0u16; MOST_CORNERS];
+    let mut table = [0u16; MOST_CORNERS];
+    let a = checks::check(coordinates, sides, corners, &mut nexts, &mut table);
+    if let Answer::Refused(k, p) = a {
+        return Answer::Refused(k, p);
+    }
+    answer(
+        coordinates,
+        sides,
+        corners,
+        &nexts,
+        &table,
+        links,
+        first,
+        count,
+        out,
+    )
+}
+
+// The same for an accepted mesh, over its tables of next corners and links: checks 14 to 17, then the control points.
+fn answer(
+    coordinates: &[i32],
+    sides: &[u8],
+    corners: &[u16],
+    nexts: &[u16; MOST_CORNERS],
+    table: &[u16; MOST_CORNERS],
+    links: &[u16],
+    first: usize,
+    count: usize,
+    out: &mut [i32],
+) -> Answer
+    requires mesh { ⌜ Accepted (meshOf (now coordinates) (now sides) (now corners)) ⌝ }
+    requires tables { ⌜ NextsTo (now sides) (now nexts) (length (now corners)) × LinkTable (now sides) (now corners) (now table) ⌝ }
+    ensures { λ r. ⌜ Answered (meshOf (now (coordinates .entry)) (now (sides .entry)) (now (corners .entry))) (now (links .entry)) first count (now (out .entry)) r (now (out .exit)) ⌝ }
+{
+    let a = requests::check_request(corners.len(), table, links, first, count, out.len());
+    if let Answer::Refused(k, p) = a {
+        return Answer::Refused(k, p);
+    }
+    write_nets(coordinates, sides, corners, nexts, table, first, count, out);
+    Answer::Done
+}
+
+// The numbers of `count` corners from `first` on, over the tables of next corners and links.
+fn write_nets(
+    coordinates: &[i32],
+    sides: &[u8],
+    corners: &[u16],
+    nexts: &[u16],
+    links: &[u16],
+    first: usize,
+    count: usize,
+    out: &mut [i32],
+)
+    requires mesh { ⌜ Accepted (meshOf (now coordinates) (now sides) (now corners)) ⌝ }
+    requires tables { ⌜ Given (meshOf (now coordinates) (now sides) (now corners)) (now nexts) (now links) ⌝ }
+    requires range { ⌜ (first + count ≤ length (now corners)) × (length (now out) ≡ perCorner * count) ⌝ }
+    ensures { λ _. ⌜ now (out .exit) ≡ nets (meshOf (now (coordinates .entry)) (now (sides .entry)) (now (corners .entry))) first count ⌝ }
+{
+    let mut previouses = [0u16; MOST_CORNERS];
+    let mut counts = [0u8; MOST_CORNERS];
+    let mut valences = [0u8; MOST_CORNERS];
+    corner_tables::fill_faces(sides, &mut previouses, &mut counts);
+    corner_tables::fill_valences(corners, &mut valences);
+    write_axes(
+        coordinates,
+        sides,
+        corners,
+        nexts,
+        &previouses,
+        links,
+        &counts,
+        &valences,
+        first,
+        count,
+        out,
+    );
+}
+
+// The same, over all tables that serve the three axes: each axis has its refined points, which serve all its corners.
+fn write_axes(
+    coordinates: &[i32],
+    sides: &[u8],
+    corners: &[u16],
+    nexts: &[u16],
+    previouses: &[u16],
+    links: &[u16],
+    counts: &[u8],
+    valences: &[u8],
+    first: usize,
+    count: usize,
+    out: &mut [i32],
+)
+    requires mesh { ⌜ Accepted (meshOf (now coordinates) (now sides) (now corners)) ⌝ }
+    requires tables { ⌜ MeshTables (meshOf (now coordinates) (now sides) (now corners)) (now nexts) (now previouses) (now links) (now counts) (now valences) ⌝ }
+    requires long { ⌜ Long (now nexts) (now previouses) (now links) (now counts) (now valences) ⌝ }
+    requires range { ⌜ (first + count ≤ length (now corners)) × (length (now out) ≡ perCorner * count) ⌝ }
+    ensures { λ _. ⌜ now (out .exit) ≡ nets (meshOf (now (coordinates .entry)) (now (sides .entry)) (now (corners .entry))) first count ⌝ }
+{
+    let mut points = [0i32; MOST_CORNERS];
+    let n = corners.len();
+    let mut axis = 0;
+    while axis < 3 {
+        refine::fill_points(
+            coordinates,
+            sides,
+            corners,
+            nexts,
+            previouses,
+            axis,
+            &mut points,
+        );
+        write_axis(
+            &points,
+            nexts,
+            previouses,
+            links,
+            counts,
+            valences,
+            n,
+            first,
+            count,
+            axis,
+            out,
+        );
+        axis += 1;
+    }
+}
+
+// One axis: the numbers of each corner of the range.
+fn write_axis(
+    points: &[i32],
+    nexts: &[u16],
+    previouses: &[u16],
+    links: &[u16],
+    sides: &[u8],
+    valences: &[u8],
+    n: usize,
+    first: usize,
+    count: usize,
+    axis: usize,
+    out: &mut [i32],
+)
+    requires mesh { ⌜ Sound (tabled n (now nexts) (now previouses) (now links) (now sides) (now valences) (now points)) ⌝ }
+    requires long { ⌜ Long (now nexts) (now previouses) (now links) (now sides) (now valences) × (length (now points) ≡ mostCorners) × (n ≤ mostCorners) ⌝ }
+    requires range { ⌜ (first + count ≤ n) × (axis < 3) × (length (now out) ≡ perCorner * count) ⌝ }
+    ensures { λ _. ⌜ AxisWritten (tabled n (now (nexts .entry)) (now (previouses .entry)) (now (links .entry)) (now (sides .entry)) (now (valences .entry)) (now (points .entry))) first count axis (now (out .entry)) (now (out .exit)) ⌝ }
+{
+    let mut k = 0;
+    while k < count {
+        nets::put_net(
+            points,
+            nexts,
+            previouses,
+            links,
+            sides,
+            valences,
+            n,
+            first + k,
+            axis,
+            out,
+            PER_CORNER * k,
+        );
+        k += 1;
+    }
+}

@@ -1,0 +1,32 @@
+-- An accepted mesh gives what the tables are filled from: sides and names are within their limits.
+-- Assumes nothing.
+use Prim.Native.Nat.{ℕ, _<_}
+use native.Mathlib.Omega.{arith}
+use lib.ListN.{length}
+use Rattle.mesh.specs.Lists.{Mesh, vertexCount, faceCount, cornerCount}
+use Rattle.mesh.specs.Links.{vertexOf}
+use Rattle.mesh.specs.Faults.{Accepted}
+use Rattle.mesh.proofs.Accepted.{sound-of, few-vertices, few-corners, sides-within, sums-of, named-of, valence-within}
+use Rattle.corner_tables.specs.Tables.{Faces, Vertices}
+
+module _ (M : Mesh) (a : Accepted M) where
+  pub faces-of : Faces (M .sides)
+  faces-of =
+      let s = sound-of M a in
+      record {
+        few = omega (arith, few-corners (length (M .coordinates)) (faceCount M) (cornerCount M) (s .four), sums-of (M .sides) (cornerCount M) (s .six));
+        least = λ f h. sides-within (M .sides) f (s .five f h) .0;
+        most = λ f h. sides-within (M .sides) f (s .five f h) .1;
+      }
+
+  pub vertex-in : (c : ℕ) → c < cornerCount M → vertexOf (M .corners) c < vertexCount M
+  vertex-in c h = named-of (vertexCount M) (M .corners) c (sound-of M a .eight c h)
+
+  pub vertices-of : Vertices (M .corners)
+  vertices-of =
+      let s = sound-of M a in
+      record {
+        few = few-corners (length (M .coordinates)) (faceCount M) (cornerCount M) (s .four);
+        named = λ c h. omega (arith, vertex-in c h, few-vertices (length (M .coordinates)) (faceCount M) (cornerCount M) (s .four));
+        most = λ c h. valence-within (M .corners) (vertexOf (M .corners) c) (s .twelve (vertexOf (M .corners) c) (vertex-in c h)) .1;
+      }

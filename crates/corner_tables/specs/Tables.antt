@@ -1,0 +1,30 @@
+-- What the tables over the corners hold, and what an accepted mesh gives the code that fills them.
+-- Assumes nothing.
+use mathlib.Core.Path.{_≡_}
+use mathlib.Core.List.{List}
+use Prim.Native.Nat.{ℕ, _<_, _≤_}
+use lib.ListN.{length, getD}
+use Rattle.mesh.specs.Limits.{leastSides, mostSides, mostVertices, mostCorners}
+use Rattle.mesh.specs.Corners.{sumOf, sidesOf, previous}
+use Rattle.mesh.specs.Links.{vertexOf, valence}
+
+-- the table holds f's value at every place below n; z is what a place past the table's end reads as
+abbrev pub Filled : {A : Type 0} → A → (ℕ → A) → List A → ℕ → Type 0
+Filled z f table n = (c : ℕ) → c < n → getD table c z ≡ f c
+
+-- of each corner below n: the previous corner, and the sides of its face
+pub record FaceTables (sides previouses counts : List ℕ) (n : ℕ) : Type 0 where
+  pub previouses-are : Filled 0 (previous sides) previouses n
+  pub counts-are : Filled 0 (sidesOf sides) counts n
+
+-- side counts within their limits, and no more corners than a mesh may have
+pub record Faces (sides : List ℕ) : Type 0 where
+  pub few : sumOf sides ≤ mostCorners
+  pub least : (f : ℕ) → f < length sides → leastSides ≤ getD sides f 0
+  pub most : (f : ℕ) → f < length sides → getD sides f 0 ≤ mostSides
+
+-- corners whose vertices have numbers and corner counts within their limits
+pub record Vertices (corners : List ℕ) : Type 0 where
+  pub few : length corners ≤ mostCorners
+  pub named : (c : ℕ) → c < length corners → vertexOf corners c < mostVertices
+  pub most : (c : ℕ) → c < length corners → valence corners (vertexOf corners c) ≤ mostSides

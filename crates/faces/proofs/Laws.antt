@@ -1,0 +1,259 @@
+-- One way round a ring of steps: the sums that the code forms are those of the face points, and every sum on the way fits.
+-- Assumes nothing.
+use mathlib.Core.Path.{_≡_, refl, sym, ap, _∙_}
+use mathlib.Core.List.{List}
+use Prim.Native.Nat.{ℕ, _+_, _-_, _*_, _^_, _≤_, _<_}
+use native.Mathlib.Omega.{arith}
+use native.Mathlib.Nat.{le-trans, mul-le-mul-right}
+use native.Mathlib.Numerals.{add-one}
+use lib.Dec.{lit<, lit≤}
+use lib.ListN.{length, getD}
+use lib.IntN.{ℤ, pos, natAbs, _+ℤ_, _*ℤ_}
+use lib.Signed.{_≤ℤ_, _<ℤ_, ltZ-yes}
+use mir.Syntax.{w32, w64}
+use mir.Val.{SFits, ofZ, toZ}
+use mir.Facts.{toZ-ofZ}
+use Rattle.integers.specs.Sum.{sum}
+use Rattle.integers.proofs.Diff.{diff}
+use Rattle.integers.proofs.Poly.{over, poly}
+use Rattle.integers.proofs.Laws.{abs-mul-le, abs-add-le, zero-add}
+use Rattle.integers.proofs.Machine.{abs-fits}
+use Rattle.integers.proofs.Sum.{Cyclic, sum-same, sum-abs, cycle-one, sum-more, cycle}
+use Rattle.mesh.specs.Scan.{iterate}
+use Rattle.mesh.proofs.Rings.{iterate-suc}
+use Rattle.surface.specs.Face.{centre, weight, toward}
+use Rattle.surface.proofs.Rings.{iterate-in, iterate-round}
+use Rattle.surface.proofs.Faces.{weight-period}
+use Rattle.surface.proofs.Sizes.{weight-size, gather-size, centre-size, toward-size}
+use Rattle.rounding.specs.Round.{round}
+use Rattle.rounding.proofs.Laws.{round-scale}
+use Rattle.cosines.specs.Table.{table, cosine}
+use Rattle.formulas.specs.Sizes.{Corner, FacePoint}
+use Rattle.faces.specs.Ring.{around, Ring, IsFace, IsEdgeFace}
+use Rattle.faces.specs.declared.Face.{Face}
+
+-- ---- the sums of a ring p of m points, numbered from its corner
+ahead-sum : (p : ℕ → ℤ) (m : ℕ) → sum (λ k. p k *ℤ weight m k) m ≡ sum (λ k. p (0 + k) *ℤ weight m k) m
+ahead-sum p m = sum-same _ _ m (λ k l. ap (λ (j : ℕ). p j *ℤ weight m k) (zero k))
+  where
+    zero : (k : ℕ) → k ≡ 0 + k
+    zero k = omega arith
+
+behind-sum : (p : ℕ → ℤ) (m : ℕ) → 3 ≤ m → Cyclic p m → sum (λ k. p k *ℤ weight m (k + 1)) m ≡ sum (λ k. p (m - 1 + k) *ℤ weight m k) m
+behind-sum p m low cyc =
+    sum-same (λ k. p k *ℤ weight m (k + 1)) (λ k. p (m - 1 + (k + 1)) *ℤ weight m (k + 1)) m (λ k l. cc (cyc k, ap p (whole k)))
+    ∙ cycle-one (λ k. p (m - 1 + k) *ℤ weight m k) m (λ k. cc (ap p (later k), cyc (m - 1 + k), weight-period m k))
+  where
+    whole : (k : ℕ) → m - 1 + (k + 1) ≡ k + m
+    whole k = omega arith
+
+    later : (k : ℕ) → m - 1 + (k + m) ≡ m - 1 + k + m
+    later k = omega arith
+
+-- ---- a ring of steps
+module _ (points : List ℤ) (steps : List ℕ) (c m : ℕ) (r : Ring points steps c m) where
+  pub at-in : (j : ℕ) → iterate j (λ i. getD steps i 0) c < r .count
+  at-in j = iterate-in (λ i. getD steps i 0) (r .count) (r .step-in) j c (r .here)
+
+  pub small : (j : ℕ) → natAbs (around points steps c j) ≤ 2 ^ 24
+  unfolding around
+  small j = r .point-size (iterate j (λ i. getD steps i 0) c) (at-in j)
+
+  pub cyclic : Cyclic (around points steps c) m
+  unfolding around
+  cyclic j = ap (λ (i : ℕ). getD points i (pos 0)) (iterate-round (λ i. getD steps i 0) j m c (r .closes))
+
+  weight-fits : (k : ℕ) → natAbs (weight m k) ≤ 7 * 2 ^ 30
+  weight-fits = weight-size (around points steps c) m (r .least) (r .most) small
+
+  term-size : (j k : ℕ) → natAbs (around points steps c j *ℤ weight m k) ≤ 2 ^ 24 * (7 * 2 ^ 30)
+  term-size j k = abs-mul-le (around points steps c j) (weight m k) (2 ^ 24) (7 * 2 ^ 30) (small j) (weight-fits k)
+
+  -- what the turn at j asks of the machine: the point, its two products, and the three sums with them
+  pub record Turn (j : ℕ) : Type 0 where
+    pub narrow : SFits w32 (around points steps c j)
+    pub point : SFits w64 (around points steps c j)
+    pub weights : SFits w64 (weight m j) × SFits w64 (weight m (j + 1))
+    pub total : SFits w64 (sum (around points steps c) j +ℤ around points steps c j)
+    pub products : SFits w64 (around points steps c j *ℤ weight m j) × SFits w64 (around points steps c j *ℤ weight m (j + 1))
+    pub ahead : SFits w64 (sum (λ k. around points steps c k *ℤ weight m k) j +ℤ around points steps c j *ℤ weight m j)
+    pub behind : SFits w64 (sum (λ k. around points steps c k *ℤ weight m (k + 1)) j +ℤ around points steps c j *ℤ weight m (j + 1))
+
+  more-fits : (f : ℕ → ℤ) (j B : ℕ) → j < m → B ≤ 2 ^ 57 → ((k : ℕ) → natAbs (f k) ≤ B) → SFits w64 (sum f j +ℤ f j)
+  more-fits f j B l b h =
+      abs-fits w64 (sum f j +ℤ f j) (13 * B)
+      (let s = abs-add-le (sum f j) (f j) (j * B) B (sum-abs f j B (λ k q. h k)) (h j) in bound j B (natAbs (sum f j +ℤ f j)) (omega arith) s)
+      (omega arith)
+    where
+      bound : (j B z : ℕ) → j ≤ 12 → z ≤ j * B + B → z ≤ 13 * B
+      bound j B z l h = le-trans h (omega (arith, mul-le-mul-right B l))
+
+  pub turn : (j : ℕ) → j < m → Turn j
+  turn j l = record {
+    narrow = abs-fits w32 (around points steps c j) (2 ^ 24) (small j) (lit< tt);
+    point = abs-fits w64 (around points steps c j) (2 ^ 24) (small j) (lit< tt);
+    weights = (abs-fits w64 (weight m j) (7 * 2 ^ 30) (weight-fits j) (lit< tt), abs-fits w64 (weight m (j + 1)) (7 * 2 ^ 30) (weight-fits (j + 1)) (lit< tt));
+    total = more-fits (around points steps c) j (2 ^ 24) l (lit≤ tt) small;
+    products = (abs-fits w64 _ (2 ^ 24 * (7 * 2 ^ 30)) (term-size j j) (lit< tt), abs-fits w64 _ (2 ^ 24 * (7 * 2 ^ 30)) (term-size j (j + 1)) (lit< tt));
+    ahead = more-fits (λ k. around points steps c k *ℤ weight m k) j (2 ^ 24 * (7 * 2 ^ 30)) l (lit≤ tt) (λ k. term-size k k);
+    behind = more-fits (λ k. around points steps c k *ℤ weight m (k + 1)) j (2 ^ 24 * (7 * 2 ^ 30)) l (lit≤ tt) (λ k. term-size k (k + 1));
+  }
+
+-- ---- the same in the machine's numbers: a signed local is its bits, and an element is read through both widths
+abbrev pub plain : ℤ → ℤ
+plain z = toZ w64 (ofZ w64 z)
+
+abbrev pub read : List ℤ → ℕ → ℤ
+read points at = plain (toZ w32 (ofZ w32 (getD points at (pos 0))))
+
+module _ (points : List ℤ) (steps : List ℕ) (c m : ℕ) where
+  -- before the turn at j
+  abbrev pub Came : ℕ → ℕ → ℕ → ℕ → ℕ → ℕ → Type 0
+  Came total ahead behind w at j =
+      (j ≤ m) × (at ≡ iterate j (λ i. getD steps i 0) c)
+      × (toZ w64 total ≡ sum (around points steps c) j)
+      × (toZ w64 ahead ≡ sum (λ k. around points steps c k *ℤ weight m k) j)
+      × (toZ w64 behind ≡ sum (λ k. around points steps c k *ℤ weight m (k + 1)) j)
+      × (toZ w64 w ≡ weight m j)
+
+  -- what the turn asks, and what it leaves; u is the next weight
+  pub record Goes (total ahead behind w at j : ℕ) (u : ℤ) : Type 0 where
+    pub cast : SFits w64 (toZ w32 (ofZ w32 (getD points at (pos 0))))
+    pub add-total : SFits w64 (toZ w64 total +ℤ read points at)
+    pub mul-ahead : SFits w64 (read points at *ℤ toZ w64 w)
+    pub add-ahead : SFits w64 (toZ w64 ahead +ℤ plain (read points at *ℤ toZ w64 w))
+    pub mul-behind : SFits w64 (read points at *ℤ plain u)
+    pub add-behind : SFits w64 (toZ w64 behind +ℤ plain (read points at *ℤ plain u))
+    pub total-is : plain (toZ w64 total +ℤ read points at) ≡ sum (around points steps c) (j + 1)
+    pub ahead-is : plain (toZ w64 ahead +ℤ plain (read points at *ℤ toZ w64 w)) ≡ sum (λ k. around points steps c k *ℤ weight m k) (j + 1)
+    pub behind-is : plain (toZ w64 behind +ℤ plain (read points at *ℤ plain u)) ≡ sum (λ k. around points steps c k *ℤ weight m (k + 1)) (j + 1)
+    pub weight-is : plain u ≡ weight m (j + 1)
+    pub at-is : getD steps at 0 ≡ iterate (j + 1) (λ i. getD steps i 0) c
+    pub below : (at < length points) × (at < length steps)
+
+  pub goes : Ring points steps c m → (total ahead behind w at j : ℕ) (u : ℤ) → j < m → Came total ahead behind w at j → u ≡ weight m (j + 1) → Goes total ahead behind w at j u
+  unfolding around
+  goes r total ahead behind w at j u l came e =
+      let t = turn points steps c m r j l in
+      let v = around points steps c j in
+      let p : getD points at (pos 0) ≡ v = ap (λ (i : ℕ). getD points i (pos 0)) (came .1) in
+      let a : toZ w32 (ofZ w32 (getD points at (pos 0))) ≡ v = ap (λ (z : ℤ). toZ w32 (ofZ w32 z)) p ∙ toZ-ofZ (t .narrow) in
+      let d : read points at ≡ v = ap plain a ∙ toZ-ofZ (t .point) in
+      let f : plain u ≡ weight m (j + 1) = ap plain e ∙ toZ-ofZ (t .weights .1) in
+      let i = at-in points steps c m r j in
+      record {
+        cast = rw a (t .point);
+        add-total = rw (d, came .2) (t .total);
+        mul-ahead = rw (d, came .5) (t .products .0);
+        add-ahead = rw (d, came .5, toZ-ofZ (t .products .0), came .3) (t .ahead);
+        mul-behind = rw (d, f) (t .products .1);
+        add-behind = rw (d, f, toZ-ofZ (t .products .1), came .4) (t .behind);
+        total-is = rw (d, came .2) (toZ-ofZ (t .total) ∙ sym (sum-more (around points steps c) j));
+        ahead-is = rw (d, came .5, toZ-ofZ (t .products .0), came .3) (toZ-ofZ (t .ahead) ∙ sym (sum-more (λ k. around points steps c k *ℤ weight m k) j));
+        behind-is = rw (d, f, toZ-ofZ (t .products .1), came .4) (toZ-ofZ (t .behind) ∙ sym (sum-more (λ k. around points steps c k *ℤ weight m (k + 1)) j));
+        weight-is = f;
+        at-is = ap (λ (i : ℕ). getD steps i 0) (came .1) ∙ sym (iterate-suc (λ i. getD steps i 0) j c) ∙ ap (λ (n : ℕ). iterate n (λ i. getD steps i 0) c) (sym (add-one j));
+        below = (rw (came .1) (omega (arith, r .points-hold)), rw (came .1) (omega (arith, r .steps-hold)));
+      }
+
+  -- the weight that the first turn has
+  pub first : Ring points steps c m → (u : ℤ) → u ≡ weight m (m - 1 + 1) → plain u ≡ weight m 0
+  first r u e =
+      let f : u ≡ weight m 0 = e ∙ ap (weight m) (omega (arith, r .least)) ∙ weight-period m 0 in
+      ap plain f ∙ toZ-ofZ (abs-fits w64 (weight m 0) (7 * 2 ^ 30) (weight-fits points steps c m r 0) (lit< tt))
+
+-- ---- the face points of the ring, from its sums
+module _ (points : List ℤ) (steps : List ℕ) (c m : ℕ) (r : Ring points steps c m) where
+  pub total-size : natAbs (sum (around points steps c) m) ≤ 2 ^ 60
+  total-size = let h = sum-abs (around points steps c) m (2 ^ 24) (λ j l. small points steps c m r j) in omega (arith, r .most)
+
+  pub ahead-size : natAbs (sum (λ k. around points steps c k *ℤ weight m k) m) ≤ 2 ^ 60
+  ahead-size = rw (ahead-sum (around points steps c) m) (gather-size (around points steps c) m (r .least) (r .most) (small points steps c m r) 0)
+
+  pub behind-size : natAbs (sum (λ k. around points steps c k *ℤ weight m (k + 1)) m) ≤ 2 ^ 60
+  behind-size =
+      rw (behind-sum (around points steps c) m (r .least) (cyclic points steps c m r))
+      (gather-size (around points steps c) m (r .least) (r .most) (small points steps c m r) (m - 1))
+
+  pub ring-is : (f : Face) → f .centre ≡ round (sum (around points steps c) m) (pos m)
+      → f .ahead ≡ round (sum (λ k. around points steps c k *ℤ weight m k) m) (pos (3 * 2 ^ 30) *ℤ pos m)
+      → f .behind ≡ round (sum (λ k. around points steps c k *ℤ weight m (k + 1)) m) (pos (3 * 2 ^ 30) *ℤ pos m)
+      → IsFace (around points steps c) m 0 (m - 1) f
+  unfolding centre toward
+  ring-is f e a b =
+      let p = around points steps c in
+      let x : f .ahead ≡ toward p m 0 = a ∙ ap (λ (z : ℤ). round z (pos (3 * 2 ^ 30) *ℤ pos m)) (ahead-sum p m) in
+      let y : f .behind ≡ toward p m (m - 1) = b ∙ ap (λ (z : ℤ). round z (pos (3 * 2 ^ 30) *ℤ pos m)) (behind-sum p m (r .least) (cyclic points steps c m r)) in
+      record {
+        centre = e;
+        ahead = x;
+        behind = y;
+        centre-size = rw e (centre-size p m (r .least) (r .most) (small points steps c m r));
+        ahead-size = rw x (toward-size p m (r .least) (r .most) (small points steps c m r) 0);
+        behind-size = rw y (toward-size p m (r .least) (r .most) (small points steps c m r) (m - 1));
+      }
+
+-- ---- a ring of four: its weights are 5, 5, 1 and 1 times 2^30
+four : (f : ℕ → ℤ) → sum f 4 ≡ f 0 +ℤ f 1 +ℤ f 2 +ℤ f 3
+unfolding sum
+four f = ap (λ (z : ℤ). z +ℤ f 1 +ℤ f 2 +ℤ f 3) (zero-add (f 0))
+
+exact : (a b c d : ℤ) → a *ℤ pos 5368709120 +ℤ b *ℤ pos 5368709120 +ℤ c *ℤ pos 1073741824 +ℤ d *ℤ pos 1073741824 ≡ pos (2 ^ 30) *ℤ (pos 5 *ℤ a +ℤ pos 5 *ℤ b +ℤ c +ℤ d)
+exact = over 4 _ λ ρ. simp (poly, ρ) (omega arith)
+
+pub toward-four : (p : ℕ → ℤ) (i : ℕ) → toward p 4 i ≡ round (pos 5 *ℤ p (i + 0) +ℤ pos 5 *ℤ p (i + 1) +ℤ p (i + 2) +ℤ p (i + 3)) (pos 12)
+unfolding toward weight cosine table
+toward-four p i =
+    ap (λ (z : ℤ). round z (pos 12884901888)) (four (λ k. p (i + k) *ℤ weight 4 k) ∙ exact (p (i + 0)) (p (i + 1)) (p (i + 2)) (p (i + 3)))
+    ∙ round-scale (pos (2 ^ 30)) (pos 5 *ℤ p (i + 0) +ℤ pos 5 *ℤ p (i + 1) +ℤ p (i + 2) +ℤ p (i + 3)) (pos 12) (ltZ-yes tt) (ltZ-yes tt)
+
+pub centre-four : (p : ℕ → ℤ) → Cyclic p 4 → (i : ℕ) → centre p 4 ≡ round (p (0 + i) +ℤ p (1 + i) +ℤ p (2 + i) +ℤ p (3 + i)) (pos 4)
+unfolding centre
+centre-four p cyc i = ap (λ (z : ℤ). round z (pos 4)) (sym (cycle p 4 cyc i) ∙ four (λ j. p (j + i)))
+
+module _ (here after far before : ℤ) (r : Face)
+    (e : r .centre ≡ round (here +ℤ after +ℤ far +ℤ before) (pos 4)) (a : r .ahead ≡ round (pos 5 *ℤ here +ℤ pos 5 *ℤ after +ℤ far +ℤ before) (pos 12))
+    (b : r .behind ≡ round (pos 5 *ℤ before +ℤ pos 5 *ℤ here +ℤ after +ℤ far) (pos 12))
+    (se : Corner (r .centre)) (sa : Corner (r .ahead)) (sb : Corner (r .behind)) where
+  wider : (z : ℤ) → Corner z → FacePoint z
+  wider z h = omega arith
+
+  pub edge-is : IsEdgeFace here after far before r
+  edge-is = record {
+    faces = λ p cyc i p0 p1 p2 p3.
+        let turn : (j : ℕ) → p (i + 3 + (j + 1)) ≡ p (i + j) = λ j. ap p (later i j) ∙ cyc (i + j) in
+        record {
+          centre = cc (e, centre-four p cyc i, ap p (swap 0 i), ap p (swap 1 i), ap p (swap 2 i), ap p (swap 3 i), ap p (none i));
+          ahead = cc (a, toward-four p i, ap p (none i));
+          behind = cc (b, toward-four p (i + 3), ap p (none (i + 3)), turn 0, turn 1, turn 2, ap p (none i));
+          centre-size = se;
+          ahead-size = wider (r .ahead) sa;
+          behind-size = wider (r .behind) sb;
+        };
+  }
+    where
+      later : (i j : ℕ) → i + 3 + (j + 1) ≡ i + j + 4
+      later i j = omega arith
+
+      swap : (j i : ℕ) → j + i ≡ i + j
+      swap j i = omega arith
+
+      none : (i : ℕ) → i + 0 ≡ i
+      none i = omega arith
+
+-- ---- a division, in the machine's numbers
+pub divided : (n d e r : ℤ) → SFits w64 n → SFits w64 r → d ≡ e → r ≡ round (plain n) d → plain r ≡ round n e
+divided n d e r fn fr h q = toZ-ofZ fr ∙ q ∙ cc (h, toZ-ofZ fn)
+
+pub sized : (n y : ℤ) → n ≡ y → natAbs y ≤ 2 ^ 60 → natAbs (plain n) ≤ 2 ^ 60
+sized n y e h = rw (e, toZ-ofZ (abs-fits w64 y (2 ^ 60) h (lit< tt))) h
+
+pub quotient : (n y d r : ℤ) → n ≡ y → natAbs y ≤ 2 ^ 60 → SFits w64 r → r ≡ round (plain n) d → plain r ≡ round y d
+quotient n y d r e h f q = divided n d d r (rw e (abs-fits w64 y (2 ^ 60) h (lit< tt))) f refl q ∙ ap (λ (z : ℤ). round z d) e
+
+-- a divisor that is a count, or a count of weights
+pub count-divides : (m : ℕ) → 3 ≤ m → m ≤ 12 → (pos 0 <ℤ pos m) × ((pos m) ≤ℤ pos (2 ^ 36))
+count-divides m l h = simp diff (omega arith)
+
+pub weights-divide : (m : ℕ) → 3 ≤ m → m ≤ 12 → SFits w64 (pos (3221225472 * m)) × ((pos 0 <ℤ pos (3221225472 * m)) × ((pos (3221225472 * m)) ≤ℤ pos (2 ^ 36)))
+weights-divide m l h = simp diff (omega arith)

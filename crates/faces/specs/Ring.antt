@@ -1,0 +1,50 @@
+-- A refined face as the code goes round it: a table of steps from corner to corner, and the refined points of the corners.
+-- Assumes nothing.
+use mathlib.Core.Path.{_≡_}
+use mathlib.Core.List.{List}
+use Prim.Native.Nat.{ℕ, _+_, _-_, _^_, _≤_, _<_}
+use lib.ListN.{length, getD}
+use lib.IntN.{ℤ, pos, natAbs, _*ℤ_}
+use Rattle.integers.specs.Sum.{sum}
+use Rattle.integers.proofs.Sum.{Cyclic}
+use Rattle.mesh.specs.Limits.{leastSides, mostSides}
+use Rattle.mesh.specs.Scan.{iterate}
+use Rattle.formulas.specs.Sizes.{Corner, FacePoint}
+use Rattle.surface.specs.Face.{centre, weight, toward}
+use Rattle.faces.specs.declared.Sums.{Sums}
+use Rattle.faces.specs.declared.Face.{Face}
+
+-- the point after j steps from c
+unfoldable pub around : List ℤ → List ℕ → ℕ → ℕ → ℤ
+around points steps c j = getD points (iterate j (λ i. getD steps i 0) c) (pos 0)
+
+-- the tables hold a ring of m corners at c
+pub record Ring (points : List ℤ) (steps : List ℕ) (c m : ℕ) : Type 0 where
+  pub count : ℕ
+  pub here : c < count
+  pub points-hold : count ≤ length points
+  pub steps-hold : count ≤ length steps
+  pub step-in : (i : ℕ) → i < count → getD steps i 0 < count
+  pub point-size : (i : ℕ) → i < count → Corner (getD points i (pos 0))
+  pub closes : iterate m (λ i. getD steps i 0) c ≡ c
+  pub least : leastSides ≤ m
+  pub most : m ≤ mostSides
+
+-- the sums of one way round: of the points, and of the points by their weights towards the side that leaves c and the side before it
+pub record Summed (p : ℕ → ℤ) (m : ℕ) (r : Sums) : Type 0 where
+  pub total : r .total ≡ sum p m
+  pub ahead : r .ahead ≡ sum (λ k. p k *ℤ weight m k) m
+  pub behind : r .behind ≡ sum (λ k. p k *ℤ weight m (k + 1)) m
+
+-- centre and face points towards the side from place i to the next, and towards the side from place j
+pub record IsFace (p : ℕ → ℤ) (m i j : ℕ) (r : Face) : Type 0 where
+  pub centre : r .centre ≡ centre p m
+  pub ahead : r .ahead ≡ toward p m i
+  pub behind : r .behind ≡ toward p m j
+  pub centre-size : Corner (r .centre)
+  pub ahead-size : FacePoint (r .ahead)
+  pub behind-size : FacePoint (r .behind)
+
+-- the face of any ring of four that has these points in turn from its place i
+pub record IsEdgeFace (here after far before : ℤ) (r : Face) : Type 0 where
+  pub faces : (p : ℕ → ℤ) → Cyclic p 4 → (i : ℕ) → p i ≡ here → p (i + 1) ≡ after → p (i + 2) ≡ far → p (i + 3) ≡ before → IsFace p 4 i (i + 3) r

@@ -1,0 +1,54 @@
+-- `formulas::half` meets its contract: the sum fits, and half of it is no larger than the larger of the two.
+-- Assumes nothing.
+use mathlib.Core.Path.{_≡_}
+use Prim.Native.Nat.{_^_, _≤_}
+use native.Mathlib.Omega.{arith}
+use borrow.Author.Needs.{needs}
+use lib.IntN.{ℤ, pos, natAbs, _+ℤ_}
+use mir.Syntax.{w64}
+use mir.Val.{SFits}
+use mir.Facts.{toZ-ofZ}
+use Rattle.integers.proofs.Poly.{over, poly}
+use Rattle.rounding.specs.Round.{round, Near}
+use Rattle.rounding.proofs.Laws.{near-is}
+use Rattle.formulas.specs.Sizes.{Written}
+use Rattle.formulas.proofs.half.Statement.{statement}
+use Rattle.formulas.proofs.half.Tie as tie
+
+abbrev total : ℤ → ℤ → ℤ
+total a b = a +ℤ b
+
+abbrev Given : ℤ → ℤ → Type 0
+Given a b = Written a × Written b
+
+abbrev Fine : ℤ → ℤ → Type 0
+Fine a b =
+    SFits w64 (a +ℤ b)
+    × (natAbs (total a b) ≤ 2 ^ 60)
+
+fits : (a b : ℤ) → Given a b → Fine a b
+fits = over 2 _ λ ρ. simp poly (omega arith)
+
+size : (a b q : ℤ) → Given a b → Near (total a b) (pos 2) q → Written q
+size = over 3 _ λ ρ. simp (poly, ρ) (omega arith)
+
+facts : (s : tie.Start) → Fine (s .args .a) (s .args .b)
+facts s = fits (s .args .a) (s .args .b) (s .pre)
+
+add-round-div : tie.Need-add-round-div
+add-round-div c = search (needs, facts c)
+
+round-div-requires : tie.Need-round-div-requires
+round-div-requires c κs = search (needs, facts c)
+
+returns : tie.Need-returns
+returns c =
+    let s = c .before in
+    let k = facts s in
+    let q = c .round-div .result in
+    let f : SFits w64 q = search needs in
+    let e : q ≡ round (total (s .args .a) (s .args .b)) (pos 2) = simp (toZ-ofZ, s .fits .a, s .fits .b, k .0) at (c .round-div .ensures) in
+    rw (toZ-ofZ f) (e, size (s .args .a) (s .args .b) q (s .pre) (near-is (total (s .args .a) (s .args .b)) (pos 2) q tt e))
+
+pub half-spec : {M : Type 1} → statement M
+half-spec = tie.close (tie.spec add-round-div round-div-requires returns)

@@ -1,0 +1,66 @@
+-- `formulas::inner` meets its contract: the sums fit, and a sixth of the last one is bounded by its terms.
+-- Assumes nothing.
+use mathlib.Core.Path.{_≡_}
+use Prim.Native.Nat.{_^_, _≤_}
+use native.Mathlib.Omega.{arith}
+use borrow.Author.Needs.{needs}
+use lib.IntN.{ℤ, pos, natAbs, _+ℤ_, _-ℤ_, _*ℤ_}
+use mir.Syntax.{w64}
+use mir.Val.{SFits}
+use mir.Facts.{toZ-ofZ}
+use Rattle.integers.proofs.Poly.{over, poly}
+use Rattle.rounding.specs.Round.{round, Near}
+use Rattle.rounding.proofs.Laws.{near-is}
+use Rattle.formulas.specs.Sizes.{Corner, FacePoint, Value}
+use Rattle.formulas.proofs.inner.Statement.{statement}
+use Rattle.formulas.proofs.inner.Tie as tie
+
+abbrev total : ℤ → ℤ → ℤ → ℤ → ℤ
+total x y v w = pos 3 *ℤ x +ℤ pos 3 *ℤ y +ℤ v -ℤ w
+
+abbrev Given : ℤ → ℤ → ℤ → ℤ → Type 0
+Given x y v w = FacePoint x × FacePoint y × Corner v × Corner w
+
+abbrev Fine : ℤ → ℤ → ℤ → ℤ → Type 0
+Fine x y v w =
+    SFits w64 (pos 3 *ℤ x) × SFits w64 (pos 3 *ℤ y) × SFits w64 (pos 3 *ℤ x +ℤ pos 3 *ℤ y) × SFits w64 (pos 3 *ℤ x +ℤ pos 3 *ℤ y +ℤ v) × SFits w64 (pos 3 *ℤ x +ℤ pos 3 *ℤ y +ℤ v -ℤ w)
+    × (natAbs (total x y v w) ≤ 2 ^ 60)
+
+fits : (x y v w : ℤ) → Given x y v w → Fine x y v w
+fits = over 4 _ λ ρ. simp (poly, ρ) (omega arith)
+
+size : (x y v w q : ℤ) → Given x y v w → Near (total x y v w) (pos 6) q → Value q
+size = over 5 _ λ ρ. simp (poly, ρ) (omega arith)
+
+facts : (s : tie.Start) → Fine (s .args .x) (s .args .y) (s .args .v) (s .args .w)
+facts s = fits (s .args .x) (s .args .y) (s .args .v) (s .args .w) (s .pre)
+
+mul-round-div : tie.Need-mul-round-div
+mul-round-div c = search (needs, facts c)
+
+mul-round-div-2 : tie.Need-mul-round-div-2
+mul-round-div-2 c = search (needs, facts c)
+
+add-round-div : tie.Need-add-round-div
+add-round-div c = search (needs, facts c)
+
+add-round-div-2 : tie.Need-add-round-div-2
+add-round-div-2 c = search (needs, facts c)
+
+sub-round-div : tie.Need-sub-round-div
+sub-round-div c = search (needs, facts c)
+
+round-div-requires : tie.Need-round-div-requires
+round-div-requires c κs = search (needs, facts c)
+
+returns : tie.Need-returns
+returns c =
+    let s = c .before in
+    let k = facts s in
+    let q = c .round-div .result in
+    let f : SFits w64 q = search needs in
+    let e : q ≡ round (total (s .args .x) (s .args .y) (s .args .v) (s .args .w)) (pos 6) = simp (toZ-ofZ, s .fits .x, s .fits .y, s .fits .v, s .fits .w, k .0, k .1, k .2, k .3, k .4) at (c .round-div .ensures) in
+    rw (toZ-ofZ f) (e, size (s .args .x) (s .args .y) (s .args .v) (s .args .w) q (s .pre) (near-is (total (s .args .x) (s .args .y) (s .args .v) (s .args .w)) (pos 6) q tt e))
+
+pub inner-spec : {M : Type 1} → statement M
+inner-spec = tie.close (tie.spec mul-round-div mul-round-div-2 add-round-div add-round-div-2 sub-round-div round-div-requires returns)

@@ -1,0 +1,57 @@
+-- `formulas::quarter` meets its contract: the sum fits, and a quarter of it is no larger than the larger of the two.
+-- Assumes nothing.
+use mathlib.Core.Path.{_≡_}
+use Prim.Native.Nat.{_^_, _≤_}
+use native.Mathlib.Omega.{arith}
+use borrow.Author.Needs.{needs}
+use lib.IntN.{ℤ, pos, natAbs, _+ℤ_, _*ℤ_}
+use mir.Syntax.{w64}
+use mir.Val.{SFits}
+use mir.Facts.{toZ-ofZ}
+use Rattle.integers.proofs.Poly.{over, poly}
+use Rattle.rounding.specs.Round.{round, Near}
+use Rattle.rounding.proofs.Laws.{near-is}
+use Rattle.formulas.specs.Sizes.{Value, Written}
+use Rattle.formulas.proofs.quarter.Statement.{statement}
+use Rattle.formulas.proofs.quarter.Tie as tie
+
+abbrev total : ℤ → ℤ → ℤ
+total e x = e +ℤ pos 3 *ℤ x
+
+abbrev Given : ℤ → ℤ → Type 0
+Given e x = Value e × Value x
+
+abbrev Fine : ℤ → ℤ → Type 0
+Fine e x =
+    SFits w64 (pos 3 *ℤ x) × SFits w64 (e +ℤ pos 3 *ℤ x)
+    × (natAbs (total e x) ≤ 2 ^ 60)
+
+fits : (e x : ℤ) → Given e x → Fine e x
+fits = over 2 _ λ ρ. simp (poly, ρ) (omega arith)
+
+size : (e x q : ℤ) → Given e x → Near (total e x) (pos 4) q → Written q
+size = over 3 _ λ ρ. simp (poly, ρ) (omega arith)
+
+facts : (s : tie.Start) → Fine (s .args .e) (s .args .x)
+facts s = fits (s .args .e) (s .args .x) (s .pre)
+
+mul-round-div : tie.Need-mul-round-div
+mul-round-div c = search (needs, facts c)
+
+add-round-div : tie.Need-add-round-div
+add-round-div c = search (needs, facts c)
+
+round-div-requires : tie.Need-round-div-requires
+round-div-requires c κs = let k = facts c in simp (toZ-ofZ, c .fits .e, c .fits .x, k .0, k .1) (record { lt = tt }, (record { le = tt }, k .2))
+
+returns : tie.Need-returns
+returns c =
+    let s = c .before in
+    let k = facts s in
+    let q = c .round-div .result in
+    let f : SFits w64 q = search needs in
+    let e : q ≡ round (total (s .args .e) (s .args .x)) (pos 4) = simp (toZ-ofZ, s .fits .e, s .fits .x, k .0, k .1) at (c .round-div .ensures) in
+    rw (toZ-ofZ f) (e, size (s .args .e) (s .args .x) q (s .pre) (near-is (total (s .args .e) (s .args .x)) (pos 4) q tt e))
+
+pub quarter-spec : {M : Type 1} → statement M
+quarter-spec = tie.close (tie.spec mul-round-div add-round-div round-div-requires returns)

@@ -1,0 +1,103 @@
+-- `formulas::second` meets its contract: the products fit by the bounds on c, the sums by those on the products, and the rounded quotient is bounded by its terms.
+-- Assumes nothing.
+use mathlib.Core.Path.{_≡_}
+use Prim.Native.Nat.{_*_, _^_, _≤_}
+use native.Mathlib.Omega.{arith}
+use borrow.Author.Needs.{needs}
+use lib.IntN.{ℤ, pos, natAbs, _+ℤ_, _-ℤ_, _*ℤ_}
+use mir.Syntax.{w64}
+use mir.Val.{SFits}
+use mir.Facts.{toZ-ofZ}
+use Rattle.integers.proofs.Poly.{over, poly}
+use Rattle.integers.proofs.Laws.{abs-mul-le}
+use Rattle.rounding.specs.Round.{round, Near}
+use Rattle.rounding.proofs.Laws.{near-is}
+use Rattle.formulas.specs.Sizes.{Value, Written, Row}
+use Rattle.formulas.proofs.second.Statement.{statement}
+use Rattle.formulas.proofs.second.Tie as tie
+
+abbrev total : ℤ → ℤ → ℤ → ℤ → ℤ → ℤ → ℤ
+total c h x y s n = c *ℤ h +ℤ pos 3 *ℤ (pos (2 ^ 30) -ℤ c) *ℤ x +ℤ pos 2 *ℤ c *ℤ y +ℤ pos (2 ^ 30) *ℤ s +ℤ pos (2 ^ 32) *ℤ n
+
+abbrev Given : ℤ → ℤ → ℤ → ℤ → ℤ → ℤ → Type 0
+Given c h x y s n = Row c × Value h × Value x × Value y × Value s × Value n
+
+-- the three products
+abbrev Products : ℤ → ℤ → ℤ → ℤ → ℤ → ℤ → Type 0
+Products c h x y s n = (natAbs (c *ℤ h) ≤ 2 ^ 30 * 2 ^ 25) × (natAbs ((pos (2 ^ 30) -ℤ c) *ℤ x) ≤ 3 * 2 ^ 29 * 2 ^ 25) × (natAbs (c *ℤ y) ≤ 2 ^ 30 * 2 ^ 25)
+
+cosine-size : (c : ℤ) → Row c → (natAbs c ≤ 2 ^ 30) × (natAbs (pos (2 ^ 30) -ℤ c) ≤ 3 * 2 ^ 29)
+cosine-size = over 1 _ λ ρ. simp (poly, ρ) (omega arith)
+
+products : (c h x y s n : ℤ) → Given c h x y s n → Products c h x y s n
+products c h x y s n g =
+    let k = cosine-size c (g .0) in (
+      abs-mul-le c h (2 ^ 30) (2 ^ 25) (k .0) (g .1),
+      abs-mul-le (pos (2 ^ 30) -ℤ c) x (3 * 2 ^ 29) (2 ^ 25) (k .1) (g .2),
+      abs-mul-le c y (2 ^ 30) (2 ^ 25) (k .0) (g .3),
+    )
+
+abbrev Fine : ℤ → ℤ → ℤ → ℤ → ℤ → ℤ → Type 0
+Fine c h x y s n =
+    SFits w64 (c *ℤ h) × SFits w64 (pos (2 ^ 30) -ℤ c) × SFits w64 (pos 3 *ℤ (pos (2 ^ 30) -ℤ c)) × SFits w64 (pos 3 *ℤ (pos (2 ^ 30) -ℤ c) *ℤ x) × SFits w64 (c *ℤ h +ℤ pos 3 *ℤ (pos (2 ^ 30) -ℤ c) *ℤ x) × SFits w64 (pos 2 *ℤ c) × SFits w64 (pos 2 *ℤ c *ℤ y) × SFits w64 (c *ℤ h +ℤ pos 3 *ℤ (pos (2 ^ 30) -ℤ c) *ℤ x +ℤ pos 2 *ℤ c *ℤ y) × SFits w64 (pos (2 ^ 30) *ℤ s) × SFits w64 (c *ℤ h +ℤ pos 3 *ℤ (pos (2 ^ 30) -ℤ c) *ℤ x +ℤ pos 2 *ℤ c *ℤ y +ℤ pos (2 ^ 30) *ℤ s) × SFits w64 (pos (2 ^ 32) *ℤ n) × SFits w64 (total c h x y s n)
+    × (natAbs (total c h x y s n) ≤ 2 ^ 60)
+
+fits : (c h x y s n : ℤ) → Given c h x y s n → Products c h x y s n → Fine c h x y s n
+fits = over 6 _ λ ρ. simp (poly, ρ) (omega arith)
+
+size : (c h x y s n q : ℤ) → Given c h x y s n → Products c h x y s n → Near (total c h x y s n) (pos (2 ^ 33)) q → Written q
+size = over 7 _ λ ρ. simp (poly, ρ) (omega arith)
+
+facts : (s : tie.Start) → Fine (s .args .c) (s .args .h) (s .args .x) (s .args .y) (s .args .s) (s .args .n)
+facts s = fits (s .args .c) (s .args .h) (s .args .x) (s .args .y) (s .args .s) (s .args .n) (s .pre) (products (s .args .c) (s .args .h) (s .args .x) (s .args .y) (s .args .s) (s .args .n) (s .pre))
+
+mul-round-div : tie.Need-mul-round-div
+mul-round-div c = search (needs, facts c)
+
+sub-round-div : tie.Need-sub-round-div
+sub-round-div c = search (needs, facts c)
+
+mul-round-div-2 : tie.Need-mul-round-div-2
+mul-round-div-2 c = search (needs, facts c)
+
+mul-round-div-3 : tie.Need-mul-round-div-3
+mul-round-div-3 c = search (needs, facts c)
+
+add-round-div : tie.Need-add-round-div
+add-round-div c = search (needs, facts c)
+
+mul-round-div-4 : tie.Need-mul-round-div-4
+mul-round-div-4 c = search (needs, facts c)
+
+mul-round-div-5 : tie.Need-mul-round-div-5
+mul-round-div-5 c = search (needs, facts c)
+
+add-round-div-2 : tie.Need-add-round-div-2
+add-round-div-2 c = let k = facts c in simp (toZ-ofZ, c .fits .c, c .fits .h, c .fits .x, c .fits .y, c .fits .s, c .fits .n, k .0, k .1, k .2, k .3, k .4, k .5, k .6) (k .7)
+
+mul-round-div-6 : tie.Need-mul-round-div-6
+mul-round-div-6 c = search (needs, facts c)
+
+add-round-div-3 : tie.Need-add-round-div-3
+add-round-div-3 c = let k = facts c in simp (toZ-ofZ, c .fits .c, c .fits .h, c .fits .x, c .fits .y, c .fits .s, c .fits .n, k .0, k .1, k .2, k .3, k .4, k .5, k .6, k .7, k .8) (k .9)
+
+mul-round-div-7 : tie.Need-mul-round-div-7
+mul-round-div-7 c = search (needs, facts c)
+
+add-round-div-4 : tie.Need-add-round-div-4
+add-round-div-4 c = let k = facts c in simp (toZ-ofZ, c .fits .c, c .fits .h, c .fits .x, c .fits .y, c .fits .s, c .fits .n, k .0, k .1, k .2, k .3, k .4, k .5, k .6, k .7, k .8, k .9, k .10) (k .11)
+
+round-div-requires : tie.Need-round-div-requires
+round-div-requires c κs = let k = facts c in simp (toZ-ofZ, c .fits .c, c .fits .h, c .fits .x, c .fits .y, c .fits .s, c .fits .n, k .0, k .1, k .2, k .3, k .4, k .5, k .6, k .7, k .8, k .9, k .10, k .11) (record { lt = tt }, (record { le = tt }, k .12))
+
+returns : tie.Need-returns
+returns c =
+    let s = c .before in
+    let k = facts s in
+    let q = c .round-div .result in
+    let f : SFits w64 q = search needs in
+    let e : q ≡ round (total (s .args .c) (s .args .h) (s .args .x) (s .args .y) (s .args .s) (s .args .n)) (pos (2 ^ 33)) = simp (toZ-ofZ, s .fits .c, s .fits .h, s .fits .x, s .fits .y, s .fits .s, s .fits .n, k .0, k .1, k .2, k .3, k .4, k .5, k .6, k .7, k .8, k .9, k .10, k .11) at (c .round-div .ensures) in
+    rw (toZ-ofZ f) (e, size (s .args .c) (s .args .h) (s .args .x) (s .args .y) (s .args .s) (s .args .n) q (s .pre) (products (s .args .c) (s .args .h) (s .args .x) (s .args .y) (s .args .s) (s .args .n) (s .pre)) (near-is (total (s .args .c) (s .args .h) (s .args .x) (s .args .y) (s .args .s) (s .args .n)) (pos (2 ^ 33)) q tt e))
+
+pub second-spec : {M : Type 1} → statement M
+second-spec = tie.close (tie.spec mul-round-div sub-round-div mul-round-div-2 mul-round-div-3 add-round-div mul-round-div-4 mul-round-div-5 add-round-div-2 mul-round-div-6 add-round-div-3 mul-round-div-7 add-round-div-4 round-div-requires returns)

@@ -1,0 +1,78 @@
+// The formulas of a quad-net over plain numbers, each with its one rounding: face points of a four-sided refined face, inner
+// points, points of the outer rows and of the a rows, and the middles. One function serves four sides and three axes.
+ghost use mathlib.Core.Path.{_≡_};
+ghost use Prim.Native.Nat.{_*_, _+_, _-_, _^_, _≤_, _<_};
+ghost use lib.IntN.{ℤ, pos, natAbs, _+ℤ_, _-ℤ_, _*ℤ_};
+ghost use Rattle.rounding.specs.Round.{round};
+ghost use Rattle.formulas.specs.Sizes.{Corner, FacePoint, Value, Written, Row};
+
+// The centre of a four-sided refined face.
+pub fn mean(a: i64, b: i64, c: i64, d: i64) -> i64
+    requires { ⌜ Corner a × Corner b × Corner c × Corner d ⌝ }
+    ensures { λ r. ⌜ (r ≡ round (a +ℤ b +ℤ c +ℤ d) (pos 4)) × Corner r ⌝ }
+{
+    rounding::round_div(a + b + c + d, 4)
+}
+
+// The point of a four-sided refined face towards its side from a to b: the weights 5/12, 5/12, 1/12, 1/12.
+pub fn toward(a: i64, b: i64, c: i64, d: i64) -> i64
+    requires { ⌜ Corner a × Corner b × Corner c × Corner d ⌝ }
+    ensures { λ r. ⌜ (r ≡ round (pos 5 *ℤ a +ℤ pos 5 *ℤ b +ℤ c +ℤ d) (pos 12)) × Corner r ⌝ }
+{
+    rounding::round_div(5 * a + 5 * b + c + d, 12)
+}
+
+// Half the sum of two points.
+pub fn half(a: i64, b: i64) -> i64
+    requires { ⌜ Written a × Written b ⌝ }
+    ensures { λ r. ⌜ (r ≡ round (a +ℤ b) (pos 2)) × Written r ⌝ }
+{
+    rounding::round_div(a + b, 2)
+}
+
+// The second point of an outer row from its head, and the fourth from its tail.
+pub fn quarter(e: i64, x: i64) -> i64
+    requires { ⌜ Value e × Value x ⌝ }
+    ensures { λ r. ⌜ (r ≡ round (e +ℤ pos 3 *ℤ x) (pos 4)) × Written r ⌝ }
+{
+    rounding::round_div(e + 3 * x, 4)
+}
+
+// The inner point N of a side; v is the refined point, w the neighbour's.
+pub fn inner(x: i64, y: i64, v: i64, w: i64) -> i64
+    requires { ⌜ FacePoint x × FacePoint y × Corner v × Corner w ⌝ }
+    ensures { λ r. ⌜ (r ≡ round (pos 3 *ℤ x +ℤ pos 3 *ℤ y +ℤ v -ℤ w) (pos 6)) × Value r ⌝ }
+{
+    rounding::round_div(3 * x + 3 * y + v - w, 6)
+}
+
+// The second point of an a row; s is X of the other side at the head.
+pub fn second(c: i64, h: i64, x: i64, y: i64, s: i64, n: i64) -> i64
+    requires { ⌜ Row c × Value h × Value x × Value y × Value s × Value n ⌝ }
+    ensures { λ r. ⌜ (r ≡ round (c *ℤ h +ℤ pos 3 *ℤ (pos (2 ^ 30) -ℤ c) *ℤ x +ℤ pos 2 *ℤ c *ℤ y +ℤ pos (2 ^ 30) *ℤ s +ℤ pos (2 ^ 32) *ℤ n) (pos (2 ^ 33))) × Written r ⌝ }
+{
+    rounding::round_div(
+        c * h + 3 * (1073741824 - c) * x + 2 * c * y + 1073741824 * s + 4294967296 * n,
+        8589934592,
+    )
+}
+
+// The third point of an a row; c is the head's too, s is Y of the other side at the tail.
+pub fn third(c: i64, t: i64, y: i64, s: i64, n: i64) -> i64
+    requires { ⌜ Row c × Value t × Value y × Value s × Value n ⌝ }
+    ensures { λ r. ⌜ (r ≡ round ((pos (3 * 2 ^ 30) -ℤ c) *ℤ y +ℤ c *ℤ t +ℤ pos (2 ^ 32) *ℤ n +ℤ pos (2 ^ 30) *ℤ s) (pos (2 ^ 33))) × Written r ⌝ }
+{
+    rounding::round_div(
+        (3221225472 - c) * y + c * t + 4294967296 * n + 1073741824 * s,
+        8589934592,
+    )
+}
+
+// The middle of the row next to an outer row: n is N of the side, o of the opposite one, g and l of the adjoining ones; x and y
+// are X* and Y*.
+pub fn middle(n: i64, o: i64, g: i64, l: i64, x: i64, y: i64, h: i64, t: i64) -> i64
+    requires { ⌜ Value n × Value o × Value g × Value l × Value x × Value y × Value h × Value t ⌝ }
+    ensures { λ r. ⌜ (r ≡ round (pos 14 *ℤ n +ℤ pos 2 *ℤ (o -ℤ g -ℤ l) +ℤ pos 3 *ℤ (x +ℤ y) -ℤ h -ℤ t) (pos 16)) × Written r ⌝ }
+{
+    rounding::round_div(14 * n + 2 * (o - g - l) + 3 * (x + y) - h - t, 16)
+}

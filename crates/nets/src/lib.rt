@@ -1,0 +1,83 @@
+// The quad-net of one corner on one axis: its 41 control points from the tables of the mesh, by value as two grids, and then
+// written out, every third number of the corner's part of the output.
+ghost use mathlib.Core.Path.{_≡_};
+ghost use mathlib.Core.List.{List, []};
+ghost use Prim.Native.Nat.{ℕ, _+_, _*_, _≤_, _<_};
+ghost use lib.ListN.{length, getD};
+ghost use lib.IntN.{ℤ, pos};
+ghost use Rattle.formulas.specs.Sizes.{Written};
+ghost use Rattle.surface.specs.Net.{rows};
+ghost use Rattle.sides.specs.Tabled.{tabled, Tables};
+ghost use Rattle.nets.specs.Put.{Placed, Put};
+
+// A row, every third number from `from` on.
+fn put_row(row: &[i64], out: &mut [i32], from: usize)
+    requires { ⌜ (from + 3 * length (now row) ≤ length (now out) + 2) × ((j : ℕ) → j < length (now row) → Written (getD (now row) j (pos 0))) ⌝ }
+    ensures { λ _. ⌜ Placed (now (out .entry)) (now (out .exit)) from (now (row .entry)) ⌝ }
+{
+    let mut j: usize = 0;
+    while j < row.len() {
+        let v = row[j];
+        out[from + 3 * j] = v as i32;
+        j += 1;
+    }
+}
+
+// The five rows of five b points.
+fn put_b(g: [[i64; 5]; 5], out: &mut [i32], from: usize)
+    requires { ⌜ (from + 75 ≤ length (now out) + 2) × ((i : ℕ) → i < 5 → length (getD g i []) ≡ 5) × ((i j : ℕ) → i < 5 → j < 5 → Written (getD (getD g i []) j (pos 0))) ⌝ }
+    ensures { λ _. ⌜ Placed (now (out .entry)) (now (out .exit)) from (rows g) ⌝ }
+{
+    let mut i: usize = 0;
+    while i < 5 {
+        let row = g[i];
+        put_row(&row, out, from + 15 * i);
+        i += 1;
+    }
+}
+
+// The four rows of four a points.
+fn put_a(g: [[i64; 4]; 4], out: &mut [i32], from: usize)
+    requires { ⌜ (from + 48 ≤ length (now out) + 2) × ((i : ℕ) → i < 4 → length (getD g i []) ≡ 4) × ((i j : ℕ) → i < 4 → j < 4 → Written (getD (getD g i []) j (pos 0))) ⌝ }
+    ensures { λ _. ⌜ Placed (now (out .entry)) (now (out .exit)) from (rows g) ⌝ }
+{
+    let mut i: usize = 0;
+    while i < 4 {
+        let row = g[i];
+        put_row(&row, out, from + 12 * i);
+        i += 1;
+    }
+}
+
+// The 41 points of the net of c on an axis, into the 123 numbers from `at` on.
+pub fn put_net(
+    points: &[i32],
+    nexts: &[u16],
+    previouses: &[u16],
+    links: &[u16],
+    sides: &[u8],
+    valences: &[u8],
+    count: usize,
+    c: usize,
+    axis: usize,
+    out: &mut [i32],
+    at: usize,
+)
+    requires { ⌜ Tables count (now nexts) (now previouses) (now links) (now sides) (now valences) (now points) c × (axis < 3) × (at + 123 ≤ length (now out)) ⌝ }
+    ensures { λ _. ⌜ Put (tabled count (now (nexts .entry)) (now (previouses .entry)) (now (links .entry)) (now (sides .entry)) (now (valences .entry)) (now (points .entry))) c axis at (now (out .entry)) (now (out .exit)) ⌝ }
+{
+    let from = at + axis;
+    let n = sides::net_sides(points, nexts, previouses, links, sides, valences, count, c);
+    let s0 = n.side0;
+    let s1 = n.side1;
+    let s2 = n.side2;
+    let s3 = n.side3;
+    let r0 = grids::side_rows(s0, s3, s1, s2);
+    let r1 = grids::side_rows(s1, s2, s0, s3);
+    let r2 = grids::side_rows(s2, s1, s3, s0);
+    let r3 = grids::side_rows(s3, s0, s2, s1);
+    let a = grids::a_grid(r0, r1, r2, r3);
+    let b = grids::b_grid(s0.head, s0.tail, s2.head, s3.tail, r0, r1, r2, r3, a);
+    put_b(b, out, from);
+    put_a(a, out, from + 75);
+}

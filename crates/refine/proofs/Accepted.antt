@@ -1,0 +1,16 @@
+-- An accepted mesh gives what refined points are computed from.
+-- Assumes nothing.
+use Rattle.mesh.specs.Lists.{Mesh, cornerCount}
+use Rattle.mesh.specs.Faults.{Accepted}
+use Rattle.mesh.proofs.Accepted.{sound-of, sums-of}
+use Rattle.surface.proofs.Hull.{coordinate-size}
+use Rattle.corner_tables.proofs.Accepted.{vertex-in, faces-of}
+use Rattle.refine.specs.Sources.{Refinable}
+
+pub refinable-of : (M : Mesh) → Accepted M → Refinable M
+refinable-of M a =
+    record {
+      faces = faces-of M a;
+      sums = sums-of (M .sides) (cornerCount M) (sound-of M a .six);
+      placed = record { named = vertex-in M a; within = λ i h. coordinate-size M a i };
+    }

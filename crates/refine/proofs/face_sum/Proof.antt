@@ -1,0 +1,84 @@
+-- The sum of a face's vertices meets its contract: `total` is the sum of those passed, and small.
+-- Assumes nothing.
+use mathlib.Core.Path.{_≡_, ap, _∙_, sym}
+use mathlib.Core.List.{List, []}
+use Prim.Native.Nat.{ℕ, _+_, _-_, _≤_}
+use lib.IntN.{ℤ, _+ℤ_}
+use denote.Ref.{now}
+use mir.Syntax.{w64}
+use mir.Val.{SFits, toZ, ofZ}
+use mir.Facts.{toZ-ofZ}
+use Rattle.integers.specs.Sum.{sum}
+use Rattle.integers.proofs.Sum.{sum-zero, sum-more}
+use Rattle.mesh.specs.Lists.{meshOf}
+use Rattle.surface.specs.Refined.{ticks}
+use Rattle.refine.proofs.Laws.{sum-fits}
+use native.Mathlib.Omega.{arith}
+use borrow.Author.Needs.{needs}
+use Rattle.refine.proofs.face_sum.Statement.{statement}
+use Rattle.refine.proofs.face_sum.Tie as tie
+
+abbrev Inv-loop : tie.InvT-loop
+Inv-loop coordinates corners axis start n total₀ j₀ total j = (j ≤ n) × ((sides : List ℕ) → toZ w64 total ≡ sum (λ k. ticks (meshOf coordinates sides corners) axis (start + k)) j)
+
+abbrev μ-loop : tie.MeasureT-loop
+μ-loop coordinates corners axis start n total₀ j₀ total j = n - j
+
+-- one more vertex x to the sum s, as the machine adds it
+turn : (t : ℕ) (r s x : ℤ) → SFits w64 r → toZ w64 t ≡ s → r ≡ x → SFits w64 (s +ℤ x)
+    → SFits w64 (toZ w64 t +ℤ toZ w64 (ofZ w64 r)) × (toZ w64 (ofZ w64 (toZ w64 t +ℤ toZ w64 (ofZ w64 r))) ≡ s +ℤ x)
+turn t r s x f e q k = rw (toZ-ofZ f, e, q) (k, toZ-ofZ k)
+
+module _ (c : tie.After-tick Inv-loop μ-loop) (sides : List ℕ) where
+  abbrev vertex : ℕ → ℤ
+  vertex k =
+      let s = c .before .before .before .before in
+      ticks (meshOf (now (s .args .coordinates)) sides (now (s .args .corners))) (s .args .axis) (s .args .start + k)
+
+  step : SFits w64 (toZ w64 (c .before .before .loop .total) +ℤ toZ w64 (ofZ w64 (c .tick .result)))
+      × (toZ w64 (ofZ w64 (toZ w64 (c .before .before .loop .total) +ℤ toZ w64 (ofZ w64 (c .tick .result)))) ≡ sum vertex (c .before .before .loop .j + 1))
+  step =
+      let s = c .before .before .before .before in
+      let l = c .before .before .loop in
+      let fits = sum-fits (now (s .args .coordinates)) (now (s .args .corners)) (s .pre .0) (s .args .axis) (s .args .start) (s .pre .1 .0) sides (l .j + 1)
+      (omega (arith, s .pre .1 .1)) (omega (arith, s .pre .1 .2)) in
+      rw sum-more (turn (l .total) (c .tick .result) (sum vertex (l .j)) (vertex (l .j)) (search needs) (l .inv .1 sides) (c .tick .ensures sides) (rw sum-more at fits))
+
+loop-holds : tie.Need-loop-holds Inv-loop μ-loop
+loop-holds c = (search needs, λ sides. sym (sum-zero _))
+
+add-tick : tie.Need-add-tick Inv-loop μ-loop
+add-tick c = omega (arith, c .before .before .before .pre .1 .1)
+
+tick-requires : tie.Need-tick-requires Inv-loop μ-loop
+tick-requires c κs = let s = c .before .before .before in (s .pre .0, (s .pre .1 .0, omega (arith, s .pre .1 .1)))
+
+add-total : tie.Need-add-total Inv-loop μ-loop
+add-total c = step c [] .0
+
+add-j : tie.Need-add-j Inv-loop μ-loop
+add-j c = search needs
+
+loop-less : tie.Need-loop-less Inv-loop μ-loop
+loop-less c = search needs
+
+loop-again : tie.Need-loop-again Inv-loop μ-loop
+loop-again c = (search needs, λ sides. step c sides .1)
+
+returns : tie.Need-returns Inv-loop μ-loop
+returns c = let s = c .before .before .before in let l = c .before .loop in let e : l .j ≡ s .args .n = omega arith in λ sides. l .inv .1 sides ∙ ap (sum (λ j. ticks (meshOf (now (s .args .coordinates)) sides (now (s .args .corners))) (s .args .axis) (s .args .start + j))) e
+
+pub face-sum-spec : {M : Type 1} → statement M
+face-sum-spec =
+    tie.close
+    (tie.spec
+    Inv-loop
+    μ-loop
+    loop-holds
+    add-tick
+    tick-requires
+    add-total
+    add-j
+    loop-less
+    loop-again
+    returns)

@@ -1,0 +1,94 @@
+// Checks 14 to 17: what is asked of building besides the mesh, for a mesh that has passed the checks before.
+use mesh::Answer;
+ghost use mathlib.Core.Path.{_≡_};
+ghost use mathlib.Core.Bool.{not, _||_};
+ghost use Prim.Native.Nat.{ℕ, _+_, _≤_};
+ghost use lib.Dec.{eqb, ltb};
+ghost use lib.ListN.{length};
+ghost use Rattle.mesh.specs.Limits.{mostCorners};
+ghost use Rattle.mesh.specs.Lists.{Mesh, cornerCount};
+ghost use Rattle.mesh.specs.Tables.{LinkTable};
+ghost use Rattle.mesh.specs.Faults.{single, lowestOf};
+ghost use Rattle.mesh.specs.Answers.{stated};
+ghost use Rattle.surface.specs.Building.{fault15, fault17};
+ghost use Rattle.requests.specs.Request.{requestFaults};
+
+// The numbers that building writes for a corner.
+pub const PER_CORNER: usize = 123;
+
+// Checks 14 to 17; `table` holds the links of the mesh, `room` is the output's length.
+pub fn check_request(
+    corners: usize,
+    table: &[u16],
+    links: &[u16],
+    first: usize,
+    count: usize,
+    room: usize,
+) -> Answer
+    requires { ⌜ (corners ≤ mostCorners) × (corners ≤ length (now table)) ⌝ }
+    ensures { λ r. ⌜ ((M : Mesh) → cornerCount M ≡ corners → LinkTable (M .sides) (M .corners) (now (table .entry)) → stated r ≡ requestFaults M (now (links .entry)) first count room) ⌝ }
+{
+    let a14 = check_length(links.len(), corners);
+    if let Answer::Refused(k, p) = a14 {
+        return Answer::Refused(k, p);
+    }
+    let a15 = check_links(table, links);
+    if let Answer::Refused(k, p) = a15 {
+        return Answer::Refused(k, p);
+    }
+    let a16 = check_range(first, count, corners);
+    if let Answer::Refused(k, p) = a16 {
+        return Answer::Refused(k, p);
+    }
+    check_room(count, room)
+}
+
+// Check 14: the link table's length is the corner count.
+fn check_length(links: usize, corners: usize) -> Answer
+    ensures { λ r. ⌜ stated r ≡ single 14 (not (eqb links corners)) links ⌝ }
+{
+    if links != corners {
+        return Answer::Refused(14, links);
+    }
+    Answer::Done
+}
+
+// Check 15: the link table is the mesh's own.
+fn check_links(table: &[u16], links: &[u16]) -> Answer
+    requires { ⌜ length (now links) ≤ length (now table) ⌝ }
+    ensures { λ r. ⌜ ((M : Mesh) → cornerCount M ≡ length (now (links .entry)) → LinkTable (M .sides) (M .corners) (now (table .entry)) → stated r ≡ lowestOf 15 (cornerCount M) (fault15 M (now (links .entry)))) ⌝ }
+{
+    let mut c = 0;
+    while c < links.len() {
+        if links[c] != table[c] {
+            return Answer::Refused(15, c);
+        }
+        c += 1;
+    }
+    Answer::Done
+}
+
+// Check 16: the range is not empty and ends within the corners. The sum is formed of two numbers that are no larger than the corner count.
+fn check_range(first: usize, count: usize, corners: usize) -> Answer
+    requires { ⌜ corners ≤ mostCorners ⌝ }
+    ensures { λ r. ⌜ stated r ≡ single 16 (eqb count 0 || ltb corners (first + count)) first ⌝ }
+{
+    if count == 0 || corners < first {
+        return Answer::Refused(16, first);
+    }
+    if corners < count || corners < first + count {
+        return Answer::Refused(16, first);
+    }
+    Answer::Done
+}
+
+// Check 17: the output has a place for each number.
+fn check_room(count: usize, room: usize) -> Answer
+    requires { ⌜ count ≤ mostCorners ⌝ }
+    ensures { λ r. ⌜ stated r ≡ single 17 (fault17 count room) room ⌝ }
+{
+    if room != PER_CORNER * count {
+        return Answer::Refused(17, room);
+    }
+    Answer::Done
+}
