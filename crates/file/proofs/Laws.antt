@@ -18,7 +18,7 @@ use Rattle.mesh.proofs.Scans.{ways}
 use Rattle.mesh.proofs.Accepted.{sound-of, few-vertices, few-faces, few-corners}
 use Rattle.mesh.proofs.Verdicts.{orElse-sound, sound-left, sound-right, single-sound}
 use Rattle.format.specs.Format.{verticesOf, facesOf, cornersOf, fileMesh, Sized, Room, ListsRead}
-use Rattle.format.proofs.Laws.{read-back, file-coordinates, file-faces, file-corners}
+use Rattle.reading.proofs.Laws.{read-back, file-coordinates, file-faces, file-corners}
 use Rattle.format.proofs.Header.{header-sized}
 use Rattle.counts.specs.Counts.{Counted}
 use Rattle.counts.specs.declared.Counts.{Counts}

@@ -111,7 +111,7 @@ fn survey_lists(file: &[u8]) -> Summary
     let mut coordinates = [0i32; MOST_NUMBERS];
     let mut sides = [0u8; MOST_FACES];
     let mut corners = [0u16; MOST_CORNERS];
-    format::read_lists(file, &mut coordinates, &mut sides, &mut corners);
+    reading::read_lists(file, &mut coordinates, &mut sides, &mut corners);
     let numbers = 3 * format::vertex_count(file);
     let faces = format::face_count(file);
     let count = format::corner_count(file);
@@ -152,7 +152,7 @@ fn decode_file(
     if let Answer::Refused(number, place) = answer {
         return refused(number, place);
     }
-    format::read_lists(file, coordinates, sides, corners);
+    reading::read_lists(file, coordinates, sides, corners);
     Decoded {
         answer: Answer::Done,
         coordinates: 3 * format::vertex_count(file),

@@ -6,7 +6,7 @@ use borrow.Author.Needs.{needs}
 use Rattle.mesh.specs.Lists.{Mesh}
 use Rattle.mesh.specs.Faults.{verdict}
 use Rattle.format.specs.Format.{fileMesh}
-use Rattle.format.proofs.Laws.{read-length, file-coordinates, file-faces, file-corners}
+use Rattle.reading.proofs.Laws.{read-length, file-coordinates, file-faces, file-corners}
 use Rattle.file.specs.File.{Surveyed}
 use Rattle.file.proofs.Laws.{mesh-read}
 use Rattle.file.proofs.survey_lists.Statement.{statement}

@@ -1,15 +1,16 @@
 -- One turn for each number m.
 -- Assumes nothing.
-use Prim.Native.Nat.{_-_, _≤_}
+use Prim.Native.Nat.{_+_, _-_, _≤_}
 use borrow.Author.Needs.{needs}
+use Rattle.mesh.specs.Limits.{mostSides}
 use Rattle.report.proofs.print_counts.Statement.{statement}
 use Rattle.report.proofs.print_counts.Tie as tie
 
 abbrev Inv-loop : tie.InvT-loop
-Inv-loop cornered sided m₀ m = m ≤ 13
+Inv-loop cornered sided m₀ m = m ≤ mostSides + 1
 
 abbrev μ-loop : tie.MeasureT-loop
-μ-loop cornered sided m₀ m = 13 - m
+μ-loop cornered sided m₀ m = mostSides + 1 - m
 
 slice-aggregate-text : tie.Need-slice-aggregate-text Inv-loop μ-loop
 slice-aggregate-text c = search needs

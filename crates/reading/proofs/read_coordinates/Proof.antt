@@ -8,10 +8,10 @@ use lib.ListN.{length, length-set}
 use mir.Syntax.{w32}
 use mir.ValLaws.{toZ-ofZ}
 use borrow.Author.Needs.{needs}
 use Rattle.format.specs.Format.{coordinateIn}
-use Rattle.format.proofs.Laws.{Filled, filled-none, filled-step, filled-all}
-use Rattle.format.proofs.read_coordinates.Statement.{statement}
-use Rattle.format.proofs.read_coordinates.Tie as tie
+use Rattle.reading.proofs.Laws.{Filled, filled-none, filled-step, filled-all}
+use Rattle.reading.proofs.read_coordinates.Statement.{statement}
+use Rattle.reading.proofs.read_coordinates.Tie as tie
 
 abbrev Inv-loop : tie.InvT-loop
 Inv-loop file count out₀ i₀ out i = (i ≤ count) × ((length out ≡ length out₀) × Filled (coordinateIn file) out₀ i out)

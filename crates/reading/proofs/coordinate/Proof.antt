@@ -5,8 +5,8 @@ use mir.Syntax.{w32}
 use mir.Val.{toZ}
 use mir.ValLaws.{toZ-ofZ}
 use borrow.Author.Needs.{needs}
-use Rattle.format.proofs.coordinate.Statement.{statement}
-use Rattle.format.proofs.coordinate.Tie as tie
+use Rattle.reading.proofs.coordinate.Statement.{statement}
+use Rattle.reading.proofs.coordinate.Tie as tie
 
 word-requires : tie.Need-word-requires
 word-requires c κs = search needs

@@ -3,9 +3,9 @@
 use mathlib.Core.Path.{ap}
 use Prim.Native.Nat.{ℕ, _*_}
 use borrow.Author.Needs.{needs}
-use Rattle.format.proofs.Laws.{coordinates-read, sides-read, corners-read}
-use Rattle.format.proofs.read_lists.Statement.{statement}
-use Rattle.format.proofs.read_lists.Tie as tie
+use Rattle.reading.proofs.Laws.{coordinates-read, sides-read, corners-read}
+use Rattle.reading.proofs.read_lists.Statement.{statement}
+use Rattle.reading.proofs.read_lists.Tie as tie
 
 vertex-count-requires : tie.Need-vertex-count-requires
 vertex-count-requires c κs = search needs

@@ -4,9 +4,9 @@ use lib.IntN.{negsuc}
 use mir.Syntax.{w32}
 use mir.ValLaws.{toZ-pos, toZ-ofZ}
 use borrow.Author.Needs.{needs}
-use Rattle.format.proofs.Laws.{minus-from-one}
-use Rattle.format.proofs.below_zero.Statement.{statement}
-use Rattle.format.proofs.below_zero.Tie as tie
+use Rattle.reading.proofs.Laws.{minus-from-one}
+use Rattle.reading.proofs.below_zero.Statement.{statement}
+use Rattle.reading.proofs.below_zero.Tie as tie
 
 cast-result : tie.Need-cast-result
 cast-result c = search needs

@@ -5,8 +5,8 @@ use native.Mathlib.Omega.{arith}
 use mir.Syntax.{w32}
 use mir.Val.{toZ, ofZ}
 use borrow.Author.Needs.{needs}
-use Rattle.format.proofs.signed.Statement.{statement}
-use Rattle.format.proofs.signed.Tie as tie
+use Rattle.reading.proofs.signed.Statement.{statement}
+use Rattle.reading.proofs.signed.Tie as tie
 
 cast-result : tie.Need-cast-result
 cast-result c = search needs
