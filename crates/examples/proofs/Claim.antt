@@ -14,7 +14,7 @@ use Rattle.cosines.specs.Table as cosines
 use Rattle.mesh.specs.Scan.{firstFrom, firstBelow, someBelow, countBelow, iterate}
 use Rattle.mesh.specs.Corners.{sumOf, faceOf, startOf, firstOf, sidesOf, next, previous}
 use Rattle.mesh.specs.Links.{leavesTo, arrivesFrom, linked, link, sameEdge, reverseEdge, names, valence, lowest}
-use Rattle.mesh.specs.Faults.{_orElse_, single, lowestOf, fault4, fault5, fault6, fault7, fault8, sameVertexFrom, fault9, fault10, fault11, fault12, after, ringLength, met, fault13, verdict}
+use Rattle.mesh.specs.Faults.{_orElse_, single, lowestOf, fault4, fault5, fault6, fault7, fault8, sameVertexFrom, fault9, fault10, fault11, fault12, after, ringLength, met, fault13, listFaults, linkFaults, verdict}
 use Rattle.surface.specs.Face.{centre, weight, toward}
 use Rattle.surface.specs.Net.{quad, H, T, X, Y, N, C, outer1, outer2, outer3, a1}
 use Rattle.surface.specs.Refined.{ticks, faceSum, refinedPoint}
@@ -45,5 +45,5 @@ agree ((given gives printed) ∷ rows) t =
     (same-eq given printed (both-left (same given printed) (all-same rows) t), agree rows (both-right (same given printed) (all-same rows) t))
 
 pub examples : Agree table
-unfolding table all-same same floor sum round cosine cosines.table firstFrom firstBelow someBelow countBelow iterate sumOf faceOf startOf firstOf sidesOf next previous leavesTo arrivesFrom linked link sameEdge reverseEdge names valence lowest _orElse_ single lowestOf fault4 fault5 fault6 fault7 fault8 sameVertexFrom fault9 fault10 fault11 fault12 after ringLength met fault13 verdict centre weight toward quad H T X Y N C outer1 outer2 outer3 a1 ticks faceSum refinedPoint
+unfolding table all-same same floor sum round cosine cosines.table firstFrom firstBelow someBelow countBelow iterate sumOf faceOf startOf firstOf sidesOf next previous leavesTo arrivesFrom linked link sameEdge reverseEdge names valence lowest _orElse_ single lowestOf fault4 fault5 fault6 fault7 fault8 sameVertexFrom fault9 fault10 fault11 fault12 after ringLength met fault13 listFaults linkFaults verdict centre weight toward quad H T X Y N C outer1 outer2 outer3 a1 ticks faceSum refinedPoint
 examples = agree table tt
