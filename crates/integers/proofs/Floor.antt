@@ -1,12 +1,11 @@
--- The quotient rounded down is told by its two bounds; the machine's quotient and its shift to the right, against it.
+-- The quotient rounded down is told by its two bounds; the machine's quotient of a number that is not negative is that one.
 -- Assumes nothing.
-use mathlib.Core.Path.{_≡_, refl, sym, ap, _∙_, subst}
-use Prim.Native.Nat.{ℕ, zero, suc, _+_, _*_, _/_, _%_, _≤_, _<_}
-use native.Mathlib.Nat.{div-add-mod, mod-lt, lt-of-mul-lt-mul-left, div-le-self, zero-div}
+use mathlib.Core.Path.{_≡_, refl}
+use Prim.Native.Nat.{ℕ, _+_, _*_, _<_}
+use native.Mathlib.Nat.{div-add-mod, mod-lt, lt-of-mul-lt-mul-left}
 use native.Mathlib.Omega.{arith}
-use lib.IntN.{ℤ, pos, negsuc, negℤ, _+ℤ_, _-ℤ_, _*ℤ_, natAbs, +ℤ-one}
-use lib.Dec.{T}
-use lib.Signed.{_≤ℤ_, _<ℤ_, quotZ, ltZ, ltZ-yes}
+use lib.IntN.{ℤ, pos, negsuc, _+ℤ_, _*ℤ_}
+use lib.Signed.{_≤ℤ_, _<ℤ_, quotZ}
 use Rattle.integers.proofs.Diff.{as-diff, diff}
 use Rattle.integers.proofs.Poly.{over, poly}
 use Rattle.integers.specs.Floor.{floor}
@@ -47,16 +46,6 @@ unfolding floor
 quot-floor (pos a) (pos b) h k = refl
 quot-floor (pos a) (negsuc b) h k = absurd (k .lt)
 quot-floor (negsuc a) d h k = absurd (h .le)
-
-pub quot-floor-neg : (t d : ℤ) → t <ℤ pos 0 → pos 0 <ℤ d → quotZ (t +ℤ pos 1) d -ℤ pos 1 ≡ floor t d
-unfolding floor
-quot-floor-neg t (negsuc b) h k = absurd (k .lt)
-quot-floor-neg (pos a) (pos b) h k = absurd (let f = simp diff at h in omega arith)
-quot-floor-neg (negsuc zero) (pos b) h k = rw (zero-div b)
-quot-floor-neg (negsuc (suc a)) (pos b) h k = rw (one-more a) (simp diff (omega arith))
-  where
-    one-more : (a : ℕ) → negsuc (suc a) +ℤ pos 1 ≡ negsuc a
-    one-more a = +ℤ-one (negsuc (suc a))
 
 -- ---- twice a divisor is a divisor
 pub double-pos : (d : ℤ) → pos 0 <ℤ d → pos 0 <ℤ (pos 2 *ℤ d)

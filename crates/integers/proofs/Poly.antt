@@ -5,14 +5,14 @@ use mathlib.Core.Path.{_≡_, refl, sym, ap, _∙_, subst}
 use mathlib.Core.Logic.{_↔_}
 use mathlib.Core.Bool.{Bool, true, false, not, cond}
 use mathlib.Core.List.{List, [], _∷_}
-use Prim.Native.Nat.{ℕ, zero, suc, _+_, _*_, _-_, _^_, _≤_, _<_}
+use Prim.Native.Nat.{ℕ, zero, suc, _+_, _*_, _^_, _≤_, _<_}
 use native.Mathlib.Omega.{arith}
 use lib.Dec.{T, ltb, ltb→lt, nltb→le}
-use lib.IntN.{ℤ, pos, negsuc, negℤ, subℕ, _+ℤ_, _*ℤ_, natAbs}
-use lib.Signed.{_≤ℤ_, _<ℤ_, leZ, ltZ, mag, ltZ-yes, ltZ-no}
+use lib.IntN.{ℤ, pos, negsuc, negℤ, _+ℤ_, _*ℤ_, natAbs}
+use lib.Signed.{_≤ℤ_, _<ℤ_}
 use mir.Syntax.{Width}
 use mir.Val.{SFits, hbits}
-use Rattle.integers.proofs.Diff.{_⊖_, up, dn, is-diff, any, each, diff, add-diff, eq-diff, le-diff, lt-diff, abs-diff, fits-diff}
+use Rattle.integers.proofs.Diff.{_⊖_, up, dn, is-diff, any, each, diff, add-diff, abs-diff, fits-diff}
 
 -- ---- expressions
 pub data Env : Type 0 where
@@ -353,10 +353,6 @@ abs-ev e ρ k = rw (ev-parts e ρ) (abs-diff (hi (norm e) ρ) (lo (norm e) ρ) k
 
 pub fits-ev : (w : Width) (e : Expr) (ρ : Env) → SFits w (ev e ρ) ↔ ((hi (norm e) ρ < 2 ^ hbits w + lo (norm e) ρ) × (lo (norm e) ρ ≤ 2 ^ hbits w + hi (norm e) ρ))
 fits-ev w e ρ = rw (ev-parts e ρ) (fits-diff w (hi (norm e) ρ) (lo (norm e) ρ))
-
--- an identity whose two sides have one normal form: `simp (quote, ρ) (identity _ _ ρ refl)`, for what is too large for `poly`, which computes within a tactic's limit
-pub identity : (e f : Expr) (ρ : Env) → less-by e f ≡ nil → ev e ρ ≡ ev f ρ
-identity e f ρ h = eq-ev e f ρ .1 (ap (λ (p : Poly). lo p ρ) h ∙ sym (ap (λ (p : Poly). hi p ρ) h))
 
 pub ruleset quote = (plus-ev, times-ev, minus-ev, nat-ev, below-ev)
 
