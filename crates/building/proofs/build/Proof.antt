@@ -39,7 +39,10 @@ enum-told : tie.Need-enum-told
 enum-told c = search needs
 
 answer-requires : tie.Need-answer-requires
-answer-requires c κs = let t = c .before .before .before in let a = t .before .before .check in (accepts t, (a .ensures .nexts-are (accepts t), a .ensures .links-are (accepts t)))
+answer-requires c κs =
+    let t = c .before .before .before in
+    let a = t .before .before .check in
+    (accepts t, (a .ensures .nexts-are (accepts t), a .ensures .links-are (accepts t)))
 
 same-length : tie.Need-same-length
 same-length c = search needs

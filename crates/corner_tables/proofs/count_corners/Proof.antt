@@ -15,7 +15,8 @@ use Rattle.corner_tables.proofs.count_corners.Statement.{statement}
 use Rattle.corner_tables.proofs.count_corners.Tie as tie
 
 abbrev Inv-loop : tie.InvT-loop
-Inv-loop corners counts₀ c₀ counts c = (c ≤ length corners) × (length counts ≡ mostVertices) × Filled 0 (λ u. countBelow c (names corners u)) counts mostVertices
+Inv-loop corners counts₀ c₀ counts c =
+    (c ≤ length corners) × (length counts ≡ mostVertices) × Filled 0 (λ u. countBelow c (names corners u)) counts mostVertices
 
 abbrev μ-loop : tie.MeasureT-loop
 μ-loop corners counts₀ c₀ counts c = length corners - c
@@ -33,7 +34,10 @@ cast-u : tie.Need-cast-u Inv-loop μ-loop
 cast-u c = omega (arith, c .shared-slice-known .given (c .before .before .loop .c))
 
 slice-read-n : tie.Need-slice-read-n Inv-loop μ-loop
-slice-read-n c = let s = c .before .before .before .before in let l = c .before .before .before .loop in omega (arith, s .pre .0 .named (l .c) (search needs))
+slice-read-n c =
+    let s = c .before .before .before .before in
+    let l = c .before .before .before .loop in
+    omega (arith, s .pre .0 .named (l .c) (search needs))
 
 add-counts : tie.Need-add-counts Inv-loop μ-loop
 add-counts c =
@@ -43,7 +47,10 @@ add-counts c =
     omega (arith, count-small (now (s .args .corners)) (s .pre .0) (l .c) h, l .inv .2 (vertexOf (now (s .args .corners)) (l .c)) (s .pre .0 .named (l .c) h))
 
 slice-write-counts : tie.Need-slice-write-counts Inv-loop μ-loop
-slice-write-counts c = let s = c .before .before .before .before in let l = c .before .before .before .loop in omega (arith, s .pre .0 .named (l .c) (search needs))
+slice-write-counts c =
+    let s = c .before .before .before .before in
+    let l = c .before .before .before .loop in
+    omega (arith, s .pre .0 .named (l .c) (search needs))
 
 add-c : tie.Need-add-c Inv-loop μ-loop
 add-c c = search needs

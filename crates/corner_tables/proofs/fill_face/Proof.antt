@@ -15,7 +15,8 @@ use Rattle.corner_tables.proofs.fill_face.Statement.{statement}
 use Rattle.corner_tables.proofs.fill_face.Tie as tie
 
 abbrev Inv-loop : tie.InvT-loop
-Inv-loop sides f start previouses₀ counts₀ n end last₀ c₀ previouses counts last c = (start ≤ c) × (c ≤ end) × (end ≤ mostCorners) × (last < mostCorners) × (c < end → last ≡ previous sides c) × (length previouses ≡ mostCorners) × (length counts ≡ mostCorners) × FaceTables sides previouses counts c
+Inv-loop sides f start previouses₀ counts₀ n end last₀ c₀ previouses counts last c =
+    (start ≤ c) × (c ≤ end) × (end ≤ mostCorners) × (last < mostCorners) × (c < end → last ≡ previous sides c) × (length previouses ≡ mostCorners) × (length counts ≡ mostCorners) × FaceTables sides previouses counts c
 
 abbrev μ-loop : tie.MeasureT-loop
 μ-loop sides f start previouses₀ counts₀ n end last₀ c₀ previouses counts last c = end - c

@@ -15,7 +15,8 @@ use Rattle.corner_tables.proofs.fill_faces.Statement.{statement}
 use Rattle.corner_tables.proofs.fill_faces.Tie as tie
 
 abbrev Inv-loop : tie.InvT-loop
-Inv-loop sides previouses₀ counts₀ start₀ f₀ previouses counts start f = (f ≤ length sides) × (start ≡ startOf sides f) × (length previouses ≡ mostCorners) × (length counts ≡ mostCorners) × FaceTables sides previouses counts (startOf sides f)
+Inv-loop sides previouses₀ counts₀ start₀ f₀ previouses counts start f =
+    (f ≤ length sides) × (start ≡ startOf sides f) × (length previouses ≡ mostCorners) × (length counts ≡ mostCorners) × FaceTables sides previouses counts (startOf sides f)
 
 abbrev μ-loop : tie.MeasureT-loop
 μ-loop sides previouses₀ counts₀ start₀ f₀ previouses counts start f = length sides - f
@@ -33,10 +34,16 @@ shared-slice-read-start : tie.Need-shared-slice-read-start Inv-loop μ-loop
 shared-slice-read-start c = search needs
 
 cast-start : tie.Need-cast-start Inv-loop μ-loop
-cast-start c = let s = c .before .before .before .before .before .before .before .before .before .before .before .before .before in let l = c .before .before .before .before .before .before .before .before .before .loop in omega (arith, s .pre .0 .most (l .f) (search needs))
+cast-start c =
+    let s = c .before .before .before .before .before .before .before .before .before .before .before .before .before in
+    let l = c .before .before .before .before .before .before .before .before .before .loop in
+    omega (arith, s .pre .0 .most (l .f) (search needs))
 
 add-start : tie.Need-add-start Inv-loop μ-loop
-add-start c = let s = c .before .before .before .before .before .before .before .before .before .before .before .before .before in let l = c .before .before .before .before .before .before .before .before .before .loop in omega (arith, l .inv .1, s .pre .0 .few, start-ends (now (s .args .sides)) (l .f) (search needs))
+add-start c =
+    let s = c .before .before .before .before .before .before .before .before .before .before .before .before .before in
+    let l = c .before .before .before .before .before .before .before .before .before .loop in
+    omega (arith, l .inv .1, s .pre .0 .few, start-ends (now (s .args .sides)) (l .f) (search needs))
 
 add-f : tie.Need-add-f Inv-loop μ-loop
 add-f c = search needs

@@ -14,7 +14,8 @@ use Rattle.corner_tables.proofs.fill_valences.Statement.{statement}
 use Rattle.corner_tables.proofs.fill_valences.Tie as tie
 
 abbrev Inv-loop : tie.InvT-loop
-Inv-loop corners valences₀ counts c₀ valences c = (c ≤ length corners) × (length valences ≡ mostCorners) × Filled 0 (λ d. valence corners (vertexOf corners d)) valences c
+Inv-loop corners valences₀ counts c₀ valences c =
+    (c ≤ length corners) × (length valences ≡ mostCorners) × Filled 0 (λ d. valence corners (vertexOf corners d)) valences c
 
 abbrev μ-loop : tie.MeasureT-loop
 μ-loop corners valences₀ counts c₀ valences c = length corners - c
@@ -38,7 +39,9 @@ cast-u : tie.Need-cast-u Inv-loop μ-loop
 cast-u c = omega (arith, c .shared-slice-known2 .given (c .before .before .loop .c))
 
 array-read-valences : tie.Need-array-read-valences Inv-loop μ-loop
-array-read-valences c = let s = c .before .before .before .before .before .before .before .before in omega (arith, s .pre .0 .named (c .before .before .loop .c) (search needs))
+array-read-valences c =
+    let s = c .before .before .before .before .before .before .before .before in
+    omega (arith, s .pre .0 .named (c .before .before .loop .c) (search needs))
 
 slice-write-valences : tie.Need-slice-write-valences Inv-loop μ-loop
 slice-write-valences c = let s = c .before .before .before .before .before .before .before .before in omega (arith, s .pre .0 .few)

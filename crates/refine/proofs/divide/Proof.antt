@@ -75,34 +75,54 @@ round-div-requires-11 c κs =
     (some (s .args .n) (s .pre .0), (few (s .args .n) (s .fits .n), s .pre .1))
 
 returns : tie.Need-returns
-returns c = let s = c .before .before in arm (s .args .t) (c .round-div .result) (s .args .n) 3 (s .fits .t) (search needs) (omega arith) (c .round-div .ensures)
+returns c =
+    let s = c .before .before in
+    arm (s .args .t) (c .round-div .result) (s .args .n) 3 (s .fits .t) (search needs) (omega arith) (c .round-div .ensures)
 
 returns-2 : tie.Need-returns-2
-returns-2 c = let s = c .before .before in arm (s .args .t) (c .round-div2 .result) (s .args .n) 4 (s .fits .t) (search needs) (omega arith) (c .round-div2 .ensures)
+returns-2 c =
+    let s = c .before .before in
+    arm (s .args .t) (c .round-div2 .result) (s .args .n) 4 (s .fits .t) (search needs) (omega arith) (c .round-div2 .ensures)
 
 returns-3 : tie.Need-returns-3
-returns-3 c = let s = c .before .before in arm (s .args .t) (c .round-div3 .result) (s .args .n) 5 (s .fits .t) (search needs) (omega arith) (c .round-div3 .ensures)
+returns-3 c =
+    let s = c .before .before in
+    arm (s .args .t) (c .round-div3 .result) (s .args .n) 5 (s .fits .t) (search needs) (omega arith) (c .round-div3 .ensures)
 
 returns-4 : tie.Need-returns-4
-returns-4 c = let s = c .before .before in arm (s .args .t) (c .round-div4 .result) (s .args .n) 6 (s .fits .t) (search needs) (omega arith) (c .round-div4 .ensures)
+returns-4 c =
+    let s = c .before .before in
+    arm (s .args .t) (c .round-div4 .result) (s .args .n) 6 (s .fits .t) (search needs) (omega arith) (c .round-div4 .ensures)
 
 returns-5 : tie.Need-returns-5
-returns-5 c = let s = c .before .before in arm (s .args .t) (c .round-div5 .result) (s .args .n) 7 (s .fits .t) (search needs) (omega arith) (c .round-div5 .ensures)
+returns-5 c =
+    let s = c .before .before in
+    arm (s .args .t) (c .round-div5 .result) (s .args .n) 7 (s .fits .t) (search needs) (omega arith) (c .round-div5 .ensures)
 
 returns-6 : tie.Need-returns-6
-returns-6 c = let s = c .before .before in arm (s .args .t) (c .round-div6 .result) (s .args .n) 8 (s .fits .t) (search needs) (omega arith) (c .round-div6 .ensures)
+returns-6 c =
+    let s = c .before .before in
+    arm (s .args .t) (c .round-div6 .result) (s .args .n) 8 (s .fits .t) (search needs) (omega arith) (c .round-div6 .ensures)
 
 returns-7 : tie.Need-returns-7
-returns-7 c = let s = c .before .before in arm (s .args .t) (c .round-div7 .result) (s .args .n) 9 (s .fits .t) (search needs) (omega arith) (c .round-div7 .ensures)
+returns-7 c =
+    let s = c .before .before in
+    arm (s .args .t) (c .round-div7 .result) (s .args .n) 9 (s .fits .t) (search needs) (omega arith) (c .round-div7 .ensures)
 
 returns-8 : tie.Need-returns-8
-returns-8 c = let s = c .before .before in arm (s .args .t) (c .round-div8 .result) (s .args .n) 10 (s .fits .t) (search needs) (omega arith) (c .round-div8 .ensures)
+returns-8 c =
+    let s = c .before .before in
+    arm (s .args .t) (c .round-div8 .result) (s .args .n) 10 (s .fits .t) (search needs) (omega arith) (c .round-div8 .ensures)
 
 returns-9 : tie.Need-returns-9
-returns-9 c = let s = c .before .before in arm (s .args .t) (c .round-div9 .result) (s .args .n) 11 (s .fits .t) (search needs) (omega arith) (c .round-div9 .ensures)
+returns-9 c =
+    let s = c .before .before in
+    arm (s .args .t) (c .round-div9 .result) (s .args .n) 11 (s .fits .t) (search needs) (omega arith) (c .round-div9 .ensures)
 
 returns-10 : tie.Need-returns-10
-returns-10 c = let s = c .before .before in arm (s .args .t) (c .round-div10 .result) (s .args .n) 12 (s .fits .t) (search needs) (omega arith) (c .round-div10 .ensures)
+returns-10 c =
+    let s = c .before .before in
+    arm (s .args .t) (c .round-div10 .result) (s .args .n) 12 (s .fits .t) (search needs) (omega arith) (c .round-div10 .ensures)
 
 returns-11 : tie.Need-returns-11
 returns-11 c =

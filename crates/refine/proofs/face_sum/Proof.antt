@@ -19,7 +19,8 @@ use Rattle.refine.proofs.face_sum.Statement.{statement}
 use Rattle.refine.proofs.face_sum.Tie as tie
 
 abbrev Inv-loop : tie.InvT-loop
-Inv-loop coordinates corners axis start n total₀ j₀ total j = (j ≤ n) × ((sides : List ℕ) → toZ w64 total ≡ sum (λ k. ticks (meshOf coordinates sides corners) axis (start + k)) j)
+Inv-loop coordinates corners axis start n total₀ j₀ total j =
+    (j ≤ n) × ((sides : List ℕ) → toZ w64 total ≡ sum (λ k. ticks (meshOf coordinates sides corners) axis (start + k)) j)
 
 abbrev μ-loop : tie.MeasureT-loop
 μ-loop coordinates corners axis start n total₀ j₀ total j = n - j
@@ -66,7 +67,11 @@ loop-again : tie.Need-loop-again Inv-loop μ-loop
 loop-again c = (search needs, λ sides. step c sides .1)
 
 returns : tie.Need-returns Inv-loop μ-loop
-returns c = let s = c .before .before .before in let l = c .before .loop in let e : l .j ≡ s .args .n = omega arith in λ sides. l .inv .1 sides ∙ ap (sum (λ j. ticks (meshOf (now (s .args .coordinates)) sides (now (s .args .corners))) (s .args .axis) (s .args .start + j))) e
+returns c =
+    let s = c .before .before .before in
+    let l = c .before .loop in
+    let e : l .j ≡ s .args .n = omega arith in
+    λ sides. l .inv .1 sides ∙ ap (sum (λ j. ticks (meshOf (now (s .args .coordinates)) sides (now (s .args .corners))) (s .args .axis) (s .args .start + j))) e
 
 pub face-sum-spec : {M : Type 1} → statement M
 face-sum-spec =

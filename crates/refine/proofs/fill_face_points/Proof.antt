@@ -97,7 +97,9 @@ cast-end : tie.Need-cast-end Inv-loop μ-loop
 cast-end c = omega (arith, c .shared-slice-known5 .given (c .before .before .before .before .before .args .f))
 
 add-end : tie.Need-add-end Inv-loop μ-loop
-add-end c = let s = c .before .before .before .before .before in omega (arith, end-in (mesh s) (s .pre .0) (s .args .f) (s .pre .1 .0 .1), s .pre .1 .0 .2, s .pre .0 .sums, s .pre .0 .faces .few)
+add-end c =
+    let s = c .before .before .before .before .before in
+    omega (arith, end-in (mesh s) (s .pre .0) (s .args .f) (s .pre .1 .0 .1), s .pre .1 .0 .2, s .pre .0 .sums, s .pre .0 .faces .few)
 
 cast-face-sum : tie.Need-cast-face-sum Inv-loop μ-loop
 cast-face-sum c = omega (arith, c .shared-slice-known5 .given (c .before .before .before .before .before .args .f))
@@ -137,13 +139,21 @@ cast-q : tie.Need-cast-q Inv-loop μ-loop
 cast-q c = omega (arith, c .shared-slice-known7 .given (c .before .before .before .loop .c))
 
 tick-requires : tie.Need-tick-requires Inv-loop μ-loop
-tick-requires c κs = let s = c .before .before .before .before .before .before .before .before .before .before in let l = c .before .before .before .loop in (s .pre .0 .placed, (s .pre .1 .0 .0, previous-in s (l .c) (omega arith)))
+tick-requires c κs =
+    let s = c .before .before .before .before .before .before .before .before .before .before in
+    let l = c .before .before .before .loop in
+    (s .pre .0 .placed, (s .pre .1 .0 .0, previous-in s (l .c) (omega arith)))
 
 tick-requires-2 : tie.Need-tick-requires-2 Inv-loop μ-loop
-tick-requires-2 c κs = let s = c .before .before .before .before .before .before .before .before .before .before .before in (s .pre .0 .placed, (s .pre .1 .0 .0, omega arith))
+tick-requires-2 c κs =
+    let s = c .before .before .before .before .before .before .before .before .before .before .before in
+    (s .pre .0 .placed, (s .pre .1 .0 .0, omega arith))
 
 tick-requires-3 : tie.Need-tick-requires-3 Inv-loop μ-loop
-tick-requires-3 c κs = let s = c .before .before .before .before .before .before .before .before .before .before .before .before in let l = c .before .before .before .before .before .loop in (s .pre .0 .placed, (s .pre .1 .0 .0, next-in s (l .c) (omega arith)))
+tick-requires-3 c κs =
+    let s = c .before .before .before .before .before .before .before .before .before .before .before .before in
+    let l = c .before .before .before .before .before .loop in
+    (s .pre .0 .placed, (s .pre .1 .0 .0, next-in s (l .c) (omega arith)))
 
 refined-requires : tie.Need-refined-requires Inv-loop μ-loop
 refined-requires c κs = made c .0

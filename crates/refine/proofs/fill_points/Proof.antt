@@ -17,13 +17,16 @@ use Rattle.refine.proofs.fill_points.Statement.{statement}
 use Rattle.refine.proofs.fill_points.Tie as tie
 
 abbrev Inv-loop : tie.InvT-loop
-Inv-loop coordinates sides corners nexts previouses axis points₀ start₀ f₀ points start f = (f ≤ length sides) × (start ≡ startOf sides f) × (length points ≡ mostCorners) × Filled (pos 0) (refinedPoint (meshOf coordinates sides corners) axis) points (startOf sides f)
+Inv-loop coordinates sides corners nexts previouses axis points₀ start₀ f₀ points start f =
+    (f ≤ length sides) × (start ≡ startOf sides f) × (length points ≡ mostCorners) × Filled (pos 0) (refinedPoint (meshOf coordinates sides corners) axis) points (startOf sides f)
 
 abbrev μ-loop : tie.MeasureT-loop
 μ-loop coordinates sides corners nexts previouses axis points₀ start₀ f₀ points start f = length sides - f
 
 loop-holds : tie.Need-loop-holds Inv-loop μ-loop
-loop-holds c = let s = c .before .before .before .before in (omega arith, sym (start-zero _), s .pre .1 .1 .1, λ d h. absurd (omega (arith, start-zero (now (s .args .sides)))))
+loop-holds c =
+    let s = c .before .before .before .before in
+    (omega arith, sym (start-zero _), s .pre .1 .1 .1, λ d h. absurd (omega (arith, start-zero (now (s .args .sides)))))
 
 fill-face-points-requires : tie.Need-fill-face-points-requires Inv-loop μ-loop
 fill-face-points-requires c κs =
@@ -35,10 +38,16 @@ shared-slice-read-start : tie.Need-shared-slice-read-start Inv-loop μ-loop
 shared-slice-read-start c = search needs
 
 cast-start : tie.Need-cast-start Inv-loop μ-loop
-cast-start c = let s = c .before .before .before .before .before .before .before .before .before .before in let l = c .before .before .before .before .before .loop in omega (arith, s .pre .0 .faces .most (l .f) (search needs))
+cast-start c =
+    let s = c .before .before .before .before .before .before .before .before .before .before in
+    let l = c .before .before .before .before .before .loop in
+    omega (arith, s .pre .0 .faces .most (l .f) (search needs))
 
 add-start : tie.Need-add-start Inv-loop μ-loop
-add-start c = let s = c .before .before .before .before .before .before .before .before .before .before in let l = c .before .before .before .before .before .loop in omega (arith, l .inv .1, s .pre .0 .faces .few, start-ends (now (s .args .sides)) (l .f) (search needs))
+add-start c =
+    let s = c .before .before .before .before .before .before .before .before .before .before in
+    let l = c .before .before .before .before .before .loop in
+    omega (arith, l .inv .1, s .pre .0 .faces .few, start-ends (now (s .args .sides)) (l .f) (search needs))
 
 add-f : tie.Need-add-f Inv-loop μ-loop
 add-f c = search needs

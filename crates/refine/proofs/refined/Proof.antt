@@ -34,28 +34,40 @@ module _ (c : tie.After-divide) where
   narrow = abs-fits w32 (c .divide .result) (2 ^ 24) size (lit< tt)
 
 mul-t : tie.Need-mul-t
-mul-t c = let s = c in let k = facts s in simp (toZ-ofZ, s .fits .total, s .fits .before, s .fits .here, s .fits .after, k .read, k .twice, k .fourfold, k .two, k .three, k .product, k .all) (k .twice)
+mul-t c = search (needs, facts c)
 
 cast-t : tie.Need-cast-t
 cast-t c = search needs
 
 mul-t-2 : tie.Need-mul-t-2
-mul-t-2 c = let s = c in let k = facts s in simp (toZ-ofZ, s .fits .total, s .fits .before, s .fits .here, s .fits .after, k .read, k .twice, k .fourfold, k .two, k .three, k .product, k .all) (k .fourfold)
+mul-t-2 c = search (needs, facts c)
 
 add-t : tie.Need-add-t
-add-t c = let s = c in let k = facts s in simp (toZ-ofZ, s .fits .total, s .fits .before, s .fits .here, s .fits .after, k .read, k .twice, k .fourfold, k .two, k .three, k .product, k .all) (k .two)
+add-t c = search (needs, facts c)
 
 add-t-2 : tie.Need-add-t-2
-add-t-2 c = let s = c in let k = facts s in simp (toZ-ofZ, s .fits .total, s .fits .before, s .fits .here, s .fits .after, k .read, k .twice, k .fourfold, k .two, k .three, k .product, k .all) (k .three)
+add-t-2 c =
+    let s = c in
+    let k = facts s in
+    simp (toZ-ofZ, s .fits .total, s .fits .before, s .fits .here, s .fits .after, k .read, k .twice, k .fourfold, k .two, k .three, k .product, k .all) (k .three)
 
 mul-t-3 : tie.Need-mul-t-3
-mul-t-3 c = let s = c in let k = facts s in simp (toZ-ofZ, s .fits .total, s .fits .before, s .fits .here, s .fits .after, k .read, k .twice, k .fourfold, k .two, k .three, k .product, k .all) (k .product)
+mul-t-3 c =
+    let s = c in
+    let k = facts s in
+    simp (toZ-ofZ, s .fits .total, s .fits .before, s .fits .here, s .fits .after, k .read, k .twice, k .fourfold, k .two, k .three, k .product, k .all) (k .product)
 
 add-t-3 : tie.Need-add-t-3
-add-t-3 c = let s = c in let k = facts s in simp (toZ-ofZ, s .fits .total, s .fits .before, s .fits .here, s .fits .after, k .read, k .twice, k .fourfold, k .two, k .three, k .product, k .all) (k .all)
+add-t-3 c =
+    let s = c in
+    let k = facts s in
+    simp (toZ-ofZ, s .fits .total, s .fits .before, s .fits .here, s .fits .after, k .read, k .twice, k .fourfold, k .two, k .three, k .product, k .all) (k .all)
 
 divide-requires : tie.Need-divide-requires
-divide-requires c κs = let s = c in let k = facts s in simp (toZ-ofZ, s .fits .total, s .fits .before, s .fits .here, s .fits .after, k .read, k .twice, k .fourfold, k .two, k .three, k .product, k .all) (omega (arith, s .pre .least), le-trans (k .size) (omega (arith, s .pre .most)))
+divide-requires c κs =
+    let s = c in
+    let k = facts s in
+    simp (toZ-ofZ, s .fits .total, s .fits .before, s .fits .here, s .fits .after, k .read, k .twice, k .fourfold, k .two, k .three, k .product, k .all) (omega (arith, s .pre .least), le-trans (k .size) (omega (arith, s .pre .most)))
 
 cast-result : tie.Need-cast-result
 cast-result c = simp (toZ-ofZ, wide c) (narrow c)

@@ -48,7 +48,9 @@ mul-result-2 : tie.Need-mul-result-2
 mul-result-2 c = omega (arith, c .shared-slice-known .given (c .before .args .c), c .before .pre .1 .0)
 
 shared-slice-copy-out-result : tie.Need-shared-slice-copy-out-result
-shared-slice-copy-out-result c = let s = c .before in tick-in (now (s .args .coordinates)) (now (s .args .corners)) (s .pre .0) (s .args .axis) (s .args .c) (s .pre .1 .0) (s .pre .1 .1)
+shared-slice-copy-out-result c =
+    let s = c .before in
+    tick-in (now (s .args .coordinates)) (now (s .args .corners)) (s .pre .0) (s .args .axis) (s .args .c) (s .pre .1 .0) (s .pre .1 .1)
 
 cast-result : tie.Need-cast-result
 cast-result c = let k = facts (c .before .before) in simp (toZ-ofZ, k .0) (k .1)

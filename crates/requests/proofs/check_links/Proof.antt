@@ -50,7 +50,10 @@ loop-less : tie.Need-loop-less Inv-loop μ-loop
 loop-less c = search needs
 
 loop-again : tie.Need-loop-again Inv-loop μ-loop
-loop-again c = let s = c .before .before .before .before .before in let l = c .before .before .before .before .loop in (search needs, below-more (λ j. getD (now (s .args .links)) j 0 ≡ getD (now (s .args .table)) j 0) (l .c) (l .inv .1) (c .if1 .left))
+loop-again c =
+    let s = c .before .before .before .before .before in
+    let l = c .before .before .before .before .loop in
+    (search needs, below-more (λ j. getD (now (s .args .links)) j 0 ≡ getD (now (s .args .table)) j 0) (l .c) (l .inv .1) (c .if1 .left))
 
 returns-2 : tie.Need-returns-2 Inv-loop μ-loop
 returns-2 c =

@@ -10,16 +10,22 @@ use Rattle.requests.proofs.check_range.Statement.{statement}
 use Rattle.requests.proofs.check_range.Tie as tie
 
 returns : tie.Need-returns
-returns c = let s = c .before .args in sym (single-hit 16 _ (⊎-elim (λ w. range-empty (s .corners) (s .first) (s .count) (w .taken)) (λ w. range-past (s .corners) (s .first) (s .count) (omega (arith, ltb-true))) (c .if1 .came)))
+returns c =
+    let s = c .before .args in
+    sym (single-hit 16 _ (⊎-elim (λ w. range-empty (s .corners) (s .first) (s .count) (w .taken)) (λ w. range-past (s .corners) (s .first) (s .count) (omega (arith, ltb-true))) (c .if1 .came)))
 
 add-if4 : tie.Need-add-if4
 add-if4 c = omega (arith, ltb-false)
 
 returns-2 : tie.Need-returns-2
-returns-2 c = let s = c .before .before .before .args in sym (single-hit 16 _ (⊎-elim (λ w. range-past (s .corners) (s .first) (s .count) (omega (arith, ltb-true))) (λ w. range-past (s .corners) (s .first) (s .count) (omega (arith, ltb-true))) (c .if3 .came)))
+returns-2 c =
+    let s = c .before .before .before .args in
+    sym (single-hit 16 _ (⊎-elim (λ w. range-past (s .corners) (s .first) (s .count) (omega (arith, ltb-true))) (λ w. range-past (s .corners) (s .first) (s .count) (omega (arith, ltb-true))) (c .if3 .came)))
 
 returns-3 : tie.Need-returns-3
-returns-3 c = let s = c .before .before .before .before .args in sym (single-miss 16 _ (range-fits (s .corners) (s .first) (s .count) (omega (arith, ltb-false)) (omega (arith, ltb-false))))
+returns-3 c =
+    let s = c .before .before .before .before .args in
+    sym (single-miss 16 _ (range-fits (s .corners) (s .first) (s .count) (omega (arith, ltb-false)) (omega (arith, ltb-false))))
 
 pub check-range-spec : {M : Type 1} → statement M
 check-range-spec = tie.close (tie.spec returns add-if4 returns-2 returns-3)

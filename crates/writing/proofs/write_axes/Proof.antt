@@ -30,10 +30,14 @@ mesh s = meshOf (now (s .args .coordinates)) (now (s .args .sides)) (now (s .arg
 
 -- the refined points of the turn's axis
 filled : (c : tie.After-fill-points Inv-loop μ-loop) → Filled (pos 0) (refinedPoint (mesh (c .before .before .before .before .before .before .before .before .before .before .before)) (c .before .before .before .loop .axis)) (c .fill-points .last .1 .1 .1 .1 .1 .1 .0) (length (now (c .before .before .before .before .before .before .before .before .before .before .before .args .corners)))
-filled c = let s = c .before .before .before .before .before .before .before .before .before .before .before in by-corners (mesh s) (s .pre .0) (pos 0) (refinedPoint (mesh s) (c .before .before .before .loop .axis)) (c .fill-points .last .1 .1 .1 .1 .1 .1 .0) (c .fill-points .ensures)
+filled c =
+    let s = c .before .before .before .before .before .before .before .before .before .before .before in
+    by-corners (mesh s) (s .pre .0) (pos 0) (refinedPoint (mesh s) (c .before .before .before .loop .axis)) (c .fill-points .last .1 .1 .1 .1 .1 .1 .0) (c .fill-points .ensures)
 
 loop-holds : tie.Need-loop-holds Inv-loop μ-loop
-loop-holds c = let s = c .before .before .before .before .before .before .before in (omega arith, refl, s .pre .1 .1 .1 .2, written-none (mesh s) (s .args .first) (s .args .count) (now (s .args .out)))
+loop-holds c =
+    let s = c .before .before .before .before .before .before .before in
+    (omega arith, refl, s .pre .1 .1 .1 .2, written-none (mesh s) (s .args .first) (s .args .count) (now (s .args .out)))
 
 slice-aggregate-fill-points : tie.Need-slice-aggregate-fill-points Inv-loop μ-loop
 slice-aggregate-fill-points c = search needs

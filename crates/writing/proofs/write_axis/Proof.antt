@@ -15,7 +15,8 @@ use Rattle.writing.proofs.write_axis.Statement.{statement}
 use Rattle.writing.proofs.write_axis.Tie as tie
 
 abbrev Inv-loop : tie.InvT-loop
-Inv-loop points nexts previouses links sides valences n first count axis out₀ k₀ out k = (k ≤ count) × (length out ≡ perCorner * count) × AxisWritten (tabled n nexts previouses links sides valences points) first k axis out₀ out
+Inv-loop points nexts previouses links sides valences n first count axis out₀ k₀ out k =
+    (k ≤ count) × (length out ≡ perCorner * count) × AxisWritten (tabled n nexts previouses links sides valences points) first k axis out₀ out
 
 abbrev μ-loop : tie.MeasureT-loop
 μ-loop points nexts previouses links sides valences n first count axis out₀ k₀ out k = count - k

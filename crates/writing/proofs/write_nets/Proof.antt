@@ -25,7 +25,9 @@ slice-aggregate-fill-valences : tie.Need-slice-aggregate-fill-valences
 slice-aggregate-fill-valences c = search needs
 
 fill-valences-requires : tie.Need-fill-valences-requires
-fill-valences-requires c κs = let s = c .before .before .before .before .before .before .before .before .before .before in (vertices-of (mesh s) (s .pre .0), refl)
+fill-valences-requires c κs =
+    let s = c .before .before .before .before .before .before .before .before .before .before in
+    (vertices-of (mesh s) (s .pre .0), refl)
 
 slice-aggregate-write-axes : tie.Need-slice-aggregate-write-axes
 slice-aggregate-write-axes c = search needs
