@@ -1,0 +1,39 @@
+-- One turn for each range.
+-- Assumes nothing.
+use Prim.Native.Nat.{_-_}
+use borrow.Author.Needs.{needs}
+use Rattle.patches.proofs.print_ranges.Statement.{statement}
+use Rattle.patches.proofs.print_ranges.Tie as tie
+
+abbrev Inv-loop : tie.InvT-loop
+Inv-loop coordinates sides corners links first₀ first = Unit {0}
+
+abbrev μ-loop : tie.MeasureT-loop
+μ-loop coordinates sides corners links first₀ first = 8192 - first
+
+loop-holds : tie.Need-loop-holds Inv-loop μ-loop
+loop-holds c = search needs
+
+sub-least : tie.Need-sub-least Inv-loop μ-loop
+sub-least c = search needs
+
+least-requires : tie.Need-least-requires Inv-loop μ-loop
+least-requires c κs = search needs
+
+print-range-requires : tie.Need-print-range-requires Inv-loop μ-loop
+print-range-requires c κs = search needs
+
+add-first : tie.Need-add-first Inv-loop μ-loop
+add-first c = search needs
+
+loop-less : tie.Need-loop-less Inv-loop μ-loop
+loop-less c = search needs
+
+loop-again : tie.Need-loop-again Inv-loop μ-loop
+loop-again c = search needs
+
+returns : tie.Need-returns Inv-loop μ-loop
+returns c = search needs
+
+pub print-ranges-spec : {M : Type 1} → statement M
+print-ranges-spec = tie.close (tie.spec Inv-loop μ-loop loop-holds sub-least least-requires print-range-requires add-first loop-less loop-again returns)
