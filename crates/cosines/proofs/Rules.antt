@@ -3,16 +3,16 @@
 -- Assumes nothing.
 use mathlib.Core.Path.{_≡_, refl, sym, ap, _∙_, subst}
 use mathlib.Core.Bool.{Bool}
-use mathlib.Core.List.{List, [], _∷_, _++_}
+use mathlib.Core.List.{[]}
 use Prim.Native.Nat.{ℕ, suc, _+_, _-_, _*_, _/_, _%_, _^_, _<_, _≤_}
 use native.Mathlib.Nat.{add-mod-right, mod-add-mod, mod-lt}
 use native.Mathlib.Omega.{arith}
-use lib.ListN.{getD, take, replicate}
+use lib.ListN.{getD}
 use lib.Dec.{T, leb, leb→le}
 use lib.IntN.{ℤ, pos, negsuc, _+ℤ_, _-ℤ_, _*ℤ_, negℤ, natAbs}
 use lib.Signed.{ltZ, leZ, _<ℤ_, _≤ℤ_}
 use Rattle.integers.proofs.Below.{below, below-at, eqZ, eqZ-eq}
-use Rattle.cosines.specs.Table.{lastRow, table, cosine}
+use Rattle.cosines.specs.Table.{lastRow, table, stored, cosine}
 use Rattle.cosines.specs.Rules.{rest, RowRules}
 
 -- ---- k is read modulo m
@@ -29,14 +29,6 @@ modulo0 m j = ap (cosine m) (plus-zero (j % m)) ∙ modulo m j 0 ∙ ap (cosine 
   where
     plus-zero : (k : ℕ) → k ≡ k + 0
     plus-zero k = omega arith
-
--- ---- the array of the code: the table with zeros after each row, up to sixteen places
-abbrev padded : List (List ℤ) → List (List ℤ)
-padded [] = []
-padded (r ∷ rows) = take 16 (r ++ replicate 16 (pos 0)) ∷ padded rows
-
-abbrev pub stored : List (List ℤ)
-stored = padded table
 
 -- ---- the tests, at row a + 3
 first-test : ℕ → Bool
@@ -113,7 +105,7 @@ module _ (m : ℕ) (low : 3 ≤ m) (high : m ≤ lastRow) where
 
   -- the code's array, at an entry of the row
   pub stored-is : (k : ℕ) → k < m → getD (getD stored (m - 3) []) k (pos 0) ≡ cosine m k
-  unfolding table cosine stored-at
+  unfolding table stored cosine stored-at
   stored-is k h = eqZ-eq _ _ (at-entry stored-at (λ r. r) tt k h)
 
   pub rules : RowRules m

@@ -1,8 +1,8 @@
 -- The cosine table of 01, "Numbers used". The table itself is the definition.
 -- Assumes nothing.
-use mathlib.Core.List.{List, [], _∷_}
+use mathlib.Core.List.{List, [], _∷_, _++_}
 use Prim.Native.Nat.{ℕ, _-_, _%_}
-use lib.ListN.{getD}
+use lib.ListN.{getD, take, replicate}
 use lib.IntN.{ℤ, pos, negsuc}
 
 -- rows 3 to 12: row m holds the m whole numbers C(m, 0) to C(m, m - 1)
@@ -26,3 +26,11 @@ table =
 -- C(m, k), k read modulo m
 unfoldable pub cosine : ℕ → ℕ → ℤ
 cosine m k = getD (getD table (m - 3) []) (k % m) (pos 0)
+
+-- the array of the code: sixteen places a row, zeros after the row's numbers
+abbrev padded : List (List ℤ) → List (List ℤ)
+padded [] = []
+padded (r ∷ rows) = take 16 (r ++ replicate 16 (pos 0)) ∷ padded rows
+
+unfoldable pub stored : List (List ℤ)
+stored = padded table

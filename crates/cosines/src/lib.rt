@@ -2,7 +2,7 @@
 // A row of the array has sixteen places, so that a further row of up to sixteen numbers leaves the others as they are.
 ghost use mathlib.Core.Path.{_≡_};
 ghost use Prim.Native.Nat.{_≤_, _<_};
-ghost use Rattle.cosines.specs.Table.{lastRow, cosine};
+ghost use Rattle.cosines.specs.Table.{lastRow, stored, cosine};
 
 const TABLE: [[i64; 16]; 10] = [
     [
@@ -187,10 +187,17 @@ const TABLE: [[i64; 16]; 10] = [
     ],
 ];
 
-// C(m, k), for a row m of the table and k below m.
-pub fn cosine(m: usize, k: usize) -> i64
-    requires { ⌜ (3 ≤ m) × (m ≤ lastRow) × (k < m) ⌝ }
+// The table as a value. A constant is written to the stack wherever it is read, so a call of building takes the table once.
+pub fn rows() -> [[i64; 16]; 10]
+    ensures { λ r. ⌜ r ≡ stored ⌝ }
+{
+    TABLE
+}
+
+// C(m, k) from the table, for a row m of it and k below m.
+pub fn cosine(rows: &[[i64; 16]; 10], m: usize, k: usize) -> i64
+    requires { ⌜ (now rows ≡ stored) × (3 ≤ m) × (m ≤ lastRow) × (k < m) ⌝ }
     ensures { λ r. ⌜ r ≡ cosine m k ⌝ }
 {
-    TABLE[m - 3][k]
+    rows[m - 3][k]
 }

@@ -4,7 +4,7 @@ ghost use mathlib.Core.Path.{_≡_};
 ghost use Prim.Native.Nat.{_+_, _-_, _*_, _^_, _≤_, _<_};
 ghost use lib.IntN.{pos, natAbs, _*ℤ_};
 ghost use Rattle.rounding.specs.Round.{round};
-ghost use Rattle.cosines.specs.Table.{lastRow};
+ghost use Rattle.cosines.specs.Table.{lastRow, stored};
 ghost use Rattle.surface.specs.Face.{weight};
 ghost use Rattle.formulas.specs.Sizes.{Corner};
 ghost use Rattle.faces.specs.Ring.{around, Ring, Summed, IsFace, IsEdgeFace};
@@ -24,28 +24,29 @@ pub struct Sums {
 }
 
 // The weight of the place after j, k = j + 1.
-fn weight_after(m: usize, j: usize) -> i64
-    requires { ⌜ (3 ≤ m) × (m ≤ lastRow) × (j < m) ⌝ }
+fn weight_after(rows: &[[i64; 16]; 10], m: usize, j: usize) -> i64
+    requires { ⌜ (3 ≤ m) × (m ≤ lastRow) × (j < m) × (now rows ≡ stored) ⌝ }
     ensures { λ r. ⌜ r ≡ weight m (j + 1) ⌝ }
 {
     let k = if j + 1 < m { j + 1 } else { 0 };
-    3221225472 + 2 * cosines::cosine(m, k) + 2 * cosines::cosine(m, j)
+    3221225472 + 2 * cosines::cosine(rows, m, k) + 2 * cosines::cosine(rows, m, j)
 }
 
 // One way round the ring of m corners at c.
-fn ring_sums(points: &[i32], steps: &[u16], c: usize, m: usize) -> Sums
-    requires { ⌜ Ring (now points) (now steps) c m ⌝ }
+fn ring_sums(points: &[i32], steps: &[u16], rows: &[[i64; 16]; 10], c: usize, m: usize) -> Sums
+    requires ring { ⌜ Ring (now points) (now steps) c m ⌝ }
+    requires table { ⌜ now rows ≡ stored ⌝ }
     ensures { λ r. ⌜ Summed (around (now (points .entry)) (now (steps .entry)) c) m r ⌝ }
 {
     let mut total: i64 = 0;
     let mut ahead: i64 = 0;
     let mut behind: i64 = 0;
-    let mut w = weight_after(m, m - 1);
+    let mut w = weight_after(rows, m, m - 1);
     let mut at = c;
     let mut j: usize = 0;
     while j < m {
         let v = points[at] as i64;
-        let u = weight_after(m, j);
+        let u = weight_after(rows, m, j);
         total += v;
         ahead += v * w;
         behind += v * u;
@@ -93,11 +94,12 @@ fn by_weights(n: i64, m: usize) -> i64
 }
 
 // The refined face of m corners at c whose ring the steps go round.
-pub fn ring_face(points: &[i32], steps: &[u16], c: usize, m: usize) -> Face
-    requires { ⌜ Ring (now points) (now steps) c m ⌝ }
+pub fn ring_face(points: &[i32], steps: &[u16], rows: &[[i64; 16]; 10], c: usize, m: usize) -> Face
+    requires ring { ⌜ Ring (now points) (now steps) c m ⌝ }
+    requires table { ⌜ now rows ≡ stored ⌝ }
     ensures { λ r. ⌜ IsFace (around (now (points .entry)) (now (steps .entry)) c) m 0 (m - 1) r ⌝ }
 {
-    let s = ring_sums(points, steps, c, m);
+    let s = ring_sums(points, steps, rows, c, m);
     Face {
         centre: by_count(s.total, m),
         ahead: by_weights(s.ahead, m),

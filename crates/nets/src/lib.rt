@@ -7,6 +7,7 @@ ghost use lib.ListN.{length, getD};
 ghost use lib.IntN.{pos};
 ghost use Rattle.formulas.specs.Sizes.{Written};
 ghost use Rattle.surface.specs.Net.{rows};
+ghost use Rattle.cosines.specs.Table.{stored};
 ghost use Rattle.sides.specs.Tabled.{tabled, Tables};
 ghost use Rattle.nets.specs.Put.{Placed, Put};
 
@@ -57,17 +58,28 @@ pub fn put_net(
     links: &[u16],
     sides: &[u8],
     valences: &[u8],
+    rows: &[[i64; 16]; 10],
     count: usize,
     c: usize,
     axis: usize,
     out: &mut [i32],
     at: usize,
 )
-    requires { ⌜ Tables count (now nexts) (now previouses) (now links) (now sides) (now valences) (now points) c × (axis < 3) × (at + 123 ≤ length (now out)) ⌝ }
+    requires { ⌜ Tables count (now nexts) (now previouses) (now links) (now sides) (now valences) (now points) c × (axis < 3) × (at + 123 ≤ length (now out)) × (now rows ≡ stored) ⌝ }
     ensures { λ _. ⌜ Put (tabled count (now (nexts .entry)) (now (previouses .entry)) (now (links .entry)) (now (sides .entry)) (now (valences .entry)) (now (points .entry))) c axis at (now (out .entry)) (now (out .exit)) ⌝ }
 {
     let from = at + axis;
-    let n = sides::net_sides(points, nexts, previouses, links, sides, valences, count, c);
+    let n = sides::net_sides(
+        points,
+        nexts,
+        previouses,
+        links,
+        sides,
+        valences,
+        rows,
+        count,
+        c,
+    );
     let s0 = n.side0;
     let s1 = n.side1;
     let s2 = n.side2;

@@ -4,6 +4,7 @@ ghost use Prim.Native.Nat.{_<_};
 ghost use lib.ListN.{length, getD};
 ghost use lib.IntN.{pos};
 ghost use Rattle.formulas.specs.Sizes.{Corner, FacePoint, Row};
+ghost use Rattle.cosines.specs.Table.{stored};
 ghost use Rattle.sides.specs.Tabled.{tabled, Tables, Reach};
 ghost use Rattle.sides.specs.Values.{Through, Made, FourSides};
 
@@ -130,20 +131,22 @@ pub fn net_sides(
     links: &[u16],
     sides: &[u8],
     valences: &[u8],
+    rows: &[[i64; 16]; 10],
     count: usize,
     c: usize,
 ) -> NetSides
-    requires { ⌜ Tables count (now nexts) (now previouses) (now links) (now sides) (now valences) (now points) c ⌝ }
+    requires tables { ⌜ Tables count (now nexts) (now previouses) (now links) (now sides) (now valences) (now points) c ⌝ }
+    requires table { ⌜ now rows ≡ stored ⌝ }
     ensures { λ r. ⌜ FourSides (tabled count (now (nexts .entry)) (now (previouses .entry)) (now (links .entry)) (now (sides .entry)) (now (valences .entry)) (now (points .entry))) c r ⌝ }
 {
     let m = count_at(valences, c);
     let n = count_at(sides, c);
-    let vertex = faces::ring_face(points, links, c, m);
-    let face = faces::ring_face(points, nexts, c, n);
+    let vertex = faces::ring_face(points, links, rows, c, m);
+    let face = faces::ring_face(points, nexts, rows, c, n);
     let leaving = leaving_edge(points, nexts, previouses, links, c);
     let arriving = arriving_edge(points, nexts, previouses, links, c);
-    let k = cosines::cosine(m, 1);
-    let l = cosines::cosine(n, 1);
+    let k = cosines::cosine(rows, m, 1);
+    let l = cosines::cosine(rows, n, 1);
     let side0 = side(
         vertex.centre,
         leaving.centre,

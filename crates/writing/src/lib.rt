@@ -118,6 +118,7 @@ fn write_axis(
     requires range { ⌜ (0 < count) × (first + count ≤ n) × (axis < 3) × (length (now out) ≡ perCorner * count) ⌝ }
     ensures { λ _. ⌜ AxisWritten (tabled n (now (nexts .entry)) (now (previouses .entry)) (now (links .entry)) (now (sides .entry)) (now (valences .entry)) (now (points .entry))) first count axis (now (out .entry)) (now (out .exit)) ⌝ }
 {
+    let rows = cosines::rows();
     let mut k = 0;
     while k < count {
         nets::put_net(
@@ -127,6 +128,7 @@ fn write_axis(
             links,
             sides,
             valences,
+            &rows,
             n,
             first + k,
             axis,

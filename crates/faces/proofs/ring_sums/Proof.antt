@@ -18,10 +18,10 @@ use Rattle.faces.proofs.ring_sums.Lts as lts
 use Rattle.faces.proofs.weight_after.Reads as weight-after-reads
 
 abbrev Inv-loop : tie.InvT-loop
-Inv-loop points steps c m total₀ ahead₀ behind₀ w₀ at₀ j₀ total ahead behind w at j = Came points steps c m total ahead behind w at j
+Inv-loop points steps rows c m total₀ ahead₀ behind₀ w₀ at₀ j₀ total ahead behind w at j = Came points steps c m total ahead behind w at j
 
 abbrev μ-loop : tie.MeasureT-loop
-μ-loop points steps c m total₀ ahead₀ behind₀ w₀ at₀ j₀ total ahead behind w at j = m - j
+μ-loop points steps rows c m total₀ ahead₀ behind₀ w₀ at₀ j₀ total ahead behind w at j = m - j
 
 -- the turn, with the weight u
 turn : (a : lts.At-loop (weight-after-reads.Asked, weight-after-reads.Learnt) reads.Pre reads.Post Inv-loop μ-loop) (u : ℤ)
@@ -30,13 +30,13 @@ turn : (a : lts.At-loop (weight-after-reads.Asked, weight-after-reads.Learnt) re
     (a .before .before .before .args .m) (a .loop .total) (a .loop .ahead) (a .loop .behind) (a .loop .w) (a .loop .at) (a .loop .j) u
 turn a u l e =
     let s = a .before .before .before in
-    goes (s .args .points .now) (s .args .steps .now) (s .args .c) (s .args .m) (s .pre) _ _ _ _ _ _ u l (a .loop .inv) e
+    goes (s .args .points .now) (s .args .steps .now) (s .args .c) (s .args .m) (s .pre .0) _ _ _ _ _ _ u l (a .loop .inv) e
 
 sub-weight-after : tie.Need-sub-weight-after Inv-loop μ-loop
-sub-weight-after c = omega (arith, c .before .pre .least)
+sub-weight-after c = omega (arith, c .before .pre .0 .least)
 
 weight-after-requires : tie.Need-weight-after-requires Inv-loop μ-loop
-weight-after-requires c κs = let r = c .before .pre in (r .least, r .most, omega (arith, r .least))
+weight-after-requires c κs = let r = c .before .pre .0 in (r .least, r .most, omega (arith, r .least), c .before .pre .1)
 
 loop-holds : tie.Need-loop-holds Inv-loop μ-loop
 loop-holds c =
@@ -46,7 +46,7 @@ loop-holds c =
       sym (sum-zero _),
       sym (sum-zero _),
       sym (sum-zero _),
-      first (s .args .points .now) (s .args .steps .now) (s .args .c) (s .args .m) (s .pre) _ (c .weight-after .ensures),
+      first (s .args .points .now) (s .args .steps .now) (s .args .c) (s .args .m) (s .pre .0) _ (c .weight-after .ensures),
     )
 
 mul-v : tie.Need-mul-v Inv-loop μ-loop
@@ -59,7 +59,7 @@ cast-v : tie.Need-cast-v Inv-loop μ-loop
 cast-v c = turn (c .before .before) _ (c .before .loop-test .taken) refl .cast
 
 weight-after-requires-2 : tie.Need-weight-after-requires-2 Inv-loop μ-loop
-weight-after-requires-2 c κs = let r = c .before .before .before .before .before .pre in (r .least, r .most, c .before .loop-test .taken)
+weight-after-requires-2 c κs = let r = c .before .before .before .before .before .pre .0 in (r .least, r .most, c .before .loop-test .taken, c .before .before .before .before .before .pre .1)
 
 add-total : tie.Need-add-total Inv-loop μ-loop
 add-total c = turn (c .before .before .before) _ (c .before .before .loop-test .taken) (c .weight-after2 .ensures) .add-total

@@ -62,7 +62,7 @@ add-k : tie.Need-add-k
 add-k c = search needs
 
 cosine-requires : tie.Need-cosine-requires
-cosine-requires c κs = (c .before .pre .0, c .before .pre .1, chosen c .0)
+cosine-requires c κs = (c .before .pre .3, c .before .pre .0, c .before .pre .1, chosen c .0)
 
 mul-result : tie.Need-mul-result
 mul-result c = let x = c .cosine .result in search (needs, fits x x (one c) (one c))

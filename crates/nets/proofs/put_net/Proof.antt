@@ -69,7 +69,7 @@ put-b-requires c κs =
     (omega (arith, s .pre .1, s .pre .2), w .0, w .1)
 
 add-put-a : tie.Need-add-put-a
-add-put-a c = let s = c .before .before .before .before .before .before .before .before .before .before .before .before .before .before .before .before .before .before .before .before .before .before .before .before in omega (arith, s .pre .1, s .pre .2)
+add-put-a c = let s = c .before .before .before .before .before .before .before .before .before .before .before .before .before .before .before .before .before .before .before .before .before .before .before .before in omega (arith, s .pre .1, s .pre .2, s .good .1 .1 .1 .1 .1 .1 .1 .1 .1 .1 .0)
 
 put-a-requires : tie.Need-put-a-requires
 put-a-requires c κs =

@@ -39,13 +39,13 @@ State =
     reads.Post
 
 part0 : (a : State)
-    → Parts (K (a .before .before .before .before .before .before .before .before .before .before .before .before .before .args .count) (a .before .before .before .before .before .before .before .before .before .before .before .before .before .args .nexts .now) (a .before .before .before .before .before .before .before .before .before .before .before .before .before .args .previouses .now) (a .before .before .before .before .before .before .before .before .before .before .before .before .before .args .links .now) (a .before .before .before .before .before .before .before .before .before .before .before .before .before .args .sides .now) (a .before .before .before .before .before .before .before .before .before .before .before .before .before .args .valences .now) (a .before .before .before .before .before .before .before .before .before .before .before .before .before .args .points .now) (a .before .before .before .before .before .before .before .before .before .before .before .before .before .args .c) (a .before .before .before .before .before .before .before .before .before .before .before .before .before .pre)) (a .before .before .before .before .before .before .before .before .before .before .before .before .before .args .c) side0 (a .before .before .before .before .before .ring-face .result .centre) (a .before .before .before .leaving-edge .result .centre) (a .before .before .before .before .before .ring-face .result .ahead) (a .before .before .before .leaving-edge .result .behind)
+    → Parts (K (a .before .before .before .before .before .before .before .before .before .before .before .before .before .args .count) (a .before .before .before .before .before .before .before .before .before .before .before .before .before .args .nexts .now) (a .before .before .before .before .before .before .before .before .before .before .before .before .before .args .previouses .now) (a .before .before .before .before .before .before .before .before .before .before .before .before .before .args .links .now) (a .before .before .before .before .before .before .before .before .before .before .before .before .before .args .sides .now) (a .before .before .before .before .before .before .before .before .before .before .before .before .before .args .valences .now) (a .before .before .before .before .before .before .before .before .before .before .before .before .before .args .points .now) (a .before .before .before .before .before .before .before .before .before .before .before .before .before .args .c) (a .before .before .before .before .before .before .before .before .before .before .before .before .before .pre .0)) (a .before .before .before .before .before .before .before .before .before .before .before .before .before .args .c) side0 (a .before .before .before .before .before .ring-face .result .centre) (a .before .before .before .leaving-edge .result .centre) (a .before .before .before .before .before .ring-face .result .ahead) (a .before .before .before .leaving-edge .result .behind)
     (a .before .before .before .leaving-edge .result .here) (a .before .before .before .leaving-edge .result .before) (a .before .cosine .result)
 unfolding H T C
 part0 a =
     let s = a .before .before .before .before .before .before .before .before .before .before .before .before .before in
-    let f = vertex-is (s .args .count) (s .args .nexts .now) (s .args .previouses .now) (s .args .links .now) (s .args .sides .now) (s .args .valences .now) (s .args .points .now) (s .args .c) (s .pre) _ _ (a .before .before .before .before .before .before .before .count-at .ensures) (a .before .before .before .before .before .ring-face .ensures) in
-    let e = leaving-is (s .args .count) (s .args .nexts .now) (s .args .previouses .now) (s .args .links .now) (s .args .sides .now) (s .args .valences .now) (s .args .points .now) (s .args .c) (s .pre) _ (a .before .before .before .leaving-edge .ensures) in
+    let f = vertex-is (s .args .count) (s .args .nexts .now) (s .args .previouses .now) (s .args .links .now) (s .args .sides .now) (s .args .valences .now) (s .args .points .now) (s .args .c) (s .pre .0) _ _ (a .before .before .before .before .before .before .before .count-at .ensures) (a .before .before .before .before .before .ring-face .ensures) in
+    let e = leaving-is (s .args .count) (s .args .nexts .now) (s .args .previouses .now) (s .args .links .now) (s .args .sides .now) (s .args .valences .now) (s .args .points .now) (s .args .c) (s .pre .0) _ (a .before .before .before .leaving-edge .ensures) in
     record {
       head = f .0;
       tail = e .0;
@@ -57,13 +57,13 @@ part0 a =
     }
 
 part1 : (a : State)
-    → Parts (K (a .before .before .before .before .before .before .before .before .before .before .before .before .before .args .count) (a .before .before .before .before .before .before .before .before .before .before .before .before .before .args .nexts .now) (a .before .before .before .before .before .before .before .before .before .before .before .before .before .args .previouses .now) (a .before .before .before .before .before .before .before .before .before .before .before .before .before .args .links .now) (a .before .before .before .before .before .before .before .before .before .before .before .before .before .args .sides .now) (a .before .before .before .before .before .before .before .before .before .before .before .before .before .args .valences .now) (a .before .before .before .before .before .before .before .before .before .before .before .before .before .args .points .now) (a .before .before .before .before .before .before .before .before .before .before .before .before .before .args .c) (a .before .before .before .before .before .before .before .before .before .before .before .before .before .pre)) (a .before .before .before .before .before .before .before .before .before .before .before .before .before .args .c) side1 (a .before .before .before .before .ring-face2 .result .centre) (a .before .before .before .leaving-edge .result .centre) (a .before .before .before .before .ring-face2 .result .ahead) (a .before .before .before .leaving-edge .result .ahead)
+    → Parts (K (a .before .before .before .before .before .before .before .before .before .before .before .before .before .args .count) (a .before .before .before .before .before .before .before .before .before .before .before .before .before .args .nexts .now) (a .before .before .before .before .before .before .before .before .before .before .before .before .before .args .previouses .now) (a .before .before .before .before .before .before .before .before .before .before .before .before .before .args .links .now) (a .before .before .before .before .before .before .before .before .before .before .before .before .before .args .sides .now) (a .before .before .before .before .before .before .before .before .before .before .before .before .before .args .valences .now) (a .before .before .before .before .before .before .before .before .before .before .before .before .before .args .points .now) (a .before .before .before .before .before .before .before .before .before .before .before .before .before .args .c) (a .before .before .before .before .before .before .before .before .before .before .before .before .before .pre .0)) (a .before .before .before .before .before .before .before .before .before .before .before .before .before .args .c) side1 (a .before .before .before .before .ring-face2 .result .centre) (a .before .before .before .leaving-edge .result .centre) (a .before .before .before .before .ring-face2 .result .ahead) (a .before .before .before .leaving-edge .result .ahead)
     (a .before .before .before .leaving-edge .result .here) (a .before .before .before .leaving-edge .result .after) (a .cosine2 .result)
 unfolding H T C
 part1 a =
     let s = a .before .before .before .before .before .before .before .before .before .before .before .before .before in
-    let f = face-is (s .args .count) (s .args .nexts .now) (s .args .previouses .now) (s .args .links .now) (s .args .sides .now) (s .args .valences .now) (s .args .points .now) (s .args .c) (s .pre) _ _ (a .before .before .before .before .before .before .count-at2 .ensures) (a .before .before .before .before .ring-face2 .ensures) in
-    let e = leaving-is (s .args .count) (s .args .nexts .now) (s .args .previouses .now) (s .args .links .now) (s .args .sides .now) (s .args .valences .now) (s .args .points .now) (s .args .c) (s .pre) _ (a .before .before .before .leaving-edge .ensures) in
+    let f = face-is (s .args .count) (s .args .nexts .now) (s .args .previouses .now) (s .args .links .now) (s .args .sides .now) (s .args .valences .now) (s .args .points .now) (s .args .c) (s .pre .0) _ _ (a .before .before .before .before .before .before .count-at2 .ensures) (a .before .before .before .before .ring-face2 .ensures) in
+    let e = leaving-is (s .args .count) (s .args .nexts .now) (s .args .previouses .now) (s .args .links .now) (s .args .sides .now) (s .args .valences .now) (s .args .points .now) (s .args .c) (s .pre .0) _ (a .before .before .before .leaving-edge .ensures) in
     record {
       head = f .0;
       tail = e .0;
@@ -75,13 +75,13 @@ part1 a =
     }
 
 part2 : (a : State)
-    → Parts (K (a .before .before .before .before .before .before .before .before .before .before .before .before .before .args .count) (a .before .before .before .before .before .before .before .before .before .before .before .before .before .args .nexts .now) (a .before .before .before .before .before .before .before .before .before .before .before .before .before .args .previouses .now) (a .before .before .before .before .before .before .before .before .before .before .before .before .before .args .links .now) (a .before .before .before .before .before .before .before .before .before .before .before .before .before .args .sides .now) (a .before .before .before .before .before .before .before .before .before .before .before .before .before .args .valences .now) (a .before .before .before .before .before .before .before .before .before .before .before .before .before .args .points .now) (a .before .before .before .before .before .before .before .before .before .before .before .before .before .args .c) (a .before .before .before .before .before .before .before .before .before .before .before .before .before .pre)) (a .before .before .before .before .before .before .before .before .before .before .before .before .before .args .c) side2 (a .before .before .before .before .ring-face2 .result .centre) (a .before .before .arriving-edge .result .centre) (a .before .before .before .before .ring-face2 .result .behind) (a .before .before .arriving-edge .result .behind)
+    → Parts (K (a .before .before .before .before .before .before .before .before .before .before .before .before .before .args .count) (a .before .before .before .before .before .before .before .before .before .before .before .before .before .args .nexts .now) (a .before .before .before .before .before .before .before .before .before .before .before .before .before .args .previouses .now) (a .before .before .before .before .before .before .before .before .before .before .before .before .before .args .links .now) (a .before .before .before .before .before .before .before .before .before .before .before .before .before .args .sides .now) (a .before .before .before .before .before .before .before .before .before .before .before .before .before .args .valences .now) (a .before .before .before .before .before .before .before .before .before .before .before .before .before .args .points .now) (a .before .before .before .before .before .before .before .before .before .before .before .before .before .args .c) (a .before .before .before .before .before .before .before .before .before .before .before .before .before .pre .0)) (a .before .before .before .before .before .before .before .before .before .before .before .before .before .args .c) side2 (a .before .before .before .before .ring-face2 .result .centre) (a .before .before .arriving-edge .result .centre) (a .before .before .before .before .ring-face2 .result .behind) (a .before .before .arriving-edge .result .behind)
     (a .before .before .arriving-edge .result .here) (a .before .before .arriving-edge .result .before) (a .cosine2 .result)
 unfolding H T C
 part2 a =
     let s = a .before .before .before .before .before .before .before .before .before .before .before .before .before in
-    let f = face-is (s .args .count) (s .args .nexts .now) (s .args .previouses .now) (s .args .links .now) (s .args .sides .now) (s .args .valences .now) (s .args .points .now) (s .args .c) (s .pre) _ _ (a .before .before .before .before .before .before .count-at2 .ensures) (a .before .before .before .before .ring-face2 .ensures) in
-    let e = arriving-is (s .args .count) (s .args .nexts .now) (s .args .previouses .now) (s .args .links .now) (s .args .sides .now) (s .args .valences .now) (s .args .points .now) (s .args .c) (s .pre) _ (a .before .before .arriving-edge .ensures) in
+    let f = face-is (s .args .count) (s .args .nexts .now) (s .args .previouses .now) (s .args .links .now) (s .args .sides .now) (s .args .valences .now) (s .args .points .now) (s .args .c) (s .pre .0) _ _ (a .before .before .before .before .before .before .count-at2 .ensures) (a .before .before .before .before .ring-face2 .ensures) in
+    let e = arriving-is (s .args .count) (s .args .nexts .now) (s .args .previouses .now) (s .args .links .now) (s .args .sides .now) (s .args .valences .now) (s .args .points .now) (s .args .c) (s .pre .0) _ (a .before .before .arriving-edge .ensures) in
     record {
       head = f .0;
       tail = e .0;
@@ -93,13 +93,13 @@ part2 a =
     }
 
 part3 : (a : State)
-    → Parts (K (a .before .before .before .before .before .before .before .before .before .before .before .before .before .args .count) (a .before .before .before .before .before .before .before .before .before .before .before .before .before .args .nexts .now) (a .before .before .before .before .before .before .before .before .before .before .before .before .before .args .previouses .now) (a .before .before .before .before .before .before .before .before .before .before .before .before .before .args .links .now) (a .before .before .before .before .before .before .before .before .before .before .before .before .before .args .sides .now) (a .before .before .before .before .before .before .before .before .before .before .before .before .before .args .valences .now) (a .before .before .before .before .before .before .before .before .before .before .before .before .before .args .points .now) (a .before .before .before .before .before .before .before .before .before .before .before .before .before .args .c) (a .before .before .before .before .before .before .before .before .before .before .before .before .before .pre)) (a .before .before .before .before .before .before .before .before .before .before .before .before .before .args .c) side3 (a .before .before .before .before .before .ring-face .result .centre) (a .before .before .arriving-edge .result .centre) (a .before .before .before .before .before .ring-face .result .behind) (a .before .before .arriving-edge .result .ahead)
+    → Parts (K (a .before .before .before .before .before .before .before .before .before .before .before .before .before .args .count) (a .before .before .before .before .before .before .before .before .before .before .before .before .before .args .nexts .now) (a .before .before .before .before .before .before .before .before .before .before .before .before .before .args .previouses .now) (a .before .before .before .before .before .before .before .before .before .before .before .before .before .args .links .now) (a .before .before .before .before .before .before .before .before .before .before .before .before .before .args .sides .now) (a .before .before .before .before .before .before .before .before .before .before .before .before .before .args .valences .now) (a .before .before .before .before .before .before .before .before .before .before .before .before .before .args .points .now) (a .before .before .before .before .before .before .before .before .before .before .before .before .before .args .c) (a .before .before .before .before .before .before .before .before .before .before .before .before .before .pre .0)) (a .before .before .before .before .before .before .before .before .before .before .before .before .before .args .c) side3 (a .before .before .before .before .before .ring-face .result .centre) (a .before .before .arriving-edge .result .centre) (a .before .before .before .before .before .ring-face .result .behind) (a .before .before .arriving-edge .result .ahead)
     (a .before .before .arriving-edge .result .here) (a .before .before .arriving-edge .result .after) (a .before .cosine .result)
 unfolding H T C
 part3 a =
     let s = a .before .before .before .before .before .before .before .before .before .before .before .before .before in
-    let f = vertex-is (s .args .count) (s .args .nexts .now) (s .args .previouses .now) (s .args .links .now) (s .args .sides .now) (s .args .valences .now) (s .args .points .now) (s .args .c) (s .pre) _ _ (a .before .before .before .before .before .before .before .count-at .ensures) (a .before .before .before .before .before .ring-face .ensures) in
-    let e = arriving-is (s .args .count) (s .args .nexts .now) (s .args .previouses .now) (s .args .links .now) (s .args .sides .now) (s .args .valences .now) (s .args .points .now) (s .args .c) (s .pre) _ (a .before .before .arriving-edge .ensures) in
+    let f = vertex-is (s .args .count) (s .args .nexts .now) (s .args .previouses .now) (s .args .links .now) (s .args .sides .now) (s .args .valences .now) (s .args .points .now) (s .args .c) (s .pre .0) _ _ (a .before .before .before .before .before .before .before .count-at .ensures) (a .before .before .before .before .before .ring-face .ensures) in
+    let e = arriving-is (s .args .count) (s .args .nexts .now) (s .args .previouses .now) (s .args .links .now) (s .args .sides .now) (s .args .valences .now) (s .args .points .now) (s .args .c) (s .pre .0) _ (a .before .before .arriving-edge .ensures) in
     record {
       head = f .0;
       tail = e .0;
@@ -117,62 +117,62 @@ count-at-requires-2 : tie.Need-count-at-requires-2
 count-at-requires-2 c κs = search needs
 
 ring-face-requires : tie.Need-ring-face-requires
-ring-face-requires c κs = let s = c .before .before .before .before .before .before .before in vertex-ring (s .args .count) (s .args .nexts .now) (s .args .previouses .now) (s .args .links .now) (s .args .sides .now) (s .args .valences .now) (s .args .points .now) (s .args .c) (s .pre) _ (c .before .count-at .ensures)
+ring-face-requires c κs = let s = c .before .before .before .before .before .before .before in (vertex-ring (s .args .count) (s .args .nexts .now) (s .args .previouses .now) (s .args .links .now) (s .args .sides .now) (s .args .valences .now) (s .args .points .now) (s .args .c) (s .pre .0) _ (c .before .count-at .ensures), s .pre .1)
 
 ring-face-requires-2 : tie.Need-ring-face-requires-2
-ring-face-requires-2 c κs = let s = c .before .before .before .before .before .before .before .before in face-ring (s .args .count) (s .args .nexts .now) (s .args .previouses .now) (s .args .links .now) (s .args .sides .now) (s .args .valences .now) (s .args .points .now) (s .args .c) (s .pre) _ (c .before .count-at2 .ensures)
+ring-face-requires-2 c κs = let s = c .before .before .before .before .before .before .before .before in (face-ring (s .args .count) (s .args .nexts .now) (s .args .previouses .now) (s .args .links .now) (s .args .sides .now) (s .args .valences .now) (s .args .points .now) (s .args .c) (s .pre .0) _ (c .before .count-at2 .ensures), s .pre .1)
 
 leaving-edge-requires : tie.Need-leaving-edge-requires
-leaving-edge-requires c κs = let s = c .before .before .before .before .before .before .before .before .before in reach (s .args .count) (s .args .nexts .now) (s .args .previouses .now) (s .args .links .now) (s .args .sides .now) (s .args .valences .now) (s .args .points .now) (s .args .c) (s .pre)
+leaving-edge-requires c κs = let s = c .before .before .before .before .before .before .before .before .before in reach (s .args .count) (s .args .nexts .now) (s .args .previouses .now) (s .args .links .now) (s .args .sides .now) (s .args .valences .now) (s .args .points .now) (s .args .c) (s .pre .0)
 
 arriving-edge-requires : tie.Need-arriving-edge-requires
-arriving-edge-requires c κs = let s = c .before .before .before .before .before .before .before .before .before .before in reach (s .args .count) (s .args .nexts .now) (s .args .previouses .now) (s .args .links .now) (s .args .sides .now) (s .args .valences .now) (s .args .points .now) (s .args .c) (s .pre)
+arriving-edge-requires c κs = let s = c .before .before .before .before .before .before .before .before .before .before in reach (s .args .count) (s .args .nexts .now) (s .args .previouses .now) (s .args .links .now) (s .args .sides .now) (s .args .valences .now) (s .args .points .now) (s .args .c) (s .pre .0)
 
 cosine-requires : tie.Need-cosine-requires
 cosine-requires c κs =
     let s = c .before .before .before .before .before .before .before .before .before .before .before in
-    let r = vertex-ring (s .args .count) (s .args .nexts .now) (s .args .previouses .now) (s .args .links .now) (s .args .sides .now) (s .args .valences .now) (s .args .points .now) (s .args .c) (s .pre) _ (c .before .before .before .before .before .count-at .ensures) in
-    (r .least, r .most, omega (arith, r .least))
+    let r = vertex-ring (s .args .count) (s .args .nexts .now) (s .args .previouses .now) (s .args .links .now) (s .args .sides .now) (s .args .valences .now) (s .args .points .now) (s .args .c) (s .pre .0) _ (c .before .before .before .before .before .count-at .ensures) in
+    (s .pre .1, r .least, r .most, omega (arith, r .least))
 
 cosine-requires-2 : tie.Need-cosine-requires-2
 cosine-requires-2 c κs =
     let s = c .before .before .before .before .before .before .before .before .before .before .before .before in
-    let r = face-ring (s .args .count) (s .args .nexts .now) (s .args .previouses .now) (s .args .links .now) (s .args .sides .now) (s .args .valences .now) (s .args .points .now) (s .args .c) (s .pre) _ (c .before .before .before .before .before .count-at2 .ensures) in
-    (r .least, r .most, omega (arith, r .least))
+    let r = face-ring (s .args .count) (s .args .nexts .now) (s .args .previouses .now) (s .args .links .now) (s .args .sides .now) (s .args .valences .now) (s .args .points .now) (s .args .c) (s .pre .0) _ (c .before .before .before .before .before .count-at2 .ensures) in
+    (s .pre .1, r .least, r .most, omega (arith, r .least))
 
 side-requires : tie.Need-side-requires
 side-requires c κs =
     let a = c .before .before .before .before .before .before in
     let s = a .before .before .before .before .before .before .before .before .before .before .before .before .before in
-    sizes (K (s .args .count) (s .args .nexts .now) (s .args .previouses .now) (s .args .links .now) (s .args .sides .now) (s .args .valences .now) (s .args .points .now) (s .args .c) (s .pre)) (s .pre .sound) (s .args .c) (s .pre .here) side0 _ _ _ _ _ _ _ (part0 a)
+    sizes (K (s .args .count) (s .args .nexts .now) (s .args .previouses .now) (s .args .links .now) (s .args .sides .now) (s .args .valences .now) (s .args .points .now) (s .args .c) (s .pre .0)) (s .pre .0 .sound) (s .args .c) (s .pre .0 .here) side0 _ _ _ _ _ _ _ (part0 a)
 
 side-requires-2 : tie.Need-side-requires-2
 side-requires-2 c κs =
     let a = c .before .before .before .before .before .before .before .before .before .before .before .before .before in
     let s = a .before .before .before .before .before .before .before .before .before .before .before .before .before in
-    sizes (K (s .args .count) (s .args .nexts .now) (s .args .previouses .now) (s .args .links .now) (s .args .sides .now) (s .args .valences .now) (s .args .points .now) (s .args .c) (s .pre)) (s .pre .sound) (s .args .c) (s .pre .here) side1 _ _ _ _ _ _ _ (part1 a)
+    sizes (K (s .args .count) (s .args .nexts .now) (s .args .previouses .now) (s .args .links .now) (s .args .sides .now) (s .args .valences .now) (s .args .points .now) (s .args .c) (s .pre .0)) (s .pre .0 .sound) (s .args .c) (s .pre .0 .here) side1 _ _ _ _ _ _ _ (part1 a)
 
 side-requires-3 : tie.Need-side-requires-3
 side-requires-3 c κs =
     let a = c .before .before .before .before .before .before .before .before .before .before .before .before .before .before .before .before .before .before .before .before in
     let s = a .before .before .before .before .before .before .before .before .before .before .before .before .before in
-    sizes (K (s .args .count) (s .args .nexts .now) (s .args .previouses .now) (s .args .links .now) (s .args .sides .now) (s .args .valences .now) (s .args .points .now) (s .args .c) (s .pre)) (s .pre .sound) (s .args .c) (s .pre .here) side2 _ _ _ _ _ _ _ (part2 a)
+    sizes (K (s .args .count) (s .args .nexts .now) (s .args .previouses .now) (s .args .links .now) (s .args .sides .now) (s .args .valences .now) (s .args .points .now) (s .args .c) (s .pre .0)) (s .pre .0 .sound) (s .args .c) (s .pre .0 .here) side2 _ _ _ _ _ _ _ (part2 a)
 
 side-requires-4 : tie.Need-side-requires-4
 side-requires-4 c κs =
     let a = c .before .before .before .before .before .before .before .before .before .before .before .before .before .before .before .before .before .before .before .before .before .before .before .before .before .before .before in
     let s = a .before .before .before .before .before .before .before .before .before .before .before .before .before in
-    sizes (K (s .args .count) (s .args .nexts .now) (s .args .previouses .now) (s .args .links .now) (s .args .sides .now) (s .args .valences .now) (s .args .points .now) (s .args .c) (s .pre)) (s .pre .sound) (s .args .c) (s .pre .here) side3 _ _ _ _ _ _ _ (part3 a)
+    sizes (K (s .args .count) (s .args .nexts .now) (s .args .previouses .now) (s .args .links .now) (s .args .sides .now) (s .args .valences .now) (s .args .points .now) (s .args .c) (s .pre .0)) (s .pre .0 .sound) (s .args .c) (s .pre .0 .here) side3 _ _ _ _ _ _ _ (part3 a)
 
 returns : tie.Need-returns
 returns c =
     let a = c .before .before .before .before .before .before .before .before .before .before .before .before .before .before .before .before .before .before .before .before .before .before .before .before .before .before .before .before in
     let s = a .before .before .before .before .before .before .before .before .before .before .before .before .before in
     record {
-      side0 = made-is (K (s .args .count) (s .args .nexts .now) (s .args .previouses .now) (s .args .links .now) (s .args .sides .now) (s .args .valences .now) (s .args .points .now) (s .args .c) (s .pre)) (s .pre .sound) (s .args .c) (s .pre .here) side0 _ _ _ _ _ _ _ (part0 a) _ (c .before .before .before .before .before .before .before .before .before .before .before .before .before .before .before .before .before .before .before .before .before .side .ensures);
-      side1 = made-is (K (s .args .count) (s .args .nexts .now) (s .args .previouses .now) (s .args .links .now) (s .args .sides .now) (s .args .valences .now) (s .args .points .now) (s .args .c) (s .pre)) (s .pre .sound) (s .args .c) (s .pre .here) side1 _ _ _ _ _ _ _ (part1 a) _ (c .before .before .before .before .before .before .before .before .before .before .before .before .before .before .side2 .ensures);
-      side2 = made-is (K (s .args .count) (s .args .nexts .now) (s .args .previouses .now) (s .args .links .now) (s .args .sides .now) (s .args .valences .now) (s .args .points .now) (s .args .c) (s .pre)) (s .pre .sound) (s .args .c) (s .pre .here) side2 _ _ _ _ _ _ _ (part2 a) _ (c .before .before .before .before .before .before .before .side3 .ensures);
-      side3 = made-is (K (s .args .count) (s .args .nexts .now) (s .args .previouses .now) (s .args .links .now) (s .args .sides .now) (s .args .valences .now) (s .args .points .now) (s .args .c) (s .pre)) (s .pre .sound) (s .args .c) (s .pre .here) side3 _ _ _ _ _ _ _ (part3 a) _ (c .side4 .ensures);
+      side0 = made-is (K (s .args .count) (s .args .nexts .now) (s .args .previouses .now) (s .args .links .now) (s .args .sides .now) (s .args .valences .now) (s .args .points .now) (s .args .c) (s .pre .0)) (s .pre .0 .sound) (s .args .c) (s .pre .0 .here) side0 _ _ _ _ _ _ _ (part0 a) _ (c .before .before .before .before .before .before .before .before .before .before .before .before .before .before .before .before .before .before .before .before .before .side .ensures);
+      side1 = made-is (K (s .args .count) (s .args .nexts .now) (s .args .previouses .now) (s .args .links .now) (s .args .sides .now) (s .args .valences .now) (s .args .points .now) (s .args .c) (s .pre .0)) (s .pre .0 .sound) (s .args .c) (s .pre .0 .here) side1 _ _ _ _ _ _ _ (part1 a) _ (c .before .before .before .before .before .before .before .before .before .before .before .before .before .before .side2 .ensures);
+      side2 = made-is (K (s .args .count) (s .args .nexts .now) (s .args .previouses .now) (s .args .links .now) (s .args .sides .now) (s .args .valences .now) (s .args .points .now) (s .args .c) (s .pre .0)) (s .pre .0 .sound) (s .args .c) (s .pre .0 .here) side2 _ _ _ _ _ _ _ (part2 a) _ (c .before .before .before .before .before .before .before .side3 .ensures);
+      side3 = made-is (K (s .args .count) (s .args .nexts .now) (s .args .previouses .now) (s .args .links .now) (s .args .sides .now) (s .args .valences .now) (s .args .points .now) (s .args .c) (s .pre .0)) (s .pre .0 .sound) (s .args .c) (s .pre .0 .here) side3 _ _ _ _ _ _ _ (part3 a) _ (c .side4 .ensures);
     }
 
 pub net-sides-spec : {M : Type 1} → statement M

@@ -15,14 +15,17 @@ use Rattle.writing.proofs.write_axis.Statement.{statement}
 use Rattle.writing.proofs.write_axis.Tie as tie
 
 abbrev Inv-loop : tie.InvT-loop
-Inv-loop points nexts previouses links sides valences n first count axis out₀ k₀ out k =
+Inv-loop points nexts previouses links sides valences n first count axis out₀ rows k₀ out k =
     (k ≤ count) × (length out ≡ perCorner * count) × AxisWritten (tabled n nexts previouses links sides valences points) first k axis out₀ out
 
 abbrev μ-loop : tie.MeasureT-loop
-μ-loop points nexts previouses links sides valences n first count axis out₀ k₀ out k = count - k
+μ-loop points nexts previouses links sides valences n first count axis out₀ rows k₀ out k = count - k
+
+rows-requires : tie.Need-rows-requires Inv-loop μ-loop
+rows-requires c κs = search needs
 
 loop-holds : tie.Need-loop-holds Inv-loop μ-loop
-loop-holds c = let s = c .before .before .before .before .before in (omega arith, s .pre .1 .1 .3, axis-none _ _ _ _)
+loop-holds c = let s = c .before .before .before .before .before .before in (omega arith, s .pre .1 .1 .3, axis-none _ _ _ _)
 
 add-put-net : tie.Need-add-put-net Inv-loop μ-loop
 add-put-net c = search needs
@@ -32,8 +35,8 @@ mul-put-net c = search needs
 
 put-net-requires : tie.Need-put-net-requires Inv-loop μ-loop
 put-net-requires c κs =
-    let s = c .before .before .before .before .before .before .before .before in
-    let l = c .before .before .loop in
+    let s = c .before .before .before .before .before .before .before .before .before .before in
+    let l = c .before .before .before .loop in
     let long = s .pre .1 .0 .0 in
     let n : s .args .n ≤ mostCorners = s .pre .1 .0 .2 in (
       record {
@@ -48,6 +51,7 @@ put-net-requires c κs =
       },
       s .pre .1 .1 .2,
       omega (arith, l .inv .1),
+      c .before .before .before .before .rows .ensures,
     )
 
 add-k : tie.Need-add-k Inv-loop μ-loop
@@ -58,12 +62,12 @@ loop-less c = search needs
 
 loop-again : tie.Need-loop-again Inv-loop μ-loop
 loop-again c =
-    let s = c .before .before .before .before .before .before .before .before .before .before in
-    let l = c .before .before .before .before .loop in
+    let s = c .before .before .before .before .before .before .before .before .before .before .before .before in
+    let l = c .before .before .before .before .before .loop in
     let p = c .before .put-net in (
       omega arith,
-      p .kept .1 .1 .1 .1 .1 .1 .1 .1 .1 .0 ∙ l .inv .1,
-      axis-step _ (s .args .first) (l .k) (s .args .axis) (perCorner * l .k) (now (s .args .out)) (l .out) (p .last .1 .1 .1 .1 .1 .1 .1 .1 .1 .0) (s .pre .1 .1 .2) refl (l .inv .2) (p .ensures),
+      p .kept .1 .1 .1 .1 .1 .1 .1 .1 .1 .1 .0 ∙ l .inv .1,
+      axis-step _ (s .args .first) (l .k) (s .args .axis) (perCorner * l .k) (now (s .args .out)) (l .out) (p .last .1 .1 .1 .1 .1 .1 .1 .1 .1 .1 .0) (s .pre .1 .1 .2) refl (l .inv .2) (p .ensures),
     )
 
 same-length : tie.Need-same-length Inv-loop μ-loop
@@ -71,7 +75,7 @@ same-length c = search needs
 
 returns : tie.Need-returns Inv-loop μ-loop
 returns c =
-    let s = c .before .before .before .before .before .before .before in
+    let s = c .before .before .before .before .before .before .before .before in
     let l = c .before .loop in
     subst
     (λ (k : ℕ). AxisWritten
@@ -86,6 +90,7 @@ write-axis-spec =
     (tie.spec
     Inv-loop
     μ-loop
+    rows-requires
     loop-holds
     add-put-net
     mul-put-net
