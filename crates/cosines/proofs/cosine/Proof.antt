@@ -1,3 +1,5 @@
+-- `cosines::cosine` meets its contract: the array holds the rows of the table with zeros after them.
+-- Assumes nothing.
 use mathlib.Core.Path.{ap, _∙_}
 use mathlib.Core.List.{List, []}
 use Prim.Native.Nat.{_-_}
@@ -6,34 +8,25 @@ use lib.IntN.{ℤ, pos}
 use mir.Syntax.{w64}
 use mir.ValLaws.{toZ-ofZ}
 use Rattle.cosines.proofs.Rules.{stored-is}
-use native.Mathlib.Omega.{arith}
 use borrow.Author.Needs.{needs}
 use Rattle.cosines.proofs.cosine.Statement.{statement}
 use Rattle.cosines.proofs.cosine.Tie as tie
-use Rattle.cosines.proofs.cosine.Reads as reads
-use Rattle.cosines.proofs.cosine.Lts as lts
 
--- src/lib.rt:202:10
 sub-result : tie.Need-sub-result
 sub-result c = search needs
 
--- src/lib.rt:202:5
 mul-result : tie.Need-mul-result
 mul-result c = search needs
 
--- src/lib.rt:202:5
 mul-result-2 : tie.Need-mul-result-2
 mul-result-2 c = search needs
 
--- src/lib.rt:202:5
 index-1-result : tie.Need-index-1-result
 index-1-result c = search needs
 
--- src/lib.rt:202:5
 index-2-result : tie.Need-index-2-result
 index-2-result c = search needs
 
--- src/lib.rt:198:1
 returns : tie.Need-returns
 returns c =
     let s = c .before in
