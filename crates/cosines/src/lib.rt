@@ -4,7 +4,10 @@ ghost use mathlib.Core.Path.{_≡_};
 ghost use Prim.Native.Nat.{_≤_, _<_};
 ghost use Rattle.cosines.specs.Table.{lastRow, stored, cosine};
 
-const TABLE: [[i64; 16]; 10] = [
+// Rows 3 to 12.
+pub type Rows = [[i64; 16]; 10];
+
+const TABLE: Rows = [
     [
         1073741824,
         -536870912,
@@ -188,14 +191,14 @@ const TABLE: [[i64; 16]; 10] = [
 ];
 
 // The table as a value. A constant is written to the stack wherever it is read, so a call of building takes the table once.
-pub fn rows() -> [[i64; 16]; 10]
+pub fn rows() -> Rows
     ensures { λ r. ⌜ r ≡ stored ⌝ }
 {
     TABLE
 }
 
 // C(m, k) from the table, for a row m of it and k below m.
-pub fn cosine(rows: &[[i64; 16]; 10], m: usize, k: usize) -> i64
+pub fn cosine(rows: &Rows, m: usize, k: usize) -> i64
     requires { ⌜ (now rows ≡ stored) × (3 ≤ m) × (m ≤ lastRow) × (k < m) ⌝ }
     ensures { λ r. ⌜ r ≡ cosine m k ⌝ }
 {

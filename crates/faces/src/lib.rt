@@ -24,7 +24,7 @@ pub struct Sums {
 }
 
 // The weight of the place after j, k = j + 1.
-fn weight_after(rows: &[[i64; 16]; 10], m: usize, j: usize) -> i64
+fn weight_after(rows: &cosines::Rows, m: usize, j: usize) -> i64
     requires { ⌜ (3 ≤ m) × (m ≤ lastRow) × (j < m) × (now rows ≡ stored) ⌝ }
     ensures { λ r. ⌜ r ≡ weight m (j + 1) ⌝ }
 {
@@ -33,7 +33,7 @@ fn weight_after(rows: &[[i64; 16]; 10], m: usize, j: usize) -> i64
 }
 
 // One way round the ring of m corners at c.
-fn ring_sums(points: &[i32], steps: &[u16], rows: &[[i64; 16]; 10], c: usize, m: usize) -> Sums
+fn ring_sums(points: &[i32], steps: &[u16], rows: &cosines::Rows, c: usize, m: usize) -> Sums
     requires ring { ⌜ Ring (now points) (now steps) c m ⌝ }
     requires table { ⌜ now rows ≡ stored ⌝ }
     ensures { λ r. ⌜ Summed (around (now (points .entry)) (now (steps .entry)) c) m r ⌝ }
@@ -94,7 +94,7 @@ fn by_weights(n: i64, m: usize) -> i64
 }
 
 // The refined face of m corners at c whose ring the steps go round.
-pub fn ring_face(points: &[i32], steps: &[u16], rows: &[[i64; 16]; 10], c: usize, m: usize) -> Face
+pub fn ring_face(points: &[i32], steps: &[u16], rows: &cosines::Rows, c: usize, m: usize) -> Face
     requires ring { ⌜ Ring (now points) (now steps) c m ⌝ }
     requires table { ⌜ now rows ≡ stored ⌝ }
     ensures { λ r. ⌜ IsFace (around (now (points .entry)) (now (steps .entry)) c) m 0 (m - 1) r ⌝ }

@@ -58,7 +58,7 @@ pub fn put_net(
     links: &[u16],
     sides: &[u8],
     valences: &[u8],
-    rows: &[[i64; 16]; 10],
+    rows: &cosines::Rows,
     count: usize,
     c: usize,
     axis: usize,

@@ -131,7 +131,7 @@ pub fn net_sides(
     links: &[u16],
     sides: &[u8],
     valences: &[u8],
-    rows: &[[i64; 16]; 10],
+    rows: &cosines::Rows,
     count: usize,
     c: usize,
 ) -> NetSides
