@@ -9,7 +9,7 @@ use native.Mathlib.Numerals.{add-one}
 use lib.Dec.{lit<, lit≤}
 use lib.ListN.{length, getD}
 use lib.IntN.{ℤ, pos, natAbs, _+ℤ_, _*ℤ_}
-use lib.Signed.{_≤ℤ_, _<ℤ_, ltZ-yes}
+use lib.Signed.{ltZ-yes}
 use mir.Syntax.{w32, w64}
 use mir.Val.{SFits, ofZ, toZ}
 use mir.Facts.{toZ-ofZ}
@@ -29,7 +29,8 @@ use Rattle.rounding.specs.Round.{round}
 use Rattle.rounding.proofs.Laws.{round-scale}
 use Rattle.cosines.specs.Table.{table, cosine}
 use Rattle.formulas.specs.Sizes.{Corner, FacePoint}
-use Rattle.faces.specs.Ring.{around, Ring, IsFace, IsEdgeFace}
+use Rattle.faces.specs.Ring.{around, Ring, Summed, Divisor, Divisible, Divided, IsFace, IsEdgeFace}
+use Rattle.faces.specs.declared.Sums.{Sums}
 use Rattle.faces.specs.declared.Face.{Face}
 
 -- ---- the sums of a ring p of m points, numbered from its corner
@@ -241,19 +242,59 @@ module _ (here after far before : ℤ) (r : Face)
       none : (i : ℕ) → i + 0 ≡ i
       none i = omega arith
 
--- ---- a division, in the machine's numbers
-pub divided : (n d e r : ℤ) → SFits w64 n → SFits w64 r → d ≡ e → r ≡ round (plain n) d → plain r ≡ round n e
-divided n d e r fn fr h q = toZ-ofZ fr ∙ q ∙ cc (h, toZ-ofZ fn)
+-- ---- four steps from c, and the points there
+module _ (points : List ℤ) (steps : List ℕ) (c : ℕ) (r : Ring points steps c 4) (d e f : ℕ)
+    (ed : d ≡ getD steps c 0) (ee : e ≡ getD steps d 0) (ef : f ≡ getD steps e 0) where
+  pub second-in : d < r .count
+  second-in = rw ed (r .step-in c (r .here))
 
-pub sized : (n y : ℤ) → n ≡ y → natAbs y ≤ 2 ^ 60 → natAbs (plain n) ≤ 2 ^ 60
-sized n y e h = rw (e, toZ-ofZ (abs-fits w64 y (2 ^ 60) h (lit< tt))) h
+  pub third-in : e < r .count
+  third-in = rw ee (r .step-in d second-in)
 
-pub quotient : (n y d r : ℤ) → n ≡ y → natAbs y ≤ 2 ^ 60 → SFits w64 r → r ≡ round (plain n) d → plain r ≡ round y d
-quotient n y d r e h f q = divided n d d r (rw e (abs-fits w64 y (2 ^ 60) h (lit< tt))) f refl q ∙ ap (λ (z : ℤ). round z d) e
+  pub fourth-in : f < r .count
+  fourth-in = rw ef (r .step-in e third-in)
 
--- a divisor that is a count, or a count of weights
-pub count-divides : (m : ℕ) → 3 ≤ m → m ≤ 12 → (pos 0 <ℤ pos m) × ((pos m) ≤ℤ pos (2 ^ 36))
-count-divides m l h = simp diff (omega arith)
+  places : (around points steps c 1 ≡ getD points d (pos 0)) × (around points steps c 2 ≡ getD points e (pos 0)) × (around points steps c 3 ≡ getD points f (pos 0))
+  unfolding around iterate
+  places = rw (ef, ee, ed) (refl, refl, refl)
 
-pub weights-divide : (m : ℕ) → 3 ≤ m → m ≤ 12 → SFits w64 (pos (3221225472 * m)) × ((pos 0 <ℤ pos (3221225472 * m)) × ((pos (3221225472 * m)) ≤ℤ pos (2 ^ 36)))
-weights-divide m l h = simp diff (omega arith)
+  pub four-is : (v w x y : ℤ) (g : Face) → v ≡ getD points c (pos 0) → w ≡ getD points d (pos 0) → x ≡ getD points e (pos 0) → y ≡ getD points f (pos 0)
+      → IsEdgeFace v w x y g → IsFace (around points steps c) 4 0 3 g
+  unfolding around iterate
+  four-is v w x y g ev ew ex ey face =
+      face .faces (around points steps c) (cyclic points steps c 4 r) 0 (sym ev) (places .0 ∙ sym ew) (places .1 ∙ sym ex) (places .2 ∙ sym ey)
+
+-- a refined point that the code has read
+pub held : (points : List ℤ) (steps : List ℕ) (c m : ℕ) (r : Ring points steps c m) (i : ℕ) (v : ℤ) → i < r .count → v ≡ getD points i (pos 0)
+    → (plain v ≡ getD points i (pos 0)) × Corner (plain v)
+held points steps c m r i v h e =
+    let z = r .point-size i h in
+    let q : plain v ≡ getD points i (pos 0) = ap plain e ∙ toZ-ofZ (abs-fits w64 (getD points i (pos 0)) (2 ^ 24) z (lit< tt)) in
+    (q, rw q z)
+
+-- ---- the divisions, in the machine's numbers
+pub quotient : (n d r : ℤ) → natAbs n ≤ 2 ^ 60 → SFits w64 d → SFits w64 r → r ≡ round (plain n) (plain d) → plain r ≡ round n d
+quotient n d r h fd fr q = toZ-ofZ fr ∙ q ∙ cc (toZ-ofZ (abs-fits w64 n (2 ^ 60) h (lit< tt)), toZ-ofZ fd)
+
+pub divisible : (points : List ℤ) (steps : List ℕ) (c m : ℕ) → Ring points steps c m → (s : Sums) → Summed (around points steps c) m s → Divisible s
+divisible points steps c m r s q =
+    record {
+      total = rw (q .total) (total-size points steps c m r);
+      ahead = rw (q .ahead) (ahead-size points steps c m r);
+      behind = rw (q .behind) (behind-size points steps c m r);
+    }
+
+pub ring-divided : (points : List ℤ) (steps : List ℕ) (c m : ℕ) → Ring points steps c m → (s : Sums) → Summed (around points steps c) m s
+    → (f : Face) → Divided s (pos m) (pos (3 * 2 ^ 30) *ℤ pos m) f → IsFace (around points steps c) m 0 (m - 1) f
+ring-divided points steps c m r s q f d =
+    let w = pos (3 * 2 ^ 30) *ℤ pos m in
+    ring-is points steps c m r f
+    (d .centre ∙ ap (λ (z : ℤ). round z (pos m)) (q .total)) (d .ahead ∙ ap (λ (z : ℤ). round z w) (q .ahead)) (d .behind ∙ ap (λ (z : ℤ). round z w) (q .behind))
+
+-- the divisors of a count that a mesh may have
+pub divisors : (m : ℕ) → 3 ≤ m → m ≤ 12 → SFits w64 (pos (3221225472 * m)) × Divisor (pos m) × Divisor (pos (3221225472 * m))
+divisors m l h = simp diff (omega arith)
+
+-- a count written out
+pub at-count : (s : Sums) (m k : ℕ) (f : Face) → m ≡ k → Divided s (pos k) (pos (3221225472 * k)) f → Divided s (pos m) (pos (3221225472 * m)) f
+at-count s m k f e d = rw e d

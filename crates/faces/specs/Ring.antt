@@ -2,11 +2,13 @@
 -- Assumes nothing.
 use mathlib.Core.Path.{_≡_}
 use mathlib.Core.List.{List}
-use Prim.Native.Nat.{ℕ, _+_, _≤_, _<_}
+use Prim.Native.Nat.{ℕ, _+_, _^_, _≤_, _<_}
 use lib.ListN.{length, getD}
-use lib.IntN.{ℤ, pos, _*ℤ_}
+use lib.IntN.{ℤ, pos, natAbs, _*ℤ_}
+use lib.Signed.{_≤ℤ_, _<ℤ_}
 use Rattle.integers.specs.Sum.{sum}
 use Rattle.integers.proofs.Sum.{Cyclic}
+use Rattle.rounding.specs.Round.{round}
 use Rattle.mesh.specs.Limits.{leastSides, mostSides}
 use Rattle.mesh.specs.Scan.{iterate}
 use Rattle.formulas.specs.Sizes.{Corner, FacePoint}
@@ -35,6 +37,21 @@ pub record Summed (p : ℕ → ℤ) (m : ℕ) (r : Sums) : Type 0 where
   pub total : r .total ≡ sum p m
   pub ahead : r .ahead ≡ sum (λ k. p k *ℤ weight m k) m
   pub behind : r .behind ≡ sum (λ k. p k *ℤ weight m (k + 1)) m
+
+-- sums and divisors that the rounding takes
+pub record Divisible (s : Sums) : Type 0 where
+  pub total : natAbs (s .total) ≤ 2 ^ 60
+  pub ahead : natAbs (s .ahead) ≤ 2 ^ 60
+  pub behind : natAbs (s .behind) ≤ 2 ^ 60
+
+abbrev pub Divisor : ℤ → Type 0
+Divisor d = (pos 0 <ℤ d) × (d ≤ℤ pos (2 ^ 36))
+
+-- the quotients: of the points by their count, of the weighted points by w
+pub record Divided (s : Sums) (m w : ℤ) (r : Face) : Type 0 where
+  pub centre : r .centre ≡ round (s .total) m
+  pub ahead : r .ahead ≡ round (s .ahead) w
+  pub behind : r .behind ≡ round (s .behind) w
 
 -- centre and face points towards the side from place i to the next, and towards the side from place j
 pub record IsFace (p : ℕ → ℤ) (m i j : ℕ) (r : Face) : Type 0 where

@@ -2,12 +2,12 @@
 // of a mesh face are rings of steps through a table; the four-sided face of an edge is given by its points.
 ghost use mathlib.Core.Path.{_≡_};
 ghost use Prim.Native.Nat.{_+_, _-_, _*_, _^_, _≤_, _<_};
-ghost use lib.IntN.{pos, natAbs, _*ℤ_};
-ghost use Rattle.rounding.specs.Round.{round};
+ghost use lib.ListN.{length, getD};
+ghost use lib.IntN.{pos, _*ℤ_};
 ghost use Rattle.cosines.specs.Table.{lastRow, stored};
 ghost use Rattle.surface.specs.Face.{weight};
 ghost use Rattle.formulas.specs.Sizes.{Corner};
-ghost use Rattle.faces.specs.Ring.{around, Ring, Summed, IsFace, IsEdgeFace};
+ghost use Rattle.faces.specs.Ring.{around, Ring, Summed, Divisor, Divisible, Divided, IsFace, IsEdgeFace};
 
 // A refined face at one of its corners: its centre, and its points towards the side that leaves the corner and the one before.
 pub struct Face {
@@ -61,36 +61,75 @@ fn ring_sums(points: &[i32], steps: &[u16], rows: &cosines::Rows, c: usize, m: u
     }
 }
 
-// A sum over the m corners of a ring by m. The divisors of most meshes are written out, so that each is a product and a shift.
-fn by_count(n: i64, m: usize) -> i64
-    requires { ⌜ (3 ≤ m) × (m ≤ lastRow) × (natAbs n ≤ 2 ^ 60) ⌝ }
-    ensures { λ r. ⌜ r ≡ round n (pos m) ⌝ }
+// The face that sums come to: the points by their count m, the weighted points by w, which is 3m·2^30.
+fn quotients(s: Sums, m: i64, w: i64) -> Face
+    requires sums { ⌜ Divisible s ⌝ }
+    requires divisors { ⌜ Divisor m × Divisor w ⌝ }
+    ensures { λ r. ⌜ Divided s m w r ⌝ }
 {
-    match m {
-        3 => rounding::round_div(n, 3),
-        4 => rounding::round_div(n, 4),
-        5 => rounding::round_div(n, 5),
-        6 => rounding::round_div(n, 6),
-        7 => rounding::round_div(n, 7),
-        8 => rounding::round_div(n, 8),
-        _ => rounding::round_div(n, m as i64),
+    Face {
+        centre: rounding::round_div(s.total, m),
+        ahead: rounding::round_div(s.ahead, w),
+        behind: rounding::round_div(s.behind, w),
     }
 }
 
-// A sum of weighted points by 3m·2^30, the divisors of most meshes written out as above.
-fn by_weights(n: i64, m: usize) -> i64
-    requires { ⌜ (3 ≤ m) × (m ≤ lastRow) × (natAbs n ≤ 2 ^ 60) ⌝ }
-    ensures { λ r. ⌜ r ≡ round n (pos (3 * 2 ^ 30) *ℤ pos m) ⌝ }
+// The same for a ring of m corners. The divisors are written out, so that each division is a product and a shift.
+fn divide(s: Sums, m: usize) -> Face
+    requires count { ⌜ (3 ≤ m) × (m ≤ lastRow) ⌝ }
+    requires sums { ⌜ Divisible s ⌝ }
+    ensures { λ r. ⌜ Divided s (pos m) (pos (3 * 2 ^ 30) *ℤ pos m) r ⌝ }
 {
     match m {
-        3 => rounding::round_div(n, 9663676416),
-        4 => rounding::round_div(n, 12884901888),
-        5 => rounding::round_div(n, 16106127360),
-        6 => rounding::round_div(n, 19327352832),
-        7 => rounding::round_div(n, 22548578304),
-        8 => rounding::round_div(n, 25769803776),
-        _ => rounding::round_div(n, 3221225472 * m as i64),
+        3 => quotients(s, 3, 9663676416),
+        5 => quotients(s, 5, 16106127360),
+        6 => quotients(s, 6, 19327352832),
+        7 => quotients(s, 7, 22548578304),
+        8 => quotients(s, 8, 25769803776),
+        9 => quotients(s, 9, 28991029248),
+        10 => quotients(s, 10, 32212254720),
+        11 => quotients(s, 11, 35433480192),
+        12 => quotients(s, 12, 38654705664),
+        _ => quotients(s, m as i64, 3221225472 * m as i64),
     }
+}
+
+fn wide(x: i32) -> i64
+    ensures { λ r. ⌜ r ≡ x ⌝ }
+{
+    x as i64
+}
+
+// The refined point of a corner.
+pub fn point(points: &[i32], c: usize) -> i64
+    requires { ⌜ c < length (now points) ⌝ }
+    ensures { λ r. ⌜ r ≡ getD (now (points .entry)) c (pos 0) ⌝ }
+{
+    wide(points[c])
+}
+
+// The corner after c.
+fn step(steps: &[u16], c: usize) -> usize
+    requires { ⌜ c < length (now steps) ⌝ }
+    ensures { λ r. ⌜ r ≡ getD (now (steps .entry)) c 0 ⌝ }
+{
+    steps[c] as usize
+}
+
+// The refined face of four corners: row 4 of the table is exact, so the weights are the fractions of an edge's face.
+fn ring_of_four(points: &[i32], steps: &[u16], c: usize) -> Face
+    requires { ⌜ Ring (now points) (now steps) c 4 ⌝ }
+    ensures { λ r. ⌜ IsFace (around (now (points .entry)) (now (steps .entry)) c) 4 0 3 r ⌝ }
+{
+    let d = step(steps, c);
+    let e = step(steps, d);
+    let f = step(steps, e);
+    edge_face(
+        point(points, c),
+        point(points, d),
+        point(points, e),
+        point(points, f),
+    )
 }
 
 // The refined face of m corners at c whose ring the steps go round.
@@ -99,12 +138,11 @@ pub fn ring_face(points: &[i32], steps: &[u16], rows: &cosines::Rows, c: usize, 
     requires table { ⌜ now rows ≡ stored ⌝ }
     ensures { λ r. ⌜ IsFace (around (now (points .entry)) (now (steps .entry)) c) m 0 (m - 1) r ⌝ }
 {
-    let s = ring_sums(points, steps, rows, c, m);
-    Face {
-        centre: by_count(s.total, m),
-        ahead: by_weights(s.ahead, m),
-        behind: by_weights(s.behind, m),
+    if m == 4 {
+        return ring_of_four(points, steps, c);
     }
+    let s = ring_sums(points, steps, rows, c, m);
+    divide(s, m)
 }
 
 // The four-sided refined face of an edge, from its points in turn: row 4 of the table is exact, so the weights are fractions.

@@ -35,30 +35,16 @@ pub struct NetSides {
     pub side3: SideValues,
 }
 
-fn wide(x: i32) -> i64
-    ensures { λ r. ⌜ r ≡ x ⌝ }
-{
-    x as i64
-}
-
-// The refined point of a corner.
-fn point(points: &[i32], c: usize) -> i64
-    requires { ⌜ c < length (now points) ⌝ }
-    ensures { λ r. ⌜ r ≡ getD (now (points .entry)) c (pos 0) ⌝ }
-{
-    wide(points[c])
-}
-
 // The face through four corners in turn.
 fn edge_through(points: &[i32], here: usize, after: usize, far: usize, before: usize) -> Edge
     requires { ⌜ ((here < length (now points)) × (after < length (now points)) × (far < length (now points)) × (before < length (now points)))
         × (Corner (getD (now points) here (pos 0)) × Corner (getD (now points) after (pos 0)) × Corner (getD (now points) far (pos 0)) × Corner (getD (now points) before (pos 0))) ⌝ }
     ensures { λ r. ⌜ Through (now (points .entry)) here after far before r ⌝ }
 {
-    let v = point(points, here);
-    let w = point(points, after);
-    let x = point(points, far);
-    let y = point(points, before);
+    let v = faces::point(points, here);
+    let w = faces::point(points, after);
+    let x = faces::point(points, far);
+    let y = faces::point(points, before);
     let f = faces::edge_face(v, w, x, y);
     Edge {
         centre: f.centre,

@@ -1,4 +1,4 @@
--- `sides::point` meets its contract.
+-- `faces::point` meets its contract.
 -- Assumes nothing.
 use mathlib.Core.Path.{_∙_}
 use borrow.Author.Needs.{needs}
@@ -7,8 +7,8 @@ use lib.IntN.{pos}
 use mir.Syntax.{w32, w64}
 use mir.Val.{SFits}
 use mir.Facts.{toZ-ofZ}
-use Rattle.sides.proofs.point.Statement.{statement}
-use Rattle.sides.proofs.point.Tie as tie
+use Rattle.faces.proofs.point.Statement.{statement}
+use Rattle.faces.proofs.point.Tie as tie
 
 mul-wide : tie.Need-mul-wide
 mul-wide c = search needs

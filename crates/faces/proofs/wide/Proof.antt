@@ -1,9 +1,9 @@
--- `sides::wide` meets its contract: 32 bits fit 64.
+-- `faces::wide` meets its contract: 32 bits fit 64.
 -- Assumes nothing.
 use mir.Syntax.{w32, w64}
 use mir.Facts.{toZ-ofZ, sfits-widen}
-use Rattle.sides.proofs.wide.Statement.{statement}
-use Rattle.sides.proofs.wide.Tie as tie
+use Rattle.faces.proofs.wide.Statement.{statement}
+use Rattle.faces.proofs.wide.Tie as tie
 
 cast-result : tie.Need-cast-result
 cast-result c = rw (toZ-ofZ (c .fits .x)) (sfits-widen {w = w32} {w′ = w64} tt (c .fits .x))
