@@ -43,7 +43,9 @@ index-2-half-2 c = search needs
 half-requires-5 : tie.Need-half-requires-5
 half-requires-5 c κs =
     let s = c .before .before .before .before .before .before .before .before .before .before .before .before .before .before in
-    (written (getD (getD (s .args .t9) 1 []) 2 (pos 0)) (s .pre .1), written (getD (getD (s .args .t9) 2 []) 1 (pos 0)) (s .pre .2))
+    let a12 = written (getD (getD (s .args .t9) 1 []) 2 (pos 0)) (s .pre .1) in
+    let a21 = written (getD (getD (s .args .t9) 2 []) 1 (pos 0)) (s .pre .2) in
+    (search (a12, a21), search (a12, a21))
 
 returns : tie.Need-returns
 returns c =
