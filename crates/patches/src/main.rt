@@ -6,12 +6,14 @@ use mesh::Answer;
 use mesh::MOST_CORNERS;
 use mesh::MOST_FACES;
 use mesh::MOST_VERTICES;
+use requests::PER_CORNER;
 ghost use Prim.Native.Nat.{_≤_, _<_};
+ghost use Rattle.mesh.specs.Limits.{mostCorners};
 
 // The corners of one call of building, and their numbers.
 const RANGE: usize = 64;
 
-const NUMBERS: usize = 123 * RANGE;
+const NUMBERS: usize = PER_CORNER * RANGE;
 
 // Room for a corner's 42 lines.
 const LINES: usize = 2048;
@@ -83,7 +85,7 @@ fn print_range(
     first: usize,
     count: usize,
 )
-    requires { ⌜ (first < 8192) × (count ≤ 64) ⌝ }
+    requires { ⌜ (first < mostCorners) × (count ≤ 64) ⌝ }
 {
     let mut output = [0i32; NUMBERS];
     let answer = building::build(
@@ -93,7 +95,7 @@ fn print_range(
         links,
         first,
         count,
-        &mut output[..123 * count],
+        &mut output[..PER_CORNER * count],
     );
     match answer {
         Answer::Refused(number, place) => report::print_refusal(number, place),
@@ -103,7 +105,7 @@ fn print_range(
 
 // Prints the corners of a range.
 fn print_corners(output: &[i32; NUMBERS], first: usize, count: usize)
-    requires { ⌜ (first < 8192) × (count ≤ 64) ⌝ }
+    requires { ⌜ (first < mostCorners) × (count ≤ 64) ⌝ }
 {
     let mut i = 0;
     while i < count {
@@ -130,8 +132,8 @@ fn put_points(lines: &mut [u8], from: usize, output: &[i32; NUMBERS], place: usi
 {
     let mut at = from;
     let mut i = 0;
-    while i < 123 {
-        at = put_entry(lines, at, output[123 * place + i], i % 3 == 2);
+    while i < PER_CORNER {
+        at = put_entry(lines, at, output[PER_CORNER * place + i], i % 3 == 2);
         i += 1;
     }
     at
