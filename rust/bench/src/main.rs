@@ -55,18 +55,41 @@ fn least(budget: Duration, mut library: impl FnMut(), mut reference: impl FnMut(
     }
 }
 
+/// How vertices and faces are numbered.
+#[derive(Clone, Copy)]
+enum Numbers {
+    /// In the order that the solid was drawn in: neighbours are near each other in the lists.
+    Drawn,
+    /// At random, each face begun at another corner: what the lists name lies anywhere.
+    Random,
+}
+
+impl Numbers {
+    fn tables(self, solid: &Solid) -> Tables {
+        match self {
+            Numbers::Drawn => Tables::of(solid),
+            Numbers::Random => Tables::relabelled(solid, Places::Shaken, &mut Random::new(9)),
+        }
+    }
+
+    fn word(self) -> &'static str {
+        match self {
+            Numbers::Drawn => "drawn",
+            Numbers::Random => "random",
+        }
+    }
+}
+
 /// The figures of a mesh.
 struct Figures {
-    name: &'static str,
     corners: usize,
     link: Pair,
     build: Pair,
     range: Pair,
 }
 
-fn measure(name: &'static str, solid: &Solid, budget: Duration) -> Figures {
-    let mut random = Random::new(9);
-    let Tables { coordinates, sides, corners } = Tables::relabelled(solid, Places::Shaken, &mut random);
+fn measure(name: &str, tables: Tables, budget: Duration) -> Figures {
+    let Tables { coordinates, sides, corners } = tables;
     let mesh = Mesh { coordinates, sides, corners };
     let lists = Lists { coordinates: &mesh.coordinates, sides: &mesh.sides, corners: &mesh.corners };
     let count = mesh.corners.len();
@@ -94,7 +117,7 @@ fn measure(name: &'static str, solid: &Solid, budget: Duration) -> Figures {
         pair
     };
     let range = RANGE.min(count);
-    Figures { name, corners: count, link, build: build(0, count), range: build((count - range) / 2, range) }
+    Figures { corners: count, link, build: build(0, count), range: build((count - range) / 2, range) }
 }
 
 fn main() {
@@ -103,28 +126,32 @@ fn main() {
     let mut random = Random::new(10);
     let prisms = (1..85).fold(Solid::prism(12), |all, _| all.with(Solid::prism(12)));
     let irregular = Solid::torus(20, 30).roughened(&mut random, 20_000, 8_000);
+    use Numbers::{Drawn, Random as Shuffled};
     let meshes = [
-        ("cube", Solid::cube()),
-        ("85 twelve-sided prisms", prisms),
-        ("torus", Solid::torus(32, 64)),
-        ("mixed irregular mesh", irregular),
-        ("torus", Solid::torus(16, 16)),
-        ("torus", Solid::torus(16, 32)),
-        ("torus", Solid::torus(32, 32)),
+        ("cube", Solid::cube(), Shuffled),
+        ("85 twelve-sided prisms", prisms, Shuffled),
+        ("mixed irregular mesh", irregular, Shuffled),
+        ("torus", Solid::torus(16, 16), Shuffled),
+        ("torus", Solid::torus(16, 32), Shuffled),
+        ("torus", Solid::torus(32, 32), Shuffled),
+        ("torus", Solid::torus(32, 64), Shuffled),
+        ("torus", Solid::torus(16, 16), Drawn),
+        ("torus", Solid::torus(32, 64), Drawn),
     ];
     println!(
-        "| mesh | corners | linking, ns per corner | plain | ratio | building, ns per corner | plain | ratio \
+        "| mesh | numbers | corners | linking, ns per corner | plain | ratio | building, ns per corner | plain | ratio \
               | range of {RANGE}, µs | plain | ratio | range over linking |"
     );
-    println!("|---|---|---|---|---|---|---|---|---|---|---|---|");
+    println!("|---|---|---|---|---|---|---|---|---|---|---|---|---|");
     let mut figures = Vec::new();
-    for (name, solid) in &meshes {
-        let found = measure(name, solid, budget);
+    for (name, solid, numbers) in &meshes {
+        let found = measure(name, numbers.tables(solid), budget);
         let each = 1e9 / found.corners as f64;
         let Figures { link, build, range, .. } = found;
         println!(
-            "| {} | {} | {:.1} | {:.1} | {:.2} | {:.0} | {:.0} | {:.2} | {:.1} | {:.1} | {:.2} | {:.2} |",
-            found.name,
+            "| {} | {} | {} | {:.1} | {:.1} | {:.2} | {:.0} | {:.0} | {:.2} | {:.1} | {:.1} | {:.2} | {:.2} |",
+            name,
+            numbers.word(),
             found.corners,
             each * link.library,
             each * link.reference,
@@ -139,12 +166,18 @@ fn main() {
         );
         figures.push(found);
     }
-    // the torus of 8,192 corners against that of 1,024, per corner
-    let [large, small] = [&figures[2], &figures[4]];
-    let growth = |time: fn(&Figures) -> f64| time(large) / time(small) * small.corners as f64 / large.corners as f64;
+    // the torus of 8,192 corners against that of 1,024, per corner, in each numbering
     println!();
-    println!("| growth per corner from {} to {} corners | library | plain |", small.corners, large.corners);
-    println!("|---|---|---|");
-    println!("| linking | {:.2} | {:.2} |", growth(|f| f.link.library), growth(|f| f.link.reference));
-    println!("| building | {:.2} | {:.2} |", growth(|f| f.build.library), growth(|f| f.build.reference));
+    println!("| growth per corner from 1024 to 8192 corners | numbers | library | plain |");
+    println!("|---|---|---|---|");
+    for (small, large, numbers) in [(3, 6, Shuffled), (7, 8, Drawn)] {
+        let [small, large] = [&figures[small], &figures[large]];
+        let growth =
+            |time: fn(&Figures) -> f64| time(large) / time(small) * small.corners as f64 / large.corners as f64;
+        let line = |what: &str, library: f64, plain: f64| {
+            println!("| {what} | {} | {library:.2} | {plain:.2} |", numbers.word());
+        };
+        line("linking", growth(|f| f.link.library), growth(|f| f.link.reference));
+        line("building", growth(|f| f.build.library), growth(|f| f.build.reference));
+    }
 }
