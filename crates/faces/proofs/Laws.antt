@@ -56,6 +56,9 @@ module _ (points : List ℤ) (steps : List ℕ) (c m : ℕ) (r : Ring points ste
   pub at-in : (j : ℕ) → iterate j (λ i. getD steps i 0) c < r .count
   at-in j = iterate-in (λ i. getD steps i 0) (r .count) (r .step-in) j c (r .here)
 
+  pub stepped : (i d : ℕ) → i < r .count → d ≡ getD steps i 0 → d < r .count
+  stepped i d h e = rw e (r .step-in i h)
+
   pub small : (j : ℕ) → natAbs (around points steps c j) ≤ 2 ^ 24
   unfolding around
   small j = r .point-size (iterate j (λ i. getD steps i 0) c) (at-in j)
@@ -194,6 +197,49 @@ module _ (points : List ℤ) (steps : List ℕ) (c m : ℕ) (r : Ring points ste
         behind-size = rw y (toward-size p m (r .least) (r .most) (small points steps c m r) (m - 1));
       }
 
+-- ---- a ring of three: its weights are 4, 4 and 1 times 2^30
+three : (f : ℕ → ℤ) → sum f 3 ≡ f 0 +ℤ f 1 +ℤ f 2
+unfolding sum
+three f = ap (λ (z : ℤ). z +ℤ f 1 +ℤ f 2) (zero-add (f 0))
+
+ninths : (a b c : ℤ) → a *ℤ pos 4294967296 +ℤ b *ℤ pos 4294967296 +ℤ c *ℤ pos 1073741824 ≡ pos (2 ^ 30) *ℤ (pos 4 *ℤ a +ℤ pos 4 *ℤ b +ℤ c)
+ninths = over 3 _ λ ρ. simp (poly, ρ) (omega arith)
+
+toward-three : (p : ℕ → ℤ) (i : ℕ) → toward p 3 i ≡ round (pos 4 *ℤ p (i + 0) +ℤ pos 4 *ℤ p (i + 1) +ℤ p (i + 2)) (pos 9)
+unfolding toward weight cosine table
+toward-three p i =
+    ap (λ (z : ℤ). round z (pos 9663676416)) (three (λ k. p (i + k) *ℤ weight 3 k) ∙ ninths (p (i + 0)) (p (i + 1)) (p (i + 2)))
+    ∙ round-scale (pos (2 ^ 30)) (pos 4 *ℤ p (i + 0) +ℤ pos 4 *ℤ p (i + 1) +ℤ p (i + 2)) (pos 9) (ltZ-yes tt) (ltZ-yes tt)
+
+-- from the points v, w and x at c and at the corners d and e after it
+module _ (points : List ℤ) (steps : List ℕ) (c : ℕ) (r : Ring points steps c 3) (d e : ℕ) (ed : d ≡ getD steps c 0) (ee : e ≡ getD steps d 0) where
+  turns : (around points steps c 0 ≡ getD points c (pos 0)) × (around points steps c 1 ≡ getD points d (pos 0)) × (around points steps c 2 ≡ getD points e (pos 0))
+  unfolding around iterate
+  turns = rw (ee, ed) (refl, refl, refl)
+
+  pub three-is : (v w x : ℤ) (g : Face) → v ≡ getD points c (pos 0) → w ≡ getD points d (pos 0) → x ≡ getD points e (pos 0)
+      → g .centre ≡ round (v +ℤ w +ℤ x) (pos 3) → g .ahead ≡ round (pos 4 *ℤ v +ℤ pos 4 *ℤ w +ℤ x) (pos 9)
+      → g .behind ≡ round (pos 4 *ℤ x +ℤ pos 4 *ℤ v +ℤ w) (pos 9) → IsFace (around points steps c) 3 0 2 g
+  unfolding centre
+  three-is v w x g ev ew ex ec ea eb =
+      let p = around points steps c in
+      let p0 : p 0 ≡ v = turns .0 ∙ sym ev in
+      let p1 : p 1 ≡ w = turns .1 ∙ sym ew in
+      let p2 : p 2 ≡ x = turns .2 ∙ sym ex in
+      let cyc = cyclic points steps c 3 r in
+      let ce : g .centre ≡ centre p 3 = cc (ec, three p, p0, p1, p2) in
+      let ah : g .ahead ≡ toward p 3 0 = cc (ea, toward-three p 0, p0, p1, p2) in
+      let be : g .behind ≡ toward p 3 2 = cc (eb, toward-three p 2, cyc 0, cyc 1, p0, p1, p2) in
+      let small-points = small points steps c 3 r in
+      record {
+        centre = ce;
+        ahead = ah;
+        behind = be;
+        centre-size = rw ce (centre-size p 3 (r .least) (r .most) small-points);
+        ahead-size = rw ah (toward-size p 3 (r .least) (r .most) small-points 0);
+        behind-size = rw be (toward-size p 3 (r .least) (r .most) small-points 2);
+      }
+
 -- ---- a ring of four: its weights are 5, 5, 1 and 1 times 2^30
 four : (f : ℕ → ℤ) → sum f 4 ≡ f 0 +ℤ f 1 +ℤ f 2 +ℤ f 3
 unfolding sum
@@ -245,15 +291,6 @@ module _ (here after far before : ℤ) (r : Face)
 -- ---- four steps from c, and the points there
 module _ (points : List ℤ) (steps : List ℕ) (c : ℕ) (r : Ring points steps c 4) (d e f : ℕ)
     (ed : d ≡ getD steps c 0) (ee : e ≡ getD steps d 0) (ef : f ≡ getD steps e 0) where
-  pub second-in : d < r .count
-  second-in = rw ed (r .step-in c (r .here))
-
-  pub third-in : e < r .count
-  third-in = rw ee (r .step-in d second-in)
-
-  pub fourth-in : f < r .count
-  fourth-in = rw ef (r .step-in e third-in)
-
   places : (around points steps c 1 ≡ getD points d (pos 0)) × (around points steps c 2 ≡ getD points e (pos 0)) × (around points steps c 3 ≡ getD points f (pos 0))
   unfolding around iterate
   places = rw (ef, ee, ed) (refl, refl, refl)

@@ -81,7 +81,6 @@ fn divide(s: Sums, m: usize) -> Face
     ensures { λ r. ⌜ Divided s (pos m) (pos (3 * 2 ^ 30) *ℤ pos m) r ⌝ }
 {
     match m {
-        3 => quotients(s, 3, 9663676416),
         5 => quotients(s, 5, 16106127360),
         6 => quotients(s, 6, 19327352832),
         7 => quotients(s, 7, 22548578304),
@@ -116,7 +115,24 @@ fn step(steps: &[u16], c: usize) -> usize
     steps[c] as usize
 }
 
-// The refined face of four corners: row 4 of the table is exact, so the weights are the fractions of an edge's face.
+// The refined face of three corners: row 3 of the table is exact, so the weights are 4/9, 4/9, 1/9.
+fn ring_of_three(points: &[i32], steps: &[u16], c: usize) -> Face
+    requires { ⌜ Ring (now points) (now steps) c 3 ⌝ }
+    ensures { λ r. ⌜ IsFace (around (now (points .entry)) (now (steps .entry)) c) 3 0 2 r ⌝ }
+{
+    let d = step(steps, c);
+    let e = step(steps, d);
+    let v = point(points, c);
+    let w = point(points, d);
+    let x = point(points, e);
+    Face {
+        centre: formulas::mean_of_three(v, w, x),
+        ahead: formulas::toward_of_three(v, w, x),
+        behind: formulas::toward_of_three(x, v, w),
+    }
+}
+
+// The refined face of four corners: row 4 is exact too, and the weights are those of an edge's face.
 fn ring_of_four(points: &[i32], steps: &[u16], c: usize) -> Face
     requires { ⌜ Ring (now points) (now steps) c 4 ⌝ }
     ensures { λ r. ⌜ IsFace (around (now (points .entry)) (now (steps .entry)) c) 4 0 3 r ⌝ }
@@ -138,6 +154,9 @@ pub fn ring_face(points: &[i32], steps: &[u16], rows: &cosines::Rows, c: usize, 
     requires table { ⌜ now rows ≡ stored ⌝ }
     ensures { λ r. ⌜ IsFace (around (now (points .entry)) (now (steps .entry)) c) m 0 (m - 1) r ⌝ }
 {
+    if m == 3 {
+        return ring_of_three(points, steps, c);
+    }
     if m == 4 {
         return ring_of_four(points, steps, c);
     }

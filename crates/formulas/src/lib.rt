@@ -1,5 +1,5 @@
-// The formulas of a quad-net over plain numbers, each with its one rounding: face points of a four-sided refined face, inner
-// points, points of the outer rows and of the a rows, and the middles. One function serves four sides and three axes.
+// The formulas of a quad-net over plain numbers, each with its one rounding: face points of four-sided and three-sided refined faces,
+// inner points, points of the outer rows and of the a rows, and the middles. One function serves four sides and three axes.
 ghost use mathlib.Core.Path.{_≡_};
 ghost use Prim.Native.Nat.{_*_, _+_, _-_, _^_};
 ghost use lib.IntN.{ℤ, pos, _+ℤ_, _-ℤ_, _*ℤ_};
@@ -20,6 +20,22 @@ pub fn toward(a: i64, b: i64, c: i64, d: i64) -> i64
     ensures { λ r. ⌜ (r ≡ round (pos 5 *ℤ a +ℤ pos 5 *ℤ b +ℤ c +ℤ d) (pos 12)) × Corner r ⌝ }
 {
     rounding::round_div(5 * a + 5 * b + c + d, 12)
+}
+
+// The centre of a three-sided refined face.
+pub fn mean_of_three(a: i64, b: i64, c: i64) -> i64
+    requires { ⌜ Corner a × Corner b × Corner c ⌝ }
+    ensures { λ r. ⌜ (r ≡ round (a +ℤ b +ℤ c) (pos 3)) × Corner r ⌝ }
+{
+    rounding::round_div(a + b + c, 3)
+}
+
+// The point of a three-sided refined face towards its side from a to b: the weights 4/9, 4/9, 1/9.
+pub fn toward_of_three(a: i64, b: i64, c: i64) -> i64
+    requires { ⌜ Corner a × Corner b × Corner c ⌝ }
+    ensures { λ r. ⌜ (r ≡ round (pos 4 *ℤ a +ℤ pos 4 *ℤ b +ℤ c) (pos 9)) × Corner r ⌝ }
+{
+    rounding::round_div(4 * a + 4 * b + c, 9)
 }
 
 // Half the sum of two points.

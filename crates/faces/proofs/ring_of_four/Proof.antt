@@ -1,9 +1,8 @@
 -- `faces::ring_of_four` meets its contract: a ring of four is the face of its points, which the law `four-is` reads.
 -- Assumes nothing.
-use mathlib.Core.Path.{refl}
 use native.Mathlib.Omega.{arith}
 use borrow.Author.Needs.{needs}
-use Rattle.faces.proofs.Laws.{second-in, third-in, fourth-in, four-is, held}
+use Rattle.faces.proofs.Laws.{stepped, four-is, held}
 use Rattle.faces.proofs.ring_of_four.Statement.{statement}
 use Rattle.faces.proofs.ring_of_four.Tie as tie
 
@@ -13,12 +12,13 @@ step-requires c κs = search needs
 step-requires-2 : tie.Need-step-requires-2
 step-requires-2 c κs =
     let r = c .before .before .pre in
-    omega (arith, r .steps-hold, second-in _ _ _ r (c .step .result) _ _ (c .step .ensures) refl refl)
+    omega (arith, r .steps-hold, stepped _ _ _ _ r _ _ (r .here) (c .step .ensures))
 
 step-requires-3 : tie.Need-step-requires-3
 step-requires-3 c κs =
     let r = c .before .before .before .pre in
-    omega (arith, r .steps-hold, third-in _ _ _ r _ (c .step2 .result) _ (c .before .step .ensures) (c .step2 .ensures) refl)
+    let d = stepped _ _ _ _ r _ _ (r .here) (c .before .step .ensures) in
+    omega (arith, r .steps-hold, stepped _ _ _ _ r _ _ d (c .step2 .ensures))
 
 point-requires : tie.Need-point-requires
 point-requires c κs = search needs
@@ -26,27 +26,30 @@ point-requires c κs = search needs
 point-requires-2 : tie.Need-point-requires-2
 point-requires-2 c κs =
     let r = c .before .before .before .before .before .pre in
-    omega (arith, r .points-hold, second-in _ _ _ r (c .before .before .before .step .result) _ _ (c .before .before .before .step .ensures) refl refl)
+    omega (arith, r .points-hold, stepped _ _ _ _ r _ _ (r .here) (c .before .before .before .step .ensures))
 
 point-requires-3 : tie.Need-point-requires-3
 point-requires-3 c κs =
     let r = c .before .before .before .before .before .before .pre in
     let t = c .before .before .before in
-    omega (arith, r .points-hold, third-in _ _ _ r _ (t .step2 .result) _ (t .before .step .ensures) (t .step2 .ensures) refl)
+    let d = stepped _ _ _ _ r _ _ (r .here) (t .before .step .ensures) in
+    omega (arith, r .points-hold, stepped _ _ _ _ r _ _ d (t .step2 .ensures))
 
 point-requires-4 : tie.Need-point-requires-4
 point-requires-4 c κs =
     let r = c .before .before .before .before .before .before .before .pre in
     let t = c .before .before .before in
-    omega (arith, r .points-hold, fourth-in _ _ _ r _ _ (t .step3 .result) (t .before .before .step .ensures) (t .before .step2 .ensures) (t .step3 .ensures))
+    let d = stepped _ _ _ _ r _ _ (r .here) (t .before .before .step .ensures) in
+    let e = stepped _ _ _ _ r _ _ d (t .before .step2 .ensures) in
+    omega (arith, r .points-hold, stepped _ _ _ _ r _ _ e (t .step3 .ensures))
 
 edge-face-requires : tie.Need-edge-face-requires
 edge-face-requires c κs =
     let r = c .before .before .before .before .before .before .before .before .pre in
     let t = c .before .before .before .before in
-    let d = second-in _ _ _ r _ _ _ (t .before .before .step .ensures) (t .before .step2 .ensures) (t .step3 .ensures) in
-    let e = third-in _ _ _ r _ _ _ (t .before .before .step .ensures) (t .before .step2 .ensures) (t .step3 .ensures) in
-    let f = fourth-in _ _ _ r _ _ _ (t .before .before .step .ensures) (t .before .step2 .ensures) (t .step3 .ensures) in (
+    let d = stepped _ _ _ _ r _ _ (r .here) (t .before .before .step .ensures) in
+    let e = stepped _ _ _ _ r _ _ d (t .before .step2 .ensures) in
+    let f = stepped _ _ _ _ r _ _ e (t .step3 .ensures) in (
       held _ _ _ _ r _ _ (r .here) (c .before .before .before .point .ensures) .1,
       held _ _ _ _ r _ _ d (c .before .before .point2 .ensures) .1,
       held _ _ _ _ r _ _ e (c .before .point3 .ensures) .1,
@@ -57,9 +60,9 @@ returns : tie.Need-returns
 returns c =
     let r = c .before .before .before .before .before .before .before .before .before .pre in
     let t = c .before .before .before .before .before in
-    let d = second-in _ _ _ r _ _ _ (t .before .before .step .ensures) (t .before .step2 .ensures) (t .step3 .ensures) in
-    let e = third-in _ _ _ r _ _ _ (t .before .before .step .ensures) (t .before .step2 .ensures) (t .step3 .ensures) in
-    let f = fourth-in _ _ _ r _ _ _ (t .before .before .step .ensures) (t .before .step2 .ensures) (t .step3 .ensures) in
+    let d = stepped _ _ _ _ r _ _ (r .here) (t .before .before .step .ensures) in
+    let e = stepped _ _ _ _ r _ _ d (t .before .step2 .ensures) in
+    let f = stepped _ _ _ _ r _ _ e (t .step3 .ensures) in
     four-is _ _ _ r _ _ _ (t .before .before .step .ensures) (t .before .step2 .ensures) (t .step3 .ensures) _ _ _ _ _
     (held _ _ _ _ r _ _ (r .here) (c .before .before .before .before .point .ensures) .0)
     (held _ _ _ _ r _ _ d (c .before .before .before .point2 .ensures) .0)

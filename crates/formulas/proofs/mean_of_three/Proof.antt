@@ -1,0 +1,57 @@
+-- `formulas::mean_of_three` meets its contract: the sums fit, and a third of the last one is no larger than its largest term.
+-- Assumes nothing.
+use mathlib.Core.Path.{_≡_}
+use Prim.Native.Nat.{_^_, _≤_}
+use native.Mathlib.Omega.{arith}
+use borrow.Author.Needs.{needs}
+use lib.IntN.{ℤ, pos, natAbs, _+ℤ_}
+use mir.Syntax.{w64}
+use mir.Val.{SFits}
+use mir.Facts.{toZ-ofZ}
+use Rattle.integers.proofs.Poly.{over, poly}
+use Rattle.rounding.specs.Round.{round, Near}
+use Rattle.rounding.proofs.Laws.{near-is}
+use Rattle.formulas.specs.Sizes.{Corner}
+use Rattle.formulas.proofs.mean_of_three.Statement.{statement}
+use Rattle.formulas.proofs.mean_of_three.Tie as tie
+
+abbrev total : ℤ → ℤ → ℤ → ℤ
+total a b c = a +ℤ b +ℤ c
+
+abbrev Given : ℤ → ℤ → ℤ → Type 0
+Given a b c = Corner a × Corner b × Corner c
+
+abbrev Fine : ℤ → ℤ → ℤ → Type 0
+Fine a b c =
+    SFits w64 (a +ℤ b) × SFits w64 (a +ℤ b +ℤ c)
+    × (natAbs (total a b c) ≤ 2 ^ 60)
+
+fits : (a b c : ℤ) → Given a b c → Fine a b c
+fits = over 3 _ λ ρ. simp poly (omega arith)
+
+size : (a b c q : ℤ) → Given a b c → Near (total a b c) (pos 3) q → Corner q
+size = over 4 _ λ ρ. simp (poly, ρ) (omega arith)
+
+facts : (s : tie.Start) → Fine (s .args .a) (s .args .b) (s .args .c)
+facts s = fits (s .args .a) (s .args .b) (s .args .c) (s .pre)
+
+add-round-div : tie.Need-add-round-div
+add-round-div c = search (needs, facts c)
+
+add-round-div-2 : tie.Need-add-round-div-2
+add-round-div-2 c = search (needs, facts c)
+
+round-div-requires : tie.Need-round-div-requires
+round-div-requires c κs = search (needs, facts c)
+
+returns : tie.Need-returns
+returns c =
+    let s = c .before in
+    let k = facts s in
+    let q = c .round-div .result in
+    let f : SFits w64 q = search needs in
+    let e : q ≡ round (total (s .args .a) (s .args .b) (s .args .c)) (pos 3) = simp (toZ-ofZ, s .fits .a, s .fits .b, s .fits .c, k .0, k .1) at (c .round-div .ensures) in
+    rw (toZ-ofZ f) (e, size (s .args .a) (s .args .b) (s .args .c) q (s .pre) (near-is (total (s .args .a) (s .args .b) (s .args .c)) (pos 3) q tt e))
+
+pub mean-of-three-spec : {M : Type 1} → statement M
+mean-of-three-spec = tie.close (tie.spec add-round-div add-round-div-2 round-div-requires returns)
