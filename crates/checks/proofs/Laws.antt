@@ -3,24 +3,27 @@
 use mathlib.Core.Path.{_≡_, _∙_, sym}
 use mathlib.Core.Bool.{false}
 use mathlib.Core.List.{List}
-use Prim.Native.Nat.{ℕ, _<_}
+use Prim.Native.Nat.{ℕ, _<_, _≤_}
 use native.Mathlib.Omega.{arith}
-use lib.ListN.{length, getD}
-use Rattle.mesh.specs.Limits.{mostVertices, mostCorners}
+use lib.ListN.{length, getD, replicate, length-replicate}
 use Rattle.mesh.specs.Lists.{Mesh, vertexCount, faceCount, cornerCount}
+use Rattle.mesh.specs.Corners.{next, previous}
+use Rattle.mesh.specs.Links.{leavesTo, arrivesFrom}
 use Rattle.mesh.specs.Tables.{NextsTo, LinkTable}
 use Rattle.mesh.specs.Faults.{sound, fault, _orElse_, lowestOf, fault4, fault5, fault8, fault10, fault11, fault12, Closed, listFaults, linkFaults, verdict}
 use Rattle.mesh.specs.Answers.{stated}
 use Rattle.mesh.specs.declared.Answer.{Answer}
 use Rattle.mesh.specs.declared.Answer.the-variants.{Refused}
-use Rattle.mesh.proofs.Faces.{next-below}
+use Rattle.mesh.proofs.Faces.{next-below, previous-below}
 use Rattle.mesh.proofs.Links.{link-in}
 use Rattle.mesh.proofs.Verdicts.{sound-left, sound-right, single-sound, lowest-sound, orElse-fault, orElse-sound}
 use Rattle.mesh.proofs.Accepted.{few-vertices, few-corners, sides-within, sums-of, named-of, valence-within}
-use Rattle.tables.specs.Filled.{EarliersTo, HeadsTo}
-use Rattle.edges.specs.Searched.{Searchable, LinksTo}
-use Rattle.rings.specs.Ring.{Gathered, Followed}
-use Rattle.checks.specs.Checked.{Checked, Listed, Joined}
+use Rattle.tables.specs.Filled.{Ends, Chained}
+use Rattle.tables.proofs.Laws.{blank}
+use Rattle.edges.specs.Entries.{Entries, Searchable}
+use Rattle.edges.proofs.Laws.{links-found}
+use Rattle.rings.specs.Ring.{Countable, Followed}
+use Rattle.checks.specs.Checked.{Checked, Listed, Room, CountRoom, Joined}
 
 -- after 4 to 9
 pub listed : (M : Mesh) → listFaults M ≡ sound → Listed M
@@ -38,52 +41,77 @@ listed M e4 =
       named = λ c l. named-of (vertexCount M) (M .corners) c (lowest-sound 8 (cornerCount M) (fault8 (vertexCount M) (M .corners)) (sound-left _ _ e8) c l);
     }
 
+-- the next corners stay in the list
+pub nexts-in : (M : Mesh) (nexts : List ℕ) → Listed M → NextsTo (M .sides) nexts (cornerCount M) → (c : ℕ) → c < cornerCount M → getD nexts c 0 < cornerCount M
+unfolding NextsTo
+nexts-in M nexts g n c l = omega (arith, g .sums, n c l, next-below (M .sides) c (omega (arith, g .sums)))
+
 -- the filled tables
-module _ (M : Mesh) (nexts earliers heads : List ℕ) (g : Listed M) (n : NextsTo (M .sides) nexts (cornerCount M)) (ln : length nexts ≡ mostCorners)
-    (le : length earliers ≡ mostCorners) (lh : length heads ≡ mostVertices)
-    (e : EarliersTo (M .corners) earliers (cornerCount M)) (h : HeadsTo (M .corners) heads (cornerCount M)) where
-  nexts-in : (c : ℕ) → c < cornerCount M → getD nexts c 0 < cornerCount M
-  unfolding NextsTo
-  nexts-in c l = omega (arith, g .sums, n c l, next-below (M .sides) c (omega (arith, g .sums)))
-
-  pub searchable : Searchable (M .corners) nexts earliers heads
-  searchable =
-      record {
-        walk = record { small = g .small; nexts-length = ln; earliers-length = le; nexts-in = nexts-in; earliers-are = e };
-        heads-length = lh;
-        heads-are = h;
-        named = λ c l. omega (arith, g .named c l, g .few);
-      }
-
-pub gathered : (corners nexts earliers heads : List ℕ) → Searchable corners nexts earliers heads → Gathered corners earliers heads
-gathered corners nexts earliers heads k =
+pub searchable : (M : Mesh) (earliers tos froms heads : List ℕ) → Listed M → cornerCount M ≤ length earliers → cornerCount M ≤ length tos → cornerCount M ≤ length froms
+    → vertexCount M ≤ length heads → Chained (M .corners) earliers heads → Ends (M .sides) (M .corners) tos froms
+    → Searchable (vertexCount M) (M .corners) tos froms earliers heads
+unfolding leavesTo arrivesFrom
+searchable M earliers tos froms heads g le lt lf lh k e =
     record {
-      small = k .walk .small;
-      earliers-length = k .walk .earliers-length;
-      heads-length = k .heads-length;
-      earliers-are = k .walk .earliers-are;
-      heads-are = k .heads-are;
+      small = g .small;
+      named = g .named;
+      tos-length = lt;
+      tos-in = λ c l. omega (arith, e .leaves c l, g .named (next (M .sides) c) (omega (arith, e .sums, next-below (M .sides) c (omega (arith, e .sums)))));
+      froms-length = lf;
+      froms-in = λ c l. omega (arith, e .arrives c l, g .named (previous (M .sides) c) (omega (arith, e .sums, previous-below (M .sides) c (omega (arith, e .sums)))));
+      earliers-length = le;
+      heads-length = lh;
+      chained = k;
     }
 
--- after 10 and 11: the links of the table, and where they lead
-module _ (M : Mesh) (nexts links : List ℕ) (g : Listed M) (n : NextsTo (M .sides) nexts (cornerCount M))
-    (ten : lowestOf 10 (cornerCount M) (fault10 (M .sides) (M .corners)) ≡ sound) (eleven : lowestOf 11 (cornerCount M) (fault11 (M .sides) (M .corners)) ≡ sound)
-    (t : LinksTo (M .corners) nexts links (cornerCount M)) where
+pub countable : (M : Mesh) (counts lowests : List ℕ) → Listed M → CountRoom M counts lowests → Countable (M .corners) counts lowests
+countable M counts lowests g r =
+    record {
+      small = g .small;
+      blank = r .counts-blank;
+      counted = λ c l. omega (arith, g .named c l, r .counts-length);
+      noted = λ c l. omega (arith, g .named c l, r .lowests-length);
+    }
+
+-- scratch tables of p corners and q vertices
+module _ (M : Mesh) (p q : ℕ) (a : cornerCount M ≤ p) (b : vertexCount M ≤ q) where
+  sized : {n : ℕ} (m : ℕ) → n ≤ m → n ≤ length (replicate {A = ℕ} m 0)
+  sized m l = rw (length-replicate {A = ℕ} m 0) l
+
+  pub room : Room M (replicate p 0) (replicate p 0) (replicate p 0) (replicate q 0) (replicate q 0) (replicate q 0)
+  room =
+      record {
+        earliers-length = sized p a;
+        tos-length = sized p a;
+        froms-length = sized p a;
+        heads-length = sized q b;
+        heads-blank = blank q;
+        leaving-length = sized q b;
+        leaving-blank = blank q;
+        arriving-length = sized q b;
+        arriving-blank = blank q;
+      }
+
+  pub count-room : CountRoom M (replicate q 0) (replicate q 0)
+  count-room = record { counts-length = sized q b; counts-blank = blank q; lowests-length = sized q b }
+
+-- after 10 and 11: the entries are the links, and lead to corners
+module _ (M : Mesh) (links : List ℕ) (g : Listed M) (t : Entries (M .sides) (M .corners) links)
+    (ten : lowestOf 10 (cornerCount M) (fault10 (M .sides) (M .corners)) ≡ sound) (eleven : lowestOf 11 (cornerCount M) (fault11 (M .sides) (M .corners)) ≡ sound) where
   pub closed : Closed (M .sides) (M .corners)
   closed = record { sums = g .sums; ten = lowest-sound _ _ _ ten; eleven = lowest-sound _ _ _ eleven }
 
   pub table : LinkTable (M .sides) (M .corners) links
-  unfolding LinksTo LinkTable
-  table = t (M .sides) n closed
+  table = links-found (M .sides) (M .corners) links (g .small) t closed
 
   links-in : (c : ℕ) → c < cornerCount M → getD links c 0 < cornerCount M
   unfolding LinkTable
   links-in c l = omega (arith, table c l, link-in (M .sides) (M .corners) closed c l)
 
-  pub followed : length links ≡ mostCorners → lowestOf 12 (vertexCount M) (fault12 (M .corners)) ≡ sound → Followed (M .corners) links (vertexCount M)
+  pub followed : cornerCount M ≤ length links → lowestOf 12 (vertexCount M) (fault12 (M .corners)) ≡ sound → Followed (M .corners) links (vertexCount M)
   followed l twelve =
       record {
-        links-length = omega (arith, g .small);
+        links-length = l;
         links-in = links-in;
         named = λ u h. valence-within (M .corners) u (lowest-sound 12 (vertexCount M) (fault12 (M .corners)) twelve u h) .0;
       }

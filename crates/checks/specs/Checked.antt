@@ -12,6 +12,7 @@ use Rattle.mesh.specs.Tables.{NextsTo, LinkTable}
 use Rattle.mesh.specs.Faults.{sound, linkFaults, verdict, Accepted}
 use Rattle.mesh.specs.Answers.{stated}
 use Rattle.mesh.specs.declared.Answer.{Answer}
+use Rattle.tables.specs.Filled.{Blank}
 
 -- of every mesh; a refused one leaves the two tables with any contents, an accepted one fills them for its corners
 pub record Checked (M : Mesh) (r : Answer) (nexts links : List ℕ) : Type 0 where
@@ -30,7 +31,24 @@ pub record Listed (M : Mesh) : Type 0 where
 -- what the checks 10 to 13 ask: the table of next corners is filled, and that of links has room
 abbrev pub Joinable : Mesh → List ℕ → List ℕ → Type 0
 Joinable M nexts links =
-    Listed M × NextsTo (M .sides) nexts (cornerCount M) × (length nexts ≡ mostCorners) × (length links ≡ mostCorners)
+    Listed M × NextsTo (M .sides) nexts (cornerCount M) × (cornerCount M ≤ length nexts) × (cornerCount M ≤ length links)
+
+-- scratch tables that have room for a mesh; those by vertex start at zero
+pub record Room (M : Mesh) (earliers tos froms heads leaving arriving : List ℕ) : Type 0 where
+  pub earliers-length : cornerCount M ≤ length earliers
+  pub tos-length : cornerCount M ≤ length tos
+  pub froms-length : cornerCount M ≤ length froms
+  pub heads-length : vertexCount M ≤ length heads
+  pub heads-blank : Blank heads
+  pub leaving-length : vertexCount M ≤ length leaving
+  pub leaving-blank : Blank leaving
+  pub arriving-length : vertexCount M ≤ length arriving
+  pub arriving-blank : Blank arriving
+
+pub record CountRoom (M : Mesh) (counts lowests : List ℕ) : Type 0 where
+  pub counts-length : vertexCount M ≤ length counts
+  pub counts-blank : Blank counts
+  pub lowests-length : vertexCount M ≤ length lowests
 
 -- the checks 10 to 13
 pub record Joined (M : Mesh) (r : Answer) (links : List ℕ) : Type 0 where

@@ -3,11 +3,13 @@ use mesh::Answer;
 use mesh::MOST_CORNERS;
 use mesh::MOST_VERTICES;
 ghost use mathlib.Core.Path.{_≡_};
+ghost use Prim.Native.Nat.{_≤_};
+ghost use lib.ListN.{length};
 ghost use Rattle.mesh.specs.Lists.{meshOf};
 ghost use Rattle.mesh.specs.Faults.{listFaults};
 ghost use Rattle.mesh.specs.Answers.{stated};
-ghost use Rattle.edges.specs.Searched.{Searchable};
-ghost use Rattle.checks.specs.Checked.{Checked, Joinable, Joined};
+ghost use Rattle.edges.specs.Entries.{Entries};
+ghost use Rattle.checks.specs.Checked.{Checked, Listed, Joinable, Room, CountRoom, Joined};
 
 // Checks 4 to 13. The two tables are scratch: of an accepted mesh they then hold the next corner and the link of every corner.
 pub fn check(
@@ -66,36 +68,93 @@ fn check_links(
     ensures { λ r. ⌜ Joined (meshOf (now (coordinates .entry)) (now (sides .entry)) (now (corners .entry))) r (now (links .exit)) ⌝ }
 {
     let mut earliers = [0u16; MOST_CORNERS];
+    let mut tos = [0u16; MOST_CORNERS];
+    let mut froms = [0u16; MOST_CORNERS];
     let mut heads = [0u16; MOST_VERTICES];
-    tables::fill_earliers(corners, &mut earliers, &mut heads);
-    join(coordinates, sides, corners, nexts, &earliers, &heads, links)
+    let mut leaving = [0u16; MOST_VERTICES];
+    let mut arriving = [0u16; MOST_VERTICES];
+    find_links(
+        coordinates,
+        sides,
+        corners,
+        nexts,
+        links,
+        &mut earliers,
+        &mut tos,
+        &mut froms,
+        &mut heads,
+        &mut leaving,
+        &mut arriving,
+    );
+    let mut counts = [0u16; MOST_VERTICES];
+    let mut lowests = [0u16; MOST_VERTICES];
+    join(
+        coordinates,
+        sides,
+        corners,
+        links,
+        &mut counts,
+        &mut lowests,
+    )
 }
 
-// The same, over the tables by which edges are looked up.
-fn join(
+// The entry of every corner in the table of links, over scratch tables.
+fn find_links(
     coordinates: &[i32],
     sides: &[u8],
     corners: &[u16],
     nexts: &[u16],
-    earliers: &[u16],
-    heads: &[u16],
     links: &mut [u16],
-) -> Answer
-    requires { ⌜ Joinable (meshOf (now coordinates) (now sides) (now corners)) (now nexts) (now links) × Searchable (now corners) (now nexts) (now earliers) (now heads) ⌝ }
-    ensures { λ r. ⌜ Joined (meshOf (now (coordinates .entry)) (now (sides .entry)) (now (corners .entry))) r (now (links .exit)) ⌝ }
+    earliers: &mut [u16],
+    tos: &mut [u16],
+    froms: &mut [u16],
+    heads: &mut [u16],
+    leaving: &mut [u16],
+    arriving: &mut [u16],
+)
+    requires { ⌜ Joinable (meshOf (now coordinates) (now sides) (now corners)) (now nexts) (now links) × Room (meshOf (now coordinates) (now sides) (now corners)) (now earliers) (now tos) (now froms) (now heads) (now leaving) (now arriving) ⌝ }
+    ensures { λ _. ⌜ Entries (now (sides .entry)) (now (corners .entry)) (now (links .exit)) ⌝ }
 {
-    let a10 = edges::check_repeats(corners, nexts, earliers, heads);
+    tables::fill_earliers(corners, earliers, heads);
+    tables::fill_ends(corners, nexts, tos, froms);
+    edges::fill_links(
+        corners,
+        tos,
+        froms,
+        earliers,
+        heads,
+        coordinates.len() / 3,
+        leaving,
+        arriving,
+        links,
+    )
+}
+
+// Checks 10 to 13 over the entries of the table of links, which are the links once 10 and 11 have passed.
+fn join(
+    coordinates: &[i32],
+    sides: &[u8],
+    corners: &[u16],
+    links: &[u16],
+    counts: &mut [u16],
+    lowests: &mut [u16],
+) -> Answer
+    requires { ⌜ Listed (meshOf (now coordinates) (now sides) (now corners)) × Entries (now sides) (now corners) (now links) × (length (now corners) ≤ length (now links)) × CountRoom (meshOf (now coordinates) (now sides) (now corners)) (now counts) (now lowests) ⌝ }
+    ensures { λ r. ⌜ Joined (meshOf (now (coordinates .entry)) (now (sides .entry)) (now (corners .entry))) r (now (links .entry)) ⌝ }
+{
+    let a10 = edges::check_repeats(corners, links);
     if let Answer::Refused(k, p) = a10 {
         return Answer::Refused(k, p);
     }
-    let a11 = edges::check_reverses(corners, nexts, earliers, heads, links);
+    let a11 = edges::check_reverses(corners, links);
     if let Answer::Refused(k, p) = a11 {
         return Answer::Refused(k, p);
     }
+    rings::count_corners(corners, counts, lowests);
     let vertices = coordinates.len() / 3;
-    let a12 = rings::check_valences(corners, earliers, heads, vertices);
+    let a12 = rings::check_valences(corners, counts, lowests, vertices);
     if let Answer::Refused(k, p) = a12 {
         return Answer::Refused(k, p);
     }
-    rings::check_rings(corners, earliers, heads, links, vertices)
+    rings::check_rings(corners, counts, lowests, links, vertices)
 }

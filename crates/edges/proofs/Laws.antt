@@ -1,158 +1,230 @@
--- An edge's lookup by the tables answers what the definitions say: the chain of a vertex holds all its corners.
+-- The tables of a vertex's edges give each of its corners the entry that the definitions ask for; what the entries say of faults and links.
 -- Assumes nothing.
-use mathlib.Core.Path.{_≡_, ap, _∙_, sym}
+use mathlib.Core.Path.{_≡_, refl, ap, _∙_, sym, subst}
 use mathlib.Core.Bool.{Bool, true, false, not}
 use mathlib.Core.Logic.{_⊎_, ⊎-elim}
 use mathlib.Core.List.{List}
-use Prim.Native.Nat.{ℕ, suc, _+_, _-_, _<_, _≤_}
+use Prim.Native.Nat.{ℕ, _+_, _-_, _<_, _≤_}
 use native.Mathlib.Omega.{arith}
 use lib.Dec.{eqb}
-use lib.ListN.{length, getD, set}
-use lib.Seq.{getD-set-same, getD-set-other}
-use borrow.Author.Tests.{eqb-true}
-use Rattle.mesh.specs.Limits.{mostCorners, mostVertices}
-use Rattle.mesh.specs.Scan.{someBelow}
-use Rattle.mesh.specs.Corners.{next}
-use Rattle.mesh.specs.Links.{vertexOf, leavesTo, names, sameEdge, reverseEdge, link, reverse}
-use Rattle.mesh.specs.Tables.{NextsTo}
-use Rattle.mesh.specs.Faults.{sound, fault, lowestOf, fault10, fault11, Closed}
-use Rattle.mesh.proofs.Scans.{fails-step, clash, compared, and-left, and-right, some-true, some-false}
-use Rattle.mesh.proofs.Verdicts.{lowest-hit, lowest-none}
+use lib.ListN.{length, getD, set, length-set}
+use borrow.Author.Tests.{eq-eqb, ne-eqb, eqb-true}
+use Rattle.mesh.specs.Limits.{mostCorners}
+use Rattle.mesh.specs.Scan.{someBelow, firstBelow}
+use Rattle.mesh.specs.Corners.{sumOf, next, previous}
+use Rattle.mesh.specs.Links.{vertexOf, leavesTo, arrivesFrom, sameEdge, reverseEdge, linked, link, reverse}
+use Rattle.mesh.specs.Tables.{LinkTable}
+use Rattle.mesh.specs.Faults.{sound, lowestOf, fault10, fault11, Closed}
+use Rattle.mesh.proofs.Scans.{ways, clash, compared, and-true, and-left, and-right, first-fails, some-true, some-false, some-below, some-passes, none}
+use Rattle.mesh.proofs.Faces.{next-below, previous-below, next-previous, previous-next}
 use Rattle.mesh.proofs.Links.{unique, reverse-in, reverse-vertex, reverse-to, link-is}
-use Rattle.tables.specs.Filled.{lastBelow, EarliersTo, HeadsTo, edge, Chain}
-use Rattle.tables.proofs.Laws.{last-le, last-passes, last-none, last-skip}
-use Rattle.edges.specs.Searched.{Searchable, LinksTo, repeatOf, reverseOf}
+use Rattle.mesh.proofs.Verdicts.{lowest-hit, lowest-none, lowest-sound}
+use Rattle.tables.specs.Filled.{Blank, Ends, Chained}
+use Rattle.tables.proofs.Laws.{put, On, above-head, at-vertex, on-from}
+use Rattle.edges.specs.Entries.{repeated, alone, Entry, again, single, joined, Entries, has, Keyed, Hit, Marked, EntriesBelow}
 
--- a last one below n is one below n
-module _ (n : ℕ) (f g : ℕ → Bool) (s : (d : ℕ) → d < n → f d ≡ g d) where
-  pub last-some : (lastBelow n g ≡ 0 → ⊥) → someBelow n f ≡ true
-  last-some ne =
-      let w : lastBelow n g ≡ suc (lastBelow n g - 1) = omega arith in
-      let l : lastBelow n g - 1 < n = omega (arith, last-le g n) in
-      some-true n f (lastBelow n g - 1) l (s (lastBelow n g - 1) l ∙ last-passes g n (lastBelow n g - 1) w)
+-- marking
+pub keyed-blank : (vertices : ℕ) (corners keys table : List ℕ) → vertices ≤ length table → Blank table → Keyed vertices corners keys table
+keyed-blank vertices corners keys table l z = record { room = l; inside = λ t n. absurd (n (z t)); key = λ t n. absurd (n (z t)) }
 
-  pub last-no : lastBelow n g ≡ 0 → someBelow n f ≡ false
-  last-no e = some-false n f (λ d l. s d l ∙ last-none g n e d l)
+module _ (corners earliers heads keys table : List ℕ) (k : Chained corners earliers heads) (u : ℕ) where
+  pub marked-none : u < length heads → Marked corners keys table u (getD heads u 0)
+  unfolding Marked
+  marked-none l d a b v = absurd (above-head corners earliers heads k u l d a b v)
 
--- the tests by the table of next corners are the tests of the definitions
-module _ (sides corners nexts : List ℕ) (k : NextsTo sides nexts (length corners)) (c : ℕ) (h : c < length corners) where
-  same-edge : (d : ℕ) → d < c → sameEdge sides corners c d ≡ edge corners nexts (getD corners c 0) (getD corners (getD nexts c 0) 0) d
-  unfolding sameEdge edge names leavesTo NextsTo
-  same-edge d l = rw (k c h, k d (omega arith))
+  module _ (at : ℕ) (o : On corners u at) (n : at ≡ 0 → ⊥) (h : getD keys (at - 1) 0 < length table) where
+    pub keyed-step : (vertices : ℕ) → Keyed vertices corners keys table → Keyed vertices corners keys (set table (getD keys (at - 1) 0) at)
+    keyed-step vertices m =
+        record {
+          room = simp length-set (m .room);
+          inside = λ t. put (λ x. (x ≡ 0 → ⊥) → x ≤ length corners) table (getD keys (at - 1) 0) t at h (λ q z. o .inside) (λ q. m .inside t);
+          key = λ t. put (λ x. (x ≡ 0 → ⊥) → getD keys (x - 1) 0 ≡ t) table (getD keys (at - 1) 0) t at h (λ q z. sym q) (λ q. m .key t);
+        }
 
-  same-reverse : (d : ℕ) → d < length corners → reverseEdge sides corners c d ≡ edge corners nexts (getD corners (getD nexts c 0) 0) (getD corners c 0) d
-  unfolding reverseEdge edge names leavesTo NextsTo
-  same-reverse d l = rw (k c h, k d l)
+    pub marked-step : Marked corners keys table u at → Marked corners keys (set table (getD keys (at - 1) 0) at) u (getD earliers (at - 1) 0)
+    unfolding Marked
+    marked-step m d a b v =
+        let l = on-from corners earliers heads k u at o n d a v in
+        put (Hit corners u d) table (getD keys (at - 1) 0) (getD keys d 0) at h
+        (λ q. record { some = n; low = l; own = at-vertex corners earliers heads k u at o n })
+        (λ q. let ne : d ≡ at - 1 → ⊥ = λ e. q (ap (λ (x : ℕ). getD keys x 0) e) in m d (omega (arith, ne, l)) b v)
 
-  pub repeated : (r : ℕ) → r ≡ repeatOf corners nexts c → (r ≡ 0 → ⊥) → fault10 sides corners c ≡ true
-  unfolding fault10
-  repeated r e n = last-some c _ _ same-edge (λ q. n (e ∙ q))
+pub marked-all : (corners keys table : List ℕ) (u at : ℕ) → at ≡ 0 → Marked corners keys table u at → Marked corners keys table u 0
+marked-all corners keys table u at e m = subst (Marked corners keys table u) e m
 
-  pub unrepeated : (r : ℕ) → r ≡ repeatOf corners nexts c → r ≡ 0 → fault10 sides corners c ≡ false
-  unfolding fault10
-  unrepeated r e n = last-no c _ _ same-edge (sym e ∙ n)
+-- the corner of an edge's reverse is the one before the corner where the reverse arrives
+module _ (sides corners : List ℕ) (s : sumOf sides ≡ length corners) (c : ℕ) where
+  linked-reverse : (d : ℕ) → d < length corners → linked sides corners c d ≡ true → reverseEdge sides corners c (previous sides d) ≡ true
+  unfolding linked reverseEdge arrivesFrom leavesTo
+  linked-reverse d l e =
+      and-true _ _ (and-right (eqb (vertexOf corners d) (vertexOf corners c)) _ e)
+      (eq-eqb _ _ (ap (vertexOf corners) (next-previous sides d (omega arith)) ∙ eqb-true _ _ (and-left _ _ e)))
 
-  pub no-reverse : (r : ℕ) → r ≡ reverseOf corners nexts c → r ≡ 0 → fault11 sides corners c ≡ true
+  reverse-linked : (p : ℕ) → p < length corners → reverseEdge sides corners c p ≡ true → linked sides corners c (next sides p) ≡ true
+  unfolding linked reverseEdge arrivesFrom leavesTo
+  reverse-linked p l e =
+      and-true _ _ (and-right (eqb (vertexOf corners p) (vertexOf corners (next sides c))) _ e)
+      (eq-eqb _ _ (ap (vertexOf corners) (previous-next sides p (omega arith)) ∙ eqb-true _ _ (and-left _ _ e)))
+
+  unlinked : ((d : ℕ) → d < length corners → linked sides corners c d ≡ false) → fault11 sides corners c ≡ true
   unfolding fault11
-  no-reverse r e n = ap not (last-no (length corners) _ _ same-reverse (sym e ∙ n))
+  unlinked none =
+      ap not (some-false (length corners) (reverseEdge sides corners c) (λ p l.
+      ⊎-elim
+      (λ e. absurd (clash (reverse-linked p l e) (none (next sides p) (omega (arith, next-below sides p (omega arith))))))
+      (λ e. e)
+      (ways (reverseEdge sides corners c p))))
 
-  pub has-reverse : (r : ℕ) → r ≡ reverseOf corners nexts c → (r ≡ 0 → ⊥) → fault11 sides corners c ≡ false
+  reversed : (d : ℕ) → d < length corners → linked sides corners c d ≡ true → fault11 sides corners c ≡ false
   unfolding fault11
-  has-reverse r e n = ap not (last-some (length corners) _ _ same-reverse (λ q. n (e ∙ q)))
+  reversed d l e =
+      ap not (some-true (length corners) (reverseEdge sides corners c) (previous sides d) (omega (arith, previous-below sides d (omega arith))) (linked-reverse d l e))
 
-  -- the corner after the reverse is the link
-  pub link-found : Closed sides corners → (r : ℕ) → r ≡ reverseOf corners nexts c → (r ≡ 0 → ⊥)
-      → getD nexts (r - 1) 0 ≡ link sides corners c
-  unfolding NextsTo reverseEdge
-  link-found z r e n =
-      let l : r - 1 < length corners = omega (arith, last-le (edge corners nexts (getD corners (getD nexts c 0) 0) (getD corners c 0)) (length corners)) in
-      let p : reverseEdge sides corners c (r - 1) ≡ true = same-reverse (r - 1) l ∙ last-passes _ (length corners) (r - 1) (sym e ∙ (let w : r ≡ suc (r - 1) = omega arith in w)) in
-      let q : r - 1 ≡ reverse sides corners c =
-      unique sides corners z (r - 1) (reverse sides corners c) l (reverse-in sides corners z c h)
-      (eqb-true _ _ (and-left _ _ p) ∙ sym (reverse-vertex sides corners z c h))
-      (eqb-true _ _ (and-right (eqb (vertexOf corners (r - 1)) (leavesTo sides corners c)) _ p) ∙ sym (reverse-to sides corners z c h)) in
-      k (r - 1) l ∙ ap (next sides) q ∙ sym (link-is sides corners z c h)
+-- the entry of a corner whose vertex is marked
+module _ (vertices : ℕ) (corners tos froms leaving arriving : List ℕ) (u c : ℕ) (h : c < length corners) (v : vertexOf corners c ≡ u)
+    (kl : Keyed vertices corners tos leaving) (ml : Marked corners tos leaving u 0) (ka : Keyed vertices corners froms arriving) (ma : Marked corners froms arriving u 0) where
+  module _ (sides : List ℕ) (e : Ends sides corners tos froms) where
+    first : Hit corners u c (getD leaving (getD tos c 0) 0)
+    unfolding Marked
+    first = ml c (omega arith) h v
 
--- where a chain starts
-module _ (corners nexts : List ℕ) (u n at : ℕ) (e : at ≡ lastBelow n (names corners u)) where
-  pub chain-start : Chain corners u at
-  unfolding Chain names
-  chain-start d q = eqb-true (getD corners d 0) u (last-passes (names corners u) n d (sym e ∙ q))
+    pub entry-again : (getD leaving (getD tos c 0) 0 ≡ c + 1 → ⊥) → Entry sides corners c repeated
+    unfolding fault10 sameEdge
+    entry-again ne =
+        let x = getD leaving (getD tos c 0) 0 in
+        let k = kl .inside (getD tos c 0) (first .some) in
+        let l : x - 1 < c = omega (arith, ne, first .some, first .low) in
+        again
+        (some-true c (sameEdge sides corners c) (x - 1) l
+        (and-true _ _ (eq-eqb (vertexOf corners (x - 1)) (vertexOf corners c) (first .own ∙ sym v))
+        (eq-eqb (leavesTo sides corners (x - 1)) (leavesTo sides corners c) (sym (e .leaves (x - 1) (omega arith)) ∙ kl .key (getD tos c 0) (first .some) ∙ e .leaves c h))))
 
-  pub chain-le : at ≤ n
-  chain-le = omega (arith, last-le (names corners u) n)
-
-  pub chain-all : (w : ℕ) → lastBelow at (edge corners nexts u w) ≡ lastBelow n (edge corners nexts u w)
-  unfolding edge
-  chain-all w = ap (λ (x : ℕ). lastBelow x (edge corners nexts u w)) e ∙ sym (last-skip (names corners u) (λ d. eqb (getD corners (getD nexts d 0) 0) w) n)
-
-module _ (corners nexts earliers heads : List ℕ) (k : Searchable corners nexts earliers heads) (c : ℕ) (h : c < length corners) where
-  pub earlier-is : getD earliers c 0 ≡ lastBelow c (names corners (getD corners c 0))
-  unfolding EarliersTo
-  earlier-is = k .walk .earliers-are c h
-
-  pub next-small : getD nexts c 0 < mostCorners
-  next-small = omega (arith, k .walk .nexts-in c h, k .walk .small)
-
-  pub repeat-le : getD earliers c 0 ≤ length corners
-  repeat-le = omega (arith, chain-le corners nexts (getD corners c 0) c (getD earliers c 0) earlier-is)
-
-  pub repeat-is : (r w : ℕ) → ((u : ℕ) → Chain corners u (getD earliers c 0) → r ≡ lastBelow (getD earliers c 0) (edge corners nexts u w)) → r ≡ lastBelow c (edge corners nexts (getD corners c 0) w)
-  repeat-is r w f = f (getD corners c 0) (chain-start corners nexts _ c _ earlier-is) ∙ chain-all corners nexts (getD corners c 0) c (getD earliers c 0) earlier-is w
-
-module _ (corners nexts earliers heads : List ℕ) (k : Searchable corners nexts earliers heads) (u : ℕ) (h : u < mostVertices) where
-  head-is : getD heads u 0 ≡ lastBelow (length corners) (names corners u)
-  unfolding HeadsTo
-  head-is = k .heads-are u h
-
-  pub leaving-le : getD heads u 0 ≤ length corners
-  leaving-le = chain-le corners nexts u (length corners) (getD heads u 0) head-is
-
-  pub leaving-is : (r w : ℕ) → ((v : ℕ) → Chain corners v (getD heads u 0) → r ≡ lastBelow (getD heads u 0) (edge corners nexts v w)) → r ≡ lastBelow (length corners) (edge corners nexts u w)
-  leaving-is r w f = f u (chain-start corners nexts u (length corners) _ head-is) ∙ chain-all corners nexts u (length corners) (getD heads u 0) head-is w
-
--- the scans: no corner below c is at fault, for all side counts that the table of next corners belongs to
-pub Fails : (List ℕ → List ℕ → ℕ → Bool) → List ℕ → List ℕ → ℕ → Type 0
-Fails f corners nexts c = (sides : List ℕ) → NextsTo sides nexts (length corners) → (j : ℕ) → j < c → f sides corners j ≡ false
-
-module _ (f : List ℕ → List ℕ → ℕ → Bool) (corners nexts : List ℕ) where
-  pub fails-none : Fails f corners nexts 0
-  unfolding Fails
-  fails-none sides n j l = absurd (omega arith)
-
-  module _ (k c : ℕ) (h : Fails f corners nexts c) where
-    pub fails-more : ((sides : List ℕ) → NextsTo sides nexts (length corners) → f sides corners c ≡ false) → Fails f corners nexts (c + 1)
-    unfolding Fails
-    fails-more e sides n = fails-step (f sides corners) c (h sides n) (e sides n)
-
-    pub fails-here : c < length corners → ((sides : List ℕ) → NextsTo sides nexts (length corners) → f sides corners c ≡ true)
-        → (sides : List ℕ) → NextsTo sides nexts (length corners) → fault k c ≡ lowestOf k (length corners) (f sides corners)
-    unfolding Fails
-    fails-here l e sides n = sym (lowest-hit k (length corners) (f sides corners) c l (e sides n) (h sides n))
-
-    pub fails-all : length corners ≤ c → (sides : List ℕ) → NextsTo sides nexts (length corners) → sound ≡ lowestOf k (length corners) (f sides corners)
-    unfolding Fails
-    fails-all e sides n = sym (lowest-none k (length corners) (f sides corners) (λ j l. h sides n j (omega arith)))
-
-module _ (corners nexts links : List ℕ) (c : ℕ) where
-  pub links-none : LinksTo corners nexts links 0
-  unfolding LinksTo
-  links-none sides n z d l = absurd (omega arith)
-
-  module _ (h : c < length corners) (t : LinksTo corners nexts links c) (r : ℕ) (e : r ≡ reverseOf corners nexts c) where
-    pub links-step : c < length links → (r ≡ 0 → ⊥) → LinksTo corners nexts (set links c (getD nexts (r - 1) 0)) (c + 1)
-    unfolding LinksTo
-    links-step b ne sides n z d l =
+    once : getD leaving (getD tos c 0) 0 ≡ c + 1 → fault10 sides corners c ≡ false
+    unfolding fault10 sameEdge Marked
+    once q =
+        some-false c (sameEdge sides corners c) (λ j l.
         ⊎-elim
-        (λ (q : d ≡ c). rw q (getD-set-same links c (getD nexts (r - 1) 0) 0 b ∙ link-found sides corners nexts n c h z r e ne))
-        (λ o. let y : d < c = ⊎-elim (λ (y : d < c). y) (λ (y : c < d). absurd (omega arith)) o in
-        getD-set-other links c d (getD nexts (r - 1) 0) 0 (λ q. omega arith) ∙ t sides n z d y)
-        (compared d c)
+        (λ b.
+        let w : vertexOf corners j ≡ u = eqb-true _ _ (and-left _ _ b) ∙ v in
+        let t : leavesTo sides corners j ≡ leavesTo sides corners c = eqb-true _ _ (and-right (eqb (vertexOf corners j) (vertexOf corners c)) _ b) in
+        let r : getD tos j 0 ≡ getD tos c 0 = e .leaves j (omega arith) ∙ t ∙ sym (e .leaves c h) in
+        absurd (omega (arith, ml j (omega arith) (omega arith) w .low, ap (λ (x : ℕ). getD leaving x 0) r)))
+        (λ b. b)
+        (ways (sameEdge sides corners c j)))
 
-    -- a corner with no reverse: the tables are not closed
-    pub links-stop : r ≡ 0 → LinksTo corners nexts links (length corners)
-    unfolding LinksTo
-    links-stop e0 sides n z d l = absurd (clash (no-reverse sides corners nexts n c h r e e0) (z .eleven c h))
+    pub entry-single : getD leaving (getD tos c 0) 0 ≡ c + 1
+        → ((getD arriving (getD tos c 0) 0 ≡ 0 → ⊥) → vertexOf corners (getD arriving (getD tos c 0) 0 - 1) ≡ u → ⊥) → Entry sides corners c alone
+    unfolding linked Marked
+    entry-single q ne =
+        single (once q)
+        (unlinked sides corners (e .sums) c (λ d l.
+        ⊎-elim
+        (λ b.
+        let w : vertexOf corners d ≡ u = eqb-true _ _ (and-left _ _ b) ∙ v in
+        let t : arrivesFrom sides corners d ≡ leavesTo sides corners c = eqb-true _ _ (and-right (eqb (vertexOf corners d) (vertexOf corners c)) _ b) in
+        let r : getD froms d 0 ≡ getD tos c 0 = e .arrives d l ∙ t ∙ sym (e .leaves c h) in
+        let k = subst (λ (x : ℕ). Hit corners u d (getD arriving x 0)) r (ma d (omega arith) l w) in
+        absurd (ne (k .some) (k .own)))
+        (λ b. b)
+        (ways (linked sides corners c d))))
 
-pub reverse-small : (corners nexts : List ℕ) (r u w : ℕ) → r ≡ lastBelow (length corners) (edge corners nexts u w) → r ≤ length corners
-reverse-small corners nexts r u w e = omega (arith, last-le (edge corners nexts u w) (length corners))
+    pub entry-joined : getD leaving (getD tos c 0) 0 ≡ c + 1 → (getD arriving (getD tos c 0) 0 ≡ 0 → ⊥)
+        → vertexOf corners (getD arriving (getD tos c 0) 0 - 1) ≡ u → Entry sides corners c (getD arriving (getD tos c 0) 0 - 1)
+    unfolding linked
+    entry-joined q n w =
+        let x = getD arriving (getD tos c 0) 0 in
+        let l : x - 1 < length corners = omega (arith, n, ka .inside (getD tos c 0) n) in
+        joined (once q) (x - 1) l
+        (and-true _ _ (eq-eqb (vertexOf corners (x - 1)) (vertexOf corners c) (w ∙ sym v))
+        (eq-eqb (arrivesFrom sides corners (x - 1)) (leavesTo sides corners c) (sym (e .arrives (x - 1) l) ∙ ka .key (getD tos c 0) n ∙ e .leaves c h)))
+
+-- collecting: the corners of the vertices below u, and those of u from `at` on, have their entries
+pub EntriesTo : List ℕ → List ℕ → List ℕ → List ℕ → ℕ → ℕ → Type 0
+EntriesTo corners tos froms links u at =
+    (sides : List ℕ) → Ends sides corners tos froms → (c : ℕ) → c < length corners → vertexOf corners c ≤ u → (vertexOf corners c ≡ u → at ≤ c)
+    → Entry sides corners c (getD links c 0)
+
+module _ (corners tos froms links earliers heads : List ℕ) (k : Chained corners earliers heads) (u : ℕ) where
+  pub entries-start : u < length heads → EntriesBelow corners tos froms links u → EntriesTo corners tos froms links u (getD heads u 0)
+  unfolding EntriesTo EntriesBelow
+  entries-start l b sides e c h v a =
+      b sides e c h (⊎-elim
+      (λ (q : vertexOf corners c ≡ u). absurd (above-head corners earliers heads k u l c (a q) h q))
+      (λ o. ⊎-elim (λ z. z) (λ (z : u < vertexOf corners c). absurd (omega arith)) o)
+      (compared (vertexOf corners c) u))
+
+  pub entries-step : (at : ℕ) (o : On corners u at) (n : at ≡ 0 → ⊥) → at - 1 < length links → EntriesTo corners tos froms links u at
+      → (x : ℕ) → ((sides : List ℕ) → Ends sides corners tos froms → Entry sides corners (at - 1) x)
+      → EntriesTo corners tos froms (set links (at - 1) x) u (getD earliers (at - 1) 0)
+  unfolding EntriesTo
+  entries-step at o n l t x w sides e c h v a =
+      put (Entry sides corners c) links (at - 1) c x l
+      (λ q. subst (λ (y : ℕ). Entry sides corners y x) (sym q) (w sides e))
+      (λ q. t sides e c h v (λ y. omega (arith, q, on-from corners earliers heads k u at o n c (a y) y)))
+
+  pub entries-stop : (at : ℕ) → at ≡ 0 → EntriesTo corners tos froms links u at → EntriesBelow corners tos froms links (u + 1)
+  unfolding EntriesTo EntriesBelow
+  entries-stop at z t sides e c h v = t sides e c h (omega arith) (λ q. omega arith)
+
+-- all vertices
+module _ (corners tos froms links : List ℕ) where
+  pub entries-none : EntriesBelow corners tos froms links 0
+  unfolding EntriesBelow
+  entries-none sides e c h v = absurd (omega arith)
+
+  pub entries-all : (u vertices : ℕ) → vertices ≤ u → ((c : ℕ) → c < length corners → vertexOf corners c < vertices) → EntriesBelow corners tos froms links u
+      → (sides : List ℕ) → Ends sides corners tos froms → Entries sides corners links
+  unfolding EntriesBelow Entries
+  entries-all u vertices l n b sides e c h = b sides e c h (omega (arith, n c h))
+
+-- two tests that agree have their lowest place in common
+lowest-same : (k n : ℕ) (f g : ℕ → Bool) → ((j : ℕ) → j < n → f j ≡ g j) → lowestOf k n f ≡ lowestOf k n g
+lowest-same k n f g s =
+    ⊎-elim
+    (λ e. let l = some-below n g e in
+    lowest-hit k n f (firstBelow n g) l (s (firstBelow n g) l ∙ some-passes n g e) (λ j b. s j (omega arith) ∙ first-fails n g j b)
+    ∙ sym (lowest-hit k n g (firstBelow n g) l (some-passes n g e) (first-fails n g)))
+    (λ e. lowest-none k n f (λ j b. s j b ∙ none n g e j b) ∙ sym (lowest-none k n g (none n g e)))
+    (ways (someBelow n g))
+
+-- of closed tables, the corner where the reverse arrives is the link
+link-only : (sides corners : List ℕ) → Closed sides corners → (c d : ℕ) → c < length corners → d < length corners → linked sides corners c d ≡ true → d ≡ link sides corners c
+unfolding reverseEdge
+link-only sides corners k c d h l p =
+    let b = linked-reverse sides corners (k .sums) c d l p in
+    let i : previous sides d < length corners = omega (arith, k .sums, previous-below sides d (omega (arith, k .sums))) in
+    let q : previous sides d ≡ reverse sides corners c =
+    unique sides corners k (previous sides d) (reverse sides corners c) i (reverse-in sides corners k c h)
+    (eqb-true _ _ (and-left _ _ b) ∙ sym (reverse-vertex sides corners k c h))
+    (eqb-true _ _ (and-right (eqb (vertexOf corners (previous sides d)) (leavesTo sides corners c)) _ b) ∙ sym (reverse-to sides corners k c h)) in
+    sym (next-previous sides d (omega (arith, k .sums))) ∙ ap (next sides) q ∙ sym (link-is sides corners k c h)
+
+-- what the entries say of faults and links
+module _ (sides corners links : List ℕ) (small : length corners ≤ mostCorners) (t : Entries sides corners links) where
+  pub ten-found : lowestOf 10 (length corners) (has links repeated) ≡ lowestOf 10 (length corners) (fault10 sides corners)
+  unfolding Entries
+  ten-found = lowest-same 10 (length corners) (has links repeated) (fault10 sides corners) (λ c h. told c (getD links c 0) (t c h))
+    where
+      told : (c x : ℕ) → Entry sides corners c x → eqb x repeated ≡ fault10 sides corners c
+      told c x (again f) = sym f
+      told c x (single f g) = sym f
+      told c x (joined f d l p) = ne-eqb d repeated (λ q. omega arith) ∙ sym f
+
+  module _ (ten : lowestOf 10 (length corners) (fault10 sides corners) ≡ sound) where
+    pub eleven-found : sumOf sides ≡ length corners → lowestOf 11 (length corners) (has links alone) ≡ lowestOf 11 (length corners) (fault11 sides corners)
+    unfolding Entries
+    eleven-found s = lowest-same 11 (length corners) (has links alone) (fault11 sides corners) (λ c h. told c (getD links c 0) h (t c h))
+      where
+        told : (c x : ℕ) → c < length corners → Entry sides corners c x → eqb x alone ≡ fault11 sides corners c
+        told c x h (again f) = absurd (clash f (lowest-sound 10 (length corners) (fault10 sides corners) ten c h))
+        told c x h (single f g) = sym g
+        told c x h (joined f d l p) = ne-eqb d alone (λ q. omega arith) ∙ sym (reversed sides corners s c d l p)
+
+  pub links-found : Closed sides corners → LinkTable sides corners links
+  unfolding Entries LinkTable
+  links-found k c h = told (getD links c 0) (t c h)
+    where
+      told : (x : ℕ) → Entry sides corners c x → x ≡ link sides corners c
+      told x (again f) = absurd (clash f (k .ten c h))
+      told x (single f g) = absurd (clash g (k .eleven c h))
+      told x (joined f d l p) = link-only sides corners k c d h l p

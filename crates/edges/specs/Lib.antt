@@ -1,1 +1,1 @@
-pub mod Searched
+pub mod Entries

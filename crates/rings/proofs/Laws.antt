@@ -1,110 +1,92 @@
--- The chain of a vertex counts its corners and ends at the lowest; the ring of links from there is as long as the chain exactly where
--- fault 13 does not hold.
+-- Counting from the highest corner down leaves each vertex's corners counted and its lowest noted; the ring of links from there is as
+-- long as the count exactly where fault 13 does not hold.
 -- Assumes nothing.
 use mathlib.Core.Path.{_≡_, refl, ap, _∙_, sym}
 use mathlib.Core.Bool.{Bool, true, false}
 use mathlib.Core.Logic.{_⊎_, ⊎-elim}
-use mathlib.Core.List.{List, []}
+use mathlib.Core.List.{List}
 use Prim.Native.Nat.{ℕ, zero, suc, _+_, _-_, _<_, _≤_}
 use native.Mathlib.Omega.{arith}
 use native.Mathlib.Numerals.{add-one}
 use lib.Dec.{eqb}
-use lib.ListN.{length, getD}
+use lib.ListN.{length, getD, set}
 use borrow.Author.Tests.{eq-eqb, ne-eqb, eqb-true, lt-ltb, le-ltb}
-use Rattle.mesh.specs.Limits.{leastSides, mostVertices}
+use Rattle.mesh.specs.Limits.{leastSides}
 use Rattle.mesh.specs.Scan.{firstBelow, countBelow, iterate}
 use Rattle.mesh.specs.Links.{vertexOf, names, link, valence, lowest}
 use Rattle.mesh.specs.Tables.{LinkTable}
 use Rattle.mesh.specs.Faults.{fault13, after, ringLength, met, Closed, sound, fault, lowestOf}
-use Rattle.mesh.proofs.Scans.{first-passes, first-fails, some-false, ways, compared, first-none, first-at, first-le-all, fails-step}
+use Rattle.mesh.proofs.Scans.{first-passes, first-fails, first-le, some-false, ways, compared, first-none, first-at, first-le-all, fails-step}
 use Rattle.mesh.proofs.Rings.{Turns, period-le, comes-back, met-all, count-none, count-hit, count-miss, count-le, iterate-zero, iterate-suc}
 use Rattle.mesh.proofs.Links.{link-in}
 use Rattle.mesh.proofs.Accepted.{turns, ring-full}
-use Rattle.tables.specs.Filled.{lastBelow, EarliersTo, HeadsTo, Chain}
-use Rattle.tables.proofs.Laws.{last-le, last-hit, last-miss, last-zero, last-none}
-use Rattle.edges.proofs.Laws.{chain-start}
+use Rattle.tables.specs.Filled.{Blank}
+use Rattle.tables.proofs.Laws.{put}
 use Rattle.mesh.proofs.Verdicts.{lowest-hit, lowest-none}
-use Rattle.rings.specs.Ring.{by, ringWithin, Gathered, Counted, Followed}
+use Rattle.rings.specs.Ring.{by, ringWithin, Counted, Followed}
 
-pub count-skip : (g : ℕ → Bool) (n : ℕ) → countBelow n g ≡ countBelow (lastBelow n g) g
-count-skip g zero = ap (λ (x : ℕ). countBelow x g) (sym (last-zero g))
-count-skip g (suc n) =
-    ⊎-elim
-    (λ b. ap (λ (x : ℕ). countBelow x g) (sym (last-hit g n b)))
-    (λ b. count-miss g n b ∙ count-skip g n ∙ ap (λ (x : ℕ). countBelow x g) (sym (last-miss g n b)))
-    (ways (g n))
+-- the corners from c on are counted
+pub record CountedFrom (corners counts lowests : List ℕ) (c : ℕ) : Type 0 where
+  pub rest : (u : ℕ) → getD counts u 0 + countBelow c (names corners u) ≡ valence corners u
+  pub least : (u d : ℕ) → c ≤ d → d < length corners → vertexOf corners d ≡ u → getD lowests u 0 ≤ d
+  pub own : (u d : ℕ) → c ≤ d → d < length corners → vertexOf corners d ≡ u → vertexOf corners (getD lowests u 0) ≡ u
 
--- on the chain of u
-pub record On (corners : List ℕ) (u at : ℕ) : Type 0 where
-  pub chain : Chain corners u at
-  pub inside : at ≤ length corners
-
-module _ (corners earliers heads : List ℕ) (k : Gathered corners earliers heads) (u : ℕ) (l : u < mostVertices) where
-  head-is : getD heads u 0 ≡ lastBelow (length corners) (names corners u)
-  unfolding HeadsTo
-  head-is = k .heads-are u l
-
-  pub on-head : On corners u (getD heads u 0)
-  on-head =
+module _ (corners counts lowests : List ℕ) where
+  pub counted-start : Blank counts → CountedFrom corners counts lowests (length corners)
+  unfolding valence
+  counted-start z =
       record {
-        chain = chain-start corners [] u (length corners) (getD heads u 0) head-is;
-        inside = omega (arith, head-is, last-le (names corners u) (length corners));
+        rest = λ u. omega (arith, z u);
+        least = λ u d a b e. absurd (omega arith);
+        own = λ u d a b e. absurd (omega arith);
       }
 
-  pub counted-head : 0 + countBelow (getD heads u 0) (names corners u) ≡ valence corners u
-  unfolding valence
-  counted-head = omega (arith, count-skip (names corners u) (length corners), ap (λ (x : ℕ). countBelow x (names corners u)) head-is)
+  pub counted-done : (c : ℕ) → c ≡ 0 → CountedFrom corners counts lowests c → Counted corners counts lowests
+  unfolding lowest names
+  counted-done c e k =
+      record {
+        count-is = λ u. omega (arith, k .rest u, ap (λ (x : ℕ). countBelow x (names corners u)) e, count-le (names corners u) 0);
+        lowest-is = λ u h.
+            let low = firstBelow (length corners) (names corners u) in
+            let n : vertexOf corners low ≡ u = eqb-true _ _ (first-passes (length corners) (names corners u) h) in
+            omega (
+              arith,
+              k .least u low (omega arith) h n,
+              first-le (length corners) (names corners u) (getD lowests u 0) (eq-eqb _ _ (k .own u low (omega arith) h n)),
+            );
+      }
 
-  -- nothing on the chain: no corner names u
-  pub lowest-head : getD heads u 0 ≡ 0 → lowest corners u < length corners → 0 ≡ lowest corners u
-  unfolding lowest
-  lowest-head e h = absurd (omega (arith, first-none (length corners) (names corners u) (last-none (names corners u) (length corners) (sym head-is ∙ e))))
+  -- one corner more, c, which names v
+  module _ (at c v : ℕ) (k : CountedFrom corners counts lowests at) (w : at ≡ suc c) (h : c < length corners) (e : vertexOf corners c ≡ v)
+      (lc : v < length counts) (ll : v < length lowests) where
+    counted-with : (u : ℕ) → getD counts u 0 + countBelow (suc c) (names corners u) ≡ valence corners u
+    counted-with u = ap (λ (x : ℕ). getD counts u 0 + countBelow x (names corners u)) (sym w) ∙ k .rest u
 
-  module _ (at : ℕ) (o : On corners u at) (n : at ≡ 0 → ⊥) where
-    whole : at ≡ suc (at - 1)
-    whole = omega arith
+    pub counted-small : getD counts v 0 < length corners
+    unfolding valence names
+    counted-small =
+        omega (arith, counted-with v, count-hit (names corners v) c (eq-eqb (vertexOf corners c) v e), count-le (names corners v) (length corners))
 
-    here : names corners u (at - 1) ≡ true
-    unfolding names Chain
-    here = eq-eqb (getD corners (at - 1) 0) u (o .chain (at - 1) whole)
-
-    pub at-in : at - 1 < length corners
-    at-in = omega (arith, o .inside)
-
-    earlier-is : getD earliers (at - 1) 0 ≡ lastBelow (at - 1) (names corners u)
-    unfolding EarliersTo Chain
-    earlier-is = k .earliers-are (at - 1) at-in ∙ ap (λ (x : ℕ). lastBelow (at - 1) (names corners x)) (o .chain (at - 1) whole)
-
-    pub on-next : On corners u (getD earliers (at - 1) 0)
-    on-next =
+    pub counted-step : CountedFrom corners (set counts v (getD counts v 0 + 1)) (set lowests v c) c
+    unfolding names
+    counted-step =
         record {
-          chain = chain-start corners [] u (at - 1) (getD earliers (at - 1) 0) earlier-is;
-          inside = omega (arith, earlier-is, last-le (names corners u) (at - 1), o .inside);
+          rest = λ u.
+              put (λ x. x + countBelow c (names corners u) ≡ valence corners u) counts v u (getD counts v 0 + 1) lc
+              (λ q. let b : names corners u c ≡ true = eq-eqb (vertexOf corners c) u (e ∙ sym q) in
+              omega (arith, counted-with u, count-hit (names corners u) c b, ap (λ (x : ℕ). getD counts x 0) q))
+              (λ q. let b : names corners u c ≡ false = ne-eqb (vertexOf corners c) u (λ z. q (sym z ∙ e)) in
+              omega (arith, counted-with u, count-miss (names corners u) c b));
+          least = λ u d a b z.
+              put (λ x. x ≤ d) lowests v u c ll (λ q. a)
+              (λ q. k .least u d (above d a (λ y. q (sym z ∙ ap (vertexOf corners) y ∙ e))) b z);
+          own = λ u d a b z.
+              put (λ x. vertexOf corners x ≡ u) lowests v u c ll (λ q. e ∙ sym q)
+              (λ q. k .own u d (above d a (λ y. q (sym z ∙ ap (vertexOf corners) y ∙ e))) b z);
         }
-
-    pub on-falls : getD earliers (at - 1) 0 < at
-    on-falls = omega (arith, earlier-is, last-le (names corners u) (at - 1))
-
-    pub counted-next : (m : ℕ) → m + countBelow at (names corners u) ≡ valence corners u → m + 1 + countBelow (getD earliers (at - 1) 0) (names corners u) ≡ valence corners u
-    counted-next m e =
-        omega (
-          arith,
-          ap (λ (x : ℕ). countBelow x (names corners u)) whole,
-          count-hit (names corners u) (at - 1) here,
-          count-skip (names corners u) (at - 1),
-          ap (λ (x : ℕ). countBelow x (names corners u)) earlier-is,
-        )
-
-    pub lowest-next : getD earliers (at - 1) 0 ≡ 0 → at - 1 ≡ lowest corners u
-    unfolding lowest
-    lowest-next e = sym (first-at (length corners) (names corners u) (at - 1) at-in here (last-none (names corners u) (at - 1) (sym earlier-is ∙ e)))
-
-pub counted-small : (corners : List ℕ) (u at m : ℕ) → m + countBelow at (names corners u) ≡ valence corners u → m ≤ length corners
-unfolding valence
-counted-small corners u at m e = omega (arith, count-le (names corners u) (length corners))
-
-pub counted-all : (corners : List ℕ) (u at m : ℕ) → m + countBelow at (names corners u) ≡ valence corners u → at ≡ 0 → m ≡ valence corners u
-counted-all corners u at m e z = omega (arith, ap (λ (x : ℕ). countBelow x (names corners u)) z, count-le (names corners u) 0)
+      where
+        above : (d : ℕ) → c ≤ d → (d ≡ c → ⊥) → at ≤ d
+        above d a n = omega (arith, n)
 
 -- the ring
 abbrev pub backAt : List ℕ → ℕ → ℕ → Bool
@@ -203,21 +185,21 @@ module _ (corners links : List ℕ) where
   unfolding Whole
   whole-none sides k t j l = absurd (omega arith)
 
-  module _ (u vertices : ℕ) (w : Whole corners links u) (f : Followed corners links vertices) (l : u < vertices) (m low len : ℕ) (g : Counted corners u m low)
-      (en : len ≡ ringWithin links low m) where
+  module _ (u vertices : ℕ) (w : Whole corners links u) (f : Followed corners links vertices) (l : u < vertices) (counts lowests : List ℕ) (g : Counted corners counts lowests)
+      (len : ℕ) (en : len ≡ ringWithin links (getD lowests u 0) (getD counts u 0)) where
     len-is : len ≡ ringWithin links (lowest corners u) (valence corners u)
     len-is =
-        en ∙ ap (λ (x : ℕ). ringWithin links x m) (g .lowest-is (lowest-in corners u (f .named u l)))
-        ∙ ap (ringWithin links (lowest corners u)) (g .count-is)
+        en ∙ ap (λ (x : ℕ). ringWithin links x (getD counts u 0)) (g .lowest-is u (lowest-in corners u (f .named u l)))
+        ∙ ap (ringWithin links (lowest corners u)) (g .count-is u)
 
-    pub whole-more : len ≡ m → Whole corners links (u + 1)
+    pub whole-more : len ≡ getD counts u 0 → Whole corners links (u + 1)
     unfolding Whole
-    whole-more e sides k t = fails-step (fault13 sides corners) u (w sides k t) (whole-ring sides corners links k t u (f .named u l) (sym len-is ∙ e ∙ g .count-is))
+    whole-more e sides k t = fails-step (fault13 sides corners) u (w sides k t) (whole-ring sides corners links k t u (f .named u l) (sym len-is ∙ e ∙ g .count-is u))
 
-    pub whole-torn : (len ≡ m → ⊥) → (sides : List ℕ) → Closed sides corners → LinkTable sides corners links → fault 13 u ≡ lowestOf 13 vertices (fault13 sides corners)
+    pub whole-torn : (len ≡ getD counts u 0 → ⊥) → (sides : List ℕ) → Closed sides corners → LinkTable sides corners links → fault 13 u ≡ lowestOf 13 vertices (fault13 sides corners)
     unfolding Whole
     whole-torn ne sides k t =
-        sym (lowest-hit 13 vertices (fault13 sides corners) u l (torn-ring sides corners links k t u (f .named u l) (λ e. ne (len-is ∙ e ∙ sym (g .count-is)))) (w sides k t))
+        sym (lowest-hit 13 vertices (fault13 sides corners) u l (torn-ring sides corners links k t u (f .named u l) (λ e. ne (len-is ∙ e ∙ sym (g .count-is u)))) (w sides k t))
 
   pub whole-all : (u vertices : ℕ) → Whole corners links u → vertices ≤ u → (sides : List ℕ) → Closed sides corners → LinkTable sides corners links → sound ≡ lowestOf 13 vertices (fault13 sides corners)
   unfolding Whole

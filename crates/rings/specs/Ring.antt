@@ -5,27 +5,26 @@ use mathlib.Core.List.{List}
 use Prim.Native.Nat.{ℕ, suc, _<_, _≤_}
 use lib.Dec.{eqb, ltb}
 use lib.ListN.{length, getD}
-use Rattle.mesh.specs.Limits.{leastSides, mostCorners, mostVertices}
+use Rattle.mesh.specs.Limits.{leastSides, mostCorners}
 use Rattle.mesh.specs.Scan.{pickN, firstBelow, iterate}
-use Rattle.mesh.specs.Links.{valence, lowest}
+use Rattle.mesh.specs.Links.{vertexOf, valence, lowest}
 use Rattle.mesh.specs.Tables.{LinkTable}
 use Rattle.mesh.specs.Faults.{lowestOf, fault13, Closed}
 use Rattle.mesh.specs.Answers.{stated}
 use Rattle.mesh.specs.declared.Answer.{Answer}
-use Rattle.tables.specs.Filled.{EarliersTo, HeadsTo}
+use Rattle.tables.specs.Filled.{Blank}
 
--- the tables of the vertices' corners
-pub record Gathered (corners earliers heads : List ℕ) : Type 0 where
+-- what counting asks: the counts start at zero, and both tables have a place for each vertex that is named
+pub record Countable (corners counts lowests : List ℕ) : Type 0 where
   pub small : length corners ≤ mostCorners
-  pub earliers-length : length earliers ≡ mostCorners
-  pub heads-length : length heads ≡ mostVertices
-  pub earliers-are : EarliersTo corners earliers (length corners)
-  pub heads-are : HeadsTo corners heads (length corners)
+  pub blank : Blank counts
+  pub counted : (c : ℕ) → c < length corners → vertexOf corners c < length counts
+  pub noted : (c : ℕ) → c < length corners → vertexOf corners c < length lowests
 
--- how many corners a vertex has, and the lowest where it has any
-pub record Counted (corners : List ℕ) (u count low : ℕ) : Type 0 where
-  pub count-is : count ≡ valence corners u
-  pub lowest-is : lowest corners u < length corners → low ≡ lowest corners u
+-- how many corners each vertex has, and the lowest where it has any
+pub record Counted (corners counts lowests : List ℕ) : Type 0 where
+  pub count-is : (u : ℕ) → getD counts u 0 ≡ valence corners u
+  pub lowest-is : (u : ℕ) → lowest corners u < length corners → getD lowests u 0 ≡ lowest corners u
 
 -- the step by a link table
 abbrev pub by : List ℕ → ℕ → ℕ

@@ -6,26 +6,34 @@ use walk::Walker;
 ghost use mathlib.Core.Path.{_≡_};
 ghost use Prim.Native.Nat.{ℕ, _≤_, _<_};
 ghost use lib.ListN.{length, getD};
-ghost use Rattle.mesh.specs.Limits.{mostVertices};
 ghost use Rattle.mesh.specs.Faults.{lowestOf, fault12};
 ghost use Rattle.mesh.specs.Answers.{stated};
-ghost use Rattle.rings.specs.Ring.{Gathered, Counted, ringWithin, Followed, Ringed};
+ghost use Rattle.rings.specs.Ring.{Countable, Counted, ringWithin, Followed, Ringed};
 
-// The corners of a vertex: how many, and the lowest.
-struct Gathering {
-    count: usize,
-    lowest: usize,
+// How many corners name each vertex, and the lowest of them: met last, so what is written last stays.
+pub fn count_corners(corners: &[u16], counts: &mut [u16], lowests: &mut [u16])
+    requires { ⌜ Countable (now corners) (now counts) (now lowests) ⌝ }
+    ensures { λ _. ⌜ Counted (now (corners .entry)) (now (counts .exit)) (now (lowests .exit)) ⌝ }
+{
+    let mut c = corners.len();
+    while c != 0 {
+        c -= 1;
+        let u = corners[c] as usize;
+        let count = counts[u];
+        counts[u] = count + 1;
+        lowests[u] = c as u16;
+    }
 }
 
 // Check 12: the corners that name a vertex are neither too few nor too many.
-pub fn check_valences(corners: &[u16], earliers: &[u16], heads: &[u16], vertices: usize) -> Answer
-    requires { ⌜ (vertices ≤ mostVertices) × Gathered (now corners) (now earliers) (now heads) ⌝ }
+pub fn check_valences(corners: &[u16], counts: &[u16], lowests: &[u16], vertices: usize) -> Answer
+    requires { ⌜ (vertices ≤ length (now counts)) × Counted (now corners) (now counts) (now lowests) ⌝ }
     ensures { λ r. ⌜ stated r ≡ lowestOf 12 vertices (fault12 (now (corners .entry))) ⌝ }
 {
     let mut u = 0;
     while u < vertices {
-        let g = gather(corners, earliers, heads, u);
-        if g.count < LEAST_SIDES || MOST_SIDES < g.count {
+        let count = counts[u] as usize;
+        if count < LEAST_SIDES || MOST_SIDES < count {
             return Answer::Refused(12, u);
         }
         u += 1;
@@ -36,43 +44,25 @@ pub fn check_valences(corners: &[u16], earliers: &[u16], heads: &[u16], vertices
 // Check 13: the ring of links from a vertex's lowest corner is as long as the vertex has corners, so it meets them all.
 pub fn check_rings(
     corners: &[u16],
-    earliers: &[u16],
-    heads: &[u16],
+    counts: &[u16],
+    lowests: &[u16],
     links: &[u16],
     vertices: usize,
 ) -> Answer
-    requires { ⌜ (vertices ≤ mostVertices) × Gathered (now corners) (now earliers) (now heads) × Followed (now corners) (now links) vertices ⌝ }
+    requires { ⌜ (vertices ≤ length (now counts)) × (vertices ≤ length (now lowests)) × Counted (now corners) (now counts) (now lowests) × Followed (now corners) (now links) vertices ⌝ }
     ensures { λ r. ⌜ Ringed (now (corners .entry)) (now (links .entry)) vertices r ⌝ }
 {
     let mut u = 0;
     while u < vertices {
-        let g = gather(corners, earliers, heads, u);
-        let len = ring(links, corners.len(), g.lowest, g.count);
-        if len != g.count {
+        let count = counts[u] as usize;
+        let lowest = lowests[u] as usize;
+        let len = ring(links, corners.len(), lowest, count);
+        if len != count {
             return Answer::Refused(13, u);
         }
         u += 1;
     }
     Answer::Done
-}
-
-// The corners of vertex u, along their chain, which ends at the lowest.
-fn gather(corners: &[u16], earliers: &[u16], heads: &[u16], u: usize) -> Gathering
-    requires { ⌜ (u < mostVertices) × Gathered (now corners) (now earliers) (now heads) ⌝ }
-    ensures { λ r. ⌜ Counted (now (corners .entry)) u (r .count) (r .lowest) ⌝ }
-{
-    let mut count = 0;
-    let mut lowest = 0;
-    let mut at = heads[u];
-    while at != 0 {
-        lowest = (at - 1) as usize;
-        at = earliers[lowest];
-        count += 1;
-    }
-    Gathering {
-        count: count,
-        lowest: lowest,
-    }
 }
 
 // The length of the ring of links from `start` until it comes back, within `bound` steps: 0 where it does not.

@@ -1,23 +1,30 @@
--- The turns of the loops that fill and walk the tables, over lists.
+-- The turns of the loops that fill the tables, and the places on a chain, over lists.
 -- Assumes nothing.
 use mathlib.Core.Path.{_≡_, refl, ap, _∙_, sym, subst}
-use mathlib.Core.Bool.{Bool, true, false, _&&_}
+use mathlib.Core.Bool.{Bool, true, false}
 use mathlib.Core.Logic.{_⊎_, inl, inr, ⊎-elim}
 use mathlib.Core.List.{List}
 use Prim.Native.Nat.{ℕ, zero, suc, _+_, _-_, _<_, _≤_}
 use native.Mathlib.Omega.{arith}
 use native.Mathlib.Numerals.{add-one}
-use lib.Dec.{eqb}
-use lib.ListN.{length, getD, set, replicate, getD-replicate}
+use lib.ListN.{length, getD, set, replicate, length-set}
 use lib.Seq.{getD-set-same, getD-set-other}
 use borrow.Author.Tests.{eq-eqb, ne-eqb, eqb-true}
-use Rattle.mesh.specs.Limits.{mostVertices}
-use Rattle.mesh.specs.Corners.{startOf, firstOf, sidesOf}
-use Rattle.mesh.specs.Links.{names}
+use Rattle.mesh.specs.Corners.{sumOf, startOf, firstOf, sidesOf, next, previous}
+use Rattle.mesh.specs.Links.{vertexOf, leavesTo, arrivesFrom, names}
 use Rattle.mesh.specs.Tables.{NextsTo}
-use Rattle.mesh.proofs.Scans.{ways, compared, and-true}
-use Rattle.mesh.proofs.Faces.{face-at, start-zero, start-next, next-inner, next-last}
-use Rattle.tables.specs.Filled.{lastBelow, FaceFilled, EarliersTo, HeadsTo, edge, Chain, Walkable}
+use Rattle.mesh.proofs.Scans.{ways, clash, compared}
+use Rattle.mesh.proofs.Faces.{face-at, start-zero, start-next, next-inner, next-last, previous-below, previous-next, next-previous}
+use Rattle.tables.specs.Filled.{Blank, lastBelow, FaceFilled, EarliersTo, HeadsTo, Chain, Ends, Chained}
+
+-- the entries after a store
+pub put : (P : ℕ → Type 0) (table : List ℕ) (i j x : ℕ) → i < length table → (j ≡ i → P x) → ((j ≡ i → ⊥) → P (getD table j 0)) → P (getD (set table i x) j 0)
+put P table i j x h same other =
+    ⊎-elim
+    (λ (q : j ≡ i). rw q (rw (getD-set-same table i x 0 h) (same q)))
+    (λ o. let n : j ≡ i → ⊥ = λ q. ⊎-elim (λ (z : j < i). omega arith) (λ (z : i < j). omega arith) o in
+    subst P (sym (getD-set-other table i j x 0 n)) (other n))
+    (compared j i)
 
 -- one face, filled below c
 pub record Part (start : ℕ) (old new : List ℕ) (c : ℕ) : Type 0 where
@@ -31,12 +38,7 @@ module _ (start : ℕ) (old new : List ℕ) (c : ℕ) (p : Part start old new c)
   pub part-step : Part start old (set new c (c + 1)) (c + 1)
   part-step =
       record {
-        filled = λ d a b.
-            ⊎-elim
-            (λ (q : d ≡ c). rw q (getD-set-same new c (c + 1) 0 l))
-            (λ o. getD-set-other new c d (c + 1) 0 (λ q. ⊎-elim (λ (z : d < c). omega arith) (λ (z : c < d). omega arith) o)
-            ∙ p .filled d a (⊎-elim (λ (z : d < c). z) (λ (z : c < d). absurd (omega arith)) o))
-            (compared d c);
+        filled = λ d a b. put (λ x. x ≡ d + 1) new c d (c + 1) l (λ q. ap (λ (x : ℕ). x + 1) (sym q)) (λ q. p .filled d a (omega (arith, q)));
         kept = λ d b. getD-set-other new c d (c + 1) 0 (λ q. omega arith) ∙ p .kept d b;
       }
 
@@ -107,95 +109,146 @@ module _ (f : ℕ → Bool) where
       (λ b. last-passes n d (sym (last-miss n b) ∙ e))
       (ways (f n))
 
-  pub last-none : (n : ℕ) → lastBelow n f ≡ 0 → (j : ℕ) → j < n → f j ≡ false
-  last-none zero e j h = absurd (omega arith)
-  last-none (suc n) e j h =
+  last-above : (n d : ℕ) → lastBelow n f ≤ d → d < n → f d ≡ false
+  last-above zero d a b = absurd (omega arith)
+  last-above (suc n) d a b =
       ⊎-elim
-      (λ b. absurd (omega (arith, last-hit n b)))
-      (λ b. ⊎-elim
-      (λ (q : j ≡ n). subst (λ (x : ℕ). f x ≡ false) (sym q) b)
-      (λ o. last-none n (sym (last-miss n b) ∙ e) j (⊎-elim (λ (z : j < n). z) (λ (z : n < j). absurd (omega arith)) o))
-      (compared j n))
+      (λ e. absurd (omega (arith, last-hit n e)))
+      (λ e. ⊎-elim
+      (λ (q : d ≡ n). subst (λ (x : ℕ). f x ≡ false) (sym q) e)
+      (λ o. last-above n d (omega (arith, last-miss n e)) (⊎-elim (λ (z : d < n). z) (λ (z : n < d). absurd (omega arith)) o))
+      (compared d n))
       (ways (f n))
 
--- numbers that fail the first test are skipped
-pub last-skip : (g h : ℕ → Bool) (n : ℕ) → lastBelow n (λ x. g x && h x) ≡ lastBelow (lastBelow n g) (λ x. g x && h x)
-last-skip g h zero = ap (λ (x : ℕ). lastBelow x (λ x. g x && h x)) (sym (last-zero g))
-last-skip g h (suc n) =
-    ⊎-elim
-    (λ b. ap (λ (x : ℕ). lastBelow x (λ x. g x && h x)) (sym (last-hit g n b)))
-    (λ b. last-miss (λ x. g x && h x) n (rw b) ∙ last-skip g h n ∙ ap (λ (x : ℕ). lastBelow x (λ x. g x && h x)) (sym (last-miss g n b)))
-    (ways (g n))
+-- filling the ends: the corners below c are done
+pub record EndsTo (sides corners tos froms : List ℕ) (c : ℕ) : Type 0 where
+  pub leaves : (d : ℕ) → d < c → getD tos d 0 ≡ leavesTo sides corners d
+  pub arrives : (d : ℕ) → d < c → getD froms (next sides d) 0 ≡ vertexOf corners d
+
+pub EndsBelow : List ℕ → List ℕ → List ℕ → List ℕ → ℕ → Type 0
+EndsBelow corners nexts tos froms c =
+    (sides : List ℕ) → sumOf sides ≡ length corners → NextsTo sides nexts (length corners) → EndsTo sides corners tos froms c
+
+module _ (corners nexts tos froms : List ℕ) where
+  pub ends-none : EndsBelow corners nexts tos froms 0
+  unfolding EndsBelow
+  ends-none sides s n = record { leaves = λ d l. absurd (omega arith); arrives = λ d l. absurd (omega arith) }
+
+  pub ends-step : (c : ℕ) → c < length corners → c < length tos → getD nexts c 0 < length froms → EndsBelow corners nexts tos froms c
+      → EndsBelow corners nexts (set tos c (getD corners (getD nexts c 0) 0)) (set froms (getD nexts c 0) (getD corners c 0)) (c + 1)
+  unfolding EndsBelow NextsTo leavesTo
+  ends-step c h lt lf k sides s n =
+      record {
+        leaves = λ d l.
+            put (λ x. x ≡ leavesTo sides corners d) tos c d (getD corners (getD nexts c 0) 0) lt
+            (λ q. ap (vertexOf corners) (n c h ∙ ap (next sides) (sym q)))
+            (λ q. k sides s n .leaves d (lower d l q));
+        arrives = λ d l.
+            put (λ x. x ≡ vertexOf corners d) froms (getD nexts c 0) (next sides d) (getD corners c 0) lf
+            (λ q. ap (vertexOf corners) (sym (previous-next sides c (omega arith)) ∙ ap (previous sides) (sym (n c h) ∙ sym q) ∙ previous-next sides d (omega arith)))
+            (λ q. k sides s n .arrives d (lower d l (λ e. q (ap (next sides) e ∙ sym (n c h)))));
+      }
+    where
+      lower : (d : ℕ) → d < c + 1 → (d ≡ c → ⊥) → d < c
+      lower d l q = omega (arith, q)
+
+  pub ends-done : (c : ℕ) → length corners ≤ c → EndsBelow corners nexts tos froms c
+      → (sides : List ℕ) → sumOf sides ≡ length corners → NextsTo sides nexts (length corners) → Ends sides corners tos froms
+  unfolding EndsBelow arrivesFrom
+  ends-done c e k sides s n =
+      record {
+        sums = s;
+        leaves = λ d l. k sides s n .leaves d (omega arith);
+        arrives = λ d l.
+            let b = previous-below sides d (omega arith) in
+            ap (λ (x : ℕ). getD froms x 0) (sym (next-previous sides d (omega arith))) ∙ k sides s n .arrives (previous sides d) (omega (arith, b));
+      }
 
 -- filling the chains
-module _ (corners earliers heads : List ℕ) (c : ℕ) (e : EarliersTo corners earliers c) (k : HeadsTo corners heads c) (l : getD corners c 0 < mostVertices) where
+module _ (corners earliers heads : List ℕ) (c : ℕ) (e : EarliersTo corners earliers c) (k : HeadsTo corners heads c) (l : getD corners c 0 < length heads) where
   pub earliers-step : c < length earliers → EarliersTo corners (set earliers c (getD heads (getD corners c 0) 0)) (c + 1)
   unfolding EarliersTo HeadsTo
   earliers-step h d b =
-      ⊎-elim
-      (λ (q : d ≡ c). rw q (getD-set-same earliers c (getD heads (getD corners c 0) 0) 0 h ∙ k (getD corners c 0) l))
-      (λ o. let z : d < c = ⊎-elim (λ (z : d < c). z) (λ (z : c < d). absurd (omega arith)) o in
-      getD-set-other earliers c d (getD heads (getD corners c 0) 0) 0 (λ q. omega arith) ∙ e d z)
-      (compared d c)
+      put (λ x. x ≡ lastBelow d (names corners (vertexOf corners d))) earliers c d (getD heads (getD corners c 0) 0) h
+      (λ q. rw q (k (getD corners c 0) l))
+      (λ q. e d (omega (arith, q)))
 
-  pub heads-step : length heads ≡ mostVertices → HeadsTo corners (set heads (getD corners c 0) (c + 1)) (c + 1)
+  pub heads-step : HeadsTo corners (set heads (getD corners c 0) (c + 1)) (c + 1)
   unfolding HeadsTo names
-  heads-step h u b =
-      ⊎-elim
-      (λ (q : getD corners c 0 ≡ u).
-      rw q (getD-set-same heads u (c + 1) 0 (omega arith) ∙ rw add-one (sym (last-hit (names corners u) c (eq-eqb (getD corners c 0) u q)))))
-      (λ o. let ne : getD corners c 0 ≡ u → ⊥ = λ q. ⊎-elim (λ (z : getD corners c 0 < u). omega arith) (λ (z : u < getD corners c 0). omega arith) o in
-      getD-set-other heads (getD corners c 0) u (c + 1) 0 (λ q. ne (sym q)) ∙ k u b ∙ rw add-one (sym (last-miss (names corners u) c (ne-eqb (getD corners c 0) u ne))))
-      (compared (getD corners c 0) u)
+  heads-step u b =
+      put (λ x. x ≡ lastBelow (c + 1) (names corners u)) heads (getD corners c 0) u (c + 1) l
+      (λ q. rw add-one (sym (last-hit (names corners u) c (eq-eqb (getD corners c 0) u (sym q)))))
+      (λ q. k u (simp length-set at b) ∙ rw add-one (sym (last-miss (names corners u) c (ne-eqb (getD corners c 0) u (λ z. q (sym z))))))
 
 pub earliers-none : (corners earliers : List ℕ) → EarliersTo corners earliers 0
 unfolding EarliersTo
 earliers-none corners earliers c h = absurd (omega arith)
 
-pub heads-none : (corners : List ℕ) → HeadsTo corners (replicate mostVertices 0) 0
+pub heads-none : (corners heads : List ℕ) → Blank heads → HeadsTo corners heads 0
 unfolding HeadsTo
-heads-none corners u h = getD-replicate mostVertices u 0 0 h ∙ sym (last-zero (names corners u))
+heads-none corners heads z u h = z u ∙ sym (last-zero (names corners u))
 
-and-last : (a b : Bool) → b ≡ false → a && b ≡ false
-and-last true b e = e
-and-last false b e = refl
+pub blank : (n : ℕ) → Blank (replicate n 0)
+blank zero i = refl
+blank (suc n) zero = refl
+blank (suc n) (suc i) = blank n i
 
--- walking a chain
-pub Found : List ℕ → List ℕ → ℕ → ℕ → ℕ → Type 0
-Found corners nexts w from at = (u : ℕ) → Chain corners u from → Chain corners u at × (lastBelow from (edge corners nexts u w) ≡ lastBelow at (edge corners nexts u w))
+-- a place on the chain of u
+pub record On (corners : List ℕ) (u at : ℕ) : Type 0 where
+  pub chain : Chain corners u at
+  pub inside : at ≤ length corners
 
-pub found-start : (corners nexts : List ℕ) (w from : ℕ) → Found corners nexts w from from
-unfolding Found
-found-start corners nexts w from u h = (h, refl)
+module _ (corners : List ℕ) (u n at : ℕ) (l : n ≤ length corners) (e : at ≡ lastBelow n (names corners u)) where
+  on-last : On corners u at
+  unfolding Chain names
+  on-last =
+      record {
+        chain = λ d q. eqb-true (getD corners d 0) u (last-passes (names corners u) n d (sym e ∙ q));
+        inside = omega (arith, last-le (names corners u) n);
+      }
 
-module _ (corners nexts earliers : List ℕ) (w from at : ℕ) (k : Walkable corners nexts earliers) (f : Found corners nexts w from at) (n : at ≡ 0 → ⊥) (b : at ≤ length corners) where
-  whole : at ≡ suc (at - 1)
-  whole = omega arith
+  -- what the chain leaves out between two places does not name u
+  between : (d : ℕ) → at ≤ d → d < n → vertexOf corners d ≡ u → ⊥
+  unfolding names
+  between d a b q = clash (eq-eqb (vertexOf corners d) u q) (last-above (names corners u) n d (omega arith) b)
 
-  pub found-hit : getD corners (getD nexts (at - 1) 0) 0 ≡ w → (u : ℕ) → Chain corners u from → at ≡ lastBelow from (edge corners nexts u w)
-  unfolding Found edge names Chain
-  found-hit e u h =
-      let r = f u h in
-      sym (r .1 ∙ subst (λ (x : ℕ). lastBelow x (edge corners nexts u w) ≡ x) (sym whole)
-      (last-hit (edge corners nexts u w) (at - 1) (and-true _ _ (eq-eqb (getD corners (at - 1) 0) u (r .0 (at - 1) whole)) (eq-eqb (getD corners (getD nexts (at - 1) 0) 0) w e))))
+module _ (corners earliers heads : List ℕ) (k : Chained corners earliers heads) (u : ℕ) where
+  module _ (l : u < length heads) where
+    head-is : getD heads u 0 ≡ lastBelow (length corners) (names corners u)
+    unfolding HeadsTo
+    head-is = k .heads-are u l
 
-  pub found-next : (getD corners (getD nexts (at - 1) 0) 0 ≡ w → ⊥) → Found corners nexts w from (getD earliers (at - 1) 0)
-  unfolding Found edge Chain EarliersTo names
-  found-next ne u h =
-      let r = f u h in
-      let e : getD earliers (at - 1) 0 ≡ lastBelow (at - 1) (names corners u) =
-      k .earliers-are (at - 1) (omega arith) ∙ ap (λ (x : ℕ). lastBelow (at - 1) (names corners x)) (r .0 (at - 1) whole) in (
-        λ d q. eqb-true (getD corners d 0) u (last-passes (names corners u) (at - 1) d (sym e ∙ q)),
-        r .1 ∙ ap (λ (x : ℕ). lastBelow x (edge corners nexts u w)) whole
-            ∙ last-miss (edge corners nexts u w) (at - 1) (and-last (eqb (getD corners (at - 1) 0) u) _ (ne-eqb (getD corners (getD nexts (at - 1) 0) 0) w ne))
-            ∙ last-skip (names corners u) (λ d. eqb (getD corners (getD nexts d 0) 0) w) (at - 1)
-            ∙ ap (λ (x : ℕ). lastBelow x (edge corners nexts u w)) (sym e),
-      )
+    pub on-head : On corners u (getD heads u 0)
+    on-head = on-last corners u (length corners) (getD heads u 0) (omega arith) head-is
 
-  pub found-falls : getD earliers (at - 1) 0 < at
-  unfolding EarliersTo
-  found-falls = omega (arith, k .earliers-are (at - 1) (omega arith), last-le (names corners (getD corners (at - 1) 0)) (at - 1))
+    pub above-head : (d : ℕ) → getD heads u 0 ≤ d → d < length corners → vertexOf corners d ≡ u → ⊥
+    above-head = between corners u (length corners) (getD heads u 0) (omega arith) head-is
 
-pub found-none : (corners nexts : List ℕ) (w from at : ℕ) → Found corners nexts w from at → at ≡ 0 → (u : ℕ) → Chain corners u from → 0 ≡ lastBelow from (edge corners nexts u w)
-unfolding Found
-found-none corners nexts w from at f e u h = sym (f u h .1 ∙ ap (λ (x : ℕ). lastBelow x (edge corners nexts u w)) e ∙ last-zero (edge corners nexts u w))
+  module _ (at : ℕ) (o : On corners u at) (n : at ≡ 0 → ⊥) where
+    pub at-in : at - 1 < length corners
+    at-in = omega (arith, o .inside)
+
+    pub at-vertex : vertexOf corners (at - 1) ≡ u
+    unfolding Chain
+    at-vertex = o .chain (at - 1) (omega arith)
+
+    earlier-is : getD earliers (at - 1) 0 ≡ lastBelow (at - 1) (names corners u)
+    unfolding EarliersTo
+    earlier-is = k .earliers-are (at - 1) at-in ∙ ap (λ (x : ℕ). lastBelow (at - 1) (names corners x)) at-vertex
+
+    pub on-next : On corners u (getD earliers (at - 1) 0)
+    on-next = on-last corners u (at - 1) (getD earliers (at - 1) 0) (omega (arith, o .inside)) earlier-is
+
+    pub on-falls : getD earliers (at - 1) 0 < at
+    on-falls = omega (arith, earlier-is, last-le (names corners u) (at - 1))
+
+    -- a corner of u from the next place on is the one here, or was passed
+    pub on-from : (d : ℕ) → getD earliers (at - 1) 0 ≤ d → vertexOf corners d ≡ u → at ≤ d + 1
+    on-from d a v =
+        ⊎-elim
+        (λ (q : d ≡ at - 1). omega arith)
+        (λ o. ⊎-elim
+        (λ (z : d < at - 1). absurd (between corners u (at - 1) (getD earliers (at - 1) 0) (omega (arith, at-in)) earlier-is d a z v))
+        (λ (z : at - 1 < d). omega arith)
+        o)
+        (compared d (at - 1))

@@ -1,20 +1,23 @@
 -- What the scratch tables hold.
 -- Assumes nothing.
 use mathlib.Core.Path.{_≡_}
-use mathlib.Core.Bool.{Bool, _&&_}
+use mathlib.Core.Bool.{Bool}
 use mathlib.Core.List.{List}
 use Prim.Native.Nat.{ℕ, zero, suc, _+_, _<_, _≤_}
-use lib.Dec.{eqb}
-use lib.ListN.{length, getD, replicate}
-use Rattle.mesh.specs.Limits.{leastSides, mostCorners, mostVertices}
+use lib.ListN.{length, getD}
+use Rattle.mesh.specs.Limits.{leastSides, mostCorners}
 use Rattle.mesh.specs.Scan.{pickN}
 use Rattle.mesh.specs.Corners.{sumOf}
-use Rattle.mesh.specs.Links.{vertexOf, names}
+use Rattle.mesh.specs.Links.{vertexOf, leavesTo, arrivesFrom, names}
 
 -- one more than the highest number below n that passes the test; 0 where none does
 unfoldable pub lastBelow : ℕ → (ℕ → Bool) → ℕ
 lastBelow zero f = 0
 lastBelow (suc n) f = pickN (f n) (suc n) (lastBelow n f)
+
+-- a table of zeros
+abbrev pub Blank : List ℕ → Type 0
+Blank table = (i : ℕ) → getD table i 0 ≡ 0
 
 -- one face's part of the table of next corners; what lies before it is kept
 pub record FaceFilled (start end : ℕ) (old new : List ℕ) : Type 0 where
@@ -28,32 +31,34 @@ EarliersTo corners earliers end = (c : ℕ) → c < end → getD earliers c 0 �
 
 -- the highest corner below `end` of each vertex, in the same way
 unfoldable pub HeadsTo : List ℕ → List ℕ → ℕ → Type 0
-HeadsTo corners heads end = (u : ℕ) → u < mostVertices → getD heads u 0 ≡ lastBelow end (names corners u)
-
--- d leaves u towards w, by the table of next corners
-unfoldable pub edge : List ℕ → List ℕ → ℕ → ℕ → ℕ → Bool
-edge corners nexts u w d = names corners u d && eqb (vertexOf corners (getD nexts d 0)) w
+HeadsTo corners heads end = (u : ℕ) → u < length heads → getD heads u 0 ≡ lastBelow end (names corners u)
 
 -- `at` is 0, or one more than a corner of u
 unfoldable pub Chain : List ℕ → ℕ → ℕ → Type 0
 Chain corners u at = (d : ℕ) → at ≡ suc d → vertexOf corners d ≡ u
 
--- the tables can be walked
-pub record Walkable (corners nexts earliers : List ℕ) : Type 0 where
-  pub small : length corners ≤ mostCorners
-  pub nexts-length : length nexts ≡ mostCorners
-  pub earliers-length : length earliers ≡ mostCorners
-  pub nexts-in : (c : ℕ) → c < length corners → getD nexts c 0 < length corners
-  pub earliers-are : EarliersTo corners earliers (length corners)
+-- where each corner's leaving edge goes, and where its arriving edge comes from
+pub record Ends (sides corners tos froms : List ℕ) : Type 0 where
+  pub sums : sumOf sides ≡ length corners
+  pub leaves : (c : ℕ) → c < length corners → getD tos c 0 ≡ leavesTo sides corners c
+  pub arrives : (c : ℕ) → c < length corners → getD froms c 0 ≡ arrivesFrom sides corners c
 
 -- what filling the next corners asks
 abbrev pub Fillable : List ℕ → List ℕ → Type 0
-Fillable sides nexts = (sumOf sides ≤ mostCorners) × ((f : ℕ) → f < length sides → leastSides ≤ getD sides f 0) × (length nexts ≡ mostCorners)
+Fillable sides nexts = (sumOf sides ≤ mostCorners) × ((f : ℕ) → f < length sides → leastSides ≤ getD sides f 0) × (sumOf sides ≤ length nexts)
+
+-- what filling the ends asks
+pub record Endable (corners nexts tos froms : List ℕ) : Type 0 where
+  pub nexts-length : length corners ≤ length nexts
+  pub tos-length : length corners ≤ length tos
+  pub froms-length : length corners ≤ length froms
+  pub nexts-in : (c : ℕ) → c < length corners → getD nexts c 0 < length corners
 
 -- what filling the chains asks, and gives
 abbrev pub Chainable : List ℕ → List ℕ → List ℕ → Type 0
 Chainable corners earliers heads =
-    (length corners ≤ mostCorners) × ((c : ℕ) → c < length corners → vertexOf corners c < mostVertices) × (length earliers ≡ mostCorners) × (heads ≡ replicate mostVertices 0)
+    (length corners ≤ mostCorners) × ((c : ℕ) → c < length corners → vertexOf corners c < length heads) × (length corners ≤ length earliers) × Blank heads
 
-abbrev pub Chained : List ℕ → List ℕ → List ℕ → Type 0
-Chained corners earliers heads = EarliersTo corners earliers (length corners) × HeadsTo corners heads (length corners)
+pub record Chained (corners earliers heads : List ℕ) : Type 0 where
+  pub earliers-are : EarliersTo corners earliers (length corners)
+  pub heads-are : HeadsTo corners heads (length corners)

@@ -1,12 +1,13 @@
-// Scratch tables over the corners of a mesh: the next corner of each, and the earlier corner of the same vertex, so that the corners
-// of a vertex form a falling chain. An edge is looked up on the chain of its vertex.
+// Scratch tables over the corners of a mesh: the next corner of each, the far ends of its two edges, and the earlier corner of the same
+// vertex, so that the corners of a vertex form a falling chain.
 ghost use mathlib.Core.Path.{_≡_};
+ghost use mathlib.Core.List.{List};
 ghost use Prim.Native.Nat.{ℕ, _≤_, _<_};
 ghost use lib.ListN.{length};
 ghost use Rattle.mesh.specs.Limits.{mostCorners};
 ghost use Rattle.mesh.specs.Corners.{sumOf};
 ghost use Rattle.mesh.specs.Tables.{NextsTo};
-ghost use Rattle.tables.specs.Filled.{lastBelow, FaceFilled, edge, Chain, Walkable, Fillable, Chainable, Chained};
+ghost use Rattle.tables.specs.Filled.{FaceFilled, Fillable, Endable, Ends, Chainable, Chained};
 
 // The next corner of every corner.
 pub fn fill_nexts(sides: &[u8], nexts: &mut [u16])
@@ -25,7 +26,7 @@ pub fn fill_nexts(sides: &[u8], nexts: &mut [u16])
 
 // One face: each corner's next is the one after it, the last one's the first.
 fn fill_face(nexts: &mut [u16], start: usize, end: usize)
-    requires { ⌜ (start < end) × (end ≤ mostCorners) × (length (now nexts) ≡ mostCorners) ⌝ }
+    requires { ⌜ (start < end) × (end ≤ mostCorners) × (end ≤ length (now nexts)) ⌝ }
     ensures { λ _. ⌜ FaceFilled start end (now (nexts .entry)) (now (nexts .exit)) ⌝ }
 {
     let mut c = start;
@@ -34,6 +35,20 @@ fn fill_face(nexts: &mut [u16], start: usize, end: usize)
         c += 1;
     }
     nexts[c] = start as u16;
+}
+
+// The far ends of each corner's two edges: its leaving edge is the arriving edge of its next corner.
+pub fn fill_ends(corners: &[u16], nexts: &[u16], tos: &mut [u16], froms: &mut [u16])
+    requires { ⌜ Endable (now corners) (now nexts) (now tos) (now froms) ⌝ }
+    ensures { λ _. ⌜ ((sides : List ℕ) → sumOf sides ≡ length (now (corners .entry)) → NextsTo sides (now (nexts .entry)) (length (now (corners .entry))) → Ends sides (now (corners .entry)) (now (tos .exit)) (now (froms .exit))) ⌝ }
+{
+    let mut c = 0;
+    while c < corners.len() {
+        let e = nexts[c] as usize;
+        tos[c] = corners[e];
+        froms[e] = corners[c];
+        c += 1;
+    }
 }
 
 // The earlier corner of the same vertex, of every corner; the highest corner of every vertex.
@@ -49,23 +64,4 @@ pub fn fill_earliers(corners: &[u16], earliers: &mut [u16], heads: &mut [u16])
         heads[u] = (c + 1) as u16;
         c += 1;
     }
-}
-
-// The highest corner before `from`, on the chain of its vertex, whose edge leaves to w: one more than it, or 0.
-// The chain falls, so the walk ends.
-pub fn find(corners: &[u16], nexts: &[u16], earliers: &[u16], from: u16, w: u16) -> u16
-    requires { ⌜ (from ≤ length (now corners)) × Walkable (now corners) (now nexts) (now earliers) ⌝ }
-    ensures { λ r. ⌜ ((u : ℕ) → Chain (now (corners .entry)) u from → r ≡ lastBelow from (edge (now (corners .entry)) (now (nexts .entry)) u w)) ⌝ }
-{
-    let mut at = from;
-    while at != 0 {
-        let d = (at - 1) as usize;
-        let e = nexts[d] as usize;
-        let to = corners[e];
-        if to == w {
-            return at;
-        }
-        at = earliers[d];
-    }
-    0
 }

@@ -1,24 +1,37 @@
--- `check_links` meets its contract: the filled tables are those by which edges are looked up.
+-- `check_links` meets its contract: its scratch tables have room for every mesh that is checked.
 -- Assumes nothing.
-use mathlib.Core.Path.{refl}
 use denote.Ref.{now}
+use Rattle.mesh.specs.Limits.{mostCorners, mostVertices}
 use Rattle.mesh.specs.Lists.{meshOf}
-use Rattle.checks.proofs.Laws.{searchable}
+use Rattle.checks.proofs.Laws.{room, count-room}
 use native.Mathlib.Omega.{arith}
 use borrow.Author.Needs.{needs}
 use Rattle.checks.proofs.check_links.Statement.{statement}
 use Rattle.checks.proofs.check_links.Tie as tie
 
-slice-aggregate-fill-earliers : tie.Need-slice-aggregate-fill-earliers
-slice-aggregate-fill-earliers c = search needs
+slice-aggregate-find-links : tie.Need-slice-aggregate-find-links
+slice-aggregate-find-links c = search needs
 
-slice-aggregate-fill-earliers-2 : tie.Need-slice-aggregate-fill-earliers-2
-slice-aggregate-fill-earliers-2 c = search needs
+slice-aggregate-find-links-2 : tie.Need-slice-aggregate-find-links-2
+slice-aggregate-find-links-2 c = search needs
 
-fill-earliers-requires : tie.Need-fill-earliers-requires
-fill-earliers-requires c κs =
-    let s = c .before .before .before .before .before .before in
-    (s .pre .0 .small, (λ d l. omega (arith, s .pre .0 .named d l, s .pre .0 .few)), refl, refl)
+slice-aggregate-find-links-3 : tie.Need-slice-aggregate-find-links-3
+slice-aggregate-find-links-3 c = search needs
+
+slice-aggregate-find-links-4 : tie.Need-slice-aggregate-find-links-4
+slice-aggregate-find-links-4 c = search needs
+
+slice-aggregate-find-links-5 : tie.Need-slice-aggregate-find-links-5
+slice-aggregate-find-links-5 c = search needs
+
+slice-aggregate-find-links-6 : tie.Need-slice-aggregate-find-links-6
+slice-aggregate-find-links-6 c = search needs
+
+find-links-requires : tie.Need-find-links-requires
+find-links-requires c κs =
+    let s = c .before .before .before .before .before .before .before .before .before .before .before in
+    let M = meshOf (now (s .args .coordinates)) (now (s .args .sides)) (now (s .args .corners)) in
+    (s .pre, room M mostCorners mostVertices (s .pre .0 .small) (s .pre .0 .few))
 
 slice-aggregate-join : tie.Need-slice-aggregate-join
 slice-aggregate-join c = search needs
@@ -28,11 +41,9 @@ slice-aggregate-join-2 c = search needs
 
 join-requires : tie.Need-join-requires
 join-requires c κs =
-    let s = c .before .before .before .before .before .before .before .before .before .before .before .before in
-    let e = c .before .before .before .before .before .fill-earliers in
+    let s = c .before .before .before .before .before .before .before .before .before .before .before .before .before .before .before .before .before .before .before .before .before .before .before in let f = c .before .before .before .before .before .before .before .before .before .before .before .find-links in
     let M = meshOf (now (s .args .coordinates)) (now (s .args .sides)) (now (s .args .corners)) in
-    let k = searchable M (now (s .args .nexts)) (e .last .1 .0) (e .last .1 .1 .0) (s .pre .0) (s .pre .1) (s .pre .2) (e .kept .1 .0) (e .kept .1 .1 .0) (e .ensures .0) (e .ensures .1) in
-    (s .pre, k)
+    (s .pre .0, f .ensures, omega (arith, s .pre .3, f .kept .1 .1 .1 .1 .0), count-room M mostCorners mostVertices (s .pre .0 .small) (s .pre .0 .few))
 
 same-length : tie.Need-same-length
 same-length c = search needs
@@ -44,9 +55,13 @@ pub check-links-spec : {M : Type 1} → statement M
 check-links-spec =
     tie.close
     (tie.spec
-    slice-aggregate-fill-earliers
-    slice-aggregate-fill-earliers-2
-    fill-earliers-requires
+    slice-aggregate-find-links
+    slice-aggregate-find-links-2
+    slice-aggregate-find-links-3
+    slice-aggregate-find-links-4
+    slice-aggregate-find-links-5
+    slice-aggregate-find-links-6
+    find-links-requires
     slice-aggregate-join
     slice-aggregate-join-2
     join-requires

@@ -4,6 +4,7 @@ use mathlib.Core.Path.{_≡_, sym}
 use mathlib.Core.Bool.{false}
 use mathlib.Core.Logic.{⊎-elim}
 use Prim.Native.Nat.{ℕ, _≤_, _<_, _-_}
+use lib.ListN.{getD}
 use denote.Ref.{now}
 use borrow.Author.Tests.{ltb-true, ltb-false}
 use Rattle.mesh.specs.Limits.{leastSides, mostSides}
@@ -18,28 +19,33 @@ use Rattle.rings.proofs.check_valences.Statement.{statement}
 use Rattle.rings.proofs.check_valences.Tie as tie
 
 abbrev Inv-loop : tie.InvT-loop
-Inv-loop corners earliers heads vertices u₀ u = (u ≤ vertices) × ((j : ℕ) → j < u → fault12 corners j ≡ false)
+Inv-loop corners counts lowests vertices u₀ u = (u ≤ vertices) × ((j : ℕ) → j < u → fault12 corners j ≡ false)
 
 abbrev μ-loop : tie.MeasureT-loop
-μ-loop corners earliers heads vertices u₀ u = vertices - u
+μ-loop corners counts lowests vertices u₀ u = vertices - u
 
 loop-holds : tie.Need-loop-holds Inv-loop μ-loop
 loop-holds c = (omega arith, λ j l. absurd (omega arith))
 
-gather-requires : tie.Need-gather-requires Inv-loop μ-loop
-gather-requires c κs = search needs
+mul-count : tie.Need-mul-count Inv-loop μ-loop
+mul-count c = search needs
+
+shared-slice-read-count : tie.Need-shared-slice-read-count Inv-loop μ-loop
+shared-slice-read-count c = search needs
+
+cast-count : tie.Need-cast-count Inv-loop μ-loop
+cast-count c = omega (arith, c .shared-slice-known .given (c .before .before .loop .u))
 
 returns : tie.Need-returns Inv-loop μ-loop
 unfolding fault12
 returns c =
-    let s = c .before .before .before .before .before .before .before .before in
-    let l = c .before .before .before .before .loop in
-    let g = c .before .before .gather in
+    let s = c .before .before .before .before in let l = c .before .before .before .loop in
     let v = valence (now (s .args .corners)) (l .u) in
+    let n = getD (now (s .args .counts)) (l .u) 0 in
     sym (lowest-hit 12 (s .args .vertices) (fault12 (now (s .args .corners))) (l .u) (search needs)
     (⊎-elim
-    (λ w. outside-low leastSides mostSides v (omega (arith, g .ensures .count-is, w .taken)))
-    (λ w. outside-high leastSides mostSides v (omega (arith, g .ensures .count-is, ltb-true mostSides (g .result .count) (w .2 .taken))))
+    (λ w. outside-low leastSides mostSides v (omega (arith, s .pre .1 .count-is (l .u), w .taken)))
+    (λ w. outside-high leastSides mostSides v (omega (arith, s .pre .1 .count-is (l .u), ltb-true mostSides n (w .1 .taken))))
     (c .if1 .came))
     (l .inv .1))
 
@@ -52,17 +58,17 @@ loop-less c = search needs
 loop-again : tie.Need-loop-again Inv-loop μ-loop
 unfolding fault12
 loop-again c =
-    let s = c .before .before .before .before .before .before .before .before .before .before in
-    let l = c .before .before .before .before .before .before .loop in
-    let g = c .before .before .before .before .gather in
-    let v = valence (now (s .args .corners)) (l .u) in (
+    let s = c .before .before .before .before .before in let l = c .before .before .before .before .loop in
+    let v = valence (now (s .args .corners)) (l .u) in
+    let n = getD (now (s .args .counts)) (l .u) 0 in (
       search needs,
       fails-step (fault12 (now (s .args .corners))) (l .u) (l .inv .1)
-          (inside leastSides mostSides v (omega (arith, g .ensures .count-is, c .before .before .if1 .left)) (omega (arith, g .ensures .count-is, ltb-false mostSides (g .result .count) (c .if2 .left)))),
+          (inside leastSides mostSides v (omega (arith, s .pre .1 .count-is (l .u), c .before .if1 .left)) (omega (arith, s .pre .1 .count-is (l .u), ltb-false mostSides n (c .if2 .left)))),
     )
 
 returns-2 : tie.Need-returns-2 Inv-loop μ-loop
-returns-2 c = let s = c .before .before .before .before .before in let l = c .before .loop in
+returns-2 c =
+    let s = c .before .before in let l = c .before .loop in
     sym (lowest-none 12 (s .args .vertices) (fault12 (now (s .args .corners))) (λ j h. l .inv .1 j (omega arith)))
 
 pub check-valences-spec : {M : Type 1} → statement M
@@ -72,7 +78,9 @@ check-valences-spec =
     Inv-loop
     μ-loop
     loop-holds
-    gather-requires
+    mul-count
+    shared-slice-read-count
+    cast-count
     returns
     add-u
     loop-less

@@ -1,33 +1,25 @@
 -- `fill_earliers` meets its contract: the heads hold the highest corner below `c` of each vertex, which is the earlier corner of `c`.
 -- Assumes nothing.
-use mathlib.Core.Path.{_≡_, ap, _∙_, sym, subst}
-use Prim.Native.Nat.{ℕ, _+_, _≤_, _<_, _-_}
-use lib.ListN.{length, getD, length-set, length-replicate}
+use mathlib.Core.Path.{_≡_, refl, _∙_, subst}
+use Prim.Native.Nat.{_+_, _≤_, _<_, _-_}
+use lib.ListN.{length, getD, length-set}
 use denote.Ref.{now}
-use mathlib.Core.List.{List}
 use Rattle.tables.specs.Filled.{EarliersTo, HeadsTo}
 use Rattle.tables.proofs.Laws.{earliers-none, heads-none, earliers-step, heads-step}
 use native.Mathlib.Omega.{arith}
 use borrow.Author.Needs.{needs}
 use Rattle.tables.proofs.fill_earliers.Statement.{statement}
 use Rattle.tables.proofs.fill_earliers.Tie as tie
-use Rattle.mesh.specs.Limits.{mostCorners, mostVertices}
 
 abbrev Inv-loop : tie.InvT-loop
 Inv-loop corners earliers₀ heads₀ c₀ earliers heads c =
-    (c ≤ length corners) × (length earliers ≡ mostCorners) × (length heads ≡ mostVertices) × EarliersTo corners earliers c × HeadsTo corners heads c
+    (c ≤ length corners) × (length earliers ≡ length earliers₀) × (length heads ≡ length heads₀) × EarliersTo corners earliers c × HeadsTo corners heads c
 
 abbrev μ-loop : tie.MeasureT-loop
 μ-loop corners earliers₀ heads₀ c₀ earliers heads c = length corners - c
 
 loop-holds : tie.Need-loop-holds Inv-loop μ-loop
-loop-holds c = (
-  search needs,
-  search needs,
-  ap length (c .pre .3) ∙ length-replicate {A = ℕ} mostVertices 0,
-  earliers-none _ _,
-  subst (λ (l : List ℕ). HeadsTo (now (c .args .corners)) l 0) (sym (c .pre .3)) (heads-none (now (c .args .corners))),
-)
+loop-holds c = (search needs, refl, refl, earliers-none _ _, heads-none _ _ (c .pre .3))
 
 mul-u : tie.Need-mul-u Inv-loop μ-loop
 mul-u c = search needs
@@ -71,12 +63,12 @@ loop-less c = search needs
 loop-again : tie.Need-loop-again Inv-loop μ-loop
 loop-again c = let s = c .before .before .before .before in let l = c .before .before .before .loop in
     let v = getD (now (s .args .corners)) (l .c) 0 in
-    let b : v < mostVertices = s .pre .1 (l .c) (search needs) in (
+    let b : v < length (l .heads) = omega (arith, s .pre .1 (l .c) (search needs)) in (
       search needs,
       length-set (l .earliers) (l .c) (getD (l .heads) v 0) ∙ l .inv .1,
       length-set (l .heads) v (l .c + 1) ∙ l .inv .2,
       earliers-step (now (s .args .corners)) (l .earliers) (l .heads) (l .c) (l .inv .3) (l .inv .4) b (omega arith),
-      heads-step (now (s .args .corners)) (l .earliers) (l .heads) (l .c) (l .inv .3) (l .inv .4) b (l .inv .2),
+      heads-step (now (s .args .corners)) (l .earliers) (l .heads) (l .c) (l .inv .3) (l .inv .4) b,
     )
 
 same-length : tie.Need-same-length Inv-loop μ-loop
@@ -88,7 +80,10 @@ same-length-2 c = search needs
 returns : tie.Need-returns Inv-loop μ-loop
 returns c = let l = c .before .loop in
     let q : l .c ≡ length (now (c .before .before .args .corners)) = omega arith in
-    (subst (EarliersTo (now (c .before .before .args .corners)) (l .earliers)) q (l .inv .3), subst (HeadsTo (now (c .before .before .args .corners)) (l .heads)) q (l .inv .4))
+    record {
+      earliers-are = subst (EarliersTo (now (c .before .before .args .corners)) (l .earliers)) q (l .inv .3);
+      heads-are = subst (HeadsTo (now (c .before .before .args .corners)) (l .heads)) q (l .inv .4);
+    }
 
 pub fill-earliers-spec : {M : Type 1} → statement M
 fill-earliers-spec =

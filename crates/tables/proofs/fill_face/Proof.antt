@@ -1,6 +1,6 @@
 -- `fill_face` meets its contract: the corners of the face below `c` point to the one after them, and what lies before the face is kept.
 -- Assumes nothing.
-use mathlib.Core.Path.{_≡_, _∙_, sym}
+use mathlib.Core.Path.{_≡_, refl, _∙_}
 use Prim.Native.Nat.{_+_, _≤_, _<_, _-_}
 use lib.ListN.{length, length-set}
 use denote.Ref.{now}
@@ -9,16 +9,15 @@ use native.Mathlib.Omega.{arith}
 use borrow.Author.Needs.{needs}
 use Rattle.tables.proofs.fill_face.Statement.{statement}
 use Rattle.tables.proofs.fill_face.Tie as tie
-use Rattle.mesh.specs.Limits.{mostCorners}
 
 abbrev Inv-loop : tie.InvT-loop
-Inv-loop nexts₀ start end c₀ nexts c = (start ≤ c) × (c < end) × (length nexts ≡ mostCorners) × Part start nexts₀ nexts c
+Inv-loop nexts₀ start end c₀ nexts c = (start ≤ c) × (c < end) × (length nexts ≡ length nexts₀) × Part start nexts₀ nexts c
 
 abbrev μ-loop : tie.MeasureT-loop
 μ-loop nexts₀ start end c₀ nexts c = end - c
 
 loop-holds : tie.Need-loop-holds Inv-loop μ-loop
-loop-holds c = (search needs, search needs, search needs, part-none _ _)
+loop-holds c = (search needs, search needs, refl, part-none _ _)
 
 add-loop : tie.Need-add-loop Inv-loop μ-loop
 add-loop c = search needs
@@ -55,7 +54,7 @@ slice-write-nexts-2 : tie.Need-slice-write-nexts-2 Inv-loop μ-loop
 slice-write-nexts-2 c = search needs
 
 same-length : tie.Need-same-length Inv-loop μ-loop
-same-length c = let l = c .before .loop in length-set (l .nexts) (l .c) (c .before .before .args .start) ∙ l .inv .2 ∙ sym (c .before .before .pre .2)
+same-length c = let l = c .before .loop in length-set (l .nexts) (l .c) (c .before .before .args .start) ∙ l .inv .2
 
 returns : tie.Need-returns Inv-loop μ-loop
 returns c = let s = c .before .before in let l = c .before .loop in

@@ -1,10 +1,9 @@
 -- `fill_nexts` meets its contract: the faces before `f` are filled, and face `f` starts where they end.
 -- Assumes nothing.
-use mathlib.Core.Path.{_≡_, _∙_, sym, subst}
+use mathlib.Core.Path.{_≡_, refl, _∙_, sym, subst}
 use Prim.Native.Nat.{ℕ, _+_, _≤_, _<_, _-_}
 use lib.ListN.{length, getD}
 use denote.Ref.{now}
-use Rattle.mesh.specs.Limits.{mostCorners}
 use Rattle.mesh.specs.Corners.{startOf}
 use Rattle.mesh.specs.Tables.{NextsTo}
 use Rattle.mesh.proofs.Faces.{start-zero, start-next, start-all, start-ends}
@@ -16,13 +15,13 @@ use Rattle.tables.proofs.fill_nexts.Statement.{statement}
 use Rattle.tables.proofs.fill_nexts.Tie as tie
 
 abbrev Inv-loop : tie.InvT-loop
-Inv-loop sides nexts₀ start₀ f₀ nexts start f = (f ≤ length sides) × (start ≡ startOf sides f) × (length nexts ≡ mostCorners) × NextsTo sides nexts (startOf sides f)
+Inv-loop sides nexts₀ start₀ f₀ nexts start f = (f ≤ length sides) × (start ≡ startOf sides f) × (length nexts ≡ length nexts₀) × NextsTo sides nexts (startOf sides f)
 
 abbrev μ-loop : tie.MeasureT-loop
 μ-loop sides nexts₀ start₀ f₀ nexts start f = length sides - f
 
 loop-holds : tie.Need-loop-holds Inv-loop μ-loop
-loop-holds c = (omega arith, sym (start-zero _), search needs, nexts-none _ _)
+loop-holds c = (omega arith, sym (start-zero _), refl, nexts-none _ _)
 
 shared-slice-read-count : tie.Need-shared-slice-read-count Inv-loop μ-loop
 shared-slice-read-count c = search needs
@@ -37,7 +36,7 @@ fill-face-requires : tie.Need-fill-face-requires Inv-loop μ-loop
 fill-face-requires c κs = let s = c .before .before .before .before .before .before in let l = c .before .before .before .loop in
     let a = s .pre .1 (l .f) (search needs) in
     let b = start-ends (now (s .args .sides)) (l .f) (search needs) in
-    (omega (arith, a), omega (arith, b, s .pre .0), l .inv .2)
+    (omega (arith, a), omega (arith, b, s .pre .0), omega (arith, b, s .pre .2))
 
 add-start : tie.Need-add-start Inv-loop μ-loop
 add-start c = omega (arith, start-ends (now (c .before .before .before .before .before .before .before .before .before .args .sides)) (c .before .before .before .before .before .before .loop .f) (search needs))
