@@ -7,19 +7,19 @@ use mathlib.Core.List.{List}
 use Prim.Native.Nat.{ℕ, zero, suc, _+_, _-_, _<_, _≤_}
 use native.Mathlib.Numerals.{add-one}
 use native.Mathlib.Omega.{arith}
-use lib.Dec.{eqb}
+use lib.Dec.{ltb, eqb}
 use lib.ListN.{length, getD, set, replicate, getD-replicate}
 use lib.Seq.{getD-set-same, getD-set-other}
 use borrow.Author.Count.{below-more}
-use borrow.Author.Tests.{eqb-true, eqb-false, eq-eqb}
+use borrow.Author.Tests.{eqb-true, eqb-false, eq-eqb, ltb-true, ltb-false}
 use Rattle.mesh.specs.Limits.{mostSides, mostVertices}
 use Rattle.mesh.specs.Scan.{countBelow}
-use Rattle.mesh.specs.Corners.{startOf, firstOf, sidesOf, previous}
+use Rattle.mesh.specs.Corners.{faceOf, startOf, firstOf, sidesOf, previous}
 use Rattle.mesh.specs.Links.{vertexOf, names, valence}
 use Rattle.mesh.proofs.Scans.{ways, compared}
-use Rattle.mesh.proofs.Faces.{face-at, start-zero, previous-first, previous-inner}
+use Rattle.mesh.proofs.Faces.{face-at, held, start-zero, start-next, start-ends, previous-first, previous-inner}
 use Rattle.mesh.proofs.Rings.{count-hit, count-miss}
-use Rattle.corner_tables.specs.Tables.{Filled, FaceTables, Vertices}
+use Rattle.corner_tables.specs.Tables.{Filled, FaceTables, Vertices, Marked, Wanted}
 
 -- one place more
 pub filled-set : {A : Type 0} (z : A) (f : ℕ → A) (table : List A) (c : ℕ) (v : A) → Filled z f table c → c < length table → v ≡ f c → Filled z f (set table c v) (c + 1)
@@ -101,3 +101,30 @@ count-small corners v c h =
 pub valence-is : (corners : List ℕ) (u : ℕ) → countBelow (length corners) (names corners u) ≡ valence corners u
 unfolding valence
 valence-is corners u = refl
+
+-- ---- marked vertices, and the faces that have one
+pub marked-set : (corners marked : List ℕ) (first k : ℕ) → Marked corners first k marked → vertexOf corners (first + k) < length marked
+    → Marked corners first (k + 1) (set marked (vertexOf corners (first + k)) 1)
+marked-set corners marked first k h l =
+    let v = vertexOf corners (first + k) in
+    let same : 0 < getD (set marked v 1) v 0 = rw (getD-set-same marked v 1 0 l) (omega arith) in
+    below-more (λ i. 0 < getD (set marked v 1) (vertexOf corners (first + i)) 0) k
+    (λ i b. let u = vertexOf corners (first + i) in
+    ⊎-elim
+    (λ e. let q : u ≡ v = eqb-true u v e in rw q same)
+    (λ e. rw (getD-set-other marked v u 1 0 (eqb-false u v e)) (h i b))
+    (ways (eqb u v)))
+    same
+
+-- one face more: r is not zero where one of its vertices is marked
+module _ (sides corners marked wanted : List ℕ) (first count f r : ℕ) (l : f < length sides) (b : f < length wanted) (m : Marked corners first count marked)
+    (any : (d : ℕ) → startOf sides f ≤ d → d < startOf sides f + getD sides f 0 → 0 < getD marked (vertexOf corners d) 0 → 0 < r) where
+  pub wanted-set : Wanted sides corners first count wanted (startOf sides f) → Wanted sides corners first count (set wanted f r) (startOf sides (f + 1))
+  wanted-set h k d hk hd e =
+      ⊎-elim
+      (λ c. let low = ltb-true d (startOf sides f) c in
+      rw (getD-set-other wanted f (faceOf sides d) r 0 (λ q. omega (arith, held sides d (omega (arith, start-ends sides f l)) .from, ap (startOf sides) q))) (h k d hk low e))
+      (λ c. let high = ltb-false d (startOf sides f) c in
+      let s : d < startOf sides f + getD sides f 0 = omega (arith, start-next sides f l) in
+      rw (face-at sides f d high s l, getD-set-same wanted f r 0 b) (any d high s (rw e (m k hk))))
+      (ways (ltb d (startOf sides f)))

@@ -1,11 +1,11 @@
--- What the tables over the corners hold, and what an accepted mesh gives the code that fills them.
+-- What the tables hold, and what an accepted mesh gives the code that fills them.
 -- Assumes nothing.
 use mathlib.Core.Path.{_≡_}
 use mathlib.Core.List.{List}
-use Prim.Native.Nat.{ℕ, _<_, _≤_}
+use Prim.Native.Nat.{ℕ, _+_, _<_, _≤_}
 use lib.ListN.{length, getD}
 use Rattle.mesh.specs.Limits.{leastSides, mostSides, mostVertices, mostCorners}
-use Rattle.mesh.specs.Corners.{sumOf, sidesOf, previous}
+use Rattle.mesh.specs.Corners.{sumOf, faceOf, sidesOf, previous}
 use Rattle.mesh.specs.Links.{vertexOf, valence}
 
 -- the table holds f's value at every place below n; z is what a place past the table's end reads as
@@ -28,3 +28,16 @@ pub record Vertices (corners : List ℕ) : Type 0 where
   pub few : length corners ≤ mostCorners
   pub named : (c : ℕ) → c < length corners → vertexOf corners c < mostVertices
   pub most : (c : ℕ) → c < length corners → valence corners (vertexOf corners c) ≤ mostSides
+
+-- the vertex of every corner has a place in a table of n entries
+abbrev pub Named : List ℕ → ℕ → Type 0
+Named corners n = (c : ℕ) → c < length corners → vertexOf corners c < n
+
+-- the vertices of the `count` corners from `first` on have entries that are not zero
+abbrev pub Marked : List ℕ → ℕ → ℕ → List ℕ → Type 0
+Marked corners first count marked = (k : ℕ) → k < count → 0 < getD marked (vertexOf corners (first + k)) 0
+
+-- of the corners below n, those at the vertex of one of the `count` corners from `first` on have faces whose entry is not zero
+abbrev pub Wanted : List ℕ → List ℕ → ℕ → ℕ → List ℕ → ℕ → Type 0
+Wanted sides corners first count wanted n =
+    (k d : ℕ) → k < count → d < n → vertexOf corners d ≡ vertexOf corners (first + k) → 0 < getD wanted (faceOf sides d) 0

@@ -1,13 +1,13 @@
-// Tables over the corners of an accepted mesh that serve every axis, each filled in one pass: the previous corner and the sides of the
-// face, and the corners of the vertex.
+// Tables of an accepted mesh that serve every axis, each filled in one pass: the previous corner and the sides of the face of every corner,
+// the corners of its vertex, and the faces that a range of corners asks for.
 use mesh::MOST_VERTICES;
 ghost use mathlib.Core.Path.{_≡_};
-ghost use Prim.Native.Nat.{ℕ, _+_, _<_};
+ghost use Prim.Native.Nat.{ℕ, _+_, _<_, _≤_};
 ghost use lib.ListN.{length, getD, replicate};
 ghost use Rattle.mesh.specs.Limits.{mostVertices, mostCorners};
 ghost use Rattle.mesh.specs.Corners.{sumOf, startOf};
 ghost use Rattle.mesh.specs.Links.{vertexOf, valence};
-ghost use Rattle.corner_tables.specs.Tables.{Filled, FaceTables, Faces, Vertices};
+ghost use Rattle.corner_tables.specs.Tables.{Filled, FaceTables, Faces, Vertices, Named, Marked, Wanted};
 
 // The previous corner of every corner, and the sides of its face.
 pub fn fill_faces(sides: &[u8], previouses: &mut [u16], counts: &mut [u8])
@@ -73,4 +73,63 @@ fn count_corners(corners: &[u16], counts: &mut [u8])
         counts[u] = n + 1;
         c += 1;
     }
+}
+
+// Which faces have a corner at the vertex of one of `count` corners from `first` on: these get an entry that is not zero. `marked` is a
+// table over the vertices, of zeros.
+pub fn fill_wanted(
+    sides: &[u8],
+    corners: &[u16],
+    first: usize,
+    count: usize,
+    marked: &mut [u8],
+    wanted: &mut [u8],
+)
+    requires faces { ⌜ Faces (now sides) × (sumOf (now sides) ≤ length (now corners)) × (length (now sides) ≤ length (now wanted)) ⌝ }
+    requires named { ⌜ Named (now corners) (length (now marked)) ⌝ }
+    requires range { ⌜ first + count ≤ length (now corners) ⌝ }
+    ensures { λ _. ⌜ Wanted (now (sides .entry)) (now (corners .entry)) first count (now (wanted .exit)) (sumOf (now (sides .entry))) ⌝ }
+{
+    mark_vertices(corners, first, count, marked);
+    let mut start = 0;
+    let mut f = 0;
+    while f < sides.len() {
+        let n = sides[f] as usize;
+        wanted[f] = any_marked(corners, marked, start, n);
+        start += n;
+        f += 1;
+    }
+}
+
+// Marks the vertices of `count` corners from `first` on.
+fn mark_vertices(corners: &[u16], first: usize, count: usize, marked: &mut [u8])
+    requires named { ⌜ Named (now corners) (length (now marked)) ⌝ }
+    requires range { ⌜ first + count ≤ length (now corners) ⌝ }
+    ensures { λ _. ⌜ Marked (now (corners .entry)) first count (now (marked .exit)) ⌝ }
+{
+    let mut k = 0;
+    while k < count {
+        let u = corners[first + k] as usize;
+        marked[u] = 1;
+        k += 1;
+    }
+}
+
+// Not zero where one of `n` corners from `start` on has its vertex marked. It looks at all of them: that is no slower than to stop at the
+// first, which the processor cannot foresee.
+fn any_marked(corners: &[u16], marked: &[u8], start: usize, n: usize) -> u8
+    requires named { ⌜ Named (now corners) (length (now marked)) ⌝ }
+    requires range { ⌜ start + n ≤ length (now corners) ⌝ }
+    ensures { λ r. ⌜ ((d : ℕ) → start ≤ d → d < start + n → 0 < getD (now (marked .entry)) (vertexOf (now (corners .entry)) d) 0 → 0 < r) ⌝ }
+{
+    let mut any = 0;
+    let mut j = 0;
+    while j < n {
+        let u = corners[start + j] as usize;
+        if marked[u] != 0 {
+            any = 1;
+        }
+        j += 1;
+    }
+    any
 }

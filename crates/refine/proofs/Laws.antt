@@ -1,12 +1,15 @@
--- The sizes on the way to a refined point, and the refined point from the values that the code has of a corner.
+-- The sizes on the way to a refined point, the refined point from the values that the code has of a corner, and the table of refined points.
 -- Assumes nothing.
-use mathlib.Core.Path.{_≡_, sym}
+use mathlib.Core.Path.{_≡_, refl, _∙_, sym, subst}
+use mathlib.Core.Logic.{⊎-elim}
 use mathlib.Core.List.{List}
 use Prim.Native.Nat.{ℕ, _+_, _*_, _^_, _<_, _≤_}
 use native.Mathlib.Nat.{le-trans}
 use native.Mathlib.Omega.{arith}
-use lib.Dec.{lit≤, lit<}
-use lib.ListN.{length, getD}
+use lib.Dec.{ltb, eqb, lit≤, lit<}
+use lib.ListN.{length, getD, set, replicate, getD-replicate, length-replicate, List·getD-eq-default}
+use lib.Seq.{getD-set-same, getD-set-other}
+use borrow.Author.Tests.{eqb-true, eqb-false, ltb-true, ltb-false}
 use lib.IntN.{ℤ, pos, natAbs, _+ℤ_, _*ℤ_}
 use mir.Syntax.{w64}
 use mir.Val.{SFits, toZ}
@@ -21,10 +24,11 @@ use Rattle.mesh.specs.Limits.{mostSides, mostCoordinate}
 use Rattle.mesh.specs.Lists.{Mesh, meshOf, faceCount, cornerCount}
 use Rattle.mesh.specs.Corners.{sumOf, startOf, faceOf, sidesOf, next, previous}
 use Rattle.mesh.specs.Links.{vertexOf}
-use Rattle.mesh.proofs.Faces.{face-at, start-ends, next-below, previous-below}
+use Rattle.mesh.proofs.Scans.{ways, compared}
+use Rattle.mesh.proofs.Faces.{face-at, start-zero, start-next, start-ends, next-below, previous-below}
 use Rattle.surface.specs.Refined.{ticks, faceSum, refinedPoint}
 use Rattle.surface.proofs.Hull.{point-size}
-use Rattle.refine.specs.Sources.{Placed, Refinable, Ticks}
+use Rattle.refine.specs.Sources.{Placed, Refinable, Ticks, Small, Pointed, Added}
 
 -- ---- ticks and their sums
 pub tick-size : (z : ℤ) → natAbs z ≤ mostCoordinate → natAbs (pos 256 *ℤ z) ≤ 2 ^ 24
@@ -129,3 +133,63 @@ module _ (M : Mesh) (R : Refinable M) (f : ℕ) (l : f < faceCount M) where
 
     pub point-is : round (eightfold T B H A (getD (M .sides) f 0)) (pos 8 *ℤ pos (getD (M .sides) f 0)) ≡ refinedPoint M axis c
     point-is = rw (eT, eB, eH, eA, ep, eq, e) (sym (refined-is axis c (face-at (M .sides) f c (omega arith) (omega arith) l)))
+
+-- ---- the table of refined points
+-- a new table
+pub small-zeros : (n : ℕ) → Small (replicate n (pos 0))
+small-zeros n c =
+    ⊎-elim
+    (λ b. rw (getD-replicate n c (pos 0) (pos 0) (ltb-true c n b)) (omega arith))
+    (λ b. rw (List·getD-eq-default (replicate n (pos 0)) (pos 0) {n = c} (omega (arith, length-replicate {A = ℤ} n (pos 0), ltb-false c n b))) (omega arith))
+    (ways (ltb c n))
+
+module _ (M : Mesh) (axis start : ℕ) where
+  -- nothing is put in yet
+  pub added-none : (points : List ℤ) → Small points → Added M axis start start points points
+  added-none points h = record { points-are = λ c a b. absurd (omega arith); others = λ c b. refl; small = h }
+
+  -- one point more
+  pub added-set : (end : ℕ) (old new : List ℤ) (v : ℤ) → Added M axis start end old new → start ≤ end → end < length new
+      → v ≡ refinedPoint M axis end → natAbs v ≤ 2 ^ 24 → Added M axis start (end + 1) old (set new end v)
+  added-set end old new v h a b e s =
+      record {
+        points-are = λ c l m. ⊎-elim
+            (λ (q : c ≡ end). rw q (getD-set-same new end v (pos 0) b ∙ e))
+            (λ o. let k : c < end = ⊎-elim (λ (k : c < end). k) (λ (k : end < c). absurd (omega arith)) o in
+            getD-set-other new end c v (pos 0) (λ q. omega arith) ∙ h .points-are c l k)
+            (compared c end);
+        others = λ c l. getD-set-other new end c v (pos 0) (λ q. omega arith) ∙ h .others c l;
+        small = λ c. ⊎-elim
+            (λ b′. let q : c ≡ end = eqb-true c end b′ in rw (q, getD-set-same new end v (pos 0) b) s)
+            (λ b′. rw (getD-set-other new end c v (pos 0) (eqb-false c end b′)) (h .small c))
+            (ways (eqb c end));
+      }
+
+-- no face is passed yet; a face that is wanted, and one that is not
+module _ (M : Mesh) (axis : ℕ) (wanted : List ℕ) where
+  pub pointed-none : (points : List ℤ) → Small points → Pointed M axis wanted points (startOf (M .sides) 0)
+  pointed-none points h = record { points-are = λ c l w. absurd (omega (arith, start-zero (M .sides))); small = h }
+
+  pub pointed-added : (f : ℕ) (old new : List ℤ) → Pointed M axis wanted old (startOf (M .sides) f)
+      → Added M axis (startOf (M .sides) f) (startOf (M .sides) (f + 1)) old new → Pointed M axis wanted new (startOf (M .sides) (f + 1))
+  pointed-added f old new p h =
+      record {
+        points-are = λ c l w. ⊎-elim
+            (λ b. let k = ltb-true c (startOf (M .sides) f) b in h .others c k ∙ p .points-are c k w)
+            (λ b. h .points-are c (ltb-false c (startOf (M .sides) f) b) l)
+            (ways (ltb c (startOf (M .sides) f)));
+        small = h .small;
+      }
+
+  pub pointed-passed : (f : ℕ) (points : List ℤ) → f < faceCount M → getD wanted f 0 ≡ 0 → Pointed M axis wanted points (startOf (M .sides) f)
+      → Pointed M axis wanted points (startOf (M .sides) (f + 1))
+  pointed-passed f points h z p =
+      record {
+        points-are = λ c l w. ⊎-elim
+            (λ b. p .points-are c (ltb-true c (startOf (M .sides) f) b) w)
+            (λ b. let e : faceOf (M .sides) c ≡ f =
+            face-at (M .sides) f c (ltb-false c (startOf (M .sides) f) b) (omega (arith, start-next (M .sides) f h)) h in
+            absurd (omega (arith, z, subst (λ (g : ℕ). 0 < getD wanted g 0) e w)))
+            (ways (ltb c (startOf (M .sides) f)));
+        small = p .small;
+      }

@@ -1,4 +1,5 @@
-// The refined points of a mesh on one axis, in a table over its corners. A face's sum is formed once and serves all its corners.
+// The refined points on one axis of the faces that are wanted, in a table over the corners. A face's sum is formed once and serves all
+// its corners.
 use rounding::round_div;
 ghost use mathlib.Core.Path.{_≡_};
 ghost use mathlib.Core.List.{List};
@@ -7,43 +8,45 @@ ghost use lib.ListN.{length};
 ghost use lib.IntN.{pos, natAbs, _+ℤ_, _*ℤ_};
 ghost use Rattle.integers.specs.Sum.{sum};
 ghost use Rattle.rounding.specs.Round.{round};
-ghost use Rattle.mesh.specs.Limits.{mostSides, mostCorners};
+ghost use Rattle.mesh.specs.Limits.{mostSides};
 ghost use Rattle.mesh.specs.Lists.{meshOf};
 ghost use Rattle.mesh.specs.Corners.{sumOf, startOf};
-ghost use Rattle.surface.specs.Refined.{ticks, refinedPoint};
-ghost use Rattle.corner_tables.specs.Tables.{Filled};
-ghost use Rattle.refine.specs.Sources.{Steps, Placed, Refinable, Ticks};
+ghost use Rattle.surface.specs.Refined.{ticks};
+ghost use Rattle.refine.specs.Sources.{Steps, Placed, Refinable, Ticks, Small, Pointed, Added};
 
-// The refined point of every corner on an axis.
+// The refined points on an axis of the corners whose face has a nonzero entry in `wanted`.
 pub fn fill_points(
     coordinates: &[i32],
     sides: &[u8],
     corners: &[u16],
     nexts: &[u16],
     previouses: &[u16],
+    wanted: &[u8],
     axis: usize,
     points: &mut [i32],
 )
     requires mesh { ⌜ Refinable (meshOf (now coordinates) (now sides) (now corners)) ⌝ }
     requires axis { ⌜ axis < 3 ⌝ }
-    requires tables { ⌜ Steps (now sides) (now nexts) (now previouses) ⌝ }
-    requires long { ⌜ length (now points) ≡ mostCorners ⌝ }
-    ensures { λ _. ⌜ Filled (pos 0) (refinedPoint (meshOf (now (coordinates .entry)) (now (sides .entry)) (now (corners .entry))) axis) (now (points .exit)) (sumOf (now (sides .entry))) ⌝ }
+    requires tables { ⌜ Steps (now sides) (now nexts) (now previouses) × (length (now sides) ≤ length (now wanted)) ⌝ }
+    requires points { ⌜ (sumOf (now sides) ≤ length (now points)) × Small (now points) ⌝ }
+    ensures { λ _. ⌜ Pointed (meshOf (now (coordinates .entry)) (now (sides .entry)) (now (corners .entry))) axis (now (wanted .entry)) (now (points .exit)) (sumOf (now (sides .entry))) ⌝ }
 {
     let mut start = 0;
     let mut f = 0;
     while f < sides.len() {
-        fill_face_points(
-            coordinates,
-            sides,
-            corners,
-            nexts,
-            previouses,
-            axis,
-            f,
-            start,
-            points,
-        );
+        if wanted[f] != 0 {
+            fill_face_points(
+                coordinates,
+                sides,
+                corners,
+                nexts,
+                previouses,
+                axis,
+                f,
+                start,
+                points,
+            );
+        }
         start += sides[f] as usize;
         f += 1;
     }
@@ -64,8 +67,8 @@ fn fill_face_points(
     requires mesh { ⌜ Refinable (meshOf (now coordinates) (now sides) (now corners)) ⌝ }
     requires face { ⌜ (axis < 3) × (f < length (now sides)) × (start ≡ startOf (now sides) f) ⌝ }
     requires tables { ⌜ Steps (now sides) (now nexts) (now previouses) ⌝ }
-    requires points { ⌜ (length (now points) ≡ mostCorners) × Filled (pos 0) (refinedPoint (meshOf (now coordinates) (now sides) (now corners)) axis) (now points) (startOf (now sides) f) ⌝ }
-    ensures { λ _. ⌜ Filled (pos 0) (refinedPoint (meshOf (now (coordinates .entry)) (now (sides .entry)) (now (corners .entry))) axis) (now (points .exit)) (startOf (now (sides .entry)) (f + 1)) ⌝ }
+    requires points { ⌜ (sumOf (now sides) ≤ length (now points)) × Small (now points) ⌝ }
+    ensures { λ _. ⌜ Added (meshOf (now (coordinates .entry)) (now (sides .entry)) (now (corners .entry))) axis start (startOf (now (sides .entry)) (f + 1)) (now (points .entry)) (now (points .exit)) ⌝ }
 {
     let n = sides[f];
     let end = start + n as usize;

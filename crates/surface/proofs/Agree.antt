@@ -1,10 +1,10 @@
--- Two descriptions of a mesh that agree at each corner give the same nets, and the laws of one hold of the other:
--- the construction looks at no other number than a corner.
+-- Two descriptions of a mesh that agree at each corner give the same net of a corner where they have the same refined points in its rings:
+-- the construction looks at no others. The laws of one hold of the other.
 -- Assumes nothing.
 use mathlib.Core.Path.{_≡_, refl, sym, ap, _∙_}
-use Prim.Native.Nat.{ℕ, zero, suc, _+_, _-_, _<_}
+use Prim.Native.Nat.{ℕ, zero, suc, _+_, _-_, _^_, _≤_, _<_}
 use native.Mathlib.Omega.{arith}
-use lib.IntN.{ℤ, pos}
+use lib.IntN.{ℤ, pos, natAbs}
 use Rattle.integers.proofs.Sum.{sum-same}
 use Rattle.rounding.specs.Round.{round}
 use Rattle.cosines.specs.Table.{cosine}
@@ -12,7 +12,7 @@ use Rattle.mesh.specs.Scan.{iterate}
 use Rattle.surface.specs.Corners.{Corners, Sound, Agree}
 use Rattle.surface.specs.Face.{centre, toward}
 use Rattle.surface.specs.Net.{End, vertex, leaving, face, arriving, Side, side0, side1, side2, side3, head, tail, neighbour, quad, size, ring, points, headPlace, H, T, X, Y, N, C, outer1, outer2, outer3, a0, a1, a2, a3, middle, bHead, bTail, aHead, aTail, b22, bGrid, aGrid, net}
-use Rattle.surface.proofs.Rings.{iterate-in, neighbour-in, ring-in}
+use Rattle.surface.proofs.Rings.{iterate-in}
 use Rattle.surface.proofs.Faces.{toward-same}
 
 iterate-same : (f g : ℕ → ℕ) (n : ℕ) → ((c : ℕ) → c < n → f c < n) → ((c : ℕ) → c < n → f c ≡ g c)
@@ -53,49 +53,63 @@ module _ (K L : Corners) (same : Agree K L) (ok : Sound K) (c : ℕ) (here : c <
   size-same face = same .sides c here
   size-same arriving = refl
 
-  points-same : (e : End) (j : ℕ) → points K c e j ≡ points L c e j
-  points-same e j = same .refined (ring K c e j) (ring-in K ok c here e j) ∙ ap (L .refined) (ring-same e j)
-
   place-same : (s : Side) → headPlace K c s ≡ headPlace L c s
   place-same side0 = refl
   place-same side1 = refl
   place-same side2 = ap (λ (m : ℕ). m - 1) (same .sides c here)
   place-same side3 = ap (λ (m : ℕ). m - 1) (same .valence c here)
 
-  pub neighbour-same : (s : Side) → neighbour K c s ≡ neighbour L c s
+  neighbour-same : (s : Side) → neighbour K c s ≡ neighbour L c s
   neighbour-same side0 = same .link c here
   neighbour-same side1 = same .next c here
   neighbour-same side2 = same .previous c here
   neighbour-same side3 = previous-link K L same ok (K .previous c) before ∙ ap (λ (d : ℕ). L .previous (L .link d)) (same .previous c here)
 
-  -- ---- of a side
-  pub H-same : (s : Side) → H K c s ≡ H L c s
+-- ---- of a side, where the refined points in the rings are the same
+module _ (K L : Corners) (same : Agree K L) (ok : Sound K) (c : ℕ) (here : c < K .count)
+    (near : (e : End) (j : ℕ) → K .refined (ring K c e j) ≡ L .refined (ring K c e j)) where
+  points-same : (e : End) (j : ℕ) → points K c e j ≡ points L c e j
+  points-same e j = near e j ∙ ap (L .refined) (ring-same K L same ok c here e j)
+
+  -- the corner and its neighbours are places of its rings
+  own : K .refined c ≡ L .refined c
+  unfolding iterate
+  own = near vertex 0
+
+  beside : (s : Side) → K .refined (neighbour K c s) ≡ L .refined (neighbour K c s)
+  unfolding iterate quad
+  beside side0 = near vertex 1
+  beside side1 = near face 1
+  beside side2 = near arriving 0
+  beside side3 = near arriving 2
+
+  H-same : (s : Side) → H K c s ≡ H L c s
   unfolding H
-  H-same s = centre-equal (points K c (head s)) (points L c (head s)) _ _ (size-same (head s)) (points-same (head s))
+  H-same s = centre-equal (points K c (head s)) (points L c (head s)) _ _ (size-same K L same ok c here (head s)) (points-same (head s))
 
-  pub T-same : (s : Side) → T K c s ≡ T L c s
+  T-same : (s : Side) → T K c s ≡ T L c s
   unfolding T
-  T-same s = centre-equal (points K c (tail s)) (points L c (tail s)) _ _ (size-same (tail s)) (points-same (tail s))
+  T-same s = centre-equal (points K c (tail s)) (points L c (tail s)) _ _ (size-same K L same ok c here (tail s)) (points-same (tail s))
 
-  pub X-same : (s : Side) → X K c s ≡ X L c s
+  X-same : (s : Side) → X K c s ≡ X L c s
   unfolding X
-  X-same s = toward-equal (points K c (head s)) (points L c (head s)) _ _ _ _ (size-same (head s)) (place-same s) (points-same (head s))
+  X-same s =
+      toward-equal (points K c (head s)) (points L c (head s)) _ _ _ _ (size-same K L same ok c here (head s))
+      (place-same K L same ok c here s) (points-same (head s))
 
-  pub Y-same : (s : Side) → Y K c s ≡ Y L c s
+  Y-same : (s : Side) → Y K c s ≡ Y L c s
   unfolding Y
-  Y-same s = toward-equal (points K c (tail s)) (points L c (tail s)) _ _ _ _ (size-same (tail s)) refl (points-same (tail s))
+  Y-same s = toward-equal (points K c (tail s)) (points L c (tail s)) _ _ _ _ (size-same K L same ok c here (tail s)) refl (points-same (tail s))
 
-  pub C-same : (s : Side) → C K c s ≡ C L c s
+  C-same : (s : Side) → C K c s ≡ C L c s
   unfolding C
-  C-same s = ap (λ (m : ℕ). cosine m 1) (size-same (head s))
+  C-same s = ap (λ (m : ℕ). cosine m 1) (size-same K L same ok c here (head s))
 
-  pub N-same : (s : Side) → N K c s ≡ N L c s
+  N-same : (s : Side) → N K c s ≡ N L c s
   unfolding N
   N-same s =
-      let v : K .refined c ≡ L .refined c = same .refined c here in
-      let w : K .refined (neighbour K c s) ≡ L .refined (neighbour L c s) =
-      same .refined (neighbour K c s) (neighbour-in K ok c here s) ∙ ap (L .refined) (neighbour-same s) in
-      rw (X-same s, Y-same s, v, w)
+      let w : K .refined (neighbour K c s) ≡ L .refined (neighbour L c s) = beside s ∙ ap (L .refined) (neighbour-same K L same ok c here s) in
+      rw (X-same s, Y-same s, own, w)
 
   pub net-same : net K c ≡ net L c
   unfolding net bGrid aGrid outer1 outer2 outer3 a0 a1 a2 a3 middle bHead bTail aHead aTail b22
@@ -110,8 +124,8 @@ module _ (K L : Corners) (same : Agree K L) (ok : Sound K) where
   below : (a b : ℕ) → a ≡ b → a < K .count → b < L .count
   below a b e l = omega (arith, same .count)
 
-  pub sound-same : Sound L
-  sound-same = record {
+  pub sound-same : ((c : ℕ) → c < L .count → natAbs (L .refined c) ≤ 2 ^ 24) → Sound L
+  sound-same small = record {
     next-in = λ c l. below _ _ (same .next c (inside c l)) (ok .next-in c (inside c l));
     previous-in = λ c l. below _ _ (same .previous c (inside c l)) (ok .previous-in c (inside c l));
     link-in = λ c l. below _ _ (same .link c (inside c l)) (ok .link-in c (inside c l));
@@ -144,5 +158,5 @@ module _ (K L : Corners) (same : Agree K L) (ok : Sound K) where
     sides-most = λ c l. omega (arith, same .sides c (inside c l), ok .sides-most c (inside c l));
     valence-least = λ c l. omega (arith, same .valence c (inside c l), ok .valence-least c (inside c l));
     valence-most = λ c l. omega (arith, same .valence c (inside c l), ok .valence-most c (inside c l));
-    refined-size = λ c l. rw (← same .refined c (inside c l)) (ok .refined-size c (inside c l));
+    refined-size = small;
   }

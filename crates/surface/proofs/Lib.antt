@@ -7,6 +7,7 @@
 --     Sizes       every value, every sum before a division and every written number
 --     Hull        the refined point's size; the corners of an accepted mesh have the laws of `Sound`
 --     Agree       corners that agree have the same nets
+--     Near        the rings of a corner lie in the faces at its vertex
 pub mod Within
 pub mod Rings
 pub mod Faces
@@ -15,3 +16,4 @@ pub mod Roundings
 pub mod Sizes
 pub mod Hull
 pub mod Agree
+pub mod Near

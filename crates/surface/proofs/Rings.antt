@@ -25,11 +25,11 @@ unfolding iterate
 iterate-in f n h zero c l = l
 iterate-in f n h (suc j) c l = h (iterate j f c) (iterate-in f n h j c l)
 
-pick-in : (n p q r s : ℕ) → p < n → q < n → r < n → s < n → (j : ℕ) → pick p q r s j < n
-pick-in n p q r s hp hq hr hs zero = hp
-pick-in n p q r s hp hq hr hs (suc zero) = hq
-pick-in n p q r s hp hq hr hs (suc (suc zero)) = hr
-pick-in n p q r s hp hq hr hs (suc (suc (suc j))) = hs
+pub pick-one : (P : ℕ → Type 0) (p q r s : ℕ) → P p → P q → P r → P s → (j : ℕ) → P (pick p q r s j)
+pick-one P p q r s hp hq hr hs zero = hp
+pick-one P p q r s hp hq hr hs (suc zero) = hq
+pick-one P p q r s hp hq hr hs (suc (suc zero)) = hr
+pick-one P p q r s hp hq hr hs (suc (suc (suc j))) = hs
 
 quad-round : (K : Corners) (c j : ℕ) → quad K c (j + 4) ≡ quad K c j
 unfolding quad
@@ -41,7 +41,7 @@ module _ (K : Corners) (ok : Sound K) where
   unfolding quad
   quad-in c here j =
       let l = ok .link-in c here in
-      pick-in (K .count) c (K .next c) (K .previous (K .link c)) (K .link c) here (ok .next-in c here) (ok .previous-in (K .link c) l) l (j % 4)
+      pick-one (λ d. d < K .count) c (K .next c) (K .previous (K .link c)) (K .link c) here (ok .next-in c here) (ok .previous-in (K .link c) l) l (j % 4)
 
 module _ (K : Corners) (ok : Sound K) (c : ℕ) (here : c < K .count) where
   pub neighbour-in : (s : Side) → neighbour K c s < K .count

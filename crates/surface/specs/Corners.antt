@@ -34,7 +34,7 @@ pub record Sound (K : Corners) : Type 0 where
   pub valence-most : (c : ℕ) → c < K .count → K .valence c ≤ mostSides
   pub refined-size : (c : ℕ) → c < K .count → natAbs (K .refined c) ≤ 2 ^ 24
 
--- two descriptions that agree at each corner
+-- two descriptions that agree at each corner, in all but the refined points
 pub record Agree (K L : Corners) : Type 0 where
   pub count : K .count ≡ L .count
   pub next : (c : ℕ) → c < K .count → K .next c ≡ L .next c
@@ -42,4 +42,3 @@ pub record Agree (K L : Corners) : Type 0 where
   pub link : (c : ℕ) → c < K .count → K .link c ≡ L .link c
   pub sides : (c : ℕ) → c < K .count → K .sides c ≡ L .sides c
   pub valence : (c : ℕ) → c < K .count → K .valence c ≡ L .valence c
-  pub refined : (c : ℕ) → c < K .count → K .refined c ≡ L .refined c

@@ -8,22 +8,25 @@ use native.Mathlib.Omega.{arith}
 use lib.ListN.{length, getD}
 use lib.Seq.{ext-getD}
 use lib.IntN.{ℤ, pos}
-use Rattle.mesh.specs.Lists.{Mesh, cornerCount}
-use Rattle.mesh.specs.Limits.{mostCorners}
+use Rattle.mesh.specs.Lists.{Mesh, faceCount, cornerCount}
+use Rattle.mesh.specs.Limits.{mostFaces, mostCorners}
 use Rattle.mesh.specs.Corners.{sumOf, sidesOf, previous}
 use Rattle.mesh.specs.Links.{vertexOf, valence}
 use Rattle.mesh.specs.Tables.{NextsTo, LinkTable}
 use Rattle.mesh.specs.Faults.{Accepted}
+use Rattle.mesh.proofs.Accepted.{sound-of, few-faces}
 use Rattle.mesh.proofs.Links.{values-length, values-at}
 use Rattle.mesh.proofs.Scans.{compared}
 use Rattle.surface.specs.Corners.{Corners, Sound, Agree}
-use Rattle.surface.specs.Net.{net}
-use Rattle.surface.specs.Refined.{refinedPoint, cornersOf, perCorner, numberAt, nets}
+use Rattle.surface.specs.Net.{ring, net}
+use Rattle.surface.specs.Refined.{cornersOf, perCorner, numberAt, nets}
 use Rattle.surface.proofs.Hull.{corners-sound}
+use Rattle.surface.proofs.Rings.{ring-in}
+use Rattle.surface.proofs.Near.{ring-near}
 use Rattle.surface.proofs.Agree.{net-same, sound-same}
-use Rattle.corner_tables.specs.Tables.{Filled, FaceTables}
-use Rattle.corner_tables.proofs.Accepted.{vertices-of}
-use Rattle.refine.specs.Sources.{Steps}
+use Rattle.corner_tables.specs.Tables.{Filled, FaceTables, Wanted}
+use Rattle.corner_tables.proofs.Accepted.{faces-of, vertices-of}
+use Rattle.refine.specs.Sources.{Steps, Pointed}
 use Rattle.refine.proofs.Accepted.{refinable-of}
 use Rattle.sides.specs.Tabled.{tabled}
 use Rattle.nets.specs.Put.{Put}
@@ -91,10 +94,14 @@ axis-step K first k axis at old mid new h e w put =
     on-axis : (i k p at : ℕ) → at ≡ perCorner * k → i ≡ at + 3 * p + axis → i % 3 ≡ axis
     on-axis i k p at e e' = omega (arith, axis-of k p axis h)
 
--- ---- the tables describe the mesh
-module _ (M : Mesh) (accepted : Accepted M) (nexts previouses links sides valences : List ℕ) (points : List ℤ) (axis : ℕ)
-    (t : MeshTables M nexts previouses links sides valences) (v : Filled (pos 0) (refinedPoint M axis) points (cornerCount M)) where
-  agree : Agree (cornersOf M axis) (tabled (cornerCount M) nexts previouses links sides valences points)
+-- ---- the tables describe the mesh, as far as the nets of the range look
+module _ (M : Mesh) (accepted : Accepted M) (nexts previouses links sides valences wanted : List ℕ) (points : List ℤ) (axis first count : ℕ)
+    (t : MeshTables M nexts previouses links sides valences) (w : Wanted (M .sides) (M .corners) first count wanted (sumOf (M .sides)))
+    (v : Pointed M axis wanted points (sumOf (M .sides))) where
+  abbrev table : Corners
+  table = tabled (cornerCount M) nexts previouses links sides valences points
+
+  agree : Agree (cornersOf M axis) table
   agree =
       record {
         count = refl;
@@ -103,21 +110,29 @@ module _ (M : Mesh) (accepted : Accepted M) (nexts previouses links sides valenc
         link = λ c h. sym (t .links-are c h);
         sides = λ c h. sym (t .sides-are c h);
         valence = λ c h. sym (t .valences-are c h);
-        refined = λ c h. sym (v c h);
       }
 
-  pub tabled-sound : Sound (tabled (cornerCount M) nexts previouses links sides valences points)
-  tabled-sound = sound-same (cornersOf M axis) (tabled (cornerCount M) nexts previouses links sides valences points) agree (corners-sound M accepted axis)
+  pub tabled-sound : Sound table
+  tabled-sound = sound-same (cornersOf M axis) table agree (corners-sound M accepted axis) (λ c h. v .small c)
 
-  pub tabled-net : (c : ℕ) → c < cornerCount M → net (cornersOf M axis) c ≡ net (tabled (cornerCount M) nexts previouses links sides valences points) c
-  tabled-net c h = net-same (cornersOf M axis) (tabled (cornerCount M) nexts previouses links sides valences points) agree (corners-sound M accepted axis) c h
+  -- the faces at the vertex of a corner of the range are wanted, and its rings lie in them
+  tabled-net : (k : ℕ) → k < count → first + k < cornerCount M → net (cornersOf M axis) (first + k) ≡ net table (first + k)
+  tabled-net k l h =
+      let K = cornersOf M axis in
+      let c = first + k in
+      let ok = corners-sound M accepted axis in
+      let sums = refinable-of M accepted .sums in
+      net-same K table agree ok c h
+      (λ e j. let near = ring-near M accepted axis c h e j in
+      sym (v .points-are (ring K c e j) (omega (arith, ring-in K ok c h e j, sums))
+      (rw (near .in-face) (w k (near .at) l (omega (arith, near .at-in, sums)) (near .at-vertex)))))
 
   -- an axis written by the tables is one of the mesh
-  pub written-next : (first count : ℕ) (old new : List ℤ) → axis < 3 → first + count ≤ cornerCount M → Written M first count axis old
-      → AxisWritten (tabled (cornerCount M) nexts previouses links sides valences points) first count axis old new → Written M first count (axis + 1) new
-  written-next first count old new h l w a =
-      written-axis M first count axis old new h w
-      (λ j p hj hp. a .points-are j p hj hp ∙ ap (λ (n : List ℤ). getD n p (pos 0)) (sym (tabled-net (first + j) (omega arith))))
+  pub written-next : (old new : List ℤ) → axis < 3 → first + count ≤ cornerCount M → Written M first count axis old
+      → AxisWritten table first count axis old new → Written M first count (axis + 1) new
+  written-next old new h l r a =
+      written-axis M first count axis old new h r
+      (λ j p hj hp. a .points-are j p hj hp ∙ ap (λ (n : List ℤ). getD n p (pos 0)) (sym (tabled-net j hj (omega arith))))
       (a .others)
 
 -- ---- what the fills ask and give, by the corner count
@@ -125,7 +140,10 @@ module _ (M : Mesh) (accepted : Accepted M) where
   pub few : cornerCount M ≤ mostCorners
   few = vertices-of M accepted .few
 
-  pub by-corners : {A : Type 0} (z : A) (f : ℕ → A) (table : List A) → Filled z f table (sumOf (M .sides)) → Filled z f table (cornerCount M)
+  pub faces-few : faceCount M ≤ mostFaces
+  faces-few = few-faces (length (M .coordinates)) (faceCount M) (cornerCount M) (sound-of M accepted .four)
+
+  by-corners : {A : Type 0} (z : A) (f : ℕ → A) (table : List A) → Filled z f table (sumOf (M .sides)) → Filled z f table (cornerCount M)
   by-corners z f table h c l = h c (omega (arith, refinable-of M accepted .sums))
 
   pub steps-of : (nexts previouses links sides valences : List ℕ) → MeshTables M nexts previouses links sides valences → Long nexts previouses links sides valences
@@ -134,8 +152,8 @@ module _ (M : Mesh) (accepted : Accepted M) where
       record {
         nexts-are = λ c h. t .nexts-are c (omega (arith, refinable-of M accepted .sums));
         previouses-are = λ c h. t .previouses-are c (omega (arith, refinable-of M accepted .sums));
-        nexts-long = l .nexts-long;
-        previouses-long = l .previouses-long;
+        nexts-hold = omega (arith, l .nexts-long, faces-of M accepted .few);
+        previouses-hold = omega (arith, l .previouses-long, faces-of M accepted .few);
       }
 
   pub tables-of : (nexts previouses links sides valences : List ℕ) → Given M nexts links → FaceTables (M .sides) previouses sides (sumOf (M .sides))

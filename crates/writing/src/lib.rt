@@ -1,15 +1,19 @@
-// The numbers that building writes, axis by axis: on each axis the refined points of all corners are computed once, and then the
-// quad-net of each corner of the range is written.
+// The numbers that building writes, axis by axis: on each axis the refined points of the faces at the range's vertices are computed once, and
+// then the quad-net of each corner of the range is written.
 use mesh::MOST_CORNERS;
+use mesh::MOST_FACES;
+use mesh::MOST_VERTICES;
 use requests::PER_CORNER;
 ghost use mathlib.Core.Path.{_≡_};
 ghost use Prim.Native.Nat.{_+_, _*_, _≤_, _<_};
 ghost use lib.ListN.{length};
 ghost use Rattle.mesh.specs.Limits.{mostCorners};
 ghost use Rattle.mesh.specs.Lists.{meshOf};
+ghost use Rattle.mesh.specs.Corners.{sumOf};
 ghost use Rattle.mesh.specs.Faults.{Accepted};
 ghost use Rattle.surface.specs.Corners.{Sound};
 ghost use Rattle.surface.specs.Refined.{nets, perCorner};
+ghost use Rattle.corner_tables.specs.Tables.{Wanted};
 ghost use Rattle.sides.specs.Tabled.{tabled};
 ghost use Rattle.writing.specs.Written.{Given, MeshTables, Long, AxisWritten};
 
@@ -32,8 +36,11 @@ pub fn write_nets(
     let mut previouses = [0u16; MOST_CORNERS];
     let mut counts = [0u8; MOST_CORNERS];
     let mut valences = [0u8; MOST_CORNERS];
+    let mut marked = [0u8; MOST_VERTICES];
+    let mut wanted = [0u8; MOST_FACES];
     corner_tables::fill_faces(sides, &mut previouses, &mut counts);
     corner_tables::fill_valences(corners, &mut valences);
+    corner_tables::fill_wanted(sides, corners, first, count, &mut marked, &mut wanted);
     write_axes(
         coordinates,
         sides,
@@ -43,13 +50,14 @@ pub fn write_nets(
         links,
         &counts,
         &valences,
+        &wanted,
         first,
         count,
         out,
     );
 }
 
-// The same, over all tables that serve the three axes: each axis has its refined points, which serve all its corners.
+// The same, over all tables that serve the three axes: each axis has its refined points, which serve all corners of the range.
 fn write_axes(
     coordinates: &[i32],
     sides: &[u8],
@@ -59,6 +67,7 @@ fn write_axes(
     links: &[u16],
     counts: &[u8],
     valences: &[u8],
+    wanted: &[u8],
     first: usize,
     count: usize,
     out: &mut [i32],
@@ -66,6 +75,7 @@ fn write_axes(
     requires mesh { ⌜ Accepted (meshOf (now coordinates) (now sides) (now corners)) ⌝ }
     requires tables { ⌜ MeshTables (meshOf (now coordinates) (now sides) (now corners)) (now nexts) (now previouses) (now links) (now counts) (now valences) ⌝ }
     requires long { ⌜ Long (now nexts) (now previouses) (now links) (now counts) (now valences) ⌝ }
+    requires wanted { ⌜ Wanted (now sides) (now corners) first count (now wanted) (sumOf (now sides)) × (length (now sides) ≤ length (now wanted)) ⌝ }
     requires range { ⌜ (0 < count) × (first + count ≤ length (now corners)) × (length (now out) ≡ perCorner * count) ⌝ }
     ensures { λ _. ⌜ now (out .exit) ≡ nets (meshOf (now (coordinates .entry)) (now (sides .entry)) (now (corners .entry))) first count ⌝ }
 {
@@ -79,6 +89,7 @@ fn write_axes(
             corners,
             nexts,
             previouses,
+            wanted,
             axis,
             &mut points,
         );

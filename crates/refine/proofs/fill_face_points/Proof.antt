@@ -1,7 +1,7 @@
--- The refined points of one face meet their contract: those of the corners below `c` are filled, and the values of the calls give the next.
+-- The refined points of one face meet their contract: those of the corners below `c` are put in, and the values of the calls give the next.
 -- Assumes nothing.
 use Rattle.mesh.specs.Limits.{mostCorners}
-use mathlib.Core.Path.{_≡_, _∙_}
+use mathlib.Core.Path.{_≡_, refl, _∙_}
 use Prim.Native.Nat.{ℕ, _+_, _-_, _*_, _≤_, _<_}
 use lib.ListN.{length, getD, length-set}
 use lib.IntN.{ℤ, pos, _*ℤ_}
@@ -14,10 +14,8 @@ use Rattle.mesh.specs.Corners.{sumOf, startOf, next, previous}
 use Rattle.mesh.proofs.Faces.{start-next, next-below, previous-below}
 use Rattle.surface.specs.Refined.{refinedPoint}
 use Rattle.rounding.specs.Round.{round}
-use Rattle.refine.specs.Sources.{Ticks}
-use Rattle.corner_tables.specs.Tables.{Filled}
-use Rattle.corner_tables.proofs.Laws.{filled-set}
-use Rattle.refine.proofs.Laws.{end-in, eightfold, point-sizes, point-is}
+use Rattle.refine.specs.Sources.{Ticks, Added}
+use Rattle.refine.proofs.Laws.{end-in, eightfold, sizes, point-sizes, point-is, added-none, added-set}
 use native.Mathlib.Omega.{arith}
 use borrow.Author.Needs.{needs}
 use Rattle.refine.proofs.fill_face_points.Statement.{statement}
@@ -25,7 +23,8 @@ use Rattle.refine.proofs.fill_face_points.Tie as tie
 
 abbrev Inv-loop : tie.InvT-loop
 Inv-loop coordinates sides corners nexts previouses axis f start points₀ n end total c₀ points c =
-    (start ≤ c) × (c ≤ end) × (end ≤ length corners) × (length corners ≤ mostCorners) × (length points ≡ mostCorners) × Filled (pos 0) (refinedPoint (meshOf coordinates sides corners) axis) points c
+    (start ≤ c) × (c ≤ end) × (end ≤ length corners) × (length corners ≤ mostCorners) × (length points ≡ length points₀)
+    × (length corners ≤ length points) × Added (meshOf coordinates sides corners) axis start c points₀ points
 
 abbrev μ-loop : tie.MeasureT-loop
 μ-loop coordinates sides corners nexts previouses axis f start points₀ n end total c₀ points c = end - c
@@ -116,8 +115,9 @@ loop-holds c =
       omega arith,
       omega (arith, end-in (mesh s) (s .pre .0) (s .args .f) (s .pre .1 .0 .1), s .pre .1 .0 .2),
       omega (arith, s .pre .0 .sums, s .pre .0 .faces .few),
-      s .pre .1 .1 .1 .0,
-      rw (s .pre .1 .0 .2) (s .pre .1 .1 .1 .1),
+      refl,
+      omega (arith, s .pre .0 .sums, s .pre .1 .1 .1 .0),
+      added-none (mesh s) (s .args .axis) (s .args .start) _ (s .pre .1 .1 .1 .1),
     )
 
 mul-p : tie.Need-mul-p Inv-loop μ-loop
@@ -174,13 +174,17 @@ loop-again : tie.Need-loop-again Inv-loop μ-loop
 loop-again c =
     let l = c .before .before .before .before .before .before .before .loop in
     let f : SFits w32 (c .refined .result) = search needs in
-    let t = made (c .before) in (
+    let b = c .before in
+    let t = made b in
+    let e = toZ-ofZ f ∙ c .refined .ensures in (
       omega arith,
       omega arith,
       l .inv .2,
       l .inv .3,
       simp length-set (l .inv .4),
-      filled-set (pos 0) _ (l .points) (l .c) (toZ w32 (ofZ w32 (c .refined .result))) (l .inv .5) (omega arith) (toZ-ofZ f ∙ c .refined .ensures ∙ t .1),
+      simp length-set (l .inv .5),
+      added-set (mesh (s b)) (s b .args .axis) (s b .args .start) (l .c) (now (s b .args .points)) (l .points) (toZ w32 (ofZ w32 (c .refined .result)))
+          (l .inv .6) (l .inv .0) (omega arith) (e ∙ t .1) (rw e (sizes _ _ _ _ _ (t .0) .result)),
     )
 
 same-length : tie.Need-same-length Inv-loop μ-loop
@@ -191,7 +195,7 @@ returns c =
     let s = c .before .before .before .before .before .before .before .before in
     let l = c .before .loop in
     let e : l .c ≡ startOf (now (s .args .sides)) (s .args .f + 1) = omega (arith, start-next (now (s .args .sides)) (s .args .f) (s .pre .1 .0 .1), s .pre .1 .0 .2) in
-    λ d h. l .inv .5 d (omega arith)
+    rw (← e) (l .inv .6)
 
 pub fill-face-points-spec : {M : Type 1} → statement M
 fill-face-points-spec =

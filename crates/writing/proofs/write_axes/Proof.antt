@@ -1,62 +1,57 @@
 -- The axes below `axis` are written; after the third the output is what building writes.
 -- Assumes nothing.
 use mathlib.Core.Path.{_≡_, refl, _∙_, subst}
-use Prim.Native.Nat.{ℕ, _-_, _*_, _≤_}
+use Prim.Native.Nat.{ℕ, _-_, _*_, _≤_, _<_}
 use lib.ListN.{length}
-use lib.IntN.{pos}
 use denote.Ref.{now}
 use Rattle.mesh.specs.Lists.{Mesh, meshOf}
 use Rattle.mesh.specs.Limits.{mostCorners}
-use Rattle.surface.specs.Refined.{perCorner, refinedPoint}
+use Rattle.surface.specs.Refined.{perCorner}
 use Rattle.writing.specs.Written.{Written}
-use Rattle.writing.proofs.Laws.{written-all, written-none, tabled-sound, written-next, steps-of, by-corners, few}
-use Rattle.corner_tables.specs.Tables.{Filled}
+use Rattle.writing.proofs.Laws.{written-all, written-none, tabled-sound, written-next, steps-of, few}
+use Rattle.corner_tables.proofs.Accepted.{faces-of}
+use Rattle.refine.specs.Sources.{Small}
 use Rattle.refine.proofs.Accepted.{refinable-of}
+use Rattle.refine.proofs.Laws.{small-zeros}
 use native.Mathlib.Omega.{arith}
 use borrow.Author.Needs.{needs}
 use Rattle.writing.proofs.write_axes.Statement.{statement}
 use Rattle.writing.proofs.write_axes.Tie as tie
 
 abbrev Inv-loop : tie.InvT-loop
-Inv-loop coordinates sides corners nexts previouses links counts valences first count out₀ points₀ n axis₀ out points axis =
-    (axis ≤ 3) × (length points ≡ mostCorners) × (length out ≡ perCorner * count) × Written (meshOf coordinates sides corners) first count axis out
+Inv-loop coordinates sides corners nexts previouses links counts valences wanted first count out₀ points₀ n axis₀ out points axis =
+    (axis ≤ 3) × (length points ≡ mostCorners) × Small points × (length out ≡ perCorner * count) × Written (meshOf coordinates sides corners) first count axis out
 
 abbrev μ-loop : tie.MeasureT-loop
-μ-loop coordinates sides corners nexts previouses links counts valences first count out₀ points₀ n axis₀ out points axis =
+μ-loop coordinates sides corners nexts previouses links counts valences wanted first count out₀ points₀ n axis₀ out points axis =
     3 - axis
 
 abbrev mesh : tie.Start Inv-loop μ-loop → Mesh
 mesh s = meshOf (now (s .args .coordinates)) (now (s .args .sides)) (now (s .args .corners))
 
--- the refined points of the turn's axis
-filled : (c : tie.After-fill-points Inv-loop μ-loop) → Filled (pos 0) (refinedPoint (mesh (c .before .before .before .before .before .before .before .before .before .before .before)) (c .before .before .before .loop .axis)) (c .fill-points .last .1 .1 .1 .1 .1 .1 .0) (length (now (c .before .before .before .before .before .before .before .before .before .before .before .args .corners)))
-filled c =
-    let s = c .before .before .before .before .before .before .before .before .before .before .before in
-    by-corners (mesh s) (s .pre .0) (pos 0) (refinedPoint (mesh s) (c .before .before .before .loop .axis)) (c .fill-points .last .1 .1 .1 .1 .1 .1 .0) (c .fill-points .ensures)
-
 loop-holds : tie.Need-loop-holds Inv-loop μ-loop
 loop-holds c =
-    let s = c .before .before .before .before .before .before .before in
-    (omega arith, refl, s .pre .1 .1 .1 .2, written-none (mesh s) (s .args .first) (s .args .count) (now (s .args .out)))
+    let s = c .before .before .before .before .before .before .before .before in
+    (omega arith, refl, small-zeros mostCorners, s .pre .1 .1 .1 .1 .2, written-none (mesh s) (s .args .first) (s .args .count) (now (s .args .out)))
 
 slice-aggregate-fill-points : tie.Need-slice-aggregate-fill-points Inv-loop μ-loop
 slice-aggregate-fill-points c = search needs
 
 fill-points-requires : tie.Need-fill-points-requires Inv-loop μ-loop
 fill-points-requires c κs =
-    let s = c .before .before .before .before .before .before .before .before .before .before in
+    let s = c .before .before .before .before .before .before .before .before .before .before .before in
     let l = c .before .before .loop in
-    (refinable-of (mesh s) (s .pre .0), (omega arith, (steps-of (mesh s) (s .pre .0) _ _ _ _ _ (s .pre .1 .0) (s .pre .1 .1 .0), l .inv .1)))
+    (refinable-of (mesh s) (s .pre .0), (omega arith, ((steps-of (mesh s) (s .pre .0) _ _ _ _ _ (s .pre .1 .0) (s .pre .1 .1 .0), s .pre .1 .1 .1 .0 .1), (omega (arith, l .inv .1, faces-of (mesh s) (s .pre .0) .few), l .inv .2))))
 
 slice-aggregate-write-axis : tie.Need-slice-aggregate-write-axis Inv-loop μ-loop
 slice-aggregate-write-axis c = search needs
 
 write-axis-requires : tie.Need-write-axis-requires Inv-loop μ-loop
 write-axis-requires c κs =
-    let s = c .before .before .before .before .before .before .before .before .before .before .before .before .before .before in
+    let s = c .before .before .before .before .before .before .before .before .before .before .before .before .before .before .before in
     let l = c .before .before .before .before .before .before .loop in
-    let f = c .before .before .before in
-    (tabled-sound (mesh s) (s .pre .0) _ _ _ _ _ (f .fill-points .last .1 .1 .1 .1 .1 .1 .0) (l .axis) (s .pre .1 .0) (filled f), ((s .pre .1 .1 .0, f .fill-points .kept .1 .1 .1 .1 .1 .1 .0 ∙ l .inv .1, few (mesh s) (s .pre .0)), (s .pre .1 .1 .1 .0, s .pre .1 .1 .1 .1, omega arith, l .inv .2)))
+    let f = c .before .before .before .fill-points in
+    (tabled-sound (mesh s) (s .pre .0) _ _ _ _ _ _ (f .last .1 .1 .1 .1 .1 .1 .1 .0) (l .axis) _ _ (s .pre .1 .0) (s .pre .1 .1 .1 .0 .0) (f .ensures), ((s .pre .1 .1 .0, f .kept .1 .1 .1 .1 .1 .1 .1 .0 ∙ l .inv .1, few (mesh s) (s .pre .0)), (s .pre .1 .1 .1 .1 .0, s .pre .1 .1 .1 .1 .1, omega arith, l .inv .3)))
 
 add-axis : tie.Need-add-axis Inv-loop μ-loop
 add-axis c = search needs
@@ -66,15 +61,17 @@ loop-less c = search needs
 
 loop-again : tie.Need-loop-again Inv-loop μ-loop
 loop-again c =
-    let s = c .before .before .before .before .before .before .before .before .before .before .before .before .before .before .before .before in
+    let s = c .before .before .before .before .before .before .before .before .before .before .before .before .before .before .before .before .before in
     let l = c .before .before .before .before .before .before .before .before .loop in
-    let f = c .before .before .before .before .before in
-    let w = c .before .write-axis in (
+    let f = c .before .before .before .before .before .fill-points in
+    let w = c .before .write-axis in
+    let h : l .axis < 3 = omega (arith, c .before .before .before .before .before .before .before .loop-test .taken) in (
       omega arith,
-      f .fill-points .kept .1 .1 .1 .1 .1 .1 .0 ∙ l .inv .1,
-      w .kept .1 .1 .1 .1 .1 .1 .1 .1 .1 .1 .0 ∙ l .inv .2,
-      written-next (mesh s) (s .pre .0) (now (s .args .nexts)) (now (s .args .previouses)) (now (s .args .links)) (now (s .args .counts)) (now (s .args .valences)) (f .fill-points .last .1 .1 .1 .1 .1 .1 .0) (l .axis) (s .pre .1 .0) (filled f)
-          (s .args .first) (s .args .count) (l .out) (w .last .1 .1 .1 .1 .1 .1 .1 .1 .1 .1 .0) (omega arith) (s .pre .1 .1 .1 .1) (l .inv .3) (w .ensures),
+      f .kept .1 .1 .1 .1 .1 .1 .1 .0 ∙ l .inv .1,
+      f .ensures .small,
+      w .kept .1 .1 .1 .1 .1 .1 .1 .1 .1 .1 .0 ∙ l .inv .3,
+      written-next (mesh s) (s .pre .0) (now (s .args .nexts)) (now (s .args .previouses)) (now (s .args .links)) (now (s .args .counts)) (now (s .args .valences)) (now (s .args .wanted)) (f .last .1 .1 .1 .1 .1 .1 .1 .0)
+          (l .axis) (s .args .first) (s .args .count) (s .pre .1 .0) (s .pre .1 .1 .1 .0 .0) (f .ensures) (l .out) (w .last .1 .1 .1 .1 .1 .1 .1 .1 .1 .1 .0) h (s .pre .1 .1 .1 .1 .1) (l .inv .4) (w .ensures),
     )
 
 same-length : tie.Need-same-length Inv-loop μ-loop
@@ -82,10 +79,10 @@ same-length c = search needs
 
 returns : tie.Need-returns Inv-loop μ-loop
 returns c =
-    let s = c .before .before .before .before .before .before .before .before .before in
+    let s = c .before .before .before .before .before .before .before .before .before .before in
     let l = c .before .loop in
-    written-all (mesh s) (s .args .first) (s .args .count) (l .out) (l .inv .2)
-    (subst (λ (a : ℕ). Written (mesh s) (s .args .first) (s .args .count) a (l .out)) (let q : l .axis ≡ 3 = omega arith in q) (l .inv .3))
+    written-all (mesh s) (s .args .first) (s .args .count) (l .out) (l .inv .3)
+    (subst (λ (a : ℕ). Written (mesh s) (s .args .first) (s .args .count) a (l .out)) (let q : l .axis ≡ 3 = omega arith in q) (l .inv .4))
 
 pub write-axes-spec : {M : Type 1} → statement M
 write-axes-spec =

@@ -1,0 +1,87 @@
+-- The rings of a corner of an accepted mesh lie in the faces at its vertex, so its net looks at their refined points only.
+-- Assumes nothing.
+use mathlib.Core.Path.{_≡_, refl, sym, ap, _∙_}
+use Prim.Native.Nat.{ℕ, zero, suc, _%_, _<_}
+use Rattle.mesh.specs.Scan.{iterate}
+use Rattle.mesh.specs.Lists.{Mesh, cornerCount}
+use Rattle.mesh.specs.Corners.{faceOf, next, previous}
+use Rattle.mesh.specs.Links.{vertexOf, link}
+use Rattle.mesh.specs.Faults.{Accepted}
+use Rattle.mesh.proofs.Theorems.{manifold}
+use Rattle.surface.specs.Net.{End, vertex, leaving, face, arriving, quad, ring}
+use Rattle.surface.specs.Refined.{cornersOf}
+use Rattle.surface.proofs.Rings.{iterate-in, pick-one}
+
+-- the face of d has a corner, `at`, that is at the vertex of c
+pub record Near (M : Mesh) (c d : ℕ) : Type 0 where
+  pub at : ℕ
+  pub at-in : at < cornerCount M
+  pub at-vertex : vertexOf (M .corners) at ≡ vertexOf (M .corners) c
+  pub in-face : faceOf (M .sides) d ≡ faceOf (M .sides) at
+
+module _ (M : Mesh) (a : Accepted M) where
+  abbrev nextOf : ℕ → ℕ
+  nextOf = next (M .sides)
+
+  abbrev previousOf : ℕ → ℕ
+  previousOf = previous (M .sides)
+
+  abbrev linkOf : ℕ → ℕ
+  linkOf = link (M .sides) (M .corners)
+
+  links-vertex : (c : ℕ) → c < cornerCount M → (j : ℕ) → vertexOf (M .corners) (iterate j linkOf c) ≡ vertexOf (M .corners) c
+  unfolding iterate
+  links-vertex c h zero = refl
+  links-vertex c h (suc j) =
+      manifold M a (iterate j linkOf c) (iterate-in linkOf (cornerCount M) (λ d l. manifold M a d l .link-below) j c h) .link-vertex ∙ links-vertex c h j
+
+  nexts-face : (c : ℕ) → c < cornerCount M → (j : ℕ) → faceOf (M .sides) (iterate j nextOf c) ≡ faceOf (M .sides) c
+  unfolding iterate
+  nexts-face c h zero = refl
+  nexts-face c h (suc j) =
+      manifold M a (iterate j nextOf c) (iterate-in nextOf (cornerCount M) (λ d l. manifold M a d l .next-below) j c h) .face-next ∙ nexts-face c h j
+
+  module _ (axis c : ℕ) (h : c < cornerCount M) where
+    -- in c's own face
+    own : (d : ℕ) → faceOf (M .sides) d ≡ faceOf (M .sides) c → Near M c d
+    own d e = record { at = c; at-in = h; at-vertex = refl; in-face = e }
+
+    quad-leaving : (j : ℕ) → Near M c (quad (cornersOf M axis) c j)
+    unfolding quad
+    quad-leaving j =
+        let m = manifold M a c h in
+        let l = manifold M a (linkOf c) (m .link-below) in
+        pick-one (Near M c) c (nextOf c) (previousOf (linkOf c)) (linkOf c)
+        (own c refl)
+        (own (nextOf c) (m .face-next))
+        (record { at = linkOf c; at-in = m .link-below; at-vertex = m .link-vertex; in-face = l .face-previous })
+        (record { at = linkOf c; at-in = m .link-below; at-vertex = m .link-vertex; in-face = refl })
+        (j % 4)
+
+    -- the corner across the arriving edge has c as its link
+    quad-arriving : (j : ℕ) → Near M c (quad (cornersOf M axis) (previousOf c) j)
+    unfolding quad
+    quad-arriving j =
+        let m = manifold M a c h in
+        let p = manifold M a (previousOf c) (m .previous-below) in
+        let l = manifold M a (linkOf (previousOf c)) (p .link-below) in
+        let x = previousOf (linkOf (previousOf c)) in
+        let v = sym (manifold M a x (l .previous-below) .link-vertex) ∙ ap (vertexOf (M .corners)) (m .relinked) in
+        pick-one (Near M c) (previousOf c) (nextOf (previousOf c)) x (linkOf (previousOf c))
+        (own (previousOf c) (m .face-previous))
+        (own (nextOf (previousOf c)) (ap (faceOf (M .sides)) (m .next-previous)))
+        (record { at = x; at-in = l .previous-below; at-vertex = v; in-face = refl })
+        (record { at = x; at-in = l .previous-below; at-vertex = v; in-face = sym (l .face-previous) })
+        (j % 4)
+
+    pub ring-near : (e : End) (j : ℕ) → Near M c (ring (cornersOf M axis) c e j)
+    ring-near vertex j =
+        record {
+          at = iterate j linkOf c;
+          at-in = iterate-in linkOf (cornerCount M) (λ d l. manifold M a d l .link-below) j c h;
+          at-vertex = links-vertex c h j;
+          in-face = refl;
+        }
+    ring-near leaving j = quad-leaving j
+    ring-near face j = own (iterate j nextOf c) (nexts-face c h j)
+    ring-near arriving j = quad-arriving j
