@@ -11,7 +11,7 @@ pub fn mean(a: i64, b: i64, c: i64, d: i64) -> i64
     requires { ⌜ Corner a × Corner b × Corner c × Corner d ⌝ }
     ensures { λ r. ⌜ (r ≡ round (a +ℤ b +ℤ c +ℤ d) (pos 4)) × Corner r ⌝ }
 {
-    rounding::round_div(a + b + c + d, 4)
+    rounding::round_shift(a + b + c + d, 2)
 }
 
 // The point of a four-sided refined face towards its side from a to b: the weights 5/12, 5/12, 1/12, 1/12.
@@ -43,7 +43,7 @@ pub fn half(a: i64, b: i64) -> i64
     requires { ⌜ Written a × Written b ⌝ }
     ensures { λ r. ⌜ (r ≡ round (a +ℤ b) (pos 2)) × Written r ⌝ }
 {
-    rounding::round_div(a + b, 2)
+    rounding::round_shift(a + b, 1)
 }
 
 // The second point of an outer row from its head, and the fourth from its tail.
@@ -51,7 +51,7 @@ pub fn quarter(e: i64, x: i64) -> i64
     requires { ⌜ Value e × Value x ⌝ }
     ensures { λ r. ⌜ (r ≡ round (e +ℤ pos 3 *ℤ x) (pos 4)) × Written r ⌝ }
 {
-    rounding::round_div(e + 3 * x, 4)
+    rounding::round_shift(e + 3 * x, 2)
 }
 
 // The inner point N of a side; v is the refined point, w the neighbour's.
@@ -67,9 +67,9 @@ pub fn second(c: i64, h: i64, x: i64, y: i64, s: i64, n: i64) -> i64
     requires { ⌜ Row c × Value h × Value x × Value y × Value s × Value n ⌝ }
     ensures { λ r. ⌜ (r ≡ round (c *ℤ h +ℤ pos 3 *ℤ (pos (2 ^ 30) -ℤ c) *ℤ x +ℤ pos 2 *ℤ c *ℤ y +ℤ pos (2 ^ 30) *ℤ s +ℤ pos (2 ^ 32) *ℤ n) (pos (2 ^ 33))) × Written r ⌝ }
 {
-    rounding::round_div(
+    rounding::round_shift(
         c * h + 3 * (1073741824 - c) * x + 2 * c * y + 1073741824 * s + 4294967296 * n,
-        8589934592,
+        33,
     )
 }
 
@@ -78,9 +78,9 @@ pub fn third(c: i64, t: i64, y: i64, s: i64, n: i64) -> i64
     requires { ⌜ Row c × Value t × Value y × Value s × Value n ⌝ }
     ensures { λ r. ⌜ (r ≡ round ((pos (3 * 2 ^ 30) -ℤ c) *ℤ y +ℤ c *ℤ t +ℤ pos (2 ^ 32) *ℤ n +ℤ pos (2 ^ 30) *ℤ s) (pos (2 ^ 33))) × Written r ⌝ }
 {
-    rounding::round_div(
+    rounding::round_shift(
         (3221225472 - c) * y + c * t + 4294967296 * n + 1073741824 * s,
-        8589934592,
+        33,
     )
 }
 
@@ -90,5 +90,5 @@ pub fn middle(n: i64, o: i64, g: i64, l: i64, x: i64, y: i64, h: i64, t: i64) ->
     requires { ⌜ Value n × Value o × Value g × Value l × Value x × Value y × Value h × Value t ⌝ }
     ensures { λ r. ⌜ (r ≡ round (pos 14 *ℤ n +ℤ pos 2 *ℤ (o -ℤ g -ℤ l) +ℤ pos 3 *ℤ (x +ℤ y) -ℤ h -ℤ t) (pos 16)) × Written r ⌝ }
 {
-    rounding::round_div(14 * n + 2 * (o - g - l) + 3 * (x + y) - h - t, 16)
+    rounding::round_shift(14 * n + 2 * (o - g - l) + 3 * (x + y) - h - t, 4)
 }

@@ -1,5 +1,6 @@
 // The rounding r of every stage: a quotient to the nearest whole number, halves towards plus infinity. Every other crate calls
-// `round_div` for its rounding and cites the laws of `round`, so that another rounding is another definition, here alone.
+// `round_div`, or `round_shift` where the divisor is a power of two, and cites the laws of `round`, so that another rounding is another
+// definition, here alone.
 ghost use mathlib.Core.Path.{_≡_};
 ghost use Prim.Native.Nat.{_^_, _≤_};
 ghost use lib.IntN.{ℤ, pos, natAbs};
@@ -28,4 +29,12 @@ pub fn round_div(n: i64, d: i64) -> i64
     let t = 2 * n + d + l * m;
     let q = t as u64 / m as u64;
     q as i64 - l
+}
+
+// r(n / 2^k). A shift of a signed number copies the sign, so it rounds down: the last bit that it would drop is added first.
+pub fn round_shift(n: i64, k: u32) -> i64
+    requires { ⌜ (1 ≤ k) × (k ≤ 36) × (natAbs n ≤ 2 ^ 60) ⌝ }
+    ensures { λ r. ⌜ r ≡ round n (pos (2 ^ k)) ⌝ }
+{
+    ((n >> (k - 1)) + 1) >> 1
 }

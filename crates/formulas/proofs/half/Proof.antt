@@ -35,20 +35,20 @@ size = over 3 _ λ ρ. simp (poly, ρ) (omega arith)
 facts : (s : tie.Start) → Fine (s .args .a) (s .args .b)
 facts s = fits (s .args .a) (s .args .b) (s .pre)
 
-add-round-div : tie.Need-add-round-div
-add-round-div c = search (needs, facts c)
+add-round-shift : tie.Need-add-round-shift
+add-round-shift c = search (needs, facts c)
 
-round-div-requires : tie.Need-round-div-requires
-round-div-requires c κs = search (needs, facts c)
+round-shift-requires : tie.Need-round-shift-requires
+round-shift-requires c κs = search (needs, facts c)
 
 returns : tie.Need-returns
 returns c =
     let s = c .before in
     let k = facts s in
-    let q = c .round-div .result in
+    let q = c .round-shift .result in
     let f : SFits w64 q = search needs in
-    let e : q ≡ round (total (s .args .a) (s .args .b)) (pos 2) = simp (toZ-ofZ, s .fits .a, s .fits .b, k .0) at (c .round-div .ensures) in
+    let e : q ≡ round (total (s .args .a) (s .args .b)) (pos 2) = simp (toZ-ofZ, s .fits .a, s .fits .b, k .0) at (c .round-shift .ensures) in
     rw (toZ-ofZ f) (e, size (s .args .a) (s .args .b) q (s .pre) (near-is (total (s .args .a) (s .args .b)) (pos 2) q tt e))
 
 pub half-spec : {M : Type 1} → statement M
-half-spec = tie.close (tie.spec add-round-div round-div-requires returns)
+half-spec = tie.close (tie.spec add-round-shift round-shift-requires returns)

@@ -35,26 +35,26 @@ size = over 5 _ λ ρ. simp (poly, ρ) (omega arith)
 facts : (s : tie.Start) → Fine (s .args .a) (s .args .b) (s .args .c) (s .args .d)
 facts s = fits (s .args .a) (s .args .b) (s .args .c) (s .args .d) (s .pre)
 
-add-round-div : tie.Need-add-round-div
-add-round-div c = search (needs, facts c)
+add-round-shift : tie.Need-add-round-shift
+add-round-shift c = search (needs, facts c)
 
-add-round-div-2 : tie.Need-add-round-div-2
-add-round-div-2 c = search (needs, facts c)
+add-round-shift-2 : tie.Need-add-round-shift-2
+add-round-shift-2 c = search (needs, facts c)
 
-add-round-div-3 : tie.Need-add-round-div-3
-add-round-div-3 c = search (needs, facts c)
+add-round-shift-3 : tie.Need-add-round-shift-3
+add-round-shift-3 c = search (needs, facts c)
 
-round-div-requires : tie.Need-round-div-requires
-round-div-requires c κs = search (needs, facts c)
+round-shift-requires : tie.Need-round-shift-requires
+round-shift-requires c κs = search (needs, facts c)
 
 returns : tie.Need-returns
 returns c =
     let s = c .before in
     let k = facts s in
-    let q = c .round-div .result in
+    let q = c .round-shift .result in
     let f : SFits w64 q = search needs in
-    let e : q ≡ round (total (s .args .a) (s .args .b) (s .args .c) (s .args .d)) (pos 4) = simp (toZ-ofZ, s .fits .a, s .fits .b, s .fits .c, s .fits .d, k .0, k .1, k .2) at (c .round-div .ensures) in
+    let e : q ≡ round (total (s .args .a) (s .args .b) (s .args .c) (s .args .d)) (pos 4) = simp (toZ-ofZ, s .fits .a, s .fits .b, s .fits .c, s .fits .d, k .0, k .1, k .2) at (c .round-shift .ensures) in
     rw (toZ-ofZ f) (e, size (s .args .a) (s .args .b) (s .args .c) (s .args .d) q (s .pre) (near-is (total (s .args .a) (s .args .b) (s .args .c) (s .args .d)) (pos 4) q tt e))
 
 pub mean-spec : {M : Type 1} → statement M
-mean-spec = tie.close (tie.spec add-round-div add-round-div-2 add-round-div-3 round-div-requires returns)
+mean-spec = tie.close (tie.spec add-round-shift add-round-shift-2 add-round-shift-3 round-shift-requires returns)

@@ -4,6 +4,7 @@ use mathlib.Core.Path.{_≡_}
 use Prim.Native.Nat.{_^_, _≤_}
 use native.Mathlib.Omega.{arith}
 use borrow.Author.Needs.{needs}
+use lib.Dec.{lit≤}
 use lib.IntN.{ℤ, pos, natAbs, _+ℤ_, _-ℤ_, _*ℤ_}
 use mir.Syntax.{w64}
 use mir.Val.{SFits}
@@ -35,47 +36,47 @@ size = over 9 _ λ ρ. simp (poly, ρ) (omega arith)
 facts : (s : tie.Start) → Fine (s .args .n) (s .args .o) (s .args .g) (s .args .l) (s .args .x) (s .args .y) (s .args .h) (s .args .t)
 facts s = fits (s .args .n) (s .args .o) (s .args .g) (s .args .l) (s .args .x) (s .args .y) (s .args .h) (s .args .t) (s .pre)
 
-mul-round-div : tie.Need-mul-round-div
-mul-round-div c = search (needs, facts c)
+mul-round-shift : tie.Need-mul-round-shift
+mul-round-shift c = search (needs, facts c)
 
-sub-round-div : tie.Need-sub-round-div
-sub-round-div c = search (needs, facts c)
+sub-round-shift : tie.Need-sub-round-shift
+sub-round-shift c = search (needs, facts c)
 
-sub-round-div-2 : tie.Need-sub-round-div-2
-sub-round-div-2 c = search (needs, facts c)
+sub-round-shift-2 : tie.Need-sub-round-shift-2
+sub-round-shift-2 c = search (needs, facts c)
 
-mul-round-div-2 : tie.Need-mul-round-div-2
-mul-round-div-2 c = search (needs, facts c)
+mul-round-shift-2 : tie.Need-mul-round-shift-2
+mul-round-shift-2 c = search (needs, facts c)
 
-add-round-div : tie.Need-add-round-div
-add-round-div c = search (needs, facts c)
+add-round-shift : tie.Need-add-round-shift
+add-round-shift c = search (needs, facts c)
 
-add-round-div-2 : tie.Need-add-round-div-2
-add-round-div-2 c = search (needs, facts c)
+add-round-shift-2 : tie.Need-add-round-shift-2
+add-round-shift-2 c = search (needs, facts c)
 
-mul-round-div-3 : tie.Need-mul-round-div-3
-mul-round-div-3 c = search (needs, facts c)
+mul-round-shift-3 : tie.Need-mul-round-shift-3
+mul-round-shift-3 c = search (needs, facts c)
 
-add-round-div-3 : tie.Need-add-round-div-3
-add-round-div-3 c = let k = facts c in simp (toZ-ofZ, c .fits .n, c .fits .o, c .fits .g, c .fits .l, c .fits .x, c .fits .y, c .fits .h, c .fits .t, k .0, k .1, k .2, k .3, k .4, k .5, k .6) (k .7)
+add-round-shift-3 : tie.Need-add-round-shift-3
+add-round-shift-3 c = let k = facts c in simp (toZ-ofZ, c .fits .n, c .fits .o, c .fits .g, c .fits .l, c .fits .x, c .fits .y, c .fits .h, c .fits .t, k .0, k .1, k .2, k .3, k .4, k .5, k .6) (k .7)
 
-sub-round-div-3 : tie.Need-sub-round-div-3
-sub-round-div-3 c = let k = facts c in simp (toZ-ofZ, c .fits .n, c .fits .o, c .fits .g, c .fits .l, c .fits .x, c .fits .y, c .fits .h, c .fits .t, k .0, k .1, k .2, k .3, k .4, k .5, k .6, k .7) (k .8)
+sub-round-shift-3 : tie.Need-sub-round-shift-3
+sub-round-shift-3 c = let k = facts c in simp (toZ-ofZ, c .fits .n, c .fits .o, c .fits .g, c .fits .l, c .fits .x, c .fits .y, c .fits .h, c .fits .t, k .0, k .1, k .2, k .3, k .4, k .5, k .6, k .7) (k .8)
 
-sub-round-div-4 : tie.Need-sub-round-div-4
-sub-round-div-4 c = let k = facts c in simp (toZ-ofZ, c .fits .n, c .fits .o, c .fits .g, c .fits .l, c .fits .x, c .fits .y, c .fits .h, c .fits .t, k .0, k .1, k .2, k .3, k .4, k .5, k .6, k .7, k .8) (k .9)
+sub-round-shift-4 : tie.Need-sub-round-shift-4
+sub-round-shift-4 c = let k = facts c in simp (toZ-ofZ, c .fits .n, c .fits .o, c .fits .g, c .fits .l, c .fits .x, c .fits .y, c .fits .h, c .fits .t, k .0, k .1, k .2, k .3, k .4, k .5, k .6, k .7, k .8) (k .9)
 
-round-div-requires : tie.Need-round-div-requires
-round-div-requires c κs = let k = facts c in simp (toZ-ofZ, c .fits .n, c .fits .o, c .fits .g, c .fits .l, c .fits .x, c .fits .y, c .fits .h, c .fits .t, k .0, k .1, k .2, k .3, k .4, k .5, k .6, k .7, k .8, k .9) (record { lt = tt }, (record { le = tt }, k .10))
+round-shift-requires : tie.Need-round-shift-requires
+round-shift-requires c κs = let k = facts c in simp (toZ-ofZ, c .fits .n, c .fits .o, c .fits .g, c .fits .l, c .fits .x, c .fits .y, c .fits .h, c .fits .t, k .0, k .1, k .2, k .3, k .4, k .5, k .6, k .7, k .8, k .9) (lit≤ tt, lit≤ tt, k .10)
 
 returns : tie.Need-returns
 returns c =
     let s = c .before in
     let k = facts s in
-    let q = c .round-div .result in
+    let q = c .round-shift .result in
     let f : SFits w64 q = search needs in
-    let e : q ≡ round (total (s .args .n) (s .args .o) (s .args .g) (s .args .l) (s .args .x) (s .args .y) (s .args .h) (s .args .t)) (pos 16) = simp (toZ-ofZ, s .fits .n, s .fits .o, s .fits .g, s .fits .l, s .fits .x, s .fits .y, s .fits .h, s .fits .t, k .0, k .1, k .2, k .3, k .4, k .5, k .6, k .7, k .8, k .9) at (c .round-div .ensures) in
+    let e : q ≡ round (total (s .args .n) (s .args .o) (s .args .g) (s .args .l) (s .args .x) (s .args .y) (s .args .h) (s .args .t)) (pos 16) = simp (toZ-ofZ, s .fits .n, s .fits .o, s .fits .g, s .fits .l, s .fits .x, s .fits .y, s .fits .h, s .fits .t, k .0, k .1, k .2, k .3, k .4, k .5, k .6, k .7, k .8, k .9) at (c .round-shift .ensures) in
     rw (toZ-ofZ f) (e, size (s .args .n) (s .args .o) (s .args .g) (s .args .l) (s .args .x) (s .args .y) (s .args .h) (s .args .t) q (s .pre) (near-is (total (s .args .n) (s .args .o) (s .args .g) (s .args .l) (s .args .x) (s .args .y) (s .args .h) (s .args .t)) (pos 16) q tt e))
 
 pub middle-spec : {M : Type 1} → statement M
-middle-spec = tie.close (tie.spec mul-round-div sub-round-div sub-round-div-2 mul-round-div-2 add-round-div add-round-div-2 mul-round-div-3 add-round-div-3 sub-round-div-3 sub-round-div-4 round-div-requires returns)
+middle-spec = tie.close (tie.spec mul-round-shift sub-round-shift sub-round-shift-2 mul-round-shift-2 add-round-shift add-round-shift-2 mul-round-shift-3 add-round-shift-3 sub-round-shift-3 sub-round-shift-4 round-shift-requires returns)

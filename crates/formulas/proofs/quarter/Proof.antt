@@ -4,6 +4,7 @@ use mathlib.Core.Path.{_≡_}
 use Prim.Native.Nat.{_^_, _≤_}
 use native.Mathlib.Omega.{arith}
 use borrow.Author.Needs.{needs}
+use lib.Dec.{lit≤}
 use lib.IntN.{ℤ, pos, natAbs, _+ℤ_, _*ℤ_}
 use mir.Syntax.{w64}
 use mir.Val.{SFits}
@@ -35,23 +36,23 @@ size = over 3 _ λ ρ. simp (poly, ρ) (omega arith)
 facts : (s : tie.Start) → Fine (s .args .e) (s .args .x)
 facts s = fits (s .args .e) (s .args .x) (s .pre)
 
-mul-round-div : tie.Need-mul-round-div
-mul-round-div c = search (needs, facts c)
+mul-round-shift : tie.Need-mul-round-shift
+mul-round-shift c = search (needs, facts c)
 
-add-round-div : tie.Need-add-round-div
-add-round-div c = search (needs, facts c)
+add-round-shift : tie.Need-add-round-shift
+add-round-shift c = search (needs, facts c)
 
-round-div-requires : tie.Need-round-div-requires
-round-div-requires c κs = let k = facts c in simp (toZ-ofZ, c .fits .e, c .fits .x, k .0, k .1) (record { lt = tt }, (record { le = tt }, k .2))
+round-shift-requires : tie.Need-round-shift-requires
+round-shift-requires c κs = let k = facts c in simp (toZ-ofZ, c .fits .e, c .fits .x, k .0, k .1) (lit≤ tt, lit≤ tt, k .2)
 
 returns : tie.Need-returns
 returns c =
     let s = c .before in
     let k = facts s in
-    let q = c .round-div .result in
+    let q = c .round-shift .result in
     let f : SFits w64 q = search needs in
-    let e : q ≡ round (total (s .args .e) (s .args .x)) (pos 4) = simp (toZ-ofZ, s .fits .e, s .fits .x, k .0, k .1) at (c .round-div .ensures) in
+    let e : q ≡ round (total (s .args .e) (s .args .x)) (pos 4) = simp (toZ-ofZ, s .fits .e, s .fits .x, k .0, k .1) at (c .round-shift .ensures) in
     rw (toZ-ofZ f) (e, size (s .args .e) (s .args .x) q (s .pre) (near-is (total (s .args .e) (s .args .x)) (pos 4) q tt e))
 
 pub quarter-spec : {M : Type 1} → statement M
-quarter-spec = tie.close (tie.spec mul-round-div add-round-div round-div-requires returns)
+quarter-spec = tie.close (tie.spec mul-round-shift add-round-shift round-shift-requires returns)

@@ -4,6 +4,7 @@ use mathlib.Core.Path.{_≡_}
 use Prim.Native.Nat.{_*_, _^_, _≤_}
 use native.Mathlib.Omega.{arith}
 use borrow.Author.Needs.{needs}
+use lib.Dec.{lit≤}
 use lib.IntN.{ℤ, pos, natAbs, _+ℤ_, _-ℤ_, _*ℤ_}
 use mir.Syntax.{w64}
 use mir.Val.{SFits}
@@ -51,53 +52,53 @@ size = over 7 _ λ ρ. simp (poly, ρ) (omega arith)
 facts : (s : tie.Start) → Fine (s .args .c) (s .args .h) (s .args .x) (s .args .y) (s .args .s) (s .args .n)
 facts s = fits (s .args .c) (s .args .h) (s .args .x) (s .args .y) (s .args .s) (s .args .n) (s .pre) (products (s .args .c) (s .args .h) (s .args .x) (s .args .y) (s .args .s) (s .args .n) (s .pre))
 
-mul-round-div : tie.Need-mul-round-div
-mul-round-div c = search (needs, facts c)
+mul-round-shift : tie.Need-mul-round-shift
+mul-round-shift c = search (needs, facts c)
 
-sub-round-div : tie.Need-sub-round-div
-sub-round-div c = search (needs, facts c)
+sub-round-shift : tie.Need-sub-round-shift
+sub-round-shift c = search (needs, facts c)
 
-mul-round-div-2 : tie.Need-mul-round-div-2
-mul-round-div-2 c = search (needs, facts c)
+mul-round-shift-2 : tie.Need-mul-round-shift-2
+mul-round-shift-2 c = search (needs, facts c)
 
-mul-round-div-3 : tie.Need-mul-round-div-3
-mul-round-div-3 c = search (needs, facts c)
+mul-round-shift-3 : tie.Need-mul-round-shift-3
+mul-round-shift-3 c = search (needs, facts c)
 
-add-round-div : tie.Need-add-round-div
-add-round-div c = search (needs, facts c)
+add-round-shift : tie.Need-add-round-shift
+add-round-shift c = search (needs, facts c)
 
-mul-round-div-4 : tie.Need-mul-round-div-4
-mul-round-div-4 c = search (needs, facts c)
+mul-round-shift-4 : tie.Need-mul-round-shift-4
+mul-round-shift-4 c = search (needs, facts c)
 
-mul-round-div-5 : tie.Need-mul-round-div-5
-mul-round-div-5 c = search (needs, facts c)
+mul-round-shift-5 : tie.Need-mul-round-shift-5
+mul-round-shift-5 c = search (needs, facts c)
 
-add-round-div-2 : tie.Need-add-round-div-2
-add-round-div-2 c = let k = facts c in simp (toZ-ofZ, c .fits .c, c .fits .h, c .fits .x, c .fits .y, c .fits .s, c .fits .n, k .0, k .1, k .2, k .3, k .4, k .5, k .6) (k .7)
+add-round-shift-2 : tie.Need-add-round-shift-2
+add-round-shift-2 c = let k = facts c in simp (toZ-ofZ, c .fits .c, c .fits .h, c .fits .x, c .fits .y, c .fits .s, c .fits .n, k .0, k .1, k .2, k .3, k .4, k .5, k .6) (k .7)
 
-mul-round-div-6 : tie.Need-mul-round-div-6
-mul-round-div-6 c = search (needs, facts c)
+mul-round-shift-6 : tie.Need-mul-round-shift-6
+mul-round-shift-6 c = search (needs, facts c)
 
-add-round-div-3 : tie.Need-add-round-div-3
-add-round-div-3 c = let k = facts c in simp (toZ-ofZ, c .fits .c, c .fits .h, c .fits .x, c .fits .y, c .fits .s, c .fits .n, k .0, k .1, k .2, k .3, k .4, k .5, k .6, k .7, k .8) (k .9)
+add-round-shift-3 : tie.Need-add-round-shift-3
+add-round-shift-3 c = let k = facts c in simp (toZ-ofZ, c .fits .c, c .fits .h, c .fits .x, c .fits .y, c .fits .s, c .fits .n, k .0, k .1, k .2, k .3, k .4, k .5, k .6, k .7, k .8) (k .9)
 
-mul-round-div-7 : tie.Need-mul-round-div-7
-mul-round-div-7 c = search (needs, facts c)
+mul-round-shift-7 : tie.Need-mul-round-shift-7
+mul-round-shift-7 c = search (needs, facts c)
 
-add-round-div-4 : tie.Need-add-round-div-4
-add-round-div-4 c = let k = facts c in simp (toZ-ofZ, c .fits .c, c .fits .h, c .fits .x, c .fits .y, c .fits .s, c .fits .n, k .0, k .1, k .2, k .3, k .4, k .5, k .6, k .7, k .8, k .9, k .10) (k .11)
+add-round-shift-4 : tie.Need-add-round-shift-4
+add-round-shift-4 c = let k = facts c in simp (toZ-ofZ, c .fits .c, c .fits .h, c .fits .x, c .fits .y, c .fits .s, c .fits .n, k .0, k .1, k .2, k .3, k .4, k .5, k .6, k .7, k .8, k .9, k .10) (k .11)
 
-round-div-requires : tie.Need-round-div-requires
-round-div-requires c κs = let k = facts c in simp (toZ-ofZ, c .fits .c, c .fits .h, c .fits .x, c .fits .y, c .fits .s, c .fits .n, k .0, k .1, k .2, k .3, k .4, k .5, k .6, k .7, k .8, k .9, k .10, k .11) (record { lt = tt }, (record { le = tt }, k .12))
+round-shift-requires : tie.Need-round-shift-requires
+round-shift-requires c κs = let k = facts c in simp (toZ-ofZ, c .fits .c, c .fits .h, c .fits .x, c .fits .y, c .fits .s, c .fits .n, k .0, k .1, k .2, k .3, k .4, k .5, k .6, k .7, k .8, k .9, k .10, k .11) (lit≤ tt, lit≤ tt, k .12)
 
 returns : tie.Need-returns
 returns c =
     let s = c .before in
     let k = facts s in
-    let q = c .round-div .result in
+    let q = c .round-shift .result in
     let f : SFits w64 q = search needs in
-    let e : q ≡ round (total (s .args .c) (s .args .h) (s .args .x) (s .args .y) (s .args .s) (s .args .n)) (pos (2 ^ 33)) = simp (toZ-ofZ, s .fits .c, s .fits .h, s .fits .x, s .fits .y, s .fits .s, s .fits .n, k .0, k .1, k .2, k .3, k .4, k .5, k .6, k .7, k .8, k .9, k .10, k .11) at (c .round-div .ensures) in
+    let e : q ≡ round (total (s .args .c) (s .args .h) (s .args .x) (s .args .y) (s .args .s) (s .args .n)) (pos (2 ^ 33)) = simp (toZ-ofZ, s .fits .c, s .fits .h, s .fits .x, s .fits .y, s .fits .s, s .fits .n, k .0, k .1, k .2, k .3, k .4, k .5, k .6, k .7, k .8, k .9, k .10, k .11) at (c .round-shift .ensures) in
     rw (toZ-ofZ f) (e, size (s .args .c) (s .args .h) (s .args .x) (s .args .y) (s .args .s) (s .args .n) q (s .pre) (products (s .args .c) (s .args .h) (s .args .x) (s .args .y) (s .args .s) (s .args .n) (s .pre)) (near-is (total (s .args .c) (s .args .h) (s .args .x) (s .args .y) (s .args .s) (s .args .n)) (pos (2 ^ 33)) q tt e))
 
 pub second-spec : {M : Type 1} → statement M
-second-spec = tie.close (tie.spec mul-round-div sub-round-div mul-round-div-2 mul-round-div-3 add-round-div mul-round-div-4 mul-round-div-5 add-round-div-2 mul-round-div-6 add-round-div-3 mul-round-div-7 add-round-div-4 round-div-requires returns)
+second-spec = tie.close (tie.spec mul-round-shift sub-round-shift mul-round-shift-2 mul-round-shift-3 add-round-shift mul-round-shift-4 mul-round-shift-5 add-round-shift-2 mul-round-shift-6 add-round-shift-3 mul-round-shift-7 add-round-shift-4 round-shift-requires returns)

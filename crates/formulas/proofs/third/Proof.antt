@@ -48,41 +48,41 @@ size = over 6 _ λ ρ. simp (poly, ρ) (omega arith)
 facts : (s : tie.Start) → Fine (s .args .c) (s .args .t) (s .args .y) (s .args .s) (s .args .n)
 facts s = fits (s .args .c) (s .args .t) (s .args .y) (s .args .s) (s .args .n) (s .pre) (products (s .args .c) (s .args .t) (s .args .y) (s .args .s) (s .args .n) (s .pre))
 
-sub-round-div : tie.Need-sub-round-div
-sub-round-div c = search (needs, facts c)
+sub-round-shift : tie.Need-sub-round-shift
+sub-round-shift c = search (needs, facts c)
 
-mul-round-div : tie.Need-mul-round-div
-mul-round-div c = search (needs, facts c)
+mul-round-shift : tie.Need-mul-round-shift
+mul-round-shift c = search (needs, facts c)
 
-mul-round-div-2 : tie.Need-mul-round-div-2
-mul-round-div-2 c = search (needs, facts c)
+mul-round-shift-2 : tie.Need-mul-round-shift-2
+mul-round-shift-2 c = search (needs, facts c)
 
-add-round-div : tie.Need-add-round-div
-add-round-div c = search (needs, facts c)
+add-round-shift : tie.Need-add-round-shift
+add-round-shift c = search (needs, facts c)
 
-mul-round-div-3 : tie.Need-mul-round-div-3
-mul-round-div-3 c = search (needs, facts c)
+mul-round-shift-3 : tie.Need-mul-round-shift-3
+mul-round-shift-3 c = search (needs, facts c)
 
-add-round-div-2 : tie.Need-add-round-div-2
-add-round-div-2 c = search (needs, facts c)
+add-round-shift-2 : tie.Need-add-round-shift-2
+add-round-shift-2 c = search (needs, facts c)
 
-mul-round-div-4 : tie.Need-mul-round-div-4
-mul-round-div-4 c = search (needs, facts c)
+mul-round-shift-4 : tie.Need-mul-round-shift-4
+mul-round-shift-4 c = search (needs, facts c)
 
-add-round-div-3 : tie.Need-add-round-div-3
-add-round-div-3 c = search (needs, facts c)
+add-round-shift-3 : tie.Need-add-round-shift-3
+add-round-shift-3 c = search (needs, facts c)
 
-round-div-requires : tie.Need-round-div-requires
-round-div-requires c κs = search (needs, facts c)
+round-shift-requires : tie.Need-round-shift-requires
+round-shift-requires c κs = search (needs, facts c)
 
 returns : tie.Need-returns
 returns c =
     let s = c .before in
     let k = facts s in
-    let q = c .round-div .result in
+    let q = c .round-shift .result in
     let f : SFits w64 q = search needs in
-    let e : q ≡ round (total (s .args .c) (s .args .t) (s .args .y) (s .args .s) (s .args .n)) (pos (2 ^ 33)) = simp (toZ-ofZ, s .fits .c, s .fits .t, s .fits .y, s .fits .s, s .fits .n, k .0, k .1, k .2, k .3, k .4, k .5, k .6, k .7) at (c .round-div .ensures) in
+    let e : q ≡ round (total (s .args .c) (s .args .t) (s .args .y) (s .args .s) (s .args .n)) (pos (2 ^ 33)) = simp (toZ-ofZ, s .fits .c, s .fits .t, s .fits .y, s .fits .s, s .fits .n, k .0, k .1, k .2, k .3, k .4, k .5, k .6, k .7) at (c .round-shift .ensures) in
     rw (toZ-ofZ f) (e, size (s .args .c) (s .args .t) (s .args .y) (s .args .s) (s .args .n) q (s .pre) (products (s .args .c) (s .args .t) (s .args .y) (s .args .s) (s .args .n) (s .pre)) (near-is (total (s .args .c) (s .args .t) (s .args .y) (s .args .s) (s .args .n)) (pos (2 ^ 33)) q tt e))
 
 pub third-spec : {M : Type 1} → statement M
-third-spec = tie.close (tie.spec sub-round-div mul-round-div mul-round-div-2 add-round-div mul-round-div-3 add-round-div-2 mul-round-div-4 add-round-div-3 round-div-requires returns)
+third-spec = tie.close (tie.spec sub-round-shift mul-round-shift mul-round-shift-2 add-round-shift mul-round-shift-3 add-round-shift-2 mul-round-shift-4 add-round-shift-3 round-shift-requires returns)
