@@ -2,7 +2,7 @@
 // inner points, points of the outer rows and of the a rows, and the middles. One function serves four sides and three axes.
 ghost use mathlib.Core.Path.{_≡_};
 ghost use Prim.Native.Nat.{_*_, _+_, _-_, _^_};
-ghost use lib.IntN.{ℤ, pos, _+ℤ_, _-ℤ_, _*ℤ_};
+ghost use lib.IntN.{pos, _+ℤ_, _-ℤ_, _*ℤ_};
 ghost use Rattle.rounding.specs.Round.{round};
 ghost use Rattle.formulas.specs.Sizes.{Corner, FacePoint, Value, Written, Row};
 

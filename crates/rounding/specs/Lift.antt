@@ -1,6 +1,6 @@
 -- What `round_div` asks of the multiple of its divisor that it adds to its dividend. No caller meets it.
 -- Assumes nothing.
-use Prim.Native.Nat.{ℕ, _+_, _^_}
+use Prim.Native.Nat.{_+_, _^_}
 use lib.IntN.{ℤ, pos, _*ℤ_}
 use lib.Signed.{_≤ℤ_}
 

@@ -3,7 +3,7 @@
 // definition, here alone.
 ghost use mathlib.Core.Path.{_≡_};
 ghost use Prim.Native.Nat.{_^_, _≤_};
-ghost use lib.IntN.{ℤ, pos, natAbs};
+ghost use lib.IntN.{pos, natAbs};
 ghost use lib.Signed.{_≤ℤ_, _<ℤ_};
 ghost use Rattle.rounding.specs.Round.{round};
 ghost use Rattle.rounding.specs.Lift.{Lifts};

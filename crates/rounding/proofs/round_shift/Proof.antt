@@ -1,7 +1,7 @@
 -- `rounding::round_shift` meets its contract. A shift is the floor by its power of two; the floor of n / 2^(k-1), and one, halved and rounded down
 -- is the floor of n / 2^k + 1/2.
 -- Assumes nothing.
-use mathlib.Core.Path.{_≡_, refl, sym, ap, _∙_}
+use mathlib.Core.Path.{_≡_, refl, ap, _∙_}
 use Prim.Native.Nat.{ℕ, zero, suc, _-_, _*_, _^_, _≤_, _<_}
 use native.Mathlib.Nat.{le-trans, div-le-self, pow-suc}
 use native.Mathlib.Omega.{arith}
@@ -11,7 +11,7 @@ use lib.IntN.{ℤ, pos, negsuc, natAbs, _+ℤ_, _*ℤ_}
 use lib.Pow.{pow-pos}
 use lib.Signed.{_≤ℤ_, _<ℤ_, ltZ-yes, shrZ}
 use mir.Syntax.{w64}
-use mir.Val.{SFits, toZ, ofZ}
+use mir.Val.{SFits}
 use mir.Facts.{toZ-ofZ}
 use Rattle.integers.specs.Floor.{floor}
 use Rattle.integers.proofs.Diff.{diff}
