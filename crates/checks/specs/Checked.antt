@@ -20,6 +20,10 @@ pub record Checked (M : Mesh) (r : Answer) (nexts links : List ℕ) : Type 0 whe
   pub nexts-are : Accepted M → NextsTo (M .sides) nexts (cornerCount M)
   pub links-are : Accepted M → LinkTable (M .sides) (M .corners) links
 
+-- a table that has room for each corner, where there are not too many of them
+abbrev pub Within : List ℕ → List ℕ → Type 0
+Within corners table = length corners ≤ mostCorners → length corners ≤ length table
+
 -- what the checks 4 to 9 leave for the later ones
 pub record Listed (M : Mesh) : Type 0 where
   pub few : vertexCount M ≤ mostVertices
@@ -32,6 +36,16 @@ pub record Listed (M : Mesh) : Type 0 where
 abbrev pub Joinable : Mesh → List ℕ → List ℕ → Type 0
 Joinable M nexts links =
     Listed M × NextsTo (M .sides) nexts (cornerCount M) × (cornerCount M ≤ length nexts) × (cornerCount M ≤ length links)
+
+-- a mesh for the small tables
+abbrev pub fewCorners : ℕ
+fewCorners = 256
+
+abbrev pub fewVertices : ℕ
+fewVertices = 128
+
+abbrev pub Few : Mesh → Type 0
+Few M = (cornerCount M ≤ fewCorners) × (vertexCount M ≤ fewVertices)
 
 -- scratch tables that have room for a mesh; those by vertex start at zero
 pub record Room (M : Mesh) (earliers tos froms heads leaving arriving : List ℕ) : Type 0 where

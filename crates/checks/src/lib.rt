@@ -9,7 +9,12 @@ ghost use Rattle.mesh.specs.Lists.{meshOf};
 ghost use Rattle.mesh.specs.Faults.{listFaults};
 ghost use Rattle.mesh.specs.Answers.{stated};
 ghost use Rattle.edges.specs.Entries.{Entries};
-ghost use Rattle.checks.specs.Checked.{Checked, Listed, Joinable, Room, CountRoom, Joined};
+ghost use Rattle.checks.specs.Checked.{Checked, Within, Listed, Joinable, Few, Room, CountRoom, Joined};
+
+// A mesh of at most so many corners and vertices is checked over small scratch tables, which are sooner cleared.
+pub const FEW_CORNERS: usize = 256;
+
+const FEW_VERTICES: usize = 128;
 
 // Checks 4 to 13. The two tables are scratch: of an accepted mesh they then hold the next corner and the link of every corner.
 pub fn check(
@@ -19,6 +24,20 @@ pub fn check(
     nexts: &mut [u16; MOST_CORNERS],
     links: &mut [u16; MOST_CORNERS],
 ) -> Answer
+    ensures { λ r. ⌜ Checked (meshOf (now (coordinates .entry)) (now (sides .entry)) (now (corners .entry))) r (now (nexts .exit)) (now (links .exit)) ⌝ }
+{
+    check_within(coordinates, sides, corners, nexts, links)
+}
+
+// The same over tables that need no more entries than the mesh has corners, where it has not too many.
+pub fn check_within(
+    coordinates: &[i32],
+    sides: &[u8],
+    corners: &[u16],
+    nexts: &mut [u16],
+    links: &mut [u16],
+) -> Answer
+    requires { ⌜ Within (now corners) (now nexts) × Within (now corners) (now links) ⌝ }
     ensures { λ r. ⌜ Checked (meshOf (now (coordinates .entry)) (now (sides .entry)) (now (corners .entry))) r (now (nexts .exit)) (now (links .exit)) ⌝ }
 {
     let a = check_lists(coordinates, sides, corners);
@@ -58,6 +77,65 @@ pub fn check_lists(coordinates: &[i32], sides: &[u8], corners: &[u16]) -> Answer
 
 // Checks 10 to 13, over the table of next corners; the links go to `links`.
 fn check_links(
+    coordinates: &[i32],
+    sides: &[u8],
+    corners: &[u16],
+    nexts: &[u16],
+    links: &mut [u16],
+) -> Answer
+    requires { ⌜ Joinable (meshOf (now coordinates) (now sides) (now corners)) (now nexts) (now links) ⌝ }
+    ensures { λ r. ⌜ Joined (meshOf (now (coordinates .entry)) (now (sides .entry)) (now (corners .entry))) r (now (links .exit)) ⌝ }
+{
+    if corners.len() <= FEW_CORNERS && coordinates.len() / 3 <= FEW_VERTICES {
+        return check_few(coordinates, sides, corners, nexts, links);
+    }
+    check_many(coordinates, sides, corners, nexts, links)
+}
+
+// The same of a mesh that small tables have room for.
+fn check_few(
+    coordinates: &[i32],
+    sides: &[u8],
+    corners: &[u16],
+    nexts: &[u16],
+    links: &mut [u16],
+) -> Answer
+    requires { ⌜ Joinable (meshOf (now coordinates) (now sides) (now corners)) (now nexts) (now links) × Few (meshOf (now coordinates) (now sides) (now corners)) ⌝ }
+    ensures { λ r. ⌜ Joined (meshOf (now (coordinates .entry)) (now (sides .entry)) (now (corners .entry))) r (now (links .exit)) ⌝ }
+{
+    let mut earliers = [0u16; FEW_CORNERS];
+    let mut tos = [0u16; FEW_CORNERS];
+    let mut froms = [0u16; FEW_CORNERS];
+    let mut heads = [0u16; FEW_VERTICES];
+    let mut leaving = [0u16; FEW_VERTICES];
+    let mut arriving = [0u16; FEW_VERTICES];
+    find_links(
+        coordinates,
+        sides,
+        corners,
+        nexts,
+        links,
+        &mut earliers,
+        &mut tos,
+        &mut froms,
+        &mut heads,
+        &mut leaving,
+        &mut arriving,
+    );
+    let mut counts = [0u16; FEW_VERTICES];
+    let mut lowests = [0u16; FEW_VERTICES];
+    join(
+        coordinates,
+        sides,
+        corners,
+        links,
+        &mut counts,
+        &mut lowests,
+    )
+}
+
+// The same of any mesh.
+fn check_many(
     coordinates: &[i32],
     sides: &[u8],
     corners: &[u16],

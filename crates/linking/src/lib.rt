@@ -1,33 +1,69 @@
 // Linking: fills a lent link table, or answers why the mesh is turned down and leaves the table as it was.
+use checks::FEW_CORNERS;
 use mesh::Answer;
 use mesh::MOST_CORNERS;
 ghost use mathlib.Core.Path.{_≡_};
 ghost use Prim.Native.Nat.{ℕ, _≤_, _<_};
 ghost use lib.ListN.{length, getD};
-ghost use Rattle.mesh.specs.Limits.{mostCorners};
 ghost use Rattle.mesh.specs.Lists.{meshOf};
+ghost use Rattle.checks.specs.Checked.{Within, fewCorners};
 ghost use Rattle.linking.specs.Linked.{Linked};
 
 // Checks 4 to 14, then the link of every corner. Nothing is written to the lent table before the last check has passed.
 pub fn link(coordinates: &[i32], sides: &[u8], corners: &[u16], links: &mut [u16]) -> Answer
     ensures { λ r. ⌜ Linked (meshOf (now (coordinates .entry)) (now (sides .entry)) (now (corners .entry))) (now (links .entry)) r (now (links .exit)) ⌝ }
 {
+    if corners.len() <= FEW_CORNERS {
+        return link_few(coordinates, sides, corners, links);
+    }
+    link_many(coordinates, sides, corners, links)
+}
+
+// The same of a mesh that small tables have room for.
+fn link_few(coordinates: &[i32], sides: &[u8], corners: &[u16], links: &mut [u16]) -> Answer
+    requires { ⌜ length (now corners) ≤ fewCorners ⌝ }
+    ensures { λ r. ⌜ Linked (meshOf (now (coordinates .entry)) (now (sides .entry)) (now (corners .entry))) (now (links .entry)) r (now (links .exit)) ⌝ }
+{
+    let mut nexts = [0u16; FEW_CORNERS];
+    let mut table = [0u16; FEW_CORNERS];
+    link_over(coordinates, sides, corners, &mut nexts, &mut table, links)
+}
+
+// The same of any mesh.
+fn link_many(coordinates: &[i32], sides: &[u8], corners: &[u16], links: &mut [u16]) -> Answer
+    ensures { λ r. ⌜ Linked (meshOf (now (coordinates .entry)) (now (sides .entry)) (now (corners .entry))) (now (links .entry)) r (now (links .exit)) ⌝ }
+{
     let mut nexts = [0u16; MOST_CORNERS];
     let mut table = [0u16; MOST_CORNERS];
-    let a = checks::check(coordinates, sides, corners, &mut nexts, &mut table);
+    link_over(coordinates, sides, corners, &mut nexts, &mut table, links)
+}
+
+// The same over tables of its own: the checks fill them, and the links are copied once they have passed.
+fn link_over(
+    coordinates: &[i32],
+    sides: &[u8],
+    corners: &[u16],
+    nexts: &mut [u16],
+    table: &mut [u16],
+    links: &mut [u16],
+) -> Answer
+    requires { ⌜ Within (now corners) (now nexts) × Within (now corners) (now table) ⌝ }
+    ensures { λ r. ⌜ Linked (meshOf (now (coordinates .entry)) (now (sides .entry)) (now (corners .entry))) (now (links .entry)) r (now (links .exit)) ⌝ }
+{
+    let a = checks::check_within(coordinates, sides, corners, nexts, table);
     if let Answer::Refused(k, p) = a {
         return Answer::Refused(k, p);
     }
     if links.len() != corners.len() {
         return Answer::Refused(14, links.len());
     }
-    copy(&table, links);
+    copy(table, links);
     Answer::Done
 }
 
 // Copies the beginning of a table, as much as the lent one holds.
-fn copy(table: &[u16; MOST_CORNERS], links: &mut [u16])
-    requires { ⌜ length (now links) ≤ mostCorners ⌝ }
+fn copy(table: &[u16], links: &mut [u16])
+    requires { ⌜ length (now links) ≤ length (now table) ⌝ }
     ensures { λ _. ⌜ ((c : ℕ) → c < length (now (links .entry)) → getD (now (links .exit)) c 0 ≡ getD (now (table .entry)) c 0) ⌝ }
 {
     let mut c = 0;

@@ -22,8 +22,8 @@ loop-holds c = (omega arith, refl, copied-none _ _)
 mul-links : tie.Need-mul-links Inv-loop μ-loop
 mul-links c = search needs
 
-element-copy-out-links : tie.Need-element-copy-out-links Inv-loop μ-loop
-element-copy-out-links c = search needs
+shared-slice-read-links : tie.Need-shared-slice-read-links Inv-loop μ-loop
+shared-slice-read-links c = search needs
 
 mul-links-2 : tie.Need-mul-links-2 Inv-loop μ-loop
 mul-links-2 c = search needs
@@ -38,7 +38,8 @@ loop-less : tie.Need-loop-less Inv-loop μ-loop
 loop-less c = search needs
 
 loop-again : tie.Need-loop-again Inv-loop μ-loop
-loop-again c = let s = c .before .before .before in let l = c .before .before .loop in
+loop-again c =
+    let s = c .before .before .before in let l = c .before .before .loop in
     let table = now (s .args .table) in (
       search needs,
       length-set (l .links) (l .c) (getD table (l .c) 0) ∙ l .inv .1,
@@ -49,7 +50,8 @@ same-length : tie.Need-same-length Inv-loop μ-loop
 same-length c = search needs
 
 returns : tie.Need-returns Inv-loop μ-loop
-returns c = let s = c .before .before in let l = c .before .loop in
+returns c =
+    let s = c .before .before in let l = c .before .loop in
     copied-all (now (s .args .table)) (l .links) (l .c) (length (now (s .args .links))) (omega arith) (l .inv .2)
 
 pub copy-spec : {M : Type 1} → statement M
@@ -60,7 +62,7 @@ copy-spec =
     μ-loop
     loop-holds
     mul-links
-    element-copy-out-links
+    shared-slice-read-links
     mul-links-2
     slice-write-links
     add-c

@@ -1,13 +1,13 @@
--- `check_links` meets its contract: its scratch tables have room for every mesh that is checked.
+-- `check_few` meets its contract: its scratch tables have room for the mesh.
 -- Assumes nothing.
 use denote.Ref.{now}
-use Rattle.mesh.specs.Limits.{mostCorners, mostVertices}
 use Rattle.mesh.specs.Lists.{meshOf}
+use Rattle.checks.specs.Checked.{fewCorners, fewVertices}
 use Rattle.checks.proofs.Laws.{room, count-room}
 use native.Mathlib.Omega.{arith}
 use borrow.Author.Needs.{needs}
-use Rattle.checks.proofs.check_links.Statement.{statement}
-use Rattle.checks.proofs.check_links.Tie as tie
+use Rattle.checks.proofs.check_few.Statement.{statement}
+use Rattle.checks.proofs.check_few.Tie as tie
 
 slice-aggregate-find-links : tie.Need-slice-aggregate-find-links
 slice-aggregate-find-links c = search needs
@@ -31,7 +31,7 @@ find-links-requires : tie.Need-find-links-requires
 find-links-requires c κs =
     let s = c .before .before .before .before .before .before .before .before .before .before .before in
     let M = meshOf (now (s .args .coordinates)) (now (s .args .sides)) (now (s .args .corners)) in
-    (s .pre, room M mostCorners mostVertices (s .pre .0 .small) (s .pre .0 .few))
+    (s .pre .0, room M fewCorners fewVertices (s .pre .1 .0) (s .pre .1 .1))
 
 slice-aggregate-join : tie.Need-slice-aggregate-join
 slice-aggregate-join c = search needs
@@ -43,7 +43,7 @@ join-requires : tie.Need-join-requires
 join-requires c κs =
     let s = c .before .before .before .before .before .before .before .before .before .before .before .before .before .before .before .before .before .before .before .before .before .before .before in let f = c .before .before .before .before .before .before .before .before .before .before .before .find-links in
     let M = meshOf (now (s .args .coordinates)) (now (s .args .sides)) (now (s .args .corners)) in
-    (s .pre .0, f .ensures, omega (arith, s .pre .3, f .kept .1 .1 .1 .1 .0), count-room M mostCorners mostVertices (s .pre .0 .small) (s .pre .0 .few))
+    (s .pre .0 .0, f .ensures, omega (arith, s .pre .0 .3, f .kept .1 .1 .1 .1 .0), count-room M fewCorners fewVertices (s .pre .1 .0) (s .pre .1 .1))
 
 same-length : tie.Need-same-length
 same-length c = search needs
@@ -51,8 +51,8 @@ same-length c = search needs
 returns : tie.Need-returns
 returns c = search needs
 
-pub check-links-spec : {M : Type 1} → statement M
-check-links-spec =
+pub check-few-spec : {M : Type 1} → statement M
+check-few-spec =
     tie.close
     (tie.spec
     slice-aggregate-find-links
