@@ -91,7 +91,8 @@ pub tables-none : (sides previouses counts : List ℕ) → FaceTables sides prev
 tables-none sides previouses counts =
     record { previouses-are = λ c h. absurd (omega (arith, start-zero sides)); counts-are = λ c h. absurd (omega (arith, start-zero sides)) }
 
-pub count-small : (corners : List ℕ) (n : ℕ) → Vertices corners n → (c : ℕ) → c < length corners → countBelow c (names corners (vertexOf corners c)) + 1 ≤ mostSides
+pub count-small : (corners : List ℕ) (n : ℕ) → Vertices corners n → (c : ℕ) → c < length corners
+    → countBelow c (names corners (vertexOf corners c)) + 1 ≤ mostSides
 unfolding valence names
 count-small corners n v c h =
     let u = vertexOf corners c in
@@ -122,7 +123,8 @@ module _ (sides corners marked wanted : List ℕ) (first count f r : ℕ) (l : f
   wanted-set h k d hk hd e =
       ⊎-elim
       (λ c. let low = ltb-true d (startOf sides f) c in
-      rw (getD-set-other wanted f (faceOf sides d) r 0 (λ q. omega (arith, held sides d (omega (arith, start-ends sides f l)) .from, ap (startOf sides) q))) (h k d hk low e))
+      rw (getD-set-other wanted f (faceOf sides d) r 0
+      (λ q. omega (arith, held sides d (omega (arith, start-ends sides f l)) .from, ap (startOf sides) q))) (h k d hk low e))
       (λ c. let high = ltb-false d (startOf sides f) c in
       let s : d < startOf sides f + getD sides f 0 = omega (arith, start-next sides f l) in
       rw (face-at sides f d high s l, getD-set-same wanted f r 0 b) (any d high s (rw e (m k hk))))

@@ -140,7 +140,8 @@ module _ (M : Mesh) (vertices faces corners : ℕ) (f : AtMost M vertices faces 
   long : (n m : ℕ) → n ≤ m → n ≤ length {A = ℕ} (replicate m 0)
   long n m h = omega (arith, length-replicate {A = ℕ} m 0)
 
-  pub new : New M (replicate corners 0) (replicate corners 0) (replicate corners 0) (replicate vertices 0) (replicate vertices 0) (replicate faces 0) (replicate corners (pos 0))
+  pub new : New M (replicate corners 0) (replicate corners 0) (replicate corners 0) (replicate vertices 0) (replicate vertices 0) (replicate faces 0)
+      (replicate corners (pos 0))
   new =
       record {
         previouses-hold = long _ _ (f .corners-fit);
@@ -171,8 +172,8 @@ module _ (M : Mesh) (accepted : Accepted M) where
   by-corners : {A : Type 0} (z : A) (f : ℕ → A) (table : List A) → Filled z f table (sumOf (M .sides)) → Filled z f table (cornerCount M)
   by-corners z f table h c l = h c (omega (arith, refinable-of M accepted .sums))
 
-  pub steps-of : (nexts previouses links sides valences : List ℕ) → MeshTables M nexts previouses links sides valences → Long (cornerCount M) nexts previouses links sides valences
-      → Steps (M .sides) nexts previouses
+  pub steps-of : (nexts previouses links sides valences : List ℕ) → MeshTables M nexts previouses links sides valences
+      → Long (cornerCount M) nexts previouses links sides valences → Steps (M .sides) nexts previouses
   steps-of nexts previouses links sides valences t l =
       record {
         nexts-are = λ c h. t .nexts-are c (omega (arith, refinable-of M accepted .sums));

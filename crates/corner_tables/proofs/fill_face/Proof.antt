@@ -86,8 +86,9 @@ loop-again c =
       simp length-set (l .inv .6),
       simp length-set (l .inv .7),
       simp length-set (l .inv .8),
-      tables-set (now (s .args .sides)) (l .previouses) (l .counts) (l .c) (l .last) (getD (now (s .args .sides)) (s .args .f) 0) (l .inv .9) (omega arith) (omega arith)
-          (l .inv .4 (c .loop-test .taken)) (sym (sides-is (now (s .args .sides)) (s .args .f) h (l .c) (omega arith) (omega arith))),
+      tables-set (now (s .args .sides)) (l .previouses) (l .counts) (l .c) (l .last) (getD (now (s .args .sides)) (s .args .f) 0) (l .inv .9)
+          (omega arith) (omega arith) (l .inv .4 (c .loop-test .taken))
+          (sym (sides-is (now (s .args .sides)) (s .args .f) h (l .c) (omega arith) (omega arith))),
     )
 
 same-length : tie.Need-same-length Inv-loop μ-loop

@@ -37,10 +37,13 @@ cast-u c = omega (arith, c .shared-slice-known2 .given (c .before .before .loop 
 slice-read-valences : tie.Need-slice-read-valences Inv-loop μ-loop
 slice-read-valences c =
     let s = c .before .before .before .before .before .before .before .before .before .before .before in
-    omega (arith, s .pre .0 .named (c .before .before .before .loop .c) (search needs), c .before .before .before .before .before .before .count-corners .kept .1 .0)
+    let n = c .before .before .before .before .before .before .count-corners in
+    omega (arith, s .pre .0 .named (c .before .before .before .loop .c) (search needs), n .kept .1 .0)
 
 slice-write-valences : tie.Need-slice-write-valences Inv-loop μ-loop
-slice-write-valences c = let s = c .before .before .before .before .before .before .before .before .before .before .before in omega (arith, c .before .before .before .loop .inv .1, s .pre .1 .1)
+slice-write-valences c =
+    let s = c .before .before .before .before .before .before .before .before .before .before .before in
+    omega (arith, c .before .before .before .loop .inv .1, s .pre .1 .1)
 
 add-c : tie.Need-add-c Inv-loop μ-loop
 add-c c = search needs
@@ -52,11 +55,12 @@ loop-again : tie.Need-loop-again Inv-loop μ-loop
 loop-again c =
     let s = c .before .before .before .before .before .before .before .before .before .before .before in
     let l = c .before .before .before .loop in
+    let n = c .before .before .before .before .before .before .count-corners in
     let h : l .c < length (now (s .args .corners)) = search needs in (
       omega arith,
       simp length-set (l .inv .1),
-      filled-set 0 (λ d. valence (now (s .args .corners)) (vertexOf (now (s .args .corners)) d)) (l .valences) (l .c) _ (l .inv .2) (omega (arith, l .inv .1, s .pre .1 .1))
-          (c .before .before .before .before .before .before .count-corners .ensures (vertexOf (now (s .args .corners)) (l .c)) (s .pre .0 .named (l .c) h)),
+      filled-set 0 (λ d. valence (now (s .args .corners)) (vertexOf (now (s .args .corners)) d)) (l .valences) (l .c) _ (l .inv .2)
+          (omega (arith, l .inv .1, s .pre .1 .1)) (n .ensures (vertexOf (now (s .args .corners)) (l .c)) (s .pre .0 .named (l .c) h)),
     )
 
 same-length : tie.Need-same-length Inv-loop μ-loop

@@ -17,7 +17,8 @@ use Rattle.writing.proofs.write_axes.Tie as tie
 
 abbrev Inv-loop : tie.InvT-loop
 Inv-loop coordinates sides corners nexts previouses links counts valences wanted first count points₀ out₀ n axis₀ points out axis =
-    (axis ≤ 3) × (length points ≡ length points₀) × Small points × (length out ≡ perCorner * count) × Written (meshOf coordinates sides corners) first count axis out
+    (axis ≤ 3) × (length points ≡ length points₀) × Small points × (length out ≡ perCorner * count)
+    × Written (meshOf coordinates sides corners) first count axis out
 
 abbrev μ-loop : tie.MeasureT-loop
 μ-loop coordinates sides corners nexts previouses links counts valences wanted first count points₀ out₀ n axis₀ points out axis =
@@ -44,8 +45,10 @@ write-axis-requires c κs =
     let s = c .before .before .before .before .before .before .before .before .before .before .before .before .before .before .before in
     let l = c .before .before .before .before .before .before .loop in
     let f = c .before .before .before .fill-points in
-    let sound = tabled-sound (mesh s) (s .pre .0) _ _ _ _ _ _ (f .last .1 .1 .1 .1 .1 .1 .1 .0) (l .axis) _ _ (s .pre .1 .0) (s .pre .1 .1 .1 .0 .0) (f .ensures) in
-    let points : length (now (s .args .corners)) ≤ length (f .last .1 .1 .1 .1 .1 .1 .1 .0) = omega (arith, f .kept .1 .1 .1 .1 .1 .1 .1 .0, l .inv .1, s .pre .1 .1 .1 .1 .0 .0) in
+    let new = f .last .1 .1 .1 .1 .1 .1 .1 .0 in
+    let sound = tabled-sound (mesh s) (s .pre .0) _ _ _ _ _ _ new (l .axis) _ _ (s .pre .1 .0) (s .pre .1 .1 .1 .0 .0) (f .ensures) in
+    let points : length (now (s .args .corners)) ≤ length new =
+    omega (arith, f .kept .1 .1 .1 .1 .1 .1 .1 .0, l .inv .1, s .pre .1 .1 .1 .1 .0 .0) in
     let range = s .pre .1 .1 .1 .1 .1 in
     (sound, ((s .pre .1 .1 .0, points), (range .0, range .1, omega arith, l .inv .3)))
 
@@ -66,9 +69,9 @@ loop-again c =
       f .kept .1 .1 .1 .1 .1 .1 .1 .0 ∙ l .inv .1,
       f .ensures .small,
       w .kept .1 .1 .1 .1 .1 .1 .1 .1 .1 .1 .0 ∙ l .inv .3,
-      written-next (mesh s) (s .pre .0) (now (s .args .nexts)) (now (s .args .previouses)) (now (s .args .links)) (now (s .args .counts)) (now (s .args .valences))
-          (now (s .args .wanted)) (f .last .1 .1 .1 .1 .1 .1 .1 .0) (l .axis) (s .args .first) (s .args .count) (s .pre .1 .0) (s .pre .1 .1 .1 .0 .0) (f .ensures)
-          (l .out) (w .last .1 .1 .1 .1 .1 .1 .1 .1 .1 .1 .0) h (s .pre .1 .1 .1 .1 .1 .1) (l .inv .4) (w .ensures),
+      written-next (mesh s) (s .pre .0) (now (s .args .nexts)) (now (s .args .previouses)) (now (s .args .links)) (now (s .args .counts))
+          (now (s .args .valences)) (now (s .args .wanted)) (f .last .1 .1 .1 .1 .1 .1 .1 .0) (l .axis) (s .args .first) (s .args .count) (s .pre .1 .0) (s .pre .1 .1 .1 .0 .0)
+          (f .ensures) (l .out) (w .last .1 .1 .1 .1 .1 .1 .1 .1 .1 .1 .0) h (s .pre .1 .1 .1 .1 .1 .1) (l .inv .4) (w .ensures),
     )
 
 same-length : tie.Need-same-length Inv-loop μ-loop

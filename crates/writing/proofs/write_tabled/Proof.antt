@@ -22,25 +22,31 @@ fill-faces-requires c κs =
 
 fill-valences-requires : tie.Need-fill-valences-requires
 fill-valences-requires c κs =
-    let s = c .before .before .before .before .before .before .before .before .before .before .before .before .before .before .before .before .before .before .before in
+    let past-faces = c .before .before .before .before .before .before in
+    let s = past-faces .before .before .before .before .before .before .before .before .before .before .before .before .before in
     let n = s .pre .1 .1 .1 in
     (vertices-of (mesh s) (s .pre .0) _ (n .totals-hold), (n .totals-zero, n .valences-hold))
 
 fill-wanted-requires : tie.Need-fill-wanted-requires
 fill-wanted-requires c κs =
-    let s = c .before .before .before .before .before .before .before .before .before .before .before .before .before .before .before .before .before .before .before .before .before .before .before .before .before .before in
+    let past-valences = c .before .before .before .before .before .before in
+    let past-faces = past-valences .before .before .before .before .before .before .before in
+    let s = past-faces .before .before .before .before .before .before .before .before .before .before .before .before .before in
     let n = s .pre .1 .1 .1 in
     let sums = refinable-of (mesh s) (s .pre .0) .sums in
     ((faces-of (mesh s) (s .pre .0), omega (arith, sums), n .wanted-hold), (vertices-of (mesh s) (s .pre .0) _ (n .marked-hold) .named, s .pre .1 .1 .0 .1))
 
 write-axes-requires : tie.Need-write-axes-requires
 write-axes-requires c κs =
-    let s = c .before .before .before .before .before .before .before .before .before .before .before .before .before .before .before .before .before .before .before .before .before .before .before .before .before .before .before .before .before .before .before .before .before .before .before .before .before in
+    let past-wanted = c .before .before .before .before .before .before .before .before .before .before in
+    let past-valences = past-wanted .before .before .before .before .before .before .before in
+    let past-faces = past-valences .before .before .before .before .before .before .before in
+    let s = past-faces .before .before .before .before .before .before .before .before .before .before .before .before .before in
     let n = s .pre .1 .1 .1 in
     let g = s .pre .1 .0 in
-    let f = c .before .before .before .before .before .before .before .before .before .before .before .before .before .before .before .before .before .before .before .before .before .before .before .before .fill-faces in
-    let v = c .before .before .before .before .before .before .before .before .before .before .before .before .before .before .before .before .before .fill-valences in
-    let w = c .before .before .before .before .before .before .before .before .before .before .fill-wanted in (
+    let f = past-faces .fill-faces in
+    let v = past-valences .fill-valences in
+    let w = past-wanted .fill-wanted in (
       s .pre .0,
       (
         tables-of (mesh s) (s .pre .0) _ _ _ _ _ g (f .ensures) (v .ensures),
