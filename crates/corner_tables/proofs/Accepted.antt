@@ -1,12 +1,12 @@
 -- An accepted mesh gives what the tables are filled from: sides and names are within their limits.
 -- Assumes nothing.
-use Prim.Native.Nat.{ℕ, _<_}
+use Prim.Native.Nat.{ℕ, _<_, _≤_}
 use native.Mathlib.Omega.{arith}
 use lib.ListN.{length}
 use Rattle.mesh.specs.Lists.{Mesh, vertexCount, faceCount, cornerCount}
 use Rattle.mesh.specs.Links.{vertexOf}
 use Rattle.mesh.specs.Faults.{Accepted}
-use Rattle.mesh.proofs.Accepted.{sound-of, few-vertices, few-corners, sides-within, sums-of, named-of, valence-within}
+use Rattle.mesh.proofs.Accepted.{sound-of, few-corners, sides-within, sums-of, named-of, valence-within}
 use Rattle.corner_tables.specs.Tables.{Faces, Vertices}
 
 module _ (M : Mesh) (a : Accepted M) where
@@ -22,11 +22,9 @@ module _ (M : Mesh) (a : Accepted M) where
   pub vertex-in : (c : ℕ) → c < cornerCount M → vertexOf (M .corners) c < vertexCount M
   vertex-in c h = named-of (vertexCount M) (M .corners) c (sound-of M a .eight c h)
 
-  pub vertices-of : Vertices (M .corners)
-  vertices-of =
-      let s = sound-of M a in
+  pub vertices-of : (n : ℕ) → vertexCount M ≤ n → Vertices (M .corners) n
+  vertices-of n l =
       record {
-        few = few-corners (length (M .coordinates)) (faceCount M) (cornerCount M) (s .four);
-        named = λ c h. omega (arith, vertex-in c h, few-vertices (length (M .coordinates)) (faceCount M) (cornerCount M) (s .four));
-        most = λ c h. valence-within (M .corners) (vertexOf (M .corners) c) (s .twelve (vertexOf (M .corners) c) (vertex-in c h)) .1;
+        named = λ c h. omega (arith, vertex-in c h);
+        most = λ c h. valence-within (M .corners) (vertexOf (M .corners) c) (sound-of M a .twelve (vertexOf (M .corners) c) (vertex-in c h)) .1;
       }

@@ -12,7 +12,7 @@ use lib.ListN.{length, getD, set, replicate, getD-replicate}
 use lib.Seq.{getD-set-same, getD-set-other}
 use borrow.Author.Count.{below-more}
 use borrow.Author.Tests.{eqb-true, eqb-false, eq-eqb, ltb-true, ltb-false}
-use Rattle.mesh.specs.Limits.{mostSides, mostVertices}
+use Rattle.mesh.specs.Limits.{mostSides}
 use Rattle.mesh.specs.Scan.{countBelow}
 use Rattle.mesh.specs.Corners.{faceOf, startOf, firstOf, sidesOf, previous}
 use Rattle.mesh.specs.Links.{vertexOf, names, valence}
@@ -60,15 +60,14 @@ tables-set sides previouses counts c p n t lp lc ep en =
     }
 
 -- ---- the corners of each vertex, counted below c
-pub counted-none : (corners : List ℕ) → Filled 0 (λ u. countBelow 0 (names corners u)) (replicate mostVertices 0) mostVertices
+pub counted-none : (corners counts : List ℕ) → counts ≡ replicate (length counts) 0 → Filled 0 (λ u. countBelow 0 (names corners u)) counts (length counts)
 unfolding countBelow
-counted-none corners u h = getD-replicate mostVertices u 0 0 h
+counted-none corners counts z u h = ap (λ (table : List ℕ). getD table u 0) z ∙ getD-replicate (length counts) u 0 0 h
 
-pub counted-set : (corners counts : List ℕ) (c : ℕ) → Filled 0 (λ u. countBelow c (names corners u)) counts mostVertices → length counts ≡ mostVertices
-    → vertexOf corners c < mostVertices
-    → Filled 0 (λ u. countBelow (c + 1) (names corners u)) (set counts (vertexOf corners c) (getD counts (vertexOf corners c) 0 + 1)) mostVertices
+pub counted-set : (corners counts : List ℕ) (n c : ℕ) → Filled 0 (λ u. countBelow c (names corners u)) counts n → length counts ≡ n
+    → Filled 0 (λ u. countBelow (c + 1) (names corners u)) (set counts (vertexOf corners c) (getD counts (vertexOf corners c) 0 + 1)) n
 unfolding names
-counted-set corners counts c h e n u l =
+counted-set corners counts n c h e u l =
     let v = vertexOf corners c in
     ⊎-elim
     (λ b. let q : v ≡ u = eqb-true v u b in
@@ -92,9 +91,10 @@ pub tables-none : (sides previouses counts : List ℕ) → FaceTables sides prev
 tables-none sides previouses counts =
     record { previouses-are = λ c h. absurd (omega (arith, start-zero sides)); counts-are = λ c h. absurd (omega (arith, start-zero sides)) }
 
-pub count-small : (corners : List ℕ) → Vertices corners → (c : ℕ) → c < length corners → countBelow c (names corners (vertexOf corners c)) + 1 ≤ mostSides
+pub count-small : (corners : List ℕ) (n : ℕ) → Vertices corners n → (c : ℕ) → c < length corners
+    → countBelow c (names corners (vertexOf corners c)) + 1 ≤ mostSides
 unfolding valence names
-count-small corners v c h =
+count-small corners n v c h =
     let u = vertexOf corners c in
     omega (arith, count-grows (names corners u) c (length corners) h (eq-eqb u u refl), v .most c h)
 
@@ -123,7 +123,8 @@ module _ (sides corners marked wanted : List ℕ) (first count f r : ℕ) (l : f
   wanted-set h k d hk hd e =
       ⊎-elim
       (λ c. let low = ltb-true d (startOf sides f) c in
-      rw (getD-set-other wanted f (faceOf sides d) r 0 (λ q. omega (arith, held sides d (omega (arith, start-ends sides f l)) .from, ap (startOf sides) q))) (h k d hk low e))
+      rw (getD-set-other wanted f (faceOf sides d) r 0
+      (λ q. omega (arith, held sides d (omega (arith, start-ends sides f l)) .from, ap (startOf sides) q))) (h k d hk low e))
       (λ c. let high = ltb-false d (startOf sides f) c in
       let s : d < startOf sides f + getD sides f 0 = omega (arith, start-next sides f l) in
       rw (face-at sides f d high s l, getD-set-same wanted f r 0 b) (any d high s (rw e (m k hk))))

@@ -4,7 +4,7 @@ use mathlib.Core.Path.{_≡_}
 use mathlib.Core.List.{List}
 use Prim.Native.Nat.{ℕ, _+_, _<_, _≤_}
 use lib.ListN.{length, getD}
-use Rattle.mesh.specs.Limits.{leastSides, mostSides, mostVertices, mostCorners}
+use Rattle.mesh.specs.Limits.{leastSides, mostSides, mostCorners}
 use Rattle.mesh.specs.Corners.{sumOf, faceOf, sidesOf, previous}
 use Rattle.mesh.specs.Links.{vertexOf, valence}
 
@@ -23,15 +23,14 @@ pub record Faces (sides : List ℕ) : Type 0 where
   pub least : (f : ℕ) → f < length sides → leastSides ≤ getD sides f 0
   pub most : (f : ℕ) → f < length sides → getD sides f 0 ≤ mostSides
 
--- corners whose vertices have numbers and corner counts within their limits
-pub record Vertices (corners : List ℕ) : Type 0 where
-  pub few : length corners ≤ mostCorners
-  pub named : (c : ℕ) → c < length corners → vertexOf corners c < mostVertices
-  pub most : (c : ℕ) → c < length corners → valence corners (vertexOf corners c) ≤ mostSides
-
 -- the vertex of every corner has a place in a table of n entries
 abbrev pub Named : List ℕ → ℕ → Type 0
 Named corners n = (c : ℕ) → c < length corners → vertexOf corners c < n
+
+-- corners whose vertices have places in a table of n entries, and corner counts within their limit
+pub record Vertices (corners : List ℕ) (n : ℕ) : Type 0 where
+  pub named : Named corners n
+  pub most : (c : ℕ) → c < length corners → valence corners (vertexOf corners c) ≤ mostSides
 
 -- the vertices of the `count` corners from `first` on have entries that are not zero
 abbrev pub Marked : List ℕ → ℕ → ℕ → List ℕ → Type 0

@@ -1,10 +1,8 @@
 // Tables of an accepted mesh that serve every axis, each filled in one pass: the previous corner and the sides of the face of every corner,
 // the corners of its vertex, and the faces that a range of corners asks for.
-use mesh::MOST_VERTICES;
 ghost use mathlib.Core.Path.{_≡_};
 ghost use Prim.Native.Nat.{ℕ, _+_, _<_, _≤_};
 ghost use lib.ListN.{length, getD, replicate};
-ghost use Rattle.mesh.specs.Limits.{mostVertices, mostCorners};
 ghost use Rattle.mesh.specs.Corners.{sumOf, startOf};
 ghost use Rattle.mesh.specs.Links.{vertexOf, valence};
 ghost use Rattle.corner_tables.specs.Tables.{Filled, FaceTables, Faces, Vertices, Named, Marked, Wanted};
@@ -12,7 +10,7 @@ ghost use Rattle.corner_tables.specs.Tables.{Filled, FaceTables, Faces, 
 // The previous corner of every corner, and the sides of its face.
 pub fn fill_faces(sides: &[u8], previouses: &mut [u16], counts: &mut [u8])
     requires faces { ⌜ Faces (now sides) ⌝ }
-    requires long { ⌜ (length (now previouses) ≡ mostCorners) × (length (now counts) ≡ mostCorners) ⌝ }
+    requires long { ⌜ (sumOf (now sides) ≤ length (now previouses)) × (sumOf (now sides) ≤ length (now counts)) ⌝ }
     ensures { λ _. ⌜ FaceTables (now (sides .entry)) (now (previouses .exit)) (now (counts .exit)) (sumOf (now (sides .entry))) ⌝ }
 {
     let mut start = 0;
@@ -28,7 +26,7 @@ pub fn fill_faces(sides: &[u8], previouses: &mut [u16], counts: &mut [u8])
 fn fill_face(sides: &[u8], f: usize, start: usize, previouses: &mut [u16], counts: &mut [u8])
     requires faces { ⌜ Faces (now sides) ⌝ }
     requires face { ⌜ (f < length (now sides)) × (start ≡ startOf (now sides) f) ⌝ }
-    requires long { ⌜ (length (now previouses) ≡ mostCorners) × (length (now counts) ≡ mostCorners) ⌝ }
+    requires long { ⌜ (sumOf (now sides) ≤ length (now previouses)) × (sumOf (now sides) ≤ length (now counts)) ⌝ }
     requires before { ⌜ FaceTables (now sides) (now previouses) (now counts) (startOf (now sides) f) ⌝ }
     ensures { λ _. ⌜ FaceTables (now (sides .entry)) (now (previouses .exit)) (now (counts .exit)) (startOf (now (sides .entry)) (f + 1)) ⌝ }
 {
@@ -44,14 +42,14 @@ fn fill_face(sides: &[u8], f: usize, start: usize, previouses: &mut [u16], count
     }
 }
 
-// The corners of its vertex, of every corner.
-pub fn fill_valences(corners: &[u16], valences: &mut [u8])
-    requires corners { ⌜ Vertices (now corners) ⌝ }
-    requires long { ⌜ length (now valences) ≡ mostCorners ⌝ }
+// The corners of its vertex, of every corner. `counts` is a table over the vertices, of zeros.
+pub fn fill_valences(corners: &[u16], counts: &mut [u8], valences: &mut [u8])
+    requires corners { ⌜ Vertices (now corners) (length (now counts)) ⌝ }
+    requires zeros { ⌜ now counts ≡ replicate (length (now counts)) 0 ⌝ }
+    requires long { ⌜ length (now corners) ≤ length (now valences) ⌝ }
     ensures { λ _. ⌜ ((c : ℕ) → c < length (now (corners .entry)) → getD (now (valences .exit)) c 0 ≡ valence (now (corners .entry)) (vertexOf (now (corners .entry)) c)) ⌝ }
 {
-    let mut counts = [0u8; MOST_VERTICES];
-    count_corners(corners, &mut counts);
+    count_corners(corners, counts);
     let mut c = 0;
     while c < corners.len() {
         let u = corners[c] as usize;
@@ -62,9 +60,9 @@ pub fn fill_valences(corners: &[u16], valences: &mut [u8])
 
 // How many corners name each vertex.
 fn count_corners(corners: &[u16], counts: &mut [u8])
-    requires corners { ⌜ Vertices (now corners) ⌝ }
-    requires zeros { ⌜ now counts ≡ replicate mostVertices 0 ⌝ }
-    ensures { λ _. ⌜ Filled 0 (valence (now (corners .entry))) (now (counts .exit)) mostVertices ⌝ }
+    requires corners { ⌜ Vertices (now corners) (length (now counts)) ⌝ }
+    requires zeros { ⌜ now counts ≡ replicate (length (now counts)) 0 ⌝ }
+    ensures { λ _. ⌜ Filled 0 (valence (now (corners .entry))) (now (counts .exit)) (length (now (counts .entry))) ⌝ }
 {
     let mut c = 0;
     while c < corners.len() {

@@ -5,16 +5,16 @@ use mathlib.Core.Logic.{⊎-elim}
 use mathlib.Core.List.{List}
 use Prim.Native.Nat.{ℕ, _+_, _*_, _/_, _%_, _<_, _≤_}
 use native.Mathlib.Omega.{arith}
-use lib.ListN.{length, getD}
+use lib.ListN.{length, getD, replicate, length-replicate}
 use lib.Seq.{ext-getD}
 use lib.IntN.{ℤ, pos}
 use Rattle.mesh.specs.Lists.{Mesh, faceCount, cornerCount}
-use Rattle.mesh.specs.Limits.{mostFaces, mostCorners}
+use Rattle.mesh.specs.Limits.{mostVertices, mostFaces, mostCorners}
 use Rattle.mesh.specs.Corners.{sumOf, sidesOf, previous}
 use Rattle.mesh.specs.Links.{vertexOf, valence}
 use Rattle.mesh.specs.Tables.{NextsTo, LinkTable}
 use Rattle.mesh.specs.Faults.{Accepted}
-use Rattle.mesh.proofs.Accepted.{sound-of, few-faces}
+use Rattle.mesh.proofs.Accepted.{sound-of, few-vertices, few-faces, few-corners}
 use Rattle.mesh.proofs.Links.{values-length, values-at}
 use Rattle.mesh.proofs.Scans.{compared}
 use Rattle.surface.specs.Corners.{Corners, Sound, Agree}
@@ -25,12 +25,12 @@ use Rattle.surface.proofs.Rings.{ring-in}
 use Rattle.surface.proofs.Near.{ring-near}
 use Rattle.surface.proofs.Agree.{net-same, sound-same}
 use Rattle.corner_tables.specs.Tables.{Filled, FaceTables, Wanted}
-use Rattle.corner_tables.proofs.Accepted.{faces-of, vertices-of}
 use Rattle.refine.specs.Sources.{Steps, Pointed}
+use Rattle.refine.proofs.Laws.{small-zeros}
 use Rattle.refine.proofs.Accepted.{refinable-of}
 use Rattle.sides.specs.Tabled.{tabled}
 use Rattle.nets.specs.Put.{Put}
-use Rattle.writing.specs.Written.{Given, MeshTables, Long, pointsOf, AxisWritten, Written}
+use Rattle.writing.specs.Written.{Given, AtMost, New, MeshTables, Long, pointsOf, AxisWritten, Written}
 
 -- ---- place i of the output holds point `i % perCorner / 3` of corner `i / perCorner` on axis `i % 3`
 place : (i : ℕ) → perCorner * (i / perCorner) + 3 * (i % perCorner / 3) + i % 3 ≡ i
@@ -135,25 +135,51 @@ module _ (M : Mesh) (accepted : Accepted M) (nexts previouses links sides valenc
       (λ j p hj hp. a .points-are j p hj hp ∙ ap (λ (n : List ℤ). getD n p (pos 0)) (sym (tabled-net j hj (omega arith))))
       (a .others)
 
+-- ---- tables of zeros are new
+module _ (M : Mesh) (vertices faces corners : ℕ) (f : AtMost M vertices faces corners) where
+  long : (n m : ℕ) → n ≤ m → n ≤ length {A = ℕ} (replicate m 0)
+  long n m h = omega (arith, length-replicate {A = ℕ} m 0)
+
+  pub new : New M (replicate corners 0) (replicate corners 0) (replicate corners 0) (replicate vertices 0) (replicate vertices 0) (replicate faces 0)
+      (replicate corners (pos 0))
+  new =
+      record {
+        previouses-hold = long _ _ (f .corners-fit);
+        sides-hold = long _ _ (f .corners-fit);
+        valences-hold = long _ _ (f .corners-fit);
+        totals-hold = long _ _ (f .vertices-fit);
+        marked-hold = long _ _ (f .vertices-fit);
+        wanted-hold = long _ _ (f .faces-fit);
+        points-hold = omega (arith, f .corners-fit, length-replicate {A = ℤ} corners (pos 0));
+        totals-zero = ap (λ (n : ℕ). replicate n 0) (sym (length-replicate {A = ℕ} vertices 0));
+        points-small = small-zeros corners;
+      }
+
 -- ---- what the fills ask and give, by the corner count
 module _ (M : Mesh) (accepted : Accepted M) where
-  pub few : cornerCount M ≤ mostCorners
-  few = vertices-of M accepted .few
+  pub limits : AtMost M mostVertices mostFaces mostCorners
+  limits =
+      let s = sound-of M accepted .four in
+      record {
+        vertices-fit = few-vertices (length (M .coordinates)) (faceCount M) (cornerCount M) s;
+        faces-fit = few-faces (length (M .coordinates)) (faceCount M) (cornerCount M) s;
+        corners-fit = few-corners (length (M .coordinates)) (faceCount M) (cornerCount M) s;
+      }
 
-  pub faces-few : faceCount M ≤ mostFaces
-  faces-few = few-faces (length (M .coordinates)) (faceCount M) (cornerCount M) (sound-of M accepted .four)
+  pub few : cornerCount M ≤ mostCorners
+  few = limits .corners-fit
 
   by-corners : {A : Type 0} (z : A) (f : ℕ → A) (table : List A) → Filled z f table (sumOf (M .sides)) → Filled z f table (cornerCount M)
   by-corners z f table h c l = h c (omega (arith, refinable-of M accepted .sums))
 
-  pub steps-of : (nexts previouses links sides valences : List ℕ) → MeshTables M nexts previouses links sides valences → Long nexts previouses links sides valences
-      → Steps (M .sides) nexts previouses
+  pub steps-of : (nexts previouses links sides valences : List ℕ) → MeshTables M nexts previouses links sides valences
+      → Long (cornerCount M) nexts previouses links sides valences → Steps (M .sides) nexts previouses
   steps-of nexts previouses links sides valences t l =
       record {
         nexts-are = λ c h. t .nexts-are c (omega (arith, refinable-of M accepted .sums));
         previouses-are = λ c h. t .previouses-are c (omega (arith, refinable-of M accepted .sums));
-        nexts-hold = omega (arith, l .nexts-long, faces-of M accepted .few);
-        previouses-hold = omega (arith, l .previouses-long, faces-of M accepted .few);
+        nexts-hold = omega (arith, l .nexts-hold, refinable-of M accepted .sums);
+        previouses-hold = omega (arith, l .previouses-hold, refinable-of M accepted .sums);
       }
 
   pub tables-of : (nexts previouses links sides valences : List ℕ) → Given M nexts links → FaceTables (M .sides) previouses sides (sumOf (M .sides))

@@ -2,11 +2,10 @@
 -- Assumes nothing.
 use mathlib.Core.Path.{_≡_}
 use mathlib.Core.List.{List}
-use Prim.Native.Nat.{ℕ, _+_, _*_, _%_, _<_}
-use lib.ListN.{length, getD}
+use Prim.Native.Nat.{ℕ, _+_, _*_, _%_, _<_, _≤_}
+use lib.ListN.{length, getD, replicate}
 use lib.IntN.{ℤ, pos}
-use Rattle.mesh.specs.Limits.{mostCorners}
-use Rattle.mesh.specs.Lists.{Mesh, cornerCount}
+use Rattle.mesh.specs.Lists.{Mesh, vertexCount, faceCount, cornerCount}
 use Rattle.mesh.specs.Corners.{sidesOf, next, previous}
 use Rattle.mesh.specs.Links.{vertexOf, link, valence}
 use Rattle.mesh.specs.Tables.{NextsTo, LinkTable}
@@ -15,13 +14,36 @@ use Rattle.surface.specs.Corners.{Corners}
 use Rattle.surface.specs.Net.{net}
 use Rattle.surface.specs.Refined.{cornersOf, perCorner}
 use Rattle.corner_tables.specs.Tables.{Filled}
+use Rattle.refine.specs.Sources.{Small}
 
 -- the tables that checking the mesh leaves
 pub record Given (M : Mesh) (nexts links : List ℕ) : Type 0 where
   pub nexts-are : NextsTo (M .sides) nexts (cornerCount M)
   pub links-are : LinkTable (M .sides) (M .corners) links
-  pub nexts-long : length nexts ≡ mostCorners
-  pub links-long : length links ≡ mostCorners
+  pub nexts-hold : cornerCount M ≤ length nexts
+  pub links-hold : cornerCount M ≤ length links
+
+-- at most so many vertices, faces and corners
+pub record AtMost (M : Mesh) (vertices faces corners : ℕ) : Type 0 where
+  pub vertices-fit : vertexCount M ≤ vertices
+  pub faces-fit : faceCount M ≤ faces
+  pub corners-fit : cornerCount M ≤ corners
+
+-- a small mesh has at most so many of each
+abbrev pub small : ℕ
+small = 256
+
+-- new tables, long enough for the mesh
+pub record New (M : Mesh) (previouses sides valences totals marked wanted : List ℕ) (points : List ℤ) : Type 0 where
+  pub previouses-hold : cornerCount M ≤ length previouses
+  pub sides-hold : cornerCount M ≤ length sides
+  pub valences-hold : cornerCount M ≤ length valences
+  pub totals-hold : vertexCount M ≤ length totals
+  pub marked-hold : vertexCount M ≤ length marked
+  pub wanted-hold : faceCount M ≤ length wanted
+  pub points-hold : cornerCount M ≤ length points
+  pub totals-zero : totals ≡ replicate (length totals) 0
+  pub points-small : Small points
 
 -- the tables that serve all axes
 pub record MeshTables (M : Mesh) (nexts previouses links sides valences : List ℕ) : Type 0 where
@@ -31,13 +53,13 @@ pub record MeshTables (M : Mesh) (nexts previouses links sides valences : List �
   pub sides-are : Filled 0 (sidesOf (M .sides)) sides (cornerCount M)
   pub valences-are : Filled 0 (λ c. valence (M .corners) (vertexOf (M .corners) c)) valences (cornerCount M)
 
--- as long as a mesh may have corners
-pub record Long (nexts previouses links sides valences : List ℕ) : Type 0 where
-  pub nexts-long : length nexts ≡ mostCorners
-  pub previouses-long : length previouses ≡ mostCorners
-  pub links-long : length links ≡ mostCorners
-  pub sides-long : length sides ≡ mostCorners
-  pub valences-long : length valences ≡ mostCorners
+-- long enough for n corners
+pub record Long (n : ℕ) (nexts previouses links sides valences : List ℕ) : Type 0 where
+  pub nexts-hold : n ≤ length nexts
+  pub previouses-hold : n ≤ length previouses
+  pub links-hold : n ≤ length links
+  pub sides-hold : n ≤ length sides
+  pub valences-hold : n ≤ length valences
 
 -- the points of a corner
 abbrev pub pointsOf : ℕ

@@ -7,15 +7,18 @@ use requests::PER_CORNER;
 ghost use mathlib.Core.Path.{_≡_};
 ghost use Prim.Native.Nat.{_+_, _*_, _≤_, _<_};
 ghost use lib.ListN.{length};
-ghost use Rattle.mesh.specs.Limits.{mostCorners};
 ghost use Rattle.mesh.specs.Lists.{meshOf};
 ghost use Rattle.mesh.specs.Corners.{sumOf};
 ghost use Rattle.mesh.specs.Faults.{Accepted};
 ghost use Rattle.surface.specs.Corners.{Sound};
 ghost use Rattle.surface.specs.Refined.{nets, perCorner};
 ghost use Rattle.corner_tables.specs.Tables.{Wanted};
+ghost use Rattle.refine.specs.Sources.{Small};
 ghost use Rattle.sides.specs.Tabled.{tabled};
-ghost use Rattle.writing.specs.Written.{Given, MeshTables, Long, AxisWritten};
+ghost use Rattle.writing.specs.Written.{Given, AtMost, small, New, MeshTables, Long, AxisWritten};
+
+// What a small mesh has at most, of vertices, faces and corners: tables of this length take hardly any time to clear.
+const SMALL: usize = 256;
 
 // The numbers of `count` corners from `first` on, over the tables of next corners and links.
 pub fn write_nets(
@@ -33,26 +36,138 @@ pub fn write_nets(
     requires range { ⌜ (0 < count) × (first + count ≤ length (now corners)) × (length (now out) ≡ perCorner * count) ⌝ }
     ensures { λ _. ⌜ now (out .exit) ≡ nets (meshOf (now (coordinates .entry)) (now (sides .entry)) (now (corners .entry))) first count ⌝ }
 {
+    if corners.len() <= SMALL && sides.len() <= SMALL && coordinates.len() <= 3 * SMALL {
+        write_small(coordinates, sides, corners, nexts, links, first, count, out);
+    } else {
+        write_large(coordinates, sides, corners, nexts, links, first, count, out);
+    }
+}
+
+// The same for a small mesh: its tables are short.
+fn write_small(
+    coordinates: &[i32],
+    sides: &[u8],
+    corners: &[u16],
+    nexts: &[u16],
+    links: &[u16],
+    first: usize,
+    count: usize,
+    out: &mut [i32],
+)
+    requires mesh { ⌜ Accepted (meshOf (now coordinates) (now sides) (now corners)) ⌝ }
+    requires tables { ⌜ Given (meshOf (now coordinates) (now sides) (now corners)) (now nexts) (now links) ⌝ }
+    requires range { ⌜ (0 < count) × (first + count ≤ length (now corners)) × (length (now out) ≡ perCorner * count) ⌝ }
+    requires small { ⌜ AtMost (meshOf (now coordinates) (now sides) (now corners)) small small small ⌝ }
+    ensures { λ _. ⌜ now (out .exit) ≡ nets (meshOf (now (coordinates .entry)) (now (sides .entry)) (now (corners .entry))) first count ⌝ }
+{
+    let mut previouses = [0u16; SMALL];
+    let mut counts = [0u8; SMALL];
+    let mut valences = [0u8; SMALL];
+    let mut totals = [0u8; SMALL];
+    let mut marked = [0u8; SMALL];
+    let mut wanted = [0u8; SMALL];
+    let mut points = [0i32; SMALL];
+    write_tabled(
+        coordinates,
+        sides,
+        corners,
+        nexts,
+        links,
+        first,
+        count,
+        &mut previouses,
+        &mut counts,
+        &mut valences,
+        &mut totals,
+        &mut marked,
+        &mut wanted,
+        &mut points,
+        out,
+    );
+}
+
+// The same for any mesh.
+fn write_large(
+    coordinates: &[i32],
+    sides: &[u8],
+    corners: &[u16],
+    nexts: &[u16],
+    links: &[u16],
+    first: usize,
+    count: usize,
+    out: &mut [i32],
+)
+    requires mesh { ⌜ Accepted (meshOf (now coordinates) (now sides) (now corners)) ⌝ }
+    requires tables { ⌜ Given (meshOf (now coordinates) (now sides) (now corners)) (now nexts) (now links) ⌝ }
+    requires range { ⌜ (0 < count) × (first + count ≤ length (now corners)) × (length (now out) ≡ perCorner * count) ⌝ }
+    ensures { λ _. ⌜ now (out .exit) ≡ nets (meshOf (now (coordinates .entry)) (now (sides .entry)) (now (corners .entry))) first count ⌝ }
+{
     let mut previouses = [0u16; MOST_CORNERS];
     let mut counts = [0u8; MOST_CORNERS];
     let mut valences = [0u8; MOST_CORNERS];
+    let mut totals = [0u8; MOST_VERTICES];
     let mut marked = [0u8; MOST_VERTICES];
     let mut wanted = [0u8; MOST_FACES];
-    corner_tables::fill_faces(sides, &mut previouses, &mut counts);
-    corner_tables::fill_valences(corners, &mut valences);
-    corner_tables::fill_wanted(sides, corners, first, count, &mut marked, &mut wanted);
+    let mut points = [0i32; MOST_CORNERS];
+    write_tabled(
+        coordinates,
+        sides,
+        corners,
+        nexts,
+        links,
+        first,
+        count,
+        &mut previouses,
+        &mut counts,
+        &mut valences,
+        &mut totals,
+        &mut marked,
+        &mut wanted,
+        &mut points,
+        out,
+    );
+}
+
+// The same, over new tables: those that serve the three axes are filled first.
+fn write_tabled(
+    coordinates: &[i32],
+    sides: &[u8],
+    corners: &[u16],
+    nexts: &[u16],
+    links: &[u16],
+    first: usize,
+    count: usize,
+    previouses: &mut [u16],
+    counts: &mut [u8],
+    valences: &mut [u8],
+    totals: &mut [u8],
+    marked: &mut [u8],
+    wanted: &mut [u8],
+    points: &mut [i32],
+    out: &mut [i32],
+)
+    requires mesh { ⌜ Accepted (meshOf (now coordinates) (now sides) (now corners)) ⌝ }
+    requires tables { ⌜ Given (meshOf (now coordinates) (now sides) (now corners)) (now nexts) (now links) ⌝ }
+    requires range { ⌜ (0 < count) × (first + count ≤ length (now corners)) × (length (now out) ≡ perCorner * count) ⌝ }
+    requires new { ⌜ New (meshOf (now coordinates) (now sides) (now corners)) (now previouses) (now counts) (now valences) (now totals) (now marked) (now wanted) (now points) ⌝ }
+    ensures { λ _. ⌜ now (out .exit) ≡ nets (meshOf (now (coordinates .entry)) (now (sides .entry)) (now (corners .entry))) first count ⌝ }
+{
+    corner_tables::fill_faces(sides, previouses, counts);
+    corner_tables::fill_valences(corners, totals, valences);
+    corner_tables::fill_wanted(sides, corners, first, count, marked, wanted);
     write_axes(
         coordinates,
         sides,
         corners,
         nexts,
-        &previouses,
+        previouses,
         links,
-        &counts,
-        &valences,
-        &wanted,
+        counts,
+        valences,
+        wanted,
         first,
         count,
+        points,
         out,
     );
 }
@@ -70,16 +185,17 @@ fn write_axes(
     wanted: &[u8],
     first: usize,
     count: usize,
+    points: &mut [i32],
     out: &mut [i32],
 )
     requires mesh { ⌜ Accepted (meshOf (now coordinates) (now sides) (now corners)) ⌝ }
     requires tables { ⌜ MeshTables (meshOf (now coordinates) (now sides) (now corners)) (now nexts) (now previouses) (now links) (now counts) (now valences) ⌝ }
-    requires long { ⌜ Long (now nexts) (now previouses) (now links) (now counts) (now valences) ⌝ }
+    requires long { ⌜ Long (length (now corners)) (now nexts) (now previouses) (now links) (now counts) (now valences) ⌝ }
     requires wanted { ⌜ Wanted (now sides) (now corners) first count (now wanted) (sumOf (now sides)) × (length (now sides) ≤ length (now wanted)) ⌝ }
+    requires points { ⌜ (length (now corners) ≤ length (now points)) × Small (now points) ⌝ }
     requires range { ⌜ (0 < count) × (first + count ≤ length (now corners)) × (length (now out) ≡ perCorner * count) ⌝ }
     ensures { λ _. ⌜ now (out .exit) ≡ nets (meshOf (now (coordinates .entry)) (now (sides .entry)) (now (corners .entry))) first count ⌝ }
 {
-    let mut points = [0i32; MOST_CORNERS];
     let n = corners.len();
     let mut axis = 0;
     while axis < 3 {
@@ -91,10 +207,10 @@ fn write_axes(
             previouses,
             wanted,
             axis,
-            &mut points,
+            points,
         );
         write_axis(
-            &points,
+            points,
             nexts,
             previouses,
             links,
@@ -125,7 +241,7 @@ fn write_axis(
     out: &mut [i32],
 )
     requires mesh { ⌜ Sound (tabled n (now nexts) (now previouses) (now links) (now sides) (now valences) (now points)) ⌝ }
-    requires long { ⌜ Long (now nexts) (now previouses) (now links) (now sides) (now valences) × (length (now points) ≡ mostCorners) × (n ≤ mostCorners) ⌝ }
+    requires long { ⌜ Long n (now nexts) (now previouses) (now links) (now sides) (now valences) × (n ≤ length (now points)) ⌝ }
     requires range { ⌜ (0 < count) × (first + count ≤ n) × (axis < 3) × (length (now out) ≡ perCorner * count) ⌝ }
     ensures { λ _. ⌜ AxisWritten (tabled n (now (nexts .entry)) (now (previouses .entry)) (now (links .entry)) (now (sides .entry)) (now (valences .entry)) (now (points .entry))) first count axis (now (out .entry)) (now (out .exit)) ⌝ }
 {

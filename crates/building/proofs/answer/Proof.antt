@@ -47,7 +47,10 @@ write-nets-requires : tie.Need-write-nets-requires
 write-nets-requires c κs =
     let s = c .before .before .before .before .before .before .before .before .before .before in
     let g = grants (c .before .before .before) in
-    (s .pre .0, (record { nexts-are = s .pre .1 .0; links-are = s .pre .1 .1; nexts-long = search needs; links-long = search needs }, (g .some, g .within, g .room)))
+    let n = few (mesh s) (s .pre .0) in (
+      s .pre .0,
+      (record { nexts-are = s .pre .1 .0; links-are = s .pre .1 .1; nexts-hold = omega (arith, n); links-hold = omega (arith, n) }, (g .some, g .within, g .room)),
+    )
 
 same-length : tie.Need-same-length
 same-length c = search needs

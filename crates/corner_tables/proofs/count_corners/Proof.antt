@@ -1,9 +1,8 @@
 -- Counting meets its contract: each count is that of the corners below `c`. It fits a byte, since no vertex of an accepted mesh has more corners.
 -- Assumes nothing.
-use Rattle.mesh.specs.Limits.{mostVertices}
-use mathlib.Core.Path.{_≡_, ap, _∙_}
-use Prim.Native.Nat.{ℕ, _≤_, _<_, _-_}
-use lib.ListN.{length, length-set, length-replicate}
+use mathlib.Core.Path.{_≡_, refl, _∙_}
+use Prim.Native.Nat.{_≤_, _<_, _-_}
+use lib.ListN.{length, length-set}
 use denote.Ref.{now}
 use Rattle.mesh.specs.Scan.{countBelow}
 use Rattle.mesh.specs.Links.{vertexOf, names}
@@ -16,13 +15,13 @@ use Rattle.corner_tables.proofs.count_corners.Tie as tie
 
 abbrev Inv-loop : tie.InvT-loop
 Inv-loop corners counts₀ c₀ counts c =
-    (c ≤ length corners) × (length counts ≡ mostVertices) × Filled 0 (λ u. countBelow c (names corners u)) counts mostVertices
+    (c ≤ length corners) × (length counts ≡ length counts₀) × Filled 0 (λ u. countBelow c (names corners u)) counts (length counts₀)
 
 abbrev μ-loop : tie.MeasureT-loop
 μ-loop corners counts₀ c₀ counts c = length corners - c
 
 loop-holds : tie.Need-loop-holds Inv-loop μ-loop
-loop-holds c = (search needs, ap length (c .pre .1) ∙ length-replicate {A = ℕ} mostVertices 0, rw (c .pre .1) (counted-none (now (c .args .corners))))
+loop-holds c = (search needs, refl, counted-none (now (c .args .corners)) (now (c .args .counts)) (c .pre .1))
 
 mul-u : tie.Need-mul-u Inv-loop μ-loop
 mul-u c = search needs
@@ -44,7 +43,7 @@ add-counts c =
     let s = c .before .before .before .before in
     let l = c .before .before .before .loop in
     let h : l .c < length (now (s .args .corners)) = search needs in
-    omega (arith, count-small (now (s .args .corners)) (s .pre .0) (l .c) h, l .inv .2 (vertexOf (now (s .args .corners)) (l .c)) (s .pre .0 .named (l .c) h))
+    omega (arith, count-small (now (s .args .corners)) _ (s .pre .0) (l .c) h, l .inv .2 (vertexOf (now (s .args .corners)) (l .c)) (s .pre .0 .named (l .c) h))
 
 slice-write-counts : tie.Need-slice-write-counts Inv-loop μ-loop
 slice-write-counts c =
@@ -65,7 +64,7 @@ loop-again c =
     let h : l .c < length (now (s .args .corners)) = search needs in (
       omega arith,
       simp length-set (l .inv .1),
-      counted-set (now (s .args .corners)) (l .counts) (l .c) (l .inv .2) (l .inv .1) (s .pre .0 .named (l .c) h),
+      counted-set (now (s .args .corners)) (l .counts) _ (l .c) (l .inv .2) (l .inv .1),
     )
 
 same-length : tie.Need-same-length Inv-loop μ-loop

@@ -1,7 +1,7 @@
 -- One face meets its contract: the corners below `c` are filled, and `last` is the corner before `c`, at first the face's last.
 -- Assumes nothing.
 use Rattle.mesh.specs.Limits.{mostCorners}
-use mathlib.Core.Path.{_≡_, _∙_, sym, subst}
+use mathlib.Core.Path.{_≡_, refl, sym, subst}
 use Prim.Native.Nat.{ℕ, _+_, _≤_, _<_, _-_}
 use lib.ListN.{length, getD, length-set}
 use denote.Ref.{now}
@@ -16,7 +16,9 @@ use Rattle.corner_tables.proofs.fill_face.Tie as tie
 
 abbrev Inv-loop : tie.InvT-loop
 Inv-loop sides f start previouses₀ counts₀ n end last₀ c₀ previouses counts last c =
-    (start ≤ c) × (c ≤ end) × (end ≤ mostCorners) × (last < mostCorners) × (c < end → last ≡ previous sides c) × (length previouses ≡ mostCorners) × (length counts ≡ mostCorners) × FaceTables sides previouses counts c
+    (start ≤ c) × (c ≤ end) × (end ≤ mostCorners) × (last < mostCorners) × (c < end → last ≡ previous sides c)
+    × (length previouses ≡ length previouses₀) × (length counts ≡ length counts₀) × (end ≤ length previouses) × (end ≤ length counts)
+    × FaceTables sides previouses counts c
 
 abbrev μ-loop : tie.MeasureT-loop
 μ-loop sides f start previouses₀ counts₀ n end last₀ c₀ previouses counts last c = end - c
@@ -44,8 +46,10 @@ loop-holds c =
       omega (arith, e, s .pre .0 .few),
       omega (arith, e, n, s .pre .0 .few),
       (λ h. rw (s .pre .1 .0 .1) (sym (previous-start (now (s .args .sides)) (s .args .f) l (omega arith)))),
-      s .pre .1 .1 .0 .0,
-      s .pre .1 .1 .0 .1,
+      refl,
+      refl,
+      omega (arith, e, s .pre .1 .1 .0 .0),
+      omega (arith, e, s .pre .1 .1 .0 .1),
       rw (s .pre .1 .0 .1) (s .pre .1 .1 .1),
     )
 
@@ -78,10 +82,13 @@ loop-again c =
       l .inv .2,
       omega arith,
       (λ b. sym (previous-later (now (s .args .sides)) (s .args .f) h (l .c) (omega arith) (omega arith))),
-      length-set (l .previouses) (l .c) (l .last) ∙ l .inv .5,
-      length-set (l .counts) (l .c) (getD (now (s .args .sides)) (s .args .f) 0) ∙ l .inv .6,
-      tables-set (now (s .args .sides)) (l .previouses) (l .counts) (l .c) (l .last) (getD (now (s .args .sides)) (s .args .f) 0) (l .inv .7) (omega arith) (omega arith)
-          (l .inv .4 (c .loop-test .taken)) (sym (sides-is (now (s .args .sides)) (s .args .f) h (l .c) (omega arith) (omega arith))),
+      simp length-set (l .inv .5),
+      simp length-set (l .inv .6),
+      simp length-set (l .inv .7),
+      simp length-set (l .inv .8),
+      tables-set (now (s .args .sides)) (l .previouses) (l .counts) (l .c) (l .last) (getD (now (s .args .sides)) (s .args .f) 0) (l .inv .9)
+          (omega arith) (omega arith) (l .inv .4 (c .loop-test .taken))
+          (sym (sides-is (now (s .args .sides)) (s .args .f) h (l .c) (omega arith) (omega arith))),
     )
 
 same-length : tie.Need-same-length Inv-loop μ-loop
@@ -96,7 +103,7 @@ returns c =
     let l = c .before .loop in
     subst (λ (n : ℕ). FaceTables (now (s .args .sides)) (l .previouses) (l .counts) n)
     (let q : l .c ≡ startOf (now (s .args .sides)) (s .args .f + 1) = omega (arith, start-next (now (s .args .sides)) (s .args .f) (s .pre .1 .0 .0), s .pre .1 .0 .1) in q)
-    (l .inv .7)
+    (l .inv .9)
 
 pub fill-face-spec : {M : Type 1} → statement M
 fill-face-spec =

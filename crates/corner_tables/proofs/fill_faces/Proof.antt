@@ -1,7 +1,6 @@
 -- All faces meet their contract: the corners of the faces before `f` are filled.
 -- Assumes nothing.
-use Rattle.mesh.specs.Limits.{mostCorners}
-use mathlib.Core.Path.{_≡_, _∙_, sym, subst}
+use mathlib.Core.Path.{_≡_, refl, _∙_, sym, subst}
 use Prim.Native.Nat.{ℕ, _≤_, _<_, _-_}
 use lib.ListN.{length}
 use denote.Ref.{now}
@@ -16,19 +15,20 @@ use Rattle.corner_tables.proofs.fill_faces.Tie as tie
 
 abbrev Inv-loop : tie.InvT-loop
 Inv-loop sides previouses₀ counts₀ start₀ f₀ previouses counts start f =
-    (f ≤ length sides) × (start ≡ startOf sides f) × (length previouses ≡ mostCorners) × (length counts ≡ mostCorners) × FaceTables sides previouses counts (startOf sides f)
+    (f ≤ length sides) × (start ≡ startOf sides f) × (length previouses ≡ length previouses₀) × (length counts ≡ length counts₀)
+    × FaceTables sides previouses counts (startOf sides f)
 
 abbrev μ-loop : tie.MeasureT-loop
 μ-loop sides previouses₀ counts₀ start₀ f₀ previouses counts start f = length sides - f
 
 loop-holds : tie.Need-loop-holds Inv-loop μ-loop
-loop-holds c = let s = c .before .before .before in (omega arith, sym (start-zero _), s .pre .1 .0, s .pre .1 .1, tables-none _ _ _)
+loop-holds c = let s = c .before .before .before in (omega arith, sym (start-zero _), refl, refl, tables-none _ _ _)
 
 fill-face-requires : tie.Need-fill-face-requires Inv-loop μ-loop
 fill-face-requires c κs =
     let s = c .before .before .before .before .before .before .before in
     let l = c .before .before .before .loop in
-    (s .pre .0, ((c .before .before .loop-test .taken, l .inv .1), ((l .inv .2, l .inv .3), l .inv .4)))
+    (s .pre .0, ((c .before .before .loop-test .taken, l .inv .1), ((omega (arith, l .inv .2, s .pre .1 .0), omega (arith, l .inv .3, s .pre .1 .1)), l .inv .4)))
 
 shared-slice-read-start : tie.Need-shared-slice-read-start Inv-loop μ-loop
 shared-slice-read-start c = search needs

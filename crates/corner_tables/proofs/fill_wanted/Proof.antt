@@ -74,7 +74,8 @@ loop-again c =
       omega (arith, start-next sides (l .f) h, l .inv .1),
       simp length-set (l .inv .2),
       wanted-set sides (now (s .args .corners)) (m .last .1 .1 .1 .0) (l .wanted) (s .args .first) (s .args .count) (l .f) (c .any-marked .result) h
-          (omega (arith, l .inv .2, s .pre .0 .2)) (m .ensures) (λ d a b. c .any-marked .ensures d (omega (arith, l .inv .1)) (omega (arith, l .inv .1))) (l .inv .3),
+          (omega (arith, l .inv .2, s .pre .0 .2)) (m .ensures)
+          (λ d a b. c .any-marked .ensures d (omega (arith, l .inv .1)) (omega (arith, l .inv .1))) (l .inv .3),
     )
 
 same-length : tie.Need-same-length Inv-loop μ-loop

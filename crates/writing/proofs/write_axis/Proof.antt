@@ -4,7 +4,6 @@ use mathlib.Core.Path.{_≡_, refl, _∙_, subst}
 use Prim.Native.Nat.{ℕ, _-_, _*_, _≤_}
 use lib.ListN.{length}
 use denote.Ref.{now}
-use Rattle.mesh.specs.Limits.{mostCorners}
 use Rattle.surface.specs.Refined.{perCorner}
 use Rattle.sides.specs.Tabled.{tabled}
 use Rattle.writing.specs.Written.{AxisWritten}
@@ -37,17 +36,16 @@ put-net-requires : tie.Need-put-net-requires Inv-loop μ-loop
 put-net-requires c κs =
     let s = c .before .before .before .before .before .before .before .before .before .before in
     let l = c .before .before .before .loop in
-    let long = s .pre .1 .0 .0 in
-    let n : s .args .n ≤ mostCorners = s .pre .1 .0 .2 in (
+    let long = s .pre .1 .0 .0 in (
       record {
         sound = s .pre .0;
         here = omega (arith, s .pre .1 .1 .1);
-        nexts-hold = omega (arith, long .nexts-long);
-        previouses-hold = omega (arith, long .previouses-long);
-        links-hold = omega (arith, long .links-long);
-        sides-hold = omega (arith, long .sides-long);
-        valences-hold = omega (arith, long .valences-long);
-        points-hold = omega (arith, s .pre .1 .0 .1);
+        nexts-hold = long .nexts-hold;
+        previouses-hold = long .previouses-hold;
+        links-hold = long .links-hold;
+        sides-hold = long .sides-hold;
+        valences-hold = long .valences-hold;
+        points-hold = s .pre .1 .0 .1;
       },
       s .pre .1 .1 .2,
       omega (arith, l .inv .1),
