@@ -49,7 +49,10 @@ write-nets-requires c κs =
     let g = grants (c .before .before .before) in
     let n = few (mesh s) (s .pre .0) in (
       s .pre .0,
-      (record { nexts-are = s .pre .1 .0; links-are = s .pre .1 .1; nexts-hold = omega (arith, n); links-hold = omega (arith, n) }, (g .some, g .within, g .room)),
+      (
+        record { nexts-are = s .pre .1 .0; links-are = s .pre .1 .1; nexts-hold = omega (arith, n); links-hold = omega (arith, n) },
+        (g .some, g .within, g .room),
+      ),
     )
 
 same-length : tie.Need-same-length

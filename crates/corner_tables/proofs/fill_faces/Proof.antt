@@ -28,7 +28,8 @@ fill-face-requires : tie.Need-fill-face-requires Inv-loop μ-loop
 fill-face-requires c κs =
     let s = c .before .before .before .before .before .before .before in
     let l = c .before .before .before .loop in
-    (s .pre .0, ((c .before .before .loop-test .taken, l .inv .1), ((omega (arith, l .inv .2, s .pre .1 .0), omega (arith, l .inv .3, s .pre .1 .1)), l .inv .4)))
+    let t = c .before .before .loop-test .taken in
+    (s .pre .0, ((t, l .inv .1), ((omega (arith, l .inv .2, s .pre .1 .0), omega (arith, l .inv .3, s .pre .1 .1)), l .inv .4)))
 
 shared-slice-read-start : tie.Need-shared-slice-read-start Inv-loop μ-loop
 shared-slice-read-start c = search needs

@@ -70,8 +70,8 @@ loop-again c =
       f .ensures .small,
       w .kept .1 .1 .1 .1 .1 .1 .1 .1 .1 .1 .0 ∙ l .inv .3,
       written-next (mesh s) (s .pre .0) (now (s .args .nexts)) (now (s .args .previouses)) (now (s .args .links)) (now (s .args .counts))
-          (now (s .args .valences)) (now (s .args .wanted)) (f .last .1 .1 .1 .1 .1 .1 .1 .0) (l .axis) (s .args .first) (s .args .count) (s .pre .1 .0) (s .pre .1 .1 .1 .0 .0)
-          (f .ensures) (l .out) (w .last .1 .1 .1 .1 .1 .1 .1 .1 .1 .1 .0) h (s .pre .1 .1 .1 .1 .1 .1) (l .inv .4) (w .ensures),
+          (now (s .args .valences)) (now (s .args .wanted)) (f .last .1 .1 .1 .1 .1 .1 .1 .0) (l .axis) (s .args .first) (s .args .count)
+          (s .pre .1 .0) (s .pre .1 .1 .1 .0 .0) (f .ensures) (l .out) (w .last .1 .1 .1 .1 .1 .1 .1 .1 .1 .1 .0) h (s .pre .1 .1 .1 .1 .1 .1) (l .inv .4) (w .ensures),
     )
 
 same-length : tie.Need-same-length Inv-loop μ-loop
