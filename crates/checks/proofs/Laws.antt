@@ -47,7 +47,8 @@ unfolding NextsTo
 nexts-in M nexts g n c l = omega (arith, g .sums, n c l, next-below (M .sides) c (omega (arith, g .sums)))
 
 -- the filled tables
-pub searchable : (M : Mesh) (earliers tos froms heads : List ℕ) → Listed M → cornerCount M ≤ length earliers → cornerCount M ≤ length tos → cornerCount M ≤ length froms
+pub searchable : (M : Mesh) (earliers tos froms heads : List ℕ) → Listed M
+    → cornerCount M ≤ length earliers → cornerCount M ≤ length tos → cornerCount M ≤ length froms
     → vertexCount M ≤ length heads → Chained (M .corners) earliers heads → Ends (M .sides) (M .corners) tos froms
     → Searchable (vertexCount M) (M .corners) tos froms earliers heads
 unfolding leavesTo arrivesFrom
@@ -56,9 +57,12 @@ searchable M earliers tos froms heads g le lt lf lh k e =
       small = g .small;
       named = g .named;
       tos-length = lt;
-      tos-in = λ c l. omega (arith, e .leaves c l, g .named (next (M .sides) c) (omega (arith, e .sums, next-below (M .sides) c (omega (arith, e .sums)))));
+      tos-in = λ c l.
+          let b = next-below (M .sides) c (omega (arith, e .sums)) in omega (arith, e .leaves c l, g .named (next (M .sides) c) (omega (arith, e .sums, b)));
       froms-length = lf;
-      froms-in = λ c l. omega (arith, e .arrives c l, g .named (previous (M .sides) c) (omega (arith, e .sums, previous-below (M .sides) c (omega (arith, e .sums)))));
+      froms-in = λ c l.
+          let b = previous-below (M .sides) c (omega (arith, e .sums)) in
+          omega (arith, e .arrives c l, g .named (previous (M .sides) c) (omega (arith, e .sums, b)));
       earliers-length = le;
       heads-length = lh;
       chained = k;
@@ -97,7 +101,8 @@ module _ (M : Mesh) (p q : ℕ) (a : cornerCount M ≤ p) (b : vertexCount M ≤
 
 -- after 10 and 11: the entries are the links, and lead to corners
 module _ (M : Mesh) (links : List ℕ) (g : Listed M) (t : Entries (M .sides) (M .corners) links)
-    (ten : lowestOf 10 (cornerCount M) (fault10 (M .sides) (M .corners)) ≡ sound) (eleven : lowestOf 11 (cornerCount M) (fault11 (M .sides) (M .corners)) ≡ sound) where
+    (ten : lowestOf 10 (cornerCount M) (fault10 (M .sides) (M .corners)) ≡ sound)
+    (eleven : lowestOf 11 (cornerCount M) (fault11 (M .sides) (M .corners)) ≡ sound) where
   pub closed : Closed (M .sides) (M .corners)
   closed = record { sums = g .sums; ten = lowest-sound _ _ _ ten; eleven = lowest-sound _ _ _ eleven }
 

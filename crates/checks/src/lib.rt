@@ -100,7 +100,8 @@ fn check_few(
     nexts: &[u16],
     links: &mut [u16],
 ) -> Answer
-    requires { ⌜ Joinable (meshOf (now coordinates) (now sides) (now corners)) (now nexts) (now links) × Few (meshOf (now coordinates) (now sides) (now corners)) ⌝ }
+    requires mesh { ⌜ Joinable (meshOf (now coordinates) (now sides) (now corners)) (now nexts) (now links) ⌝ }
+    requires few { ⌜ Few (meshOf (now coordinates) (now sides) (now corners)) ⌝ }
     ensures { λ r. ⌜ Joined (meshOf (now (coordinates .entry)) (now (sides .entry)) (now (corners .entry))) r (now (links .exit)) ⌝ }
 {
     let mut earliers = [0u16; FEW_CORNERS];
@@ -190,7 +191,8 @@ fn find_links(
     leaving: &mut [u16],
     arriving: &mut [u16],
 )
-    requires { ⌜ Joinable (meshOf (now coordinates) (now sides) (now corners)) (now nexts) (now links) × Room (meshOf (now coordinates) (now sides) (now corners)) (now earliers) (now tos) (now froms) (now heads) (now leaving) (now arriving) ⌝ }
+    requires mesh { ⌜ Joinable (meshOf (now coordinates) (now sides) (now corners)) (now nexts) (now links) ⌝ }
+    requires room { ⌜ Room (meshOf (now coordinates) (now sides) (now corners)) (now earliers) (now tos) (now froms) (now heads) (now leaving) (now arriving) ⌝ }
     ensures { λ _. ⌜ Entries (now (sides .entry)) (now (corners .entry)) (now (links .exit)) ⌝ }
 {
     tables::fill_earliers(corners, earliers, heads);
@@ -217,7 +219,8 @@ fn join(
     counts: &mut [u16],
     lowests: &mut [u16],
 ) -> Answer
-    requires { ⌜ Listed (meshOf (now coordinates) (now sides) (now corners)) × Entries (now sides) (now corners) (now links) × (length (now corners) ≤ length (now links)) × CountRoom (meshOf (now coordinates) (now sides) (now corners)) (now counts) (now lowests) ⌝ }
+    requires mesh { ⌜ Listed (meshOf (now coordinates) (now sides) (now corners)) × Entries (now sides) (now corners) (now links) × (length (now corners) ≤ length (now links)) ⌝ }
+    requires room { ⌜ CountRoom (meshOf (now coordinates) (now sides) (now corners)) (now counts) (now lowests) ⌝ }
     ensures { λ r. ⌜ Joined (meshOf (now (coordinates .entry)) (now (sides .entry)) (now (corners .entry))) r (now (links .entry)) ⌝ }
 {
     let a10 = edges::check_repeats(corners, links);

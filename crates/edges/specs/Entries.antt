@@ -69,9 +69,23 @@ pub record Hit (corners : List ℕ) (u d entry : ℕ) : Type 0 where
 
 -- the corners of u from `at` on are in the table
 unfoldable pub Marked : List ℕ → List ℕ → List ℕ → ℕ → ℕ → Type 0
-Marked corners keys table u at = (d : ℕ) → at ≤ d → d < length corners → vertexOf corners d ≡ u → Hit corners u d (getD table (getD keys d 0) 0)
+Marked corners keys table u at =
+    (d : ℕ) → at ≤ d → d < length corners → vertexOf corners d ≡ u → Hit corners u d (getD table (getD keys d 0) 0)
 
--- the corners of the vertices below u have their entries, for all side counts that the ends belong to
+-- both tables of edges, with the corners of u from `at` on
+pub record MarkedFrom (vertices : ℕ) (corners tos froms leaving arriving : List ℕ) (u at : ℕ) : Type 0 where
+  pub left : Keyed vertices corners tos leaving
+  pub left-from : Marked corners tos leaving u at
+  pub arrived : Keyed vertices corners froms arriving
+  pub arrived-from : Marked corners froms arriving u at
+
+-- the entry of a corner, and of all corners, for all side counts that the ends belong to
+abbrev pub EntryFor : List ℕ → List ℕ → List ℕ → ℕ → ℕ → Type 0
+EntryFor corners tos froms c x = (sides : List ℕ) → Ends sides corners tos froms → Entry sides corners c x
+
+abbrev pub EntriesFor : List ℕ → List ℕ → List ℕ → List ℕ → Type 0
+EntriesFor corners tos froms links = (sides : List ℕ) → Ends sides corners tos froms → Entries sides corners links
+
+-- the corners of the vertices below u have their entries
 unfoldable pub EntriesBelow : List ℕ → List ℕ → List ℕ → List ℕ → ℕ → Type 0
-EntriesBelow corners tos froms links u =
-    (sides : List ℕ) → Ends sides corners tos froms → (c : ℕ) → c < length corners → vertexOf corners c < u → Entry sides corners c (getD links c 0)
+EntriesBelow corners tos froms links u = (c : ℕ) → c < length corners → vertexOf corners c < u → EntryFor corners tos froms c (getD links c 0)

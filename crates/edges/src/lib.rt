@@ -3,15 +3,14 @@
 // without a search, the first corner that its edge leaves and a corner where the reverse of its edge arrives.
 use mesh::Answer;
 ghost use mathlib.Core.Path.{_≡_};
-ghost use mathlib.Core.List.{List};
-ghost use Prim.Native.Nat.{ℕ, _+_, _≤_, _<_};
+ghost use Prim.Native.Nat.{_+_, _≤_, _<_};
 ghost use lib.ListN.{length, getD};
 ghost use Rattle.mesh.specs.Limits.{mostCorners};
 ghost use Rattle.mesh.specs.Links.{vertexOf};
 ghost use Rattle.mesh.specs.Faults.{lowestOf};
 ghost use Rattle.mesh.specs.Answers.{stated};
-ghost use Rattle.tables.specs.Filled.{Blank, Ends};
-ghost use Rattle.edges.specs.Entries.{Entry, Entries, has, Unrepeated, Reversed, Searchable, Keyed, Marked, EntriesBelow};
+ghost use Rattle.tables.specs.Filled.{Blank};
+ghost use Rattle.edges.specs.Entries.{has, Unrepeated, Reversed, Searchable, Keyed, MarkedFrom, EntryFor, EntriesFor, EntriesBelow};
 
 // The entry of a corner whose leaving edge already left an earlier one, and of a corner whose leaving edge has no reverse.
 const REPEATED: u16 = 8193;
@@ -30,8 +29,10 @@ pub fn fill_links(
     arriving: &mut [u16],
     links: &mut [u16],
 )
-    requires { ⌜ Searchable vertices (now corners) (now tos) (now froms) (now earliers) (now heads) × (vertices ≤ length (now leaving)) × Blank (now leaving) × (vertices ≤ length (now arriving)) × Blank (now arriving) × (length (now corners) ≤ length (now links)) ⌝ }
-    ensures { λ _. ⌜ ((sides : List ℕ) → Ends sides (now (corners .entry)) (now (tos .entry)) (now (froms .entry)) → Entries sides (now (corners .entry)) (now (links .exit))) ⌝ }
+    requires walk { ⌜ Searchable vertices (now corners) (now tos) (now froms) (now earliers) (now heads) ⌝ }
+    requires tables { ⌜ (vertices ≤ length (now leaving)) × Blank (now leaving) × (vertices ≤ length (now arriving)) × Blank (now arriving) ⌝ }
+    requires room { ⌜ length (now corners) ≤ length (now links) ⌝ }
+    ensures { λ _. ⌜ EntriesFor (now (corners .entry)) (now (tos .entry)) (now (froms .entry)) (now (links .exit)) ⌝ }
 {
     let mut u = 0;
     while u < vertices {
@@ -74,8 +75,9 @@ fn mark(
     leaving: &mut [u16],
     arriving: &mut [u16],
 )
-    requires { ⌜ (u < vertices) × Searchable vertices (now corners) (now tos) (now froms) (now earliers) (now heads) × Keyed vertices (now corners) (now tos) (now leaving) × Keyed vertices (now corners) (now froms) (now arriving) ⌝ }
-    ensures { λ _. ⌜ Keyed vertices (now (corners .entry)) (now (tos .entry)) (now (leaving .exit)) × Marked (now (corners .entry)) (now (tos .entry)) (now (leaving .exit)) u 0 × Keyed vertices (now (corners .entry)) (now (froms .entry)) (now (arriving .exit)) × Marked (now (corners .entry)) (now (froms .entry)) (now (arriving .exit)) u 0 ⌝ }
+    requires walk { ⌜ (u < vertices) × Searchable vertices (now corners) (now tos) (now froms) (now earliers) (now heads) ⌝ }
+    requires tables { ⌜ Keyed vertices (now corners) (now tos) (now leaving) × Keyed vertices (now corners) (now froms) (now arriving) ⌝ }
+    ensures { λ _. ⌜ MarkedFrom vertices (now (corners .entry)) (now (tos .entry)) (now (froms .entry)) (now (leaving .exit)) (now (arriving .exit)) u 0 ⌝ }
 {
     let mut at = heads[u];
     while at != 0 {
@@ -101,7 +103,9 @@ fn collect(
     arriving: &[u16],
     links: &mut [u16],
 )
-    requires { ⌜ (u < vertices) × Searchable vertices (now corners) (now tos) (now froms) (now earliers) (now heads) × Keyed vertices (now corners) (now tos) (now leaving) × Marked (now corners) (now tos) (now leaving) u 0 × Keyed vertices (now corners) (now froms) (now arriving) × Marked (now corners) (now froms) (now arriving) u 0 × (length (now corners) ≤ length (now links)) × EntriesBelow (now corners) (now tos) (now froms) (now links) u ⌝ }
+    requires walk { ⌜ (u < vertices) × Searchable vertices (now corners) (now tos) (now froms) (now earliers) (now heads) ⌝ }
+    requires marked { ⌜ MarkedFrom vertices (now corners) (now tos) (now froms) (now leaving) (now arriving) u 0 ⌝ }
+    requires entries { ⌜ (length (now corners) ≤ length (now links)) × EntriesBelow (now corners) (now tos) (now froms) (now links) u ⌝ }
     ensures { λ _. ⌜ EntriesBelow (now (corners .entry)) (now (tos .entry)) (now (froms .entry)) (now (links .exit)) (u + 1) ⌝ }
 {
     let mut at = heads[u];
@@ -123,8 +127,9 @@ fn entry(
     arriving: &[u16],
     c: usize,
 ) -> u16
-    requires { ⌜ (c < length (now corners)) × (vertexOf (now corners) c ≡ u) × (length (now corners) ≤ length (now tos)) × (getD (now tos) c 0 < vertices) × Keyed vertices (now corners) (now tos) (now leaving) × Marked (now corners) (now tos) (now leaving) u 0 × Keyed vertices (now corners) (now froms) (now arriving) × Marked (now corners) (now froms) (now arriving) u 0 ⌝ }
-    ensures { λ r. ⌜ ((sides : List ℕ) → Ends sides (now (corners .entry)) (now (tos .entry)) (now (froms .entry)) → Entry sides (now (corners .entry)) c r) ⌝ }
+    requires corner { ⌜ (c < length (now corners)) × (vertexOf (now corners) c ≡ u) × (length (now corners) ≤ length (now tos)) × (getD (now tos) c 0 < vertices) ⌝ }
+    requires marked { ⌜ MarkedFrom vertices (now corners) (now tos) (now froms) (now leaving) (now arriving) u 0 ⌝ }
+    ensures { λ r. ⌜ EntryFor (now (corners .entry)) (now (tos .entry)) (now (froms .entry)) c r ⌝ }
 {
     let to = tos[c] as usize;
     let first = leaving[to] as usize;

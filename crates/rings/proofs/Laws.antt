@@ -185,8 +185,8 @@ module _ (corners links : List ℕ) where
   unfolding Whole
   whole-none sides k t j l = absurd (omega arith)
 
-  module _ (u vertices : ℕ) (w : Whole corners links u) (f : Followed corners links vertices) (l : u < vertices) (counts lowests : List ℕ) (g : Counted corners counts lowests)
-      (len : ℕ) (en : len ≡ ringWithin links (getD lowests u 0) (getD counts u 0)) where
+  module _ (u vertices : ℕ) (w : Whole corners links u) (f : Followed corners links vertices) (l : u < vertices)
+      (counts lowests : List ℕ) (g : Counted corners counts lowests) (len : ℕ) (en : len ≡ ringWithin links (getD lowests u 0) (getD counts u 0)) where
     len-is : len ≡ ringWithin links (lowest corners u) (valence corners u)
     len-is =
         en ∙ ap (λ (x : ℕ). ringWithin links x (getD counts u 0)) (g .lowest-is u (lowest-in corners u (f .named u l)))
@@ -194,12 +194,16 @@ module _ (corners links : List ℕ) where
 
     pub whole-more : len ≡ getD counts u 0 → Whole corners links (u + 1)
     unfolding Whole
-    whole-more e sides k t = fails-step (fault13 sides corners) u (w sides k t) (whole-ring sides corners links k t u (f .named u l) (sym len-is ∙ e ∙ g .count-is u))
+    whole-more e sides k t =
+        fails-step (fault13 sides corners) u (w sides k t)
+        (whole-ring sides corners links k t u (f .named u l) (sym len-is ∙ e ∙ g .count-is u))
 
-    pub whole-torn : (len ≡ getD counts u 0 → ⊥) → (sides : List ℕ) → Closed sides corners → LinkTable sides corners links → fault 13 u ≡ lowestOf 13 vertices (fault13 sides corners)
+    pub whole-torn : (len ≡ getD counts u 0 → ⊥)
+        → (sides : List ℕ) → Closed sides corners → LinkTable sides corners links → fault 13 u ≡ lowestOf 13 vertices (fault13 sides corners)
     unfolding Whole
     whole-torn ne sides k t =
-        sym (lowest-hit 13 vertices (fault13 sides corners) u l (torn-ring sides corners links k t u (f .named u l) (λ e. ne (len-is ∙ e ∙ sym (g .count-is u)))) (w sides k t))
+        sym (lowest-hit 13 vertices (fault13 sides corners) u l
+        (torn-ring sides corners links k t u (f .named u l) (λ e. ne (len-is ∙ e ∙ sym (g .count-is u)))) (w sides k t))
 
   pub whole-all : (u vertices : ℕ) → Whole corners links u → vertices ≤ u → (sides : List ℕ) → Closed sides corners → LinkTable sides corners links → sound ≡ lowestOf 13 vertices (fault13 sides corners)
   unfolding Whole

@@ -49,7 +49,8 @@ pub fn check_rings(
     links: &[u16],
     vertices: usize,
 ) -> Answer
-    requires { ⌜ (vertices ≤ length (now counts)) × (vertices ≤ length (now lowests)) × Counted (now corners) (now counts) (now lowests) × Followed (now corners) (now links) vertices ⌝ }
+    requires tables { ⌜ (vertices ≤ length (now counts)) × (vertices ≤ length (now lowests)) × Counted (now corners) (now counts) (now lowests) ⌝ }
+    requires links { ⌜ Followed (now corners) (now links) vertices ⌝ }
     ensures { λ r. ⌜ Ringed (now (corners .entry)) (now (links .entry)) vertices r ⌝ }
 {
     let mut u = 0;

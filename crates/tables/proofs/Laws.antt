@@ -15,10 +15,11 @@ use Rattle.mesh.specs.Links.{vertexOf, leavesTo, arrivesFrom, names}
 use Rattle.mesh.specs.Tables.{NextsTo}
 use Rattle.mesh.proofs.Scans.{ways, clash, compared}
 use Rattle.mesh.proofs.Faces.{face-at, start-zero, start-next, next-inner, next-last, previous-below, previous-next, next-previous}
-use Rattle.tables.specs.Filled.{Blank, lastBelow, FaceFilled, EarliersTo, HeadsTo, Chain, Ends, Chained}
+use Rattle.tables.specs.Filled.{Blank, lastBelow, FaceFilled, EarliersTo, HeadsTo, Chain, Ended, Chained}
 
 -- the entries after a store
-pub put : (P : ℕ → Type 0) (table : List ℕ) (i j x : ℕ) → i < length table → (j ≡ i → P x) → ((j ≡ i → ⊥) → P (getD table j 0)) → P (getD (set table i x) j 0)
+pub put : (P : ℕ → Type 0) (table : List ℕ) (i j x : ℕ) → i < length table → (j ≡ i → P x) → ((j ≡ i → ⊥) → P (getD table j 0))
+    → P (getD (set table i x) j 0)
 put P table i j x h same other =
     ⊎-elim
     (λ (q : j ≡ i). rw q (rw (getD-set-same table i x 0 h) (same q)))
@@ -38,7 +39,8 @@ module _ (start : ℕ) (old new : List ℕ) (c : ℕ) (p : Part start old new c)
   pub part-step : Part start old (set new c (c + 1)) (c + 1)
   part-step =
       record {
-        filled = λ d a b. put (λ x. x ≡ d + 1) new c d (c + 1) l (λ q. ap (λ (x : ℕ). x + 1) (sym q)) (λ q. p .filled d a (omega (arith, q)));
+        filled = λ d a b.
+            put (λ x. x ≡ d + 1) new c d (c + 1) l (λ q. ap (λ (x : ℕ). x + 1) (sym q)) (λ q. p .filled d a (omega (arith, q)));
         kept = λ d b. getD-set-other new c d (c + 1) 0 (λ q. omega arith) ∙ p .kept d b;
       }
 
@@ -85,23 +87,23 @@ nexts-none sides nexts c h = absurd (omega (arith, start-zero sides))
 
 -- the highest number that passes
 module _ (f : ℕ → Bool) where
-  pub last-hit : (n : ℕ) → f n ≡ true → lastBelow (suc n) f ≡ suc n
+  last-hit : (n : ℕ) → f n ≡ true → lastBelow (suc n) f ≡ suc n
   unfolding lastBelow
   last-hit n e = rw e
 
-  pub last-miss : (n : ℕ) → f n ≡ false → lastBelow (suc n) f ≡ lastBelow n f
+  last-miss : (n : ℕ) → f n ≡ false → lastBelow (suc n) f ≡ lastBelow n f
   unfolding lastBelow
   last-miss n e = rw e
 
-  pub last-zero : lastBelow 0 f ≡ 0
+  last-zero : lastBelow 0 f ≡ 0
   unfolding lastBelow
   last-zero = refl
 
-  pub last-le : (n : ℕ) → lastBelow n f ≤ n
+  last-le : (n : ℕ) → lastBelow n f ≤ n
   last-le zero = omega (arith, last-zero)
   last-le (suc n) = ⊎-elim (λ e. omega (arith, last-hit n e)) (λ e. omega (arith, last-miss n e, last-le n)) (ways (f n))
 
-  pub last-passes : (n d : ℕ) → lastBelow n f ≡ suc d → f d ≡ true
+  last-passes : (n d : ℕ) → lastBelow n f ≡ suc d → f d ≡ true
   last-passes zero d e = absurd (omega (arith, last-zero))
   last-passes (suc n) d e =
       ⊎-elim
@@ -145,15 +147,15 @@ module _ (corners nexts tos froms : List ℕ) where
             (λ q. k sides s n .leaves d (lower d l q));
         arrives = λ d l.
             put (λ x. x ≡ vertexOf corners d) froms (getD nexts c 0) (next sides d) (getD corners c 0) lf
-            (λ q. ap (vertexOf corners) (sym (previous-next sides c (omega arith)) ∙ ap (previous sides) (sym (n c h) ∙ sym q) ∙ previous-next sides d (omega arith)))
+            (λ q. ap (vertexOf corners)
+            (sym (previous-next sides c (omega arith)) ∙ ap (previous sides) (sym (n c h) ∙ sym q) ∙ previous-next sides d (omega arith)))
             (λ q. k sides s n .arrives d (lower d l (λ e. q (ap (next sides) e ∙ sym (n c h)))));
       }
     where
       lower : (d : ℕ) → d < c + 1 → (d ≡ c → ⊥) → d < c
       lower d l q = omega (arith, q)
 
-  pub ends-done : (c : ℕ) → length corners ≤ c → EndsBelow corners nexts tos froms c
-      → (sides : List ℕ) → sumOf sides ≡ length corners → NextsTo sides nexts (length corners) → Ends sides corners tos froms
+  pub ends-done : (c : ℕ) → length corners ≤ c → EndsBelow corners nexts tos froms c → Ended corners nexts tos froms
   unfolding EndsBelow arrivesFrom
   ends-done c e k sides s n =
       record {
@@ -161,7 +163,8 @@ module _ (corners nexts tos froms : List ℕ) where
         leaves = λ d l. k sides s n .leaves d (omega arith);
         arrives = λ d l.
             let b = previous-below sides d (omega arith) in
-            ap (λ (x : ℕ). getD froms x 0) (sym (next-previous sides d (omega arith))) ∙ k sides s n .arrives (previous sides d) (omega (arith, b));
+            ap (λ (x : ℕ). getD froms x 0) (sym (next-previous sides d (omega arith)))
+            ∙ k sides s n .arrives (previous sides d) (omega (arith, b));
       }
 
 -- filling the chains

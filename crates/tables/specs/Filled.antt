@@ -8,6 +8,7 @@ use lib.ListN.{length, getD}
 use Rattle.mesh.specs.Limits.{leastSides, mostCorners}
 use Rattle.mesh.specs.Scan.{pickN}
 use Rattle.mesh.specs.Corners.{sumOf}
+use Rattle.mesh.specs.Tables.{NextsTo}
 use Rattle.mesh.specs.Links.{vertexOf, leavesTo, arrivesFrom, names}
 
 -- one more than the highest number below n that passes the test; 0 where none does
@@ -54,10 +55,16 @@ pub record Endable (corners nexts tos froms : List ℕ) : Type 0 where
   pub froms-length : length corners ≤ length froms
   pub nexts-in : (c : ℕ) → c < length corners → getD nexts c 0 < length corners
 
+-- and gives: the ends, for all side counts that the table of next corners belongs to
+abbrev pub Ended : List ℕ → List ℕ → List ℕ → List ℕ → Type 0
+Ended corners nexts tos froms =
+    (sides : List ℕ) → sumOf sides ≡ length corners → NextsTo sides nexts (length corners) → Ends sides corners tos froms
+
 -- what filling the chains asks, and gives
 abbrev pub Chainable : List ℕ → List ℕ → List ℕ → Type 0
 Chainable corners earliers heads =
-    (length corners ≤ mostCorners) × ((c : ℕ) → c < length corners → vertexOf corners c < length heads) × (length corners ≤ length earliers) × Blank heads
+    (length corners ≤ mostCorners) × ((c : ℕ) → c < length corners → vertexOf corners c < length heads) × (length corners ≤ length earliers)
+    × Blank heads
 
 pub record Chained (corners earliers heads : List ℕ) : Type 0 where
   pub earliers-are : EarliersTo corners earliers (length corners)

@@ -1,13 +1,11 @@
 // Scratch tables over the corners of a mesh: the next corner of each, the far ends of its two edges, and the earlier corner of the same
 // vertex, so that the corners of a vertex form a falling chain.
-ghost use mathlib.Core.Path.{_≡_};
-ghost use mathlib.Core.List.{List};
-ghost use Prim.Native.Nat.{ℕ, _≤_, _<_};
+ghost use Prim.Native.Nat.{_≤_, _<_};
 ghost use lib.ListN.{length};
 ghost use Rattle.mesh.specs.Limits.{mostCorners};
 ghost use Rattle.mesh.specs.Corners.{sumOf};
 ghost use Rattle.mesh.specs.Tables.{NextsTo};
-ghost use Rattle.tables.specs.Filled.{FaceFilled, Fillable, Endable, Ends, Chainable, Chained};
+ghost use Rattle.tables.specs.Filled.{FaceFilled, Fillable, Endable, Ended, Chainable, Chained};
 
 // The next corner of every corner.
 pub fn fill_nexts(sides: &[u8], nexts: &mut [u16])
@@ -40,7 +38,7 @@ fn fill_face(nexts: &mut [u16], start: usize, end: usize)
 // The far ends of each corner's two edges: its leaving edge is the arriving edge of its next corner.
 pub fn fill_ends(corners: &[u16], nexts: &[u16], tos: &mut [u16], froms: &mut [u16])
     requires { ⌜ Endable (now corners) (now nexts) (now tos) (now froms) ⌝ }
-    ensures { λ _. ⌜ ((sides : List ℕ) → sumOf sides ≡ length (now (corners .entry)) → NextsTo sides (now (nexts .entry)) (length (now (corners .entry))) → Ends sides (now (corners .entry)) (now (tos .exit)) (now (froms .exit))) ⌝ }
+    ensures { λ _. ⌜ Ended (now (corners .entry)) (now (nexts .entry)) (now (tos .exit)) (now (froms .exit)) ⌝ }
 {
     let mut c = 0;
     while c < corners.len() {

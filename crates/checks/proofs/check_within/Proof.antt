@@ -20,7 +20,7 @@ enum-known-a c = search needs
 
 returns : tie.Need-returns
 returns c =
-    let s = c .before .before .before .before .before .before .before .before in let a = c .before .before .before .check-lists in let k = c .before .a .given in
+    let t = c .before .before .before in let a = t .check-lists in let s = t .before .before .before .before .before in let k = c .before .a .given in
     let M = meshOf (now (s .args .coordinates)) (now (s .args .sides)) (now (s .args .corners)) in
     lists-refused M _ _ (k .0 .0) (k .0 .1 .0) (ap stated (sym (k .1)) ∙ a .ensures)
 
@@ -29,17 +29,21 @@ enum-told c = search needs
 
 fill-nexts-requires : tie.Need-fill-nexts-requires
 fill-nexts-requires c κs =
-    let s = c .before .before .before .before .before .before .before .before in let a = c .before .before .before .check-lists in
+    let t = c .before in let a = t .before .before .check-lists in let s = t .before .before .before .before .before .before .before in
     let M = meshOf (now (s .args .coordinates)) (now (s .args .sides)) (now (s .args .corners)) in
-    let g = listed M (passed (a .result) (a .ensures) (c .before .enum-told .given .1)) in
+    let g = listed M (passed (a .result) (a .ensures) (t .enum-told .given .1)) in
     (omega (arith, g .sums, g .small), g .sided, omega (arith, g .sums, s .pre .0 (g .small)))
 
 check-links-requires : tie.Need-check-links-requires
 check-links-requires c κs =
-    let s = c .before .before .before .before .before .before .before .before .before .before .before .before .before in let a = c .before .before .before .before .before .before .before .before .check-lists in let n = c .before .before .before .before .fill-nexts in
+    let n = c .before .before .before .before .fill-nexts in
+    let t = c .before .before .before .before .before .before in
+    let a = t .before .before .check-lists in
+    let s = t .before .before .before .before .before .before .before in
     let M = meshOf (now (s .args .coordinates)) (now (s .args .sides)) (now (s .args .corners)) in
-    let g = listed M (passed (a .result) (a .ensures) (c .before .before .before .before .before .before .enum-told .given .1)) in
-    (g, subst (NextsTo (now (s .args .sides)) (n .last .1 .0)) (g .sums) (n .ensures), omega (arith, n .kept .1 .0, s .pre .0 (g .small)), s .pre .1 (g .small))
+    let g = listed M (passed (a .result) (a .ensures) (t .enum-told .given .1)) in
+    let nexts = subst (NextsTo (M .sides) (n .last .1 .0)) (g .sums) (n .ensures) in
+    (g, nexts, omega (arith, n .kept .1 .0, s .pre .0 (g .small)), s .pre .1 (g .small))
 
 same-length : tie.Need-same-length
 same-length c = search needs
@@ -49,11 +53,15 @@ same-length-2 c = search needs
 
 returns-2 : tie.Need-returns-2
 returns-2 c =
-    let s = c .before .before .before .before .before .before .before .before .before .before .before .before .before .before .before .before in let a = c .before .before .before .before .before .before .before .before .before .before .before .check-lists in let n = c .before .before .before .before .before .before .before .fill-nexts in
+    let k = c .before .before .check-links in
+    let n = c .before .before .before .before .before .before .before .fill-nexts in
+    let t = c .before .before .before .before .before .before .before .before .before in
+    let a = t .before .before .check-lists in
+    let s = t .before .before .before .before .before .before .before in
     let M = meshOf (now (s .args .coordinates)) (now (s .args .sides)) (now (s .args .corners)) in
-    let e = passed (a .result) (a .ensures) (c .before .before .before .before .before .before .before .before .before .enum-told .given .1) in
-    checked M (n .last .1 .0) (c .before .before .check-links .last .1 .1 .1 .1 .0) (c .before .before .check-links .result) e
-    (subst (NextsTo (now (s .args .sides)) (n .last .1 .0)) (listed M e .sums) (n .ensures)) (c .before .before .check-links .ensures)
+    let e = passed (a .result) (a .ensures) (t .enum-told .given .1) in
+    let nexts = subst (NextsTo (M .sides) (n .last .1 .0)) (listed M e .sums) (n .ensures) in
+    checked M (n .last .1 .0) (k .last .1 .1 .1 .1 .0) (k .result) e nexts (k .ensures)
 
 pub check-within-spec : {M : Type 1} → statement M
 check-within-spec =

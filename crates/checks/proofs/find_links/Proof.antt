@@ -15,7 +15,8 @@ fill-earliers-requires c κs =
 
 fill-ends-requires : tie.Need-fill-ends-requires
 fill-ends-requires c κs =
-    let s = c .before .before .before .before .before .before .before .before .before .before .before .before .before .before .before .before .before .before .before in let r = s .pre .1 in
+    let s = c .before .before .before .before .before .before .before .before .before .before .before .before .before .before .before .before .before .before .before in
+    let r = s .pre .1 in
     let M = meshOf (now (s .args .coordinates)) (now (s .args .sides)) (now (s .args .corners)) in
     record {
       nexts-length = s .pre .0 .2;
@@ -26,17 +27,20 @@ fill-ends-requires c κs =
 
 fill-links-requires : tie.Need-fill-links-requires
 fill-links-requires c κs =
-    let s = c .before .before .before .before .before .before .before .before .before .before .before .before .before .before .before .before .before .before .before .before .before .before .before .before .before .before .before .before .before .before .before in let g = s .pre .0 .0 in let r = s .pre .1 in let e = c .before .before .before .before .before .before .before .before .before .before .before .before .before .before .before .before .before .before .fill-earliers in let f = c .before .before .before .before .before .before .before .before .before .before .before .fill-ends in
-    let M = meshOf (now (s .args .coordinates)) (now (s .args .sides)) (now (s .args .corners)) in (
-      searchable M (e .last .1 .0) (f .last .1 .1 .0) (f .last .1 .1 .1 .0) (e .last .1 .1 .0) g (omega (arith, r .earliers-length, e .kept .1 .0))
-          (omega (arith, r .tos-length, f .kept .1 .1 .0)) (omega (arith, r .froms-length, f .kept .1 .1 .1 .0)) (omega (arith, r .heads-length, e .kept .1 .1 .0))
-          (e .ensures) (f .ensures (M .sides) (g .sums) (s .pre .0 .1)),
-      r .leaving-length,
-      r .leaving-blank,
-      r .arriving-length,
-      r .arriving-blank,
-      s .pre .0 .3,
-    )
+    let t = c .before .before .before .before .before .before .before .before .before .before .before in
+    let f = t .fill-ends in
+    let u = t .before .before .before .before .before .before .before in
+    let e = u .fill-earliers in
+    let s = u .before .before .before .before .before .before .before .before .before .before .before .before .before in
+    let g = s .pre .0 .0 in
+    let r = s .pre .1 in
+    let M = meshOf (now (s .args .coordinates)) (now (s .args .sides)) (now (s .args .corners)) in
+    let k =
+    searchable M (e .last .1 .0) (f .last .1 .1 .0) (f .last .1 .1 .1 .0) (e .last .1 .1 .0) g
+    (omega (arith, r .earliers-length, e .kept .1 .0)) (omega (arith, r .tos-length, f .kept .1 .1 .0))
+    (omega (arith, r .froms-length, f .kept .1 .1 .1 .0)) (omega (arith, r .heads-length, e .kept .1 .1 .0))
+    (e .ensures) (f .ensures (M .sides) (g .sums) (s .pre .0 .1)) in
+    (k, ((r .leaving-length, r .leaving-blank, r .arriving-length, r .arriving-blank), s .pre .0 .3))
 
 same-length : tie.Need-same-length
 same-length c = search needs
@@ -61,8 +65,11 @@ same-length-7 c = search needs
 
 returns : tie.Need-returns
 returns c =
-    let s = c .before .before .before .before .before .before .before .before .before .before .before .before .before .before .before .before .before .before .before .before .before .before .before .before .before .before .before .before .before .before .before .before .before .before .before .before .before .before in
-    c .before .before .before .before .before .before .fill-links .ensures (now (s .args .sides)) (c .before .before .before .before .before .before .before .before .before .before .before .before .before .before .before .before .before .before .fill-ends .ensures (now (s .args .sides)) (s .pre .0 .0 .sums) (s .pre .0 .1))
+    let t = c .before .before .before .before .before .before in
+    let s = t .before .before .before .before .before .before .before .before .before .before .before .before .before .before .before .before .before .before .before .before .before .before .before .before .before .before .before .before .before .before .before .before in
+    let sides = now (s .args .sides) in
+    t .fill-links .ensures sides
+    (t .before .before .before .before .before .before .before .before .before .before .before .before .fill-ends .ensures sides (s .pre .0 .0 .sums) (s .pre .0 .1))
 
 pub find-links-spec : {M : Type 1} → statement M
 find-links-spec =

@@ -3,7 +3,6 @@
 use mathlib.Core.Path.{_∙_}
 use denote.Ref.{now}
 use Rattle.edges.proofs.Laws.{ten-found}
-use native.Mathlib.Omega.{arith}
 use borrow.Author.Needs.{needs}
 use Rattle.edges.proofs.check_repeats.Statement.{statement}
 use Rattle.edges.proofs.check_repeats.Tie as tie

@@ -3,7 +3,6 @@
 use mathlib.Core.Path.{_∙_}
 use denote.Ref.{now}
 use Rattle.edges.proofs.Laws.{eleven-found}
-use native.Mathlib.Omega.{arith}
 use borrow.Author.Needs.{needs}
 use Rattle.edges.proofs.check_reverses.Statement.{statement}
 use Rattle.edges.proofs.check_reverses.Tie as tie
@@ -13,7 +12,8 @@ refuse-requires c κs = search needs
 
 returns : tie.Need-returns
 returns c =
-    let s = c .before .before .before in λ sides sums t ten. c .refuse .ensures ∙ eleven-found sides (now (s .args .corners)) (now (s .args .links)) (s .pre .0) t ten sums
+    let s = c .before .before .before in
+    λ sides sums t ten. c .refuse .ensures ∙ eleven-found sides (now (s .args .corners)) (now (s .args .links)) (s .pre .0) t ten sums
 
 pub check-reverses-spec : {M : Type 1} → statement M
 check-reverses-spec = tie.close (tie.spec refuse-requires returns)

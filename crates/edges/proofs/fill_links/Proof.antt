@@ -1,9 +1,8 @@
 -- `fill_links` meets its contract: the corners of the vertices below `u` have their entries.
 -- Assumes nothing.
 use mathlib.Core.Path.{_≡_, refl, _∙_}
-use Prim.Native.Nat.{_≤_, _<_, _-_}
+use Prim.Native.Nat.{_≤_, _-_}
 use lib.ListN.{length}
-use denote.Ref.{now}
 use Rattle.edges.specs.Entries.{Keyed, EntriesBelow}
 use Rattle.edges.proofs.Laws.{keyed-blank, entries-none, entries-all}
 use native.Mathlib.Omega.{arith}
@@ -21,24 +20,20 @@ abbrev μ-loop : tie.MeasureT-loop
 
 loop-holds : tie.Need-loop-holds Inv-loop μ-loop
 loop-holds c =
-    let s = c .before .before .before .before .before .before .before .before in (
-      omega arith,
-      refl,
-      refl,
-      refl,
-      keyed-blank _ _ _ _ (s .pre .1) (s .pre .2),
-      keyed-blank _ _ _ _ (s .pre .3) (s .pre .4),
-      entries-none _ _ _ _,
-    )
+    let t = c .before .before .before .before .before .before .before .before .pre .1 .0 in
+    (omega arith, refl, refl, refl, keyed-blank _ _ _ _ (t .0) (t .1), keyed-blank _ _ _ _ (t .2) (t .3), entries-none _ _ _ _)
 
 mark-requires : tie.Need-mark-requires Inv-loop μ-loop
 mark-requires c κs =
-    let s = c .before .before .before .before .before .before .before .before .before .before .before .before in let l = c .before .before .before .loop in (search needs, s .pre .0, l .inv .4, l .inv .5)
+    let t = c .before .before .before in
+    ((search needs, t .before .before .before .before .before .before .before .before .before .pre .0), (t .loop .inv .4, t .loop .inv .5))
 
 collect-requires : tie.Need-collect-requires Inv-loop μ-loop
 collect-requires c κs =
-    let s = c .before .before .before .before .before .before .before .before .before .before .before .before .before .before .before .before .before .before .before .before in let l = c .before .before .before .before .before .before .before .before .before .before .before .loop in let m = c .before .before .before .before .before .before .before .mark in
-    (search needs, s .pre .0, m .ensures .0, m .ensures .1, m .ensures .2, m .ensures .3, omega (arith, s .pre .5, l .inv .3), l .inv .6)
+    let t = c .before .before .before .before .before .before .before in
+    let l = t .before .before .before .before .loop in
+    let s = t .before .before .before .before .before .before .before .before .before .before .before .before .before in
+    ((search needs, s .pre .0), (t .mark .ensures, (omega (arith, s .pre .1 .1, l .inv .3), l .inv .6)))
 
 add-u : tie.Need-add-u Inv-loop μ-loop
 add-u c = search needs
@@ -48,13 +43,16 @@ loop-less c = search needs
 
 loop-again : tie.Need-loop-again Inv-loop μ-loop
 loop-again c =
-    let l = c .before .before .before .before .before .before .before .before .before .before .before .before .before .before .loop in let m = c .before .before .before .before .before .before .before .before .before .before .mark in let k = c .before .before .collect in (
+    let k = c .before .before .collect in
+    let t = c .before .before .before .before .before .before .before .before .before .before in
+    let m = t .mark in
+    let l = t .before .before .before .before .loop in (
       search needs,
       m .kept .1 .1 .1 .1 .1 .1 .1 .0 ∙ l .inv .1,
       m .kept .1 .1 .1 .1 .1 .1 .1 .1 .0 ∙ l .inv .2,
       k .kept .1 .1 .1 .1 .1 .1 .1 .1 .1 .0 ∙ l .inv .3,
-      m .ensures .0,
-      m .ensures .2,
+      m .ensures .left,
+      m .ensures .arrived,
       k .ensures,
     )
 
@@ -69,8 +67,8 @@ same-length-3 c = search needs
 
 returns : tie.Need-returns Inv-loop μ-loop
 returns c =
-    let s = c .before .before .before .before .before .before .before .before .before .before in let l = c .before .loop in
-    entries-all (now (s .args .corners)) (now (s .args .tos)) (now (s .args .froms)) (l .links) (l .u) (s .args .vertices) (c .loop-test .left) (s .pre .0 .named) (l .inv .6)
+    let t = c .before in let l = t .loop in let s = t .before .before .before .before .before .before .before .before .before in
+    entries-all _ _ _ _ (l .u) (s .args .vertices) (c .loop-test .left) (s .pre .0 .named) (l .inv .6)
 
 pub fill-links-spec : {M : Type 1} → statement M
 fill-links-spec =

@@ -31,7 +31,8 @@ shared-slice-read-if1 c = search needs
 returns : tie.Need-returns Inv-loop μ-loop
 returns c =
     let s = c .before .before .before .before in let l = c .before .before .before .loop in
-    sym (lowest-hit (s .args .number) (s .args .count) (has (now (s .args .links)) (s .args .entry)) (l .c) (search needs) (eq-eqb _ _ (c .if1 .taken)) (l .inv .1))
+    sym
+    (lowest-hit (s .args .number) (s .args .count) (has (now (s .args .links)) (s .args .entry)) (l .c) (search needs) (eq-eqb _ _ (c .if1 .taken)) (l .inv .1))
 
 add-c : tie.Need-add-c Inv-loop μ-loop
 add-c c = search needs

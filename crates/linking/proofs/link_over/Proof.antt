@@ -27,7 +27,9 @@ same-length-2 c = search needs
 
 returns : tie.Need-returns
 returns c =
-    let s = c .before .before .before .before .before .before .before .before .before .before .before .before .before .before .before in let a = c .before .before .before .before .before .before .before .check-within in let k = c .before .a .given in
+    let s = c .before .before .before .before .before .before .before .before .before .before .before .before .before .before .before in
+    let a = c .before .before .before .before .before .before .before .check-within in
+    let k = c .before .a .given in
     let M = meshOf (now (s .args .coordinates)) (now (s .args .sides)) (now (s .args .corners)) in
     link-refused M (now (s .args .links)) (k .0 .0) (k .0 .1 .0) (ap stated (sym (k .1)) ∙ a .ensures .answers)
 
@@ -42,14 +44,16 @@ same-length-4 c = search needs
 
 returns-2 : tie.Need-returns-2
 returns-2 c =
-    let s = c .before .before .before .before .before .before .before .before .before .before .before .before .before .before .before in let a = c .before .before .before .before .before .before .before .check-within in
+    let s = c .before .before .before .before .before .before .before .before .before .before .before .before .before .before .before in
+    let a = c .before .before .before .before .before .before .before .check-within in
     let M = meshOf (now (s .args .coordinates)) (now (s .args .sides)) (now (s .args .corners)) in
     let sound = passed (a .result) (a .ensures .answers) (c .before .enum-told .given .1) in
     link-14 M (now (s .args .links)) sound (c .if1 .taken)
 
 copy-requires : tie.Need-copy-requires
 copy-requires c κs =
-    let s = c .before .before .before .before .before .before .before .before .before .before .before .before .before .before .before .before .before in let a = c .before .before .before .before .before .before .before .before .before .check-within in
+    let s = c .before .before .before .before .before .before .before .before .before .before .before .before .before .before .before .before .before in
+    let a = c .before .before .before .before .before .before .before .before .before .check-within in
     let M = meshOf (now (s .args .coordinates)) (now (s .args .sides)) (now (s .args .corners)) in
     let sound = passed (a .result) (a .ensures .answers) (c .before .before .before .enum-told .given .1) in
     let few = few-corners (length (M .coordinates)) (length (M .sides)) (length (M .corners)) (sound-of M sound .four) in
@@ -66,10 +70,13 @@ same-length-7 c = search needs
 
 returns-3 : tie.Need-returns-3
 returns-3 c =
-    let s = c .before .before .before .before .before .before .before .before .before .before .before .before .before .before .before .before .before .before .before .before in let a = c .before .before .before .before .before .before .before .before .before .before .before .before .check-within in let k = c .before .before .copy in
+    let s = c .before .before .before .before .before .before .before .before .before .before .before .before .before .before .before .before .before .before .before .before in
+    let a = c .before .before .before .before .before .before .before .before .before .before .before .before .check-within in
+    let k = c .before .before .copy in
     let M = meshOf (now (s .args .coordinates)) (now (s .args .sides)) (now (s .args .corners)) in
     let sound = passed (a .result) (a .ensures .answers) (c .before .before .before .before .before .before .enum-told .given .1) in
-    link-done M (now (s .args .links)) sound (a .last .1 .1 .1 .1 .0) (k .last .1 .0) (c .before .before .before .before .before .if1 .left) (k .kept .1 .0) (a .ensures .links-are sound) (k .ensures)
+    link-done M (now (s .args .links)) sound (a .last .1 .1 .1 .1 .0) (k .last .1 .0) (c .before .before .before .before .before .if1 .left)
+    (k .kept .1 .0) (a .ensures .links-are sound) (k .ensures)
 
 pub link-over-spec : {M : Type 1} → statement M
 link-over-spec =

@@ -39,14 +39,15 @@ ring-requires : tie.Need-ring-requires Inv-loop μ-loop
 ring-requires c κs =
     let s = c .before .before .before .before .before .before .before .before in let l = c .before .before .before .loop in
     let h : l .u < s .args .vertices = search needs in
-    let i = lowest-in (now (s .args .corners)) (l .u) (s .pre .3 .named (l .u) h) in
-    (omega (arith, i, s .pre .2 .lowest-is (l .u) i), s .pre .3 .links-in, s .pre .3 .links-length)
+    let i = lowest-in (now (s .args .corners)) (l .u) (s .pre .1 .named (l .u) h) in
+    (omega (arith, i, s .pre .0 .2 .lowest-is (l .u) i), s .pre .1 .links-in, s .pre .1 .links-length)
 
 returns : tie.Need-returns Inv-loop μ-loop
 returns c =
     let s = c .before .before .before .before .before .before .before .before .before .before in let l = c .before .before .before .before .before .loop in
     let h : l .u < s .args .vertices = search needs in
-    whole-torn (now (s .args .corners)) (now (s .args .links)) (l .u) (s .args .vertices) (l .inv .1) (s .pre .3) h (now (s .args .counts)) (now (s .args .lowests)) (s .pre .2)
+    whole-torn (now (s .args .corners)) (now (s .args .links)) (l .u) (s .args .vertices) (l .inv .1) (s .pre .1) h (now (s .args .counts))
+    (now (s .args .lowests)) (s .pre .0 .2)
     (c .before .ring .result) (c .before .ring .ensures) (c .if1 .taken)
 
 add-u : tie.Need-add-u Inv-loop μ-loop
@@ -60,7 +61,8 @@ loop-again c =
     let s = c .before .before .before .before .before .before .before .before .before .before in let l = c .before .before .before .before .before .loop in
     let h : l .u < s .args .vertices = search needs in (
       search needs,
-      whole-more (now (s .args .corners)) (now (s .args .links)) (l .u) (s .args .vertices) (l .inv .1) (s .pre .3) h (now (s .args .counts)) (now (s .args .lowests)) (s .pre .2)
+      whole-more (now (s .args .corners)) (now (s .args .links)) (l .u) (s .args .vertices) (l .inv .1) (s .pre .1) h (now (s .args .counts))
+          (now (s .args .lowests)) (s .pre .0 .2)
           (c .before .ring .result) (c .before .ring .ensures) (c .if1 .left),
     )
 

@@ -63,7 +63,8 @@ loop-again c =
     let n = getD (now (s .args .counts)) (l .u) 0 in (
       search needs,
       fails-step (fault12 (now (s .args .corners))) (l .u) (l .inv .1)
-          (inside leastSides mostSides v (omega (arith, s .pre .1 .count-is (l .u), c .before .if1 .left)) (omega (arith, s .pre .1 .count-is (l .u), ltb-false mostSides n (c .if2 .left)))),
+          (inside leastSides mostSides v (omega (arith, s .pre .1 .count-is (l .u), c .before .if1 .left))
+          (omega (arith, s .pre .1 .count-is (l .u), ltb-false mostSides n (c .if2 .left)))),
     )
 
 returns-2 : tie.Need-returns-2 Inv-loop μ-loop

@@ -11,7 +11,8 @@ use Rattle.tables.proofs.fill_ends.Statement.{statement}
 use Rattle.tables.proofs.fill_ends.Tie as tie
 
 abbrev Inv-loop : tie.InvT-loop
-Inv-loop corners nexts tos₀ froms₀ c₀ tos froms c = (c ≤ length corners) × (length tos ≡ length tos₀) × (length froms ≡ length froms₀) × EndsBelow corners nexts tos froms c
+Inv-loop corners nexts tos₀ froms₀ c₀ tos froms c =
+    (c ≤ length corners) × (length tos ≡ length tos₀) × (length froms ≡ length froms₀) × EndsBelow corners nexts tos froms c
 
 abbrev μ-loop : tie.MeasureT-loop
 μ-loop corners nexts tos₀ froms₀ c₀ tos froms c = length corners - c
@@ -51,7 +52,8 @@ mul-froms-2 c = omega (arith, c .before .before .shared-slice-known .given (c .b
 
 slice-write-froms : tie.Need-slice-write-froms Inv-loop μ-loop
 slice-write-froms c =
-    omega (arith, c .before .before .before .before .before .pre .froms-length, c .before .before .before .before .before .pre .nexts-in (c .before .before .before .before .loop .c) (search needs))
+    omega
+    (arith, c .before .before .before .before .before .pre .froms-length, c .before .before .before .before .before .pre .nexts-in (c .before .before .before .before .loop .c) (search needs))
 
 add-c : tie.Need-add-c Inv-loop μ-loop
 add-c c = search needs

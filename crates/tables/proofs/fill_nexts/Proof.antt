@@ -15,7 +15,8 @@ use Rattle.tables.proofs.fill_nexts.Statement.{statement}
 use Rattle.tables.proofs.fill_nexts.Tie as tie
 
 abbrev Inv-loop : tie.InvT-loop
-Inv-loop sides nexts₀ start₀ f₀ nexts start f = (f ≤ length sides) × (start ≡ startOf sides f) × (length nexts ≡ length nexts₀) × NextsTo sides nexts (startOf sides f)
+Inv-loop sides nexts₀ start₀ f₀ nexts start f =
+    (f ≤ length sides) × (start ≡ startOf sides f) × (length nexts ≡ length nexts₀) × NextsTo sides nexts (startOf sides f)
 
 abbrev μ-loop : tie.MeasureT-loop
 μ-loop sides nexts₀ start₀ f₀ nexts start f = length sides - f
