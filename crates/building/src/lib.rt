@@ -1,11 +1,14 @@
 // Building: writes the control points of a range of corners, or answers why the call is refused and leaves the output as it was.
 use mesh::Answer;
 use mesh::MOST_CORNERS;
+use mesh::SMALL_MESH;
+ghost use Prim.Native.Nat.{_≤_};
 ghost use lib.ListN.{length};
 ghost use Rattle.mesh.specs.Lists.{meshOf};
-ghost use Rattle.mesh.specs.Tables.{NextsTo, LinkTable};
+ghost use Rattle.mesh.specs.Tables.{smallMesh, NextsTo, LinkTable};
 ghost use Rattle.mesh.specs.Faults.{Accepted};
 ghost use Rattle.surface.specs.Building.{Built};
+ghost use Rattle.checks.specs.Checked.{Within};
 ghost use Rattle.building.specs.Answered.{Answered};
 
 // Checks 4 to 17, then the control points. Nothing is written to the output before the last check has passed.
@@ -20,9 +23,83 @@ pub fn build(
 ) -> Answer
     ensures { λ r. ⌜ Built (meshOf (now (coordinates .entry)) (now (sides .entry)) (now (corners .entry))) (now (links .entry)) first count (now (out .entry)) r (now (out .exit)) ⌝ }
 {
+    if corners.len() <= SMALL_MESH {
+        return build_few(coordinates, sides, corners, links, first, count, out);
+    }
+    build_many(coordinates, sides, corners, links, first, count, out)
+}
+
+// The same of a small mesh.
+fn build_few(
+    coordinates: &[i32],
+    sides: &[u8],
+    corners: &[u16],
+    links: &[u16],
+    first: usize,
+    count: usize,
+    out: &mut [i32],
+) -> Answer
+    requires { ⌜ length (now corners) ≤ smallMesh ⌝ }
+    ensures { λ r. ⌜ Built (meshOf (now (coordinates .entry)) (now (sides .entry)) (now (corners .entry))) (now (links .entry)) first count (now (out .entry)) r (now (out .exit)) ⌝ }
+{
+    let mut nexts = [0u16; SMALL_MESH];
+    let mut table = [0u16; SMALL_MESH];
+    build_over(
+        coordinates,
+        sides,
+        corners,
+        links,
+        first,
+        count,
+        &mut nexts,
+        &mut table,
+        out,
+    )
+}
+
+// The same of any mesh.
+fn build_many(
+    coordinates: &[i32],
+    sides: &[u8],
+    corners: &[u16],
+    links: &[u16],
+    first: usize,
+    count: usize,
+    out: &mut [i32],
+) -> Answer
+    ensures { λ r. ⌜ Built (meshOf (now (coordinates .entry)) (now (sides .entry)) (now (corners .entry))) (now (links .entry)) first count (now (out .entry)) r (now (out .exit)) ⌝ }
+{
     let mut nexts = [0u16; MOST_CORNERS];
     let mut table = [0u16; MOST_CORNERS];
-    let a = checks::check(coordinates, sides, corners, &mut nexts, &mut table);
+    build_over(
+        coordinates,
+        sides,
+        corners,
+        links,
+        first,
+        count,
+        &mut nexts,
+        &mut table,
+        out,
+    )
+}
+
+// The same over tables of its own, which the checks fill.
+fn build_over(
+    coordinates: &[i32],
+    sides: &[u8],
+    corners: &[u16],
+    links: &[u16],
+    first: usize,
+    count: usize,
+    nexts: &mut [u16],
+    table: &mut [u16],
+    out: &mut [i32],
+) -> Answer
+    requires { ⌜ Within (now corners) (now nexts) × Within (now corners) (now table) ⌝ }
+    ensures { λ r. ⌜ Built (meshOf (now (coordinates .entry)) (now (sides .entry)) (now (corners .entry))) (now (links .entry)) first count (now (out .entry)) r (now (out .exit)) ⌝ }
+{
+    let a = checks::check_within(coordinates, sides, corners, nexts, table);
     if let Answer::Refused(k, p) = a {
         return Answer::Refused(k, p);
     }
@@ -30,8 +107,8 @@ pub fn build(
         coordinates,
         sides,
         corners,
-        &nexts,
-        &table,
+        nexts,
+        table,
         links,
         first,
         count,
@@ -44,8 +121,8 @@ fn answer(
     coordinates: &[i32],
     sides: &[u8],
     corners: &[u16],
-    nexts: &[u16; MOST_CORNERS],
-    table: &[u16; MOST_CORNERS],
+    nexts: &[u16],
+    table: &[u16],
     links: &[u16],
     first: usize,
     count: usize,
@@ -53,6 +130,7 @@ fn answer(
 ) -> Answer
     requires mesh { ⌜ Accepted (meshOf (now coordinates) (now sides) (now corners)) ⌝ }
     requires tables { ⌜ NextsTo (now sides) (now nexts) (length (now corners)) × LinkTable (now sides) (now corners) (now table) ⌝ }
+    requires long { ⌜ Within (now corners) (now nexts) × Within (now corners) (now table) ⌝ }
     ensures { λ r. ⌜ Answered (meshOf (now (coordinates .entry)) (now (sides .entry)) (now (corners .entry))) (now (links .entry)) first count (now (out .entry)) r (now (out .exit)) ⌝ }
 {
     let a = requests::check_request(corners.len(), table, links, first, count, out.len());

@@ -8,7 +8,7 @@ use Rattle.mesh.specs.Limits.{leastSides, mostVertices, mostCorners}
 use Rattle.mesh.specs.Lists.{Mesh, vertexCount, faceCount, cornerCount}
 use Rattle.mesh.specs.Corners.{sumOf}
 use Rattle.mesh.specs.Links.{vertexOf}
-use Rattle.mesh.specs.Tables.{NextsTo, LinkTable}
+use Rattle.mesh.specs.Tables.{smallMesh, NextsTo, LinkTable}
 use Rattle.mesh.specs.Faults.{sound, linkFaults, verdict, Accepted}
 use Rattle.mesh.specs.Answers.{stated}
 use Rattle.mesh.specs.declared.Answer.{Answer}
@@ -37,15 +37,9 @@ abbrev pub Joinable : Mesh → List ℕ → List ℕ → Type 0
 Joinable M nexts links =
     Listed M × NextsTo (M .sides) nexts (cornerCount M) × (cornerCount M ≤ length nexts) × (cornerCount M ≤ length links)
 
--- a mesh for the small tables
-abbrev pub fewCorners : ℕ
-fewCorners = 256
-
-abbrev pub fewVertices : ℕ
-fewVertices = 128
-
+-- a mesh for the short tables
 abbrev pub Few : Mesh → Type 0
-Few M = (cornerCount M ≤ fewCorners) × (vertexCount M ≤ fewVertices)
+Few M = (cornerCount M ≤ smallMesh) × (vertexCount M ≤ smallMesh)
 
 -- scratch tables that have room for a mesh; those by vertex start at zero
 pub record Room (M : Mesh) (earliers tos froms heads leaving arriving : List ℕ) : Type 0 where

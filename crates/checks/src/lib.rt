@@ -2,6 +2,7 @@
 use mesh::Answer;
 use mesh::MOST_CORNERS;
 use mesh::MOST_VERTICES;
+use mesh::SMALL_MESH;
 ghost use mathlib.Core.Path.{_≡_};
 ghost use Prim.Native.Nat.{_≤_};
 ghost use lib.ListN.{length};
@@ -10,11 +11,6 @@ ghost use Rattle.mesh.specs.Faults.{listFaults};
 ghost use Rattle.mesh.specs.Answers.{stated};
 ghost use Rattle.edges.specs.Entries.{Entries};
 ghost use Rattle.checks.specs.Checked.{Checked, Within, Listed, Joinable, Few, Room, CountRoom, Joined};
-
-// A mesh of at most so many corners and vertices is checked over small scratch tables, which are sooner cleared.
-pub const FEW_CORNERS: usize = 256;
-
-const FEW_VERTICES: usize = 128;
 
 // Checks 4 to 13. The two tables are scratch: of an accepted mesh they then hold the next corner and the link of every corner.
 pub fn check(
@@ -86,13 +82,13 @@ fn check_links(
     requires { ⌜ Joinable (meshOf (now coordinates) (now sides) (now corners)) (now nexts) (now links) ⌝ }
     ensures { λ r. ⌜ Joined (meshOf (now (coordinates .entry)) (now (sides .entry)) (now (corners .entry))) r (now (links .exit)) ⌝ }
 {
-    if corners.len() <= FEW_CORNERS && coordinates.len() / 3 <= FEW_VERTICES {
+    if corners.len() <= SMALL_MESH && coordinates.len() / 3 <= SMALL_MESH {
         return check_few(coordinates, sides, corners, nexts, links);
     }
     check_many(coordinates, sides, corners, nexts, links)
 }
 
-// The same of a mesh that small tables have room for.
+// The same of a small mesh.
 fn check_few(
     coordinates: &[i32],
     sides: &[u8],
@@ -104,12 +100,12 @@ fn check_few(
     requires few { ⌜ Few (meshOf (now coordinates) (now sides) (now corners)) ⌝ }
     ensures { λ r. ⌜ Joined (meshOf (now (coordinates .entry)) (now (sides .entry)) (now (corners .entry))) r (now (links .exit)) ⌝ }
 {
-    let mut earliers = [0u16; FEW_CORNERS];
-    let mut tos = [0u16; FEW_CORNERS];
-    let mut froms = [0u16; FEW_CORNERS];
-    let mut heads = [0u16; FEW_VERTICES];
-    let mut leaving = [0u16; FEW_VERTICES];
-    let mut arriving = [0u16; FEW_VERTICES];
+    let mut earliers = [0u16; SMALL_MESH];
+    let mut tos = [0u16; SMALL_MESH];
+    let mut froms = [0u16; SMALL_MESH];
+    let mut heads = [0u16; SMALL_MESH];
+    let mut leaving = [0u16; SMALL_MESH];
+    let mut arriving = [0u16; SMALL_MESH];
     find_links(
         coordinates,
         sides,
@@ -123,8 +119,8 @@ fn check_few(
         &mut leaving,
         &mut arriving,
     );
-    let mut counts = [0u16; FEW_VERTICES];
-    let mut lowests = [0u16; FEW_VERTICES];
+    let mut counts = [0u16; SMALL_MESH];
+    let mut lowests = [0u16; SMALL_MESH];
     join(
         coordinates,
         sides,

@@ -1,31 +1,32 @@
 // Linking: fills a lent link table, or answers why the mesh is turned down and leaves the table as it was.
-use checks::FEW_CORNERS;
 use mesh::Answer;
 use mesh::MOST_CORNERS;
+use mesh::SMALL_MESH;
 ghost use mathlib.Core.Path.{_≡_};
 ghost use Prim.Native.Nat.{ℕ, _≤_, _<_};
 ghost use lib.ListN.{length, getD};
 ghost use Rattle.mesh.specs.Lists.{meshOf};
-ghost use Rattle.checks.specs.Checked.{Within, fewCorners};
+ghost use Rattle.mesh.specs.Tables.{smallMesh};
+ghost use Rattle.checks.specs.Checked.{Within};
 ghost use Rattle.linking.specs.Linked.{Linked};
 
 // Checks 4 to 14, then the link of every corner. Nothing is written to the lent table before the last check has passed.
 pub fn link(coordinates: &[i32], sides: &[u8], corners: &[u16], links: &mut [u16]) -> Answer
     ensures { λ r. ⌜ Linked (meshOf (now (coordinates .entry)) (now (sides .entry)) (now (corners .entry))) (now (links .entry)) r (now (links .exit)) ⌝ }
 {
-    if corners.len() <= FEW_CORNERS {
+    if corners.len() <= SMALL_MESH {
         return link_few(coordinates, sides, corners, links);
     }
     link_many(coordinates, sides, corners, links)
 }
 
-// The same of a mesh that small tables have room for.
+// The same of a small mesh.
 fn link_few(coordinates: &[i32], sides: &[u8], corners: &[u16], links: &mut [u16]) -> Answer
-    requires { ⌜ length (now corners) ≤ fewCorners ⌝ }
+    requires { ⌜ length (now corners) ≤ smallMesh ⌝ }
     ensures { λ r. ⌜ Linked (meshOf (now (coordinates .entry)) (now (sides .entry)) (now (corners .entry))) (now (links .entry)) r (now (links .exit)) ⌝ }
 {
-    let mut nexts = [0u16; FEW_CORNERS];
-    let mut table = [0u16; FEW_CORNERS];
+    let mut nexts = [0u16; SMALL_MESH];
+    let mut table = [0u16; SMALL_MESH];
     link_over(coordinates, sides, corners, &mut nexts, &mut table, links)
 }
 

@@ -7,6 +7,10 @@ use lib.ListN.{length, getD}
 use Rattle.mesh.specs.Corners.{next}
 use Rattle.mesh.specs.Links.{link}
 
+-- a mesh with at most so many vertices, faces and corners is small, and has short tables
+abbrev pub smallMesh : ℕ
+smallMesh = 256
+
 -- the next corner of each corner below `end`
 unfoldable pub NextsTo : List ℕ → List ℕ → ℕ → Type 0
 NextsTo sides nexts end = (c : ℕ) → c < end → getD nexts c 0 ≡ next sides c

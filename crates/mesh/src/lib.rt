@@ -13,6 +13,9 @@ pub const MOST_CORNERS: usize = 8192;
 
 pub const MOST_COORDINATE: i32 = 65536;
 
+// A mesh with at most so many vertices, faces and corners is small: calls use short tables for it, which are sooner cleared.
+pub const SMALL_MESH: usize = 256;
+
 // What a check, linking and building answer: done, or refused with 01's number and place.
 pub enum Answer {
     Done,

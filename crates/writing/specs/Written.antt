@@ -29,10 +29,6 @@ pub record AtMost (M : Mesh) (vertices faces corners : ℕ) : Type 0 where
   pub faces-fit : faceCount M ≤ faces
   pub corners-fit : cornerCount M ≤ corners
 
--- a small mesh has at most so many of each
-abbrev pub small : ℕ
-small = 256
-
 -- new tables, long enough for the mesh
 pub record New (M : Mesh) (previouses sides valences totals marked wanted : List ℕ) (points : List ℤ) : Type 0 where
   pub previouses-hold : cornerCount M ≤ length previouses

@@ -3,22 +3,21 @@
 use mesh::MOST_CORNERS;
 use mesh::MOST_FACES;
 use mesh::MOST_VERTICES;
+use mesh::SMALL_MESH;
 use requests::PER_CORNER;
 ghost use mathlib.Core.Path.{_≡_};
 ghost use Prim.Native.Nat.{_+_, _*_, _≤_, _<_};
 ghost use lib.ListN.{length};
 ghost use Rattle.mesh.specs.Lists.{meshOf};
 ghost use Rattle.mesh.specs.Corners.{sumOf};
+ghost use Rattle.mesh.specs.Tables.{smallMesh};
 ghost use Rattle.mesh.specs.Faults.{Accepted};
 ghost use Rattle.surface.specs.Corners.{Sound};
 ghost use Rattle.surface.specs.Refined.{nets, perCorner};
 ghost use Rattle.corner_tables.specs.Tables.{Wanted};
 ghost use Rattle.refine.specs.Sources.{Small};
 ghost use Rattle.sides.specs.Tabled.{tabled};
-ghost use Rattle.writing.specs.Written.{Given, AtMost, small, New, MeshTables, Long, AxisWritten};
-
-// What a small mesh has at most, of vertices, faces and corners: tables of this length take hardly any time to clear.
-const SMALL: usize = 256;
+ghost use Rattle.writing.specs.Written.{Given, AtMost, New, MeshTables, Long, AxisWritten};
 
 // The numbers of `count` corners from `first` on, over the tables of next corners and links.
 pub fn write_nets(
@@ -36,7 +35,10 @@ pub fn write_nets(
     requires range { ⌜ (0 < count) × (first + count ≤ length (now corners)) × (length (now out) ≡ perCorner * count) ⌝ }
     ensures { λ _. ⌜ now (out .exit) ≡ nets (meshOf (now (coordinates .entry)) (now (sides .entry)) (now (corners .entry))) first count ⌝ }
 {
-    if corners.len() <= SMALL && sides.len() <= SMALL && coordinates.len() <= 3 * SMALL {
+    if corners.len() <= SMALL_MESH
+        && sides.len() <= SMALL_MESH
+        && coordinates.len() <= 3 * SMALL_MESH
+    {
         write_small(coordinates, sides, corners, nexts, links, first, count, out);
     } else {
         write_large(coordinates, sides, corners, nexts, links, first, count, out);
@@ -57,16 +59,16 @@ fn write_small(
     requires mesh { ⌜ Accepted (meshOf (now coordinates) (now sides) (now corners)) ⌝ }
     requires tables { ⌜ Given (meshOf (now coordinates) (now sides) (now corners)) (now nexts) (now links) ⌝ }
     requires range { ⌜ (0 < count) × (first + count ≤ length (now corners)) × (length (now out) ≡ perCorner * count) ⌝ }
-    requires small { ⌜ AtMost (meshOf (now coordinates) (now sides) (now corners)) small small small ⌝ }
+    requires small { ⌜ AtMost (meshOf (now coordinates) (now sides) (now corners)) smallMesh smallMesh smallMesh ⌝ }
     ensures { λ _. ⌜ now (out .exit) ≡ nets (meshOf (now (coordinates .entry)) (now (sides .entry)) (now (corners .entry))) first count ⌝ }
 {
-    let mut previouses = [0u16; SMALL];
-    let mut counts = [0u8; SMALL];
-    let mut valences = [0u8; SMALL];
-    let mut totals = [0u8; SMALL];
-    let mut marked = [0u8; SMALL];
-    let mut wanted = [0u8; SMALL];
-    let mut points = [0i32; SMALL];
+    let mut previouses = [0u16; SMALL_MESH];
+    let mut counts = [0u8; SMALL_MESH];
+    let mut valences = [0u8; SMALL_MESH];
+    let mut totals = [0u8; SMALL_MESH];
+    let mut marked = [0u8; SMALL_MESH];
+    let mut wanted = [0u8; SMALL_MESH];
+    let mut points = [0i32; SMALL_MESH];
     write_tabled(
         coordinates,
         sides,

@@ -21,36 +21,36 @@ mesh s = meshOf (now (s .args .coordinates)) (now (s .args .sides)) (now (s .arg
 -- past the checks
 module _ (t : tie.After-enum-told) where
   abbrev start : tie.Start
-  start = t .before .before .before .before .before .before .before
+  start = t .before .before .before .before .before .before .before .before
 
   accepts : requestFaults (mesh start) (now (start .args .links)) (start .args .first) (start .args .count) (length (now (start .args .out))) ≡ sound
-  accepts = passed (t .before .before .check-request .result) (t .before .before .check-request .ensures (mesh start) refl (start .pre .1 .1)) (t .enum-told .given .1)
+  accepts = passed (t .before .before .check-request .result) (t .before .before .check-request .ensures (mesh start) refl (start .pre .1 .0 .1)) (t .enum-told .given .1)
 
   grants : Granted (mesh start) (start .args .first) (start .args .count) (length (now (start .args .out)))
   grants = granted (mesh start) (now (start .args .links)) (start .args .first) (start .args .count) (length (now (start .args .out))) accepts
 
 check-request-requires : tie.Need-check-request-requires
-check-request-requires c κs = let s = c .before .before .before .before in (few (mesh s) (s .pre .0), omega (arith, few (mesh s) (s .pre .0)))
+check-request-requires c κs = let s = c .before .before .before .before .before in (few (mesh s) (s .pre .0), s .pre .1 .1 .1 (few (mesh s) (s .pre .0)))
 
 enum-known-a : tie.Need-enum-known-a
 enum-known-a c = search needs
 
 returns : tie.Need-returns
 returns c =
-    let s = c .before .before .before .before .before .before .before .before in
-    record { answers = ap stated (sym (c .before .a .given .1)) ∙ c .before .before .before .check-request .ensures (mesh s) refl (s .pre .1 .1); holds = refl }
+    let s = c .before .before .before .before .before .before .before .before .before in
+    record { answers = ap stated (sym (c .before .a .given .1)) ∙ c .before .before .before .check-request .ensures (mesh s) refl (s .pre .1 .0 .1); holds = refl }
 
 enum-told : tie.Need-enum-told
 enum-told c = search needs
 
 write-nets-requires : tie.Need-write-nets-requires
 write-nets-requires c κs =
-    let s = c .before .before .before .before .before .before .before .before .before .before in
-    let g = grants (c .before .before .before) in
+    let s = c .before .before .before .before .before .before .before .before .before in
+    let g = grants (c .before) in
     let n = few (mesh s) (s .pre .0) in (
       s .pre .0,
       (
-        record { nexts-are = s .pre .1 .0; links-are = s .pre .1 .1; nexts-hold = omega (arith, n); links-hold = omega (arith, n) },
+        record { nexts-are = s .pre .1 .0 .0; links-are = s .pre .1 .0 .1; nexts-hold = s .pre .1 .1 .0 n; links-hold = s .pre .1 .1 .1 n },
         (g .some, g .within, g .room),
       ),
     )
@@ -60,8 +60,7 @@ same-length c = search needs
 
 returns-2 : tie.Need-returns-2
 returns-2 c =
-    let s = c .before .before .before .before .before .before .before .before .before .before .before .before in
-    record { answers = sym (accepts (c .before .before .before .before .before)); holds = c .before .write-nets .ensures }
+    record { answers = sym (accepts (c .before .before .before)); holds = c .before .write-nets .ensures }
 
 pub answer-spec : {M : Type 1} → statement M
 answer-spec =

@@ -2,7 +2,7 @@
 -- Assumes nothing.
 use denote.Ref.{now}
 use Rattle.mesh.specs.Lists.{meshOf}
-use Rattle.checks.specs.Checked.{fewCorners, fewVertices}
+use Rattle.mesh.specs.Tables.{smallMesh}
 use Rattle.checks.proofs.Laws.{room, count-room}
 use native.Mathlib.Omega.{arith}
 use borrow.Author.Needs.{needs}
@@ -31,7 +31,7 @@ find-links-requires : tie.Need-find-links-requires
 find-links-requires c κs =
     let s = c .before .before .before .before .before .before .before .before .before .before .before in
     let M = meshOf (now (s .args .coordinates)) (now (s .args .sides)) (now (s .args .corners)) in
-    (s .pre .0, room M fewCorners fewVertices (s .pre .1 .0) (s .pre .1 .1))
+    (s .pre .0, room M smallMesh smallMesh (s .pre .1 .0) (s .pre .1 .1))
 
 slice-aggregate-join : tie.Need-slice-aggregate-join
 slice-aggregate-join c = search needs
@@ -45,7 +45,7 @@ join-requires c κs =
     let f = t .find-links in
     let s = t .before .before .before .before .before .before .before .before .before .before .before .before in
     let M = meshOf (now (s .args .coordinates)) (now (s .args .sides)) (now (s .args .corners)) in
-    ((s .pre .0 .0, f .ensures, omega (arith, s .pre .0 .3, f .kept .1 .1 .1 .1 .0)), count-room M fewCorners fewVertices (s .pre .1 .0) (s .pre .1 .1))
+    ((s .pre .0 .0, f .ensures, omega (arith, s .pre .0 .3, f .kept .1 .1 .1 .1 .0)), count-room M smallMesh smallMesh (s .pre .1 .0) (s .pre .1 .1))
 
 same-length : tie.Need-same-length
 same-length c = search needs

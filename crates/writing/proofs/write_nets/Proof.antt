@@ -4,7 +4,7 @@ use Prim.Native.Nat.{_*_, _≤_}
 use lib.ListN.{length}
 use borrow.Author.Tests.{leb-true}
 use denote.Ref.{now}
-use Rattle.writing.specs.Written.{small}
+use Rattle.mesh.specs.Tables.{smallMesh}
 use native.Mathlib.Omega.{arith}
 use borrow.Author.Needs.{needs}
 use Rattle.writing.proofs.write_nets.Statement.{statement}
@@ -16,8 +16,8 @@ mul-if3 c = search needs
 write-small-requires : tie.Need-write-small-requires
 write-small-requires c κs =
     let s = c .before .before .before .before .before .before .before .before in
-    let sides : length (now (s .args .sides)) ≤ small = leb-true (length (now (s .args .sides))) small (c .before .before .if2 .taken) in
-    let coordinates : length (now (s .args .coordinates)) ≤ 3 * small = leb-true (length (now (s .args .coordinates))) (3 * small) (c .before .if3 .taken) in
+    let sides : length (now (s .args .sides)) ≤ smallMesh = leb-true (length (now (s .args .sides))) smallMesh (c .before .before .if2 .taken) in
+    let coordinates : length (now (s .args .coordinates)) ≤ 3 * smallMesh = leb-true (length (now (s .args .coordinates))) (3 * smallMesh) (c .before .if3 .taken) in
     (s .pre .0, (s .pre .1 .0, (s .pre .1 .1, record { vertices-fit = omega (arith, coordinates); faces-fit = sides; corners-fit = omega arith })))
 
 write-large-requires : tie.Need-write-large-requires

@@ -2,7 +2,7 @@
 -- Assumes nothing.
 use denote.Ref.{now}
 use Rattle.mesh.specs.Lists.{Mesh, meshOf}
-use Rattle.writing.specs.Written.{small}
+use Rattle.mesh.specs.Tables.{smallMesh}
 use Rattle.writing.proofs.Laws.{new}
 use borrow.Author.Needs.{needs}
 use Rattle.writing.proofs.write_small.Statement.{statement}
@@ -35,7 +35,7 @@ slice-aggregate-write-tabled-7 c = search needs
 write-tabled-requires : tie.Need-write-tabled-requires
 write-tabled-requires c κs =
     let s = c .before .before .before .before .before .before .before .before .before .before .before .before in
-    (s .pre .0, (s .pre .1 .0, (s .pre .1 .1 .0, new (mesh s) small small small (s .pre .1 .1 .1))))
+    (s .pre .0, (s .pre .1 .0, (s .pre .1 .1 .0, new (mesh s) smallMesh smallMesh smallMesh (s .pre .1 .1 .1))))
 
 same-length : tie.Need-same-length
 same-length c = search needs
