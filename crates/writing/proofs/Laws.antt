@@ -3,7 +3,7 @@
 use mathlib.Core.Path.{_≡_, refl, ap, _∙_, sym, subst}
 use mathlib.Core.Logic.{⊎-elim}
 use mathlib.Core.List.{List}
-use Prim.Native.Nat.{ℕ, _+_, _*_, _/_, _%_, _<_, _≤_}
+use Prim.Native.Nat.{ℕ, zero, suc, _+_, _*_, _/_, _%_, _<_, _≤_}
 use native.Mathlib.Omega.{arith}
 use lib.ListN.{length, getD, replicate, length-replicate}
 use lib.Seq.{ext-getD}
@@ -28,16 +28,13 @@ use Rattle.corner_tables.specs.Tables.{Filled, FaceTables, Wanted}
 use Rattle.refine.specs.Sources.{Steps, Pointed}
 use Rattle.refine.proofs.Laws.{small-zeros}
 use Rattle.refine.proofs.Accepted.{refinable-of}
-use Rattle.sides.specs.Tabled.{tabled}
+use Rattle.sides.specs.Tabled.{tabled, Tables}
 use Rattle.nets.specs.Put.{Put}
-use Rattle.writing.specs.Written.{Given, AtMost, New, MeshTables, Long, pointsOf, AxisWritten, Written}
+use Rattle.writing.specs.Written.{Given, AtMost, Fresh, New, MeshTables, Long, pointsOf, Drawn, Written}
 
 -- ---- place i of the output holds point `i % perCorner / 3` of corner `i / perCorner` on axis `i % 3`
 place : (i : ℕ) → perCorner * (i / perCorner) + 3 * (i % perCorner / 3) + i % 3 ≡ i
 place i = omega arith
-
-axis-of : (j p a : ℕ) → a < 3 → (perCorner * j + 3 * p + a) % 3 ≡ a
-axis-of j p a h = omega arith
 
 corner-of : (i count : ℕ) → i < perCorner * count → i / perCorner < count
 corner-of i count h = omega arith
@@ -48,8 +45,8 @@ point-of i = omega arith
 axis-in : (i : ℕ) → i % 3 < 3
 axis-in i = omega arith
 
--- all axes written: the whole output
-pub written-all : (M : Mesh) (first count : ℕ) (out : List ℤ) → length out ≡ perCorner * count → Written M first count 3 out → out ≡ nets M first count
+-- all corners written: the whole output
+pub written-all : (M : Mesh) (first count : ℕ) (out : List ℤ) → length out ≡ perCorner * count → Written (cornersOf M) first count out → out ≡ nets M first count
 unfolding Written nets numberAt
 written-all M first count out l w =
     ext-getD (pos 0) out (nets M first count) (l ∙ sym (values-length (numberAt M first) 0 (perCorner * count)))
@@ -57,42 +54,35 @@ written-all M first count out l w =
     subst (λ (k : ℕ). getD out k (pos 0) ≡ numberAt M first i) (place i) (w (i % 3) (i / perCorner) (i % perCorner / 3) (axis-in i) (corner-of i count b) (point-of i))
     ∙ sym (values-at (numberAt M first) (pos 0) 0 (perCorner * count) i b ∙ ap (numberAt M first) (let q : 0 + i ≡ i = omega arith in q)))
 
--- one axis more
-pub written-none : (M : Mesh) (first count : ℕ) (out : List ℤ) → Written M first count 0 out
+-- one corner more, axis after axis
+pub written-none : (K : ℕ → Corners) (first : ℕ) (out : List ℤ) → Written K first 0 out
 unfolding Written
-written-none M first count out a j p h = absurd (omega arith)
+written-none K first out a j p h l = absurd (omega arith)
 
-pub written-axis : (M : Mesh) (first count axis : ℕ) (old new : List ℤ) → axis < 3 → Written M first count axis old
-    → ((j p : ℕ) → j < count → p < pointsOf → getD new (perCorner * j + 3 * p + axis) (pos 0) ≡ getD (net (cornersOf M axis) (first + j)) p (pos 0))
-    → ((i : ℕ) → (i % 3 ≡ axis → ⊥) → getD new i (pos 0) ≡ getD old i (pos 0))
-    → Written M first count (axis + 1) new
-unfolding Written
-written-axis M first count axis old new h w here others a j p l hj hp =
-    ⊎-elim
-    (λ (q : a ≡ axis). rw q (here j p hj hp))
-    (λ o. let k : a < axis = ⊎-elim (λ (k : a < axis). k) (λ (k : axis < a). absurd (omega arith)) o in
-    others (perCorner * j + 3 * p + a) (λ e. omega (arith, axis-of j p a (omega arith))) ∙ w a j p k hj hp)
-    (compared a axis)
+module _ (K : ℕ → Corners) (first k : ℕ) (old xs ys zs : List ℤ) (w : Written K first k old) (x : Put (K 0) (first + k) 0 (perCorner * k) old xs)
+    (y : Put (K 1) (first + k) 1 (perCorner * k) xs ys) (z : Put (K 2) (first + k) 2 (perCorner * k) ys zs) where
+  -- earlier corners are kept by all three
+  earlier : (a j p : ℕ) → a < 3 → j < k → p < pointsOf → getD zs (perCorner * j + 3 * p + a) (pos 0) ≡ getD (net (K a) (first + j)) p (pos 0)
+  unfolding Written
+  earlier a j p h l hp =
+      let i = perCorner * j + 3 * p + a in
+      z .others i (λ q hq e. omega arith) ∙ y .others i (λ q hq e. omega arith) ∙ x .others i (λ q hq e. omega arith) ∙ w a j p h l hp
 
--- ---- one corner more on an axis
-pub axis-none : (K : Corners) (first axis : ℕ) (out : List ℤ) → AxisWritten K first 0 axis out out
-axis-none K first axis out = record { points-are = λ j p h. absurd (omega arith); others = λ i n. refl }
+  here : (a p : ℕ) → a < 3 → p < pointsOf → getD zs (perCorner * k + 3 * p + a) (pos 0) ≡ getD (net (K a) (first + k)) p (pos 0)
+  here zero p h hp =
+      let i = perCorner * k + 3 * p + 0 in
+      z .others i (λ q hq e. omega arith) ∙ y .others i (λ q hq e. omega arith) ∙ x .points-are p hp
+  here (suc zero) p h hp = z .others (perCorner * k + 3 * p + 1) (λ q hq e. omega arith) ∙ y .points-are p hp
+  here (suc (suc zero)) p h hp = z .points-are p hp
+  here (suc (suc (suc a))) p h hp = absurd (omega arith)
 
-pub axis-step : (K : Corners) (first k axis at : ℕ) (old mid new : List ℤ) → axis < 3 → at ≡ perCorner * k → AxisWritten K first k axis old mid → Put K (first + k) axis at mid new
-    → AxisWritten K first (k + 1) axis old new
-axis-step K first k axis at old mid new h e w put =
-    record {
-      points-are = λ j p hj hp.
-          ⊎-elim
-          (λ (q : j ≡ k). rw (q, ← e) (put .points-are p hp))
-          (λ o. let l : j < k = ⊎-elim (λ (l : j < k). l) (λ (l : k < j). absurd (omega arith)) o in
-          put .others (perCorner * j + 3 * p + axis) (λ p' hp' e'. omega arith) ∙ w .points-are j p l hp)
-          (compared j k);
-      others = λ i n. put .others i (λ p hp e'. n (on-axis i k p at e e')) ∙ w .others i n;
-    }
-  where
-    on-axis : (i k p at : ℕ) → at ≡ perCorner * k → i ≡ at + 3 * p + axis → i % 3 ≡ axis
-    on-axis i k p at e e' = omega (arith, axis-of k p axis h)
+  pub written-step : Written K first (k + 1) zs
+  unfolding Written
+  written-step a j p h hj hp =
+      ⊎-elim
+      (λ (q : j ≡ k). rw q (here a p h hp))
+      (λ o. earlier a j p h (⊎-elim (λ (l : j < k). l) (λ (l : k < j). absurd (omega arith)) o) hp)
+      (compared j k)
 
 -- ---- the tables describe the mesh, as far as the nets of the range look
 module _ (M : Mesh) (accepted : Accepted M) (nexts previouses links sides valences wanted : List ℕ) (points : List ℤ) (axis first count : ℕ)
@@ -116,7 +106,7 @@ module _ (M : Mesh) (accepted : Accepted M) (nexts previouses links sides valenc
   tabled-sound = sound-same (cornersOf M axis) table agree (corners-sound M accepted axis) (λ c h. v .small c)
 
   -- the faces at the vertex of a corner of the range are wanted, and its rings lie in them
-  tabled-net : (k : ℕ) → k < count → first + k < cornerCount M → net (cornersOf M axis) (first + k) ≡ net table (first + k)
+  pub tabled-net : (k : ℕ) → k < count → first + k < cornerCount M → net (cornersOf M axis) (first + k) ≡ net table (first + k)
   tabled-net k l h =
       let K = cornersOf M axis in
       let c = first + k in
@@ -127,21 +117,43 @@ module _ (M : Mesh) (accepted : Accepted M) (nexts previouses links sides valenc
       sym (v .points-are (ring K c e j) (omega (arith, ring-in K ok c h e j, sums))
       (rw (near .in-face) (w k (near .at) l (omega (arith, near .at-in, sums)) (near .at-vertex)))))
 
-  -- an axis written by the tables is one of the mesh
-  pub written-next : (old new : List ℤ) → axis < 3 → first + count ≤ cornerCount M → Written M first count axis old
-      → AxisWritten table first count axis old new → Written M first count (axis + 1) new
-  written-next old new h l r a =
-      written-axis M first count axis old new h r
-      (λ j p hj hp. a .points-are j p hj hp ∙ ap (λ (n : List ℤ). getD n p (pos 0)) (sym (tabled-net j hj (omega arith))))
-      (a .others)
+-- what the tables of the three axes write is what the mesh has
+pub written-same : (K L : ℕ → Corners) (first count : ℕ) (out : List ℤ) → ((a : ℕ) → a < 3 → (k : ℕ) → k < count → net (L a) (first + k) ≡ net (K a) (first + k))
+    → Written K first count out → Written L first count out
+unfolding Written
+written-same K L first count out same w a j p h hj hp = w a j p h hj hp ∙ ap (λ (n : List ℤ). getD n p (pos 0)) (sym (same a h j hj))
+
+pub by-axis : (P : ℕ → Type 0) → P 0 → P 1 → P 2 → (a : ℕ) → a < 3 → P a
+by-axis P x y z zero h = x
+by-axis P x y z (suc zero) h = y
+by-axis P x y z (suc (suc zero)) h = z
+by-axis P x y z (suc (suc (suc a))) h = absurd (omega arith)
+
+-- what the net of a corner asks
+pub tables-at : (n c : ℕ) (nexts previouses links sides valences : List ℕ) (points : List ℤ) → Drawn n nexts previouses links sides valences points
+    → Long n nexts previouses links sides valences → c < n → Tables n nexts previouses links sides valences points c
+tables-at n c nexts previouses links sides valences points d l h =
+    record {
+      sound = d .0;
+      here = h;
+      nexts-hold = l .nexts-hold;
+      previouses-hold = l .previouses-hold;
+      links-hold = l .links-hold;
+      sides-hold = l .sides-hold;
+      valences-hold = l .valences-hold;
+      points-hold = d .1;
+    }
 
 -- ---- tables of zeros are new
 module _ (M : Mesh) (vertices faces corners : ℕ) (f : AtMost M vertices faces corners) where
   long : (n m : ℕ) → n ≤ m → n ≤ length {A = ℕ} (replicate m 0)
   long n m h = omega (arith, length-replicate {A = ℕ} m 0)
 
+  fresh : Fresh (cornerCount M) (replicate corners (pos 0))
+  fresh = (omega (arith, f .corners-fit, length-replicate {A = ℤ} corners (pos 0)), small-zeros corners)
+
   pub new : New M (replicate corners 0) (replicate corners 0) (replicate corners 0) (replicate vertices 0) (replicate vertices 0) (replicate faces 0)
-      (replicate corners (pos 0))
+      (replicate corners (pos 0)) (replicate corners (pos 0)) (replicate corners (pos 0))
   new =
       record {
         previouses-hold = long _ _ (f .corners-fit);
@@ -150,9 +162,8 @@ module _ (M : Mesh) (vertices faces corners : ℕ) (f : AtMost M vertices faces 
         totals-hold = long _ _ (f .vertices-fit);
         marked-hold = long _ _ (f .vertices-fit);
         wanted-hold = long _ _ (f .faces-fit);
-        points-hold = omega (arith, f .corners-fit, length-replicate {A = ℤ} corners (pos 0));
         totals-zero = ap (λ (n : ℕ). replicate n 0) (sym (length-replicate {A = ℕ} vertices 0));
-        points-small = small-zeros corners;
+        points-fresh = (fresh, fresh, fresh);
       }
 
 -- ---- what the fills ask and give, by the corner count

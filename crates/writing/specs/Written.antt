@@ -1,20 +1,20 @@
--- What the tables over the corners of a mesh hold, and the output while it is written, axis by axis.
+-- What the tables over the corners of a mesh hold, and the output while it is written, corner by corner.
 -- Assumes nothing.
 use mathlib.Core.Path.{_≡_}
 use mathlib.Core.List.{List}
-use Prim.Native.Nat.{ℕ, _+_, _*_, _%_, _<_, _≤_}
+use Prim.Native.Nat.{ℕ, zero, suc, _+_, _*_, _<_, _≤_}
 use lib.ListN.{length, getD, replicate}
 use lib.IntN.{ℤ, pos}
 use Rattle.mesh.specs.Lists.{Mesh, vertexCount, faceCount, cornerCount}
 use Rattle.mesh.specs.Corners.{sidesOf, next, previous}
 use Rattle.mesh.specs.Links.{vertexOf, link, valence}
 use Rattle.mesh.specs.Tables.{NextsTo, LinkTable}
-use Rattle.mesh.specs.Answers.{kept}
-use Rattle.surface.specs.Corners.{Corners}
+use Rattle.surface.specs.Corners.{Corners, Sound}
 use Rattle.surface.specs.Net.{net}
-use Rattle.surface.specs.Refined.{cornersOf, perCorner}
+use Rattle.surface.specs.Refined.{perCorner}
 use Rattle.corner_tables.specs.Tables.{Filled}
 use Rattle.refine.specs.Sources.{Small}
+use Rattle.sides.specs.Tabled.{tabled}
 
 -- the tables that checking the mesh leaves
 pub record Given (M : Mesh) (nexts links : List ℕ) : Type 0 where
@@ -29,17 +29,20 @@ pub record AtMost (M : Mesh) (vertices faces corners : ℕ) : Type 0 where
   pub faces-fit : faceCount M ≤ faces
   pub corners-fit : cornerCount M ≤ corners
 
+-- a table for the refined points of n corners, with no entry larger than one may be
+abbrev pub Fresh : ℕ → List ℤ → Type 0
+Fresh n points = (n ≤ length points) × Small points
+
 -- new tables, long enough for the mesh
-pub record New (M : Mesh) (previouses sides valences totals marked wanted : List ℕ) (points : List ℤ) : Type 0 where
+pub record New (M : Mesh) (previouses sides valences totals marked wanted : List ℕ) (xs ys zs : List ℤ) : Type 0 where
   pub previouses-hold : cornerCount M ≤ length previouses
   pub sides-hold : cornerCount M ≤ length sides
   pub valences-hold : cornerCount M ≤ length valences
   pub totals-hold : vertexCount M ≤ length totals
   pub marked-hold : vertexCount M ≤ length marked
   pub wanted-hold : faceCount M ≤ length wanted
-  pub points-hold : cornerCount M ≤ length points
   pub totals-zero : totals ≡ replicate (length totals) 0
-  pub points-small : Small points
+  pub points-fresh : Fresh (cornerCount M) xs × Fresh (cornerCount M) ys × Fresh (cornerCount M) zs
 
 -- the tables that serve all axes
 pub record MeshTables (M : Mesh) (nexts previouses links sides valences : List ℕ) : Type 0 where
@@ -61,12 +64,17 @@ pub record Long (n : ℕ) (nexts previouses links sides valences : List ℕ) : T
 abbrev pub pointsOf : ℕ
 pointsOf = 41
 
--- the numbers of one axis, for the first `count` corners from `first` on; those of the other axes are kept
-pub record AxisWritten (K : Corners) (first count axis : ℕ) (old new : List ℤ) : Type 0 where
-  pub points-are : (j p : ℕ) → j < count → p < pointsOf → getD new (perCorner * j + 3 * p + axis) (pos 0) ≡ getD (net K (first + j)) p (pos 0)
-  pub others : (i : ℕ) → (i % 3 ≡ axis → ⊥) → getD new i (pos 0) ≡ getD old i (pos 0)
+-- a table of refined points that describes a mesh with the others
+abbrev pub Drawn : ℕ → List ℕ → List ℕ → List ℕ → List ℕ → List ℕ → List ℤ → Type 0
+Drawn n nexts previouses links sides valences points = Sound (tabled n nexts previouses links sides valences points) × (n ≤ length points)
 
--- the numbers of the axes below `axes`
-unfoldable pub Written : Mesh → ℕ → ℕ → ℕ → List ℤ → Type 0
-Written M first count axes out =
-    (a j p : ℕ) → a < axes → j < count → p < pointsOf → getD out (perCorner * j + 3 * p + a) (pos 0) ≡ getD (net (cornersOf M a) (first + j)) p (pos 0)
+-- the corners on an axis, each with its table of refined points
+abbrev pub onAxis : ℕ → List ℕ → List ℕ → List ℕ → List ℕ → List ℕ → List ℤ → List ℤ → List ℤ → ℕ → Corners
+onAxis n nexts previouses links sides valences xs ys zs zero = tabled n nexts previouses links sides valences xs
+onAxis n nexts previouses links sides valences xs ys zs (suc zero) = tabled n nexts previouses links sides valences ys
+onAxis n nexts previouses links sides valences xs ys zs (suc (suc a)) = tabled n nexts previouses links sides valences zs
+
+-- the numbers of the first `count` corners from `first` on
+unfoldable pub Written : (ℕ → Corners) → ℕ → ℕ → List ℤ → Type 0
+Written K first count out =
+    (a j p : ℕ) → a < 3 → j < count → p < pointsOf → getD out (perCorner * j + 3 * p + a) (pos 0) ≡ getD (net (K a) (first + j)) p (pos 0)

@@ -1,5 +1,5 @@
-// The numbers that building writes, axis by axis: on each axis the refined points of the faces at the range's vertices are computed once, and
-// then the quad-net of each corner of the range is written.
+// The numbers that building writes: the refined points of the faces at the range's vertices are computed once for each axis, and then the
+// quad-nets are written corner by corner, so that each part of the output is gone over once.
 use mesh::MOST_CORNERS;
 use mesh::MOST_FACES;
 use mesh::MOST_VERTICES;
@@ -12,12 +12,9 @@ ghost use Rattle.mesh.specs.Lists.{meshOf};
 ghost use Rattle.mesh.specs.Corners.{sumOf};
 ghost use Rattle.mesh.specs.Tables.{smallMesh};
 ghost use Rattle.mesh.specs.Faults.{Accepted};
-ghost use Rattle.surface.specs.Corners.{Sound};
 ghost use Rattle.surface.specs.Refined.{nets, perCorner};
 ghost use Rattle.corner_tables.specs.Tables.{Wanted};
-ghost use Rattle.refine.specs.Sources.{Small};
-ghost use Rattle.sides.specs.Tabled.{tabled};
-ghost use Rattle.writing.specs.Written.{Given, AtMost, New, MeshTables, Long, AxisWritten};
+ghost use Rattle.writing.specs.Written.{Given, AtMost, Fresh, New, MeshTables, Long, Drawn, onAxis, Written};
 
 // The numbers of `count` corners from `first` on, over the tables of next corners and links.
 pub fn write_nets(
@@ -68,7 +65,9 @@ fn write_small(
     let mut totals = [0u8; SMALL_MESH];
     let mut marked = [0u8; SMALL_MESH];
     let mut wanted = [0u8; SMALL_MESH];
-    let mut points = [0i32; SMALL_MESH];
+    let mut xs = [0i32; SMALL_MESH];
+    let mut ys = [0i32; SMALL_MESH];
+    let mut zs = [0i32; SMALL_MESH];
     write_tabled(
         coordinates,
         sides,
@@ -83,7 +82,9 @@ fn write_small(
         &mut totals,
         &mut marked,
         &mut wanted,
-        &mut points,
+        &mut xs,
+        &mut ys,
+        &mut zs,
         out,
     );
 }
@@ -110,7 +111,9 @@ fn write_large(
     let mut totals = [0u8; MOST_VERTICES];
     let mut marked = [0u8; MOST_VERTICES];
     let mut wanted = [0u8; MOST_FACES];
-    let mut points = [0i32; MOST_CORNERS];
+    let mut xs = [0i32; MOST_CORNERS];
+    let mut ys = [0i32; MOST_CORNERS];
+    let mut zs = [0i32; MOST_CORNERS];
     write_tabled(
         coordinates,
         sides,
@@ -125,7 +128,9 @@ fn write_large(
         &mut totals,
         &mut marked,
         &mut wanted,
-        &mut points,
+        &mut xs,
+        &mut ys,
+        &mut zs,
         out,
     );
 }
@@ -145,13 +150,15 @@ fn write_tabled(
     totals: &mut [u8],
     marked: &mut [u8],
     wanted: &mut [u8],
-    points: &mut [i32],
+    xs: &mut [i32],
+    ys: &mut [i32],
+    zs: &mut [i32],
     out: &mut [i32],
 )
     requires mesh { ⌜ Accepted (meshOf (now coordinates) (now sides) (now corners)) ⌝ }
     requires tables { ⌜ Given (meshOf (now coordinates) (now sides) (now corners)) (now nexts) (now links) ⌝ }
     requires range { ⌜ (0 < count) × (first + count ≤ length (now corners)) × (length (now out) ≡ perCorner * count) ⌝ }
-    requires new { ⌜ New (meshOf (now coordinates) (now sides) (now corners)) (now previouses) (now counts) (now valences) (now totals) (now marked) (now wanted) (now points) ⌝ }
+    requires new { ⌜ New (meshOf (now coordinates) (now sides) (now corners)) (now previouses) (now counts) (now valences) (now totals) (now marked) (now wanted) (now xs) (now ys) (now zs) ⌝ }
     ensures { λ _. ⌜ now (out .exit) ≡ nets (meshOf (now (coordinates .entry)) (now (sides .entry)) (now (corners .entry))) first count ⌝ }
 {
     corner_tables::fill_faces(sides, previouses, counts);
@@ -169,12 +176,14 @@ fn write_tabled(
         wanted,
         first,
         count,
-        points,
+        xs,
+        ys,
+        zs,
         out,
     );
 }
 
-// The same, over all tables that serve the three axes: each axis has its refined points, which serve all corners of the range.
+// The same, over all tables that serve the three axes: the refined points of each axis, then the corners of the range.
 fn write_axes(
     coordinates: &[i32],
     sides: &[u8],
@@ -187,50 +196,70 @@ fn write_axes(
     wanted: &[u8],
     first: usize,
     count: usize,
-    points: &mut [i32],
+    xs: &mut [i32],
+    ys: &mut [i32],
+    zs: &mut [i32],
     out: &mut [i32],
 )
     requires mesh { ⌜ Accepted (meshOf (now coordinates) (now sides) (now corners)) ⌝ }
     requires tables { ⌜ MeshTables (meshOf (now coordinates) (now sides) (now corners)) (now nexts) (now previouses) (now links) (now counts) (now valences) ⌝ }
     requires long { ⌜ Long (length (now corners)) (now nexts) (now previouses) (now links) (now counts) (now valences) ⌝ }
     requires wanted { ⌜ Wanted (now sides) (now corners) first count (now wanted) (sumOf (now sides)) × (length (now sides) ≤ length (now wanted)) ⌝ }
-    requires points { ⌜ (length (now corners) ≤ length (now points)) × Small (now points) ⌝ }
+    requires points { ⌜ Fresh (length (now corners)) (now xs) × Fresh (length (now corners)) (now ys) × Fresh (length (now corners)) (now zs) ⌝ }
     requires range { ⌜ (0 < count) × (first + count ≤ length (now corners)) × (length (now out) ≡ perCorner * count) ⌝ }
     ensures { λ _. ⌜ now (out .exit) ≡ nets (meshOf (now (coordinates .entry)) (now (sides .entry)) (now (corners .entry))) first count ⌝ }
 {
-    let n = corners.len();
-    let mut axis = 0;
-    while axis < 3 {
-        refine::fill_points(
-            coordinates,
-            sides,
-            corners,
-            nexts,
-            previouses,
-            wanted,
-            axis,
-            points,
-        );
-        write_axis(
-            points,
-            nexts,
-            previouses,
-            links,
-            counts,
-            valences,
-            n,
-            first,
-            count,
-            axis,
-            out,
-        );
-        axis += 1;
-    }
+    refine::fill_points(
+        coordinates,
+        sides,
+        corners,
+        nexts,
+        previouses,
+        wanted,
+        0,
+        xs,
+    );
+    refine::fill_points(
+        coordinates,
+        sides,
+        corners,
+        nexts,
+        previouses,
+        wanted,
+        1,
+        ys,
+    );
+    refine::fill_points(
+        coordinates,
+        sides,
+        corners,
+        nexts,
+        previouses,
+        wanted,
+        2,
+        zs,
+    );
+    write_corners(
+        xs,
+        ys,
+        zs,
+        nexts,
+        previouses,
+        links,
+        counts,
+        valences,
+        corners.len(),
+        first,
+        count,
+        out,
+    );
 }
 
-// One axis: the numbers of each corner of the range.
-fn write_axis(
-    points: &[i32],
+// The numbers of each corner of the range, on its three axes.
+fn write_corners(
+    xs: &[i32],
+    ys: &[i32],
+    zs: &[i32],
     nexts: &[u16],
     previouses: &[u16],
     links: &[u16],
@@ -239,19 +268,20 @@ fn write_axis(
     n: usize,
     first: usize,
     count: usize,
-    axis: usize,
     out: &mut [i32],
 )
-    requires mesh { ⌜ Sound (tabled n (now nexts) (now previouses) (now links) (now sides) (now valences) (now points)) ⌝ }
-    requires long { ⌜ Long n (now nexts) (now previouses) (now links) (now sides) (now valences) × (n ≤ length (now points)) ⌝ }
-    requires range { ⌜ (0 < count) × (first + count ≤ n) × (axis < 3) × (length (now out) ≡ perCorner * count) ⌝ }
-    ensures { λ _. ⌜ AxisWritten (tabled n (now (nexts .entry)) (now (previouses .entry)) (now (links .entry)) (now (sides .entry)) (now (valences .entry)) (now (points .entry))) first count axis (now (out .entry)) (now (out .exit)) ⌝ }
+    requires mesh { ⌜ Drawn n (now nexts) (now previouses) (now links) (now sides) (now valences) (now xs) × Drawn n (now nexts) (now previouses) (now links) (now sides) (now valences) (now ys) × Drawn n (now nexts) (now previouses) (now links) (now sides) (now valences) (now zs) ⌝ }
+    requires long { ⌜ Long n (now nexts) (now previouses) (now links) (now sides) (now valences) ⌝ }
+    requires range { ⌜ (first + count ≤ n) × (length (now out) ≡ perCorner * count) ⌝ }
+    ensures { λ _. ⌜ Written (onAxis n (now (nexts .entry)) (now (previouses .entry)) (now (links .entry)) (now (sides .entry)) (now (valences .entry)) (now (xs .entry)) (now (ys .entry)) (now (zs .entry))) first count (now (out .exit)) ⌝ }
 {
     let rows = cosines::rows();
     let mut k = 0;
     while k < count {
+        let c = first + k;
+        let at = PER_CORNER * k;
         nets::put_net(
-            points,
+            xs,
             nexts,
             previouses,
             links,
@@ -259,10 +289,38 @@ fn write_axis(
             valences,
             &rows,
             n,
-            first + k,
-            axis,
+            c,
+            0,
             out,
-            PER_CORNER * k,
+            at,
+        );
+        nets::put_net(
+            ys,
+            nexts,
+            previouses,
+            links,
+            sides,
+            valences,
+            &rows,
+            n,
+            c,
+            1,
+            out,
+            at,
+        );
+        nets::put_net(
+            zs,
+            nexts,
+            previouses,
+            links,
+            sides,
+            valences,
+            &rows,
+            n,
+            c,
+            2,
+            out,
+            at,
         );
         k += 1;
     }

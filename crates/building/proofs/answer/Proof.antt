@@ -5,12 +5,11 @@ use lib.ListN.{length}
 use denote.Ref.{now}
 use Rattle.mesh.specs.Lists.{Mesh, meshOf}
 use Rattle.mesh.specs.Answers.{stated}
-use Rattle.mesh.proofs.Verdicts.{passed, past}
+use Rattle.mesh.proofs.Verdicts.{passed}
 use Rattle.requests.specs.Request.{requestFaults}
 use Rattle.requests.proofs.Laws.{Granted, granted}
 use Rattle.mesh.specs.Faults.{sound}
 use Rattle.writing.proofs.Laws.{few}
-use native.Mathlib.Omega.{arith}
 use borrow.Author.Needs.{needs}
 use Rattle.building.proofs.answer.Statement.{statement}
 use Rattle.building.proofs.answer.Tie as tie

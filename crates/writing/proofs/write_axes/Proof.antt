@@ -1,104 +1,110 @@
--- The axes below `axis` are written; after the third the output is what building writes.
+-- With the refined points of its axis each table describes the mesh as far as the nets of the range look, so the numbers written are the mesh's.
 -- Assumes nothing.
-use mathlib.Core.Path.{_≡_, refl, _∙_, subst}
-use Prim.Native.Nat.{ℕ, _-_, _*_, _≤_, _<_}
+use mathlib.Core.Path.{_≡_, _∙_}
+use Prim.Native.Nat.{ℕ, _+_, _<_}
+use lib.Dec.{lit<}
 use lib.ListN.{length}
 use denote.Ref.{now}
 use Rattle.mesh.specs.Lists.{Mesh, meshOf}
-use Rattle.surface.specs.Refined.{perCorner}
-use Rattle.writing.specs.Written.{Written}
-use Rattle.writing.proofs.Laws.{written-all, written-none, tabled-sound, written-next, steps-of}
-use Rattle.refine.specs.Sources.{Small}
+use Rattle.surface.specs.Corners.{Corners}
+use Rattle.surface.specs.Net.{net}
+use Rattle.surface.specs.Refined.{cornersOf}
 use Rattle.refine.proofs.Accepted.{refinable-of}
+use Rattle.writing.specs.Written.{onAxis}
+use Rattle.writing.proofs.Laws.{written-all, written-same, by-axis, tabled-sound, tabled-net, steps-of}
 use native.Mathlib.Omega.{arith}
 use borrow.Author.Needs.{needs}
 use Rattle.writing.proofs.write_axes.Statement.{statement}
 use Rattle.writing.proofs.write_axes.Tie as tie
 
-abbrev Inv-loop : tie.InvT-loop
-Inv-loop coordinates sides corners nexts previouses links counts valences wanted first count points₀ out₀ n axis₀ points out axis =
-    (axis ≤ 3) × (length points ≡ length points₀) × Small points × (length out ≡ perCorner * count)
-    × Written (meshOf coordinates sides corners) first count axis out
-
-abbrev μ-loop : tie.MeasureT-loop
-μ-loop coordinates sides corners nexts previouses links counts valences wanted first count points₀ out₀ n axis₀ points out axis =
-    3 - axis
-
-abbrev mesh : tie.Start Inv-loop μ-loop → Mesh
+abbrev mesh : tie.Start → Mesh
 mesh s = meshOf (now (s .args .coordinates)) (now (s .args .sides)) (now (s .args .corners))
 
-loop-holds : tie.Need-loop-holds Inv-loop μ-loop
-loop-holds c =
-    let s = c .before .before .before .before .before .before .before .before in
-    (omega arith, refl, s .pre .1 .1 .1 .1 .0 .1, s .pre .1 .1 .1 .1 .1 .2, written-none (mesh s) (s .args .first) (s .args .count) (now (s .args .out)))
-
-fill-points-requires : tie.Need-fill-points-requires Inv-loop μ-loop
+fill-points-requires : tie.Need-fill-points-requires
 fill-points-requires c κs =
-    let s = c .before .before .before .before .before .before .before .before .before .before .before in
-    let l = c .before .before .loop in
+    let s = c .before .before .before .before .before .before .before .before .before in
     let r = refinable-of (mesh s) (s .pre .0) in
     let steps = steps-of (mesh s) (s .pre .0) _ _ _ _ _ (s .pre .1 .0) (s .pre .1 .1 .0) in
-    (r, (omega arith, ((steps, s .pre .1 .1 .1 .0 .1), (omega (arith, l .inv .1, s .pre .1 .1 .1 .1 .0 .0, r .sums), l .inv .2))))
+    let fresh = s .pre .1 .1 .1 .1 .0 .0 in
+    (r, (lit< tt, ((steps, s .pre .1 .1 .1 .0 .1), (omega (arith, fresh .0, r .sums), fresh .1))))
 
-write-axis-requires : tie.Need-write-axis-requires Inv-loop μ-loop
-write-axis-requires c κs =
+fill-points-requires-2 : tie.Need-fill-points-requires-2
+fill-points-requires-2 c κs =
+    let s = c .before .before .before .before .before .before .before .before .before .before .before .before in
+    let r = refinable-of (mesh s) (s .pre .0) in
+    let steps = steps-of (mesh s) (s .pre .0) _ _ _ _ _ (s .pre .1 .0) (s .pre .1 .1 .0) in
+    let fresh = s .pre .1 .1 .1 .1 .0 .1 in
+    (r, (lit< tt, ((steps, s .pre .1 .1 .1 .0 .1), (omega (arith, fresh .0, r .sums), fresh .1))))
+
+fill-points-requires-3 : tie.Need-fill-points-requires-3
+fill-points-requires-3 c κs =
     let s = c .before .before .before .before .before .before .before .before .before .before .before .before .before .before .before in
-    let l = c .before .before .before .before .before .before .loop in
-    let f = c .before .before .before .fill-points in
-    let new = f .last .1 .1 .1 .1 .1 .1 .1 .0 in
-    let sound = tabled-sound (mesh s) (s .pre .0) _ _ _ _ _ _ new (l .axis) _ _ (s .pre .1 .0) (s .pre .1 .1 .1 .0 .0) (f .ensures) in
-    let points : length (now (s .args .corners)) ≤ length new =
-    omega (arith, f .kept .1 .1 .1 .1 .1 .1 .1 .0, l .inv .1, s .pre .1 .1 .1 .1 .0 .0) in
+    let r = refinable-of (mesh s) (s .pre .0) in
+    let steps = steps-of (mesh s) (s .pre .0) _ _ _ _ _ (s .pre .1 .0) (s .pre .1 .1 .0) in
+    let fresh = s .pre .1 .1 .1 .1 .0 .2 in
+    (r, (lit< tt, ((steps, s .pre .1 .1 .1 .0 .1), (omega (arith, fresh .0, r .sums), fresh .1))))
+
+write-corners-requires : tie.Need-write-corners-requires
+write-corners-requires c κs =
+    let s = c .before .before .before .before .before .before .before .before .before .before .before .before .before .before .before .before .before .before .before .before .before in
+    let x = c .before .before .before .before .before .before .before .before .before .before .before .fill-points in
+    let y = c .before .before .before .before .before .before .before .before .fill-points2 in
+    let z = c .before .before .before .before .before .fill-points3 in
+    let fresh = s .pre .1 .1 .1 .1 .0 in
     let range = s .pre .1 .1 .1 .1 .1 in
-    (sound, ((s .pre .1 .1 .0, points), (range .0, range .1, omega arith, l .inv .3)))
-
-add-axis : tie.Need-add-axis Inv-loop μ-loop
-add-axis c = search needs
-
-loop-less : tie.Need-loop-less Inv-loop μ-loop
-loop-less c = search needs
-
-loop-again : tie.Need-loop-again Inv-loop μ-loop
-loop-again c =
-    let s = c .before .before .before .before .before .before .before .before .before .before .before .before .before .before .before .before .before in
-    let l = c .before .before .before .before .before .before .before .before .loop in
-    let f = c .before .before .before .before .before .fill-points in
-    let w = c .before .write-axis in
-    let h : l .axis < 3 = omega (arith, c .before .before .before .before .before .before .before .loop-test .taken) in (
-      omega arith,
-      f .kept .1 .1 .1 .1 .1 .1 .1 .0 ∙ l .inv .1,
-      f .ensures .small,
-      w .kept .1 .1 .1 .1 .1 .1 .1 .1 .1 .1 .0 ∙ l .inv .3,
-      written-next (mesh s) (s .pre .0) (now (s .args .nexts)) (now (s .args .previouses)) (now (s .args .links)) (now (s .args .counts))
-          (now (s .args .valences)) (now (s .args .wanted)) (f .last .1 .1 .1 .1 .1 .1 .1 .0) (l .axis) (s .args .first) (s .args .count)
-          (s .pre .1 .0) (s .pre .1 .1 .1 .0 .0) (f .ensures) (l .out) (w .last .1 .1 .1 .1 .1 .1 .1 .1 .1 .1 .0) h (s .pre .1 .1 .1 .1 .1 .1) (l .inv .4) (w .ensures),
+    let wants = s .pre .1 .1 .1 .0 .0 in (
+      (
+        (tabled-sound (mesh s) (s .pre .0) _ _ _ _ _ _ _ 0 _ _ (s .pre .1 .0) wants (x .ensures), omega (arith, x .kept .1 .1 .1 .1 .1 .1 .1 .0, fresh .0 .0)),
+        (tabled-sound (mesh s) (s .pre .0) _ _ _ _ _ _ _ 1 _ _ (s .pre .1 .0) wants (y .ensures), omega (arith, y .kept .1 .1 .1 .1 .1 .1 .1 .0, fresh .1 .0)),
+        (tabled-sound (mesh s) (s .pre .0) _ _ _ _ _ _ _ 2 _ _ (s .pre .1 .0) wants (z .ensures), omega (arith, z .kept .1 .1 .1 .1 .1 .1 .1 .0, fresh .2 .0)),
+      ),
+      (s .pre .1 .1 .0, (range .1, range .2)),
     )
 
-same-length : tie.Need-same-length Inv-loop μ-loop
+same-length : tie.Need-same-length
 same-length c = search needs
 
-same-length-2 : tie.Need-same-length-2 Inv-loop μ-loop
+same-length-2 : tie.Need-same-length-2
 same-length-2 c = search needs
 
-returns : tie.Need-returns Inv-loop μ-loop
+same-length-3 : tie.Need-same-length-3
+same-length-3 c = search needs
+
+same-length-4 : tie.Need-same-length-4
+same-length-4 c = search needs
+
+returns : tie.Need-returns
 returns c =
-    let s = c .before .before .before .before .before .before .before .before .before .before in
-    let l = c .before .loop in
-    written-all (mesh s) (s .args .first) (s .args .count) (l .out) (l .inv .3)
-    (subst (λ (a : ℕ). Written (mesh s) (s .args .first) (s .args .count) a (l .out)) (let q : l .axis ≡ 3 = omega arith in q) (l .inv .4))
+    let s = c .before .before .before .before .before .before .before .before .before .before .before .before .before .before .before .before .before .before .before .before .before .before .before in
+    let x = c .before .before .before .before .before .before .before .before .before .before .before .before .before .fill-points in
+    let y = c .before .before .before .before .before .before .before .before .before .before .fill-points2 in
+    let z = c .before .before .before .before .before .before .before .fill-points3 in
+    let w = c .before .write-corners in
+    let range = s .pre .1 .1 .1 .1 .1 in
+    let wants = s .pre .1 .1 .1 .0 .0 in
+    let M = mesh s in
+    let K : ℕ → Corners =
+    onAxis (length (now (s .args .corners))) (now (s .args .nexts)) (now (s .args .previouses)) (now (s .args .links)) (now (s .args .counts)) (now (s .args .valences))
+    (x .last .1 .1 .1 .1 .1 .1 .1 .0) (y .last .1 .1 .1 .1 .1 .1 .1 .0) (z .last .1 .1 .1 .1 .1 .1 .1 .0) in
+    let inside : (k : ℕ) → k < s .args .count → s .args .first + k < length (now (s .args .corners)) = λ k l. omega (arith, range .1) in
+    written-all M (s .args .first) (s .args .count) _ (w .kept .1 .1 .1 .1 .1 .1 .1 .1 .1 .1 .1 .0 ∙ range .2)
+    (written-same K (cornersOf M) (s .args .first) (s .args .count) _
+    (by-axis (λ a. (k : ℕ) → k < s .args .count → net (cornersOf M a) (s .args .first + k) ≡ net (K a) (s .args .first + k))
+    (λ k l. tabled-net M (s .pre .0) _ _ _ _ _ _ _ 0 _ _ (s .pre .1 .0) wants (x .ensures) k l (inside k l))
+    (λ k l. tabled-net M (s .pre .0) _ _ _ _ _ _ _ 1 _ _ (s .pre .1 .0) wants (y .ensures) k l (inside k l))
+    (λ k l. tabled-net M (s .pre .0) _ _ _ _ _ _ _ 2 _ _ (s .pre .1 .0) wants (z .ensures) k l (inside k l)))
+    (w .ensures))
 
 pub write-axes-spec : {M : Type 1} → statement M
 write-axes-spec =
     tie.close
     (tie.spec
-    Inv-loop
-    μ-loop
-    loop-holds
     fill-points-requires
-    write-axis-requires
-    add-axis
-    loop-less
-    loop-again
+    fill-points-requires-2
+    fill-points-requires-3
+    write-corners-requires
     same-length
     same-length-2
+    same-length-3
+    same-length-4
     returns)

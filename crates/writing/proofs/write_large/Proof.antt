@@ -32,9 +32,15 @@ slice-aggregate-write-tabled-6 c = search needs
 slice-aggregate-write-tabled-7 : tie.Need-slice-aggregate-write-tabled-7
 slice-aggregate-write-tabled-7 c = search needs
 
+slice-aggregate-write-tabled-8 : tie.Need-slice-aggregate-write-tabled-8
+slice-aggregate-write-tabled-8 c = search needs
+
+slice-aggregate-write-tabled-9 : tie.Need-slice-aggregate-write-tabled-9
+slice-aggregate-write-tabled-9 c = search needs
+
 write-tabled-requires : tie.Need-write-tabled-requires
 write-tabled-requires c κs =
-    let s = c .before .before .before .before .before .before .before .before .before .before .before .before in
+    let s = c .before .before .before .before .before .before .before .before .before .before .before .before .before .before in
     (s .pre .0, (s .pre .1 .0, (s .pre .1 .1, new (mesh s) mostVertices mostFaces mostCorners (limits (mesh s) (s .pre .0)))))
 
 same-length : tie.Need-same-length
@@ -54,6 +60,8 @@ write-large-spec =
     slice-aggregate-write-tabled-5
     slice-aggregate-write-tabled-6
     slice-aggregate-write-tabled-7
+    slice-aggregate-write-tabled-8
+    slice-aggregate-write-tabled-9
     write-tabled-requires
     same-length
     returns)

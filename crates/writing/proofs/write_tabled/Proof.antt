@@ -38,7 +38,7 @@ fill-wanted-requires c κs =
 
 write-axes-requires : tie.Need-write-axes-requires
 write-axes-requires c κs =
-    let past-wanted = c .before .before .before .before .before .before .before .before .before .before in
+    let past-wanted = c .before .before .before .before .before .before .before .before .before .before .before .before in
     let past-valences = past-wanted .before .before .before .before .before .before .before in
     let past-faces = past-valences .before .before .before .before .before .before .before in
     let s = past-faces .before .before .before .before .before .before .before .before .before .before .before .before .before in
@@ -58,13 +58,13 @@ write-axes-requires c κs =
             sides-hold = omega (arith, n .sides-hold, f .kept .1 .1 .0);
             valences-hold = omega (arith, n .valences-hold, v .kept .1 .1 .0);
           },
-          ((w .ensures, omega (arith, n .wanted-hold, w .kept .1 .1 .1 .1 .1 .0)), ((n .points-hold, n .points-small), s .pre .1 .1 .0)),
+          ((w .ensures, omega (arith, n .wanted-hold, w .kept .1 .1 .1 .1 .1 .0)), (n .points-fresh, s .pre .1 .1 .0)),
         ),
       ),
     )
 
 same-length : tie.Need-same-length
-same-length c = search needs
+same-length c = search (needs, c .before .before .before .before .before .before .before .before .before .before .before .before .before .before .before .before .before .before .before .before .before .before .before .before .before .before .before .before .before .before .before .fill-faces .kept .1 .0)
 
 same-length-2 : tie.Need-same-length-2
 same-length-2 c = search needs
@@ -87,6 +87,12 @@ same-length-7 c = search needs
 same-length-8 : tie.Need-same-length-8
 same-length-8 c = search needs
 
+same-length-9 : tie.Need-same-length-9
+same-length-9 c = search needs
+
+same-length-10 : tie.Need-same-length-10
+same-length-10 c = search needs
+
 returns : tie.Need-returns
 returns c = search needs
 
@@ -106,4 +112,6 @@ write-tabled-spec =
     same-length-6
     same-length-7
     same-length-8
+    same-length-9
+    same-length-10
     returns)

@@ -1,0 +1,127 @@
+-- The corners below `k` of the range are written, on all three axes.
+-- Assumes nothing.
+use mathlib.Core.Path.{_≡_, _∙_, subst}
+use Prim.Native.Nat.{ℕ, _+_, _-_, _*_, _<_, _≤_}
+use lib.Dec.{lit<}
+use lib.ListN.{length}
+use denote.Ref.{now}
+use mir.Syntax.{w64}
+use mir.Val.{Fits}
+use Rattle.surface.specs.Corners.{Corners}
+use Rattle.surface.specs.Refined.{perCorner}
+use Rattle.writing.specs.Written.{onAxis, Written}
+use Rattle.writing.proofs.Laws.{written-none, written-step, tables-at}
+use native.Mathlib.Omega.{arith}
+use borrow.Author.Needs.{needs}
+use Rattle.writing.proofs.write_corners.Statement.{statement}
+use Rattle.writing.proofs.write_corners.Tie as tie
+
+abbrev Inv-loop : tie.InvT-loop
+Inv-loop xs ys zs nexts previouses links sides valences n first count out₀ rows k₀ out k =
+    (k ≤ count) × (length out ≡ perCorner * count) × Written (onAxis n nexts previouses links sides valences xs ys zs) first k out
+
+abbrev μ-loop : tie.MeasureT-loop
+μ-loop xs ys zs nexts previouses links sides valences n first count out₀ rows k₀ out k = count - k
+
+-- the corners that the tables hold, on each axis
+abbrev mesh : tie.Start Inv-loop μ-loop → ℕ → Corners
+mesh s =
+    onAxis (s .args .n) (now (s .args .nexts)) (now (s .args .previouses)) (now (s .args .links)) (now (s .args .sides)) (now (s .args .valences))
+    (now (s .args .xs)) (now (s .args .ys)) (now (s .args .zs))
+
+rows-requires : tie.Need-rows-requires Inv-loop μ-loop
+rows-requires c κs = search needs
+
+loop-holds : tie.Need-loop-holds Inv-loop μ-loop
+loop-holds c = let s = c .before .before .before .before .before .before in (omega arith, s .pre .1 .1 .1, written-none (mesh s) _ _)
+
+add-c : tie.Need-add-c Inv-loop μ-loop
+add-c c = search needs
+
+mul-at : tie.Need-mul-at Inv-loop μ-loop
+mul-at c = search needs
+
+put-net-requires : tie.Need-put-net-requires Inv-loop μ-loop
+put-net-requires c κs =
+    let s = c .before .before .before .before .before .before .before .before .before .before in
+    let l = c .before .before .before .loop in
+    let h : l .k < s .args .count = search needs in (
+      tables-at _ _ _ _ _ _ _ _ (s .pre .0 .0) (s .pre .1 .0) (omega (arith, s .pre .1 .1 .0)),
+      lit< tt,
+      omega (arith, l .inv .1),
+      c .before .before .before .before .rows .ensures,
+    )
+
+put-net-requires-2 : tie.Need-put-net-requires-2 Inv-loop μ-loop
+put-net-requires-2 c κs =
+    let s = c .before .before .before .before .before .before .before .before .before .before .before .before .before .before in
+    let l = c .before .before .before .before .before .before .before .loop in
+    let h : l .k < s .args .count = search needs in
+    let p = c .before .before .before .put-net in (
+      tables-at _ _ _ _ _ _ _ _ (s .pre .0 .1) (s .pre .1 .0) (omega (arith, s .pre .1 .1 .0)),
+      lit< tt,
+      omega (arith, l .inv .1, p .kept .1 .1 .1 .1 .1 .1 .1 .1 .1 .1 .0),
+      c .before .before .before .before .before .before .before .before .rows .ensures,
+    )
+
+put-net-requires-3 : tie.Need-put-net-requires-3 Inv-loop μ-loop
+put-net-requires-3 c κs =
+    let s = c .before .before .before .before .before .before .before .before .before .before .before .before .before .before .before .before .before .before in
+    let l = c .before .before .before .before .before .before .before .before .before .before .before .loop in
+    let h : l .k < s .args .count = search needs in
+    let p = c .before .before .before .before .before .before .before .put-net in
+    let q = c .before .before .before .put-net2 in (
+      tables-at _ _ _ _ _ _ _ _ (s .pre .0 .2) (s .pre .1 .0) (omega (arith, s .pre .1 .1 .0)),
+      lit< tt,
+      omega (arith, l .inv .1, p .kept .1 .1 .1 .1 .1 .1 .1 .1 .1 .1 .0, q .kept .1 .1 .1 .1 .1 .1 .1 .1 .1 .1 .0),
+      c .before .before .before .before .before .before .before .before .before .before .before .before .rows .ensures,
+    )
+
+add-k : tie.Need-add-k Inv-loop μ-loop
+add-k c =
+    let l = c .before .before .before .before .before .before .before .before .before .before .before .before .before .loop in
+    let f : Fits w64 (l .k + 1) = omega (arith, c .before .before .before .before .before .before .before .before .before .before .before .before .loop-test .taken, c .before .before .before .before .before .before .before .before .before .before .before .before .before .before .before .before .before .before .before .before .fits .count) in
+    f
+
+loop-less : tie.Need-loop-less Inv-loop μ-loop
+loop-less c = search needs
+
+loop-again : tie.Need-loop-again Inv-loop μ-loop
+loop-again c =
+    let s = c .before .before .before .before .before .before .before .before .before .before .before .before .before .before .before .before .before .before .before .before in
+    let l = c .before .before .before .before .before .before .before .before .before .before .before .before .before .loop in
+    let x = c .before .before .before .before .before .before .before .before .before .put-net in
+    let y = c .before .before .before .before .before .put-net2 in
+    let z = c .before .put-net3 in (
+      omega (arith, c .before .before .before .before .before .before .before .before .before .before .before .before .loop-test .taken),
+      z .kept .1 .1 .1 .1 .1 .1 .1 .1 .1 .1 .0 ∙ y .kept .1 .1 .1 .1 .1 .1 .1 .1 .1 .1 .0 ∙ x .kept .1 .1 .1 .1 .1 .1 .1 .1 .1 .1 .0 ∙ l .inv .1,
+      written-step (mesh s) (s .args .first) (l .k) (l .out) (x .last .1 .1 .1 .1 .1 .1 .1 .1 .1 .1 .0) (y .last .1 .1 .1 .1 .1 .1 .1 .1 .1 .1 .0) (z .last .1 .1 .1 .1 .1 .1 .1 .1 .1 .1 .0) (l .inv .2) (x .ensures) (y .ensures) (z .ensures),
+    )
+
+same-length : tie.Need-same-length Inv-loop μ-loop
+same-length c = search needs
+
+returns : tie.Need-returns Inv-loop μ-loop
+returns c =
+    let s = c .before .before .before .before .before .before .before .before in
+    let l = c .before .loop in
+    subst (λ (k : ℕ). Written (mesh s) (s .args .first) k (l .out)) (let q : l .k ≡ s .args .count = omega arith in q) (l .inv .2)
+
+pub write-corners-spec : {M : Type 1} → statement M
+write-corners-spec =
+    tie.close
+    (tie.spec
+    Inv-loop
+    μ-loop
+    rows-requires
+    loop-holds
+    add-c
+    mul-at
+    put-net-requires
+    put-net-requires-2
+    put-net-requires-3
+    add-k
+    loop-less
+    loop-again
+    same-length
+    returns)
