@@ -26,7 +26,7 @@ use Rattle.edges.proofs.Laws.{links-found}
 use Rattle.rings.specs.Ring.{Countable, Followed}
 use Rattle.checks.specs.Checked.{Checked, Listed, Room, CountRoom, Joined}
 
--- after 4 and 8: the table of the last corner met of each vertex has room
+-- after 4 and 8: check 9's table has an entry for each vertex that is named
 pub lasts-room : (vertices : ℕ) (corners : List ℕ) → vertices ≤ mostVertices → lowestOf 8 (length corners) (fault8 vertices corners) ≡ sound
     → ((c : ℕ) → c < length corners → vertexOf corners c < mostVertices) × Blank (replicate mostVertices 0)
 lasts-room vertices corners l e =

@@ -18,9 +18,9 @@ use Rattle.mesh.specs.Limits.{mostVertices, mostFaces, mostCorners, mostCoordin
 use Rattle.mesh.specs.Scan.{someBelow}
 use Rattle.mesh.specs.Corners.{sumOf, startOf, firstOf}
 use Rattle.mesh.specs.Links.{vertexOf, names}
-use Rattle.mesh.specs.Faults.{sound, fault, single, outside, fault4, fault6, fault7, lowestOf, fault9, sameVertexFrom}
+use Rattle.mesh.specs.Faults.{sound, fault, single, lowestOf, outside, fault4, fault6, fault7, fault9, sameVertexFrom}
 use Rattle.mesh.proofs.Ranges.{or-left, or-right, or-none}
-use Rattle.mesh.proofs.Scans.{ways, and-true, some-true, some-false, fails-step}
+use Rattle.mesh.proofs.Scans.{ways, some-true, some-false, fails-step}
 use Rattle.mesh.proofs.Faces.{face-at}
 use Rattle.mesh.proofs.Verdicts.{single-hit, single-miss, lowest-hit}
 use Rattle.tables.specs.Filled.{Blank, lastBelow, HeadsTo}
@@ -76,44 +76,41 @@ module _ (coordinates : List ℤ) (i : ℕ) (f : mag (getD coordinates i (pos 0)
   unfolding fault7
   between g h = or-none _ _ (rw bits at g) (rw bits at h)
 
--- the last corner met of c's vertex: c repeats its vertex if that corner is in c's face, whose first corner is `first`
-module _ (first : ℕ) (corners : List ℕ) (c : ℕ) where
-  passes : (d : ℕ) → first ≤ d → names corners (vertexOf corners c) d ≡ true → sameVertexFrom first corners c d ≡ true
+-- the last corner before c of c's vertex: c repeats that vertex if this corner is in c's face, whose first corner is `first`
+module _ (first : ℕ) (corners : List ℕ) (c last : ℕ) (e : last ≡ lastBelow c (names corners (vertexOf corners c))) where
+  from-first : (d : ℕ) → first ≤ d → sameVertexFrom first corners c d ≡ names corners (vertexOf corners c) d
   unfolding sameVertexFrom names
-  passes d h e = and-true _ _ (le-leb first d h) e
+  from-first d h = rw (le-leb first d h)
 
   before-first : (d : ℕ) → d < first → sameVertexFrom first corners c d ≡ false
   unfolding sameVertexFrom
   before-first d h = rw (lt-leb first d h)
 
-  other-vertex : (d : ℕ) → first ≤ d → names corners (vertexOf corners c) d ≡ false → sameVertexFrom first corners c d ≡ false
-  unfolding sameVertexFrom names
-  other-vertex d h e = rw (le-leb first d h, e)
-
-  repeated : (last : ℕ) → last ≡ lastBelow c (names corners (vertexOf corners c)) → first < last → someBelow c (sameVertexFrom first corners c) ≡ true
-  repeated last e h =
+  repeated : first < last → someBelow c (sameVertexFrom first corners c) ≡ true
+  repeated h =
       some-true c (sameVertexFrom first corners c) (last - 1) (omega (arith, e, last-le (names corners (vertexOf corners c)) c))
-      (passes (last - 1) (omega arith) (last-passes (names corners (vertexOf corners c)) c (last - 1) (sym e ∙ omega arith)))
+      (from-first (last - 1) (omega arith) ∙ last-passes (names corners (vertexOf corners c)) c (last - 1) (sym e ∙ omega arith))
 
-  unrepeated : (last : ℕ) → last ≡ lastBelow c (names corners (vertexOf corners c)) → last ≤ first → someBelow c (sameVertexFrom first corners c) ≡ false
-  unrepeated last e h =
+  unrepeated : last ≤ first → someBelow c (sameVertexFrom first corners c) ≡ false
+  unrepeated h =
       some-false c (sameVertexFrom first corners c)
       (λ d l. ⊎-elim
       (λ b. before-first d (ltb-true d first b))
-      (λ b. let k : first ≤ d = ltb-false d first b in other-vertex d k (last-above (names corners (vertexOf corners c)) c d (omega (arith, e)) l))
+      (λ b. let k : first ≤ d = ltb-false d first b in
+      from-first d k ∙ last-above (names corners (vertexOf corners c)) c d (omega (arith, e)) l)
       (ways (ltb d first)))
 
--- check 9 below corner c: the last corner met of each vertex, and no fault
+-- check 9 before corner c: the last corner of each vertex, and no fault
 pub record Passed (sides corners lasts : List ℕ) (c : ℕ) : Type 0 where
   pub lasts-are : HeadsTo corners lasts c
-  pub sound : (j : ℕ) → j < c → fault9 sides corners j ≡ false
+  pub faultless : (j : ℕ) → j < c → fault9 sides corners j ≡ false
 
 pub passed-none : (sides corners lasts : List ℕ) → Blank lasts → Passed sides corners lasts 0
-passed-none sides corners lasts z = record { lasts-are = heads-none corners lasts z; sound = λ j l. absurd (omega arith) }
+passed-none sides corners lasts z = record { lasts-are = heads-none corners lasts z; faultless = λ j l. absurd (omega arith) }
 
 -- a corner of face f, whose first corner is where the face starts
-module _ (sides corners lasts : List ℕ) (f c start : ℕ) (l : f < length sides) (s : start ≡ startOf sides f) (h : start ≤ c) (k : c < start + getD sides f 0)
-    (p : Passed sides corners lasts c) (b : vertexOf corners c < length lasts) where
+module _ (sides corners lasts : List ℕ) (f c start : ℕ) (l : f < length sides) (s : start ≡ startOf sides f)
+    (h : start ≤ c) (k : c < start + getD sides f 0) (p : Passed sides corners lasts c) (b : vertexOf corners c < length lasts) where
   in-face : fault9 sides corners c ≡ someBelow c (sameVertexFrom start corners c)
   unfolding fault9 firstOf
   in-face =
@@ -125,11 +122,11 @@ module _ (sides corners lasts : List ℕ) (f c start : ℕ) (l : f < length side
   last-is = p .lasts-are (vertexOf corners c) b
 
   pub doubled : c < length corners → start < getD lasts (vertexOf corners c) 0 → lowestOf 9 (length corners) (fault9 sides corners) ≡ fault 9 c
-  doubled i q = lowest-hit 9 (length corners) (fault9 sides corners) c i (in-face ∙ repeated start corners c _ last-is q) (p .sound)
+  doubled i q = lowest-hit 9 (length corners) (fault9 sides corners) c i (in-face ∙ repeated start corners c _ last-is q) (p .faultless)
 
   pub passed-step : getD lasts (vertexOf corners c) 0 ≤ start → Passed sides corners (set lasts (vertexOf corners c) (c + 1)) (c + 1)
   passed-step q =
       record {
         lasts-are = heads-step corners lasts c (p .lasts-are) b;
-        sound = fails-step (fault9 sides corners) c (p .sound) (in-face ∙ unrepeated start corners c _ last-is q);
+        faultless = fails-step (fault9 sides corners) c (p .faultless) (in-face ∙ unrepeated start corners c _ last-is q);
       }

@@ -77,7 +77,9 @@ slice-read-last c =
     omega (arith, o .inv .2, l .inv .6, s .pre .1 .0 (l .c) (omega (arith, l .inv .3)))
 
 cast-last : tie.Need-cast-last Inv-loop2 μ-loop2 Inv-loop μ-loop
-cast-last c = let s = c .before .before .before .before .before .before .before in let l = c .before .before .before .loop2 in omega (arith, c .slice-known .given (getD (now (s .args .corners)) (l .c) 0))
+cast-last c =
+    let s = c .before .before .before .before .before .before .before in
+    omega (arith, c .slice-known .given (getD (now (s .args .corners)) (c .before .before .before .loop2 .c) 0))
 
 same-length : tie.Need-same-length Inv-loop2 μ-loop2 Inv-loop μ-loop
 same-length c = search needs
@@ -89,7 +91,8 @@ returns c =
     let l = c .before .before .before .before .loop2 in
     let i : l .c < length (now (s .args .corners)) = omega (arith, l .inv .3) in
     let b : getD (now (s .args .corners)) (l .c) 0 < length (l .lasts) = omega (arith, o .inv .2, l .inv .6, s .pre .1 .0 (l .c) i) in
-    sym (doubled (now (s .args .sides)) (now (s .args .corners)) (l .lasts) (o .f) (l .c) (o .start) (l .inv .0) (l .inv .1) (l .inv .4) (search needs) (l .inv .7) b i (c .if1 .taken))
+    sym (doubled (now (s .args .sides)) (now (s .args .corners)) (l .lasts) (o .f) (l .c) (o .start)
+    (l .inv .0) (l .inv .1) (l .inv .4) (search needs) (l .inv .7) b i (c .if1 .taken))
 
 add-lasts : tie.Need-add-lasts Inv-loop2 μ-loop2 Inv-loop μ-loop
 add-lasts c = search needs
@@ -100,7 +103,6 @@ cast-lasts c = search needs
 mul-lasts : tie.Need-mul-lasts Inv-loop2 μ-loop2 Inv-loop μ-loop
 mul-lasts c =
     let s = c .before .before .before .before .before .before .before .before in
-    let o = c .before .before .before .before .before .before .before .loop in
     let l = c .before .before .before .before .loop2 in
     omega (arith, s .pre .1 .0 (l .c) (omega (arith, l .inv .3)))
 
@@ -131,7 +133,8 @@ loop2-again c =
       omega (arith, l .inv .4),
       search needs,
       length-set (l .lasts) (getD (now (s .args .corners)) (l .c) 0) (l .c + 1) ∙ l .inv .6,
-      passed-step (now (s .args .sides)) (now (s .args .corners)) (l .lasts) (o .f) (l .c) (o .start) (l .inv .0) (l .inv .1) (l .inv .4) (search needs) (l .inv .7) b (c .if1 .left),
+      passed-step (now (s .args .sides)) (now (s .args .corners)) (l .lasts) (o .f) (l .c) (o .start)
+          (l .inv .0) (l .inv .1) (l .inv .4) (search needs) (l .inv .7) b (c .if1 .left),
     )
 
 add-f : tie.Need-add-f Inv-loop2 μ-loop2 Inv-loop μ-loop
@@ -161,7 +164,7 @@ returns-2 c =
     let l = c .before .loop in
     let q : l .start ≡ length (now (s .args .corners)) = l .inv .1 ∙ start-all (now (s .args .sides)) (l .f) (c .loop-test .left) ∙ s .pre .0 .0 in
     sym (lowest-none 9 (length (now (s .args .corners))) (fault9 (now (s .args .sides)) (now (s .args .corners)))
-    (λ j h. l .inv .3 .sound j (omega (arith, q))))
+    (λ j h. l .inv .3 .faultless j (omega (arith, q))))
 
 pub check-faces-spec : {M : Type 1} → statement M
 check-faces-spec =
