@@ -6,9 +6,10 @@ use mathlib.Core.List.{List}
 use Prim.Native.Nat.{ℕ, _<_, _≤_}
 use native.Mathlib.Omega.{arith}
 use lib.ListN.{length, getD, replicate, length-replicate}
+use Rattle.mesh.specs.Limits.{mostVertices}
 use Rattle.mesh.specs.Lists.{Mesh, vertexCount, faceCount, cornerCount}
 use Rattle.mesh.specs.Corners.{next, previous}
-use Rattle.mesh.specs.Links.{leavesTo, arrivesFrom}
+use Rattle.mesh.specs.Links.{vertexOf, leavesTo, arrivesFrom}
 use Rattle.mesh.specs.Tables.{NextsTo, LinkTable}
 use Rattle.mesh.specs.Faults.{sound, fault, _orElse_, lowestOf, fault4, fault5, fault8, fault10, fault11, fault12, Closed, listFaults, linkFaults, verdict}
 use Rattle.mesh.specs.Answers.{stated}
@@ -18,12 +19,18 @@ use Rattle.mesh.proofs.Faces.{next-below, previous-below}
 use Rattle.mesh.proofs.Links.{link-in}
 use Rattle.mesh.proofs.Verdicts.{sound-left, sound-right, single-sound, lowest-sound, orElse-fault, orElse-sound}
 use Rattle.mesh.proofs.Accepted.{few-vertices, few-corners, sides-within, sums-of, named-of, valence-within}
-use Rattle.tables.specs.Filled.{Ends, Chained}
+use Rattle.tables.specs.Filled.{Blank, Ends, Chained}
 use Rattle.tables.proofs.Laws.{blank}
 use Rattle.edges.specs.Entries.{Entries, Searchable}
 use Rattle.edges.proofs.Laws.{links-found}
 use Rattle.rings.specs.Ring.{Countable, Followed}
 use Rattle.checks.specs.Checked.{Checked, Listed, Room, CountRoom, Joined}
+
+-- after 4 and 8: check 9's table has an entry for each vertex that is named
+pub lasts-room : (vertices : ℕ) (corners : List ℕ) → vertices ≤ mostVertices → lowestOf 8 (length corners) (fault8 vertices corners) ≡ sound
+    → ((c : ℕ) → c < length corners → vertexOf corners c < mostVertices) × Blank (replicate mostVertices 0)
+lasts-room vertices corners l e =
+    (λ c h. omega (arith, l, named-of vertices corners c (lowest-sound 8 (length corners) (fault8 vertices corners) e c h)), blank mostVertices)
 
 -- after 4 to 9
 pub listed : (M : Mesh) → listFaults M ≡ sound → Listed M

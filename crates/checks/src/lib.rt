@@ -68,7 +68,8 @@ pub fn check_lists(coordinates: &[i32], sides: &[u8], corners: &[u16]) -> Answer
     if let Answer::Refused(k, p) = a8 {
         return Answer::Refused(k, p);
     }
-    lists::check_faces(sides, corners)
+    let mut lasts = [0u16; MOST_VERTICES];
+    lists::check_faces(sides, corners, &mut lasts)
 }
 
 // Checks 10 to 13, over the table of next corners; the links go to `links`.

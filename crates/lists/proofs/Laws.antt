@@ -1,25 +1,30 @@
 -- What each test of the code says of the fault at its place.
 -- Assumes nothing.
 use mathlib.Core.Path.{_≡_, ap, _∙_, sym}
-use mathlib.Core.Bool.{Bool, true, false, not}
+use mathlib.Core.Bool.{true, false, not}
+use mathlib.Core.Logic.{⊎-elim}
 use mathlib.Core.List.{List}
-use Prim.Native.Nat.{ℕ, _+_, _/_, _%_, _^_, _<_, _≤_}
+use Prim.Native.Nat.{ℕ, _+_, _-_, _/_, _%_, _^_, _<_, _≤_}
 use native.Mathlib.Omega.{arith}
-use lib.Dec.{eqb}
-use lib.ListN.{length, getD}
+use lib.Dec.{ltb, eqb}
+use lib.ListN.{length, getD, set}
 use lib.IntN.{ℤ, pos, negsuc}
 use lib.Signed.{ltZ, mag}
 use mir.Syntax.{w32}
 use mir.Val.{toZ, ofZ}
 use mir.ValLaws.{toZ-ofZ}
-use borrow.Author.Tests.{eq-eqb, ne-eqb, le-leb, lt-leb}
+use borrow.Author.Tests.{ltb-true, ltb-false, eq-eqb, ne-eqb, le-leb, lt-leb}
 use Rattle.mesh.specs.Limits.{mostVertices, mostFaces, mostCorners, mostCoordinate}
 use Rattle.mesh.specs.Scan.{someBelow}
 use Rattle.mesh.specs.Corners.{sumOf, startOf, firstOf}
-use Rattle.mesh.specs.Faults.{sound, fault, single, outside, fault4, fault6, fault7, fault9, sameVertexFrom}
+use Rattle.mesh.specs.Links.{vertexOf, names}
+use Rattle.mesh.specs.Faults.{sound, fault, single, lowestOf, outside, fault4, fault6, fault7, fault9, sameVertexFrom}
 use Rattle.mesh.proofs.Ranges.{or-left, or-right, or-none}
+use Rattle.mesh.proofs.Scans.{ways, some-true, some-false, fails-step}
 use Rattle.mesh.proofs.Faces.{face-at}
-use Rattle.mesh.proofs.Verdicts.{single-hit, single-miss}
+use Rattle.mesh.proofs.Verdicts.{single-hit, single-miss, lowest-hit}
+use Rattle.tables.specs.Filled.{Blank, lastBelow, HeadsTo}
+use Rattle.tables.proofs.Laws.{last-le, last-passes, last-above, heads-step, heads-none}
 
 -- the lengths
 module _ (n f c : ℕ) where
@@ -71,27 +76,57 @@ module _ (coordinates : List ℤ) (i : ℕ) (f : mag (getD coordinates i (pos 0)
   unfolding fault7
   between g h = or-none _ _ (rw bits at g) (rw bits at h)
 
--- one earlier corner
-module _ (first : ℕ) (corners : List ℕ) (c d : ℕ) where
-  pub before-first : d < first → sameVertexFrom first corners c d ≡ false
-  unfolding sameVertexFrom
-  before-first h = rw (lt-leb first d h)
+-- the last corner before c of c's vertex: c repeats that vertex if this corner is in c's face, whose first corner is `first`
+module _ (first : ℕ) (corners : List ℕ) (c last : ℕ) (e : last ≡ lastBelow c (names corners (vertexOf corners c))) where
+  from-first : (d : ℕ) → first ≤ d → sameVertexFrom first corners c d ≡ names corners (vertexOf corners c) d
+  unfolding sameVertexFrom names
+  from-first d h = rw (le-leb first d h)
 
-  pub same-vertex : first ≤ d → getD corners d 0 ≡ getD corners c 0 → sameVertexFrom first corners c d ≡ true
+  before-first : (d : ℕ) → d < first → sameVertexFrom first corners c d ≡ false
   unfolding sameVertexFrom
-  same-vertex h e = rw (le-leb first d h, eq-eqb (getD corners d 0) (getD corners c 0) e)
+  before-first d h = rw (lt-leb first d h)
 
-  pub other-vertex : first ≤ d → (getD corners d 0 ≡ getD corners c 0 → ⊥) → sameVertexFrom first corners c d ≡ false
-  unfolding sameVertexFrom
-  other-vertex h e = rw (le-leb first d h, ne-eqb (getD corners d 0) (getD corners c 0) e)
+  repeated : first < last → someBelow c (sameVertexFrom first corners c) ≡ true
+  repeated h =
+      some-true c (sameVertexFrom first corners c) (last - 1) (omega (arith, e, last-le (names corners (vertexOf corners c)) c))
+      (from-first (last - 1) (omega arith) ∙ last-passes (names corners (vertexOf corners c)) c (last - 1) (sym e ∙ omega arith))
+
+  unrepeated : last ≤ first → someBelow c (sameVertexFrom first corners c) ≡ false
+  unrepeated h =
+      some-false c (sameVertexFrom first corners c)
+      (λ d l. ⊎-elim
+      (λ b. before-first d (ltb-true d first b))
+      (λ b. let k : first ≤ d = ltb-false d first b in
+      from-first d k ∙ last-above (names corners (vertexOf corners c)) c d (omega (arith, e)) l)
+      (ways (ltb d first)))
+
+-- check 9 before corner c: the last corner of each vertex, and no fault
+pub record Passed (sides corners lasts : List ℕ) (c : ℕ) : Type 0 where
+  pub lasts-are : HeadsTo corners lasts c
+  pub faultless : (j : ℕ) → j < c → fault9 sides corners j ≡ false
+
+pub passed-none : (sides corners lasts : List ℕ) → Blank lasts → Passed sides corners lasts 0
+passed-none sides corners lasts z = record { lasts-are = heads-none corners lasts z; faultless = λ j l. absurd (omega arith) }
 
 -- a corner of face f, whose first corner is where the face starts
-in-face : (sides corners : List ℕ) (f c : ℕ) → f < length sides → startOf sides f ≤ c → c < startOf sides f + getD sides f 0
-    → fault9 sides corners c ≡ someBelow c (sameVertexFrom (startOf sides f) corners c)
-unfolding fault9 firstOf
-in-face sides corners f c l a b = ap (λ (x : ℕ). someBelow c (sameVertexFrom (startOf sides x) corners c)) (face-at sides f c a b l)
+module _ (sides corners lasts : List ℕ) (f c start : ℕ) (l : f < length sides) (s : start ≡ startOf sides f)
+    (h : start ≤ c) (k : c < start + getD sides f 0) (p : Passed sides corners lasts c) (b : vertexOf corners c < length lasts) where
+  in-face : fault9 sides corners c ≡ someBelow c (sameVertexFrom start corners c)
+  unfolding fault9 firstOf
+  in-face =
+      ap (λ (x : ℕ). someBelow c (sameVertexFrom (startOf sides x) corners c)) (face-at sides f c (omega arith) (omega arith) l)
+      ∙ ap (λ (x : ℕ). someBelow c (sameVertexFrom x corners c)) (sym s)
 
-pub doubled : (sides corners : List ℕ) (f c start : ℕ) (r b : Bool) → f < length sides → start ≡ startOf sides f → start ≤ c → c < start + getD sides f 0
-    → r ≡ someBelow c (sameVertexFrom start corners c) → r ≡ b → fault9 sides corners c ≡ b
-doubled sides corners f c start r b l e h k q t =
-    in-face sides corners f c l (omega arith) (omega arith) ∙ ap (λ (x : ℕ). someBelow c (sameVertexFrom x corners c)) (sym e) ∙ sym q ∙ t
+  last-is : getD lasts (vertexOf corners c) 0 ≡ lastBelow c (names corners (vertexOf corners c))
+  unfolding HeadsTo
+  last-is = p .lasts-are (vertexOf corners c) b
+
+  pub doubled : c < length corners → start < getD lasts (vertexOf corners c) 0 → lowestOf 9 (length corners) (fault9 sides corners) ≡ fault 9 c
+  doubled i q = lowest-hit 9 (length corners) (fault9 sides corners) c i (in-face ∙ repeated start corners c _ last-is q) (p .faultless)
+
+  pub passed-step : getD lasts (vertexOf corners c) 0 ≤ start → Passed sides corners (set lasts (vertexOf corners c) (c + 1)) (c + 1)
+  passed-step q =
+      record {
+        lasts-are = heads-step corners lasts c (p .lasts-are) b;
+        faultless = fails-step (fault9 sides corners) c (p .faultless) (in-face ∙ unrepeated start corners c _ last-is q);
+      }

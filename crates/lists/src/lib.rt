@@ -7,13 +7,14 @@ use mesh::MOST_FACES;
 use mesh::MOST_SIDES;
 use mesh::MOST_VERTICES;
 ghost use mathlib.Core.Path.{_≡_};
-ghost use Prim.Native.Nat.{_≤_, _<_};
+ghost use Prim.Native.Nat.{ℕ, _≤_, _<_};
 ghost use lib.ListN.{length};
 ghost use Rattle.mesh.specs.Limits.{mostFaces, mostCorners};
-ghost use Rattle.mesh.specs.Scan.{someBelow};
 ghost use Rattle.mesh.specs.Corners.{sumOf};
-ghost use Rattle.mesh.specs.Faults.{single, lowestOf, fault4, fault5, fault6, fault7, fault8, fault9, sameVertexFrom};
+ghost use Rattle.mesh.specs.Links.{vertexOf};
+ghost use Rattle.mesh.specs.Faults.{single, lowestOf, fault4, fault5, fault6, fault7, fault8, fault9};
 ghost use Rattle.mesh.specs.Answers.{stated};
+ghost use Rattle.tables.specs.Filled.{Blank};
 
 // Check 4, of the lists' lengths.
 pub fn check_lengths(coordinates: usize, faces: usize, corners: usize) -> Answer
@@ -97,9 +98,11 @@ pub fn check_names(vertices: usize, corners: &[u16]) -> Answer
     Answer::Done
 }
 
-// Check 9: no corner names the vertex of an earlier corner of its face.
-pub fn check_faces(sides: &[u8], corners: &[u16]) -> Answer
-    requires { ⌜ (sumOf (now sides) ≡ length (now corners)) × (length (now corners) ≤ mostCorners) ⌝ }
+// Check 9: no corner names the vertex of an earlier corner of its face. `lasts` holds one more than the last corner met of each vertex:
+// that corner is in the face if the entry is above the face's first corner.
+pub fn check_faces(sides: &[u8], corners: &[u16], lasts: &mut [u16]) -> Answer
+    requires mesh { ⌜ (sumOf (now sides) ≡ length (now corners)) × (length (now corners) ≤ mostCorners) ⌝ }
+    requires room { ⌜ ((c : ℕ) → c < length (now corners) → vertexOf (now corners) c < length (now lasts)) × Blank (now lasts) ⌝ }
     ensures { λ r. ⌜ stated r ≡ lowestOf 9 (length (now (corners .entry))) (fault9 (now (sides .entry)) (now (corners .entry))) ⌝ }
 {
     let mut start = 0;
@@ -109,30 +112,16 @@ pub fn check_faces(sides: &[u8], corners: &[u16]) -> Answer
         let end = start + count;
         let mut c = start;
         while c < end {
-            if seen(corners, start, c) {
+            let u = corners[c] as usize;
+            let last = lasts[u] as usize;
+            if start < last {
                 return Answer::Refused(9, c);
             }
+            lasts[u] = (c + 1) as u16;
             c += 1;
         }
         start = end;
         f += 1;
     }
     Answer::Done
-}
-
-// Whether a corner from `first` on, before c, has c's vertex.
-fn seen(corners: &[u16], first: usize, c: usize) -> bool
-    requires { ⌜ (c < length (now corners)) × (first ≤ c) ⌝ }
-    ensures { λ r. ⌜ r ≡ someBelow c (sameVertexFrom first (now (corners .entry)) c) ⌝ }
-{
-    let u = corners[c];
-    let mut d = first;
-    while d < c {
-        let w = corners[d];
-        if w == u {
-            return true;
-        }
-        d += 1;
-    }
-    false
 }

@@ -99,11 +99,11 @@ module _ (f : ℕ → Bool) where
   unfolding lastBelow
   last-zero = refl
 
-  last-le : (n : ℕ) → lastBelow n f ≤ n
+  pub last-le : (n : ℕ) → lastBelow n f ≤ n
   last-le zero = omega (arith, last-zero)
   last-le (suc n) = ⊎-elim (λ e. omega (arith, last-hit n e)) (λ e. omega (arith, last-miss n e, last-le n)) (ways (f n))
 
-  last-passes : (n d : ℕ) → lastBelow n f ≡ suc d → f d ≡ true
+  pub last-passes : (n d : ℕ) → lastBelow n f ≡ suc d → f d ≡ true
   last-passes zero d e = absurd (omega (arith, last-zero))
   last-passes (suc n) d e =
       ⊎-elim
@@ -111,7 +111,7 @@ module _ (f : ℕ → Bool) where
       (λ b. last-passes n d (sym (last-miss n b) ∙ e))
       (ways (f n))
 
-  last-above : (n d : ℕ) → lastBelow n f ≤ d → d < n → f d ≡ false
+  pub last-above : (n d : ℕ) → lastBelow n f ≤ d → d < n → f d ≡ false
   last-above zero d a b = absurd (omega arith)
   last-above (suc n) d a b =
       ⊎-elim
@@ -168,10 +168,11 @@ module _ (corners nexts tos froms : List ℕ) where
       }
 
 -- filling the chains
-module _ (corners earliers heads : List ℕ) (c : ℕ) (e : EarliersTo corners earliers c) (k : HeadsTo corners heads c) (l : getD corners c 0 < length heads) where
-  pub earliers-step : c < length earliers → EarliersTo corners (set earliers c (getD heads (getD corners c 0) 0)) (c + 1)
+module _ (corners heads : List ℕ) (c : ℕ) (k : HeadsTo corners heads c) (l : getD corners c 0 < length heads) where
+  pub earliers-step : (earliers : List ℕ) → EarliersTo corners earliers c → c < length earliers
+      → EarliersTo corners (set earliers c (getD heads (getD corners c 0) 0)) (c + 1)
   unfolding EarliersTo HeadsTo
-  earliers-step h d b =
+  earliers-step earliers e h d b =
       put (λ x. x ≡ lastBelow d (names corners (vertexOf corners d))) earliers c d (getD heads (getD corners c 0) 0) h
       (λ q. rw q (k (getD corners c 0) l))
       (λ q. e d (omega (arith, q)))

@@ -1,8 +1,10 @@
 -- Checks 4 to 9 meet their contract: each stops the chain with its fault or is passed.
 -- Assumes nothing.
+use denote.Ref.{now}
 use Rattle.mesh.specs.Faults.{listFaults}
 use Rattle.mesh.proofs.Verdicts.{stop, passed, past, single-sound}
-use Rattle.mesh.proofs.Accepted.{few-faces, few-corners, sums-of}
+use Rattle.mesh.proofs.Accepted.{few-vertices, few-faces, few-corners, sums-of}
+use Rattle.checks.proofs.Laws.{lasts-room}
 use borrow.Author.Needs.{needs}
 use Rattle.checks.proofs.check_lists.Statement.{statement}
 use Rattle.checks.proofs.check_lists.Tie as tie
@@ -111,21 +113,29 @@ returns-5 c =
 enum-told-5 : tie.Need-enum-told-5
 enum-told-5 c = search needs
 
+slice-aggregate-check-faces : tie.Need-slice-aggregate-check-faces
+slice-aggregate-check-faces c = search needs
+
 check-faces-requires : tie.Need-check-faces-requires
 check-faces-requires c κs =
-    let t8 = c in
+    let t8 = c .before in
     let t7 = t8 .before .before .before in
     let t6 = t7 .before .before .before in
     let t5 = t6 .before .before .before in
     let t4 = t5 .before .before .before in
     let four = passed (t4 .before .before .check-lengths .result) (t4 .before .before .check-lengths .ensures) (t4 .enum-told .given .1) in
     let six = passed (t6 .before .before .check-sum .result) (t6 .before .before .check-sum .ensures) (t6 .enum-told3 .given .1) in
-    (sums-of _ _ (single-sound 6 _ _ six), few-corners _ _ _ (single-sound 4 _ 0 four))
+    let eight = passed (t8 .before .before .check-names .result) (t8 .before .before .check-names .ensures) (t8 .enum-told5 .given .1) in
+    let b = single-sound 4 _ 0 four in
+    let s = t4 .before .before .before .before .before in (
+      (sums-of _ _ (single-sound 6 _ _ six), few-corners _ _ _ b),
+      lasts-room _ (now (s .args .corners)) (few-vertices _ _ _ b) eight,
+    )
 
 returns-6 : tie.Need-returns-6
 unfolding listFaults
 returns-6 c =
-    let t8 = c .before in
+    let t8 = c .before .before .before in
     let t7 = t8 .before .before .before in
     let t6 = t7 .before .before .before in
     let t5 = t6 .before .before .before in
@@ -135,7 +145,7 @@ returns-6 c =
     let six = passed (t6 .before .before .check-sum .result) (t6 .before .before .check-sum .ensures) (t6 .enum-told3 .given .1) in
     let seven = passed (t7 .before .before .check-coordinates .result) (t7 .before .before .check-coordinates .ensures) (t7 .enum-told4 .given .1) in
     let eight = passed (t8 .before .before .check-names .result) (t8 .before .before .check-names .ensures) (t8 .enum-told5 .given .1) in
-    past four _ (past five _ (past six _ (past seven _ (past eight _ (c .check-faces .ensures)))))
+    past four _ (past five _ (past six _ (past seven _ (past eight _ (c .before .check-faces .ensures)))))
 
 pub check-lists-spec : {M : Type 1} → statement M
 check-lists-spec =
@@ -161,5 +171,6 @@ check-lists-spec =
     enum-known-a8
     returns-5
     enum-told-5
+    slice-aggregate-check-faces
     check-faces-requires
     returns-6)

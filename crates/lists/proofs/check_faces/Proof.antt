@@ -1,93 +1,140 @@
--- Check 9 meets its contract: no corner before `c`, and none before the face, is at fault.
+-- Check 9 meets its contract: no corner before `c` is at fault, and `lasts` holds the last corner before `c` of each vertex.
 -- Assumes nothing.
-use mathlib.Core.Path.{_≡_, refl, _∙_, sym}
-use mathlib.Core.Bool.{false}
-use Prim.Native.Nat.{ℕ, _+_, _≤_, _<_, _-_}
-use lib.ListN.{length, getD}
+use mathlib.Core.Path.{_≡_, refl, _∙_, sym, subst}
+use Prim.Native.Nat.{_+_, _≤_, _<_, _-_}
+use lib.ListN.{length, getD, length-set}
 use denote.Ref.{now}
 use Rattle.mesh.specs.Corners.{startOf}
 use Rattle.mesh.specs.Faults.{fault9}
-use Rattle.mesh.proofs.Scans.{fails-step}
 use Rattle.mesh.proofs.Faces.{start-zero, start-next, start-all, start-ends}
-use Rattle.mesh.proofs.Verdicts.{lowest-hit, lowest-none}
-use Rattle.lists.proofs.Laws.{doubled}
+use Rattle.mesh.proofs.Verdicts.{lowest-none}
+use Rattle.lists.proofs.Laws.{Passed, passed-none, passed-step, doubled}
 use native.Mathlib.Omega.{arith}
 use borrow.Author.Needs.{needs}
 use Rattle.lists.proofs.check_faces.Statement.{statement}
 use Rattle.lists.proofs.check_faces.Tie as tie
 
 abbrev Inv-loop2 : tie.InvT-loop2
-Inv-loop2 sides corners start f count end c₀ c =
-    (f < length sides) × (start ≡ startOf sides f) × (end ≡ start + getD sides f 0) × (start ≤ c) × (c ≤ end) × ((j : ℕ) → j < c → fault9 sides corners j ≡ false)
+Inv-loop2 sides corners lasts₀ start f count end c₀ lasts c =
+    (f < length sides) × (start ≡ startOf sides f) × (end ≡ start + getD sides f 0) × (end ≤ length corners) × (start ≤ c) × (c ≤ end)
+    × (length lasts ≡ length lasts₀) × Passed sides corners lasts c
 
 abbrev μ-loop2 : tie.MeasureT-loop2
-μ-loop2 sides corners start f count end c₀ c = end - c
+μ-loop2 sides corners lasts₀ start f count end c₀ lasts c = end - c
 
 abbrev Inv-loop : tie.InvT-loop
-Inv-loop sides corners start₀ f₀ start f = (f ≤ length sides) × (start ≡ startOf sides f) × ((j : ℕ) → j < start → fault9 sides corners j ≡ false)
+Inv-loop sides corners lasts₀ start₀ f₀ lasts start f =
+    (f ≤ length sides) × (start ≡ startOf sides f) × (length lasts ≡ length lasts₀) × Passed sides corners lasts start
 
 abbrev μ-loop : tie.MeasureT-loop
-μ-loop sides corners start₀ f₀ start f = length sides - f
+μ-loop sides corners lasts₀ start₀ f₀ lasts start f = length sides - f
 
 loop-holds : tie.Need-loop-holds Inv-loop2 μ-loop2 Inv-loop μ-loop
-loop-holds c = (omega arith, sym (start-zero _), λ j h. absurd (omega arith))
+loop-holds c = (omega arith, sym (start-zero _), refl, passed-none _ _ _ (c .pre .1 .1))
 
 shared-slice-read-count : tie.Need-shared-slice-read-count Inv-loop2 μ-loop2 Inv-loop μ-loop
 shared-slice-read-count c = search needs
 
 cast-count : tie.Need-cast-count Inv-loop2 μ-loop2 Inv-loop μ-loop
-cast-count c = omega (arith, c .shared-slice-known3 .given (c .before .before .loop .f))
+cast-count c = omega (arith, c .shared-slice-known .given (c .before .before .loop .f))
 
 add-end : tie.Need-add-end Inv-loop2 μ-loop2 Inv-loop μ-loop
 add-end c =
-    let s = c .before .before .before .before .before in
-    omega (arith, s .pre .0, s .pre .1, start-ends (now (s .args .sides)) (c .before .before .loop .f) (search needs))
+    let s = c .before .before .before in
+    omega (arith, s .pre .0 .0, s .pre .0 .1, start-ends (now (s .args .sides)) (c .before .before .loop .f) (search needs))
 
 loop2-holds : tie.Need-loop2-holds Inv-loop2 μ-loop2 Inv-loop μ-loop
-loop2-holds c = (search needs, c .before .before .loop .inv .1, refl, omega arith, omega arith, c .before .before .loop .inv .2)
+loop2-holds c =
+    let s = c .before .before .before in
+    let o = c .before .before .loop in (
+      search needs,
+      o .inv .1,
+      refl,
+      omega (arith, o .inv .1, s .pre .0 .0, start-ends (now (s .args .sides)) (o .f) (search needs)),
+      omega arith,
+      omega arith,
+      refl,
+      o .inv .3,
+    )
 
-seen-requires : tie.Need-seen-requires Inv-loop2 μ-loop2 Inv-loop μ-loop
-seen-requires c κs =
+mul-u : tie.Need-mul-u Inv-loop2 μ-loop2 Inv-loop μ-loop
+mul-u c = search needs
+
+shared-slice-read-u : tie.Need-shared-slice-read-u Inv-loop2 μ-loop2 Inv-loop μ-loop
+shared-slice-read-u c = search needs
+
+cast-u : tie.Need-cast-u Inv-loop2 μ-loop2 Inv-loop μ-loop
+cast-u c = omega (arith, c .shared-slice-known2 .given (c .before .before .loop2 .c))
+
+mul-last : tie.Need-mul-last Inv-loop2 μ-loop2 Inv-loop μ-loop
+mul-last c = omega (arith, c .shared-slice-known2 .given (c .before .before .loop2 .c))
+
+slice-read-last : tie.Need-slice-read-last Inv-loop2 μ-loop2 Inv-loop μ-loop
+slice-read-last c =
     let s = c .before .before .before .before .before .before .before in
-    let o = c .before .before .before .before .loop in
-    let l = c .before .loop2 in
-    let e = start-ends (now (s .args .sides)) (o .f) (l .inv .0) in
-    (omega (arith, e, s .pre .0, l .inv .1), l .inv .3)
+    let o = c .before .before .before .before .before .before .loop in
+    let l = c .before .before .before .loop2 in
+    omega (arith, o .inv .2, l .inv .6, s .pre .1 .0 (l .c) (omega (arith, l .inv .3)))
+
+cast-last : tie.Need-cast-last Inv-loop2 μ-loop2 Inv-loop μ-loop
+cast-last c =
+    let s = c .before .before .before .before .before .before .before in
+    omega (arith, c .slice-known .given (getD (now (s .args .corners)) (c .before .before .before .loop2 .c) 0))
+
+same-length : tie.Need-same-length Inv-loop2 μ-loop2 Inv-loop μ-loop
+same-length c = search needs
 
 returns : tie.Need-returns Inv-loop2 μ-loop2 Inv-loop μ-loop
 returns c =
-    let s = c .before .before .before .before .before .before .before .before .before in
-    let o = c .before .before .before .before .before .before .loop in
-    let l = c .before .before .before .loop2 in
-    let e = start-ends (now (s .args .sides)) (o .f) (l .inv .0) in
-    sym (lowest-hit 9 (length (now (s .args .corners))) (fault9 (now (s .args .sides)) (now (s .args .corners))) (l .c) (omega (arith, e, s .pre .0, l .inv .1))
-    (doubled (now (s .args .sides)) (now (s .args .corners)) (o .f) (l .c) (o .start) (c .before .seen .result) _ (l .inv .0) (l .inv .1) (l .inv .3) (search needs) (c .before .seen .ensures) (c .if1 .taken))
-    (l .inv .5))
+    let s = c .before .before .before .before .before .before .before .before in
+    let o = c .before .before .before .before .before .before .before .loop in
+    let l = c .before .before .before .before .loop2 in
+    let i : l .c < length (now (s .args .corners)) = omega (arith, l .inv .3) in
+    let b : getD (now (s .args .corners)) (l .c) 0 < length (l .lasts) = omega (arith, o .inv .2, l .inv .6, s .pre .1 .0 (l .c) i) in
+    sym (doubled (now (s .args .sides)) (now (s .args .corners)) (l .lasts) (o .f) (l .c) (o .start)
+    (l .inv .0) (l .inv .1) (l .inv .4) (search needs) (l .inv .7) b i (c .if1 .taken))
+
+add-lasts : tie.Need-add-lasts Inv-loop2 μ-loop2 Inv-loop μ-loop
+add-lasts c = search needs
+
+cast-lasts : tie.Need-cast-lasts Inv-loop2 μ-loop2 Inv-loop μ-loop
+cast-lasts c = search needs
+
+mul-lasts : tie.Need-mul-lasts Inv-loop2 μ-loop2 Inv-loop μ-loop
+mul-lasts c =
+    let s = c .before .before .before .before .before .before .before .before in
+    let l = c .before .before .before .before .loop2 in
+    omega (arith, s .pre .1 .0 (l .c) (omega (arith, l .inv .3)))
+
+slice-write-lasts : tie.Need-slice-write-lasts Inv-loop2 μ-loop2 Inv-loop μ-loop
+slice-write-lasts c =
+    let s = c .before .before .before .before .before .before .before .before in
+    let o = c .before .before .before .before .before .before .before .loop in
+    let l = c .before .before .before .before .loop2 in
+    omega (arith, o .inv .2, l .inv .6, s .pre .1 .0 (l .c) (omega (arith, l .inv .3)))
 
 add-c : tie.Need-add-c Inv-loop2 μ-loop2 Inv-loop μ-loop
-add-c c =
-    let s = c .before .before .before .before .before .before .before .before .before in
-    let o = c .before .before .before .before .before .before .loop in
-    let l = c .before .before .before .loop2 in
-    let e = start-ends (now (s .args .sides)) (o .f) (l .inv .0) in
-    omega (arith, e, s .pre .0, s .pre .1, l .inv .1)
+add-c c = search needs
 
 loop2-less : tie.Need-loop2-less Inv-loop2 μ-loop2 Inv-loop μ-loop
 loop2-less c = search needs
 
 loop2-again : tie.Need-loop2-again Inv-loop2 μ-loop2 Inv-loop μ-loop
 loop2-again c =
-    let s = c .before .before .before .before .before .before .before .before .before in
-    let o = c .before .before .before .before .before .before .loop in
-    let l = c .before .before .before .loop2 in
-    let e = start-ends (now (s .args .sides)) (o .f) (l .inv .0) in (
+    let s = c .before .before .before .before .before .before .before .before in
+    let o = c .before .before .before .before .before .before .before .loop in
+    let l = c .before .before .before .before .loop2 in
+    let i : l .c < length (now (s .args .corners)) = omega (arith, l .inv .3) in
+    let b : getD (now (s .args .corners)) (l .c) 0 < length (l .lasts) = omega (arith, o .inv .2, l .inv .6, s .pre .1 .0 (l .c) i) in (
       l .inv .0,
       l .inv .1,
       refl,
-      omega (arith, l .inv .3),
+      l .inv .3,
+      omega (arith, l .inv .4),
       search needs,
-      fails-step (fault9 (now (s .args .sides)) (now (s .args .corners))) (l .c) (l .inv .5)
-          (doubled (now (s .args .sides)) (now (s .args .corners)) (o .f) (l .c) (o .start) (c .before .seen .result) _ (l .inv .0) (l .inv .1) (l .inv .3) (search needs) (c .before .seen .ensures) (c .if1 .left)),
+      length-set (l .lasts) (getD (now (s .args .corners)) (l .c) 0) (l .c + 1) ∙ l .inv .6,
+      passed-step (now (s .args .sides)) (now (s .args .corners)) (l .lasts) (o .f) (l .c) (o .start)
+          (l .inv .0) (l .inv .1) (l .inv .4) (search needs) (l .inv .7) b (c .if1 .left),
     )
 
 add-f : tie.Need-add-f Inv-loop2 μ-loop2 Inv-loop μ-loop
@@ -98,15 +145,26 @@ loop-less c = search needs
 
 loop-again : tie.Need-loop-again Inv-loop2 μ-loop2 Inv-loop μ-loop
 loop-again c =
-    let s = c .before .before .before .before .before .before .before in
+    let s = c .before .before .before .before .before in
     let o = c .before .before .before .before .loop in
     let l = c .before .loop2 in
-    (search needs, omega (arith, l .inv .1, start-next (now (s .args .sides)) (o .f) (l .inv .0)), λ j h. l .inv .5 j (omega (arith, c .loop2-test .left)))
+    let q : l .c ≡ o .start + getD (now (s .args .sides)) (o .f) 0 = omega (arith, l .inv .5, c .loop2-test .left) in (
+      search needs,
+      omega (arith, l .inv .1, start-next (now (s .args .sides)) (o .f) (l .inv .0)),
+      l .inv .6 ∙ o .inv .2,
+      subst (Passed (now (s .args .sides)) (now (s .args .corners)) (l .lasts)) q (l .inv .7),
+    )
+
+same-length-2 : tie.Need-same-length-2 Inv-loop2 μ-loop2 Inv-loop μ-loop
+same-length-2 c = search needs
 
 returns-2 : tie.Need-returns-2 Inv-loop2 μ-loop2 Inv-loop μ-loop
-returns-2 c = let s = c .before .before .before .before in let l = c .before .loop in
-    let q : l .start ≡ length (now (s .args .corners)) = l .inv .1 ∙ start-all (now (s .args .sides)) (l .f) (c .loop-test .left) ∙ s .pre .0 in
-    sym (lowest-none 9 (length (now (s .args .corners))) (fault9 (now (s .args .sides)) (now (s .args .corners))) (λ j h. l .inv .2 j (omega (arith, q))))
+returns-2 c =
+    let s = c .before .before in
+    let l = c .before .loop in
+    let q : l .start ≡ length (now (s .args .corners)) = l .inv .1 ∙ start-all (now (s .args .sides)) (l .f) (c .loop-test .left) ∙ s .pre .0 .0 in
+    sym (lowest-none 9 (length (now (s .args .corners))) (fault9 (now (s .args .sides)) (now (s .args .corners)))
+    (λ j h. l .inv .3 .faultless j (omega (arith, q))))
 
 pub check-faces-spec : {M : Type 1} → statement M
 check-faces-spec =
@@ -121,12 +179,23 @@ check-faces-spec =
     cast-count
     add-end
     loop2-holds
-    seen-requires
+    mul-u
+    shared-slice-read-u
+    cast-u
+    mul-last
+    slice-read-last
+    cast-last
+    same-length
     returns
+    add-lasts
+    cast-lasts
+    mul-lasts
+    slice-write-lasts
     add-c
     loop2-less
     loop2-again
     add-f
     loop-less
     loop-again
+    same-length-2
     returns-2)

@@ -67,8 +67,8 @@ loop-again c = let s = c .before .before .before .before in let l = c .before .b
       search needs,
       length-set (l .earliers) (l .c) (getD (l .heads) v 0) ∙ l .inv .1,
       length-set (l .heads) v (l .c + 1) ∙ l .inv .2,
-      earliers-step (now (s .args .corners)) (l .earliers) (l .heads) (l .c) (l .inv .3) (l .inv .4) b (omega arith),
-      heads-step (now (s .args .corners)) (l .earliers) (l .heads) (l .c) (l .inv .3) (l .inv .4) b,
+      earliers-step (now (s .args .corners)) (l .heads) (l .c) (l .inv .4) b (l .earliers) (l .inv .3) (omega arith),
+      heads-step (now (s .args .corners)) (l .heads) (l .c) (l .inv .4) b,
     )
 
 same-length : tie.Need-same-length Inv-loop μ-loop
