@@ -9,7 +9,7 @@ use native.Mathlib.Nat.{add-mod-right, mod-add-mod, mod-lt}
 use native.Mathlib.Omega.{arith}
 use lib.ListN.{getD}
 use lib.Dec.{T, leb, leb→le}
-use lib.IntN.{ℤ, pos, negsuc, _+ℤ_, _-ℤ_, _*ℤ_, negℤ, natAbs}
+use lib.IntN.{pos, negℤ, natAbs}
 use lib.Signed.{ltZ, leZ, _<ℤ_, _≤ℤ_}
 use Rattle.integers.proofs.Below.{below, below-at, eqZ, eqZ-eq}
 use Rattle.cosines.specs.Table.{lastRow, table, stored, cosine}

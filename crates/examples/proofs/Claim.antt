@@ -1,6 +1,6 @@
 -- The one claim over the table of examples: a test that is computed over all its rows, and the law that reads it.
 -- Assumes nothing.
-use mathlib.Core.Path.{_≡_, refl, ap, _∙_}
+use mathlib.Core.Path.{_≡_, refl}
 use mathlib.Core.Bool.{Bool, true, false}
 use mathlib.Core.List.{List, [], _∷_}
 use lib.Dec.{T as Holds}

@@ -2,7 +2,7 @@
 -- Assumes nothing.
 use mathlib.Core.List.{List, [], _∷_}
 use Prim.Native.Nat.{ℕ, _^_}
-use lib.ListN.{getD, replicate}
+use lib.ListN.{replicate}
 use lib.IntN.{ℤ, pos, negsuc, negℤ}
 use Rattle.rounding.specs.Round.{round}
 use Rattle.cosines.specs.Table.{cosine}
@@ -10,7 +10,7 @@ use Rattle.mesh.specs.Lists.{Mesh, meshOf}
 use Rattle.mesh.specs.Faults.{verdict}
 use Rattle.surface.specs.Corners.{Corners}
 use Rattle.surface.specs.Net.{vertex, leaving, face, side0, end, X, Y, N, outer1, outer2, outer3, a1}
-use Rattle.surface.specs.Refined.{cornersOf, refinedPoint}
+use Rattle.surface.specs.Refined.{cornersOf}
 use Rattle.examples.specs.Rows.{Row, _gives_, asNumbers}
 
 -- the cube of corners ±3, faces clockwise seen from outside; corner 0 is at (3,3,3) on z = 3 and leaves to (3,-3,3)

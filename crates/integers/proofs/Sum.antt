@@ -4,7 +4,7 @@ use mathlib.Core.Path.{_≡_, refl, ap, _∙_}
 use Prim.Native.Nat.{ℕ, zero, suc, _+_, _*_, _≤_, _<_}
 use native.Mathlib.Numerals.{add-one}
 use native.Mathlib.Omega.{arith}
-use lib.IntN.{ℤ, pos, _+ℤ_, _*ℤ_, natAbs}
+use lib.IntN.{ℤ, pos, _+ℤ_, natAbs}
 use Rattle.integers.specs.Sum.{sum}
 use Rattle.integers.proofs.Poly.{over, poly}
 use Rattle.integers.proofs.Laws.{abs-add-le}

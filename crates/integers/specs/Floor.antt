@@ -1,6 +1,6 @@
 -- The quotient rounded down. It computes on literals.
 -- Assumes nothing.
-use Prim.Native.Nat.{ℕ, _/_}
+use Prim.Native.Nat.{_/_}
 use lib.IntN.{ℤ, pos, negsuc, natAbs}
 
 -- the largest whole number that is not above z / d, for d > 0

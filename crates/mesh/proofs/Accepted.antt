@@ -76,9 +76,6 @@ module _ (n f c : ℕ) (e : fault4 n f c ≡ false) where
   pub few-corners : c ≤ mostCorners
   few-corners = at-most 1 mostCorners c (none-right (outside 1 mostFaces f) (outside 1 mostCorners c) (none-right (outside 1 mostVertices (n / 3)) _ after-thirds))
 
-  pub some-corner : 1 ≤ c
-  some-corner = at-least 1 mostCorners c (none-right (outside 1 mostFaces f) (outside 1 mostCorners c) (none-right (outside 1 mostVertices (n / 3)) _ after-thirds))
-
 -- no fault of 5, 6, 8 and 12
 pub sides-within : (sides : List ℕ) (f : ℕ) → fault5 sides f ≡ false → (leastSides ≤ getD sides f 0) × (getD sides f 0 ≤ mostSides)
 unfolding fault5

@@ -2,10 +2,10 @@
 -- Assumes nothing.
 use mathlib.Core.Path.{_≡_, refl, ap, _∙_, sym}
 use mathlib.Core.List.{List, [], _∷_, _++_}
-use Prim.Native.Nat.{ℕ, zero, suc, _+_, _*_, _<_, _≤_}
+use Prim.Native.Nat.{ℕ, zero, suc, _+_, _*_, _<_}
 use native.Mathlib.Numerals.{add-one}
 use native.Mathlib.Omega.{arith}
-use lib.ListN.{length, getD, take, drop, set, length-append, length-drop}
+use lib.ListN.{length, getD, take, drop, set}
 use lib.Seq.{drop-cons, set-at, take-at, append-snoc}
 use lib.IntN.{ℤ, pos, negsuc, _-ℤ_}
 use Rattle.mesh.specs.Links.{valuesFrom}
@@ -43,9 +43,6 @@ module _ {A : Type 0} (f : ℕ → A) (old : List A) where
 
   pub filled-all : (i n : ℕ) (out : List A) → i ≡ n → Filled i out → out ≡ begins (valuesFrom f 0 n) old
   filled-all i n out q e = rw (values-length f 0 n, ← q) e
-
-  pub filled-length : (i : ℕ) (out : List A) → i ≤ length old → Filled i out → length out ≡ length old
-  filled-length i out h e = rw e (simp (length-append, values-length, length-drop) (omega arith))
 
 -- what was read is found again in the beginning of the space
 module _ {A : Type 0} (n : ℕ) (new old out : List A) (q : n ≡ length new) (e : out ≡ begins new old) where

@@ -95,12 +95,6 @@ module _ (p : ℕ → ℤ) (m : ℕ) (low : leastSides ≤ m) (high : m ≤ most
       seven : (x y : ℤ) → natAbs x ≤ 2 ^ 30 → natAbs y ≤ 2 ^ 30 → natAbs (pos (3 * 2 ^ 30) +ℤ pos 2 *ℤ x +ℤ pos 2 *ℤ y) ≤ 7 * 2 ^ 30
       seven = over 2 _ λ ρ. simp (poly, ρ) (omega arith)
 
-  pub so-far-size : (i n : ℕ) → n ≤ m → natAbs (sum (λ k. p (i + k) *ℤ weight m k) n) ≤ 2 ^ 61
-  so-far-size i n l =
-      let h = sum-abs (λ k. p (i + k) *ℤ weight m k) n (2 ^ 24 * (7 * 2 ^ 30))
-      (λ k q. abs-mul-le (p (i + k)) (weight m k) (2 ^ 24) (7 * 2 ^ 30) (small (i + k)) (weight-size k)) in
-      omega arith
-
 -- ---- plain integers; Q is the rounded value
 inner : (x y v w Q : ℤ) → natAbs x ≤ 2 ^ 24 + 2 ^ 21 → natAbs y ≤ 2 ^ 24 + 2 ^ 21 → natAbs v ≤ 2 ^ 24 → natAbs w ≤ 2 ^ 24
     → Near (pos 3 *ℤ x +ℤ pos 3 *ℤ y +ℤ v -ℤ w) (pos 6) Q → natAbs Q ≤ 2 ^ 24 + 2 ^ 23

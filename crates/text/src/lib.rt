@@ -1,6 +1,5 @@
 // Lines of text in a lent buffer, for the programs: each function writes from `at` on as far as the buffer reaches, and answers
 // where it stopped. That a program prints the right lines is tested, not proved; here it is proved that a place stays in the buffer.
-ghost use Prim.Native.Nat.{_≤_};
 ghost use lib.ListN.{length};
 ghost use Rattle.text.specs.Place.{Within};
 

@@ -1,5 +1,4 @@
 use Rattle.mahunopi.proofs.Laws.{build-done, build-refused}
-use native.Mathlib.Omega.{arith}
 use borrow.Author.Needs.{needs}
 use Rattle.mahunopi.proofs.mahunopi_build.Statement.{statement}
 use Rattle.mahunopi.proofs.mahunopi_build.Tie as tie

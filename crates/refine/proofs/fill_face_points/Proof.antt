@@ -10,7 +10,7 @@ use mir.Syntax.{w32, w64}
 use mir.Val.{SFits, toZ, ofZ}
 use mir.Facts.{toZ-ofZ}
 use Rattle.mesh.specs.Lists.{Mesh, meshOf}
-use Rattle.mesh.specs.Corners.{sumOf, startOf, next, previous}
+use Rattle.mesh.specs.Corners.{sumOf, startOf}
 use Rattle.mesh.proofs.Faces.{start-next, next-below, previous-below}
 use Rattle.surface.specs.Refined.{refinedPoint}
 use Rattle.rounding.specs.Round.{round}

@@ -1,7 +1,7 @@
 -- `text::put_byte` meets its contract: it stays in the buffer.
 -- Assumes nothing.
 use lib.ListN.{length-set}
-use Rattle.text.proofs.Laws.{within-one, within-none}
+use Rattle.text.proofs.Laws.{within-one}
 use borrow.Author.Needs.{needs}
 use Rattle.text.proofs.put_byte.Statement.{statement}
 use Rattle.text.proofs.put_byte.Tie as tie
