@@ -19,7 +19,7 @@ use Rattle.mesh.specs.Links.{vertexOf, names, valence}
 use Rattle.mesh.proofs.Scans.{ways, compared}
 use Rattle.mesh.proofs.Faces.{face-at, held, start-zero, start-next, start-ends, previous-first, previous-inner}
 use Rattle.mesh.proofs.Rings.{count-hit, count-miss}
-use Rattle.corner_tables.specs.Tables.{Filled, FaceTables, Vertices, Marked, Wanted}
+use Rattle.corner_tables.specs.Tables.{Filled, FaceTables, Vertices, RangeMarked, Wanted}
 
 -- one place more
 pub filled-set : {A : Type 0} (z : A) (f : ℕ → A) (table : List A) (c : ℕ) (v : A) → Filled z f table c → c < length table → v ≡ f c → Filled z f (set table c v) (c + 1)
@@ -103,8 +103,8 @@ unfolding valence
 valence-is corners u = refl
 
 -- ---- marked vertices, and the faces that have one
-pub marked-set : (corners marked : List ℕ) (first k : ℕ) → Marked corners first k marked → vertexOf corners (first + k) < length marked
-    → Marked corners first (k + 1) (set marked (vertexOf corners (first + k)) 1)
+pub marked-set : (corners marked : List ℕ) (first k : ℕ) → RangeMarked corners first k marked → vertexOf corners (first + k) < length marked
+    → RangeMarked corners first (k + 1) (set marked (vertexOf corners (first + k)) 1)
 marked-set corners marked first k h l =
     let v = vertexOf corners (first + k) in
     let same : 0 < getD (set marked v 1) v 0 = rw (getD-set-same marked v 1 0 l) (omega arith) in
@@ -117,7 +117,7 @@ marked-set corners marked first k h l =
     same
 
 -- one face more: r is not zero where one of its vertices is marked
-module _ (sides corners marked wanted : List ℕ) (first count f r : ℕ) (l : f < length sides) (b : f < length wanted) (m : Marked corners first count marked)
+module _ (sides corners marked wanted : List ℕ) (first count f r : ℕ) (l : f < length sides) (b : f < length wanted) (m : RangeMarked corners first count marked)
     (any : (d : ℕ) → startOf sides f ≤ d → d < startOf sides f + getD sides f 0 → 0 < getD marked (vertexOf corners d) 0 → 0 < r) where
   pub wanted-set : Wanted sides corners first count wanted (startOf sides f) → Wanted sides corners first count (set wanted f r) (startOf sides (f + 1))
   wanted-set h k d hk hd e =

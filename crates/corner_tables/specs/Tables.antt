@@ -33,8 +33,8 @@ pub record Vertices (corners : List ℕ) (n : ℕ) : Type 0 where
   pub most : (c : ℕ) → c < length corners → valence corners (vertexOf corners c) ≤ mostSides
 
 -- the vertices of the `count` corners from `first` on have entries that are not zero
-abbrev pub Marked : List ℕ → ℕ → ℕ → List ℕ → Type 0
-Marked corners first count marked = (k : ℕ) → k < count → 0 < getD marked (vertexOf corners (first + k)) 0
+abbrev pub RangeMarked : List ℕ → ℕ → ℕ → List ℕ → Type 0
+RangeMarked corners first count marked = (k : ℕ) → k < count → 0 < getD marked (vertexOf corners (first + k)) 0
 
 -- of the corners below n, those at the vertex of one of the `count` corners from `first` on have faces whose entry is not zero
 abbrev pub Wanted : List ℕ → List ℕ → ℕ → ℕ → List ℕ → ℕ → Type 0

@@ -5,7 +5,7 @@ ghost use Prim.Native.Nat.{ℕ, _+_, _<_, _≤_};
 ghost use lib.ListN.{length, getD, replicate};
 ghost use Rattle.mesh.specs.Corners.{sumOf, startOf};
 ghost use Rattle.mesh.specs.Links.{vertexOf, valence};
-ghost use Rattle.corner_tables.specs.Tables.{Filled, FaceTables, Faces, Vertices, Named, Marked, Wanted};
+ghost use Rattle.corner_tables.specs.Tables.{Filled, FaceTables, Faces, Vertices, Named, RangeMarked, Wanted};
 
 // The previous corner of every corner, and the sides of its face.
 pub fn fill_faces(sides: &[u8], previouses: &mut [u16], counts: &mut [u8])
@@ -103,7 +103,7 @@ pub fn fill_wanted(
 fn mark_vertices(corners: &[u16], first: usize, count: usize, marked: &mut [u8])
     requires named { ⌜ Named (now corners) (length (now marked)) ⌝ }
     requires range { ⌜ first + count ≤ length (now corners) ⌝ }
-    ensures { λ _. ⌜ Marked (now (corners .entry)) first count (now (marked .exit)) ⌝ }
+    ensures { λ _. ⌜ RangeMarked (now (corners .entry)) first count (now (marked .exit)) ⌝ }
 {
     let mut k = 0;
     while k < count {

@@ -13,7 +13,7 @@ use Rattle.surface.specs.Refined.{cornersOf}
 use Rattle.surface.proofs.Rings.{iterate-in, pick-one}
 
 -- the face of d has a corner, `at`, that is at the vertex of c
-pub record Near (M : Mesh) (c d : ℕ) : Type 0 where
+pub record Beside (M : Mesh) (c d : ℕ) : Type 0 where
   pub at : ℕ
   pub at-in : at < cornerCount M
   pub at-vertex : vertexOf (M .corners) at ≡ vertexOf (M .corners) c
@@ -43,15 +43,15 @@ module _ (M : Mesh) (a : Accepted M) where
 
   module _ (axis c : ℕ) (h : c < cornerCount M) where
     -- in c's own face
-    own : (d : ℕ) → faceOf (M .sides) d ≡ faceOf (M .sides) c → Near M c d
+    own : (d : ℕ) → faceOf (M .sides) d ≡ faceOf (M .sides) c → Beside M c d
     own d e = record { at = c; at-in = h; at-vertex = refl; in-face = e }
 
-    quad-leaving : (j : ℕ) → Near M c (quad (cornersOf M axis) c j)
+    quad-leaving : (j : ℕ) → Beside M c (quad (cornersOf M axis) c j)
     unfolding quad
     quad-leaving j =
         let m = manifold M a c h in
         let l = manifold M a (linkOf c) (m .link-below) in
-        pick-one (Near M c) c (nextOf c) (previousOf (linkOf c)) (linkOf c)
+        pick-one (Beside M c) c (nextOf c) (previousOf (linkOf c)) (linkOf c)
         (own c refl)
         (own (nextOf c) (m .face-next))
         (record { at = linkOf c; at-in = m .link-below; at-vertex = m .link-vertex; in-face = l .face-previous })
@@ -59,7 +59,7 @@ module _ (M : Mesh) (a : Accepted M) where
         (j % 4)
 
     -- the corner across the arriving edge has c as its link
-    quad-arriving : (j : ℕ) → Near M c (quad (cornersOf M axis) (previousOf c) j)
+    quad-arriving : (j : ℕ) → Beside M c (quad (cornersOf M axis) (previousOf c) j)
     unfolding quad
     quad-arriving j =
         let m = manifold M a c h in
@@ -67,14 +67,14 @@ module _ (M : Mesh) (a : Accepted M) where
         let l = manifold M a (linkOf (previousOf c)) (p .link-below) in
         let x = previousOf (linkOf (previousOf c)) in
         let v = sym (manifold M a x (l .previous-below) .link-vertex) ∙ ap (vertexOf (M .corners)) (m .relinked) in
-        pick-one (Near M c) (previousOf c) (nextOf (previousOf c)) x (linkOf (previousOf c))
+        pick-one (Beside M c) (previousOf c) (nextOf (previousOf c)) x (linkOf (previousOf c))
         (own (previousOf c) (m .face-previous))
         (own (nextOf (previousOf c)) (ap (faceOf (M .sides)) (m .next-previous)))
         (record { at = x; at-in = l .previous-below; at-vertex = v; in-face = refl })
         (record { at = x; at-in = l .previous-below; at-vertex = v; in-face = sym (l .face-previous) })
         (j % 4)
 
-    pub ring-near : (e : End) (j : ℕ) → Near M c (ring (cornersOf M axis) c e j)
+    pub ring-near : (e : End) (j : ℕ) → Beside M c (ring (cornersOf M axis) c e j)
     ring-near vertex j =
         record {
           at = iterate j linkOf c;

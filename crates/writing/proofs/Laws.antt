@@ -30,7 +30,7 @@ use Rattle.refine.proofs.Laws.{small-zeros}
 use Rattle.refine.proofs.Accepted.{refinable-of}
 use Rattle.sides.specs.Tabled.{tabled, Tables}
 use Rattle.nets.specs.Put.{Put}
-use Rattle.writing.specs.Written.{Given, AtMost, Fresh, New, MeshTables, Long, pointsOf, Drawn, Written}
+use Rattle.writing.specs.Written.{Given, AtMost, Fresh, New, MeshTables, Long, pointsOf, Drawn, NetsWritten}
 
 -- ---- place i of the output holds point `i % perCorner / 3` of corner `i / perCorner` on axis `i % 3`
 place : (i : ℕ) → perCorner * (i / perCorner) + 3 * (i % perCorner / 3) + i % 3 ≡ i
@@ -46,24 +46,26 @@ axis-in : (i : ℕ) → i % 3 < 3
 axis-in i = omega arith
 
 -- all corners written: the whole output
-pub written-all : (M : Mesh) (first count : ℕ) (out : List ℤ) → length out ≡ perCorner * count → Written (cornersOf M) first count out → out ≡ nets M first count
-unfolding Written nets numberAt
+pub written-all : (M : Mesh) (first count : ℕ) (out : List ℤ) → length out ≡ perCorner * count → NetsWritten (cornersOf M) first count out
+    → out ≡ nets M first count
+unfolding NetsWritten nets numberAt
 written-all M first count out l w =
     ext-getD (pos 0) out (nets M first count) (l ∙ sym (values-length (numberAt M first) 0 (perCorner * count)))
     (λ i h. let b : i < perCorner * count = omega arith in
-    subst (λ (k : ℕ). getD out k (pos 0) ≡ numberAt M first i) (place i) (w (i % 3) (i / perCorner) (i % perCorner / 3) (axis-in i) (corner-of i count b) (point-of i))
+    subst (λ (k : ℕ). getD out k (pos 0) ≡ numberAt M first i) (place i)
+    (w (i % 3) (i / perCorner) (i % perCorner / 3) (axis-in i) (corner-of i count b) (point-of i))
     ∙ sym (values-at (numberAt M first) (pos 0) 0 (perCorner * count) i b ∙ ap (numberAt M first) (let q : 0 + i ≡ i = omega arith in q)))
 
 -- one corner more, axis after axis
-pub written-none : (K : ℕ → Corners) (first : ℕ) (out : List ℤ) → Written K first 0 out
-unfolding Written
+pub written-none : (K : ℕ → Corners) (first : ℕ) (out : List ℤ) → NetsWritten K first 0 out
+unfolding NetsWritten
 written-none K first out a j p h l = absurd (omega arith)
 
-module _ (K : ℕ → Corners) (first k : ℕ) (old xs ys zs : List ℤ) (w : Written K first k old) (x : Put (K 0) (first + k) 0 (perCorner * k) old xs)
+module _ (K : ℕ → Corners) (first k : ℕ) (old xs ys zs : List ℤ) (w : NetsWritten K first k old) (x : Put (K 0) (first + k) 0 (perCorner * k) old xs)
     (y : Put (K 1) (first + k) 1 (perCorner * k) xs ys) (z : Put (K 2) (first + k) 2 (perCorner * k) ys zs) where
   -- earlier corners are kept by all three
   earlier : (a j p : ℕ) → a < 3 → j < k → p < pointsOf → getD zs (perCorner * j + 3 * p + a) (pos 0) ≡ getD (net (K a) (first + j)) p (pos 0)
-  unfolding Written
+  unfolding NetsWritten
   earlier a j p h l hp =
       let i = perCorner * j + 3 * p + a in
       z .others i (λ q hq e. omega arith) ∙ y .others i (λ q hq e. omega arith) ∙ x .others i (λ q hq e. omega arith) ∙ w a j p h l hp
@@ -76,8 +78,8 @@ module _ (K : ℕ → Corners) (first k : ℕ) (old xs ys zs : List ℤ) (w : Wr
   here (suc (suc zero)) p h hp = z .points-are p hp
   here (suc (suc (suc a))) p h hp = absurd (omega arith)
 
-  pub written-step : Written K first (k + 1) zs
-  unfolding Written
+  pub written-step : NetsWritten K first (k + 1) zs
+  unfolding NetsWritten
   written-step a j p h hj hp =
       ⊎-elim
       (λ (q : j ≡ k). rw q (here a p h hp))
@@ -118,9 +120,9 @@ module _ (M : Mesh) (accepted : Accepted M) (nexts previouses links sides valenc
       (rw (near .in-face) (w k (near .at) l (omega (arith, near .at-in, sums)) (near .at-vertex)))))
 
 -- what the tables of the three axes write is what the mesh has
-pub written-same : (K L : ℕ → Corners) (first count : ℕ) (out : List ℤ) → ((a : ℕ) → a < 3 → (k : ℕ) → k < count → net (L a) (first + k) ≡ net (K a) (first + k))
-    → Written K first count out → Written L first count out
-unfolding Written
+pub written-same : (K L : ℕ → Corners) (first count : ℕ) (out : List ℤ)
+    → ((a : ℕ) → a < 3 → (k : ℕ) → k < count → net (L a) (first + k) ≡ net (K a) (first + k)) → NetsWritten K first count out → NetsWritten L first count out
+unfolding NetsWritten
 written-same K L first count out same w a j p h hj hp = w a j p h hj hp ∙ ap (λ (n : List ℤ). getD n p (pos 0)) (sym (same a h j hj))
 
 pub by-axis : (P : ℕ → Type 0) → P 0 → P 1 → P 2 → (a : ℕ) → a < 3 → P a

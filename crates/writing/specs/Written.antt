@@ -68,6 +68,10 @@ pointsOf = 41
 abbrev pub Drawn : ℕ → List ℕ → List ℕ → List ℕ → List ℕ → List ℕ → List ℤ → Type 0
 Drawn n nexts previouses links sides valences points = Sound (tabled n nexts previouses links sides valences points) × (n ≤ length points)
 
+abbrev pub AllDrawn : ℕ → List ℕ → List ℕ → List ℕ → List ℕ → List ℕ → List ℤ → List ℤ → List ℤ → Type 0
+AllDrawn n nexts previouses links sides valences xs ys zs =
+    Drawn n nexts previouses links sides valences xs × Drawn n nexts previouses links sides valences ys × Drawn n nexts previouses links sides valences zs
+
 -- the corners on an axis, each with its table of refined points
 abbrev pub onAxis : ℕ → List ℕ → List ℕ → List ℕ → List ℕ → List ℕ → List ℤ → List ℤ → List ℤ → ℕ → Corners
 onAxis n nexts previouses links sides valences xs ys zs zero = tabled n nexts previouses links sides valences xs
@@ -75,6 +79,6 @@ onAxis n nexts previouses links sides valences xs ys zs (suc zero) = tabled n ne
 onAxis n nexts previouses links sides valences xs ys zs (suc (suc a)) = tabled n nexts previouses links sides valences zs
 
 -- the numbers of the first `count` corners from `first` on
-unfoldable pub Written : (ℕ → Corners) → ℕ → ℕ → List ℤ → Type 0
-Written K first count out =
+unfoldable pub NetsWritten : (ℕ → Corners) → ℕ → ℕ → List ℤ → Type 0
+NetsWritten K first count out =
     (a j p : ℕ) → a < 3 → j < count → p < pointsOf → getD out (perCorner * j + 3 * p + a) (pos 0) ≡ getD (net (K a) (first + j)) p (pos 0)

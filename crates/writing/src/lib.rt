@@ -14,7 +14,7 @@ ghost use Rattle.mesh.specs.Tables.{smallMesh};
 ghost use Rattle.mesh.specs.Faults.{Accepted};
 ghost use Rattle.surface.specs.Refined.{nets, perCorner};
 ghost use Rattle.corner_tables.specs.Tables.{Wanted};
-ghost use Rattle.writing.specs.Written.{Given, AtMost, Fresh, New, MeshTables, Long, Drawn, onAxis, Written};
+ghost use Rattle.writing.specs.Written.{Given, AtMost, Fresh, New, MeshTables, Long, AllDrawn, onAxis, NetsWritten};
 
 // The numbers of `count` corners from `first` on, over the tables of next corners and links.
 pub fn write_nets(
@@ -270,10 +270,10 @@ fn write_corners(
     count: usize,
     out: &mut [i32],
 )
-    requires mesh { ⌜ Drawn n (now nexts) (now previouses) (now links) (now sides) (now valences) (now xs) × Drawn n (now nexts) (now previouses) (now links) (now sides) (now valences) (now ys) × Drawn n (now nexts) (now previouses) (now links) (now sides) (now valences) (now zs) ⌝ }
+    requires mesh { ⌜ AllDrawn n (now nexts) (now previouses) (now links) (now sides) (now valences) (now xs) (now ys) (now zs) ⌝ }
     requires long { ⌜ Long n (now nexts) (now previouses) (now links) (now sides) (now valences) ⌝ }
     requires range { ⌜ (first + count ≤ n) × (length (now out) ≡ perCorner * count) ⌝ }
-    ensures { λ _. ⌜ Written (onAxis n (now (nexts .entry)) (now (previouses .entry)) (now (links .entry)) (now (sides .entry)) (now (valences .entry)) (now (xs .entry)) (now (ys .entry)) (now (zs .entry))) first count (now (out .exit)) ⌝ }
+    ensures { λ _. ⌜ NetsWritten (onAxis n (now (nexts .entry)) (now (previouses .entry)) (now (links .entry)) (now (sides .entry)) (now (valences .entry)) (now (xs .entry)) (now (ys .entry)) (now (zs .entry))) first count (now (out .exit)) ⌝ }
 {
     let rows = cosines::rows();
     let mut k = 0;

@@ -4,7 +4,7 @@ use mathlib.Core.Path.{_≡_, refl}
 use Prim.Native.Nat.{_+_, _-_, _≤_}
 use lib.ListN.{length, length-set}
 use denote.Ref.{now}
-use Rattle.corner_tables.specs.Tables.{Marked}
+use Rattle.corner_tables.specs.Tables.{RangeMarked}
 use Rattle.corner_tables.proofs.Laws.{marked-set}
 use native.Mathlib.Omega.{arith}
 use borrow.Author.Needs.{needs}
@@ -13,7 +13,7 @@ use Rattle.corner_tables.proofs.mark_vertices.Tie as tie
 
 abbrev Inv-loop : tie.InvT-loop
 Inv-loop corners first count marked₀ k₀ marked k =
-    (k ≤ count) × (length marked ≡ length marked₀) × Marked corners first k marked
+    (k ≤ count) × (length marked ≡ length marked₀) × RangeMarked corners first k marked
 
 abbrev μ-loop : tie.MeasureT-loop
 μ-loop corners first count marked₀ k₀ marked k = count - k

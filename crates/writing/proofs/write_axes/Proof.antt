@@ -1,4 +1,4 @@
--- With the refined points of its axis each table describes the mesh as far as the nets of the range look, so the numbers written are the mesh's.
+-- With the refined points of its axis each table describes the mesh as far as the nets of the range look: the numbers are the mesh's.
 -- Assumes nothing.
 use mathlib.Core.Path.{_≡_, _∙_}
 use Prim.Native.Nat.{ℕ, _+_, _<_}
@@ -84,7 +84,8 @@ returns c =
     let wants = s .pre .1 .1 .1 .0 .0 in
     let M = mesh s in
     let K : ℕ → Corners =
-    onAxis (length (now (s .args .corners))) (now (s .args .nexts)) (now (s .args .previouses)) (now (s .args .links)) (now (s .args .counts)) (now (s .args .valences))
+    onAxis (length (now (s .args .corners))) (now (s .args .nexts)) (now (s .args .previouses)) (now (s .args .links)) (now (s .args .counts))
+    (now (s .args .valences))
     (x .last .1 .1 .1 .1 .1 .1 .1 .0) (y .last .1 .1 .1 .1 .1 .1 .1 .0) (z .last .1 .1 .1 .1 .1 .1 .1 .0) in
     let inside : (k : ℕ) → k < s .args .count → s .args .first + k < length (now (s .args .corners)) = λ k l. omega (arith, range .1) in
     written-all M (s .args .first) (s .args .count) _ (w .kept .1 .1 .1 .1 .1 .1 .1 .1 .1 .1 .1 .0 ∙ range .2)

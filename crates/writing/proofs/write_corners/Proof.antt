@@ -9,7 +9,7 @@ use mir.Syntax.{w64}
 use mir.Val.{Fits}
 use Rattle.surface.specs.Corners.{Corners}
 use Rattle.surface.specs.Refined.{perCorner}
-use Rattle.writing.specs.Written.{onAxis, Written}
+use Rattle.writing.specs.Written.{onAxis, NetsWritten}
 use Rattle.writing.proofs.Laws.{written-none, written-step, tables-at}
 use native.Mathlib.Omega.{arith}
 use borrow.Author.Needs.{needs}
@@ -18,7 +18,7 @@ use Rattle.writing.proofs.write_corners.Tie as tie
 
 abbrev Inv-loop : tie.InvT-loop
 Inv-loop xs ys zs nexts previouses links sides valences n first count out₀ rows k₀ out k =
-    (k ≤ count) × (length out ≡ perCorner * count) × Written (onAxis n nexts previouses links sides valences xs ys zs) first k out
+    (k ≤ count) × (length out ≡ perCorner * count) × NetsWritten (onAxis n nexts previouses links sides valences xs ys zs) first k out
 
 abbrev μ-loop : tie.MeasureT-loop
 μ-loop xs ys zs nexts previouses links sides valences n first count out₀ rows k₀ out k = count - k
@@ -79,8 +79,9 @@ put-net-requires-3 c κs =
 
 add-k : tie.Need-add-k Inv-loop μ-loop
 add-k c =
-    let l = c .before .before .before .before .before .before .before .before .before .before .before .before .before .loop in
-    let f : Fits w64 (l .k + 1) = omega (arith, c .before .before .before .before .before .before .before .before .before .before .before .before .loop-test .taken, c .before .before .before .before .before .before .before .before .before .before .before .before .before .before .before .before .before .before .before .before .fits .count) in
+    let in-loop = c .before .before .before .before .before .before .before .before .before .before .before .before in
+    let s = in-loop .before .before .before .before .before .before .before .before in
+    let f : Fits w64 (in-loop .before .loop .k + 1) = omega (arith, in-loop .loop-test .taken, s .fits .count) in
     f
 
 loop-less : tie.Need-loop-less Inv-loop μ-loop
@@ -88,14 +89,16 @@ loop-less c = search needs
 
 loop-again : tie.Need-loop-again Inv-loop μ-loop
 loop-again c =
-    let s = c .before .before .before .before .before .before .before .before .before .before .before .before .before .before .before .before .before .before .before .before in
-    let l = c .before .before .before .before .before .before .before .before .before .before .before .before .before .loop in
+    let in-loop = c .before .before .before .before .before .before .before .before .before .before .before .before in
+    let s = in-loop .before .before .before .before .before .before .before .before in
+    let l = in-loop .before .loop in
     let x = c .before .before .before .before .before .before .before .before .before .put-net in
     let y = c .before .before .before .before .before .put-net2 in
     let z = c .before .put-net3 in (
-      omega (arith, c .before .before .before .before .before .before .before .before .before .before .before .before .loop-test .taken),
+      omega (arith, in-loop .loop-test .taken),
       z .kept .1 .1 .1 .1 .1 .1 .1 .1 .1 .1 .0 ∙ y .kept .1 .1 .1 .1 .1 .1 .1 .1 .1 .1 .0 ∙ x .kept .1 .1 .1 .1 .1 .1 .1 .1 .1 .1 .0 ∙ l .inv .1,
-      written-step (mesh s) (s .args .first) (l .k) (l .out) (x .last .1 .1 .1 .1 .1 .1 .1 .1 .1 .1 .0) (y .last .1 .1 .1 .1 .1 .1 .1 .1 .1 .1 .0) (z .last .1 .1 .1 .1 .1 .1 .1 .1 .1 .1 .0) (l .inv .2) (x .ensures) (y .ensures) (z .ensures),
+      written-step (mesh s) (s .args .first) (l .k) (l .out) (x .last .1 .1 .1 .1 .1 .1 .1 .1 .1 .1 .0) (y .last .1 .1 .1 .1 .1 .1 .1 .1 .1 .1 .0)
+          (z .last .1 .1 .1 .1 .1 .1 .1 .1 .1 .1 .0) (l .inv .2) (x .ensures) (y .ensures) (z .ensures),
     )
 
 same-length : tie.Need-same-length Inv-loop μ-loop
@@ -105,7 +108,7 @@ returns : tie.Need-returns Inv-loop μ-loop
 returns c =
     let s = c .before .before .before .before .before .before .before .before in
     let l = c .before .loop in
-    subst (λ (k : ℕ). Written (mesh s) (s .args .first) k (l .out)) (let q : l .k ≡ s .args .count = omega arith in q) (l .inv .2)
+    subst (λ (k : ℕ). NetsWritten (mesh s) (s .args .first) k (l .out)) (let q : l .k ≡ s .args .count = omega arith in q) (l .inv .2)
 
 pub write-corners-spec : {M : Type 1} → statement M
 write-corners-spec =

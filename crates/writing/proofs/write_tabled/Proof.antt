@@ -64,7 +64,10 @@ write-axes-requires c κs =
     )
 
 same-length : tie.Need-same-length
-same-length c = search (needs, c .before .before .before .before .before .before .before .before .before .before .before .before .before .before .before .before .before .before .before .before .before .before .before .before .before .before .before .before .before .before .before .fill-faces .kept .1 .0)
+same-length c =
+    let past-wanted = c .before .before .before .before .before .before .before .before .before .before .before .before .before .before .before .before .before in
+    let past-faces = past-wanted .before .before .before .before .before .before .before .before .before .before .before .before .before .before in
+    search (needs, past-faces .fill-faces .kept .1 .0)
 
 same-length-2 : tie.Need-same-length-2
 same-length-2 c = search needs
