@@ -116,7 +116,7 @@ fn step(steps: &[u16], c: usize) -> usize
 }
 
 // The refined face of three corners: row 3 of the table is exact, so the weights are 4/9, 4/9, 1/9.
-fn ring_of_three(points: &[i32], steps: &[u16], c: usize) -> Face
+pub fn ring_of_three(points: &[i32], steps: &[u16], c: usize) -> Face
     requires { ⌜ Ring (now points) (now steps) c 3 ⌝ }
     ensures { λ r. ⌜ IsFace (around (now (points .entry)) (now (steps .entry)) c) 3 0 2 r ⌝ }
 {
@@ -133,7 +133,7 @@ fn ring_of_three(points: &[i32], steps: &[u16], c: usize) -> Face
 }
 
 // The refined face of four corners: row 4 is exact too, and the weights are those of an edge's face.
-fn ring_of_four(points: &[i32], steps: &[u16], c: usize) -> Face
+pub fn ring_of_four(points: &[i32], steps: &[u16], c: usize) -> Face
     requires { ⌜ Ring (now points) (now steps) c 4 ⌝ }
     ensures { λ r. ⌜ IsFace (around (now (points .entry)) (now (steps .entry)) c) 4 0 3 r ⌝ }
 {
@@ -154,12 +154,6 @@ pub fn ring_face(points: &[i32], steps: &[u16], rows: &cosines::Rows, c: usize, 
     requires table { ⌜ now rows ≡ stored ⌝ }
     ensures { λ r. ⌜ IsFace (around (now (points .entry)) (now (steps .entry)) c) m 0 (m - 1) r ⌝ }
 {
-    if m == 3 {
-        return ring_of_three(points, steps, c);
-    }
-    if m == 4 {
-        return ring_of_four(points, steps, c);
-    }
     let s = ring_sums(points, steps, rows, c, m);
     divide(s, m)
 }

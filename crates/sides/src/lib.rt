@@ -1,10 +1,11 @@
 // The four sides of a corner's quad-net on one axis: H, T, X, Y, N and C of each, from the tables of the mesh.
 ghost use mathlib.Core.Path.{_≡_};
-ghost use Prim.Native.Nat.{_<_};
+ghost use Prim.Native.Nat.{_-_, _<_};
 ghost use lib.ListN.{length, getD};
 ghost use lib.IntN.{pos};
 ghost use Rattle.formulas.specs.Sizes.{Corner, FacePoint, Row};
 ghost use Rattle.cosines.specs.Table.{stored};
+ghost use Rattle.faces.specs.Ring.{around, Ring, IsFace};
 ghost use Rattle.sides.specs.Tabled.{tabled, Tables, Reach};
 ghost use Rattle.sides.specs.Values.{Through, Made, FourSides};
 
@@ -109,6 +110,39 @@ fn count_at(counts: &[u8], c: usize) -> usize
     widen(counts[c])
 }
 
+// The refined face of the vertex of c, whose ring the links go round. It stands beside that of the face, with the same body: a function
+// that is called once is put in line, and then only a ring of five and more costs a call.
+fn vertex_face(
+    points: &[i32],
+    links: &[u16],
+    rows: &cosines::Rows,
+    c: usize,
+    m: usize,
+) -> faces::Face
+    requires ring { ⌜ Ring (now points) (now links) c m ⌝ }
+    requires table { ⌜ now rows ≡ stored ⌝ }
+    ensures { λ r. ⌜ IsFace (around (now (points .entry)) (now (links .entry)) c) m 0 (m - 1) r ⌝ }
+{
+    match m {
+        3 => faces::ring_of_three(points, links, c),
+        4 => faces::ring_of_four(points, links, c),
+        _ => faces::ring_face(points, links, rows, c, m),
+    }
+}
+
+// The refined face of the face of c, whose ring the next corners go round.
+fn mesh_face(points: &[i32], nexts: &[u16], rows: &cosines::Rows, c: usize, n: usize) -> faces::Face
+    requires ring { ⌜ Ring (now points) (now nexts) c n ⌝ }
+    requires table { ⌜ now rows ≡ stored ⌝ }
+    ensures { λ r. ⌜ IsFace (around (now (points .entry)) (now (nexts .entry)) c) n 0 (n - 1) r ⌝ }
+{
+    match n {
+        3 => faces::ring_of_three(points, nexts, c),
+        4 => faces::ring_of_four(points, nexts, c),
+        _ => faces::ring_face(points, nexts, rows, c, n),
+    }
+}
+
 // The four sides of the net of c.
 pub fn net_sides(
     points: &[i32],
@@ -127,8 +161,8 @@ pub fn net_sides(
 {
     let m = count_at(valences, c);
     let n = count_at(sides, c);
-    let vertex = faces::ring_face(points, links, rows, c, m);
-    let face = faces::ring_face(points, nexts, rows, c, n);
+    let vertex = vertex_face(points, links, rows, c, m);
+    let face = mesh_face(points, nexts, rows, c, n);
     let leaving = leaving_edge(points, nexts, previouses, links, c);
     let arriving = arriving_edge(points, nexts, previouses, links, c);
     let k = cosines::cosine(rows, m, 1);

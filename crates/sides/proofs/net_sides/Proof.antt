@@ -12,7 +12,8 @@ use Rattle.sides.proofs.net_sides.Tie as tie
 use Rattle.sides.proofs.net_sides.Reads as reads
 use Rattle.sides.proofs.net_sides.Lts as lts
 use Rattle.cosines.proofs.cosine.Reads as cosine-reads
-use Rattle.faces.proofs.ring_face.Reads as ring-face-reads
+use Rattle.sides.proofs.mesh_face.Reads as mesh-face-reads
+use Rattle.sides.proofs.vertex_face.Reads as vertex-face-reads
 use Rattle.sides.proofs.arriving_edge.Reads as arriving-edge-reads
 use Rattle.sides.proofs.count_at.Reads as count-at-reads
 use Rattle.sides.proofs.leaving_edge.Reads as leaving-edge-reads
@@ -24,8 +25,10 @@ State =
     lts.After-cosine2 (
       count-at-reads.Asked,
       count-at-reads.Learnt,
-      ring-face-reads.Asked,
-      ring-face-reads.Learnt,
+      vertex-face-reads.Asked,
+      vertex-face-reads.Learnt,
+      mesh-face-reads.Asked,
+      mesh-face-reads.Learnt,
       leaving-edge-reads.Asked,
       leaving-edge-reads.Learnt,
       arriving-edge-reads.Asked,
@@ -39,12 +42,12 @@ State =
     reads.Post
 
 part0 : (a : State)
-    → Parts (K (a .before .before .before .before .before .before .before .before .before .before .before .before .before .args .count) (a .before .before .before .before .before .before .before .before .before .before .before .before .before .args .nexts .now) (a .before .before .before .before .before .before .before .before .before .before .before .before .before .args .previouses .now) (a .before .before .before .before .before .before .before .before .before .before .before .before .before .args .links .now) (a .before .before .before .before .before .before .before .before .before .before .before .before .before .args .sides .now) (a .before .before .before .before .before .before .before .before .before .before .before .before .before .args .valences .now) (a .before .before .before .before .before .before .before .before .before .before .before .before .before .args .points .now) (a .before .before .before .before .before .before .before .before .before .before .before .before .before .args .c) (a .before .before .before .before .before .before .before .before .before .before .before .before .before .pre .0)) (a .before .before .before .before .before .before .before .before .before .before .before .before .before .args .c) side0 (a .before .before .before .before .before .ring-face .result .centre) (a .before .before .before .leaving-edge .result .centre) (a .before .before .before .before .before .ring-face .result .ahead) (a .before .before .before .leaving-edge .result .behind)
+    → Parts (K (a .before .before .before .before .before .before .before .before .before .before .before .before .before .args .count) (a .before .before .before .before .before .before .before .before .before .before .before .before .before .args .nexts .now) (a .before .before .before .before .before .before .before .before .before .before .before .before .before .args .previouses .now) (a .before .before .before .before .before .before .before .before .before .before .before .before .before .args .links .now) (a .before .before .before .before .before .before .before .before .before .before .before .before .before .args .sides .now) (a .before .before .before .before .before .before .before .before .before .before .before .before .before .args .valences .now) (a .before .before .before .before .before .before .before .before .before .before .before .before .before .args .points .now) (a .before .before .before .before .before .before .before .before .before .before .before .before .before .args .c) (a .before .before .before .before .before .before .before .before .before .before .before .before .before .pre .0)) (a .before .before .before .before .before .before .before .before .before .before .before .before .before .args .c) side0 (a .before .before .before .before .before .vertex-face .result .centre) (a .before .before .before .leaving-edge .result .centre) (a .before .before .before .before .before .vertex-face .result .ahead) (a .before .before .before .leaving-edge .result .behind)
     (a .before .before .before .leaving-edge .result .here) (a .before .before .before .leaving-edge .result .before) (a .before .cosine .result)
 unfolding H T C
 part0 a =
     let s = a .before .before .before .before .before .before .before .before .before .before .before .before .before in
-    let f = vertex-is (s .args .count) (s .args .nexts .now) (s .args .previouses .now) (s .args .links .now) (s .args .sides .now) (s .args .valences .now) (s .args .points .now) (s .args .c) (s .pre .0) _ _ (a .before .before .before .before .before .before .before .count-at .ensures) (a .before .before .before .before .before .ring-face .ensures) in
+    let f = vertex-is (s .args .count) (s .args .nexts .now) (s .args .previouses .now) (s .args .links .now) (s .args .sides .now) (s .args .valences .now) (s .args .points .now) (s .args .c) (s .pre .0) _ _ (a .before .before .before .before .before .before .before .count-at .ensures) (a .before .before .before .before .before .vertex-face .ensures) in
     let e = leaving-is (s .args .count) (s .args .nexts .now) (s .args .previouses .now) (s .args .links .now) (s .args .sides .now) (s .args .valences .now) (s .args .points .now) (s .args .c) (s .pre .0) _ (a .before .before .before .leaving-edge .ensures) in
     record {
       head = f .0;
@@ -57,12 +60,12 @@ part0 a =
     }
 
 part1 : (a : State)
-    → Parts (K (a .before .before .before .before .before .before .before .before .before .before .before .before .before .args .count) (a .before .before .before .before .before .before .before .before .before .before .before .before .before .args .nexts .now) (a .before .before .before .before .before .before .before .before .before .before .before .before .before .args .previouses .now) (a .before .before .before .before .before .before .before .before .before .before .before .before .before .args .links .now) (a .before .before .before .before .before .before .before .before .before .before .before .before .before .args .sides .now) (a .before .before .before .before .before .before .before .before .before .before .before .before .before .args .valences .now) (a .before .before .before .before .before .before .before .before .before .before .before .before .before .args .points .now) (a .before .before .before .before .before .before .before .before .before .before .before .before .before .args .c) (a .before .before .before .before .before .before .before .before .before .before .before .before .before .pre .0)) (a .before .before .before .before .before .before .before .before .before .before .before .before .before .args .c) side1 (a .before .before .before .before .ring-face2 .result .centre) (a .before .before .before .leaving-edge .result .centre) (a .before .before .before .before .ring-face2 .result .ahead) (a .before .before .before .leaving-edge .result .ahead)
+    → Parts (K (a .before .before .before .before .before .before .before .before .before .before .before .before .before .args .count) (a .before .before .before .before .before .before .before .before .before .before .before .before .before .args .nexts .now) (a .before .before .before .before .before .before .before .before .before .before .before .before .before .args .previouses .now) (a .before .before .before .before .before .before .before .before .before .before .before .before .before .args .links .now) (a .before .before .before .before .before .before .before .before .before .before .before .before .before .args .sides .now) (a .before .before .before .before .before .before .before .before .before .before .before .before .before .args .valences .now) (a .before .before .before .before .before .before .before .before .before .before .before .before .before .args .points .now) (a .before .before .before .before .before .before .before .before .before .before .before .before .before .args .c) (a .before .before .before .before .before .before .before .before .before .before .before .before .before .pre .0)) (a .before .before .before .before .before .before .before .before .before .before .before .before .before .args .c) side1 (a .before .before .before .before .mesh-face .result .centre) (a .before .before .before .leaving-edge .result .centre) (a .before .before .before .before .mesh-face .result .ahead) (a .before .before .before .leaving-edge .result .ahead)
     (a .before .before .before .leaving-edge .result .here) (a .before .before .before .leaving-edge .result .after) (a .cosine2 .result)
 unfolding H T C
 part1 a =
     let s = a .before .before .before .before .before .before .before .before .before .before .before .before .before in
-    let f = face-is (s .args .count) (s .args .nexts .now) (s .args .previouses .now) (s .args .links .now) (s .args .sides .now) (s .args .valences .now) (s .args .points .now) (s .args .c) (s .pre .0) _ _ (a .before .before .before .before .before .before .count-at2 .ensures) (a .before .before .before .before .ring-face2 .ensures) in
+    let f = face-is (s .args .count) (s .args .nexts .now) (s .args .previouses .now) (s .args .links .now) (s .args .sides .now) (s .args .valences .now) (s .args .points .now) (s .args .c) (s .pre .0) _ _ (a .before .before .before .before .before .before .count-at2 .ensures) (a .before .before .before .before .mesh-face .ensures) in
     let e = leaving-is (s .args .count) (s .args .nexts .now) (s .args .previouses .now) (s .args .links .now) (s .args .sides .now) (s .args .valences .now) (s .args .points .now) (s .args .c) (s .pre .0) _ (a .before .before .before .leaving-edge .ensures) in
     record {
       head = f .0;
@@ -75,12 +78,12 @@ part1 a =
     }
 
 part2 : (a : State)
-    → Parts (K (a .before .before .before .before .before .before .before .before .before .before .before .before .before .args .count) (a .before .before .before .before .before .before .before .before .before .before .before .before .before .args .nexts .now) (a .before .before .before .before .before .before .before .before .before .before .before .before .before .args .previouses .now) (a .before .before .before .before .before .before .before .before .before .before .before .before .before .args .links .now) (a .before .before .before .before .before .before .before .before .before .before .before .before .before .args .sides .now) (a .before .before .before .before .before .before .before .before .before .before .before .before .before .args .valences .now) (a .before .before .before .before .before .before .before .before .before .before .before .before .before .args .points .now) (a .before .before .before .before .before .before .before .before .before .before .before .before .before .args .c) (a .before .before .before .before .before .before .before .before .before .before .before .before .before .pre .0)) (a .before .before .before .before .before .before .before .before .before .before .before .before .before .args .c) side2 (a .before .before .before .before .ring-face2 .result .centre) (a .before .before .arriving-edge .result .centre) (a .before .before .before .before .ring-face2 .result .behind) (a .before .before .arriving-edge .result .behind)
+    → Parts (K (a .before .before .before .before .before .before .before .before .before .before .before .before .before .args .count) (a .before .before .before .before .before .before .before .before .before .before .before .before .before .args .nexts .now) (a .before .before .before .before .before .before .before .before .before .before .before .before .before .args .previouses .now) (a .before .before .before .before .before .before .before .before .before .before .before .before .before .args .links .now) (a .before .before .before .before .before .before .before .before .before .before .before .before .before .args .sides .now) (a .before .before .before .before .before .before .before .before .before .before .before .before .before .args .valences .now) (a .before .before .before .before .before .before .before .before .before .before .before .before .before .args .points .now) (a .before .before .before .before .before .before .before .before .before .before .before .before .before .args .c) (a .before .before .before .before .before .before .before .before .before .before .before .before .before .pre .0)) (a .before .before .before .before .before .before .before .before .before .before .before .before .before .args .c) side2 (a .before .before .before .before .mesh-face .result .centre) (a .before .before .arriving-edge .result .centre) (a .before .before .before .before .mesh-face .result .behind) (a .before .before .arriving-edge .result .behind)
     (a .before .before .arriving-edge .result .here) (a .before .before .arriving-edge .result .before) (a .cosine2 .result)
 unfolding H T C
 part2 a =
     let s = a .before .before .before .before .before .before .before .before .before .before .before .before .before in
-    let f = face-is (s .args .count) (s .args .nexts .now) (s .args .previouses .now) (s .args .links .now) (s .args .sides .now) (s .args .valences .now) (s .args .points .now) (s .args .c) (s .pre .0) _ _ (a .before .before .before .before .before .before .count-at2 .ensures) (a .before .before .before .before .ring-face2 .ensures) in
+    let f = face-is (s .args .count) (s .args .nexts .now) (s .args .previouses .now) (s .args .links .now) (s .args .sides .now) (s .args .valences .now) (s .args .points .now) (s .args .c) (s .pre .0) _ _ (a .before .before .before .before .before .before .count-at2 .ensures) (a .before .before .before .before .mesh-face .ensures) in
     let e = arriving-is (s .args .count) (s .args .nexts .now) (s .args .previouses .now) (s .args .links .now) (s .args .sides .now) (s .args .valences .now) (s .args .points .now) (s .args .c) (s .pre .0) _ (a .before .before .arriving-edge .ensures) in
     record {
       head = f .0;
@@ -93,12 +96,12 @@ part2 a =
     }
 
 part3 : (a : State)
-    → Parts (K (a .before .before .before .before .before .before .before .before .before .before .before .before .before .args .count) (a .before .before .before .before .before .before .before .before .before .before .before .before .before .args .nexts .now) (a .before .before .before .before .before .before .before .before .before .before .before .before .before .args .previouses .now) (a .before .before .before .before .before .before .before .before .before .before .before .before .before .args .links .now) (a .before .before .before .before .before .before .before .before .before .before .before .before .before .args .sides .now) (a .before .before .before .before .before .before .before .before .before .before .before .before .before .args .valences .now) (a .before .before .before .before .before .before .before .before .before .before .before .before .before .args .points .now) (a .before .before .before .before .before .before .before .before .before .before .before .before .before .args .c) (a .before .before .before .before .before .before .before .before .before .before .before .before .before .pre .0)) (a .before .before .before .before .before .before .before .before .before .before .before .before .before .args .c) side3 (a .before .before .before .before .before .ring-face .result .centre) (a .before .before .arriving-edge .result .centre) (a .before .before .before .before .before .ring-face .result .behind) (a .before .before .arriving-edge .result .ahead)
+    → Parts (K (a .before .before .before .before .before .before .before .before .before .before .before .before .before .args .count) (a .before .before .before .before .before .before .before .before .before .before .before .before .before .args .nexts .now) (a .before .before .before .before .before .before .before .before .before .before .before .before .before .args .previouses .now) (a .before .before .before .before .before .before .before .before .before .before .before .before .before .args .links .now) (a .before .before .before .before .before .before .before .before .before .before .before .before .before .args .sides .now) (a .before .before .before .before .before .before .before .before .before .before .before .before .before .args .valences .now) (a .before .before .before .before .before .before .before .before .before .before .before .before .before .args .points .now) (a .before .before .before .before .before .before .before .before .before .before .before .before .before .args .c) (a .before .before .before .before .before .before .before .before .before .before .before .before .before .pre .0)) (a .before .before .before .before .before .before .before .before .before .before .before .before .before .args .c) side3 (a .before .before .before .before .before .vertex-face .result .centre) (a .before .before .arriving-edge .result .centre) (a .before .before .before .before .before .vertex-face .result .behind) (a .before .before .arriving-edge .result .ahead)
     (a .before .before .arriving-edge .result .here) (a .before .before .arriving-edge .result .after) (a .before .cosine .result)
 unfolding H T C
 part3 a =
     let s = a .before .before .before .before .before .before .before .before .before .before .before .before .before in
-    let f = vertex-is (s .args .count) (s .args .nexts .now) (s .args .previouses .now) (s .args .links .now) (s .args .sides .now) (s .args .valences .now) (s .args .points .now) (s .args .c) (s .pre .0) _ _ (a .before .before .before .before .before .before .before .count-at .ensures) (a .before .before .before .before .before .ring-face .ensures) in
+    let f = vertex-is (s .args .count) (s .args .nexts .now) (s .args .previouses .now) (s .args .links .now) (s .args .sides .now) (s .args .valences .now) (s .args .points .now) (s .args .c) (s .pre .0) _ _ (a .before .before .before .before .before .before .before .count-at .ensures) (a .before .before .before .before .before .vertex-face .ensures) in
     let e = arriving-is (s .args .count) (s .args .nexts .now) (s .args .previouses .now) (s .args .links .now) (s .args .sides .now) (s .args .valences .now) (s .args .points .now) (s .args .c) (s .pre .0) _ (a .before .before .arriving-edge .ensures) in
     record {
       head = f .0;
@@ -116,11 +119,11 @@ count-at-requires c κs = search needs
 count-at-requires-2 : tie.Need-count-at-requires-2
 count-at-requires-2 c κs = search needs
 
-ring-face-requires : tie.Need-ring-face-requires
-ring-face-requires c κs = let s = c .before .before .before .before .before .before .before in (vertex-ring (s .args .count) (s .args .nexts .now) (s .args .previouses .now) (s .args .links .now) (s .args .sides .now) (s .args .valences .now) (s .args .points .now) (s .args .c) (s .pre .0) _ (c .before .count-at .ensures), s .pre .1)
+vertex-face-requires : tie.Need-vertex-face-requires
+vertex-face-requires c κs = let s = c .before .before .before .before .before .before .before in (vertex-ring (s .args .count) (s .args .nexts .now) (s .args .previouses .now) (s .args .links .now) (s .args .sides .now) (s .args .valences .now) (s .args .points .now) (s .args .c) (s .pre .0) _ (c .before .count-at .ensures), s .pre .1)
 
-ring-face-requires-2 : tie.Need-ring-face-requires-2
-ring-face-requires-2 c κs = let s = c .before .before .before .before .before .before .before .before in (face-ring (s .args .count) (s .args .nexts .now) (s .args .previouses .now) (s .args .links .now) (s .args .sides .now) (s .args .valences .now) (s .args .points .now) (s .args .c) (s .pre .0) _ (c .before .count-at2 .ensures), s .pre .1)
+mesh-face-requires : tie.Need-mesh-face-requires
+mesh-face-requires c κs = let s = c .before .before .before .before .before .before .before .before in (face-ring (s .args .count) (s .args .nexts .now) (s .args .previouses .now) (s .args .links .now) (s .args .sides .now) (s .args .valences .now) (s .args .points .now) (s .args .c) (s .pre .0) _ (c .before .count-at2 .ensures), s .pre .1)
 
 leaving-edge-requires : tie.Need-leaving-edge-requires
 leaving-edge-requires c κs = let s = c .before .before .before .before .before .before .before .before .before in reach (s .args .count) (s .args .nexts .now) (s .args .previouses .now) (s .args .links .now) (s .args .sides .now) (s .args .valences .now) (s .args .points .now) (s .args .c) (s .pre .0)
@@ -181,8 +184,8 @@ net-sides-spec =
     (tie.spec
     count-at-requires
     count-at-requires-2
-    ring-face-requires
-    ring-face-requires-2
+    vertex-face-requires
+    mesh-face-requires
     leaving-edge-requires
     arriving-edge-requires
     cosine-requires
