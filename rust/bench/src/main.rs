@@ -3,7 +3,7 @@
 //!     cargo run --release --offline -p bench [SECONDS]
 //!
 //! Linking and building are given in nanoseconds per corner, a range of 64 corners in microseconds per call. Each figure
-//! is the least of many passes, which take turns between the two; SECONDS (1 by default) is what one figure may take.
+//! is the least of many passes, with turns of three between the two; SECONDS (1 by default) is what one figure may take.
 
 use std::time::{Duration, Instant};
 
@@ -15,6 +15,8 @@ use shapes::{Places, Random, Solid, Tables};
 const RANGE: usize = 64;
 /// A pass repeats a call until it takes about this long.
 const PASS: Duration = Duration::from_micros(200);
+/// The passes of a turn: the first finds the caches full of the other side's data.
+const TURN: usize = 3;
 
 /// The least time of one call, of the library and of the reference.
 #[derive(Clone, Copy)]
@@ -46,8 +48,12 @@ fn least(budget: Duration, mut library: impl FnMut(), mut reference: impl FnMut(
     let mut best = [Duration::MAX; 2];
     let start = Instant::now();
     while start.elapsed() < budget {
-        best[0] = best[0].min(pass(&mut library, times[0]));
-        best[1] = best[1].min(pass(&mut reference, times[1]));
+        for _ in 0..TURN {
+            best[0] = best[0].min(pass(&mut library, times[0]));
+        }
+        for _ in 0..TURN {
+            best[1] = best[1].min(pass(&mut reference, times[1]));
+        }
     }
     Pair {
         library: best[0].as_secs_f64() / f64::from(times[0]),
