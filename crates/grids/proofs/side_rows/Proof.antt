@@ -15,8 +15,10 @@ quarter-requires-2 c κs = let s = c .before .before .before .before .before .be
 
 second-requires : tie.Need-second-requires
 second-requires c κs =
-    let s = c .before .before .before .before .before .before .before .before .before .before .before .before .before .before in (
-      row (s .args .f .cosine) (s .pre .0 .cosine),
+    let s = c .before .before .before .before .before .before .before .before .before .before .before .before .before .before in
+    let here = row (s .args .f .cosine) (s .pre .0 .cosine) in
+    let there = row (s .args .l .cosine) (s .pre .2 .cosine) in (
+      search (here, there),
       value (s .args .f .head) (s .pre .0 .head),
       value (s .args .f .x) (s .pre .0 .x),
       value (s .args .f .y) (s .pre .0 .y),
@@ -26,8 +28,10 @@ second-requires c κs =
 
 third-requires : tie.Need-third-requires
 third-requires c κs =
-    let s = c .before .before .before .before .before .before .before .before .before .before .before .before .before .before .before in (
-      row (s .args .f .cosine) (s .pre .0 .cosine),
+    let s = c .before .before .before .before .before .before .before .before .before .before .before .before .before .before .before in
+    let here = row (s .args .f .cosine) (s .pre .0 .cosine) in
+    let there = row (s .args .l .cosine) (s .pre .2 .cosine) in (
+      search (here, there),
       value (s .args .f .tail) (s .pre .0 .tail),
       value (s .args .f .y) (s .pre .0 .y),
       value (s .args .l .y) (s .pre .2 .y),
