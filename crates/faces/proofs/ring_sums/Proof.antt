@@ -13,9 +13,6 @@ use Rattle.surface.specs.Face.{weight}
 use Rattle.faces.proofs.Laws.{Came, Goes, goes, first}
 use Rattle.faces.proofs.ring_sums.Statement.{statement}
 use Rattle.faces.proofs.ring_sums.Tie as tie
-use Rattle.faces.proofs.ring_sums.Reads as reads
-use Rattle.faces.proofs.ring_sums.Lts as lts
-use Rattle.faces.proofs.weight_after.Reads as weight-after-reads
 
 abbrev Inv-loop : tie.InvT-loop
 Inv-loop points steps rows c m total₀ ahead₀ behind₀ w₀ at₀ j₀ total ahead behind w at j = Came points steps c m total ahead behind w at j
@@ -24,7 +21,7 @@ abbrev μ-loop : tie.MeasureT-loop
 μ-loop points steps rows c m total₀ ahead₀ behind₀ w₀ at₀ j₀ total ahead behind w at j = m - j
 
 -- the turn, with the weight u
-turn : (a : lts.At-loop (weight-after-reads.Asked, weight-after-reads.Learnt) reads.Pre reads.Post Inv-loop μ-loop) (u : ℤ)
+turn : (a : tie.At-loop Inv-loop μ-loop) (u : ℤ)
     → a .loop .j < a .before .before .before .args .m → u ≡ weight (a .before .before .before .args .m) (a .loop .j + 1)
     → Goes (a .before .before .before .args .points .now) (a .before .before .before .args .steps .now) (a .before .before .before .args .c)
     (a .before .before .before .args .m) (a .loop .total) (a .loop .ahead) (a .loop .behind) (a .loop .w) (a .loop .at) (a .loop .j) u

@@ -15,9 +15,6 @@ use Rattle.cosines.proofs.Rules.{period, cosine-size}
 use Rattle.surface.specs.Face.{weight}
 use Rattle.faces.proofs.weight_after.Statement.{statement}
 use Rattle.faces.proofs.weight_after.Tie as tie
-use Rattle.faces.proofs.weight_after.Reads as reads
-use Rattle.faces.proofs.weight_after.Lts as lts
-use Rattle.cosines.proofs.cosine.Reads as cosine-reads
 
 -- past the row's end, its first number
 again : (m j k : ℕ) → j < m → m ≤ j + 1 → k ≡ 0 → cosine m k ≡ cosine m (j + 1)
@@ -38,7 +35,7 @@ fits : (x y : ℤ) → natAbs x ≤ 2 ^ 30 → natAbs y ≤ 2 ^ 30 → Fine x y
 fits = over 2 _ λ ρ. simp (poly, ρ) (omega arith)
 
 -- the place that was chosen
-chosen : (c : lts.Joined1 (cosine-reads.Asked, cosine-reads.Learnt) reads.Pre reads.Post)
+chosen : (c : tie.Joined1)
     → (c .if1 .k < c .before .args .m) × (cosine (c .before .args .m) (c .if1 .k) ≡ cosine (c .before .args .m) (c .before .args .j + 1))
 chosen c =
     let s = c .before in
@@ -47,10 +44,10 @@ chosen c =
     (λ w. (omega (arith, s .pre .0, w .1), again (s .args .m) (s .args .j) (c .if1 .k) (s .pre .2) (omega (arith, w .0 .left)) (w .1)))
     (c .if1 .came)
 
-one : (c : lts.After-cosine (cosine-reads.Asked, cosine-reads.Learnt) reads.Pre reads.Post) → natAbs (c .cosine .result) ≤ 2 ^ 30
+one : (c : tie.After-cosine) → natAbs (c .cosine .result) ≤ 2 ^ 30
 one c = let s = c .before .before in rw (c .cosine .ensures) (cosine-size (s .args .m) (s .pre .0) (s .pre .1) (c .before .if1 .k))
 
-facts : (c : lts.After-cosine2 (cosine-reads.Asked, cosine-reads.Learnt) reads.Pre reads.Post) → Fine (c .before .cosine .result) (c .cosine2 .result)
+facts : (c : tie.After-cosine2) → Fine (c .before .cosine .result) (c .cosine2 .result)
 facts c =
     let s = c .before .before .before in
     fits (c .before .cosine .result) (c .cosine2 .result) (one (c .before)) (rw (c .cosine2 .ensures) (cosine-size (s .args .m) (s .pre .0) (s .pre .1) (s .args .j)))

@@ -12,8 +12,6 @@ use Rattle.nets.specs.Put.{Placed}
 use Rattle.nets.proofs.Laws.{placed-none, row-step, number}
 use Rattle.nets.proofs.put_row.Statement.{statement}
 use Rattle.nets.proofs.put_row.Tie as tie
-use Rattle.nets.proofs.put_row.Reads as reads
-use Rattle.nets.proofs.put_row.Lts as lts
 
 abbrev Inv-loop : tie.InvT-loop
 Inv-loop row out₀ from j₀ out j = (j ≤ length row) × Placed out₀ out from (take j row)
@@ -22,7 +20,7 @@ abbrev μ-loop : tie.MeasureT-loop
 μ-loop row out₀ from j₀ out j = length row - j
 
 -- the place of number j
-room : (c : lts.After-v reads.Pre reads.Post Inv-loop μ-loop) → c .before .before .before .args .from + 3 * c .before .before .loop .j < length (c .before .before .loop .out)
+room : (c : tie.After-v Inv-loop μ-loop) → c .before .before .before .args .from + 3 * c .before .before .loop .j < length (c .before .before .loop .out)
 room c = omega (arith, c .before .before .before .pre .0, c .before .before .loop .inv .1 .same, c .before .loop-test .taken)
 
 loop-holds : tie.Need-loop-holds Inv-loop μ-loop
