@@ -7,8 +7,7 @@ use lib.ListN.{length, getD}
 use Rattle.mesh.specs.Limits.{leastSides, mostVertices, mostCorners}
 use Rattle.mesh.specs.Lists.{Mesh, vertexCount, faceCount, cornerCount}
 use Rattle.mesh.specs.Corners.{sumOf}
-use Rattle.mesh.specs.Links.{vertexOf}
-use Rattle.mesh.specs.Tables.{smallMesh, NextsTo, LinkTable}
+use Rattle.mesh.specs.Tables.{smallMesh, Named, NextsTo, LinkTable}
 use Rattle.mesh.specs.Faults.{sound, linkFaults, verdict, Accepted}
 use Rattle.mesh.specs.Answers.{stated}
 use Rattle.mesh.specs.declared.Answer.{Answer}
@@ -30,7 +29,7 @@ pub record Listed (M : Mesh) : Type 0 where
   pub small : cornerCount M ≤ mostCorners
   pub sums : sumOf (M .sides) ≡ cornerCount M
   pub sided : (f : ℕ) → f < faceCount M → leastSides ≤ getD (M .sides) f 0
-  pub named : (c : ℕ) → c < cornerCount M → vertexOf (M .corners) c < vertexCount M
+  pub named : Named (M .corners) (vertexCount M)
 
 -- what the checks 10 to 13 ask: the table of next corners is filled, and that of links has room
 abbrev pub Joinable : Mesh → List ℕ → List ℕ → Type 0

@@ -7,6 +7,7 @@ use lib.ListN.{length, getD}
 use Rattle.mesh.specs.Limits.{leastSides, mostSides, mostCorners}
 use Rattle.mesh.specs.Corners.{sumOf, faceOf, sidesOf, previous}
 use Rattle.mesh.specs.Links.{vertexOf, valence}
+use Rattle.mesh.specs.Tables.{Named}
 
 -- the table holds f's value at every place below n; z is what a place past the table's end reads as
 abbrev pub Filled : {A : Type 0} → A → (ℕ → A) → List A → ℕ → Type 0
@@ -22,10 +23,6 @@ pub record Faces (sides : List ℕ) : Type 0 where
   pub few : sumOf sides ≤ mostCorners
   pub least : (f : ℕ) → f < length sides → leastSides ≤ getD sides f 0
   pub most : (f : ℕ) → f < length sides → getD sides f 0 ≤ mostSides
-
--- the vertex of every corner has a place in a table of n entries
-abbrev pub Named : List ℕ → ℕ → Type 0
-Named corners n = (c : ℕ) → c < length corners → vertexOf corners c < n
 
 -- corners whose vertices have places in a table of n entries, and corner counts within their limit
 pub record Vertices (corners : List ℕ) (n : ℕ) : Type 0 where

@@ -5,7 +5,8 @@ ghost use Prim.Native.Nat.{ℕ, _+_, _<_, _≤_};
 ghost use lib.ListN.{length, getD, replicate};
 ghost use Rattle.mesh.specs.Corners.{sumOf, startOf};
 ghost use Rattle.mesh.specs.Links.{vertexOf, valence};
-ghost use Rattle.corner_tables.specs.Tables.{Filled, FaceTables, Faces, Vertices, Named, RangeMarked, Wanted};
+ghost use Rattle.mesh.specs.Tables.{Named};
+ghost use Rattle.corner_tables.specs.Tables.{Filled, FaceTables, Faces, Vertices, RangeMarked, Wanted};
 
 // The previous corner of every corner, and the sides of its face.
 pub fn fill_faces(sides: &[u8], previouses: &mut [u16], counts: &mut [u8])

@@ -8,6 +8,7 @@ use lib.Dec.{eqb}
 use lib.ListN.{length, getD}
 use Rattle.mesh.specs.Limits.{mostCorners}
 use Rattle.mesh.specs.Links.{vertexOf, linked}
+use Rattle.mesh.specs.Tables.{Named}
 use Rattle.mesh.specs.Corners.{sumOf}
 use Rattle.mesh.specs.Faults.{sound, lowestOf, fault10, fault11}
 use Rattle.mesh.specs.Answers.{stated}
@@ -46,7 +47,7 @@ Reversed corners links r =
 -- the tables that the search goes by: the far ends of the edges, and the chains of the vertices' corners
 pub record Searchable (vertices : ℕ) (corners tos froms earliers heads : List ℕ) : Type 0 where
   pub small : length corners ≤ mostCorners
-  pub named : (c : ℕ) → c < length corners → vertexOf corners c < vertices
+  pub named : Named corners vertices
   pub tos-length : length corners ≤ length tos
   pub tos-in : (c : ℕ) → c < length corners → getD tos c 0 < vertices
   pub froms-length : length corners ≤ length froms

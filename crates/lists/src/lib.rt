@@ -7,11 +7,11 @@ use mesh::MOST_FACES;
 use mesh::MOST_SIDES;
 use mesh::MOST_VERTICES;
 ghost use mathlib.Core.Path.{_≡_};
-ghost use Prim.Native.Nat.{ℕ, _≤_, _<_};
+ghost use Prim.Native.Nat.{_≤_};
 ghost use lib.ListN.{length};
 ghost use Rattle.mesh.specs.Limits.{mostFaces, mostCorners};
 ghost use Rattle.mesh.specs.Corners.{sumOf};
-ghost use Rattle.mesh.specs.Links.{vertexOf};
+ghost use Rattle.mesh.specs.Tables.{Named};
 ghost use Rattle.mesh.specs.Faults.{single, lowestOf, fault4, fault5, fault6, fault7, fault8, fault9};
 ghost use Rattle.mesh.specs.Answers.{stated};
 ghost use Rattle.tables.specs.Filled.{Blank};
@@ -102,7 +102,7 @@ pub fn check_names(vertices: usize, corners: &[u16]) -> Answer
 // that corner is in the face if the entry is above the face's first corner.
 pub fn check_faces(sides: &[u8], corners: &[u16], lasts: &mut [u16]) -> Answer
     requires mesh { ⌜ (sumOf (now sides) ≡ length (now corners)) × (length (now corners) ≤ mostCorners) ⌝ }
-    requires room { ⌜ ((c : ℕ) → c < length (now corners) → vertexOf (now corners) c < length (now lasts)) × Blank (now lasts) ⌝ }
+    requires room { ⌜ Named (now corners) (length (now lasts)) × Blank (now lasts) ⌝ }
     ensures { λ r. ⌜ stated r ≡ lowestOf 9 (length (now (corners .entry))) (fault9 (now (sides .entry)) (now (corners .entry))) ⌝ }
 {
     let mut start = 0;

@@ -5,11 +5,15 @@ use mathlib.Core.List.{List}
 use Prim.Native.Nat.{ℕ, _<_}
 use lib.ListN.{length, getD}
 use Rattle.mesh.specs.Corners.{next}
-use Rattle.mesh.specs.Links.{link}
+use Rattle.mesh.specs.Links.{vertexOf, link}
 
 -- a mesh with at most so many vertices, faces and corners is small, and has short tables
 abbrev pub smallMesh : ℕ
 smallMesh = 256
+
+-- the vertex of every corner has a place in a table of n entries
+abbrev pub Named : List ℕ → ℕ → Type 0
+Named corners n = (c : ℕ) → c < length corners → vertexOf corners c < n
 
 -- the next corner of each corner below `end`
 unfoldable pub NextsTo : List ℕ → List ℕ → ℕ → Type 0

@@ -8,7 +8,7 @@ use lib.IntN.{ℤ, pos, natAbs}
 use Rattle.mesh.specs.Limits.{leastSides, mostSides, mostCoordinate}
 use Rattle.mesh.specs.Lists.{Mesh, cornerCount}
 use Rattle.mesh.specs.Corners.{sumOf, faceOf, next, previous}
-use Rattle.mesh.specs.Links.{vertexOf}
+use Rattle.mesh.specs.Tables.{Named}
 use Rattle.surface.specs.Refined.{refinedPoint}
 use Rattle.corner_tables.specs.Tables.{Filled, Faces}
 
@@ -21,7 +21,7 @@ pub record Steps (sides nexts previouses : List ℕ) : Type 0 where
 
 -- corners whose vertices have coordinates, within their limits
 pub record Placed (coordinates : List ℤ) (corners : List ℕ) : Type 0 where
-  pub named : (c : ℕ) → c < length corners → vertexOf corners c < length coordinates / 3
+  pub named : Named corners (length coordinates / 3)
   pub within : (i : ℕ) → i < length coordinates → natAbs (getD coordinates i (pos 0)) ≤ mostCoordinate
 
 -- what refined points are computed from

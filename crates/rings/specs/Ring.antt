@@ -7,8 +7,8 @@ use lib.Dec.{eqb, ltb}
 use lib.ListN.{length, getD}
 use Rattle.mesh.specs.Limits.{leastSides, mostCorners}
 use Rattle.mesh.specs.Scan.{pickN, firstBelow, iterate}
-use Rattle.mesh.specs.Links.{vertexOf, valence, lowest}
-use Rattle.mesh.specs.Tables.{LinkTable}
+use Rattle.mesh.specs.Links.{valence, lowest}
+use Rattle.mesh.specs.Tables.{Named, LinkTable}
 use Rattle.mesh.specs.Faults.{lowestOf, fault13, Closed}
 use Rattle.mesh.specs.Answers.{stated}
 use Rattle.mesh.specs.declared.Answer.{Answer}
@@ -18,8 +18,8 @@ use Rattle.tables.specs.Filled.{Blank}
 pub record Countable (corners counts lowests : List ℕ) : Type 0 where
   pub small : length corners ≤ mostCorners
   pub blank : Blank counts
-  pub counted : (c : ℕ) → c < length corners → vertexOf corners c < length counts
-  pub noted : (c : ℕ) → c < length corners → vertexOf corners c < length lowests
+  pub counted : Named corners (length counts)
+  pub noted : Named corners (length lowests)
 
 -- how many corners each vertex has, and the lowest where it has any
 pub record Counted (corners counts lowests : List ℕ) : Type 0 where

@@ -31,7 +31,7 @@ pub fn round_div(n: i64, d: i64) -> i64
     q as i64 - l
 }
 
-// r(n / 2^k). A shift of a signed number copies the sign, so it rounds down: the last bit that it would drop is added first.
+// r(n / 2^k). A shift of a signed number copies the sign, so it rounds down. One bit of the fraction is kept at first: adding one to it adds a half.
 pub fn round_shift(n: i64, k: u32) -> i64
     requires { ⌜ (1 ≤ k) × (k ≤ 36) × (natAbs n ≤ 2 ^ 60) ⌝ }
     ensures { λ r. ⌜ r ≡ round n (pos (2 ^ k)) ⌝ }

@@ -8,7 +8,7 @@ use lib.ListN.{length, getD}
 use Rattle.mesh.specs.Limits.{leastSides, mostCorners}
 use Rattle.mesh.specs.Scan.{pickN}
 use Rattle.mesh.specs.Corners.{sumOf}
-use Rattle.mesh.specs.Tables.{NextsTo}
+use Rattle.mesh.specs.Tables.{Named, NextsTo}
 use Rattle.mesh.specs.Links.{vertexOf, leavesTo, arrivesFrom, names}
 
 -- one more than the highest number below n that passes the test; 0 where none does
@@ -63,7 +63,7 @@ Ended corners nexts tos froms =
 -- what filling the chains asks, and gives
 abbrev pub Chainable : List ℕ → List ℕ → List ℕ → Type 0
 Chainable corners earliers heads =
-    (length corners ≤ mostCorners) × ((c : ℕ) → c < length corners → vertexOf corners c < length heads) × (length corners ≤ length earliers)
+    (length corners ≤ mostCorners) × Named corners (length heads) × (length corners ≤ length earliers)
     × Blank heads
 
 pub record Chained (corners earliers heads : List ℕ) : Type 0 where

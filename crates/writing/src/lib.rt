@@ -36,14 +36,14 @@ pub fn write_nets(
         && sides.len() <= SMALL_MESH
         && coordinates.len() <= 3 * SMALL_MESH
     {
-        write_small(coordinates, sides, corners, nexts, links, first, count, out);
+        write_few(coordinates, sides, corners, nexts, links, first, count, out);
     } else {
-        write_large(coordinates, sides, corners, nexts, links, first, count, out);
+        write_many(coordinates, sides, corners, nexts, links, first, count, out);
     }
 }
 
-// The same for a small mesh: its tables are short.
-fn write_small(
+// The same of a small mesh.
+fn write_few(
     coordinates: &[i32],
     sides: &[u8],
     corners: &[u16],
@@ -56,7 +56,7 @@ fn write_small(
     requires mesh { ⌜ Accepted (meshOf (now coordinates) (now sides) (now corners)) ⌝ }
     requires tables { ⌜ Given (meshOf (now coordinates) (now sides) (now corners)) (now nexts) (now links) ⌝ }
     requires range { ⌜ (0 < count) × (first + count ≤ length (now corners)) × (length (now out) ≡ perCorner * count) ⌝ }
-    requires small { ⌜ AtMost (meshOf (now coordinates) (now sides) (now corners)) smallMesh smallMesh smallMesh ⌝ }
+    requires few { ⌜ AtMost (meshOf (now coordinates) (now sides) (now corners)) smallMesh smallMesh smallMesh ⌝ }
     ensures { λ _. ⌜ now (out .exit) ≡ nets (meshOf (now (coordinates .entry)) (now (sides .entry)) (now (corners .entry))) first count ⌝ }
 {
     let mut previouses = [0u16; SMALL_MESH];
@@ -89,8 +89,8 @@ fn write_small(
     );
 }
 
-// The same for any mesh.
-fn write_large(
+// The same of any mesh.
+fn write_many(
     coordinates: &[i32],
     sides: &[u8],
     corners: &[u16],

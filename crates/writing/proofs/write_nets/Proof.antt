@@ -13,15 +13,15 @@ use Rattle.writing.proofs.write_nets.Tie as tie
 mul-if3 : tie.Need-mul-if3
 mul-if3 c = search needs
 
-write-small-requires : tie.Need-write-small-requires
-write-small-requires c κs =
+write-few-requires : tie.Need-write-few-requires
+write-few-requires c κs =
     let s = c .before .before .before .before .before .before .before .before in
     let sides : length (now (s .args .sides)) ≤ smallMesh = leb-true (length (now (s .args .sides))) smallMesh (c .before .before .if2 .taken) in
     let coordinates : length (now (s .args .coordinates)) ≤ 3 * smallMesh = leb-true (length (now (s .args .coordinates))) (3 * smallMesh) (c .before .if3 .taken) in
     (s .pre .0, (s .pre .1 .0, (s .pre .1 .1, record { vertices-fit = omega (arith, coordinates); faces-fit = sides; corners-fit = omega arith })))
 
-write-large-requires : tie.Need-write-large-requires
-write-large-requires c κs = search needs
+write-many-requires : tie.Need-write-many-requires
+write-many-requires c κs = search needs
 
 same-length : tie.Need-same-length
 same-length c = search needs
@@ -40,8 +40,8 @@ write-nets-spec =
     tie.close
     (tie.spec
     mul-if3
-    write-small-requires
-    write-large-requires
+    write-few-requires
+    write-many-requires
     same-length
     returns
     same-length-2

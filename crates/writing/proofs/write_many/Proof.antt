@@ -1,12 +1,12 @@
--- Tables of a small mesh's length are enough.
+-- Tables as long as a mesh may ask are enough.
 -- Assumes nothing.
 use denote.Ref.{now}
 use Rattle.mesh.specs.Lists.{Mesh, meshOf}
-use Rattle.mesh.specs.Tables.{smallMesh}
-use Rattle.writing.proofs.Laws.{new}
+use Rattle.mesh.specs.Limits.{mostVertices, mostFaces, mostCorners}
+use Rattle.writing.proofs.Laws.{limits, new}
 use borrow.Author.Needs.{needs}
-use Rattle.writing.proofs.write_small.Statement.{statement}
-use Rattle.writing.proofs.write_small.Tie as tie
+use Rattle.writing.proofs.write_many.Statement.{statement}
+use Rattle.writing.proofs.write_many.Tie as tie
 
 abbrev mesh : tie.Start → Mesh
 mesh s = meshOf (now (s .args .coordinates)) (now (s .args .sides)) (now (s .args .corners))
@@ -41,7 +41,7 @@ slice-aggregate-write-tabled-9 c = search needs
 write-tabled-requires : tie.Need-write-tabled-requires
 write-tabled-requires c κs =
     let s = c .before .before .before .before .before .before .before .before .before .before .before .before .before .before in
-    (s .pre .0, (s .pre .1 .0, (s .pre .1 .1 .0, new (mesh s) smallMesh smallMesh smallMesh (s .pre .1 .1 .1))))
+    (s .pre .0, (s .pre .1 .0, (s .pre .1 .1, new (mesh s) mostVertices mostFaces mostCorners (limits (mesh s) (s .pre .0)))))
 
 same-length : tie.Need-same-length
 same-length c = search needs
@@ -49,8 +49,8 @@ same-length c = search needs
 returns : tie.Need-returns
 returns c = search needs
 
-pub write-small-spec : {M : Type 1} → statement M
-write-small-spec =
+pub write-many-spec : {M : Type 1} → statement M
+write-many-spec =
     tie.close
     (tie.spec
     slice-aggregate-write-tabled
