@@ -12,6 +12,9 @@
  * A list is a pointer and the number of its entries. The pointer may be null where that number is 0. The pointers to
  * single numbers (place and the three lengths of mahunopi_decode) must not be null. What a function writes to must
  * not overlap anything else that it is given.
+ *
+ * Scratch lies on the stack: a call needs up to 256 KB of it. A stack that is too small ends the program; no answer
+ * tells of it.
  */
 #ifndef MAHUNOPI_H
 #define MAHUNOPI_H

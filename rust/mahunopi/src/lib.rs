@@ -3,7 +3,8 @@
 //! A [`Mesh`] is three lists. [`decode`] reads it from a .dms file, [`link`] makes its link table, and [`build`] makes
 //! the control points of a range of corners: 123 numbers for each, in ticks of 1/256 of a grid step, five rows of five
 //! b points and then four rows of four a points. An input that is turned down gives a [`Refusal`]. The functions
-//! ending in `_into` fill what the caller lends them, which keeps its contents after a refusal.
+//! ending in `_into` fill what the caller lends them, which keeps its contents after a refusal. A call needs up to
+//! 256 KB of its thread's stack.
 //!
 //! ```
 //! use mahunopi::{build, link, Mesh};
