@@ -8,7 +8,7 @@ ghost use Rattle.mesh.specs.Lists.{meshOf};
 ghost use Rattle.mesh.specs.Tables.{smallMesh, NextsTo, LinkTable};
 ghost use Rattle.mesh.specs.Faults.{Accepted};
 ghost use Rattle.surface.specs.Building.{Built};
-ghost use Rattle.checks.specs.Checked.{Within};
+ghost use Rattle.checks.specs.Checked.{RoomFor};
 ghost use Rattle.building.specs.Answered.{Answered};
 
 // Checks 4 to 17, then the control points. Nothing is written to the output before the last check has passed.
@@ -96,7 +96,7 @@ fn build_over(
     table: &mut [u16],
     out: &mut [i32],
 ) -> Answer
-    requires { ⌜ Within (now corners) (now nexts) × Within (now corners) (now table) ⌝ }
+    requires { ⌜ RoomFor (now corners) (now nexts) × RoomFor (now corners) (now table) ⌝ }
     ensures { λ r. ⌜ Built (meshOf (now (coordinates .entry)) (now (sides .entry)) (now (corners .entry))) (now (links .entry)) first count (now (out .entry)) r (now (out .exit)) ⌝ }
 {
     let a = checks::check_within(coordinates, sides, corners, nexts, table);
@@ -130,7 +130,7 @@ fn answer(
 ) -> Answer
     requires mesh { ⌜ Accepted (meshOf (now coordinates) (now sides) (now corners)) ⌝ }
     requires tables { ⌜ NextsTo (now sides) (now nexts) (length (now corners)) × LinkTable (now sides) (now corners) (now table) ⌝ }
-    requires long { ⌜ Within (now corners) (now nexts) × Within (now corners) (now table) ⌝ }
+    requires long { ⌜ RoomFor (now corners) (now nexts) × RoomFor (now corners) (now table) ⌝ }
     ensures { λ r. ⌜ Answered (meshOf (now (coordinates .entry)) (now (sides .entry)) (now (corners .entry))) (now (links .entry)) first count (now (out .entry)) r (now (out .exit)) ⌝ }
 {
     let a = requests::check_request(corners.len(), table, links, first, count, out.len());

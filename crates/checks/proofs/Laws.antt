@@ -19,12 +19,12 @@ use Rattle.mesh.proofs.Faces.{next-below, previous-below}
 use Rattle.mesh.proofs.Links.{link-in}
 use Rattle.mesh.proofs.Verdicts.{sound-left, sound-right, single-sound, lowest-sound, orElse-fault, orElse-sound}
 use Rattle.mesh.proofs.Accepted.{few-vertices, few-corners, sides-within, sums-of, named-of, valence-within}
-use Rattle.tables.specs.Filled.{Blank, Ends, Chained}
+use Rattle.tables.specs.Filled.{Blank, EdgeEnds, Chained}
 use Rattle.tables.proofs.Laws.{blank}
 use Rattle.edges.specs.Entries.{Entries, Searchable}
 use Rattle.edges.proofs.Laws.{links-found}
 use Rattle.rings.specs.Ring.{Countable, Followed}
-use Rattle.checks.specs.Checked.{Checked, Listed, Room, CountRoom, Joined}
+use Rattle.checks.specs.Checked.{Checked, Listed, ScratchRoom, CountRoom, Joined}
 
 -- after 4 and 8: check 9's table has an entry for each vertex that is named
 pub lasts-room : (vertices : ℕ) (corners : List ℕ) → vertices ≤ mostVertices → lowestOf 8 (length corners) (fault8 vertices corners) ≡ sound
@@ -56,7 +56,7 @@ nexts-in M nexts g n c l = omega (arith, g .sums, n c l, next-below (M .sides) c
 -- the filled tables
 pub searchable : (M : Mesh) (earliers tos froms heads : List ℕ) → Listed M
     → cornerCount M ≤ length earliers → cornerCount M ≤ length tos → cornerCount M ≤ length froms
-    → vertexCount M ≤ length heads → Chained (M .corners) earliers heads → Ends (M .sides) (M .corners) tos froms
+    → vertexCount M ≤ length heads → Chained (M .corners) earliers heads → EdgeEnds (M .sides) (M .corners) tos froms
     → Searchable (vertexCount M) (M .corners) tos froms earliers heads
 unfolding leavesTo arrivesFrom
 searchable M earliers tos froms heads g le lt lf lh k e =
@@ -89,7 +89,7 @@ module _ (M : Mesh) (p q : ℕ) (a : cornerCount M ≤ p) (b : vertexCount M ≤
   sized : {n : ℕ} (m : ℕ) → n ≤ m → n ≤ length (replicate {A = ℕ} m 0)
   sized m l = rw (length-replicate {A = ℕ} m 0) l
 
-  pub room : Room M (replicate p 0) (replicate p 0) (replicate p 0) (replicate q 0) (replicate q 0) (replicate q 0)
+  pub room : ScratchRoom M (replicate p 0) (replicate p 0) (replicate p 0) (replicate q 0) (replicate q 0) (replicate q 0)
   room =
       record {
         earliers-length = sized p a;

@@ -20,8 +20,8 @@ pub record Checked (M : Mesh) (r : Answer) (nexts links : List ℕ) : Type 0 whe
   pub links-are : Accepted M → LinkTable (M .sides) (M .corners) links
 
 -- a table that has room for each corner, where there are not too many of them
-abbrev pub Within : List ℕ → List ℕ → Type 0
-Within corners table = length corners ≤ mostCorners → length corners ≤ length table
+abbrev pub RoomFor : List ℕ → List ℕ → Type 0
+RoomFor corners table = length corners ≤ mostCorners → length corners ≤ length table
 
 -- what the checks 4 to 9 leave for the later ones
 pub record Listed (M : Mesh) : Type 0 where
@@ -41,7 +41,7 @@ abbrev pub Few : Mesh → Type 0
 Few M = (cornerCount M ≤ smallMesh) × (vertexCount M ≤ smallMesh)
 
 -- scratch tables that have room for a mesh; those by vertex start at zero
-pub record Room (M : Mesh) (earliers tos froms heads leaving arriving : List ℕ) : Type 0 where
+pub record ScratchRoom (M : Mesh) (earliers tos froms heads leaving arriving : List ℕ) : Type 0 where
   pub earliers-length : cornerCount M ≤ length earliers
   pub tos-length : cornerCount M ≤ length tos
   pub froms-length : cornerCount M ≤ length froms

@@ -10,7 +10,7 @@ ghost use Rattle.mesh.specs.Lists.{meshOf};
 ghost use Rattle.mesh.specs.Faults.{listFaults};
 ghost use Rattle.mesh.specs.Answers.{stated};
 ghost use Rattle.edges.specs.Entries.{Entries};
-ghost use Rattle.checks.specs.Checked.{Checked, Within, Listed, Joinable, Few, Room, CountRoom, Joined};
+ghost use Rattle.checks.specs.Checked.{Checked, RoomFor, Listed, Joinable, Few, ScratchRoom, CountRoom, Joined};
 
 // Checks 4 to 13. The two tables are scratch: of an accepted mesh they then hold the next corner and the link of every corner.
 pub fn check(
@@ -33,7 +33,7 @@ pub fn check_within(
     nexts: &mut [u16],
     links: &mut [u16],
 ) -> Answer
-    requires { ⌜ Within (now corners) (now nexts) × Within (now corners) (now links) ⌝ }
+    requires { ⌜ RoomFor (now corners) (now nexts) × RoomFor (now corners) (now links) ⌝ }
     ensures { λ r. ⌜ Checked (meshOf (now (coordinates .entry)) (now (sides .entry)) (now (corners .entry))) r (now (nexts .exit)) (now (links .exit)) ⌝ }
 {
     let a = check_lists(coordinates, sides, corners);
@@ -189,7 +189,7 @@ fn find_links(
     arriving: &mut [u16],
 )
     requires mesh { ⌜ Joinable (meshOf (now coordinates) (now sides) (now corners)) (now nexts) (now links) ⌝ }
-    requires room { ⌜ Room (meshOf (now coordinates) (now sides) (now corners)) (now earliers) (now tos) (now froms) (now heads) (now leaving) (now arriving) ⌝ }
+    requires room { ⌜ ScratchRoom (meshOf (now coordinates) (now sides) (now corners)) (now earliers) (now tos) (now froms) (now heads) (now leaving) (now arriving) ⌝ }
     ensures { λ _. ⌜ Entries (now (sides .entry)) (now (corners .entry)) (now (links .exit)) ⌝ }
 {
     tables::fill_earliers(corners, earliers, heads);

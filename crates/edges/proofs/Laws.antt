@@ -19,7 +19,7 @@ use Rattle.mesh.proofs.Scans.{ways, clash, compared, and-true, and-left, and-ri
 use Rattle.mesh.proofs.Faces.{next-below, previous-below, next-previous, previous-next}
 use Rattle.mesh.proofs.Links.{unique, reverse-in, reverse-vertex, reverse-to, link-is}
 use Rattle.mesh.proofs.Verdicts.{lowest-hit, lowest-none, lowest-sound}
-use Rattle.tables.specs.Filled.{Blank, Ends, Chained}
+use Rattle.tables.specs.Filled.{Blank, EdgeEnds, Chained}
 use Rattle.tables.proofs.Laws.{put, On, above-head, at-in, at-vertex, on-from}
 use Rattle.edges.specs.Entries.{repeated, alone, Entry, again, single, joined, Entries, has}
 use Rattle.edges.specs.Entries.{Searchable, Keyed, Hit, Marked, MarkedFrom, EntryFor, EntriesFor, EntriesBelow}
@@ -106,7 +106,7 @@ module _ (sides corners : List ℕ) (s : sumOf sides ≡ length corners) (c : �
 
 -- the entry of a corner whose vertex is marked
 module _ (vertices : ℕ) (corners tos froms leaving arriving : List ℕ) (u c : ℕ) (h : c < length corners) (v : vertexOf corners c ≡ u)
-    (m : MarkedFrom vertices corners tos froms leaving arriving u 0) (sides : List ℕ) (e : Ends sides corners tos froms) where
+    (m : MarkedFrom vertices corners tos froms leaving arriving u 0) (sides : List ℕ) (e : EdgeEnds sides corners tos froms) where
   first : Hit corners u c (getD leaving (getD tos c 0) 0)
   unfolding Marked
   first = m .left-from c (omega arith) h v

@@ -13,7 +13,7 @@ use Rattle.mesh.specs.Corners.{sumOf}
 use Rattle.mesh.specs.Faults.{sound, lowestOf, fault10, fault11}
 use Rattle.mesh.specs.Answers.{stated}
 use Rattle.mesh.specs.declared.Answer.{Answer}
-use Rattle.tables.specs.Filled.{Ends, Chained}
+use Rattle.tables.specs.Filled.{EdgeEnds, Chained}
 
 -- the entry of a corner whose leaving edge already left an earlier one, and of a corner whose leaving edge has no reverse: no corners
 abbrev pub repeated : ℕ
@@ -82,10 +82,10 @@ pub record MarkedFrom (vertices : ℕ) (corners tos froms leaving arriving : Lis
 
 -- the entry of a corner, and of all corners, for all side counts that the ends belong to
 abbrev pub EntryFor : List ℕ → List ℕ → List ℕ → ℕ → ℕ → Type 0
-EntryFor corners tos froms c x = (sides : List ℕ) → Ends sides corners tos froms → Entry sides corners c x
+EntryFor corners tos froms c x = (sides : List ℕ) → EdgeEnds sides corners tos froms → Entry sides corners c x
 
 abbrev pub EntriesFor : List ℕ → List ℕ → List ℕ → List ℕ → Type 0
-EntriesFor corners tos froms links = (sides : List ℕ) → Ends sides corners tos froms → Entries sides corners links
+EntriesFor corners tos froms links = (sides : List ℕ) → EdgeEnds sides corners tos froms → Entries sides corners links
 
 -- the corners of the vertices below u have their entries
 unfoldable pub EntriesBelow : List ℕ → List ℕ → List ℕ → List ℕ → ℕ → Type 0

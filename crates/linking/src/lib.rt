@@ -7,7 +7,7 @@ ghost use Prim.Native.Nat.{ℕ, _≤_, _<_};
 ghost use lib.ListN.{length, getD};
 ghost use Rattle.mesh.specs.Lists.{meshOf};
 ghost use Rattle.mesh.specs.Tables.{smallMesh};
-ghost use Rattle.checks.specs.Checked.{Within};
+ghost use Rattle.checks.specs.Checked.{RoomFor};
 ghost use Rattle.linking.specs.Linked.{Linked};
 
 // Checks 4 to 14, then the link of every corner. Nothing is written to the lent table before the last check has passed.
@@ -48,7 +48,7 @@ fn link_over(
     table: &mut [u16],
     links: &mut [u16],
 ) -> Answer
-    requires { ⌜ Within (now corners) (now nexts) × Within (now corners) (now table) ⌝ }
+    requires { ⌜ RoomFor (now corners) (now nexts) × RoomFor (now corners) (now table) ⌝ }
     ensures { λ r. ⌜ Linked (meshOf (now (coordinates .entry)) (now (sides .entry)) (now (corners .entry))) (now (links .entry)) r (now (links .exit)) ⌝ }
 {
     let a = checks::check_within(coordinates, sides, corners, nexts, table);

@@ -23,7 +23,7 @@ use Rattle.mesh.proofs.Accepted.{turns, ring-full}
 use Rattle.tables.specs.Filled.{Blank}
 use Rattle.tables.proofs.Laws.{put}
 use Rattle.mesh.proofs.Verdicts.{lowest-hit, lowest-none}
-use Rattle.rings.specs.Ring.{by, ringWithin, Counted, Followed}
+use Rattle.rings.specs.Ring.{by, ringWithin, CornersCounted, Followed}
 
 -- the corners from c on are counted
 pub record CountedFrom (corners counts lowests : List ℕ) (c : ℕ) : Type 0 where
@@ -41,7 +41,7 @@ module _ (corners counts lowests : List ℕ) where
         own = λ u d a b e. absurd (omega arith);
       }
 
-  pub counted-done : (c : ℕ) → c ≡ 0 → CountedFrom corners counts lowests c → Counted corners counts lowests
+  pub counted-done : (c : ℕ) → c ≡ 0 → CountedFrom corners counts lowests c → CornersCounted corners counts lowests
   unfolding lowest names
   counted-done c e k =
       record {
@@ -186,7 +186,7 @@ module _ (corners links : List ℕ) where
   whole-none sides k t j l = absurd (omega arith)
 
   module _ (u vertices : ℕ) (w : Whole corners links u) (f : Followed corners links vertices) (l : u < vertices)
-      (counts lowests : List ℕ) (g : Counted corners counts lowests) (len : ℕ) (en : len ≡ ringWithin links (getD lowests u 0) (getD counts u 0)) where
+      (counts lowests : List ℕ) (g : CornersCounted corners counts lowests) (len : ℕ) (en : len ≡ ringWithin links (getD lowests u 0) (getD counts u 0)) where
     len-is : len ≡ ringWithin links (lowest corners u) (valence corners u)
     len-is =
         en ∙ ap (λ (x : ℕ). ringWithin links x (getD counts u 0)) (g .lowest-is u (lowest-in corners u (f .named u l)))

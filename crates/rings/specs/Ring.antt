@@ -22,7 +22,7 @@ pub record Countable (corners counts lowests : List ℕ) : Type 0 where
   pub noted : Named corners (length lowests)
 
 -- how many corners each vertex has, and the lowest where it has any
-pub record Counted (corners counts lowests : List ℕ) : Type 0 where
+pub record CornersCounted (corners counts lowests : List ℕ) : Type 0 where
   pub count-is : (u : ℕ) → getD counts u 0 ≡ valence corners u
   pub lowest-is : (u : ℕ) → lowest corners u < length corners → getD lowests u 0 ≡ lowest corners u
 

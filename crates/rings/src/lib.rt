@@ -8,12 +8,12 @@ ghost use Prim.Native.Nat.{ℕ, _≤_, _<_};
 ghost use lib.ListN.{length, getD};
 ghost use Rattle.mesh.specs.Faults.{lowestOf, fault12};
 ghost use Rattle.mesh.specs.Answers.{stated};
-ghost use Rattle.rings.specs.Ring.{Countable, Counted, ringWithin, Followed, Ringed};
+ghost use Rattle.rings.specs.Ring.{Countable, CornersCounted, ringWithin, Followed, Ringed};
 
 // How many corners name each vertex, and the lowest of them: met last, so what is written last stays.
 pub fn count_corners(corners: &[u16], counts: &mut [u16], lowests: &mut [u16])
     requires { ⌜ Countable (now corners) (now counts) (now lowests) ⌝ }
-    ensures { λ _. ⌜ Counted (now (corners .entry)) (now (counts .exit)) (now (lowests .exit)) ⌝ }
+    ensures { λ _. ⌜ CornersCounted (now (corners .entry)) (now (counts .exit)) (now (lowests .exit)) ⌝ }
 {
     let mut c = corners.len();
     while c != 0 {
@@ -27,7 +27,7 @@ pub fn count_corners(corners: &[u16], counts: &mut [u16], lowests: &mut [u16])
 
 // Check 12: the corners that name a vertex are neither too few nor too many.
 pub fn check_valences(corners: &[u16], counts: &[u16], lowests: &[u16], vertices: usize) -> Answer
-    requires { ⌜ (vertices ≤ length (now counts)) × Counted (now corners) (now counts) (now lowests) ⌝ }
+    requires { ⌜ (vertices ≤ length (now counts)) × CornersCounted (now corners) (now counts) (now lowests) ⌝ }
     ensures { λ r. ⌜ stated r ≡ lowestOf 12 vertices (fault12 (now (corners .entry))) ⌝ }
 {
     let mut u = 0;
@@ -49,7 +49,7 @@ pub fn check_rings(
     links: &[u16],
     vertices: usize,
 ) -> Answer
-    requires tables { ⌜ (vertices ≤ length (now counts)) × (vertices ≤ length (now lowests)) × Counted (now corners) (now counts) (now lowests) ⌝ }
+    requires tables { ⌜ (vertices ≤ length (now counts)) × (vertices ≤ length (now lowests)) × CornersCounted (now corners) (now counts) (now lowests) ⌝ }
     requires links { ⌜ Followed (now corners) (now links) vertices ⌝ }
     ensures { λ r. ⌜ Ringed (now (corners .entry)) (now (links .entry)) vertices r ⌝ }
 {

@@ -39,7 +39,7 @@ unfoldable pub Chain : List ℕ → ℕ → ℕ → Type 0
 Chain corners u at = (d : ℕ) → at ≡ suc d → vertexOf corners d ≡ u
 
 -- where each corner's leaving edge goes, and where its arriving edge comes from
-pub record Ends (sides corners tos froms : List ℕ) : Type 0 where
+pub record EdgeEnds (sides corners tos froms : List ℕ) : Type 0 where
   pub sums : sumOf sides ≡ length corners
   pub leaves : (c : ℕ) → c < length corners → getD tos c 0 ≡ leavesTo sides corners c
   pub arrives : (c : ℕ) → c < length corners → getD froms c 0 ≡ arrivesFrom sides corners c
@@ -58,7 +58,7 @@ pub record Endable (corners nexts tos froms : List ℕ) : Type 0 where
 -- and gives: the ends, for all side counts that the table of next corners belongs to
 abbrev pub Ended : List ℕ → List ℕ → List ℕ → List ℕ → Type 0
 Ended corners nexts tos froms =
-    (sides : List ℕ) → sumOf sides ≡ length corners → NextsTo sides nexts (length corners) → Ends sides corners tos froms
+    (sides : List ℕ) → sumOf sides ≡ length corners → NextsTo sides nexts (length corners) → EdgeEnds sides corners tos froms
 
 -- what filling the chains asks, and gives
 abbrev pub Chainable : List ℕ → List ℕ → List ℕ → Type 0
