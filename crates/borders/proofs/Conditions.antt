@@ -10,7 +10,8 @@ use lib.Signed.{ltZ}
 use Rattle.integers.proofs.Poly.{over, poly}
 use Rattle.rounding.specs.Round.{round, Near}
 use Rattle.rounding.proofs.Laws.{near-is}
-use Rattle.surface.specs.Corners.{Corners}
+use Rattle.surface.specs.Numbers.{rounded}
+use Rattle.surface.specs.Corners.{RefinedMesh}
 use Rattle.surface.specs.Net.{Side, side0, side1, side2, side3, atHead, atTail, H, T, X, Y, N, C, outer1, outer2, outer3, a0, a1, a2, a3}
 use Rattle.surface.proofs.Faces.{HeadRule, TailRule}
 use Rattle.surface.proofs.Border.{Border}
@@ -55,14 +56,14 @@ fourth-core : (H T X Y C Y* Y^ o o* o^ a â : ℤ)
 fourth-core = over 12 _ λ ρ. simp (poly, ρ) (omega arith)
 
 -- ---- the two sides at a head have one head, those at a tail one tail
-pub head-shared : (K : Corners) (c : ℕ) (s : Side) → H K c (atHead s) ≡ H K c s
+pub head-shared : (K : RefinedMesh rounded) (c : ℕ) (s : Side) → H K c (atHead s) ≡ H K c s
 unfolding H
 head-shared K c side0 = refl
 head-shared K c side1 = refl
 head-shared K c side2 = refl
 head-shared K c side3 = refl
 
-pub tail-shared : (K : Corners) (c : ℕ) (s : Side) → T K c (atTail s) ≡ T K c s
+pub tail-shared : (K : RefinedMesh rounded) (c : ℕ) (s : Side) → T K c (atTail s) ≡ T K c s
 unfolding T
 tail-shared K c side0 = refl
 tail-shared K c side1 = refl
@@ -70,7 +71,7 @@ tail-shared K c side2 = refl
 tail-shared K c side3 = refl
 
 -- ---- of a border
-module _ (K : Corners) (c : ℕ) (s : Side) (d : ℕ) (t : Side) (e : Border K c s d t) where
+module _ (K : RefinedMesh rounded) (c : ℕ) (s : Side) (d : ℕ) (t : Side) (e : Border K c s d t) where
   pub same-outer1 : outer1 K d t ≡ outer1 K c s
   unfolding outer1
   same-outer1 = rw (e .same-H, e .same-X)
@@ -84,10 +85,10 @@ module _ (K : Corners) (c : ℕ) (s : Side) (d : ℕ) (t : Side) (e : Border K c
   same-outer3 = rw (e .same-Y, e .same-T)
 
   -- the neighbour's inner point: the two refined points change places
-  back-N : N K d t ≡ round (pos 3 *ℤ X K c s +ℤ pos 3 *ℤ Y K c s +ℤ K .refined d -ℤ K .refined c) (pos 6)
+  back-N : N K d t ≡ round (pos 3 *ℤ X K c s +ℤ pos 3 *ℤ Y K c s +ℤ K .point d -ℤ K .point c) (pos 6)
   back-N = rw (e .same-X, e .same-Y, e .back) at (N-is K d t)
 
-  here-N : N K c s ≡ round (pos 3 *ℤ X K c s +ℤ pos 3 *ℤ Y K c s +ℤ K .refined c -ℤ K .refined d) (pos 6)
+  here-N : N K c s ≡ round (pos 3 *ℤ X K c s +ℤ pos 3 *ℤ Y K c s +ℤ K .point c -ℤ K .point d) (pos 6)
   here-N = rw (e .there) at (N-is K c s)
 
   pub first-within : InBounds (first (H K c s) (T K c s) (X K c s) (Y K c s) (C K c s) (H K c s) (a0 K c s) (a0 K d t))
@@ -100,14 +101,14 @@ module _ (K : Corners) (c : ℕ) (s : Side) (d : ℕ) (t : Side) (e : Border K c
 
   pub second-within : InBounds (second (H K c s) (T K c s) (X K c s) (Y K c s) (C K c s) (outer1 K c s) (a1 K c s) (a1 K d t))
   second-within =
-      second-core (H K c s) (T K c s) (X K c s) (Y K c s) (C K c s) (K .refined c) (K .refined d) (X K c (atHead s)) (X K d (atHead t))
+      second-core (H K c s) (T K c s) (X K c s) (Y K c s) (C K c s) (K .point c) (K .point d) (X K c (atHead s)) (X K d (atHead t))
       (N K c s) (N K d t) (outer1 K c s) (a1 K c s) (a1 K d t)
       (half _ _ _ tt (outer1-is K c s)) (half _ _ _ tt here-N) (half _ _ _ tt back-N)
       (half _ _ _ tt (a1-is K c s)) (half _ _ _ tt (rw (e .same-C, e .same-H, e .same-X, e .same-Y) at (a1-is K d t))) (e .head-rule)
 
   pub third-within : InBounds (third (H K c s) (T K c s) (X K c s) (Y K c s) (C K c s) (outer2 K c s) (a2 K c s) (a2 K d t))
   third-within =
-      third-core (H K c s) (T K c s) (X K c s) (Y K c s) (C K c s) (K .refined c) (K .refined d) (Y K c (atTail s)) (Y K d (atTail t))
+      third-core (H K c s) (T K c s) (X K c s) (Y K c s) (C K c s) (K .point c) (K .point d) (Y K c (atTail s)) (Y K d (atTail t))
       (N K c s) (N K d t) (outer2 K c s) (a2 K c s) (a2 K d t)
       (half _ _ _ tt (outer2-is K c s)) (half _ _ _ tt here-N) (half _ _ _ tt back-N)
       (half _ _ _ tt (a2-is K c s)) (half _ _ _ tt (rw (e .same-C, e .same-T, e .same-Y) at (a2-is K d t))) (e .tail-rule)

@@ -13,6 +13,7 @@ use Rattle.mesh.specs.Links.{link, linkTable}
 use Rattle.mesh.specs.Faults.{sound, linkVerdict, Accepted}
 use Rattle.mesh.proofs.Verdicts.{orElse-sound, single-miss, lowest-none}
 use Rattle.mesh.proofs.Links.{values-length, length-link-table, link-table-at}
+use Rattle.surface.specs.Numbers.{rounded}
 use Rattle.surface.specs.Net.{Side}
 use Rattle.surface.specs.Refined.{cornersOf, perCorner, numberAt, nets}
 use Rattle.surface.specs.Building.{fault15, fault16, fault17, buildVerdict}
@@ -26,7 +27,7 @@ equal m n e = ap not (eq-eqb m n e)
 
 length-nets : (M : Mesh) (first count : ℕ) → length (nets M first count) ≡ perCorner * count
 unfolding nets
-length-nets M first count = values-length (numberAt M first) 0 (perCorner * count)
+length-nets M first count = values-length (numberAt rounded M first) 0 (perCorner * count)
 
 module _ (M : Mesh) (ok : Accepted M) (first count : ℕ) (some : 0 < count) (fits : first + count ≤ cornerCount M) where
   no15 : (c : ℕ) → c < cornerCount M → fault15 M (linkTable M) c ≡ false
@@ -58,5 +59,5 @@ pub every-border : (M : Mesh) → Accepted M → (c : ℕ) → c < cornerCount M
 every-border M ok c here s axis small =
     let whole : Output = outputOf M 0 (cornerCount M) in
     let w : Wrote M (outputOf M 0 (cornerCount M)) = range-wrote M ok 0 (cornerCount M) (omega arith) (omega arith) in
-    let d = neighbour-in (cornersOf M 0) (corners-sound M ok 0) c here s in
+    let d = neighbour-in (cornersOf M) (corners-sound M ok) c here s in
     demand3 M whole whole w w c s (omega arith, omega arith) (omega arith, omega (arith, d)) axis small

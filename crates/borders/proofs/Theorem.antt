@@ -9,11 +9,12 @@ use lib.IntN.{ℤ, pos, _+ℤ_}
 use Rattle.integers.proofs.Laws.{add-comm}
 use Rattle.rounding.specs.Round.{round}
 use Rattle.mesh.specs.Lists.{Mesh}
-use Rattle.surface.specs.Corners.{Corners}
+use Rattle.surface.specs.Numbers.{rounded}
+use Rattle.surface.specs.Corners.{RefinedMesh}
 use Rattle.surface.specs.Net.{Side, side0, side1, side2, side3, neighbour, across, H, T, X, Y, C, outer1, outer2, outer3, a0, a1, a2, a3, bGrid, aGrid, net}
-use Rattle.surface.specs.Refined.{cornersOf}
+use Rattle.surface.specs.Refined.{refinedOf}
 use Rattle.surface.proofs.Border.{Border, border}
-use Rattle.surface.proofs.Hull.{corners-sound}
+use Rattle.surface.proofs.Hull.{corners-sound, points-small}
 use Rattle.borders.specs.Demand.{Output, Wrote, written, outerRow, aRow, first, second, third, fourth, InBounds, beside, Borders}
 use Rattle.borders.proofs.Conditions.{head-shared, tail-shared, same-outer1, same-outer2, same-outer3, first-within, second-within, third-within, fourth-within}
 use Rattle.borders.proofs.Written.{accepted, corner-of, written-is}
@@ -22,7 +23,7 @@ use Rattle.borders.proofs.Written.{accepted, corner-of, written-is}
 swapped : (x y : ℤ) → round (x +ℤ y) (pos 2) ≡ round (y +ℤ x) (pos 2)
 swapped x y = ap (λ (z : ℤ). round z (pos 2)) (add-comm x y)
 
-module _ (K : Corners) (c : ℕ) where
+module _ (K : RefinedMesh rounded) (c : ℕ) where
   abbrev points : ℕ → ℤ
   points k = getD (net K c) k (pos 0)
 
@@ -79,7 +80,7 @@ module _ (p q : ℕ → ℤ) (same : (k : ℕ) → k < 41 → p k ≡ q k) where
   same-a side3 j l = same (25 + 4 * j + 0) (omega arith)
 
 -- ---- a border whose points p and q are those of the two nets
-module _ (K : Corners) (c : ℕ) (s : Side) (d : ℕ) (t : Side) (e : Border K c s d t) (p q : ℕ → ℤ)
+module _ (K : RefinedMesh rounded) (c : ℕ) (s : Side) (d : ℕ) (t : Side) (e : Border K c s d t) (p q : ℕ → ℤ)
     (hp : (k : ℕ) → k < 41 → p k ≡ points K c k) (hq : (k : ℕ) → k < 41 → q k ≡ points K d k) where
   here-outer : (j : ℕ) → j < 5 → outerRow p s j ≡ outerRow (points K c) s j
   here-outer j l = same-outer p (points K c) hp s j l
@@ -128,21 +129,14 @@ module _ (K : Corners) (c : ℕ) (s : Side) (d : ℕ) (t : Side) (e : Border K c
   fourth-holds : InBounds (at fourth (outerRow p s 3) (aRow p s 3) (aRow q t 3))
   fourth-holds = bounded fourth 3 (omega arith) _ _ _ (inner K c s .2) (row-3 K c s) (row-3 K d t) (fourth-within K c s d t e)
 
--- the neighbouring corner is the same on each axis
-beside-is : (M : Mesh) (axis c : ℕ) (s : Side) → neighbour (cornersOf M axis) c s ≡ beside M c s
-beside-is M axis c side0 = refl
-beside-is M axis c side1 = refl
-beside-is M axis c side2 = refl
-beside-is M axis c side3 = refl
-
 -- ---- demand 3
 pub demand3 : (M : Mesh) (A B : Output) → Wrote M A → Wrote M B → Borders M A B
 demand3 M A B wA wB c s hc hd axis small =
-    let K : Corners = cornersOf M axis in
+    let K : RefinedMesh rounded = refinedOf rounded M axis in
     let d : ℕ = beside M c s in
     let t : Side = across s in
-    let e : Border K c s d t =
-    rw (beside-is M axis c s) at (border K (corners-sound M (accepted M A wA) axis) c (corner-of M A wA c hc) s) in
+    let ok = accepted M A wA in
+    let e : Border K c s d t = border K (corners-sound M ok) (points-small M ok axis) c (corner-of M A wA c hc) s in
     let hp = written-is M A wA c hc axis small in
     let hq = written-is M B wB d hd axis small in
     record {

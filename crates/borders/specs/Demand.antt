@@ -9,8 +9,9 @@ use lib.ListN.{getD}
 use lib.IntN.{ℤ, pos, _+ℤ_, _-ℤ_, _*ℤ_, natAbs}
 use Rattle.mesh.specs.Lists.{Mesh}
 use Rattle.mesh.specs.declared.Answer.the-variants.{Done}
+use Rattle.surface.specs.Numbers.{rounded}
 use Rattle.surface.specs.Net.{Side, side0, side1, side2, side3, neighbour, across, H, T, X, Y, C}
-use Rattle.surface.specs.Refined.{cornersOf, perCorner, nets}
+use Rattle.surface.specs.Refined.{cornersOf, refinedOf, perCorner, nets}
 use Rattle.surface.specs.Building.{Built}
 
 -- ---- a call's output
@@ -92,9 +93,9 @@ abbrev pub InBounds : ℤ → Type 0
 InBounds z = natAbs z ≤ mostMiss * 2 ^ 30
 
 -- ---- a border: the side s of c with the neighbour's side; the quad-net of c stands in the output A, the neighbour's in B
--- the neighbouring corner, which is the same on each axis
+-- the neighbouring corner
 abbrev pub beside : Mesh → ℕ → Side → ℕ
-beside M c s = neighbour (cornersOf M 0) c s
+beside M c s = neighbour (cornersOf M) c s
 
 module _ (M : Mesh) (A B : Output) (axis c : ℕ) (s : Side) where
   abbrev pub here : ℕ → ℤ
@@ -106,7 +107,7 @@ module _ (M : Mesh) (A B : Output) (axis c : ℕ) (s : Side) where
   -- a condition of this side on this axis, at place j of the rows
   abbrev pub miss : (ℤ → ℤ → ℤ → ℤ → ℤ → ℤ → ℤ → ℤ → ℤ) → ℕ → ℤ
   miss condition j =
-      let K = cornersOf M axis in
+      let K = refinedOf rounded M axis in
       condition (H K c s) (T K c s) (X K c s) (Y K c s) (C K c s) (outerRow here s j) (aRow here s j) (aRow there (across s) j)
 
 pub record Smooth (M : Mesh) (A B : Output) (axis c : ℕ) (s : Side) : Type 0 where

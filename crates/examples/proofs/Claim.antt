@@ -6,7 +6,7 @@ use mathlib.Core.List.{List, [], _∷_}
 use lib.Dec.{T as Holds}
 use lib.IntN.{ℤ}
 use Rattle.integers.specs.Floor.{floor}
-use Rattle.integers.specs.Sum.{sum}
+use Rattle.integers.specs.Sum.{sum, sumBy}
 use Rattle.integers.proofs.Below.{both, both-left, both-right, eqZ, eqZ-eq}
 use Rattle.rounding.specs.Round.{round}
 use Rattle.cosines.specs.Table.{cosine}
@@ -45,5 +45,5 @@ agree ((given gives printed) ∷ rows) t =
     (same-eq given printed (both-left (same given printed) (all-same rows) t), agree rows (both-right (same given printed) (all-same rows) t))
 
 pub examples : Agree table
-unfolding table all-same same floor sum round cosine cosines.table firstFrom firstBelow someBelow countBelow iterate sumOf faceOf startOf firstOf sidesOf next previous leavesTo arrivesFrom linked link sameEdge reverseEdge names valence lowest _orElse_ single lowestOf fault4 fault5 fault6 fault7 fault8 sameVertexFrom fault9 fault10 fault11 fault12 after ringLength met fault13 listFaults linkFaults verdict centre weight toward quad H T X Y N C outer1 outer2 outer3 a1 ticks faceSum refinedPoint
+unfolding table all-same same floor sumBy round cosine cosines.table firstFrom firstBelow someBelow countBelow iterate sumOf faceOf startOf firstOf sidesOf next previous leavesTo arrivesFrom linked link sameEdge reverseEdge names valence lowest _orElse_ single lowestOf fault4 fault5 fault6 fault7 fault8 sameVertexFrom fault9 fault10 fault11 fault12 after ringLength met fault13 listFaults linkFaults verdict centre weight toward quad H T X Y N C outer1 outer2 outer3 a1 ticks faceSum refinedPoint
 examples = agree table tt

@@ -8,9 +8,10 @@ use Rattle.rounding.specs.Round.{round}
 use Rattle.cosines.specs.Table.{cosine}
 use Rattle.mesh.specs.Lists.{Mesh, meshOf}
 use Rattle.mesh.specs.Faults.{verdict}
-use Rattle.surface.specs.Corners.{Corners}
+use Rattle.surface.specs.Numbers.{rounded}
+use Rattle.surface.specs.Corners.{RefinedMesh}
 use Rattle.surface.specs.Net.{vertex, leaving, face, side0, end, X, Y, N, outer1, outer2, outer3, a1}
-use Rattle.surface.specs.Refined.{cornersOf}
+use Rattle.surface.specs.Refined.{refinedOf}
 use Rattle.examples.specs.Rows.{Row, _gives_, asNumbers}
 
 -- the cube of corners ±3, faces clockwise seen from outside; corner 0 is at (3,3,3) on z = 3 and leaves to (3,-3,3)
@@ -32,8 +33,8 @@ twoTetrahedra =
     (0 ∷ 1 ∷ 2 ∷ 0 ∷ 2 ∷ 3 ∷ 0 ∷ 3 ∷ 1 ∷ 1 ∷ 3 ∷ 2 ∷ 0 ∷ 4 ∷ 5 ∷ 0 ∷ 5 ∷ 6 ∷ 0 ∷ 6 ∷ 4 ∷ 4 ∷ 6 ∷ 5 ∷ [])
 
 -- a point: its three coordinates
-abbrev pub point : (Corners → ℤ) → List ℤ
-point f = f (cornersOf cube 0) ∷ f (cornersOf cube 1) ∷ f (cornersOf cube 2) ∷ []
+abbrev pub point : (RefinedMesh rounded → ℤ) → List ℤ
+point f = f (refinedOf rounded cube 0) ∷ f (refinedOf rounded cube 1) ∷ f (refinedOf rounded cube 2) ∷ []
 
 abbrev pub xyz : ℕ → ℕ → ℕ → List ℤ
 xyz x y z = pos x ∷ pos y ∷ pos z ∷ []
@@ -41,7 +42,7 @@ xyz x y z = pos x ∷ pos y ∷ pos z ∷ []
 unfoldable pub table : List Row
 table =
     -- the cube, at corner 0: refined point, three ends, and of side 0 face points, inner point, outer points and a01
-    (point (λ K. K .refined 0) gives xyz 384 384 768)
+    (point (λ K. K .point 0) gives xyz 384 384 768)
     ∷ (point (λ K. end K 0 vertex) gives xyz 512 512 512)
     ∷ (point (λ K. end K 0 leaving) gives xyz 576 0 576)
     ∷ (point (λ K. end K 0 face) gives xyz 0 0 768)

@@ -13,7 +13,7 @@ use lib.Signed.{ltZ-yes}
 use mir.Syntax.{w32, w64}
 use mir.Val.{SFits, ofZ, toZ}
 use mir.Facts.{toZ-ofZ}
-use Rattle.integers.specs.Sum.{sum}
+use Rattle.integers.specs.Sum.{sum, sumBy}
 use Rattle.integers.proofs.Diff.{diff}
 use Rattle.integers.proofs.Poly.{over, poly}
 use Rattle.integers.proofs.Laws.{abs-mul-le, abs-add-le, zero-add}
@@ -21,9 +21,10 @@ use Rattle.integers.proofs.Machine.{abs-fits}
 use Rattle.integers.proofs.Sum.{Cyclic, sum-same, sum-abs, cycle-one, sum-more, cycle}
 use Rattle.mesh.specs.Scan.{iterate}
 use Rattle.mesh.proofs.Rings.{iterate-suc}
+use Rattle.surface.specs.Numbers.{rounded}
 use Rattle.surface.specs.Face.{centre, weight, toward}
 use Rattle.surface.proofs.Rings.{iterate-in, iterate-round}
-use Rattle.surface.proofs.Faces.{weight-period}
+use Rattle.surface.proofs.Faces.{weight-period, toward-is}
 use Rattle.surface.proofs.Sizes.{weight-size, gather-size, centre-size, toward-size}
 use Rattle.rounding.specs.Round.{round}
 use Rattle.rounding.proofs.Laws.{round-scale}
@@ -183,11 +184,11 @@ module _ (points : List ℤ) (steps : List ℕ) (c m : ℕ) (r : Ring points ste
       → f .ahead ≡ round (sum (λ k. around points steps c k *ℤ weight m k) m) (pos (3 * 2 ^ 30) *ℤ pos m)
       → f .behind ≡ round (sum (λ k. around points steps c k *ℤ weight m (k + 1)) m) (pos (3 * 2 ^ 30) *ℤ pos m)
       → IsFace (around points steps c) m 0 (m - 1) f
-  unfolding centre toward
+  unfolding centre
   ring-is f e a b =
       let p = around points steps c in
-      let x : f .ahead ≡ toward p m 0 = a ∙ ap (λ (z : ℤ). round z (pos (3 * 2 ^ 30) *ℤ pos m)) (ahead-sum p m) in
-      let y : f .behind ≡ toward p m (m - 1) = b ∙ ap (λ (z : ℤ). round z (pos (3 * 2 ^ 30) *ℤ pos m)) (behind-sum p m (r .least) (cyclic points steps c m r)) in
+      let x : f .ahead ≡ toward rounded p m 0 = a ∙ ap (λ (z : ℤ). round z (pos (3 * 2 ^ 30) *ℤ pos m)) (ahead-sum p m) ∙ sym (toward-is p m 0) in
+      let y : f .behind ≡ toward rounded p m (m - 1) = b ∙ ap (λ (z : ℤ). round z (pos (3 * 2 ^ 30) *ℤ pos m)) (behind-sum p m (r .least) (cyclic points steps c m r)) ∙ sym (toward-is p m (m - 1)) in
       record {
         centre = e;
         ahead = x;
@@ -199,16 +200,17 @@ module _ (points : List ℤ) (steps : List ℕ) (c m : ℕ) (r : Ring points ste
 
 -- ---- a ring of three: its weights are 4, 4 and 1 times 2^30
 three : (f : ℕ → ℤ) → sum f 3 ≡ f 0 +ℤ f 1 +ℤ f 2
-unfolding sum
+unfolding sumBy
 three f = ap (λ (z : ℤ). z +ℤ f 1 +ℤ f 2) (zero-add (f 0))
 
 ninths : (a b c : ℤ) → a *ℤ pos 4294967296 +ℤ b *ℤ pos 4294967296 +ℤ c *ℤ pos 1073741824 ≡ pos (2 ^ 30) *ℤ (pos 4 *ℤ a +ℤ pos 4 *ℤ b +ℤ c)
 ninths = over 3 _ λ ρ. simp (poly, ρ) (omega arith)
 
-toward-three : (p : ℕ → ℤ) (i : ℕ) → toward p 3 i ≡ round (pos 4 *ℤ p (i + 0) +ℤ pos 4 *ℤ p (i + 1) +ℤ p (i + 2)) (pos 9)
-unfolding toward weight cosine table
+toward-three : (p : ℕ → ℤ) (i : ℕ) → toward rounded p 3 i ≡ round (pos 4 *ℤ p (i + 0) +ℤ pos 4 *ℤ p (i + 1) +ℤ p (i + 2)) (pos 9)
+unfolding weight cosine table
 toward-three p i =
-    ap (λ (z : ℤ). round z (pos 9663676416)) (three (λ k. p (i + k) *ℤ weight 3 k) ∙ ninths (p (i + 0)) (p (i + 1)) (p (i + 2)))
+    toward-is p 3 i
+    ∙ ap (λ (z : ℤ). round z (pos 9663676416)) (three (λ k. p (i + k) *ℤ weight 3 k) ∙ ninths (p (i + 0)) (p (i + 1)) (p (i + 2)))
     ∙ round-scale (pos (2 ^ 30)) (pos 4 *ℤ p (i + 0) +ℤ pos 4 *ℤ p (i + 1) +ℤ p (i + 2)) (pos 9) (ltZ-yes tt) (ltZ-yes tt)
 
 -- from the points v, w and x at c and at the corners d and e after it
@@ -227,9 +229,9 @@ module _ (points : List ℤ) (steps : List ℕ) (c : ℕ) (r : Ring points steps
       let p1 : p 1 ≡ w = turns .1 ∙ sym ew in
       let p2 : p 2 ≡ x = turns .2 ∙ sym ex in
       let cyc = cyclic points steps c 3 r in
-      let ce : g .centre ≡ centre p 3 = cc (ec, three p, p0, p1, p2) in
-      let ah : g .ahead ≡ toward p 3 0 = cc (ea, toward-three p 0, p0, p1, p2) in
-      let be : g .behind ≡ toward p 3 2 = cc (eb, toward-three p 2, cyc 0, cyc 1, p0, p1, p2) in
+      let ce : g .centre ≡ centre rounded p 3 = cc (ec, three p, p0, p1, p2) in
+      let ah : g .ahead ≡ toward rounded p 3 0 = cc (ea, toward-three p 0, p0, p1, p2) in
+      let be : g .behind ≡ toward rounded p 3 2 = cc (eb, toward-three p 2, cyc 0, cyc 1, p0, p1, p2) in
       let small-points = small points steps c 3 r in
       record {
         centre = ce;
@@ -242,19 +244,20 @@ module _ (points : List ℤ) (steps : List ℕ) (c : ℕ) (r : Ring points steps
 
 -- ---- a ring of four: its weights are 5, 5, 1 and 1 times 2^30
 four : (f : ℕ → ℤ) → sum f 4 ≡ f 0 +ℤ f 1 +ℤ f 2 +ℤ f 3
-unfolding sum
+unfolding sumBy
 four f = ap (λ (z : ℤ). z +ℤ f 1 +ℤ f 2 +ℤ f 3) (zero-add (f 0))
 
 exact : (a b c d : ℤ) → a *ℤ pos 5368709120 +ℤ b *ℤ pos 5368709120 +ℤ c *ℤ pos 1073741824 +ℤ d *ℤ pos 1073741824 ≡ pos (2 ^ 30) *ℤ (pos 5 *ℤ a +ℤ pos 5 *ℤ b +ℤ c +ℤ d)
 exact = over 4 _ λ ρ. simp (poly, ρ) (omega arith)
 
-pub toward-four : (p : ℕ → ℤ) (i : ℕ) → toward p 4 i ≡ round (pos 5 *ℤ p (i + 0) +ℤ pos 5 *ℤ p (i + 1) +ℤ p (i + 2) +ℤ p (i + 3)) (pos 12)
-unfolding toward weight cosine table
+pub toward-four : (p : ℕ → ℤ) (i : ℕ) → toward rounded p 4 i ≡ round (pos 5 *ℤ p (i + 0) +ℤ pos 5 *ℤ p (i + 1) +ℤ p (i + 2) +ℤ p (i + 3)) (pos 12)
+unfolding weight cosine table
 toward-four p i =
-    ap (λ (z : ℤ). round z (pos 12884901888)) (four (λ k. p (i + k) *ℤ weight 4 k) ∙ exact (p (i + 0)) (p (i + 1)) (p (i + 2)) (p (i + 3)))
+    toward-is p 4 i
+    ∙ ap (λ (z : ℤ). round z (pos 12884901888)) (four (λ k. p (i + k) *ℤ weight 4 k) ∙ exact (p (i + 0)) (p (i + 1)) (p (i + 2)) (p (i + 3)))
     ∙ round-scale (pos (2 ^ 30)) (pos 5 *ℤ p (i + 0) +ℤ pos 5 *ℤ p (i + 1) +ℤ p (i + 2) +ℤ p (i + 3)) (pos 12) (ltZ-yes tt) (ltZ-yes tt)
 
-pub centre-four : (p : ℕ → ℤ) → Cyclic p 4 → (i : ℕ) → centre p 4 ≡ round (p (0 + i) +ℤ p (1 + i) +ℤ p (2 + i) +ℤ p (3 + i)) (pos 4)
+pub centre-four : (p : ℕ → ℤ) → Cyclic p 4 → (i : ℕ) → centre rounded p 4 ≡ round (p (0 + i) +ℤ p (1 + i) +ℤ p (2 + i) +ℤ p (3 + i)) (pos 4)
 unfolding centre
 centre-four p cyc i = ap (λ (z : ℤ). round z (pos 4)) (sym (cycle p 4 cyc i) ∙ four (λ j. p (j + i)))
 

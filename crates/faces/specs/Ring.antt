@@ -12,6 +12,7 @@ use Rattle.rounding.specs.Round.{round}
 use Rattle.mesh.specs.Limits.{leastSides, mostSides}
 use Rattle.mesh.specs.Scan.{iterate}
 use Rattle.formulas.specs.Sizes.{Corner, FacePoint}
+use Rattle.surface.specs.Numbers.{rounded}
 use Rattle.surface.specs.Face.{centre, weight, toward}
 use Rattle.faces.specs.declared.Sums.{Sums}
 use Rattle.faces.specs.declared.Face.{Face}
@@ -53,11 +54,11 @@ pub record Divided (s : Sums) (m w : ℤ) (r : Face) : Type 0 where
   pub ahead : r .ahead ≡ round (s .ahead) w
   pub behind : r .behind ≡ round (s .behind) w
 
--- centre and face points towards the side from place i to the next, and towards the side from place j
+-- centre rounded and face points towards the side from place i to the next, and towards the side from place j
 pub record IsFace (p : ℕ → ℤ) (m i j : ℕ) (r : Face) : Type 0 where
-  pub centre : r .centre ≡ centre p m
-  pub ahead : r .ahead ≡ toward p m i
-  pub behind : r .behind ≡ toward p m j
+  pub centre : r .centre ≡ centre rounded p m
+  pub ahead : r .ahead ≡ toward rounded p m i
+  pub behind : r .behind ≡ toward rounded p m j
   pub centre-size : Corner (r .centre)
   pub ahead-size : FacePoint (r .ahead)
   pub behind-size : FacePoint (r .behind)

@@ -5,14 +5,15 @@ use mathlib.Core.List.{List}
 use Prim.Native.Nat.{ℕ}
 use lib.IntN.{ℤ}
 use Rattle.formulas.specs.Sizes.{Written}
-use Rattle.surface.specs.Corners.{Corners}
+use Rattle.surface.specs.Numbers.{rounded}
+use Rattle.surface.specs.Corners.{RefinedMesh}
 use Rattle.surface.specs.Net.{Side, side0, side1, side2, side3, atHead, atTail, opposite, H, T, outer1, outer2, outer3, a1, a2, middle, bGrid, aGrid}
 use Rattle.sides.specs.declared.SideValues.{SideValues}
 use Rattle.sides.specs.Values.{IsSide}
 use Rattle.grids.specs.declared.RowValues.{RowValues}
 
 -- the outer row's second, third and fourth point, the a row's second and third, and the middle
-pub record IsRows (K : Corners) (c : ℕ) (s : Side) (r : RowValues) : Type 0 where
+pub record IsRows (K : RefinedMesh rounded) (c : ℕ) (s : Side) (r : RowValues) : Type 0 where
   pub outer1 : r .outer1 ≡ outer1 K c s
   pub outer2 : r .outer2 ≡ outer2 K c s
   pub outer3 : r .outer3 ≡ outer3 K c s
@@ -30,12 +31,12 @@ pub record RowsSized (r : RowValues) : Type 0 where
 
 -- the rows of the side whose values are f, for whichever net: g and l are the other sides at its head and tail, o is the opposite one
 pub record RowsOf (f g l o : SideValues) (r : RowValues) : Type 0 where
-  pub rows : (K : Corners) (c : ℕ) (s : Side)
+  pub rows : (K : RefinedMesh rounded) (c : ℕ) (s : Side)
       → IsSide K c s f → IsSide K c (atHead s) g → IsSide K c (atTail s) l → IsSide K c (opposite s) o → IsRows K c s r
   pub sized : RowsSized r
 
 -- the four sides' rows
-pub record AllRows (K : Corners) (c : ℕ) (r0 r1 r2 r3 : RowValues) : Type 0 where
+pub record AllRows (K : RefinedMesh rounded) (c : ℕ) (r0 r1 r2 r3 : RowValues) : Type 0 where
   pub rows0 : IsRows K c side0 r0
   pub rows1 : IsRows K c side1 r1
   pub rows2 : IsRows K c side2 r2
@@ -49,10 +50,10 @@ pub record AllSized (r0 r1 r2 r3 : RowValues) : Type 0 where
 
 -- the four rows of four a points of whichever net has these rows
 pub record IsAGrid (r0 r1 r2 r3 : RowValues) (g : List (List ℤ)) : Type 0 where
-  pub grid : (K : Corners) (c : ℕ) → AllRows K c r0 r1 r2 r3 → g ≡ aGrid K c
+  pub grid : (K : RefinedMesh rounded) (c : ℕ) → AllRows K c r0 r1 r2 r3 → g ≡ aGrid K c
 
 -- the ends, corner by corner of the grid
-pub record Ends (K : Corners) (c : ℕ) (e0 e1 e2 e3 : ℤ) : Type 0 where
+pub record Ends (K : RefinedMesh rounded) (c : ℕ) (e0 e1 e2 e3 : ℤ) : Type 0 where
   pub end0 : e0 ≡ H K c side0
   pub end1 : e1 ≡ T K c side0
   pub end2 : e2 ≡ H K c side2
@@ -60,4 +61,4 @@ pub record Ends (K : Corners) (c : ℕ) (e0 e1 e2 e3 : ℤ) : Type 0 where
 
 -- the five rows of five b points of whichever net has these ends and rows, and this grid of a points
 pub record IsBGrid (e0 e1 e2 e3 : ℤ) (r0 r1 r2 r3 : RowValues) (a g : List (List ℤ)) : Type 0 where
-  pub grid : (K : Corners) (c : ℕ) → Ends K c e0 e1 e2 e3 → AllRows K c r0 r1 r2 r3 → a ≡ aGrid K c → g ≡ bGrid K c
+  pub grid : (K : RefinedMesh rounded) (c : ℕ) → Ends K c e0 e1 e2 e3 → AllRows K c r0 r1 r2 r3 → a ≡ aGrid K c → g ≡ bGrid K c

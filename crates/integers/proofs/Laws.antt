@@ -15,6 +15,9 @@ use Rattle.integers.proofs.Poly.{over, poly}
 pub add-comm : (a b : ℤ) → a +ℤ b ≡ b +ℤ a
 add-comm = over 2 _ λ ρ. simp poly (omega arith)
 
+pub mul-comm : (a b : ℤ) → a *ℤ b ≡ b *ℤ a
+mul-comm = over 2 _ λ ρ. simp poly (omega arith)
+
 pub zero-add : (a : ℤ) → pos 0 +ℤ a ≡ a
 zero-add = over 1 _ λ ρ. simp (poly, ρ) (omega arith)
 

@@ -5,16 +5,16 @@ use Prim.Native.Nat.{ℕ, zero, suc, _+_, _*_, _≤_, _<_}
 use native.Mathlib.Numerals.{add-one}
 use native.Mathlib.Omega.{arith}
 use lib.IntN.{ℤ, pos, _+ℤ_, natAbs}
-use Rattle.integers.specs.Sum.{sum}
+use Rattle.integers.specs.Sum.{sum, sumBy}
 use Rattle.integers.proofs.Poly.{over, poly}
 use Rattle.integers.proofs.Laws.{abs-add-le}
 
 pub sum-zero : (f : ℕ → ℤ) → sum f 0 ≡ pos 0
-unfolding sum
+unfolding sumBy
 sum-zero f = refl
 
 pub sum-suc : (f : ℕ → ℤ) (n : ℕ) → sum f (suc n) ≡ sum f n +ℤ f n
-unfolding sum
+unfolding sumBy
 sum-suc f n = refl
 
 -- one more turn, as a loop counts
@@ -23,13 +23,13 @@ sum-more f n = rw add-one (sum-suc f n)
 
 -- two functions that agree below n have one sum
 pub sum-same : (f g : ℕ → ℤ) (n : ℕ) → ((j : ℕ) → j < n → f j ≡ g j) → sum f n ≡ sum g n
-unfolding sum
+unfolding sumBy
 sum-same f g zero h = refl
 sum-same f g (suc n) h = cc (sum-same f g n (λ j l. h j (omega arith)), h n (omega arith))
 
 -- ---- sizes
 pub sum-abs : (f : ℕ → ℤ) (n B : ℕ) → ((j : ℕ) → j < n → natAbs (f j) ≤ B) → natAbs (sum f n) ≤ n * B
-unfolding sum
+unfolding sumBy
 sum-abs f zero B h = omega arith
 sum-abs f (suc n) B h =
     let r = abs-add-le (sum f n) (f n) (n * B) B (sum-abs f n B (λ j l. h j (omega arith))) (h n (omega arith)) in
@@ -38,7 +38,7 @@ sum-abs f (suc n) B h =
 -- ---- a sum over a cycle: one step along leaves it as it is
 -- the sum from 1 is the sum from 0 with its ends changed
 pub sum-shift : (f : ℕ → ℤ) (n : ℕ) → sum (λ j. f (j + 1)) n +ℤ f 0 ≡ sum f n +ℤ f n
-unfolding sum
+unfolding sumBy
 sum-shift f zero = refl
 sum-shift f (suc n) = ends (sum (λ j. f (j + 1)) n) (f 0) (sum f n) (f n) (f (suc n)) (f (n + 1)) (sum-shift f n) (ap f (add-one n))
   where

@@ -3,7 +3,11 @@
 use Prim.Native.Nat.{ℕ, zero, suc}
 use lib.IntN.{ℤ, pos, _+ℤ_}
 
--- f 0 + .. + f (n - 1)
-unfoldable pub sum : (ℕ → ℤ) → ℕ → ℤ
-sum f zero = pos 0
-sum f (suc n) = sum f n +ℤ f n
+-- f 0 + .. + f (n - 1), for any sum and what it starts from
+unfoldable pub sumBy : {A : Type 0} → (A → A → A) → A → (ℕ → A) → ℕ → A
+sumBy plus none f zero = none
+sumBy plus none f (suc n) = plus (sumBy plus none f n) (f n)
+
+-- of whole numbers
+abbrev pub sum : (ℕ → ℤ) → ℕ → ℤ
+sum = sumBy _+ℤ_ (pos 0)

@@ -16,7 +16,8 @@ use mir.Facts.{toZ-ofZ}
 use Rattle.integers.proofs.Machine.{abs-fits}
 use Rattle.formulas.specs.Sizes.{Written}
 use Rattle.faces.proofs.Laws.{plain}
-use Rattle.surface.specs.Corners.{Corners, Sound}
+use Rattle.surface.specs.Numbers.{rounded}
+use Rattle.surface.specs.Corners.{Sound, RefinedMesh, Small}
 use Rattle.surface.specs.Net.{side0, side1, side2, side3, net, rows, bGrid, aGrid}
 use Rattle.surface.proofs.Sizes.{net-size}
 use Rattle.sides.specs.declared.NetSides.{NetSides}
@@ -115,7 +116,7 @@ rows-at (r ∷ g) n h (suc i) j l m =
     next s n i j e = omega arith
 
 -- ---- the net: its b grid, then its a grid
-pub put-is : (K : Corners) (c axis at : ℕ) (old mid new : List ℤ) → Placed old mid (at + axis) (rows (bGrid K c)) → Placed mid new (at + axis + 75) (rows (aGrid K c))
+pub put-is : (K : RefinedMesh rounded) (c axis at : ℕ) (old mid new : List ℤ) → Placed old mid (at + axis) (rows (bGrid K c)) → Placed mid new (at + axis + 75) (rows (aGrid K c))
     → Put K c axis at old new
 unfolding net bGrid aGrid
 put-is K c axis at old mid new p q =
@@ -136,7 +137,7 @@ number z h =
     rw e (f, toZ-ofZ f)
 
 -- ---- the grids of a corner, as the calls give them
-module _ (K : Corners) (c : ℕ) (n : NetSides) (f : FourSides K c n) (r0 r1 r2 r3 : RowValues)
+module _ (K : RefinedMesh rounded) (c : ℕ) (n : NetSides) (f : FourSides K c n) (r0 r1 r2 r3 : RowValues)
     (o0 : RowsOf (n .side0) (n .side3) (n .side1) (n .side2) r0) (o1 : RowsOf (n .side1) (n .side2) (n .side0) (n .side3) r1)
     (o2 : RowsOf (n .side2) (n .side1) (n .side3) (n .side0) r2) (o3 : RowsOf (n .side3) (n .side0) (n .side2) (n .side1) r3) where
   pub all-sized : AllSized r0 r1 r2 r3
@@ -171,7 +172,7 @@ module _ (K : Corners) (c : ℕ) (n : NetSides) (f : FourSides K c n) (r0 r1 r2 
       all-rows (a-is a ha)
 
 -- ---- their shape and the sizes of their numbers
-b-long : (K : Corners) (c i : ℕ) → i < 5 → length (getD (bGrid K c) i []) ≡ 5
+b-long : (K : RefinedMesh rounded) (c i : ℕ) → i < 5 → length (getD (bGrid K c) i []) ≡ 5
 unfolding bGrid
 b-long K c zero h = refl
 b-long K c (suc zero) h = refl
@@ -180,7 +181,7 @@ b-long K c (suc (suc (suc zero))) h = refl
 b-long K c (suc (suc (suc (suc zero)))) h = refl
 b-long K c (suc (suc (suc (suc (suc i))))) h = absurd (omega arith)
 
-a-long : (K : Corners) (c i : ℕ) → i < 4 → length (getD (aGrid K c) i []) ≡ 4
+a-long : (K : RefinedMesh rounded) (c i : ℕ) → i < 4 → length (getD (aGrid K c) i []) ≡ 4
 unfolding aGrid
 a-long K c zero h = refl
 a-long K c (suc zero) h = refl
@@ -188,18 +189,18 @@ a-long K c (suc (suc zero)) h = refl
 a-long K c (suc (suc (suc zero))) h = refl
 a-long K c (suc (suc (suc (suc i)))) h = absurd (omega arith)
 
-module _ (K : Corners) (ok : Sound K) (c : ℕ) (here : c < K .count) where
+module _ (K : RefinedMesh rounded) (ok : Sound (K .corners)) (small : Small K) (c : ℕ) (here : c < K .corners .count) where
   b-written : (i j : ℕ) → i < 5 → j < 5 → Written (getD (getD (bGrid K c) i []) j (pos 0))
   unfolding net bGrid
   b-written i j l m =
       rw (← rows-at (bGrid K c) 5 (λ i h. b-long K c i h) i j l m, ← List·getD-append (rows (bGrid K c)) (rows (aGrid K c)) (pos 0) (5 * i + j) (omega arith))
-      (net-size K ok c here (5 * i + j))
+      (net-size K ok small c here (5 * i + j))
 
   a-written : (i j : ℕ) → i < 4 → j < 4 → Written (getD (getD (aGrid K c) i []) j (pos 0))
   unfolding net bGrid aGrid
   a-written i j l m =
       rw (← rows-at (aGrid K c) 4 (λ i h. a-long K c i h) i j l m, ← getD-append-add (rows (bGrid K c)) (rows (aGrid K c)) (4 * i + j) (pos 0))
-      (net-size K ok c here (25 + (4 * i + j)))
+      (net-size K ok small c here (25 + (4 * i + j)))
 
   -- of lists that are these grids
   pub b-fine : (b : List (List ℤ)) → b ≡ bGrid K c

@@ -5,7 +5,8 @@ use mathlib.Core.List.{List}
 use Prim.Native.Nat.{ℕ, _+_, _*_, _<_}
 use lib.ListN.{length, getD}
 use lib.IntN.{ℤ, pos}
-use Rattle.surface.specs.Corners.{Corners}
+use Rattle.surface.specs.Numbers.{rounded}
+use Rattle.surface.specs.Corners.{RefinedMesh}
 use Rattle.surface.specs.Net.{net}
 
 -- every third number from `from` on, as many as there are points, is a point's; the others are as before
@@ -15,6 +16,6 @@ pub record Placed (old new : List ℤ) (from : ℕ) (points : List ℤ) : Type 0
   pub others : (i : ℕ) → ((p : ℕ) → p < length points → i ≡ from + 3 * p → ⊥) → getD new i (pos 0) ≡ getD old i (pos 0)
 
 -- the 41 points of the net of c on an axis, from the place `at` of the output on
-pub record Put (K : Corners) (c axis at : ℕ) (old new : List ℤ) : Type 0 where
+pub record Put (K : RefinedMesh rounded) (c axis at : ℕ) (old new : List ℤ) : Type 0 where
   pub points-are : (p : ℕ) → p < 41 → getD new (at + 3 * p + axis) (pos 0) ≡ getD (net K c) p (pos 0)
   pub others : (i : ℕ) → ((p : ℕ) → p < 41 → i ≡ at + 3 * p + axis → ⊥) → getD new i (pos 0) ≡ getD old i (pos 0)

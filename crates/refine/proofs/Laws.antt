@@ -26,6 +26,7 @@ use Rattle.mesh.specs.Corners.{sumOf, startOf, faceOf, sidesOf, next, previous}
 use Rattle.mesh.specs.Links.{vertexOf}
 use Rattle.mesh.proofs.Scans.{ways, compared}
 use Rattle.mesh.proofs.Faces.{face-at, start-zero, start-next, start-ends, next-below, previous-below}
+use Rattle.surface.specs.Numbers.{rounded}
 use Rattle.surface.specs.Refined.{ticks, faceSum, refinedPoint}
 use Rattle.surface.proofs.Hull.{point-size}
 use Rattle.refine.specs.Sources.{Placed, Refinable, Ticks, Small, Pointed, Added}
@@ -104,7 +105,7 @@ module _ (M : Mesh) (R : Refinable M) (f : ℕ) (l : f < faceCount M) where
   end-in = omega (arith, start-ends (M .sides) f l, R .sums)
 
   refined-is : (axis c : ℕ) → faceOf (M .sides) c ≡ f
-      → refinedPoint M axis c
+      → refinedPoint rounded M axis c
       ≡ round
       (eightfold (sum (λ j. ticks M axis (startOf (M .sides) f + j)) (getD (M .sides) f 0)) (ticks M axis (previous (M .sides) c)) (ticks M axis c) (ticks M axis (next (M .sides) c)) (getD (M .sides) f 0))
       (pos 8 *ℤ pos (getD (M .sides) f 0))
@@ -131,7 +132,7 @@ module _ (M : Mesh) (R : Refinable M) (f : ℕ) (l : f < faceCount M) where
           after-size = rw (eA, eq) (size-at (next (M .sides) c) (next-below (M .sides) c inside));
         }
 
-    pub point-is : round (eightfold T B H A (getD (M .sides) f 0)) (pos 8 *ℤ pos (getD (M .sides) f 0)) ≡ refinedPoint M axis c
+    pub point-is : round (eightfold T B H A (getD (M .sides) f 0)) (pos 8 *ℤ pos (getD (M .sides) f 0)) ≡ refinedPoint rounded M axis c
     point-is = rw (eT, eB, eH, eA, ep, eq, e) (sym (refined-is axis c (face-at (M .sides) f c (omega arith) (omega arith) l)))
 
 -- ---- the table of refined points
@@ -150,7 +151,7 @@ module _ (M : Mesh) (axis start : ℕ) where
 
   -- one point more
   pub added-set : (end : ℕ) (old new : List ℤ) (v : ℤ) → Added M axis start end old new → start ≤ end → end < length new
-      → v ≡ refinedPoint M axis end → natAbs v ≤ 2 ^ 24 → Added M axis start (end + 1) old (set new end v)
+      → v ≡ refinedPoint rounded M axis end → natAbs v ≤ 2 ^ 24 → Added M axis start (end + 1) old (set new end v)
   added-set end old new v h a b e s =
       record {
         points-are = λ c l m. ⊎-elim

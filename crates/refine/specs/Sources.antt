@@ -9,6 +9,7 @@ use Rattle.mesh.specs.Limits.{leastSides, mostSides, mostCoordinate}
 use Rattle.mesh.specs.Lists.{Mesh, cornerCount}
 use Rattle.mesh.specs.Corners.{sumOf, faceOf, next, previous}
 use Rattle.mesh.specs.Tables.{Named}
+use Rattle.surface.specs.Numbers.{rounded}
 use Rattle.surface.specs.Refined.{refinedPoint}
 use Rattle.corner_tables.specs.Tables.{Filled, Faces}
 
@@ -45,11 +46,11 @@ Small points = (c : ℕ) → natAbs (getD points c (pos 0)) ≤ 2 ^ 24
 
 -- the refined points of the corners below n whose face has a nonzero entry in `wanted`
 pub record Pointed (M : Mesh) (axis : ℕ) (wanted : List ℕ) (points : List ℤ) (n : ℕ) : Type 0 where
-  pub points-are : (c : ℕ) → c < n → 0 < getD wanted (faceOf (M .sides) c) 0 → getD points c (pos 0) ≡ refinedPoint M axis c
+  pub points-are : (c : ℕ) → c < n → 0 < getD wanted (faceOf (M .sides) c) 0 → getD points c (pos 0) ≡ refinedPoint rounded M axis c
   pub small : Small points
 
 -- the refined points of the corners from `start` to before `end` are put into the table, and those before are kept
 pub record Added (M : Mesh) (axis start end : ℕ) (old new : List ℤ) : Type 0 where
-  pub points-are : (c : ℕ) → start ≤ c → c < end → getD new c (pos 0) ≡ refinedPoint M axis c
+  pub points-are : (c : ℕ) → start ≤ c → c < end → getD new c (pos 0) ≡ refinedPoint rounded M axis c
   pub others : (c : ℕ) → c < start → getD new c (pos 0) ≡ getD old c (pos 0)
   pub small : Small new

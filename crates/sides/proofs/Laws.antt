@@ -17,7 +17,8 @@ use Rattle.formulas.specs.Sizes.{Corner, FacePoint, Row}
 use Rattle.faces.specs.Ring.{around, Ring, IsFace, IsEdgeFace}
 use Rattle.faces.specs.declared.Face.{Face}
 use Rattle.faces.proofs.Laws.{plain}
-use Rattle.surface.specs.Corners.{Corners, Sound}
+use Rattle.surface.specs.Numbers.{rounded}
+use Rattle.surface.specs.Corners.{Sound, RefinedMesh, Small}
 use Rattle.surface.specs.Face.{centre}
 use Rattle.surface.specs.Net.{leaving, arriving, Side, side0, side1, side2, side3, neighbour, quad, points, H, T, X, Y, N, C}
 use Rattle.surface.proofs.Rings.{points-cyclic, neighbour-in}
@@ -48,7 +49,7 @@ edge-plain a b c d A B C D f ea eb ec ed fc fa fb i =
 -- ---- the faces
 module _ (count : ℕ) (nexts previouses links sides valences : List ℕ) (ticks : List ℤ) (c : ℕ)
     (t : Tables count nexts previouses links sides valences ticks c) where
-  abbrev pub K : Corners
+  abbrev pub K : RefinedMesh rounded
   K = tabled count nexts previouses links sides valences ticks
 
   pub reach : Reach nexts previouses links ticks c
@@ -62,7 +63,7 @@ module _ (count : ℕ) (nexts previouses links sides valences : List ℕ) (ticks
     next-in = t .sound .next-in;
     previous-in = t .sound .previous-in;
     link-in = t .sound .link-in;
-    point-size = t .sound .refined-size;
+    point-size = t .small;
   }
 
   pub vertex-ring : (m : ℕ) → m ≡ getD valences c 0 → Ring ticks links c m
@@ -72,7 +73,7 @@ module _ (count : ℕ) (nexts previouses links sides valences : List ℕ) (ticks
     points-hold = t .points-hold;
     steps-hold = t .links-hold;
     step-in = t .sound .link-in;
-    point-size = t .sound .refined-size;
+    point-size = t .small;
     closes = t .sound .vertex-closes c (t .here);
     least = t .sound .valence-least c (t .here);
     most = t .sound .valence-most c (t .here);
@@ -85,7 +86,7 @@ module _ (count : ℕ) (nexts previouses links sides valences : List ℕ) (ticks
     points-hold = t .points-hold;
     steps-hold = t .nexts-hold;
     step-in = t .sound .next-in;
-    point-size = t .sound .refined-size;
+    point-size = t .small;
     closes = t .sound .face-closes c (t .here);
     least = t .sound .sides-least c (t .here);
     most = t .sound .sides-most c (t .here);
@@ -123,13 +124,13 @@ module _ (count : ℕ) (nexts previouses links sides valences : List ℕ) (ticks
       zero k = omega arith
 
 -- ---- a side from its parts
-pub record Parts (K : Corners) (c : ℕ) (s : Side) (h t p q v w k : ℤ) : Type 0 where
+pub record Parts (K : RefinedMesh rounded) (c : ℕ) (s : Side) (h t p q v w k : ℤ) : Type 0 where
   pub head : h ≡ H K c s
   pub tail : t ≡ T K c s
   pub x : p ≡ X K c s
   pub y : q ≡ Y K c s
-  pub here : v ≡ K .refined c
-  pub there : w ≡ K .refined (neighbour K c s)
+  pub here : v ≡ K .point c
+  pub there : w ≡ K .point (neighbour (K .corners) c s)
   pub cosine : k ≡ C K c s
 
 pub corner-plain : (z y : ℤ) → z ≡ y → Corner y → (plain z ≡ y) × Corner (plain z)
@@ -144,30 +145,30 @@ row-plain z y e h = let f = ap plain e ∙ toZ-ofZ (fits y h) in (f, rw f h)
     fits : (y : ℤ) → Row y → SFits w64 y
     fits = over 1 _ λ ρ. simp (poly, ρ) (omega arith)
 
-module _ (K : Corners) (ok : Sound K) (c : ℕ) (here : c < K .count) (s : Side) (h t p q v w k : ℤ) (e : Parts K c s h t p q v w k) where
+module _ (K : RefinedMesh rounded) (ok : Sound (K .corners)) (small : Small K) (c : ℕ) (here : c < K .corners .count) (s : Side) (h t p q v w k : ℤ) (e : Parts K c s h t p q v w k) where
   row : Row (C K c s)
-  row = (C-bottom K ok c here s, top (C K c s) (C-size K ok c here s))
+  row = (C-bottom K ok small c here s, top (C K c s) (C-size K ok small c here s))
     where
       top : (z : ℤ) → natAbs z ≤ 2 ^ 30 → z ≤ℤ pos (2 ^ 30)
       top = over 1 _ λ ρ. simp (poly, ρ) (omega arith)
 
   head′ : (plain h ≡ H K c s) × Corner (plain h)
-  head′ = corner-plain h (H K c s) (e .head) (H-size K ok c here s)
+  head′ = corner-plain h (H K c s) (e .head) (H-size K ok small c here s)
 
   tail′ : (plain t ≡ T K c s) × Corner (plain t)
-  tail′ = corner-plain t (T K c s) (e .tail) (T-size K ok c here s)
+  tail′ = corner-plain t (T K c s) (e .tail) (T-size K ok small c here s)
 
   x′ : (plain p ≡ X K c s) × FacePoint (plain p)
-  x′ = point-plain p (X K c s) (e .x) (X-size K ok c here s)
+  x′ = point-plain p (X K c s) (e .x) (X-size K ok small c here s)
 
   y′ : (plain q ≡ Y K c s) × FacePoint (plain q)
-  y′ = point-plain q (Y K c s) (e .y) (Y-size K ok c here s)
+  y′ = point-plain q (Y K c s) (e .y) (Y-size K ok small c here s)
 
-  here′ : (plain v ≡ K .refined c) × Corner (plain v)
-  here′ = corner-plain v (K .refined c) (e .here) (ok .refined-size c here)
+  here′ : (plain v ≡ K .point c) × Corner (plain v)
+  here′ = corner-plain v (K .point c) (e .here) (small c here)
 
-  there′ : (plain w ≡ K .refined (neighbour K c s)) × Corner (plain w)
-  there′ = corner-plain w (K .refined (neighbour K c s)) (e .there) (ok .refined-size (neighbour K c s) (neighbour-in K ok c here s))
+  there′ : (plain w ≡ K .point (neighbour (K .corners) c s)) × Corner (plain w)
+  there′ = corner-plain w (K .point (neighbour (K .corners) c s)) (e .there) (small (neighbour (K .corners) c s) (neighbour-in (K .corners) ok c here s))
 
   cosine′ : (plain k ≡ C K c s) × Row (plain k)
   cosine′ = row-plain k (C K c s) (e .cosine) row

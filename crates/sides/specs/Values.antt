@@ -8,7 +8,8 @@ use lib.IntN.{ℤ, pos, _+ℤ_, _-ℤ_, _*ℤ_}
 use Rattle.rounding.specs.Round.{round}
 use Rattle.formulas.specs.Sizes.{Value, Row}
 use Rattle.faces.specs.Ring.{IsEdgeFace}
-use Rattle.surface.specs.Corners.{Corners}
+use Rattle.surface.specs.Numbers.{rounded}
+use Rattle.surface.specs.Corners.{RefinedMesh}
 use Rattle.surface.specs.Net.{Side, side0, side1, side2, side3, H, T, X, Y, N, C}
 use Rattle.sides.specs.declared.Edge.{Edge}
 use Rattle.sides.specs.declared.SideValues.{SideValues}
@@ -23,7 +24,7 @@ pub record Through (ticks : List ℤ) (a b c d : ℕ) (r : Edge) : Type 0 where
   pub before : r .before ≡ getD ticks d (pos 0)
 
 -- H, T, X, Y, N and C of a side
-pub record IsSide (K : Corners) (c : ℕ) (s : Side) (r : SideValues) : Type 0 where
+pub record IsSide (K : RefinedMesh rounded) (c : ℕ) (s : Side) (r : SideValues) : Type 0 where
   pub head : r .head ≡ H K c s
   pub tail : r .tail ≡ T K c s
   pub x : r .x ≡ X K c s
@@ -50,7 +51,7 @@ pub record Made (h t p q v w k : ℤ) (r : SideValues) : Type 0 where
   pub sized : Sized r
 
 -- all four
-pub record FourSides (K : Corners) (c : ℕ) (r : NetSides) : Type 0 where
+pub record FourSides (K : RefinedMesh rounded) (c : ℕ) (r : NetSides) : Type 0 where
   pub side0 : IsSide K c side0 (r .side0) × Sized (r .side0)
   pub side1 : IsSide K c side1 (r .side1) × Sized (r .side1)
   pub side2 : IsSide K c side2 (r .side2) × Sized (r .side2)

@@ -2,14 +2,15 @@
 -- the construction looks at no others. The laws of one hold of the other.
 -- Assumes nothing.
 use mathlib.Core.Path.{_≡_, refl, sym, ap, _∙_}
-use Prim.Native.Nat.{ℕ, zero, suc, _+_, _-_, _^_, _≤_, _<_}
+use Prim.Native.Nat.{ℕ, zero, suc, _+_, _-_, _<_}
 use native.Mathlib.Omega.{arith}
-use lib.IntN.{ℤ, pos, natAbs}
+use lib.IntN.{ℤ, pos}
 use Rattle.integers.proofs.Sum.{sum-same}
 use Rattle.rounding.specs.Round.{round}
 use Rattle.cosines.specs.Table.{cosine}
 use Rattle.mesh.specs.Scan.{iterate}
-use Rattle.surface.specs.Corners.{Corners, Sound, Agree}
+use Rattle.surface.specs.Numbers.{rounded}
+use Rattle.surface.specs.Corners.{Corners, Sound, Agree, RefinedMesh}
 use Rattle.surface.specs.Face.{centre, toward}
 use Rattle.surface.specs.Net.{End, vertex, leaving, face, arriving, Side, side0, side1, side2, side3, head, tail, neighbour, quad, size, ring, points, headPlace, H, T, X, Y, N, C, outer1, outer2, outer3, a0, a1, a2, a3, middle, bHead, bTail, aHead, aTail, b22, bGrid, aGrid, net}
 use Rattle.surface.proofs.Rings.{iterate-in}
@@ -21,12 +22,12 @@ unfolding iterate
 iterate-same f g n h e zero c l = refl
 iterate-same f g n h e (suc j) c l = e (iterate j f c) (iterate-in f n h j c l) ∙ ap g (iterate-same f g n h e j c l)
 
-centre-equal : (p q : ℕ → ℤ) (m n : ℕ) → m ≡ n → ((j : ℕ) → p j ≡ q j) → centre p m ≡ centre q n
+centre-equal : (p q : ℕ → ℤ) (m n : ℕ) → m ≡ n → ((j : ℕ) → p j ≡ q j) → centre rounded p m ≡ centre rounded q n
 unfolding centre
-centre-equal p q m n e h = ap (λ (z : ℤ). round z (pos m)) (sum-same p q m (λ j l. h j)) ∙ ap (centre q) e
+centre-equal p q m n e h = ap (λ (z : ℤ). round z (pos m)) (sum-same p q m (λ j l. h j)) ∙ ap (centre rounded q) e
 
-toward-equal : (p q : ℕ → ℤ) (m n i j : ℕ) → m ≡ n → i ≡ j → ((j : ℕ) → p j ≡ q j) → toward p m i ≡ toward q n j
-toward-equal p q m n i j e d h = toward-same p q m i i (λ k l. h (i + k)) ∙ ap (toward q m) d ∙ ap (λ (x : ℕ). toward q x j) e
+toward-equal : (p q : ℕ → ℤ) (m n i j : ℕ) → m ≡ n → i ≡ j → ((j : ℕ) → p j ≡ q j) → toward rounded p m i ≡ toward rounded q n j
+toward-equal p q m n i j e d h = toward-same p q m i i (λ k l. h (i + k)) ∙ ap (toward rounded q m) d ∙ ap (λ (x : ℕ). toward rounded q x j) e
 
 module _ (K L : Corners) (same : Agree K L) (ok : Sound K) where
   -- ---- two steps, and the face of a leaving edge
@@ -66,17 +67,17 @@ module _ (K L : Corners) (same : Agree K L) (ok : Sound K) (c : ℕ) (here : c <
   neighbour-same side3 = previous-link K L same ok (K .previous c) before ∙ ap (λ (d : ℕ). L .previous (L .link d)) (same .previous c here)
 
 -- ---- of a side, where the refined points in the rings are the same
-module _ (K L : Corners) (same : Agree K L) (ok : Sound K) (c : ℕ) (here : c < K .count)
-    (near : (e : End) (j : ℕ) → K .refined (ring K c e j) ≡ L .refined (ring K c e j)) where
+module _ (K L : RefinedMesh rounded) (same : Agree (K .corners) (L .corners)) (ok : Sound (K .corners)) (c : ℕ) (here : c < K .corners .count)
+    (near : (e : End) (j : ℕ) → K .point (ring (K .corners) c e j) ≡ L .point (ring (K .corners) c e j)) where
   points-same : (e : End) (j : ℕ) → points K c e j ≡ points L c e j
-  points-same e j = near e j ∙ ap (L .refined) (ring-same K L same ok c here e j)
+  points-same e j = near e j ∙ ap (L .point) (ring-same (K .corners) (L .corners) same ok c here e j)
 
   -- the corner and its neighbours are places of its rings
-  own : K .refined c ≡ L .refined c
+  own : K .point c ≡ L .point c
   unfolding iterate
   own = near vertex 0
 
-  beside : (s : Side) → K .refined (neighbour K c s) ≡ L .refined (neighbour K c s)
+  beside : (s : Side) → K .point (neighbour (K .corners) c s) ≡ L .point (neighbour (K .corners) c s)
   unfolding iterate quad
   beside side0 = near vertex 1
   beside side1 = near face 1
@@ -85,30 +86,30 @@ module _ (K L : Corners) (same : Agree K L) (ok : Sound K) (c : ℕ) (here : c <
 
   H-same : (s : Side) → H K c s ≡ H L c s
   unfolding H
-  H-same s = centre-equal (points K c (head s)) (points L c (head s)) _ _ (size-same K L same ok c here (head s)) (points-same (head s))
+  H-same s = centre-equal (points K c (head s)) (points L c (head s)) _ _ (size-same (K .corners) (L .corners) same ok c here (head s)) (points-same (head s))
 
   T-same : (s : Side) → T K c s ≡ T L c s
   unfolding T
-  T-same s = centre-equal (points K c (tail s)) (points L c (tail s)) _ _ (size-same K L same ok c here (tail s)) (points-same (tail s))
+  T-same s = centre-equal (points K c (tail s)) (points L c (tail s)) _ _ (size-same (K .corners) (L .corners) same ok c here (tail s)) (points-same (tail s))
 
   X-same : (s : Side) → X K c s ≡ X L c s
   unfolding X
   X-same s =
-      toward-equal (points K c (head s)) (points L c (head s)) _ _ _ _ (size-same K L same ok c here (head s))
-      (place-same K L same ok c here s) (points-same (head s))
+      toward-equal (points K c (head s)) (points L c (head s)) _ _ _ _ (size-same (K .corners) (L .corners) same ok c here (head s))
+      (place-same (K .corners) (L .corners) same ok c here s) (points-same (head s))
 
   Y-same : (s : Side) → Y K c s ≡ Y L c s
   unfolding Y
-  Y-same s = toward-equal (points K c (tail s)) (points L c (tail s)) _ _ _ _ (size-same K L same ok c here (tail s)) refl (points-same (tail s))
+  Y-same s = toward-equal (points K c (tail s)) (points L c (tail s)) _ _ _ _ (size-same (K .corners) (L .corners) same ok c here (tail s)) refl (points-same (tail s))
 
   C-same : (s : Side) → C K c s ≡ C L c s
   unfolding C
-  C-same s = ap (λ (m : ℕ). cosine m 1) (size-same K L same ok c here (head s))
+  C-same s = ap (λ (m : ℕ). cosine m 1) (size-same (K .corners) (L .corners) same ok c here (head s))
 
   N-same : (s : Side) → N K c s ≡ N L c s
   unfolding N
   N-same s =
-      let w : K .refined (neighbour K c s) ≡ L .refined (neighbour L c s) = beside s ∙ ap (L .refined) (neighbour-same K L same ok c here s) in
+      let w : K .point (neighbour (K .corners) c s) ≡ L .point (neighbour (L .corners) c s) = beside s ∙ ap (L .point) (neighbour-same (K .corners) (L .corners) same ok c here s) in
       rw (X-same s, Y-same s, own, w)
 
   pub net-same : net K c ≡ net L c
@@ -124,8 +125,8 @@ module _ (K L : Corners) (same : Agree K L) (ok : Sound K) where
   below : (a b : ℕ) → a ≡ b → a < K .count → b < L .count
   below a b e l = omega (arith, same .count)
 
-  pub sound-same : ((c : ℕ) → c < L .count → natAbs (L .refined c) ≤ 2 ^ 24) → Sound L
-  sound-same small = record {
+  pub sound-same : Sound L
+  sound-same = record {
     next-in = λ c l. below _ _ (same .next c (inside c l)) (ok .next-in c (inside c l));
     previous-in = λ c l. below _ _ (same .previous c (inside c l)) (ok .previous-in c (inside c l));
     link-in = λ c l. below _ _ (same .link c (inside c l)) (ok .link-in c (inside c l));
@@ -158,5 +159,4 @@ module _ (K L : Corners) (same : Agree K L) (ok : Sound K) where
     sides-most = λ c l. omega (arith, same .sides c (inside c l), ok .sides-most c (inside c l));
     valence-least = λ c l. omega (arith, same .valence c (inside c l), ok .valence-least c (inside c l));
     valence-most = λ c l. omega (arith, same .valence c (inside c l), ok .valence-most c (inside c l));
-    refined-size = small;
   }

@@ -7,10 +7,10 @@ use Prim.Native.Nat.{ℕ, zero, suc, _+_, _-_, _*_, _^_, _<_, _≤_}
 use native.Mathlib.Omega.{arith}
 use lib.IntN.{ℤ, pos, _+ℤ_, _-ℤ_, _*ℤ_, negℤ, natAbs}
 use lib.Signed.{_<ℤ_, _≤ℤ_}
-use Rattle.integers.specs.Sum.{sum}
+use Rattle.integers.specs.Sum.{sum, sumBy}
 use Rattle.integers.proofs.Poly.{over, poly}
 use Rattle.integers.proofs.Diff.{diff}
-use Rattle.integers.proofs.Laws.{abs-mul-le, mul-le, lt-or-ge, nonneg}
+use Rattle.integers.proofs.Laws.{abs-mul-le, mul-comm, mul-le, lt-or-ge, nonneg}
 use Rattle.integers.proofs.Sum.{sum-same, sum-abs, cycle, cycle-one, Cyclic}
 use Rattle.rounding.specs.Round.{round, Near}
 use Rattle.rounding.proofs.Laws.{round-near}
@@ -18,17 +18,25 @@ use Rattle.mesh.specs.Limits.{leastSides, mostSides}
 use Rattle.cosines.specs.Table.{cosine}
 use Rattle.cosines.specs.Rules.{rest}
 use Rattle.cosines.proofs.Rules.{rules, period, cosine-size, bottom, exact, quarter}
+use Rattle.surface.specs.Numbers.{rounded}
 use Rattle.surface.specs.Face.{weight, centre, toward}
 use Rattle.surface.proofs.Within.{Within, within-times, within-cancel, abs-within, positive}
 
+-- ---- the sum with each point before its weight
+pub toward-is : (p : ℕ → ℤ) (m i : ℕ) → toward rounded p m i ≡ round (sum (λ k. p (i + k) *ℤ weight m k) m) (pos (3 * 2 ^ 30) *ℤ pos m)
+unfolding toward
+toward-is p m i =
+    ap (λ (z : ℤ). round z (pos (3 * 2 ^ 30) *ℤ pos m))
+    (sum-same (λ k. weight m k *ℤ p (i + k)) (λ k. p (i + k) *ℤ weight m k) m (λ k l. mul-comm (weight m k) (p (i + k))))
+
 -- ---- where the ring starts
-pub toward-same : (p q : ℕ → ℤ) (m i j : ℕ) → ((k : ℕ) → k < m → p (i + k) ≡ q (j + k)) → toward p m i ≡ toward q m j
+pub toward-same : (p q : ℕ → ℤ) (m i j : ℕ) → ((k : ℕ) → k < m → p (i + k) ≡ q (j + k)) → toward rounded p m i ≡ toward rounded q m j
 unfolding toward
 toward-same p q m i j h =
     ap (λ (z : ℤ). round z (pos (3 * 2 ^ 30) *ℤ pos m))
-    (sum-same (λ k. p (i + k) *ℤ weight m k) (λ k. q (j + k) *ℤ weight m k) m (λ k l. ap (λ (z : ℤ). z *ℤ weight m k) (h k l)))
+    (sum-same (λ k. weight m k *ℤ p (i + k)) (λ k. weight m k *ℤ q (j + k)) m (λ k l. ap (λ (z : ℤ). weight m k *ℤ z) (h k l)))
 
-pub centre-same : (p q : ℕ → ℤ) (m s : ℕ) → Cyclic p m → ((j : ℕ) → j < m → q j ≡ p (j + s)) → centre q m ≡ centre p m
+pub centre-same : (p q : ℕ → ℤ) (m s : ℕ) → Cyclic p m → ((j : ℕ) → j < m → q j ≡ p (j + s)) → centre rounded q m ≡ centre rounded p m
 unfolding centre
 centre-same p q m s cyc h = ap (λ (z : ℤ). round z (pos m)) (sum-same q (λ j. p (j + s)) m h ∙ cycle p m cyc s)
 
@@ -36,14 +44,13 @@ centre-same p q m s cyc h = ap (λ (z : ℤ). round z (pos m)) (sum-same q (λ j
 gather : (ℕ → ℤ) → ℕ → ℕ → ℤ
 gather p m i = sum (λ k. p (i + k) *ℤ weight m k) m
 
-pub toward-near : (p : ℕ → ℤ) (m i : ℕ) → 0 < m → Near (sum (λ k. p (i + k) *ℤ weight m k) m) (pos (3 * 2 ^ 30) *ℤ pos m) (toward p m i)
-unfolding toward
-toward-near p m i h = round-near _ _ (some m h)
+pub toward-near : (p : ℕ → ℤ) (m i : ℕ) → 0 < m → Near (sum (λ k. p (i + k) *ℤ weight m k) m) (pos (3 * 2 ^ 30) *ℤ pos m) (toward rounded p m i)
+toward-near p m i h = rw (toward-is p m i) (round-near _ _ (some m h))
   where
     some : (m : ℕ) → 0 < m → pos 0 <ℤ (pos (3 * 2 ^ 30) *ℤ pos m)
     some m h = simp diff (omega arith)
 
-pub centre-near : (p : ℕ → ℤ) (m : ℕ) → 0 < m → Near (sum p m) (pos m) (centre p m)
+pub centre-near : (p : ℕ → ℤ) (m : ℕ) → 0 < m → Near (sum p m) (pos m) (centre rounded p m)
 unfolding centre
 centre-near p m h = round-near _ _ (positive m h)
 
@@ -57,10 +64,10 @@ weight-period m k = cc (period m k, ap (cosine m) (turn m k), period m (k + (m -
 
 -- the paper's own numbering: the sum over j of V[j] · (3·2^30 + 2C(m,k) + 2C(m,k-1)) with k = j - i, read modulo m
 pub toward-by-place : (p : ℕ → ℤ) (m i : ℕ) → i ≤ m → Cyclic p m
-    → toward p m i ≡ round (sum (λ j. p j *ℤ weight m (j + (m - i))) m) (pos (3 * 2 ^ 30) *ℤ pos m)
-unfolding toward
+    → toward rounded p m i ≡ round (sum (λ j. p j *ℤ weight m (j + (m - i))) m) (pos (3 * 2 ^ 30) *ℤ pos m)
 toward-by-place p m i l cyc =
-    ap (λ (z : ℤ). round z (pos (3 * 2 ^ 30) *ℤ pos m))
+    toward-is p m i
+    ∙ ap (λ (z : ℤ). round z (pos (3 * 2 ^ 30) *ℤ pos m))
     (sum-same (λ k. p (i + k) *ℤ weight m k) (λ k. p (k + i) *ℤ weight m (k + i + (m - i))) m
     (λ k h. cc (ap p (swapped k), ap (weight m) (whole k), weight-period m k))
     ∙ cycle (λ j. p j *ℤ weight m (j + (m - i))) m (λ j. cc (cyc j, ap (weight m) (later j), weight-period m (j + (m - i)))) i)
@@ -76,7 +83,7 @@ toward-by-place p m i l cyc =
 
 combine : (f g p q r : ℕ → ℤ) (a b c : ℤ) (n : ℕ) → ((k : ℕ) → r k ≡ a *ℤ (f k +ℤ g k) -ℤ b *ℤ p k -ℤ c *ℤ q k)
     → sum r n ≡ a *ℤ (sum f n +ℤ sum g n) -ℤ b *ℤ sum p n -ℤ c *ℤ sum q n
-unfolding sum
+unfolding sumBy
 combine f g p q r a b c zero h = none a b c
   where
     none : (a b c : ℤ) → pos 0 ≡ a *ℤ (pos 0 +ℤ pos 0) -ℤ b *ℤ pos 0 -ℤ c *ℤ pos 0
@@ -215,21 +222,21 @@ module _ (M C F G U P L H X X* X^ B : ℤ) (some : pos 0 <ℤ M) (top : natAbs C
     (near-H : Near P M H)
     (sums : L ≡ pos (2 ^ 30) *ℤ (G +ℤ U) -ℤ pos (6 * 2 ^ 30) *ℤ (pos (2 ^ 30) -ℤ C) *ℤ P -ℤ pos 2 *ℤ C *ℤ F)
     (left : Within L (M *ℤ (pos (3 * 2 ^ 30) *ℤ B))) where
-  rounded : Rounded (pos (3 * 2 ^ 30)) M C (pos (2 ^ 30)) G U P H X* X^
-  rounded = (near-X*, near-X^, within-times (pos (2 ^ 30) -ℤ C) (pos 2 *ℤ (M *ℤ H -ℤ P)) M (below-room C top) near-H)
+  all-near : Rounded (pos (3 * 2 ^ 30)) M C (pos (2 ^ 30)) G U P H X* X^
+  all-near = (near-X*, near-X^, within-times (pos (2 ^ 30) -ℤ C) (pos 2 *ℤ (M *ℤ H -ℤ P)) M (below-room C top) near-H)
 
   -- C not below 0
   up : pos 0 ≤ℤ C → Within (Defect C H X X* X^) (pos (2 * 2 ^ 30) +ℤ B)
   up h =
       within-cancel M (Defect C H X X* X^) (pos (2 * 2 ^ 30) +ℤ B) some
-      (core-up M C F G U P L H X X* X^ B rounded
+      (core-up M C F G U P L H X X* X^ B all-near
       (within-times C (pos 2 *ℤ (pos (3 * 2 ^ 30) *ℤ M *ℤ X -ℤ F)) (pos (3 * 2 ^ 30) *ℤ M) h near-X) sums left)
 
   -- C below 0, and not below -1/2
   down : negℤ (pos (2 ^ 29)) ≤ℤ C → pos 0 ≤ℤ M → C <ℤ pos 0 → Within (Defect C H X X* X^) (pos (3 * 2 ^ 30) +ℤ B)
   down low n h =
       within-cancel M (Defect C H X X* X^) (pos (3 * 2 ^ 30) +ℤ B) some
-      (core-down M C F G U P L H X X* X^ B rounded
+      (core-down M C F G U P L H X X* X^ B all-near
       (within-times (negℤ C) (pos 2 *ℤ (pos (3 * 2 ^ 30) *ℤ M *ℤ X -ℤ F)) (pos (3 * 2 ^ 30) *ℤ M) (minus-room C h) near-X) sums left
       (mul-le M (negℤ (pos (2 ^ 29))) C n low))
 
@@ -242,12 +249,12 @@ HeadRule C H X X* X^ = Within (Defect C H X X* X^) (pos (3 * 2 ^ 30) +ℤ pos (2
 
 module _ (p : ℕ → ℤ) (m : ℕ) (some : leastSides ≤ m) (most : m ≤ mostSides) (cyc : Cyclic p m)
     (small : (j : ℕ) → natAbs (p j) ≤ 2 ^ 24) (i : ℕ) where
-  pub head-defect : HeadRule (cosine m 1) (centre p m) (toward p m i) (toward p m (i + 1)) (toward p m (i + (m - 1)))
+  pub head-defect : HeadRule (cosine m 1) (centre rounded p m) (toward rounded p m i) (toward rounded p m (i + 1)) (toward rounded p m (i + (m - 1)))
   unfolding gather
   head-defect =
       let here : 0 < m = omega arith in
       either-way (pos m) (cosine m 1) (gather p m i) (gather p m (i + 1)) (gather p m (i + (m - 1))) (sum p m) (sum (leftOver p m some cyc i) m)
-      (centre p m) (toward p m i) (toward p m (i + 1)) (toward p m (i + (m - 1))) (pos (2 ^ 26))
+      (centre rounded p m) (toward rounded p m i) (toward rounded p m (i + 1)) (toward rounded p m (i + (m - 1))) (pos (2 ^ 26))
       (positive m here) (cosine-size m some most 1)
       (toward-near p m i here) (toward-near p m (i + 1) here) (toward-near p m (i + (m - 1)) here) (centre-near p m here)
       (combined p m some cyc i)
@@ -260,14 +267,14 @@ abbrev pub TailRule : ℤ → ℤ → ℤ → ℤ → Type 0
 TailRule T Y Y* Y^ = Within (Defect (pos 0) T Y Y* Y^) (pos (2 * 2 ^ 30) +ℤ pos 0)
 
 module _ (p : ℕ → ℤ) (cyc : Cyclic p 4) (small : (j : ℕ) → natAbs (p j) ≤ 2 ^ 24) (i : ℕ) where
-  pub tail-defect : TailRule (centre p 4) (toward p 4 i) (toward p 4 (i + 1)) (toward p 4 (i + 3))
+  pub tail-defect : TailRule (centre rounded p 4) (toward rounded p 4 i) (toward rounded p 4 (i + 1)) (toward rounded p 4 (i + 3))
   unfolding gather
   tail-defect =
       let some : leastSides ≤ 4 = omega arith in
       let here : 0 < 4 = omega arith in
       let none : (k : ℕ) → natAbs (rest 4 k) ≤ 0 = λ k. rw (exact k) (omega arith) in
       up (pos 4) (pos 0) (gather p 4 i) (gather p 4 (i + 1)) (gather p 4 (i + 3)) (sum p 4) (sum (leftOver p 4 some cyc i) 4)
-      (centre p 4) (toward p 4 i) (toward p 4 (i + 1)) (toward p 4 (i + 3)) (pos 0)
+      (centre rounded p 4) (toward rounded p 4 i) (toward rounded p 4 (i + 1)) (toward rounded p 4 (i + 3)) (pos 0)
       (positive 4 here) (omega arith) (toward-near p 4 i here) (toward-near p 4 (i + 1) here) (toward-near p 4 (i + 3) here) (centre-near p 4 here)
       (rw quarter at (combined p 4 some cyc i))
       (abs-within (sum (leftOver p 4 some cyc i) 4) 4 0 (left-over-size p 4 some cyc i 0 none small))

@@ -25,8 +25,9 @@ use Rattle.mesh.specs.Faults.{fault7, Accepted}
 use Rattle.mesh.proofs.Scans.{ways}
 use Rattle.mesh.proofs.Accepted.{sound-of}
 use Rattle.mesh.proofs.Theorems.{manifold}
-use Rattle.surface.specs.Corners.{Sound}
-use Rattle.surface.specs.Refined.{ticks, faceSum, refinedPoint, cornersOf}
+use Rattle.surface.specs.Numbers.{rounded}
+use Rattle.surface.specs.Corners.{Sound, Small}
+use Rattle.surface.specs.Refined.{ticks, faceSum, refinedPoint, cornersOf, refinedOf}
 use Rattle.surface.proofs.Within.{Within, within-times, within-cancel, abs-within, positive}
 use Rattle.surface.proofs.Sizes.{halve}
 
@@ -75,7 +76,7 @@ point-size n s x y z h hs hx hy hz =
     (within-times (pos n) (x +ℤ pos 4 *ℤ y +ℤ z) (pos (6 * 2 ^ 24)) (nonneg n) (six x y z hx hy hz))
     (round-near _ _ (some n h))))
 
-pub refined-size : (M : Mesh) → Accepted M → (axis c : ℕ) → 0 < sidesOf (M .sides) c → natAbs (refinedPoint M axis c) ≤ 2 ^ 24
+pub refined-size : (M : Mesh) → Accepted M → (axis c : ℕ) → 0 < sidesOf (M .sides) c → natAbs (refinedPoint rounded M axis c) ≤ 2 ^ 24
 unfolding refinedPoint faceSum sidesOf
 refined-size M a axis c here =
     let start : ℕ = startOf (M .sides) (faceOf (M .sides) c) in
@@ -85,9 +86,9 @@ refined-size M a axis c here =
     (sum-abs (λ j. ticks M axis (start + j)) (sidesOf (M .sides) c) (2 ^ 24) (λ j l. ticks-size M a axis (start + j)))
     (ticks-size M a axis (previous (M .sides) c)) (ticks-size M a axis c) (ticks-size M a axis (next (M .sides) c))
 
--- ---- the laws of an accepted mesh, on any axis
-pub corners-sound : (M : Mesh) → Accepted M → (axis : ℕ) → Sound (cornersOf M axis)
-corners-sound M a axis = record {
+-- ---- the laws of an accepted mesh, and the size of its refined points on any axis
+pub corners-sound : (M : Mesh) → Accepted M → Sound (cornersOf M)
+corners-sound M a = record {
   next-in = λ c h. manifold M a c h .next-below;
   previous-in = λ c h. manifold M a c h .previous-below;
   link-in = λ c h. manifold M a c h .link-below;
@@ -102,5 +103,7 @@ corners-sound M a axis = record {
   sides-most = λ c h. manifold M a c h .sides-to;
   valence-least = λ c h. manifold M a c h .valence-from;
   valence-most = λ c h. manifold M a c h .valence-to;
-  refined-size = λ c h. refined-size M a axis c (omega (arith, manifold M a c h .sides-from));
 }
+
+pub points-small : (M : Mesh) → Accepted M → (axis : ℕ) → Small (refinedOf rounded M axis)
+points-small M a axis c h = refined-size M a axis c (omega (arith, manifold M a c h .sides-from))

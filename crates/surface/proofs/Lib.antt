@@ -7,6 +7,7 @@
 --     Sizes       every value, every sum before a division and every written number
 --     Hull        the refined point's size; the corners of an accepted mesh have the laws of `Sound`
 --     Agree       corners that agree have the same nets
+--     Call        what a call of building that is not refused tells
 --     Near        the rings of a corner lie in the faces at its vertex
 pub mod Within
 pub mod Rings
@@ -17,3 +18,4 @@ pub mod Sizes
 pub mod Hull
 pub mod Agree
 pub mod Near
+pub mod Call

@@ -41,12 +41,12 @@ module _ (M : Mesh) (a : Accepted M) where
   nexts-face c h (suc j) =
       manifold M a (iterate j nextOf c) (iterate-in nextOf (cornerCount M) (λ d l. manifold M a d l .next-below) j c h) .face-next ∙ nexts-face c h j
 
-  module _ (axis c : ℕ) (h : c < cornerCount M) where
+  module _ (c : ℕ) (h : c < cornerCount M) where
     -- in c's own face
     own : (d : ℕ) → faceOf (M .sides) d ≡ faceOf (M .sides) c → Beside M c d
     own d e = record { at = c; at-in = h; at-vertex = refl; in-face = e }
 
-    quad-leaving : (j : ℕ) → Beside M c (quad (cornersOf M axis) c j)
+    quad-leaving : (j : ℕ) → Beside M c (quad (cornersOf M) c j)
     unfolding quad
     quad-leaving j =
         let m = manifold M a c h in
@@ -59,7 +59,7 @@ module _ (M : Mesh) (a : Accepted M) where
         (j % 4)
 
     -- the corner across the arriving edge has c as its link
-    quad-arriving : (j : ℕ) → Beside M c (quad (cornersOf M axis) (previousOf c) j)
+    quad-arriving : (j : ℕ) → Beside M c (quad (cornersOf M) (previousOf c) j)
     unfolding quad
     quad-arriving j =
         let m = manifold M a c h in
@@ -74,7 +74,7 @@ module _ (M : Mesh) (a : Accepted M) where
         (record { at = x; at-in = l .previous-below; at-vertex = v; in-face = sym (l .face-previous) })
         (j % 4)
 
-    pub ring-near : (e : End) (j : ℕ) → Beside M c (ring (cornersOf M axis) c e j)
+    pub ring-near : (e : End) (j : ℕ) → Beside M c (ring (cornersOf M) c e j)
     ring-near vertex j =
         record {
           at = iterate j linkOf c;

@@ -9,7 +9,8 @@ use Rattle.integers.proofs.Sum.{Cyclic}
 use Rattle.mesh.specs.Limits.{leastSides, mostSides}
 use Rattle.mesh.specs.Scan.{iterate}
 use Rattle.mesh.proofs.Rings.{iterate-add}
-use Rattle.surface.specs.Corners.{Corners, Sound}
+use Rattle.surface.specs.Numbers.{rounded}
+use Rattle.surface.specs.Corners.{Corners, Sound, RefinedMesh, Small}
 use Rattle.surface.specs.Net.{End, vertex, leaving, face, arriving, Side, side0, side1, side2, side3, neighbour, pick, quad, size, ring, points}
 
 -- ---- steps
@@ -56,14 +57,11 @@ module _ (K : Corners) (ok : Sound K) (c : ℕ) (here : c < K .count) where
   ring-in face j = iterate-in (K .next) (K .count) (ok .next-in) j c here
   ring-in arriving j = quad-in K ok (K .previous c) (ok .previous-in c here) j
 
-  pub points-small : (e : End) (j : ℕ) → natAbs (points K c e j) ≤ 2 ^ 24
-  points-small e j = ok .refined-size (ring K c e j) (ring-in e j)
-
-  pub points-cyclic : (e : End) → Cyclic (points K c e) (size K c e)
-  points-cyclic vertex j = ap (K .refined) (iterate-round (K .link) j (K .valence c) c (ok .vertex-closes c here))
-  points-cyclic leaving j = ap (K .refined) (quad-round K c j)
-  points-cyclic face j = ap (K .refined) (iterate-round (K .next) j (K .sides c) c (ok .face-closes c here))
-  points-cyclic arriving j = ap (K .refined) (quad-round K (K .previous c) j)
+  pub ring-cyclic : (e : End) (j : ℕ) → ring K c e (j + size K c e) ≡ ring K c e j
+  ring-cyclic vertex j = iterate-round (K .link) j (K .valence c) c (ok .vertex-closes c here)
+  ring-cyclic leaving j = quad-round K c j
+  ring-cyclic face j = iterate-round (K .next) j (K .sides c) c (ok .face-closes c here)
+  ring-cyclic arriving j = quad-round K (K .previous c) j
 
   pub size-least : (e : End) → leastSides ≤ size K c e
   size-least vertex = ok .valence-least c here
@@ -93,3 +91,11 @@ module _ (K : Corners) (ok : Sound K) (c : ℕ) (here : c < K .count) where
   quad-across j =
       half-turn (j % 4) (mod-lt j (omega arith))
       ∙ ap (pick c (K .next c) (K .previous (K .link c)) (K .link c)) (mod-add-mod j 4 2)
+
+-- ---- the refined points of a ring
+module _ (K : RefinedMesh rounded) (ok : Sound (K .corners)) (c : ℕ) (here : c < K .corners .count) where
+  pub points-small : Small K → (e : End) (j : ℕ) → natAbs (points K c e j) ≤ 2 ^ 24
+  points-small small e j = small (ring (K .corners) c e j) (ring-in (K .corners) ok c here e j)
+
+  pub points-cyclic : (e : End) → Cyclic (points K c e) (size (K .corners) c e)
+  points-cyclic e j = ap (K .point) (ring-cyclic (K .corners) ok c here e j)

@@ -5,7 +5,8 @@ use mathlib.Core.Path.{_≡_, refl}
 use Prim.Native.Nat.{ℕ, _*_, _^_}
 use lib.IntN.{ℤ, pos, _+ℤ_, _-ℤ_, _*ℤ_}
 use Rattle.rounding.specs.Round.{round}
-use Rattle.surface.specs.Corners.{Corners}
+use Rattle.surface.specs.Numbers.{rounded}
+use Rattle.surface.specs.Corners.{RefinedMesh}
 use Rattle.surface.specs.Net.{Side, neighbour, atHead, atTail, opposite, H, T, X, Y, N, C, outer1, outer2, outer3, a0, a1, a2, a3, middle}
 
 -- what the second and the third a point are divided out of; S is 2^30, S3 and S4 three and four times that
@@ -15,7 +16,7 @@ SecondRow S S4 C H X Y X* N = C *ℤ H +ℤ pos 3 *ℤ (S -ℤ C) *ℤ X +ℤ po
 abbrev pub ThirdRow : ℤ → ℤ → ℤ → ℤ → ℤ → ℤ → ℤ → ℤ → ℤ
 ThirdRow S3 S S4 C T Y Y* N = (S3 -ℤ C) *ℤ Y +ℤ C *ℤ T +ℤ S4 *ℤ N +ℤ S *ℤ Y*
 
-module _ (K : Corners) (c : ℕ) (s : Side) where
+module _ (K : RefinedMesh rounded) (c : ℕ) (s : Side) where
   abbrev pub secondSum : ℤ
   secondSum = SecondRow (pos (2 ^ 30)) (pos (2 ^ 32)) (C K c s) (H K c s) (X K c s) (Y K c s) (X K c (atHead s)) (N K c s)
 
@@ -23,7 +24,7 @@ module _ (K : Corners) (c : ℕ) (s : Side) where
   thirdSum = ThirdRow (pos (3 * 2 ^ 30)) (pos (2 ^ 30)) (pos (2 ^ 32)) (C K c s) (T K c s) (Y K c s) (Y K c (atTail s)) (N K c s)
 
 -- ---- what each value is the rounding of
-module _ (K : Corners) (c : ℕ) (s : Side) where
+module _ (K : RefinedMesh rounded) (c : ℕ) (s : Side) where
   pub outer1-is : outer1 K c s ≡ round (H K c s +ℤ pos 3 *ℤ X K c s) (pos 4)
   unfolding outer1
   outer1-is = refl
@@ -36,7 +37,7 @@ module _ (K : Corners) (c : ℕ) (s : Side) where
   unfolding outer3
   outer3-is = refl
 
-  pub N-is : N K c s ≡ round (pos 3 *ℤ X K c s +ℤ pos 3 *ℤ Y K c s +ℤ K .refined c -ℤ K .refined (neighbour K c s)) (pos 6)
+  pub N-is : N K c s ≡ round (pos 3 *ℤ X K c s +ℤ pos 3 *ℤ Y K c s +ℤ K .point c -ℤ K .point (neighbour (K .corners) c s)) (pos 6)
   unfolding N
   N-is = refl
 

@@ -9,7 +9,7 @@ use native.Mathlib.Omega.{arith}
 use lib.ListN.{getD}
 use lib.IntN.{ℤ, pos, _+ℤ_, _-ℤ_, _*ℤ_, negℤ, natAbs}
 use lib.Signed.{leZ, _≤ℤ_}
-use Rattle.integers.specs.Sum.{sum}
+use Rattle.integers.specs.Sum.{sum, sumBy}
 use Rattle.integers.proofs.Diff.{diff}
 use Rattle.integers.proofs.Poly.{over, poly}
 use Rattle.integers.proofs.Laws.{abs-mul-le}
@@ -20,7 +20,8 @@ use Rattle.rounding.proofs.Laws.{near-is}
 use Rattle.mesh.specs.Limits.{leastSides, mostSides}
 use Rattle.cosines.specs.Table.{lastRow, table, cosine}
 use Rattle.cosines.proofs.Rules.{bottom, cosine-size}
-use Rattle.surface.specs.Corners.{Corners, Sound}
+use Rattle.surface.specs.Numbers.{rounded}
+use Rattle.surface.specs.Corners.{Sound, RefinedMesh, Small as SmallPoints}
 use Rattle.surface.specs.Face.{weight, centre, toward}
 use Rattle.surface.specs.Net.{End, Side, side0, side1, side2, side3, head, tail, neighbour, atHead, atTail, opposite, size, headPlace, tailPlace, points, H, T, X, Y, N, C, outer1, outer2, outer3, a0, a1, a2, a3, middle, bHead, bTail, aHead, aTail, b22, bGrid, aGrid, net}
 use Rattle.surface.proofs.Within.{Within, within-cancel, abs-within, positive}
@@ -32,15 +33,15 @@ use Rattle.surface.proofs.Roundings.{SecondRow, ThirdRow, secondSum, th
 heavy-test : ℕ → Bool
 heavy-test a = leZ (pos 3 *ℤ sum (λ k. pos (natAbs (weight (a + leastSides) k))) (a + leastSides)) (pos (10 * 2 ^ 30) *ℤ pos (a + leastSides))
 
-heavy : (m : ℕ) → leastSides ≤ m → m ≤ mostSides → (pos 3 *ℤ sum (λ k. pos (natAbs (weight m k))) m) ≤ℤ (pos (10 * 2 ^ 30) *ℤ pos m)
-unfolding table cosine weight sum heavy-test
+pub heavy : (m : ℕ) → leastSides ≤ m → m ≤ mostSides → (pos 3 *ℤ sum (λ k. pos (natAbs (weight m k))) m) ≤ℤ (pos (10 * 2 ^ 30) *ℤ pos m)
+unfolding table cosine weight sumBy heavy-test
 heavy m low high =
     let e : m - leastSides + leastSides ≡ m = omega arith in
     subst (λ (n : ℕ). (pos 3 *ℤ sum (λ k. pos (natAbs (weight n k))) n) ≤ℤ (pos (10 * 2 ^ 30) *ℤ pos n)) e
     (record { le = below-at heavy-test (lastRow - 2) tt (m - leastSides) (omega arith) })
 
 weighted : (p w : ℕ → ℤ) (B n : ℕ) → ((k : ℕ) → natAbs (p k) ≤ B) → Within (sum (λ k. p k *ℤ w k) n) (pos B *ℤ sum (λ k. pos (natAbs (w k))) n)
-unfolding sum
+unfolding sumBy
 weighted p w B zero h = simp diff (omega arith)
 weighted p w B (suc n) h =
     more (sum (λ k. p k *ℤ w k) n) (sum (λ k. pos (natAbs (w k))) n) (p n *ℤ w n) (pos (natAbs (w n))) (pos B) (weighted p w B n h)
@@ -67,20 +68,20 @@ before : (G W M : ℤ) → (pos 3 *ℤ W) ≤ℤ (pos (10 * 2 ^ 30) *ℤ M) → 
 before = over 3 _ λ ρ. simp (poly, ρ) (omega arith)
 
 module _ (p : ℕ → ℤ) (m : ℕ) (low : leastSides ≤ m) (high : m ≤ mostSides) (small : (j : ℕ) → natAbs (p j) ≤ 2 ^ 24) where
-  pub centre-size : natAbs (centre p m) ≤ 2 ^ 24
+  pub centre-size : natAbs (centre rounded p m) ≤ 2 ^ 24
   centre-size =
       let here : 0 < m = omega arith in
-      halve (centre p m) (within-cancel (pos m) (pos 2 *ℤ centre p m) (pos (2 * 2 ^ 24 + 1)) (positive m here)
-      (mean (pos m) (sum p m) (centre p m) (abs-within (sum p m) m (2 ^ 24) (sum-abs p m (2 ^ 24) (λ j l. small j))) (centre-near p m here)))
+      halve (centre rounded p m) (within-cancel (pos m) (pos 2 *ℤ centre rounded p m) (pos (2 * 2 ^ 24 + 1)) (positive m here)
+      (mean (pos m) (sum p m) (centre rounded p m) (abs-within (sum p m) m (2 ^ 24) (sum-abs p m (2 ^ 24) (λ j l. small j))) (centre-near p m here)))
 
   bounded : (i : ℕ) → Within (sum (λ k. p (i + k) *ℤ weight m k) m) (pos (2 ^ 24) *ℤ sum (λ k. pos (natAbs (weight m k))) m)
   bounded i = weighted (λ k. p (i + k)) (weight m) (2 ^ 24) m (λ k. small (i + k))
 
-  pub toward-size : (i : ℕ) → natAbs (toward p m i) ≤ 2 ^ 24 + 2 ^ 21
+  pub toward-size : (i : ℕ) → natAbs (toward rounded p m i) ≤ 2 ^ 24 + 2 ^ 21
   toward-size i =
       let here : 0 < m = omega arith in
-      ninth (toward p m i) (within-cancel (pos m) (pos 18 *ℤ toward p m i) (pos (20 * 2 ^ 24 + 9)) (positive m here)
-      (face-mean (pos m) (sum (λ k. p (i + k) *ℤ weight m k) m) (sum (λ k. pos (natAbs (weight m k))) m) (toward p m i)
+      ninth (toward rounded p m i) (within-cancel (pos m) (pos 18 *ℤ toward rounded p m i) (pos (20 * 2 ^ 24 + 9)) (positive m here)
+      (face-mean (pos m) (sum (λ k. p (i + k) *ℤ weight m k) m) (sum (λ k. pos (natAbs (weight m k))) m) (toward rounded p m i)
       (heavy m low high) (bounded i) (toward-near p m i here)))
 
   -- the sum of a face point before its division; a weight; and the sum as far as a loop has come
@@ -128,10 +129,10 @@ third-sum = over 5 _ λ ρ. simp (poly, ρ) (omega arith)
 eighth : (z Q : ℤ) → natAbs z ≤ 2 ^ 58 → Near z (pos (2 ^ 33)) Q → natAbs Q ≤ 2 ^ 26 - 1
 eighth = over 2 _ λ ρ. simp (poly, ρ) (omega arith)
 
-one-less : (c : ℤ) → negℤ (pos (2 ^ 29)) ≤ℤ c → natAbs c ≤ 2 ^ 30 → natAbs (pos (2 ^ 30) -ℤ c) ≤ 3 * 2 ^ 29
+pub one-less : (c : ℤ) → negℤ (pos (2 ^ 29)) ≤ℤ c → natAbs c ≤ 2 ^ 30 → natAbs (pos (2 ^ 30) -ℤ c) ≤ 3 * 2 ^ 29
 one-less = over 1 _ λ ρ. simp (poly, ρ) (omega arith)
 
-three-less : (c : ℤ) → negℤ (pos (2 ^ 29)) ≤ℤ c → natAbs c ≤ 2 ^ 30 → natAbs (pos (3 * 2 ^ 30) -ℤ c) ≤ 7 * 2 ^ 29
+pub three-less : (c : ℤ) → negℤ (pos (2 ^ 29)) ≤ℤ c → natAbs c ≤ 2 ^ 30 → natAbs (pos (3 * 2 ^ 30) -ℤ c) ≤ 7 * 2 ^ 29
 three-less = over 1 _ λ ρ. simp (poly, ρ) (omega arith)
 
 -- what every written number is
@@ -142,12 +143,12 @@ half-small : (x y : ℤ) → Small x → Small y → Small (round (x +ℤ y) (po
 half-small x y h l = half-of (2 ^ 26 - 1) x y (round (x +ℤ y) (pos 2)) h l (near-is (x +ℤ y) (pos 2) (round (x +ℤ y) (pos 2)) tt refl)
 
 -- ---- of a corner's sides
-module _ (K : Corners) (ok : Sound K) (c : ℕ) (here : c < K .count) where
-  end-size : (e : End) → natAbs (centre (points K c e) (size K c e)) ≤ 2 ^ 24
-  end-size e = centre-size (points K c e) (size K c e) (size-least K ok c here e) (size-most K ok c here e) (points-small K ok c here e)
+module _ (K : RefinedMesh rounded) (ok : Sound (K .corners)) (bound : SmallPoints K) (c : ℕ) (here : c < K .corners .count) where
+  end-size : (e : End) → natAbs (centre rounded (points K c e) (size (K .corners) c e)) ≤ 2 ^ 24
+  end-size e = centre-size (points K c e) (size (K .corners) c e) (size-least (K .corners) ok c here e) (size-most (K .corners) ok c here e) (points-small K ok c here bound e)
 
-  face-size : (e : End) (i : ℕ) → natAbs (toward (points K c e) (size K c e) i) ≤ 2 ^ 24 + 2 ^ 21
-  face-size e = toward-size (points K c e) (size K c e) (size-least K ok c here e) (size-most K ok c here e) (points-small K ok c here e)
+  face-size : (e : End) (i : ℕ) → natAbs (toward rounded (points K c e) (size (K .corners) c e) i) ≤ 2 ^ 24 + 2 ^ 21
+  face-size e = toward-size (points K c e) (size (K .corners) c e) (size-least (K .corners) ok c here e) (size-most (K .corners) ok c here e) (points-small K ok c here bound e)
 
   pub H-size : (s : Side) → natAbs (H K c s) ≤ 2 ^ 24
   unfolding H
@@ -159,7 +160,7 @@ module _ (K : Corners) (ok : Sound K) (c : ℕ) (here : c < K .count) where
 
   pub X-size : (s : Side) → natAbs (X K c s) ≤ 2 ^ 24 + 2 ^ 21
   unfolding X
-  X-size s = face-size (head s) (headPlace K c s)
+  X-size s = face-size (head s) (headPlace (K .corners) c s)
 
   pub Y-size : (s : Side) → natAbs (Y K c s) ≤ 2 ^ 24 + 2 ^ 21
   unfolding Y
@@ -167,16 +168,16 @@ module _ (K : Corners) (ok : Sound K) (c : ℕ) (here : c < K .count) where
 
   pub N-size : (s : Side) → natAbs (N K c s) ≤ 2 ^ 24 + 2 ^ 23
   N-size s =
-      inner (X K c s) (Y K c s) (K .refined c) (K .refined (neighbour K c s)) (N K c s) (X-size s) (Y-size s)
-      (ok .refined-size c here) (ok .refined-size _ (neighbour-in K ok c here s)) (near-is _ _ _ tt (N-is K c s))
+      inner (X K c s) (Y K c s) (K .point c) (K .point (neighbour (K .corners) c s)) (N K c s) (X-size s) (Y-size s)
+      (bound c here) (bound _ (neighbour-in (K .corners) ok c here s)) (near-is _ _ _ tt (N-is K c s))
 
   pub C-size : (s : Side) → natAbs (C K c s) ≤ 2 ^ 30
   unfolding C
-  C-size s = cosine-size (size K c (head s)) (size-least K ok c here (head s)) (size-most K ok c here (head s)) 1
+  C-size s = cosine-size (size (K .corners) c (head s)) (size-least (K .corners) ok c here (head s)) (size-most (K .corners) ok c here (head s)) 1
 
   pub C-bottom : (s : Side) → negℤ (pos (2 ^ 29)) ≤ℤ C K c s
   unfolding C
-  C-bottom s = bottom (size K c (head s)) (size-least K ok c here (head s)) (size-most K ok c here (head s))
+  C-bottom s = bottom (size (K .corners) c (head s)) (size-least (K .corners) ok c here (head s)) (size-most (K .corners) ok c here (head s))
 
   -- the products of the second and third a points
   pub CH-size : (s : Side) → natAbs (C K c s *ℤ H K c s) ≤ 2 ^ 30 * 2 ^ 24
@@ -265,30 +266,30 @@ all-at [] none j = omega arith
 all-at (z ∷ l) (h then t) zero = h
 all-at (z ∷ l) (h then t) (suc j) = all-at l t j
 
-module _ (K : Corners) (ok : Sound K) (c : ℕ) (here : c < K .count) where
+module _ (K : RefinedMesh rounded) (ok : Sound (K .corners)) (bound : SmallPoints K) (c : ℕ) (here : c < K .corners .count) where
   wide : (z : ℤ) → natAbs z ≤ 2 ^ 24 + 2 ^ 21 → Small z
   wide z h = omega arith
 
   all-small : All (net K c)
   unfolding net bGrid aGrid
   all-small =
-      let h : (s : Side) → Small (H K c s) = λ s. wide (H K c s) (omega (arith, H-size K ok c here s)) in
-      let t : (s : Side) → Small (T K c s) = λ s. wide (T K c s) (omega (arith, T-size K ok c here s)) in
-      let b1 : (s : Side) → Small (outer1 K c s) = λ s. wide (outer1 K c s) (outer1-size K ok c here s) in
-      let b2 : (s : Side) → Small (outer2 K c s) = λ s. wide (outer2 K c s) (outer2-size K ok c here s) in
-      let b3 : (s : Side) → Small (outer3 K c s) = λ s. wide (outer3 K c s) (outer3-size K ok c here s) in
-      let r0 : (s : Side) → Small (a0 K c s) = λ s. wide (a0 K c s) (a0-size K ok c here s) in
-      let r1 : (s : Side) → Small (a1 K c s) = a1-size K ok c here in
-      let r2 : (s : Side) → Small (a2 K c s) = a2-size K ok c here in
-      let r3 : (s : Side) → Small (a3 K c s) = λ s. wide (a3 K c s) (a3-size K ok c here s) in
-      let m : (s : Side) → Small (middle K c s) = middle-size K ok c here in
-      let bh : (s : Side) → Small (bHead K c s) = bHead-size K ok c here in
-      let bt : (s : Side) → Small (bTail K c s) = bTail-size K ok c here in
-      let ah : (s : Side) → Small (aHead K c s) = aHead-size K ok c here in
-      let at : (s : Side) → Small (aTail K c s) = aTail-size K ok c here in
+      let h : (s : Side) → Small (H K c s) = λ s. wide (H K c s) (omega (arith, H-size K ok bound c here s)) in
+      let t : (s : Side) → Small (T K c s) = λ s. wide (T K c s) (omega (arith, T-size K ok bound c here s)) in
+      let b1 : (s : Side) → Small (outer1 K c s) = λ s. wide (outer1 K c s) (outer1-size K ok bound c here s) in
+      let b2 : (s : Side) → Small (outer2 K c s) = λ s. wide (outer2 K c s) (outer2-size K ok bound c here s) in
+      let b3 : (s : Side) → Small (outer3 K c s) = λ s. wide (outer3 K c s) (outer3-size K ok bound c here s) in
+      let r0 : (s : Side) → Small (a0 K c s) = λ s. wide (a0 K c s) (a0-size K ok bound c here s) in
+      let r1 : (s : Side) → Small (a1 K c s) = a1-size K ok bound c here in
+      let r2 : (s : Side) → Small (a2 K c s) = a2-size K ok bound c here in
+      let r3 : (s : Side) → Small (a3 K c s) = λ s. wide (a3 K c s) (a3-size K ok bound c here s) in
+      let m : (s : Side) → Small (middle K c s) = middle-size K ok bound c here in
+      let bh : (s : Side) → Small (bHead K c s) = bHead-size K ok bound c here in
+      let bt : (s : Side) → Small (bTail K c s) = bTail-size K ok bound c here in
+      let ah : (s : Side) → Small (aHead K c s) = aHead-size K ok bound c here in
+      let at : (s : Side) → Small (aTail K c s) = aTail-size K ok bound c here in
       h side0 then b1 side0 then b2 side0 then b3 side0 then t side0
       then b1 side3 then bh side0 then m side0 then bt side0 then b3 side1
-      then b2 side3 then m side3 then b22-size K ok c here then m side1 then b2 side1
+      then b2 side3 then m side3 then b22-size K ok bound c here then m side1 then b2 side1
       then b3 side3 then bt side3 then m side2 then bh side1 then b1 side1
       then t side3 then b3 side2 then b2 side2 then b1 side2 then h side2
       then r0 side0 then r1 side0 then r2 side0 then r3 side0

@@ -1,10 +1,12 @@
--- A mesh as the construction sees it on one axis: functions of its corners; and the laws that an accepted mesh gives them.
+-- A mesh as the construction sees it: functions of its corners, which are the same on every axis, and the laws that an accepted mesh gives them;
+-- and the refined points of one axis.
 -- Assumes nothing.
 use mathlib.Core.Path.{_≡_}
 use Prim.Native.Nat.{ℕ, _≤_, _<_, _^_}
-use lib.IntN.{ℤ, natAbs}
+use lib.IntN.{natAbs}
 use Rattle.mesh.specs.Limits.{leastSides, mostSides}
 use Rattle.mesh.specs.Scan.{iterate}
+use Rattle.surface.specs.Numbers.{Numbers, rounded}
 
 pub record Corners : Type 0 where
   pub count : ℕ
@@ -14,8 +16,6 @@ pub record Corners : Type 0 where
   -- sides of a corner's face, corners of its vertex
   pub sides : ℕ → ℕ
   pub valence : ℕ → ℕ
-  -- a corner's refined point, in ticks
-  pub refined : ℕ → ℤ
 
 pub record Sound (K : Corners) : Type 0 where
   pub next-in : (c : ℕ) → c < K .count → K .next c < K .count
@@ -32,9 +32,8 @@ pub record Sound (K : Corners) : Type 0 where
   pub sides-most : (c : ℕ) → c < K .count → K .sides c ≤ mostSides
   pub valence-least : (c : ℕ) → c < K .count → leastSides ≤ K .valence c
   pub valence-most : (c : ℕ) → c < K .count → K .valence c ≤ mostSides
-  pub refined-size : (c : ℕ) → c < K .count → natAbs (K .refined c) ≤ 2 ^ 24
 
--- two descriptions that agree at each corner, in all but the refined points
+-- two descriptions that agree at each corner
 pub record Agree (K L : Corners) : Type 0 where
   pub count : K .count ≡ L .count
   pub next : (c : ℕ) → c < K .count → K .next c ≡ L .next c
@@ -42,3 +41,12 @@ pub record Agree (K L : Corners) : Type 0 where
   pub link : (c : ℕ) → c < K .count → K .link c ≡ L .link c
   pub sides : (c : ℕ) → c < K .count → K .sides c ≡ L .sides c
   pub valence : (c : ℕ) → c < K .count → K .valence c ≡ L .valence c
+
+-- ---- one axis: the corners, and each corner's refined point in ticks
+pub record RefinedMesh (S : Numbers) : Type 0 where
+  pub corners : Corners
+  pub point : ℕ → S .Number
+
+-- as large as the refined points of an accepted mesh may be
+abbrev pub Small : RefinedMesh rounded → Type 0
+Small K = (c : ℕ) → c < K .corners .count → natAbs (K .point c) ≤ 2 ^ 24

@@ -2,18 +2,22 @@
 -- Assumes nothing.
 use Prim.Native.Nat.{ℕ, _+_, _-_, _*_, _^_}
 use lib.IntN.{ℤ, pos, _+ℤ_, _*ℤ_}
-use Rattle.integers.specs.Sum.{sum}
-use Rattle.rounding.specs.Round.{round}
+use Rattle.integers.specs.Sum.{sumBy}
 use Rattle.cosines.specs.Table.{cosine}
-
--- the centre, r(ΣV / m)
-unfoldable pub centre : (ℕ → ℤ) → ℕ → ℤ
-centre p m = round (sum p m) (pos m)
+use Rattle.surface.specs.Numbers.{Numbers}
 
 -- 3·2^30 + 2C(m,k) + 2C(m,k-1)
 unfoldable pub weight : ℕ → ℕ → ℤ
 weight m k = pos (3 * 2 ^ 30) +ℤ pos 2 *ℤ cosine m k +ℤ pos 2 *ℤ cosine m (k + (m - 1))
 
--- towards the side from V[i] to V[i+1]: r of the sum of V[j] · weight k over all places j = i + k, divided by 3m·2^30
-unfoldable pub toward : (ℕ → ℤ) → ℕ → ℕ → ℤ
-toward p m i = round (sum (λ k. p (i + k) *ℤ weight m k) m) (pos (3 * 2 ^ 30) *ℤ pos m)
+module _ (S : Numbers) where
+  infixl 7 _·_ _÷_
+  open Numbers S using (Number, whole, _⊕_, _·_, _÷_)
+
+  -- the centre, r(ΣV / m)
+  unfoldable pub centre : (ℕ → Number) → ℕ → Number
+  centre p m = sumBy _⊕_ (whole (pos 0)) p m ÷ m
+
+  -- towards the side from V[i] to V[i+1]: r of the sum of V[j] · weight k over all places j = i + k, divided by 3m·2^30
+  unfoldable pub toward : (ℕ → Number) → ℕ → ℕ → Number
+  toward p m i = sumBy _⊕_ (whole (pos 0)) (λ k. weight m k · p (i + k)) m ÷ (3 * 2 ^ 30 * m)

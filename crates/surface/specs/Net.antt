@@ -2,11 +2,11 @@
 -- Assumes nothing.
 use mathlib.Core.List.{List, [], _∷_, _++_}
 use Prim.Native.Nat.{ℕ, zero, suc, _+_, _-_, _*_, _%_, _^_}
-use lib.IntN.{ℤ, pos, _+ℤ_, _-ℤ_, _*ℤ_}
-use Rattle.rounding.specs.Round.{round}
+use lib.IntN.{ℤ, pos, _-ℤ_, _*ℤ_}
 use Rattle.cosines.specs.Table.{cosine}
 use Rattle.mesh.specs.Scan.{iterate}
-use Rattle.surface.specs.Corners.{Corners}
+use Rattle.surface.specs.Numbers.{Numbers}
+use Rattle.surface.specs.Corners.{Corners, RefinedMesh}
 use Rattle.surface.specs.Face.{centre, toward}
 
 -- ---- the four ends E0 to E3, and the sides 0 to 3
@@ -96,87 +96,92 @@ tailPlace side1 = 0
 tailPlace side2 = 0
 tailPlace side3 = 1
 
-abbrev pub rows : List (List ℤ) → List ℤ
+abbrev pub rows : {A : Type 0} → List (List A) → List A
 rows [] = []
 rows (r ∷ g) = r ++ rows g
 
-module _ (K : Corners) (c : ℕ) where
-  abbrev pub points : End → ℕ → ℤ
-  points e j = K .refined (ring K c e j)
+-- ---- the quad-net of corner c of a refined mesh, in the numbers S
+module _ {S : Numbers} (K : RefinedMesh S) (c : ℕ) where
+  infixl 7 _·_ _÷_
+  infixl 6 _⊕_ _⊖_
+  open Numbers S using (Number, _⊕_, _⊖_, _·_, _÷_)
 
-  abbrev pub end : End → ℤ
-  end e = centre (points e) (size K c e)
+  abbrev pub points : End → ℕ → Number
+  points e j = K .point (ring (K .corners) c e j)
+
+  abbrev pub end : End → Number
+  end e = centre S (points e) (size (K .corners) c e)
 
   -- ---- of a side
-  unfoldable pub H : Side → ℤ
+  unfoldable pub H : Side → Number
   H s = end (head s)
 
-  unfoldable pub T : Side → ℤ
+  unfoldable pub T : Side → Number
   T s = end (tail s)
 
-  unfoldable pub X : Side → ℤ
-  X s = toward (points (head s)) (size K c (head s)) (headPlace K c s)
+  unfoldable pub X : Side → Number
+  X s = toward S (points (head s)) (size (K .corners) c (head s)) (headPlace (K .corners) c s)
 
-  unfoldable pub Y : Side → ℤ
-  Y s = toward (points (tail s)) (size K c (tail s)) (tailPlace s)
+  unfoldable pub Y : Side → Number
+  Y s = toward S (points (tail s)) (size (K .corners) c (tail s)) (tailPlace s)
 
-  unfoldable pub N : Side → ℤ
-  N s = round (pos 3 *ℤ X s +ℤ pos 3 *ℤ Y s +ℤ K .refined c -ℤ K .refined (neighbour K c s)) (pos 6)
+  unfoldable pub N : Side → Number
+  N s = (pos 3 · X s ⊕ pos 3 · Y s ⊕ K .point c ⊖ K .point (neighbour (K .corners) c s)) ÷ 6
 
-  abbrev pub X* : Side → ℤ
+  abbrev pub X* : Side → Number
   X* s = X (atHead s)
 
-  abbrev pub Y* : Side → ℤ
+  abbrev pub Y* : Side → Number
   Y* s = Y (atTail s)
 
   unfoldable pub C : Side → ℤ
-  C s = cosine (size K c (head s)) 1
+  C s = cosine (size (K .corners) c (head s)) 1
 
   -- ---- outer row: H, then these three, then T
-  unfoldable pub outer1 : Side → ℤ
-  outer1 s = round (H s +ℤ pos 3 *ℤ X s) (pos 4)
+  unfoldable pub outer1 : Side → Number
+  outer1 s = (H s ⊕ pos 3 · X s) ÷ 4
 
-  unfoldable pub outer2 : Side → ℤ
-  outer2 s = round (X s +ℤ Y s) (pos 2)
+  unfoldable pub outer2 : Side → Number
+  outer2 s = (X s ⊕ Y s) ÷ 2
 
-  unfoldable pub outer3 : Side → ℤ
-  outer3 s = round (pos 3 *ℤ Y s +ℤ T s) (pos 4)
+  unfoldable pub outer3 : Side → Number
+  outer3 s = (pos 3 · Y s ⊕ T s) ÷ 4
 
   -- ---- a row
-  unfoldable pub a0 : Side → ℤ
-  a0 s = round (outer1 s +ℤ outer1 (atHead s)) (pos 2)
+  unfoldable pub a0 : Side → Number
+  a0 s = (outer1 s ⊕ outer1 (atHead s)) ÷ 2
 
-  unfoldable pub a1 : Side → ℤ
-  a1 s = round (C s *ℤ H s +ℤ pos 3 *ℤ (pos (2 ^ 30) -ℤ C s) *ℤ X s +ℤ pos 2 *ℤ C s *ℤ Y s +ℤ pos (2 ^ 30) *ℤ X* s +ℤ pos (2 ^ 32) *ℤ N s) (pos (2 ^ 33))
+  unfoldable pub a1 : Side → Number
+  a1 s = (C s · H s ⊕ (pos 3 *ℤ (pos (2 ^ 30) -ℤ C s)) · X s ⊕ (pos 2 *ℤ C s) · Y s ⊕ pos (2 ^ 30) · X* s ⊕ pos (2 ^ 32) · N s) ÷ (2 ^ 33)
 
-  unfoldable pub a2 : Side → ℤ
-  a2 s = round ((pos (3 * 2 ^ 30) -ℤ C s) *ℤ Y s +ℤ C s *ℤ T s +ℤ pos (2 ^ 32) *ℤ N s +ℤ pos (2 ^ 30) *ℤ Y* s) (pos (2 ^ 33))
+  unfoldable pub a2 : Side → Number
+  a2 s = ((pos (3 * 2 ^ 30) -ℤ C s) · Y s ⊕ C s · T s ⊕ pos (2 ^ 32) · N s ⊕ pos (2 ^ 30) · Y* s) ÷ (2 ^ 33)
 
-  unfoldable pub a3 : Side → ℤ
-  a3 s = round (outer3 s +ℤ outer3 (atTail s)) (pos 2)
+  unfoldable pub a3 : Side → Number
+  a3 s = (outer3 s ⊕ outer3 (atTail s)) ÷ 2
 
   -- ---- middle of the next row
-  unfoldable pub middle : Side → ℤ
-  middle s = round (pos 14 *ℤ N s +ℤ pos 2 *ℤ (N (opposite s) -ℤ N (atHead s) -ℤ N (atTail s)) +ℤ pos 3 *ℤ (X* s +ℤ Y* s) -ℤ H s -ℤ T s) (pos 16)
+  unfoldable pub middle : Side → Number
+  middle s = (pos 14 · N s ⊕ pos 2 · (N (opposite s) ⊖ N (atHead s) ⊖ N (atTail s)) ⊕ pos 3 · (X* s ⊕ Y* s) ⊖ H s ⊖ T s) ÷ 16
 
   -- ---- one step in from the ends: b at the side's head and tail, a beside the centre at its head and tail
-  unfoldable pub bHead : Side → ℤ
-  bHead s = round (a1 (atHead s) +ℤ a1 s) (pos 2)
+  unfoldable pub bHead : Side → Number
+  bHead s = (a1 (atHead s) ⊕ a1 s) ÷ 2
 
-  unfoldable pub bTail : Side → ℤ
-  bTail s = round (a2 s +ℤ a2 (atTail s)) (pos 2)
+  unfoldable pub bTail : Side → Number
+  bTail s = (a2 s ⊕ a2 (atTail s)) ÷ 2
 
-  unfoldable pub aHead : Side → ℤ
-  aHead s = round (middle s +ℤ middle (atHead s)) (pos 2)
+  unfoldable pub aHead : Side → Number
+  aHead s = (middle s ⊕ middle (atHead s)) ÷ 2
 
-  unfoldable pub aTail : Side → ℤ
-  aTail s = round (middle s +ℤ middle (atTail s)) (pos 2)
+  unfoldable pub aTail : Side → Number
+  aTail s = (middle s ⊕ middle (atTail s)) ÷ 2
 
-  unfoldable pub b22 : ℤ
-  b22 = round (aTail side0 +ℤ aTail side3) (pos 2)
+  unfoldable pub b22 : Number
+  b22 = (aTail side0 ⊕ aTail side3) ÷ 2
 
   -- ---- the two grids, row by row
-  unfoldable pub bGrid : List (List ℤ)
+  unfoldable pub bGrid : List (List Number)
   bGrid =
       (H side0 ∷ outer1 side0 ∷ outer2 side0 ∷ outer3 side0 ∷ T side0 ∷ [])
       ∷ (outer1 side3 ∷ bHead side0 ∷ middle side0 ∷ bTail side0 ∷ outer3 side1 ∷ [])
@@ -185,7 +190,7 @@ module _ (K : Corners) (c : ℕ) where
       ∷ (T side3 ∷ outer3 side2 ∷ outer2 side2 ∷ outer1 side2 ∷ H side2 ∷ [])
       ∷ []
 
-  unfoldable pub aGrid : List (List ℤ)
+  unfoldable pub aGrid : List (List Number)
   aGrid =
       (a0 side0 ∷ a1 side0 ∷ a2 side0 ∷ a3 side0 ∷ [])
       ∷ (a1 side3 ∷ aHead side0 ∷ aTail side0 ∷ a2 side1 ∷ [])
@@ -194,5 +199,5 @@ module _ (K : Corners) (c : ℕ) where
       ∷ []
 
   -- ---- the 41 points in the order of the output: five rows of five b, then four rows of four a
-  unfoldable pub net : List ℤ
+  unfoldable pub net : List Number
   net = rows bGrid ++ rows aGrid

@@ -17,9 +17,10 @@ use Rattle.mesh.specs.Faults.{Accepted}
 use Rattle.mesh.proofs.Accepted.{sound-of, few-vertices, few-faces, few-corners}
 use Rattle.mesh.proofs.Links.{values-length, values-at}
 use Rattle.mesh.proofs.Scans.{compared}
-use Rattle.surface.specs.Corners.{Corners, Sound, Agree}
+use Rattle.surface.specs.Numbers.{rounded}
+use Rattle.surface.specs.Corners.{Corners, Sound, Agree, RefinedMesh}
 use Rattle.surface.specs.Net.{ring, net}
-use Rattle.surface.specs.Refined.{cornersOf, perCorner, numberAt, nets}
+use Rattle.surface.specs.Refined.{cornersOf, refinedOf, perCorner, numberAt, nets}
 use Rattle.surface.proofs.Hull.{corners-sound}
 use Rattle.surface.proofs.Rings.{ring-in}
 use Rattle.surface.proofs.Near.{ring-near}
@@ -28,7 +29,7 @@ use Rattle.corner_tables.specs.Tables.{Filled, FaceTables, Wanted}
 use Rattle.refine.specs.Sources.{Steps, Pointed}
 use Rattle.refine.proofs.Laws.{small-zeros}
 use Rattle.refine.proofs.Accepted.{refinable-of}
-use Rattle.sides.specs.Tabled.{tabled, Tables}
+use Rattle.sides.specs.Tabled.{tabledCorners, tabled, Tables}
 use Rattle.nets.specs.Put.{Put}
 use Rattle.writing.specs.Written.{Given, AtMost, Fresh, New, MeshTables, Long, pointsOf, Drawn, NetsWritten}
 
@@ -46,22 +47,22 @@ axis-in : (i : ℕ) → i % 3 < 3
 axis-in i = omega arith
 
 -- all corners written: the whole output
-pub written-all : (M : Mesh) (first count : ℕ) (out : List ℤ) → length out ≡ perCorner * count → NetsWritten (cornersOf M) first count out
+pub written-all : (M : Mesh) (first count : ℕ) (out : List ℤ) → length out ≡ perCorner * count → NetsWritten (refinedOf rounded M) first count out
     → out ≡ nets M first count
 unfolding NetsWritten nets numberAt
 written-all M first count out l w =
-    ext-getD (pos 0) out (nets M first count) (l ∙ sym (values-length (numberAt M first) 0 (perCorner * count)))
+    ext-getD (pos 0) out (nets M first count) (l ∙ sym (values-length (numberAt rounded M first) 0 (perCorner * count)))
     (λ i h. let b : i < perCorner * count = omega arith in
-    subst (λ (k : ℕ). getD out k (pos 0) ≡ numberAt M first i) (place i)
+    subst (λ (k : ℕ). getD out k (pos 0) ≡ numberAt rounded M first i) (place i)
     (w (i % 3) (i / perCorner) (i % perCorner / 3) (axis-in i) (corner-of i count b) (point-of i))
-    ∙ sym (values-at (numberAt M first) (pos 0) 0 (perCorner * count) i b ∙ ap (numberAt M first) (let q : 0 + i ≡ i = omega arith in q)))
+    ∙ sym (values-at (numberAt rounded M first) (pos 0) 0 (perCorner * count) i b ∙ ap (numberAt rounded M first) (let q : 0 + i ≡ i = omega arith in q)))
 
 -- one corner more, axis after axis
-pub written-none : (K : ℕ → Corners) (first : ℕ) (out : List ℤ) → NetsWritten K first 0 out
+pub written-none : (K : ℕ → RefinedMesh rounded) (first : ℕ) (out : List ℤ) → NetsWritten K first 0 out
 unfolding NetsWritten
 written-none K first out a j p h l = absurd (omega arith)
 
-module _ (K : ℕ → Corners) (first k : ℕ) (old xs ys zs : List ℤ) (w : NetsWritten K first k old) (x : Put (K 0) (first + k) 0 (perCorner * k) old xs)
+module _ (K : ℕ → RefinedMesh rounded) (first k : ℕ) (old xs ys zs : List ℤ) (w : NetsWritten K first k old) (x : Put (K 0) (first + k) 0 (perCorner * k) old xs)
     (y : Put (K 1) (first + k) 1 (perCorner * k) xs ys) (z : Put (K 2) (first + k) 2 (perCorner * k) ys zs) where
   -- earlier corners are kept by all three
   earlier : (a j p : ℕ) → a < 3 → j < k → p < pointsOf → getD zs (perCorner * j + 3 * p + a) (pos 0) ≡ getD (net (K a) (first + j)) p (pos 0)
@@ -90,10 +91,13 @@ module _ (K : ℕ → Corners) (first k : ℕ) (old xs ys zs : List ℤ) (w : Ne
 module _ (M : Mesh) (accepted : Accepted M) (nexts previouses links sides valences wanted : List ℕ) (points : List ℤ) (axis first count : ℕ)
     (t : MeshTables M nexts previouses links sides valences) (w : Wanted (M .sides) (M .corners) first count wanted (sumOf (M .sides)))
     (v : Pointed M axis wanted points (sumOf (M .sides))) where
-  abbrev table : Corners
+  abbrev laid : Corners
+  laid = tabledCorners (cornerCount M) nexts previouses links sides valences
+
+  abbrev table : RefinedMesh rounded
   table = tabled (cornerCount M) nexts previouses links sides valences points
 
-  agree : Agree (cornersOf M axis) table
+  agree : Agree (cornersOf M) laid
   agree =
       record {
         count = refl;
@@ -104,23 +108,23 @@ module _ (M : Mesh) (accepted : Accepted M) (nexts previouses links sides valenc
         valence = λ c h. sym (t .valences-are c h);
       }
 
-  pub tabled-sound : Sound table
-  tabled-sound = sound-same (cornersOf M axis) table agree (corners-sound M accepted axis) (λ c h. v .small c)
+  pub tabled-sound : Sound laid
+  tabled-sound = sound-same (cornersOf M) laid agree (corners-sound M accepted)
 
   -- the faces at the vertex of a corner of the range are wanted, and its rings lie in them
-  pub tabled-net : (k : ℕ) → k < count → first + k < cornerCount M → net (cornersOf M axis) (first + k) ≡ net table (first + k)
+  pub tabled-net : (k : ℕ) → k < count → first + k < cornerCount M → net (refinedOf rounded M axis) (first + k) ≡ net table (first + k)
   tabled-net k l h =
-      let K = cornersOf M axis in
+      let K = cornersOf M in
       let c = first + k in
-      let ok = corners-sound M accepted axis in
+      let ok = corners-sound M accepted in
       let sums = refinable-of M accepted .sums in
-      net-same K table agree ok c h
-      (λ e j. let near = ring-near M accepted axis c h e j in
+      net-same (refinedOf rounded M axis) table agree ok c h
+      (λ e j. let near = ring-near M accepted c h e j in
       sym (v .points-are (ring K c e j) (omega (arith, ring-in K ok c h e j, sums))
       (rw (near .in-face) (w k (near .at) l (omega (arith, near .at-in, sums)) (near .at-vertex)))))
 
 -- what the tables of the three axes write is what the mesh has
-pub written-same : (K L : ℕ → Corners) (first count : ℕ) (out : List ℤ)
+pub written-same : (K L : ℕ → RefinedMesh rounded) (first count : ℕ) (out : List ℤ)
     → ((a : ℕ) → a < 3 → (k : ℕ) → k < count → net (L a) (first + k) ≡ net (K a) (first + k)) → NetsWritten K first count out → NetsWritten L first count out
 unfolding NetsWritten
 written-same K L first count out same w a j p h hj hp = w a j p h hj hp ∙ ap (λ (n : List ℤ). getD n p (pos 0)) (sym (same a h j hj))
@@ -132,11 +136,13 @@ by-axis P x y z (suc (suc zero)) h = z
 by-axis P x y z (suc (suc (suc a))) h = absurd (omega arith)
 
 -- what the net of a corner asks
-pub tables-at : (n c : ℕ) (nexts previouses links sides valences : List ℕ) (points : List ℤ) → Drawn n nexts previouses links sides valences points
+pub tables-at : (n c : ℕ) (nexts previouses links sides valences : List ℕ) (points : List ℤ) → Sound (tabledCorners n nexts previouses links sides valences)
+    → Drawn n nexts previouses links sides valences points
     → Long n nexts previouses links sides valences → c < n → Tables n nexts previouses links sides valences points c
-tables-at n c nexts previouses links sides valences points d l h =
+tables-at n c nexts previouses links sides valences points ok d l h =
     record {
-      sound = d .0;
+      sound = ok;
+      small = d .0;
       here = h;
       nexts-hold = l .nexts-hold;
       previouses-hold = l .previouses-hold;

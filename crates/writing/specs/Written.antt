@@ -9,12 +9,13 @@ use Rattle.mesh.specs.Lists.{Mesh, vertexCount, faceCount, cornerCount}
 use Rattle.mesh.specs.Corners.{sidesOf, next, previous}
 use Rattle.mesh.specs.Links.{vertexOf, link, valence}
 use Rattle.mesh.specs.Tables.{NextsTo, LinkTable}
-use Rattle.surface.specs.Corners.{Corners, Sound}
+use Rattle.surface.specs.Numbers.{rounded}
+use Rattle.surface.specs.Corners.{Sound, RefinedMesh, Small as SmallPoints}
 use Rattle.surface.specs.Net.{net}
 use Rattle.surface.specs.Refined.{perCorner}
 use Rattle.corner_tables.specs.Tables.{Filled}
 use Rattle.refine.specs.Sources.{Small}
-use Rattle.sides.specs.Tabled.{tabled}
+use Rattle.sides.specs.Tabled.{tabledCorners, tabled}
 
 -- the tables that checking the mesh leaves
 pub record Given (M : Mesh) (nexts links : List ℕ) : Type 0 where
@@ -64,21 +65,22 @@ pub record Long (n : ℕ) (nexts previouses links sides valences : List ℕ) : T
 abbrev pub pointsOf : ℕ
 pointsOf = 41
 
--- a table of refined points that describes a mesh with the others
+-- a table of refined points for the corners of the others
 abbrev pub Drawn : ℕ → List ℕ → List ℕ → List ℕ → List ℕ → List ℕ → List ℤ → Type 0
-Drawn n nexts previouses links sides valences points = Sound (tabled n nexts previouses links sides valences points) × (n ≤ length points)
+Drawn n nexts previouses links sides valences points = SmallPoints (tabled n nexts previouses links sides valences points) × (n ≤ length points)
 
 abbrev pub AllDrawn : ℕ → List ℕ → List ℕ → List ℕ → List ℕ → List ℕ → List ℤ → List ℤ → List ℤ → Type 0
 AllDrawn n nexts previouses links sides valences xs ys zs =
-    Drawn n nexts previouses links sides valences xs × Drawn n nexts previouses links sides valences ys × Drawn n nexts previouses links sides valences zs
+    Sound (tabledCorners n nexts previouses links sides valences)
+    × Drawn n nexts previouses links sides valences xs × Drawn n nexts previouses links sides valences ys × Drawn n nexts previouses links sides valences zs
 
 -- the corners on an axis, each with its table of refined points
-abbrev pub onAxis : ℕ → List ℕ → List ℕ → List ℕ → List ℕ → List ℕ → List ℤ → List ℤ → List ℤ → ℕ → Corners
+abbrev pub onAxis : ℕ → List ℕ → List ℕ → List ℕ → List ℕ → List ℕ → List ℤ → List ℤ → List ℤ → ℕ → RefinedMesh rounded
 onAxis n nexts previouses links sides valences xs ys zs zero = tabled n nexts previouses links sides valences xs
 onAxis n nexts previouses links sides valences xs ys zs (suc zero) = tabled n nexts previouses links sides valences ys
 onAxis n nexts previouses links sides valences xs ys zs (suc (suc a)) = tabled n nexts previouses links sides valences zs
 
 -- the numbers of the first `count` corners from `first` on
-unfoldable pub NetsWritten : (ℕ → Corners) → ℕ → ℕ → List ℤ → Type 0
+unfoldable pub NetsWritten : (ℕ → RefinedMesh rounded) → ℕ → ℕ → List ℤ → Type 0
 NetsWritten K first count out =
     (a j p : ℕ) → a < 3 → j < count → p < pointsOf → getD out (perCorner * j + 3 * p + a) (pos 0) ≡ getD (net (K a) (first + j)) p (pos 0)

@@ -7,7 +7,8 @@ use native.Mathlib.Omega.{arith}
 use borrow.Author.Needs.{needs}
 use lib.Dec.{lit<}
 use lib.IntN.{ℤ}
-use Rattle.surface.specs.Corners.{Corners}
+use Rattle.surface.specs.Numbers.{rounded}
+use Rattle.surface.specs.Corners.{RefinedMesh}
 use Rattle.surface.specs.Net.{rows, bGrid, aGrid}
 use Rattle.sides.specs.Tabled.{tabled}
 use Rattle.nets.specs.Put.{Placed}
@@ -16,7 +17,7 @@ use Rattle.nets.proofs.put_net.Statement.{statement}
 use Rattle.nets.proofs.put_net.Tie as tie
 
 -- the mesh that the tables hold
-abbrev mesh : tie.Start → Corners
+abbrev mesh : tie.Start → RefinedMesh rounded
 mesh s =
     tabled (s .args .count) (s .args .nexts .now) (s .args .previouses .now) (s .args .links .now) (s .args .sides .now) (s .args .valences .now)
     (s .args .points .now)
@@ -67,7 +68,7 @@ b-grid-requires : tie.Need-b-grid-requires
 b-grid-requires c κs =
     let a = c .before .before .before .before in
     let s = start a in
-    let w = a-fine (mesh s) (s .pre .0 .sound) (s .args .c) (s .pre .0 .here) _ (a-grid a) .1 in
+    let w = a-fine (mesh s) (s .pre .0 .sound) (s .pre .0 .small) (s .args .c) (s .pre .0 .here) _ (a-grid a) .1 in
     let z = all-sized (mesh s) (s .args .c) _ (a .before .before .before .before .before .before .before .before .before .net-sides .ensures) _ _ _ _
     (a .before .before .before .before .side-rows .ensures) (a .before .before .before .side-rows2 .ensures) (a .before .before .side-rows3 .ensures)
     (a .before .side-rows4 .ensures) in
@@ -76,7 +77,7 @@ b-grid-requires c κs =
 put-b-requires : tie.Need-put-b-requires
 put-b-requires c κs =
     let s = start (first (c .before)) in
-    let w = b-fine (mesh s) (s .pre .0 .sound) (s .args .c) (s .pre .0 .here) _ (b-grid (c .before)) in
+    let w = b-fine (mesh s) (s .pre .0 .sound) (s .pre .0 .small) (s .args .c) (s .pre .0 .here) _ (b-grid (c .before)) in
     (omega (arith, s .pre .1, s .pre .2), w .0, w .1)
 
 add-put-a : tie.Need-add-put-a
@@ -88,7 +89,7 @@ put-a-requires : tie.Need-put-a-requires
 put-a-requires c κs =
     let a = first (c .before .before .before .before) in
     let s = start a in
-    let w = a-fine (mesh s) (s .pre .0 .sound) (s .args .c) (s .pre .0 .here) _ (a-grid a) in
+    let w = a-fine (mesh s) (s .pre .0 .sound) (s .pre .0 .small) (s .args .c) (s .pre .0 .here) _ (a-grid a) in
     (omega (arith, s .pre .1, s .pre .2, c .before .before .put-b .ensures .same), w .0, w .1)
 
 same-length : tie.Need-same-length

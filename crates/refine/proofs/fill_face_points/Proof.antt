@@ -12,6 +12,7 @@ use mir.Facts.{toZ-ofZ}
 use Rattle.mesh.specs.Lists.{Mesh, meshOf}
 use Rattle.mesh.specs.Corners.{sumOf, startOf}
 use Rattle.mesh.proofs.Faces.{start-next, next-below, previous-below}
+use Rattle.surface.specs.Numbers.{rounded}
 use Rattle.surface.specs.Refined.{refinedPoint}
 use Rattle.rounding.specs.Round.{round}
 use Rattle.refine.specs.Sources.{Ticks, Added}
@@ -66,7 +67,7 @@ module _ (c : tie.After-tick3 Inv-loop μ-loop) where
   abbrev n : ℕ
   n = getD (now (s .args .sides)) (s .args .f) 0
 
-  made : Ticks total before here after n × (round (eightfold total before here after n) (pos 8 *ℤ pos n) ≡ refinedPoint (mesh s) (s .args .axis) at)
+  made : Ticks total before here after n × (round (eightfold total before here after n) (pos 8 *ℤ pos n) ≡ refinedPoint rounded (mesh s) (s .args .axis) at)
   made =
       let sides = now (s .args .sides) in
       let l = c .before .before .before .before .before .before .loop in

@@ -6,7 +6,8 @@ use native.Mathlib.Omega.{arith}
 use borrow.Author.Needs.{needs}
 use lib.ListN.{getD}
 use Rattle.cosines.specs.Table.{cosine}
-use Rattle.surface.specs.Corners.{Corners}
+use Rattle.surface.specs.Numbers.{rounded}
+use Rattle.surface.specs.Corners.{RefinedMesh}
 use Rattle.surface.specs.Net.{side0, side1, side2, side3, H, T, C}
 use Rattle.faces.specs.declared.Face.{Face}
 use Rattle.sides.specs.declared.Edge.{Edge}
@@ -16,7 +17,7 @@ use Rattle.sides.proofs.net_sides.Statement.{statement}
 use Rattle.sides.proofs.net_sides.Tie as tie
 
 -- the mesh that the tables hold
-abbrev mesh : tie.Start → Corners
+abbrev mesh : tie.Start → RefinedMesh rounded
 mesh s =
     tabled (s .args .count) (s .args .nexts .now) (s .args .previouses .now) (s .args .links .now) (s .args .sides .now) (s .args .valences .now)
     (s .args .points .now)
@@ -151,35 +152,35 @@ side-requires : tie.Need-side-requires
 side-requires c κs =
     let a = c .before .before .before .before .before .before in
     let s = start a in
-    sizes (mesh s) (s .pre .0 .sound) (s .args .c) (s .pre .0 .here) side0 _ _ _ _ _ _ _ (part0 a)
+    sizes (mesh s) (s .pre .0 .sound) (s .pre .0 .small) (s .args .c) (s .pre .0 .here) side0 _ _ _ _ _ _ _ (part0 a)
 
 side-requires-2 : tie.Need-side-requires-2
 side-requires-2 c κs =
     let a = c .before .before .before .before .before .before .before .before .before .before .before .before .before in
     let s = start a in
-    sizes (mesh s) (s .pre .0 .sound) (s .args .c) (s .pre .0 .here) side1 _ _ _ _ _ _ _ (part1 a)
+    sizes (mesh s) (s .pre .0 .sound) (s .pre .0 .small) (s .args .c) (s .pre .0 .here) side1 _ _ _ _ _ _ _ (part1 a)
 
 side-requires-3 : tie.Need-side-requires-3
 side-requires-3 c κs =
     let a = c .before .before .before .before .before .before .before .before .before .before .before .before .before .before .before .before .before .before .before .before in
     let s = start a in
-    sizes (mesh s) (s .pre .0 .sound) (s .args .c) (s .pre .0 .here) side2 _ _ _ _ _ _ _ (part2 a)
+    sizes (mesh s) (s .pre .0 .sound) (s .pre .0 .small) (s .args .c) (s .pre .0 .here) side2 _ _ _ _ _ _ _ (part2 a)
 
 side-requires-4 : tie.Need-side-requires-4
 side-requires-4 c κs =
     let a = c .before .before .before .before .before .before .before .before .before .before .before .before .before .before .before .before .before .before .before .before .before .before .before .before .before .before .before in
     let s = start a in
-    sizes (mesh s) (s .pre .0 .sound) (s .args .c) (s .pre .0 .here) side3 _ _ _ _ _ _ _ (part3 a)
+    sizes (mesh s) (s .pre .0 .sound) (s .pre .0 .small) (s .args .c) (s .pre .0 .here) side3 _ _ _ _ _ _ _ (part3 a)
 
 returns : tie.Need-returns
 returns c =
     let a = c .before .before .before .before .before .before .before .before .before .before .before .before .before .before .before .before .before .before .before .before .before .before .before .before .before .before .before .before in
     let s = start a in
     record {
-      side0 = made-is (mesh s) (s .pre .0 .sound) (s .args .c) (s .pre .0 .here) side0 _ _ _ _ _ _ _ (part0 a) _ (c .before .before .before .before .before .before .before .before .before .before .before .before .before .before .before .before .before .before .before .before .before .side .ensures);
-      side1 = made-is (mesh s) (s .pre .0 .sound) (s .args .c) (s .pre .0 .here) side1 _ _ _ _ _ _ _ (part1 a) _ (c .before .before .before .before .before .before .before .before .before .before .before .before .before .before .side2 .ensures);
-      side2 = made-is (mesh s) (s .pre .0 .sound) (s .args .c) (s .pre .0 .here) side2 _ _ _ _ _ _ _ (part2 a) _ (c .before .before .before .before .before .before .before .side3 .ensures);
-      side3 = made-is (mesh s) (s .pre .0 .sound) (s .args .c) (s .pre .0 .here) side3 _ _ _ _ _ _ _ (part3 a) _ (c .side4 .ensures);
+      side0 = made-is (mesh s) (s .pre .0 .sound) (s .pre .0 .small) (s .args .c) (s .pre .0 .here) side0 _ _ _ _ _ _ _ (part0 a) _ (c .before .before .before .before .before .before .before .before .before .before .before .before .before .before .before .before .before .before .before .before .before .side .ensures);
+      side1 = made-is (mesh s) (s .pre .0 .sound) (s .pre .0 .small) (s .args .c) (s .pre .0 .here) side1 _ _ _ _ _ _ _ (part1 a) _ (c .before .before .before .before .before .before .before .before .before .before .before .before .before .before .side2 .ensures);
+      side2 = made-is (mesh s) (s .pre .0 .sound) (s .pre .0 .small) (s .args .c) (s .pre .0 .here) side2 _ _ _ _ _ _ _ (part2 a) _ (c .before .before .before .before .before .before .before .side3 .ensures);
+      side3 = made-is (mesh s) (s .pre .0 .sound) (s .pre .0 .small) (s .args .c) (s .pre .0 .here) side3 _ _ _ _ _ _ _ (part3 a) _ (c .side4 .ensures);
     }
 
 pub net-sides-spec : {M : Type 1} → statement M

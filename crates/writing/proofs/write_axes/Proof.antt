@@ -6,9 +6,10 @@ use lib.Dec.{lit<}
 use lib.ListN.{length}
 use denote.Ref.{now}
 use Rattle.mesh.specs.Lists.{Mesh, meshOf}
-use Rattle.surface.specs.Corners.{Corners}
+use Rattle.surface.specs.Numbers.{rounded}
+use Rattle.surface.specs.Corners.{RefinedMesh}
 use Rattle.surface.specs.Net.{net}
-use Rattle.surface.specs.Refined.{cornersOf}
+use Rattle.surface.specs.Refined.{refinedOf}
 use Rattle.refine.proofs.Accepted.{refinable-of}
 use Rattle.writing.specs.Written.{onAxis}
 use Rattle.writing.proofs.Laws.{written-all, written-same, by-axis, tabled-sound, tabled-net, steps-of}
@@ -54,9 +55,10 @@ write-corners-requires c κs =
     let range = s .pre .1 .1 .1 .1 .1 in
     let wants = s .pre .1 .1 .1 .0 .0 in (
       (
-        (tabled-sound (mesh s) (s .pre .0) _ _ _ _ _ _ _ 0 _ _ (s .pre .1 .0) wants (x .ensures), omega (arith, x .kept .1 .1 .1 .1 .1 .1 .1 .0, fresh .0 .0)),
-        (tabled-sound (mesh s) (s .pre .0) _ _ _ _ _ _ _ 1 _ _ (s .pre .1 .0) wants (y .ensures), omega (arith, y .kept .1 .1 .1 .1 .1 .1 .1 .0, fresh .1 .0)),
-        (tabled-sound (mesh s) (s .pre .0) _ _ _ _ _ _ _ 2 _ _ (s .pre .1 .0) wants (z .ensures), omega (arith, z .kept .1 .1 .1 .1 .1 .1 .1 .0, fresh .2 .0)),
+        tabled-sound (mesh s) (s .pre .0) _ _ _ _ _ _ _ 0 _ _ (s .pre .1 .0) wants (x .ensures),
+        (λ c h. x .ensures .small c, omega (arith, x .kept .1 .1 .1 .1 .1 .1 .1 .0, fresh .0 .0)),
+        (λ c h. y .ensures .small c, omega (arith, y .kept .1 .1 .1 .1 .1 .1 .1 .0, fresh .1 .0)),
+        (λ c h. z .ensures .small c, omega (arith, z .kept .1 .1 .1 .1 .1 .1 .1 .0, fresh .2 .0)),
       ),
       (s .pre .1 .1 .0, (range .1, range .2)),
     )
@@ -83,14 +85,14 @@ returns c =
     let range = s .pre .1 .1 .1 .1 .1 in
     let wants = s .pre .1 .1 .1 .0 .0 in
     let M = mesh s in
-    let K : ℕ → Corners =
+    let K : ℕ → RefinedMesh rounded =
     onAxis (length (now (s .args .corners))) (now (s .args .nexts)) (now (s .args .previouses)) (now (s .args .links)) (now (s .args .counts))
     (now (s .args .valences))
     (x .last .1 .1 .1 .1 .1 .1 .1 .0) (y .last .1 .1 .1 .1 .1 .1 .1 .0) (z .last .1 .1 .1 .1 .1 .1 .1 .0) in
     let inside : (k : ℕ) → k < s .args .count → s .args .first + k < length (now (s .args .corners)) = λ k l. omega (arith, range .1) in
     written-all M (s .args .first) (s .args .count) _ (w .kept .1 .1 .1 .1 .1 .1 .1 .1 .1 .1 .1 .0 ∙ range .2)
-    (written-same K (cornersOf M) (s .args .first) (s .args .count) _
-    (by-axis (λ a. (k : ℕ) → k < s .args .count → net (cornersOf M a) (s .args .first + k) ≡ net (K a) (s .args .first + k))
+    (written-same K (refinedOf rounded M) (s .args .first) (s .args .count) _
+    (by-axis (λ a. (k : ℕ) → k < s .args .count → net (refinedOf rounded M a) (s .args .first + k) ≡ net (K a) (s .args .first + k))
     (λ k l. tabled-net M (s .pre .0) _ _ _ _ _ _ _ 0 _ _ (s .pre .1 .0) wants (x .ensures) k l (inside k l))
     (λ k l. tabled-net M (s .pre .0) _ _ _ _ _ _ _ 1 _ _ (s .pre .1 .0) wants (y .ensures) k l (inside k l))
     (λ k l. tabled-net M (s .pre .0) _ _ _ _ _ _ _ 2 _ _ (s .pre .1 .0) wants (z .ensures) k l (inside k l)))

@@ -7,7 +7,8 @@ use lib.ListN.{length}
 use denote.Ref.{now}
 use mir.Syntax.{w64}
 use mir.Val.{Fits}
-use Rattle.surface.specs.Corners.{Corners}
+use Rattle.surface.specs.Numbers.{rounded}
+use Rattle.surface.specs.Corners.{RefinedMesh}
 use Rattle.surface.specs.Refined.{perCorner}
 use Rattle.writing.specs.Written.{onAxis, NetsWritten}
 use Rattle.writing.proofs.Laws.{written-none, written-step, tables-at}
@@ -24,7 +25,7 @@ abbrev μ-loop : tie.MeasureT-loop
 μ-loop xs ys zs nexts previouses links sides valences n first count out₀ rows k₀ out k = count - k
 
 -- the corners that the tables hold, on each axis
-abbrev mesh : tie.Start Inv-loop μ-loop → ℕ → Corners
+abbrev mesh : tie.Start Inv-loop μ-loop → ℕ → RefinedMesh rounded
 mesh s =
     onAxis (s .args .n) (now (s .args .nexts)) (now (s .args .previouses)) (now (s .args .links)) (now (s .args .sides)) (now (s .args .valences))
     (now (s .args .xs)) (now (s .args .ys)) (now (s .args .zs))
@@ -46,7 +47,7 @@ put-net-requires c κs =
     let s = c .before .before .before .before .before .before .before .before .before .before in
     let l = c .before .before .before .loop in
     let h : l .k < s .args .count = search needs in (
-      tables-at _ _ _ _ _ _ _ _ (s .pre .0 .0) (s .pre .1 .0) (omega (arith, s .pre .1 .1 .0)),
+      tables-at _ _ _ _ _ _ _ _ (s .pre .0 .0) (s .pre .0 .1) (s .pre .1 .0) (omega (arith, s .pre .1 .1 .0)),
       lit< tt,
       omega (arith, l .inv .1),
       c .before .before .before .before .rows .ensures,
@@ -58,7 +59,7 @@ put-net-requires-2 c κs =
     let l = c .before .before .before .before .before .before .before .loop in
     let h : l .k < s .args .count = search needs in
     let p = c .before .before .before .put-net in (
-      tables-at _ _ _ _ _ _ _ _ (s .pre .0 .1) (s .pre .1 .0) (omega (arith, s .pre .1 .1 .0)),
+      tables-at _ _ _ _ _ _ _ _ (s .pre .0 .0) (s .pre .0 .2) (s .pre .1 .0) (omega (arith, s .pre .1 .1 .0)),
       lit< tt,
       omega (arith, l .inv .1, p .kept .1 .1 .1 .1 .1 .1 .1 .1 .1 .1 .0),
       c .before .before .before .before .before .before .before .before .rows .ensures,
@@ -71,7 +72,7 @@ put-net-requires-3 c κs =
     let h : l .k < s .args .count = search needs in
     let p = c .before .before .before .before .before .before .before .put-net in
     let q = c .before .before .before .put-net2 in (
-      tables-at _ _ _ _ _ _ _ _ (s .pre .0 .2) (s .pre .1 .0) (omega (arith, s .pre .1 .1 .0)),
+      tables-at _ _ _ _ _ _ _ _ (s .pre .0 .0) (s .pre .0 .3) (s .pre .1 .0) (omega (arith, s .pre .1 .1 .0)),
       lit< tt,
       omega (arith, l .inv .1, p .kept .1 .1 .1 .1 .1 .1 .1 .1 .1 .1 .0, q .kept .1 .1 .1 .1 .1 .1 .1 .1 .1 .1 .0),
       c .before .before .before .before .before .before .before .before .before .before .before .before .rows .ensures,
