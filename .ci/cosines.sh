@@ -10,7 +10,7 @@
 set -u
 cd "$(dirname "$0")/.." || exit 2
 code=${1:-crates/cosines/src/lib.rt}
-definition=${2:-crates/cosines/specs/Table.antt}
+definition=${2:-crates/paper/specs/Cosines.antt}
 last=${3:-12}
 status=0
 

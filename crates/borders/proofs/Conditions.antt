@@ -8,16 +8,16 @@ use lib.Dec.{T as Passes}
 use lib.IntN.{ℤ, pos, _+ℤ_, _-ℤ_, _*ℤ_}
 use lib.Signed.{ltZ}
 use Rattle.integers.proofs.Poly.{over, poly}
-use Rattle.rounding.specs.Round.{round, Near}
+use Rattle.paper.specs.Numbers.{round, rounded}
+use Rattle.paper.specs.Refined.{RefinedMesh}
+use Rattle.paper.specs.Net.{Side, side0, side1, side2, side3, atHead, atTail, H, T, X, Y, N, C, outer1, outer2, outer3, a0, a1, a2, a3}
+use Rattle.paper.specs.Borders.{first, second, third, fourth, InBounds}
+use Rattle.rounding.specs.Near.{Near}
 use Rattle.rounding.proofs.Laws.{near-is}
-use Rattle.surface.specs.Numbers.{rounded}
-use Rattle.surface.specs.Corners.{RefinedMesh}
-use Rattle.surface.specs.Net.{Side, side0, side1, side2, side3, atHead, atTail, H, T, X, Y, N, C, outer1, outer2, outer3, a0, a1, a2, a3}
 use Rattle.surface.proofs.Faces.{HeadRule, TailRule}
 use Rattle.surface.proofs.Border.{Border}
 use Rattle.surface.proofs.Roundings.{SecondRow, ThirdRow, outer1-is, outer2-is, outer3-is, N-is, a0-is, a1-is, a2-is, a3-is}
 use Rattle.borders.specs.Rounding.{OffByHalf}
-use Rattle.borders.specs.Demand.{first, second, third, fourth, InBounds}
 
 -- every rounded value is
 half : (n d q : ℤ) → Passes (ltZ (pos 0) d) → q ≡ round n d → OffByHalf n d q

@@ -3,9 +3,7 @@
 --     Written      what a call that is not refused tells, and where its output has a point
 --     Theorem      demand 3: `demand3`
 --     Ranges       no range of an accepted mesh is refused, so it speaks of every border: `every-border`
---     Twice        two calls of building
 pub mod Conditions
 pub mod Written
 pub mod Theorem
 pub mod Ranges
-pub mod Twice

@@ -8,18 +8,18 @@ use native.Mathlib.Omega.{arith}
 use borrow.Author.Tests.{le-ltb, eq-eqb, ne-eqb}
 use lib.Dec.{eqb}
 use lib.ListN.{length, getD}
-use Rattle.mesh.specs.Lists.{Mesh, cornerCount}
-use Rattle.mesh.specs.Links.{link, linkTable}
-use Rattle.mesh.specs.Faults.{sound, linkVerdict, Accepted}
+use Rattle.paper.specs.Mesh.{Mesh, cornerCount}
+use Rattle.paper.specs.Links.{link, linkTable}
+use Rattle.paper.specs.Faults.{sound, linkVerdict, Accepted}
+use Rattle.paper.specs.Numbers.{rounded}
+use Rattle.paper.specs.Refined.{cornersOf}
+use Rattle.paper.specs.Calls.{perCorner, numberAt, nets, fault15, fault16, fault17, buildVerdict}
+use Rattle.paper.specs.Borders.{Output, Wrote, outputOf}
+use Rattle.paper.specs.Claims.{EveryRange, EveryBorder}
 use Rattle.mesh.proofs.Verdicts.{orElse-sound, single-miss, lowest-none}
 use Rattle.mesh.proofs.Links.{values-length, length-link-table, link-table-at}
-use Rattle.surface.specs.Numbers.{rounded}
-use Rattle.surface.specs.Net.{Side}
-use Rattle.surface.specs.Refined.{cornersOf, perCorner, numberAt, nets}
-use Rattle.surface.specs.Building.{fault15, fault16, fault17, buildVerdict}
 use Rattle.surface.proofs.Rings.{neighbour-in}
 use Rattle.surface.proofs.Hull.{corners-sound}
-use Rattle.borders.specs.Demand.{Output, Wrote, outputOf, Smooth}
 use Rattle.borders.proofs.Theorem.{demand3}
 
 equal : (m n : ℕ) → m ≡ n → not (eqb m n) ≡ false
@@ -38,26 +38,27 @@ module _ (M : Mesh) (ok : Accepted M) (first count : ℕ) (some : 0 < count) (fi
   unfolding fault16
   no16 = rw (ne-eqb count 0 (λ e. omega arith), le-ltb (cornerCount M) (first + count) fits)
 
-  no17 : fault17 count (length (nets M first count)) ≡ false
+  no17 : (n : ℕ) → n ≡ perCorner * count → fault17 count n ≡ false
   unfolding fault17
-  no17 = equal (length (nets M first count)) (perCorner * count) (length-nets M first count)
+  no17 n e = equal n (perCorner * count) e
 
-  not-refused : buildVerdict M (linkTable M) first count (length (nets M first count)) ≡ sound
+  not-refused : (n : ℕ) → n ≡ perCorner * count → buildVerdict M (linkTable M) first count n ≡ sound
   unfolding buildVerdict linkVerdict
-  not-refused =
+  not-refused n e =
       orElse-sound _ (orElse-sound _ ok ∙ single-miss 14 (length (linkTable M)) (equal (length (linkTable M)) (cornerCount M) (length-link-table M)))
       ∙ orElse-sound _ (lowest-none 15 (cornerCount M) (fault15 M (linkTable M)) no15)
       ∙ orElse-sound _ (single-miss 16 first no16)
-      ∙ single-miss 17 (length (nets M first count)) no17
+      ∙ single-miss 17 n (no17 n e)
 
-  pub range-wrote : Wrote M (outputOf M first count)
-  range-wrote = record { links = linkTable M; old = nets M first count; call = record { answers = sym not-refused; holds = refl } }
+pub ranges : EveryRange
+ranges M ok first count some fits old e = record { answers = sym (not-refused M ok first count some fits (length old) e); holds = refl }
 
 -- every border of an accepted mesh, as one call for all corners leaves it
-pub every-border : (M : Mesh) → Accepted M → (c : ℕ) → c < cornerCount M → (s : Side) → (axis : ℕ) → axis < 3
-    → Smooth M (outputOf M 0 (cornerCount M)) (outputOf M 0 (cornerCount M)) axis c s
+pub every-border : EveryBorder
 every-border M ok c here s axis small =
     let whole : Output = outputOf M 0 (cornerCount M) in
-    let w : Wrote M (outputOf M 0 (cornerCount M)) = range-wrote M ok 0 (cornerCount M) (omega arith) (omega arith) in
+    let old = nets M 0 (cornerCount M) in
+    let call = ranges M ok 0 (cornerCount M) (omega arith) (omega arith) old (length-nets M 0 (cornerCount M)) in
+    let w : Wrote M (outputOf M 0 (cornerCount M)) = record { links = linkTable M; old = old; call = call } in
     let d = neighbour-in (cornersOf M) (corners-sound M ok) c here s in
     demand3 M whole whole w w c s (omega arith, omega arith) (omega arith, omega (arith, d)) axis small

@@ -7,15 +7,14 @@ use native.Mathlib.Omega.{arith}
 use lib.ListN.{getD}
 use lib.IntN.{ℤ, pos, _+ℤ_}
 use Rattle.integers.proofs.Laws.{add-comm}
-use Rattle.rounding.specs.Round.{round}
-use Rattle.mesh.specs.Lists.{Mesh}
-use Rattle.surface.specs.Numbers.{rounded}
-use Rattle.surface.specs.Corners.{RefinedMesh}
-use Rattle.surface.specs.Net.{Side, side0, side1, side2, side3, neighbour, across, H, T, X, Y, C, outer1, outer2, outer3, a0, a1, a2, a3, bGrid, aGrid, net}
-use Rattle.surface.specs.Refined.{refinedOf}
+use Rattle.paper.specs.Mesh.{Mesh}
+use Rattle.paper.specs.Numbers.{round, rounded}
+use Rattle.paper.specs.Refined.{RefinedMesh, refinedOf}
+use Rattle.paper.specs.Net.{Side, side0, side1, side2, side3, neighbour, across, H, T, X, Y, C, outer1, outer2, outer3, a0, a1, a2, a3, bGrid, aGrid, net, outerRow, aRow}
+use Rattle.paper.specs.Borders.{Output, Wrote, written, first, second, third, fourth, InBounds, beside, Borders}
+use Rattle.paper.specs.Claims.{Demand3}
 use Rattle.surface.proofs.Border.{Border, border}
 use Rattle.surface.proofs.Hull.{corners-sound, points-small}
-use Rattle.borders.specs.Demand.{Output, Wrote, written, outerRow, aRow, first, second, third, fourth, InBounds, beside, Borders}
 use Rattle.borders.proofs.Conditions.{head-shared, tail-shared, same-outer1, same-outer2, same-outer3, first-within, second-within, third-within, fourth-within}
 use Rattle.borders.proofs.Written.{accepted, corner-of, written-is}
 
@@ -130,7 +129,7 @@ module _ (K : RefinedMesh rounded) (c : ℕ) (s : Side) (d : ℕ) (t : Side) (e 
   fourth-holds = bounded fourth 3 (omega arith) _ _ _ (inner K c s .2) (row-3 K c s) (row-3 K d t) (fourth-within K c s d t e)
 
 -- ---- demand 3
-pub demand3 : (M : Mesh) (A B : Output) → Wrote M A → Wrote M B → Borders M A B
+pub demand3 : Demand3
 demand3 M A B wA wB c s hc hd axis small =
     let K : RefinedMesh rounded = refinedOf rounded M axis in
     let d : ℕ = beside M c s in

@@ -6,13 +6,14 @@ use Prim.Native.Nat.{ℕ, _+_, _-_, _*_, _/_, _%_, _≤_, _<_}
 use native.Mathlib.Omega.{arith}
 use lib.ListN.{getD}
 use lib.IntN.{pos}
-use Rattle.mesh.specs.Lists.{Mesh, cornerCount}
-use Rattle.mesh.specs.Faults.{Accepted}
-use Rattle.surface.specs.Numbers.{rounded}
-use Rattle.surface.specs.Net.{net}
-use Rattle.surface.specs.Refined.{refinedOf, perCorner, numberAt}
+use Rattle.paper.specs.Mesh.{Mesh, cornerCount}
+use Rattle.paper.specs.Faults.{Accepted}
+use Rattle.paper.specs.Numbers.{rounded}
+use Rattle.paper.specs.Refined.{refinedOf}
+use Rattle.paper.specs.Net.{net}
+use Rattle.paper.specs.Calls.{perCorner, numberAt}
+use Rattle.paper.specs.Borders.{Output, Wrote, Holds, written}
 use Rattle.surface.proofs.Call.{accepted as call-accepted, range as call-range, number-written}
-use Rattle.borders.specs.Demand.{Output, Wrote, Holds, written}
 
 -- ---- the place of a number tells its corner, its point and its axis
 number-is : (M : Mesh) (first k p axis i : ℕ) → p < 41 → axis < 3 → i ≡ perCorner * k + 3 * p + axis

@@ -2,7 +2,7 @@
 // refuses, and whether a mesh built in one call and built corner by corner, so that every border lies between two calls, gives the
 // same numbers.
 use libc::STDOUT_FILENO;
-use mesh::Answer;
+use paper::Answer;
 ghost use Prim.Native.Nat.{_*_, _≤_, _<_};
 
 const COORDINATES: [i32; 24] = [

@@ -5,10 +5,10 @@ use mathlib.Core.List.{List}
 use Prim.Native.Nat.{ℕ}
 use lib.ListN.{length}
 use lib.IntN.{ℤ}
-use Rattle.mesh.specs.Lists.{Mesh}
-use Rattle.mesh.specs.Answers.{stated, kept}
-use Rattle.mesh.specs.declared.Answer.{Answer}
-use Rattle.surface.specs.Refined.{nets}
+use Rattle.paper.specs.Mesh.{Mesh}
+use Rattle.paper.specs.Faults.{stated, kept}
+use Rattle.paper.specs.Calls.{nets}
+use Rattle.paper.specs.declared.Answer.{Answer}
 use Rattle.requests.specs.Request.{requestFaults}
 
 -- a call on an accepted mesh, as `Built` has it of any

@@ -1,13 +1,13 @@
 // Building: writes the control points of a range of corners, or answers why the call is refused and leaves the output as it was.
-use mesh::Answer;
-use mesh::MOST_CORNERS;
 use mesh::SMALL_MESH;
+use paper::Answer;
+use paper::MOST_CORNERS;
 ghost use Prim.Native.Nat.{_≤_};
 ghost use lib.ListN.{length};
-ghost use Rattle.mesh.specs.Lists.{meshOf};
+ghost use Rattle.paper.specs.Mesh.{meshOf};
+ghost use Rattle.paper.specs.Faults.{Accepted};
+ghost use Rattle.paper.specs.Calls.{Built};
 ghost use Rattle.mesh.specs.Tables.{smallMesh, NextsTo, LinkTable};
-ghost use Rattle.mesh.specs.Faults.{Accepted};
-ghost use Rattle.surface.specs.Building.{Built};
 ghost use Rattle.checks.specs.Checked.{RoomFor};
 ghost use Rattle.building.specs.Answered.{Answered};
 

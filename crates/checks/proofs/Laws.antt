@@ -6,15 +6,14 @@ use mathlib.Core.List.{List}
 use Prim.Native.Nat.{ℕ, _<_, _≤_}
 use native.Mathlib.Omega.{arith}
 use lib.ListN.{length, getD, replicate, length-replicate}
-use Rattle.mesh.specs.Limits.{mostVertices}
-use Rattle.mesh.specs.Lists.{Mesh, vertexCount, faceCount, cornerCount}
-use Rattle.mesh.specs.Corners.{next, previous}
-use Rattle.mesh.specs.Links.{vertexOf, leavesTo, arrivesFrom}
+use Rattle.paper.specs.Mesh.{mostVertices, Mesh, vertexCount, faceCount, cornerCount}
+use Rattle.paper.specs.Corners.{next, previous}
+use Rattle.paper.specs.Links.{vertexOf, leavesTo, arrivesFrom}
+use Rattle.paper.specs.Faults.{sound, fault, _orElse_, lowestOf, fault4, fault5, fault8, fault10, fault11, fault12, listFaults, linkFaults, verdict, stated}
+use Rattle.paper.specs.declared.Answer.{Answer}
+use Rattle.paper.specs.declared.Answer.the-variants.{Refused}
 use Rattle.mesh.specs.Tables.{NextsTo, LinkTable}
-use Rattle.mesh.specs.Faults.{sound, fault, _orElse_, lowestOf, fault4, fault5, fault8, fault10, fault11, fault12, Closed, listFaults, linkFaults, verdict}
-use Rattle.mesh.specs.Answers.{stated}
-use Rattle.mesh.specs.declared.Answer.{Answer}
-use Rattle.mesh.specs.declared.Answer.the-variants.{Refused}
+use Rattle.mesh.specs.Closed.{Closed}
 use Rattle.mesh.proofs.Faces.{next-below, previous-below}
 use Rattle.mesh.proofs.Links.{link-in}
 use Rattle.mesh.proofs.Verdicts.{sound-left, sound-right, single-sound, lowest-sound, orElse-fault, orElse-sound}

@@ -4,13 +4,11 @@ use mathlib.Core.Path.{_≡_}
 use mathlib.Core.List.{List}
 use Prim.Native.Nat.{ℕ, _<_, _≤_}
 use lib.ListN.{length, getD}
-use Rattle.mesh.specs.Limits.{leastSides, mostVertices, mostCorners}
-use Rattle.mesh.specs.Lists.{Mesh, vertexCount, faceCount, cornerCount}
-use Rattle.mesh.specs.Corners.{sumOf}
+use Rattle.paper.specs.Mesh.{leastSides, mostVertices, mostCorners, Mesh, vertexCount, faceCount, cornerCount}
+use Rattle.paper.specs.Corners.{sumOf}
+use Rattle.paper.specs.Faults.{sound, linkFaults, verdict, Accepted, stated}
+use Rattle.paper.specs.declared.Answer.{Answer}
 use Rattle.mesh.specs.Tables.{smallMesh, Named, NextsTo, LinkTable}
-use Rattle.mesh.specs.Faults.{sound, linkFaults, verdict, Accepted}
-use Rattle.mesh.specs.Answers.{stated}
-use Rattle.mesh.specs.declared.Answer.{Answer}
 use Rattle.tables.specs.Filled.{Blank}
 
 -- of every mesh; a refused one leaves the two tables with any contents, an accepted one fills them for its corners

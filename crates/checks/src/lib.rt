@@ -1,14 +1,13 @@
 // The check of 4 to 13 that the file, linking and building share. Each number is tried over the whole mesh before the next.
-use mesh::Answer;
-use mesh::MOST_CORNERS;
-use mesh::MOST_VERTICES;
 use mesh::SMALL_MESH;
+use paper::Answer;
+use paper::MOST_CORNERS;
+use paper::MOST_VERTICES;
 ghost use mathlib.Core.Path.{_≡_};
 ghost use Prim.Native.Nat.{_≤_};
 ghost use lib.ListN.{length};
-ghost use Rattle.mesh.specs.Lists.{meshOf};
-ghost use Rattle.mesh.specs.Faults.{listFaults};
-ghost use Rattle.mesh.specs.Answers.{stated};
+ghost use Rattle.paper.specs.Mesh.{meshOf};
+ghost use Rattle.paper.specs.Faults.{listFaults, stated};
 ghost use Rattle.edges.specs.Entries.{Entries};
 ghost use Rattle.checks.specs.Checked.{Checked, RoomFor, Listed, Joinable, Few, ScratchRoom, CountRoom, Joined};
 

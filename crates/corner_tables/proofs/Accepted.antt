@@ -3,9 +3,9 @@
 use Prim.Native.Nat.{ℕ, _<_, _≤_}
 use native.Mathlib.Omega.{arith}
 use lib.ListN.{length}
-use Rattle.mesh.specs.Lists.{Mesh, vertexCount, faceCount, cornerCount}
-use Rattle.mesh.specs.Links.{vertexOf}
-use Rattle.mesh.specs.Faults.{Accepted}
+use Rattle.paper.specs.Mesh.{Mesh, vertexCount, faceCount, cornerCount}
+use Rattle.paper.specs.Links.{vertexOf}
+use Rattle.paper.specs.Faults.{Accepted}
 use Rattle.mesh.proofs.Accepted.{sound-of, few-corners, sides-within, sums-of, named-of, valence-within}
 use Rattle.corner_tables.specs.Tables.{Faces, Vertices}
 

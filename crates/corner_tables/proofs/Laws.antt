@@ -12,10 +12,10 @@ use lib.ListN.{length, getD, set, replicate, getD-replicate}
 use lib.Seq.{getD-set-same, getD-set-other}
 use borrow.Author.Count.{below-more}
 use borrow.Author.Tests.{eqb-true, eqb-false, eq-eqb, ltb-true, ltb-false}
-use Rattle.mesh.specs.Limits.{mostSides}
-use Rattle.mesh.specs.Scan.{countBelow}
-use Rattle.mesh.specs.Corners.{faceOf, startOf, firstOf, sidesOf, previous}
-use Rattle.mesh.specs.Links.{vertexOf, names, valence}
+use Rattle.paper.specs.Scan.{countBelow}
+use Rattle.paper.specs.Mesh.{mostSides}
+use Rattle.paper.specs.Corners.{faceOf, startOf, firstOf, sidesOf, previous}
+use Rattle.paper.specs.Links.{vertexOf, names, valence}
 use Rattle.mesh.proofs.Scans.{ways, compared}
 use Rattle.mesh.proofs.Faces.{face-at, held, start-zero, start-next, start-ends, previous-first, previous-inner}
 use Rattle.mesh.proofs.Rings.{count-hit, count-miss}

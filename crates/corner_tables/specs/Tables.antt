@@ -4,9 +4,9 @@ use mathlib.Core.Path.{_≡_}
 use mathlib.Core.List.{List}
 use Prim.Native.Nat.{ℕ, _+_, _<_, _≤_}
 use lib.ListN.{length, getD}
-use Rattle.mesh.specs.Limits.{leastSides, mostSides, mostCorners}
-use Rattle.mesh.specs.Corners.{sumOf, faceOf, sidesOf, previous}
-use Rattle.mesh.specs.Links.{vertexOf, valence}
+use Rattle.paper.specs.Mesh.{leastSides, mostSides, mostCorners}
+use Rattle.paper.specs.Corners.{sumOf, faceOf, sidesOf, previous}
+use Rattle.paper.specs.Links.{vertexOf, valence}
 use Rattle.mesh.specs.Tables.{Named}
 
 -- the table holds f's value at every place below n; z is what a place past the table's end reads as

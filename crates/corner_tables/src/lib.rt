@@ -3,8 +3,8 @@
 ghost use mathlib.Core.Path.{_≡_};
 ghost use Prim.Native.Nat.{ℕ, _+_, _<_, _≤_};
 ghost use lib.ListN.{length, getD, replicate};
-ghost use Rattle.mesh.specs.Corners.{sumOf, startOf};
-ghost use Rattle.mesh.specs.Links.{vertexOf, valence};
+ghost use Rattle.paper.specs.Corners.{sumOf, startOf};
+ghost use Rattle.paper.specs.Links.{vertexOf, valence};
 ghost use Rattle.mesh.specs.Tables.{Named};
 ghost use Rattle.corner_tables.specs.Tables.{Filled, FaceTables, Faces, Vertices, RangeMarked, Wanted};
 

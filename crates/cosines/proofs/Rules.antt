@@ -12,8 +12,10 @@ use lib.Dec.{T, leb, leb→le}
 use lib.IntN.{pos, negℤ, natAbs}
 use lib.Signed.{ltZ, leZ, _<ℤ_, _≤ℤ_}
 use Rattle.integers.proofs.Below.{below, below-at, eqZ, eqZ-eq}
-use Rattle.cosines.specs.Table.{lastRow, table, stored, cosine}
-use Rattle.cosines.specs.Rules.{rest, RowRules}
+use Rattle.paper.specs.Mesh.{mostSides}
+use Rattle.paper.specs.Cosines.{table, cosine, rest}
+use Rattle.paper.specs.Claims.{TableRules}
+use Rattle.cosines.specs.Stored.{stored}
 
 -- ---- k is read modulo m
 pub period : (m k : ℕ) → cosine m (k + m) ≡ cosine m k
@@ -59,16 +61,16 @@ stored-at m k = eqZ (getD (getD stored (m - 3) []) k (pos 0)) (cosine m k)
 abbrev entries : (ℕ → ℕ → Bool) → (ℕ → ℕ) → ℕ → Bool
 entries f n a = below (f (a + 3)) (n (a + 3))
 
-module _ (m : ℕ) (low : 3 ≤ m) (high : m ≤ lastRow) where
+module _ (m : ℕ) (low : 3 ≤ m) (high : m ≤ mostSides) where
   back : m - 3 + 3 ≡ m
   back = omega arith
 
   -- a test of all rows, at row m
-  at-row : (f : ℕ → Bool) → T (below f (lastRow - 2)) → T (f (m - 3))
-  at-row f t = below-at f (lastRow - 2) t (m - 3) (omega arith)
+  at-row : (f : ℕ → Bool) → T (below f (mostSides - 2)) → T (f (m - 3))
+  at-row f t = below-at f (mostSides - 2) t (m - 3) (omega arith)
 
   -- and at an entry of it
-  at-entry : (f : ℕ → ℕ → Bool) (n : ℕ → ℕ) → T (below (entries f n) (lastRow - 2)) → (k : ℕ) → k < n m → T (f m k)
+  at-entry : (f : ℕ → ℕ → Bool) (n : ℕ → ℕ) → T (below (entries f n) (mostSides - 2)) → (k : ℕ) → k < n m → T (f m k)
   at-entry f n t k h =
       below-at (f m) (n m) (subst (λ (r : ℕ). T (below (f r) (n r))) back (at-row (entries f n) t)) k h
 
@@ -108,8 +110,9 @@ module _ (m : ℕ) (low : 3 ≤ m) (high : m ≤ lastRow) where
   unfolding table stored cosine stored-at
   stored-is k h = eqZ-eq _ _ (at-entry stored-at (λ r. r) tt k h)
 
-  pub rules : RowRules m
-  rules = record { first = first; symmetric = symmetric; falls = falls; recurs = recurs }
+pub rules : TableRules
+rules m low high =
+    record { first = first m low high; symmetric = symmetric m low high; falls = falls m low high; recurs = recurs m low high }
 
 -- ---- row 4 is exact
 exact-below : (k : ℕ) → k < 4 → rest 4 k ≡ pos 0

@@ -2,7 +2,9 @@
 // A row of the array has sixteen places, so that a further row of up to sixteen numbers leaves the others as they are.
 ghost use mathlib.Core.Path.{_≡_};
 ghost use Prim.Native.Nat.{_≤_, _<_};
-ghost use Rattle.cosines.specs.Table.{lastRow, stored, cosine};
+ghost use Rattle.paper.specs.Mesh.{mostSides};
+ghost use Rattle.paper.specs.Cosines.{cosine};
+ghost use Rattle.cosines.specs.Stored.{stored};
 
 // Rows 3 to 12.
 pub type Rows = [[i64; 16]; 10];
@@ -199,7 +201,7 @@ pub fn rows() -> Rows
 
 // C(m, k) from the table, for a row m of it and k below m.
 pub fn cosine(rows: &Rows, m: usize, k: usize) -> i64
-    requires { ⌜ (now rows ≡ stored) × (3 ≤ m) × (m ≤ lastRow) × (k < m) ⌝ }
+    requires { ⌜ (now rows ≡ stored) × (3 ≤ m) × (m ≤ mostSides) × (k < m) ⌝ }
     ensures { λ r. ⌜ r ≡ cosine m k ⌝ }
 {
     rows[m - 3][k]

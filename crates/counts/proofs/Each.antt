@@ -7,13 +7,12 @@ use native.Mathlib.Omega.{arith}
 use lib.Dec.{eqb}
 use lib.ListN.{length, getD, take}
 use lib.Seq.{getD-take, length-take-le}
-use Rattle.mesh.specs.Limits.{mostSides, mostVertices}
-use Rattle.mesh.specs.Scan.{countBelow}
-use Rattle.mesh.specs.Lists.{Mesh, vertexCount}
-use Rattle.mesh.specs.Links.{valuesFrom, valence, names}
+use Rattle.paper.specs.Scan.{countBelow, valuesFrom}
+use Rattle.paper.specs.Mesh.{mostSides, mostVertices, Mesh, vertexCount}
+use Rattle.paper.specs.Links.{valence, names}
+use Rattle.paper.specs.Counts.{verticesWith, facesWith, forEach}
 use Rattle.mesh.proofs.Rings.{count-same}
 use Rattle.counts.specs.Tally.{stands, tallyTo, tallyOf}
-use Rattle.counts.specs.Counts.{verticesWith, facesWith, forEach}
 use Rattle.counts.proofs.Laws.{tally-length, tally-at}
 
 values-same : (f g : ℕ → ℕ) (at n : ℕ) → ((k : ℕ) → f k ≡ g k) → valuesFrom f at n ≡ valuesFrom g at n

@@ -10,7 +10,7 @@ use lib.ListN.{length, getD, set, replicate, length-set, length-replicate, getD-
 use lib.Seq.{getD-set-same, getD-set-other, ext-getD}
 use borrow.Author.Tests.{eqb-true, eqb-false, ltb-true, ltb-false}
 use lib.Dec.{ltb}
-use Rattle.mesh.specs.Scan.{countBelow}
+use Rattle.paper.specs.Scan.{countBelow}
 use Rattle.mesh.proofs.Scans.{ways}
 use Rattle.mesh.proofs.Links.{values-length, values-at}
 use Rattle.mesh.proofs.Rings.{count-hit, count-miss, count-le}

@@ -5,8 +5,7 @@ use mathlib.Core.List.{List}
 use Prim.Native.Nat.{ℕ}
 use lib.Dec.{eqb}
 use lib.ListN.{length, getD}
-use Rattle.mesh.specs.Scan.{countBelow}
-use Rattle.mesh.specs.Links.{valuesFrom}
+use Rattle.paper.specs.Scan.{countBelow, valuesFrom}
 
 -- the value at j is m
 abbrev pub stands : List ℕ → ℕ → ℕ → Bool

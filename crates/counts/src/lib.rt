@@ -4,24 +4,12 @@
 ghost use mathlib.Core.Path.{_≡_};
 ghost use Prim.Native.Nat.{_+_, _/_, _<_, _≤_};
 ghost use lib.ListN.{length, getD, set, replicate};
-ghost use Rattle.mesh.specs.Limits.{mostVertices, mostFaces, mostCorners};
-ghost use Rattle.mesh.specs.Lists.{meshOf};
+ghost use Rattle.paper.specs.Mesh.{mostVertices, mostFaces, mostCorners, meshOf};
+ghost use Rattle.paper.specs.Counts.{Counted};
 ghost use Rattle.counts.specs.Tally.{tallyOf};
-ghost use Rattle.counts.specs.Counts.{Counted};
-use mesh::MOST_SIDES;
-use mesh::MOST_VERTICES;
-
-// How many numbers m there are, from 0 to the most sides or corners.
-pub const NUMBERS: usize = MOST_SIDES + 1;
-
-// A mesh's vertices, faces and corners; and for each m how many vertices have m corners and how many faces m sides.
-pub struct Counts {
-    pub vertices: usize,
-    pub faces: usize,
-    pub corners: usize,
-    pub cornered: [u16; NUMBERS],
-    pub sided: [u16; NUMBERS],
-}
+use paper::Counts;
+use paper::MOST_VERTICES;
+use paper::NUMBERS;
 
 // One more of m, where the table reaches it.
 fn count_one(table: &mut [u16], m: usize)

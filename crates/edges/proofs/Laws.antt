@@ -9,20 +9,20 @@ use native.Mathlib.Omega.{arith}
 use lib.Dec.{eqb}
 use lib.ListN.{length, getD, set, length-set}
 use borrow.Author.Tests.{eq-eqb, ne-eqb, eqb-true}
-use Rattle.mesh.specs.Limits.{mostCorners}
-use Rattle.mesh.specs.Scan.{someBelow, firstBelow}
-use Rattle.mesh.specs.Corners.{sumOf, next, previous}
-use Rattle.mesh.specs.Links.{vertexOf, leavesTo, arrivesFrom, sameEdge, reverseEdge, linked, link, reverse}
+use Rattle.paper.specs.Scan.{someBelow, firstBelow}
+use Rattle.paper.specs.Mesh.{mostCorners}
+use Rattle.paper.specs.Corners.{sumOf, next, previous}
+use Rattle.paper.specs.Links.{vertexOf, leavesTo, arrivesFrom, sameEdge, reverseEdge, linked, link, reverse}
+use Rattle.paper.specs.Faults.{sound, lowestOf, fault10, fault11}
 use Rattle.mesh.specs.Tables.{LinkTable}
-use Rattle.mesh.specs.Faults.{sound, lowestOf, fault10, fault11, Closed}
+use Rattle.mesh.specs.Closed.{Closed}
 use Rattle.mesh.proofs.Scans.{ways, clash, compared, and-true, and-left, and-right, first-fails, some-true, some-false, some-below, some-passes, none}
 use Rattle.mesh.proofs.Faces.{next-below, previous-below, next-previous, previous-next}
 use Rattle.mesh.proofs.Links.{unique, reverse-in, reverse-vertex, reverse-to, link-is}
 use Rattle.mesh.proofs.Verdicts.{lowest-hit, lowest-none, lowest-sound}
 use Rattle.tables.specs.Filled.{Blank, EdgeEnds, Chained}
 use Rattle.tables.proofs.Laws.{put, On, above-head, at-in, at-vertex, on-from}
-use Rattle.edges.specs.Entries.{repeated, alone, Entry, again, single, joined, Entries, has}
-use Rattle.edges.specs.Entries.{Searchable, Keyed, Hit, Marked, MarkedFrom, EntryFor, EntriesFor, EntriesBelow}
+use Rattle.edges.specs.Entries.{repeated, alone, Entry, again, single, joined, Entries, has, Searchable, Keyed, Hit, Marked, MarkedFrom, EntryFor, EntriesFor, EntriesBelow}
 
 -- marking
 pub keyed-blank : (vertices : ℕ) (corners keys table : List ℕ) → vertices ≤ length table → Blank table → Keyed vertices corners keys table

@@ -6,13 +6,12 @@ use mathlib.Core.List.{List}
 use Prim.Native.Nat.{ℕ, _+_, _-_, _<_, _≤_}
 use lib.Dec.{eqb}
 use lib.ListN.{length, getD}
-use Rattle.mesh.specs.Limits.{mostCorners}
-use Rattle.mesh.specs.Links.{vertexOf, linked}
+use Rattle.paper.specs.Mesh.{mostCorners}
+use Rattle.paper.specs.Corners.{sumOf}
+use Rattle.paper.specs.Links.{vertexOf, linked}
+use Rattle.paper.specs.Faults.{sound, lowestOf, fault10, fault11, stated}
+use Rattle.paper.specs.declared.Answer.{Answer}
 use Rattle.mesh.specs.Tables.{Named}
-use Rattle.mesh.specs.Corners.{sumOf}
-use Rattle.mesh.specs.Faults.{sound, lowestOf, fault10, fault11}
-use Rattle.mesh.specs.Answers.{stated}
-use Rattle.mesh.specs.declared.Answer.{Answer}
 use Rattle.tables.specs.Filled.{EdgeEnds, Chained}
 
 -- the entry of a corner whose leaving edge already left an earlier one, and of a corner whose leaving edge has no reverse: no corners

@@ -1,14 +1,13 @@
 // Checks 10 and 11: edges that leave twice, and edges that have no reverse; the links come out of the same tables.
 // A vertex's corners are marked by where their leaving edge goes and by where their arriving edge comes from. Each of them then finds,
 // without a search, the first corner that its edge leaves and a corner where the reverse of its edge arrives.
-use mesh::Answer;
+use paper::Answer;
 ghost use mathlib.Core.Path.{_≡_};
 ghost use Prim.Native.Nat.{_+_, _≤_, _<_};
 ghost use lib.ListN.{length, getD};
-ghost use Rattle.mesh.specs.Limits.{mostCorners};
-ghost use Rattle.mesh.specs.Links.{vertexOf};
-ghost use Rattle.mesh.specs.Faults.{lowestOf};
-ghost use Rattle.mesh.specs.Answers.{stated};
+ghost use Rattle.paper.specs.Mesh.{mostCorners};
+ghost use Rattle.paper.specs.Links.{vertexOf};
+ghost use Rattle.paper.specs.Faults.{lowestOf, stated};
 ghost use Rattle.tables.specs.Filled.{Blank};
 ghost use Rattle.edges.specs.Entries.{has, Unrepeated, Reversed, Searchable, Keyed, MarkedFrom, EntryFor, EntriesFor, EntriesBelow};
 

@@ -1,1 +1,1 @@
-// The checked examples of 01 that are marked (p): one table, specs/Examples.antt, and one claim over it. There is no code.
+// The checked examples of 01 that are marked (p): one claim over the table of paper/specs/Examples.antt. There is no code.

@@ -13,22 +13,20 @@ use lib.Signed.{ltZ-yes}
 use mir.Syntax.{w32, w64}
 use mir.Val.{SFits, ofZ, toZ}
 use mir.Facts.{toZ-ofZ}
-use Rattle.integers.specs.Sum.{sum, sumBy}
+use Rattle.paper.specs.Scan.{iterate}
+use Rattle.paper.specs.Numbers.{sum, sumBy, rounded, round}
+use Rattle.paper.specs.Cosines.{table, cosine}
+use Rattle.paper.specs.Face.{centre, weight, toward}
 use Rattle.integers.proofs.Diff.{diff}
 use Rattle.integers.proofs.Poly.{over, poly}
 use Rattle.integers.proofs.Laws.{abs-mul-le, abs-add-le, zero-add}
 use Rattle.integers.proofs.Machine.{abs-fits}
 use Rattle.integers.proofs.Sum.{Cyclic, sum-same, sum-abs, cycle-one, sum-more, cycle}
-use Rattle.mesh.specs.Scan.{iterate}
 use Rattle.mesh.proofs.Rings.{iterate-suc}
-use Rattle.surface.specs.Numbers.{rounded}
-use Rattle.surface.specs.Face.{centre, weight, toward}
 use Rattle.surface.proofs.Rings.{iterate-in, iterate-round}
 use Rattle.surface.proofs.Faces.{weight-period, toward-is}
 use Rattle.surface.proofs.Sizes.{weight-size, gather-size, centre-size, toward-size}
-use Rattle.rounding.specs.Round.{round}
 use Rattle.rounding.proofs.Laws.{round-scale}
-use Rattle.cosines.specs.Table.{table, cosine}
 use Rattle.formulas.specs.Sizes.{Corner, FacePoint}
 use Rattle.faces.specs.Ring.{around, Ring, Summed, Divisor, Divisible, Divided, IsFace, IsEdgeFace}
 use Rattle.faces.specs.declared.Sums.{Sums}

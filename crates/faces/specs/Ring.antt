@@ -6,14 +6,12 @@ use Prim.Native.Nat.{ℕ, _+_, _^_, _≤_, _<_}
 use lib.ListN.{length, getD}
 use lib.IntN.{ℤ, pos, natAbs, _*ℤ_}
 use lib.Signed.{_≤ℤ_, _<ℤ_}
-use Rattle.integers.specs.Sum.{sum}
+use Rattle.paper.specs.Scan.{iterate}
+use Rattle.paper.specs.Mesh.{leastSides, mostSides}
+use Rattle.paper.specs.Numbers.{sum, round, rounded}
+use Rattle.paper.specs.Face.{centre, weight, toward}
 use Rattle.integers.proofs.Sum.{Cyclic}
-use Rattle.rounding.specs.Round.{round}
-use Rattle.mesh.specs.Limits.{leastSides, mostSides}
-use Rattle.mesh.specs.Scan.{iterate}
 use Rattle.formulas.specs.Sizes.{Corner, FacePoint}
-use Rattle.surface.specs.Numbers.{rounded}
-use Rattle.surface.specs.Face.{centre, weight, toward}
 use Rattle.faces.specs.declared.Sums.{Sums}
 use Rattle.faces.specs.declared.Face.{Face}
 

@@ -4,8 +4,10 @@ ghost use mathlib.Core.Path.{_≡_};
 ghost use Prim.Native.Nat.{_+_, _-_, _*_, _^_, _≤_, _<_};
 ghost use lib.ListN.{length, getD};
 ghost use lib.IntN.{pos, _*ℤ_};
-ghost use Rattle.cosines.specs.Table.{lastRow, stored};
-ghost use Rattle.surface.specs.Face.{weight};
+
+ghost use Rattle.paper.specs.Mesh.{mostSides};
+ghost use Rattle.paper.specs.Face.{weight};
+ghost use Rattle.cosines.specs.Stored.{stored};
 ghost use Rattle.formulas.specs.Sizes.{Corner};
 ghost use Rattle.faces.specs.Ring.{around, Ring, Summed, Divisor, Divisible, Divided, IsFace, IsEdgeFace};
 
@@ -25,7 +27,7 @@ pub struct Sums {
 
 // The weight of the place after j, k = j + 1.
 fn weight_after(rows: &cosines::Rows, m: usize, j: usize) -> i64
-    requires { ⌜ (3 ≤ m) × (m ≤ lastRow) × (j < m) × (now rows ≡ stored) ⌝ }
+    requires { ⌜ (3 ≤ m) × (m ≤ mostSides) × (j < m) × (now rows ≡ stored) ⌝ }
     ensures { λ r. ⌜ r ≡ weight m (j + 1) ⌝ }
 {
     let k = if j + 1 < m { j + 1 } else { 0 };
@@ -76,7 +78,7 @@ fn quotients(s: Sums, m: i64, w: i64) -> Face
 
 // The same for a ring of m corners. The divisors are written out, so that each division is a product and a shift.
 fn divide(s: Sums, m: usize) -> Face
-    requires count { ⌜ (3 ≤ m) × (m ≤ lastRow) ⌝ }
+    requires count { ⌜ (3 ≤ m) × (m ≤ mostSides) ⌝ }
     requires sums { ⌜ Divisible s ⌝ }
     ensures { λ r. ⌜ Divided s (pos m) (pos (3 * 2 ^ 30) *ℤ pos m) r ⌝ }
 {

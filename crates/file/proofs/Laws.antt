@@ -10,21 +10,20 @@ use lib.ListN.{length, take}
 use lib.Seq.{take-all}
 use lib.IntN.{ℤ}
 use borrow.Author.Tests.{lt-ltb, le-ltb, ltb-true, ltb-false}
-use Rattle.mesh.specs.Limits.{mostVertices, mostFaces, mostCorners}
-use Rattle.mesh.specs.Lists.{Mesh, meshOf, vertexCount, faceCount, cornerCount}
-use Rattle.mesh.specs.Faults.{Verdict, sound, fault, single, _orElse_, Accepted}
-use Rattle.mesh.specs.declared.Answer.the-variants.{Done, Refused}
+use Rattle.paper.specs.Mesh.{mostVertices, mostFaces, mostCorners, Mesh, meshOf, vertexCount, faceCount, cornerCount}
+use Rattle.paper.specs.Faults.{Verdict, sound, fault, single, _orElse_, Accepted}
+use Rattle.paper.specs.Counts.{Counted}
+use Rattle.paper.specs.File.{verticesIn, facesIn, cornersIn, fileMesh, fileVerdict, noCounts, noRoom, Surveyed, roomVerdict, decodeVerdict, DecodedTo}
+use Rattle.paper.specs.declared.Answer.the-variants.{Done, Refused}
+use Rattle.paper.specs.declared.Counts.{Counts}
+use Rattle.paper.specs.declared.Summary.{Summary}
+use Rattle.paper.specs.declared.Decoded.{Decoded}
 use Rattle.mesh.proofs.Scans.{ways}
 use Rattle.mesh.proofs.Accepted.{sound-of, few-vertices, few-faces, few-corners}
 use Rattle.mesh.proofs.Verdicts.{orElse-sound, sound-left, sound-right, single-sound}
-use Rattle.format.specs.Format.{verticesOf, facesOf, cornersOf, fileMesh, Sized, Room, ListsRead}
+use Rattle.format.specs.Sized.{Sized, Room, ListsRead}
 use Rattle.reading.proofs.Laws.{read-back, file-coordinates, file-faces, file-corners}
 use Rattle.format.proofs.Header.{header-sized}
-use Rattle.counts.specs.Counts.{Counted}
-use Rattle.counts.specs.declared.Counts.{Counts}
-use Rattle.file.specs.File.{fileVerdict, noCounts, noRoom, Surveyed, roomVerdict, decodeVerdict, DecodedTo}
-use Rattle.file.specs.declared.Summary.{Summary}
-use Rattle.file.specs.declared.Decoded.{Decoded}
 
 -- ---- the bytes of the file
 pub held-bytes : (bytes : List ℕ) (held counted : ℕ) → (held < counted → held ≡ length bytes) → held ≤ counted → take held bytes ≡ take counted bytes
@@ -56,7 +55,7 @@ limits M e =
 
 -- the lists that were read make the file's mesh
 pub mesh-read : (file : List ℕ) (n f k : ℕ) (old-coordinates coordinates : List ℤ) (old-sides old-corners sides corners : List ℕ)
-    → n ≡ 3 * verticesOf file → f ≡ facesOf file → k ≡ cornersOf file
+    → n ≡ 3 * verticesIn file → f ≡ facesIn file → k ≡ cornersIn file
     → ListsRead file old-coordinates old-sides old-corners coordinates sides corners
     → meshOf (take n coordinates) (take f sides) (take k corners) ≡ fileMesh file
 mesh-read file n f k oc cs os ok ss ks p q r h =
@@ -72,23 +71,23 @@ unfolding fileVerdict
 file-sized file counted e = header-sized file counted (sound-left _ _ e)
 
 module _ (file : List ℕ) (a b c : ℕ) where
-  pub no-coordinates : (n : ℕ) → n ≡ 3 * verticesOf file → a < n → fault noRoom n ≡ roomVerdict file a b c
+  pub no-coordinates : (n : ℕ) → n ≡ 3 * verticesIn file → a < n → fault noRoom n ≡ roomVerdict file a b c
   unfolding roomVerdict single _orElse_
   no-coordinates n q h = rw (← q, lt-ltb a n h)
 
-  module _ (h : 3 * verticesOf file ≤ a) where
-    pub no-sides : (n : ℕ) → n ≡ facesOf file → b < n → fault noRoom n ≡ roomVerdict file a b c
+  module _ (h : 3 * verticesIn file ≤ a) where
+    pub no-sides : (n : ℕ) → n ≡ facesIn file → b < n → fault noRoom n ≡ roomVerdict file a b c
     unfolding roomVerdict single _orElse_
-    no-sides n q l = rw (le-ltb a (3 * verticesOf file) h, ← q, lt-ltb b n l)
+    no-sides n q l = rw (le-ltb a (3 * verticesIn file) h, ← q, lt-ltb b n l)
 
-    module _ (l : facesOf file ≤ b) where
-      pub no-corners : (n : ℕ) → n ≡ cornersOf file → c < n → fault noRoom n ≡ roomVerdict file a b c
+    module _ (l : facesIn file ≤ b) where
+      pub no-corners : (n : ℕ) → n ≡ cornersIn file → c < n → fault noRoom n ≡ roomVerdict file a b c
       unfolding roomVerdict single _orElse_
-      no-corners n q m = rw (le-ltb a (3 * verticesOf file) h, le-ltb b (facesOf file) l, ← q, lt-ltb c n m)
+      no-corners n q m = rw (le-ltb a (3 * verticesIn file) h, le-ltb b (facesIn file) l, ← q, lt-ltb c n m)
 
-      pub all-room : cornersOf file ≤ c → sound ≡ roomVerdict file a b c
+      pub all-room : cornersIn file ≤ c → sound ≡ roomVerdict file a b c
       unfolding roomVerdict single _orElse_
-      all-room m = rw (le-ltb a (3 * verticesOf file) h, le-ltb b (facesOf file) l, le-ltb c (cornersOf file) m)
+      all-room m = rw (le-ltb a (3 * verticesIn file) h, le-ltb b (facesIn file) l, le-ltb c (cornersIn file) m)
 
   pub room-of : roomVerdict file a b c ≡ sound → Room file a b c
   unfolding roomVerdict
@@ -124,7 +123,7 @@ module _ (file : List ℕ) (counted : ℕ) (coordinates : List ℤ) (sides corne
         corners-hold = rw q;
       }
 
-  pub done-decode : (n f k : ℕ) (coordinates' : List ℤ) (sides' corners' : List ℕ) → n ≡ 3 * verticesOf file → f ≡ facesOf file → k ≡ cornersOf file
+  pub done-decode : (n f k : ℕ) (coordinates' : List ℤ) (sides' corners' : List ℕ) → n ≡ 3 * verticesIn file → f ≡ facesIn file → k ≡ cornersIn file
       → sound ≡ decodeVerdict file counted (length coordinates) (length sides) (length corners)
       → ListsRead file coordinates sides corners coordinates' sides' corners'
       → DecodedTo file counted coordinates sides corners (record { answer = Done; coordinates = n; sides = f; corners = k }) coordinates' sides' corners'

@@ -3,31 +3,18 @@
 ghost use mathlib.Core.Path.{_≡_};
 ghost use Prim.Native.Nat.{_<_, _≤_};
 ghost use lib.ListN.{length};
-ghost use Rattle.mesh.specs.Lists.{meshOf};
-ghost use Rattle.mesh.specs.Faults.{verdict};
-ghost use Rattle.mesh.specs.Answers.{stated};
-ghost use Rattle.format.specs.Format.{headerLength, fileMesh, Sized};
-ghost use Rattle.file.specs.File.{fileOf, noCounts, Surveyed, FileSurveyed, roomVerdict, decodeVerdict, DecodedTo};
-use counts::Counts;
-use counts::NUMBERS;
-use mesh::Answer;
-use mesh::MOST_CORNERS;
-use mesh::MOST_FACES;
-use mesh::MOST_VERTICES;
-
-// What `survey` answers: done or refused, and the counts, all zero beside a refusal.
-pub struct Summary {
-    pub answer: Answer,
-    pub counts: Counts,
-}
-
-// What `decode` answers: done or refused, and the lengths of the three lists, zero beside a refusal.
-pub struct Decoded {
-    pub answer: Answer,
-    pub coordinates: usize,
-    pub sides: usize,
-    pub corners: usize,
-}
+ghost use Rattle.paper.specs.Mesh.{meshOf};
+ghost use Rattle.paper.specs.Faults.{verdict, stated};
+ghost use Rattle.paper.specs.File.{headerLength, fileMesh, fileOf, noCounts, Surveyed, FileSurveyed, roomVerdict, decodeVerdict, DecodedTo};
+ghost use Rattle.format.specs.Sized.{Sized};
+use paper::Answer;
+use paper::Counts;
+use paper::Decoded;
+use paper::MOST_CORNERS;
+use paper::MOST_FACES;
+use paper::MOST_VERTICES;
+use paper::NUMBERS;
+use paper::Summary;
 
 // The numbers of the longest coordinate list.
 const MOST_NUMBERS: usize = 3 * MOST_VERTICES;

@@ -8,11 +8,12 @@ use native.Mathlib.Omega.{arith}
 use lib.Dec.{ltb}
 use lib.ListN.{length}
 use borrow.Author.Tests.{lt-ltb, le-ltb, eq-eqb, ne-eqb, ltb-false, eqb-true, not-false}
-use Rattle.mesh.specs.Faults.{sound, fault, single, _orElse_, fault4}
+use Rattle.paper.specs.Faults.{sound, fault, single, _orElse_, fault4}
+use Rattle.paper.specs.File.{headerLength, marked, known, verticesIn, facesIn, cornersIn, expectedLength, lengthVerdict, headerVerdict}
 use Rattle.mesh.proofs.Ranges.{none-left}
 use Rattle.mesh.proofs.Accepted.{few-vertices, few-faces, few-corners}
 use Rattle.mesh.proofs.Verdicts.{sound-left, sound-right, single-sound, single-hit, single-miss}
-use Rattle.format.specs.Format.{headerLength, marked, known, verticesOf, facesOf, cornersOf, expectedLength, lengthVerdict, headerVerdict, Sized}
+use Rattle.format.specs.Sized.{Sized}
 
 module _ (file : List ℕ) (counted : ℕ) where
   pub too-short : length file < headerLength → fault 1 0 ≡ lengthVerdict file counted
@@ -60,7 +61,7 @@ unfolding headerVerdict
 header-sized file counted e =
     let front = sound-left (lengthVerdict file counted) _ e in
     let later = sound-right (lengthVerdict file counted) _ e in
-    let four : fault4 (3 * verticesOf file) (facesOf file) (cornersOf file) ≡ false = single-sound 4 _ 0 (sound-left _ _ later) in
+    let four : fault4 (3 * verticesIn file) (facesIn file) (cornersIn file) ≡ false = single-sound 4 _ 0 (sound-left _ _ later) in
     let held = ltb-false (length file) counted (single-sound 3 _ 0 (sound-right _ _ later)) in
     record {
       header = has-header file counted front;

@@ -1,1 +1,1 @@
-pub mod Format
+pub mod Sized

@@ -1,11 +1,11 @@
 // The mesh file: the numbers of its header, where its lists start, and what the header says of a file: 1, 2, 3 and 4.
-// What a file means is in specs/Format.antt.
+// What a file means is in paper/specs/File.antt.
 ghost use mathlib.Core.Path.{_≡_};
 ghost use Prim.Native.Nat.{_+_, _<_, _≤_};
 ghost use lib.ListN.{length};
-ghost use Rattle.mesh.specs.Answers.{stated};
-ghost use Rattle.format.specs.Format.{halfAt, headerLength, marked, known, verticesOf, facesOf, cornersOf, sidesStart, cornersStart, expectedLength, countsVerdict, lengthVerdict, headerVerdict};
-use mesh::Answer;
+ghost use Rattle.paper.specs.Faults.{stated};
+ghost use Rattle.paper.specs.File.{halfAt, headerLength, marked, known, verticesIn, facesIn, cornersIn, sidesStart, cornersStart, expectedLength, countsVerdict, lengthVerdict, headerVerdict};
+use paper::Answer;
 
 // The header's length.
 pub const HEADER: usize = 11;
@@ -51,21 +51,21 @@ fn has_version(file: &[u8]) -> bool
 // The header's counts of vertices, faces and corners.
 pub fn vertex_count(file: &[u8]) -> usize
     requires { ⌜ headerLength ≤ length (now file) ⌝ }
-    ensures { λ r. ⌜ (r ≡ verticesOf (now (file .entry))) × (r < 65536) ⌝ }
+    ensures { λ r. ⌜ (r ≡ verticesIn (now (file .entry))) × (r < 65536) ⌝ }
 {
     half(file, 5) as usize
 }
 
 pub fn face_count(file: &[u8]) -> usize
     requires { ⌜ headerLength ≤ length (now file) ⌝ }
-    ensures { λ r. ⌜ (r ≡ facesOf (now (file .entry))) × (r < 65536) ⌝ }
+    ensures { λ r. ⌜ (r ≡ facesIn (now (file .entry))) × (r < 65536) ⌝ }
 {
     half(file, 7) as usize
 }
 
 pub fn corner_count(file: &[u8]) -> usize
     requires { ⌜ headerLength ≤ length (now file) ⌝ }
-    ensures { λ r. ⌜ (r ≡ cornersOf (now (file .entry))) × (r < 65536) ⌝ }
+    ensures { λ r. ⌜ (r ≡ cornersIn (now (file .entry))) × (r < 65536) ⌝ }
 {
     half(file, 9) as usize
 }

@@ -3,7 +3,7 @@
 ghost use mathlib.Core.Path.{_≡_};
 ghost use Prim.Native.Nat.{_*_, _+_, _-_, _^_};
 ghost use lib.IntN.{pos, _+ℤ_, _-ℤ_, _*ℤ_};
-ghost use Rattle.rounding.specs.Round.{round};
+ghost use Rattle.paper.specs.Numbers.{round};
 ghost use Rattle.formulas.specs.Sizes.{Corner, FacePoint, Value, Written, Row};
 
 // The centre of a four-sided refined face.

@@ -13,10 +13,10 @@ use mir.Facts.{toZ-ofZ}
 use Rattle.integers.proofs.Poly.{over, poly}
 use Rattle.integers.proofs.Laws.{add-comm}
 use Rattle.integers.proofs.Machine.{abs-fits}
-use Rattle.rounding.specs.Round.{round}
+use Rattle.paper.specs.Numbers.{round}
+use Rattle.paper.specs.Net.{side0, side3, T, Y, outer1, outer2, outer3, a0, a1, a2, a3, middle, aHead, aTail, bHead, bTail, b22, bGrid, aGrid}
 use Rattle.formulas.specs.Sizes.{Value, Written, Row}
 use Rattle.faces.proofs.Laws.{plain}
-use Rattle.surface.specs.Net.{side0, side3, T, Y, outer1, outer2, outer3, a0, a1, a2, a3, middle, aHead, aTail, bHead, bTail, b22, bGrid, aGrid}
 use Rattle.sides.specs.declared.SideValues.{SideValues}
 use Rattle.sides.specs.Values.{Sized}
 use Rattle.grids.specs.declared.RowValues.{RowValues}

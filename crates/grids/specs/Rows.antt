@@ -5,9 +5,9 @@ use mathlib.Core.List.{List}
 use Prim.Native.Nat.{ℕ}
 use lib.IntN.{ℤ}
 use Rattle.formulas.specs.Sizes.{Written}
-use Rattle.surface.specs.Numbers.{rounded}
-use Rattle.surface.specs.Corners.{RefinedMesh}
-use Rattle.surface.specs.Net.{Side, side0, side1, side2, side3, atHead, atTail, opposite, H, T, outer1, outer2, outer3, a1, a2, middle, bGrid, aGrid}
+use Rattle.paper.specs.Numbers.{rounded}
+use Rattle.paper.specs.Refined.{RefinedMesh}
+use Rattle.paper.specs.Net.{Side, side0, side1, side2, side3, atHead, atTail, opposite, H, T, outer1, outer2, outer3, a1, a2, middle, bGrid, aGrid}
 use Rattle.sides.specs.declared.SideValues.{SideValues}
 use Rattle.sides.specs.Values.{IsSide}
 use Rattle.grids.specs.declared.RowValues.{RowValues}

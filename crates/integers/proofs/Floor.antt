@@ -8,7 +8,7 @@ use lib.IntN.{ℤ, pos, negsuc, _+ℤ_, _*ℤ_}
 use lib.Signed.{_≤ℤ_, _<ℤ_, quotZ}
 use Rattle.integers.proofs.Diff.{as-diff, diff}
 use Rattle.integers.proofs.Poly.{over, poly}
-use Rattle.integers.specs.Floor.{floor}
+use Rattle.paper.specs.Numbers.{floor}
 use Rattle.integers.proofs.Laws.{le-antisym, lt-of-le-of-lt}
 
 -- ---- the floor is told by its two bounds

@@ -5,7 +5,7 @@ use Prim.Native.Nat.{ℕ, zero, suc, _+_, _*_, _≤_, _<_}
 use native.Mathlib.Numerals.{add-one}
 use native.Mathlib.Omega.{arith}
 use lib.IntN.{ℤ, pos, _+ℤ_, natAbs}
-use Rattle.integers.specs.Sum.{sum, sumBy}
+use Rattle.paper.specs.Numbers.{sum, sumBy}
 use Rattle.integers.proofs.Poly.{over, poly}
 use Rattle.integers.proofs.Laws.{abs-add-le}
 

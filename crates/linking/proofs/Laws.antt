@@ -9,16 +9,15 @@ use native.Mathlib.Omega.{arith}
 use lib.ListN.{length, getD, set}
 use lib.Seq.{getD-set-same, getD-set-other}
 use borrow.Author.Tests.{eq-eqb, ne-eqb}
-use Rattle.mesh.specs.Lists.{Mesh, cornerCount}
-use Rattle.mesh.specs.Links.{linkTable}
+use Rattle.paper.specs.Mesh.{Mesh, cornerCount}
+use Rattle.paper.specs.Links.{linkTable}
+use Rattle.paper.specs.Faults.{Verdict, sound, fault, Accepted, verdict, linkVerdict, kept}
+use Rattle.paper.specs.Calls.{Linked}
+use Rattle.paper.specs.declared.Answer.the-variants.{Done, Refused}
 use Rattle.mesh.specs.Tables.{LinkTable}
-use Rattle.mesh.specs.Faults.{Verdict, sound, fault, Accepted, verdict, linkVerdict}
-use Rattle.mesh.specs.Answers.{kept}
-use Rattle.mesh.specs.declared.Answer.the-variants.{Done, Refused}
 use Rattle.mesh.proofs.Scans.{compared}
 use Rattle.mesh.proofs.Links.{link-table-is}
 use Rattle.mesh.proofs.Verdicts.{orElse-fault, orElse-sound, single-hit, single-miss}
-use Rattle.linking.specs.Linked.{Linked}
 
 -- the entries below c are copied
 pub Copied : List ℕ → List ℕ → ℕ → Type 0

@@ -1,14 +1,14 @@
 // Linking: fills a lent link table, or answers why the mesh is turned down and leaves the table as it was.
-use mesh::Answer;
-use mesh::MOST_CORNERS;
 use mesh::SMALL_MESH;
+use paper::Answer;
+use paper::MOST_CORNERS;
 ghost use mathlib.Core.Path.{_≡_};
 ghost use Prim.Native.Nat.{ℕ, _≤_, _<_};
 ghost use lib.ListN.{length, getD};
-ghost use Rattle.mesh.specs.Lists.{meshOf};
+ghost use Rattle.paper.specs.Mesh.{meshOf};
+ghost use Rattle.paper.specs.Calls.{Linked};
 ghost use Rattle.mesh.specs.Tables.{smallMesh};
 ghost use Rattle.checks.specs.Checked.{RoomFor};
-ghost use Rattle.linking.specs.Linked.{Linked};
 
 // Checks 4 to 14, then the link of every corner. Nothing is written to the lent table before the last check has passed.
 pub fn link(coordinates: &[i32], sides: &[u8], corners: &[u16], links: &mut [u16]) -> Answer

@@ -14,11 +14,11 @@ use mir.Syntax.{w32}
 use mir.Val.{toZ, ofZ}
 use mir.ValLaws.{toZ-ofZ}
 use borrow.Author.Tests.{ltb-true, ltb-false, eq-eqb, ne-eqb, le-leb, lt-leb}
-use Rattle.mesh.specs.Limits.{mostVertices, mostFaces, mostCorners, mostCoordinate}
-use Rattle.mesh.specs.Scan.{someBelow}
-use Rattle.mesh.specs.Corners.{sumOf, startOf, firstOf}
-use Rattle.mesh.specs.Links.{vertexOf, names}
-use Rattle.mesh.specs.Faults.{sound, fault, single, lowestOf, outside, fault4, fault6, fault7, fault9, sameVertexFrom}
+use Rattle.paper.specs.Scan.{someBelow}
+use Rattle.paper.specs.Mesh.{mostVertices, mostFaces, mostCorners, mostCoordinate}
+use Rattle.paper.specs.Corners.{sumOf, startOf, firstOf}
+use Rattle.paper.specs.Links.{vertexOf, names}
+use Rattle.paper.specs.Faults.{sound, fault, single, lowestOf, outside, fault4, fault6, fault7, fault9, sameVertexFrom}
 use Rattle.mesh.proofs.Ranges.{or-left, or-right, or-none}
 use Rattle.mesh.proofs.Scans.{ways, some-true, some-false, fails-step}
 use Rattle.mesh.proofs.Faces.{face-at}

@@ -1,19 +1,18 @@
 // Checks 4 to 9, over the lists themselves: each answers its fault at the lowest place, or that there is none.
-use mesh::Answer;
-use mesh::LEAST_SIDES;
-use mesh::MOST_COORDINATE;
-use mesh::MOST_CORNERS;
-use mesh::MOST_FACES;
-use mesh::MOST_SIDES;
-use mesh::MOST_VERTICES;
+use paper::Answer;
+use paper::LEAST_SIDES;
+use paper::MOST_COORDINATE;
+use paper::MOST_CORNERS;
+use paper::MOST_FACES;
+use paper::MOST_SIDES;
+use paper::MOST_VERTICES;
 ghost use mathlib.Core.Path.{_≡_};
 ghost use Prim.Native.Nat.{_≤_};
 ghost use lib.ListN.{length};
-ghost use Rattle.mesh.specs.Limits.{mostFaces, mostCorners};
-ghost use Rattle.mesh.specs.Corners.{sumOf};
+ghost use Rattle.paper.specs.Mesh.{mostFaces, mostCorners};
+ghost use Rattle.paper.specs.Corners.{sumOf};
+ghost use Rattle.paper.specs.Faults.{single, lowestOf, fault4, fault5, fault6, fault7, fault8, fault9, stated};
 ghost use Rattle.mesh.specs.Tables.{Named};
-ghost use Rattle.mesh.specs.Faults.{single, lowestOf, fault4, fault5, fault6, fault7, fault8, fault9};
-ghost use Rattle.mesh.specs.Answers.{stated};
 ghost use Rattle.tables.specs.Filled.{Blank};
 
 // Check 4, of the lists' lengths.

@@ -6,17 +6,14 @@ use Prim.Native.Nat.{ℕ}
 use native.Mathlib.Omega.{arith}
 use lib.ListN.{length}
 use lib.IntN.{ℤ}
-use Rattle.mesh.specs.Lists.{Mesh, meshOf}
-use Rattle.mesh.specs.Faults.{Verdict, sound, fault}
-use Rattle.mesh.specs.Answers.{stated, kept}
-use Rattle.mesh.specs.declared.Answer.{Answer}
-use Rattle.mesh.specs.declared.Answer.the-variants.{Done, Refused}
-use Rattle.linking.specs.Linked.{Linked}
-use Rattle.surface.specs.Refined.{nets}
-use Rattle.surface.specs.Building.{buildVerdict, Built}
-use Rattle.file.specs.File.{DecodedTo}
-use Rattle.file.specs.declared.Decoded.{Decoded}
-use Rattle.mahunopi.specs.Calls.{States, LinkCall, BuildCall, Lengths, three, lentVerdict, DecodeCall}
+use Rattle.paper.specs.Mesh.{Mesh, meshOf}
+use Rattle.paper.specs.Faults.{Verdict, sound, fault, stated, kept}
+use Rattle.paper.specs.File.{DecodedTo}
+use Rattle.paper.specs.Calls.{Linked, nets, buildVerdict, Built}
+use Rattle.paper.specs.CFace.{States, LinkCall, BuildCall, Lengths, three, lentVerdict, DecodeCall}
+use Rattle.paper.specs.declared.Answer.{Answer}
+use Rattle.paper.specs.declared.Answer.the-variants.{Done, Refused}
+use Rattle.paper.specs.declared.Decoded.{Decoded}
 
 -- the verdict v that the answer r states
 module _ (v : Verdict) (r : Answer) (before : ℕ) (e : stated r ≡ v) where

@@ -1,9 +1,9 @@
 // The C face of the library: `rt staticlib mahunopi` makes libmahunopi.a of it, and include/mahunopi.h declares it. Each function
 // wraps one of Rattle's and says the same: 0 for done, else 01's number, with the place behind `place`.
-use mesh::Answer;
-ghost use Rattle.mesh.specs.Lists.{meshOf};
-ghost use Rattle.mahunopi.specs.Calls.{LinkCall, BuildCall, three, DecodeCall};
-ghost use Rattle.file.specs.File.{fileOf};
+use paper::Answer;
+ghost use Rattle.paper.specs.Mesh.{meshOf};
+ghost use Rattle.paper.specs.File.{fileOf};
+ghost use Rattle.paper.specs.CFace.{LinkCall, BuildCall, three, DecodeCall};
 
 // Linking.
 #[no_mangle]

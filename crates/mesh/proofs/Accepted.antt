@@ -10,13 +10,13 @@ use native.Mathlib.Omega.{arith}
 use lib.Dec.{ltb, eqb}
 use lib.ListN.{length, getD}
 use borrow.Author.Tests.{eqb-true, eq-eqb, leb-false, ltb-true, ltb-false, not-false}
-use Rattle.mesh.specs.Limits.{leastSides, mostSides, mostVertices, mostFaces, mostCorners}
-use Rattle.mesh.specs.Scan.{iterate}
-use Rattle.mesh.specs.Lists.{Mesh, vertexCount, faceCount, cornerCount}
-use Rattle.mesh.specs.Corners.{sumOf, firstOf, sidesOf, next}
-use Rattle.mesh.specs.Links.{vertexOf, link, names, valence, lowest}
-use Rattle.mesh.specs.Faults.{outside, fault4, fault5, fault6, fault7, fault8, fault9, fault10, fault11, fault12, fault13, after, ringLength, met, listFaults, linkFaults, verdict, Accepted, Closed}
-use Rattle.mesh.specs.Theorems.{Returns}
+use Rattle.paper.specs.Scan.{iterate}
+use Rattle.paper.specs.Mesh.{leastSides, mostSides, mostVertices, mostFaces, mostCorners, Mesh, vertexCount, faceCount, cornerCount}
+use Rattle.paper.specs.Corners.{sumOf, firstOf, sidesOf, next}
+use Rattle.paper.specs.Links.{vertexOf, link, names, valence, lowest}
+use Rattle.paper.specs.Faults.{outside, fault4, fault5, fault6, fault7, fault8, fault9, fault10, fault11, fault12, fault13, after, ringLength, met, listFaults, linkFaults, verdict, Accepted}
+use Rattle.paper.specs.Manifold.{Returns}
+use Rattle.mesh.specs.Closed.{Closed}
 use Rattle.mesh.proofs.Ranges.{none-left, none-right, at-least, at-most}
 use Rattle.mesh.proofs.Scans.{ways, first-le, first-passes, none}
 use Rattle.mesh.proofs.Faces.{first-from, first-to, first-same, sides-same, next-inner, next-last}

@@ -9,7 +9,7 @@ use lib.Dec.{ltb, eqb}
 use lib.ListN.{length, getD}
 use lib.Seq.{take-all}
 use borrow.Author.Tests.{ltb-true, ltb-false, lt-ltb, le-ltb, eqb-true, eqb-false, eq-eqb, ne-eqb}
-use Rattle.mesh.specs.Corners.{sumOf, faceOf, startOf, firstOf, sidesOf, positionOf, next, previous}
+use Rattle.paper.specs.Corners.{sumOf, faceOf, startOf, firstOf, sidesOf, positionOf, next, previous}
 use Rattle.mesh.proofs.Scans.{ways}
 
 module _ (s : ℕ) (rest : List ℕ) where

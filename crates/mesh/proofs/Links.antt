@@ -11,11 +11,12 @@ use lib.Dec.{eqb}
 use lib.ListN.{length, getD}
 use lib.Seq.{ext-getD}
 use borrow.Author.Tests.{eqb-true, eq-eqb, not-false}
-use Rattle.mesh.specs.Scan.{someBelow}
-use Rattle.mesh.specs.Lists.{Mesh}
-use Rattle.mesh.specs.Corners.{next, previous}
-use Rattle.mesh.specs.Links.{vertexOf, leavesTo, arrivesFrom, sameEdge, reverseEdge, linked, link, reverse, valuesFrom, linkTable}
-use Rattle.mesh.specs.Faults.{fault10, fault11, Closed}
+use Rattle.paper.specs.Scan.{someBelow, valuesFrom}
+use Rattle.paper.specs.Mesh.{Mesh}
+use Rattle.paper.specs.Corners.{next, previous}
+use Rattle.paper.specs.Links.{vertexOf, leavesTo, arrivesFrom, sameEdge, reverseEdge, linked, link, reverse, linkTable}
+use Rattle.paper.specs.Faults.{fault10, fault11}
+use Rattle.mesh.specs.Closed.{Closed}
 use Rattle.mesh.proofs.Scans.{clash, compared, and-true, and-left, and-right, first-le, first-passes, some-below, some-passes, none}
 use Rattle.mesh.proofs.Faces.{next-below, previous-below, next-previous, previous-next}
 

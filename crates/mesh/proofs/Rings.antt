@@ -8,8 +8,8 @@ use Prim.Native.Nat.{ℕ, zero, suc, _+_, _-_, _<_, _≤_}
 use native.Mathlib.Omega.{arith}
 use lib.Dec.{eqb}
 use borrow.Author.Tests.{eqb-true, eq-eqb, ne-eqb}
-use Rattle.mesh.specs.Scan.{firstBelow, someBelow, countBelow, iterate}
-use Rattle.mesh.specs.Theorems.{Returns}
+use Rattle.paper.specs.Scan.{firstBelow, someBelow, countBelow, iterate}
+use Rattle.paper.specs.Manifold.{Returns}
 use Rattle.mesh.proofs.Scans.{ways, clash, compared, and-true, first-passes, first-fails, some-true, some-false, some-below, some-passes, none}
 
 -- counts

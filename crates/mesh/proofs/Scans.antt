@@ -7,7 +7,7 @@ use Prim.Native.Nat.{ℕ, zero, suc, _+_, _<_, _≤_}
 use native.Mathlib.Omega.{arith}
 use lib.Dec.{ltb, eqb}
 use borrow.Author.Tests.{ltb-true, ltb-false, lt-ltb, le-ltb, eqb-true, eqb-false}
-use Rattle.mesh.specs.Scan.{firstFrom, firstBelow, someBelow}
+use Rattle.paper.specs.Scan.{firstFrom, firstBelow, someBelow}
 
 -- a test's two ways
 pub ways : (b : Bool) → (b ≡ true) ⊎ (b ≡ false)

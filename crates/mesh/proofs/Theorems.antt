@@ -4,16 +4,15 @@
 use mathlib.Core.Path.{ap}
 use Prim.Native.Nat.{ℕ, _<_}
 use native.Mathlib.Omega.{arith}
-use Rattle.mesh.specs.Lists.{Mesh, vertexCount, cornerCount}
-use Rattle.mesh.specs.Corners.{sumOf, faceOf, sidesOf}
-use Rattle.mesh.specs.Links.{vertexOf, valence}
-use Rattle.mesh.specs.Faults.{Accepted}
-use Rattle.mesh.specs.Theorems.{Manifold}
+use Rattle.paper.specs.Mesh.{Mesh, vertexCount, cornerCount}
+use Rattle.paper.specs.Corners.{sumOf, faceOf, sidesOf}
+use Rattle.paper.specs.Links.{vertexOf, valence}
+use Rattle.paper.specs.Claims.{Manifolds}
 use Rattle.mesh.proofs.Faces.{held, face-next, face-previous, sides-next, sides-previous}
 use Rattle.mesh.proofs.Links.{next-in, previous-in, there, back, reverse-reverse, link-in, link-vertex, link-previous-link, unlink-link, link-unlink, link-injective}
 use Rattle.mesh.proofs.Accepted.{sound-of, closed-of, named-of, sides-within, valence-within, links-return, next-turn}
 
-pub manifold : (M : Mesh) → Accepted M → (c : ℕ) → c < cornerCount M → Manifold M c
+pub manifold : Manifolds
 unfolding sidesOf
 manifold M a c h =
     let sides = M .sides in

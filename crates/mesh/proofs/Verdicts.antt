@@ -4,11 +4,10 @@ use mathlib.Core.Path.{_≡_, refl, ap, _∙_, sym}
 use mathlib.Core.Bool.{Bool, true, false}
 use Prim.Native.Nat.{ℕ, _<_}
 use native.Mathlib.Omega.{arith}
-use Rattle.mesh.specs.Scan.{firstBelow, someBelow}
-use Rattle.mesh.specs.Faults.{Verdict, sound, fault, _orElse_, single, lowestOf}
-use Rattle.mesh.specs.Answers.{stated}
-use Rattle.mesh.specs.declared.Answer.{Answer}
-use Rattle.mesh.specs.declared.Answer.the-variants.{Done, Refused}
+use Rattle.paper.specs.Scan.{firstBelow, someBelow}
+use Rattle.paper.specs.Faults.{Verdict, sound, fault, _orElse_, single, lowestOf, stated}
+use Rattle.paper.specs.declared.Answer.{Answer}
+use Rattle.paper.specs.declared.Answer.the-variants.{Done, Refused}
 use Rattle.mesh.proofs.Scans.{first-at, some-true, some-false, none}
 
 pub sound-left : (v w : Verdict) → v orElse w ≡ sound → v ≡ sound

@@ -1,9 +1,2 @@
-pub mod Limits
-pub mod Scan
-pub mod Lists
-pub mod Corners
-pub mod Links
 pub mod Tables
-pub mod Faults
-pub mod Answers
-pub mod Theorems
+pub mod Closed

@@ -4,8 +4,8 @@ use mathlib.Core.Path.{_≡_}
 use mathlib.Core.List.{List}
 use Prim.Native.Nat.{ℕ, _<_}
 use lib.ListN.{length, getD}
-use Rattle.mesh.specs.Corners.{next}
-use Rattle.mesh.specs.Links.{vertexOf, link}
+use Rattle.paper.specs.Corners.{next}
+use Rattle.paper.specs.Links.{vertexOf, link}
 
 -- a mesh with at most so many vertices, faces and corners is small, and has short tables
 abbrev pub smallMesh : ℕ

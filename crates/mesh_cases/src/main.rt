@@ -4,7 +4,7 @@
 // not keep would show as `changed`.
 use libc::STDIN_FILENO;
 use libc::STDOUT_FILENO;
-use mesh::Answer;
+use paper::Answer;
 use std::num::wrapping_add_u64;
 ghost use Prim.Native.Nat.{_≤_};
 

@@ -16,9 +16,10 @@ use mir.Facts.{toZ-ofZ}
 use Rattle.integers.proofs.Machine.{abs-fits}
 use Rattle.formulas.specs.Sizes.{Written}
 use Rattle.faces.proofs.Laws.{plain}
-use Rattle.surface.specs.Numbers.{rounded}
-use Rattle.surface.specs.Corners.{Sound, RefinedMesh, Small}
-use Rattle.surface.specs.Net.{side0, side1, side2, side3, net, rows, bGrid, aGrid}
+use Rattle.paper.specs.Numbers.{rounded}
+use Rattle.paper.specs.Refined.{RefinedMesh}
+use Rattle.paper.specs.Net.{side0, side1, side2, side3, net, rows, bGrid, aGrid}
+use Rattle.surface.specs.Sound.{Sound, Small}
 use Rattle.surface.proofs.Sizes.{net-size}
 use Rattle.sides.specs.declared.NetSides.{NetSides}
 use Rattle.sides.specs.Values.{FourSides}

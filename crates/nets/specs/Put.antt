@@ -5,9 +5,9 @@ use mathlib.Core.List.{List}
 use Prim.Native.Nat.{ℕ, _+_, _*_, _<_}
 use lib.ListN.{length, getD}
 use lib.IntN.{ℤ, pos}
-use Rattle.surface.specs.Numbers.{rounded}
-use Rattle.surface.specs.Corners.{RefinedMesh}
-use Rattle.surface.specs.Net.{net}
+use Rattle.paper.specs.Numbers.{rounded}
+use Rattle.paper.specs.Refined.{RefinedMesh}
+use Rattle.paper.specs.Net.{net}
 
 -- every third number from `from` on, as many as there are points, is a point's; the others are as before
 pub record Placed (old new : List ℤ) (from : ℕ) (points : List ℤ) : Type 0 where

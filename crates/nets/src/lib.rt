@@ -6,8 +6,8 @@ ghost use Prim.Native.Nat.{ℕ, _+_, _*_, _≤_, _<_};
 ghost use lib.ListN.{length, getD};
 ghost use lib.IntN.{pos};
 ghost use Rattle.formulas.specs.Sizes.{Written};
-ghost use Rattle.surface.specs.Net.{rows};
-ghost use Rattle.cosines.specs.Table.{stored};
+ghost use Rattle.paper.specs.Net.{rows};
+ghost use Rattle.cosines.specs.Stored.{stored};
 ghost use Rattle.sides.specs.Tabled.{tabled, Tables};
 ghost use Rattle.nets.specs.Put.{Placed, Put};
 

@@ -2,13 +2,13 @@
 // x, y, z, the b points row by row and then the a points; or why the file is turned down, as `inspect` does.
 use libc::STDIN_FILENO;
 use libc::STDOUT_FILENO;
-use mesh::Answer;
-use mesh::MOST_CORNERS;
-use mesh::MOST_FACES;
-use mesh::MOST_VERTICES;
+use paper::Answer;
+use paper::MOST_CORNERS;
+use paper::MOST_FACES;
+use paper::MOST_VERTICES;
 use requests::PER_CORNER;
 ghost use Prim.Native.Nat.{_≤_, _<_};
-ghost use Rattle.mesh.specs.Limits.{mostCorners};
+ghost use Rattle.paper.specs.Mesh.{mostCorners};
 
 // The corners of one call of building, and their numbers.
 const RANGE: usize = 64;

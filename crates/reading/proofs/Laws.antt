@@ -8,9 +8,9 @@ use native.Mathlib.Omega.{arith}
 use lib.ListN.{length, getD, take, drop, set}
 use lib.Seq.{drop-cons, set-at, take-at, append-snoc}
 use lib.IntN.{ℤ, pos, negsuc, _-ℤ_}
-use Rattle.mesh.specs.Links.{valuesFrom}
+use Rattle.paper.specs.Scan.{valuesFrom}
+use Rattle.paper.specs.File.{begins, coordinateIn, sideIn, cornerIn, verticesIn, facesIn, cornersIn, sidesStart, cornersStart, fileMesh}
 use Rattle.mesh.proofs.Links.{values-length}
-use Rattle.format.specs.Format.{begins, coordinateIn, sideIn, cornerIn, verticesOf, facesOf, cornersOf, sidesStart, cornersStart, fileMesh}
 
 zero-add : (n : ℕ) → 0 + n ≡ n
 zero-add n = omega arith
@@ -53,30 +53,30 @@ module _ {A : Type 0} (n : ℕ) (new old out : List A) (q : n ≡ length new) (e
   read-length = q ∙ sym (ap length read-back)
 
 module _ (file : List ℕ) where
-  pub file-coordinates : 3 * verticesOf file ≡ length (fileMesh file .coordinates)
+  pub file-coordinates : 3 * verticesIn file ≡ length (fileMesh file .coordinates)
   unfolding fileMesh
-  file-coordinates = sym (values-length (coordinateIn file) 0 (3 * verticesOf file))
+  file-coordinates = sym (values-length (coordinateIn file) 0 (3 * verticesIn file))
 
-  pub file-faces : facesOf file ≡ length (fileMesh file .sides)
+  pub file-faces : facesIn file ≡ length (fileMesh file .sides)
   unfolding fileMesh
-  file-faces = sym (values-length (sideIn file (sidesStart file)) 0 (facesOf file))
+  file-faces = sym (values-length (sideIn file (sidesStart file)) 0 (facesIn file))
 
-  pub file-corners : cornersOf file ≡ length (fileMesh file .corners)
+  pub file-corners : cornersIn file ≡ length (fileMesh file .corners)
   unfolding fileMesh
-  file-corners = sym (values-length (cornerIn file (cornersStart file)) 0 (cornersOf file))
+  file-corners = sym (values-length (cornerIn file (cornersStart file)) 0 (cornersIn file))
 
   -- the lists, as they are read, are those of the file's mesh
-  pub coordinates-read : (n : ℕ) (old out : List ℤ) → n ≡ 3 * verticesOf file → out ≡ begins (valuesFrom (coordinateIn file) 0 n) old
+  pub coordinates-read : (n : ℕ) (old out : List ℤ) → n ≡ 3 * verticesIn file → out ≡ begins (valuesFrom (coordinateIn file) 0 n) old
       → out ≡ begins (fileMesh file .coordinates) old
   unfolding fileMesh
   coordinates-read n old out q e = rw q at e
 
-  pub sides-read : (start n : ℕ) (old out : List ℕ) → start ≡ sidesStart file → n ≡ facesOf file → out ≡ begins (valuesFrom (sideIn file start) 0 n) old
+  pub sides-read : (start n : ℕ) (old out : List ℕ) → start ≡ sidesStart file → n ≡ facesIn file → out ≡ begins (valuesFrom (sideIn file start) 0 n) old
       → out ≡ begins (fileMesh file .sides) old
   unfolding fileMesh
   sides-read start n old out p q e = rw (p, q) at e
 
-  pub corners-read : (start n : ℕ) (old out : List ℕ) → start ≡ cornersStart file → n ≡ cornersOf file → out ≡ begins (valuesFrom (cornerIn file start) 0 n) old
+  pub corners-read : (start n : ℕ) (old out : List ℕ) → start ≡ cornersStart file → n ≡ cornersIn file → out ≡ begins (valuesFrom (cornerIn file start) 0 n) old
       → out ≡ begins (fileMesh file .corners) old
   unfolding fileMesh
   corners-read start n old out p q e = rw (p, q) at e

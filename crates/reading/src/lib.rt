@@ -5,8 +5,9 @@ ghost use lib.ListN.{length};
 ghost use lib.IntN.{negsuc};
 ghost use mir.Syntax.{w32};
 ghost use mir.Val.{toZ};
-ghost use Rattle.mesh.specs.Links.{valuesFrom};
-ghost use Rattle.format.specs.Format.{wordAt, signedAt, headerLength, coordinateIn, sideIn, cornerIn, Sized, Room, ListsRead, begins};
+ghost use Rattle.paper.specs.Scan.{valuesFrom};
+ghost use Rattle.paper.specs.File.{wordAt, signedAt, headerLength, coordinateIn, sideIn, cornerIn, begins};
+ghost use Rattle.format.specs.Sized.{Sized, Room, ListsRead};
 
 fn wider(half: u16) -> u32
     ensures { λ r. ⌜ (r ≡ half) × (r < 65536) ⌝ }

@@ -1,7 +1,7 @@
 -- An accepted mesh gives what refined points are computed from.
 -- Assumes nothing.
-use Rattle.mesh.specs.Lists.{Mesh, cornerCount}
-use Rattle.mesh.specs.Faults.{Accepted}
+use Rattle.paper.specs.Mesh.{Mesh, cornerCount}
+use Rattle.paper.specs.Faults.{Accepted}
 use Rattle.mesh.proofs.Accepted.{sound-of, sums-of}
 use Rattle.surface.proofs.Hull.{coordinate-size}
 use Rattle.corner_tables.proofs.Accepted.{vertex-in, faces-of}

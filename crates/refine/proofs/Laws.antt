@@ -14,20 +14,17 @@ use lib.IntN.{ℤ, pos, natAbs, _+ℤ_, _*ℤ_}
 use mir.Syntax.{w64}
 use mir.Val.{SFits, toZ}
 use mir.Facts.{toZ-pos}
-use Rattle.integers.specs.Sum.{sum}
+use Rattle.paper.specs.Mesh.{mostSides, mostCoordinate, Mesh, meshOf, faceCount, cornerCount}
+use Rattle.paper.specs.Corners.{sumOf, startOf, faceOf, sidesOf, next, previous}
+use Rattle.paper.specs.Links.{vertexOf}
+use Rattle.paper.specs.Numbers.{sum, round, rounded}
+use Rattle.paper.specs.Refined.{ticks, faceSum, refinedPoint}
 use Rattle.integers.proofs.Poly.{over, poly}
 use Rattle.integers.proofs.Laws.{abs-mul-le, abs-add-le}
 use Rattle.integers.proofs.Sum.{sum-abs}
 use Rattle.integers.proofs.Machine.{abs-fits}
-use Rattle.rounding.specs.Round.{round}
-use Rattle.mesh.specs.Limits.{mostSides, mostCoordinate}
-use Rattle.mesh.specs.Lists.{Mesh, meshOf, faceCount, cornerCount}
-use Rattle.mesh.specs.Corners.{sumOf, startOf, faceOf, sidesOf, next, previous}
-use Rattle.mesh.specs.Links.{vertexOf}
 use Rattle.mesh.proofs.Scans.{ways, compared}
 use Rattle.mesh.proofs.Faces.{face-at, start-zero, start-next, start-ends, next-below, previous-below}
-use Rattle.surface.specs.Numbers.{rounded}
-use Rattle.surface.specs.Refined.{ticks, faceSum, refinedPoint}
 use Rattle.surface.proofs.Hull.{point-size}
 use Rattle.refine.specs.Sources.{Placed, Refinable, Ticks, Small, Pointed, Added}
 

@@ -5,12 +5,11 @@ use mathlib.Core.List.{List}
 use Prim.Native.Nat.{ℕ, _*_, _^_, _<_, _≤_, _/_}
 use lib.ListN.{length, getD}
 use lib.IntN.{ℤ, pos, natAbs}
-use Rattle.mesh.specs.Limits.{leastSides, mostSides, mostCoordinate}
-use Rattle.mesh.specs.Lists.{Mesh, cornerCount}
-use Rattle.mesh.specs.Corners.{sumOf, faceOf, next, previous}
+use Rattle.paper.specs.Mesh.{leastSides, mostSides, mostCoordinate, Mesh, cornerCount}
+use Rattle.paper.specs.Corners.{sumOf, faceOf, next, previous}
+use Rattle.paper.specs.Numbers.{rounded}
+use Rattle.paper.specs.Refined.{refinedPoint}
 use Rattle.mesh.specs.Tables.{Named}
-use Rattle.surface.specs.Numbers.{rounded}
-use Rattle.surface.specs.Refined.{refinedPoint}
 use Rattle.corner_tables.specs.Tables.{Filled, Faces}
 
 -- the tables of next and previous corners, of all corners of the faces

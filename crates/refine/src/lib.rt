@@ -6,12 +6,10 @@ ghost use mathlib.Core.List.{List};
 ghost use Prim.Native.Nat.{ℕ, _+_, _^_, _≤_, _<_};
 ghost use lib.ListN.{length};
 ghost use lib.IntN.{pos, natAbs, _+ℤ_, _*ℤ_};
-ghost use Rattle.integers.specs.Sum.{sum};
-ghost use Rattle.rounding.specs.Round.{round};
-ghost use Rattle.mesh.specs.Limits.{mostSides};
-ghost use Rattle.mesh.specs.Lists.{meshOf};
-ghost use Rattle.mesh.specs.Corners.{sumOf, startOf};
-ghost use Rattle.surface.specs.Refined.{ticks};
+ghost use Rattle.paper.specs.Mesh.{mostSides, meshOf};
+ghost use Rattle.paper.specs.Corners.{sumOf, startOf};
+ghost use Rattle.paper.specs.Numbers.{sum, round};
+ghost use Rattle.paper.specs.Refined.{ticks};
 ghost use Rattle.refine.specs.Sources.{Steps, Placed, Refinable, Ticks, Small, Pointed, Added};
 
 // The refined points on an axis of the corners whose face has a nonzero entry in `wanted`.

@@ -1,10 +1,10 @@
 // What `inspect` does: it reads a mesh file from a descriptor and prints what `file::survey` answers.
 // The file is counted on past the buffer, to its end or past the length that 3 asks, so that 3 and 4 can be told apart.
 ghost use Prim.Native.Nat.{_≤_, _<_};
-use counts::Counts;
-use counts::NUMBERS;
 use libc::STDOUT_FILENO;
-use mesh::Answer;
+use paper::Answer;
+use paper::Counts;
+use paper::NUMBERS;
 
 // The buffer holds every file that 3 and 4 let pass, with room for two bytes more for each corner.
 pub const BUFFER: usize = 61451;

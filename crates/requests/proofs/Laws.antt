@@ -8,13 +8,12 @@ use native.Mathlib.Omega.{arith}
 use lib.Dec.{eqb, ltb}
 use lib.ListN.{getD}
 use borrow.Author.Tests.{eqb-true, eqb-false, eq-eqb, ne-eqb, lt-ltb, le-ltb, ltb-false, not-false}
-use Rattle.mesh.specs.Lists.{Mesh, cornerCount}
-use Rattle.mesh.specs.Faults.{Verdict, sound, _orElse_, single, verdict, linkVerdict}
+use Rattle.paper.specs.Mesh.{Mesh, cornerCount}
+use Rattle.paper.specs.Faults.{Verdict, sound, _orElse_, single, verdict, linkVerdict}
+use Rattle.paper.specs.Calls.{perCorner, fault15, fault16, fault17, buildVerdict}
 use Rattle.mesh.specs.Tables.{LinkTable}
 use Rattle.mesh.proofs.Ranges.{or-left, or-right, or-none, none-left, none-right}
 use Rattle.mesh.proofs.Verdicts.{single-sound, sound-left, sound-right, orElse-assoc}
-use Rattle.surface.specs.Refined.{perCorner}
-use Rattle.surface.specs.Building.{fault15, fault16, fault17, buildVerdict}
 use Rattle.requests.specs.Request.{requestFaults}
 
 -- 15, by the table of the mesh's links

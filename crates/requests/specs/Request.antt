@@ -5,9 +5,9 @@ use mathlib.Core.List.{List}
 use Prim.Native.Nat.{ℕ}
 use lib.Dec.{eqb}
 use lib.ListN.{length}
-use Rattle.mesh.specs.Lists.{Mesh, cornerCount}
-use Rattle.mesh.specs.Faults.{Verdict, _orElse_, single, lowestOf}
-use Rattle.surface.specs.Building.{fault15, fault16, fault17}
+use Rattle.paper.specs.Mesh.{Mesh, cornerCount}
+use Rattle.paper.specs.Faults.{Verdict, _orElse_, single, lowestOf}
+use Rattle.paper.specs.Calls.{fault15, fault16, fault17}
 
 -- a link table, a first corner and a count, and n places in the output
 unfoldable pub requestFaults : Mesh → List ℕ → ℕ → ℕ → ℕ → Verdict

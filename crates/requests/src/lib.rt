@@ -1,16 +1,14 @@
 // Checks 14 to 17: what is asked of building besides the mesh, for a mesh that has passed the checks before.
-use mesh::Answer;
+use paper::Answer;
 ghost use mathlib.Core.Path.{_≡_};
 ghost use mathlib.Core.Bool.{not, _||_};
 ghost use Prim.Native.Nat.{_+_, _≤_};
 ghost use lib.Dec.{eqb, ltb};
 ghost use lib.ListN.{length};
-ghost use Rattle.mesh.specs.Limits.{mostCorners};
-ghost use Rattle.mesh.specs.Lists.{Mesh, cornerCount};
+ghost use Rattle.paper.specs.Mesh.{mostCorners, Mesh, cornerCount};
+ghost use Rattle.paper.specs.Faults.{single, lowestOf, stated};
+ghost use Rattle.paper.specs.Calls.{fault15, fault17};
 ghost use Rattle.mesh.specs.Tables.{LinkTable};
-ghost use Rattle.mesh.specs.Faults.{single, lowestOf};
-ghost use Rattle.mesh.specs.Answers.{stated};
-ghost use Rattle.surface.specs.Building.{fault15, fault17};
 ghost use Rattle.requests.specs.Request.{requestFaults};
 
 // The numbers that building writes for a corner.

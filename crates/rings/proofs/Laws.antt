@@ -11,11 +11,12 @@ use native.Mathlib.Numerals.{add-one}
 use lib.Dec.{eqb}
 use lib.ListN.{length, getD, set}
 use borrow.Author.Tests.{eq-eqb, ne-eqb, eqb-true, lt-ltb, le-ltb}
-use Rattle.mesh.specs.Limits.{leastSides}
-use Rattle.mesh.specs.Scan.{firstBelow, countBelow, iterate}
-use Rattle.mesh.specs.Links.{vertexOf, names, link, valence, lowest}
+use Rattle.paper.specs.Scan.{firstBelow, countBelow, iterate}
+use Rattle.paper.specs.Mesh.{leastSides}
+use Rattle.paper.specs.Links.{vertexOf, names, link, valence, lowest}
+use Rattle.paper.specs.Faults.{fault13, after, ringLength, met, sound, fault, lowestOf}
 use Rattle.mesh.specs.Tables.{LinkTable}
-use Rattle.mesh.specs.Faults.{fault13, after, ringLength, met, Closed, sound, fault, lowestOf}
+use Rattle.mesh.specs.Closed.{Closed}
 use Rattle.mesh.proofs.Scans.{first-passes, first-fails, first-le, some-false, ways, compared, first-none, first-at, first-le-all, fails-step}
 use Rattle.mesh.proofs.Rings.{Turns, period-le, comes-back, met-all, count-none, count-hit, count-miss, count-le, iterate-zero, iterate-suc}
 use Rattle.mesh.proofs.Links.{link-in}

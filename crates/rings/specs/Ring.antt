@@ -5,13 +5,13 @@ use mathlib.Core.List.{List}
 use Prim.Native.Nat.{ℕ, suc, _<_, _≤_}
 use lib.Dec.{eqb, ltb}
 use lib.ListN.{length, getD}
-use Rattle.mesh.specs.Limits.{leastSides, mostCorners}
-use Rattle.mesh.specs.Scan.{pickN, firstBelow, iterate}
-use Rattle.mesh.specs.Links.{valence, lowest}
+use Rattle.paper.specs.Scan.{pickN, firstBelow, iterate}
+use Rattle.paper.specs.Mesh.{leastSides, mostCorners}
+use Rattle.paper.specs.Links.{valence, lowest}
+use Rattle.paper.specs.Faults.{lowestOf, fault13, stated}
+use Rattle.paper.specs.declared.Answer.{Answer}
 use Rattle.mesh.specs.Tables.{Named, LinkTable}
-use Rattle.mesh.specs.Faults.{lowestOf, fault13, Closed}
-use Rattle.mesh.specs.Answers.{stated}
-use Rattle.mesh.specs.declared.Answer.{Answer}
+use Rattle.mesh.specs.Closed.{Closed}
 use Rattle.tables.specs.Filled.{Blank}
 
 -- what counting asks: the counts start at zero, and both tables have a place for each vertex that is named

@@ -1,13 +1,12 @@
 // Checks 12 and 13: how many corners name a vertex, and whether the ring of links from its lowest corner meets them all.
-use mesh::Answer;
-use mesh::LEAST_SIDES;
-use mesh::MOST_SIDES;
+use paper::Answer;
+use paper::LEAST_SIDES;
+use paper::MOST_SIDES;
 use walk::Walker;
 ghost use mathlib.Core.Path.{_≡_};
 ghost use Prim.Native.Nat.{ℕ, _≤_, _<_};
 ghost use lib.ListN.{length, getD};
-ghost use Rattle.mesh.specs.Faults.{lowestOf, fault12};
-ghost use Rattle.mesh.specs.Answers.{stated};
+ghost use Rattle.paper.specs.Faults.{lowestOf, fault12, stated};
 ghost use Rattle.rings.specs.Ring.{Countable, CornersCounted, ringWithin, Followed, Ringed};
 
 // How many corners name each vertex, and the lowest of them: met last, so what is written last stays.

@@ -6,11 +6,11 @@ use native.Mathlib.Omega.{arith}
 use lib.Dec.{T}
 use lib.IntN.{ℤ, pos, _+ℤ_, _*ℤ_}
 use lib.Signed.{_≤ℤ_, _<ℤ_, ltZ, ltZ-yes}
-use Rattle.integers.specs.Floor.{floor}
+use Rattle.paper.specs.Numbers.{floor, round}
 use Rattle.integers.proofs.Poly.{over, poly}
 use Rattle.integers.proofs.Laws.{mul-le}
 use Rattle.integers.proofs.Floor.{IsFloor, floor-is, floor-unique, double-pos}
-use Rattle.rounding.specs.Round.{round, Near}
+use Rattle.rounding.specs.Near.{Near}
 
 -- q + 1/2 goes to q + 1
 pub round-tie : (q : ℤ) → round (pos 2 *ℤ q +ℤ pos 1) (pos 2) ≡ q +ℤ pos 1

@@ -1,2 +1,2 @@
-pub mod Round
 pub mod Lift
+pub mod Near

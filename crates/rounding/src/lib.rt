@@ -5,7 +5,7 @@ ghost use mathlib.Core.Path.{_≡_};
 ghost use Prim.Native.Nat.{_^_, _≤_};
 ghost use lib.IntN.{pos, natAbs};
 ghost use lib.Signed.{_≤ℤ_, _<ℤ_};
-ghost use Rattle.rounding.specs.Round.{round};
+ghost use Rattle.paper.specs.Numbers.{round};
 ghost use Rattle.rounding.specs.Lift.{Lifts};
 
 // A number whose product with m lies between every dividend of `round_div` and what is left of the width above it.

@@ -17,10 +17,11 @@ use Rattle.formulas.specs.Sizes.{Corner, FacePoint, Row}
 use Rattle.faces.specs.Ring.{around, Ring, IsFace, IsEdgeFace}
 use Rattle.faces.specs.declared.Face.{Face}
 use Rattle.faces.proofs.Laws.{plain}
-use Rattle.surface.specs.Numbers.{rounded}
-use Rattle.surface.specs.Corners.{Sound, RefinedMesh, Small}
-use Rattle.surface.specs.Face.{centre}
-use Rattle.surface.specs.Net.{leaving, arriving, Side, side0, side1, side2, side3, neighbour, quad, points, H, T, X, Y, N, C}
+use Rattle.paper.specs.Numbers.{rounded}
+use Rattle.paper.specs.Refined.{RefinedMesh}
+use Rattle.paper.specs.Face.{centre}
+use Rattle.paper.specs.Net.{leaving, arriving, Side, side0, side1, side2, side3, neighbour, quad, points, H, T, X, Y, N, C}
+use Rattle.surface.specs.Sound.{Sound, Small}
 use Rattle.surface.proofs.Rings.{points-cyclic, neighbour-in}
 use Rattle.surface.proofs.Faces.{toward-same}
 use Rattle.surface.proofs.Sizes.{H-size, T-size, X-size, Y-size, C-size, C-bottom}

@@ -5,8 +5,9 @@ use Prim.Native.Nat.{ℕ, _≤_, _<_}
 use lib.ListN.{length, getD}
 use lib.IntN.{ℤ, pos}
 use Rattle.formulas.specs.Sizes.{Corner}
-use Rattle.surface.specs.Numbers.{rounded}
-use Rattle.surface.specs.Corners.{Corners, Sound, RefinedMesh, Small}
+use Rattle.paper.specs.Numbers.{rounded}
+use Rattle.paper.specs.Refined.{Corners, RefinedMesh}
+use Rattle.surface.specs.Sound.{Sound, Small}
 
 abbrev pub tabledCorners : ℕ → List ℕ → List ℕ → List ℕ → List ℕ → List ℕ → Corners
 tabledCorners count nexts previouses links sides valences = record {

@@ -5,12 +5,11 @@ use mathlib.Core.List.{List}
 use Prim.Native.Nat.{ℕ}
 use lib.ListN.{getD}
 use lib.IntN.{ℤ, pos, _+ℤ_, _-ℤ_, _*ℤ_}
-use Rattle.rounding.specs.Round.{round}
+use Rattle.paper.specs.Numbers.{round, rounded}
+use Rattle.paper.specs.Refined.{RefinedMesh}
+use Rattle.paper.specs.Net.{Side, side0, side1, side2, side3, H, T, X, Y, N, C}
 use Rattle.formulas.specs.Sizes.{Value, Row}
 use Rattle.faces.specs.Ring.{IsEdgeFace}
-use Rattle.surface.specs.Numbers.{rounded}
-use Rattle.surface.specs.Corners.{RefinedMesh}
-use Rattle.surface.specs.Net.{Side, side0, side1, side2, side3, H, T, X, Y, N, C}
 use Rattle.sides.specs.declared.Edge.{Edge}
 use Rattle.sides.specs.declared.SideValues.{SideValues}
 use Rattle.sides.specs.declared.NetSides.{NetSides}

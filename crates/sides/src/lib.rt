@@ -4,7 +4,7 @@ ghost use Prim.Native.Nat.{_-_, _<_};
 ghost use lib.ListN.{length, getD};
 ghost use lib.IntN.{pos};
 ghost use Rattle.formulas.specs.Sizes.{Corner, FacePoint, Row};
-ghost use Rattle.cosines.specs.Table.{stored};
+ghost use Rattle.cosines.specs.Stored.{stored};
 ghost use Rattle.faces.specs.Ring.{around, Ring, IsFace};
 ghost use Rattle.sides.specs.Tabled.{tabled, Tables, Reach};
 ghost use Rattle.sides.specs.Values.{Through, Made, FourSides};

@@ -6,13 +6,13 @@ use Prim.Native.Nat.{ℕ, zero, suc, _+_, _-_, _<_}
 use native.Mathlib.Omega.{arith}
 use lib.IntN.{ℤ, pos}
 use Rattle.integers.proofs.Sum.{sum-same}
-use Rattle.rounding.specs.Round.{round}
-use Rattle.cosines.specs.Table.{cosine}
-use Rattle.mesh.specs.Scan.{iterate}
-use Rattle.surface.specs.Numbers.{rounded}
-use Rattle.surface.specs.Corners.{Corners, Sound, Agree, RefinedMesh}
-use Rattle.surface.specs.Face.{centre, toward}
-use Rattle.surface.specs.Net.{End, vertex, leaving, face, arriving, Side, side0, side1, side2, side3, head, tail, neighbour, quad, size, ring, points, headPlace, H, T, X, Y, N, C, outer1, outer2, outer3, a0, a1, a2, a3, middle, bHead, bTail, aHead, aTail, b22, bGrid, aGrid, net}
+use Rattle.paper.specs.Scan.{iterate}
+use Rattle.paper.specs.Numbers.{round, rounded}
+use Rattle.paper.specs.Cosines.{cosine}
+use Rattle.paper.specs.Refined.{Corners, RefinedMesh}
+use Rattle.paper.specs.Face.{centre, toward}
+use Rattle.paper.specs.Net.{End, vertex, leaving, face, arriving, Side, side0, side1, side2, side3, head, tail, neighbour, quad, size, ring, points, headPlace, H, T, X, Y, N, C, outer1, outer2, outer3, a0, a1, a2, a3, middle, bHead, bTail, aHead, aTail, b22, bGrid, aGrid, net}
+use Rattle.surface.specs.Sound.{Sound, Agree}
 use Rattle.surface.proofs.Rings.{iterate-in}
 use Rattle.surface.proofs.Faces.{toward-same}
 

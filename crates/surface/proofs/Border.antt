@@ -7,13 +7,14 @@ use native.Mathlib.Omega.{arith}
 use lib.IntN.{ℤ, pos, _+ℤ_, natAbs}
 use Rattle.integers.proofs.Poly.{over, poly}
 use Rattle.integers.proofs.Sum.{Cyclic}
-use Rattle.mesh.specs.Limits.{leastSides, mostSides}
-use Rattle.mesh.specs.Scan.{iterate}
-use Rattle.cosines.specs.Table.{cosine}
-use Rattle.surface.specs.Numbers.{rounded}
-use Rattle.surface.specs.Corners.{Sound, RefinedMesh, Small}
-use Rattle.surface.specs.Face.{centre, toward}
-use Rattle.surface.specs.Net.{vertex, leaving, face, arriving, Side, side0, side1, side2, side3, neighbour, across, atHead, atTail, quad, points, H, T, X, Y, C}
+use Rattle.paper.specs.Scan.{iterate}
+use Rattle.paper.specs.Mesh.{leastSides, mostSides}
+use Rattle.paper.specs.Numbers.{rounded}
+use Rattle.paper.specs.Cosines.{cosine}
+use Rattle.paper.specs.Refined.{RefinedMesh}
+use Rattle.paper.specs.Face.{centre, toward}
+use Rattle.paper.specs.Net.{vertex, leaving, face, arriving, Side, side0, side1, side2, side3, neighbour, across, atHead, atTail, quad, points, H, T, X, Y, C}
+use Rattle.surface.specs.Sound.{Sound, Small}
 use Rattle.surface.proofs.Within.{Within}
 use Rattle.surface.proofs.Faces.{toward-same, centre-same, Defect, HeadRule, TailRule, head-defect, tail-defect}
 use Rattle.surface.proofs.Rings.{iterate-first, quad-across, points-small, points-cyclic}

@@ -9,14 +9,13 @@ use borrow.Author.Tests.{ltb-false}
 use lib.Dec.{eqb}
 use lib.ListN.{getD}
 use lib.IntN.{ℤ, pos}
-use Rattle.mesh.specs.Lists.{Mesh, cornerCount}
-use Rattle.mesh.specs.Faults.{linkVerdict, Accepted}
-use Rattle.mesh.specs.declared.Answer.the-variants.{Done}
+use Rattle.paper.specs.Mesh.{Mesh, cornerCount}
+use Rattle.paper.specs.Faults.{linkVerdict, Accepted}
+use Rattle.paper.specs.Numbers.{rounded}
+use Rattle.paper.specs.Calls.{perCorner, numberAt, nets, buildVerdict, fault16, Built}
+use Rattle.paper.specs.declared.Answer.the-variants.{Done}
 use Rattle.mesh.proofs.Verdicts.{sound-left, sound-right, single-sound}
 use Rattle.mesh.proofs.Links.{values-at}
-use Rattle.surface.specs.Numbers.{rounded}
-use Rattle.surface.specs.Refined.{perCorner, numberAt, nets}
-use Rattle.surface.specs.Building.{buildVerdict, fault16, Built}
 
 or-right : (x y : Bool) → x || y ≡ false → y ≡ false
 or-right true y e = absurd (true≢false e)

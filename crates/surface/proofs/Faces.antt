@@ -7,19 +7,17 @@ use Prim.Native.Nat.{ℕ, zero, suc, _+_, _-_, _*_, _^_, _<_, _≤_}
 use native.Mathlib.Omega.{arith}
 use lib.IntN.{ℤ, pos, _+ℤ_, _-ℤ_, _*ℤ_, negℤ, natAbs}
 use lib.Signed.{_<ℤ_, _≤ℤ_}
-use Rattle.integers.specs.Sum.{sum, sumBy}
+use Rattle.paper.specs.Mesh.{leastSides, mostSides}
+use Rattle.paper.specs.Numbers.{sum, sumBy, round, rounded}
+use Rattle.paper.specs.Cosines.{cosine, rest}
+use Rattle.paper.specs.Face.{weight, centre, toward}
 use Rattle.integers.proofs.Poly.{over, poly}
 use Rattle.integers.proofs.Diff.{diff}
 use Rattle.integers.proofs.Laws.{abs-mul-le, mul-comm, mul-le, lt-or-ge, nonneg}
 use Rattle.integers.proofs.Sum.{sum-same, sum-abs, cycle, cycle-one, Cyclic}
-use Rattle.rounding.specs.Round.{round, Near}
+use Rattle.rounding.specs.Near.{Near}
 use Rattle.rounding.proofs.Laws.{round-near}
-use Rattle.mesh.specs.Limits.{leastSides, mostSides}
-use Rattle.cosines.specs.Table.{cosine}
-use Rattle.cosines.specs.Rules.{rest}
 use Rattle.cosines.proofs.Rules.{rules, period, cosine-size, bottom, exact, quarter}
-use Rattle.surface.specs.Numbers.{rounded}
-use Rattle.surface.specs.Face.{weight, centre, toward}
 use Rattle.surface.proofs.Within.{Within, within-times, within-cancel, abs-within, positive}
 
 -- ---- the sum with each point before its weight

@@ -15,19 +15,18 @@ use Rattle.integers.proofs.Diff.{as-diff, diff}
 use Rattle.integers.proofs.Poly.{over, poly}
 use Rattle.integers.proofs.Laws.{nonneg, abs-mul-le}
 use Rattle.integers.proofs.Sum.{sum-abs}
-use Rattle.rounding.specs.Round.{round, Near}
+use Rattle.paper.specs.Mesh.{mostCoordinate, Mesh}
+use Rattle.paper.specs.Corners.{startOf, faceOf, sidesOf, next, previous}
+use Rattle.paper.specs.Links.{vertexOf}
+use Rattle.paper.specs.Faults.{fault7, Accepted}
+use Rattle.paper.specs.Numbers.{round, rounded}
+use Rattle.paper.specs.Refined.{ticks, faceSum, refinedPoint, cornersOf, refinedOf}
+use Rattle.rounding.specs.Near.{Near}
 use Rattle.rounding.proofs.Laws.{round-near}
-use Rattle.mesh.specs.Limits.{mostCoordinate}
-use Rattle.mesh.specs.Lists.{Mesh}
-use Rattle.mesh.specs.Corners.{startOf, faceOf, sidesOf, next, previous}
-use Rattle.mesh.specs.Links.{vertexOf}
-use Rattle.mesh.specs.Faults.{fault7, Accepted}
 use Rattle.mesh.proofs.Scans.{ways}
 use Rattle.mesh.proofs.Accepted.{sound-of}
 use Rattle.mesh.proofs.Theorems.{manifold}
-use Rattle.surface.specs.Numbers.{rounded}
-use Rattle.surface.specs.Corners.{Sound, Small}
-use Rattle.surface.specs.Refined.{ticks, faceSum, refinedPoint, cornersOf, refinedOf}
+use Rattle.surface.specs.Sound.{Sound, Small}
 use Rattle.surface.proofs.Within.{Within, within-times, within-cancel, abs-within, positive}
 use Rattle.surface.proofs.Sizes.{halve}
 

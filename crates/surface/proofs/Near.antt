@@ -2,14 +2,14 @@
 -- Assumes nothing.
 use mathlib.Core.Path.{_≡_, refl, sym, ap, _∙_}
 use Prim.Native.Nat.{ℕ, zero, suc, _%_, _<_}
-use Rattle.mesh.specs.Scan.{iterate}
-use Rattle.mesh.specs.Lists.{Mesh, cornerCount}
-use Rattle.mesh.specs.Corners.{faceOf, next, previous}
-use Rattle.mesh.specs.Links.{vertexOf, link}
-use Rattle.mesh.specs.Faults.{Accepted}
+use Rattle.paper.specs.Scan.{iterate}
+use Rattle.paper.specs.Mesh.{Mesh, cornerCount}
+use Rattle.paper.specs.Corners.{faceOf, next, previous}
+use Rattle.paper.specs.Links.{vertexOf, link}
+use Rattle.paper.specs.Faults.{Accepted}
+use Rattle.paper.specs.Refined.{cornersOf}
+use Rattle.paper.specs.Net.{End, vertex, leaving, face, arriving, quad, ring}
 use Rattle.mesh.proofs.Theorems.{manifold}
-use Rattle.surface.specs.Net.{End, vertex, leaving, face, arriving, quad, ring}
-use Rattle.surface.specs.Refined.{cornersOf}
 use Rattle.surface.proofs.Rings.{iterate-in, pick-one}
 
 -- the face of d has a corner, `at`, that is at the vertex of c

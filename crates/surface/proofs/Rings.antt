@@ -6,12 +6,13 @@ use native.Mathlib.Nat.{add-mod-right, mod-add-mod, mod-lt}
 use native.Mathlib.Omega.{arith}
 use lib.IntN.{natAbs}
 use Rattle.integers.proofs.Sum.{Cyclic}
-use Rattle.mesh.specs.Limits.{leastSides, mostSides}
-use Rattle.mesh.specs.Scan.{iterate}
+use Rattle.paper.specs.Scan.{iterate}
+use Rattle.paper.specs.Mesh.{leastSides, mostSides}
+use Rattle.paper.specs.Numbers.{rounded}
+use Rattle.paper.specs.Refined.{Corners, RefinedMesh}
+use Rattle.paper.specs.Net.{End, vertex, leaving, face, arriving, Side, side0, side1, side2, side3, neighbour, pick, quad, size, ring, points}
 use Rattle.mesh.proofs.Rings.{iterate-add}
-use Rattle.surface.specs.Numbers.{rounded}
-use Rattle.surface.specs.Corners.{Corners, Sound, RefinedMesh, Small}
-use Rattle.surface.specs.Net.{End, vertex, leaving, face, arriving, Side, side0, side1, side2, side3, neighbour, pick, quad, size, ring, points}
+use Rattle.surface.specs.Sound.{Sound, Small}
 
 -- ---- steps
 pub iterate-first : (f : ℕ → ℕ) (j c : ℕ) → iterate j f (f c) ≡ iterate (j + 1) f c

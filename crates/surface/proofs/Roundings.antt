@@ -4,10 +4,9 @@
 use mathlib.Core.Path.{_≡_, refl}
 use Prim.Native.Nat.{ℕ, _*_, _^_}
 use lib.IntN.{ℤ, pos, _+ℤ_, _-ℤ_, _*ℤ_}
-use Rattle.rounding.specs.Round.{round}
-use Rattle.surface.specs.Numbers.{rounded}
-use Rattle.surface.specs.Corners.{RefinedMesh}
-use Rattle.surface.specs.Net.{Side, neighbour, atHead, atTail, opposite, H, T, X, Y, N, C, outer1, outer2, outer3, a0, a1, a2, a3, middle}
+use Rattle.paper.specs.Numbers.{round, rounded}
+use Rattle.paper.specs.Refined.{RefinedMesh}
+use Rattle.paper.specs.Net.{Side, neighbour, atHead, atTail, opposite, H, T, X, Y, N, C, outer1, outer2, outer3, a0, a1, a2, a3, middle}
 
 -- what the second and the third a point are divided out of; S is 2^30, S3 and S4 three and four times that
 abbrev pub SecondRow : ℤ → ℤ → ℤ → ℤ → ℤ → ℤ → ℤ → ℤ → ℤ

@@ -9,21 +9,21 @@ use native.Mathlib.Omega.{arith}
 use lib.ListN.{getD}
 use lib.IntN.{ℤ, pos, _+ℤ_, _-ℤ_, _*ℤ_, negℤ, natAbs}
 use lib.Signed.{leZ, _≤ℤ_}
-use Rattle.integers.specs.Sum.{sum, sumBy}
+use Rattle.paper.specs.Mesh.{leastSides, mostSides}
+use Rattle.paper.specs.Numbers.{sum, sumBy, round, rounded}
+use Rattle.paper.specs.Cosines.{table, cosine}
+use Rattle.paper.specs.Refined.{RefinedMesh}
+use Rattle.paper.specs.Face.{weight, centre, toward}
+use Rattle.paper.specs.Net.{End, Side, side0, side1, side2, side3, head, tail, neighbour, atHead, atTail, opposite, size, headPlace, tailPlace, points, H, T, X, Y, N, C, outer1, outer2, outer3, a0, a1, a2, a3, middle, bHead, bTail, aHead, aTail, b22, bGrid, aGrid, net}
 use Rattle.integers.proofs.Diff.{diff}
 use Rattle.integers.proofs.Poly.{over, poly}
 use Rattle.integers.proofs.Laws.{abs-mul-le}
 use Rattle.integers.proofs.Sum.{sum-abs}
 use Rattle.integers.proofs.Below.{below-at}
-use Rattle.rounding.specs.Round.{round, Near}
+use Rattle.rounding.specs.Near.{Near}
 use Rattle.rounding.proofs.Laws.{near-is}
-use Rattle.mesh.specs.Limits.{leastSides, mostSides}
-use Rattle.cosines.specs.Table.{lastRow, table, cosine}
 use Rattle.cosines.proofs.Rules.{bottom, cosine-size}
-use Rattle.surface.specs.Numbers.{rounded}
-use Rattle.surface.specs.Corners.{Sound, RefinedMesh, Small as SmallPoints}
-use Rattle.surface.specs.Face.{weight, centre, toward}
-use Rattle.surface.specs.Net.{End, Side, side0, side1, side2, side3, head, tail, neighbour, atHead, atTail, opposite, size, headPlace, tailPlace, points, H, T, X, Y, N, C, outer1, outer2, outer3, a0, a1, a2, a3, middle, bHead, bTail, aHead, aTail, b22, bGrid, aGrid, net}
+use Rattle.surface.specs.Sound.{Sound, Small as SmallPoints}
 use Rattle.surface.proofs.Within.{Within, within-cancel, abs-within, positive}
 use Rattle.surface.proofs.Faces.{toward-near, centre-near}
 use Rattle.surface.proofs.Rings.{neighbour-in, points-small, size-least, size-most}
@@ -38,7 +38,7 @@ unfolding table cosine weight sumBy heavy-test
 heavy m low high =
     let e : m - leastSides + leastSides ≡ m = omega arith in
     subst (λ (n : ℕ). (pos 3 *ℤ sum (λ k. pos (natAbs (weight n k))) n) ≤ℤ (pos (10 * 2 ^ 30) *ℤ pos n)) e
-    (record { le = below-at heavy-test (lastRow - 2) tt (m - leastSides) (omega arith) })
+    (record { le = below-at heavy-test (mostSides - 2) tt (m - leastSides) (omega arith) })
 
 weighted : (p w : ℕ → ℤ) (B n : ℕ) → ((k : ℕ) → natAbs (p k) ≤ B) → Within (sum (λ k. p k *ℤ w k) n) (pos B *ℤ sum (λ k. pos (natAbs (w k))) n)
 unfolding sumBy

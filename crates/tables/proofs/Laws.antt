@@ -10,8 +10,8 @@ use native.Mathlib.Numerals.{add-one}
 use lib.ListN.{length, getD, set, replicate, length-set}
 use lib.Seq.{getD-set-same, getD-set-other}
 use borrow.Author.Tests.{eq-eqb, ne-eqb, eqb-true}
-use Rattle.mesh.specs.Corners.{sumOf, startOf, firstOf, sidesOf, next, previous}
-use Rattle.mesh.specs.Links.{vertexOf, leavesTo, arrivesFrom, names}
+use Rattle.paper.specs.Corners.{sumOf, startOf, firstOf, sidesOf, next, previous}
+use Rattle.paper.specs.Links.{vertexOf, leavesTo, arrivesFrom, names}
 use Rattle.mesh.specs.Tables.{NextsTo}
 use Rattle.mesh.proofs.Scans.{ways, clash, compared}
 use Rattle.mesh.proofs.Faces.{face-at, start-zero, start-next, next-inner, next-last, previous-below, previous-next, next-previous}

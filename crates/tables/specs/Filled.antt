@@ -5,11 +5,11 @@ use mathlib.Core.Bool.{Bool}
 use mathlib.Core.List.{List}
 use Prim.Native.Nat.{ℕ, zero, suc, _+_, _<_, _≤_}
 use lib.ListN.{length, getD}
-use Rattle.mesh.specs.Limits.{leastSides, mostCorners}
-use Rattle.mesh.specs.Scan.{pickN}
-use Rattle.mesh.specs.Corners.{sumOf}
+use Rattle.paper.specs.Scan.{pickN}
+use Rattle.paper.specs.Mesh.{leastSides, mostCorners}
+use Rattle.paper.specs.Corners.{sumOf}
+use Rattle.paper.specs.Links.{vertexOf, leavesTo, arrivesFrom, names}
 use Rattle.mesh.specs.Tables.{Named, NextsTo}
-use Rattle.mesh.specs.Links.{vertexOf, leavesTo, arrivesFrom, names}
 
 -- one more than the highest number below n that passes the test; 0 where none does
 unfoldable pub lastBelow : ℕ → (ℕ → Bool) → ℕ

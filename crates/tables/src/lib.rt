@@ -2,8 +2,8 @@
 // vertex, so that the corners of a vertex form a falling chain.
 ghost use Prim.Native.Nat.{_≤_, _<_};
 ghost use lib.ListN.{length};
-ghost use Rattle.mesh.specs.Limits.{mostCorners};
-ghost use Rattle.mesh.specs.Corners.{sumOf};
+ghost use Rattle.paper.specs.Mesh.{mostCorners};
+ghost use Rattle.paper.specs.Corners.{sumOf};
 ghost use Rattle.mesh.specs.Tables.{NextsTo};
 ghost use Rattle.tables.specs.Filled.{FaceFilled, Fillable, Endable, Ended, Chainable, Chained};
 

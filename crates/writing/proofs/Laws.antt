@@ -8,19 +8,19 @@ use native.Mathlib.Omega.{arith}
 use lib.ListN.{length, getD, replicate, length-replicate}
 use lib.Seq.{ext-getD}
 use lib.IntN.{ℤ, pos}
-use Rattle.mesh.specs.Lists.{Mesh, faceCount, cornerCount}
-use Rattle.mesh.specs.Limits.{mostVertices, mostFaces, mostCorners}
-use Rattle.mesh.specs.Corners.{sumOf, sidesOf, previous}
-use Rattle.mesh.specs.Links.{vertexOf, valence}
+use Rattle.paper.specs.Mesh.{Mesh, faceCount, cornerCount, mostVertices, mostFaces, mostCorners}
+use Rattle.paper.specs.Corners.{sumOf, sidesOf, previous}
+use Rattle.paper.specs.Links.{vertexOf, valence}
+use Rattle.paper.specs.Faults.{Accepted}
+use Rattle.paper.specs.Numbers.{rounded}
+use Rattle.paper.specs.Refined.{Corners, RefinedMesh, cornersOf, refinedOf}
+use Rattle.paper.specs.Net.{ring, net}
+use Rattle.paper.specs.Calls.{perCorner, numberAt, nets}
 use Rattle.mesh.specs.Tables.{NextsTo, LinkTable}
-use Rattle.mesh.specs.Faults.{Accepted}
 use Rattle.mesh.proofs.Accepted.{sound-of, few-vertices, few-faces, few-corners}
 use Rattle.mesh.proofs.Links.{values-length, values-at}
 use Rattle.mesh.proofs.Scans.{compared}
-use Rattle.surface.specs.Numbers.{rounded}
-use Rattle.surface.specs.Corners.{Corners, Sound, Agree, RefinedMesh}
-use Rattle.surface.specs.Net.{ring, net}
-use Rattle.surface.specs.Refined.{cornersOf, refinedOf, perCorner, numberAt, nets}
+use Rattle.surface.specs.Sound.{Sound, Agree}
 use Rattle.surface.proofs.Hull.{corners-sound}
 use Rattle.surface.proofs.Rings.{ring-in}
 use Rattle.surface.proofs.Near.{ring-near}

@@ -5,14 +5,15 @@ use mathlib.Core.List.{List}
 use Prim.Native.Nat.{ℕ, zero, suc, _+_, _*_, _<_, _≤_}
 use lib.ListN.{length, getD, replicate}
 use lib.IntN.{ℤ, pos}
-use Rattle.mesh.specs.Lists.{Mesh, vertexCount, faceCount, cornerCount}
-use Rattle.mesh.specs.Corners.{sidesOf, next, previous}
-use Rattle.mesh.specs.Links.{vertexOf, link, valence}
+use Rattle.paper.specs.Mesh.{Mesh, vertexCount, faceCount, cornerCount}
+use Rattle.paper.specs.Corners.{sidesOf, next, previous}
+use Rattle.paper.specs.Links.{vertexOf, link, valence}
+use Rattle.paper.specs.Numbers.{rounded}
+use Rattle.paper.specs.Refined.{RefinedMesh}
+use Rattle.paper.specs.Net.{net}
+use Rattle.paper.specs.Calls.{perCorner}
 use Rattle.mesh.specs.Tables.{NextsTo, LinkTable}
-use Rattle.surface.specs.Numbers.{rounded}
-use Rattle.surface.specs.Corners.{Sound, RefinedMesh, Small as SmallPoints}
-use Rattle.surface.specs.Net.{net}
-use Rattle.surface.specs.Refined.{perCorner}
+use Rattle.surface.specs.Sound.{Sound, Small as SmallPoints}
 use Rattle.corner_tables.specs.Tables.{Filled}
 use Rattle.refine.specs.Sources.{Small}
 use Rattle.sides.specs.Tabled.{tabledCorners, tabled}

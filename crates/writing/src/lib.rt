@@ -1,18 +1,18 @@
 // The numbers that building writes: the refined points of the faces at the range's vertices are computed once for each axis, and then the
 // quad-nets are written corner by corner, so that each part of the output is gone over once.
-use mesh::MOST_CORNERS;
-use mesh::MOST_FACES;
-use mesh::MOST_VERTICES;
 use mesh::SMALL_MESH;
+use paper::MOST_CORNERS;
+use paper::MOST_FACES;
+use paper::MOST_VERTICES;
 use requests::PER_CORNER;
 ghost use mathlib.Core.Path.{_≡_};
 ghost use Prim.Native.Nat.{_+_, _*_, _≤_, _<_};
 ghost use lib.ListN.{length};
-ghost use Rattle.mesh.specs.Lists.{meshOf};
-ghost use Rattle.mesh.specs.Corners.{sumOf};
+ghost use Rattle.paper.specs.Mesh.{meshOf};
+ghost use Rattle.paper.specs.Corners.{sumOf};
+ghost use Rattle.paper.specs.Faults.{Accepted};
+ghost use Rattle.paper.specs.Calls.{nets, perCorner};
 ghost use Rattle.mesh.specs.Tables.{smallMesh};
-ghost use Rattle.mesh.specs.Faults.{Accepted};
-ghost use Rattle.surface.specs.Refined.{nets, perCorner};
 ghost use Rattle.corner_tables.specs.Tables.{Wanted};
 ghost use Rattle.writing.specs.Written.{Given, AtMost, Fresh, New, MeshTables, Long, AllDrawn, onAxis, NetsWritten};
 

@@ -3,12 +3,11 @@
 use mathlib.Core.Path.{_≡_, refl, ap, _∙_, sym}
 use lib.ListN.{length}
 use denote.Ref.{now}
-use Rattle.mesh.specs.Lists.{Mesh, meshOf}
-use Rattle.mesh.specs.Answers.{stated}
+use Rattle.paper.specs.Mesh.{Mesh, meshOf}
+use Rattle.paper.specs.Faults.{stated, sound}
 use Rattle.mesh.proofs.Verdicts.{passed}
 use Rattle.requests.specs.Request.{requestFaults}
 use Rattle.requests.proofs.Laws.{Granted, granted}
-use Rattle.mesh.specs.Faults.{sound}
 use Rattle.writing.proofs.Laws.{few}
 use borrow.Author.Needs.{needs}
 use Rattle.building.proofs.answer.Statement.{statement}

@@ -3,9 +3,9 @@
 use mathlib.Core.Path.{refl, _∙_, sym}
 use lib.ListN.{length}
 use denote.Ref.{now}
-use Rattle.mesh.specs.Lists.{Mesh, meshOf}
+use Rattle.paper.specs.Mesh.{Mesh, meshOf}
+use Rattle.paper.specs.Faults.{Accepted}
 use Rattle.mesh.proofs.Verdicts.{passed, stop, past}
-use Rattle.mesh.specs.Faults.{Accepted}
 use Rattle.requests.proofs.Laws.{verdict-is}
 use native.Mathlib.Omega.{arith}
 use borrow.Author.Needs.{needs}

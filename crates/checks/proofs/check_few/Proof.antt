@@ -1,7 +1,7 @@
 -- `check_few` meets its contract: its scratch tables have room for the mesh.
 -- Assumes nothing.
 use denote.Ref.{now}
-use Rattle.mesh.specs.Lists.{meshOf}
+use Rattle.paper.specs.Mesh.{meshOf}
 use Rattle.mesh.specs.Tables.{smallMesh}
 use Rattle.checks.proofs.Laws.{room, count-room}
 use native.Mathlib.Omega.{arith}

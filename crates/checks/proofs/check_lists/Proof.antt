@@ -1,7 +1,7 @@
 -- Checks 4 to 9 meet their contract: each stops the chain with its fault or is passed.
 -- Assumes nothing.
 use denote.Ref.{now}
-use Rattle.mesh.specs.Faults.{listFaults}
+use Rattle.paper.specs.Faults.{listFaults}
 use Rattle.mesh.proofs.Verdicts.{stop, passed, past, single-sound}
 use Rattle.mesh.proofs.Accepted.{few-vertices, few-faces, few-corners, sums-of}
 use Rattle.checks.proofs.Laws.{lasts-room}

@@ -1,8 +1,7 @@
 -- `check_many` meets its contract: its scratch tables have room for every mesh that comes here.
 -- Assumes nothing.
 use denote.Ref.{now}
-use Rattle.mesh.specs.Limits.{mostCorners, mostVertices}
-use Rattle.mesh.specs.Lists.{meshOf}
+use Rattle.paper.specs.Mesh.{mostCorners, mostVertices, meshOf}
 use Rattle.checks.proofs.Laws.{room, count-room}
 use native.Mathlib.Omega.{arith}
 use borrow.Author.Needs.{needs}

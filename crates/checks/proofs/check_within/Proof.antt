@@ -2,9 +2,9 @@
 -- Assumes nothing.
 use mathlib.Core.Path.{ap, _∙_, sym, subst}
 use denote.Ref.{now}
-use Rattle.mesh.specs.Lists.{meshOf}
+use Rattle.paper.specs.Mesh.{meshOf}
+use Rattle.paper.specs.Faults.{stated}
 use Rattle.mesh.specs.Tables.{NextsTo}
-use Rattle.mesh.specs.Answers.{stated}
 use Rattle.mesh.proofs.Verdicts.{passed}
 use Rattle.checks.proofs.Laws.{listed, lists-refused, checked}
 use native.Mathlib.Omega.{arith}

@@ -1,7 +1,7 @@
 -- `find_links` meets its contract: the filled tables are those that the search for edges goes by.
 -- Assumes nothing.
 use denote.Ref.{now}
-use Rattle.mesh.specs.Lists.{meshOf}
+use Rattle.paper.specs.Mesh.{meshOf}
 use Rattle.checks.proofs.Laws.{nexts-in, searchable}
 use native.Mathlib.Omega.{arith}
 use borrow.Author.Needs.{needs}

@@ -1,8 +1,8 @@
 -- Checks 10 to 13 meet their contract: each stops the chain or is passed; after 10 and 11 the entries are the links, over which 13 walks.
 -- Assumes nothing.
 use denote.Ref.{now}
-use Rattle.mesh.specs.Lists.{meshOf}
-use Rattle.mesh.specs.Faults.{linkFaults}
+use Rattle.paper.specs.Mesh.{meshOf}
+use Rattle.paper.specs.Faults.{linkFaults}
 use Rattle.mesh.proofs.Verdicts.{stop, passed, past}
 use Rattle.checks.proofs.Laws.{countable, closed, table, followed, refused, joined}
 use native.Mathlib.Omega.{arith}

@@ -7,7 +7,7 @@ use lib.Dec.{ltb}
 use lib.ListN.{getD}
 use borrow.Author.Tests.{ltb-true, ltb-false}
 use denote.Ref.{now}
-use Rattle.mesh.specs.Links.{vertexOf}
+use Rattle.paper.specs.Links.{vertexOf}
 use Rattle.mesh.proofs.Scans.{ways}
 use native.Mathlib.Omega.{arith}
 use borrow.Author.Needs.{needs}

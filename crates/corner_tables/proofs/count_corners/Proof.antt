@@ -4,8 +4,8 @@ use mathlib.Core.Path.{_≡_, refl, _∙_}
 use Prim.Native.Nat.{_≤_, _<_, _-_}
 use lib.ListN.{length, length-set}
 use denote.Ref.{now}
-use Rattle.mesh.specs.Scan.{countBelow}
-use Rattle.mesh.specs.Links.{vertexOf, names}
+use Rattle.paper.specs.Scan.{countBelow}
+use Rattle.paper.specs.Links.{vertexOf, names}
 use Rattle.corner_tables.specs.Tables.{Filled}
 use Rattle.corner_tables.proofs.Laws.{counted-none, counted-set, count-small, valence-is}
 use native.Mathlib.Omega.{arith}

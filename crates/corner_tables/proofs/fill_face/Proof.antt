@@ -1,11 +1,11 @@
 -- One face meets its contract: the corners below `c` are filled, and `last` is the corner before `c`, at first the face's last.
 -- Assumes nothing.
-use Rattle.mesh.specs.Limits.{mostCorners}
+use Rattle.paper.specs.Mesh.{mostCorners}
+use Rattle.paper.specs.Corners.{startOf, previous}
 use mathlib.Core.Path.{_≡_, refl, sym, subst}
 use Prim.Native.Nat.{ℕ, _+_, _≤_, _<_, _-_}
 use lib.ListN.{length, getD, length-set}
 use denote.Ref.{now}
-use Rattle.mesh.specs.Corners.{startOf, previous}
 use Rattle.mesh.proofs.Faces.{start-next, start-ends}
 use Rattle.corner_tables.specs.Tables.{FaceTables}
 use Rattle.corner_tables.proofs.Laws.{sides-is, previous-start, previous-later, tables-set}

@@ -4,7 +4,7 @@ use mathlib.Core.Path.{_≡_, refl}
 use Prim.Native.Nat.{_≤_, _<_, _-_}
 use lib.ListN.{length, length-set}
 use denote.Ref.{now}
-use Rattle.mesh.specs.Links.{vertexOf, valence}
+use Rattle.paper.specs.Links.{vertexOf, valence}
 use Rattle.corner_tables.specs.Tables.{Filled}
 use Rattle.corner_tables.proofs.Laws.{filled-set}
 use native.Mathlib.Omega.{arith}

@@ -4,7 +4,7 @@ use mathlib.Core.Path.{_≡_, refl, sym}
 use Prim.Native.Nat.{_-_, _≤_, _<_}
 use lib.ListN.{length, length-set}
 use denote.Ref.{now}
-use Rattle.mesh.specs.Corners.{startOf}
+use Rattle.paper.specs.Corners.{startOf}
 use Rattle.mesh.proofs.Faces.{start-zero, start-next, start-ends, start-all}
 use Rattle.corner_tables.specs.Tables.{Wanted}
 use Rattle.corner_tables.proofs.Laws.{wanted-set}

@@ -1,7 +1,8 @@
 -- `cosines::rows` meets its contract: the constant is the table, each row at sixteen places.
 -- Assumes nothing.
 use mathlib.Core.Path.{refl}
-use Rattle.cosines.specs.Table.{table, stored}
+use Rattle.paper.specs.Cosines.{table}
+use Rattle.cosines.specs.Stored.{stored}
 use Rattle.cosines.proofs.rows.Statement.{statement}
 use Rattle.cosines.proofs.rows.Tie as tie
 

@@ -5,8 +5,7 @@ use Prim.Native.Nat.{_/_}
 use native.Mathlib.Omega.{arith}
 use lib.ListN.{length}
 use borrow.Author.Needs.{needs}
-use Rattle.mesh.specs.Limits.{mostVertices}
-use Rattle.mesh.specs.Lists.{meshOf, vertexCount}
+use Rattle.paper.specs.Mesh.{mostVertices, meshOf, vertexCount}
 use Rattle.counts.proofs.Each.{prefix-length, cornered-is, sided-is}
 use Rattle.counts.proofs.count.Statement.{statement}
 use Rattle.counts.proofs.count.Tie as tie

@@ -6,7 +6,7 @@ use lib.IntN.{pos, _+ℤ_, _*ℤ_}
 use mir.Syntax.{w64}
 use mir.Val.{SFits}
 use mir.Facts.{toZ-ofZ}
-use Rattle.rounding.specs.Round.{round}
+use Rattle.paper.specs.Numbers.{round}
 use Rattle.faces.proofs.Laws.{edge-is}
 use Rattle.faces.proofs.edge_face.Statement.{statement}
 use Rattle.faces.proofs.edge_face.Tie as tie

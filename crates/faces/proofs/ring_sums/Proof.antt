@@ -6,10 +6,10 @@ use Prim.Native.Nat.{_+_, _-_, _<_}
 use native.Mathlib.Omega.{arith}
 use borrow.Author.Needs.{needs}
 use lib.IntN.{ℤ}
-use Rattle.integers.specs.Sum.{sum}
+use Rattle.paper.specs.Numbers.{sum}
+use Rattle.paper.specs.Face.{weight}
 use Rattle.integers.proofs.Sum.{sum-zero}
 use Rattle.mesh.proofs.Rings.{iterate-zero}
-use Rattle.surface.specs.Face.{weight}
 use Rattle.faces.proofs.Laws.{Came, Goes, goes, first}
 use Rattle.faces.proofs.ring_sums.Statement.{statement}
 use Rattle.faces.proofs.ring_sums.Tie as tie

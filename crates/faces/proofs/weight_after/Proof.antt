@@ -10,9 +10,9 @@ use mir.Syntax.{w64}
 use mir.Val.{SFits}
 use mir.Facts.{toZ-ofZ}
 use Rattle.integers.proofs.Poly.{over, poly}
-use Rattle.cosines.specs.Table.{cosine}
+use Rattle.paper.specs.Cosines.{cosine}
+use Rattle.paper.specs.Face.{weight}
 use Rattle.cosines.proofs.Rules.{period, cosine-size}
-use Rattle.surface.specs.Face.{weight}
 use Rattle.faces.proofs.weight_after.Statement.{statement}
 use Rattle.faces.proofs.weight_after.Tie as tie
 

@@ -2,7 +2,7 @@
 -- Assumes nothing.
 use borrow.Author.Needs.{needs}
 use Rattle.mesh.proofs.Verdicts.{passed, stop, past}
-use Rattle.file.specs.File.{decodeVerdict}
+use Rattle.paper.specs.File.{decodeVerdict}
 use Rattle.file.proofs.Laws.{file-sized}
 use Rattle.file.proofs.check_decode.Statement.{statement}
 use Rattle.file.proofs.check_decode.Tie as tie

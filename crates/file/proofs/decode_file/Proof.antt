@@ -4,7 +4,7 @@ use mathlib.Core.Path.{sym, ap, _∙_}
 use Prim.Native.Nat.{ℕ, _*_}
 use borrow.Author.Needs.{needs}
 use Rattle.mesh.proofs.Verdicts.{passed}
-use Rattle.mesh.specs.Answers.{stated}
+use Rattle.paper.specs.Faults.{stated}
 use Rattle.file.proofs.Laws.{refused-decode, done-decode, decode-sized, decode-room}
 use Rattle.file.proofs.decode_file.Statement.{statement}
 use Rattle.file.proofs.decode_file.Tie as tie

@@ -5,7 +5,7 @@ use mathlib.Core.List.{List}
 use Prim.Native.Nat.{ℕ}
 use lib.Seq.{length-take-le}
 use borrow.Author.Needs.{needs}
-use Rattle.file.specs.File.{FileSurveyed}
+use Rattle.paper.specs.File.{FileSurveyed}
 use Rattle.file.proofs.Laws.{held-bytes}
 use Rattle.file.proofs.survey.Statement.{statement}
 use Rattle.file.proofs.survey.Tie as tie

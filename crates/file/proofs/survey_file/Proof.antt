@@ -1,11 +1,10 @@
 -- A header that is refused decides; one that passes leaves it to the lists, which then lie within the file.
 -- Assumes nothing.
 use borrow.Author.Needs.{needs}
-use Rattle.mesh.specs.Faults.{verdict}
+use Rattle.paper.specs.Faults.{verdict}
+use Rattle.paper.specs.File.{fileMesh, fileVerdict}
 use Rattle.mesh.proofs.Verdicts.{passed, stop}
-use Rattle.format.specs.Format.{fileMesh}
 use Rattle.format.proofs.Header.{header-sized}
-use Rattle.file.specs.File.{fileVerdict}
 use Rattle.file.proofs.Laws.{refused-survey, later-survey}
 use Rattle.file.proofs.survey_file.Statement.{statement}
 use Rattle.file.proofs.survey_file.Tie as tie

@@ -3,11 +3,10 @@
 use mathlib.Core.Path.{ap, subst, _∙_}
 use Prim.Native.Nat.{ℕ, _*_}
 use borrow.Author.Needs.{needs}
-use Rattle.mesh.specs.Lists.{Mesh}
-use Rattle.mesh.specs.Faults.{verdict}
-use Rattle.format.specs.Format.{fileMesh}
+use Rattle.paper.specs.Mesh.{Mesh}
+use Rattle.paper.specs.Faults.{verdict}
+use Rattle.paper.specs.File.{fileMesh, Surveyed}
 use Rattle.reading.proofs.Laws.{read-length, file-coordinates, file-faces, file-corners}
-use Rattle.file.specs.File.{Surveyed}
 use Rattle.file.proofs.Laws.{mesh-read}
 use Rattle.file.proofs.survey_lists.Statement.{statement}
 use Rattle.file.proofs.survey_lists.Tie as tie

@@ -3,9 +3,8 @@
 use mathlib.Core.Path.{sym, ap, _∙_}
 use borrow.Author.Needs.{needs}
 use Rattle.mesh.proofs.Verdicts.{passed}
-use Rattle.mesh.specs.Lists.{meshOf}
-use Rattle.mesh.specs.Faults.{verdict}
-use Rattle.mesh.specs.Answers.{stated}
+use Rattle.paper.specs.Mesh.{meshOf}
+use Rattle.paper.specs.Faults.{verdict, stated}
 use Rattle.file.proofs.Laws.{refused-survey, done-survey, limits}
 use Rattle.file.proofs.survey_mesh.Statement.{statement}
 use Rattle.file.proofs.survey_mesh.Tie as tie

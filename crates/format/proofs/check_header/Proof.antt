@@ -3,9 +3,9 @@
 use lib.Dec.{ltb}
 use lib.ListN.{length}
 use borrow.Author.Needs.{needs}
-use Rattle.mesh.specs.Faults.{single, _orElse_}
+use Rattle.paper.specs.Faults.{single, _orElse_}
+use Rattle.paper.specs.File.{countsVerdict, headerVerdict}
 use Rattle.mesh.proofs.Verdicts.{passed, stop, past}
-use Rattle.format.specs.Format.{countsVerdict, headerVerdict}
 use Rattle.format.proofs.Header.{has-header, not-held, all-held}
 use Rattle.format.proofs.check_header.Statement.{statement}
 use Rattle.format.proofs.check_header.Tie as tie

@@ -2,7 +2,7 @@
 -- Assumes nothing.
 use borrow.Author.Tests.{eq-eqb, ne-eqb}
 use borrow.Author.Needs.{needs}
-use Rattle.format.specs.Format.{byteAt, marked}
+use Rattle.paper.specs.File.{byteAt, marked}
 use Rattle.format.proofs.has_mark.Statement.{statement}
 use Rattle.format.proofs.has_mark.Tie as tie
 

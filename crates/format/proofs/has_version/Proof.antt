@@ -4,7 +4,7 @@ use mathlib.Core.Path.{ap}
 use Prim.Native.Nat.{ℕ}
 use lib.Dec.{eqb}
 use borrow.Author.Needs.{needs}
-use Rattle.format.specs.Format.{known}
+use Rattle.paper.specs.File.{known}
 use Rattle.format.proofs.has_version.Statement.{statement}
 use Rattle.format.proofs.has_version.Tie as tie
 

@@ -3,8 +3,8 @@
 use mathlib.Core.Path.{ap, _∙_, sym}
 use lib.ListN.{length}
 use denote.Ref.{now}
-use Rattle.mesh.specs.Lists.{meshOf}
-use Rattle.mesh.specs.Answers.{stated}
+use Rattle.paper.specs.Mesh.{meshOf}
+use Rattle.paper.specs.Faults.{stated}
 use Rattle.mesh.proofs.Verdicts.{passed}
 use Rattle.mesh.proofs.Accepted.{sound-of, few-corners}
 use Rattle.linking.proofs.Laws.{link-refused, link-14, link-done}

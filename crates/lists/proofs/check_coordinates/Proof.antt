@@ -6,7 +6,7 @@ use mathlib.Core.Logic.{⊎-elim}
 use Prim.Native.Nat.{ℕ, _≤_, _<_, _-_}
 use lib.ListN.{length}
 use denote.Ref.{now}
-use Rattle.mesh.specs.Faults.{fault7}
+use Rattle.paper.specs.Faults.{fault7}
 use Rattle.mesh.proofs.Scans.{fails-step}
 use Rattle.mesh.proofs.Verdicts.{lowest-hit, lowest-none}
 use Rattle.lists.proofs.Laws.{below, above, between}

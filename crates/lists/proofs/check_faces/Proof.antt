@@ -4,8 +4,8 @@ use mathlib.Core.Path.{_≡_, refl, _∙_, sym, subst}
 use Prim.Native.Nat.{_+_, _≤_, _<_, _-_}
 use lib.ListN.{length, getD, length-set}
 use denote.Ref.{now}
-use Rattle.mesh.specs.Corners.{startOf}
-use Rattle.mesh.specs.Faults.{fault9}
+use Rattle.paper.specs.Corners.{startOf}
+use Rattle.paper.specs.Faults.{fault9}
 use Rattle.mesh.proofs.Faces.{start-zero, start-next, start-all, start-ends}
 use Rattle.mesh.proofs.Verdicts.{lowest-none}
 use Rattle.lists.proofs.Laws.{Passed, passed-none, passed-step, doubled}

@@ -4,7 +4,7 @@ use mathlib.Core.Path.{sym}
 use mathlib.Core.Logic.{⊎-elim}
 use Prim.Native.Nat.{_/_, _-_}
 use borrow.Author.Tests.{ltb-true, ltb-false}
-use Rattle.mesh.specs.Limits.{mostVertices, mostFaces, mostCorners}
+use Rattle.paper.specs.Mesh.{mostVertices, mostFaces, mostCorners}
 use Rattle.mesh.proofs.Ranges.{outside-low, outside-high, inside}
 use Rattle.mesh.proofs.Verdicts.{single-hit, single-miss}
 use Rattle.lists.proofs.Laws.{no-thirds, vertices-out, faces-out, corners-out, lengths-fit}

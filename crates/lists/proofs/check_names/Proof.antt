@@ -6,7 +6,7 @@ use Prim.Native.Nat.{ℕ, _≤_, _<_, _-_}
 use lib.ListN.{length, getD}
 use denote.Ref.{now}
 use borrow.Author.Tests.{le-leb, lt-leb}
-use Rattle.mesh.specs.Faults.{fault8}
+use Rattle.paper.specs.Faults.{fault8}
 use Rattle.mesh.proofs.Scans.{fails-step}
 use Rattle.mesh.proofs.Verdicts.{lowest-hit, lowest-none}
 use native.Mathlib.Omega.{arith}

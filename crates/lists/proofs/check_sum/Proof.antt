@@ -4,7 +4,7 @@ use mathlib.Core.Path.{_≡_, _∙_, sym}
 use Prim.Native.Nat.{_*_, _≤_, _-_}
 use lib.ListN.{length}
 use denote.Ref.{now}
-use Rattle.mesh.specs.Corners.{startOf}
+use Rattle.paper.specs.Corners.{startOf}
 use Rattle.mesh.proofs.Faces.{start-zero, start-next, start-all}
 use Rattle.lists.proofs.Laws.{sum-differs, sum-fits}
 use native.Mathlib.Omega.{arith}

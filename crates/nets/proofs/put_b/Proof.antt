@@ -6,7 +6,7 @@ use Prim.Native.Nat.{_+_, _-_, _*_, _≤_}
 use lib.ListN.{length, getD}
 use lib.Seq.{take-all}
 use lib.IntN.{ℤ}
-use Rattle.surface.specs.Net.{rows}
+use Rattle.paper.specs.Net.{rows}
 use Rattle.nets.specs.Put.{Placed}
 use Rattle.nets.proofs.Laws.{placed-none, Rowed, grid-step}
 use native.Mathlib.Omega.{arith}

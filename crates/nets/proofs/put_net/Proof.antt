@@ -7,9 +7,9 @@ use native.Mathlib.Omega.{arith}
 use borrow.Author.Needs.{needs}
 use lib.Dec.{lit<}
 use lib.IntN.{ℤ}
-use Rattle.surface.specs.Numbers.{rounded}
-use Rattle.surface.specs.Corners.{RefinedMesh}
-use Rattle.surface.specs.Net.{rows, bGrid, aGrid}
+use Rattle.paper.specs.Numbers.{rounded}
+use Rattle.paper.specs.Refined.{RefinedMesh}
+use Rattle.paper.specs.Net.{rows, bGrid, aGrid}
 use Rattle.sides.specs.Tabled.{tabled}
 use Rattle.nets.specs.Put.{Placed}
 use Rattle.nets.proofs.Laws.{all-sized, a-is, b-is, a-fine, b-fine, put-is}

@@ -8,7 +8,7 @@ use lib.ListN.{length, length-set}
 use mir.Syntax.{w32}
 use mir.ValLaws.{toZ-ofZ}
 use borrow.Author.Needs.{needs}
-use Rattle.format.specs.Format.{coordinateIn}
+use Rattle.paper.specs.File.{coordinateIn}
 use Rattle.reading.proofs.Laws.{Filled, filled-none, filled-step, filled-all}
 use Rattle.reading.proofs.read_coordinates.Statement.{statement}
 use Rattle.reading.proofs.read_coordinates.Tie as tie

@@ -8,7 +8,7 @@ use mir.Syntax.{w8, w64}
 use mir.Val.{Fits, SFits, toZ, ofZ}
 use mir.Facts.{toZ-ofZ, toZ-pos}
 use Rattle.integers.proofs.Diff.{diff}
-use Rattle.rounding.specs.Round.{round}
+use Rattle.paper.specs.Numbers.{round}
 use native.Mathlib.Omega.{arith}
 use borrow.Author.Needs.{needs}
 use Rattle.refine.proofs.divide.Statement.{statement}

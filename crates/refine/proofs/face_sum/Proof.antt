@@ -8,10 +8,10 @@ use denote.Ref.{now}
 use mir.Syntax.{w64}
 use mir.Val.{SFits, toZ, ofZ}
 use mir.Facts.{toZ-ofZ}
-use Rattle.integers.specs.Sum.{sum}
+use Rattle.paper.specs.Mesh.{meshOf}
+use Rattle.paper.specs.Numbers.{sum}
+use Rattle.paper.specs.Refined.{ticks}
 use Rattle.integers.proofs.Sum.{sum-zero, sum-more}
-use Rattle.mesh.specs.Lists.{meshOf}
-use Rattle.surface.specs.Refined.{ticks}
 use Rattle.refine.proofs.Laws.{sum-fits}
 use native.Mathlib.Omega.{arith}
 use borrow.Author.Needs.{needs}

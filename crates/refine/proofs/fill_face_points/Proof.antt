@@ -1,6 +1,9 @@
 -- The refined points of one face meet their contract: those of the corners below `c` are put in, and the values of the calls give the next.
 -- Assumes nothing.
-use Rattle.mesh.specs.Limits.{mostCorners}
+use Rattle.paper.specs.Mesh.{mostCorners, Mesh, meshOf}
+use Rattle.paper.specs.Corners.{sumOf, startOf}
+use Rattle.paper.specs.Numbers.{rounded, round}
+use Rattle.paper.specs.Refined.{refinedPoint}
 use mathlib.Core.Path.{_≡_, refl, _∙_}
 use Prim.Native.Nat.{ℕ, _+_, _-_, _*_, _≤_, _<_}
 use lib.ListN.{length, getD, length-set}
@@ -9,12 +12,7 @@ use denote.Ref.{now}
 use mir.Syntax.{w32, w64}
 use mir.Val.{SFits, toZ, ofZ}
 use mir.Facts.{toZ-ofZ}
-use Rattle.mesh.specs.Lists.{Mesh, meshOf}
-use Rattle.mesh.specs.Corners.{sumOf, startOf}
 use Rattle.mesh.proofs.Faces.{start-next, next-below, previous-below}
-use Rattle.surface.specs.Numbers.{rounded}
-use Rattle.surface.specs.Refined.{refinedPoint}
-use Rattle.rounding.specs.Round.{round}
 use Rattle.refine.specs.Sources.{Ticks, Added}
 use Rattle.refine.proofs.Laws.{end-in, eightfold, sizes, point-sizes, point-is, added-none, added-set}
 use native.Mathlib.Omega.{arith}

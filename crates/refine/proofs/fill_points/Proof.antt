@@ -5,8 +5,8 @@ use Prim.Native.Nat.{_-_, _≤_, _<_}
 use mathlib.Core.Logic.{⊎-elim}
 use lib.ListN.{length}
 use denote.Ref.{now}
-use Rattle.mesh.specs.Lists.{Mesh, meshOf}
-use Rattle.mesh.specs.Corners.{startOf}
+use Rattle.paper.specs.Mesh.{Mesh, meshOf}
+use Rattle.paper.specs.Corners.{startOf}
 use Rattle.mesh.proofs.Faces.{start-zero, start-next, start-ends, start-all}
 use Rattle.refine.specs.Sources.{Pointed}
 use Rattle.refine.proofs.Laws.{pointed-none, pointed-added, pointed-passed}

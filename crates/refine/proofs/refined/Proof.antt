@@ -9,7 +9,7 @@ use mir.Syntax.{w32, w64}
 use mir.Val.{SFits, toZ, ofZ}
 use mir.Facts.{toZ-ofZ}
 use Rattle.integers.proofs.Machine.{abs-fits}
-use Rattle.rounding.specs.Round.{round}
+use Rattle.paper.specs.Numbers.{round}
 use Rattle.refine.proofs.Laws.{Sizes, sizes, eightfold}
 use native.Mathlib.Omega.{arith}
 use borrow.Author.Needs.{needs}

@@ -8,8 +8,8 @@ use denote.Ref.{now}
 use mir.Syntax.{w32, w64}
 use mir.Val.{SFits}
 use mir.Facts.{toZ-ofZ}
-use Rattle.surface.specs.Refined.{ticks}
-use Rattle.mesh.specs.Links.{vertexOf}
+use Rattle.paper.specs.Links.{vertexOf}
+use Rattle.paper.specs.Refined.{ticks}
 use Rattle.integers.proofs.Machine.{abs-fits}
 use Rattle.refine.proofs.Laws.{tick-in, coordinate-size, tick-size}
 use native.Mathlib.Omega.{arith}

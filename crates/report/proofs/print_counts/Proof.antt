@@ -2,7 +2,7 @@
 -- Assumes nothing.
 use Prim.Native.Nat.{_+_, _-_, _≤_}
 use borrow.Author.Needs.{needs}
-use Rattle.mesh.specs.Limits.{mostSides}
+use Rattle.paper.specs.Mesh.{mostSides}
 use Rattle.report.proofs.print_counts.Statement.{statement}
 use Rattle.report.proofs.print_counts.Tie as tie
 

@@ -6,8 +6,8 @@ use Prim.Native.Nat.{ℕ, _-_, _≤_, _<_}
 use lib.ListN.{length, getD}
 use denote.Ref.{now}
 use borrow.Author.Count.{below-more}
-use Rattle.mesh.specs.Lists.{cornerCount}
-use Rattle.surface.specs.Building.{fault15}
+use Rattle.paper.specs.Mesh.{cornerCount}
+use Rattle.paper.specs.Calls.{fault15}
 use Rattle.requests.proofs.Laws.{links-differ, links-agree}
 use native.Mathlib.Omega.{arith}
 use borrow.Author.Needs.{needs}

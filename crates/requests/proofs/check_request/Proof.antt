@@ -6,10 +6,10 @@ use mathlib.Core.Bool.{not}
 use lib.Dec.{eqb}
 use lib.ListN.{length}
 use denote.Ref.{now}
-use Rattle.mesh.specs.Lists.{Mesh, cornerCount}
+use Rattle.paper.specs.Mesh.{Mesh, cornerCount}
+use Rattle.paper.specs.Faults.{sound, single, lowestOf}
+use Rattle.paper.specs.Calls.{fault15, fault16}
 use Rattle.mesh.specs.Tables.{LinkTable}
-use Rattle.mesh.specs.Faults.{sound, single, lowestOf}
-use Rattle.surface.specs.Building.{fault15, fault16}
 use Rattle.mesh.proofs.Verdicts.{stop, passed, past}
 use Rattle.requests.specs.Request.{requestFaults}
 use Rattle.requests.proofs.Laws.{range-of, length-of, as-14, as-16}

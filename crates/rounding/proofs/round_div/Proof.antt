@@ -12,12 +12,11 @@ use lib.Signed.{_≤ℤ_, _<ℤ_, nonNeg}
 use mir.Syntax.{w64}
 use mir.Val.{Fits, SFits, ofZ, toZ}
 use mir.Facts.{toZ-ofZ, toZ-pos}
-use Rattle.integers.specs.Floor.{floor}
+use Rattle.paper.specs.Numbers.{floor, round}
 use Rattle.integers.proofs.Diff.{diff}
 use Rattle.integers.proofs.Poly.{over, poly}
 use Rattle.integers.proofs.Laws.{nonneg}
 use Rattle.integers.proofs.Floor.{IsFloor, floor-is, floor-unique, double-pos}
-use Rattle.rounding.specs.Round.{round}
 use Rattle.rounding.specs.Lift.{Lifts}
 use Rattle.rounding.proofs.round_div.Statement.{statement}
 use Rattle.rounding.proofs.round_div.Tie as tie

@@ -13,13 +13,12 @@ use lib.Signed.{_≤ℤ_, _<ℤ_, ltZ-yes, shrZ}
 use mir.Syntax.{w64}
 use mir.Val.{SFits}
 use mir.Facts.{toZ-ofZ}
-use Rattle.integers.specs.Floor.{floor}
+use Rattle.paper.specs.Numbers.{floor, round}
 use Rattle.integers.proofs.Diff.{diff}
 use Rattle.integers.proofs.Poly.{over, poly}
 use Rattle.integers.proofs.Laws.{mul-le, nonneg}
 use Rattle.integers.proofs.Floor.{IsFloor, floor-is, floor-unique, double-pos}
 use Rattle.integers.proofs.Machine.{abs-fits}
-use Rattle.rounding.specs.Round.{round}
 use Rattle.rounding.proofs.round_shift.Statement.{statement}
 use Rattle.rounding.proofs.round_shift.Tie as tie
 

@@ -5,10 +5,10 @@ use Prim.Native.Nat.{ℕ}
 use native.Mathlib.Omega.{arith}
 use borrow.Author.Needs.{needs}
 use lib.ListN.{getD}
-use Rattle.cosines.specs.Table.{cosine}
-use Rattle.surface.specs.Numbers.{rounded}
-use Rattle.surface.specs.Corners.{RefinedMesh}
-use Rattle.surface.specs.Net.{side0, side1, side2, side3, H, T, C}
+use Rattle.paper.specs.Numbers.{rounded}
+use Rattle.paper.specs.Cosines.{cosine}
+use Rattle.paper.specs.Refined.{RefinedMesh}
+use Rattle.paper.specs.Net.{side0, side1, side2, side3, H, T, C}
 use Rattle.faces.specs.declared.Face.{Face}
 use Rattle.sides.specs.declared.Edge.{Edge}
 use Rattle.sides.specs.Tabled.{tabled}

@@ -8,7 +8,7 @@ use lib.IntN.{ℤ, pos, natAbs, _+ℤ_, _-ℤ_, _*ℤ_}
 use mir.Syntax.{w64}
 use mir.Val.{SFits}
 use mir.Facts.{toZ-ofZ}
-use Rattle.rounding.specs.Round.{round}
+use Rattle.paper.specs.Numbers.{round}
 use Rattle.formulas.specs.Sizes.{FacePoint, Value}
 use Rattle.sides.proofs.side.Statement.{statement}
 use Rattle.sides.proofs.side.Tie as tie

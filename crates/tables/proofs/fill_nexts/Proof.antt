@@ -4,7 +4,7 @@ use mathlib.Core.Path.{_≡_, refl, _∙_, sym, subst}
 use Prim.Native.Nat.{ℕ, _+_, _≤_, _<_, _-_}
 use lib.ListN.{length, getD}
 use denote.Ref.{now}
-use Rattle.mesh.specs.Corners.{startOf}
+use Rattle.paper.specs.Corners.{startOf}
 use Rattle.mesh.specs.Tables.{NextsTo}
 use Rattle.mesh.proofs.Faces.{start-zero, start-next, start-all, start-ends}
 use Rattle.tables.specs.Filled.{FaceFilled}

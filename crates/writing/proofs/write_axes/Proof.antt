@@ -5,11 +5,10 @@ use Prim.Native.Nat.{ℕ, _+_, _<_}
 use lib.Dec.{lit<}
 use lib.ListN.{length}
 use denote.Ref.{now}
-use Rattle.mesh.specs.Lists.{Mesh, meshOf}
-use Rattle.surface.specs.Numbers.{rounded}
-use Rattle.surface.specs.Corners.{RefinedMesh}
-use Rattle.surface.specs.Net.{net}
-use Rattle.surface.specs.Refined.{refinedOf}
+use Rattle.paper.specs.Mesh.{Mesh, meshOf}
+use Rattle.paper.specs.Numbers.{rounded}
+use Rattle.paper.specs.Refined.{RefinedMesh, refinedOf}
+use Rattle.paper.specs.Net.{net}
 use Rattle.refine.proofs.Accepted.{refinable-of}
 use Rattle.writing.specs.Written.{onAxis}
 use Rattle.writing.proofs.Laws.{written-all, written-same, by-axis, tabled-sound, tabled-net, steps-of}

@@ -7,9 +7,9 @@ use lib.ListN.{length}
 use denote.Ref.{now}
 use mir.Syntax.{w64}
 use mir.Val.{Fits}
-use Rattle.surface.specs.Numbers.{rounded}
-use Rattle.surface.specs.Corners.{RefinedMesh}
-use Rattle.surface.specs.Refined.{perCorner}
+use Rattle.paper.specs.Numbers.{rounded}
+use Rattle.paper.specs.Refined.{RefinedMesh}
+use Rattle.paper.specs.Calls.{perCorner}
 use Rattle.writing.specs.Written.{onAxis, NetsWritten}
 use Rattle.writing.proofs.Laws.{written-none, written-step, tables-at}
 use native.Mathlib.Omega.{arith}

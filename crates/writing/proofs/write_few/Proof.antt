@@ -1,7 +1,7 @@
 -- Tables of a small mesh's length are enough.
 -- Assumes nothing.
 use denote.Ref.{now}
-use Rattle.mesh.specs.Lists.{Mesh, meshOf}
+use Rattle.paper.specs.Mesh.{Mesh, meshOf}
 use Rattle.mesh.specs.Tables.{smallMesh}
 use Rattle.writing.proofs.Laws.{new}
 use borrow.Author.Needs.{needs}

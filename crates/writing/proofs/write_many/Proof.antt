@@ -1,8 +1,7 @@
 -- Tables as long as a mesh may ask are enough.
 -- Assumes nothing.
 use denote.Ref.{now}
-use Rattle.mesh.specs.Lists.{Mesh, meshOf}
-use Rattle.mesh.specs.Limits.{mostVertices, mostFaces, mostCorners}
+use Rattle.paper.specs.Mesh.{Mesh, meshOf, mostVertices, mostFaces, mostCorners}
 use Rattle.writing.proofs.Laws.{limits, new}
 use borrow.Author.Needs.{needs}
 use Rattle.writing.proofs.write_many.Statement.{statement}

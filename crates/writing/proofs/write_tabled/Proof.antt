@@ -1,7 +1,7 @@
 -- The tables that serve all axes are filled, and the axes are written by them.
 -- Assumes nothing.
 use denote.Ref.{now}
-use Rattle.mesh.specs.Lists.{Mesh, meshOf}
+use Rattle.paper.specs.Mesh.{Mesh, meshOf}
 use Rattle.corner_tables.proofs.Accepted.{faces-of, vertices-of}
 use Rattle.refine.proofs.Accepted.{refinable-of}
 use Rattle.writing.proofs.Laws.{tables-of}

@@ -1,0 +1,18 @@
+-- Every theorem that paper's Claims states, from the crate that proves it.
+-- Assumes nothing.
+use Rattle.paper.specs.Claims.{Claims}
+use Rattle.cosines.proofs.Rules.{rules}
+use Rattle.mesh.proofs.Theorems.{manifold}
+use Rattle.borders.proofs.Ranges.{ranges, every-border}
+use Rattle.borders.proofs.Theorem.{demand3}
+use Rattle.examples.proofs.Claim.{examples}
+
+pub claims : Claims
+claims = record {
+  rules = rules;
+  manifold = manifold;
+  ranges = ranges;
+  demand3 = demand3;
+  every-border = every-border;
+  examples = examples;
+}

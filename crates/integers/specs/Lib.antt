@@ -1,2 +1,0 @@
-pub mod Floor
-pub mod Sum

@@ -1,0 +1,54 @@
+-- The theorems, as types. Crate claims has a value of `Claims`.
+-- Assumes nothing.
+use mathlib.Core.Path.{_≡_}
+use mathlib.Core.List.{List}
+use Prim.Native.Nat.{ℕ, _+_, _*_, _≤_, _<_}
+use lib.ListN.{length}
+use lib.IntN.{ℤ}
+use Rattle.paper.specs.Mesh.{Mesh, cornerCount, leastSides, mostSides}
+use Rattle.paper.specs.Links.{linkTable}
+use Rattle.paper.specs.Faults.{Accepted}
+use Rattle.paper.specs.Cosines.{RowRules}
+use Rattle.paper.specs.Net.{Side}
+use Rattle.paper.specs.Calls.{perCorner, nets, Built}
+use Rattle.paper.specs.Borders.{Output, Wrote, outputOf, Borders, Smooth}
+use Rattle.paper.specs.Manifold.{Manifold}
+use Rattle.paper.specs.Examples.{AllGive, examples}
+use Rattle.paper.specs.declared.Answer.the-variants.{Done}
+
+-- ---- "Numbers used": the four rules of the cosine table, of every row
+abbrev pub TableRules : Type 0
+TableRules = (m : ℕ) → leastSides ≤ m → m ≤ mostSides → RowRules m
+
+-- ---- what holds at each corner of an accepted mesh
+abbrev pub Manifolds : Type 0
+Manifolds = (M : Mesh) → Accepted M → (c : ℕ) → c < cornerCount M → Manifold M c
+
+-- ---- no range of an accepted mesh is refused: with the link table that linking writes and an output of the right length building is done
+abbrev pub EveryRange : Type 0
+EveryRange =
+    (M : Mesh) → Accepted M → (first count : ℕ) → 0 < count → first + count ≤ cornerCount M
+    → (old : List ℤ) → length old ≡ perCorner * count → Built M (linkTable M) first count old Done (nets M first count)
+
+-- ---- demand 3: every border within the outputs, and between the outputs, that any two calls on a mesh leave
+abbrev pub Demand3 : Type 0
+Demand3 = (M : Mesh) (A B : Output) → Wrote M A → Wrote M B → Borders M A B
+
+-- and so every border of an accepted mesh, as one call for all its corners leaves it
+abbrev pub EveryBorder : Type 0
+EveryBorder =
+    (M : Mesh) → Accepted M → (c : ℕ) → c < cornerCount M → (s : Side) → (axis : ℕ) → axis < 3
+    → Smooth M (outputOf M 0 (cornerCount M)) (outputOf M 0 (cornerCount M)) axis c s
+
+-- ---- "Checked examples", those marked (p)
+abbrev pub ExamplesAgree : Type 0
+ExamplesAgree = AllGive examples
+
+-- ---- all of them
+pub record Claims : Type 0 where
+  pub rules : TableRules
+  pub manifold : Manifolds
+  pub ranges : EveryRange
+  pub demand3 : Demand3
+  pub every-border : EveryBorder
+  pub examples : ExamplesAgree

@@ -1,0 +1,31 @@
+-- What a reader of the contracts has to believe, in the order of document 01: the definitions that the entry points' contracts and
+-- the theorems for the owner rest on, and nothing else (.ci/trusted).
+--     Scan       scans over numbers, used by all others
+--     Mesh, Corners, Links   "Mesh tables and links": lists and limits, next and previous corners, links
+--     Faults     "Why a mesh is turned down", 4 to 14, and answers
+--     Counts, File   "The file": what `inspect` counts; format, 1 to 3, `survey` and `decode`
+--     Numbers, Cosines   "Numbers used": rounding and the reading `rounded`; the cosine table
+--     Refined, Face, Net   "From corner to 41 points"
+--     Calls, CFace   linking and building as calls, 14 to 17; the C face
+--     Borders    "The four conditions across a side"
+--     Manifold   what an accepted mesh is
+--     Examples   "Checked examples"
+--     Claims     the theorems
+pub mod Scan
+pub mod Mesh
+pub mod Corners
+pub mod Links
+pub mod Faults
+pub mod Counts
+pub mod File
+pub mod Numbers
+pub mod Cosines
+pub mod Refined
+pub mod Face
+pub mod Net
+pub mod Calls
+pub mod CFace
+pub mod Borders
+pub mod Manifold
+pub mod Examples
+pub mod Claims

@@ -1,0 +1,45 @@
+-- Rounding ("Numbers used"), and the numbers that the construction is carried out in. The construction is said once, over a structure of
+-- numbers; its reading `rounded`, whole numbers of ticks where every division rounds, is what building writes.
+-- Assumes nothing.
+use Prim.Native.Nat.{_/_, ℕ, zero, suc}
+use lib.IntN.{ℤ, pos, negsuc, natAbs, _+ℤ_, _-ℤ_, _*ℤ_}
+
+-- the largest whole number that is not above z / d, for d > 0
+unfoldable pub floor : ℤ → ℤ → ℤ
+floor (pos a) d = pos (a / natAbs d)
+floor (negsuc a) d = negsuc (a / natAbs d)
+
+-- r(n / d), for d > 0: n / d + 1/2, rounded down. It computes on literals
+unfoldable pub round : ℤ → ℤ → ℤ
+round n d = floor (pos 2 *ℤ n +ℤ d) (pos 2 *ℤ d)
+
+-- f 0 + .. + f (n - 1), for any sum and what it starts from
+unfoldable pub sumBy : {A : Type 0} → (A → A → A) → A → (ℕ → A) → ℕ → A
+sumBy plus none f zero = none
+sumBy plus none f (suc n) = plus (sumBy plus none f n) (f n)
+
+-- of whole numbers
+abbrev pub sum : (ℕ → ℤ) → ℕ → ℤ
+sum = sumBy _+ℤ_ (pos 0)
+
+-- ---- all that the construction does with numbers
+pub record Numbers : Type 1 where
+  pub Number : Type 0
+  -- a whole number as such a number
+  pub whole : ℤ → Number
+  -- sum, difference, multiple, and quotient by a positive whole number
+  pub _⊕_ : Number → Number → Number
+  pub _⊖_ : Number → Number → Number
+  pub _·_ : ℤ → Number → Number
+  pub _÷_ : Number → ℕ → Number
+
+-- ---- every division is r of 01
+abbrev pub rounded : Numbers
+rounded = record {
+  Number = ℤ;
+  whole = λ z. z;
+  _⊕_ = _+ℤ_;
+  _⊖_ = _-ℤ_;
+  _·_ = _*ℤ_;
+  _÷_ = λ z d. round z (pos d);
+}

@@ -1,0 +1,55 @@
+// What the definitions of specs/ need of the code: the limits that 01 sets, and what the functions answer.
+
+// The limits, for code; specs/Mesh.antt has the same numbers for the definitions.
+pub const LEAST_SIDES: usize = 3;
+
+pub const MOST_SIDES: usize = 12;
+
+pub const MOST_VERTICES: usize = 2048;
+
+pub const MOST_FACES: usize = 4096;
+
+pub const MOST_CORNERS: usize = 8192;
+
+pub const MOST_COORDINATE: i32 = 65536;
+
+// What stands for 1 in the cosine table.
+pub const UNIT: i64 = 1073741824;
+
+// A tick is 1/256 of a grid step.
+pub const TICKS_PER_STEP: i64 = 256;
+
+// The numbers that building writes for a corner: x, y, z of each of its 41 points.
+pub const NUMBERS_PER_CORNER: usize = 123;
+
+// What a check, linking and building answer: done, or refused with 01's number and place.
+pub enum Answer {
+    Done,
+    Refused(u8, usize),
+}
+
+// How many numbers m there are, from 0 to the most sides or corners.
+pub const NUMBERS: usize = MOST_SIDES + 1;
+
+// A mesh's vertices, faces and corners; and for each m how many vertices have m corners and how many faces m sides.
+pub struct Counts {
+    pub vertices: usize,
+    pub faces: usize,
+    pub corners: usize,
+    pub cornered: [u16; NUMBERS],
+    pub sided: [u16; NUMBERS],
+}
+
+// What `survey` answers: done or refused, and the counts, all zero beside a refusal.
+pub struct Summary {
+    pub answer: Answer,
+    pub counts: Counts,
+}
+
+// What `decode` answers: done or refused, and the lengths of the three lists, zero beside a refusal.
+pub struct Decoded {
+    pub answer: Answer,
+    pub coordinates: usize,
+    pub sides: usize,
+    pub corners: usize,
+}
