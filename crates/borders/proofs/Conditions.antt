@@ -12,6 +12,7 @@ use Rattle.paper.specs.Numbers.{round, rounded}
 use Rattle.paper.specs.Refined.{RefinedMesh}
 use Rattle.paper.specs.Net.{Side, side0, side1, side2, side3, atHead, atTail, H, T, X, Y, N, C, outer1, outer2, outer3, a0, a1, a2, a3}
 use Rattle.paper.specs.Borders.{first, second, third, fourth, InBounds}
+use Rattle.paper.specs.Cosines.{unit}
 use Rattle.rounding.specs.Near.{Near}
 use Rattle.rounding.proofs.Laws.{near-is}
 use Rattle.surface.proofs.Faces.{HeadRule, TailRule}
@@ -36,16 +37,16 @@ first-core = over 12 _ λ ρ. simp (poly, ρ) (omega arith)
 second-core : (H T X Y C v w X* X^ N M o a â : ℤ)
     → OffByHalf (H +ℤ pos 3 *ℤ X) (pos 4) o
     → OffByHalf (pos 3 *ℤ X +ℤ pos 3 *ℤ Y +ℤ v -ℤ w) (pos 6) N → OffByHalf (pos 3 *ℤ X +ℤ pos 3 *ℤ Y +ℤ w -ℤ v) (pos 6) M
-    → OffByHalf (SecondRow (pos (2 ^ 30)) (pos (2 ^ 32)) C H X Y X* N) (pos (2 ^ 33)) a
-    → OffByHalf (SecondRow (pos (2 ^ 30)) (pos (2 ^ 32)) C H X Y X^ M) (pos (2 ^ 33)) â
+    → OffByHalf (SecondRow (pos unit) (pos (4 * unit)) C H X Y X* N) (pos (8 * unit)) a
+    → OffByHalf (SecondRow (pos unit) (pos (4 * unit)) C H X Y X^ M) (pos (8 * unit)) â
     → HeadRule C H X X* X^ → InBounds (second H T X Y C o a â)
 second-core = over 14 _ λ ρ. simp (poly, ρ) (omega arith)
 
 third-core : (H T X Y C v w Y* Y^ N M o a â : ℤ)
     → OffByHalf (X +ℤ Y) (pos 2) o
     → OffByHalf (pos 3 *ℤ X +ℤ pos 3 *ℤ Y +ℤ v -ℤ w) (pos 6) N → OffByHalf (pos 3 *ℤ X +ℤ pos 3 *ℤ Y +ℤ w -ℤ v) (pos 6) M
-    → OffByHalf (ThirdRow (pos (3 * 2 ^ 30)) (pos (2 ^ 30)) (pos (2 ^ 32)) C T Y Y* N) (pos (2 ^ 33)) a
-    → OffByHalf (ThirdRow (pos (3 * 2 ^ 30)) (pos (2 ^ 30)) (pos (2 ^ 32)) C T Y Y^ M) (pos (2 ^ 33)) â
+    → OffByHalf (ThirdRow (pos (3 * unit)) (pos unit) (pos (4 * unit)) C T Y Y* N) (pos (8 * unit)) a
+    → OffByHalf (ThirdRow (pos (3 * unit)) (pos unit) (pos (4 * unit)) C T Y Y^ M) (pos (8 * unit)) â
     → TailRule T Y Y* Y^ → InBounds (third H T X Y C o a â)
 third-core = over 14 _ λ ρ. simp (poly, ρ) (omega arith)
 

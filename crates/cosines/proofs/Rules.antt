@@ -13,7 +13,7 @@ use lib.IntN.{pos, negℤ, natAbs}
 use lib.Signed.{ltZ, leZ, _<ℤ_, _≤ℤ_}
 use Rattle.integers.proofs.Below.{below, below-at, eqZ, eqZ-eq}
 use Rattle.paper.specs.Mesh.{mostSides}
-use Rattle.paper.specs.Cosines.{table, cosine, rest}
+use Rattle.paper.specs.Cosines.{unit, table, cosine, rest}
 use Rattle.paper.specs.Claims.{TableRules}
 use Rattle.cosines.specs.Stored.{stored}
 
@@ -34,7 +34,7 @@ modulo0 m j = ap (cosine m) (plus-zero (j % m)) ∙ modulo m j 0 ∙ ap (cosine 
 
 -- ---- the tests, at row a + 3
 first-test : ℕ → Bool
-first-test a = eqZ (cosine (a + 3) 0) (pos (2 ^ 30))
+first-test a = eqZ (cosine (a + 3) 0) (pos unit)
 
 symmetric-at : ℕ → ℕ → Bool
 symmetric-at m k = eqZ (cosine m k) (cosine m (m - k))
@@ -43,10 +43,10 @@ falls-at : ℕ → ℕ → Bool
 falls-at m k = ltZ (cosine m (k + 1)) (cosine m k)
 
 recurs-at : ℕ → ℕ → Bool
-recurs-at m k = leb (natAbs (rest m k)) (3 * 2 ^ 30)
+recurs-at m k = leb (natAbs (rest m k)) (3 * unit)
 
 size-at : ℕ → ℕ → Bool
-size-at m k = leb (natAbs (cosine m k)) (2 ^ 30)
+size-at m k = leb (natAbs (cosine m k)) unit
 
 bottom-test : ℕ → Bool
 bottom-test a = leZ (negℤ (pos (2 ^ 29))) (cosine (a + 3) 1)
@@ -74,9 +74,9 @@ module _ (m : ℕ) (low : 3 ≤ m) (high : m ≤ mostSides) where
   at-entry f n t k h =
       below-at (f m) (n m) (subst (λ (r : ℕ). T (below (f r) (n r))) back (at-row (entries f n) t)) k h
 
-  first : cosine m 0 ≡ pos (2 ^ 30)
+  first : cosine m 0 ≡ pos unit
   unfolding table cosine first-test
-  first = eqZ-eq _ _ (subst (λ (r : ℕ). T (eqZ (cosine r 0) (pos (2 ^ 30)))) back (at-row first-test tt))
+  first = eqZ-eq _ _ (subst (λ (r : ℕ). T (eqZ (cosine r 0) (pos unit))) back (at-row first-test tt))
 
   symmetric : (k : ℕ) → k ≤ m → cosine m k ≡ cosine m (m - k)
   unfolding table cosine symmetric-at
@@ -86,18 +86,18 @@ module _ (m : ℕ) (low : 3 ≤ m) (high : m ≤ mostSides) where
   unfolding table cosine falls-at
   falls k h = record { lt = at-entry falls-at (λ r. r / 2) tt k h }
 
-  recurs-below : (k : ℕ) → k < m → natAbs (rest m k) ≤ 3 * 2 ^ 30
+  recurs-below : (k : ℕ) → k < m → natAbs (rest m k) ≤ 3 * unit
   unfolding table cosine recurs-at
   recurs-below k h = leb→le _ _ (at-entry recurs-at (λ r. r) tt k h)
 
-  recurs : (k : ℕ) → natAbs (rest m k) ≤ 3 * 2 ^ 30
+  recurs : (k : ℕ) → natAbs (rest m k) ≤ 3 * unit
   recurs k = simp (modulo, modulo0) at (recurs-below (k % m) (mod-lt k (omega arith)))
 
-  size-below : (k : ℕ) → k < m → natAbs (cosine m k) ≤ 2 ^ 30
+  size-below : (k : ℕ) → k < m → natAbs (cosine m k) ≤ unit
   unfolding table cosine size-at
   size-below k h = leb→le _ _ (at-entry size-at (λ r. r) tt k h)
 
-  pub cosine-size : (k : ℕ) → natAbs (cosine m k) ≤ 2 ^ 30
+  pub cosine-size : (k : ℕ) → natAbs (cosine m k) ≤ unit
   cosine-size k = simp modulo0 at (size-below (k % m) (mod-lt k (omega arith)))
 
   -- no row falls below -1/2 at its second entry

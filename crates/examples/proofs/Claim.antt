@@ -8,7 +8,8 @@ use lib.IntN.{ℤ}
 use Rattle.paper.specs.Scan.{firstFrom, firstBelow, someBelow, countBelow, iterate, valuesFrom}
 use Rattle.paper.specs.Corners.{sumOf, faceOf, startOf, firstOf, sidesOf, next, previous}
 use Rattle.paper.specs.Links.{leavesTo, arrivesFrom, linked, link, sameEdge, reverseEdge, names, valence, lowest}
-use Rattle.paper.specs.Faults.{_orElse_, single, lowestOf, fault4, fault5, fault6, fault7, fault8, sameVertexFrom, fault9, fault10, fault11, fault12, after, ringLength, met, fault13, listFaults, linkFaults, verdict}
+use Rattle.paper.specs.Faults.{_orElse_, single, lowestOf, fault4, fault5, fault6, fault7, fault8, sameVertexFrom, fault9, fault10, fault11, fault12, after}
+use Rattle.paper.specs.Faults.{ringLength, met, fault13, listFaults, linkFaults, verdict}
 use Rattle.paper.specs.Numbers.{floor, sum, sumBy, round}
 use Rattle.paper.specs.Cosines.{cosine}
 use Rattle.paper.specs.Cosines as cosines
@@ -45,5 +46,8 @@ agree ((given gives printed) ∷ rows) t =
     (same-eq given printed (both-left (same given printed) (all-same rows) t), agree rows (both-right (same given printed) (all-same rows) t))
 
 pub examples : ExamplesAgree
-unfolding rows.examples all-same same floor sumBy round cosine cosines.table firstFrom firstBelow someBelow countBelow iterate sumOf faceOf startOf firstOf sidesOf next previous leavesTo arrivesFrom linked link sameEdge reverseEdge names valence lowest _orElse_ single lowestOf fault4 fault5 fault6 fault7 fault8 sameVertexFrom fault9 fault10 fault11 fault12 after ringLength met fault13 listFaults linkFaults verdict centre weight toward quad H T X Y N C outer1 outer2 outer3 a0 a1 a2 a3 middle bHead bTail aHead aTail b22 bGrid aGrid net ticks faceSum refinedPoint numberAt nets valuesFrom
+unfolding rows.examples all-same same floor sumBy round cosine cosines.table firstFrom firstBelow someBelow countBelow iterate sumOf faceOf startOf firstOf
+    sidesOf next previous leavesTo arrivesFrom linked link sameEdge reverseEdge names valence lowest _orElse_ single lowestOf fault4 fault5 fault6 fault7
+    fault8 sameVertexFrom fault9 fault10 fault11 fault12 after ringLength met fault13 listFaults linkFaults verdict centre weight toward quad H T X Y N C
+    outer1 outer2 outer3 a0 a1 a2 a3 middle bHead bTail aHead aTail b22 bGrid aGrid net ticks faceSum refinedPoint numberAt nets valuesFrom
 examples = agree rows.examples tt

@@ -4,7 +4,6 @@ ghost use mathlib.Core.Path.{_≡_};
 ghost use Prim.Native.Nat.{_+_, _-_, _*_, _^_, _≤_, _<_};
 ghost use lib.ListN.{length, getD};
 ghost use lib.IntN.{pos, _*ℤ_};
-
 ghost use Rattle.paper.specs.Mesh.{mostSides};
 ghost use Rattle.paper.specs.Face.{weight};
 ghost use Rattle.cosines.specs.Stored.{stored};

@@ -1,5 +1,7 @@
--- Polynomials with integer coefficients in any number of unknowns, as expressions that antt computes with. `simp (poly, ρ)` turns a statement about ℤ into one about the natural parts of its monomials, which `omega` proves.
--- Against `diff` (Diff.antt): a monomial is two numbers here whatever its degree, and what cancels is gone before `omega` looks. So identities of any degree, and inequalities with many products, stay within `omega`'s 64 unknowns.
+-- Polynomials with integer coefficients in any number of unknowns, as expressions that antt computes with. `simp (poly, ρ)` turns a statement about ℤ into
+-- one about the natural parts of its monomials, which `omega` proves.
+-- Against `diff` (Diff.antt): a monomial is two numbers here whatever its degree, and what cancels is gone before `omega` looks. So identities of any
+-- degree, and inequalities with many products, stay within `omega`'s 64 unknowns.
 -- Assumes nothing.
 use mathlib.Core.Path.{_≡_, refl, sym, ap, _∙_, subst}
 use mathlib.Core.Logic.{_↔_}
@@ -154,9 +156,11 @@ together = each _ λ c c′. each _ λ d d′. each _ λ m m′. each _ λ p p�
 past : (x y p : ℤ) → y +ℤ (x +ℤ p) ≡ x +ℤ (y +ℤ p)
 past = each _ λ x x′. each _ λ y y′. each _ λ p p′. simp diff (omega arith)
 
-place-is : (o : Cmp) (c : ℤ) (m : List ℕ) (d : ℤ) (n : List ℕ) (p r : Poly) (ρ : Env) → (IsSame o → m ≡ n) → pev r ρ ≡ c *ℤ mono m ρ +ℤ pev p ρ → pev (place o c m d n p r) ρ ≡ c *ℤ mono m ρ +ℤ (d *ℤ mono n ρ +ℤ pev p ρ)
+place-is : (o : Cmp) (c : ℤ) (m : List ℕ) (d : ℤ) (n : List ℕ) (p r : Poly) (ρ : Env) → (IsSame o → m ≡ n) → pev r ρ ≡ c *ℤ mono m ρ +ℤ pev p ρ
+    → pev (place o c m d n p r) ρ ≡ c *ℤ mono m ρ +ℤ (d *ℤ mono n ρ +ℤ pev p ρ)
 place-is less c m d n p r ρ s h = refl
-place-is same c m d n p r ρ s h = put-is (c +ℤ d) m p ρ ∙ together c d (mono m ρ) (pev p ρ) ∙ ap (λ (l : List ℕ). c *ℤ mono m ρ +ℤ (d *ℤ mono l ρ +ℤ pev p ρ)) (s tt)
+place-is same c m d n p r ρ s h = put-is (c +ℤ d) m p ρ ∙ together c d (mono m ρ) (pev p ρ) ∙ ap (λ (l : List ℕ). c *ℤ mono m ρ +ℤ (d *ℤ mono l ρ +ℤ pev p ρ))
+    (s tt)
 place-is more c m d n p r ρ s h = ap (λ (z : ℤ). d *ℤ mono n ρ +ℤ z) h ∙ past (c *ℤ mono m ρ) (d *ℤ mono n ρ) (pev p ρ)
 
 ins-is : (c : ℤ) (m : List ℕ) (p : Poly) (ρ : Env) → pev (ins c m p) ρ ≡ c *ℤ mono m ρ +ℤ pev p ρ
@@ -168,7 +172,8 @@ add-assoc = each _ λ a a′. each _ λ b b′. each _ λ c c′. simp diff (ome
 
 poly-add-is : (p q : Poly) (ρ : Env) → pev (poly-add p q) ρ ≡ pev p ρ +ℤ pev q ρ
 poly-add-is nil q ρ = each (λ z. z ≡ pos 0 +ℤ z) (λ a a′. simp diff (omega arith)) (pev q ρ)
-poly-add-is (term c m p) q ρ = ins-is c m (poly-add p q) ρ ∙ ap (λ (z : ℤ). c *ℤ mono m ρ +ℤ z) (poly-add-is p q ρ) ∙ add-assoc (c *ℤ mono m ρ) (pev p ρ) (pev q ρ)
+poly-add-is (term c m p) q ρ = ins-is c m (poly-add p q) ρ ∙ ap (λ (z : ℤ). c *ℤ mono m ρ +ℤ z) (poly-add-is p q ρ) ∙ add-assoc (c *ℤ mono m ρ) (pev p ρ)
+    (pev q ρ)
 
 four : (c d m n : ℤ) → (c *ℤ d) *ℤ (m *ℤ n) ≡ (c *ℤ m) *ℤ (d *ℤ n)
 four c d m n = sym (mul-assoc c d (m *ℤ n)) ∙ ap (λ (z : ℤ). c *ℤ z) (swap d m n) ∙ mul-assoc c m (d *ℤ n)
@@ -285,7 +290,8 @@ parts-is nil ρ = is-diff (pos 0) 0 0 refl
 parts-is (term (pos k) [] p) ρ = ap (λ (z : ℤ). pos k *ℤ pos 1 +ℤ z) (parts-is p ρ) ∙ const-add k (hi p ρ) (lo p ρ)
 parts-is (term (pos k) (i ∷ m) p) ρ = cc (prod-is i m ρ, pos-times k (prod i m ρ), parts-is p ρ, add-diff (k * Up i m ρ) (k * Dn i m ρ) (hi p ρ) (lo p ρ))
 parts-is (term (negsuc k) [] p) ρ = ap (λ (z : ℤ). negsuc k *ℤ pos 1 +ℤ z) (parts-is p ρ) ∙ const-sub k (hi p ρ) (lo p ρ)
-parts-is (term (negsuc k) (i ∷ m) p) ρ = cc (prod-is i m ρ, negsuc-times k (prod i m ρ), parts-is p ρ, add-diff (suc k * Dn i m ρ) (suc k * Up i m ρ) (hi p ρ) (lo p ρ))
+parts-is (term (negsuc k) (i ∷ m) p) ρ = cc
+    (prod-is i m ρ, negsuc-times k (prod i m ρ), parts-is p ρ, add-diff (suc k * Dn i m ρ) (suc k * Up i m ρ) (hi p ρ) (lo p ρ))
 
 pub ev-parts : (e : Expr) (ρ : Env) → ev e ρ ≡ hi (norm e) ρ ⊖ lo (norm e) ρ
 ev-parts e ρ = norm-is e ρ ∙ parts-is (norm e) ρ
@@ -351,7 +357,8 @@ eq-ev e f ρ = through (gap-eq (ev e ρ) (ev f ρ)) (above-eq _ _ _ (ev-parts (p
 pub abs-ev : (e : Expr) (ρ : Env) (k : ℕ) → (natAbs (ev e ρ) ≤ k) ↔ ((hi (norm e) ρ ≤ k + lo (norm e) ρ) × (lo (norm e) ρ ≤ k + hi (norm e) ρ))
 abs-ev e ρ k = rw (ev-parts e ρ) (abs-diff (hi (norm e) ρ) (lo (norm e) ρ) k)
 
-pub fits-ev : (w : Width) (e : Expr) (ρ : Env) → SFits w (ev e ρ) ↔ ((hi (norm e) ρ < 2 ^ hbits w + lo (norm e) ρ) × (lo (norm e) ρ ≤ 2 ^ hbits w + hi (norm e) ρ))
+pub fits-ev : (w : Width) (e : Expr) (ρ : Env) → SFits w (ev e ρ) ↔
+    ((hi (norm e) ρ < 2 ^ hbits w + lo (norm e) ρ) × (lo (norm e) ρ ≤ 2 ^ hbits w + hi (norm e) ρ))
 fits-ev w e ρ = rw (ev-parts e ρ) (fits-diff w (hi (norm e) ρ) (lo (norm e) ρ))
 
 pub ruleset quote = (plus-ev, times-ev, minus-ev, nat-ev, below-ev)

@@ -14,7 +14,8 @@ use Rattle.paper.specs.Scan.{iterate}
 use Rattle.paper.specs.Mesh.{leastSides, mostSides, mostVertices, mostFaces, mostCorners, Mesh, vertexCount, faceCount, cornerCount}
 use Rattle.paper.specs.Corners.{sumOf, firstOf, sidesOf, next}
 use Rattle.paper.specs.Links.{vertexOf, link, names, valence, lowest}
-use Rattle.paper.specs.Faults.{outside, fault4, fault5, fault6, fault7, fault8, fault9, fault10, fault11, fault12, fault13, after, ringLength, met, listFaults, linkFaults, verdict, Accepted}
+use Rattle.paper.specs.Faults.{outside, fault4, fault5, fault6, fault7, fault8, fault9, fault10, fault11, fault12, fault13, after, ringLength, met}
+use Rattle.paper.specs.Faults.{listFaults, linkFaults, verdict, Accepted}
 use Rattle.paper.specs.Manifold.{Returns}
 use Rattle.mesh.specs.Closed.{Closed}
 use Rattle.mesh.proofs.Ranges.{none-left, none-right, at-least, at-most}
@@ -74,7 +75,8 @@ module _ (n f c : ℕ) (e : fault4 n f c ≡ false) where
   few-faces = at-most 1 mostFaces f (none-left (outside 1 mostFaces f) (outside 1 mostCorners c) (none-right (outside 1 mostVertices (n / 3)) _ after-thirds))
 
   pub few-corners : c ≤ mostCorners
-  few-corners = at-most 1 mostCorners c (none-right (outside 1 mostFaces f) (outside 1 mostCorners c) (none-right (outside 1 mostVertices (n / 3)) _ after-thirds))
+  few-corners = at-most 1 mostCorners c
+      (none-right (outside 1 mostFaces f) (outside 1 mostCorners c) (none-right (outside 1 mostVertices (n / 3)) _ after-thirds))
 
 -- no fault of 5, 6, 8 and 12
 pub sides-within : (sides : List ℕ) (f : ℕ) → fault5 sides f ≡ false → (leastSides ≤ getD sides f 0) × (getD sides f 0 ≤ mostSides)
@@ -134,10 +136,12 @@ module _ (sides corners : List ℕ) (k : Closed sides corners) (u c₀ : ℕ) (h
   link-turn e = turn (length corners) (names corners u) (link sides corners) (lowest corners u) turns (none (length corners) _ e) c₀ h₀ (of-names c₀ e₀)
 
 -- as many links as the vertex has corners lead back to a corner, and fewer do not
-pub links-return : (M : Mesh) → Accepted M → (c : ℕ) → c < cornerCount M → Returns (link (M .sides) (M .corners)) (valence (M .corners) (vertexOf (M .corners) c)) c
+pub links-return : (M : Mesh) → Accepted M → (c : ℕ) → c < cornerCount M
+    → Returns (link (M .sides) (M .corners)) (valence (M .corners) (vertexOf (M .corners) c)) c
 links-return M a c h =
     let s = sound-of M a in
-    link-turn (M .sides) (M .corners) (closed-of M s) (vertexOf (M .corners) c) c h refl (s .thirteen _ (named-of (vertexCount M) (M .corners) c (s .eight c h)))
+    link-turn (M .sides) (M .corners) (closed-of M s) (vertexOf (M .corners) c) c h refl
+    (s .thirteen _ (named-of (vertexCount M) (M .corners) c (s .eight c h)))
 
 -- as many steps to the next corner as the face has sides lead back, and fewer do not
 module _ (sides : List ℕ) (c : ℕ) (h : c < sumOf sides) where

@@ -40,7 +40,8 @@ module _ (sides corners : List ℕ) (k : Closed sides corners) where
       (none d (sameEdge sides corners d) (k .ten d h) c l)
 
   -- a leaving edge leaves one corner
-  pub unique : (c d : ℕ) → c < length corners → d < length corners → vertexOf corners c ≡ vertexOf corners d → leavesTo sides corners c ≡ leavesTo sides corners d → c ≡ d
+  pub unique : (c d : ℕ) → c < length corners → d < length corners → vertexOf corners c ≡ vertexOf corners d
+      → leavesTo sides corners c ≡ leavesTo sides corners d → c ≡ d
   unique c d hc hd v t =
       ⊎-elim (λ e. e) (λ o. absurd (⊎-elim (λ l. later c d l hd v t) (λ l. later d c l hc (sym v) (sym t)) o)) (compared c d)
 
@@ -84,7 +85,12 @@ module _ (sides corners : List ℕ) (k : Closed sides corners) where
 
   pub link-in : (c : ℕ) → c < length corners → link sides corners c < length corners
   unfolding link
-  link-in c h = omega (arith, first-le (length corners) (linked sides corners c) (next sides (reverse sides corners c)) (candidate c h), next-in _ (reverse-in c h))
+  link-in c h = omega (
+    arith,
+    first-le (length corners) (linked sides corners c) (next sides (reverse sides corners c)) (candidate c h),
+    next-in _
+        (reverse-in c h),
+  )
 
   link-passes : (c : ℕ) → c < length corners → linked sides corners c (link sides corners c) ≡ true
   unfolding link
@@ -148,7 +154,8 @@ module _ (M : Mesh) where
       values-at (link (M .sides) (M .corners)) 0 0 (length (M .corners)) c h
       ∙ ap (link (M .sides) (M .corners)) (let q : 0 + c ≡ c = omega arith in q)
 
-  pub link-table-is : (table : List ℕ) → length table ≡ length (M .corners) → ((c : ℕ) → c < length (M .corners) → getD table c 0 ≡ link (M .sides) (M .corners) c)
+  pub link-table-is : (table : List ℕ) → length table ≡ length (M .corners)
+      → ((c : ℕ) → c < length (M .corners) → getD table c 0 ≡ link (M .sides) (M .corners) c)
       → table ≡ linkTable M
   link-table-is table l e =
       ext-getD 0 table (linkTable M) (l ∙ sym length-link-table)

@@ -142,7 +142,8 @@ module _ (n : ℕ) (f : ℕ → Bool) (step : ℕ → ℕ) (start : ℕ) (t : Tu
   shift zero j k e q = ap (λ (x : ℕ). iterate x step start) (let r : k ≡ j = omega arith in r) ∙ q ∙ iterate-zero step start
   shift (suc i) zero k e q = absurd (omega arith)
   shift (suc i) (suc j) k e q =
-      shift i j k (omega arith) (t .injective (at j) (at i) (both j .0) (both i .0) (both j .1) (both i .1) (sym (iterate-suc step j start) ∙ q ∙ iterate-suc step i start))
+      shift i j k (omega arith)
+      (t .injective (at j) (at i) (both j .0) (both i .0) (both j .1) (both i .1) (sym (iterate-suc step j start) ∙ q ∙ iterate-suc step i start))
 
   -- the start does not come back within the first k members
   abbrev Fresh : ℕ → Type 0

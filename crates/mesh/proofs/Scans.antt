@@ -30,7 +30,8 @@ and-right false b h = absurd (true≢false (sym h))
 
 -- below, at or above
 pub compared : (a b : ℕ) → (a ≡ b) ⊎ ((a < b) ⊎ (b < a))
-compared a b = ⊎-elim (λ e. inl (eqb-true a b e)) (λ e. inr (⊎-elim (λ l. inl (ltb-true a b l)) (λ l. inr (apart a b (eqb-false a b e) (ltb-false a b l))) (ways (ltb a b)))) (ways (eqb a b))
+compared a b = ⊎-elim (λ e. inl (eqb-true a b e))
+    (λ e. inr (⊎-elim (λ l. inl (ltb-true a b l)) (λ l. inr (apart a b (eqb-false a b e) (ltb-false a b l))) (ways (ltb a b)))) (ways (eqb a b))
   where
     apart : (a b : ℕ) → (a ≡ b → ⊥) → b ≤ a → b < a
     apart a b n h = omega (arith, n)

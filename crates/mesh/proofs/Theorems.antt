@@ -9,7 +9,8 @@ use Rattle.paper.specs.Corners.{sumOf, faceOf, sidesOf}
 use Rattle.paper.specs.Links.{vertexOf, valence}
 use Rattle.paper.specs.Claims.{Manifolds}
 use Rattle.mesh.proofs.Faces.{held, face-next, face-previous, sides-next, sides-previous}
-use Rattle.mesh.proofs.Links.{next-in, previous-in, there, back, reverse-reverse, link-in, link-vertex, link-previous-link, unlink-link, link-unlink, link-injective}
+use Rattle.mesh.proofs.Links.{next-in, previous-in, there, back, reverse-reverse, link-in, link-vertex, link-previous-link, unlink-link, link-unlink}
+use Rattle.mesh.proofs.Links.{link-injective}
 use Rattle.mesh.proofs.Accepted.{sound-of, closed-of, named-of, sides-within, valence-within, links-return, next-turn}
 
 pub manifold : Manifolds

@@ -38,7 +38,8 @@ round-scale k n d hk hd =
     let q = floor (pos 2 *ℤ n +ℤ d) (pos 2 *ℤ d) in
     let f = floor-is (pos 2 *ℤ n +ℤ d) (pos 2 *ℤ d) (double-pos d hd) in
     let at-least = mul-le k (pos 2 *ℤ d *ℤ q) (pos 2 *ℤ n +ℤ d) (some k hk) (f .0) in
-    let below = mul-le k (pos 2 *ℤ n +ℤ d +ℤ pos 1) (pos 2 *ℤ d *ℤ q +ℤ pos 2 *ℤ d) (some k hk) (next (pos 2 *ℤ n +ℤ d) (pos 2 *ℤ d *ℤ q +ℤ pos 2 *ℤ d) (f .1)) in
+    let below = mul-le k (pos 2 *ℤ n +ℤ d +ℤ pos 1) (pos 2 *ℤ d *ℤ q +ℤ pos 2 *ℤ d) (some k hk)
+    (next (pos 2 *ℤ n +ℤ d) (pos 2 *ℤ d *ℤ q +ℤ pos 2 *ℤ d) (f .1)) in
     let scaled = double-pos (k *ℤ d) (product k d hk hd (mul-le k (pos 1) d (some k hk) (one d hd))) in
     sym (floor-unique (pos 2 *ℤ (k *ℤ n) +ℤ k *ℤ d) (pos 2 *ℤ (k *ℤ d)) q scaled (both k n d q hk at-least below))
   where

@@ -11,7 +11,8 @@ use Rattle.paper.specs.Numbers.{round, rounded}
 use Rattle.paper.specs.Cosines.{cosine}
 use Rattle.paper.specs.Refined.{Corners, RefinedMesh}
 use Rattle.paper.specs.Face.{centre, toward}
-use Rattle.paper.specs.Net.{End, vertex, leaving, face, arriving, Side, side0, side1, side2, side3, head, tail, neighbour, quad, size, ring, points, headPlace, H, T, X, Y, N, C, outer1, outer2, outer3, a0, a1, a2, a3, middle, bHead, bTail, aHead, aTail, b22, bGrid, aGrid, net}
+use Rattle.paper.specs.Net.{End, vertex, leaving, face, arriving, Side, side0, side1, side2, side3, head, tail, neighbour, quad, size, ring, points}
+use Rattle.paper.specs.Net.{headPlace, H, T, X, Y, N, C, outer1, outer2, outer3, a0, a1, a2, a3, middle, bHead, bTail, aHead, aTail, b22, bGrid, aGrid, net}
 use Rattle.surface.specs.Sound.{Sound, Agree}
 use Rattle.surface.proofs.Rings.{iterate-in}
 use Rattle.surface.proofs.Faces.{toward-same}
@@ -100,7 +101,8 @@ module _ (K L : RefinedMesh rounded) (same : Agree (K .corners) (L .corners)) (o
 
   Y-same : (s : Side) → Y K c s ≡ Y L c s
   unfolding Y
-  Y-same s = toward-equal (points K c (tail s)) (points L c (tail s)) _ _ _ _ (size-same (K .corners) (L .corners) same ok c here (tail s)) refl (points-same (tail s))
+  Y-same s = toward-equal (points K c (tail s)) (points L c (tail s)) _ _ _ _ (size-same (K .corners) (L .corners) same ok c here (tail s)) refl
+      (points-same (tail s))
 
   C-same : (s : Side) → C K c s ≡ C L c s
   unfolding C
@@ -109,7 +111,8 @@ module _ (K L : RefinedMesh rounded) (same : Agree (K .corners) (L .corners)) (o
   N-same : (s : Side) → N K c s ≡ N L c s
   unfolding N
   N-same s =
-      let w : K .point (neighbour (K .corners) c s) ≡ L .point (neighbour (L .corners) c s) = beside s ∙ ap (L .point) (neighbour-same (K .corners) (L .corners) same ok c here s) in
+      let w : K .point (neighbour (K .corners) c s) ≡ L .point (neighbour (L .corners) c s) = beside s ∙ ap (L .point)
+      (neighbour-same (K .corners) (L .corners) same ok c here s) in
       rw (X-same s, Y-same s, own, w)
 
   pub net-same : net K c ≡ net L c

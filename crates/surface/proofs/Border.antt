@@ -10,7 +10,7 @@ use Rattle.integers.proofs.Sum.{Cyclic}
 use Rattle.paper.specs.Scan.{iterate}
 use Rattle.paper.specs.Mesh.{leastSides, mostSides}
 use Rattle.paper.specs.Numbers.{rounded}
-use Rattle.paper.specs.Cosines.{cosine}
+use Rattle.paper.specs.Cosines.{unit, cosine}
 use Rattle.paper.specs.Refined.{RefinedMesh}
 use Rattle.paper.specs.Face.{centre, toward}
 use Rattle.paper.specs.Net.{vertex, leaving, face, arriving, Side, side0, side1, side2, side3, neighbour, across, atHead, atTail, quad, points, H, T, X, Y, C}
@@ -44,9 +44,9 @@ turn K c s d t b = record {
   same-Y = sym (b .same-Y);
   same-C = sym (b .same-C);
   head-rule = rw (b .same-H, b .same-X, b .same-C)
-      (swap (C K c s) (H K c s) (X K c s) (X K c (atHead s)) (X K d (atHead t)) (pos (3 * 2 ^ 30) +ℤ pos (2 ^ 26)) (b .head-rule));
+      (swap (C K c s) (H K c s) (X K c s) (X K c (atHead s)) (X K d (atHead t)) (pos (3 * unit) +ℤ pos (2 ^ 26)) (b .head-rule));
   tail-rule = rw (b .same-T, b .same-Y)
-      (swap (pos 0) (T K c s) (Y K c s) (Y K c (atTail s)) (Y K d (atTail t)) (pos (2 * 2 ^ 30) +ℤ pos 0) (b .tail-rule));
+      (swap (pos 0) (T K c s) (Y K c s) (Y K c (atTail s)) (Y K d (atTail t)) (pos (2 * unit) +ℤ pos 0) (b .tail-rule));
 }
 
 -- ---- a ring of n c corners round a step, seen from c and from the corner that the step leads to: the head of side 0 (links) and of side 1 (next)
@@ -84,10 +84,12 @@ module _ (v : ℕ → ℤ) (step n : ℕ → ℕ) (c : ℕ) (cyc : Cyclic (λ j.
       index : (k : ℕ) → 0 + k + 1 ≡ 0 + 1 + k
       index k = omega arith
 
-  ring-rule : HeadRule (cosine (n c) 1) (centre rounded here (n c)) (toward rounded here (n c) 0) (toward rounded here (n c) (n c - 1)) (toward rounded there (n (step c)) 0)
+  ring-rule : HeadRule (cosine (n c) 1) (centre rounded here (n c)) (toward rounded here (n c) 0) (toward rounded here (n c) (n c - 1))
+      (toward rounded there (n (step c)) 0)
   ring-rule = rw (ring-after, index (n c - 1))
-      (swap (cosine (n c) 1) (centre rounded here (n c)) (toward rounded here (n c) 0) (toward rounded here (n c) (0 + 1)) (toward rounded here (n c) (0 + (n c - 1)))
-      (pos (3 * 2 ^ 30) +ℤ pos (2 ^ 26)) (head-defect here (n c) some most cyc small 0))
+      (swap (cosine (n c) 1) (centre rounded here (n c)) (toward rounded here (n c) 0) (toward rounded here (n c) (0 + 1))
+      (toward rounded here (n c) (0 + (n c - 1)))
+      (pos (3 * unit) +ℤ pos (2 ^ 26)) (head-defect here (n c) some most cyc small 0))
     where
       index : (k : ℕ) → k ≡ 0 + k
       index k = omega arith
@@ -163,12 +165,14 @@ module _ (K : RefinedMesh rounded) (ok : Sound (K .corners)) (size : Small K) (c
         same-C = ring-C (K .point) (K .corners .next) (K .corners .sides) c cyc same some most small;
         head-rule = ring-rule (K .point) (K .corners .next) (K .corners .sides) c cyc same some most small;
         tail-rule = rw (next-edge (λ p. toward rounded p 4 1))
-            (swap (pos 0) (centre rounded (points K c leaving) 4) (toward rounded (points K c leaving) 4 0) (toward rounded (points K c leaving) 4 1) (toward rounded (points K c leaving) 4 3)
-            (pos (2 * 2 ^ 30) +ℤ pos 0) (tail-defect (points K c leaving) (points-cyclic K ok c here leaving) (points-small K ok c here size leaving) 0));
+            (swap (pos 0) (centre rounded (points K c leaving) 4) (toward rounded (points K c leaving) 4 0) (toward rounded (points K c leaving) 4 1)
+            (toward rounded (points K c leaving) 4 3)
+            (pos (2 * unit) +ℤ pos 0) (tail-defect (points K c leaving) (points-cyclic K ok c here leaving) (points-small K ok c here size leaving) 0));
       }
 
 -- ---- every side of every corner belongs to one
-pub border : (K : RefinedMesh rounded) → Sound (K .corners) → Small K → (c : ℕ) → c < K .corners .count → (s : Side) → Border K c s (neighbour (K .corners) c s) (across s)
+pub border : (K : RefinedMesh rounded) → Sound (K .corners) → Small K → (c : ℕ) → c < K .corners .count → (s : Side)
+    → Border K c s (neighbour (K .corners) c s) (across s)
 border K ok size c here side0 = border0 K ok size c here
 border K ok size c here side1 = border1 K ok size c here
 border K ok size c here side2 =

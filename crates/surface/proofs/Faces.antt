@@ -9,7 +9,7 @@ use lib.IntN.{ℤ, pos, _+ℤ_, _-ℤ_, _*ℤ_, negℤ, natAbs}
 use lib.Signed.{_<ℤ_, _≤ℤ_}
 use Rattle.paper.specs.Mesh.{leastSides, mostSides}
 use Rattle.paper.specs.Numbers.{sum, sumBy, round, rounded}
-use Rattle.paper.specs.Cosines.{cosine, rest}
+use Rattle.paper.specs.Cosines.{unit, cosine, rest}
 use Rattle.paper.specs.Face.{weight, centre, toward}
 use Rattle.integers.proofs.Poly.{over, poly}
 use Rattle.integers.proofs.Diff.{diff}
@@ -21,17 +21,17 @@ use Rattle.cosines.proofs.Rules.{rules, period, cosine-size, bottom, exact, qua
 use Rattle.surface.proofs.Within.{Within, within-times, within-cancel, abs-within, positive}
 
 -- ---- the sum with each point before its weight
-pub toward-is : (p : ℕ → ℤ) (m i : ℕ) → toward rounded p m i ≡ round (sum (λ k. p (i + k) *ℤ weight m k) m) (pos (3 * 2 ^ 30) *ℤ pos m)
+pub toward-is : (p : ℕ → ℤ) (m i : ℕ) → toward rounded p m i ≡ round (sum (λ k. p (i + k) *ℤ weight m k) m) (pos (3 * unit) *ℤ pos m)
 unfolding toward
 toward-is p m i =
-    ap (λ (z : ℤ). round z (pos (3 * 2 ^ 30) *ℤ pos m))
+    ap (λ (z : ℤ). round z (pos (3 * unit) *ℤ pos m))
     (sum-same (λ k. weight m k *ℤ p (i + k)) (λ k. p (i + k) *ℤ weight m k) m (λ k l. mul-comm (weight m k) (p (i + k))))
 
 -- ---- where the ring starts
 pub toward-same : (p q : ℕ → ℤ) (m i j : ℕ) → ((k : ℕ) → k < m → p (i + k) ≡ q (j + k)) → toward rounded p m i ≡ toward rounded q m j
 unfolding toward
 toward-same p q m i j h =
-    ap (λ (z : ℤ). round z (pos (3 * 2 ^ 30) *ℤ pos m))
+    ap (λ (z : ℤ). round z (pos (3 * unit) *ℤ pos m))
     (sum-same (λ k. weight m k *ℤ p (i + k)) (λ k. weight m k *ℤ q (j + k)) m (λ k l. ap (λ (z : ℤ). weight m k *ℤ z) (h k l)))
 
 pub centre-same : (p q : ℕ → ℤ) (m s : ℕ) → Cyclic p m → ((j : ℕ) → j < m → q j ≡ p (j + s)) → centre rounded q m ≡ centre rounded p m
@@ -42,10 +42,10 @@ centre-same p q m s cyc h = ap (λ (z : ℤ). round z (pos m)) (sum-same q (λ j
 gather : (ℕ → ℤ) → ℕ → ℕ → ℤ
 gather p m i = sum (λ k. p (i + k) *ℤ weight m k) m
 
-pub toward-near : (p : ℕ → ℤ) (m i : ℕ) → 0 < m → Near (sum (λ k. p (i + k) *ℤ weight m k) m) (pos (3 * 2 ^ 30) *ℤ pos m) (toward rounded p m i)
+pub toward-near : (p : ℕ → ℤ) (m i : ℕ) → 0 < m → Near (sum (λ k. p (i + k) *ℤ weight m k) m) (pos (3 * unit) *ℤ pos m) (toward rounded p m i)
 toward-near p m i h = rw (toward-is p m i) (round-near _ _ (some m h))
   where
-    some : (m : ℕ) → 0 < m → pos 0 <ℤ (pos (3 * 2 ^ 30) *ℤ pos m)
+    some : (m : ℕ) → 0 < m → pos 0 <ℤ (pos (3 * unit) *ℤ pos m)
     some m h = simp diff (omega arith)
 
 pub centre-near : (p : ℕ → ℤ) (m : ℕ) → 0 < m → Near (sum p m) (pos m) (centre rounded p m)
@@ -62,10 +62,10 @@ weight-period m k = cc (period m k, ap (cosine m) (turn m k), period m (k + (m -
 
 -- the paper's own numbering: the sum over j of V[j] · (3·2^30 + 2C(m,k) + 2C(m,k-1)) with k = j - i, read modulo m
 pub toward-by-place : (p : ℕ → ℤ) (m i : ℕ) → i ≤ m → Cyclic p m
-    → toward rounded p m i ≡ round (sum (λ j. p j *ℤ weight m (j + (m - i))) m) (pos (3 * 2 ^ 30) *ℤ pos m)
+    → toward rounded p m i ≡ round (sum (λ j. p j *ℤ weight m (j + (m - i))) m) (pos (3 * unit) *ℤ pos m)
 toward-by-place p m i l cyc =
     toward-is p m i
-    ∙ ap (λ (z : ℤ). round z (pos (3 * 2 ^ 30) *ℤ pos m))
+    ∙ ap (λ (z : ℤ). round z (pos (3 * unit) *ℤ pos m))
     (sum-same (λ k. p (i + k) *ℤ weight m k) (λ k. p (k + i) *ℤ weight m (k + i + (m - i))) m
     (λ k h. cc (ap p (swapped k), ap (weight m) (whole k), weight-period m k))
     ∙ cycle (λ j. p j *ℤ weight m (j + (m - i))) m (λ j. cc (cyc j, ap (weight m) (later j), weight-period m (j + (m - i)))) i)
@@ -141,8 +141,8 @@ module _ (p : ℕ → ℤ) (m : ℕ) (some : leastSides ≤ m) (cyc : Cyclic p m
   leftOver k = Left (p (i + k)) (rest m k) (rest m (k + (m - 1)))
 
   one : (k : ℕ) → leftOver k
-      ≡ pos (2 ^ 30) *ℤ (p (i + k) *ℤ weight m (k + (m - 1)) +ℤ p (i + k) *ℤ weight m (k + 1))
-      -ℤ pos (6 * 2 ^ 30) *ℤ (pos (2 ^ 30) -ℤ cosine m 1) *ℤ p (i + k)
+      ≡ pos unit *ℤ (p (i + k) *ℤ weight m (k + (m - 1)) +ℤ p (i + k) *ℤ weight m (k + 1))
+      -ℤ pos (6 * unit) *ℤ (pos unit -ℤ cosine m 1) *ℤ p (i + k)
       -ℤ pos 2 *ℤ cosine m 1 *ℤ (p (i + k) *ℤ weight m k)
   unfolding leftOver weight
   one k = rw (ap (cosine m) (turn1 k) ∙ period m k, ap (cosine m) (turn2 k) ∙ period m k)
@@ -155,22 +155,22 @@ module _ (p : ℕ → ℤ) (m : ℕ) (some : leastSides ≤ m) (cyc : Cyclic p m
       turn2 k = omega arith
 
       terms : (v a b c d e : ℤ)
-          → Left v (pos (2 ^ 30) *ℤ (a +ℤ c) -ℤ pos 2 *ℤ e *ℤ b) (pos (2 ^ 30) *ℤ (b +ℤ d) -ℤ pos 2 *ℤ e *ℤ c)
-          ≡ pos (2 ^ 30) *ℤ (v *ℤ (pos (3 * 2 ^ 30) +ℤ pos 2 *ℤ c +ℤ pos 2 *ℤ d) +ℤ v *ℤ (pos (3 * 2 ^ 30) +ℤ pos 2 *ℤ a +ℤ pos 2 *ℤ b))
-          -ℤ pos (6 * 2 ^ 30) *ℤ (pos (2 ^ 30) -ℤ e) *ℤ v
-          -ℤ pos 2 *ℤ e *ℤ (v *ℤ (pos (3 * 2 ^ 30) +ℤ pos 2 *ℤ b +ℤ pos 2 *ℤ c))
+          → Left v (pos unit *ℤ (a +ℤ c) -ℤ pos 2 *ℤ e *ℤ b) (pos unit *ℤ (b +ℤ d) -ℤ pos 2 *ℤ e *ℤ c)
+          ≡ pos unit *ℤ (v *ℤ (pos (3 * unit) +ℤ pos 2 *ℤ c +ℤ pos 2 *ℤ d) +ℤ v *ℤ (pos (3 * unit) +ℤ pos 2 *ℤ a +ℤ pos 2 *ℤ b))
+          -ℤ pos (6 * unit) *ℤ (pos unit -ℤ e) *ℤ v
+          -ℤ pos 2 *ℤ e *ℤ (v *ℤ (pos (3 * unit) +ℤ pos 2 *ℤ b +ℤ pos 2 *ℤ c))
       terms = over 6 _ λ ρ. simp (poly, ρ) (omega arith)
 
   -- what the three sums and the sum of the points leave over
   combined : sum leftOver m
-      ≡ pos (2 ^ 30) *ℤ (gather p m (i + 1) +ℤ gather p m (i + (m - 1)))
-      -ℤ pos (6 * 2 ^ 30) *ℤ (pos (2 ^ 30) -ℤ cosine m 1) *ℤ sum p m
+      ≡ pos unit *ℤ (gather p m (i + 1) +ℤ gather p m (i + (m - 1)))
+      -ℤ pos (6 * unit) *ℤ (pos unit -ℤ cosine m 1) *ℤ sum p m
       -ℤ pos 2 *ℤ cosine m 1 *ℤ gather p m i
   unfolding gather
   combined = rw (after, before, ← total)
       (combine (λ k. p (i + k) *ℤ weight m (k + (m - 1))) (λ k. p (i + k) *ℤ weight m (k + 1)) (λ k. p (i + k)) (λ k. p (i + k) *ℤ weight m k)
       leftOver
-      (pos (2 ^ 30)) (pos (6 * 2 ^ 30) *ℤ (pos (2 ^ 30) -ℤ cosine m 1)) (pos 2 *ℤ cosine m 1) m one)
+      (pos unit) (pos (6 * unit) *ℤ (pos unit -ℤ cosine m 1)) (pos 2 *ℤ cosine m 1) m one)
 
   left-over-size : (R : ℕ) → ((k : ℕ) → natAbs (rest m k) ≤ R) → ((j : ℕ) → natAbs (p j) ≤ 2 ^ 24) → natAbs (sum leftOver m) ≤ m * (2 ^ 24 * (4 * R))
   unfolding leftOver
@@ -185,65 +185,65 @@ module _ (p : ℕ → ℤ) (m : ℕ) (some : leastSides ≤ m) (cyc : Cyclic p m
 -- ---- from the sums to the rounded points
 -- 2^30 (X* + X^) - 2 (2^30 - C) H - 2 C X: how far a face point's two neighbours are from the rule
 abbrev pub Defect : ℤ → ℤ → ℤ → ℤ → ℤ → ℤ
-Defect C H X X* X^ = pos (2 ^ 30) *ℤ (X* +ℤ X^) -ℤ pos 2 *ℤ (pos (2 ^ 30) -ℤ C) *ℤ H -ℤ pos 2 *ℤ C *ℤ X
+Defect C H X X* X^ = pos unit *ℤ (X* +ℤ X^) -ℤ pos 2 *ℤ (pos unit -ℤ C) *ℤ H -ℤ pos 2 *ℤ C *ℤ X
 
 -- M stands for m; F, G, U for the sums of a face point, of the next and of the one before; P for the sum of the points; L for what is left over
 abbrev Rounded : ℤ → ℤ → ℤ → ℤ → ℤ → ℤ → ℤ → ℤ → ℤ → ℤ → Type 0
 Rounded S3 M C S G U P H X* X^ = Near G (S3 *ℤ M) X* × Near U (S3 *ℤ M) X^ × Within ((S -ℤ C) *ℤ (pos 2 *ℤ (M *ℤ H -ℤ P))) ((S -ℤ C) *ℤ M)
 
-core-up : (M C F G U P L H X X* X^ B : ℤ) → Rounded (pos (3 * 2 ^ 30)) M C (pos (2 ^ 30)) G U P H X* X^
-    → Within (C *ℤ (pos 2 *ℤ (pos (3 * 2 ^ 30) *ℤ M *ℤ X -ℤ F))) (C *ℤ (pos (3 * 2 ^ 30) *ℤ M))
-    → L ≡ pos (2 ^ 30) *ℤ (G +ℤ U) -ℤ pos (6 * 2 ^ 30) *ℤ (pos (2 ^ 30) -ℤ C) *ℤ P -ℤ pos 2 *ℤ C *ℤ F
-    → Within L (M *ℤ (pos (3 * 2 ^ 30) *ℤ B))
-    → Within (M *ℤ Defect C H X X* X^) (M *ℤ (pos (2 * 2 ^ 30) +ℤ B))
+core-up : (M C F G U P L H X X* X^ B : ℤ) → Rounded (pos (3 * unit)) M C (pos unit) G U P H X* X^
+    → Within (C *ℤ (pos 2 *ℤ (pos (3 * unit) *ℤ M *ℤ X -ℤ F))) (C *ℤ (pos (3 * unit) *ℤ M))
+    → L ≡ pos unit *ℤ (G +ℤ U) -ℤ pos (6 * unit) *ℤ (pos unit -ℤ C) *ℤ P -ℤ pos 2 *ℤ C *ℤ F
+    → Within L (M *ℤ (pos (3 * unit) *ℤ B))
+    → Within (M *ℤ Defect C H X X* X^) (M *ℤ (pos (2 * unit) +ℤ B))
 core-up = over 12 _ λ ρ. simp (poly, ρ) (omega arith)
 
-core-down : (M C F G U P L H X X* X^ B : ℤ) → Rounded (pos (3 * 2 ^ 30)) M C (pos (2 ^ 30)) G U P H X* X^
-    → Within (negℤ C *ℤ (pos 2 *ℤ (pos (3 * 2 ^ 30) *ℤ M *ℤ X -ℤ F))) (negℤ C *ℤ (pos (3 * 2 ^ 30) *ℤ M))
-    → L ≡ pos (2 ^ 30) *ℤ (G +ℤ U) -ℤ pos (6 * 2 ^ 30) *ℤ (pos (2 ^ 30) -ℤ C) *ℤ P -ℤ pos 2 *ℤ C *ℤ F
-    → Within L (M *ℤ (pos (3 * 2 ^ 30) *ℤ B))
+core-down : (M C F G U P L H X X* X^ B : ℤ) → Rounded (pos (3 * unit)) M C (pos unit) G U P H X* X^
+    → Within (negℤ C *ℤ (pos 2 *ℤ (pos (3 * unit) *ℤ M *ℤ X -ℤ F))) (negℤ C *ℤ (pos (3 * unit) *ℤ M))
+    → L ≡ pos unit *ℤ (G +ℤ U) -ℤ pos (6 * unit) *ℤ (pos unit -ℤ C) *ℤ P -ℤ pos 2 *ℤ C *ℤ F
+    → Within L (M *ℤ (pos (3 * unit) *ℤ B))
     → (M *ℤ negℤ (pos (2 ^ 29))) ≤ℤ (M *ℤ C)
-    → Within (M *ℤ Defect C H X X* X^) (M *ℤ (pos (3 * 2 ^ 30) +ℤ B))
+    → Within (M *ℤ Defect C H X X* X^) (M *ℤ (pos (3 * unit) +ℤ B))
 core-down = over 12 _ λ ρ. simp (poly, ρ) (omega arith)
 
-below-room : (C : ℤ) → natAbs C ≤ 2 ^ 30 → pos 0 ≤ℤ (pos (2 ^ 30) -ℤ C)
+below-room : (C : ℤ) → natAbs C ≤ unit → pos 0 ≤ℤ (pos unit -ℤ C)
 below-room = over 1 _ λ ρ. simp (poly, ρ) (omega arith)
 
 minus-room : (C : ℤ) → C <ℤ pos 0 → pos 0 ≤ℤ negℤ C
 minus-room = over 1 _ λ ρ. simp (poly, ρ) (omega arith)
 
-wider : (D B : ℤ) → Within D (pos (2 * 2 ^ 30) +ℤ B) → Within D (pos (3 * 2 ^ 30) +ℤ B)
+wider : (D B : ℤ) → Within D (pos (2 * unit) +ℤ B) → Within D (pos (3 * unit) +ℤ B)
 wider = over 2 _ λ ρ. simp (poly, ρ) (omega arith)
 
-module _ (M C F G U P L H X X* X^ B : ℤ) (some : pos 0 <ℤ M) (top : natAbs C ≤ 2 ^ 30)
-    (near-X : Near F (pos (3 * 2 ^ 30) *ℤ M) X) (near-X* : Near G (pos (3 * 2 ^ 30) *ℤ M) X*) (near-X^ : Near U (pos (3 * 2 ^ 30) *ℤ M) X^)
+module _ (M C F G U P L H X X* X^ B : ℤ) (some : pos 0 <ℤ M) (top : natAbs C ≤ unit)
+    (near-X : Near F (pos (3 * unit) *ℤ M) X) (near-X* : Near G (pos (3 * unit) *ℤ M) X*) (near-X^ : Near U (pos (3 * unit) *ℤ M) X^)
     (near-H : Near P M H)
-    (sums : L ≡ pos (2 ^ 30) *ℤ (G +ℤ U) -ℤ pos (6 * 2 ^ 30) *ℤ (pos (2 ^ 30) -ℤ C) *ℤ P -ℤ pos 2 *ℤ C *ℤ F)
-    (left : Within L (M *ℤ (pos (3 * 2 ^ 30) *ℤ B))) where
-  all-near : Rounded (pos (3 * 2 ^ 30)) M C (pos (2 ^ 30)) G U P H X* X^
-  all-near = (near-X*, near-X^, within-times (pos (2 ^ 30) -ℤ C) (pos 2 *ℤ (M *ℤ H -ℤ P)) M (below-room C top) near-H)
+    (sums : L ≡ pos unit *ℤ (G +ℤ U) -ℤ pos (6 * unit) *ℤ (pos unit -ℤ C) *ℤ P -ℤ pos 2 *ℤ C *ℤ F)
+    (left : Within L (M *ℤ (pos (3 * unit) *ℤ B))) where
+  all-near : Rounded (pos (3 * unit)) M C (pos unit) G U P H X* X^
+  all-near = (near-X*, near-X^, within-times (pos unit -ℤ C) (pos 2 *ℤ (M *ℤ H -ℤ P)) M (below-room C top) near-H)
 
   -- C not below 0
-  up : pos 0 ≤ℤ C → Within (Defect C H X X* X^) (pos (2 * 2 ^ 30) +ℤ B)
+  up : pos 0 ≤ℤ C → Within (Defect C H X X* X^) (pos (2 * unit) +ℤ B)
   up h =
-      within-cancel M (Defect C H X X* X^) (pos (2 * 2 ^ 30) +ℤ B) some
+      within-cancel M (Defect C H X X* X^) (pos (2 * unit) +ℤ B) some
       (core-up M C F G U P L H X X* X^ B all-near
-      (within-times C (pos 2 *ℤ (pos (3 * 2 ^ 30) *ℤ M *ℤ X -ℤ F)) (pos (3 * 2 ^ 30) *ℤ M) h near-X) sums left)
+      (within-times C (pos 2 *ℤ (pos (3 * unit) *ℤ M *ℤ X -ℤ F)) (pos (3 * unit) *ℤ M) h near-X) sums left)
 
   -- C below 0, and not below -1/2
-  down : negℤ (pos (2 ^ 29)) ≤ℤ C → pos 0 ≤ℤ M → C <ℤ pos 0 → Within (Defect C H X X* X^) (pos (3 * 2 ^ 30) +ℤ B)
+  down : negℤ (pos (2 ^ 29)) ≤ℤ C → pos 0 ≤ℤ M → C <ℤ pos 0 → Within (Defect C H X X* X^) (pos (3 * unit) +ℤ B)
   down low n h =
-      within-cancel M (Defect C H X X* X^) (pos (3 * 2 ^ 30) +ℤ B) some
+      within-cancel M (Defect C H X X* X^) (pos (3 * unit) +ℤ B) some
       (core-down M C F G U P L H X X* X^ B all-near
-      (within-times (negℤ C) (pos 2 *ℤ (pos (3 * 2 ^ 30) *ℤ M *ℤ X -ℤ F)) (pos (3 * 2 ^ 30) *ℤ M) (minus-room C h) near-X) sums left
+      (within-times (negℤ C) (pos 2 *ℤ (pos (3 * unit) *ℤ M *ℤ X -ℤ F)) (pos (3 * unit) *ℤ M) (minus-room C h) near-X) sums left
       (mul-le M (negℤ (pos (2 ^ 29))) C n low))
 
-  either-way : negℤ (pos (2 ^ 29)) ≤ℤ C → pos 0 ≤ℤ M → Within (Defect C H X X* X^) (pos (3 * 2 ^ 30) +ℤ B)
+  either-way : negℤ (pos (2 ^ 29)) ≤ℤ C → pos 0 ≤ℤ M → Within (Defect C H X X* X^) (pos (3 * unit) +ℤ B)
   either-way low n = ⊎-elim (down low n) (λ h. wider (Defect C H X X* X^) B (up h)) (lt-or-ge C (pos 0))
 
 -- the head's rule: 3 for rounding, and 1/16 for the table
 abbrev pub HeadRule : ℤ → ℤ → ℤ → ℤ → ℤ → Type 0
-HeadRule C H X X* X^ = Within (Defect C H X X* X^) (pos (3 * 2 ^ 30) +ℤ pos (2 ^ 26))
+HeadRule C H X X* X^ = Within (Defect C H X X* X^) (pos (3 * unit) +ℤ pos (2 ^ 26))
 
 module _ (p : ℕ → ℤ) (m : ℕ) (some : leastSides ≤ m) (most : m ≤ mostSides) (cyc : Cyclic p m)
     (small : (j : ℕ) → natAbs (p j) ≤ 2 ^ 24) (i : ℕ) where
@@ -256,13 +256,13 @@ module _ (p : ℕ → ℤ) (m : ℕ) (some : leastSides ≤ m) (most : m ≤ mos
       (positive m here) (cosine-size m some most 1)
       (toward-near p m i here) (toward-near p m (i + 1) here) (toward-near p m (i + (m - 1)) here) (centre-near p m here)
       (combined p m some cyc i)
-      (abs-within (sum (leftOver p m some cyc i) m) m (2 ^ 24 * (4 * (3 * 2 ^ 30)))
-      (left-over-size p m some cyc i (3 * 2 ^ 30) (rules m some most .recurs) small))
+      (abs-within (sum (leftOver p m some cyc i) m) m (2 ^ 24 * (4 * (3 * unit)))
+      (left-over-size p m some cyc i (3 * unit) (rules m some most .recurs) small))
       (bottom m some most) (nonneg m)
 
 -- the tail's rule: the row of four sides is exact
 abbrev pub TailRule : ℤ → ℤ → ℤ → ℤ → Type 0
-TailRule T Y Y* Y^ = Within (Defect (pos 0) T Y Y* Y^) (pos (2 * 2 ^ 30) +ℤ pos 0)
+TailRule T Y Y* Y^ = Within (Defect (pos 0) T Y Y* Y^) (pos (2 * unit) +ℤ pos 0)
 
 module _ (p : ℕ → ℤ) (cyc : Cyclic p 4) (small : (j : ℕ) → natAbs (p j) ≤ 2 ^ 24) (i : ℕ) where
   pub tail-defect : TailRule (centre rounded p 4) (toward rounded p 4 i) (toward rounded p 4 (i + 1)) (toward rounded p 4 (i + 3))

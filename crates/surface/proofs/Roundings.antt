@@ -7,6 +7,7 @@ use lib.IntN.{ℤ, pos, _+ℤ_, _-ℤ_, _*ℤ_}
 use Rattle.paper.specs.Numbers.{round, rounded}
 use Rattle.paper.specs.Refined.{RefinedMesh}
 use Rattle.paper.specs.Net.{Side, neighbour, atHead, atTail, opposite, H, T, X, Y, N, C, outer1, outer2, outer3, a0, a1, a2, a3, middle}
+use Rattle.paper.specs.Cosines.{unit}
 
 -- what the second and the third a point are divided out of; S is 2^30, S3 and S4 three and four times that
 abbrev pub SecondRow : ℤ → ℤ → ℤ → ℤ → ℤ → ℤ → ℤ → ℤ → ℤ
@@ -17,10 +18,10 @@ ThirdRow S3 S S4 C T Y Y* N = (S3 -ℤ C) *ℤ Y +ℤ C *ℤ T +ℤ S4 *ℤ N +�
 
 module _ (K : RefinedMesh rounded) (c : ℕ) (s : Side) where
   abbrev pub secondSum : ℤ
-  secondSum = SecondRow (pos (2 ^ 30)) (pos (2 ^ 32)) (C K c s) (H K c s) (X K c s) (Y K c s) (X K c (atHead s)) (N K c s)
+  secondSum = SecondRow (pos unit) (pos (4 * unit)) (C K c s) (H K c s) (X K c s) (Y K c s) (X K c (atHead s)) (N K c s)
 
   abbrev pub thirdSum : ℤ
-  thirdSum = ThirdRow (pos (3 * 2 ^ 30)) (pos (2 ^ 30)) (pos (2 ^ 32)) (C K c s) (T K c s) (Y K c s) (Y K c (atTail s)) (N K c s)
+  thirdSum = ThirdRow (pos (3 * unit)) (pos unit) (pos (4 * unit)) (C K c s) (T K c s) (Y K c s) (Y K c (atTail s)) (N K c s)
 
 -- ---- what each value is the rounding of
 module _ (K : RefinedMesh rounded) (c : ℕ) (s : Side) where
@@ -44,11 +45,11 @@ module _ (K : RefinedMesh rounded) (c : ℕ) (s : Side) where
   unfolding a0
   a0-is = refl
 
-  pub a1-is : a1 K c s ≡ round (secondSum K c s) (pos (2 ^ 33))
+  pub a1-is : a1 K c s ≡ round (secondSum K c s) (pos (8 * unit))
   unfolding a1
   a1-is = refl
 
-  pub a2-is : a2 K c s ≡ round (thirdSum K c s) (pos (2 ^ 33))
+  pub a2-is : a2 K c s ≡ round (thirdSum K c s) (pos (8 * unit))
   unfolding a2
   a2-is = refl
 

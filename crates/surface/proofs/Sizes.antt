@@ -11,10 +11,11 @@ use lib.IntN.{ℤ, pos, _+ℤ_, _-ℤ_, _*ℤ_, negℤ, natAbs}
 use lib.Signed.{leZ, _≤ℤ_}
 use Rattle.paper.specs.Mesh.{leastSides, mostSides}
 use Rattle.paper.specs.Numbers.{sum, sumBy, round, rounded}
-use Rattle.paper.specs.Cosines.{table, cosine}
+use Rattle.paper.specs.Cosines.{unit, table, cosine}
 use Rattle.paper.specs.Refined.{RefinedMesh}
 use Rattle.paper.specs.Face.{weight, centre, toward}
-use Rattle.paper.specs.Net.{End, Side, side0, side1, side2, side3, head, tail, neighbour, atHead, atTail, opposite, size, headPlace, tailPlace, points, H, T, X, Y, N, C, outer1, outer2, outer3, a0, a1, a2, a3, middle, bHead, bTail, aHead, aTail, b22, bGrid, aGrid, net}
+use Rattle.paper.specs.Net.{End, Side, side0, side1, side2, side3, head, tail, neighbour, atHead, atTail, opposite, size, headPlace, tailPlace, points, H, T}
+use Rattle.paper.specs.Net.{X, Y, N, C, outer1, outer2, outer3, a0, a1, a2, a3, middle, bHead, bTail, aHead, aTail, b22, bGrid, aGrid, net}
 use Rattle.integers.proofs.Diff.{diff}
 use Rattle.integers.proofs.Poly.{over, poly}
 use Rattle.integers.proofs.Laws.{abs-mul-le}
@@ -27,17 +28,18 @@ use Rattle.surface.specs.Sound.{Sound, Small as SmallPoints}
 use Rattle.surface.proofs.Within.{Within, within-cancel, abs-within, positive}
 use Rattle.surface.proofs.Faces.{toward-near, centre-near}
 use Rattle.surface.proofs.Rings.{neighbour-in, points-small, size-least, size-most}
-use Rattle.surface.proofs.Roundings.{SecondRow, ThirdRow, secondSum, thirdSum, outer1-is, outer2-is, outer3-is, N-is, a0-is, a1-is, a2-is, a3-is, middle-is}
+use Rattle.surface.proofs.Roundings.{SecondRow, ThirdRow, secondSum, thirdSum, outer1-is, outer2-is, outer3-is, N-is, a0-is, a1-is, a2-is, a3-is}
+use Rattle.surface.proofs.Roundings.{middle-is}
 
 -- ---- the weights of a row
 heavy-test : ℕ → Bool
-heavy-test a = leZ (pos 3 *ℤ sum (λ k. pos (natAbs (weight (a + leastSides) k))) (a + leastSides)) (pos (10 * 2 ^ 30) *ℤ pos (a + leastSides))
+heavy-test a = leZ (pos 3 *ℤ sum (λ k. pos (natAbs (weight (a + leastSides) k))) (a + leastSides)) (pos (10 * unit) *ℤ pos (a + leastSides))
 
-pub heavy : (m : ℕ) → leastSides ≤ m → m ≤ mostSides → (pos 3 *ℤ sum (λ k. pos (natAbs (weight m k))) m) ≤ℤ (pos (10 * 2 ^ 30) *ℤ pos m)
+pub heavy : (m : ℕ) → leastSides ≤ m → m ≤ mostSides → (pos 3 *ℤ sum (λ k. pos (natAbs (weight m k))) m) ≤ℤ (pos (10 * unit) *ℤ pos m)
 unfolding table cosine weight sumBy heavy-test
 heavy m low high =
     let e : m - leastSides + leastSides ≡ m = omega arith in
-    subst (λ (n : ℕ). (pos 3 *ℤ sum (λ k. pos (natAbs (weight n k))) n) ≤ℤ (pos (10 * 2 ^ 30) *ℤ pos n)) e
+    subst (λ (n : ℕ). (pos 3 *ℤ sum (λ k. pos (natAbs (weight n k))) n) ≤ℤ (pos (10 * unit) *ℤ pos n)) e
     (record { le = below-at heavy-test (mostSides - 2) tt (m - leastSides) (omega arith) })
 
 weighted : (p w : ℕ → ℤ) (B n : ℕ) → ((k : ℕ) → natAbs (p k) ≤ B) → Within (sum (λ k. p k *ℤ w k) n) (pos B *ℤ sum (λ k. pos (natAbs (w k))) n)
@@ -57,14 +59,14 @@ mean = over 3 _ λ ρ. simp (poly, ρ) (omega arith)
 pub halve : (Q : ℤ) → Within (pos 2 *ℤ Q) (pos (2 * 2 ^ 24 + 1)) → natAbs Q ≤ 2 ^ 24
 halve = over 1 _ λ ρ. simp (poly, ρ) (omega arith)
 
-face-mean : (M G W Q : ℤ) → (pos 3 *ℤ W) ≤ℤ (pos (10 * 2 ^ 30) *ℤ M) → Within G (pos (2 ^ 24) *ℤ W) → Near G (pos (3 * 2 ^ 30) *ℤ M) Q
+face-mean : (M G W Q : ℤ) → (pos 3 *ℤ W) ≤ℤ (pos (10 * unit) *ℤ M) → Within G (pos (2 ^ 24) *ℤ W) → Near G (pos (3 * unit) *ℤ M) Q
     → Within (M *ℤ (pos 18 *ℤ Q)) (M *ℤ pos (20 * 2 ^ 24 + 9))
 face-mean = over 4 _ λ ρ. simp (poly, ρ) (omega arith)
 
 ninth : (Q : ℤ) → Within (pos 18 *ℤ Q) (pos (20 * 2 ^ 24 + 9)) → natAbs Q ≤ 2 ^ 24 + 2 ^ 21
 ninth = over 1 _ λ ρ. simp (poly, ρ) (omega arith)
 
-before : (G W M : ℤ) → (pos 3 *ℤ W) ≤ℤ (pos (10 * 2 ^ 30) *ℤ M) → Within G (pos (2 ^ 24) *ℤ W) → M ≤ℤ pos mostSides → natAbs G ≤ 2 ^ 60
+before : (G W M : ℤ) → (pos 3 *ℤ W) ≤ℤ (pos (10 * unit) *ℤ M) → Within G (pos (2 ^ 24) *ℤ W) → M ≤ℤ pos mostSides → natAbs G ≤ 2 ^ 60
 before = over 3 _ λ ρ. simp (poly, ρ) (omega arith)
 
 module _ (p : ℕ → ℤ) (m : ℕ) (low : leastSides ≤ m) (high : m ≤ mostSides) (small : (j : ℕ) → natAbs (p j) ≤ 2 ^ 24) where
@@ -89,11 +91,11 @@ module _ (p : ℕ → ℤ) (m : ℕ) (low : leastSides ≤ m) (high : m ≤ most
   gather-size i =
       before (sum (λ k. p (i + k) *ℤ weight m k) m) (sum (λ k. pos (natAbs (weight m k))) m) (pos m) (heavy m low high) (bounded i) (simp diff (omega arith))
 
-  pub weight-size : (k : ℕ) → natAbs (weight m k) ≤ 7 * 2 ^ 30
+  pub weight-size : (k : ℕ) → natAbs (weight m k) ≤ 7 * unit
   unfolding weight
   weight-size k = seven (cosine m k) (cosine m (k + (m - 1))) (cosine-size m low high k) (cosine-size m low high (k + (m - 1)))
     where
-      seven : (x y : ℤ) → natAbs x ≤ 2 ^ 30 → natAbs y ≤ 2 ^ 30 → natAbs (pos (3 * 2 ^ 30) +ℤ pos 2 *ℤ x +ℤ pos 2 *ℤ y) ≤ 7 * 2 ^ 30
+      seven : (x y : ℤ) → natAbs x ≤ unit → natAbs y ≤ unit → natAbs (pos (3 * unit) +ℤ pos 2 *ℤ x +ℤ pos 2 *ℤ y) ≤ 7 * unit
       seven = over 2 _ λ ρ. simp (poly, ρ) (omega arith)
 
 -- ---- plain integers; Q is the rounded value
@@ -116,23 +118,23 @@ middle-of : (n o g l x y h t Q : ℤ) → natAbs n ≤ 2 ^ 24 + 2 ^ 23 → natAb
 middle-of = over 9 _ λ ρ. simp (poly, ρ) (omega arith)
 
 -- the sums of the second and third a points, and what they are rounded to
-second-sum : (c h x y x* n : ℤ) → natAbs (c *ℤ h) ≤ 2 ^ 30 * 2 ^ 24 → natAbs ((pos (2 ^ 30) -ℤ c) *ℤ x) ≤ 3 * 2 ^ 29 * (2 ^ 24 + 2 ^ 21)
-    → natAbs (c *ℤ y) ≤ 2 ^ 30 * (2 ^ 24 + 2 ^ 21) → natAbs x* ≤ 2 ^ 24 + 2 ^ 21 → natAbs n ≤ 2 ^ 24 + 2 ^ 23
-    → natAbs (SecondRow (pos (2 ^ 30)) (pos (2 ^ 32)) c h x y x* n) ≤ 2 ^ 58
+second-sum : (c h x y x* n : ℤ) → natAbs (c *ℤ h) ≤ unit * 2 ^ 24 → natAbs ((pos unit -ℤ c) *ℤ x) ≤ 3 * 2 ^ 29 * (2 ^ 24 + 2 ^ 21)
+    → natAbs (c *ℤ y) ≤ unit * (2 ^ 24 + 2 ^ 21) → natAbs x* ≤ 2 ^ 24 + 2 ^ 21 → natAbs n ≤ 2 ^ 24 + 2 ^ 23
+    → natAbs (SecondRow (pos unit) (pos (4 * unit)) c h x y x* n) ≤ 2 ^ 58
 second-sum = over 6 _ λ ρ. simp (poly, ρ) (omega arith)
 
-third-sum : (c t y y* n : ℤ) → natAbs ((pos (3 * 2 ^ 30) -ℤ c) *ℤ y) ≤ 7 * 2 ^ 29 * (2 ^ 24 + 2 ^ 21) → natAbs (c *ℤ t) ≤ 2 ^ 30 * 2 ^ 24
+third-sum : (c t y y* n : ℤ) → natAbs ((pos (3 * unit) -ℤ c) *ℤ y) ≤ 7 * 2 ^ 29 * (2 ^ 24 + 2 ^ 21) → natAbs (c *ℤ t) ≤ unit * 2 ^ 24
     → natAbs y* ≤ 2 ^ 24 + 2 ^ 21 → natAbs n ≤ 2 ^ 24 + 2 ^ 23
-    → natAbs (ThirdRow (pos (3 * 2 ^ 30)) (pos (2 ^ 30)) (pos (2 ^ 32)) c t y y* n) ≤ 2 ^ 58
+    → natAbs (ThirdRow (pos (3 * unit)) (pos unit) (pos (4 * unit)) c t y y* n) ≤ 2 ^ 58
 third-sum = over 5 _ λ ρ. simp (poly, ρ) (omega arith)
 
-eighth : (z Q : ℤ) → natAbs z ≤ 2 ^ 58 → Near z (pos (2 ^ 33)) Q → natAbs Q ≤ 2 ^ 26 - 1
+eighth : (z Q : ℤ) → natAbs z ≤ 2 ^ 58 → Near z (pos (8 * unit)) Q → natAbs Q ≤ 2 ^ 26 - 1
 eighth = over 2 _ λ ρ. simp (poly, ρ) (omega arith)
 
-pub one-less : (c : ℤ) → negℤ (pos (2 ^ 29)) ≤ℤ c → natAbs c ≤ 2 ^ 30 → natAbs (pos (2 ^ 30) -ℤ c) ≤ 3 * 2 ^ 29
+pub one-less : (c : ℤ) → negℤ (pos (2 ^ 29)) ≤ℤ c → natAbs c ≤ unit → natAbs (pos unit -ℤ c) ≤ 3 * 2 ^ 29
 one-less = over 1 _ λ ρ. simp (poly, ρ) (omega arith)
 
-pub three-less : (c : ℤ) → negℤ (pos (2 ^ 29)) ≤ℤ c → natAbs c ≤ 2 ^ 30 → natAbs (pos (3 * 2 ^ 30) -ℤ c) ≤ 7 * 2 ^ 29
+pub three-less : (c : ℤ) → negℤ (pos (2 ^ 29)) ≤ℤ c → natAbs c ≤ unit → natAbs (pos (3 * unit) -ℤ c) ≤ 7 * 2 ^ 29
 three-less = over 1 _ λ ρ. simp (poly, ρ) (omega arith)
 
 -- what every written number is
@@ -145,10 +147,12 @@ half-small x y h l = half-of (2 ^ 26 - 1) x y (round (x +ℤ y) (pos 2)) h l (ne
 -- ---- of a corner's sides
 module _ (K : RefinedMesh rounded) (ok : Sound (K .corners)) (bound : SmallPoints K) (c : ℕ) (here : c < K .corners .count) where
   end-size : (e : End) → natAbs (centre rounded (points K c e) (size (K .corners) c e)) ≤ 2 ^ 24
-  end-size e = centre-size (points K c e) (size (K .corners) c e) (size-least (K .corners) ok c here e) (size-most (K .corners) ok c here e) (points-small K ok c here bound e)
+  end-size e = centre-size (points K c e) (size (K .corners) c e) (size-least (K .corners) ok c here e) (size-most (K .corners) ok c here e)
+      (points-small K ok c here bound e)
 
   face-size : (e : End) (i : ℕ) → natAbs (toward rounded (points K c e) (size (K .corners) c e) i) ≤ 2 ^ 24 + 2 ^ 21
-  face-size e = toward-size (points K c e) (size (K .corners) c e) (size-least (K .corners) ok c here e) (size-most (K .corners) ok c here e) (points-small K ok c here bound e)
+  face-size e = toward-size (points K c e) (size (K .corners) c e) (size-least (K .corners) ok c here e) (size-most (K .corners) ok c here e)
+      (points-small K ok c here bound e)
 
   pub H-size : (s : Side) → natAbs (H K c s) ≤ 2 ^ 24
   unfolding H
@@ -171,7 +175,7 @@ module _ (K : RefinedMesh rounded) (ok : Sound (K .corners)) (bound : SmallPoint
       inner (X K c s) (Y K c s) (K .point c) (K .point (neighbour (K .corners) c s)) (N K c s) (X-size s) (Y-size s)
       (bound c here) (bound _ (neighbour-in (K .corners) ok c here s)) (near-is _ _ _ tt (N-is K c s))
 
-  pub C-size : (s : Side) → natAbs (C K c s) ≤ 2 ^ 30
+  pub C-size : (s : Side) → natAbs (C K c s) ≤ unit
   unfolding C
   C-size s = cosine-size (size (K .corners) c (head s)) (size-least (K .corners) ok c here (head s)) (size-most (K .corners) ok c here (head s)) 1
 
@@ -180,23 +184,23 @@ module _ (K : RefinedMesh rounded) (ok : Sound (K .corners)) (bound : SmallPoint
   C-bottom s = bottom (size (K .corners) c (head s)) (size-least (K .corners) ok c here (head s)) (size-most (K .corners) ok c here (head s))
 
   -- the products of the second and third a points
-  pub CH-size : (s : Side) → natAbs (C K c s *ℤ H K c s) ≤ 2 ^ 30 * 2 ^ 24
-  CH-size s = abs-mul-le (C K c s) (H K c s) (2 ^ 30) (2 ^ 24) (C-size s) (H-size s)
+  pub CH-size : (s : Side) → natAbs (C K c s *ℤ H K c s) ≤ unit * 2 ^ 24
+  CH-size s = abs-mul-le (C K c s) (H K c s) unit (2 ^ 24) (C-size s) (H-size s)
 
-  pub CT-size : (s : Side) → natAbs (C K c s *ℤ T K c s) ≤ 2 ^ 30 * 2 ^ 24
-  CT-size s = abs-mul-le (C K c s) (T K c s) (2 ^ 30) (2 ^ 24) (C-size s) (T-size s)
+  pub CT-size : (s : Side) → natAbs (C K c s *ℤ T K c s) ≤ unit * 2 ^ 24
+  CT-size s = abs-mul-le (C K c s) (T K c s) unit (2 ^ 24) (C-size s) (T-size s)
 
-  pub CY-size : (s : Side) → natAbs (C K c s *ℤ Y K c s) ≤ 2 ^ 30 * (2 ^ 24 + 2 ^ 21)
-  CY-size s = abs-mul-le (C K c s) (Y K c s) (2 ^ 30) (2 ^ 24 + 2 ^ 21) (C-size s) (Y-size s)
+  pub CY-size : (s : Side) → natAbs (C K c s *ℤ Y K c s) ≤ unit * (2 ^ 24 + 2 ^ 21)
+  CY-size s = abs-mul-le (C K c s) (Y K c s) unit (2 ^ 24 + 2 ^ 21) (C-size s) (Y-size s)
 
   -- (1 - c) X and (3 - c) Y, times 2^30
-  pub lessX-size : (s : Side) → natAbs ((pos (2 ^ 30) -ℤ C K c s) *ℤ X K c s) ≤ 3 * 2 ^ 29 * (2 ^ 24 + 2 ^ 21)
+  pub lessX-size : (s : Side) → natAbs ((pos unit -ℤ C K c s) *ℤ X K c s) ≤ 3 * 2 ^ 29 * (2 ^ 24 + 2 ^ 21)
   lessX-size s =
-      abs-mul-le (pos (2 ^ 30) -ℤ C K c s) (X K c s) (3 * 2 ^ 29) (2 ^ 24 + 2 ^ 21) (one-less (C K c s) (C-bottom s) (C-size s)) (X-size s)
+      abs-mul-le (pos unit -ℤ C K c s) (X K c s) (3 * 2 ^ 29) (2 ^ 24 + 2 ^ 21) (one-less (C K c s) (C-bottom s) (C-size s)) (X-size s)
 
-  pub lessY-size : (s : Side) → natAbs ((pos (3 * 2 ^ 30) -ℤ C K c s) *ℤ Y K c s) ≤ 7 * 2 ^ 29 * (2 ^ 24 + 2 ^ 21)
+  pub lessY-size : (s : Side) → natAbs ((pos (3 * unit) -ℤ C K c s) *ℤ Y K c s) ≤ 7 * 2 ^ 29 * (2 ^ 24 + 2 ^ 21)
   lessY-size s =
-      abs-mul-le (pos (3 * 2 ^ 30) -ℤ C K c s) (Y K c s) (7 * 2 ^ 29) (2 ^ 24 + 2 ^ 21) (three-less (C K c s) (C-bottom s) (C-size s)) (Y-size s)
+      abs-mul-le (pos (3 * unit) -ℤ C K c s) (Y K c s) (7 * 2 ^ 29) (2 ^ 24 + 2 ^ 21) (three-less (C K c s) (C-bottom s) (C-size s)) (Y-size s)
 
   pub a1-sum : (s : Side) → natAbs (secondSum K c s) ≤ 2 ^ 58
   a1-sum s =

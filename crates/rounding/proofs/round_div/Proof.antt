@@ -32,7 +32,8 @@ abbrev t : ℤ → ℤ → ℤ → ℤ
 t n d l = pos 2 *ℤ n +ℤ d +ℤ l *ℤ m d
 
 -- before the lift is known
-plain : (n d : ℤ) → Ok n d → SFits w64 (pos 2 *ℤ n) × SFits w64 (pos 2 *ℤ n +ℤ d) × SFits w64 (m d) × (m d ≤ℤ pos (2 ^ 37)) × (pos 0 ≤ℤ m d) × (natAbs (m d) ≤ 2 ^ 37)
+plain : (n d : ℤ) → Ok n d → SFits w64 (pos 2 *ℤ n) × SFits w64 (pos 2 *ℤ n +ℤ d) × SFits w64 (m d) × (m d ≤ℤ pos (2 ^ 37)) × (pos 0 ≤ℤ m d)
+    × (natAbs (m d) ≤ 2 ^ 37)
 plain = over 2 _ λ ρ. simp (poly, ρ) (omega arith)
 
 lifted : (n d l : ℤ) → Ok n d → pos (2 ^ 61 + 2 ^ 37) ≤ℤ (l *ℤ m d) → (l *ℤ m d) ≤ℤ pos (2 ^ 62)
@@ -111,7 +112,8 @@ mul-m : tie.Need-mul-m
 mul-m c = search (needs, plain (c .args .n) (c .args .d) (c .pre))
 
 lift-requires : tie.Need-lift-requires
-lift-requires c κs = simp (toZ-ofZ, c .fits .d, plain (c .args .n) (c .args .d) (c .pre) .2) (double-pos (c .args .d) (c .pre .0), plain (c .args .n) (c .args .d) (c .pre) .3)
+lift-requires c κs = simp (toZ-ofZ, c .fits .d, plain (c .args .n) (c .args .d) (c .pre) .2)
+    (double-pos (c .args .d) (c .pre .0), plain (c .args .n) (c .args .d) (c .pre) .3)
 
 mul-t : tie.Need-mul-t
 mul-t c = search (needs, plain (c .before .args .n) (c .before .args .d) (c .before .pre))
@@ -161,7 +163,9 @@ returns c =
     let p = plain (c .before .args .n) (c .before .args .d) (c .before .pre) in
     let k = known c in
     let f : SFits w64 (c .lift .result) = search needs in
-    let r : toZ w64 (ofZ w64 (pos (natAbs (t (c .before .args .n) (c .before .args .d) (c .lift .result)) / natAbs (m (c .before .args .d))) -ℤ c .lift .result)) ≡ round (c .before .args .n) (c .before .args .d) = toZ-ofZ (k .result) ∙ k .value in
+    let r : toZ w64
+    (ofZ w64 (pos (natAbs (t (c .before .args .n) (c .before .args .d) (c .lift .result)) / natAbs (m (c .before .args .d))) -ℤ c .lift .result)) ≡ round
+    (c .before .args .n) (c .before .args .d) = toZ-ofZ (k .result) ∙ k .value in
     simp (toZ-ofZ, c .before .fits .n, c .before .fits .d, p .0, p .1, p .2, f, k .sums .0, k .sums .1, k .read) r
 
 pub round-div-spec : {M : Type 1} → statement M
