@@ -5,6 +5,7 @@ use Rattle.cosines.proofs.Rules.{rules}
 use Rattle.mesh.proofs.Theorems.{manifold}
 use Rattle.borders.proofs.Ranges.{ranges, every-border}
 use Rattle.borders.proofs.Theorem.{demand3}
+use Rattle.borders.proofs.FromC.{from-c}
 use Rattle.examples.proofs.Claim.{examples}
 
 pub claims : Claims
@@ -14,5 +15,6 @@ claims = record {
   ranges = ranges;
   demand3 = demand3;
   every-border = every-border;
+  from-c = from-c;
   examples = examples;
 }

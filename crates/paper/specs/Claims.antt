@@ -11,6 +11,7 @@ use Rattle.paper.specs.Faults.{Accepted}
 use Rattle.paper.specs.Cosines.{RowRules}
 use Rattle.paper.specs.Net.{Side}
 use Rattle.paper.specs.Calls.{perCorner, nets, Built}
+use Rattle.paper.specs.CFace.{BuildCall}
 use Rattle.paper.specs.Borders.{Output, Wrote, outputOf, Borders, Smooth}
 use Rattle.paper.specs.Manifold.{Manifold}
 use Rattle.paper.specs.Examples.{AllGive, examples}
@@ -40,6 +41,12 @@ EveryBorder =
     (M : Mesh) → Accepted M → (c : ℕ) → c < cornerCount M → (s : Side) → (axis : ℕ) → axis < 3
     → Smooth M (outputOf M 0 (cornerCount M)) (outputOf M 0 (cornerCount M)) axis c s
 
+-- ---- a call of `mahunopi_build` that answers 0 is a call of building that is not refused: what is said of calls holds of it
+abbrev pub CallsFromC : Type 0
+CallsFromC =
+    (M : Mesh) (links : List ℕ) (first count : ℕ) (old : List ℤ) (before after : ℕ) (out : List ℤ)
+    → BuildCall M links first count old before 0 after out → Built M links first count old Done out
+
 -- ---- "Checked examples", those marked (p)
 abbrev pub ExamplesAgree : Type 0
 ExamplesAgree = AllGive examples
@@ -51,4 +58,5 @@ pub record Claims : Type 0 where
   pub ranges : EveryRange
   pub demand3 : Demand3
   pub every-border : EveryBorder
+  pub from-c : CallsFromC
   pub examples : ExamplesAgree
