@@ -65,7 +65,7 @@ pub extern "C" fn mahunopi_decode(
 ) -> u32
     ensures { λ r. ⌜ DecodeCall (fileOf (now (bytes .entry)) length) length (meshOf (now (coordinates .entry)) (now (sides .entry)) (now (corners .entry))) (three (now (numbers .entry)) (now (faces .entry)) (now (count .entry))) (now (place .entry)) r (now (place .exit)) (meshOf (now (coordinates .exit)) (now (sides .exit)) (now (corners .exit))) (three (now (numbers .exit)) (now (faces .exit)) (now (count .exit))) ⌝ }
 {
-    let d = file::decode(bytes, length as usize, coordinates, sides, corners);
+    let d = dms::decode(bytes, length as usize, coordinates, sides, corners);
     let a = d.answer;
     match a {
         Answer::Done => {

@@ -1,4 +1,4 @@
--- `mahunopi::mahunopi_decode` meets its contract: it answers what `file::decode` states, and tells its lengths.
+-- `mahunopi::mahunopi_decode` meets its contract: it answers what `dms::decode` states, and tells its lengths.
 -- Assumes nothing.
 use Rattle.mahunopi.proofs.Laws.{decode-done, decode-refused}
 use borrow.Author.Needs.{needs}

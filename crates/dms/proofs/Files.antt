@@ -1,0 +1,147 @@
+-- The ways out of surveying and decoding, as laws over lists: what each answers, and what the spaces then hold.
+-- Assumes nothing.
+use mathlib.Core.Path.{_≡_, ap, _∙_, sym, subst}
+use mathlib.Core.Logic.{⊎-elim}
+use mathlib.Core.List.{List}
+use Prim.Native.Nat.{ℕ, _*_, _<_, _≤_}
+use native.Mathlib.Omega.{arith}
+use lib.Dec.{ltb}
+use lib.ListN.{length, take}
+use lib.Seq.{take-all}
+use lib.IntN.{ℤ}
+use borrow.Author.Tests.{lt-ltb, le-ltb, ltb-true, ltb-false}
+use Rattle.paper.specs.Mesh.{mostVertices, mostFaces, mostCorners, Mesh, meshOf, vertexCount, faceCount, cornerCount}
+use Rattle.paper.specs.Faults.{Verdict, sound, fault, single, _orElse_, Accepted}
+use Rattle.paper.specs.Counts.{Counted}
+use Rattle.paper.specs.File.{verticesIn, facesIn, cornersIn, fileMesh, fileVerdict, noCounts, noRoom, Surveyed, roomVerdict, decodeVerdict, DecodedTo}
+use Rattle.paper.specs.declared.Answer.the-variants.{Done, Refused}
+use Rattle.paper.specs.declared.Counts.{Counts}
+use Rattle.paper.specs.declared.Summary.{Summary}
+use Rattle.paper.specs.declared.Decoded.{Decoded}
+use Rattle.mesh.proofs.Scans.{ways}
+use Rattle.mesh.proofs.Accepted.{sound-of, few-vertices, few-faces, few-corners}
+use Rattle.mesh.proofs.Verdicts.{orElse-sound, sound-left, sound-right, single-sound}
+use Rattle.dms.specs.Sized.{Sized, Room, ListsRead}
+use Rattle.dms.proofs.Lists.{read-back, file-coordinates, file-faces, file-corners}
+use Rattle.dms.proofs.Headers.{header-sized}
+
+-- ---- the bytes of the file
+pub held-bytes : (bytes : List ℕ) (held counted : ℕ) → (held < counted → held ≡ length bytes) → held ≤ counted → take held bytes ≡ take counted bytes
+held-bytes bytes held counted all le =
+    ⊎-elim
+    (λ l. let q : held ≡ length bytes = all (ltb-true _ _ l) in
+    take-all held bytes (omega arith) ∙ sym (take-all counted bytes (omega arith)))
+    (λ l. let q : held ≡ counted = omega (arith, ltb-false held counted l) in ap (λ (n : ℕ). take n bytes) q)
+    (ways (ltb held counted))
+
+-- ---- surveying
+module _ (M : Mesh) (v : Verdict) (counts : Counts) where
+  pub refused-survey : (k p : ℕ) → fault k p ≡ v → counts ≡ noCounts → Surveyed M v (record { answer = Refused k p; counts = counts })
+  refused-survey k p e q =
+      record { answers = e; counts = λ s. let z : _≡_ {A = ℕ} 0 1 = cc in absurd (omega arith); none = λ j r s. q }
+
+  pub done-survey : sound ≡ v → Counted M counts → Surveyed M v (record { answer = Done; counts = counts })
+  done-survey e h =
+      record { answers = e; counts = λ s. h; none = λ k p s. let z : _≡_ {A = ℕ} 0 1 = cc in absurd (omega arith) }
+
+pub later-survey : (M : Mesh) {w : Verdict} (v : Verdict) (r : Summary) → w ≡ sound → Surveyed M v r → Surveyed M (w orElse v) r
+later-survey M v r e s = subst (λ (x : Verdict). Surveyed M x r) (sym (orElse-sound v e)) s
+
+-- an accepted mesh is within the limits
+pub limits : (M : Mesh) → Accepted M → (vertexCount M ≤ mostVertices) × ((faceCount M ≤ mostFaces) × (cornerCount M ≤ mostCorners))
+limits M e =
+    let four = sound-of M e .four in
+    (few-vertices _ _ _ four, (few-faces _ _ _ four, few-corners _ _ _ four))
+
+-- the lists that were read make the file's mesh
+pub mesh-read : (file : List ℕ) (n f k : ℕ) (old-coordinates coordinates : List ℤ) (old-sides old-corners sides corners : List ℕ)
+    → n ≡ 3 * verticesIn file → f ≡ facesIn file → k ≡ cornersIn file
+    → ListsRead file old-coordinates old-sides old-corners coordinates sides corners
+    → meshOf (take n coordinates) (take f sides) (take k corners) ≡ fileMesh file
+mesh-read file n f k oc cs os ok ss ks p q r h =
+    rw (
+      read-back n (fileMesh file .coordinates) oc cs (p ∙ file-coordinates file) (h .coordinates-hold),
+      read-back f (fileMesh file .sides) os ss (q ∙ file-faces file) (h .sides-hold),
+      read-back k (fileMesh file .corners) ok ks (r ∙ file-corners file) (h .corners-hold),
+    )
+
+-- ---- decoding
+pub file-sized : (file : List ℕ) (counted : ℕ) → fileVerdict file counted ≡ sound → Sized file
+unfolding fileVerdict
+file-sized file counted e = header-sized file counted (sound-left _ _ e)
+
+module _ (file : List ℕ) (a b c : ℕ) where
+  pub no-coordinates : (n : ℕ) → n ≡ 3 * verticesIn file → a < n → fault noRoom n ≡ roomVerdict file a b c
+  unfolding roomVerdict single _orElse_
+  no-coordinates n q h = rw (← q, lt-ltb a n h)
+
+  module _ (h : 3 * verticesIn file ≤ a) where
+    pub no-sides : (n : ℕ) → n ≡ facesIn file → b < n → fault noRoom n ≡ roomVerdict file a b c
+    unfolding roomVerdict single _orElse_
+    no-sides n q l = rw (le-ltb a (3 * verticesIn file) h, ← q, lt-ltb b n l)
+
+    module _ (l : facesIn file ≤ b) where
+      pub no-corners : (n : ℕ) → n ≡ cornersIn file → c < n → fault noRoom n ≡ roomVerdict file a b c
+      unfolding roomVerdict single _orElse_
+      no-corners n q m = rw (le-ltb a (3 * verticesIn file) h, le-ltb b (facesIn file) l, ← q, lt-ltb c n m)
+
+      pub all-room : cornersIn file ≤ c → sound ≡ roomVerdict file a b c
+      unfolding roomVerdict single _orElse_
+      all-room m = rw (le-ltb a (3 * verticesIn file) h, le-ltb b (facesIn file) l, le-ltb c (cornersIn file) m)
+
+  pub room-of : roomVerdict file a b c ≡ sound → Room file a b c
+  unfolding roomVerdict
+  room-of e =
+      let later = sound-right _ _ e in
+      record {
+        coordinates-fit = ltb-false a _ (single-sound noRoom _ _ (sound-left _ _ e));
+        sides-fit = ltb-false b _ (single-sound noRoom _ _ (sound-left _ _ later));
+        corners-fit = ltb-false c _ (single-sound noRoom _ _ (sound-right _ _ later));
+      }
+
+module _ (file : List ℕ) (counted : ℕ) (a b c : ℕ) (e : decodeVerdict file counted a b c ≡ sound) where
+  pub decode-sized : Sized file
+  unfolding decodeVerdict
+  decode-sized = file-sized file counted (sound-left _ _ e)
+
+  pub decode-room : Room file a b c
+  unfolding decodeVerdict
+  decode-room = room-of file a b c (sound-right _ _ e)
+
+module _ (file : List ℕ) (counted : ℕ) (coordinates : List ℤ) (sides corners : List ℕ) where
+  pub refused-decode : (r : Decoded) (k p : ℕ) → r .answer ≡ Refused k p → r .coordinates ≡ 0 → r .sides ≡ 0 → r .corners ≡ 0
+      → fault k p ≡ decodeVerdict file counted (length coordinates) (length sides) (length corners)
+      → DecodedTo file counted coordinates sides corners r coordinates sides corners
+  refused-decode r k p q n f m e =
+      record {
+        answers = rw q e;
+        coordinates-length = rw q n;
+        sides-length = rw q f;
+        corners-length = rw q m;
+        coordinates-hold = rw q;
+        sides-hold = rw q;
+        corners-hold = rw q;
+      }
+
+  pub done-decode : (n f k : ℕ) (coordinates' : List ℤ) (sides' corners' : List ℕ) → n ≡ 3 * verticesIn file → f ≡ facesIn file → k ≡ cornersIn file
+      → sound ≡ decodeVerdict file counted (length coordinates) (length sides) (length corners)
+      → ListsRead file coordinates sides corners coordinates' sides' corners'
+      → DecodedTo file counted coordinates sides corners (record { answer = Done; coordinates = n; sides = f; corners = k }) coordinates' sides' corners'
+  done-decode n f k coordinates' sides' corners' p q r e h =
+      record {
+        answers = e;
+        coordinates-length = p ∙ file-coordinates file;
+        sides-length = q ∙ file-faces file;
+        corners-length = r ∙ file-corners file;
+        coordinates-hold = h .coordinates-hold;
+        sides-hold = h .sides-hold;
+        corners-hold = h .corners-hold;
+      }
+
+-- the bytes held are the file
+pub decode-held : (held file : List ℕ) (counted : ℕ) (coordinates : List ℤ) (sides corners : List ℕ) (r : Decoded)
+    (coordinates' : List ℤ) (sides' corners' : List ℕ) → held ≡ file
+    → DecodedTo held counted coordinates sides corners r coordinates' sides' corners'
+    → DecodedTo file counted coordinates sides corners r coordinates' sides' corners'
+decode-held held file counted cs ss ks r cs' ss' ks' e d =
+    subst (λ (l : List ℕ). DecodedTo l counted cs ss ks r cs' ss' ks') e d

@@ -1,0 +1,5 @@
+pub mod Headers
+pub mod Lists
+pub mod Each
+pub mod Tallies
+pub mod Files

@@ -1,0 +1,78 @@
+-- A refusal writes nothing. Else the header passes and there is room, so the lists are read into the spaces.
+-- Assumes nothing.
+use mathlib.Core.Path.{sym, ap, _∙_}
+use Prim.Native.Nat.{ℕ, _*_}
+use borrow.Author.Needs.{needs}
+use Rattle.mesh.proofs.Verdicts.{passed}
+use Rattle.paper.specs.Faults.{stated}
+use Rattle.dms.proofs.Files.{refused-decode, done-decode, decode-sized, decode-room}
+use Rattle.dms.proofs.decode_file.Statement.{statement}
+use Rattle.dms.proofs.decode_file.Tie as tie
+
+check-decode-requires : tie.Need-check-decode-requires
+check-decode-requires c κs = search needs
+
+enum-known-answer : tie.Need-enum-known-answer
+enum-known-answer c = search needs
+
+refused-requires : tie.Need-refused-requires
+refused-requires c κs = search needs
+
+returns : tie.Need-returns
+returns c =
+    let r = c .refused .ensures in
+    refused-decode _ _ _ _ _ _ _ _ (r .0) (r .1) (r .2) (r .3) (sym (ap stated (c .before .before .answer .given .1)) ∙ c .before .before .before .before .check-decode .ensures)
+
+enum-told : tie.Need-enum-told
+enum-told c = search needs
+
+read-lists-requires : tie.Need-read-lists-requires
+read-lists-requires c κs =
+    let e = passed _ (c .before .before .before .before .before .check-decode .ensures) (c .before .before .before .enum-told .given .1) in
+    (decode-sized _ _ _ _ _ e, decode-room _ _ _ _ _ e)
+
+vertex-count-requires : tie.Need-vertex-count-requires
+vertex-count-requires c κs = decode-sized _ _ _ _ _ (passed _ (c .before .before .before .before .before .before .before .before .before .before .before .check-decode .ensures) (c .before .before .before .before .before .before .before .before .before .enum-told .given .1)) .header
+
+mul-t10 : tie.Need-mul-t10
+mul-t10 c = search needs
+
+face-count-requires : tie.Need-face-count-requires
+face-count-requires c κs = decode-sized _ _ _ _ _ (passed _ (c .before .before .before .before .before .before .before .before .before .before .before .before .check-decode .ensures) (c .before .before .before .before .before .before .before .before .before .before .enum-told .given .1)) .header
+
+corner-count-requires : tie.Need-corner-count-requires
+corner-count-requires c κs = decode-sized _ _ _ _ _ (passed _ (c .before .before .before .before .before .before .before .before .before .before .before .before .before .check-decode .ensures) (c .before .before .before .before .before .before .before .before .before .before .before .enum-told .given .1)) .header
+
+same-length : tie.Need-same-length
+same-length c = search needs
+
+same-length-2 : tie.Need-same-length-2
+same-length-2 c = search needs
+
+same-length-3 : tie.Need-same-length-3
+same-length-3 c = search needs
+
+returns-2 : tie.Need-returns-2
+returns-2 c =
+    let t = c .before .before .before .before .before .before .before .before .before .before .before .before in
+    done-decode _ _ _ _ _ _ _ _ _ _ _ (ap (λ (n : ℕ). 3 * n) (c .before .before .vertex-count .ensures .0)) (c .before .face-count .ensures .0) (c .corner-count .ensures .0)
+    (sym (ap stated (t .enum-told .given .1)) ∙ t .before .before .check-decode .ensures) (c .before .before .before .before .before .before .before .before .read-lists .ensures)
+
+pub decode-file-spec : {M : Type 1} → statement M
+decode-file-spec =
+    tie.close
+    (tie.spec
+    check-decode-requires
+    enum-known-answer
+    refused-requires
+    returns
+    enum-told
+    read-lists-requires
+    vertex-count-requires
+    mul-t10
+    face-count-requires
+    corner-count-requires
+    same-length
+    same-length-2
+    same-length-3
+    returns-2)

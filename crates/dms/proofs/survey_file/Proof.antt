@@ -1,0 +1,53 @@
+-- A header that is refused decides; one that passes leaves it to the lists, which then lie within the file.
+-- Assumes nothing.
+use borrow.Author.Needs.{needs}
+use Rattle.paper.specs.Faults.{verdict}
+use Rattle.paper.specs.File.{fileMesh, fileVerdict}
+use Rattle.mesh.proofs.Verdicts.{passed, stop}
+use Rattle.dms.proofs.Headers.{header-sized}
+use Rattle.dms.proofs.Files.{refused-survey, later-survey}
+use Rattle.dms.proofs.survey_file.Statement.{statement}
+use Rattle.dms.proofs.survey_file.Tie as tie
+
+check-header-requires : tie.Need-check-header-requires
+check-header-requires c κs = search needs
+
+enum-known-header : tie.Need-enum-known-header
+enum-known-header c = search needs
+
+none-requires : tie.Need-none-requires
+none-requires c κs = search needs
+
+returns : tie.Need-returns
+unfolding fileVerdict
+returns c =
+    let s = c .before .before .before .before .before .before in
+    let M = fileMesh (s .args .file .now) in
+    refused-survey M _ _ _ _ (stop _ (c .before .before .before .before .check-header .ensures) _ _ (c .before .before .header .given .1) (verdict M)) (c .none .ensures)
+
+enum-told : tie.Need-enum-told
+enum-told c = search needs
+
+survey-lists-requires : tie.Need-survey-lists-requires
+survey-lists-requires c κs =
+    let s = c .before .before .before .before in
+    header-sized (s .args .file .now) (s .args .counted) (passed _ (c .before .before .check-header .ensures) (c .enum-told .given .1))
+
+returns-2 : tie.Need-returns-2
+unfolding fileVerdict
+returns-2 c =
+    let s = c .before .before .before .before .before in
+    let M = fileMesh (s .args .file .now) in
+    later-survey M (verdict M) _ (passed _ (c .before .before .before .check-header .ensures) (c .before .enum-told .given .1)) (c .survey-lists .ensures)
+
+pub survey-file-spec : {M : Type 1} → statement M
+survey-file-spec =
+    tie.close
+    (tie.spec
+    check-header-requires
+    enum-known-header
+    none-requires
+    returns
+    enum-told
+    survey-lists-requires
+    returns-2)

@@ -1,0 +1,97 @@
+-- The lists that were read are those of the file's mesh, so what is answered of them is answered of it.
+-- Assumes nothing.
+use mathlib.Core.Path.{ap, subst, _∙_}
+use Prim.Native.Nat.{ℕ, _*_}
+use borrow.Author.Needs.{needs}
+use Rattle.paper.specs.Mesh.{Mesh}
+use Rattle.paper.specs.Faults.{verdict}
+use Rattle.paper.specs.File.{fileMesh, Surveyed}
+use Rattle.dms.proofs.Lists.{read-length, file-coordinates, file-faces, file-corners}
+use Rattle.dms.proofs.Files.{mesh-read}
+use Rattle.dms.proofs.survey_lists.Statement.{statement}
+use Rattle.dms.proofs.survey_lists.Tie as tie
+
+slice-aggregate-read-lists : tie.Need-slice-aggregate-read-lists
+slice-aggregate-read-lists c = search needs
+
+slice-aggregate-read-lists-2 : tie.Need-slice-aggregate-read-lists-2
+slice-aggregate-read-lists-2 c = search needs
+
+slice-aggregate-read-lists-3 : tie.Need-slice-aggregate-read-lists-3
+slice-aggregate-read-lists-3 c = search needs
+
+read-lists-requires : tie.Need-read-lists-requires
+read-lists-requires c κs = search needs
+
+vertex-count-requires : tie.Need-vertex-count-requires
+vertex-count-requires c κs = search needs
+
+mul-numbers : tie.Need-mul-numbers
+mul-numbers c = search needs
+
+face-count-requires : tie.Need-face-count-requires
+face-count-requires c κs = search needs
+
+corner-count-requires : tie.Need-corner-count-requires
+corner-count-requires c κs = search needs
+
+array-share-prefix-coordinates : tie.Need-array-share-prefix-coordinates
+array-share-prefix-coordinates c = search needs
+
+slice-aggregate-survey-mesh : tie.Need-slice-aggregate-survey-mesh
+slice-aggregate-survey-mesh c =
+    let file = c .before .before .before .before .before .before .before .before .before .before .before .before .args .file .now in
+    read-length _ (fileMesh file .coordinates) _ _ (ap (λ (n : ℕ). 3 * n) (c .before .before .before .vertex-count .ensures .0) ∙ file-coordinates file)
+    (c .before .before .before .before .before .before .before .read-lists .ensures .coordinates-hold)
+
+array-share-prefix-sides : tie.Need-array-share-prefix-sides
+array-share-prefix-sides c = search needs
+
+slice-aggregate-survey-mesh-2 : tie.Need-slice-aggregate-survey-mesh-2
+slice-aggregate-survey-mesh-2 c =
+    let file = c .before .before .before .before .before .before .before .before .before .before .before .before .before .args .file .now in
+    read-length _ (fileMesh file .sides) _ _ (c .before .before .before .face-count .ensures .0 ∙ file-faces file)
+    (c .before .before .before .before .before .before .before .before .read-lists .ensures .sides-hold)
+
+array-share-prefix-corners : tie.Need-array-share-prefix-corners
+array-share-prefix-corners c = search needs
+
+slice-aggregate-survey-mesh-3 : tie.Need-slice-aggregate-survey-mesh-3
+slice-aggregate-survey-mesh-3 c =
+    let file = c .before .before .before .before .before .before .before .before .before .before .before .before .before .before .args .file .now in
+    read-length _ (fileMesh file .corners) _ _ (c .before .before .before .corner-count .ensures .0 ∙ file-corners file)
+    (c .before .before .before .before .before .before .before .before .before .read-lists .ensures .corners-hold)
+
+survey-mesh-requires : tie.Need-survey-mesh-requires
+survey-mesh-requires c κs = search needs
+
+returns : tie.Need-returns
+returns c =
+    let s = c .before .before .before .before .before .before .before .before .before .before .before .before .before .before .before in
+    let counts = c .before .before .before .before in
+    let read =
+    mesh-read (s .args .file .now) _ _ _ _ _ _ _ _ _ (ap (λ (n : ℕ). 3 * n) (counts .before .before .vertex-count .ensures .0))
+    (counts .before .face-count .ensures .0) (counts .corner-count .ensures .0) (c .before .before .before .before .before .before .before .before .before .before .read-lists .ensures)
+    in
+    subst (λ (M : Mesh). Surveyed M (verdict M) (c .survey-mesh .result)) read (c .survey-mesh .ensures)
+
+pub survey-lists-spec : {M : Type 1} → statement M
+survey-lists-spec =
+    tie.close
+    (tie.spec
+    slice-aggregate-read-lists
+    slice-aggregate-read-lists-2
+    slice-aggregate-read-lists-3
+    read-lists-requires
+    vertex-count-requires
+    mul-numbers
+    face-count-requires
+    corner-count-requires
+    array-share-prefix-coordinates
+    slice-aggregate-survey-mesh
+    array-share-prefix-sides
+    slice-aggregate-survey-mesh-2
+    array-share-prefix-corners
+    slice-aggregate-survey-mesh-3
+    survey-mesh-requires
+    returns)

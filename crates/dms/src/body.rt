@@ -1,0 +1,110 @@
+// The lists of a DMS file, read into lent spaces: coordinates in two's complement, side counts, and the corner list.
+ghost use mathlib.Core.Path.{_≡_};
+ghost use Prim.Native.Nat.{_+_, _*_, _<_, _≤_};
+ghost use lib.ListN.{length};
+ghost use lib.IntN.{negsuc};
+ghost use mir.Syntax.{w32};
+ghost use mir.Val.{toZ};
+ghost use Rattle.paper.specs.Scan.{valuesFrom};
+ghost use Rattle.paper.specs.File.{wordAt, signedAt, headerLength, coordinateIn, sideIn, cornerIn, begins};
+ghost use Rattle.dms.specs.Sized.{Sized, Room, ListsRead};
+use crate::header;
+
+fn wider(half: u16) -> u32
+    ensures { λ r. ⌜ (r ≡ half) × (r < 65536) ⌝ }
+{
+    half as u32
+}
+
+// The 32-bit number at a place, low byte first.
+fn word(file: &[u8], at: usize) -> u32
+    requires { ⌜ at + 3 < length (now file) ⌝ }
+    ensures { λ r. ⌜ r ≡ wordAt (now (file .entry)) at ⌝ }
+{
+    let low = wider(header::half(file, at));
+    let high = wider(header::half(file, at + 2));
+    low + 65536 * high
+}
+
+// The number that is n + 1 below zero.
+fn below_zero(n: u32) -> i32
+    requires { ⌜ n < 2147483648 ⌝ }
+    ensures { λ r. ⌜ r ≡ negsuc n ⌝ }
+{
+    -1 - n as i32
+}
+
+// The number whose 32 bits, in two's complement, are these.
+fn signed(bits: u32) -> i32
+    ensures { λ r. ⌜ r ≡ toZ w32 bits ⌝ }
+{
+    if bits < 2147483648 {
+        bits as i32
+    } else {
+        below_zero(4294967295 - bits)
+    }
+}
+
+// The coordinate at a place.
+fn coordinate(file: &[u8], at: usize) -> i32
+    requires { ⌜ at + 3 < length (now file) ⌝ }
+    ensures { λ r. ⌜ r ≡ signedAt (now (file .entry)) at ⌝ }
+{
+    signed(word(file, at))
+}
+
+// The coordinates, into the beginning of a lent space.
+fn read_coordinates(file: &[u8], count: usize, out: &mut [i32])
+    requires { ⌜ (headerLength + 4 * count ≤ length (now file)) × (count ≤ length (now out)) ⌝ }
+    ensures { λ _. ⌜ now (out .exit) ≡ begins (valuesFrom (coordinateIn (now (file .entry))) 0 count) (now (out .entry)) ⌝ }
+{
+    let mut i = 0;
+    while i < count {
+        out[i] = coordinate(file, header::HEADER + 4 * i);
+        i += 1;
+    }
+}
+
+// The side counts, from the place where they start.
+fn read_sides(file: &[u8], start: usize, count: usize, out: &mut [u8])
+    requires { ⌜ (start + count ≤ length (now file)) × (count ≤ length (now out)) ⌝ }
+    ensures { λ _. ⌜ now (out .exit) ≡ begins (valuesFrom (sideIn (now (file .entry)) start) 0 count) (now (out .entry)) ⌝ }
+{
+    let mut f = 0;
+    while f < count {
+        out[f] = file[start + f];
+        f += 1;
+    }
+}
+
+// The corner list, from the place where it starts.
+fn read_corners(file: &[u8], start: usize, count: usize, out: &mut [u16])
+    requires { ⌜ (start + 2 * count ≤ length (now file)) × (count ≤ length (now out)) ⌝ }
+    ensures { λ _. ⌜ now (out .exit) ≡ begins (valuesFrom (cornerIn (now (file .entry)) start) 0 count) (now (out .entry)) ⌝ }
+{
+    let mut c = 0;
+    while c < count {
+        out[c] = header::half(file, start + 2 * c);
+        c += 1;
+    }
+}
+
+// The three lists of a file whose header passes, into spaces that have room for them.
+pub fn read_lists(file: &[u8], coordinates: &mut [i32], sides: &mut [u8], corners: &mut [u16])
+    requires { ⌜ Sized (now file) × Room (now file) (length (now coordinates)) (length (now sides)) (length (now corners)) ⌝ }
+    ensures { λ _. ⌜ ListsRead (now (file .entry)) (now (coordinates .entry)) (now (sides .entry)) (now (corners .entry)) (now (coordinates .exit)) (now (sides .exit)) (now (corners .exit)) ⌝ }
+{
+    read_coordinates(file, 3 * header::vertex_count(file), coordinates);
+    read_sides(
+        file,
+        header::sides_start(file),
+        header::face_count(file),
+        sides,
+    );
+    read_corners(
+        file,
+        header::corners_start(file),
+        header::corner_count(file),
+        corners,
+    );
+}

@@ -1,0 +1,198 @@
+// The mesh file DMS as a whole: the bytes read, and the length counted, give its counts, or its lists, or why it is turned down.
+// A file is checked by 1 to 13 in local copies of its lists, before anything is written to a lent space.
+mod body;
+mod counting;
+pub mod header;
+
+ghost use mathlib.Core.Path.{_≡_};
+ghost use Prim.Native.Nat.{_<_, _≤_};
+ghost use lib.ListN.{length};
+ghost use Rattle.paper.specs.Mesh.{meshOf};
+ghost use Rattle.paper.specs.Faults.{verdict, stated};
+ghost use Rattle.paper.specs.File.{headerLength, fileMesh, fileOf, noCounts, Surveyed, FileSurveyed, roomVerdict, decodeVerdict, DecodedTo};
+ghost use Rattle.dms.specs.Sized.{Sized};
+use paper::Answer;
+use paper::Counts;
+use paper::Decoded;
+use paper::MOST_CORNERS;
+use paper::MOST_FACES;
+use paper::MOST_VERTICES;
+use paper::NUMBERS;
+use paper::Summary;
+
+// The numbers of the longest coordinate list.
+const MOST_NUMBERS: usize = 3 * MOST_VERTICES;
+
+// Our own number, outside 01's list: a lent space is shorter than its list.
+pub const NO_ROOM: u8 = 255;
+
+// The counts of the file, from the bytes read and the length counted.
+pub fn survey(bytes: &[u8], counted: usize) -> Summary
+    ensures { λ r. ⌜ FileSurveyed (fileOf (now (bytes .entry)) counted) counted r ⌝ }
+{
+    let held = least(bytes.len(), counted);
+    survey_file(&bytes[..held], counted)
+}
+
+// The lists of the file, into the beginnings of the lent spaces.
+pub fn decode(
+    bytes: &[u8],
+    counted: usize,
+    coordinates: &mut [i32],
+    sides: &mut [u8],
+    corners: &mut [u16],
+) -> Decoded
+    ensures { λ r. ⌜ DecodedTo (fileOf (now (bytes .entry)) counted) counted (now (coordinates .entry)) (now (sides .entry)) (now (corners .entry)) r (now (coordinates .exit)) (now (sides .exit)) (now (corners .exit)) ⌝ }
+{
+    let held = least(bytes.len(), counted);
+    decode_file(&bytes[..held], counted, coordinates, sides, corners)
+}
+
+// The lesser of two numbers.
+fn least(a: usize, b: usize) -> usize
+    ensures { λ r. ⌜ (r ≤ a) × ((r < b → r ≡ a) × (r ≤ b)) ⌝ }
+{
+    if a < b { a } else { b }
+}
+
+// The counts beside a refusal.
+fn none() -> Counts
+    ensures { λ r. ⌜ r ≡ noCounts ⌝ }
+{
+    Counts {
+        vertices: 0,
+        faces: 0,
+        corners: 0,
+        cornered: [0u16; NUMBERS],
+        sided: [0u16; NUMBERS],
+    }
+}
+
+// A refusal of decoding.
+fn refused(number: u8, place: usize) -> Decoded
+    ensures { λ r. ⌜ (r .answer ≡ Answer.Refused number place) × (r .coordinates ≡ 0) × (r .sides ≡ 0) × (r .corners ≡ 0) ⌝ }
+{
+    Decoded {
+        answer: Answer::Refused(number, place),
+        coordinates: 0,
+        sides: 0,
+        corners: 0,
+    }
+}
+
+// The same as `survey`, of the file itself.
+fn survey_file(file: &[u8], counted: usize) -> Summary
+    ensures { λ r. ⌜ FileSurveyed (now (file .entry)) counted r ⌝ }
+{
+    let header = header::check_header(file, counted);
+    if let Answer::Refused(number, place) = header {
+        return Summary {
+            answer: Answer::Refused(number, place),
+            counts: none(),
+        };
+    }
+    survey_lists(file)
+}
+
+// Checks 4 to 13 and the counts, of the lists of a file whose header passes.
+fn survey_lists(file: &[u8]) -> Summary
+    requires { ⌜ Sized (now file) ⌝ }
+    ensures { λ r. ⌜ Surveyed (fileMesh (now (file .entry))) (verdict (fileMesh (now (file .entry)))) r ⌝ }
+{
+    let mut coordinates = [0i32; MOST_NUMBERS];
+    let mut sides = [0u8; MOST_FACES];
+    let mut corners = [0u16; MOST_CORNERS];
+    body::read_lists(file, &mut coordinates, &mut sides, &mut corners);
+    let numbers = 3 * header::vertex_count(file);
+    let faces = header::face_count(file);
+    let count = header::corner_count(file);
+    survey_mesh(&coordinates[..numbers], &sides[..faces], &corners[..count])
+}
+
+// Checks 4 to 13 and the counts, of a mesh's lists.
+pub fn survey_mesh(coordinates: &[i32], sides: &[u8], corners: &[u16]) -> Summary
+    ensures { λ r. ⌜ Surveyed (meshOf (now (coordinates .entry)) (now (sides .entry)) (now (corners .entry))) (verdict (meshOf (now (coordinates .entry)) (now (sides .entry)) (now (corners .entry)))) r ⌝ }
+{
+    let answer = check_mesh(coordinates, sides, corners);
+    if let Answer::Refused(number, place) = answer {
+        return Summary {
+            answer: Answer::Refused(number, place),
+            counts: none(),
+        };
+    }
+    let counts = counting::count(coordinates, sides, corners);
+    Summary {
+        answer: Answer::Done,
+        counts: counts,
+    }
+}
+
+// Checks 4 to 13, of a mesh's lists.
+fn check_mesh(coordinates: &[i32], sides: &[u8], corners: &[u16]) -> Answer
+    ensures { λ r. ⌜ stated r ≡ verdict (meshOf (now (coordinates .entry)) (now (sides .entry)) (now (corners .entry))) ⌝ }
+{
+    let mut nexts = [0u16; MOST_CORNERS];
+    let mut links = [0u16; MOST_CORNERS];
+    checks::check(coordinates, sides, corners, &mut nexts, &mut links)
+}
+
+// The same as `decode`, of the file itself.
+fn decode_file(
+    file: &[u8],
+    counted: usize,
+    coordinates: &mut [i32],
+    sides: &mut [u8],
+    corners: &mut [u16],
+) -> Decoded
+    ensures { λ r. ⌜ DecodedTo (now (file .entry)) counted (now (coordinates .entry)) (now (sides .entry)) (now (corners .entry)) r (now (coordinates .exit)) (now (sides .exit)) (now (corners .exit)) ⌝ }
+{
+    let answer = check_decode(file, counted, coordinates.len(), sides.len(), corners.len());
+    if let Answer::Refused(number, place) = answer {
+        return refused(number, place);
+    }
+    body::read_lists(file, coordinates, sides, corners);
+    Decoded {
+        answer: Answer::Done,
+        coordinates: 3 * header::vertex_count(file),
+        sides: header::face_count(file),
+        corners: header::corner_count(file),
+    }
+}
+
+// All that decoding into spaces of these lengths refuses.
+fn check_decode(
+    file: &[u8],
+    counted: usize,
+    coordinates: usize,
+    sides: usize,
+    corners: usize,
+) -> Answer
+    ensures { λ r. ⌜ stated r ≡ decodeVerdict (now (file .entry)) counted coordinates sides corners ⌝ }
+{
+    let summary = survey_file(file, counted);
+    let answer = summary.answer;
+    if let Answer::Refused(number, place) = answer {
+        return Answer::Refused(number, place);
+    }
+    check_room(file, coordinates, sides, corners)
+}
+
+// Whether spaces of these lengths have room for the lists.
+fn check_room(file: &[u8], coordinates: usize, sides: usize, corners: usize) -> Answer
+    requires { ⌜ headerLength ≤ length (now file) ⌝ }
+    ensures { λ r. ⌜ stated r ≡ roomVerdict (now (file .entry)) coordinates sides corners ⌝ }
+{
+    let numbers = 3 * header::vertex_count(file);
+    if coordinates < numbers {
+        return Answer::Refused(NO_ROOM, numbers);
+    }
+    let faces = header::face_count(file);
+    if sides < faces {
+        return Answer::Refused(NO_ROOM, faces);
+    }
+    let count = header::corner_count(file);
+    if corners < count {
+        return Answer::Refused(NO_ROOM, count);
+    }
+    Answer::Done
+}
