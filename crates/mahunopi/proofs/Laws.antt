@@ -1,19 +1,30 @@
--- A wrapped call's answer, as number and place.
+-- A wrapped call's answer, as number and place; a list copied into the beginning of a lent one.
 -- Assumes nothing.
 use mathlib.Core.Path.{_≡_, refl, sym, ap, _∙_, subst}
-use mathlib.Core.List.{List}
-use Prim.Native.Nat.{ℕ}
+use mathlib.Core.Bool.{true, false, _||_}
+use mathlib.Core.List.{List, _∷_, _++_}
+use Prim.Native.Nat.{ℕ, suc, _+_, _<_, _≤_}
+use native.Mathlib.Numerals.{add-one}
 use native.Mathlib.Omega.{arith}
-use lib.ListN.{length}
+use lib.Dec.{ltb}
+use lib.ListN.{length, getD, take, drop, set}
+use lib.Seq.{length-take-le, take-suc, take-length, drop-cons, append-snoc, set-at}
 use lib.IntN.{ℤ}
-use Rattle.paper.specs.Mesh.{Mesh, meshOf}
+use borrow.Author.Tests.{ltb-false}
+use Rattle.mesh.proofs.Links.{values-length}
+use Rattle.mesh.proofs.Ranges.{none-left, none-right}
+use Rattle.mesh.proofs.Verdicts.{orElse-fault, orElse-sound, single-hit, single-miss}
+use Rattle.paper.specs.Mesh.{Mesh, meshOf, mostSides}
 use Rattle.paper.specs.Faults.{Verdict, sound, fault, stated, kept}
-use Rattle.paper.specs.File.{DecodedTo}
+use Rattle.paper.specs.Counts.{verticesWith, facesWith, forEach}
+use Rattle.paper.specs.File.{fileVerdict, fileMesh, begins, noRoom, FileSurveyed, DecodedTo}
 use Rattle.paper.specs.Calls.{Linked, nets, buildVerdict, Built}
-use Rattle.paper.specs.CFace.{States, LinkCall, BuildCall, Lengths, three, lentVerdict, DecodeCall}
+use Rattle.paper.specs.CFace.{States, LinkCall, BuildCall, Lengths, three, lentVerdict, DecodeCall, countsOf, surveyVerdict, SurveyCall}
 use Rattle.paper.specs.declared.Answer.{Answer}
 use Rattle.paper.specs.declared.Answer.the-variants.{Done, Refused}
+use Rattle.paper.specs.declared.Counts.{Counts}
 use Rattle.paper.specs.declared.Decoded.{Decoded}
+use Rattle.paper.specs.declared.Summary.{Summary}
 
 -- the verdict v that the answer r states
 module _ (v : Verdict) (r : Answer) (before : ℕ) (e : stated r ≡ v) where
@@ -83,3 +94,75 @@ module _ (file : List ℕ) (counted : ℕ) (cs : List ℤ) (sides corners : List
         holds = kept-old _ n p _ _ _ v (cc);
         tells = kept-old _ n p _ _ _ v refl;
       }
+
+-- ---- surveying
+module _ (values old : List ℕ) where
+  -- the first i values stand in the lent list
+  abbrev pub Filled : ℕ → List ℕ → Type 0
+  Filled i lent = lent ≡ take i values ++ drop i old
+
+  pub filled-none : Filled 0 old
+  filled-none = refl
+
+  pub filled-step : (i : ℕ) (lent : List ℕ) (d : ℕ) → i < length values → i < length old → Filled i lent → Filled (i + 1) (set lent i (getD values i d))
+  filled-step i lent d h k e =
+      rw (e, add-one, drop-cons old i d k, take-suc values i d h, append-snoc)
+      (set-at (take i values) (getD old i d) (drop (suc i) old) (getD values i d) i (length-take-le i values (omega arith)))
+
+  pub filled-all : (i : ℕ) (lent : List ℕ) → i ≡ length values → Filled i lent → lent ≡ begins values old
+  filled-all i lent q e = rw (q, take-length values) at e
+
+-- both lent lists have room for a list with a number for each m
+module _ (l : List ℕ) (a b : ℕ) (e : length l ≡ mostSides + 1) (t : (ltb a (mostSides + 1) || ltb b (mostSides + 1)) ≡ false) where
+  pub fits-first : length l ≤ a
+  fits-first = omega (arith, e, ltb-false a (mostSides + 1) (none-left (ltb a (mostSides + 1)) (ltb b (mostSides + 1)) t))
+
+  pub fits-second : length l ≤ b
+  fits-second = omega (arith, e, ltb-false b (mostSides + 1) (none-right (ltb a (mostSides + 1)) (ltb b (mostSides + 1)) t))
+
+-- the counts of a file that passes have a number for each m
+pub numbered : (file : List ℕ) (counted : ℕ) (r : Summary) → FileSurveyed file counted r → r .answer ≡ Done
+    → (length (r .counts .cornered) ≡ mostSides + 1) × (length (r .counts .sided) ≡ mostSides + 1)
+unfolding forEach
+numbered file counted r s e =
+    let k = s .counts (sym (s .answers) ∙ ap stated e) in
+    let M = fileMesh file in
+    (ap length (k .cornered) ∙ values-length (verticesWith M) 0 (mostSides + 1), ap length (k .sided) ∙ values-length (facesWith M) 0 (mostSides + 1))
+
+module _ (file : List ℕ) (counted : ℕ) (lent : Counts) (before : ℕ) where
+  refuses : (n p : ℕ) → surveyVerdict file counted lent ≡ fault n p → SurveyCall file counted lent before n p lent
+  refuses n p v = record {
+    answers = subst (λ (w : Verdict). States w before n p) (sym v) (record { number = refl; place = refl });
+    tells = kept-old _ n p _ _ _ v refl;
+  }
+
+  module _ (r : Summary) (s : FileSurveyed file counted r) where
+    pub survey-refused : (n p : ℕ) → r .answer ≡ Refused n p → SurveyCall file counted lent before n p lent
+    unfolding surveyVerdict
+    survey-refused n p e = refuses n p (orElse-fault n p _ (sym (s .answers) ∙ ap stated e))
+
+    module _ (e : r .answer ≡ Done) where
+      passes : fileVerdict file counted ≡ sound
+      passes = sym (s .answers) ∙ ap stated e
+
+      pub survey-no-room : (ltb (length (lent .cornered)) (mostSides + 1) || ltb (length (lent .sided)) (mostSides + 1)) ≡ true
+          → SurveyCall file counted lent before noRoom (mostSides + 1) lent
+      unfolding surveyVerdict
+      survey-no-room t = refuses noRoom (mostSides + 1) (orElse-sound _ passes ∙ single-hit noRoom (mostSides + 1) t)
+
+      pub survey-done : (ltb (length (lent .cornered)) (mostSides + 1) || ltb (length (lent .sided)) (mostSides + 1)) ≡ false
+          → (cornered sided : List ℕ) → cornered ≡ begins (r .counts .cornered) (lent .cornered) → sided ≡ begins (r .counts .sided) (lent .sided)
+          → SurveyCall file counted lent before 0 before (countsOf (r .counts .vertices) (r .counts .faces) (r .counts .corners) cornered sided)
+      unfolding surveyVerdict
+      survey-done t cornered sided x y =
+          let v : surveyVerdict file counted lent ≡ sound = orElse-sound _ passes ∙ single-miss noRoom (mostSides + 1) t in
+          let k = s .counts passes in
+          let vertices = k .vertices in
+          let faces = k .faces in
+          let corners = k .corners in
+          let by-corners = x ∙ ap (λ (l : List ℕ). begins l (lent .cornered)) (k .cornered) in
+          let by-sides = y ∙ ap (λ (l : List ℕ). begins l (lent .sided)) (k .sided) in
+          record {
+            answers = subst (λ (w : Verdict). States w before 0 before) (sym v) (record { number = refl; place = refl });
+            tells = kept-new _ _ _ _ v (cc);
+          }

@@ -1,9 +1,15 @@
 // The C face of the library: `rt staticlib mahunopi` makes libmahunopi.a of it, and include/mahunopi.h declares it. Each function
 // wraps one of Rattle's and says the same: 0 for done, else 01's number, with the place behind `place`.
+ghost use mathlib.Core.Path.{_≡_};
+ghost use mathlib.Core.Bool.{_||_};
+ghost use Prim.Native.Nat.{_+_, _≤_};
+ghost use lib.Dec.{ltb};
+ghost use lib.ListN.{length};
+ghost use Rattle.paper.specs.Mesh.{meshOf, mostSides};
+ghost use Rattle.paper.specs.File.{fileOf, begins};
+ghost use Rattle.paper.specs.CFace.{LinkCall, BuildCall, three, DecodeCall, countsOf, SurveyCall};
 use paper::Answer;
-ghost use Rattle.paper.specs.Mesh.{meshOf};
-ghost use Rattle.paper.specs.File.{fileOf};
-ghost use Rattle.paper.specs.CFace.{LinkCall, BuildCall, three, DecodeCall};
+use paper::NUMBERS;
 
 // Linking.
 #[no_mangle]
@@ -78,5 +84,64 @@ pub extern "C" fn mahunopi_decode(
             *place = at as u64;
             number as u32
         }
+    }
+}
+
+// The counts of a file: vertices, faces and corners; and into the beginnings of two lent lists, for each m from 0 to the most sides,
+// the vertices with m corners and the faces with m sides. All of them are left alone beside a refusal.
+#[no_mangle]
+pub extern "C" fn mahunopi_survey(
+    bytes: &[u8],
+    length: u64,
+    vertices: &mut u64,
+    faces: &mut u64,
+    corners: &mut u64,
+    cornered: &mut [u16],
+    sided: &mut [u16],
+    place: &mut u64,
+) -> u32
+    ensures { λ r. ⌜ SurveyCall (fileOf (now (bytes .entry)) length) length (countsOf (now (vertices .entry)) (now (faces .entry)) (now (corners .entry)) (now (cornered .entry)) (now (sided .entry))) (now (place .entry)) r (now (place .exit)) (countsOf (now (vertices .exit)) (now (faces .exit)) (now (corners .exit)) (now (cornered .exit)) (now (sided .exit))) ⌝ }
+{
+    let s = dms::survey(bytes, length as usize);
+    let a = s.answer;
+    if let Answer::Refused(number, at) = a {
+        *place = at as u64;
+        return number as u32;
+    }
+    if too_short(cornered.len(), sided.len()) {
+        *place = NUMBERS as u64;
+        return dms::NO_ROOM as u32;
+    }
+    let counts = s.counts;
+    *vertices = counts.vertices as u64;
+    *faces = counts.faces as u64;
+    *corners = counts.corners as u64;
+    let by_corners = counts.cornered;
+    fill(&by_corners, cornered);
+    let by_sides = counts.sided;
+    fill(&by_sides, sided);
+    0
+}
+
+// Whether one of two lists has no room for every m.
+fn too_short(cornered: usize, sided: usize) -> bool
+    ensures { λ r. ⌜ r ≡ (ltb cornered (mostSides + 1) || ltb sided (mostSides + 1)) ⌝ }
+{
+    if cornered < NUMBERS {
+        true
+    } else {
+        sided < NUMBERS
+    }
+}
+
+// Copies a list into the beginning of a lent one.
+fn fill(values: &[u16], lent: &mut [u16])
+    requires { ⌜ length (now values) ≤ length (now lent) ⌝ }
+    ensures { λ _. ⌜ now (lent .exit) ≡ begins (now (values .entry)) (now (lent .entry)) ⌝ }
+{
+    let mut i = 0;
+    while i < values.len() {
+        lent[i] = values[i];
+        i += 1;
     }
 }

@@ -2,15 +2,19 @@
 -- contents are those of the functions that it wraps.
 -- Assumes nothing.
 use mathlib.Core.Path.{_≡_}
+use mathlib.Core.Bool.{_||_}
 use mathlib.Core.List.{List}
-use Prim.Native.Nat.{ℕ}
+use Prim.Native.Nat.{ℕ, _+_}
+use lib.Dec.{ltb}
 use lib.ListN.{length}
 use lib.IntN.{ℤ}
-use Rattle.paper.specs.Mesh.{Mesh, meshOf}
+use Rattle.paper.specs.Mesh.{Mesh, meshOf, mostSides, vertexCount, faceCount, cornerCount}
 use Rattle.paper.specs.Links.{linkTable}
-use Rattle.paper.specs.Faults.{Verdict, sound, fault, linkVerdict, kept}
-use Rattle.paper.specs.File.{fileMesh, begins, decodeVerdict}
+use Rattle.paper.specs.Faults.{Verdict, sound, fault, _orElse_, single, linkVerdict, kept}
+use Rattle.paper.specs.Counts.{verticesWith, facesWith, forEach}
+use Rattle.paper.specs.File.{fileMesh, fileVerdict, begins, noRoom, decodeVerdict}
 use Rattle.paper.specs.Calls.{nets, buildVerdict}
+use Rattle.paper.specs.declared.Counts.{Counts}
 
 -- 0 is done, any other number is the refusal's
 abbrev pub numberOf : Verdict → ℕ
@@ -59,3 +63,22 @@ pub record DecodeCall (file : List ℕ) (counted : ℕ) (lent : Mesh) (lengths :
   pub answers : States (lentVerdict file counted lent) before r after
   pub holds : lists ≡ kept (lentVerdict file counted lent) (into (fileMesh file) lent) lent
   pub tells : told ≡ kept (lentVerdict file counted lent) (lengthsOf (fileMesh file)) lengths
+
+-- the five lent places of surveying: three numbers, and two lists with a number for each m
+abbrev pub countsOf : ℕ → ℕ → ℕ → List ℕ → List ℕ → Counts
+countsOf vertices faces corners cornered sided = record { vertices = vertices; faces = faces; corners = corners; cornered = cornered; sided = sided }
+
+-- the counts of M, those for each m in the beginnings of lent lists
+abbrev pub countsInto : Mesh → Counts → Counts
+countsInto M lent =
+    countsOf (vertexCount M) (faceCount M) (cornerCount M) (begins (forEach (verticesWith M)) (lent .cornered)) (begins (forEach (facesWith M)) (lent .sided))
+
+-- surveying refuses as 1 to 13 do, and then where a lent list has no room for every m
+unfoldable pub surveyVerdict : List ℕ → ℕ → Counts → Verdict
+surveyVerdict file counted lent =
+    fileVerdict file counted
+    orElse single noRoom (ltb (length (lent .cornered)) (mostSides + 1) || ltb (length (lent .sided)) (mostSides + 1)) (mostSides + 1)
+
+pub record SurveyCall (file : List ℕ) (counted : ℕ) (lent : Counts) (before r after : ℕ) (told : Counts) : Type 0 where
+  pub answers : States (surveyVerdict file counted lent) before r after
+  pub tells : told ≡ kept (surveyVerdict file counted lent) (countsInto (fileMesh file) lent) lent

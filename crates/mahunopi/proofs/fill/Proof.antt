@@ -1,0 +1,72 @@
+-- After i turns the first i values stand in the lent list and the others are as they were.
+-- Assumes nothing.
+use mathlib.Core.Path.{_≡_, refl}
+use Prim.Native.Nat.{_≤_, _-_}
+use native.Mathlib.Omega.{arith}
+use lib.ListN.{length, length-set}
+use borrow.Author.Needs.{needs}
+use Rattle.mahunopi.proofs.Laws.{Filled, filled-none, filled-step, filled-all}
+use Rattle.mahunopi.proofs.fill.Statement.{statement}
+use Rattle.mahunopi.proofs.fill.Tie as tie
+
+abbrev Inv-loop : tie.InvT-loop
+Inv-loop values lent₀ i₀ lent i = (i ≤ length values) × (length lent ≡ length lent₀) × Filled values lent₀ i lent
+
+abbrev μ-loop : tie.MeasureT-loop
+μ-loop values lent₀ i₀ lent i = length values - i
+
+loop-holds : tie.Need-loop-holds Inv-loop μ-loop
+loop-holds c = (omega arith, refl, filled-none (c .args .values .now) (c .args .lent .now))
+
+mul-lent : tie.Need-mul-lent Inv-loop μ-loop
+mul-lent c = search needs
+
+shared-slice-read-lent : tie.Need-shared-slice-read-lent Inv-loop μ-loop
+shared-slice-read-lent c = search needs
+
+mul-lent-2 : tie.Need-mul-lent-2 Inv-loop μ-loop
+mul-lent-2 c = search needs
+
+slice-write-lent : tie.Need-slice-write-lent Inv-loop μ-loop
+slice-write-lent c = search needs
+
+add-i : tie.Need-add-i Inv-loop μ-loop
+add-i c = search needs
+
+loop-less : tie.Need-loop-less Inv-loop μ-loop
+loop-less c = search needs
+
+loop-again : tie.Need-loop-again Inv-loop μ-loop
+loop-again c =
+    let s = c .before .before .before in
+    let l = c .before .before .loop in (
+      search needs,
+      rw length-set (l .inv .1),
+      filled-step (s .args .values .now) (s .args .lent .now) (l .i) (l .lent) 0 (omega arith) (omega arith) (l .inv .2),
+    )
+
+same-length : tie.Need-same-length Inv-loop μ-loop
+same-length c = search needs
+
+returns : tie.Need-returns Inv-loop μ-loop
+returns c =
+    let s = c .before .before in
+    let l = c .before .loop in
+    filled-all (s .args .values .now) (s .args .lent .now) (l .i) (l .lent) (omega arith) (l .inv .2)
+
+pub fill-spec : {M : Type 1} → statement M
+fill-spec =
+    tie.close
+    (tie.spec
+    Inv-loop
+    μ-loop
+    loop-holds
+    mul-lent
+    shared-slice-read-lent
+    mul-lent-2
+    slice-write-lent
+    add-i
+    loop-less
+    loop-again
+    same-length
+    returns)

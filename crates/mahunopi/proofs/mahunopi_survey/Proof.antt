@@ -1,0 +1,87 @@
+-- `mahunopi::mahunopi_survey` meets its contract: it answers what `dms::survey` states, and tells the counts where the lent lists have room.
+-- Assumes nothing.
+use mathlib.Core.Path.{sym, _∙_}
+use Rattle.mahunopi.proofs.Laws.{fits-first, fits-second, numbered, survey-refused, survey-no-room, survey-done}
+use lib.ListN.{length}
+use borrow.Author.Needs.{needs}
+use Rattle.mahunopi.proofs.mahunopi_survey.Statement.{statement}
+use Rattle.mahunopi.proofs.mahunopi_survey.Tie as tie
+
+survey-requires : tie.Need-survey-requires
+survey-requires c κs = search needs
+
+enum-known-a : tie.Need-enum-known-a
+enum-known-a c = search needs
+
+cast-result : tie.Need-cast-result
+cast-result c = search needs
+
+returns : tie.Need-returns
+returns c = let a = c .before .a .given in survey-refused _ _ _ _ _ (c .before .before .before .survey .ensures) (a .0 .0) (a .0 .1 .0) (a .1)
+
+enum-told : tie.Need-enum-told
+enum-told c = search needs
+
+too-short-requires : tie.Need-too-short-requires
+too-short-requires c κs = search needs
+
+cast-result-2 : tie.Need-cast-result-2
+cast-result-2 c = search needs
+
+returns-2 : tie.Need-returns-2
+returns-2 c =
+    survey-no-room _ _ _ _ _ (c .before .before .before .before .survey .ensures) (c .before .before .enum-told .given .1) (sym (c .before .too-short .ensures) ∙ c .if1 .taken)
+
+slice-aggregate-fill : tie.Need-slice-aggregate-fill
+slice-aggregate-fill c = search needs
+
+fill-requires : tie.Need-fill-requires
+fill-requires c κs =
+    let s = c .before .before .before .before in
+    let room = sym (s .before .too-short .ensures) ∙ s .if1 .left in
+    let f = s .before .before .before .before .survey in
+    fits-first (f .result .counts .cornered) _ (length (s .before .before .before .before .before .before .before .before .args .sided .now))
+    (numbered _ _ _ (f .ensures) (s .before .before .enum-told .given .1) .0) room
+
+slice-aggregate-fill-2 : tie.Need-slice-aggregate-fill-2
+slice-aggregate-fill-2 c = search needs
+
+fill-requires-2 : tie.Need-fill-requires-2
+fill-requires-2 c κs =
+    let s = c .before .before .before .before .before .before .before .before .before .before in
+    let room = sym (s .before .too-short .ensures) ∙ s .if1 .left in
+    let f = s .before .before .before .before .survey in
+    fits-second (f .result .counts .sided) (length (s .before .before .before .before .before .before .before .before .args .cornered .now)) _
+    (numbered _ _ _ (f .ensures) (s .before .before .enum-told .given .1) .1) room
+
+same-length : tie.Need-same-length
+same-length c = search needs
+
+same-length-2 : tie.Need-same-length-2
+same-length-2 c = search needs
+
+returns-3 : tie.Need-returns-3
+returns-3 c =
+    let s = c .before .before .before .before .before .before .before .before .before .before .before .before .before in
+    survey-done _ _ _ _ _ (s .before .before .before .before .survey .ensures) (s .before .before .enum-told .given .1)
+    (sym (s .before .too-short .ensures) ∙ s .if1 .left) _ _ (c .before .before .before .before .before .before .before .before .fill .ensures) (c .before .before .fill2 .ensures)
+
+pub mahunopi-survey-spec : {M : Type 1} → statement M
+mahunopi-survey-spec =
+    tie.close
+    (tie.spec
+    survey-requires
+    enum-known-a
+    cast-result
+    returns
+    enum-told
+    too-short-requires
+    cast-result-2
+    returns-2
+    slice-aggregate-fill
+    fill-requires
+    slice-aggregate-fill-2
+    fill-requires-2
+    same-length
+    same-length-2
+    returns-3)
