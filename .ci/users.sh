@@ -1,5 +1,5 @@
 #!/bin/sh
-# The library as its users take it: the header as C11 and as C++17, the C example, the sample meshes, the Rust tests.
+# The library as its users take it: the header as C11 and as C++17, the C examples, the sample meshes, the Rust tests.
 # Needs target/staticlib/libmahunopi.a (`rt staticlib mahunopi`; MAHUNOPI_LIB names another directory that has it) and
 # what .ci/install installs. Prints a line for each check and last `users: N passed, M failed`, where every Rust test
 # counts; the status is 0 when none failed.
@@ -30,10 +30,22 @@ check() {
     fi
 }
 
-example() {
+# compiled NAME COMPILER..: the example NAME
+compiled() {
+    example=$1
+    shift
     # shellcheck disable=SC2086
-    "$@" $warnings -O2 -Iinclude examples/cube.c -o "$work/cube" -L"$library" -lmahunopi &&
-        "$work/cube" >"$work/printed" && diff examples/cube.expected "$work/printed"
+    "$@" $warnings -O2 -Iinclude "examples/$example.c" -o "$work/$example" -L"$library" -lmahunopi
+}
+
+cube() {
+    compiled cube "$@" && "$work/cube" >"$work/printed" && diff examples/cube.expected "$work/printed"
+}
+
+inspect() {
+    compiled inspect "$@" && for mesh in meshes/*.dms; do
+        "$work/inspect" <"$mesh"
+    done >"$work/printed" && diff examples/inspect.expected "$work/printed"
 }
 
 samples() {
@@ -73,8 +85,10 @@ rust_tests() {
     check 'header as C11' gcc -std=c11 $warnings -fsyntax-only -x c include/mahunopi.h
     check 'header as C++17' g++ -std=c++17 $warnings -fsyntax-only -x c++ include/mahunopi.h
 }
-check 'example in C11 prints what it should' example gcc -std=c11
-check 'example in C++17 prints what it should' example g++ -std=c++17 -x c++
+check 'example cube in C11 prints what it should' cube gcc -std=c11
+check 'example cube in C++17 prints what it should' cube g++ -std=c++17 -x c++
+check 'example inspect in C11 prints what it should' inspect gcc -std=c11
+check 'example inspect in C++17 prints what it should' inspect g++ -std=c++17 -x c++
 check 'sample meshes are what make-dms makes of their texts' samples
 rust_tests
 echo "users: $passed passed, $failed failed"

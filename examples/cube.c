@@ -25,7 +25,7 @@ static uint16_t corners[CORNERS] = {
 };
 
 static uint16_t links[CORNERS];
-static int32_t points[CORNERS * MAHUNOPI_NUMBERS_OF_A_CORNER];
+static int32_t points[CORNERS * MAHUNOPI_NUMBERS_PER_CORNER];
 
 /* Links and builds the mesh as its lists stand; the answer of the first call that is refused. */
 static uint32_t link_and_build(uint64_t *place)
@@ -34,7 +34,7 @@ static uint32_t link_and_build(uint64_t *place)
     if (answer != MAHUNOPI_DONE)
         return answer;
     return mahunopi_build(coordinates, 3 * VERTICES, sides, FACES, corners, CORNERS, links, CORNERS, 0, CORNERS, points,
-                          CORNERS * MAHUNOPI_NUMBERS_OF_A_CORNER, place);
+                          CORNERS * MAHUNOPI_NUMBERS_PER_CORNER, place);
 }
 
 /* Prints one of the 41 control points of corner 0: b row by row from 0, a row by row from 25. */

@@ -1,20 +1,23 @@
 /*
  * Mahunopi: smooth patches over a closed mesh, in whole numbers.
  *
- * The three functions below are the proved library's C face (libmahunopi.a). A mesh is three lists: coordinates,
- * side counts and corners. mahunopi_decode reads them from a .dms file, mahunopi_link fills the link table of a mesh,
- * mahunopi_build writes the control points of a range of corners. Each is complete in itself: none relies on an
- * earlier call.
+ * The four functions below are the proved library's C face (libmahunopi.a). A mesh is three lists: coordinates, side
+ * counts and corners. mahunopi_survey counts what a .dms file holds, mahunopi_decode reads its lists, mahunopi_link
+ * fills the link table of a mesh, mahunopi_build writes the control points of a range of corners. Each is complete in
+ * itself: none relies on an earlier call.
  *
  * Every function returns MAHUNOPI_DONE, or the number of a refusal (enum mahunopi_refusal). After a refusal *place
  * says where, and everything else that was lent keeps its contents; when done, *place keeps its contents.
  *
  * A list is a pointer and the number of its entries. The pointer may be null where that number is 0. The pointers to
- * single numbers (place and the three lengths of mahunopi_decode) must not be null. What a function writes to must
- * not overlap anything else that it is given.
+ * single numbers (place, and the three counts of surveying and of decoding) must not be null. What a function writes
+ * to must not overlap anything else that it is given.
  *
- * Scratch lies on the stack: a call needs up to 256 KB of it. A stack that is too small ends the program; no answer
- * tells of it.
+ * Calls share no state: any number of them may run at the same time, on any threads, as long as none writes to what
+ * another one is given. Nothing is allocated. Scratch lies on the stack, of which a call needs up to
+ * MAHUNOPI_CALL_STACK bytes; a stack that is too small ends the program, and no answer tells of it.
+ *
+ * The archive is for x86-64 Linux with glibc, in the C calling convention; link with -lmahunopi and nothing else.
  */
 #ifndef MAHUNOPI_H
 #define MAHUNOPI_H
@@ -26,62 +29,76 @@
 extern "C" {
 #endif
 
+/* The version of this face: it rises with every change of a signature, a limit or a refusal's number or meaning. The
+ * archive does not tell its own, so keep header and archive of one build together. */
+#define MAHUNOPI_VERSION 1
+
 /* The most vertices, faces and corners of a mesh. */
 #define MAHUNOPI_MAX_VERTICES 2048
 #define MAHUNOPI_MAX_FACES 4096
 #define MAHUNOPI_MAX_CORNERS 8192
+/* The fewest and the most sides of a face, and corners of a vertex. */
+#define MAHUNOPI_MIN_SIDES 3
+#define MAHUNOPI_MAX_SIDES 12
 /* The numbers that building writes for a corner: 41 control points of x, y, z. */
-#define MAHUNOPI_NUMBERS_OF_A_CORNER 123
+#define MAHUNOPI_NUMBERS_PER_CORNER 123
+/* The bytes of stack that a call may take. */
+#define MAHUNOPI_CALL_STACK 262144
 
 /*
  * What a function answers. A file is checked by 1 to 13, linking by 4 to 14, building by 4 to 17. Each number is tried
  * over the whole input before the next, and the place is the lowest that applies.
+ *
+ * From a corner the leaving edge runs to the vertex of the next corner of its face, cyclically, and the arriving edge
+ * comes from the vertex of the previous one. The link of a corner is the corner of the same vertex whose arriving edge
+ * is the reverse of its leaving edge: the corner in the face across that edge.
+ *
+ * 13 in full: start at the lowest corner of a vertex and go from link to link until that corner comes back. This walks
+ * once round the vertex, through the faces that hang together there by edges. A corner of the vertex that is not met
+ * lies in other faces, which touch these in the vertex alone, as where two closed parts share one vertex.
  */
 enum mahunopi_refusal {
     MAHUNOPI_DONE = 0,
-    /* The file has fewer than 11 bytes or another mark than DMS (place 0). */
+    /* the file has fewer than 11 bytes or another mark than DMS (place 0) */
     MAHUNOPI_BAD_MARK = 1,
-    /* The version is not 1 (place 0). */
+    /* the file's version is not 1 (place 0) */
     MAHUNOPI_BAD_VERSION = 2,
-    /* The file's length is not 11 + 12 times vertices + faces + 2 times corners (place 0). */
+    /* the file's length is not 11 + 12 times vertices + faces + 2 times corners (place 0) */
     MAHUNOPI_BAD_FILE_LENGTH = 3,
-    /* The coordinate list's length is no multiple of three, or there are no vertices or above 2,048, no faces or above
-     * 4,096, no corners or above 8,192 (place 0). */
+    /* no entries in a list or more than the limits, or a coordinate count that is no multiple of three (place 0) */
     MAHUNOPI_BAD_COUNTS = 4,
-    /* A side count is outside 3 to 12 (place: the face). */
+    /* a side count is outside 3 to 12 (place: the face) */
     MAHUNOPI_BAD_SIDE_COUNT = 5,
-    /* The side counts do not sum to the corner count (place: the sum). */
+    /* the side counts do not sum to the corner count (place: the sum) */
     MAHUNOPI_BAD_SIDE_SUM = 6,
-    /* A coordinate is outside -65,536 to 65,536 (place: its position in the list). */
+    /* a coordinate is outside -65,536 to 65,536 (place: its position in the list) */
     MAHUNOPI_BAD_COORDINATE = 7,
-    /* A corner names a vertex not below the vertex count (place: the corner). */
+    /* a corner names a vertex not below the vertex count (place: the corner) */
     MAHUNOPI_NO_SUCH_VERTEX = 8,
-    /* A corner names the vertex of an earlier corner of its face (place: the later corner). */
+    /* a corner names the vertex of an earlier corner of its face (place: the later corner) */
     MAHUNOPI_VERTEX_TWICE_IN_FACE = 9,
-    /* A leaving edge, with its direction, already left an earlier corner (place: the later corner). */
+    /* a leaving edge, with its direction, already left an earlier corner (place: the later corner) */
     MAHUNOPI_EDGE_TWICE = 10,
-    /* A leaving edge has no reverse among the leaving edges (place: the corner). */
+    /* a leaving edge has no reverse among the leaving edges (place: the corner) */
     MAHUNOPI_EDGE_WITHOUT_REVERSE = 11,
-    /* A vertex is named by fewer than 3 or more than 12 corners (place: the vertex). */
+    /* a vertex is named by fewer than 3 or more than 12 corners (place: the vertex) */
     MAHUNOPI_BAD_CORNERS_OF_VERTEX = 12,
-    /* A vertex has a corner not met when following links from its lowest corner (place: the vertex). */
+    /* a vertex has a corner not met when following links from its lowest corner, see above (place: the vertex) */
     MAHUNOPI_CORNER_NOT_MET = 13,
-    /* The link table's length is not the corner count (place: its length). */
+    /* the link table's length is not the corner count (place: its length) */
     MAHUNOPI_BAD_LINK_TABLE_LENGTH = 14,
-    /* The link table differs from what linking writes (place: the corner). */
+    /* the link table differs from what linking writes (place: the corner) */
     MAHUNOPI_BAD_LINK = 15,
-    /* The count asked is 0, or the first corner plus the count exceeds the corner count (place: the first corner). */
+    /* the count asked is 0, or the first corner plus the count exceeds the corner count (place: the first corner) */
     MAHUNOPI_BAD_RANGE = 16,
-    /* The output's length is not 123 times the count (place: its length). */
+    /* the output's length is not 123 times the count (place: its length) */
     MAHUNOPI_BAD_OUTPUT_LENGTH = 17,
-    /* Decoding only, after 1 to 13: a lent list is too short for the file's (place: the length that the first such
-     * list needs). */
+    /* surveying and decoding, after 1 to 13: a lent list is too short (place: the length that the first such needs) */
     MAHUNOPI_LENT_TOO_SHORT = 255
 };
 
 /*
- * Linking: checks a mesh by 4 to 14 and fills its link table. The link of corner c is the corner of the same vertex
- * whose arriving edge is the reverse of c's leaving edge.
+ * Linking: checks a mesh by 4 to 14 and fills its link table.
  */
 uint32_t mahunopi_link(
     /* x, y, z of vertex 0, then of vertex 1, and so on, in grid steps */
@@ -161,6 +178,33 @@ uint32_t mahunopi_decode(
     uint64_t *side_count,
     /* receives the number of corners written; not null */
     uint64_t *corner_count,
+    /* receives the place of a refusal; not null */
+    uint64_t *place);
+
+/*
+ * Surveying: checks a .dms file by 1 to 13 and counts what it holds: vertices, faces and corners, and how many
+ * vertices have m corners and how many faces m sides, for each m from 0 to MAHUNOPI_MAX_SIDES. These numbers go to the
+ * beginnings of two lent lists of at least MAHUNOPI_MAX_SIDES + 1 entries, whose further entries keep their contents.
+ */
+uint32_t mahunopi_survey(
+    /* the file, as for mahunopi_decode */
+    const uint8_t *bytes,
+    size_t byte_count,
+    uint64_t length,
+    /* receives the number of vertices; not null */
+    uint64_t *vertices,
+    /* receives the number of faces; not null */
+    uint64_t *faces,
+    /* receives the number of corners; not null */
+    uint64_t *corners,
+    /* entry m receives the number of vertices with m corners */
+    uint16_t *vertices_with,
+    /* how many entries it has */
+    size_t vertices_with_space,
+    /* entry m receives the number of faces with m sides */
+    uint16_t *faces_with,
+    /* how many entries it has */
+    size_t faces_with_space,
     /* receives the place of a refusal; not null */
     uint64_t *place);
 

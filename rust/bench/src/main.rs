@@ -7,7 +7,7 @@
 
 use std::time::{Duration, Instant};
 
-use mahunopi::{Mesh, NUMBERS_OF_A_CORNER};
+use mahunopi::{Mesh, NUMBERS_PER_CORNER};
 use reference::Lists;
 use shapes::{Places, Random, Solid, Tables};
 
@@ -96,7 +96,7 @@ struct Figures {
 
 fn measure(name: &str, tables: Tables, budget: Duration) -> Figures {
     let Tables { coordinates, sides, corners } = tables;
-    let mesh = Mesh { coordinates, sides, corners };
+    let mesh = Mesh::new(coordinates, sides, corners);
     let lists = Lists { coordinates: &mesh.coordinates, sides: &mesh.sides, corners: &mesh.corners };
     let count = mesh.corners.len();
     let accepted = "an accepted mesh";
@@ -112,7 +112,7 @@ fn measure(name: &str, tables: Tables, budget: Duration) -> Figures {
     assert!(links == plain, "{name}: the link tables differ");
 
     let build = |first: usize, count: usize| {
-        let mut outputs = [vec![0; NUMBERS_OF_A_CORNER * count], vec![0; NUMBERS_OF_A_CORNER * count]];
+        let mut outputs = [vec![0; NUMBERS_PER_CORNER * count], vec![0; NUMBERS_PER_CORNER * count]];
         let [library, plain] = &mut outputs;
         let pair = least(
             budget,

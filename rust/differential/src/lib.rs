@@ -3,7 +3,7 @@
 //! when the library is done, the lengths after a refusal.
 
 use mahunopi::raw;
-use reference::{Lengths, Lists, Refusal};
+use reference::{Counts, Lengths, Lists, Refusal, LENT_TOO_SHORT, MOST};
 use shapes::{Random, Tables};
 
 /// What `place` and the lengths hold before a call.
@@ -121,12 +121,7 @@ pub fn decode(bytes: &[u8], length: u64, spaces: [usize; 3], random: &mut Random
     };
     let result =
         reference::decode(bytes, length, &mut expected.coordinates, &mut expected.sides, &mut expected.corners);
-    // of a file shorter than its header of which more bytes are held, 01 does not say which of 1 to 3 it is
-    if length < 11 && bytes.len() >= 11 {
-        assert!((1..=3).contains(&number) && place == 0, "decoding answers {number} at {place}");
-    } else {
-        assert_eq!(answer(number, place), result.map(|_| ()), "decoding answers otherwise");
-    }
+    check_file_answer(bytes, length, number, place, &result);
     same("coordinates", &read.coordinates, &expected.coordinates);
     same("sides", &read.sides, &expected.sides);
     same("corners", &read.corners, &expected.corners);
@@ -140,6 +135,58 @@ pub fn decode(bytes: &[u8], length: u64, spaces: [usize; 3], random: &mut Random
     read.sides.truncate(sides);
     read.corners.truncate(corners);
     Ok(read)
+}
+
+/// Counting what the bytes hold as a file of `length` bytes, with lent lists of `spaces` entries.
+pub fn survey(bytes: &[u8], length: u64, spaces: [usize; 2], random: &mut Random) -> Result<Counts, Refusal> {
+    let mut lent = spaces.map(|space| (0..space).map(|_| random.bits() as u16).collect::<Vec<_>>());
+    let mut expected = lent.clone();
+    let mut place = UNTOUCHED;
+    let mut totals = [UNTOUCHED; 3];
+    let [vertices, faces, corners] = &mut totals;
+    let [vertices_with, faces_with] = &mut lent;
+    // SAFETY: each pointer goes with the length of its own list
+    let number = unsafe {
+        raw::mahunopi_survey(
+            bytes.as_ptr(),
+            bytes.len(),
+            length,
+            vertices,
+            faces,
+            corners,
+            vertices_with.as_mut_ptr(),
+            vertices_with.len(),
+            faces_with.as_mut_ptr(),
+            faces_with.len(),
+            &mut place,
+        )
+    };
+    let room = spaces.iter().all(|&space| space > MOST);
+    let short = Refusal { number: LENT_TOO_SHORT, place: MOST as u64 + 1 };
+    let result = reference::summary(bytes, length).and_then(|c| if room { Ok(c) } else { Err(short) });
+    let mut asked = [UNTOUCHED; 3];
+    if let Ok(counts) = &result {
+        asked = [counts.vertices, counts.faces, counts.corners].map(|count| count as u64);
+        for (m, &(vertices, faces)) in counts.by_number.iter().enumerate() {
+            expected[0][m] = vertices as u16;
+            expected[1][m] = faces as u16;
+        }
+    }
+    check_file_answer(bytes, length, number, place, &result);
+    assert_eq!(totals, asked, "surveying gives other counts");
+    same("vertices_with", &lent[0], &expected[0]);
+    same("faces_with", &lent[1], &expected[1]);
+    result
+}
+
+/// The library's answer about a file has to be the reference's.
+fn check_file_answer<T>(bytes: &[u8], length: u64, number: u32, place: u64, result: &Result<T, Refusal>) {
+    // of a file shorter than its header of which more bytes are held, 01 does not say which of 1 to 3 it is
+    if length < 11 && bytes.len() >= 11 {
+        assert!((1..=3).contains(&number) && place == 0, "the answer is {number} at {place}");
+    } else {
+        assert_eq!(answer(number, place), result.as_ref().map(|_| ()).map_err(|&refusal| refusal), "another answer");
+    }
 }
 
 /// Runs a check for each case number, and says which one failed. MAHUNOPI_CASES in the environment multiplies the

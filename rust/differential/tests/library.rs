@@ -1,8 +1,11 @@
 //! The proved library against the independent implementation, on meshes from fixed seeds.
 
-use differential::{build, decode, each_case, link, lists};
+use std::num::NonZeroUsize;
+
+use differential::{build, decode, each_case, link, lists, survey};
+use mahunopi::{build_all, MeshRef};
 use reference::conditions::{borders, BOUND};
-use reference::{encode, LENT_TOO_SHORT, NUMBERS_OF_A_CORNER};
+use reference::{encode, LENT_TOO_SHORT, NUMBERS_PER_CORNER};
 use shapes::{damage, random_tables, Places, Random, Solid, Tables, DAMAGES};
 
 /// Spaces that every file fits in.
@@ -12,7 +15,7 @@ const ENOUGH: [usize; 3] = [6_144, 4_096, 8_192];
 fn whole(tables: &Tables, random: &mut Random) -> Option<(Vec<u16>, Vec<i32>, [i64; 4])> {
     let corners = tables.corners.len();
     let links = link(tables, corners, random).ok()?;
-    let output = build(tables, &links, 0, corners, NUMBERS_OF_A_CORNER * corners, random).expect("an accepted mesh");
+    let output = build(tables, &links, 0, corners, NUMBERS_PER_CORNER * corners, random).expect("an accepted mesh");
     let found = borders(lists(tables), &output).expect("an accepted mesh");
     assert_eq!((found.met, found.split), (2 * corners, 0), "a common curve differs between two nets");
     assert!(found.largest.iter().all(|&miss| miss <= BOUND), "a condition is missed: {:?}", found.largest);
@@ -21,7 +24,7 @@ fn whole(tables: &Tables, random: &mut Random) -> Option<(Vec<u16>, Vec<i32>, [i
 
 /// Builds a range and compares it with the same range of the whole.
 fn range(tables: &Tables, links: &[u16], whole: &[i32], first: usize, count: usize, random: &mut Random) {
-    let numbers = NUMBERS_OF_A_CORNER * first..NUMBERS_OF_A_CORNER * (first + count);
+    let numbers = NUMBERS_PER_CORNER * first..NUMBERS_PER_CORNER * (first + count);
     let part = build(tables, links, first, count, numbers.len(), random).expect("a range of an accepted mesh");
     assert!(part == whole[numbers], "a range differs from the same corners of the whole");
 }
@@ -51,6 +54,7 @@ fn random_meshes_and_ranges() {
         let bytes = encode(lists(&tables));
         let read = decode(&bytes, bytes.len() as u64, ENOUGH, random).expect("the file of an accepted mesh");
         assert!(read == tables, "the file of a mesh reads otherwise");
+        survey(&bytes, bytes.len() as u64, [13, 13], random).expect("the file of an accepted mesh");
     });
     let ticks = largest.map(|miss| miss as f64 / (1u64 << 30) as f64);
     println!("accepted {accepted} meshes of {corners} corners; largest misses {ticks:.3?} of 13");
@@ -108,6 +112,11 @@ fn largest_meshes() {
             assert!(*corners == 0 || tables.corners.len() == *corners);
             let (links, output, _) = whole(&tables, &mut random).unwrap_or_else(|| panic!("mesh {number} is refused"));
             let end = links.len();
+            let mesh = MeshRef::new(&tables.coordinates, &tables.sides, &tables.corners);
+            for threads in 1..=5 {
+                let together = build_all(mesh, &links, NonZeroUsize::new(threads)).expect("an accepted mesh");
+                assert!(together == output, "mesh {number} differs on {threads} threads");
+            }
             for (first, count) in [(0, 1), (end - 1, 1), (end / 2 - 32, 64), (1, end - 1), (0, end - 1)] {
                 range(&tables, &links, &output, first, count, &mut random);
             }
@@ -225,6 +234,8 @@ fn damaged_files() {
             5 => sound as u64,
             _ => held,
         };
+        let spaces_with = [13, 13].map(|room| *random.pick(&[room, room, room, room, 0, room - 1, room + 1, 40]));
+        let _ = survey(&bytes, length, spaces_with, random);
         let answer = decode(&bytes, length, spaces, random);
         seen[answer.map_or_else(|refusal| refusal.number as usize, |_| 0)] += 1;
     });

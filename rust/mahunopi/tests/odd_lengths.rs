@@ -3,17 +3,13 @@
 
 use std::ptr::{null, null_mut};
 
-use mahunopi::{build, decode, link, raw, Mesh, Refusal};
+use mahunopi::{build, build_all, decode, link, raw, survey, survey_long, Fault, Mesh, MeshRef, Refusal};
 
 const BEYOND: usize = 1 << 32;
 const UNTOUCHED: u64 = 0x1234_5678_9abc_def0;
 
 fn cube() -> Mesh {
-    Mesh {
-        coordinates: vec![3, 3, 3, 3, -3, 3, -3, -3, 3, -3, 3, 3, 3, 3, -3, 3, -3, -3, -3, -3, -3, -3, 3, -3],
-        sides: vec![4; 6],
-        corners: vec![0, 1, 2, 3, 4, 7, 6, 5, 1, 0, 4, 5, 2, 1, 5, 6, 3, 2, 6, 7, 0, 3, 7, 4],
-    }
+    decode(include_bytes!("../../../meshes/cube.dms")).unwrap()
 }
 
 /// Linking of the cube with these lengths in the place of its own. Every list has its own entries only: a length that
@@ -212,11 +208,14 @@ fn files_of_odd_lengths() {
 
 #[test]
 fn safe_functions_on_odd_lengths() {
-    let refusal = |number: u32, place: u64| Refusal { number, place };
+    let refusal = |number: u32, place: u64| Refusal::new(Fault::of_number(number).unwrap(), place);
     let nothing = Mesh::default();
     assert_eq!(link(&nothing), Err(refusal(4, 0)));
     assert_eq!(build(&nothing, &[], 0, 0), Err(refusal(4, 0)));
+    assert_eq!(build_all(&nothing, &[], None), Err(refusal(4, 0)));
     assert_eq!(decode(&[]), Err(refusal(1, 0)));
+    assert_eq!(survey(&[]), Err(refusal(1, 0)));
+    assert_eq!(survey_long(b"DMS", u64::MAX), Err(refusal(1, 0)));
     let mesh = cube();
     let links = link(&mesh).unwrap();
     assert_eq!(build(&mesh, &links, 0, 0), Err(refusal(16, 0)));
@@ -225,16 +224,7 @@ fn safe_functions_on_odd_lengths() {
         assert_eq!(build(&mesh, &links, far, 1), Err(refusal(16, far as u64)));
         assert_eq!(build(&mesh, &links, far, far), Err(refusal(16, far as u64)));
     }
-    let many = Mesh { corners: vec![0; 8_193], ..cube() };
-    assert_eq!(link(&many), Err(refusal(4, 0)));
-    assert_eq!(build(&many, &links, 0, 8_193), Err(refusal(4, 0)));
-}
-
-#[test]
-fn every_number_has_words() {
-    for number in 1..=17 {
-        let words = Refusal { number, place: 5 }.to_string();
-        assert!(words.starts_with(&format!("refused by {number}: ")) && !words.contains("no such number"));
-        assert_eq!(words.contains("is 5)"), number > 4, "{words}");
-    }
+    let many = MeshRef::new(&mesh.coordinates, &mesh.sides, &[0; 8_193]);
+    assert_eq!(link(many), Err(refusal(4, 0)));
+    assert_eq!(build(many, &links, 0, 8_193), Err(refusal(4, 0)));
 }

@@ -2,7 +2,7 @@
 
 use crate::cosines::ONE;
 use crate::surface::{nets, row_of, Point, NEIGHBOURS_SIDE};
-use crate::{Lists, Refusal, NUMBERS_OF_A_CORNER};
+use crate::{Lists, Refusal, NUMBERS_PER_CORNER};
 
 /// What 01 allows, over 2^30.
 pub const BOUND: i64 = 13 * ONE;
@@ -30,8 +30,8 @@ fn grids(numbers: &[i32]) -> ([[Point; 5]; 5], [[Point; 4]; 4]) {
 /// The borders of an accepted mesh; `output` holds the control points of all its corners.
 pub fn borders(lists: Lists, output: &[i32]) -> Result<Borders, Refusal> {
     let nets = nets(lists)?;
-    assert_eq!(output.len(), NUMBERS_OF_A_CORNER * nets.len());
-    let numbers = |corner: usize| &output[NUMBERS_OF_A_CORNER * corner..][..NUMBERS_OF_A_CORNER];
+    assert_eq!(output.len(), NUMBERS_PER_CORNER * nets.len());
+    let numbers = |corner: usize| &output[NUMBERS_PER_CORNER * corner..][..NUMBERS_PER_CORNER];
     let mut found = Borders::default();
     for (corner, net) in nets.iter().enumerate() {
         let (b, a) = grids(numbers(corner));

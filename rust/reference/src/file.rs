@@ -3,7 +3,7 @@
 use std::fmt::Write;
 
 use crate::check::{check_mesh, links_of};
-use crate::surface::{build, NUMBERS_OF_A_CORNER};
+use crate::surface::{build, NUMBERS_PER_CORNER};
 use crate::{refuse, Lists, Refusal, MAX_CORNERS, MAX_FACES, MAX_VERTICES, MOST};
 
 const HEADER: usize = 11;
@@ -139,11 +139,11 @@ pub fn patches(bytes: &[u8]) -> String {
     };
     let lists = Lists { coordinates: &held.coordinates, sides: &held.sides, corners: &held.corners };
     let count = held.corners.len();
-    let mut output = vec![0; NUMBERS_OF_A_CORNER * count];
+    let mut output = vec![0; NUMBERS_PER_CORNER * count];
     let built = links_of(lists).and_then(|links| build(lists, &links, 0, count, &mut output));
     built.expect("a file without a fault has a mesh without a fault");
     let mut text = String::new();
-    for (corner, numbers) in output.chunks_exact(NUMBERS_OF_A_CORNER).enumerate() {
+    for (corner, numbers) in output.chunks_exact(NUMBERS_PER_CORNER).enumerate() {
         writeln!(text, "corner {corner}").expect("a string takes every line");
         for point in numbers.chunks_exact(3) {
             writeln!(text, "{} {} {}", point[0], point[1], point[2]).expect("a string takes every line");

@@ -11,7 +11,7 @@ mod surface;
 pub use check::{check, link, links_of};
 pub use cosines::cosine;
 pub use file::{decode, encode, inspect, patches, summary, Counts, Lengths, LENT_TOO_SHORT};
-pub use surface::{build, nets, round, Net, Point, NUMBERS_OF_A_CORNER};
+pub use surface::{build, nets, round, Net, Point, NUMBERS_PER_CORNER};
 
 /// The most vertices, faces and corners that a mesh may have.
 pub const MAX_VERTICES: usize = 2_048;

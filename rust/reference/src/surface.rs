@@ -10,7 +10,7 @@ pub type Point = [i64; 3];
 /// A tick is 1/256 of a grid step.
 const TICKS: i64 = 256;
 /// 25 b points and 16 a points of three numbers each.
-pub const NUMBERS_OF_A_CORNER: usize = 3 * (25 + 16);
+pub const NUMBERS_PER_CORNER: usize = 3 * (25 + 16);
 
 /// The nearest whole number to a fraction with a positive denominator, halves towards plus infinity.
 #[inline(always)]
@@ -300,11 +300,11 @@ pub fn build(lists: Lists, links: &[u16], first: usize, count: usize, output: &m
     if count == 0 || first > table.len() || count > table.len() - first {
         return refuse(16, first);
     }
-    if output.len() != NUMBERS_OF_A_CORNER * count {
+    if output.len() != NUMBERS_PER_CORNER * count {
         return refuse(17, output.len());
     }
     let mut surface = Surface::new(lists, order, table);
-    for (corner, written) in (first..).zip(output.chunks_exact_mut(NUMBERS_OF_A_CORNER)) {
+    for (corner, written) in (first..).zip(output.chunks_exact_mut(NUMBERS_PER_CORNER)) {
         let (b, a) = control_points(&surface.net(corner));
         let points = b.iter().flatten().chain(a.iter().flatten());
         for (numbers, point) in written.chunks_exact_mut(3).zip(points) {

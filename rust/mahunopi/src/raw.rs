@@ -1,0 +1,62 @@
+//! The library's own functions, as include/mahunopi.h declares and explains them.
+
+extern "C" {
+    /// Linking.
+    pub fn mahunopi_link(
+        coordinates: *const i32,
+        coordinate_count: usize,
+        sides: *const u8,
+        side_count: usize,
+        corners: *const u16,
+        corner_count: usize,
+        links: *mut u16,
+        link_count: usize,
+        place: *mut u64,
+    ) -> u32;
+    /// Building.
+    pub fn mahunopi_build(
+        coordinates: *const i32,
+        coordinate_count: usize,
+        sides: *const u8,
+        side_count: usize,
+        corners: *const u16,
+        corner_count: usize,
+        links: *const u16,
+        link_count: usize,
+        first: usize,
+        count: usize,
+        output: *mut i32,
+        output_count: usize,
+        place: *mut u64,
+    ) -> u32;
+    /// Reading the lists of a .dms file.
+    pub fn mahunopi_decode(
+        bytes: *const u8,
+        byte_count: usize,
+        length: u64,
+        coordinates: *mut i32,
+        coordinate_space: usize,
+        sides: *mut u8,
+        side_space: usize,
+        corners: *mut u16,
+        corner_space: usize,
+        coordinate_count: *mut u64,
+        side_count: *mut u64,
+        corner_count: *mut u64,
+        place: *mut u64,
+    ) -> u32;
+    /// Reading the counts of a .dms file.
+    pub fn mahunopi_survey(
+        bytes: *const u8,
+        byte_count: usize,
+        length: u64,
+        vertices: *mut u64,
+        faces: *mut u64,
+        corners: *mut u64,
+        vertices_with: *mut u16,
+        vertices_with_space: usize,
+        faces_with: *mut u16,
+        faces_with_space: usize,
+        place: *mut u64,
+    ) -> u32;
+}

@@ -1,0 +1,128 @@
+//! Why an input is turned down: a fault's number, its words, and the place.
+
+use std::fmt;
+
+/// Declares the faults: name, number, words, and what the place is where it is not always 0.
+macro_rules! faults {
+    ($($name:ident = $number:literal, $words:literal, $place:expr;)*) => {
+        /// The faults that an input is turned down for, each with its number. A file is checked by 1 to 13, linking by
+        /// 4 to 14, building by 4 to 17, each over the whole input before the next.
+        #[derive(Clone, Copy, Debug, PartialEq, Eq, PartialOrd, Ord, Hash)]
+        #[non_exhaustive]
+        pub enum Fault {
+            $(#[doc = $words] $name = $number,)*
+        }
+
+        impl Fault {
+            /// All of them, by rising number.
+            pub const ALL: &'static [Fault] = &[$(Fault::$name),*];
+
+            /// What is wrong, in one line.
+            pub fn words(self) -> &'static str {
+                match self {
+                    $(Fault::$name => $words,)*
+                }
+            }
+
+            /// What the place of such a refusal is; none where it is always 0.
+            pub fn place(self) -> Option<&'static str> {
+                match self {
+                    $(Fault::$name => $place,)*
+                }
+            }
+        }
+    };
+}
+
+faults! {
+    BadMark = 1, "the file has fewer than 11 bytes or another mark than DMS", None;
+    BadVersion = 2, "the file's version is not 1", None;
+    BadFileLength = 3, "the file's length is not 11 + 12 times vertices + faces + 2 times corners", None;
+    BadCounts = 4, "no vertices or above 2,048, no faces or above 4,096, no corners or above 8,192, or a coordinate list whose length is no multiple of three", None;
+    BadSideCount = 5, "a side count is outside 3 to 12", Some("the face");
+    BadSideSum = 6, "the side counts do not sum to the corner count", Some("the sum");
+    BadCoordinate = 7, "a coordinate is outside -65,536 to 65,536", Some("its position in the list");
+    NoSuchVertex = 8, "a corner names a vertex not below the vertex count", Some("the corner");
+    VertexTwiceInFace = 9, "a corner names the vertex of an earlier corner of its face", Some("the later corner");
+    EdgeTwice = 10, "a leaving edge, with its direction, already left an earlier corner", Some("the later corner");
+    EdgeWithoutReverse = 11, "a leaving edge has no reverse among the leaving edges", Some("the corner");
+    BadCornersOfVertex = 12, "a vertex is named by fewer than 3 or more than 12 corners", Some("the vertex");
+    CornerNotMet = 13, "a vertex has a corner not met when following links from its lowest corner until that corner comes back", Some("the vertex");
+    BadLinkTableLength = 14, "the link table's length is not the corner count", Some("its length");
+    BadLink = 15, "the link table differs from what linking writes", Some("the corner");
+    BadRange = 16, "the count asked is 0, or the first corner plus the count exceeds the corner count", Some("the first corner");
+    BadOutputLength = 17, "the output's length is not 123 times the count", Some("its length");
+    LentTooShort = 255, "a lent list is too short for what the file holds", Some("the length it needs");
+}
+
+impl Fault {
+    /// The number that the library answers.
+    pub fn number(self) -> u32 {
+        self as u32
+    }
+
+    /// The fault of a number, where there is one.
+    ///
+    /// ```
+    /// use mahunopi::Fault;
+    ///
+    /// assert_eq!(Fault::of_number(12), Some(Fault::BadCornersOfVertex));
+    /// assert_eq!(Fault::of_number(0), None);
+    /// ```
+    pub fn of_number(number: u32) -> Option<Fault> {
+        Fault::ALL.iter().copied().find(|fault| fault.number() == number)
+    }
+}
+
+/// A refusal: what is wrong, and the lowest place where it is.
+///
+/// ```
+/// use mahunopi::{link, Fault, MeshRef};
+///
+/// // two triangles back to back
+/// let refusal = link(MeshRef::new(&[0; 9], &[3, 3], &[0, 1, 2, 0, 2, 1])).unwrap_err();
+/// assert_eq!((refusal.fault, refusal.place), (Fault::BadCornersOfVertex, 0));
+/// assert_eq!(
+///     refusal.to_string(),
+///     "refused by 12: a vertex is named by fewer than 3 or more than 12 corners (the vertex is 0)"
+/// );
+/// ```
+#[derive(Clone, Copy, Debug, PartialEq, Eq)]
+#[non_exhaustive]
+pub struct Refusal {
+    pub fault: Fault,
+    pub place: u64,
+}
+
+impl Refusal {
+    pub fn new(fault: Fault, place: u64) -> Refusal {
+        Refusal { fault, place }
+    }
+
+    /// The fault's number.
+    pub fn number(self) -> u32 {
+        self.fault.number()
+    }
+}
+
+impl fmt::Display for Refusal {
+    fn fmt(&self, out: &mut fmt::Formatter<'_>) -> fmt::Result {
+        write!(out, "refused by {}: {}", self.number(), self.fault.words())?;
+        match self.fault.place() {
+            Some(name) => write!(out, " ({name} is {})", self.place),
+            None => Ok(()),
+        }
+    }
+}
+
+impl std::error::Error for Refusal {}
+
+/// The library's answer as a result.
+pub(crate) fn answer(number: u32, place: u64) -> Result<(), Refusal> {
+    if number == 0 {
+        return Ok(());
+    }
+    // the library's contract allows no other number
+    let fault = Fault::of_number(number).expect("libmahunopi.a is of another version than this wrapper");
+    Err(Refusal { fault, place })
+}

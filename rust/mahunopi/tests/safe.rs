@@ -1,0 +1,174 @@
+//! The safe wrapper by itself: faults and their words, borrowed meshes, threads, counts, and the stack that a call needs.
+
+use std::num::NonZeroUsize;
+use std::thread;
+
+use mahunopi::{
+    build, build_all, build_into, decode, link, link_into, survey, survey_long, Fault, Mesh, MeshRef, Refusal,
+    CALL_STACK, MAX_SIDES, NUMBERS_PER_CORNER,
+};
+
+const CUBE: &[u8] = include_bytes!("../../../meshes/cube.dms");
+const TORUS: &[u8] = include_bytes!("../../../meshes/torus.dms");
+
+/// A torus of p times q four-sided faces, flat: only its lists matter here.
+fn torus(p: usize, q: usize) -> Mesh {
+    let at = |i: usize, j: usize| ((i % p) * q + j % q) as u16;
+    let coordinates = (0..p * q).flat_map(|v| [(v / q) as i32, (v % q) as i32, (v % 7) as i32]).collect();
+    let corners = (0..p * q)
+        .map(|f| (f / q, f % q))
+        .flat_map(|(i, j)| [at(i, j), at(i, j + 1), at(i + 1, j + 1), at(i + 1, j)])
+        .collect();
+    Mesh::new(coordinates, vec![4; p * q], corners)
+}
+
+fn file_of(mesh: &Mesh) -> Vec<u8> {
+    let mut bytes = b"DMS".to_vec();
+    for count in [1, mesh.coordinates.len() / 3, mesh.sides.len(), mesh.corners.len()] {
+        bytes.extend((count as u16).to_le_bytes());
+    }
+    bytes.extend(mesh.coordinates.iter().flat_map(|c| c.to_le_bytes()));
+    bytes.extend(&mesh.sides);
+    bytes.extend(mesh.corners.iter().flat_map(|v| v.to_le_bytes()));
+    bytes
+}
+
+#[test]
+fn every_fault_has_a_number_and_one_line_of_words() {
+    let numbers: Vec<u32> = Fault::ALL.iter().map(|fault| fault.number()).collect();
+    assert_eq!(numbers, (1..=17).chain([255]).collect::<Vec<u32>>());
+    for &fault in Fault::ALL {
+        assert_eq!(Fault::of_number(fault.number()), Some(fault));
+        assert!(!fault.words().is_empty() && !fault.words().contains('\n'));
+        let line = Refusal::new(fault, 5).to_string();
+        assert!(line.starts_with(&format!("refused by {}: {}", fault.number(), fault.words())) && !line.contains('\n'));
+        assert_eq!(line.ends_with("is 5)"), fault.place().is_some(), "{line}");
+        assert_eq!(fault.place().is_some(), fault.number() > 4, "{line}");
+    }
+    for number in [0, 18, 254, 256, u32::MAX] {
+        assert_eq!(Fault::of_number(number), None);
+    }
+}
+
+/// The header and the wrapper name the same numbers in the same way, and have the same limits.
+#[test]
+fn the_header_has_the_same_names() {
+    let header = include_str!("../../../include/mahunopi.h");
+    for &fault in Fault::ALL {
+        let mut name = String::new();
+        for letter in format!("{fault:?}").chars() {
+            if letter.is_uppercase() && !name.is_empty() {
+                name.push('_');
+            }
+            name.push(letter.to_ascii_uppercase());
+        }
+        let entry = format!("MAHUNOPI_{name} = {}", fault.number());
+        assert!(header.contains(&entry), "the header has no `{entry}`");
+    }
+    let limits = [
+        ("MAX_VERTICES", mahunopi::MAX_VERTICES),
+        ("MAX_FACES", mahunopi::MAX_FACES),
+        ("MAX_CORNERS", mahunopi::MAX_CORNERS),
+        ("MAX_SIDES", MAX_SIDES),
+        ("NUMBERS_PER_CORNER", NUMBERS_PER_CORNER),
+        ("CALL_STACK", CALL_STACK),
+    ];
+    for (name, limit) in limits {
+        let line = format!("#define MAHUNOPI_{name} {limit}\n");
+        assert!(header.contains(&line), "the header has no `{}`", line.trim());
+    }
+}
+
+#[test]
+fn a_borrowed_mesh_is_the_owned_one() {
+    let mesh = decode(CUBE).unwrap();
+    let view = MeshRef::new(&mesh.coordinates, &mesh.sides, &mesh.corners);
+    assert_eq!((view, view.to_mesh()), (mesh.view(), mesh.clone()));
+    let links = link(view).unwrap();
+    assert_eq!(link(&mesh), Ok(links.clone()));
+    assert_eq!(build(view, &links, 3, 4), build(&mesh, &links, 3, 4));
+    let mut table = vec![0; 24];
+    link_into(view, &mut table).unwrap();
+    assert_eq!(table, links);
+    let mut output = vec![0; NUMBERS_PER_CORNER];
+    build_into(view, &links, 7, 1, &mut output).unwrap();
+    assert_eq!(Ok(output), build(&mesh, &links, 7, 1));
+}
+
+#[test]
+fn threads_build_the_same_numbers() {
+    for (p, q) in [(3, 4), (11, 12), (16, 32), (23, 29), (32, 64)] {
+        let mesh = torus(p, q);
+        let links = link(&mesh).unwrap();
+        let whole = build(&mesh, &links, 0, mesh.corners.len()).unwrap();
+        for threads in [1, 2, 3, 7, 16, 1_000] {
+            assert!(build_all(&mesh, &links, NonZeroUsize::new(threads)).unwrap() == whole, "{p} {q} {threads}");
+        }
+        assert!(build_all(&mesh, &links, None).unwrap() == whole);
+    }
+}
+
+#[test]
+fn threads_answer_the_same_refusal() {
+    let mesh = torus(32, 64);
+    let links = link(&mesh).unwrap();
+    let many = NonZeroUsize::new(4);
+    let mut wrong = links.clone();
+    wrong[7_000] ^= 1;
+    assert_eq!(build_all(&mesh, &wrong, many), Err(Refusal::new(Fault::BadLink, 7_000)));
+    assert_eq!(build_all(&mesh, &links[1..], many), Err(Refusal::new(Fault::BadLinkTableLength, 8_191)));
+    let mut beyond = mesh.clone();
+    beyond.coordinates[100] = 65_537;
+    assert_eq!(build_all(&beyond, &links, many), Err(Refusal::new(Fault::BadCoordinate, 100)));
+    beyond.corners.push(0);
+    assert_eq!(build_all(&beyond, &links, many), Err(Refusal::new(Fault::BadCounts, 0)));
+}
+
+#[test]
+fn counts_of_files() {
+    let counts = survey(TORUS).unwrap();
+    assert_eq!((counts.vertices, counts.faces, counts.corners), (96, 96, 384));
+    for m in 0..=MAX_SIDES + 3 {
+        let asked = if m == 4 { 96 } else { 0 };
+        assert_eq!((counts.vertices_with(m), counts.faces_with(m)), (asked, asked));
+    }
+    assert_eq!(survey(CUBE).unwrap().to_string(), "mesh 8 6 24\n3 8 0\n4 0 6\n");
+    assert_eq!(survey_long(CUBE, 1 << 40), Err(Refusal::new(Fault::BadFileLength, 0)));
+    assert_eq!(survey(&CUBE[..100]), Err(Refusal::new(Fault::BadFileLength, 0)));
+    assert_eq!(survey(&CUBE[1..]), Err(Refusal::new(Fault::BadMark, 0)));
+}
+
+/// Each call on a largest mesh, on a thread with the stack that the header names.
+#[test]
+fn the_stack_that_a_call_needs() {
+    let mesh = torus(32, 64);
+    let bytes = file_of(&mesh);
+    let whole = vec![0; NUMBERS_PER_CORNER * 8_192];
+    let call = move || {
+        let links = link(&mesh).unwrap();
+        let mut output = whole;
+        build_into(&mesh, &links, 0, 8_192, &mut output).unwrap();
+        assert!(decode(&bytes).unwrap() == mesh);
+        assert_eq!(survey(&bytes).unwrap().corners, 8_192);
+    };
+    thread::Builder::new().stack_size(CALL_STACK).spawn(call).unwrap().join().unwrap();
+}
+
+#[test]
+fn calls_run_at_the_same_time() {
+    let mesh = torus(23, 29);
+    let links = link(&mesh).unwrap();
+    let whole = build(&mesh, &links, 0, links.len()).unwrap();
+    thread::scope(|scope| {
+        for start in 0..8 {
+            let (mesh, links, whole) = (&mesh, &links, &whole);
+            scope.spawn(move || {
+                for first in (start..links.len()).step_by(97) {
+                    let part = build(mesh, links, first, 1).unwrap();
+                    assert!(part == whole[NUMBERS_PER_CORNER * first..][..NUMBERS_PER_CORNER]);
+                    assert!(&link(mesh).unwrap() == links);
+                }
+            });
+        }
+    });
+}
