@@ -1,8 +1,22 @@
-// A walk over the corners of a mesh: a walker by value whose methods return the moved walker.
-// It steps by the tables of next corners, of previous corners and of links.
+// A walk over the corners of a mesh: a walker by value whose methods return the moved walker. It steps by the table of corners, which has
+// a row for each corner: its next, previous and linked corner, the sides of its face and the corners of its vertex.
 ghost use mathlib.Core.Path.{_≡_};
-ghost use Prim.Native.Nat.{_<_};
-ghost use lib.ListN.{length, getD};
+ghost use Prim.Native.Nat.{_+_, _*_, _<_};
+ghost use lib.ListN.{length};
+ghost use Rattle.walk.specs.Table.{rowLength, toNext, toPrevious, toLink, sidesHere, valenceHere, entry, Led};
+
+// The numbers in a row, and where each stands.
+pub const ROW: usize = 5;
+
+pub const NEXT: usize = 0;
+
+pub const PREVIOUS: usize = 1;
+
+pub const LINK: usize = 2;
+
+pub const SIDES: usize = 3;
+
+pub const VALENCE: usize = 4;
 
 // A walker stands at a corner.
 pub struct Walker {
@@ -11,39 +25,55 @@ pub struct Walker {
 
 impl Walker {
     // To the next corner of the face.
-    pub fn next(self, nexts: &[u16]) -> Walker
-        requires { ⌜ self .corner < length (now nexts) ⌝ }
-        ensures { λ r. ⌜ r .corner ≡ getD (now (nexts .entry)) (self .corner) 0 ⌝ }
+    pub fn next(self, table: &[u16]) -> Walker
+        requires { ⌜ rowLength * self .corner + toNext < length (now table) ⌝ }
+        ensures { λ r. ⌜ Led (now (table .entry)) toNext (λ K. K .next) (self .corner) (r .corner) ⌝ }
     {
-        let to = entry(nexts, self.corner);
+        let to = read(table, self.corner, NEXT);
         Walker { corner: to }
     }
 
     // To the previous corner of the face.
-    pub fn previous(self, previouses: &[u16]) -> Walker
-        requires { ⌜ self .corner < length (now previouses) ⌝ }
-        ensures { λ r. ⌜ r .corner ≡ getD (now (previouses .entry)) (self .corner) 0 ⌝ }
+    pub fn previous(self, table: &[u16]) -> Walker
+        requires { ⌜ rowLength * self .corner + toPrevious < length (now table) ⌝ }
+        ensures { λ r. ⌜ Led (now (table .entry)) toPrevious (λ K. K .previous) (self .corner) (r .corner) ⌝ }
     {
-        let to = entry(previouses, self.corner);
+        let to = read(table, self.corner, PREVIOUS);
         Walker { corner: to }
     }
 
     // To the linked corner of the vertex.
-    pub fn linked(self, links: &[u16]) -> Walker
-        requires { ⌜ self .corner < length (now links) ⌝ }
-        ensures { λ r. ⌜ r .corner ≡ getD (now (links .entry)) (self .corner) 0 ⌝ }
+    pub fn linked(self, table: &[u16]) -> Walker
+        requires { ⌜ rowLength * self .corner + toLink < length (now table) ⌝ }
+        ensures { λ r. ⌜ Led (now (table .entry)) toLink (λ K. K .link) (self .corner) (r .corner) ⌝ }
     {
-        let to = entry(links, self.corner);
+        let to = read(table, self.corner, LINK);
         Walker { corner: to }
+    }
+
+    // How many sides the face of the corner has.
+    pub fn sides(self, table: &[u16]) -> usize
+        requires { ⌜ rowLength * self .corner + sidesHere < length (now table) ⌝ }
+        ensures { λ r. ⌜ Led (now (table .entry)) sidesHere (λ K. K .sides) (self .corner) r ⌝ }
+    {
+        read(table, self.corner, SIDES)
+    }
+
+    // How many corners the vertex of the corner has.
+    pub fn valence(self, table: &[u16]) -> usize
+        requires { ⌜ rowLength * self .corner + valenceHere < length (now table) ⌝ }
+        ensures { λ r. ⌜ Led (now (table .entry)) valenceHere (λ K. K .valence) (self .corner) r ⌝ }
+    {
+        read(table, self.corner, VALENCE)
     }
 }
 
-// What a table holds for a corner.
-fn entry(table: &[u16], corner: usize) -> usize
-    requires { ⌜ corner < length (now table) ⌝ }
-    ensures { λ r. ⌜ r ≡ getD (now (table .entry)) corner 0 ⌝ }
+// What stands in a column for a corner.
+fn read(table: &[u16], corner: usize, column: usize) -> usize
+    requires { ⌜ rowLength * corner + column < length (now table) ⌝ }
+    ensures { λ r. ⌜ r ≡ entry (now (table .entry)) column corner ⌝ }
 {
-    wide(table[corner])
+    wide(table[ROW * corner + column])
 }
 
 fn wide(x: u16) -> usize
