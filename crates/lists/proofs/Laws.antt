@@ -4,7 +4,7 @@ use mathlib.Core.Path.{_≡_, ap, _∙_, sym}
 use mathlib.Core.Bool.{true, false, not}
 use mathlib.Core.Logic.{⊎-elim}
 use mathlib.Core.List.{List}
-use Prim.Native.Nat.{ℕ, _+_, _-_, _/_, _%_, _^_, _<_, _≤_}
+use Prim.Native.Nat.{ℕ, _+_, _-_, _*_, _/_, _%_, _^_, _<_, _≤_}
 use native.Mathlib.Omega.{arith}
 use lib.Dec.{ltb, eqb}
 use lib.ListN.{length, getD, set}
@@ -23,8 +23,10 @@ use Rattle.mesh.proofs.Ranges.{or-left, or-right, or-none}
 use Rattle.mesh.proofs.Scans.{ways, some-true, some-false, fails-step}
 use Rattle.mesh.proofs.Faces.{face-at}
 use Rattle.mesh.proofs.Verdicts.{single-hit, single-miss, lowest-hit}
-use Rattle.tables.specs.Filled.{Blank, lastBelow, HeadsTo}
-use Rattle.tables.proofs.Laws.{last-le, last-passes, last-above, heads-step, heads-none}
+use Rattle.walk.specs.Table.{rowLength, valenceHere, entry, Blank}
+use Rattle.tables.specs.Vertices.{lastHere}
+use Rattle.tables.specs.Chain.{lastBelow}
+use Rattle.tables.proofs.Chains.{last-le, last-passes, last-above, ChainsTo, chains-none, chains-step, last-is}
 
 -- the lengths
 module _ (n f c : ℕ) where
@@ -100,33 +102,39 @@ module _ (first : ℕ) (corners : List ℕ) (c last : ℕ) (e : last ≡ lastBel
       from-first d k ∙ last-above (names corners (vertexOf corners c)) c d (omega (arith, e)) l)
       (ways (ltb d first)))
 
--- check 9 before corner c: the last corner of each vertex, and no fault
-pub record Passed (sides corners lasts : List ℕ) (c : ℕ) : Type 0 where
-  pub lasts-are : HeadsTo corners lasts c
+-- check 9 before corner c: the chains of the vertices, and no fault
+pub record Passed (sides corners table vertices : List ℕ) (c : ℕ) : Type 0 where
+  pub chains : ChainsTo corners table vertices c
   pub faultless : (j : ℕ) → j < c → fault9 sides corners j ≡ false
 
-pub passed-none : (sides corners lasts : List ℕ) → Blank lasts → Passed sides corners lasts 0
-passed-none sides corners lasts z = record { lasts-are = heads-none corners lasts z; faultless = λ j l. absurd (omega arith) }
+pub passed-none : (sides corners table vertices : List ℕ) → Blank vertices → Passed sides corners table vertices 0
+passed-none sides corners table vertices z = record { chains = chains-none corners table vertices z; faultless = λ j l. absurd (omega arith) }
 
 -- a corner of face f, whose first corner is where the face starts
-module _ (sides corners lasts : List ℕ) (f c start : ℕ) (l : f < length sides) (s : start ≡ startOf sides f)
-    (h : start ≤ c) (k : c < start + getD sides f 0) (p : Passed sides corners lasts c) (b : vertexOf corners c < length lasts) where
+module _ (sides corners table vertices : List ℕ) (f c start : ℕ) (l : f < length sides) (s : start ≡ startOf sides f)
+    (h : start ≤ c) (k : c < start + getD sides f 0) (p : Passed sides corners table vertices c) where
   in-face : fault9 sides corners c ≡ someBelow c (sameVertexFrom start corners c)
   unfolding fault9 firstOf
   in-face =
       ap (λ (x : ℕ). someBelow c (sameVertexFrom (startOf sides x) corners c)) (face-at sides f c (omega arith) (omega arith) l)
       ∙ ap (λ (x : ℕ). someBelow c (sameVertexFrom x corners c)) (sym s)
 
-  last-is : getD lasts (vertexOf corners c) 0 ≡ lastBelow c (names corners (vertexOf corners c))
-  unfolding HeadsTo
-  last-is = p .lasts-are (vertexOf corners c) b
+  met : entry vertices lastHere (vertexOf corners c) ≡ lastBelow c (names corners (vertexOf corners c))
+  met = last-is corners table vertices c (p .chains)
 
-  pub doubled : c < length corners → start < getD lasts (vertexOf corners c) 0 → lowestOf 9 (length corners) (fault9 sides corners) ≡ fault 9 c
-  doubled i q = lowest-hit 9 (length corners) (fault9 sides corners) c i (in-face ∙ repeated start corners c _ last-is q) (p .faultless)
+  pub doubled : c < length corners → start < entry vertices lastHere (vertexOf corners c) → lowestOf 9 (length corners) (fault9 sides corners) ≡ fault 9 c
+  doubled i q = lowest-hit 9 (length corners) (fault9 sides corners) c i (in-face ∙ repeated start corners c _ met q) (p .faultless)
 
-  pub passed-step : getD lasts (vertexOf corners c) 0 ≤ start → Passed sides corners (set lasts (vertexOf corners c) (c + 1)) (c + 1)
-  passed-step q =
+  pub passed-step : rowLength * c + valenceHere < length table → rowLength * vertexOf corners c + lastHere < length vertices
+      → entry vertices lastHere (vertexOf corners c) ≤ start
+      → Passed sides corners (set table (rowLength * c + valenceHere) (entry vertices lastHere (vertexOf corners c)))
+      (set vertices (rowLength * vertexOf corners c + lastHere) (c + 1)) (c + 1)
+  passed-step ht hv q =
       record {
-        lasts-are = heads-step corners lasts c (p .lasts-are) b;
-        faultless = fails-step (fault9 sides corners) c (p .faultless) (in-face ∙ unrepeated start corners c _ last-is q);
+        chains = chains-step corners table vertices c (p .chains) ht hv;
+        faultless = fails-step (fault9 sides corners) c (p .faultless) (in-face ∙ unrepeated start corners c _ met q);
       }
+
+-- a refusal is no pass
+pub refused-not : {A : Type 0} (k p : ℕ) → fault k p ≡ sound → A
+refused-not k p e = let z : _≡_ {A = ℕ} 0 1 = cc in absurd (omega arith)

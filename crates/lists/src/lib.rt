@@ -6,14 +6,18 @@ use paper::MOST_CORNERS;
 use paper::MOST_FACES;
 use paper::MOST_SIDES;
 use paper::MOST_VERTICES;
+use tables::LAST;
+use walk::ROW;
+use walk::VALENCE;
 ghost use mathlib.Core.Path.{_≡_};
-ghost use Prim.Native.Nat.{_≤_};
+ghost use Prim.Native.Nat.{_*_, _≤_};
 ghost use lib.ListN.{length};
 ghost use Rattle.paper.specs.Mesh.{mostFaces, mostCorners};
 ghost use Rattle.paper.specs.Corners.{sumOf};
-ghost use Rattle.paper.specs.Faults.{single, lowestOf, fault4, fault5, fault6, fault7, fault8, fault9, stated};
-ghost use Rattle.mesh.specs.Tables.{Named};
-ghost use Rattle.tables.specs.Filled.{Blank};
+ghost use Rattle.paper.specs.Faults.{sound, single, lowestOf, fault4, fault5, fault6, fault7, fault8, fault9, stated};
+ghost use Rattle.walk.specs.Table.{rowLength, Blank};
+ghost use Rattle.tables.specs.Vertices.{Rowed};
+ghost use Rattle.tables.specs.Chain.{Ready};
 
 // Check 4, of the lists' lengths.
 pub fn check_lengths(coordinates: usize, faces: usize, corners: usize) -> Answer
@@ -97,12 +101,14 @@ pub fn check_names(vertices: usize, corners: &[u16]) -> Answer
     Answer::Done
 }
 
-// Check 9: no corner names the vertex of an earlier corner of its face. `lasts` holds one more than the last corner met of each vertex:
-// that corner is in the face if the entry is above the face's first corner.
-pub fn check_faces(sides: &[u8], corners: &[u16], lasts: &mut [u16]) -> Answer
+// Check 9: no corner names the vertex of an earlier corner of its face. The table of vertices holds one more than the last corner met of
+// each vertex: that corner is in the face if the entry is above the face's first corner. It is kept for the corner, so that the corners
+// of a vertex form a falling chain. A refused mesh leaves the two tables with any contents.
+pub fn check_faces(sides: &[u8], corners: &[u16], table: &mut [u16], vertices: &mut [u16]) -> Answer
     requires mesh { ⌜ (sumOf (now sides) ≡ length (now corners)) × (length (now corners) ≤ mostCorners) ⌝ }
-    requires room { ⌜ Named (now corners) (length (now lasts)) × Blank (now lasts) ⌝ }
-    ensures { λ r. ⌜ stated r ≡ lowestOf 9 (length (now (corners .entry))) (fault9 (now (sides .entry)) (now (corners .entry))) ⌝ }
+    requires room { ⌜ (rowLength * length (now corners) ≤ length (now table)) × Rowed (now corners) (now vertices) × Blank (now vertices) ⌝ }
+    ensures answer { λ r. ⌜ stated r ≡ lowestOf 9 (length (now (corners .entry))) (fault9 (now (sides .entry)) (now (corners .entry))) ⌝ }
+    ensures chains { λ r. ⌜ (stated r ≡ sound → Ready (now (corners .entry)) (now (table .exit)) (now (vertices .exit))) ⌝ }
 {
     let mut start = 0;
     let mut f = 0;
@@ -112,11 +118,12 @@ pub fn check_faces(sides: &[u8], corners: &[u16], lasts: &mut [u16]) -> Answer
         let mut c = start;
         while c < end {
             let u = corners[c] as usize;
-            let last = lasts[u] as usize;
-            if start < last {
+            let last = vertices[ROW * u + LAST];
+            if start < last as usize {
                 return Answer::Refused(9, c);
             }
-            lasts[u] = (c + 1) as u16;
+            table[ROW * c + VALENCE] = last;
+            vertices[ROW * u + LAST] = (c + 1) as u16;
             c += 1;
         }
         start = end;

@@ -1,71 +1,46 @@
--- What the scratch tables hold.
+-- What filling the columns asks and gives.
 -- Assumes nothing.
 use mathlib.Core.Path.{_≡_}
-use mathlib.Core.Bool.{Bool}
 use mathlib.Core.List.{List}
-use Prim.Native.Nat.{ℕ, zero, suc, _+_, _<_, _≤_}
+use Prim.Native.Nat.{ℕ, _*_, _<_, _≤_}
 use lib.ListN.{length, getD}
-use Rattle.paper.specs.Scan.{pickN}
 use Rattle.paper.specs.Mesh.{leastSides, mostCorners}
-use Rattle.paper.specs.Corners.{sumOf}
-use Rattle.paper.specs.Links.{vertexOf, leavesTo, arrivesFrom, names}
-use Rattle.mesh.specs.Tables.{Named, NextsTo}
+use Rattle.paper.specs.Corners.{sumOf, sidesOf, next, previous}
+use Rattle.paper.specs.Links.{vertexOf, valence, lowest}
+use Rattle.walk.specs.Table.{rowLength, toNext, toPrevious, sidesHere, valenceHere, entry, Column, Kept, KeptBut}
+use Rattle.tables.specs.Vertices.{countHere, lowestHere, Rowed}
+use Rattle.tables.specs.Chain.{Clear}
 
--- one more than the highest number below n that passes the test; 0 where none does
-unfoldable pub lastBelow : ℕ → (ℕ → Bool) → ℕ
-lastBelow zero f = 0
-lastBelow (suc n) f = pickN (f n) (suc n) (lastBelow n f)
+-- side counts with a table that has a row for each corner
+pub record Fillable (sides table : List ℕ) : Type 0 where
+  pub few : sumOf sides ≤ mostCorners
+  pub least : (f : ℕ) → f < length sides → leastSides ≤ getD sides f 0
+  pub long : rowLength * sumOf sides ≤ length table
 
--- a table of zeros
-abbrev pub Blank : List ℕ → Type 0
-Blank table = (i : ℕ) → getD table i 0 ≡ 0
+-- the corners below n have their rows, where next is known by the corner that it leads to
+pub record FacesTo (sides table : List ℕ) (n : ℕ) : Type 0 where
+  pub nexts : (c : ℕ) → c < n → entry table toNext (previous sides c) ≡ c
+  pub previouses : Column table toPrevious (previous sides) n
+  pub sides-are : Column table sidesHere (sidesOf sides) n
 
--- one face's part of the table of next corners; what lies before it is kept
-pub record FaceFilled (start end : ℕ) (old new : List ℕ) : Type 0 where
-  pub inner : (c : ℕ) → start ≤ c → c + 1 < end → getD new c 0 ≡ c + 1
-  pub last : (c : ℕ) → c + 1 ≡ end → getD new c 0 ≡ start
-  pub before : (c : ℕ) → c < start → getD new c 0 ≡ getD old c 0
+-- the columns of the faces; the chains are kept
+pub record FacesFilled (sides old new : List ℕ) : Type 0 where
+  pub nexts : Column new toNext (next sides) (sumOf sides)
+  pub previouses : Column new toPrevious (previous sides) (sumOf sides)
+  pub sides-are : Column new sidesHere (sidesOf sides) (sumOf sides)
+  pub chains : Kept old new valenceHere
 
--- the table of earlier corners of the same vertex, below a corner: 0 for none, else one more than the corner
-unfoldable pub EarliersTo : List ℕ → List ℕ → ℕ → Type 0
-EarliersTo corners earliers end = (c : ℕ) → c < end → getD earliers c 0 ≡ lastBelow c (names corners (vertexOf corners c))
+-- what counting asks, and gives: how many corners each vertex has, and the lowest where it has any
+pub record Countable (corners vertices : List ℕ) : Type 0 where
+  pub small : length corners ≤ mostCorners
+  pub rowed : Rowed corners vertices
+  pub clear : Clear vertices countHere
 
--- the highest corner below `end` of each vertex, in the same way
-unfoldable pub HeadsTo : List ℕ → List ℕ → ℕ → Type 0
-HeadsTo corners heads end = (u : ℕ) → u < length heads → getD heads u 0 ≡ lastBelow end (names corners u)
+pub record CornersCounted (corners vertices : List ℕ) : Type 0 where
+  pub count-is : (u : ℕ) → entry vertices countHere u ≡ valence corners u
+  pub lowest-is : (u : ℕ) → lowest corners u < length corners → entry vertices lowestHere u ≡ lowest corners u
 
--- `at` is 0, or one more than a corner of u
-unfoldable pub Chain : List ℕ → ℕ → ℕ → Type 0
-Chain corners u at = (d : ℕ) → at ≡ suc d → vertexOf corners d ≡ u
-
--- where each corner's leaving edge goes, and where its arriving edge comes from
-pub record EdgeEnds (sides corners tos froms : List ℕ) : Type 0 where
-  pub sums : sumOf sides ≡ length corners
-  pub leaves : (c : ℕ) → c < length corners → getD tos c 0 ≡ leavesTo sides corners c
-  pub arrives : (c : ℕ) → c < length corners → getD froms c 0 ≡ arrivesFrom sides corners c
-
--- what filling the next corners asks
-abbrev pub Fillable : List ℕ → List ℕ → Type 0
-Fillable sides nexts = (sumOf sides ≤ mostCorners) × ((f : ℕ) → f < length sides → leastSides ≤ getD sides f 0) × (sumOf sides ≤ length nexts)
-
--- what filling the ends asks
-pub record Endable (corners nexts tos froms : List ℕ) : Type 0 where
-  pub nexts-length : length corners ≤ length nexts
-  pub tos-length : length corners ≤ length tos
-  pub froms-length : length corners ≤ length froms
-  pub nexts-in : (c : ℕ) → c < length corners → getD nexts c 0 < length corners
-
--- and gives: the ends, for all side counts that the table of next corners belongs to
-abbrev pub Ended : List ℕ → List ℕ → List ℕ → List ℕ → Type 0
-Ended corners nexts tos froms =
-    (sides : List ℕ) → sumOf sides ≡ length corners → NextsTo sides nexts (length corners) → EdgeEnds sides corners tos froms
-
--- what filling the chains asks, and gives
-abbrev pub Chainable : List ℕ → List ℕ → List ℕ → Type 0
-Chainable corners earliers heads =
-    (length corners ≤ mostCorners) × Named corners (length heads) × (length corners ≤ length earliers)
-    × Blank heads
-
-pub record Chained (corners earliers heads : List ℕ) : Type 0 where
-  pub earliers-are : EarliersTo corners earliers (length corners)
-  pub heads-are : HeadsTo corners heads (length corners)
+-- the column of valences; the others are kept
+pub record ValencesFilled (corners old new : List ℕ) : Type 0 where
+  pub valences : Column new valenceHere (λ c. valence corners (vertexOf corners c)) (length corners)
+  pub others : KeptBut valenceHere old new

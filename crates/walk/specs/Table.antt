@@ -34,6 +34,18 @@ entry table k c = getD table (rowLength * c + k) 0
 abbrev pub Column : List ℕ → ℕ → (ℕ → ℕ) → ℕ → Type 0
 Column table k f n = (c : ℕ) → c < n → entry table k c ≡ f c
 
+-- column k holds what it held
+abbrev pub Kept : List ℕ → List ℕ → ℕ → Type 0
+Kept old new k = (c : ℕ) → entry new k c ≡ entry old k c
+
+-- every column but k holds what it held
+abbrev pub KeptBut : ℕ → List ℕ → List ℕ → Type 0
+KeptBut k old new = (j : ℕ) → j < rowLength → (j ≡ k → ⊥) → Kept old new j
+
+-- a table of zeros
+abbrev pub Blank : List ℕ → Type 0
+Blank table = (i : ℕ) → getD table i 0 ≡ 0
+
 -- ---- the table of the corners K
 pub record Tabled (K : Corners) (table : List ℕ) : Type 0 where
   pub long : rowLength * K .count ≤ length table
