@@ -1,78 +1,110 @@
--- The tables of a vertex's edges give each of its corners the entry that the definitions ask for; what the entries say of faults and links.
+-- The columns of a vertex's edges give each of its corners the entry that the definitions ask for; what the entries say of faults and links.
 -- Assumes nothing.
-use mathlib.Core.Path.{_≡_, ap, _∙_, sym, subst}
+use mathlib.Core.Path.{_≡_, refl, ap, _∙_, sym, subst}
 use mathlib.Core.Bool.{Bool, true, false, not}
 use mathlib.Core.Logic.{_⊎_, ⊎-elim}
 use mathlib.Core.List.{List}
-use Prim.Native.Nat.{ℕ, _+_, _-_, _<_, _≤_}
+use Prim.Native.Nat.{ℕ, _+_, _-_, _*_, _<_, _≤_}
 use native.Mathlib.Omega.{arith}
 use lib.Dec.{eqb}
-use lib.ListN.{length, getD, set, length-set}
+use lib.ListN.{length, set, length-set}
 use borrow.Author.Tests.{eq-eqb, ne-eqb, eqb-true}
 use Rattle.paper.specs.Scan.{someBelow, firstBelow}
 use Rattle.paper.specs.Mesh.{mostCorners}
 use Rattle.paper.specs.Corners.{sumOf, next, previous}
 use Rattle.paper.specs.Links.{vertexOf, leavesTo, arrivesFrom, sameEdge, reverseEdge, linked, link, reverse}
 use Rattle.paper.specs.Faults.{sound, lowestOf, fault10, fault11}
-use Rattle.mesh.specs.Tables.{LinkTable}
 use Rattle.mesh.specs.Closed.{Closed}
+use Rattle.mesh.specs.Tables.{Named}
 use Rattle.mesh.proofs.Scans.{ways, clash, compared, and-true, and-left, and-right, first-fails, some-true, some-false, some-below, some-passes, none}
 use Rattle.mesh.proofs.Faces.{next-below, previous-below, next-previous, previous-next}
 use Rattle.mesh.proofs.Links.{unique, reverse-in, reverse-vertex, reverse-to, link-is}
 use Rattle.mesh.proofs.Verdicts.{lowest-hit, lowest-none, lowest-sound}
-use Rattle.tables.specs.Filled.{Blank, EdgeEnds, Chained}
-use Rattle.tables.proofs.Laws.{put, On, above-head, at-in, at-vertex, on-from}
-use Rattle.edges.specs.Entries.{repeated, alone, Entry, again, single, joined, Entries, has, Searchable, Keyed, Hit, Marked, MarkedFrom, EntryFor, EntriesFor, EntriesBelow}
+use Rattle.walk.specs.Table.{rowLength, toNext, toPrevious, toLink, valenceHere, entry, Column, Kept, KeptBut}
+use Rattle.walk.proofs.Table.{put, kept-put}
+use Rattle.tables.specs.Vertices.{lastHere, leavingHere, arrivingHere, countHere, Rowed}
+use Rattle.tables.specs.Chain.{EarliersTo, LastsTo, Chained, Clear}
+use Rattle.tables.proofs.Chains.{On, above-head, at-in, at-vertex, on-from}
+use Rattle.edges.specs.Entries.{repeated, alone, Entry, again, single, joined, Entries, has, to, from, Searchable, Keyed, BothKeyed, Hit, Marked, MarkedFrom, Unmarked, Ends, EntryFor, Collected, Found}
 
--- marking
-pub keyed-blank : (vertices : ℕ) (corners keys table : List ℕ) → vertices ≤ length table → Blank table → Keyed vertices corners keys table
-keyed-blank vertices corners keys table l z = record { room = l; inside = λ t n. absurd (n (z t)); key = λ t n. absurd (n (z t)) }
+-- ---- marking
+pub keyed-clear : (corners table vertices : List ℕ) → Clear vertices leavingHere → Clear vertices arrivingHere → BothKeyed corners table vertices
+keyed-clear corners table vertices l a =
+    record {
+      left = record { inside = λ t n. absurd (n (l t)); key-is = λ t n. absurd (n (l t)) };
+      arrived = record { inside = λ t n. absurd (n (a t)); key-is = λ t n. absurd (n (a t)) };
+    }
 
--- one table
-module _ (vertices : ℕ) (corners earliers heads keys table : List ℕ) (k : Chained corners earliers heads) (u at : ℕ) (o : On corners u at) (n : at ≡ 0 → ⊥)
-    (m : Keyed vertices corners keys table) (h : getD keys (at - 1) 0 < vertices) where
-  keyed-step : Keyed vertices corners keys (set table (getD keys (at - 1) 0) at)
-  keyed-step =
-      let l : getD keys (at - 1) 0 < length table = omega (arith, m .room) in
+-- one column, before and after a store of `at` by its corner's key
+module _ (corners : List ℕ) (earlier last : ℕ → ℕ) (k : Chained corners earlier last) (u at : ℕ) (o : On corners u at) (n : at ≡ 0 → ⊥)
+    (key column column' : ℕ → ℕ)
+    (stored : (P : ℕ → Type 0) (j : ℕ) → (j ≡ key (at - 1) → P at) → ((j ≡ key (at - 1) → ⊥) → P (column j)) → P (column' j)) where
+  keyed-step : Keyed corners key column → Keyed corners key column'
+  keyed-step m =
       record {
-        room = simp length-set (m .room);
-        inside = λ t. put (λ x. (x ≡ 0 → ⊥) → x ≤ length corners) table (getD keys (at - 1) 0) t at l (λ q z. o .inside) (λ q. m .inside t);
-        key = λ t. put (λ x. (x ≡ 0 → ⊥) → getD keys (x - 1) 0 ≡ t) table (getD keys (at - 1) 0) t at l (λ q z. sym q) (λ q. m .key t);
+        inside = λ t. stored (λ x. (x ≡ 0 → ⊥) → x ≤ length corners) t (λ q z. o .inside) (λ q. m .inside t);
+        key-is = λ t. stored (λ x. (x ≡ 0 → ⊥) → key (x - 1) ≡ t) t (λ q z. sym q) (λ q. m .key-is t);
       }
 
-  marked-step : Marked corners keys table u at → Marked corners keys (set table (getD keys (at - 1) 0) at) u (getD earliers (at - 1) 0)
+  marked-step : Marked corners key column u at → Marked corners key column' u (earlier (at - 1))
   unfolding Marked
   marked-step f d a b v =
-      let l = on-from corners earliers heads k u at o n d a v in
-      put (Hit corners u d) table (getD keys (at - 1) 0) (getD keys d 0) at (omega (arith, m .room))
-      (λ q. record { some = n; low = l; own = at-vertex corners earliers heads k u at o n })
-      (λ q. let ne : d ≡ at - 1 → ⊥ = λ e. q (ap (λ (x : ℕ). getD keys x 0) e) in f d (omega (arith, ne, l)) b v)
+      let l = on-from corners earlier last k u at o n d a v in
+      stored (Hit corners u d) (key d)
+      (λ q. record { some = n; low = l; own = at-vertex corners earlier last k u at o n })
+      (λ q. let ne : d ≡ at - 1 → ⊥ = λ e. q (ap key e) in f d (omega (arith, ne, l)) b v)
 
--- both tables
-module _ (vertices : ℕ) (corners tos froms earliers heads : List ℕ) (k : Searchable vertices corners tos froms earliers heads)
-    (leaving arriving : List ℕ) (u : ℕ) where
-  pub marked-none : u < length heads → Keyed vertices corners tos leaving → Keyed vertices corners froms arriving
-      → MarkedFrom vertices corners tos froms leaving arriving u (getD heads u 0)
-  unfolding Marked
-  marked-none l m n =
+-- both columns
+pub marked-none : (corners table vertices : List ℕ) → Chained corners (entry table valenceHere) (entry vertices lastHere) → (u : ℕ)
+    → BothKeyed corners table vertices → MarkedFrom corners table vertices u (entry vertices lastHere u)
+unfolding Marked
+marked-none corners table vertices k u m =
+    record {
+      keyed = m;
+      left-from = λ d a b v. absurd (above-head corners (entry table valenceHere) (entry vertices lastHere) k u d a b v);
+      arrived-from = λ d a b v. absurd (above-head corners (entry table valenceHere) (entry vertices lastHere) k u d a b v);
+    }
+
+module _ (corners table : List ℕ) (last : ℕ → ℕ) (k : Chained corners (entry table valenceHere) last) (vertices : List ℕ) (u at : ℕ)
+    (o : On corners u at) (n : at ≡ 0 → ⊥) (t f : ℕ) (et : t ≡ to corners table (at - 1)) (ef : f ≡ from corners table (at - 1))
+    (rt : rowLength * t + rowLength ≤ length vertices) (rf : rowLength * f + rowLength ≤ length vertices) where
+  both-kept : (j : ℕ) → j < rowLength → (j ≡ leavingHere → ⊥) → (j ≡ arrivingHere → ⊥)
+      → Kept vertices (set (set vertices (rowLength * t + leavingHere) at) (rowLength * f + arrivingHere) at) j
+  both-kept j l p q c =
+      kept-put (set vertices (rowLength * t + leavingHere) at) arrivingHere f at (omega arith) j l q c
+      ∙ kept-put vertices leavingHere t at (omega arith) j l p c
+
+  pub unmarked-more : (old : List ℕ) → Unmarked old vertices
+      → Unmarked old (set (set vertices (rowLength * t + leavingHere) at) (rowLength * f + arrivingHere) at)
+  unmarked-more old m =
       record {
-        left = m;
-        left-from = λ d a b v. absurd (above-head corners earliers heads (k .chained) u l d a b v);
-        arrived = n;
-        arrived-from = λ d a b v. absurd (above-head corners earliers heads (k .chained) u l d a b v);
+        lasts = λ c. both-kept lastHere (omega arith) (λ q. omega arith) (λ q. omega arith) c ∙ m .lasts c;
+        counts = λ c. both-kept countHere (omega arith) (λ q. omega arith) (λ q. omega arith) c ∙ m .counts c;
       }
 
-  pub marked-more : (at : ℕ) → On corners u at → (at ≡ 0 → ⊥) → MarkedFrom vertices corners tos froms leaving arriving u at
-      → MarkedFrom vertices corners tos froms (set leaving (getD tos (at - 1) 0) at) (set arriving (getD froms (at - 1) 0) at) u (getD earliers (at - 1) 0)
-  marked-more at o n m =
-      let i = at-in corners earliers heads (k .chained) u at o n in
-      let t = k .tos-in (at - 1) i in
-      let f = k .froms-in (at - 1) i in
+  leaving-stored : (P : ℕ → Type 0) (j : ℕ) → (j ≡ to corners table (at - 1) → P at) → ((j ≡ to corners table (at - 1) → ⊥) → P (entry vertices leavingHere j))
+      → P (entry (set (set vertices (rowLength * t + leavingHere) at) (rowLength * f + arrivingHere) at) leavingHere j)
+  leaving-stored P j same other =
+      subst P (sym (kept-put (set vertices (rowLength * t + leavingHere) at) arrivingHere f at (omega arith) leavingHere (omega arith) (λ q. omega arith) j))
+      (put vertices leavingHere t at P j (omega arith) (λ q. same (q ∙ et)) (λ q. other (λ z. q (z ∙ sym et))))
+
+  arriving-stored : (P : ℕ → Type 0) (j : ℕ) → (j ≡ from corners table (at - 1) → P at) → ((j ≡ from corners table (at - 1) → ⊥) → P (entry vertices arrivingHere j))
+      → P (entry (set (set vertices (rowLength * t + leavingHere) at) (rowLength * f + arrivingHere) at) arrivingHere j)
+  arriving-stored P j same other =
+      put (set vertices (rowLength * t + leavingHere) at) arrivingHere f at P j
+      (omega (arith, length-set vertices (rowLength * t + leavingHere) at)) (λ q. same (q ∙ ef))
+      (λ q. subst P (sym (kept-put vertices leavingHere t at (omega arith) arrivingHere (omega arith) (λ q. omega arith) j)) (other (λ z. q (z ∙ sym ef))))
+
+  pub marked-more : MarkedFrom corners table vertices u at
+      → MarkedFrom corners table (set (set vertices (rowLength * t + leavingHere) at) (rowLength * f + arrivingHere) at) u (entry table valenceHere (at - 1))
+  marked-more m =
       record {
-        left = keyed-step vertices corners earliers heads tos leaving (k .chained) u at o n (m .left) t;
-        left-from = marked-step vertices corners earliers heads tos leaving (k .chained) u at o n (m .left) t (m .left-from);
-        arrived = keyed-step vertices corners earliers heads froms arriving (k .chained) u at o n (m .arrived) f;
-        arrived-from = marked-step vertices corners earliers heads froms arriving (k .chained) u at o n (m .arrived) f (m .arrived-from);
+        keyed = record {
+          left = keyed-step corners (entry table valenceHere) last k u at o n (to corners table) (entry vertices leavingHere) _ leaving-stored (m .keyed .left);
+          arrived = keyed-step corners (entry table valenceHere) last k u at o n (from corners table) (entry vertices arrivingHere) _ arriving-stored (m .keyed .arrived);
+        };
+        left-from = marked-step corners (entry table valenceHere) last k u at o n (to corners table) (entry vertices leavingHere) _ leaving-stored (m .left-from);
+        arrived-from = marked-step corners (entry table valenceHere) last k u at o n (from corners table) (entry vertices arrivingHere) _ arriving-stored (m .arrived-from);
       }
 
 -- the corner of an edge's reverse is the one before the corner where the reverse arrives
@@ -105,102 +137,201 @@ module _ (sides corners : List ℕ) (s : sumOf sides ≡ length corners) (c : �
       ap not (some-true (length corners) (reverseEdge sides corners c) (previous sides d) (omega (arith, b)) (linked-reverse d l e))
 
 -- the entry of a corner whose vertex is marked
-module _ (vertices : ℕ) (corners tos froms leaving arriving : List ℕ) (u c : ℕ) (h : c < length corners) (v : vertexOf corners c ≡ u)
-    (m : MarkedFrom vertices corners tos froms leaving arriving u 0) (sides : List ℕ) (e : EdgeEnds sides corners tos froms) where
-  first : Hit corners u c (getD leaving (getD tos c 0) 0)
-  unfolding Marked
-  first = m .left-from c (omega arith) h v
+module _ (corners table vertices : List ℕ) (c : ℕ) (h : c < length corners) (m : MarkedFrom corners table vertices (vertexOf corners c) 0)
+    (sides : List ℕ) (e : Ends sides corners table) where
+  leaves : (d : ℕ) → d < length corners → to corners table d ≡ leavesTo sides corners d
+  unfolding leavesTo
+  leaves d l = ap (vertexOf corners) (e .nexts d l)
 
-  pub entry-again : (getD leaving (getD tos c 0) 0 ≡ c + 1 → ⊥) → Entry sides corners c repeated
+  arrives : (d : ℕ) → d < length corners → from corners table d ≡ arrivesFrom sides corners d
+  unfolding arrivesFrom
+  arrives d l = ap (vertexOf corners) (e .previouses d l)
+
+  first : Hit corners (vertexOf corners c) c (entry vertices leavingHere (to corners table c))
+  unfolding Marked
+  first = m .left-from c (omega arith) h refl
+
+  pub entry-again : (entry vertices leavingHere (to corners table c) ≡ c + 1 → ⊥) → Entry sides corners c repeated
   unfolding fault10 sameEdge
   entry-again ne =
-      let x = getD leaving (getD tos c 0) 0 in
-      let k = m .left .inside (getD tos c 0) (first .some) in
+      let x = entry vertices leavingHere (to corners table c) in
+      let k = m .keyed .left .inside (to corners table c) (first .some) in
       let l : x - 1 < c = omega (arith, ne, first .some, first .low) in
       again
       (some-true c (sameEdge sides corners c) (x - 1) l
-      (and-true _ _ (eq-eqb (vertexOf corners (x - 1)) (vertexOf corners c) (first .own ∙ sym v))
+      (and-true _ _ (eq-eqb (vertexOf corners (x - 1)) (vertexOf corners c) (first .own))
       (eq-eqb (leavesTo sides corners (x - 1)) (leavesTo sides corners c)
-      (sym (e .leaves (x - 1) (omega arith)) ∙ m .left .key (getD tos c 0) (first .some) ∙ e .leaves c h))))
+      (sym (leaves (x - 1) (omega arith)) ∙ m .keyed .left .key-is (to corners table c) (first .some) ∙ leaves c h))))
 
-  once : getD leaving (getD tos c 0) 0 ≡ c + 1 → fault10 sides corners c ≡ false
+  once : entry vertices leavingHere (to corners table c) ≡ c + 1 → fault10 sides corners c ≡ false
   unfolding fault10 sameEdge Marked
   once q =
       some-false c (sameEdge sides corners c) (λ j l.
       ⊎-elim
       (λ b.
-      let w : vertexOf corners j ≡ u = eqb-true _ _ (and-left _ _ b) ∙ v in
+      let w : vertexOf corners j ≡ vertexOf corners c = eqb-true _ _ (and-left _ _ b) in
       let t : leavesTo sides corners j ≡ leavesTo sides corners c =
       eqb-true _ _ (and-right (eqb (vertexOf corners j) (vertexOf corners c)) _ b) in
-      let r : getD tos j 0 ≡ getD tos c 0 = e .leaves j (omega arith) ∙ t ∙ sym (e .leaves c h) in
-      absurd (omega (arith, m .left-from j (omega arith) (omega arith) w .low, ap (λ (x : ℕ). getD leaving x 0) r)))
+      let r : to corners table j ≡ to corners table c = leaves j (omega arith) ∙ t ∙ sym (leaves c h) in
+      absurd (omega (arith, m .left-from j (omega arith) (omega arith) w .low, ap (entry vertices leavingHere) r)))
       (λ b. b)
       (ways (sameEdge sides corners c j)))
 
-  pub entry-single : getD leaving (getD tos c 0) 0 ≡ c + 1
-      → ((getD arriving (getD tos c 0) 0 ≡ 0 → ⊥) → vertexOf corners (getD arriving (getD tos c 0) 0 - 1) ≡ u → ⊥) → Entry sides corners c alone
+  pub entry-single : entry vertices leavingHere (to corners table c) ≡ c + 1
+      → ((entry vertices arrivingHere (to corners table c) ≡ 0 → ⊥)
+          → vertexOf corners (entry vertices arrivingHere (to corners table c) - 1) ≡ vertexOf corners c → ⊥) → Entry sides corners c alone
   unfolding linked Marked
   entry-single q ne =
       single (once q)
       (unlinked sides corners (e .sums) c (λ d l.
       ⊎-elim
       (λ b.
-      let w : vertexOf corners d ≡ u = eqb-true _ _ (and-left _ _ b) ∙ v in
+      let w : vertexOf corners d ≡ vertexOf corners c = eqb-true _ _ (and-left _ _ b) in
       let t : arrivesFrom sides corners d ≡ leavesTo sides corners c =
       eqb-true _ _ (and-right (eqb (vertexOf corners d) (vertexOf corners c)) _ b) in
-      let r : getD froms d 0 ≡ getD tos c 0 = e .arrives d l ∙ t ∙ sym (e .leaves c h) in
-      let k = subst (λ (x : ℕ). Hit corners u d (getD arriving x 0)) r (m .arrived-from d (omega arith) l w) in
+      let r : from corners table d ≡ to corners table c = arrives d l ∙ t ∙ sym (leaves c h) in
+      let k = subst (λ (x : ℕ). Hit corners (vertexOf corners c) d (entry vertices arrivingHere x)) r (m .arrived-from d (omega arith) l w) in
       absurd (ne (k .some) (k .own)))
       (λ b. b)
       (ways (linked sides corners c d))))
 
-  pub entry-joined : getD leaving (getD tos c 0) 0 ≡ c + 1 → (getD arriving (getD tos c 0) 0 ≡ 0 → ⊥)
-      → vertexOf corners (getD arriving (getD tos c 0) 0 - 1) ≡ u → Entry sides corners c (getD arriving (getD tos c 0) 0 - 1)
+  pub entry-joined : entry vertices leavingHere (to corners table c) ≡ c + 1 → (entry vertices arrivingHere (to corners table c) ≡ 0 → ⊥)
+      → vertexOf corners (entry vertices arrivingHere (to corners table c) - 1) ≡ vertexOf corners c
+      → Entry sides corners c (entry vertices arrivingHere (to corners table c) - 1)
   unfolding linked
   entry-joined q n w =
-      let x = getD arriving (getD tos c 0) 0 in
-      let l : x - 1 < length corners = omega (arith, n, m .arrived .inside (getD tos c 0) n) in
+      let x = entry vertices arrivingHere (to corners table c) in
+      let l : x - 1 < length corners = omega (arith, n, m .keyed .arrived .inside (to corners table c) n) in
       joined (once q) (x - 1) l
-      (and-true _ _ (eq-eqb (vertexOf corners (x - 1)) (vertexOf corners c) (w ∙ sym v))
+      (and-true _ _ (eq-eqb (vertexOf corners (x - 1)) (vertexOf corners c) w)
       (eq-eqb (arrivesFrom sides corners (x - 1)) (leavesTo sides corners c)
-      (sym (e .arrives (x - 1) l) ∙ m .arrived .key (getD tos c 0) n ∙ e .leaves c h)))
+      (sym (arrives (x - 1) l) ∙ m .keyed .arrived .key-is (to corners table c) n ∙ leaves c h)))
 
--- collecting: the corners of the vertices below u, and those of u from `at` on, have their entries
-pub EntriesTo : List ℕ → List ℕ → List ℕ → List ℕ → ℕ → ℕ → Type 0
-EntriesTo corners tos froms links u at =
-    (c : ℕ) → c < length corners → vertexOf corners c ≤ u → (vertexOf corners c ≡ u → at ≤ c) → EntryFor corners tos froms c (getD links c 0)
+-- ---- tables that differ in the column of links only
+module _ (corners old new : List ℕ) (k : KeptBut toLink old new) where
+  nexts-kept : Kept old new toNext
+  nexts-kept = k toNext (omega arith) (λ q. omega arith)
 
-module _ (corners tos froms links earliers heads : List ℕ) (k : Chained corners earliers heads) (u : ℕ) where
-  pub entries-start : u < length heads → EntriesBelow corners tos froms links u → EntriesTo corners tos froms links u (getD heads u 0)
-  unfolding EntriesTo EntriesBelow
-  entries-start l b c h v a =
-      b c h (⊎-elim
-      (λ (q : vertexOf corners c ≡ u). absurd (above-head corners earliers heads k u l c (a q) h q))
-      (λ o. ⊎-elim (λ z. z) (λ (z : u < vertexOf corners c). absurd (omega arith)) o)
+  previouses-kept : Kept old new toPrevious
+  previouses-kept = k toPrevious (omega arith) (λ q. omega arith)
+
+  to-kept : (c : ℕ) → to corners new c ≡ to corners old c
+  to-kept c = ap (vertexOf corners) (nexts-kept c)
+
+  from-kept : (c : ℕ) → from corners new c ≡ from corners old c
+  from-kept c = ap (vertexOf corners) (previouses-kept c)
+
+  ends-back : (sides : List ℕ) → Ends sides corners new → Ends sides corners old
+  ends-back sides e =
+      record {
+        sums = e .sums;
+        nexts = λ c l. sym (nexts-kept c) ∙ e .nexts c l;
+        previouses = λ c l. sym (previouses-kept c) ∙ e .previouses c l;
+      }
+
+  pub ends-on : (sides : List ℕ) → Ends sides corners old → Ends sides corners new
+  ends-on sides e =
+      record {
+        sums = e .sums;
+        nexts = λ c l. nexts-kept c ∙ e .nexts c l;
+        previouses = λ c l. previouses-kept c ∙ e .previouses c l;
+      }
+
+  keyed-on : {f g column : ℕ → ℕ} → ((c : ℕ) → g c ≡ f c) → Keyed corners f column → Keyed corners g column
+  keyed-on {f} {g} {column} e m = record { inside = m .inside; key-is = λ t n. e (column t - 1) ∙ m .key-is t n }
+
+  pub both-keyed-on : (vertices : List ℕ) → BothKeyed corners old vertices → BothKeyed corners new vertices
+  both-keyed-on vertices m = record { left = keyed-on to-kept (m .left); arrived = keyed-on from-kept (m .arrived) }
+
+  pub marked-on : (vertices : List ℕ) (u at : ℕ) → MarkedFrom corners old vertices u at → MarkedFrom corners new vertices u at
+  unfolding Marked
+  marked-on vertices u at m =
+      record {
+        keyed = both-keyed-on vertices (m .keyed);
+        left-from = λ d a b v. subst (λ (x : ℕ). Hit corners u d (entry vertices leavingHere x)) (sym (to-kept d)) (m .left-from d a b v);
+        arrived-from = λ d a b v. subst (λ (x : ℕ). Hit corners u d (entry vertices arrivingHere x)) (sym (from-kept d)) (m .arrived-from d a b v);
+      }
+
+  pub searchable-on : (before after : List ℕ) → length new ≡ length old → length after ≡ length before → Kept before after lastHere
+      → Searchable corners old before → Searchable corners new after
+  unfolding EarliersTo LastsTo
+  searchable-on before after ln lv kl s =
+      record {
+        small = s .small;
+        long = omega (arith, s .long);
+        rowed = λ c l. omega (arith, s .rowed c l);
+        nexts-in = λ c l. omega (arith, nexts-kept c, s .nexts-in c l);
+        previouses-in = λ c l. omega (arith, previouses-kept c, s .previouses-in c l);
+        chained = record {
+          earliers-are = λ c l. k valenceHere (omega arith) (λ q. omega arith) c ∙ s .chained .earliers-are c l;
+          lasts-are = λ u. kl u ∙ s .chained .lasts-are u;
+        };
+      }
+
+  pub entry-back : (c x : ℕ) → EntryFor corners new c x → EntryFor corners old c x
+  entry-back c x f sides e = f sides (ends-on sides e)
+
+  pub entry-on : (c x : ℕ) → EntryFor corners old c x → EntryFor corners new c x
+  entry-on c x f sides e = f sides (ends-back sides e)
+
+-- ---- collecting: the corners of u from `at` on have their entries
+pub record CollectedFrom (corners old new : List ℕ) (u at : ℕ) : Type 0 where
+  pub entries : (c : ℕ) → c < length corners → vertexOf corners c ≡ u → at ≤ c → EntryFor corners old c (entry new toLink c)
+  pub others : (c : ℕ) → (vertexOf corners c ≡ u → ⊥) → entry new toLink c ≡ entry old toLink c
+  pub columns : KeptBut toLink old new
+
+module _ (corners old : List ℕ) (last : ℕ → ℕ) (k : Chained corners (entry old valenceHere) last) (u : ℕ) where
+  pub collected-none : CollectedFrom corners old old u (last u)
+  collected-none =
+      record {
+        entries = λ c h v a. absurd (above-head corners (entry old valenceHere) last k u c a h v);
+        others = λ c n. refl;
+        columns = λ j l n c. refl;
+      }
+
+  module _ (new : List ℕ) (at : ℕ) (o : On corners u at) (n : at ≡ 0 → ⊥) (h : rowLength * (at - 1) + toLink < length new)
+      (t : CollectedFrom corners old new u at) (x : ℕ) (w : EntryFor corners old (at - 1) x) where
+    pub collected-more : CollectedFrom corners old (set new (rowLength * (at - 1) + toLink) x) u (entry old valenceHere (at - 1))
+    collected-more =
+        record {
+          entries = λ c l v a.
+              put new toLink (at - 1) x (EntryFor corners old c) c h
+              (λ q. subst (λ (y : ℕ). EntryFor corners old y x) (sym q) w)
+              (λ q. t .entries c l v (omega (arith, q, on-from corners (entry old valenceHere) last k u at o n c a v)));
+          others = λ c m.
+              put new toLink (at - 1) x (λ y. y ≡ entry old toLink c) c h
+              (λ q. absurd (m (ap (vertexOf corners) q ∙ at-vertex corners (entry old valenceHere) last k u at o n)))
+              (λ q. t .others c m);
+          columns = λ j l m c. kept-put new toLink (at - 1) x (omega arith) j l m c ∙ t .columns j l m c;
+        }
+
+  pub collected-all : (new : List ℕ) (at : ℕ) → at ≡ 0 → CollectedFrom corners old new u at → Collected corners old new u
+  collected-all new at z t = record { entries = λ c h v. t .entries c h v (omega arith); others = t .others; columns = t .columns }
+
+-- ---- all vertices: those below u have their entries
+pub EntriesBelow : List ℕ → List ℕ → ℕ → Type 0
+EntriesBelow corners table u = (c : ℕ) → c < length corners → vertexOf corners c < u → EntryFor corners table c (entry table toLink c)
+
+module _ (corners : List ℕ) where
+  pub below-none : (table : List ℕ) → EntriesBelow corners table 0
+  unfolding EntriesBelow
+  below-none table c h v = absurd (omega arith)
+
+  pub below-more : (old new : List ℕ) (u : ℕ) → EntriesBelow corners old u → Collected corners old new u → EntriesBelow corners new (u + 1)
+  unfolding EntriesBelow
+  below-more old new u b t c h v =
+      entry-on corners old new (t .columns) c (entry new toLink c)
+      (⊎-elim
+      (λ (q : vertexOf corners c ≡ u). t .entries c h q)
+      (λ o. let l : vertexOf corners c < u = ⊎-elim (λ (z : vertexOf corners c < u). z) (λ (z : u < vertexOf corners c). absurd (omega arith)) o in
+      subst (EntryFor corners old c) (sym (t .others c (λ q. omega arith))) (b c h l))
       (compared (vertexOf corners c) u))
 
-  pub entries-step : (at : ℕ) → On corners u at → (at ≡ 0 → ⊥) → at - 1 < length links → EntriesTo corners tos froms links u at
-      → (x : ℕ) → EntryFor corners tos froms (at - 1) x → EntriesTo corners tos froms (set links (at - 1) x) u (getD earliers (at - 1) 0)
-  unfolding EntriesTo
-  entries-step at o n l t x w c h v a =
-      put (EntryFor corners tos froms c) links (at - 1) c x l
-      (λ q. subst (λ (y : ℕ). EntryFor corners tos froms y x) (sym q) w)
-      (λ q. t c h v (λ y. omega (arith, q, on-from corners earliers heads k u at o n c (a y) y)))
-
-  pub entries-stop : (at : ℕ) → at ≡ 0 → EntriesTo corners tos froms links u at → EntriesBelow corners tos froms links (u + 1)
-  unfolding EntriesTo EntriesBelow
-  entries-stop at z t c h v = t c h (omega arith) (λ q. omega arith)
-
--- all vertices
-module _ (corners tos froms links : List ℕ) where
-  pub entries-none : EntriesBelow corners tos froms links 0
-  unfolding EntriesBelow
-  entries-none c h v = absurd (omega arith)
-
-  pub entries-all : (u vertices : ℕ) → vertices ≤ u → ((c : ℕ) → c < length corners → vertexOf corners c < vertices)
-      → EntriesBelow corners tos froms links u → EntriesFor corners tos froms links
+  pub found : (old new before after : List ℕ) (u count : ℕ) → count ≤ u → Named corners count → EntriesBelow corners new u
+      → KeptBut toLink old new → Kept before after countHere → Found corners old new before after
   unfolding EntriesBelow Entries
-  entries-all u vertices l n b sides e c h = b c h (omega (arith, n c h)) sides e
+  found old new before after u count l n b k c =
+      record { entries = λ sides e d h. b d h (omega (arith, n d h)) sides e; columns = k; counts = c }
 
 -- two tests that agree have their lowest place in common
 lowest-same : (k n : ℕ) (f g : ℕ → Bool) → ((j : ℕ) → j < n → f j ≡ g j) → lowestOf k n f ≡ lowestOf k n g
@@ -226,10 +357,10 @@ link-only sides corners k c d h l p =
     sym (next-previous sides d (omega (arith, k .sums))) ∙ ap (next sides) q ∙ sym (link-is sides corners k c h)
 
 -- what the entries say of faults and links
-module _ (sides corners links : List ℕ) (small : length corners ≤ mostCorners) (t : Entries sides corners links) where
-  pub ten-found : lowestOf 10 (length corners) (has links repeated) ≡ lowestOf 10 (length corners) (fault10 sides corners)
+module _ (sides corners table : List ℕ) (small : length corners ≤ mostCorners) (t : Entries sides corners table) where
+  pub ten-found : lowestOf 10 (length corners) (has table repeated) ≡ lowestOf 10 (length corners) (fault10 sides corners)
   unfolding Entries
-  ten-found = lowest-same 10 (length corners) (has links repeated) (fault10 sides corners) (λ c h. told c (getD links c 0) (t c h))
+  ten-found = lowest-same 10 (length corners) (has table repeated) (fault10 sides corners) (λ c h. told c (entry table toLink c) (t c h))
     where
       told : (c x : ℕ) → Entry sides corners c x → eqb x repeated ≡ fault10 sides corners c
       told c x (again f) = sym f
@@ -238,18 +369,18 @@ module _ (sides corners links : List ℕ) (small : length corners ≤ mostCorner
 
   module _ (ten : lowestOf 10 (length corners) (fault10 sides corners) ≡ sound) where
     pub eleven-found : sumOf sides ≡ length corners
-        → lowestOf 11 (length corners) (has links alone) ≡ lowestOf 11 (length corners) (fault11 sides corners)
+        → lowestOf 11 (length corners) (has table alone) ≡ lowestOf 11 (length corners) (fault11 sides corners)
     unfolding Entries
-    eleven-found s = lowest-same 11 (length corners) (has links alone) (fault11 sides corners) (λ c h. told c (getD links c 0) h (t c h))
+    eleven-found s = lowest-same 11 (length corners) (has table alone) (fault11 sides corners) (λ c h. told c (entry table toLink c) h (t c h))
       where
         told : (c x : ℕ) → c < length corners → Entry sides corners c x → eqb x alone ≡ fault11 sides corners c
         told c x h (again f) = absurd (clash f (lowest-sound 10 (length corners) (fault10 sides corners) ten c h))
         told c x h (single f g) = sym g
         told c x h (joined f d l p) = ne-eqb d alone (λ q. omega arith) ∙ sym (reversed sides corners s c d l p)
 
-  pub links-found : Closed sides corners → LinkTable sides corners links
-  unfolding Entries LinkTable
-  links-found k c h = told (getD links c 0) (t c h)
+  pub links-found : Closed sides corners → Column table toLink (link sides corners) (length corners)
+  unfolding Entries
+  links-found k c h = told (entry table toLink c) (t c h)
     where
       told : (x : ℕ) → Entry sides corners c x → x ≡ link sides corners c
       told x (again f) = absurd (clash f (k .ten c h))

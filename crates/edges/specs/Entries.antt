@@ -1,18 +1,19 @@
--- What the link table holds while edges are checked, and the tables by which its entries are found.
+-- What the column of links holds while edges are checked, and the columns by which its entries are found.
 -- Assumes nothing.
 use mathlib.Core.Path.{_≡_}
 use mathlib.Core.Bool.{Bool, true, false}
 use mathlib.Core.List.{List}
-use Prim.Native.Nat.{ℕ, _+_, _-_, _<_, _≤_}
+use Prim.Native.Nat.{ℕ, _+_, _-_, _*_, _<_, _≤_}
 use lib.Dec.{eqb}
-use lib.ListN.{length, getD}
+use lib.ListN.{length}
 use Rattle.paper.specs.Mesh.{mostCorners}
-use Rattle.paper.specs.Corners.{sumOf}
+use Rattle.paper.specs.Corners.{sumOf, next, previous}
 use Rattle.paper.specs.Links.{vertexOf, linked}
 use Rattle.paper.specs.Faults.{sound, lowestOf, fault10, fault11, stated}
 use Rattle.paper.specs.declared.Answer.{Answer}
-use Rattle.mesh.specs.Tables.{Named}
-use Rattle.tables.specs.Filled.{EdgeEnds, Chained}
+use Rattle.walk.specs.Table.{rowLength, toNext, toPrevious, toLink, valenceHere, entry, Column, Kept, KeptBut}
+use Rattle.tables.specs.Vertices.{lastHere, leavingHere, arrivingHere, countHere, Rowed}
+use Rattle.tables.specs.Chain.{Chained}
 
 -- the entry of a corner whose leaving edge already left an earlier one, and of a corner whose leaving edge has no reverse: no corners
 abbrev pub repeated : ℕ
@@ -28,64 +29,91 @@ pub data Entry (sides corners : List ℕ) (c : ℕ) : ℕ → Type 0 where
   joined : fault10 sides corners c ≡ false → (d : ℕ) → d < length corners → linked sides corners c d ≡ true → Entry sides corners c d
 
 unfoldable pub Entries : List ℕ → List ℕ → List ℕ → Type 0
-Entries sides corners links = (c : ℕ) → c < length corners → Entry sides corners c (getD links c 0)
+Entries sides corners table = (c : ℕ) → c < length corners → Entry sides corners c (entry table toLink c)
 
 -- corner c has this entry
 abbrev pub has : List ℕ → ℕ → ℕ → Bool
-has links entry c = eqb (getD links c 0) entry
+has table x c = eqb (entry table toLink c) x
 
 -- what checks 10 and 11 answer, for all side counts that the entries belong to; check 11 comes after check 10
 abbrev pub Unrepeated : List ℕ → List ℕ → Answer → Type 0
-Unrepeated corners links r = (sides : List ℕ) → Entries sides corners links → stated r ≡ lowestOf 10 (length corners) (fault10 sides corners)
+Unrepeated corners table r = (sides : List ℕ) → Entries sides corners table → stated r ≡ lowestOf 10 (length corners) (fault10 sides corners)
 
 abbrev pub Reversed : List ℕ → List ℕ → Answer → Type 0
-Reversed corners links r =
-    (sides : List ℕ) → sumOf sides ≡ length corners → Entries sides corners links → lowestOf 10 (length corners) (fault10 sides corners) ≡ sound
+Reversed corners table r =
+    (sides : List ℕ) → sumOf sides ≡ length corners → Entries sides corners table → lowestOf 10 (length corners) (fault10 sides corners) ≡ sound
     → stated r ≡ lowestOf 11 (length corners) (fault11 sides corners)
 
--- the tables that the search goes by: the far ends of the edges, and the chains of the vertices' corners
-pub record Searchable (vertices : ℕ) (corners tos froms earliers heads : List ℕ) : Type 0 where
-  pub small : length corners ≤ mostCorners
-  pub named : Named corners vertices
-  pub tos-length : length corners ≤ length tos
-  pub tos-in : (c : ℕ) → c < length corners → getD tos c 0 < vertices
-  pub froms-length : length corners ≤ length froms
-  pub froms-in : (c : ℕ) → c < length corners → getD froms c 0 < vertices
-  pub earliers-length : length corners ≤ length earliers
-  pub heads-length : vertices ≤ length heads
-  pub chained : Chained corners earliers heads
+-- ---- the search
+-- the far ends of a corner's edges, by the table
+abbrev pub to : List ℕ → List ℕ → ℕ → ℕ
+to corners table c = vertexOf corners (entry table toNext c)
 
--- a table of corners by their key, the far end of an edge: each entry is 0, or one more than a corner that has the key
-pub record Keyed (vertices : ℕ) (corners keys table : List ℕ) : Type 0 where
-  pub room : vertices ≤ length table
-  pub inside : (t : ℕ) → (getD table t 0 ≡ 0 → ⊥) → getD table t 0 ≤ length corners
-  pub key : (t : ℕ) → (getD table t 0 ≡ 0 → ⊥) → getD keys (getD table t 0 - 1) 0 ≡ t
+abbrev pub from : List ℕ → List ℕ → ℕ → ℕ
+from corners table c = vertexOf corners (entry table toPrevious c)
+
+-- a table of corners and a table of vertices that the search can go by: its steps lead to corners, and the chains are made
+pub record Searchable (corners table vertices : List ℕ) : Type 0 where
+  pub small : length corners ≤ mostCorners
+  pub long : rowLength * length corners ≤ length table
+  pub rowed : Rowed corners vertices
+  pub nexts-in : (c : ℕ) → c < length corners → entry table toNext c < length corners
+  pub previouses-in : (c : ℕ) → c < length corners → entry table toPrevious c < length corners
+  pub chained : Chained corners (entry table valenceHere) (entry vertices lastHere)
+
+-- vertex u has a row
+abbrev pub Row : List ℕ → ℕ → Type 0
+Row vertices u = rowLength * u + rowLength ≤ length vertices
+
+-- a column of corners by their key, the far end of an edge: each entry is 0, or one more than a corner that has the key
+pub record Keyed (corners : List ℕ) (key column : ℕ → ℕ) : Type 0 where
+  pub inside : (t : ℕ) → (column t ≡ 0 → ⊥) → column t ≤ length corners
+  pub key-is : (t : ℕ) → (column t ≡ 0 → ⊥) → key (column t - 1) ≡ t
+
+-- both columns of edges
+pub record BothKeyed (corners table vertices : List ℕ) : Type 0 where
+  pub left : Keyed corners (to corners table) (entry vertices leavingHere)
+  pub arrived : Keyed corners (from corners table) (entry vertices arrivingHere)
 
 -- an entry that is one more than a corner of u, and no higher one than d
-pub record Hit (corners : List ℕ) (u d entry : ℕ) : Type 0 where
-  pub some : entry ≡ 0 → ⊥
-  pub low : entry ≤ d + 1
-  pub own : vertexOf corners (entry - 1) ≡ u
+pub record Hit (corners : List ℕ) (u d x : ℕ) : Type 0 where
+  pub some : x ≡ 0 → ⊥
+  pub low : x ≤ d + 1
+  pub own : vertexOf corners (x - 1) ≡ u
 
--- the corners of u from `at` on are in the table
-unfoldable pub Marked : List ℕ → List ℕ → List ℕ → ℕ → ℕ → Type 0
-Marked corners keys table u at =
-    (d : ℕ) → at ≤ d → d < length corners → vertexOf corners d ≡ u → Hit corners u d (getD table (getD keys d 0) 0)
+-- the corners of u from `at` on are in the column
+unfoldable pub Marked : List ℕ → (ℕ → ℕ) → (ℕ → ℕ) → ℕ → ℕ → Type 0
+Marked corners key column u at = (d : ℕ) → at ≤ d → d < length corners → vertexOf corners d ≡ u → Hit corners u d (column (key d))
 
--- both tables of edges, with the corners of u from `at` on
-pub record MarkedFrom (vertices : ℕ) (corners tos froms leaving arriving : List ℕ) (u at : ℕ) : Type 0 where
-  pub left : Keyed vertices corners tos leaving
-  pub left-from : Marked corners tos leaving u at
-  pub arrived : Keyed vertices corners froms arriving
-  pub arrived-from : Marked corners froms arriving u at
+-- both columns, with the corners of u from `at` on
+pub record MarkedFrom (corners table vertices : List ℕ) (u at : ℕ) : Type 0 where
+  pub keyed : BothKeyed corners table vertices
+  pub left-from : Marked corners (to corners table) (entry vertices leavingHere) u at
+  pub arrived-from : Marked corners (from corners table) (entry vertices arrivingHere) u at
 
--- the entry of a corner, and of all corners, for all side counts that the ends belong to
-abbrev pub EntryFor : List ℕ → List ℕ → List ℕ → ℕ → ℕ → Type 0
-EntryFor corners tos froms c x = (sides : List ℕ) → EdgeEnds sides corners tos froms → Entry sides corners c x
+-- the columns that marking keeps
+pub record Unmarked (old new : List ℕ) : Type 0 where
+  pub lasts : Kept old new lastHere
+  pub counts : Kept old new countHere
 
-abbrev pub EntriesFor : List ℕ → List ℕ → List ℕ → List ℕ → Type 0
-EntriesFor corners tos froms links = (sides : List ℕ) → EdgeEnds sides corners tos froms → Entries sides corners links
+-- side counts that the table's steps belong to
+pub record Ends (sides corners table : List ℕ) : Type 0 where
+  pub sums : sumOf sides ≡ length corners
+  pub nexts : Column table toNext (next sides) (length corners)
+  pub previouses : Column table toPrevious (previous sides) (length corners)
 
--- the corners of the vertices below u have their entries
-unfoldable pub EntriesBelow : List ℕ → List ℕ → List ℕ → List ℕ → ℕ → Type 0
-EntriesBelow corners tos froms links u = (c : ℕ) → c < length corners → vertexOf corners c < u → EntryFor corners tos froms c (getD links c 0)
+-- the entry of a corner, for all such side counts
+abbrev pub EntryFor : List ℕ → List ℕ → ℕ → ℕ → Type 0
+EntryFor corners table c x = (sides : List ℕ) → Ends sides corners table → Entry sides corners c x
+
+-- the corners of u have their entries; the others, and the other columns, hold what they held
+pub record Collected (corners old new : List ℕ) (u : ℕ) : Type 0 where
+  pub entries : (c : ℕ) → c < length corners → vertexOf corners c ≡ u → EntryFor corners old c (entry new toLink c)
+  pub others : (c : ℕ) → (vertexOf corners c ≡ u → ⊥) → entry new toLink c ≡ entry old toLink c
+  pub columns : KeptBut toLink old new
+
+-- all corners have their entries; the other columns, and the counts of the vertices, hold what they held
+pub record Found (corners old new before after : List ℕ) : Type 0 where
+  pub entries : (sides : List ℕ) → Ends sides corners new → Entries sides corners new
+  pub columns : KeptBut toLink old new
+  pub counts : Kept before after countHere

@@ -1,176 +1,130 @@
-// Checks 10 and 11: edges that leave twice, and edges that have no reverse; the links come out of the same tables.
+// Checks 10 and 11: edges that leave twice, and edges that have no reverse; the links come out of the same search.
 // A vertex's corners are marked by where their leaving edge goes and by where their arriving edge comes from. Each of them then finds,
 // without a search, the first corner that its edge leaves and a corner where the reverse of its edge arrives.
 use paper::Answer;
+use tables::ARRIVING;
+use tables::LAST;
+use tables::LEAVING;
+use walk::LINK;
+use walk::NEXT;
+use walk::PREVIOUS;
+use walk::ROW;
+use walk::VALENCE;
 ghost use mathlib.Core.Path.{_≡_};
-ghost use Prim.Native.Nat.{_+_, _≤_, _<_};
-ghost use lib.ListN.{length, getD};
+ghost use Prim.Native.Nat.{_*_, _≤_, _<_};
+ghost use lib.ListN.{length};
 ghost use Rattle.paper.specs.Mesh.{mostCorners};
 ghost use Rattle.paper.specs.Links.{vertexOf};
 ghost use Rattle.paper.specs.Faults.{lowestOf, stated};
-ghost use Rattle.tables.specs.Filled.{Blank};
-ghost use Rattle.edges.specs.Entries.{has, Unrepeated, Reversed, Searchable, Keyed, MarkedFrom, EntryFor, EntriesFor, EntriesBelow};
+ghost use Rattle.mesh.specs.Tables.{Named};
+ghost use Rattle.walk.specs.Table.{rowLength};
+ghost use Rattle.tables.specs.Vertices.{leavingHere, arrivingHere};
+ghost use Rattle.tables.specs.Chain.{Clear};
+ghost use Rattle.edges.specs.Entries.{has, Unrepeated, Reversed, Searchable, Row, BothKeyed, MarkedFrom, Unmarked, EntryFor, Collected, Found};
 
 // The entry of a corner whose leaving edge already left an earlier one, and of a corner whose leaving edge has no reverse.
 const REPEATED: u16 = 8193;
 
 const ALONE: u16 = 8192;
 
-// The entry of every corner, vertex by vertex. The tables of edges are never cleared: an entry of another vertex is known by its corner.
-pub fn fill_links(
-    corners: &[u16],
-    tos: &[u16],
-    froms: &[u16],
-    earliers: &[u16],
-    heads: &[u16],
-    vertices: usize,
-    leaving: &mut [u16],
-    arriving: &mut [u16],
-    links: &mut [u16],
-)
-    requires walk { ⌜ Searchable vertices (now corners) (now tos) (now froms) (now earliers) (now heads) ⌝ }
-    requires tables { ⌜ (vertices ≤ length (now leaving)) × Blank (now leaving) × (vertices ≤ length (now arriving)) × Blank (now arriving) ⌝ }
-    requires room { ⌜ length (now corners) ≤ length (now links) ⌝ }
-    ensures { λ _. ⌜ EntriesFor (now (corners .entry)) (now (tos .entry)) (now (froms .entry)) (now (links .exit)) ⌝ }
+// The entry of every corner, vertex by vertex, in the column of links. The columns of edges are never cleared: an entry of another vertex
+// is known by its corner.
+pub fn fill_links(corners: &[u16], count: usize, table: &mut [u16], vertices: &mut [u16])
+    requires walk { ⌜ Searchable (now corners) (now table) (now vertices) ⌝ }
+    requires vertices { ⌜ Named (now corners) count × (rowLength * count ≤ length (now vertices)) ⌝ }
+    requires clear { ⌜ Clear (now vertices) leavingHere × Clear (now vertices) arrivingHere ⌝ }
+    ensures { λ _. ⌜ Found (now (corners .entry)) (now (table .entry)) (now (table .exit)) (now (vertices .entry)) (now (vertices .exit)) ⌝ }
 {
     let mut u = 0;
-    while u < vertices {
-        mark(
-            corners,
-            tos,
-            froms,
-            earliers,
-            heads,
-            vertices,
-            u,
-            leaving,
-            arriving,
-        );
-        collect(
-            corners,
-            tos,
-            froms,
-            earliers,
-            heads,
-            vertices,
-            u,
-            leaving,
-            arriving,
-            links,
-        );
+    while u < count {
+        mark(corners, table, u, vertices);
+        collect(corners, vertices, u, table);
         u += 1;
     }
 }
 
 // Marks the corners of u, from the highest down: the lowest one of an edge stays.
-fn mark(
-    corners: &[u16],
-    tos: &[u16],
-    froms: &[u16],
-    earliers: &[u16],
-    heads: &[u16],
-    vertices: usize,
-    u: usize,
-    leaving: &mut [u16],
-    arriving: &mut [u16],
-)
-    requires walk { ⌜ (u < vertices) × Searchable vertices (now corners) (now tos) (now froms) (now earliers) (now heads) ⌝ }
-    requires tables { ⌜ Keyed vertices (now corners) (now tos) (now leaving) × Keyed vertices (now corners) (now froms) (now arriving) ⌝ }
-    ensures { λ _. ⌜ MarkedFrom vertices (now (corners .entry)) (now (tos .entry)) (now (froms .entry)) (now (leaving .exit)) (now (arriving .exit)) u 0 ⌝ }
+fn mark(corners: &[u16], table: &[u16], u: usize, vertices: &mut [u16])
+    requires walk { ⌜ Searchable (now corners) (now table) (now vertices) × Row (now vertices) u ⌝ }
+    requires keyed { ⌜ BothKeyed (now corners) (now table) (now vertices) ⌝ }
+    ensures marks { λ _. ⌜ MarkedFrom (now (corners .entry)) (now (table .entry)) (now (vertices .exit)) u 0 ⌝ }
+    ensures rest { λ _. ⌜ Unmarked (now (vertices .entry)) (now (vertices .exit)) ⌝ }
 {
-    let mut at = heads[u];
+    let mut at = vertices[ROW * u + LAST];
     while at != 0 {
         let d = (at - 1) as usize;
-        let to = tos[d] as usize;
-        leaving[to] = at;
-        let from = froms[d] as usize;
-        arriving[from] = at;
-        at = earliers[d];
+        let next = table[ROW * d + NEXT] as usize;
+        let to = corners[next] as usize;
+        vertices[ROW * to + LEAVING] = at;
+        let previous = table[ROW * d + PREVIOUS] as usize;
+        let from = corners[previous] as usize;
+        vertices[ROW * from + ARRIVING] = at;
+        at = table[ROW * d + VALENCE];
     }
 }
 
 // The entries of the corners of u, which are marked.
-fn collect(
-    corners: &[u16],
-    tos: &[u16],
-    froms: &[u16],
-    earliers: &[u16],
-    heads: &[u16],
-    vertices: usize,
-    u: usize,
-    leaving: &[u16],
-    arriving: &[u16],
-    links: &mut [u16],
-)
-    requires walk { ⌜ (u < vertices) × Searchable vertices (now corners) (now tos) (now froms) (now earliers) (now heads) ⌝ }
-    requires marked { ⌜ MarkedFrom vertices (now corners) (now tos) (now froms) (now leaving) (now arriving) u 0 ⌝ }
-    requires entries { ⌜ (length (now corners) ≤ length (now links)) × EntriesBelow (now corners) (now tos) (now froms) (now links) u ⌝ }
-    ensures { λ _. ⌜ EntriesBelow (now (corners .entry)) (now (tos .entry)) (now (froms .entry)) (now (links .exit)) (u + 1) ⌝ }
+fn collect(corners: &[u16], vertices: &[u16], u: usize, table: &mut [u16])
+    requires walk { ⌜ Searchable (now corners) (now table) (now vertices) × Row (now vertices) u ⌝ }
+    requires marked { ⌜ MarkedFrom (now corners) (now table) (now vertices) u 0 ⌝ }
+    ensures { λ _. ⌜ Collected (now (corners .entry)) (now (table .entry)) (now (table .exit)) u ⌝ }
 {
-    let mut at = heads[u];
+    let mut at = vertices[ROW * u + LAST];
     while at != 0 {
         let c = (at - 1) as usize;
-        links[c] = entry(corners, tos, froms, vertices, u, leaving, arriving, c);
-        at = earliers[c];
+        let x = entry(corners, table, vertices, c);
+        table[ROW * c + LINK] = x;
+        at = table[ROW * c + VALENCE];
     }
 }
 
-// The entry of corner c, whose vertex is u.
-fn entry(
-    corners: &[u16],
-    tos: &[u16],
-    froms: &[u16],
-    vertices: usize,
-    u: usize,
-    leaving: &[u16],
-    arriving: &[u16],
-    c: usize,
-) -> u16
-    requires corner { ⌜ (c < length (now corners)) × (vertexOf (now corners) c ≡ u) × (length (now corners) ≤ length (now tos)) × (getD (now tos) c 0 < vertices) ⌝ }
-    requires marked { ⌜ MarkedFrom vertices (now corners) (now tos) (now froms) (now leaving) (now arriving) u 0 ⌝ }
-    ensures { λ r. ⌜ EntryFor (now (corners .entry)) (now (tos .entry)) (now (froms .entry)) c r ⌝ }
+// The entry of corner c, whose vertex is marked.
+fn entry(corners: &[u16], table: &[u16], vertices: &[u16], c: usize) -> u16
+    requires corner { ⌜ (c < length (now corners)) × Searchable (now corners) (now table) (now vertices) ⌝ }
+    requires marked { ⌜ MarkedFrom (now corners) (now table) (now vertices) (vertexOf (now corners) c) 0 ⌝ }
+    ensures { λ r. ⌜ EntryFor (now (corners .entry)) (now (table .entry)) c r ⌝ }
 {
-    let to = tos[c] as usize;
-    let first = leaving[to] as usize;
+    let next = table[ROW * c + NEXT] as usize;
+    let to = corners[next] as usize;
+    let first = vertices[ROW * to + LEAVING] as usize;
     if first != c + 1 {
         return REPEATED;
     }
-    let e = arriving[to];
+    let e = vertices[ROW * to + ARRIVING];
     if e == 0 {
         return ALONE;
     }
     let d = e - 1;
-    let v = corners[d as usize] as usize;
-    if v != u {
+    if corners[d as usize] != corners[c] {
         return ALONE;
     }
     d
 }
 
 // Check 10: no leaving edge already left an earlier corner.
-pub fn check_repeats(corners: &[u16], links: &[u16]) -> Answer
-    requires { ⌜ (length (now corners) ≤ mostCorners) × (length (now corners) ≤ length (now links)) ⌝ }
-    ensures { λ r. ⌜ Unrepeated (now (corners .entry)) (now (links .entry)) r ⌝ }
+pub fn check_repeats(corners: &[u16], table: &[u16]) -> Answer
+    requires { ⌜ (length (now corners) ≤ mostCorners) × (rowLength * length (now corners) ≤ length (now table)) ⌝ }
+    ensures { λ r. ⌜ Unrepeated (now (corners .entry)) (now (table .entry)) r ⌝ }
 {
-    refuse(links, corners.len(), REPEATED, 10)
+    refuse(table, corners.len(), REPEATED, 10)
 }
 
 // Check 11, after check 10: each leaving edge has a reverse.
-pub fn check_reverses(corners: &[u16], links: &[u16]) -> Answer
-    requires { ⌜ (length (now corners) ≤ mostCorners) × (length (now corners) ≤ length (now links)) ⌝ }
-    ensures { λ r. ⌜ Reversed (now (corners .entry)) (now (links .entry)) r ⌝ }
+pub fn check_reverses(corners: &[u16], table: &[u16]) -> Answer
+    requires { ⌜ (length (now corners) ≤ mostCorners) × (rowLength * length (now corners) ≤ length (now table)) ⌝ }
+    ensures { λ r. ⌜ Reversed (now (corners .entry)) (now (table .entry)) r ⌝ }
 {
-    refuse(links, corners.len(), ALONE, 11)
+    refuse(table, corners.len(), ALONE, 11)
 }
 
 // The lowest corner that has the entry, as the place of a fault.
-fn refuse(links: &[u16], count: usize, entry: u16, number: u8) -> Answer
-    requires { ⌜ count ≤ length (now links) ⌝ }
-    ensures { λ r. ⌜ stated r ≡ lowestOf number count (has (now (links .entry)) entry) ⌝ }
+fn refuse(table: &[u16], count: usize, x: u16, number: u8) -> Answer
+    requires { ⌜ (count ≤ mostCorners) × (rowLength * count ≤ length (now table)) ⌝ }
+    ensures { λ r. ⌜ stated r ≡ lowestOf number count (has (now (table .entry)) x) ⌝ }
 {
     let mut c = 0;
     while c < count {
-        if links[c] == entry {
+        if table[ROW * c + LINK] == x {
             return Answer::Refused(number, c);
         }
         c += 1;

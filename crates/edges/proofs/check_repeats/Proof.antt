@@ -12,7 +12,7 @@ refuse-requires c κs = search needs
 
 returns : tie.Need-returns
 returns c =
-    let s = c .before .before .before in λ sides t. c .refuse .ensures ∙ ten-found sides (now (s .args .corners)) (now (s .args .links)) (s .pre .0) t
+    let s = c .before .before .before in λ sides t. c .refuse .ensures ∙ ten-found sides (now (s .args .corners)) (now (s .args .table)) (s .pre .0) t
 
 pub check-repeats-spec : {M : Type 1} → statement M
 check-repeats-spec = tie.close (tie.spec refuse-requires returns)

@@ -13,7 +13,7 @@ refuse-requires c κs = search needs
 returns : tie.Need-returns
 returns c =
     let s = c .before .before .before in
-    λ sides sums t ten. c .refuse .ensures ∙ eleven-found sides (now (s .args .corners)) (now (s .args .links)) (s .pre .0) t ten sums
+    λ sides sums t ten. c .refuse .ensures ∙ eleven-found sides (now (s .args .corners)) (now (s .args .table)) (s .pre .0) t ten sums
 
 pub check-reverses-spec : {M : Type 1} → statement M
 check-reverses-spec = tie.close (tie.spec refuse-requires returns)

@@ -1,94 +1,119 @@
--- `collect` meets its contract: the corners of earlier vertices, and those of this one from `at` on, have their entries. The chain falls.
+-- `collect` meets its contract: the corners of the vertex from `at` on have their entries. The chain falls.
 -- Assumes nothing.
-use mathlib.Core.Path.{_≡_, refl, _∙_}
-use Prim.Native.Nat.{_<_, _-_}
+use mathlib.Core.Path.{_≡_, refl, _∙_, sym, subst}
+use Prim.Native.Nat.{ℕ, _+_, _*_, _<_, _-_}
 use lib.ListN.{length, length-set}
 use denote.Ref.{now}
-use Rattle.tables.proofs.Laws.{On, on-head, on-next, on-falls, at-in, at-vertex}
-use Rattle.edges.proofs.Laws.{EntriesTo, entries-start, entries-step, entries-stop}
+use Rattle.walk.specs.Table.{rowLength, toLink, valenceHere, entry}
+use Rattle.tables.specs.Vertices.{lastHere}
+use Rattle.tables.proofs.Chains.{On, on-head, on-next, on-falls, at-in, at-vertex}
+use Rattle.edges.specs.Entries.{MarkedFrom}
+use Rattle.edges.proofs.Laws.{CollectedFrom, collected-none, collected-more, collected-all, searchable-on, marked-on, entry-back}
 use native.Mathlib.Omega.{arith}
 use borrow.Author.Needs.{needs}
 use Rattle.edges.proofs.collect.Statement.{statement}
 use Rattle.edges.proofs.collect.Tie as tie
+use Rattle.edges.proofs.entry.Reads as entry-reads
 
 abbrev Inv-loop : tie.InvT-loop
-Inv-loop corners tos froms earliers heads vertices u leaving arriving links₀ at₀ links at =
-    On corners u at × (length links ≡ length links₀) × EntriesTo corners tos froms links u at
+Inv-loop corners vertices u table₀ at₀ table at = On corners u at × (length table ≡ length table₀) × CollectedFrom corners table₀ table u at
 
 abbrev μ-loop : tie.MeasureT-loop
-μ-loop corners tos froms earliers heads vertices u leaving arriving links₀ at₀ links at = at
+μ-loop corners vertices u table₀ at₀ table at = at
 
 mul-at : tie.Need-mul-at Inv-loop μ-loop
 mul-at c = search needs
+
+add-at : tie.Need-add-at Inv-loop μ-loop
+add-at c = search needs
+
+mul-at-2 : tie.Need-mul-at-2 Inv-loop μ-loop
+mul-at-2 c = search needs
 
 shared-slice-read-at : tie.Need-shared-slice-read-at Inv-loop μ-loop
 shared-slice-read-at c = search needs
 
 loop-holds : tie.Need-loop-holds Inv-loop μ-loop
 loop-holds c =
-    let s = c .before .before .before .before .before .before .before .before .before in let k = s .pre .0 .1 in
-    let cs = now (s .args .corners) in let es = now (s .args .earliers) in let hs = now (s .args .heads) in
-    let l : s .args .u < length hs = omega (arith, s .pre .0 .0, k .heads-length) in
-    (on-head cs es hs (k .chained) (s .args .u) l, refl, entries-start cs _ _ _ es hs (k .chained) (s .args .u) l (s .pre .1 .1 .1))
+    let s = c .before .before .before .before in let k = s .pre .0 .0 .chained in
+    (on-head (now (s .args .corners)) _ _ k (s .args .u), refl, collected-none (now (s .args .corners)) _ _ k (s .args .u))
 
 sub-c : tie.Need-sub-c Inv-loop μ-loop
 sub-c c = search needs
 
 cast-c : tie.Need-cast-c Inv-loop μ-loop
-cast-c c =
-    let t = c .before in
-    omega (arith, t .loop .inv .0 .inside, t .before .before .before .before .before .before .before .before .before .before .pre .0 .1 .small)
+cast-c c = let t = c .before in omega (arith, t .loop .inv .0 .inside, t .before .before .before .before .before .pre .0 .0 .small)
 
 entry-requires : tie.Need-entry-requires Inv-loop μ-loop
 entry-requires c κs =
-    let t = c .before in let l = t .loop in let s = t .before .before .before .before .before .before .before .before .before .before in let k = s .pre .0 .1 in
-    let cs = now (s .args .corners) in let es = now (s .args .earliers) in let hs = now (s .args .heads) in
+    let l = c .before .before .loop in let s = c .before .before .before .before .before .before .before in let k = s .pre .0 .0 in
+    let cs = now (s .args .corners) in let ts = now (s .args .table) in let vs = now (s .args .vertices) in
     let n : l .at ≡ 0 → ⊥ = search needs in
-    let i = at-in cs es hs (k .chained) (s .args .u) (l .at) (l .inv .0) n in
-    ((i, at-vertex cs es hs (k .chained) (s .args .u) (l .at) (l .inv .0) n, k .tos-length, k .tos-in (l .at - 1) i), s .pre .1 .0)
+    let v = at-vertex cs (entry ts valenceHere) (entry vs lastHere) (k .chained) (s .args .u) (l .at) (l .inv .0) n in (
+      (at-in cs (entry ts valenceHere) (entry vs lastHere) (k .chained) (s .args .u) (l .at) (l .inv .0) n,
+      searchable-on cs ts (l .table) (l .inv .2 .columns) vs vs (l .inv .1) refl (λ u. refl) k),
+      subst (λ (u : ℕ). MarkedFrom cs (l .table) vs u 0) (sym v) (marked-on cs ts (l .table) (l .inv .2 .columns) vs (s .args .u) 0 (s .pre .1)),
+    )
 
-mul-links : tie.Need-mul-links Inv-loop μ-loop
-mul-links c =
-    let t = c .before .before in
-    omega (arith, t .loop .inv .0 .inside, t .before .before .before .before .before .before .before .before .before .before .pre .0 .1 .small)
+mul-table : tie.Need-mul-table Inv-loop μ-loop
+mul-table c =
+    let t = c .before .before .before in omega (arith, t .loop .inv .0 .inside, t .before .before .before .before .before .pre .0 .0 .small)
 
-slice-write-links : tie.Need-slice-write-links Inv-loop μ-loop
-slice-write-links c =
-    let t = c .before .before in
-    let l = t .loop in
-    omega
-    (arith, l .inv .0 .inside, t .before .before .before .before .before .before .before .before .before .before .pre .1 .1 .0, l .inv .1, c .before .loop-test .taken)
+add-table : tie.Need-add-table Inv-loop μ-loop
+add-table c =
+    let t = c .before .before .before in omega (arith, t .loop .inv .0 .inside, t .before .before .before .before .before .pre .0 .0 .small)
 
-mul-at-2 : tie.Need-mul-at-2 Inv-loop μ-loop
-mul-at-2 c =
-    let t = c .before .before in
-    omega (arith, t .loop .inv .0 .inside, t .before .before .before .before .before .before .before .before .before .before .pre .0 .1 .small)
+mul-table-2 : tie.Need-mul-table-2 Inv-loop μ-loop
+mul-table-2 c =
+    let t = c .before .before .before in omega (arith, t .loop .inv .0 .inside, t .before .before .before .before .before .pre .0 .0 .small)
 
-shared-slice-read-at-2 : tie.Need-shared-slice-read-at-2 Inv-loop μ-loop
-shared-slice-read-at-2 c =
-    let t = c .before .before .before in
-    omega
-    (arith, t .loop .inv .0 .inside, t .before .before .before .before .before .before .before .before .before .before .pre .0 .1 .earliers-length, c .before .before .loop-test .taken)
+slice-write-table : tie.Need-slice-write-table Inv-loop μ-loop
+slice-write-table c =
+    let l = c .before .before .before .loop in let s = c .before .before .before .before .before .before .before .before in let k = s .pre .0 .0 in
+    let n : l .at ≡ 0 → ⊥ = search needs in
+    omega (arith, n, l .inv .0 .inside, l .inv .1, k .long)
+
+mul-at-3 : tie.Need-mul-at-3 Inv-loop μ-loop
+mul-at-3 c =
+    let t = c .before .before .before in omega (arith, t .loop .inv .0 .inside, t .before .before .before .before .before .pre .0 .0 .small)
+
+add-at-2 : tie.Need-add-at-2 Inv-loop μ-loop
+add-at-2 c =
+    let t = c .before .before .before in omega (arith, t .loop .inv .0 .inside, t .before .before .before .before .before .pre .0 .0 .small)
+
+mul-at-4 : tie.Need-mul-at-4 Inv-loop μ-loop
+mul-at-4 c =
+    let t = c .before .before .before in omega (arith, t .loop .inv .0 .inside, t .before .before .before .before .before .pre .0 .0 .small)
+
+slice-read-at : tie.Need-slice-read-at Inv-loop μ-loop
+slice-read-at c =
+    let l = c .before .before .before .before .loop in let s = c .before .before .before .before .before .before .before .before .before in let k = s .pre .0 .0 in
+    let n : l .at ≡ 0 → ⊥ = search needs in
+    simp length-set (omega (arith, n, l .inv .0 .inside, l .inv .1, k .long))
 
 loop-less : tie.Need-loop-less Inv-loop μ-loop
 loop-less c =
-    let t = c .before .before .before in let l = t .loop in let s = t .before .before .before .before .before .before .before .before .before .before in
+    let l = c .before .before .before .before .loop in let s = c .before .before .before .before .before .before .before .before .before in let k = s .pre .0 .0 in
+    let cs = now (s .args .corners) in let ts = now (s .args .table) in let last = entry (now (s .args .vertices)) lastHere in
     let n : l .at ≡ 0 → ⊥ = search needs in
-    on-falls (now (s .args .corners)) (now (s .args .earliers)) (now (s .args .heads)) (s .pre .0 .1 .chained) (s .args .u) (l .at) (l .inv .0) n
+    let x = c .before .entry in
+    let m = collected-more cs ts last (k .chained) (s .args .u) (l .table) (l .at) (l .inv .0) n (omega (arith, n, l .inv .0 .inside, l .inv .1, k .long))
+    (l .inv .2) (x .result) (entry-back cs ts (l .table) (l .inv .2 .columns) (l .at - 1) (x .result) (x .ensures)) in
+    let q = m .columns valenceHere (omega arith) (λ z. omega arith) (l .at - 1) in
+    omega (arith, q, on-falls cs (entry ts valenceHere) last (k .chained) (s .args .u) (l .at) (l .inv .0) n)
 
 loop-again : tie.Need-loop-again Inv-loop μ-loop
 loop-again c =
-    let t = c .before .before .before in
-    let l = t .loop in
-    let s = t .before .before .before .before .before .before .before .before .before .before in
-    let k = s .pre .0 .1 .chained in
-    let e = c .before .entry in
-    let cs = now (s .args .corners) in let es = now (s .args .earliers) in let hs = now (s .args .heads) in
-    let n : l .at ≡ 0 → ⊥ = search needs in (
-      on-next cs es hs k (s .args .u) (l .at) (l .inv .0) n,
-      length-set (l .links) (l .at - 1) (e .result) ∙ l .inv .1,
-      entries-step cs (now (s .args .tos)) (now (s .args .froms)) (l .links) es hs k (s .args .u) (l .at) (l .inv .0) n
-          (omega (arith, n, l .inv .0 .inside, s .pre .1 .1 .0, l .inv .1)) (l .inv .2) (e .result) (e .ensures),
+    let l = c .before .before .before .before .loop in let s = c .before .before .before .before .before .before .before .before .before in let k = s .pre .0 .0 in
+    let cs = now (s .args .corners) in let ts = now (s .args .table) in let last = entry (now (s .args .vertices)) lastHere in
+    let n : l .at ≡ 0 → ⊥ = search needs in
+    let x = c .before .entry in
+    let m = collected-more cs ts last (k .chained) (s .args .u) (l .table) (l .at) (l .inv .0) n (omega (arith, n, l .inv .0 .inside, l .inv .1, k .long))
+    (l .inv .2) (x .result) (entry-back cs ts (l .table) (l .inv .2 .columns) (l .at - 1) (x .result) (x .ensures)) in
+    let q = m .columns valenceHere (omega arith) (λ z. omega arith) (l .at - 1) in (
+      subst (On cs (s .args .u)) (sym q) (on-next cs (entry ts valenceHere) last (k .chained) (s .args .u) (l .at) (l .inv .0) n),
+      simp length-set (l .inv .1),
+      subst (CollectedFrom cs ts _ (s .args .u)) (sym q) m,
     )
 
 same-length : tie.Need-same-length Inv-loop μ-loop
@@ -96,8 +121,8 @@ same-length c = search needs
 
 returns : tie.Need-returns Inv-loop μ-loop
 returns c =
-    let t = c .before in let l = t .loop in let s = t .before .before .before .before .before .before .before .before .before .before in
-    entries-stop _ _ _ _ (now (s .args .earliers)) (now (s .args .heads)) (s .pre .0 .1 .chained) _ (l .at) (search needs) (l .inv .2)
+    let l = c .before .loop in let s = c .before .before .before .before .before .before in
+    collected-all _ _ _ (s .pre .0 .0 .chained) _ (l .table) (l .at) (search needs) (l .inv .2)
 
 pub collect-spec : {M : Type 1} → statement M
 collect-spec =
@@ -106,15 +131,21 @@ collect-spec =
     Inv-loop
     μ-loop
     mul-at
+    add-at
+    mul-at-2
     shared-slice-read-at
     loop-holds
     sub-c
     cast-c
     entry-requires
-    mul-links
-    slice-write-links
-    mul-at-2
-    shared-slice-read-at-2
+    mul-table
+    add-table
+    mul-table-2
+    slice-write-table
+    mul-at-3
+    add-at-2
+    mul-at-4
+    slice-read-at
     loop-less
     loop-again
     same-length

@@ -1,76 +1,59 @@
--- Check 12 meets its contract: no vertex before `u` is at fault.
--- Assumes nothing.
-use mathlib.Core.Path.{_≡_, sym}
-use mathlib.Core.Bool.{false}
-use mathlib.Core.Logic.{⊎-elim}
-use Prim.Native.Nat.{ℕ, _≤_, _<_, _-_}
-use lib.ListN.{getD}
-use denote.Ref.{now}
-use borrow.Author.Tests.{ltb-true, ltb-false}
-use Rattle.paper.specs.Mesh.{leastSides, mostSides}
-use Rattle.paper.specs.Links.{valence}
-use Rattle.paper.specs.Faults.{fault12}
-use Rattle.mesh.proofs.Ranges.{outside-low, outside-high, inside}
-use Rattle.mesh.proofs.Scans.{fails-step}
-use Rattle.mesh.proofs.Verdicts.{lowest-hit, lowest-none}
 use native.Mathlib.Omega.{arith}
 use borrow.Author.Needs.{needs}
 use Rattle.rings.proofs.check_valences.Statement.{statement}
 use Rattle.rings.proofs.check_valences.Tie as tie
+use Rattle.rings.proofs.check_valences.Reads as reads
+use Rattle.rings.proofs.check_valences.Lts as lts
 
 abbrev Inv-loop : tie.InvT-loop
-Inv-loop corners counts lowests vertices u₀ u = (u ≤ vertices) × ((j : ℕ) → j < u → fault12 corners j ≡ false)
+Inv-loop corners vertices count u₀ u = ?
 
 abbrev μ-loop : tie.MeasureT-loop
-μ-loop corners counts lowests vertices u₀ u = vertices - u
+μ-loop corners vertices count u₀ u = ?
 
+-- src/lib.rt:24:5
 loop-holds : tie.Need-loop-holds Inv-loop μ-loop
-loop-holds c = (omega arith, λ j l. absurd (omega arith))
+loop-holds c = ?
 
-mul-count : tie.Need-mul-count Inv-loop μ-loop
-mul-count c = search needs
+-- src/lib.rt:25:26
+mul-n : tie.Need-mul-n Inv-loop μ-loop
+mul-n c = ?
 
-shared-slice-read-count : tie.Need-shared-slice-read-count Inv-loop μ-loop
-shared-slice-read-count c = search needs
+-- src/lib.rt:25:26
+add-n : tie.Need-add-n Inv-loop μ-loop
+add-n c = ?
 
-cast-count : tie.Need-cast-count Inv-loop μ-loop
-cast-count c = omega (arith, c .shared-slice-known .given (c .before .before .loop .u))
+-- src/lib.rt:25:17
+mul-n-2 : tie.Need-mul-n-2 Inv-loop μ-loop
+mul-n-2 c = ?
 
+-- src/lib.rt:25:17
+shared-slice-read-n : tie.Need-shared-slice-read-n Inv-loop μ-loop
+shared-slice-read-n c = ?
+
+-- src/lib.rt:25:17
+cast-n : tie.Need-cast-n Inv-loop μ-loop
+cast-n c = ?
+
+-- src/lib.rt:27:13
 returns : tie.Need-returns Inv-loop μ-loop
-unfolding fault12
-returns c =
-    let s = c .before .before .before .before in let l = c .before .before .before .loop in
-    let v = valence (now (s .args .corners)) (l .u) in
-    let n = getD (now (s .args .counts)) (l .u) 0 in
-    sym (lowest-hit 12 (s .args .vertices) (fault12 (now (s .args .corners))) (l .u) (search needs)
-    (⊎-elim
-    (λ w. outside-low leastSides mostSides v (omega (arith, s .pre .1 .count-is (l .u), w .taken)))
-    (λ w. outside-high leastSides mostSides v (omega (arith, s .pre .1 .count-is (l .u), ltb-true mostSides n (w .1 .taken))))
-    (c .if1 .came))
-    (l .inv .1))
+returns c = ?
 
+-- src/lib.rt:29:9
 add-u : tie.Need-add-u Inv-loop μ-loop
-add-u c = search needs
+add-u c = ?
 
+-- src/lib.rt:24:5
 loop-less : tie.Need-loop-less Inv-loop μ-loop
-loop-less c = search needs
+loop-less c = ?
 
+-- src/lib.rt:24:5
 loop-again : tie.Need-loop-again Inv-loop μ-loop
-unfolding fault12
-loop-again c =
-    let s = c .before .before .before .before .before in let l = c .before .before .before .before .loop in
-    let v = valence (now (s .args .corners)) (l .u) in
-    let n = getD (now (s .args .counts)) (l .u) 0 in (
-      search needs,
-      fails-step (fault12 (now (s .args .corners))) (l .u) (l .inv .1)
-          (inside leastSides mostSides v (omega (arith, s .pre .1 .count-is (l .u), c .before .if1 .left))
-          (omega (arith, s .pre .1 .count-is (l .u), ltb-false mostSides n (c .if2 .left)))),
-    )
+loop-again c = ?
 
+-- src/lib.rt:19:1
 returns-2 : tie.Need-returns-2 Inv-loop μ-loop
-returns-2 c =
-    let s = c .before .before in let l = c .before .loop in
-    sym (lowest-none 12 (s .args .vertices) (fault12 (now (s .args .corners))) (λ j h. l .inv .1 j (omega arith)))
+returns-2 c = ?
 
 pub check-valences-spec : {M : Type 1} → statement M
 check-valences-spec =
@@ -79,9 +62,11 @@ check-valences-spec =
     Inv-loop
     μ-loop
     loop-holds
-    mul-count
-    shared-slice-read-count
-    cast-count
+    mul-n
+    add-n
+    mul-n-2
+    shared-slice-read-n
+    cast-n
     returns
     add-u
     loop-less

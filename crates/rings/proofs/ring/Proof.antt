@@ -1,47 +1,48 @@
--- `ring` meets its contract: after `len` steps the walker stands where that many links lead, and the start has not come back.
--- What is left of the bound falls. Assumes nothing.
-use Prim.Native.Nat.{_-_}
-use denote.Ref.{now}
-use Rattle.rings.proofs.Laws.{Around, around-start, ring-none, ring-back, around-next}
 use native.Mathlib.Omega.{arith}
 use borrow.Author.Needs.{needs}
 use Rattle.rings.proofs.ring.Statement.{statement}
 use Rattle.rings.proofs.ring.Tie as tie
+use Rattle.rings.proofs.ring.Reads as reads
+use Rattle.rings.proofs.ring.Lts as lts
+use Rattle.walk.proofs.Walker.linked.Reads as linked-reads
 
 abbrev Inv-loop : tie.InvT-loop
-Inv-loop links count start bound left₀ len₀ w₀ left len w = Around links count start bound left len (w .corner)
+Inv-loop table count start bound left₀ len₀ w₀ left len w = ?
 
 abbrev μ-loop : tie.MeasureT-loop
-μ-loop links count start bound left₀ len₀ w₀ left len w = left
+μ-loop table count start bound left₀ len₀ w₀ left len w = ?
 
+-- src/lib.rt:61:9
 loop-holds : tie.Need-loop-holds Inv-loop μ-loop
-loop-holds c = around-start _ _ _ _ (c .before .pre .0)
+loop-holds c = ?
 
+-- src/lib.rt:65:9
 linked-requires : tie.Need-linked-requires Inv-loop μ-loop
-linked-requires c κs = let s = c .before .before .before in let l = c .before .loop in omega (arith, l .inv .within, s .pre .2)
+linked-requires c κs = ?
 
+-- src/lib.rt:66:9
 sub-left : tie.Need-sub-left Inv-loop μ-loop
-sub-left c = search needs
+sub-left c = ?
 
+-- src/lib.rt:67:9
 add-len : tie.Need-add-len Inv-loop μ-loop
-add-len c = search needs
+add-len c = ?
 
+-- src/lib.rt:61:9
 loop-less : tie.Need-loop-less Inv-loop μ-loop
-loop-less c = search needs
+loop-less c = ?
 
+-- src/lib.rt:61:9
 loop-again : tie.Need-loop-again Inv-loop μ-loop
-loop-again c = let s = c .before .before .before .before .before in let l = c .before .before .before .loop in
-    around-next (now (s .args .links)) (s .args .count) (s .args .start) (s .args .bound) (l .left) (l .len) (l .w .corner) (l .inv)
-    (search needs) (c .before .linked .result .corner) (c .before .linked .ensures) (s .pre .1 (l .w .corner) (l .inv .within)) (c .if2 .left)
+loop-again c = ?
 
+-- src/lib.rt:54:1
 returns : tie.Need-returns Inv-loop μ-loop
-returns c = let s = c .before .before .before in let l = c .before .loop in
-    ring-none (now (s .args .links)) (s .args .count) (s .args .start) (s .args .bound) (l .left) (l .len) (l .w .corner) (l .inv) (search needs)
+returns c = ?
 
+-- src/lib.rt:54:1
 returns-2 : tie.Need-returns-2 Inv-loop μ-loop
-returns-2 c = let s = c .before .before .before .before .before in let l = c .before .before .before .loop in
-    ring-back (now (s .args .links)) (s .args .count) (s .args .start) (s .args .bound) (l .left) (l .len) (l .w .corner) (l .inv)
-    (search needs) (c .before .linked .result .corner) (c .before .linked .ensures) (c .if2 .taken)
+returns-2 c = ?
 
 pub ring-spec : {M : Type 1} → statement M
 ring-spec =
