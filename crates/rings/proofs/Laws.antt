@@ -23,7 +23,7 @@ use Rattle.mesh.proofs.Verdicts.{lowest-hit, lowest-none}
 use Rattle.walk.specs.Table.{toLink, entry, Column}
 use Rattle.tables.specs.Vertices.{countHere, lowestHere}
 use Rattle.tables.specs.Filled.{CornersCounted}
-use Rattle.rings.specs.Ring.{ringWithin, Peopled}
+use Rattle.rings.specs.Ring.{ringWithin, Cornered}
 
 -- the ring
 abbrev pub backAt : (ℕ → ℕ) → ℕ → ℕ → Bool
@@ -122,7 +122,7 @@ module _ (corners table : List ℕ) where
   unfolding Whole
   whole-none sides k t j l = absurd (omega arith)
 
-  module _ (u count : ℕ) (w : Whole corners table u) (f : Peopled corners count) (l : u < count)
+  module _ (u count : ℕ) (w : Whole corners table u) (f : Cornered corners count) (l : u < count)
       (vertices : List ℕ) (g : CornersCounted corners vertices) (len : ℕ) (en : len ≡ ringWithin (entry table toLink) (entry vertices lowestHere u) (entry vertices countHere u)) where
     len-is : len ≡ ringWithin (entry table toLink) (lowest corners u) (valence corners u)
     len-is =

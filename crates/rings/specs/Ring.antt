@@ -25,8 +25,8 @@ pub record Linking (table : List ℕ) (n : ℕ) : Type 0 where
   pub links-in : (c : ℕ) → c < n → entry table toLink c < n
 
 -- vertices that have corners
-abbrev pub Peopled : List ℕ → ℕ → Type 0
-Peopled corners count = (u : ℕ) → u < count → leastSides ≤ valence corners u
+abbrev pub Cornered : List ℕ → ℕ → Type 0
+Cornered corners count = (u : ℕ) → u < count → leastSides ≤ valence corners u
 
 -- what check 13 answers, for all side counts that the links belong to
 abbrev pub Ringed : List ℕ → List ℕ → ℕ → Answer → Type 0

@@ -13,7 +13,7 @@ ghost use Rattle.paper.specs.Mesh.{mostVertices};
 ghost use Rattle.paper.specs.Faults.{lowestOf, fault12, stated};
 ghost use Rattle.walk.specs.Table.{rowLength, toLink, entry};
 ghost use Rattle.tables.specs.Filled.{CornersCounted};
-ghost use Rattle.rings.specs.Ring.{ringWithin, Linking, Peopled, Ringed};
+ghost use Rattle.rings.specs.Ring.{ringWithin, Linking, Cornered, Ringed};
 
 // Check 12: the corners that name a vertex are neither too few nor too many.
 pub fn check_valences(corners: &[u16], vertices: &[u16], count: usize) -> Answer
@@ -34,7 +34,7 @@ pub fn check_valences(corners: &[u16], vertices: &[u16], count: usize) -> Answer
 // Check 13: the ring of links from a vertex's lowest corner is as long as the vertex has corners, so it meets them all.
 pub fn check_rings(corners: &[u16], table: &[u16], vertices: &[u16], count: usize) -> Answer
     requires counted { ⌜ (count ≤ mostVertices) × (rowLength * count ≤ length (now vertices)) × CornersCounted (now corners) (now vertices) ⌝ }
-    requires links { ⌜ Linking (now table) (length (now corners)) × Peopled (now corners) count ⌝ }
+    requires links { ⌜ Linking (now table) (length (now corners)) × Cornered (now corners) count ⌝ }
     ensures { λ r. ⌜ Ringed (now (corners .entry)) (now (table .entry)) count r ⌝ }
 {
     let mut u = 0;

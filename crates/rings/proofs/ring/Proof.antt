@@ -1,48 +1,52 @@
+-- `ring` meets its contract: after `len` steps the walker stands where that many links lead, and the start has not come back.
+-- What is left of the bound falls. Assumes nothing.
+use Prim.Native.Nat.{_-_}
+use denote.Ref.{now}
+use Rattle.walk.specs.Table.{toLink, entry}
+use Rattle.rings.proofs.Laws.{Around, around-start, ring-none, ring-back, around-next}
 use native.Mathlib.Omega.{arith}
 use borrow.Author.Needs.{needs}
 use Rattle.rings.proofs.ring.Statement.{statement}
 use Rattle.rings.proofs.ring.Tie as tie
-use Rattle.rings.proofs.ring.Reads as reads
-use Rattle.rings.proofs.ring.Lts as lts
 use Rattle.walk.proofs.Walker.linked.Reads as linked-reads
 
 abbrev Inv-loop : tie.InvT-loop
-Inv-loop table count start bound left₀ len₀ w₀ left len w = ?
+Inv-loop table count start bound left₀ len₀ w₀ left len w = Around (entry table toLink) count start bound left len (w .corner)
 
 abbrev μ-loop : tie.MeasureT-loop
-μ-loop table count start bound left₀ len₀ w₀ left len w = ?
+μ-loop table count start bound left₀ len₀ w₀ left len w = left
 
--- src/lib.rt:61:9
 loop-holds : tie.Need-loop-holds Inv-loop μ-loop
-loop-holds c = ?
+loop-holds c = around-start _ _ _ _ (c .before .pre .0)
 
--- src/lib.rt:65:9
 linked-requires : tie.Need-linked-requires Inv-loop μ-loop
-linked-requires c κs = ?
+linked-requires c κs = let s = c .before .before .before in let l = c .before .loop in omega (arith, l .inv .within, s .pre .1 .long)
 
--- src/lib.rt:66:9
 sub-left : tie.Need-sub-left Inv-loop μ-loop
-sub-left c = ?
+sub-left c = search needs
 
--- src/lib.rt:67:9
 add-len : tie.Need-add-len Inv-loop μ-loop
-add-len c = ?
+add-len c = search needs
 
--- src/lib.rt:61:9
 loop-less : tie.Need-loop-less Inv-loop μ-loop
-loop-less c = ?
+loop-less c = search needs
 
--- src/lib.rt:61:9
 loop-again : tie.Need-loop-again Inv-loop μ-loop
-loop-again c = ?
+loop-again c =
+    let s = c .before .before .before .before .before in let l = c .before .before .before .loop in
+    around-next (entry (now (s .args .table)) toLink) (s .args .count) (s .args .start) (s .args .bound) (l .left) (l .len) (l .w .corner) (l .inv)
+    (search needs) (c .before .linked .result .corner) (c .before .linked .ensures .read) (s .pre .1 .links-in (l .w .corner) (l .inv .within)) (c .if2 .left)
 
--- src/lib.rt:54:1
 returns : tie.Need-returns Inv-loop μ-loop
-returns c = ?
+returns c =
+    let s = c .before .before .before in let l = c .before .loop in
+    ring-none (entry (now (s .args .table)) toLink) (s .args .count) (s .args .start) (s .args .bound) (l .left) (l .len) (l .w .corner) (l .inv) (search needs)
 
--- src/lib.rt:54:1
 returns-2 : tie.Need-returns-2 Inv-loop μ-loop
-returns-2 c = ?
+returns-2 c =
+    let s = c .before .before .before .before .before in let l = c .before .before .before .loop in
+    ring-back (entry (now (s .args .table)) toLink) (s .args .count) (s .args .start) (s .args .bound) (l .left) (l .len) (l .w .corner) (l .inv)
+    (search needs) (c .before .linked .result .corner) (c .before .linked .ensures .read) (c .if2 .taken)
 
 pub ring-spec : {M : Type 1} → statement M
 ring-spec =
