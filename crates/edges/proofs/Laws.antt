@@ -13,19 +13,21 @@ use Rattle.paper.specs.Scan.{someBelow, firstBelow}
 use Rattle.paper.specs.Mesh.{mostCorners}
 use Rattle.paper.specs.Corners.{sumOf, next, previous}
 use Rattle.paper.specs.Links.{vertexOf, leavesTo, arrivesFrom, sameEdge, reverseEdge, linked, link, reverse}
-use Rattle.paper.specs.Faults.{sound, lowestOf, fault10, fault11}
+use Rattle.paper.specs.Faults.{sound, fault, _orElse_, lowestOf, fault10, fault11, stated}
+use Rattle.paper.specs.declared.Answer.{Answer}
+use Rattle.paper.specs.declared.Answer.the-variants.{Refused}
 use Rattle.mesh.specs.Closed.{Closed}
 use Rattle.mesh.specs.Tables.{Named}
 use Rattle.mesh.proofs.Scans.{ways, clash, compared, and-true, and-left, and-right, first-fails, some-true, some-false, some-below, some-passes, none}
 use Rattle.mesh.proofs.Faces.{next-below, previous-below, next-previous, previous-next}
 use Rattle.mesh.proofs.Links.{unique, reverse-in, reverse-vertex, reverse-to, link-is}
-use Rattle.mesh.proofs.Verdicts.{lowest-hit, lowest-none, lowest-sound}
+use Rattle.mesh.proofs.Verdicts.{lowest-hit, lowest-none, lowest-sound, orElse-fault, orElse-sound, sound-left, sound-right}
 use Rattle.walk.specs.Table.{rowLength, toNext, toPrevious, toLink, valenceHere, entry, Column, Kept, KeptBut}
 use Rattle.walk.proofs.Table.{put, kept-put}
 use Rattle.tables.specs.Vertices.{lastHere, leavingHere, arrivingHere, countHere, Rowed}
 use Rattle.tables.specs.Chain.{EarliersTo, LastsTo, Chained, Clear}
 use Rattle.tables.proofs.Chains.{On, above-head, at-in, at-vertex, on-from}
-use Rattle.edges.specs.Entries.{repeated, alone, Entry, again, single, joined, Entries, has, to, from, Searchable, Keyed, BothKeyed, Hit, Marked, MarkedFrom, Unmarked, Ends, EntryFor, Collected, Found}
+use Rattle.edges.specs.Entries.{repeated, alone, Entry, again, single, joined, Entries, has, to, from, Searchable, Keyed, BothKeyed, Hit, Marked, MarkedFrom, Unmarked, Ends, EntryFor, Collected, Found, EdgesChecked}
 
 -- ---- marking
 pub keyed-clear : (corners table vertices : List ℕ) → Clear vertices leavingHere → Clear vertices arrivingHere → BothKeyed corners table vertices
@@ -179,7 +181,7 @@ module _ (corners table vertices : List ℕ) (c : ℕ) (h : c < length corners) 
 
   pub entry-single : entry vertices leavingHere (to corners table c) ≡ c + 1
       → ((entry vertices arrivingHere (to corners table c) ≡ 0 → ⊥)
-          → vertexOf corners (entry vertices arrivingHere (to corners table c) - 1) ≡ vertexOf corners c → ⊥) → Entry sides corners c alone
+      → vertexOf corners (entry vertices arrivingHere (to corners table c) - 1) ≡ vertexOf corners c → ⊥) → Entry sides corners c alone
   unfolding linked Marked
   entry-single q ne =
       single (once q)
@@ -386,3 +388,41 @@ module _ (sides corners table : List ℕ) (small : length corners ≤ mostCorner
       told x (again f) = absurd (clash f (k .ten c h))
       told x (single f g) = absurd (clash g (k .eleven c h))
       told x (joined f d l p) = link-only sides corners k c d h l p
+
+-- ---- the two ways out of 10 and 11
+module _ (corners old new before after : List ℕ) (small : length corners ≤ mostCorners) (f : Found corners old new before after) where
+  entries-of : (sides : List ℕ) → Ends sides corners old → Entries sides corners new
+  entries-of sides e = f .entries sides (ends-on corners old new (f .columns) sides e)
+
+  pub repeats-refused : (r : Answer) (k p : ℕ) → r ≡ Refused k p
+      → ((sides : List ℕ) → Entries sides corners new → stated r ≡ lowestOf 10 (length corners) (fault10 sides corners))
+      → EdgesChecked corners old new before after (Refused k p)
+  repeats-refused r k p q a =
+      record {
+        answers = λ sides e. sym (orElse-fault k p _ (sym (a sides (entries-of sides e)) ∙ ap stated q));
+        links = λ sides e s. let z : _≡_ {A = ℕ} 0 1 = cc in absurd (omega arith);
+        columns = f .columns;
+        counts = f .counts;
+      }
+
+  pub edges-checked : (r : Answer)
+      → ((sides : List ℕ) → Entries sides corners new → sound ≡ lowestOf 10 (length corners) (fault10 sides corners))
+      → ((sides : List ℕ) → sumOf sides ≡ length corners → Entries sides corners new → lowestOf 10 (length corners) (fault10 sides corners) ≡ sound
+      → stated r ≡ lowestOf 11 (length corners) (fault11 sides corners))
+      → EdgesChecked corners old new before after r
+  edges-checked r a b =
+      record {
+        answers = λ sides e.
+            let ten = sym (a sides (entries-of sides e)) in
+            b sides (e .sums) (entries-of sides e) ten ∙ sym (orElse-sound _ ten);
+        links = λ sides e s.
+            let ten = sym (a sides (entries-of sides e)) in
+            links-found sides corners new small (entries-of sides e)
+            (record {
+              sums = e .sums;
+              ten = lowest-sound _ _ _ ten;
+              eleven = lowest-sound _ _ _ (sym (b sides (e .sums) (entries-of sides e) ten) ∙ s);
+            });
+        columns = f .columns;
+        counts = f .counts;
+      }

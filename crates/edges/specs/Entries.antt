@@ -8,8 +8,8 @@ use lib.Dec.{eqb}
 use lib.ListN.{length}
 use Rattle.paper.specs.Mesh.{mostCorners}
 use Rattle.paper.specs.Corners.{sumOf, next, previous}
-use Rattle.paper.specs.Links.{vertexOf, linked}
-use Rattle.paper.specs.Faults.{sound, lowestOf, fault10, fault11, stated}
+use Rattle.paper.specs.Links.{vertexOf, linked, link}
+use Rattle.paper.specs.Faults.{sound, _orElse_, lowestOf, fault10, fault11, stated}
 use Rattle.paper.specs.declared.Answer.{Answer}
 use Rattle.walk.specs.Table.{rowLength, toNext, toPrevious, toLink, valenceHere, entry, Column, Kept, KeptBut}
 use Rattle.tables.specs.Vertices.{lastHere, leavingHere, arrivingHere, countHere, Rowed}
@@ -115,5 +115,13 @@ pub record Collected (corners old new : List ℕ) (u : ℕ) : Type 0 where
 -- all corners have their entries; the other columns, and the counts of the vertices, hold what they held
 pub record Found (corners old new before after : List ℕ) : Type 0 where
   pub entries : (sides : List ℕ) → Ends sides corners new → Entries sides corners new
+  pub columns : KeptBut toLink old new
+  pub counts : Kept before after countHere
+
+-- checks 10 and 11, for all side counts that the table's steps belong to; the links, where both have passed
+pub record EdgesChecked (corners old new before after : List ℕ) (r : Answer) : Type 0 where
+  pub answers : (sides : List ℕ) → Ends sides corners old
+      → stated r ≡ lowestOf 10 (length corners) (fault10 sides corners) orElse lowestOf 11 (length corners) (fault11 sides corners)
+  pub links : (sides : List ℕ) → Ends sides corners old → stated r ≡ sound → Column new toLink (link sides corners) (length corners)
   pub columns : KeptBut toLink old new
   pub counts : Kept before after countHere

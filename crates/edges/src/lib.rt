@@ -20,16 +20,31 @@ ghost use Rattle.mesh.specs.Tables.{Named};
 ghost use Rattle.walk.specs.Table.{rowLength};
 ghost use Rattle.tables.specs.Vertices.{leavingHere, arrivingHere};
 ghost use Rattle.tables.specs.Chain.{Clear};
-ghost use Rattle.edges.specs.Entries.{has, Unrepeated, Reversed, Searchable, Row, BothKeyed, MarkedFrom, Unmarked, EntryFor, Collected, Found};
+ghost use Rattle.edges.specs.Entries.{has, Unrepeated, Reversed, Searchable, Row, BothKeyed, MarkedFrom, Unmarked, EntryFor, Collected, Found, EdgesChecked};
 
 // The entry of a corner whose leaving edge already left an earlier one, and of a corner whose leaving edge has no reverse.
 const REPEATED: u16 = 8193;
 
 const ALONE: u16 = 8192;
 
+// Checks 10 and 11; the links stand in their column where both have passed.
+pub fn check_edges(corners: &[u16], count: usize, table: &mut [u16], vertices: &mut [u16]) -> Answer
+    requires walk { ⌜ Searchable (now corners) (now table) (now vertices) ⌝ }
+    requires vertices { ⌜ Named (now corners) count × (rowLength * count ≤ length (now vertices)) ⌝ }
+    requires clear { ⌜ Clear (now vertices) leavingHere × Clear (now vertices) arrivingHere ⌝ }
+    ensures { λ r. ⌜ EdgesChecked (now (corners .entry)) (now (table .entry)) (now (table .exit)) (now (vertices .entry)) (now (vertices .exit)) r ⌝ }
+{
+    fill_links(corners, count, table, vertices);
+    let a10 = check_repeats(corners, table);
+    if let Answer::Refused(k, p) = a10 {
+        return Answer::Refused(k, p);
+    }
+    check_reverses(corners, table)
+}
+
 // The entry of every corner, vertex by vertex, in the column of links. The columns of edges are never cleared: an entry of another vertex
 // is known by its corner.
-pub fn fill_links(corners: &[u16], count: usize, table: &mut [u16], vertices: &mut [u16])
+fn fill_links(corners: &[u16], count: usize, table: &mut [u16], vertices: &mut [u16])
     requires walk { ⌜ Searchable (now corners) (now table) (now vertices) ⌝ }
     requires vertices { ⌜ Named (now corners) count × (rowLength * count ≤ length (now vertices)) ⌝ }
     requires clear { ⌜ Clear (now vertices) leavingHere × Clear (now vertices) arrivingHere ⌝ }
@@ -102,7 +117,7 @@ fn entry(corners: &[u16], table: &[u16], vertices: &[u16], c: usize) -> u16
 }
 
 // Check 10: no leaving edge already left an earlier corner.
-pub fn check_repeats(corners: &[u16], table: &[u16]) -> Answer
+fn check_repeats(corners: &[u16], table: &[u16]) -> Answer
     requires { ⌜ (length (now corners) ≤ mostCorners) × (rowLength * length (now corners) ≤ length (now table)) ⌝ }
     ensures { λ r. ⌜ Unrepeated (now (corners .entry)) (now (table .entry)) r ⌝ }
 {
@@ -110,7 +125,7 @@ pub fn check_repeats(corners: &[u16], table: &[u16]) -> Answer
 }
 
 // Check 11, after check 10: each leaving edge has a reverse.
-pub fn check_reverses(corners: &[u16], table: &[u16]) -> Answer
+fn check_reverses(corners: &[u16], table: &[u16]) -> Answer
     requires { ⌜ (length (now corners) ≤ mostCorners) × (rowLength * length (now corners) ≤ length (now table)) ⌝ }
     ensures { λ r. ⌜ Reversed (now (corners .entry)) (now (table .entry)) r ⌝ }
 {

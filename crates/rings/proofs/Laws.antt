@@ -13,17 +13,19 @@ use borrow.Author.Tests.{eq-eqb, ne-eqb, eqb-true, lt-ltb, le-ltb}
 use Rattle.paper.specs.Scan.{firstBelow, countBelow, iterate}
 use Rattle.paper.specs.Mesh.{leastSides}
 use Rattle.paper.specs.Links.{vertexOf, names, link, valence, lowest}
-use Rattle.paper.specs.Faults.{fault13, after, ringLength, met, sound, fault, lowestOf}
+use Rattle.paper.specs.Faults.{fault12, fault13, after, ringLength, met, sound, fault, _orElse_, lowestOf, stated}
+use Rattle.paper.specs.declared.Answer.{Answer}
+use Rattle.paper.specs.declared.Answer.the-variants.{Done, Refused}
 use Rattle.mesh.specs.Closed.{Closed}
 use Rattle.mesh.proofs.Scans.{first-passes, first-fails, some-false, ways, compared, first-none, first-at, first-le-all, fails-step}
 use Rattle.mesh.proofs.Rings.{Turns, period-le, comes-back, met-all, count-none, iterate-zero, iterate-suc}
 use Rattle.mesh.proofs.Links.{link-in}
-use Rattle.mesh.proofs.Accepted.{turns, ring-full}
-use Rattle.mesh.proofs.Verdicts.{lowest-hit, lowest-none}
+use Rattle.mesh.proofs.Accepted.{turns, ring-full, valence-within}
+use Rattle.mesh.proofs.Verdicts.{lowest-hit, lowest-none, lowest-sound, stop, past}
 use Rattle.walk.specs.Table.{toLink, entry, Column}
 use Rattle.tables.specs.Vertices.{countHere, lowestHere}
-use Rattle.tables.specs.Filled.{CornersCounted}
-use Rattle.rings.specs.Ring.{ringWithin, Cornered}
+use Rattle.tables.specs.Filled.{CornersCounted, ValencesFilled}
+use Rattle.rings.specs.Ring.{ringWithin, Cornered, Ringed, VerticesChecked}
 
 -- the ring
 abbrev pub backAt : (ℕ → ℕ) → ℕ → ℕ → Bool
@@ -145,3 +147,23 @@ module _ (corners table : List ℕ) where
   pub whole-all : (u count : ℕ) → Whole corners table u → count ≤ u → (sides : List ℕ) → Closed sides corners → Column table toLink (link sides corners) (length corners) → sound ≡ lowestOf 13 count (fault13 sides corners)
   unfolding Whole
   whole-all u count w e sides k t = sym (lowest-none 13 count (fault13 sides corners) (λ j l. w sides k t j (omega arith)))
+
+-- after check 12 each vertex has corners
+pub cornered : (corners : List ℕ) (count : ℕ) → lowestOf 12 count (fault12 corners) ≡ sound → Cornered corners count
+cornered corners count e u h = valence-within corners u (lowest-sound 12 count (fault12 corners) e u h) .0
+
+-- ---- the ways out of 12 and 13
+module _ (corners : List ℕ) (count : ℕ) (old new : List ℕ) where
+  unfilled : {A : Type 0} (k p : ℕ) → fault k p ≡ sound → A
+  unfilled k p e = let z : _≡_ {A = ℕ} 0 1 = cc in absurd (omega arith)
+
+  pub valences-refused : (r : Answer) (k p : ℕ) → r ≡ Refused k p → stated r ≡ lowestOf 12 count (fault12 corners)
+      → VerticesChecked corners count old new (Refused k p)
+  valences-refused r k p q a = record { answers = λ sides c t. stop r a k p q _; filled = unfilled k p }
+
+  module _ (twelve : lowestOf 12 count (fault12 corners) ≡ sound) where
+    pub rings-refused : (r : Answer) (k p : ℕ) → r ≡ Refused k p → Ringed corners old count r → VerticesChecked corners count old new (Refused k p)
+    rings-refused r k p q a = record { answers = λ sides c t. past twelve _ (sym (ap stated q) ∙ a sides c t); filled = unfilled k p }
+
+    pub vertices-checked : (r : Answer) → r ≡ Done → Ringed corners old count r → ValencesFilled corners old new → VerticesChecked corners count old new Done
+    vertices-checked r q a f = record { answers = λ sides c t. past twelve _ (sym (ap stated q) ∙ a sides c t); filled = λ s. f }

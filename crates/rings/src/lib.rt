@@ -12,11 +12,35 @@ ghost use lib.ListN.{length};
 ghost use Rattle.paper.specs.Mesh.{mostVertices};
 ghost use Rattle.paper.specs.Faults.{lowestOf, fault12, stated};
 ghost use Rattle.walk.specs.Table.{rowLength, toLink, entry};
-ghost use Rattle.tables.specs.Filled.{CornersCounted};
-ghost use Rattle.rings.specs.Ring.{ringWithin, Linking, Cornered, Ringed};
+ghost use Rattle.tables.specs.Filled.{Countable, CornersCounted};
+ghost use Rattle.rings.specs.Ring.{ringWithin, Linking, Cornered, Ringed, VerticesChecked};
+
+// Checks 12 and 13; the valences stand in their column where both have passed.
+pub fn check_vertices(
+    corners: &[u16],
+    count: usize,
+    table: &mut [u16],
+    vertices: &mut [u16],
+) -> Answer
+    requires counted { ⌜ Countable (now corners) (now vertices) × (count ≤ mostVertices) × (rowLength * count ≤ length (now vertices)) ⌝ }
+    requires links { ⌜ Linking (now table) (length (now corners)) ⌝ }
+    ensures { λ r. ⌜ VerticesChecked (now (corners .entry)) count (now (table .entry)) (now (table .exit)) r ⌝ }
+{
+    tables::count_corners(corners, vertices);
+    let a12 = check_valences(corners, vertices, count);
+    if let Answer::Refused(k, p) = a12 {
+        return Answer::Refused(k, p);
+    }
+    let a13 = check_rings(corners, table, vertices, count);
+    if let Answer::Refused(k, p) = a13 {
+        return Answer::Refused(k, p);
+    }
+    tables::fill_valences(corners, vertices, table);
+    Answer::Done
+}
 
 // Check 12: the corners that name a vertex are neither too few nor too many.
-pub fn check_valences(corners: &[u16], vertices: &[u16], count: usize) -> Answer
+fn check_valences(corners: &[u16], vertices: &[u16], count: usize) -> Answer
     requires { ⌜ (count ≤ mostVertices) × (rowLength * count ≤ length (now vertices)) × CornersCounted (now corners) (now vertices) ⌝ }
     ensures { λ r. ⌜ stated r ≡ lowestOf 12 count (fault12 (now (corners .entry))) ⌝ }
 {
@@ -32,7 +56,7 @@ pub fn check_valences(corners: &[u16], vertices: &[u16], count: usize) -> Answer
 }
 
 // Check 13: the ring of links from a vertex's lowest corner is as long as the vertex has corners, so it meets them all.
-pub fn check_rings(corners: &[u16], table: &[u16], vertices: &[u16], count: usize) -> Answer
+fn check_rings(corners: &[u16], table: &[u16], vertices: &[u16], count: usize) -> Answer
     requires counted { ⌜ (count ≤ mostVertices) × (rowLength * count ≤ length (now vertices)) × CornersCounted (now corners) (now vertices) ⌝ }
     requires links { ⌜ Linking (now table) (length (now corners)) × Cornered (now corners) count ⌝ }
     ensures { λ r. ⌜ Ringed (now (corners .entry)) (now (table .entry)) count r ⌝ }

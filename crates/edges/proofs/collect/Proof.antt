@@ -50,8 +50,10 @@ entry-requires c κs =
     let cs = now (s .args .corners) in let ts = now (s .args .table) in let vs = now (s .args .vertices) in
     let n : l .at ≡ 0 → ⊥ = search needs in
     let v = at-vertex cs (entry ts valenceHere) (entry vs lastHere) (k .chained) (s .args .u) (l .at) (l .inv .0) n in (
-      (at-in cs (entry ts valenceHere) (entry vs lastHere) (k .chained) (s .args .u) (l .at) (l .inv .0) n,
-      searchable-on cs ts (l .table) (l .inv .2 .columns) vs vs (l .inv .1) refl (λ u. refl) k),
+      (
+        at-in cs (entry ts valenceHere) (entry vs lastHere) (k .chained) (s .args .u) (l .at) (l .inv .0) n,
+        searchable-on cs ts (l .table) (l .inv .2 .columns) vs vs (l .inv .1) refl (λ u. refl) k,
+      ),
       subst (λ (u : ℕ). MarkedFrom cs (l .table) vs u 0) (sym v) (marked-on cs ts (l .table) (l .inv .2 .columns) vs (s .args .u) 0 (s .pre .1)),
     )
 
