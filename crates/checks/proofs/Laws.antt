@@ -1,35 +1,50 @@
--- What each passed check gives to the later ones: sizes, sums and names for filling the tables, unique edges with reverses for the links.
+-- What each passed check gives to the later ones: rooms, sums and names for filling the tables, unique edges with reverses for the links;
+-- and how the answers make up the verdict.
 -- Assumes nothing.
-use mathlib.Core.Path.{_≡_, _∙_, sym}
+use mathlib.Core.Path.{_≡_, refl, _∙_, sym}
 use mathlib.Core.Bool.{false}
 use mathlib.Core.List.{List}
-use Prim.Native.Nat.{ℕ, _<_, _≤_}
+use Prim.Native.Nat.{ℕ, _*_, _<_, _≤_}
 use native.Mathlib.Omega.{arith}
-use lib.ListN.{length, getD, replicate, length-replicate}
-use Rattle.paper.specs.Mesh.{mostVertices, Mesh, vertexCount, faceCount, cornerCount}
-use Rattle.paper.specs.Corners.{next, previous}
-use Rattle.paper.specs.Links.{vertexOf, leavesTo, arrivesFrom}
-use Rattle.paper.specs.Faults.{sound, fault, _orElse_, lowestOf, fault4, fault5, fault8, fault10, fault11, fault12, listFaults, linkFaults, verdict, stated}
+use lib.ListN.{length, replicate, length-replicate}
+use Rattle.paper.specs.Mesh.{Mesh, vertexCount, faceCount, cornerCount, mostVertices, mostCorners}
+use Rattle.paper.specs.Links.{link}
+use Rattle.paper.specs.Refined.{cornersOf}
+use Rattle.paper.specs.Faults.{Verdict, sound, fault, _orElse_, lowestOf, fault4, fault5, fault8, fault10, fault11, fault12, fault13, listFaults, linkFaults, verdict, stated}
 use Rattle.paper.specs.declared.Answer.{Answer}
 use Rattle.paper.specs.declared.Answer.the-variants.{Refused}
-use Rattle.mesh.specs.Tables.{NextsTo, LinkTable}
 use Rattle.mesh.specs.Closed.{Closed}
 use Rattle.mesh.proofs.Faces.{next-below, previous-below}
 use Rattle.mesh.proofs.Links.{link-in}
-use Rattle.mesh.proofs.Verdicts.{sound-left, sound-right, single-sound, lowest-sound, orElse-fault, orElse-sound}
-use Rattle.mesh.proofs.Accepted.{few-vertices, few-corners, sides-within, sums-of, named-of, valence-within}
-use Rattle.tables.specs.Filled.{Blank, EdgeEnds, Chained}
-use Rattle.tables.proofs.Laws.{blank}
-use Rattle.edges.specs.Entries.{Entries, Searchable}
-use Rattle.edges.proofs.Laws.{links-found}
-use Rattle.rings.specs.Ring.{Countable, Followed}
-use Rattle.checks.specs.Checked.{Checked, Listed, ScratchRoom, CountRoom, Joined}
+use Rattle.mesh.proofs.Verdicts.{sound-left, sound-right, single-sound, lowest-sound, orElse-fault, orElse-sound, orElse-assoc, unsound}
+use Rattle.mesh.proofs.Accepted.{few-vertices, few-corners, sides-within, sums-of, named-of}
+use Rattle.walk.specs.Table.{rowLength, toNext, toPrevious, toLink, sidesHere, valenceHere, Column, KeptBut, Tabled}
+use Rattle.walk.proofs.Table.{blank}
+use Rattle.tables.specs.Vertices.{Rowed}
+use Rattle.tables.specs.Chain.{EarliersTo, Ready}
+use Rattle.tables.specs.Filled.{Fillable, FacesFilled, ValencesFilled}
+use Rattle.edges.specs.Entries.{Searchable, Ends}
+use Rattle.rings.specs.Ring.{Linking}
+use Rattle.checks.specs.Checked.{RoomFor, Checked, ListsChecked, Listed}
 
--- after 4 and 8: check 9's table has an entry for each vertex that is named
-pub lasts-room : (vertices : ℕ) (corners : List ℕ) → vertices ≤ mostVertices → lowestOf 8 (length corners) (fault8 vertices corners) ≡ sound
-    → ((c : ℕ) → c < length corners → vertexOf corners c < mostVertices) × Blank (replicate mostVertices 0)
-lasts-room vertices corners l e =
-    (λ c h. omega (arith, l, named-of vertices corners c (lowest-sound 8 (length corners) (fault8 vertices corners) e c h)), blank mostVertices)
+-- tables of p and q rows, of zeros
+pub room : (M : Mesh) (p q : ℕ) → (cornerCount M ≤ mostCorners → cornerCount M ≤ p) → (vertexCount M ≤ mostVertices → vertexCount M ≤ q)
+    → RoomFor M (replicate (rowLength * p) 0) (replicate (rowLength * q) 0)
+room M p q a b =
+    record {
+      corners-fit = λ h. rw (length-replicate {A = ℕ} (rowLength * p) 0) (omega (arith, a h));
+      vertices-fit = λ h. rw (length-replicate {A = ℕ} (rowLength * q) 0) (omega (arith, b h));
+      blank = blank (rowLength * q);
+    }
+
+-- after 4 and 8 the vertex of every corner has a row
+pub rowed : (M : Mesh) (vertices : List ℕ) → vertexCount M ≤ mostVertices → (vertexCount M ≤ mostVertices → rowLength * vertexCount M ≤ length vertices)
+    → lowestOf 8 (cornerCount M) (fault8 (vertexCount M) (M .corners)) ≡ sound → Rowed (M .corners) vertices
+rowed M vertices l r e c h =
+    omega (arith, r l, named-of (vertexCount M) (M .corners) c (lowest-sound 8 (cornerCount M) (fault8 (vertexCount M) (M .corners)) e c h))
+
+pub lists-refused : (M : Mesh) (table vertices : List ℕ) (k p : ℕ) → fault k p ≡ listFaults M → ListsChecked M (Refused k p) table vertices
+lists-refused M table vertices k p e = record { answers = e; ready = unsound k p }
 
 -- after 4 to 9
 pub listed : (M : Mesh) → listFaults M ≡ sound → Listed M
@@ -47,107 +62,82 @@ listed M e4 =
       named = λ c l. named-of (vertexCount M) (M .corners) c (lowest-sound 8 (cornerCount M) (fault8 (vertexCount M) (M .corners)) (sound-left _ _ e8) c l);
     }
 
--- the next corners stay in the list
-pub nexts-in : (M : Mesh) (nexts : List ℕ) → Listed M → NextsTo (M .sides) nexts (cornerCount M) → (c : ℕ) → c < cornerCount M → getD nexts c 0 < cornerCount M
-unfolding NextsTo
-nexts-in M nexts g n c l = omega (arith, g .sums, n c l, next-below (M .sides) c (omega (arith, g .sums)))
+module _ (M : Mesh) (g : Listed M) where
+  pub fillable : (table : List ℕ) → rowLength * cornerCount M ≤ length table → Fillable (M .sides) table
+  fillable table l = record { few = omega (arith, g .sums, g .small); least = g .sided; long = omega (arith, g .sums) }
 
--- the filled tables
-pub searchable : (M : Mesh) (earliers tos froms heads : List ℕ) → Listed M
-    → cornerCount M ≤ length earliers → cornerCount M ≤ length tos → cornerCount M ≤ length froms
-    → vertexCount M ≤ length heads → Chained (M .corners) earliers heads → EdgeEnds (M .sides) (M .corners) tos froms
-    → Searchable (vertexCount M) (M .corners) tos froms earliers heads
-unfolding leavesTo arrivesFrom
-searchable M earliers tos froms heads g le lt lf lh k e =
+  pub rows : (vertices : List ℕ) → rowLength * vertexCount M ≤ length vertices → Rowed (M .corners) vertices
+  rows vertices l c h = omega (arith, g .named c h)
+
+  -- the columns of the faces
+  module _ (old table : List ℕ) (f : FacesFilled (M .sides) old table) where
+    pub ends : Ends (M .sides) (M .corners) table
+    ends = record { sums = g .sums; nexts = λ c l. f .nexts c (omega (arith, g .sums)); previouses = λ c l. f .previouses c (omega (arith, g .sums)) }
+
+    pub searchable : (vertices : List ℕ) → rowLength * cornerCount M ≤ length table → rowLength * vertexCount M ≤ length vertices
+        → Ready (M .corners) old vertices → Searchable (M .corners) table vertices
+    unfolding EarliersTo
+    searchable vertices lt lv r =
+        record {
+          small = g .small;
+          long = lt;
+          rowed = rows vertices lv;
+          nexts-in = λ c l. omega (arith, g .sums, ends .nexts c l, next-below (M .sides) c (omega (arith, g .sums)));
+          previouses-in = λ c l. omega (arith, g .sums, ends .previouses c l, previous-below (M .sides) c (omega (arith, g .sums)));
+          chained = record {
+            earliers-are = λ c l. f .chains c ∙ r .chained .earliers-are c l;
+            lasts-are = r .chained .lasts-are;
+          };
+        }
+
+-- after 10 and 11
+abbrev pub edgeFaults : Mesh → Verdict
+edgeFaults M = lowestOf 10 (cornerCount M) (fault10 (M .sides) (M .corners)) orElse lowestOf 11 (cornerCount M) (fault11 (M .sides) (M .corners))
+
+pub closed : (M : Mesh) → Listed M → edgeFaults M ≡ sound → Closed (M .sides) (M .corners)
+closed M g e = record { sums = g .sums; ten = lowest-sound _ _ _ (sound-left _ _ e); eleven = lowest-sound _ _ _ (sound-right _ _ e) }
+
+pub linking : (M : Mesh) (table : List ℕ) → Closed (M .sides) (M .corners) → rowLength * cornerCount M ≤ length table
+    → Column table toLink (link (M .sides) (M .corners)) (cornerCount M) → Linking table (cornerCount M)
+linking M table k l t = record { long = l; links-in = λ c h. omega (arith, t c h, link-in (M .sides) (M .corners) k c h) }
+
+-- the table of corners, column by column: faces, then links, then valences
+pub tabled : (M : Mesh) → Listed M → (old faced linked table : List ℕ) → rowLength * cornerCount M ≤ length table
+    → FacesFilled (M .sides) old faced → KeptBut toLink faced linked → Column linked toLink (link (M .sides) (M .corners)) (cornerCount M)
+    → ValencesFilled (M .corners) linked table → Tabled (cornersOf M) table
+tabled M g old faced linked table l f k t v =
+    let apart = v .others in
     record {
-      small = g .small;
-      named = g .named;
-      tos-length = lt;
-      tos-in = λ c l.
-          let b = next-below (M .sides) c (omega (arith, e .sums)) in omega (arith, e .leaves c l, g .named (next (M .sides) c) (omega (arith, e .sums, b)));
-      froms-length = lf;
-      froms-in = λ c l.
-          let b = previous-below (M .sides) c (omega (arith, e .sums)) in
-          omega (arith, e .arrives c l, g .named (previous (M .sides) c) (omega (arith, e .sums, b)));
-      earliers-length = le;
-      heads-length = lh;
-      chained = k;
+      long = l;
+      nexts = λ c h.
+          apart toNext (omega arith) (λ q. omega arith) c ∙ k toNext (omega arith) (λ q. omega arith) c ∙ f .nexts c (omega (arith, g .sums));
+      previouses = λ c h.
+          apart toPrevious (omega arith) (λ q. omega arith) c ∙ k toPrevious (omega arith) (λ q. omega arith) c ∙ f .previouses c (omega (arith, g .sums));
+      links = λ c h. apart toLink (omega arith) (λ q. omega arith) c ∙ t c h;
+      sides = λ c h.
+          apart sidesHere (omega arith) (λ q. omega arith) c ∙ k sidesHere (omega arith) (λ q. omega arith) c ∙ f .sides-are c (omega (arith, g .sums));
+      valences = v .valences;
     }
 
-pub countable : (M : Mesh) (counts lowests : List ℕ) → Listed M → CountRoom M counts lowests → Countable (M .corners) counts lowests
-countable M counts lowests g r =
-    record {
-      small = g .small;
-      blank = r .counts-blank;
-      counted = λ c l. omega (arith, g .named c l, r .counts-length);
-      noted = λ c l. omega (arith, g .named c l, r .lowests-length);
-    }
+-- ---- the ways out of the whole check
+module _ (M : Mesh) (table : List ℕ) where
+  stopped : (k p : ℕ) → fault k p ≡ verdict M → Checked M (Refused k p) table
+  stopped k p v = record { answers = v; tabled = λ a. unsound k p (v ∙ a) }
 
--- scratch tables of p corners and q vertices
-module _ (M : Mesh) (p q : ℕ) (a : cornerCount M ≤ p) (b : vertexCount M ≤ q) where
-  sized : {n : ℕ} (m : ℕ) → n ≤ m → n ≤ length (replicate {A = ℕ} m 0)
-  sized m l = rw (length-replicate {A = ℕ} m 0) l
-
-  pub room : ScratchRoom M (replicate p 0) (replicate p 0) (replicate p 0) (replicate q 0) (replicate q 0) (replicate q 0)
-  room =
-      record {
-        earliers-length = sized p a;
-        tos-length = sized p a;
-        froms-length = sized p a;
-        heads-length = sized q b;
-        heads-blank = blank q;
-        leaving-length = sized q b;
-        leaving-blank = blank q;
-        arriving-length = sized q b;
-        arriving-blank = blank q;
-      }
-
-  pub count-room : CountRoom M (replicate q 0) (replicate q 0)
-  count-room = record { counts-length = sized q b; counts-blank = blank q; lowests-length = sized q b }
-
--- after 10 and 11: the entries are the links, and lead to corners
-module _ (M : Mesh) (links : List ℕ) (g : Listed M) (t : Entries (M .sides) (M .corners) links)
-    (ten : lowestOf 10 (cornerCount M) (fault10 (M .sides) (M .corners)) ≡ sound)
-    (eleven : lowestOf 11 (cornerCount M) (fault11 (M .sides) (M .corners)) ≡ sound) where
-  pub closed : Closed (M .sides) (M .corners)
-  closed = record { sums = g .sums; ten = lowest-sound _ _ _ ten; eleven = lowest-sound _ _ _ eleven }
-
-  pub table : LinkTable (M .sides) (M .corners) links
-  table = links-found (M .sides) (M .corners) links (g .small) t closed
-
-  links-in : (c : ℕ) → c < cornerCount M → getD links c 0 < cornerCount M
-  unfolding LinkTable
-  links-in c l = omega (arith, table c l, link-in (M .sides) (M .corners) closed c l)
-
-  pub followed : cornerCount M ≤ length links → lowestOf 12 (vertexCount M) (fault12 (M .corners)) ≡ sound → Followed (M .corners) links (vertexCount M)
-  followed l twelve =
-      record {
-        links-length = l;
-        links-in = links-in;
-        named = λ u h. valence-within (M .corners) u (lowest-sound 12 (vertexCount M) (fault12 (M .corners)) twelve u h) .0;
-      }
-
--- the ways out of 10 to 13
-module _ (M : Mesh) (links : List ℕ) where
-  pub refused : (k p : ℕ) → fault k p ≡ linkFaults M → Joined M (Refused k p) links
-  refused k p e = record { answers = e; holds = λ q. let z : _≡_ {A = ℕ} 0 1 = cc in absurd (omega arith) }
-
-  pub joined : (r : Answer) → stated r ≡ linkFaults M → LinkTable (M .sides) (M .corners) links → Joined M r links
-  joined r e t = record { answers = e; holds = λ q. t }
-
--- the whole check
-module _ (M : Mesh) (nexts links : List ℕ) where
-  pub lists-refused : (k p : ℕ) → fault k p ≡ listFaults M → Checked M (Refused k p) nexts links
+  pub stopped-lists : (k p : ℕ) → fault k p ≡ listFaults M → Checked M (Refused k p) table
   unfolding verdict
-  lists-refused k p e =
-      let v : fault k p ≡ verdict M = sym (orElse-fault k p (linkFaults M) (sym e)) in
-      record { answers = v; nexts-are = λ a. unsound (v ∙ a); links-are = λ a. unsound (v ∙ a) }
-    where
-      unsound : {A : Type 0} {k p : ℕ} → fault k p ≡ sound → A
-      unsound q = let z : _≡_ {A = ℕ} 0 1 = cc in absurd (omega arith)
+  stopped-lists k p e = stopped k p (sym (orElse-fault k p (linkFaults M) (sym e)))
 
-  pub checked : (r : Answer) → listFaults M ≡ sound → NextsTo (M .sides) nexts (cornerCount M) → Joined M r links → Checked M r nexts links
-  unfolding verdict
-  checked r e n j =
-      let v : stated r ≡ verdict M = j .answers ∙ sym (orElse-sound (linkFaults M) e) in
-      record { answers = v; nexts-are = λ a. n; links-are = λ a. j .holds (v ∙ a) }
+  module _ (e : listFaults M ≡ sound) where
+    pub stopped-edges : (k p : ℕ) → fault k p ≡ edgeFaults M → Checked M (Refused k p) table
+    unfolding verdict linkFaults
+    stopped-edges k p f =
+        stopped k p (sym (orElse-sound (linkFaults M) e ∙ sym (orElse-assoc _ _ _) ∙ orElse-fault k p _ (sym f)))
+
+    pub checked : (r : Answer) → edgeFaults M ≡ sound
+        → stated r ≡ lowestOf 12 (vertexCount M) (fault12 (M .corners)) orElse lowestOf 13 (vertexCount M) (fault13 (M .sides) (M .corners))
+        → (stated r ≡ sound → Tabled (cornersOf M) table) → Checked M r table
+    unfolding verdict linkFaults
+    checked r f v t =
+        let q : stated r ≡ verdict M = v ∙ sym (orElse-sound (linkFaults M) e ∙ sym (orElse-assoc _ _ _) ∙ orElse-sound _ f) in
+        record { answers = q; tabled = λ a. t (q ∙ a) }

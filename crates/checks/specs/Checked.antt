@@ -1,61 +1,38 @@
--- What the shared check of 4 to 13 answers, and what its scratch tables hold.
+-- What the shared check of 4 to 13 asks and answers, and what its tables hold.
 -- Assumes nothing.
 use mathlib.Core.Path.{_≡_}
 use mathlib.Core.List.{List}
-use Prim.Native.Nat.{ℕ, _<_, _≤_}
+use Prim.Native.Nat.{ℕ, _*_, _<_, _≤_}
 use lib.ListN.{length, getD}
 use Rattle.paper.specs.Mesh.{leastSides, mostVertices, mostCorners, Mesh, vertexCount, faceCount, cornerCount}
 use Rattle.paper.specs.Corners.{sumOf}
-use Rattle.paper.specs.Faults.{sound, linkFaults, verdict, Accepted, stated}
+use Rattle.paper.specs.Faults.{sound, listFaults, verdict, Accepted, stated}
+use Rattle.paper.specs.Refined.{cornersOf}
 use Rattle.paper.specs.declared.Answer.{Answer}
-use Rattle.mesh.specs.Tables.{smallMesh, Named, NextsTo, LinkTable}
-use Rattle.tables.specs.Filled.{Blank}
+use Rattle.mesh.specs.Tables.{Named}
+use Rattle.walk.specs.Table.{rowLength, Blank, Tabled}
+use Rattle.tables.specs.Chain.{Ready}
 
--- of every mesh; a refused one leaves the two tables with any contents, an accepted one fills them for its corners
-pub record Checked (M : Mesh) (r : Answer) (nexts links : List ℕ) : Type 0 where
+-- a table of corners and a table of vertices with a row for each, where there are not too many; the second is of zeros
+pub record RoomFor (M : Mesh) (table vertices : List ℕ) : Type 0 where
+  pub corners-fit : cornerCount M ≤ mostCorners → rowLength * cornerCount M ≤ length table
+  pub vertices-fit : vertexCount M ≤ mostVertices → rowLength * vertexCount M ≤ length vertices
+  pub blank : Blank vertices
+
+-- of every mesh; a refused one leaves the table of corners with any contents, as every mesh does the table of vertices
+pub record Checked (M : Mesh) (r : Answer) (table : List ℕ) : Type 0 where
   pub answers : stated r ≡ verdict M
-  pub nexts-are : Accepted M → NextsTo (M .sides) nexts (cornerCount M)
-  pub links-are : Accepted M → LinkTable (M .sides) (M .corners) links
+  pub tabled : Accepted M → Tabled (cornersOf M) table
 
--- a table that has room for each corner, where there are not too many of them
-abbrev pub RoomFor : List ℕ → List ℕ → Type 0
-RoomFor corners table = length corners ≤ mostCorners → length corners ≤ length table
+-- the checks 4 to 9
+pub record ListsChecked (M : Mesh) (r : Answer) (table vertices : List ℕ) : Type 0 where
+  pub answers : stated r ≡ listFaults M
+  pub ready : stated r ≡ sound → Ready (M .corners) table vertices
 
--- what the checks 4 to 9 leave for the later ones
+-- what they leave for the later ones
 pub record Listed (M : Mesh) : Type 0 where
   pub few : vertexCount M ≤ mostVertices
   pub small : cornerCount M ≤ mostCorners
   pub sums : sumOf (M .sides) ≡ cornerCount M
   pub sided : (f : ℕ) → f < faceCount M → leastSides ≤ getD (M .sides) f 0
   pub named : Named (M .corners) (vertexCount M)
-
--- what the checks 10 to 13 ask: the table of next corners is filled, and that of links has room
-abbrev pub Joinable : Mesh → List ℕ → List ℕ → Type 0
-Joinable M nexts links =
-    Listed M × NextsTo (M .sides) nexts (cornerCount M) × (cornerCount M ≤ length nexts) × (cornerCount M ≤ length links)
-
--- a mesh for the short tables
-abbrev pub Few : Mesh → Type 0
-Few M = (cornerCount M ≤ smallMesh) × (vertexCount M ≤ smallMesh)
-
--- scratch tables that have room for a mesh; those by vertex start at zero
-pub record ScratchRoom (M : Mesh) (earliers tos froms heads leaving arriving : List ℕ) : Type 0 where
-  pub earliers-length : cornerCount M ≤ length earliers
-  pub tos-length : cornerCount M ≤ length tos
-  pub froms-length : cornerCount M ≤ length froms
-  pub heads-length : vertexCount M ≤ length heads
-  pub heads-blank : Blank heads
-  pub leaving-length : vertexCount M ≤ length leaving
-  pub leaving-blank : Blank leaving
-  pub arriving-length : vertexCount M ≤ length arriving
-  pub arriving-blank : Blank arriving
-
-pub record CountRoom (M : Mesh) (counts lowests : List ℕ) : Type 0 where
-  pub counts-length : vertexCount M ≤ length counts
-  pub counts-blank : Blank counts
-  pub lowests-length : vertexCount M ≤ length lowests
-
--- the checks 10 to 13
-pub record Joined (M : Mesh) (r : Answer) (links : List ℕ) : Type 0 where
-  pub answers : stated r ≡ linkFaults M
-  pub holds : stated r ≡ sound → LinkTable (M .sides) (M .corners) links

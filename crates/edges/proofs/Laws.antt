@@ -21,7 +21,7 @@ use Rattle.mesh.specs.Tables.{Named}
 use Rattle.mesh.proofs.Scans.{ways, clash, compared, and-true, and-left, and-right, first-fails, some-true, some-false, some-below, some-passes, none}
 use Rattle.mesh.proofs.Faces.{next-below, previous-below, next-previous, previous-next}
 use Rattle.mesh.proofs.Links.{unique, reverse-in, reverse-vertex, reverse-to, link-is}
-use Rattle.mesh.proofs.Verdicts.{lowest-hit, lowest-none, lowest-sound, orElse-fault, orElse-sound, sound-left, sound-right}
+use Rattle.mesh.proofs.Verdicts.{lowest-hit, lowest-none, lowest-sound, orElse-fault, orElse-sound, unsound}
 use Rattle.walk.specs.Table.{rowLength, toNext, toPrevious, toLink, valenceHere, entry, Column, Kept, KeptBut}
 use Rattle.walk.proofs.Table.{put, kept-put}
 use Rattle.tables.specs.Vertices.{lastHere, leavingHere, arrivingHere, countHere, Rowed}
@@ -400,7 +400,7 @@ module _ (corners old new before after : List ℕ) (small : length corners ≤ m
   repeats-refused r k p q a =
       record {
         answers = λ sides e. sym (orElse-fault k p _ (sym (a sides (entries-of sides e)) ∙ ap stated q));
-        links = λ sides e s. let z : _≡_ {A = ℕ} 0 1 = cc in absurd (omega arith);
+        links = λ sides e. unsound k p;
         columns = f .columns;
         counts = f .counts;
       }

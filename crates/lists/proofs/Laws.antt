@@ -134,7 +134,3 @@ module _ (sides corners table vertices : List ℕ) (f c start : ℕ) (l : f < le
         chains = chains-step corners table vertices c (p .chains) ht hv;
         faultless = fails-step (fault9 sides corners) c (p .faultless) (in-face ∙ unrepeated start corners c _ met q);
       }
-
--- a refusal is no pass
-pub refused-not : {A : Type 0} (k p : ℕ) → fault k p ≡ sound → A
-refused-not k p e = let z : _≡_ {A = ℕ} 0 1 = cc in absurd (omega arith)

@@ -20,6 +20,10 @@ unfolding _orElse_
 sound-right sound w e = e
 sound-right (fault k p) w e = let z : _≡_ {A = ℕ} 0 1 = cc in absurd (omega arith)
 
+-- a fault is not sound
+pub unsound : {A : Type 0} (k p : ℕ) → fault k p ≡ sound → A
+unsound k p e = let z : _≡_ {A = ℕ} 0 1 = cc in absurd (omega arith)
+
 pub single-sound : (k : ℕ) (b : Bool) (p : ℕ) → single k b p ≡ sound → b ≡ false
 unfolding single
 single-sound k true p e = let z : _≡_ {A = ℕ} 0 1 = cc in absurd (omega arith)

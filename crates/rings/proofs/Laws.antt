@@ -21,7 +21,7 @@ use Rattle.mesh.proofs.Scans.{first-passes, first-fails, some-false, ways, comp
 use Rattle.mesh.proofs.Rings.{Turns, period-le, comes-back, met-all, count-none, iterate-zero, iterate-suc}
 use Rattle.mesh.proofs.Links.{link-in}
 use Rattle.mesh.proofs.Accepted.{turns, ring-full, valence-within}
-use Rattle.mesh.proofs.Verdicts.{lowest-hit, lowest-none, lowest-sound, stop, past}
+use Rattle.mesh.proofs.Verdicts.{lowest-hit, lowest-none, lowest-sound, unsound, stop, past}
 use Rattle.walk.specs.Table.{toLink, entry, Column}
 use Rattle.tables.specs.Vertices.{countHere, lowestHere}
 use Rattle.tables.specs.Filled.{CornersCounted, ValencesFilled}
@@ -154,16 +154,13 @@ cornered corners count e u h = valence-within corners u (lowest-sound 12 count (
 
 -- ---- the ways out of 12 and 13
 module _ (corners : List ℕ) (count : ℕ) (old new : List ℕ) where
-  unfilled : {A : Type 0} (k p : ℕ) → fault k p ≡ sound → A
-  unfilled k p e = let z : _≡_ {A = ℕ} 0 1 = cc in absurd (omega arith)
-
   pub valences-refused : (r : Answer) (k p : ℕ) → r ≡ Refused k p → stated r ≡ lowestOf 12 count (fault12 corners)
       → VerticesChecked corners count old new (Refused k p)
-  valences-refused r k p q a = record { answers = λ sides c t. stop r a k p q _; filled = unfilled k p }
+  valences-refused r k p q a = record { answers = λ sides c t. stop r a k p q _; filled = unsound k p }
 
   module _ (twelve : lowestOf 12 count (fault12 corners) ≡ sound) where
     pub rings-refused : (r : Answer) (k p : ℕ) → r ≡ Refused k p → Ringed corners old count r → VerticesChecked corners count old new (Refused k p)
-    rings-refused r k p q a = record { answers = λ sides c t. past twelve _ (sym (ap stated q) ∙ a sides c t); filled = unfilled k p }
+    rings-refused r k p q a = record { answers = λ sides c t. past twelve _ (sym (ap stated q) ∙ a sides c t); filled = unsound k p }
 
     pub vertices-checked : (r : Answer) → r ≡ Done → Ringed corners old count r → ValencesFilled corners old new → VerticesChecked corners count old new Done
     vertices-checked r q a f = record { answers = λ sides c t. past twelve _ (sym (ap stated q) ∙ a sides c t); filled = λ s. f }

@@ -7,11 +7,11 @@ use denote.Ref.{now}
 use Rattle.paper.specs.Corners.{startOf}
 use Rattle.paper.specs.Faults.{fault9}
 use Rattle.mesh.proofs.Faces.{start-zero, start-next, start-all, start-ends}
-use Rattle.mesh.proofs.Verdicts.{lowest-none}
+use Rattle.mesh.proofs.Verdicts.{lowest-none, unsound}
 use Rattle.walk.specs.Table.{rowLength, valenceHere}
 use Rattle.tables.specs.Vertices.{lastHere}
 use Rattle.tables.proofs.Chains.{chains-all}
-use Rattle.lists.proofs.Laws.{Passed, passed-none, passed-step, doubled, refused-not}
+use Rattle.lists.proofs.Laws.{Passed, passed-none, passed-step, doubled}
 use native.Mathlib.Omega.{arith}
 use borrow.Author.Needs.{needs}
 use Rattle.lists.proofs.check_faces.Statement.{statement}
@@ -105,7 +105,7 @@ returns c =
     let l = c .before .before .before .before .loop2 in (
       sym (doubled (now (s .args .sides)) (now (s .args .corners)) (l .table) (l .vertices) (o .f) (l .c) (o .start)
           (l .inv .0) (l .inv .1) (l .inv .4) (search needs) (l .inv .8) (omega (arith, l .inv .3)) (c .if1 .taken)),
-      refused-not _ _,
+      unsound _ _,
     )
 
 mul-table : tie.Need-mul-table Inv-loop2 μ-loop2 Inv-loop μ-loop
