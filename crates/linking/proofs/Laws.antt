@@ -2,41 +2,40 @@
 -- Assumes nothing.
 use mathlib.Core.Path.{_≡_, ap, _∙_, sym}
 use mathlib.Core.Bool.{not}
-use mathlib.Core.Logic.{⊎-elim}
 use mathlib.Core.List.{List}
 use Prim.Native.Nat.{ℕ, _+_, _<_, _≤_}
 use native.Mathlib.Omega.{arith}
+use lib.Dec.{eqb}
 use lib.ListN.{length, getD, set}
 use lib.Seq.{getD-set-same, getD-set-other}
-use borrow.Author.Tests.{eq-eqb, ne-eqb}
+use borrow.Author.Count.{below-more}
 use Rattle.paper.specs.Mesh.{Mesh, cornerCount}
 use Rattle.paper.specs.Links.{linkTable}
-use Rattle.paper.specs.Faults.{Verdict, sound, fault, Accepted, verdict, linkVerdict, kept}
+use Rattle.paper.specs.Faults.{Verdict, sound, fault, single, Accepted, verdict, linkVerdict, kept}
 use Rattle.paper.specs.Calls.{Linked}
 use Rattle.paper.specs.declared.Answer.the-variants.{Done, Refused}
-use Rattle.mesh.specs.Tables.{LinkTable}
-use Rattle.mesh.proofs.Scans.{compared}
+use Rattle.paper.specs.Refined.{cornersOf}
 use Rattle.mesh.proofs.Links.{link-table-is}
-use Rattle.mesh.proofs.Verdicts.{orElse-fault, orElse-sound, single-hit, single-miss}
+use Rattle.mesh.proofs.Verdicts.{orElse-fault, past}
+use Rattle.walk.specs.Table.{toLink, entry, Tabled}
+use Rattle.requests.proofs.Laws.{length-of}
 
--- the entries below c are copied
+-- the links below c are copied
 pub Copied : List ℕ → List ℕ → ℕ → Type 0
-Copied table links c = (d : ℕ) → d < c → getD links d 0 ≡ getD table d 0
+Copied table links c = (d : ℕ) → d < c → getD links d 0 ≡ entry table toLink d
 
 pub copied-none : (table links : List ℕ) → Copied table links 0
 unfolding Copied
 copied-none table links d l = absurd (omega arith)
 
-pub copied-step : (table links : List ℕ) (c : ℕ) → c < length links → Copied table links c → Copied table (set links c (getD table c 0)) (c + 1)
+pub copied-step : (table links : List ℕ) (c : ℕ) → c < length links → Copied table links c → Copied table (set links c (entry table toLink c)) (c + 1)
 unfolding Copied
-copied-step table links c h k d l =
-    ⊎-elim
-    (λ (q : d ≡ c). rw q (getD-set-same links c (getD table c 0) 0 h))
-    (λ o. let y : d < c = ⊎-elim (λ (y : d < c). y) (λ (y : c < d). absurd (omega arith)) o in
-    getD-set-other links c d (getD table c 0) 0 (λ q. omega arith) ∙ k d y)
-    (compared d c)
+copied-step table links c h k =
+    below-more (λ d. getD (set links c (entry table toLink c)) d 0 ≡ entry table toLink d) c
+    (λ d l. getD-set-other links c d (entry table toLink c) 0 (λ q. omega arith) ∙ k d l)
+    (getD-set-same links c (entry table toLink c) 0 h)
 
-pub copied-all : (table links : List ℕ) (c n : ℕ) → n ≤ c → Copied table links c → (d : ℕ) → d < n → getD links d 0 ≡ getD table d 0
+pub copied-all : (table links : List ℕ) (c n : ℕ) → n ≤ c → Copied table links c → (d : ℕ) → d < n → getD links d 0 ≡ entry table toLink d
 unfolding Copied
 copied-all table links c n h k d l = k d (omega arith)
 
@@ -50,18 +49,19 @@ module _ (M : Mesh) (old : List ℕ) where
   link-refused k p e = left k p (sym (orElse-fault k p _ (sym e)))
 
   module _ (a : Accepted M) where
-    pub link-14 : (length old ≡ cornerCount M → ⊥) → Linked M old (Refused 14 (length old)) old
+    pub link-14 : (k p : ℕ) → fault k p ≡ single 14 (not (eqb (length old) (cornerCount M))) (length old) → Linked M old (Refused k p) old
     unfolding linkVerdict
-    link-14 n = left 14 (length old) (sym (orElse-sound _ a ∙ single-hit 14 (length old) (ap not (ne-eqb (length old) (cornerCount M) n))))
+    link-14 k p e = left k p (past a _ e)
 
-    pub link-done : (table out : List ℕ) → length old ≡ cornerCount M → length out ≡ length old → LinkTable (M .sides) (M .corners) table
-        → ((c : ℕ) → c < length old → getD out c 0 ≡ getD table c 0) → Linked M old Done out
-    unfolding linkVerdict LinkTable
-    link-done table out l m t k =
-        let e : sound ≡ linkVerdict M (length old) = sym (orElse-sound _ a ∙ single-miss 14 (length old) (ap not (eq-eqb (length old) (cornerCount M) l))) in
+    pub link-done : (table out : List ℕ) → single 14 (not (eqb (length old) (cornerCount M))) (length old) ≡ sound → length out ≡ length old
+        → Tabled (cornersOf M) table → ((c : ℕ) → c < length old → getD out c 0 ≡ entry table toLink c) → Linked M old Done out
+    unfolding linkVerdict
+    link-done table out f m t k =
+        let e : sound ≡ linkVerdict M (length old) = past a _ (sym f) in
+        let l = length-of (length old) (cornerCount M) f in
         record {
           answers = e;
           holds =
-              link-table-is M out (m ∙ l) (λ c h. k c (omega arith) ∙ t c h)
+              link-table-is M out (m ∙ l) (λ c h. k c (omega arith) ∙ t .links c h)
               ∙ ap (λ (v : Verdict). kept v (linkTable M) old) e;
         }

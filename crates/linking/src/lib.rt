@@ -2,41 +2,43 @@
 use mesh::SMALL_MESH;
 use paper::Answer;
 use paper::MOST_CORNERS;
+use paper::MOST_VERTICES;
+use walk::LINK;
+use walk::ROW;
 ghost use mathlib.Core.Path.{_≡_};
-ghost use Prim.Native.Nat.{ℕ, _≤_, _<_};
+ghost use Prim.Native.Nat.{ℕ, _*_, _≤_, _<_};
 ghost use lib.ListN.{length, getD};
-ghost use Rattle.paper.specs.Mesh.{meshOf};
+ghost use Rattle.paper.specs.Mesh.{mostCorners, meshOf};
 ghost use Rattle.paper.specs.Calls.{Linked};
-ghost use Rattle.mesh.specs.Tables.{smallMesh};
+ghost use Rattle.walk.specs.Table.{rowLength, toLink, entry};
 ghost use Rattle.checks.specs.Checked.{RoomFor};
 
 // Checks 4 to 14, then the link of every corner. Nothing is written to the lent table before the last check has passed.
 pub fn link(coordinates: &[i32], sides: &[u8], corners: &[u16], links: &mut [u16]) -> Answer
     ensures { λ r. ⌜ Linked (meshOf (now (coordinates .entry)) (now (sides .entry)) (now (corners .entry))) (now (links .entry)) r (now (links .exit)) ⌝ }
 {
-    if corners.len() <= SMALL_MESH {
-        return link_few(coordinates, sides, corners, links);
+    if corners.len() <= SMALL_MESH && coordinates.len() / 3 <= SMALL_MESH {
+        let mut table = [0u16; ROW * SMALL_MESH];
+        let mut vertices = [0u16; ROW * SMALL_MESH];
+        return link_over(
+            coordinates,
+            sides,
+            corners,
+            &mut table,
+            &mut vertices,
+            links,
+        );
     }
-    link_many(coordinates, sides, corners, links)
-}
-
-// The same of a small mesh.
-fn link_few(coordinates: &[i32], sides: &[u8], corners: &[u16], links: &mut [u16]) -> Answer
-    requires { ⌜ length (now corners) ≤ smallMesh ⌝ }
-    ensures { λ r. ⌜ Linked (meshOf (now (coordinates .entry)) (now (sides .entry)) (now (corners .entry))) (now (links .entry)) r (now (links .exit)) ⌝ }
-{
-    let mut nexts = [0u16; SMALL_MESH];
-    let mut table = [0u16; SMALL_MESH];
-    link_over(coordinates, sides, corners, &mut nexts, &mut table, links)
-}
-
-// The same of any mesh.
-fn link_many(coordinates: &[i32], sides: &[u8], corners: &[u16], links: &mut [u16]) -> Answer
-    ensures { λ r. ⌜ Linked (meshOf (now (coordinates .entry)) (now (sides .entry)) (now (corners .entry))) (now (links .entry)) r (now (links .exit)) ⌝ }
-{
-    let mut nexts = [0u16; MOST_CORNERS];
-    let mut table = [0u16; MOST_CORNERS];
-    link_over(coordinates, sides, corners, &mut nexts, &mut table, links)
+    let mut table = [0u16; ROW * MOST_CORNERS];
+    let mut vertices = [0u16; ROW * MOST_VERTICES];
+    link_over(
+        coordinates,
+        sides,
+        corners,
+        &mut table,
+        &mut vertices,
+        links,
+    )
 }
 
 // The same over tables of its own: the checks fill them, and the links are copied once they have passed.
@@ -44,32 +46,33 @@ fn link_over(
     coordinates: &[i32],
     sides: &[u8],
     corners: &[u16],
-    nexts: &mut [u16],
     table: &mut [u16],
+    vertices: &mut [u16],
     links: &mut [u16],
 ) -> Answer
-    requires { ⌜ RoomFor (now corners) (now nexts) × RoomFor (now corners) (now table) ⌝ }
+    requires { ⌜ RoomFor (meshOf (now coordinates) (now sides) (now corners)) (now table) (now vertices) ⌝ }
     ensures { λ r. ⌜ Linked (meshOf (now (coordinates .entry)) (now (sides .entry)) (now (corners .entry))) (now (links .entry)) r (now (links .exit)) ⌝ }
 {
-    let a = checks::check_within(coordinates, sides, corners, nexts, table);
+    let a = checks::check_within(coordinates, sides, corners, table, vertices);
     if let Answer::Refused(k, p) = a {
         return Answer::Refused(k, p);
     }
-    if links.len() != corners.len() {
-        return Answer::Refused(14, links.len());
+    let a14 = requests::check_length(links.len(), corners.len());
+    if let Answer::Refused(k, p) = a14 {
+        return Answer::Refused(k, p);
     }
     copy(table, links);
     Answer::Done
 }
 
-// Copies the beginning of a table, as much as the lent one holds.
+// Copies the column of links, for as many corners as the lent table has.
 fn copy(table: &[u16], links: &mut [u16])
-    requires { ⌜ length (now links) ≤ length (now table) ⌝ }
-    ensures { λ _. ⌜ ((c : ℕ) → c < length (now (links .entry)) → getD (now (links .exit)) c 0 ≡ getD (now (table .entry)) c 0) ⌝ }
+    requires { ⌜ (length (now links) ≤ mostCorners) × (rowLength * length (now links) ≤ length (now table)) ⌝ }
+    ensures { λ _. ⌜ ((c : ℕ) → c < length (now (links .entry)) → getD (now (links .exit)) c 0 ≡ entry (now (table .entry)) toLink c) ⌝ }
 {
     let mut c = 0;
     while c < links.len() {
-        links[c] = table[c];
+        links[c] = table[ROW * c + LINK];
         c += 1;
     }
 }

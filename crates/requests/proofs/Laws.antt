@@ -9,22 +9,24 @@ use lib.Dec.{eqb, ltb}
 use lib.ListN.{getD}
 use borrow.Author.Tests.{eqb-true, eqb-false, eq-eqb, ne-eqb, lt-ltb, le-ltb, ltb-false, not-false}
 use Rattle.paper.specs.Mesh.{Mesh, cornerCount}
+use Rattle.paper.specs.Links.{link}
 use Rattle.paper.specs.Faults.{Verdict, sound, _orElse_, single, verdict, linkVerdict}
 use Rattle.paper.specs.Calls.{perCorner, fault15, fault16, fault17, buildVerdict}
-use Rattle.mesh.specs.Tables.{LinkTable}
+use Rattle.walk.specs.Table.{toLink, entry, Column}
 use Rattle.mesh.proofs.Ranges.{or-left, or-right, or-none, none-left, none-right}
 use Rattle.mesh.proofs.Verdicts.{single-sound, sound-left, sound-right, orElse-assoc}
 use Rattle.requests.specs.Request.{requestFaults}
 
 -- 15, by the table of the mesh's links
-module _ (M : Mesh) (table links : List ℕ) (t : LinkTable (M .sides) (M .corners) table) (c : ℕ) (h : c < cornerCount M) where
-  pub links-differ : (getD links c 0 ≡ getD table c 0 → ⊥) → fault15 M links c ≡ true
-  unfolding fault15 LinkTable
-  links-differ n = ap not (ne-eqb _ _ (λ q. n (q ∙ sym (t c h))))
+module _ (M : Mesh) (table links : List ℕ) (t : Column table toLink (link (M .sides) (M .corners)) (cornerCount M)) (c : ℕ) (h : c < cornerCount M)
+  where
+    pub links-differ : (getD links c 0 ≡ entry table toLink c → ⊥) → fault15 M links c ≡ true
+    unfolding fault15
+    links-differ n = ap not (ne-eqb _ _ (λ q. n (q ∙ sym (t c h))))
 
-  pub links-agree : getD links c 0 ≡ getD table c 0 → fault15 M links c ≡ false
-  unfolding fault15 LinkTable
-  links-agree e = ap not (eq-eqb _ _ (e ∙ t c h))
+    pub links-agree : getD links c 0 ≡ entry table toLink c → fault15 M links c ≡ false
+    unfolding fault15
+    links-agree e = ap not (eq-eqb _ _ (e ∙ t c h))
 
 -- 16
 module _ (corners first count : ℕ) where

@@ -1,20 +1,23 @@
 // Checks 14 to 17: what is asked of building besides the mesh, for a mesh that has passed the checks before.
 use paper::Answer;
+use walk::LINK;
+use walk::ROW;
 ghost use mathlib.Core.Path.{_≡_};
 ghost use mathlib.Core.Bool.{not, _||_};
-ghost use Prim.Native.Nat.{_+_, _≤_};
+ghost use Prim.Native.Nat.{_+_, _*_, _≤_};
 ghost use lib.Dec.{eqb, ltb};
 ghost use lib.ListN.{length};
 ghost use Rattle.paper.specs.Mesh.{mostCorners, Mesh, cornerCount};
+ghost use Rattle.paper.specs.Links.{link};
 ghost use Rattle.paper.specs.Faults.{single, lowestOf, stated};
 ghost use Rattle.paper.specs.Calls.{fault15, fault17};
-ghost use Rattle.mesh.specs.Tables.{LinkTable};
+ghost use Rattle.walk.specs.Table.{rowLength, toLink, Column};
 ghost use Rattle.requests.specs.Request.{requestFaults};
 
 // The numbers that building writes for a corner.
 pub const PER_CORNER: usize = 123;
 
-// Checks 14 to 17; `table` holds the links of the mesh, `room` is the output's length.
+// Checks 14 to 17; `table` is the mesh's table of corners, `room` is the output's length.
 pub fn check_request(
     corners: usize,
     table: &[u16],
@@ -23,8 +26,8 @@ pub fn check_request(
     count: usize,
     room: usize,
 ) -> Answer
-    requires { ⌜ (corners ≤ mostCorners) × (corners ≤ length (now table)) ⌝ }
-    ensures { λ r. ⌜ ((M : Mesh) → cornerCount M ≡ corners → LinkTable (M .sides) (M .corners) (now (table .entry)) → stated r ≡ requestFaults M (now (links .entry)) first count room) ⌝ }
+    requires { ⌜ (corners ≤ mostCorners) × (rowLength * corners ≤ length (now table)) ⌝ }
+    ensures { λ r. ⌜ ((M : Mesh) → cornerCount M ≡ corners → Column (now (table .entry)) toLink (link (M .sides) (M .corners)) (cornerCount M) → stated r ≡ requestFaults M (now (links .entry)) first count room) ⌝ }
 {
     let a14 = check_length(links.len(), corners);
     if let Answer::Refused(k, p) = a14 {
@@ -42,7 +45,7 @@ pub fn check_request(
 }
 
 // Check 14: the link table's length is the corner count.
-fn check_length(links: usize, corners: usize) -> Answer
+pub fn check_length(links: usize, corners: usize) -> Answer
     ensures { λ r. ⌜ stated r ≡ single 14 (not (eqb links corners)) links ⌝ }
 {
     if links != corners {
@@ -53,12 +56,12 @@ fn check_length(links: usize, corners: usize) -> Answer
 
 // Check 15: the link table is the mesh's own.
 fn check_links(table: &[u16], links: &[u16]) -> Answer
-    requires { ⌜ length (now links) ≤ length (now table) ⌝ }
-    ensures { λ r. ⌜ ((M : Mesh) → cornerCount M ≡ length (now (links .entry)) → LinkTable (M .sides) (M .corners) (now (table .entry)) → stated r ≡ lowestOf 15 (cornerCount M) (fault15 M (now (links .entry)))) ⌝ }
+    requires { ⌜ (length (now links) ≤ mostCorners) × (rowLength * length (now links) ≤ length (now table)) ⌝ }
+    ensures { λ r. ⌜ ((M : Mesh) → cornerCount M ≡ length (now (links .entry)) → Column (now (table .entry)) toLink (link (M .sides) (M .corners)) (cornerCount M) → stated r ≡ lowestOf 15 (cornerCount M) (fault15 M (now (links .entry)))) ⌝ }
 {
     let mut c = 0;
     while c < links.len() {
-        if links[c] != table[c] {
+        if links[c] != table[ROW * c + LINK] {
             return Answer::Refused(15, c);
         }
         c += 1;

@@ -2,12 +2,13 @@
 -- Assumes nothing.
 use mathlib.Core.Path.{_≡_, sym}
 use Rattle.mesh.proofs.Verdicts.{lowest-hit, lowest-none}
-use Prim.Native.Nat.{ℕ, _-_, _≤_, _<_}
+use Prim.Native.Nat.{ℕ, _+_, _*_, _-_, _≤_, _<_}
 use lib.ListN.{length, getD}
 use denote.Ref.{now}
 use borrow.Author.Count.{below-more}
 use Rattle.paper.specs.Mesh.{cornerCount}
 use Rattle.paper.specs.Calls.{fault15}
+use Rattle.walk.specs.Table.{toLink, entry}
 use Rattle.requests.proofs.Laws.{links-differ, links-agree}
 use native.Mathlib.Omega.{arith}
 use borrow.Author.Needs.{needs}
@@ -15,7 +16,7 @@ use Rattle.requests.proofs.check_links.Statement.{statement}
 use Rattle.requests.proofs.check_links.Tie as tie
 
 abbrev Inv-loop : tie.InvT-loop
-Inv-loop table links c₀ c = (c ≤ length links) × ((j : ℕ) → j < c → getD links j 0 ≡ getD table j 0)
+Inv-loop table links c₀ c = (c ≤ length links) × ((j : ℕ) → j < c → getD links j 0 ≡ entry table toLink j)
 
 abbrev μ-loop : tie.MeasureT-loop
 μ-loop table links c₀ c = length links - c
@@ -31,6 +32,12 @@ shared-slice-read-if1 c = search needs
 
 mul-if1-2 : tie.Need-mul-if1-2 Inv-loop μ-loop
 mul-if1-2 c = search needs
+
+add-if1 : tie.Need-add-if1 Inv-loop μ-loop
+add-if1 c = search needs
+
+mul-if1-3 : tie.Need-mul-if1-3 Inv-loop μ-loop
+mul-if1-3 c = search needs
 
 shared-slice-read-if1-2 : tie.Need-shared-slice-read-if1-2 Inv-loop μ-loop
 shared-slice-read-if1-2 c = omega arith
@@ -53,7 +60,7 @@ loop-again : tie.Need-loop-again Inv-loop μ-loop
 loop-again c =
     let s = c .before .before .before .before .before in
     let l = c .before .before .before .before .loop in
-    (search needs, below-more (λ j. getD (now (s .args .links)) j 0 ≡ getD (now (s .args .table)) j 0) (l .c) (l .inv .1) (c .if1 .left))
+    (search needs, below-more (λ j. getD (now (s .args .links)) j 0 ≡ entry (now (s .args .table)) toLink j) (l .c) (l .inv .1) (c .if1 .left))
 
 returns-2 : tie.Need-returns-2 Inv-loop μ-loop
 returns-2 c =
@@ -72,6 +79,8 @@ check-links-spec =
     mul-if1
     shared-slice-read-if1
     mul-if1-2
+    add-if1
+    mul-if1-3
     shared-slice-read-if1-2
     returns
     add-c

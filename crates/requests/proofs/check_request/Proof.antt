@@ -9,7 +9,8 @@ use denote.Ref.{now}
 use Rattle.paper.specs.Mesh.{Mesh, cornerCount}
 use Rattle.paper.specs.Faults.{sound, single, lowestOf}
 use Rattle.paper.specs.Calls.{fault15, fault16}
-use Rattle.mesh.specs.Tables.{LinkTable}
+use Rattle.paper.specs.Links.{link}
+use Rattle.walk.specs.Table.{toLink, Column}
 use Rattle.mesh.proofs.Verdicts.{stop, passed, past}
 use Rattle.requests.specs.Request.{requestFaults}
 use Rattle.requests.proofs.Laws.{range-of, length-of, as-14, as-16}
@@ -37,7 +38,7 @@ module _ (t : tie.After-enum-told2) where
   abbrev s15 : tie.Start
   s15 = t .before .before .before .before .before .before .before .before
 
-  past-15 : (M : Mesh) → cornerCount M ≡ s15 .args .corners → LinkTable (M .sides) (M .corners) (now (s15 .args .table)) → lowestOf 15 (cornerCount M) (fault15 M (now (s15 .args .links))) ≡ sound
+  past-15 : (M : Mesh) → cornerCount M ≡ s15 .args .corners → Column (now (s15 .args .table)) toLink (link (M .sides) (M .corners)) (cornerCount M) → lowestOf 15 (cornerCount M) (fault15 M (now (s15 .args .links))) ≡ sound
   past-15 M e l = passed (t .before .before .check-links .result) (t .before .before .check-links .ensures M (e ∙ sym (same-length (t .before .before .before))) l) (t .enum-told2 .given .1)
 
 -- after check 16
@@ -68,7 +69,8 @@ enum-told : tie.Need-enum-told
 enum-told c = search needs
 
 check-links-requires : tie.Need-check-links-requires
-check-links-requires c κs = omega (arith, same-length c, c .before .before .before .before .before .pre .1)
+check-links-requires c κs =
+    let s = c .before .before .before .before .before in (omega (arith, same-length c, s .pre .0), omega (arith, same-length c, s .pre .1))
 
 enum-known-a15 : tie.Need-enum-known-a15
 enum-known-a15 c = search needs
