@@ -1,63 +1,60 @@
+-- `copy` meets its contract: the links below `c` are copied.
+-- Assumes nothing.
+use mathlib.Core.Path.{_≡_, refl}
+use Prim.Native.Nat.{_+_, _*_, _≤_, _-_}
+use lib.ListN.{length, length-set}
+use denote.Ref.{now}
+use Rattle.linking.proofs.Laws.{Copied, copied-none, copied-step, copied-all}
 use native.Mathlib.Omega.{arith}
 use borrow.Author.Needs.{needs}
 use Rattle.linking.proofs.copy.Statement.{statement}
 use Rattle.linking.proofs.copy.Tie as tie
-use Rattle.linking.proofs.copy.Reads as reads
-use Rattle.linking.proofs.copy.Lts as lts
 
 abbrev Inv-loop : tie.InvT-loop
-Inv-loop table links₀ c₀ links c = ?
+Inv-loop table links₀ c₀ links c = (c ≤ length links₀) × (length links ≡ length links₀) × Copied table links c
 
 abbrev μ-loop : tie.MeasureT-loop
-μ-loop table links₀ c₀ links c = ?
+μ-loop table links₀ c₀ links c = length links₀ - c
 
--- src/lib.rt:60:5
 loop-holds : tie.Need-loop-holds Inv-loop μ-loop
-loop-holds c = ?
+loop-holds c = (omega arith, refl, copied-none _ _)
 
--- src/lib.rt:61:26
 mul-links : tie.Need-mul-links Inv-loop μ-loop
-mul-links c = ?
+mul-links c = search needs
 
--- src/lib.rt:61:26
 add-links : tie.Need-add-links Inv-loop μ-loop
-add-links c = ?
+add-links c = search needs
 
--- src/lib.rt:61:20
 mul-links-2 : tie.Need-mul-links-2 Inv-loop μ-loop
-mul-links-2 c = ?
+mul-links-2 c = search needs
 
--- src/lib.rt:61:20
 shared-slice-read-links : tie.Need-shared-slice-read-links Inv-loop μ-loop
-shared-slice-read-links c = ?
+shared-slice-read-links c = search needs
 
--- src/lib.rt:61:9
 mul-links-3 : tie.Need-mul-links-3 Inv-loop μ-loop
-mul-links-3 c = ?
+mul-links-3 c = search needs
 
--- src/lib.rt:61:9
 slice-write-links : tie.Need-slice-write-links Inv-loop μ-loop
-slice-write-links c = ?
+slice-write-links c = search needs
 
--- src/lib.rt:62:9
 add-c : tie.Need-add-c Inv-loop μ-loop
-add-c c = ?
+add-c c = search needs
 
--- src/lib.rt:60:5
 loop-less : tie.Need-loop-less Inv-loop μ-loop
-loop-less c = ?
+loop-less c = search needs
 
--- src/lib.rt:60:5
 loop-again : tie.Need-loop-again Inv-loop μ-loop
-loop-again c = ?
+loop-again c =
+    let s = c .before .before .before in let l = c .before .before .loop in
+    (search needs, simp length-set (l .inv .1), copied-step (now (s .args .table)) (l .links) (l .c) (omega arith) (l .inv .2))
 
--- src/lib.rt:55:1
 same-length : tie.Need-same-length Inv-loop μ-loop
-same-length c = ?
+same-length c = search needs
 
--- src/lib.rt:55:1
 returns : tie.Need-returns Inv-loop μ-loop
-returns c = ?
+returns c =
+    let s = c .before .before in let l = c .before .loop in
+    copied-all (now (s .args .table)) (l .links) (l .c) (length (now (s .args .links))) (omega arith) (l .inv .2)
 
 pub copy-spec : {M : Type 1} → statement M
 copy-spec =

@@ -1,0 +1,124 @@
+-- Linking meets its contract: the shared check refuses or leaves the links in a table of its own, then 14, then the column is copied.
+-- Assumes nothing.
+use mathlib.Core.Path.{_≡_, ap, _∙_, sym}
+use mathlib.Core.Bool.{not}
+use Prim.Native.Nat.{_*_, _≤_}
+use lib.Dec.{eqb}
+use lib.ListN.{length}
+use denote.Ref.{now}
+use Rattle.paper.specs.Mesh.{Mesh, meshOf, cornerCount}
+use Rattle.paper.specs.Faults.{sound, single, verdict, stated}
+use Rattle.mesh.proofs.Verdicts.{passed}
+use Rattle.mesh.proofs.Accepted.{sound-of, few-corners}
+use Rattle.requests.proofs.Laws.{length-of}
+use Rattle.linking.proofs.Laws.{link-refused, link-14, link-done}
+use native.Mathlib.Omega.{arith}
+use borrow.Author.Needs.{needs}
+use Rattle.linking.proofs.link_over.Statement.{statement}
+use Rattle.linking.proofs.link_over.Tie as tie
+use Rattle.checks.proofs.check_within.Reads as check-within-reads
+use Rattle.linking.proofs.copy.Reads as copy-reads
+use Rattle.requests.proofs.check_length.Reads as check-length-reads
+
+-- after checks 4 to 13
+module _ (t : tie.After-enum-told) where
+  abbrev start : tie.Start
+  start = t .before .before .before .before .before .before .before .before .before .before .before .before .before .before
+
+  abbrev mesh : Mesh
+  mesh = meshOf (now (start .args .coordinates)) (now (start .args .sides)) (now (start .args .corners))
+
+  accepted : verdict mesh ≡ sound
+  accepted = let a = t .before .before .before .before .before .before .check-within in passed (a .result) (a .ensures .answers) (t .enum-told .given .1)
+
+-- after check 14
+module _ (t : tie.After-enum-told2) where
+  fourteen : single 14 (not (eqb (length (now (start (t .before .before .before) .args .links))) (cornerCount (mesh (t .before .before .before)))))
+      (length (now (start (t .before .before .before) .args .links))) ≡ sound
+  fourteen = let a = t .before .before .check-length in passed (a .result) (a .ensures) (t .enum-told2 .given .1)
+
+check-within-requires : tie.Need-check-within-requires
+check-within-requires c κs = search needs
+
+enum-known-a : tie.Need-enum-known-a
+enum-known-a c = search needs
+
+same-length : tie.Need-same-length
+same-length c = search needs
+
+same-length-2 : tie.Need-same-length-2
+same-length-2 c = search needs
+
+returns : tie.Need-returns
+returns c =
+    let a = c .before .before .before .before .before .before .before .check-within in let s = c .before .before .before .before .before .before .before .before .before .before .before .before .before .before .before in let k = c .before .a .given in
+    let M = meshOf (now (s .args .coordinates)) (now (s .args .sides)) (now (s .args .corners)) in
+    link-refused M (now (s .args .links)) (k .0 .0) (k .0 .1 .0) (sym (ap stated (k .1)) ∙ a .ensures .answers)
+
+enum-told : tie.Need-enum-told
+enum-told c = search needs
+
+check-length-requires : tie.Need-check-length-requires
+check-length-requires c κs = search needs
+
+enum-known-a14 : tie.Need-enum-known-a14
+enum-known-a14 c = search needs
+
+same-length-3 : tie.Need-same-length-3
+same-length-3 c = search needs
+
+same-length-4 : tie.Need-same-length-4
+same-length-4 c = search needs
+
+returns-2 : tie.Need-returns-2
+returns-2 c =
+    let t = c .before .before .before .before in let a = c .before .before .before .check-length in let k = c .before .a14 .given in
+    link-14 (mesh t) (now (start t .args .links)) (accepted t) (k .0 .0) (k .0 .1 .0) (sym (ap stated (k .1)) ∙ a .ensures)
+
+enum-told-2 : tie.Need-enum-told-2
+enum-told-2 c = search needs
+
+copy-requires : tie.Need-copy-requires
+copy-requires c κs =
+    let t14 = c .before .before in let t = t14 .before .before .before in let a = t .before .before .before .before .before .before .check-within in
+    let M = mesh t in
+    let few = few-corners (length (M .coordinates)) (length (M .sides)) (cornerCount M) (sound-of M (accepted t) .four) in
+    let l = length-of (length (now (start t .args .links))) (cornerCount M) (fourteen t14) in
+    (omega (arith, l, few), omega (arith, l, start t .pre .corners-fit few, a .kept .1 .1 .1 .0))
+
+same-length-5 : tie.Need-same-length-5
+same-length-5 c = search needs
+
+same-length-6 : tie.Need-same-length-6
+same-length-6 c = search needs
+
+same-length-7 : tie.Need-same-length-7
+same-length-7 c = search needs
+
+returns-3 : tie.Need-returns-3
+returns-3 c =
+    let t14 = c .before .before .before .before .before in let t = t14 .before .before .before in let a = t .before .before .before .before .before .before .check-within in
+    let k = c .before .before .copy in
+    link-done (mesh t) (now (start t .args .links)) (accepted t) _ _ (fourteen t14) (k .kept .1 .0) (a .ensures .tabled (accepted t)) (k .ensures)
+
+pub link-over-spec : {M : Type 1} → statement M
+link-over-spec =
+    tie.close
+    (tie.spec
+    check-within-requires
+    enum-known-a
+    same-length
+    same-length-2
+    returns
+    enum-told
+    check-length-requires
+    enum-known-a14
+    same-length-3
+    same-length-4
+    returns-2
+    enum-told-2
+    copy-requires
+    same-length-5
+    same-length-6
+    same-length-7
+    returns-3)
