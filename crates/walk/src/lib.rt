@@ -51,6 +51,15 @@ impl Walker {
         Walker { corner: to }
     }
 
+    // To the corner that a column has for this one: round a face by its next corners, round a vertex by its links.
+    pub fn by(self, table: &[u16], column: usize) -> Walker
+        requires { ⌜ rowLength * self .corner + column < length (now table) ⌝ }
+        ensures { λ r. ⌜ r .corner ≡ entry (now (table .entry)) column (self .corner) ⌝ }
+    {
+        let to = read(table, self.corner, column);
+        Walker { corner: to }
+    }
+
     // How many sides the face of the corner has.
     pub fn sides(self, table: &[u16]) -> usize
         requires { ⌜ rowLength * self .corner + sidesHere < length (now table) ⌝ }
