@@ -1,10 +1,6 @@
--- `faces::divide` meets its contract: each arm divides by its own key, and the weighted sums by 3·2^30 times it.
+-- `faces::divide` meets its contract: each arm divides by its own key.
 -- Assumes nothing.
-use native.Mathlib.Omega.{arith}
 use borrow.Author.Needs.{needs}
-use mir.Syntax.{w64}
-use mir.Facts.{toZ-ofZ, toZ-pos}
-use Rattle.faces.proofs.Laws.{divisors, at-count}
 use Rattle.faces.proofs.divide.Statement.{statement}
 use Rattle.faces.proofs.divide.Tie as tie
 
@@ -32,52 +28,35 @@ quotients-requires-7 c κs = search needs
 quotients-requires-8 : tie.Need-quotients-requires-8
 quotients-requires-8 c κs = search needs
 
-cast-quotients : tie.Need-cast-quotients
-cast-quotients c = search needs
-
-cast-quotients-2 : tie.Need-cast-quotients-2
-cast-quotients-2 c = search needs
-
-mul-quotients : tie.Need-mul-quotients
-mul-quotients c =
-    let s = c .before in
-    rw (toZ-pos w64 {n = s .args .m} (omega (arith, s .pre .0 .1))) (divisors (s .args .m) (s .pre .0 .0) (s .pre .0 .1) .0)
-
 quotients-requires-9 : tie.Need-quotients-requires-9
-quotients-requires-9 c κs =
-    let s = c .before in
-    let d = divisors (s .args .m) (s .pre .0 .0) (s .pre .0 .1) in
-    rw (toZ-pos w64 {n = s .args .m} (omega (arith, s .pre .0 .1)), toZ-ofZ (d .0)) (s .pre .1, (d .1, d .2))
+quotients-requires-9 c κs = search needs
 
 returns : tie.Need-returns
-returns c = at-count (c .before .before .args .s) _ 5 _ (c .before .match .keys1) (c .quotients .ensures)
+returns c = rw (c .before .match .keys1) (c .quotients .ensures)
 
 returns-2 : tie.Need-returns-2
-returns-2 c = at-count (c .before .before .args .s) _ 6 _ (c .before .match .keys2) (c .quotients2 .ensures)
+returns-2 c = rw (c .before .match .keys2) (c .quotients2 .ensures)
 
 returns-3 : tie.Need-returns-3
-returns-3 c = at-count (c .before .before .args .s) _ 7 _ (c .before .match .keys3) (c .quotients3 .ensures)
+returns-3 c = rw (c .before .match .keys3) (c .quotients3 .ensures)
 
 returns-4 : tie.Need-returns-4
-returns-4 c = at-count (c .before .before .args .s) _ 8 _ (c .before .match .keys4) (c .quotients4 .ensures)
+returns-4 c = rw (c .before .match .keys4) (c .quotients4 .ensures)
 
 returns-5 : tie.Need-returns-5
-returns-5 c = at-count (c .before .before .args .s) _ 9 _ (c .before .match .keys5) (c .quotients5 .ensures)
+returns-5 c = rw (c .before .match .keys5) (c .quotients5 .ensures)
 
 returns-6 : tie.Need-returns-6
-returns-6 c = at-count (c .before .before .args .s) _ 10 _ (c .before .match .keys6) (c .quotients6 .ensures)
+returns-6 c = rw (c .before .match .keys6) (c .quotients6 .ensures)
 
 returns-7 : tie.Need-returns-7
-returns-7 c = at-count (c .before .before .args .s) _ 11 _ (c .before .match .keys7) (c .quotients7 .ensures)
+returns-7 c = rw (c .before .match .keys7) (c .quotients7 .ensures)
 
 returns-8 : tie.Need-returns-8
-returns-8 c = at-count (c .before .before .args .s) _ 12 _ (c .before .match .keys8) (c .quotients8 .ensures)
+returns-8 c = rw (c .before .match .keys8) (c .quotients8 .ensures)
 
 returns-9 : tie.Need-returns-9
-returns-9 c =
-    let s = c .before .before in
-    let d = divisors (s .args .m) (s .pre .0 .0) (s .pre .0 .1) in
-    simp (toZ-pos w64 {n = s .args .m} (omega (arith, s .pre .0 .1)), toZ-ofZ (d .0)) at (c .quotients9 .ensures)
+returns-9 c = search needs
 
 pub divide-spec : {M : Type 1} → statement M
 divide-spec =
@@ -91,9 +70,6 @@ divide-spec =
     quotients-requires-6
     quotients-requires-7
     quotients-requires-8
-    cast-quotients
-    cast-quotients-2
-    mul-quotients
     quotients-requires-9
     returns
     returns-2

@@ -1,20 +1,34 @@
--- `faces::ring_face` meets its contract: the sums of the ring are small enough to divide, and their quotients are its points.
+-- `faces::ring_face` meets its contract: each arm is given a ring of its own key.
 -- Assumes nothing.
 use borrow.Author.Needs.{needs}
-use Rattle.faces.proofs.Laws.{divisible, ring-divided}
 use Rattle.faces.proofs.ring_face.Statement.{statement}
 use Rattle.faces.proofs.ring_face.Tie as tie
 
-ring-sums-requires : tie.Need-ring-sums-requires
-ring-sums-requires c κs = search needs
+ring-of-three-requires : tie.Need-ring-of-three-requires
+ring-of-three-requires c κs = rw (← c .match .keys1) (c .before .before .pre .0)
 
-divide-requires : tie.Need-divide-requires
-divide-requires c κs =
-    let r = c .before .before .pre .0 in
-    ((r .least, r .most), divisible _ _ _ _ r _ (c .ring-sums .ensures))
+ring-of-four-requires : tie.Need-ring-of-four-requires
+ring-of-four-requires c κs = rw (← c .match .keys2) (c .before .before .pre .0)
+
+ring-of-many-requires : tie.Need-ring-of-many-requires
+ring-of-many-requires c κs = search needs
 
 returns : tie.Need-returns
-returns c = ring-divided _ _ _ _ (c .before .before .before .pre .0) _ (c .before .ring-sums .ensures) _ (c .divide .ensures)
+returns c = rw (c .before .match .keys1) (c .ring-of-three .ensures)
+
+returns-2 : tie.Need-returns-2
+returns-2 c = rw (c .before .match .keys2) (c .ring-of-four .ensures)
+
+returns-3 : tie.Need-returns-3
+returns-3 c = search needs
 
 pub ring-face-spec : {M : Type 1} → statement M
-ring-face-spec = tie.close (tie.spec ring-sums-requires divide-requires returns)
+ring-face-spec =
+    tie.close
+    (tie.spec
+    ring-of-three-requires
+    ring-of-four-requires
+    ring-of-many-requires
+    returns
+    returns-2
+    returns-3)
