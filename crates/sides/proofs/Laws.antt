@@ -2,10 +2,10 @@
 -- Assumes nothing.
 use mathlib.Core.Path.{_≡_, refl, ap, _∙_, subst}
 use mathlib.Core.List.{List}
-use Prim.Native.Nat.{ℕ, _+_, _-_, _^_, _≤_, _<_}
+use Prim.Native.Nat.{ℕ, _+_, _-_, _*_, _^_, _≤_, _<_}
 use native.Mathlib.Omega.{arith}
 use lib.Dec.{lit<}
-use lib.ListN.{length, getD}
+use lib.ListN.{length}
 use lib.IntN.{ℤ, pos, natAbs}
 use lib.Signed.{_≤ℤ_}
 use mir.Syntax.{w64}
@@ -17,25 +17,21 @@ use Rattle.formulas.specs.Sizes.{Corner, FacePoint, Row}
 use Rattle.faces.specs.Ring.{around, Ring, IsFace, IsEdgeFace}
 use Rattle.faces.specs.declared.Face.{Face}
 use Rattle.faces.proofs.Laws.{plain}
+use Rattle.paper.specs.Scan.{iterate}
+use Rattle.paper.specs.Mesh.{leastSides, mostSides}
 use Rattle.paper.specs.Numbers.{rounded}
-use Rattle.paper.specs.Refined.{RefinedMesh}
-use Rattle.paper.specs.Face.{centre}
+use Rattle.paper.specs.Refined.{Corners, RefinedMesh}
 use Rattle.paper.specs.Net.{leaving, arriving, Side, side0, side1, side2, side3, neighbour, quad, points, H, T, X, Y, N, C}
+use Rattle.surface.specs.Points.{pointAt}
 use Rattle.surface.specs.Sound.{Sound, Small}
 use Rattle.surface.proofs.Rings.{points-cyclic, neighbour-in}
 use Rattle.surface.proofs.Faces.{toward-same}
 use Rattle.surface.proofs.Sizes.{H-size, T-size, X-size, Y-size, C-size, C-bottom}
-use Rattle.sides.specs.Tabled.{tabled, Tables, Reach}
-use Rattle.sides.specs.Values.{Through, IsSide, Sized, Made}
+use Rattle.walk.specs.Table.{rowLength, toNext, toLink, entry, tabled}
+use Rattle.sides.specs.Drawn.{drawn, Drawn, Readable}
+use Rattle.sides.specs.Values.{IsLeaving, IsArriving, IsSide, Sized, Made}
 use Rattle.sides.specs.declared.Edge.{Edge}
 use Rattle.sides.specs.declared.SideValues.{SideValues}
-
--- ---- the corners that the two edges reach
-module _ (nexts previouses links : List ℕ) (ticks : List ℤ) (c : ℕ) (r : Reach nexts previouses links ticks c) where
-  -- a corner's place in the tables, and its point
-  pub within : (i : ℕ) → i < r .count → ((i < length nexts) × (i < length previouses) × (i < length links) × (i < length ticks)) × Corner (getD ticks i (pos 0))
-  within i l =
-      ((omega (arith, r .nexts-hold), omega (arith, r .previouses-hold), omega (arith, r .links-hold), omega (arith, r .points-hold)), r .point-size i l)
 
 -- ---- the four-sided face, in the machine's numbers
 pub edge-plain : (a b c d A B C D : ℤ) (f : Face) → plain a ≡ A → plain b ≡ B → plain c ≡ C → plain d ≡ D
@@ -47,75 +43,66 @@ edge-plain a b c d A B C D f ea eb ec ed fc fa fb i =
     (subst (λ (z : ℤ). IsEdgeFace A B z (plain d) f) ec
     (subst (λ (z : ℤ). IsEdgeFace A z (plain c) (plain d) f) eb (subst (λ (z : ℤ). IsEdgeFace z (plain b) (plain c) (plain d) f) ea i))))
 
--- ---- the faces
-module _ (count : ℕ) (nexts previouses links sides valences : List ℕ) (ticks : List ℤ) (c : ℕ)
-    (t : Tables count nexts previouses links sides valences ticks c) where
-  abbrev pub K : RefinedMesh rounded
-  K = tabled count nexts previouses links sides valences ticks
+-- ---- what the tables hold of each corner
+module _ (count : ℕ) (table : List ℕ) (points : List ℤ) (d : Drawn count table points) where
+  pub row-in : (k i : ℕ) → k < rowLength → i < count → rowLength * i + k < length table
+  row-in k i l h = omega (arith, d .table-long)
 
-  pub reach : Reach nexts previouses links ticks c
-  reach = record {
+  pub readable : (axis i : ℕ) → axis < 3 → i < count → Readable points axis i
+  readable axis i l h = (omega (arith, d .points-long), d .small axis l i h)
+
+-- ---- the faces at corner c
+module _ (count : ℕ) (table : List ℕ) (ticks : List ℤ) (c axis : ℕ) (t : Drawn count table ticks × (c < count) × (axis < 3)) where
+  abbrev K : RefinedMesh rounded
+  K = drawn count table ticks axis
+
+  -- the ring by a column
+  ring-by : (k m : ℕ) → k < rowLength → ((i : ℕ) → i < count → entry table k i < count)
+      → iterate m (entry table k) c ≡ c → leastSides ≤ m → m ≤ mostSides → Ring ticks axis table k c m
+  ring-by k m l inside closes least most = record {
     count = count;
-    here = t .here;
-    nexts-hold = t .nexts-hold;
-    previouses-hold = t .previouses-hold;
-    links-hold = t .links-hold;
-    points-hold = t .points-hold;
-    next-in = t .sound .next-in;
-    previous-in = t .sound .previous-in;
-    link-in = t .sound .link-in;
-    point-size = t .small;
+    here = t .1;
+    points-hold = λ i h. readable count table ticks (t .0) axis i (t .2) h .0;
+    table-holds = λ i h. row-in count table ticks (t .0) k i l h;
+    step-in = inside;
+    point-size = t .0 .small axis (t .2);
+    closes = closes;
+    least = least;
+    most = most;
   }
 
-  pub vertex-ring : (m : ℕ) → m ≡ getD valences c 0 → Ring ticks links c m
-  vertex-ring m e = rw e (record {
-    count = count;
-    here = t .here;
-    points-hold = t .points-hold;
-    steps-hold = t .links-hold;
-    step-in = t .sound .link-in;
-    point-size = t .small;
-    closes = t .sound .vertex-closes c (t .here);
-    least = t .sound .valence-least c (t .here);
-    most = t .sound .valence-most c (t .here);
-  })
+  pub vertex-ring : (m : ℕ) → m ≡ K .corners .valence c → Ring ticks axis table toLink c m
+  vertex-ring m e =
+      let s = t .0 .sound in
+      rw e (ring-by toLink _ (lit< tt) (s .link-in) (s .vertex-closes c (t .1)) (s .valence-least c (t .1)) (s .valence-most c (t .1)))
 
-  pub face-ring : (n : ℕ) → n ≡ getD sides c 0 → Ring ticks nexts c n
-  face-ring n e = rw e (record {
-    count = count;
-    here = t .here;
-    points-hold = t .points-hold;
-    steps-hold = t .nexts-hold;
-    step-in = t .sound .next-in;
-    point-size = t .small;
-    closes = t .sound .face-closes c (t .here);
-    least = t .sound .sides-least c (t .here);
-    most = t .sound .sides-most c (t .here);
-  })
+  pub face-ring : (n : ℕ) → n ≡ K .corners .sides c → Ring ticks axis table toNext c n
+  face-ring n e =
+      let s = t .0 .sound in
+      rw e (ring-by toNext _ (lit< tt) (s .next-in) (s .face-closes c (t .1)) (s .sides-least c (t .1)) (s .sides-most c (t .1)))
 
-  pub vertex-is : (m : ℕ) (f : Face) → m ≡ getD valences c 0 → IsFace (around ticks links c) m 0 (m - 1) f
+  pub vertex-is : (m : ℕ) (f : Face) → m ≡ K .corners .valence c → IsFace (around ticks axis table toLink c) m 0 (m - 1) f
       → (f .centre ≡ H K c side0) × (f .ahead ≡ X K c side0) × (f .behind ≡ X K c side3)
   unfolding H X around
-  vertex-is m f e i = let k = subst (λ (m : ℕ). IsFace (around ticks links c) m 0 (m - 1) f) e i in (k .centre, k .ahead, k .behind)
+  vertex-is m f e i = let k = subst (λ (m : ℕ). IsFace (around ticks axis table toLink c) m 0 (m - 1) f) e i in (k .centre, k .ahead, k .behind)
 
-  pub face-is : (n : ℕ) (f : Face) → n ≡ getD sides c 0 → IsFace (around ticks nexts c) n 0 (n - 1) f
+  pub face-is : (n : ℕ) (f : Face) → n ≡ K .corners .sides c → IsFace (around ticks axis table toNext c) n 0 (n - 1) f
       → (f .centre ≡ H K c side1) × (f .ahead ≡ X K c side1) × (f .behind ≡ X K c side2)
   unfolding H X around
-  face-is n f e i = let k = subst (λ (n : ℕ). IsFace (around ticks nexts c) n 0 (n - 1) f) e i in (k .centre, k .ahead, k .behind)
+  face-is n f e i = let k = subst (λ (n : ℕ). IsFace (around ticks axis table toNext c) n 0 (n - 1) f) e i in (k .centre, k .ahead, k .behind)
 
-  pub leaving-is : (r : Edge) → Through ticks c (getD nexts c 0) (getD previouses (getD links c 0) 0) (getD links c 0) r
-      → (r .centre ≡ T K c side0) × (r .behind ≡ Y K c side0) × (r .ahead ≡ Y K c side1)
+  pub leaving-is : (r : Edge) → IsLeaving K c r → (r .centre ≡ T K c side0) × (r .behind ≡ Y K c side0) × (r .ahead ≡ Y K c side1)
   unfolding T Y quad
-  leaving-is r h = let k = h .face .faces (points K c leaving) (points-cyclic K (t .sound) c (t .here) leaving) 0 refl refl refl refl in (k .centre, k .behind, k .ahead)
+  leaving-is r h =
+      let k = h .face .faces (points K c leaving) (points-cyclic K (t .0 .sound) c (t .1) leaving) 0 refl refl refl refl in
+      (k .centre, k .behind, k .ahead)
 
-  pub arriving-is : (r : Edge)
-      → Through ticks c (getD previouses (getD links (getD previouses c 0) 0) 0) (getD links (getD previouses c 0) 0) (getD previouses c 0) r
-      → (r .centre ≡ T K c side3) × (r .behind ≡ Y K c side2) × (r .ahead ≡ Y K c side3)
+  pub arriving-is : (r : Edge) → IsArriving K c r → (r .centre ≡ T K c side3) × (r .behind ≡ Y K c side2) × (r .ahead ≡ Y K c side3)
   unfolding T Y quad
   arriving-is r h =
       let p = points K c arriving in
-      let cyc = points-cyclic K (t .sound) c (t .here) arriving in
-      let k = h .face .faces p cyc 1 (ap (λ (i : ℕ). getD ticks i (pos 0)) (t .sound .next-previous c (t .here))) refl refl refl in
+      let cyc = points-cyclic K (t .0 .sound) c (t .1) arriving in
+      let k = h .face .faces p cyc 1 (ap (pointAt ticks axis) (t .0 .sound .next-previous c (t .1))) refl refl refl in
       (k .centre, k .behind ∙ toward-same p p 4 4 0 (λ k l. ap p (swap k) ∙ cyc k ∙ ap p (zero k)), k .ahead)
     where
       swap : (k : ℕ) → 4 + k ≡ k + 4

@@ -1,2 +1,2 @@
-pub mod Tabled
+pub mod Drawn
 pub mod Values

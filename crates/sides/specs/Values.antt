@@ -1,9 +1,7 @@
 -- What the code has of an edge at a corner and of a side of its quad-net, against the definitions.
 -- Assumes nothing.
 use mathlib.Core.Path.{_≡_}
-use mathlib.Core.List.{List}
 use Prim.Native.Nat.{ℕ}
-use lib.ListN.{getD}
 use lib.IntN.{ℤ, pos, _+ℤ_, _-ℤ_, _*ℤ_}
 use Rattle.paper.specs.Numbers.{round, rounded}
 use Rattle.paper.specs.Refined.{RefinedMesh}
@@ -14,13 +12,20 @@ use Rattle.sides.specs.declared.Edge.{Edge}
 use Rattle.sides.specs.declared.SideValues.{SideValues}
 use Rattle.sides.specs.declared.NetSides.{NetSides}
 
--- the four-sided face through the corners a, b, c and d in turn, and three of its points; a is the corner where the code stands
-pub record Through (ticks : List ℤ) (a b c d : ℕ) (r : Edge) : Type 0 where
-  pub face : IsEdgeFace (getD ticks a (pos 0)) (getD ticks b (pos 0)) (getD ticks c (pos 0)) (getD ticks d (pos 0))
-      (record { centre = r .centre; ahead = r .ahead; behind = r .behind })
-  pub here : r .here ≡ getD ticks a (pos 0)
-  pub after : r .after ≡ getD ticks b (pos 0)
-  pub before : r .before ≡ getD ticks d (pos 0)
+-- the four-sided face through the corners a, b, c and d in turn, whose refined points are p, and three of these; a is the corner where the code
+-- stands
+pub record Through (p : ℕ → ℤ) (a b c d : ℕ) (r : Edge) : Type 0 where
+  pub face : IsEdgeFace (p a) (p b) (p c) (p d) (record { centre = r .centre; ahead = r .ahead; behind = r .behind })
+  pub here : r .here ≡ p a
+  pub after : r .after ≡ p b
+  pub before : r .before ≡ p d
+
+-- the faces of the edge that leaves corner c and of the one that arrives there
+abbrev pub IsLeaving : RefinedMesh rounded → ℕ → Edge → Type 0
+IsLeaving K c = let k = K .corners in Through (K .point) c (k .next c) (k .previous (k .link c)) (k .link c)
+
+abbrev pub IsArriving : RefinedMesh rounded → ℕ → Edge → Type 0
+IsArriving K c = let k = K .corners in Through (K .point) c (k .previous (k .link (k .previous c))) (k .link (k .previous c)) (k .previous c)
 
 -- H, T, X, Y, N and C of a side
 pub record IsSide (K : RefinedMesh rounded) (c : ℕ) (s : Side) (r : SideValues) : Type 0 where

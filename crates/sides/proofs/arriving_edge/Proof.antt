@@ -1,56 +1,57 @@
--- `sides::arriving_edge` meets its contract: the walk stays within the tables.
+-- `sides::arriving_edge` meets its contract: each step leads where the corners' own step does, and every corner on the way has its row.
 -- Assumes nothing.
 use mathlib.Core.Path.{_≡_, _∙_, ap}
-use Prim.Native.Nat.{ℕ}
 use borrow.Author.Needs.{needs}
-use lib.ListN.{getD}
-use Rattle.sides.proofs.Laws.{within}
+use lib.Dec.{lit<}
+use Rattle.walk.specs.Table.{toPrevious, toLink, entry}
+use Rattle.sides.proofs.Laws.{row-in, readable}
 use Rattle.sides.proofs.arriving_edge.Statement.{statement}
 use Rattle.sides.proofs.arriving_edge.Tie as tie
+
+-- where the walk leads
+far-is : (a : tie.After-linked)
+    → let x = a .before .before .before .args in
+    a .linked .result .corner ≡ entry (x .table .now) toLink (entry (x .table .now) toPrevious (x .c))
+far-is a = a .linked .ensures .read ∙ ap (entry (a .before .before .before .args .table .now) toLink) (a .before .previous .ensures .read)
+
+across-is : (a : tie.After-previous2)
+    → let x = a .before .before .before .before .args in
+    a .previous2 .result .corner ≡ entry (x .table .now) toPrevious (entry (x .table .now) toLink (entry (x .table .now) toPrevious (x .c)))
+across-is a = a .previous2 .ensures .read ∙ ap (entry (a .before .before .before .before .args .table .now) toPrevious) (far-is (a .before))
 
 previous-requires : tie.Need-previous-requires
 previous-requires c κs = search needs
 
 linked-requires : tie.Need-linked-requires
 linked-requires c κs =
-    let s = c .before .before .before .before in
-    let r = s .pre in
-    rw (c .previous .ensures) (within (s .args .nexts .now) (s .args .previouses .now) (s .args .links .now) (s .args .points .now) (s .args .c) r _ (r .previous-in (s .args .c) (r .here)) .0 .2)
+    let s = c .before .before in
+    let d = s .pre .0 in
+    rw (c .previous .ensures .read) (row-in _ _ _ d _ _ (lit< tt) (d .sound .previous-in _ (s .pre .1)))
 
 previous-requires-2 : tie.Need-previous-requires-2
 previous-requires-2 c κs =
-    let s = c .before .before .before .before .before in
-    let r = s .pre in
-    let l : c .linked .result .corner ≡ getD (s .args .links .now) (getD (s .args .previouses .now) (s .args .c) 0) 0
-    = c .linked .ensures ∙ ap (λ (i : ℕ). getD (s .args .links .now) i 0) (c .before .previous .ensures) in
-    rw l (within (s .args .nexts .now) (s .args .previouses .now) (s .args .links .now) (s .args .points .now) (s .args .c) r _ (r .link-in _ (r .previous-in (s .args .c) (r .here))) .0 .1)
+    let s = c .before .before .before in
+    let d = s .pre .0 in
+    rw (far-is c) (row-in _ _ _ d _ _ (lit< tt) (d .sound .link-in _ (d .sound .previous-in _ (s .pre .1))))
 
 edge-through-requires : tie.Need-edge-through-requires
 edge-through-requires c κs =
-    let s = c .before .before .before .before .before .before in
-    let r = s .pre in
-    let p = c .before .before .previous .ensures in
-    let l : c .before .linked .result .corner ≡ getD (s .args .links .now) (getD (s .args .previouses .now) (s .args .c) 0) 0
-    = c .before .linked .ensures ∙ ap (λ (i : ℕ). getD (s .args .links .now) i 0) p in
-    let a : c .previous2 .result .corner ≡ getD (s .args .previouses .now) (getD (s .args .links .now) (getD (s .args .previouses .now) (s .args .c) 0) 0) 0
-    = c .previous2 .ensures ∙ ap (λ (i : ℕ). getD (s .args .previouses .now) i 0) l in
-    let w = within (s .args .nexts .now) (s .args .previouses .now) (s .args .links .now) (s .args .points .now) (s .args .c) r in
-    let ip = r .previous-in (s .args .c) (r .here) in
-    let wc = w _ (r .here) in
-    let wp = w _ ip in
-    let wl = w _ (r .link-in _ ip) in
-    let wa = w _ (r .previous-in _ (r .link-in _ ip)) in
-    rw (a, l, p) ((wc .0 .3, wa .0 .3, wl .0 .3, wp .0 .3), (wc .1, wa .1, wl .1, wp .1))
+    let s = c .before .before .before .before in
+    let d = s .pre .0 in
+    let at = readable _ _ _ d (s .args .axis) in
+    let previous = d .sound .previous-in _ (s .pre .1) in
+    let far = d .sound .link-in _ previous in
+    rw (across-is c, far-is (c .before), c .before .before .previous .ensures .read) (
+      at _ (s .pre .2) (s .pre .1),
+      at _ (s .pre .2) (d .sound .previous-in _ far),
+      at _ (s .pre .2) far,
+      at _ (s .pre .2) previous,
+    )
 
 returns : tie.Need-returns
 returns c =
-    let s = c .before .before .before .before .before .before .before in
-    let p = c .before .before .before .previous .ensures in
-    let l : c .before .before .linked .result .corner ≡ getD (s .args .links .now) (getD (s .args .previouses .now) (s .args .c) 0) 0
-    = c .before .before .linked .ensures ∙ ap (λ (i : ℕ). getD (s .args .links .now) i 0) p in
-    let a : c .before .previous2 .result .corner ≡ getD (s .args .previouses .now) (getD (s .args .links .now) (getD (s .args .previouses .now) (s .args .c) 0) 0) 0
-    = c .before .previous2 .ensures ∙ ap (λ (i : ℕ). getD (s .args .previouses .now) i 0) l in
-    rw (a, l, p) at (c .edge-through .ensures)
+    let p = c .before in
+    rw (across-is p, far-is (p .before), p .before .before .previous .ensures .read) at (c .edge-through .ensures)
 
 pub arriving-edge-spec : {M : Type 1} → statement M
 arriving-edge-spec =

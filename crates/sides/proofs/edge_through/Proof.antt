@@ -21,22 +21,22 @@ point-requires-4 c κs = search needs
 
 edge-face-requires : tie.Need-edge-face-requires
 edge-face-requires c κs =
-    let k = c .before .before .before .before .pre .1 in (
-      corner-plain _ _ (c .before .before .before .point .ensures) (k .0) .1,
-      corner-plain _ _ (c .before .before .point2 .ensures) (k .1) .1,
-      corner-plain _ _ (c .before .point3 .ensures) (k .2) .1,
-      corner-plain _ _ (c .point4 .ensures) (k .3) .1,
+    let k = c .before .before .before .before .pre in (
+      corner-plain _ _ (c .before .before .before .point .ensures) (k .0 .1) .1,
+      corner-plain _ _ (c .before .before .point2 .ensures) (k .1 .1) .1,
+      corner-plain _ _ (c .before .point3 .ensures) (k .2 .1) .1,
+      corner-plain _ _ (c .point4 .ensures) (k .3 .1) .1,
     )
 
 returns : tie.Need-returns
 returns c =
     let p = c .before .before in
-    let k = p .before .before .before .before .pre .1 in
+    let k = p .before .before .before .before .pre in
     let f = c .before .edge-face .result in
-    let a = corner-plain _ _ (p .before .before .before .point .ensures) (k .0) .0 in
-    let b = corner-plain _ _ (p .before .before .point2 .ensures) (k .1) .0 in
-    let d = corner-plain _ _ (p .before .point3 .ensures) (k .2) .0 in
-    let e = corner-plain _ _ (p .point4 .ensures) (k .3) .0 in
+    let a = corner-plain _ _ (p .before .before .before .point .ensures) (k .0 .1) .0 in
+    let b = corner-plain _ _ (p .before .before .point2 .ensures) (k .1 .1) .0 in
+    let d = corner-plain _ _ (p .before .point3 .ensures) (k .2 .1) .0 in
+    let e = corner-plain _ _ (p .point4 .ensures) (k .3 .1) .0 in
     let fc : SFits w64 (f .centre) = search needs in
     let fa : SFits w64 (f .ahead) = search needs in
     let fb : SFits w64 (f .behind) = search needs in

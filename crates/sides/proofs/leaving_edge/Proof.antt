@@ -1,12 +1,18 @@
--- `sides::leaving_edge` meets its contract: the walk stays within the tables.
+-- `sides::leaving_edge` meets its contract: each step leads where the corners' own step does, and every corner on the way has its row.
 -- Assumes nothing.
 use mathlib.Core.Path.{_≡_, _∙_, ap}
-use Prim.Native.Nat.{ℕ}
 use borrow.Author.Needs.{needs}
-use lib.ListN.{getD}
-use Rattle.sides.proofs.Laws.{within}
+use lib.Dec.{lit<}
+use Rattle.walk.specs.Table.{toPrevious, toLink, entry}
+use Rattle.sides.proofs.Laws.{row-in, readable}
 use Rattle.sides.proofs.leaving_edge.Statement.{statement}
 use Rattle.sides.proofs.leaving_edge.Tie as tie
+
+-- where the walk ends
+far-is : (a : tie.After-previous)
+    → let x = a .before .before .before .before .args in
+    a .previous .result .corner ≡ entry (x .table .now) toPrevious (entry (x .table .now) toLink (x .c))
+far-is a = a .previous .ensures .read ∙ ap (entry (a .before .before .before .before .args .table .now) toPrevious) (a .before .linked .ensures .read)
 
 next-requires : tie.Need-next-requires
 next-requires c κs = search needs
@@ -16,32 +22,27 @@ linked-requires c κs = search needs
 
 previous-requires : tie.Need-previous-requires
 previous-requires c κs =
-    let s = c .before .before .before .before .before in
-    let r = s .pre in
-    rw (c .linked .ensures) (within (s .args .nexts .now) (s .args .previouses .now) (s .args .links .now) (s .args .points .now) (s .args .c) r _ (r .link-in (s .args .c) (r .here)) .0 .1)
+    let s = c .before .before .before in
+    let d = s .pre .0 in
+    rw (c .linked .ensures .read) (row-in _ _ _ d _ _ (lit< tt) (d .sound .link-in _ (s .pre .1)))
 
 edge-through-requires : tie.Need-edge-through-requires
 edge-through-requires c κs =
-    let s = c .before .before .before .before .before .before in
-    let r = s .pre in
-    let n = c .before .before .next .ensures in
-    let l = c .before .linked .ensures in
-    let f : c .previous .result .corner ≡ getD (s .args .previouses .now) (getD (s .args .links .now) (s .args .c) 0) 0
-    = c .previous .ensures ∙ ap (λ (i : ℕ). getD (s .args .previouses .now) i 0) l in
-    let w = within (s .args .nexts .now) (s .args .previouses .now) (s .args .links .now) (s .args .points .now) (s .args .c) r in
-    let wc = w _ (r .here) in
-    let wn = w _ (r .next-in (s .args .c) (r .here)) in
-    let wl = w _ (r .link-in (s .args .c) (r .here)) in
-    let wf = w _ (r .previous-in _ (r .link-in (s .args .c) (r .here))) in
-    rw (n, f, l) ((wc .0 .3, wn .0 .3, wf .0 .3, wl .0 .3), (wc .1, wn .1, wf .1, wl .1))
+    let s = c .before .before .before .before in
+    let d = s .pre .0 in
+    let at = readable _ _ _ d (s .args .axis) in
+    let link = d .sound .link-in _ (s .pre .1) in
+    rw (far-is c, c .before .linked .ensures .read, c .before .before .next .ensures .read) (
+      at _ (s .pre .2) (s .pre .1),
+      at _ (s .pre .2) (d .sound .next-in _ (s .pre .1)),
+      at _ (s .pre .2) (d .sound .previous-in _ link),
+      at _ (s .pre .2) link,
+    )
 
 returns : tie.Need-returns
 returns c =
-    let s = c .before .before .before .before .before .before .before in
-    let l = c .before .before .linked .ensures in
-    let f : c .before .previous .result .corner ≡ getD (s .args .previouses .now) (getD (s .args .links .now) (s .args .c) 0) 0
-    = c .before .previous .ensures ∙ ap (λ (i : ℕ). getD (s .args .previouses .now) i 0) l in
-    rw (c .before .before .before .next .ensures, f, l) at (c .edge-through .ensures)
+    let p = c .before in
+    rw (far-is p, p .before .linked .ensures .read, p .before .before .next .ensures .read) at (c .edge-through .ensures)
 
 pub leaving-edge-spec : {M : Type 1} → statement M
 leaving-edge-spec =

@@ -4,41 +4,36 @@ use mathlib.Core.Path.{_≡_, _∙_, ap}
 use Prim.Native.Nat.{ℕ}
 use native.Mathlib.Omega.{arith}
 use borrow.Author.Needs.{needs}
-use lib.ListN.{getD}
 use Rattle.paper.specs.Numbers.{rounded}
 use Rattle.paper.specs.Cosines.{cosine}
 use Rattle.paper.specs.Refined.{RefinedMesh}
 use Rattle.paper.specs.Net.{side0, side1, side2, side3, H, T, C}
 use Rattle.faces.specs.declared.Face.{Face}
 use Rattle.sides.specs.declared.Edge.{Edge}
-use Rattle.sides.specs.Tabled.{tabled}
-use Rattle.sides.proofs.Laws.{reach, vertex-ring, face-ring, vertex-is, face-is, leaving-is, arriving-is, Parts, sizes, made-is}
+use Rattle.sides.specs.Drawn.{drawn}
+use Rattle.sides.proofs.Laws.{vertex-ring, face-ring, vertex-is, face-is, leaving-is, arriving-is, Parts, sizes, made-is}
 use Rattle.sides.proofs.net_sides.Statement.{statement}
 use Rattle.sides.proofs.net_sides.Tie as tie
 
--- the mesh that the tables hold
+-- the mesh that the tables tell
 abbrev mesh : tie.Start → RefinedMesh rounded
-mesh s =
-    tabled (s .args .count) (s .args .nexts .now) (s .args .previouses .now) (s .args .links .now) (s .args .sides .now) (s .args .valences .now)
-    (s .args .points .now)
+mesh s = drawn (s .args .count) (s .args .table .now) (s .args .points .now) (s .args .axis)
 
 -- all faces and cosines are computed: where the function began, the counts and the faces
 abbrev start : tie.After-cosine2 → tie.Start
-start a = a .before .before .before .before .before .before .before .before .before .before .before .before .before
+start a = a .before .before .before .before .before .before .before .before .before
 
-valence-is : (a : tie.After-cosine2)
-    → a .before .before .before .before .before .before .before .count-at .result ≡ getD (start a .args .valences .now) (start a .args .c) 0
-valence-is a = a .before .before .before .before .before .before .before .count-at .ensures
+valence-is : (a : tie.After-cosine2) → a .before .before .before .before .before .before .before .valence .result ≡ mesh (start a) .corners .valence (start a .args .c)
+valence-is a = a .before .before .before .before .before .before .before .valence .ensures .read
 
-sides-is : (a : tie.After-cosine2)
-    → a .before .before .before .before .before .before .count-at2 .result ≡ getD (start a .args .sides .now) (start a .args .c) 0
-sides-is a = a .before .before .before .before .before .before .count-at2 .ensures
+sides-is : (a : tie.After-cosine2) → a .before .before .before .before .before .before .sides .result ≡ mesh (start a) .corners .sides (start a .args .c)
+sides-is a = a .before .before .before .before .before .before .sides .ensures .read
 
 abbrev vertex : tie.After-cosine2 → Face
-vertex a = a .before .before .before .before .before .vertex-face .result
+vertex a = a .before .before .before .before .before .ring-face .result
 
 abbrev face : tie.After-cosine2 → Face
-face a = a .before .before .before .before .mesh-face .result
+face a = a .before .before .before .before .ring-face2 .result
 
 abbrev leaving : tie.After-cosine2 → Edge
 leaving a = a .before .before .before .leaving-edge .result
@@ -52,8 +47,8 @@ part0 : (a : tie.After-cosine2)
 unfolding H T C
 part0 a =
     let s = start a in
-    let f = vertex-is _ _ _ _ _ _ _ _ (s .pre .0) _ _ (valence-is a) (a .before .before .before .before .before .vertex-face .ensures) in
-    let e = leaving-is _ _ _ _ _ _ _ _ (s .pre .0) _ (a .before .before .before .leaving-edge .ensures) in
+    let f = vertex-is _ _ _ _ _ (s .pre .0) _ _ (valence-is a) (a .before .before .before .before .before .ring-face .ensures) in
+    let e = leaving-is _ _ _ _ _ (s .pre .0) _ (a .before .before .before .leaving-edge .ensures) in
     record {
       head = f .0;
       tail = e .0;
@@ -70,8 +65,8 @@ part1 : (a : tie.After-cosine2)
 unfolding H T C
 part1 a =
     let s = start a in
-    let f = face-is _ _ _ _ _ _ _ _ (s .pre .0) _ _ (sides-is a) (a .before .before .before .before .mesh-face .ensures) in
-    let e = leaving-is _ _ _ _ _ _ _ _ (s .pre .0) _ (a .before .before .before .leaving-edge .ensures) in
+    let f = face-is _ _ _ _ _ (s .pre .0) _ _ (sides-is a) (a .before .before .before .before .ring-face2 .ensures) in
+    let e = leaving-is _ _ _ _ _ (s .pre .0) _ (a .before .before .before .leaving-edge .ensures) in
     record {
       head = f .0;
       tail = e .0;
@@ -88,8 +83,8 @@ part2 : (a : tie.After-cosine2)
 unfolding H T C
 part2 a =
     let s = start a in
-    let f = face-is _ _ _ _ _ _ _ _ (s .pre .0) _ _ (sides-is a) (a .before .before .before .before .mesh-face .ensures) in
-    let e = arriving-is _ _ _ _ _ _ _ _ (s .pre .0) _ (a .before .before .arriving-edge .ensures) in
+    let f = face-is _ _ _ _ _ (s .pre .0) _ _ (sides-is a) (a .before .before .before .before .ring-face2 .ensures) in
+    let e = arriving-is _ _ _ _ _ (s .pre .0) _ (a .before .before .arriving-edge .ensures) in
     record {
       head = f .0;
       tail = e .0;
@@ -106,8 +101,8 @@ part3 : (a : tie.After-cosine2)
 unfolding H T C
 part3 a =
     let s = start a in
-    let f = vertex-is _ _ _ _ _ _ _ _ (s .pre .0) _ _ (valence-is a) (a .before .before .before .before .before .vertex-face .ensures) in
-    let e = arriving-is _ _ _ _ _ _ _ _ (s .pre .0) _ (a .before .before .arriving-edge .ensures) in
+    let f = vertex-is _ _ _ _ _ (s .pre .0) _ _ (valence-is a) (a .before .before .before .before .before .ring-face .ensures) in
+    let e = arriving-is _ _ _ _ _ (s .pre .0) _ (a .before .before .arriving-edge .ensures) in
     record {
       head = f .0;
       tail = e .0;
@@ -118,79 +113,79 @@ part3 a =
       cosine = a .before .cosine .ensures ∙ ap (λ (m : ℕ). cosine m 1) (valence-is a);
     }
 
-count-at-requires : tie.Need-count-at-requires
-count-at-requires c κs = search needs
+valence-requires : tie.Need-valence-requires
+valence-requires c κs = search needs
 
-count-at-requires-2 : tie.Need-count-at-requires-2
-count-at-requires-2 c κs = search needs
+sides-requires : tie.Need-sides-requires
+sides-requires c κs = search needs
 
-vertex-face-requires : tie.Need-vertex-face-requires
-vertex-face-requires c κs = let s = c .before .before .before .before .before .before .before in (vertex-ring _ _ _ _ _ _ _ _ (s .pre .0) _ (c .before .count-at .ensures), s .pre .1)
+ring-face-requires : tie.Need-ring-face-requires
+ring-face-requires c κs = let s = c .before .before .before in (vertex-ring _ _ _ _ _ (s .pre .0) _ (c .before .valence .ensures .read), s .pre .1)
 
-mesh-face-requires : tie.Need-mesh-face-requires
-mesh-face-requires c κs = let s = c .before .before .before .before .before .before .before .before in (face-ring _ _ _ _ _ _ _ _ (s .pre .0) _ (c .before .count-at2 .ensures), s .pre .1)
+ring-face-requires-2 : tie.Need-ring-face-requires-2
+ring-face-requires-2 c κs = let s = c .before .before .before .before in (face-ring _ _ _ _ _ (s .pre .0) _ (c .before .sides .ensures .read), s .pre .1)
 
 leaving-edge-requires : tie.Need-leaving-edge-requires
-leaving-edge-requires c κs = let s = c .before .before .before .before .before .before .before .before .before in reach _ _ _ _ _ _ _ _ (s .pre .0)
+leaving-edge-requires c κs = search needs
 
 arriving-edge-requires : tie.Need-arriving-edge-requires
-arriving-edge-requires c κs = let s = c .before .before .before .before .before .before .before .before .before .before in reach _ _ _ _ _ _ _ _ (s .pre .0)
+arriving-edge-requires c κs = search needs
 
 cosine-requires : tie.Need-cosine-requires
 cosine-requires c κs =
-    let s = c .before .before .before .before .before .before .before .before .before .before .before in
-    let r = vertex-ring _ _ _ _ _ _ _ _ (s .pre .0) _ (c .before .before .before .before .before .count-at .ensures) in
+    let s = c .before .before .before .before .before .before .before in
+    let r = vertex-ring _ _ _ _ _ (s .pre .0) _ (c .before .before .before .before .before .valence .ensures .read) in
     (s .pre .1, r .least, r .most, omega (arith, r .least))
 
 cosine-requires-2 : tie.Need-cosine-requires-2
 cosine-requires-2 c κs =
-    let s = c .before .before .before .before .before .before .before .before .before .before .before .before in
-    let r = face-ring _ _ _ _ _ _ _ _ (s .pre .0) _ (c .before .before .before .before .before .count-at2 .ensures) in
+    let s = c .before .before .before .before .before .before .before .before in
+    let r = face-ring _ _ _ _ _ (s .pre .0) _ (c .before .before .before .before .before .sides .ensures .read) in
     (s .pre .1, r .least, r .most, omega (arith, r .least))
 
 side-requires : tie.Need-side-requires
 side-requires c κs =
     let a = c .before .before .before .before .before .before in
     let s = start a in
-    sizes (mesh s) (s .pre .0 .sound) (s .pre .0 .small) (s .args .c) (s .pre .0 .here) side0 _ _ _ _ _ _ _ (part0 a)
+    sizes (mesh s) (s .pre .0 .0 .sound) (s .pre .0 .0 .small (s .args .axis) (s .pre .0 .2)) (s .args .c) (s .pre .0 .1) side0 _ _ _ _ _ _ _ (part0 a)
 
 side-requires-2 : tie.Need-side-requires-2
 side-requires-2 c κs =
     let a = c .before .before .before .before .before .before .before .before .before .before .before .before .before in
     let s = start a in
-    sizes (mesh s) (s .pre .0 .sound) (s .pre .0 .small) (s .args .c) (s .pre .0 .here) side1 _ _ _ _ _ _ _ (part1 a)
+    sizes (mesh s) (s .pre .0 .0 .sound) (s .pre .0 .0 .small (s .args .axis) (s .pre .0 .2)) (s .args .c) (s .pre .0 .1) side1 _ _ _ _ _ _ _ (part1 a)
 
 side-requires-3 : tie.Need-side-requires-3
 side-requires-3 c κs =
     let a = c .before .before .before .before .before .before .before .before .before .before .before .before .before .before .before .before .before .before .before .before in
     let s = start a in
-    sizes (mesh s) (s .pre .0 .sound) (s .pre .0 .small) (s .args .c) (s .pre .0 .here) side2 _ _ _ _ _ _ _ (part2 a)
+    sizes (mesh s) (s .pre .0 .0 .sound) (s .pre .0 .0 .small (s .args .axis) (s .pre .0 .2)) (s .args .c) (s .pre .0 .1) side2 _ _ _ _ _ _ _ (part2 a)
 
 side-requires-4 : tie.Need-side-requires-4
 side-requires-4 c κs =
     let a = c .before .before .before .before .before .before .before .before .before .before .before .before .before .before .before .before .before .before .before .before .before .before .before .before .before .before .before in
     let s = start a in
-    sizes (mesh s) (s .pre .0 .sound) (s .pre .0 .small) (s .args .c) (s .pre .0 .here) side3 _ _ _ _ _ _ _ (part3 a)
+    sizes (mesh s) (s .pre .0 .0 .sound) (s .pre .0 .0 .small (s .args .axis) (s .pre .0 .2)) (s .args .c) (s .pre .0 .1) side3 _ _ _ _ _ _ _ (part3 a)
 
 returns : tie.Need-returns
 returns c =
     let a = c .before .before .before .before .before .before .before .before .before .before .before .before .before .before .before .before .before .before .before .before .before .before .before .before .before .before .before .before in
     let s = start a in
     record {
-      side0 = made-is (mesh s) (s .pre .0 .sound) (s .pre .0 .small) (s .args .c) (s .pre .0 .here) side0 _ _ _ _ _ _ _ (part0 a) _ (c .before .before .before .before .before .before .before .before .before .before .before .before .before .before .before .before .before .before .before .before .before .side .ensures);
-      side1 = made-is (mesh s) (s .pre .0 .sound) (s .pre .0 .small) (s .args .c) (s .pre .0 .here) side1 _ _ _ _ _ _ _ (part1 a) _ (c .before .before .before .before .before .before .before .before .before .before .before .before .before .before .side2 .ensures);
-      side2 = made-is (mesh s) (s .pre .0 .sound) (s .pre .0 .small) (s .args .c) (s .pre .0 .here) side2 _ _ _ _ _ _ _ (part2 a) _ (c .before .before .before .before .before .before .before .side3 .ensures);
-      side3 = made-is (mesh s) (s .pre .0 .sound) (s .pre .0 .small) (s .args .c) (s .pre .0 .here) side3 _ _ _ _ _ _ _ (part3 a) _ (c .side4 .ensures);
+      side0 = made-is (mesh s) (s .pre .0 .0 .sound) (s .pre .0 .0 .small (s .args .axis) (s .pre .0 .2)) (s .args .c) (s .pre .0 .1) side0 _ _ _ _ _ _ _ (part0 a) _ (c .before .before .before .before .before .before .before .before .before .before .before .before .before .before .before .before .before .before .before .before .before .side .ensures);
+      side1 = made-is (mesh s) (s .pre .0 .0 .sound) (s .pre .0 .0 .small (s .args .axis) (s .pre .0 .2)) (s .args .c) (s .pre .0 .1) side1 _ _ _ _ _ _ _ (part1 a) _ (c .before .before .before .before .before .before .before .before .before .before .before .before .before .before .side2 .ensures);
+      side2 = made-is (mesh s) (s .pre .0 .0 .sound) (s .pre .0 .0 .small (s .args .axis) (s .pre .0 .2)) (s .args .c) (s .pre .0 .1) side2 _ _ _ _ _ _ _ (part2 a) _ (c .before .before .before .before .before .before .before .side3 .ensures);
+      side3 = made-is (mesh s) (s .pre .0 .0 .sound) (s .pre .0 .0 .small (s .args .axis) (s .pre .0 .2)) (s .args .c) (s .pre .0 .1) side3 _ _ _ _ _ _ _ (part3 a) _ (c .side4 .ensures);
     }
 
 pub net-sides-spec : {M : Type 1} → statement M
 net-sides-spec =
     tie.close
     (tie.spec
-    count-at-requires
-    count-at-requires-2
-    vertex-face-requires
-    mesh-face-requires
+    valence-requires
+    sides-requires
+    ring-face-requires
+    ring-face-requires-2
     leaving-edge-requires
     arriving-edge-requires
     cosine-requires
