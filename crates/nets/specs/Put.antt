@@ -7,7 +7,7 @@ use lib.ListN.{length, getD}
 use lib.IntN.{ℤ, pos}
 use Rattle.paper.specs.Numbers.{rounded}
 use Rattle.paper.specs.Refined.{RefinedMesh}
-use Rattle.paper.specs.Net.{net}
+use Rattle.paper.specs.Net.{net, netPoints}
 
 -- every third number from `from` on, as many as there are points, is a point's; the others are as before
 pub record Placed (old new : List ℤ) (from : ℕ) (points : List ℤ) : Type 0 where
@@ -15,7 +15,7 @@ pub record Placed (old new : List ℤ) (from : ℕ) (points : List ℤ) : Type 0
   pub points-are : (p : ℕ) → p < length points → getD new (from + 3 * p) (pos 0) ≡ getD points p (pos 0)
   pub others : (i : ℕ) → ((p : ℕ) → p < length points → i ≡ from + 3 * p → ⊥) → getD new i (pos 0) ≡ getD old i (pos 0)
 
--- the 41 points of the net of c on an axis, from the place `at` of the output on
+-- the points of the net of c on an axis, from the place `at` of the output on
 pub record Put (K : RefinedMesh rounded) (c axis at : ℕ) (old new : List ℤ) : Type 0 where
-  pub points-are : (p : ℕ) → p < 41 → getD new (at + 3 * p + axis) (pos 0) ≡ getD (net K c) p (pos 0)
-  pub others : (i : ℕ) → ((p : ℕ) → p < 41 → i ≡ at + 3 * p + axis → ⊥) → getD new i (pos 0) ≡ getD old i (pos 0)
+  pub points-are : (p : ℕ) → p < netPoints → getD new (at + 3 * p + axis) (pos 0) ≡ getD (net K c) p (pos 0)
+  pub others : (i : ℕ) → ((p : ℕ) → p < netPoints → i ≡ at + 3 * p + axis → ⊥) → getD new i (pos 0) ≡ getD old i (pos 0)

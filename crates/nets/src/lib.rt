@@ -7,8 +7,9 @@ ghost use lib.ListN.{length, getD};
 ghost use lib.IntN.{pos};
 ghost use Rattle.formulas.specs.Sizes.{Written};
 ghost use Rattle.paper.specs.Net.{rows};
+ghost use Rattle.paper.specs.Calls.{perCorner};
 ghost use Rattle.cosines.specs.Stored.{stored};
-ghost use Rattle.sides.specs.Tabled.{tabled, Tables};
+ghost use Rattle.sides.specs.Drawn.{drawn, Drawn};
 ghost use Rattle.nets.specs.Put.{Placed, Put};
 
 // A row, every third number from `from` on.
@@ -50,14 +51,10 @@ fn put_a(g: [[i64; 4]; 4], out: &mut [i32], from: usize)
     }
 }
 
-// The 41 points of the net of c on an axis, into the 123 numbers from `at` on.
+// The 41 points of the net of c, one of `count` corners, on an axis: into a corner's numbers from `at` on.
 pub fn put_net(
     points: &[i32],
-    nexts: &[u16],
-    previouses: &[u16],
-    links: &[u16],
-    sides: &[u8],
-    valences: &[u8],
+    table: &[u16],
     rows: &cosines::Rows,
     count: usize,
     c: usize,
@@ -65,21 +62,13 @@ pub fn put_net(
     out: &mut [i32],
     at: usize,
 )
-    requires { ⌜ Tables count (now nexts) (now previouses) (now links) (now sides) (now valences) (now points) c × (axis < 3) × (at + 123 ≤ length (now out)) × (now rows ≡ stored) ⌝ }
-    ensures { λ _. ⌜ Put (tabled count (now (nexts .entry)) (now (previouses .entry)) (now (links .entry)) (now (sides .entry)) (now (valences .entry)) (now (points .entry))) c axis at (now (out .entry)) (now (out .exit)) ⌝ }
+    requires mesh { ⌜ Drawn count (now table) (now points) × (c < count) × (axis < 3) ⌝ }
+    requires room { ⌜ at + perCorner ≤ length (now out) ⌝ }
+    requires rows { ⌜ now rows ≡ stored ⌝ }
+    ensures { λ _. ⌜ Put (drawn count (now (table .entry)) (now (points .entry)) axis) c axis at (now (out .entry)) (now (out .exit)) ⌝ }
 {
     let from = at + axis;
-    let n = sides::net_sides(
-        points,
-        nexts,
-        previouses,
-        links,
-        sides,
-        valences,
-        rows,
-        count,
-        c,
-    );
+    let n = sides::net_sides(points, table, rows, count, c, axis);
     let s0 = n.side0;
     let s1 = n.side1;
     let s2 = n.side2;

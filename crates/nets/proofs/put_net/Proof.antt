@@ -10,7 +10,7 @@ use lib.IntN.{ℤ}
 use Rattle.paper.specs.Numbers.{rounded}
 use Rattle.paper.specs.Refined.{RefinedMesh}
 use Rattle.paper.specs.Net.{rows, bGrid, aGrid}
-use Rattle.sides.specs.Tabled.{tabled}
+use Rattle.sides.specs.Drawn.{drawn}
 use Rattle.nets.specs.Put.{Placed}
 use Rattle.nets.proofs.Laws.{all-sized, a-is, b-is, a-fine, b-fine, put-is}
 use Rattle.nets.proofs.put_net.Statement.{statement}
@@ -18,13 +18,11 @@ use Rattle.nets.proofs.put_net.Tie as tie
 
 -- the mesh that the tables hold
 abbrev mesh : tie.Start → RefinedMesh rounded
-mesh s =
-    tabled (s .args .count) (s .args .nexts .now) (s .args .previouses .now) (s .args .links .now) (s .args .sides .now) (s .args .valences .now)
-    (s .args .points .now)
+mesh s = drawn (s .args .count) (s .args .table .now) (s .args .points .now) (s .args .axis)
 
 -- where the function began, from each of the two grids
 abbrev start : tie.After-a-grid → tie.Start
-start a = a .before .before .before .before .before .before .before .before .before .before .before .before .before .before .before
+start a = a .before .before .before .before .before .before .before .before .before .before .before
 
 abbrev first : tie.After-b-grid → tie.After-a-grid
 first b = b .before .before .before .before .before
@@ -44,7 +42,7 @@ b-grid b =
     (a .before .side-rows4 .ensures) _ _ (a .a-grid .ensures) (b .b-grid .ensures)
 
 add-from : tie.Need-add-from
-add-from c = let s = c .before .before .before .before .before in omega (arith, s .pre .1, s .pre .2)
+add-from c = let s = c .before in omega (arith, s .pre .0 .2, s .pre .1)
 
 net-sides-requires : tie.Need-net-sides-requires
 net-sides-requires c κs = search needs
@@ -68,7 +66,7 @@ b-grid-requires : tie.Need-b-grid-requires
 b-grid-requires c κs =
     let a = c .before .before .before .before in
     let s = start a in
-    let w = a-fine (mesh s) (s .pre .0 .sound) (s .pre .0 .small) (s .args .c) (s .pre .0 .here) _ (a-grid a) .1 in
+    let w = a-fine (mesh s) (s .pre .0 .0 .sound) (s .pre .0 .0 .small (s .args .axis) (s .pre .0 .2)) (s .args .c) (s .pre .0 .1) _ (a-grid a) .1 in
     let z = all-sized (mesh s) (s .args .c) _ (a .before .before .before .before .before .before .before .before .before .net-sides .ensures) _ _ _ _
     (a .before .before .before .before .side-rows .ensures) (a .before .before .before .side-rows2 .ensures) (a .before .before .side-rows3 .ensures)
     (a .before .side-rows4 .ensures) in
@@ -77,20 +75,20 @@ b-grid-requires c κs =
 put-b-requires : tie.Need-put-b-requires
 put-b-requires c κs =
     let s = start (first (c .before)) in
-    let w = b-fine (mesh s) (s .pre .0 .sound) (s .pre .0 .small) (s .args .c) (s .pre .0 .here) _ (b-grid (c .before)) in
-    (omega (arith, s .pre .1, s .pre .2), w .0, w .1)
+    let w = b-fine (mesh s) (s .pre .0 .0 .sound) (s .pre .0 .0 .small (s .args .axis) (s .pre .0 .2)) (s .args .c) (s .pre .0 .1) _ (b-grid (c .before)) in
+    (omega (arith, s .pre .0 .2, s .pre .1), w .0, w .1)
 
 add-put-a : tie.Need-add-put-a
 add-put-a c =
     let s = start (first (c .before .before .before .before)) in
-    omega (arith, s .pre .1, s .pre .2, s .good .1 .1 .1 .1 .1 .1 .1 .1 .1 .1 .0)
+    omega (arith, s .pre .0 .2, s .pre .1, s .good .1 .1 .1 .1 .1 .1 .0)
 
 put-a-requires : tie.Need-put-a-requires
 put-a-requires c κs =
     let a = first (c .before .before .before .before) in
     let s = start a in
-    let w = a-fine (mesh s) (s .pre .0 .sound) (s .pre .0 .small) (s .args .c) (s .pre .0 .here) _ (a-grid a) in
-    (omega (arith, s .pre .1, s .pre .2, c .before .before .put-b .ensures .same), w .0, w .1)
+    let w = a-fine (mesh s) (s .pre .0 .0 .sound) (s .pre .0 .0 .small (s .args .axis) (s .pre .0 .2)) (s .args .c) (s .pre .0 .1) _ (a-grid a) in
+    (omega (arith, s .pre .0 .2, s .pre .1, c .before .before .put-b .ensures .same), w .0, w .1)
 
 same-length : tie.Need-same-length
 same-length c = search needs
