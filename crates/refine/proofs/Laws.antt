@@ -1,24 +1,24 @@
 -- The sizes on the way to a refined point, the refined point from the values that the code has of a corner, and the table of refined points.
 -- Assumes nothing.
-use mathlib.Core.Path.{_≡_, refl, _∙_, sym, subst}
-use mathlib.Core.Logic.{⊎-elim}
+use mathlib.Core.Path.{_≡_, refl, ap, _∙_, sym, subst}
+use mathlib.Core.Logic.{_⊎_, inl, inr, ⊎-elim}
 use mathlib.Core.List.{List}
 use Prim.Native.Nat.{ℕ, _+_, _*_, _^_, _<_, _≤_}
 use native.Mathlib.Nat.{le-trans}
 use native.Mathlib.Omega.{arith}
 use lib.Dec.{ltb, eqb, lit≤, lit<}
-use lib.ListN.{length, getD, set, replicate, getD-replicate, length-replicate, List·getD-eq-default}
+use lib.ListN.{length, getD, set, length-set, replicate, getD-replicate, length-replicate, List·getD-eq-default}
 use lib.Seq.{getD-set-same, getD-set-other}
 use borrow.Author.Tests.{eqb-true, eqb-false, ltb-true, ltb-false}
 use lib.IntN.{ℤ, pos, natAbs, _+ℤ_, _*ℤ_}
 use mir.Syntax.{w64}
-use mir.Val.{SFits, toZ}
-use mir.Facts.{toZ-pos}
+use mir.Val.{SFits, toZ, ofZ}
+use mir.Facts.{toZ-ofZ, toZ-pos}
 use Rattle.paper.specs.Mesh.{mostSides, mostCoordinate, Mesh, meshOf, faceCount, cornerCount}
 use Rattle.paper.specs.Corners.{sumOf, startOf, faceOf, sidesOf, next, previous}
 use Rattle.paper.specs.Links.{vertexOf}
 use Rattle.paper.specs.Numbers.{sum, round, rounded}
-use Rattle.paper.specs.Refined.{ticks, faceSum, refinedPoint}
+use Rattle.paper.specs.Refined.{ticksPerStep, ticks, faceSum, refinedPoint}
 use Rattle.integers.proofs.Poly.{over, poly}
 use Rattle.integers.proofs.Laws.{abs-mul-le, abs-add-le}
 use Rattle.integers.proofs.Sum.{sum-abs}
@@ -26,11 +26,12 @@ use Rattle.integers.proofs.Machine.{abs-fits}
 use Rattle.mesh.proofs.Scans.{ways, compared}
 use Rattle.mesh.proofs.Faces.{face-at, start-zero, start-next, start-ends, next-below, previous-below}
 use Rattle.surface.proofs.Hull.{point-size}
-use Rattle.refine.specs.Sources.{Placed, Refinable, Ticks, Small, Pointed, Added}
+use Rattle.surface.specs.Points.{pointRow, pointAt}
+use Rattle.refine.specs.Sources.{Placed, Refinable, Ticks, Small, Apart, Holds, Pointed, Added, AddedOn}
 
 -- ---- ticks and their sums
-pub tick-size : (z : ℤ) → natAbs z ≤ mostCoordinate → natAbs (pos 256 *ℤ z) ≤ 2 ^ 24
-tick-size z h = abs-mul-le (pos 256) z 256 mostCoordinate (lit≤ tt) h
+pub tick-size : (z : ℤ) → natAbs z ≤ mostCoordinate → natAbs (pos ticksPerStep *ℤ z) ≤ 2 ^ 24
+tick-size z h = abs-mul-le (pos ticksPerStep) z ticksPerStep mostCoordinate (lit≤ tt) h
 
 module _ (coordinates : List ℤ) (corners : List ℕ) (p : Placed coordinates corners) (axis c : ℕ) (a : axis < 3) (h : c < length corners) where
   pub tick-in : 3 * vertexOf corners c + axis < length coordinates
@@ -96,6 +97,11 @@ sizes total before here after n t =
       result = point-size n total before here after (omega (arith, t .least)) (t .total-size) (t .before-size) (t .here-size) (t .after-size);
     }
 
+-- ---- a division by 8n: for n that is k, in the machine's numbers
+pub arm : (t r : ℤ) (n k : ℕ) → SFits w64 t → SFits w64 r → n ≡ k → r ≡ round (toZ w64 (ofZ w64 t)) (pos 8 *ℤ pos k)
+    → toZ w64 (ofZ w64 r) ≡ round t (pos 8 *ℤ pos n)
+arm t r n k ft fr e h = toZ-ofZ fr ∙ h ∙ ap (λ (z : ℤ). round z (pos (8 * k))) (toZ-ofZ ft) ∙ ap (λ (m : ℕ). round t (pos (8 * m))) (sym e)
+
 -- ---- the corners of face f of a mesh
 module _ (M : Mesh) (R : Refinable M) (f : ℕ) (l : f < faceCount M) where
   pub end-in : startOf (M .sides) f + getD (M .sides) f 0 ≤ cornerCount M
@@ -141,53 +147,102 @@ small-zeros n c =
     (λ b. rw (List·getD-eq-default (replicate n (pos 0)) (pos 0) {n = c} (omega (arith, length-replicate {A = ℤ} n (pos 0), ltb-false c n b))) (omega arith))
     (ways (ltb c n))
 
-module _ (M : Mesh) (axis start : ℕ) where
-  -- nothing is put in yet
-  pub added-none : (points : List ℤ) → Small points → Added M axis start start points points
-  added-none points h = record { points-are = λ c a b. absurd (omega arith); others = λ c b. refl; small = h }
+-- what P and Q choose, put in one after the other, is what R chooses
+holds-more : (M : Mesh) (P Q R : ℕ → ℕ → Type 0) (old mid new : List ℤ)
+    → ((axis c : ℕ) → R axis c → Q axis c ⊎ (P axis c × Apart Q (pointRow * c + axis)))
+    → ((axis c : ℕ) → P axis c → R axis c) → ((axis c : ℕ) → Q axis c → R axis c)
+    → Holds M P old mid → Holds M Q mid new → Holds M R old new
+holds-more M P Q R old mid new split up vp p q = record {
+  points-are = λ axis c r. ⊎-elim
+      (λ h. q .points-are axis c h)
+      (λ h. q .others (pointRow * c + axis) (h .1) ∙ p .points-are axis c (h .0))
+      (split axis c r);
+  others = λ i n. q .others i (λ axis c h. n axis c (vp axis c h)) ∙ p .others i (λ axis c h. n axis c (up axis c h));
+  same = q .same ∙ p .same;
+  small = q .small;
+}
 
-  -- one point more
-  pub added-set : (end : ℕ) (old new : List ℤ) (v : ℤ) → Added M axis start end old new → start ≤ end → end < length new
-      → v ≡ refinedPoint rounded M axis end → natAbs v ≤ 2 ^ 24 → Added M axis start (end + 1) old (set new end v)
+-- where nothing is chosen
+holds-none : (M : Mesh) (P : ℕ → ℕ → Type 0) (points : List ℤ) → ((axis c : ℕ) → P axis c → ⊥) → Small points → Holds M P points points
+holds-none M P points never h = record { points-are = λ axis c p. absurd (never axis c p); others = λ i n. refl; same = refl; small = h }
+
+-- no axis, and no corner, yet
+pub added-none : (M : Mesh) (start end : ℕ) (points : List ℤ) → Small points → Added M 0 start end points points
+added-none M start end points = holds-none M _ points (λ axis c q. omega (arith, q .0))
+
+pub added-on-none : (M : Mesh) (k start : ℕ) (points : List ℤ) → Small points → AddedOn M k start start points points
+added-on-none M k start points = holds-none M _ points (λ axis c q. omega (arith, q .1, q .2))
+
+-- no face yet
+pub pointed-none : (M : Mesh) (wanted : List ℕ) (points : List ℤ) → Small points → Pointed M wanted (startOf (M .sides) 0) points points
+pointed-none M wanted points = holds-none M _ points (λ axis c q. omega (arith, q .1, start-zero (M .sides)))
+
+-- one point
+holds-one : (M : Mesh) (k d : ℕ) (old : List ℤ) (v : ℤ) → pointRow * d + k < length old → v ≡ refinedPoint rounded M k d → natAbs v ≤ 2 ^ 24 → Small old
+    → Holds M (λ axis c. (axis ≡ k) × (c ≡ d)) old (set old (pointRow * d + k) v)
+holds-one M k d old v b e s h = record {
+  points-are = λ axis c p. rw (p .0, p .1) (getD-set-same old (pointRow * d + k) v (pos 0) b ∙ e);
+  others = λ i n. getD-set-other old (pointRow * d + k) i v (pos 0) (λ q. n k d (refl, refl) q);
+  same = length-set old (pointRow * d + k) v;
+  small = λ i. ⊎-elim
+      (λ b′. let q : i ≡ pointRow * d + k = eqb-true i (pointRow * d + k) b′ in rw (q, getD-set-same old (pointRow * d + k) v (pos 0) b) s)
+      (λ b′. rw (getD-set-other old (pointRow * d + k) i v (pos 0) (eqb-false i (pointRow * d + k) b′)) (h i))
+      (ways (eqb i (pointRow * d + k)));
+}
+
+-- two corners, and two axes, have places of their own
+apart-corner : (axis k c end x d : ℕ) → (c < end) ⊎ (end < c) → axis ≡ k → x ≡ k → d ≡ end → pointRow * c + axis ≡ pointRow * d + x → ⊥
+apart-corner axis k c end x d o e f g q = ⊎-elim (λ m. omega arith) (λ m. omega arith) o
+
+apart-axis : (axis k c x d : ℕ) → (axis < k) ⊎ (k < axis) → axis < 4 → k < 3 → x ≡ k → pointRow * c + axis ≡ pointRow * d + x → ⊥
+apart-axis axis k c x d o a b f q = ⊎-elim (λ m. omega arith) (λ m. omega arith) o
+
+module _ (M : Mesh) (k start : ℕ) (l : k < 3) where
+  -- one corner more on an axis
+  pub added-set : (end : ℕ) (old new : List ℤ) (v : ℤ) → AddedOn M k start end old new → start ≤ end → pointRow * end + k < length new
+      → v ≡ refinedPoint rounded M k end → natAbs v ≤ 2 ^ 24 → AddedOn M k start (end + 1) old (set new (pointRow * end + k) v)
   added-set end old new v h a b e s =
-      record {
-        points-are = λ c l m. ⊎-elim
-            (λ (q : c ≡ end). rw q (getD-set-same new end v (pos 0) b ∙ e))
-            (λ o. let k : c < end = ⊎-elim (λ (k : c < end). k) (λ (k : end < c). absurd (omega arith)) o in
-            getD-set-other new end c v (pos 0) (λ q. omega arith) ∙ h .points-are c l k)
-            (compared c end);
-        others = λ c l. getD-set-other new end c v (pos 0) (λ q. omega arith) ∙ h .others c l;
-        small = λ c. ⊎-elim
-            (λ b′. let q : c ≡ end = eqb-true c end b′ in rw (q, getD-set-same new end v (pos 0) b) s)
-            (λ b′. rw (getD-set-other new end c v (pos 0) (eqb-false c end b′)) (h .small c))
-            (ways (eqb c end));
-      }
+      holds-more M _ _ _ old new _
+      (λ axis c r. ⊎-elim
+      (λ (q : c ≡ end). inl (r .0, q))
+      (λ o. inr ((r .0, r .1, ⊎-elim (λ (m : c < end). m) (λ (m : end < c). absurd (omega (arith, r .2))) o), λ x d p q. apart-corner axis k c end x d o (r .0) (p .0) (p .1) q))
+      (compared c end))
+      (λ axis c p. (p .0, p .1, omega (arith, p .2))) (λ axis c p. (p .0, omega (arith, p .1), omega (arith, p .1)))
+      h (holds-one M k end new v b e s (h .small))
 
--- no face is passed yet; a face that is wanted, and one that is not
-module _ (M : Mesh) (axis : ℕ) (wanted : List ℕ) where
-  pub pointed-none : (points : List ℤ) → Small points → Pointed M axis wanted points (startOf (M .sides) 0)
-  pointed-none points h = record { points-are = λ c l w. absurd (omega (arith, start-zero (M .sides))); small = h }
+  -- one axis more
+  pub added-axis : (end : ℕ) (old mid new : List ℤ) → Added M k start end old mid → AddedOn M k start end mid new → Added M (k + 1) start end old new
+  added-axis end old mid new =
+      holds-more M _ _ _ old mid new
+      (λ axis c r. ⊎-elim
+      (λ (q : axis ≡ k). inl (q, r .1, r .2))
+      (λ o. inr ((⊎-elim (λ (m : axis < k). m) (λ (m : k < axis). absurd (omega (arith, r .0))) o, r .1, r .2), λ x d p q. apart-axis axis k c x d o (omega (arith, r .0)) l (p .0) q))
+      (compared axis k))
+      (λ axis c p. (omega (arith, p .0), p .1, p .2)) (λ axis c p. (omega (arith, p .0), p .1, p .2))
 
-  pub pointed-added : (f : ℕ) (old new : List ℤ) → Pointed M axis wanted old (startOf (M .sides) f)
-      → Added M axis (startOf (M .sides) f) (startOf (M .sides) (f + 1)) old new → Pointed M axis wanted new (startOf (M .sides) (f + 1))
-  pointed-added f old new p h =
-      record {
-        points-are = λ c l w. ⊎-elim
-            (λ b. let k = ltb-true c (startOf (M .sides) f) b in h .others c k ∙ p .points-are c k w)
-            (λ b. h .points-are c (ltb-false c (startOf (M .sides) f) b) l)
-            (ways (ltb c (startOf (M .sides) f)));
-        small = h .small;
-      }
+-- one face more: one that is wanted, and one that is not
+module _ (M : Mesh) (wanted : List ℕ) (f : ℕ) (l : f < faceCount M) where
+  face-is : (c : ℕ) → startOf (M .sides) f ≤ c → c < startOf (M .sides) (f + 1) → faceOf (M .sides) c ≡ f
+  face-is c a b = face-at (M .sides) f c a (omega (arith, start-next (M .sides) f l)) l
 
-  pub pointed-passed : (f : ℕ) (points : List ℤ) → f < faceCount M → getD wanted f 0 ≡ 0 → Pointed M axis wanted points (startOf (M .sides) f)
-      → Pointed M axis wanted points (startOf (M .sides) (f + 1))
-  pointed-passed f points h z p =
-      record {
-        points-are = λ c l w. ⊎-elim
-            (λ b. p .points-are c (ltb-true c (startOf (M .sides) f) b) w)
-            (λ b. let e : faceOf (M .sides) c ≡ f =
-            face-at (M .sides) f c (ltb-false c (startOf (M .sides) f) b) (omega (arith, start-next (M .sides) f h)) h in
-            absurd (omega (arith, z, subst (λ (g : ℕ). 0 < getD wanted g 0) e w)))
-            (ways (ltb c (startOf (M .sides) f)));
-        small = p .small;
-      }
+  pub pointed-added : (old mid new : List ℤ) → 0 < getD wanted f 0 → Pointed M wanted (startOf (M .sides) f) old mid
+      → Added M 3 (startOf (M .sides) f) (startOf (M .sides) (f + 1)) mid new → Pointed M wanted (startOf (M .sides) (f + 1)) old new
+  pointed-added old mid new w =
+      holds-more M _ _ _ old mid new
+      (λ axis c r. ⊎-elim
+      (λ b. let m = ltb-true c (startOf (M .sides) f) b in inr ((r .0, m, r .2), λ x d p q. omega (arith, r .0, p .0, p .1)))
+      (λ b. inl (r .0, ltb-false c (startOf (M .sides) f) b, r .1))
+      (ways (ltb c (startOf (M .sides) f))))
+      (λ axis c p. (p .0, omega (arith, p .1, start-next (M .sides) f l), p .2))
+      (λ axis c p. (p .0, p .2, rw (face-is c (p .1) (p .2)) w))
+
+  pub pointed-passed : (old new : List ℤ) → getD wanted f 0 ≡ 0 → Pointed M wanted (startOf (M .sides) f) old new
+      → Pointed M wanted (startOf (M .sides) (f + 1)) old new
+  pointed-passed old new z p =
+      holds-more M _ (λ axis c. ⊥) _ old new new
+      (λ axis c r. ⊎-elim
+      (λ b. inr ((r .0, ltb-true c (startOf (M .sides) f) b, r .2), λ x d q. absurd q))
+      (λ b. absurd (omega (arith, z, subst (λ (g : ℕ). 0 < getD wanted g 0) (face-is c (ltb-false c (startOf (M .sides) f) b) (r .1)) (r .2))))
+      (ways (ltb c (startOf (M .sides) f))))
+      (λ axis c q. (q .0, omega (arith, q .1, start-next (M .sides) f l), q .2)) (λ axis c q. absurd q)
+      p (holds-none M _ new (λ axis c q. q) (p .small))

@@ -1,23 +1,17 @@
--- What refined points are computed from: an accepted mesh and the tables of its steps give it. What the table of refined points holds.
+-- What refined points are computed from, which an accepted mesh gives, and what the table of refined points holds.
 -- Assumes nothing.
 use mathlib.Core.Path.{_≡_}
 use mathlib.Core.List.{List}
-use Prim.Native.Nat.{ℕ, _*_, _^_, _<_, _≤_, _/_}
+use Prim.Native.Nat.{ℕ, _+_, _*_, _^_, _<_, _≤_, _/_}
 use lib.ListN.{length, getD}
 use lib.IntN.{ℤ, pos, natAbs}
 use Rattle.paper.specs.Mesh.{leastSides, mostSides, mostCoordinate, Mesh, cornerCount}
-use Rattle.paper.specs.Corners.{sumOf, faceOf, next, previous}
+use Rattle.paper.specs.Corners.{sumOf, faceOf}
 use Rattle.paper.specs.Numbers.{rounded}
 use Rattle.paper.specs.Refined.{refinedPoint}
+use Rattle.surface.specs.Points.{pointRow, pointAt}
 use Rattle.mesh.specs.Tables.{Named}
-use Rattle.corner_tables.specs.Tables.{Filled, Faces}
-
--- the tables of next and previous corners, of all corners of the faces
-pub record Steps (sides nexts previouses : List ℕ) : Type 0 where
-  pub nexts-are : Filled 0 (next sides) nexts (sumOf sides)
-  pub previouses-are : Filled 0 (previous sides) previouses (sumOf sides)
-  pub nexts-hold : sumOf sides ≤ length nexts
-  pub previouses-hold : sumOf sides ≤ length previouses
+use Rattle.corner_tables.specs.Tables.{Faces}
 
 -- corners whose vertices have coordinates, within their limits
 pub record Placed (coordinates : List ℤ) (corners : List ℕ) : Type 0 where
@@ -43,13 +37,24 @@ pub record Ticks (total before here after : ℤ) (n : ℕ) : Type 0 where
 abbrev pub Small : List ℤ → Type 0
 Small points = (c : ℕ) → natAbs (getD points c (pos 0)) ≤ 2 ^ 24
 
--- the refined points of the corners below n whose face has a nonzero entry in `wanted`
-pub record Pointed (M : Mesh) (axis : ℕ) (wanted : List ℕ) (points : List ℤ) (n : ℕ) : Type 0 where
-  pub points-are : (c : ℕ) → c < n → 0 < getD wanted (faceOf (M .sides) c) 0 → getD points c (pos 0) ≡ refinedPoint rounded M axis c
-  pub small : Small points
+-- a place that holds none of the points that P chooses, by axis and corner
+abbrev pub Apart : (ℕ → ℕ → Type 0) → ℕ → Type 0
+Apart P i = (axis c : ℕ) → P axis c → i ≡ pointRow * c + axis → ⊥
 
--- the refined points of the corners from `start` to before `end` are put into the table, and those before are kept
-pub record Added (M : Mesh) (axis start end : ℕ) (old new : List ℤ) : Type 0 where
-  pub points-are : (c : ℕ) → start ≤ c → c < end → getD new c (pos 0) ≡ refinedPoint rounded M axis c
-  pub others : (c : ℕ) → c < start → getD new c (pos 0) ≡ getD old c (pos 0)
+-- the table `new` has the refined points that P chooses, and is otherwise as before
+pub record Holds (M : Mesh) (P : ℕ → ℕ → Type 0) (old new : List ℤ) : Type 0 where
+  pub points-are : (axis c : ℕ) → P axis c → pointAt new axis c ≡ refinedPoint rounded M axis c
+  pub others : (i : ℕ) → Apart P i → getD new i (pos 0) ≡ getD old i (pos 0)
+  pub same : length new ≡ length old
   pub small : Small new
+
+-- those of the corners below n whose face has a nonzero entry in `wanted`, on the three axes
+abbrev pub Pointed : Mesh → List ℕ → ℕ → List ℤ → List ℤ → Type 0
+Pointed M wanted n = Holds M (λ axis c. (axis < 3) × (c < n) × (0 < getD wanted (faceOf (M .sides) c) 0))
+
+-- those of the corners from `start` to before `end`: on the axes below k, and on one
+abbrev pub Added : Mesh → ℕ → ℕ → ℕ → List ℤ → List ℤ → Type 0
+Added M k start end = Holds M (λ axis c. (axis < k) × (start ≤ c) × (c < end))
+
+abbrev pub AddedOn : Mesh → ℕ → ℕ → ℕ → List ℤ → List ℤ → Type 0
+AddedOn M k start end = Holds M (λ axis c. (axis ≡ k) × (start ≤ c) × (c < end))

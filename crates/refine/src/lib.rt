@@ -1,84 +1,98 @@
-// The refined points on one axis of the faces that are wanted, in a table over the corners. A face's sum is formed once and serves all
-// its corners.
+// The refined points of the faces that are wanted, on the three axes: a row for each corner. A face's sum is formed once and serves all its
+// corners.
+use paper::TICKS_PER_STEP;
 use rounding::round_div;
+use surface::POINT_ROW;
+use walk::Walker;
 ghost use mathlib.Core.Path.{_≡_};
 ghost use mathlib.Core.List.{List};
-ghost use Prim.Native.Nat.{ℕ, _+_, _^_, _≤_, _<_};
+ghost use Prim.Native.Nat.{ℕ, _+_, _*_, _^_, _≤_, _<_};
 ghost use lib.ListN.{length};
 ghost use lib.IntN.{pos, natAbs, _+ℤ_, _*ℤ_};
 ghost use Rattle.paper.specs.Mesh.{mostSides, meshOf};
 ghost use Rattle.paper.specs.Corners.{sumOf, startOf};
 ghost use Rattle.paper.specs.Numbers.{sum, round};
-ghost use Rattle.paper.specs.Refined.{ticks};
-ghost use Rattle.refine.specs.Sources.{Steps, Placed, Refinable, Ticks, Small, Pointed, Added};
+ghost use Rattle.paper.specs.Refined.{ticks, cornersOf};
+ghost use Rattle.surface.specs.Points.{pointRow};
+ghost use Rattle.walk.specs.Table.{Tabled};
+ghost use Rattle.refine.specs.Sources.{Placed, Refinable, Ticks, Small, Pointed, Added, AddedOn};
 
-// The refined points on an axis of the corners whose face has a nonzero entry in `wanted`.
+// The refined points of the corners whose face has a nonzero entry in `wanted`.
 pub fn fill_points(
     coordinates: &[i32],
     sides: &[u8],
     corners: &[u16],
-    nexts: &[u16],
-    previouses: &[u16],
+    table: &[u16],
     wanted: &[u8],
-    axis: usize,
     points: &mut [i32],
 )
     requires mesh { ⌜ Refinable (meshOf (now coordinates) (now sides) (now corners)) ⌝ }
-    requires axis { ⌜ axis < 3 ⌝ }
-    requires tables { ⌜ Steps (now sides) (now nexts) (now previouses) × (length (now sides) ≤ length (now wanted)) ⌝ }
-    requires points { ⌜ (sumOf (now sides) ≤ length (now points)) × Small (now points) ⌝ }
-    ensures { λ _. ⌜ Pointed (meshOf (now (coordinates .entry)) (now (sides .entry)) (now (corners .entry))) axis (now (wanted .entry)) (now (points .exit)) (sumOf (now (sides .entry))) ⌝ }
+    requires table { ⌜ Tabled (cornersOf (meshOf (now coordinates) (now sides) (now corners))) (now table) ⌝ }
+    requires wanted { ⌜ length (now sides) ≤ length (now wanted) ⌝ }
+    requires points { ⌜ (pointRow * length (now corners) ≤ length (now points)) × Small (now points) ⌝ }
+    ensures { λ _. ⌜ Pointed (meshOf (now (coordinates .entry)) (now (sides .entry)) (now (corners .entry))) (now (wanted .entry)) (length (now (corners .entry))) (now (points .entry)) (now (points .exit)) ⌝ }
 {
     let mut start = 0;
     let mut f = 0;
     while f < sides.len() {
         if wanted[f] != 0 {
-            fill_face_points(
-                coordinates,
-                sides,
-                corners,
-                nexts,
-                previouses,
-                axis,
-                f,
-                start,
-                points,
-            );
+            fill_face(coordinates, sides, corners, table, f, start, points);
         }
         start += sides[f] as usize;
         f += 1;
     }
 }
 
-// The refined points of one face, whose first corner is `start`: its sum is formed once.
-fn fill_face_points(
+// The refined points of one face, whose first corner is `start`.
+fn fill_face(
     coordinates: &[i32],
     sides: &[u8],
     corners: &[u16],
-    nexts: &[u16],
-    previouses: &[u16],
+    table: &[u16],
+    f: usize,
+    start: usize,
+    points: &mut [i32],
+)
+    requires mesh { ⌜ Refinable (meshOf (now coordinates) (now sides) (now corners)) ⌝ }
+    requires table { ⌜ Tabled (cornersOf (meshOf (now coordinates) (now sides) (now corners))) (now table) ⌝ }
+    requires face { ⌜ (f < length (now sides)) × (start ≡ startOf (now sides) f) ⌝ }
+    requires points { ⌜ (pointRow * length (now corners) ≤ length (now points)) × Small (now points) ⌝ }
+    ensures { λ _. ⌜ Added (meshOf (now (coordinates .entry)) (now (sides .entry)) (now (corners .entry))) 3 start (startOf (now (sides .entry)) (f + 1)) (now (points .entry)) (now (points .exit)) ⌝ }
+{
+    fill_axis(coordinates, sides, corners, table, 0, f, start, points);
+    fill_axis(coordinates, sides, corners, table, 1, f, start, points);
+    fill_axis(coordinates, sides, corners, table, 2, f, start, points);
+}
+
+// The same on one axis: the sum of the face's vertices is formed once.
+fn fill_axis(
+    coordinates: &[i32],
+    sides: &[u8],
+    corners: &[u16],
+    table: &[u16],
     axis: usize,
     f: usize,
     start: usize,
     points: &mut [i32],
 )
     requires mesh { ⌜ Refinable (meshOf (now coordinates) (now sides) (now corners)) ⌝ }
+    requires table { ⌜ Tabled (cornersOf (meshOf (now coordinates) (now sides) (now corners))) (now table) ⌝ }
     requires face { ⌜ (axis < 3) × (f < length (now sides)) × (start ≡ startOf (now sides) f) ⌝ }
-    requires tables { ⌜ Steps (now sides) (now nexts) (now previouses) ⌝ }
-    requires points { ⌜ (sumOf (now sides) ≤ length (now points)) × Small (now points) ⌝ }
-    ensures { λ _. ⌜ Added (meshOf (now (coordinates .entry)) (now (sides .entry)) (now (corners .entry))) axis start (startOf (now (sides .entry)) (f + 1)) (now (points .entry)) (now (points .exit)) ⌝ }
+    requires points { ⌜ (pointRow * length (now corners) ≤ length (now points)) × Small (now points) ⌝ }
+    ensures { λ _. ⌜ AddedOn (meshOf (now (coordinates .entry)) (now (sides .entry)) (now (corners .entry))) axis start (startOf (now (sides .entry)) (f + 1)) (now (points .entry)) (now (points .exit)) ⌝ }
 {
     let n = sides[f];
     let end = start + n as usize;
     let total = face_sum(coordinates, corners, axis, start, n as usize);
     let mut c = start;
     while c < end {
-        let p = previouses[c] as usize;
-        let q = nexts[c] as usize;
-        let before = tick(coordinates, corners, axis, p);
+        let at = Walker { corner: c };
+        let p = at.previous(table);
+        let q = at.next(table);
+        let before = tick(coordinates, corners, axis, p.corner);
         let here = tick(coordinates, corners, axis, c);
-        let after = tick(coordinates, corners, axis, q);
-        points[c] = refined(total, before, here, after, n);
+        let after = tick(coordinates, corners, axis, q.corner);
+        points[POINT_ROW * c + axis] = refined(total, before, here, after, n);
         c += 1;
     }
 }
@@ -90,7 +104,7 @@ fn tick(coordinates: &[i32], corners: &[u16], axis: usize, c: usize) -> i64
     ensures { λ r. ⌜ ((sides : List ℕ) → r ≡ ticks (meshOf (now (coordinates .entry)) sides (now (corners .entry))) axis c) ⌝ }
 {
     let v = corners[c] as usize;
-    256 * coordinates[3 * v + axis] as i64
+    TICKS_PER_STEP * coordinates[3 * v + axis] as i64
 }
 
 // Σ: the sum of the vertices of `n` corners from `start` on.
@@ -108,23 +122,31 @@ fn face_sum(coordinates: &[i32], corners: &[u16], axis: usize, start: usize, n: 
     total
 }
 
-// r(t / 8n); the side counts of a mesh have divisors that the compiler sees.
+// r(t / 8n).
+fn quotient(t: i64, n: u8) -> i64
+    requires { ⌜ (1 ≤ n) × (natAbs t ≤ 2 ^ 60) ⌝ }
+    ensures { λ r. ⌜ r ≡ round t (pos 8 *ℤ pos n) ⌝ }
+{
+    round_div(t, 8 * n as i64)
+}
+
+// The same, with the side counts of a mesh written out, so that the compiler sees their divisors.
 fn divide(t: i64, n: u8) -> i64
     requires { ⌜ (1 ≤ n) × (natAbs t ≤ 2 ^ 60) ⌝ }
     ensures { λ r. ⌜ r ≡ round t (pos 8 *ℤ pos n) ⌝ }
 {
     match n {
-        3 => round_div(t, 24),
-        4 => round_div(t, 32),
-        5 => round_div(t, 40),
-        6 => round_div(t, 48),
-        7 => round_div(t, 56),
-        8 => round_div(t, 64),
-        9 => round_div(t, 72),
-        10 => round_div(t, 80),
-        11 => round_div(t, 88),
-        12 => round_div(t, 96),
-        _ => round_div(t, 8 * n as i64),
+        3 => quotient(t, 3),
+        4 => quotient(t, 4),
+        5 => quotient(t, 5),
+        6 => quotient(t, 6),
+        7 => quotient(t, 7),
+        8 => quotient(t, 8),
+        9 => quotient(t, 9),
+        10 => quotient(t, 10),
+        11 => quotient(t, 11),
+        12 => quotient(t, 12),
+        _ => quotient(t, n),
     }
 }
 
