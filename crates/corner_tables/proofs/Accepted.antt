@@ -1,13 +1,13 @@
--- An accepted mesh gives what the tables are filled from: sides and names are within their limits.
+-- An accepted mesh gives what faces are found from: sides and names are within their limits.
 -- Assumes nothing.
-use Prim.Native.Nat.{ℕ, _<_, _≤_}
+use Prim.Native.Nat.{ℕ, _<_}
 use native.Mathlib.Omega.{arith}
 use lib.ListN.{length}
 use Rattle.paper.specs.Mesh.{Mesh, vertexCount, faceCount, cornerCount}
 use Rattle.paper.specs.Links.{vertexOf}
 use Rattle.paper.specs.Faults.{Accepted}
-use Rattle.mesh.proofs.Accepted.{sound-of, few-corners, sides-within, sums-of, named-of, valence-within}
-use Rattle.corner_tables.specs.Tables.{Faces, Vertices}
+use Rattle.mesh.proofs.Accepted.{sound-of, few-corners, sides-within, sums-of, named-of}
+use Rattle.corner_tables.specs.Tables.{Faces}
 
 module _ (M : Mesh) (a : Accepted M) where
   pub faces-of : Faces (M .sides)
@@ -21,10 +21,3 @@ module _ (M : Mesh) (a : Accepted M) where
 
   pub vertex-in : (c : ℕ) → c < cornerCount M → vertexOf (M .corners) c < vertexCount M
   vertex-in c h = named-of (vertexCount M) (M .corners) c (sound-of M a .eight c h)
-
-  pub vertices-of : (n : ℕ) → vertexCount M ≤ n → Vertices (M .corners) n
-  vertices-of n l =
-      record {
-        named = λ c h. omega (arith, vertex-in c h);
-        most = λ c h. valence-within (M .corners) (vertexOf (M .corners) c) (sound-of M a .twelve (vertexOf (M .corners) c) (vertex-in c h)) .1;
-      }

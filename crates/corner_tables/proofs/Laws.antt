@@ -1,131 +1,88 @@
--- The turns of the loops that fill the tables, over lists.
+-- The turns of the loops that find the faces of a range, over lists.
 -- Assumes nothing.
 use mathlib.Core.Path.{_≡_, refl, ap, _∙_, sym, subst}
-use mathlib.Core.Bool.{Bool, true}
-use mathlib.Core.Logic.{⊎-elim}
+use mathlib.Core.Logic.{_⊎_, inl, inr, ⊎-elim}
 use mathlib.Core.List.{List}
-use Prim.Native.Nat.{ℕ, zero, suc, _+_, _-_, _<_, _≤_}
-use native.Mathlib.Numerals.{add-one}
+use Prim.Native.Nat.{ℕ, _+_, _<_, _≤_}
 use native.Mathlib.Omega.{arith}
 use lib.Dec.{ltb, eqb}
-use lib.ListN.{length, getD, set, replicate, getD-replicate}
+use lib.ListN.{length, getD, set, length-set, replicate, getD-replicate}
 use lib.Seq.{getD-set-same, getD-set-other}
 use borrow.Author.Count.{below-more}
-use borrow.Author.Tests.{eqb-true, eqb-false, eq-eqb, ltb-true, ltb-false}
-use Rattle.paper.specs.Scan.{countBelow}
-use Rattle.paper.specs.Mesh.{mostSides}
-use Rattle.paper.specs.Corners.{faceOf, startOf, firstOf, sidesOf, previous}
-use Rattle.paper.specs.Links.{vertexOf, names, valence}
-use Rattle.mesh.proofs.Scans.{ways, compared}
-use Rattle.mesh.proofs.Faces.{face-at, held, start-zero, start-next, start-ends, previous-first, previous-inner}
-use Rattle.mesh.proofs.Rings.{count-hit, count-miss}
-use Rattle.corner_tables.specs.Tables.{Filled, FaceTables, Vertices, RangeMarked, Wanted}
+use borrow.Author.Tests.{eqb-true, eqb-false, ltb-true, ltb-false}
+use Rattle.paper.specs.Corners.{startOf}
+use Rattle.paper.specs.Links.{vertexOf}
+use Rattle.mesh.specs.Tables.{Named}
+use Rattle.mesh.proofs.Scans.{ways}
+use Rattle.mesh.proofs.Faces.{start-next, start-ends}
+use Rattle.corner_tables.specs.Tables.{SomeIn, Tells, Asked, Near, Marked, Wanted}
 
--- one place more
-pub filled-set : {A : Type 0} (z : A) (f : ℕ → A) (table : List A) (c : ℕ) (v : A) → Filled z f table c → c < length table → v ≡ f c → Filled z f (set table c v) (c + 1)
-filled-set z f table c v h l e =
-    below-more (λ d. getD (set table c v) d z ≡ f d) c
-    (λ d k. getD-set-other table c d v z (λ q. omega arith) ∙ h d k)
-    (getD-set-same table c v z l ∙ e)
+-- ---- a range, one number longer
+module _ (P : ℕ → Type 0) (start end more : ℕ) (e : more ≡ end + 1) where
+  pub some-more : SomeIn P start end → SomeIn P start more
+  some-more s = record { at = s .at; from = s .from; to = omega (arith, s .to); holds = s .holds }
 
--- ---- the corners of face f
-module _ (sides : List ℕ) (f : ℕ) (l : f < length sides) where
-  module _ (c : ℕ) (a : startOf sides f ≤ c) (b : c < startOf sides f + getD sides f 0) where
-    first-is : firstOf sides c ≡ startOf sides f
-    unfolding firstOf
-    first-is = ap (startOf sides) (face-at sides f c a b l)
+  pub some-last : start ≤ end → P end → SomeIn P start more
+  some-last l p = record { at = end; from = l; to = omega arith; holds = p }
 
-    pub sides-is : sidesOf sides c ≡ getD sides f 0
-    unfolding sidesOf
-    sides-is = ap (λ (x : ℕ). getD sides x 0) (face-at sides f c a b l)
+  pub some-less : SomeIn P start more → (P end → ⊥) → SomeIn P start end
+  some-less s never = record {
+    at = s .at;
+    from = s .from;
+    to = ⊎-elim
+        (λ b. ltb-true (s .at) end b)
+        (λ b. let q : s .at ≡ end = omega (arith, s .to, ltb-false (s .at) end b) in absurd (never (subst P q (s .holds))))
+        (ways (ltb (s .at) end));
+    holds = s .holds;
+  }
 
-  pub previous-start : 0 < getD sides f 0 → previous sides (startOf sides f) ≡ startOf sides f + getD sides f 0 - 1
-  previous-start h =
-      let i = first-is (startOf sides f) (omega arith) (omega arith) in
-      let j = sides-is (startOf sides f) (omega arith) (omega arith) in
-      previous-first sides (startOf sides f) (omega arith) ∙ omega arith
+  -- what the number tells, one place later: it is set there, or P does not hold there
+  pub tells-set : (r : ℕ) → 0 < r → start ≤ end → P end → Tells r (SomeIn P start more)
+  tells-set r h l p = record { yes = λ s. h; only = λ o. some-last l p }
 
-  pub previous-later : (c : ℕ) → startOf sides f ≤ c → c + 1 < startOf sides f + getD sides f 0 → previous sides (c + 1) ≡ c
-  previous-later c a b =
-      let i = first-is (c + 1) (omega arith) (omega arith) in
-      previous-inner sides (c + 1) (λ q. omega arith) ∙ omega arith
+  pub tells-passed : (r : ℕ) → (P end → ⊥) → Tells r (SomeIn P start end) → Tells r (SomeIn P start more)
+  tells-passed r never t = record { yes = λ s. t .yes (some-less s never); only = λ o. some-more (t .only o) }
 
--- the tables of faces, one corner more
-pub tables-set : (sides previouses counts : List ℕ) (c p n : ℕ) → FaceTables sides previouses counts c → c < length previouses → c < length counts
-    → p ≡ previous sides c → n ≡ sidesOf sides c → FaceTables sides (set previouses c p) (set counts c n) (c + 1)
-tables-set sides previouses counts c p n t lp lc ep en =
-    record {
-      previouses-are = filled-set 0 (previous sides) previouses c p (t .previouses-are) lp ep;
-      counts-are = filled-set 0 (sidesOf sides) counts c n (t .counts-are) lc en;
-    }
+pub tells-none : (P : ℕ → Type 0) (start end r : ℕ) → end ≡ start → r ≡ 0 → Tells r (SomeIn P start end)
+tells-none P start end r e z = record { yes = λ s. absurd (omega (arith, s .from, s .to)); only = λ o. absurd (omega arith) }
 
--- ---- the corners of each vertex, counted below c
-pub counted-none : (corners counts : List ℕ) → counts ≡ replicate (length counts) 0 → Filled 0 (λ u. countBelow 0 (names corners u)) counts (length counts)
-unfolding countBelow
-counted-none corners counts z u h = ap (λ (table : List ℕ). getD table u 0) z ∙ getD-replicate (length counts) u 0 0 h
+-- ---- marked vertices
+pub marked-none : (corners marked : List ℕ) (first : ℕ) → marked ≡ replicate (length marked) 0 → Marked corners first 0 marked
+marked-none corners marked first z u h =
+    tells-none _ first (first + 0) _ (omega arith) (ap (λ (t : List ℕ). getD t u 0) z ∙ getD-replicate (length marked) u 0 0 h)
 
-pub counted-set : (corners counts : List ℕ) (n c : ℕ) → Filled 0 (λ u. countBelow c (names corners u)) counts n → length counts ≡ n
-    → Filled 0 (λ u. countBelow (c + 1) (names corners u)) (set counts (vertexOf corners c) (getD counts (vertexOf corners c) 0 + 1)) n
-unfolding names
-counted-set corners counts n c h e u l =
-    let v = vertexOf corners c in
-    ⊎-elim
-    (λ b. let q : v ≡ u = eqb-true v u b in
-    rw q (getD-set-same counts u (getD counts u 0 + 1) 0 (omega arith) ∙ omega (arith, h u l, count-hit (names corners u) c b, ap (λ (k : ℕ). countBelow k (names corners u)) (add-one c))))
-    (λ b. getD-set-other counts v u (getD counts v 0 + 1) 0 (λ q. eqb-false v u b (sym q))
-    ∙ omega (arith, h u l, count-miss (names corners u) c b, ap (λ (k : ℕ). countBelow k (names corners u)) (add-one c)))
-    (ways (eqb v u))
-
--- the count of all corners is reached step by step
-pub count-grows : (g : ℕ → Bool) (m n : ℕ) → m < n → g m ≡ true → countBelow m g + 1 ≤ countBelow n g
-count-grows g m zero l e = absurd (omega arith)
-count-grows g m (suc n) l e =
-    ⊎-elim
-    (λ (q : m ≡ n). rw q (omega (arith, count-hit g n (subst (λ (k : ℕ). g k ≡ true) q e))))
-    (λ o. let k : m < n = ⊎-elim (λ (k : m < n). k) (λ (k : n < m). absurd (omega arith)) o in
-    let r = count-grows g m n k e in
-    ⊎-elim (λ b. omega (arith, count-hit g n b)) (λ b. omega (arith, count-miss g n b)) (ways (g n)))
-    (compared m n)
-
-pub tables-none : (sides previouses counts : List ℕ) → FaceTables sides previouses counts (startOf sides 0)
-tables-none sides previouses counts =
-    record { previouses-are = λ c h. absurd (omega (arith, start-zero sides)); counts-are = λ c h. absurd (omega (arith, start-zero sides)) }
-
-pub count-small : (corners : List ℕ) (n : ℕ) → Vertices corners n → (c : ℕ) → c < length corners
-    → countBelow c (names corners (vertexOf corners c)) + 1 ≤ mostSides
-unfolding valence names
-count-small corners n v c h =
-    let u = vertexOf corners c in
-    omega (arith, count-grows (names corners u) c (length corners) h (eq-eqb u u refl), v .most c h)
-
-pub valence-is : (corners : List ℕ) (u : ℕ) → countBelow (length corners) (names corners u) ≡ valence corners u
-unfolding valence
-valence-is corners u = refl
-
--- ---- marked vertices, and the faces that have one
-pub marked-set : (corners marked : List ℕ) (first k : ℕ) → RangeMarked corners first k marked → vertexOf corners (first + k) < length marked
-    → RangeMarked corners first (k + 1) (set marked (vertexOf corners (first + k)) 1)
-marked-set corners marked first k h l =
+pub marked-set : (corners marked : List ℕ) (first k : ℕ) → Marked corners first k marked → vertexOf corners (first + k) < length marked
+    → Marked corners first (k + 1) (set marked (vertexOf corners (first + k)) 1)
+marked-set corners marked first k h l u b =
     let v = vertexOf corners (first + k) in
-    let same : 0 < getD (set marked v 1) v 0 = rw (getD-set-same marked v 1 0 l) (omega arith) in
-    below-more (λ i. 0 < getD (set marked v 1) (vertexOf corners (first + i)) 0) k
-    (λ i b. let u = vertexOf corners (first + i) in
+    let inside : u < length marked = simp length-set at b in
     ⊎-elim
-    (λ e. let q : u ≡ v = eqb-true u v e in rw q same)
-    (λ e. rw (getD-set-other marked v u 1 0 (eqb-false u v e)) (h i b))
-    (ways (eqb u v)))
-    same
+    (λ e. let q : u ≡ v = eqb-true u v e in
+    tells-set _ first (first + k) _ (omega arith) _ (rw (q, getD-set-same marked v 1 0 l) (omega arith)) (omega arith) (sym q))
+    (λ e. tells-passed _ first (first + k) _ (omega arith) _ (λ q. eqb-false u v e (sym q))
+    (rw (getD-set-other marked v u 1 0 (eqb-false u v e)) (h u inside)))
+    (ways (eqb u v))
 
--- one face more: r is not zero where one of its vertices is marked
-module _ (sides corners marked wanted : List ℕ) (first count f r : ℕ) (l : f < length sides) (b : f < length wanted) (m : RangeMarked corners first count marked)
-    (any : (d : ℕ) → startOf sides f ≤ d → d < startOf sides f + getD sides f 0 → 0 < getD marked (vertexOf corners d) 0 → 0 < r) where
-  pub wanted-set : Wanted sides corners first count wanted (startOf sides f) → Wanted sides corners first count (set wanted f r) (startOf sides (f + 1))
-  wanted-set h k d hk hd e =
-      ⊎-elim
-      (λ c. let low = ltb-true d (startOf sides f) c in
-      rw (getD-set-other wanted f (faceOf sides d) r 0
-      (λ q. omega (arith, held sides d (omega (arith, start-ends sides f l)) .from, ap (startOf sides) q))) (h k d hk low e))
-      (λ c. let high = ltb-false d (startOf sides f) c in
-      let s : d < startOf sides f + getD sides f 0 = omega (arith, start-next sides f l) in
-      rw (face-at sides f d high s l, getD-set-same wanted f r 0 b) (any d high s (rw e (m k hk))))
-      (ways (ltb d (startOf sides f)))
+-- ---- one face more: r tells whether one of its vertices is marked
+module _ (sides corners marked wanted : List ℕ) (first count f r : ℕ) (l : f < length sides) (b : f < length wanted)
+    (n : (c : ℕ) → c < startOf sides (f + 1) → vertexOf corners c < length marked) (m : Marked corners first count marked)
+    (any : Tells r (SomeIn (λ c. 0 < getD marked (vertexOf corners c) 0) (startOf sides f) (startOf sides f + getD sides f 0))) where
+  near-told : Tells r (Near sides corners first count f)
+  near-told = record {
+    yes = λ s. any .yes (record {
+      at = s .at;
+      from = s .from;
+      to = omega (arith, s .to, start-next sides f l);
+      holds = m (vertexOf corners (s .at)) (n (s .at) (s .to)) .yes (s .holds);
+    });
+    only = λ o.
+        let s = any .only o in
+        let t : s .at < startOf sides (f + 1) = omega (arith, s .to, start-next sides f l) in
+        record { at = s .at; from = s .from; to = t; holds = m (vertexOf corners (s .at)) (n (s .at) t) .only (s .holds) };
+  }
+
+  pub wanted-set : Wanted sides corners first count wanted f → Wanted sides corners first count (set wanted f r) (f + 1)
+  wanted-set h =
+      below-more (λ g. Tells (getD (set wanted f r) g 0) (Near sides corners first count g)) f
+      (λ g k. rw (getD-set-other wanted f g r 0 (λ q. omega arith)) (h g k))
+      (rw (getD-set-same wanted f r 0 b) near-told)

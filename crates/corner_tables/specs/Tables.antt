@@ -1,22 +1,12 @@
--- What the tables hold, and what an accepted mesh gives the code that fills them.
+-- Which faces a range of corners asks for, and what an accepted mesh gives the code that finds them.
 -- Assumes nothing.
 use mathlib.Core.Path.{_≡_}
 use mathlib.Core.List.{List}
 use Prim.Native.Nat.{ℕ, _+_, _<_, _≤_}
 use lib.ListN.{length, getD}
 use Rattle.paper.specs.Mesh.{leastSides, mostSides, mostCorners}
-use Rattle.paper.specs.Corners.{sumOf, faceOf, sidesOf, previous}
-use Rattle.paper.specs.Links.{vertexOf, valence}
-use Rattle.mesh.specs.Tables.{Named}
-
--- the table holds f's value at every place below n; z is what a place past the table's end reads as
-abbrev pub Filled : {A : Type 0} → A → (ℕ → A) → List A → ℕ → Type 0
-Filled z f table n = (c : ℕ) → c < n → getD table c z ≡ f c
-
--- of each corner below n: the previous corner, and the sides of its face
-pub record FaceTables (sides previouses counts : List ℕ) (n : ℕ) : Type 0 where
-  pub previouses-are : Filled 0 (previous sides) previouses n
-  pub counts-are : Filled 0 (sidesOf sides) counts n
+use Rattle.paper.specs.Corners.{sumOf, startOf}
+use Rattle.paper.specs.Links.{vertexOf}
 
 -- side counts within their limits, and no more corners than a mesh may have
 pub record Faces (sides : List ℕ) : Type 0 where
@@ -24,16 +14,30 @@ pub record Faces (sides : List ℕ) : Type 0 where
   pub least : (f : ℕ) → f < length sides → leastSides ≤ getD sides f 0
   pub most : (f : ℕ) → f < length sides → getD sides f 0 ≤ mostSides
 
--- corners whose vertices have places in a table of n entries, and corner counts within their limit
-pub record Vertices (corners : List ℕ) (n : ℕ) : Type 0 where
-  pub named : Named corners n
-  pub most : (c : ℕ) → c < length corners → valence corners (vertexOf corners c) ≤ mostSides
+-- P holds of a number from `start` to before `end`
+pub record SomeIn (P : ℕ → Type 0) (start end : ℕ) : Type 0 where
+  pub at : ℕ
+  pub from : start ≤ at
+  pub to : at < end
+  pub holds : P at
 
--- the vertices of the `count` corners from `first` on have entries that are not zero
-abbrev pub RangeMarked : List ℕ → ℕ → ℕ → List ℕ → Type 0
-RangeMarked corners first count marked = (k : ℕ) → k < count → 0 < getD marked (vertexOf corners (first + k)) 0
+-- the number r is not zero exactly when A holds
+pub record Tells (r : ℕ) (A : Type 0) : Type 0 where
+  pub yes : A → 0 < r
+  pub only : 0 < r → A
 
--- of the corners below n, those at the vertex of one of the `count` corners from `first` on have faces whose entry is not zero
+-- u is the vertex of one of `count` corners from `first` on
+abbrev pub Asked : List ℕ → ℕ → ℕ → ℕ → Type 0
+Asked corners first count u = SomeIn (λ c. vertexOf corners c ≡ u) first (first + count)
+
+-- face f has a corner at the vertex of one of them
+abbrev pub Near : List ℕ → List ℕ → ℕ → ℕ → ℕ → Type 0
+Near sides corners first count f = SomeIn (λ c. Asked corners first count (vertexOf corners c)) (startOf sides f) (startOf sides (f + 1))
+
+-- the table tells of each vertex whether a corner of the range names it
+abbrev pub Marked : List ℕ → ℕ → ℕ → List ℕ → Type 0
+Marked corners first count marked = (u : ℕ) → u < length marked → Tells (getD marked u 0) (Asked corners first count u)
+
+-- the table tells of each face below n whether it is near the range
 abbrev pub Wanted : List ℕ → List ℕ → ℕ → ℕ → List ℕ → ℕ → Type 0
-Wanted sides corners first count wanted n =
-    (k d : ℕ) → k < count → d < n → vertexOf corners d ≡ vertexOf corners (first + k) → 0 < getD wanted (faceOf sides d) 0
+Wanted sides corners first count wanted n = (f : ℕ) → f < n → Tells (getD wanted f 0) (Near sides corners first count f)

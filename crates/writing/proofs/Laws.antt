@@ -1,4 +1,4 @@
--- The places of the output, and the turns of the loops that write it.
+-- The places of the output, the turns of the loop that writes it, and the mesh that the tables draw.
 -- Assumes nothing.
 use mathlib.Core.Path.{_≡_, refl, ap, _∙_, sym, subst}
 use mathlib.Core.Logic.{⊎-elim}
@@ -8,30 +8,33 @@ use native.Mathlib.Omega.{arith}
 use lib.ListN.{length, getD, replicate, length-replicate}
 use lib.Seq.{ext-getD}
 use lib.IntN.{ℤ, pos}
-use Rattle.paper.specs.Mesh.{Mesh, faceCount, cornerCount, mostVertices, mostFaces, mostCorners}
-use Rattle.paper.specs.Corners.{sumOf, sidesOf, previous}
-use Rattle.paper.specs.Links.{vertexOf, valence}
+use Rattle.paper.specs.Mesh.{Mesh, vertexCount, faceCount, cornerCount, mostVertices, mostFaces}
+use Rattle.paper.specs.Corners.{faceOf}
+use Rattle.paper.specs.Links.{vertexOf}
 use Rattle.paper.specs.Faults.{Accepted}
 use Rattle.paper.specs.Numbers.{rounded}
 use Rattle.paper.specs.Refined.{Corners, RefinedMesh, cornersOf, refinedOf}
-use Rattle.paper.specs.Net.{ring, net}
+use Rattle.paper.specs.Net.{ring, net, netPoints}
 use Rattle.paper.specs.Calls.{perCorner, numberAt, nets}
-use Rattle.mesh.specs.Tables.{NextsTo, LinkTable}
-use Rattle.mesh.proofs.Accepted.{sound-of, few-vertices, few-faces, few-corners}
+use Rattle.mesh.specs.Tables.{Named}
+use Rattle.mesh.proofs.Accepted.{sound-of, few-vertices, few-faces}
+use Rattle.mesh.proofs.Faces.{held, start-next}
 use Rattle.mesh.proofs.Links.{values-length, values-at}
 use Rattle.mesh.proofs.Scans.{compared}
 use Rattle.surface.specs.Sound.{Sound, Agree}
+use Rattle.surface.specs.Points.{pointRow}
 use Rattle.surface.proofs.Hull.{corners-sound}
 use Rattle.surface.proofs.Rings.{ring-in}
 use Rattle.surface.proofs.Near.{ring-near}
 use Rattle.surface.proofs.Agree.{net-same, sound-same}
-use Rattle.corner_tables.specs.Tables.{Filled, FaceTables, Wanted}
-use Rattle.refine.specs.Sources.{Steps, Pointed}
-use Rattle.refine.proofs.Laws.{small-zeros}
+use Rattle.walk.specs.Table.{Tabled, tabled}
+use Rattle.corner_tables.specs.Tables.{Near, Wanted}
+use Rattle.corner_tables.proofs.Accepted.{vertex-in}
+use Rattle.refine.specs.Sources.{Pointed}
 use Rattle.refine.proofs.Accepted.{refinable-of}
-use Rattle.sides.specs.Tabled.{tabledCorners, tabled, Tables}
+use Rattle.sides.specs.Drawn.{drawn, Drawn}
 use Rattle.nets.specs.Put.{Put}
-use Rattle.writing.specs.Written.{Given, AtMost, Fresh, New, MeshTables, Long, pointsOf, Drawn, NetsWritten}
+use Rattle.writing.specs.Written.{NetsWritten}
 
 -- ---- place i of the output holds point `i % perCorner / 3` of corner `i / perCorner` on axis `i % 3`
 place : (i : ℕ) → perCorner * (i / perCorner) + 3 * (i % perCorner / 3) + i % 3 ≡ i
@@ -40,7 +43,7 @@ place i = omega arith
 corner-of : (i count : ℕ) → i < perCorner * count → i / perCorner < count
 corner-of i count h = omega arith
 
-point-of : (i : ℕ) → i % perCorner / 3 < pointsOf
+point-of : (i : ℕ) → i % perCorner / 3 < netPoints
 point-of i = omega arith
 
 axis-in : (i : ℕ) → i % 3 < 3
@@ -65,13 +68,13 @@ written-none K first out a j p h l = absurd (omega arith)
 module _ (K : ℕ → RefinedMesh rounded) (first k : ℕ) (old xs ys zs : List ℤ) (w : NetsWritten K first k old) (x : Put (K 0) (first + k) 0 (perCorner * k) old xs)
     (y : Put (K 1) (first + k) 1 (perCorner * k) xs ys) (z : Put (K 2) (first + k) 2 (perCorner * k) ys zs) where
   -- earlier corners are kept by all three
-  earlier : (a j p : ℕ) → a < 3 → j < k → p < pointsOf → getD zs (perCorner * j + 3 * p + a) (pos 0) ≡ getD (net (K a) (first + j)) p (pos 0)
+  earlier : (a j p : ℕ) → a < 3 → j < k → p < netPoints → getD zs (perCorner * j + 3 * p + a) (pos 0) ≡ getD (net (K a) (first + j)) p (pos 0)
   unfolding NetsWritten
   earlier a j p h l hp =
       let i = perCorner * j + 3 * p + a in
       z .others i (λ q hq e. omega arith) ∙ y .others i (λ q hq e. omega arith) ∙ x .others i (λ q hq e. omega arith) ∙ w a j p h l hp
 
-  here : (a p : ℕ) → a < 3 → p < pointsOf → getD zs (perCorner * k + 3 * p + a) (pos 0) ≡ getD (net (K a) (first + k)) p (pos 0)
+  here : (a p : ℕ) → a < 3 → p < netPoints → getD zs (perCorner * k + 3 * p + a) (pos 0) ≡ getD (net (K a) (first + k)) p (pos 0)
   here zero p h hp =
       let i = perCorner * k + 3 * p + 0 in
       z .others i (λ q hq e. omega arith) ∙ y .others i (λ q hq e. omega arith) ∙ x .points-are p hp
@@ -87,128 +90,69 @@ module _ (K : ℕ → RefinedMesh rounded) (first k : ℕ) (old xs ys zs : List 
       (λ o. earlier a j p h (⊎-elim (λ (l : j < k). l) (λ (l : k < j). absurd (omega arith)) o) hp)
       (compared j k)
 
--- ---- the tables describe the mesh, as far as the nets of the range look
-module _ (M : Mesh) (accepted : Accepted M) (nexts previouses links sides valences wanted : List ℕ) (points : List ℤ) (axis first count : ℕ)
-    (t : MeshTables M nexts previouses links sides valences) (w : Wanted (M .sides) (M .corners) first count wanted (sumOf (M .sides)))
-    (v : Pointed M axis wanted points (sumOf (M .sides))) where
-  abbrev laid : Corners
-  laid = tabledCorners (cornerCount M) nexts previouses links sides valences
+-- ---- new tables of zeros, for the vertices and for the faces
+pub zeros : (n : ℕ) → replicate {A = ℕ} n 0 ≡ replicate {A = ℕ} (length {A = ℕ} (replicate n 0)) 0
+zeros n = ap (λ (k : ℕ). replicate {A = ℕ} k 0) (sym (length-replicate {A = ℕ} n 0))
 
-  abbrev table : RefinedMesh rounded
-  table = tabled (cornerCount M) nexts previouses links sides valences points
+module _ (M : Mesh) (accepted : Accepted M) where
+  pub named-in : Named (M .corners) (length {A = ℕ} (replicate mostVertices 0))
+  named-in c h =
+      omega (arith, vertex-in M accepted c h, length-replicate {A = ℕ} mostVertices 0, few-vertices (length (M .coordinates)) (faceCount M) (cornerCount M) (sound-of M accepted .four))
 
-  agree : Agree (cornersOf M) laid
-  agree =
-      record {
-        count = refl;
-        next = λ c h. sym (t .nexts-are c h);
-        previous = λ c h. sym (t .previouses-are c h);
-        link = λ c h. sym (t .links-are c h);
-        sides = λ c h. sym (t .sides-are c h);
-        valence = λ c h. sym (t .valences-are c h);
-      }
+  pub faces-in : faceCount M ≤ length {A = ℕ} (replicate mostFaces 0)
+  faces-in = omega (arith, length-replicate {A = ℕ} mostFaces 0, few-faces (length (M .coordinates)) (faceCount M) (cornerCount M) (sound-of M accepted .four))
 
-  pub tabled-sound : Sound laid
-  tabled-sound = sound-same (cornersOf M) laid agree (corners-sound M accepted)
+-- ---- the tables draw the mesh, as far as the nets of the range look
+module _ (M : Mesh) (accepted : Accepted M) (table wanted : List ℕ) (old points : List ℤ) (first count : ℕ) (t : Tabled (cornersOf M) table)
+    (w : Wanted (M .sides) (M .corners) first count wanted (faceCount M)) (long : pointRow * cornerCount M ≤ length old)
+    (v : Pointed M wanted (cornerCount M) old points) where
+  abbrev told : Corners
+  told = tabled (cornerCount M) table
 
-  -- the faces at the vertex of a corner of the range are wanted, and its rings lie in them
-  pub tabled-net : (k : ℕ) → k < count → first + k < cornerCount M → net (refinedOf rounded M axis) (first + k) ≡ net table (first + k)
-  tabled-net k l h =
+  agree : Agree (cornersOf M) told
+  agree = record {
+    count = refl;
+    next = λ c h. sym (t .nexts c h);
+    previous = λ c h. sym (t .previouses c h);
+    link = λ c h. sym (t .links c h);
+    sides = λ c h. sym (t .sides c h);
+    valence = λ c h. sym (t .valences c h);
+  }
+
+  pub drawn-of : Drawn (cornerCount M) table points
+  drawn-of = record {
+    sound = sound-same (cornersOf M) told agree (corners-sound M accepted);
+    table-long = t .long;
+    points-long = omega (arith, v .same);
+    small = λ axis l c h. v .small _;
+  }
+
+  -- a corner at the vertex of one of the range is in a face that is wanted
+  near-of : (k d : ℕ) → k < count → d < cornerCount M → vertexOf (M .corners) d ≡ vertexOf (M .corners) (first + k) → 0 < getD wanted (faceOf (M .sides) d) 0
+  near-of k d l h e =
+      let i = held (M .sides) d (omega (arith, refinable-of M accepted .sums)) in
+      w (faceOf (M .sides) d) (i .exists) .yes (record {
+        at = d;
+        from = i .from;
+        to = omega (arith, i .to, start-next (M .sides) (faceOf (M .sides) d) (i .exists));
+        holds = record { at = first + k; from = omega arith; to = omega arith; holds = sym e };
+      })
+
+  -- the rings of a corner of the range lie in faces at its vertex
+  pub drawn-net : (axis : ℕ) → axis < 3 → (k : ℕ) → k < count → first + k < cornerCount M
+      → net (refinedOf rounded M axis) (first + k) ≡ net (drawn (cornerCount M) table points axis) (first + k)
+  drawn-net axis a k l h =
       let K = cornersOf M in
       let c = first + k in
       let ok = corners-sound M accepted in
-      let sums = refinable-of M accepted .sums in
-      net-same (refinedOf rounded M axis) table agree ok c h
+      net-same (refinedOf rounded M axis) (drawn (cornerCount M) table points axis) agree ok c h
       (λ e j. let near = ring-near M accepted c h e j in
-      sym (v .points-are (ring K c e j) (omega (arith, ring-in K ok c h e j, sums))
-      (rw (near .in-face) (w k (near .at) l (omega (arith, near .at-in, sums)) (near .at-vertex)))))
+      sym (v .points-are axis (ring K c e j) (a, ring-in K ok c h e j, rw (near .in-face) (near-of k (near .at) l (near .at-in) (near .at-vertex)))))
 
--- what the tables of the three axes write is what the mesh has
-pub written-same : (K L : ℕ → RefinedMesh rounded) (first count : ℕ) (out : List ℤ)
-    → ((a : ℕ) → a < 3 → (k : ℕ) → k < count → net (L a) (first + k) ≡ net (K a) (first + k)) → NetsWritten K first count out → NetsWritten L first count out
-unfolding NetsWritten
-written-same K L first count out same w a j p h hj hp = w a j p h hj hp ∙ ap (λ (n : List ℤ). getD n p (pos 0)) (sym (same a h j hj))
-
-pub by-axis : (P : ℕ → Type 0) → P 0 → P 1 → P 2 → (a : ℕ) → a < 3 → P a
-by-axis P x y z zero h = x
-by-axis P x y z (suc zero) h = y
-by-axis P x y z (suc (suc zero)) h = z
-by-axis P x y z (suc (suc (suc a))) h = absurd (omega arith)
-
--- what the net of a corner asks
-pub tables-at : (n c : ℕ) (nexts previouses links sides valences : List ℕ) (points : List ℤ) → Sound (tabledCorners n nexts previouses links sides valences)
-    → Drawn n nexts previouses links sides valences points
-    → Long n nexts previouses links sides valences → c < n → Tables n nexts previouses links sides valences points c
-tables-at n c nexts previouses links sides valences points ok d l h =
-    record {
-      sound = ok;
-      small = d .0;
-      here = h;
-      nexts-hold = l .nexts-hold;
-      previouses-hold = l .previouses-hold;
-      links-hold = l .links-hold;
-      sides-hold = l .sides-hold;
-      valences-hold = l .valences-hold;
-      points-hold = d .1;
-    }
-
--- ---- tables of zeros are new
-module _ (M : Mesh) (vertices faces corners : ℕ) (f : AtMost M vertices faces corners) where
-  long : (n m : ℕ) → n ≤ m → n ≤ length {A = ℕ} (replicate m 0)
-  long n m h = omega (arith, length-replicate {A = ℕ} m 0)
-
-  fresh : Fresh (cornerCount M) (replicate corners (pos 0))
-  fresh = (omega (arith, f .corners-fit, length-replicate {A = ℤ} corners (pos 0)), small-zeros corners)
-
-  pub new : New M (replicate corners 0) (replicate corners 0) (replicate corners 0) (replicate vertices 0) (replicate vertices 0) (replicate faces 0)
-      (replicate corners (pos 0)) (replicate corners (pos 0)) (replicate corners (pos 0))
-  new =
-      record {
-        previouses-hold = long _ _ (f .corners-fit);
-        sides-hold = long _ _ (f .corners-fit);
-        valences-hold = long _ _ (f .corners-fit);
-        totals-hold = long _ _ (f .vertices-fit);
-        marked-hold = long _ _ (f .vertices-fit);
-        wanted-hold = long _ _ (f .faces-fit);
-        totals-zero = ap (λ (n : ℕ). replicate n 0) (sym (length-replicate {A = ℕ} vertices 0));
-        points-fresh = (fresh, fresh, fresh);
-      }
-
--- ---- what the fills ask and give, by the corner count
-module _ (M : Mesh) (accepted : Accepted M) where
-  pub limits : AtMost M mostVertices mostFaces mostCorners
-  limits =
-      let s = sound-of M accepted .four in
-      record {
-        vertices-fit = few-vertices (length (M .coordinates)) (faceCount M) (cornerCount M) s;
-        faces-fit = few-faces (length (M .coordinates)) (faceCount M) (cornerCount M) s;
-        corners-fit = few-corners (length (M .coordinates)) (faceCount M) (cornerCount M) s;
-      }
-
-  pub few : cornerCount M ≤ mostCorners
-  few = limits .corners-fit
-
-  by-corners : {A : Type 0} (z : A) (f : ℕ → A) (table : List A) → Filled z f table (sumOf (M .sides)) → Filled z f table (cornerCount M)
-  by-corners z f table h c l = h c (omega (arith, refinable-of M accepted .sums))
-
-  pub steps-of : (nexts previouses links sides valences : List ℕ) → MeshTables M nexts previouses links sides valences
-      → Long (cornerCount M) nexts previouses links sides valences → Steps (M .sides) nexts previouses
-  steps-of nexts previouses links sides valences t l =
-      record {
-        nexts-are = λ c h. t .nexts-are c (omega (arith, refinable-of M accepted .sums));
-        previouses-are = λ c h. t .previouses-are c (omega (arith, refinable-of M accepted .sums));
-        nexts-hold = omega (arith, l .nexts-hold, refinable-of M accepted .sums);
-        previouses-hold = omega (arith, l .previouses-hold, refinable-of M accepted .sums);
-      }
-
-  pub tables-of : (nexts previouses links sides valences : List ℕ) → Given M nexts links → FaceTables (M .sides) previouses sides (sumOf (M .sides))
-      → Filled 0 (λ c. valence (M .corners) (vertexOf (M .corners) c)) valences (cornerCount M) → MeshTables M nexts previouses links sides valences
-  unfolding NextsTo LinkTable
-  tables-of nexts previouses links sides valences g f v =
-      record {
-        nexts-are = g .nexts-are;
-        previouses-are = by-corners 0 (previous (M .sides)) previouses (f .previouses-are);
-        links-are = g .links-are;
-        sides-are = by-corners 0 (sidesOf (M .sides)) sides (f .counts-are);
-        valences-are = v;
-      }
+  -- what is written from the tables is what the mesh has
+  pub drawn-written : (out : List ℤ) → first + count ≤ cornerCount M → length out ≡ perCorner * count
+      → NetsWritten (drawn (cornerCount M) table points) first count out → out ≡ nets M first count
+  unfolding NetsWritten
+  drawn-written out range size n =
+      written-all M first count out size
+      (λ a j p h hj hp. n a j p h hj hp ∙ ap (λ (l : List ℤ). getD l p (pos 0)) (sym (drawn-net a h j hj (omega arith))))

@@ -1,14 +1,12 @@
--- The answer is not zero where one of the first `j` corners has its vertex marked.
+-- `corner_tables::any_marked` meets its contract: the answer tells whether one of the first `j` corners has its vertex marked.
 -- Assumes nothing.
-use mathlib.Core.Path.{_≡_, subst}
+use mathlib.Core.Path.{_≡_, refl}
 use mathlib.Core.Logic.{⊎-elim}
 use Prim.Native.Nat.{ℕ, _+_, _-_, _<_, _≤_}
-use lib.Dec.{ltb}
 use lib.ListN.{getD}
-use borrow.Author.Tests.{ltb-true, ltb-false}
-use denote.Ref.{now}
 use Rattle.paper.specs.Links.{vertexOf}
-use Rattle.mesh.proofs.Scans.{ways}
+use Rattle.corner_tables.specs.Tables.{SomeIn, Tells}
+use Rattle.corner_tables.proofs.Laws.{tells-none, tells-set, tells-passed}
 use native.Mathlib.Omega.{arith}
 use borrow.Author.Needs.{needs}
 use Rattle.corner_tables.proofs.any_marked.Statement.{statement}
@@ -16,13 +14,13 @@ use Rattle.corner_tables.proofs.any_marked.Tie as tie
 
 abbrev Inv-loop : tie.InvT-loop
 Inv-loop corners marked start n any₀ j₀ any j =
-    (j ≤ n) × ((d : ℕ) → start ≤ d → d < start + j → 0 < getD marked (vertexOf corners d) 0 → 0 < any)
+    (j ≤ n) × Tells any (SomeIn (λ c. 0 < getD marked (vertexOf corners c) 0) start (start + j))
 
 abbrev μ-loop : tie.MeasureT-loop
 μ-loop corners marked start n any₀ j₀ any j = n - j
 
 loop-holds : tie.Need-loop-holds Inv-loop μ-loop
-loop-holds c = (omega arith, λ d a b m. absurd (omega arith))
+loop-holds c = (omega arith, tells-none _ _ _ _ (omega arith) refl)
 
 add-u : tie.Need-add-u Inv-loop μ-loop
 add-u c = search needs
@@ -52,22 +50,21 @@ loop-again : tie.Need-loop-again Inv-loop μ-loop
 loop-again c =
     let s = c .before .before .before .before .before in
     let l = c .before .before .before .before .loop in
-    let corners = now (s .args .corners) in
-    let marked = now (s .args .marked) in
-    let at = s .args .start + l .j in (
+    let at = s .args .start + l .j in
+    let more : s .args .start + (l .j + 1) ≡ at + 1 = omega arith in (
       omega arith,
       ⊎-elim
-          (λ w. λ d a b m. omega (arith, w .1))
-          (λ w. λ d a b m. ⊎-elim
-          (λ e. omega (arith, w .1, l .inv .1 d a (ltb-true d at e) m))
-          (λ e. let q : d ≡ at = omega (arith, ltb-false d at e) in
-          absurd (omega (arith, w .0 .left, subst (λ (x : ℕ). 0 < getD marked (vertexOf corners x) 0) q m)))
-          (ways (ltb d at)))
+          (λ w. tells-set _ _ at _ more _ (omega (arith, w .1)) (omega arith) (omega (arith, w .0 .taken)))
+          (λ w. rw (w .1) (tells-passed _ _ at _ more _ (λ m. omega (arith, m, w .0 .left)) (l .inv .1)))
           (c .if1 .came),
     )
 
 returns : tie.Need-returns Inv-loop μ-loop
-returns c = let l = c .before .loop in λ d a b m. l .inv .1 d a (omega arith) m
+returns c =
+    let s = c .before .before in
+    let l = c .before .loop in
+    let e : l .j ≡ s .args .n = omega (arith, l .inv .0) in
+    rw (← e) (l .inv .1)
 
 pub any-marked-spec : {M : Type 1} → statement M
 any-marked-spec =

@@ -1,11 +1,11 @@
--- All faces meet their contract: those before `f` have their entries.
+-- `corner_tables::fill_wanted` meets its contract: the faces before `f` have their entries.
 -- Assumes nothing.
 use mathlib.Core.Path.{_≡_, refl, sym}
 use Prim.Native.Nat.{_-_, _≤_, _<_}
 use lib.ListN.{length, length-set}
 use denote.Ref.{now}
 use Rattle.paper.specs.Corners.{startOf}
-use Rattle.mesh.proofs.Faces.{start-zero, start-next, start-ends, start-all}
+use Rattle.mesh.proofs.Faces.{start-zero, start-next, start-ends}
 use Rattle.corner_tables.specs.Tables.{Wanted}
 use Rattle.corner_tables.proofs.Laws.{wanted-set}
 use native.Mathlib.Omega.{arith}
@@ -15,7 +15,7 @@ use Rattle.corner_tables.proofs.fill_wanted.Tie as tie
 
 abbrev Inv-loop : tie.InvT-loop
 Inv-loop sides corners first count marked wanted₀ start₀ f₀ wanted start f =
-    (f ≤ length sides) × (start ≡ startOf sides f) × (length wanted ≡ length wanted₀) × Wanted sides corners first count wanted (startOf sides f)
+    (f ≤ length sides) × (start ≡ startOf sides f) × (length wanted ≡ length wanted₀) × Wanted sides corners first count wanted f
 
 abbrev μ-loop : tie.MeasureT-loop
 μ-loop sides corners first count marked wanted₀ start₀ f₀ wanted start f = length sides - f
@@ -25,8 +25,7 @@ mark-vertices-requires c κs = let s = c .before .before .before .before .before
 
 loop-holds : tie.Need-loop-holds Inv-loop μ-loop
 loop-holds c =
-    let s = c .before .before .before .before .before .before .before .before in
-    (omega arith, sym (start-zero _), refl, λ k d hk hd e. absurd (omega (arith, start-zero (now (s .args .sides)))))
+    (omega arith, sym (start-zero _), refl, λ g h. absurd (omega arith))
 
 shared-slice-read-n : tie.Need-shared-slice-read-n Inv-loop μ-loop
 shared-slice-read-n c = search needs
@@ -41,7 +40,7 @@ any-marked-requires c κs =
     let s = c .before .before .before .before .before .before .before .before .before .before .before .before in
     let l = c .before .before .before .loop in
     let m = c .before .before .before .before .before .before .mark-vertices in (
-      λ d h. omega (arith, s .pre .1 .0 d h, m .kept .1 .1 .1 .0),
+      λ d h. omega (arith, s .pre .1 .0 .0 d h, m .kept .1 .1 .1 .0),
       omega (arith, l .inv .1, start-ends (now (s .args .sides)) (l .f) (search needs), s .pre .0 .1),
     )
 
@@ -74,8 +73,9 @@ loop-again c =
       omega (arith, start-next sides (l .f) h, l .inv .1),
       simp length-set (l .inv .2),
       wanted-set sides (now (s .args .corners)) (m .last .1 .1 .1 .0) (l .wanted) (s .args .first) (s .args .count) (l .f) (c .any-marked .result) h
-          (omega (arith, l .inv .2, s .pre .0 .2)) (m .ensures)
-          (λ d a b. c .any-marked .ensures d (omega (arith, l .inv .1)) (omega (arith, l .inv .1))) (l .inv .3),
+          (omega (arith, l .inv .2, s .pre .0 .2))
+          (λ d b. omega (arith, s .pre .1 .0 .0 d (omega (arith, b, start-next sides (l .f) h, start-ends sides (l .f) h, s .pre .0 .1)), m .kept .1 .1 .1 .0))
+          (m .ensures) (rw (← l .inv .1) (c .any-marked .ensures)) (l .inv .3),
     )
 
 same-length : tie.Need-same-length Inv-loop μ-loop
@@ -88,7 +88,7 @@ returns : tie.Need-returns Inv-loop μ-loop
 returns c =
     let s = c .before .before .before .before .before .before .before .before .before .before in
     let l = c .before .loop in
-    λ k d hk hd e. l .inv .3 k d hk (omega (arith, start-all (now (s .args .sides)) (l .f) (c .loop-test .left))) e
+    (λ g h. l .inv .3 g (omega (arith, h)), c .before .before .before .before .mark-vertices .ensures)
 
 pub fill-wanted-spec : {M : Type 1} → statement M
 fill-wanted-spec =

@@ -1,48 +1,74 @@
--- A mesh that passes the test is small.
+-- `writing::write_nets` meets its contract: the faces near the range are wanted, and with their refined points the tables draw the mesh as far as the nets look.
 -- Assumes nothing.
-use Prim.Native.Nat.{_*_, _≤_}
-use lib.ListN.{length}
-use borrow.Author.Tests.{leb-true}
-use denote.Ref.{now}
-use Rattle.mesh.specs.Tables.{smallMesh}
+use mathlib.Core.Path.{_∙_}
 use native.Mathlib.Omega.{arith}
 use borrow.Author.Needs.{needs}
+use denote.Ref.{now}
+use Rattle.paper.specs.Mesh.{Mesh, meshOf, mostVertices}
+use Rattle.corner_tables.proofs.Accepted.{faces-of}
+use Rattle.refine.proofs.Accepted.{refinable-of}
+use Rattle.writing.proofs.Laws.{zeros, named-in, faces-in, drawn-of, drawn-written}
 use Rattle.writing.proofs.write_nets.Statement.{statement}
 use Rattle.writing.proofs.write_nets.Tie as tie
 
-mul-if3 : tie.Need-mul-if3
-mul-if3 c = search needs
+abbrev mesh : tie.Start → Mesh
+mesh s = meshOf (now (s .args .coordinates)) (now (s .args .sides)) (now (s .args .corners))
 
-write-few-requires : tie.Need-write-few-requires
-write-few-requires c κs =
-    let s = c .before .before .before .before .before .before .before .before in
-    let sides : length (now (s .args .sides)) ≤ smallMesh = leb-true (length (now (s .args .sides))) smallMesh (c .before .before .if2 .taken) in
-    let coordinates : length (now (s .args .coordinates)) ≤ 3 * smallMesh = leb-true (length (now (s .args .coordinates))) (3 * smallMesh) (c .before .if3 .taken) in
-    (s .pre .0, (s .pre .1 .0, (s .pre .1 .1, record { vertices-fit = omega (arith, coordinates); faces-fit = sides; corners-fit = omega arith })))
+slice-aggregate-fill-wanted : tie.Need-slice-aggregate-fill-wanted
+slice-aggregate-fill-wanted c = search needs
 
-write-many-requires : tie.Need-write-many-requires
-write-many-requires c κs = search needs
+slice-aggregate-fill-wanted-2 : tie.Need-slice-aggregate-fill-wanted-2
+slice-aggregate-fill-wanted-2 c = search needs
+
+fill-wanted-requires : tie.Need-fill-wanted-requires
+fill-wanted-requires c κs =
+    let s = c .before .before .before .before .before in
+    let M = mesh s in
+    ((faces-of M (s .pre .0), omega (arith, refinable-of M (s .pre .0) .sums), faces-in M (s .pre .0)), ((named-in M (s .pre .0), zeros mostVertices), s .pre .1 .1 .0 .1))
+
+slice-aggregate-fill-points : tie.Need-slice-aggregate-fill-points
+slice-aggregate-fill-points c = search needs
+
+fill-points-requires : tie.Need-fill-points-requires
+fill-points-requires c κs =
+    let s = c .before .before .before .before .before .before .before .before .before .before in
+    let w = c .before .before .before .before .fill-wanted in
+    (refinable-of (mesh s) (s .pre .0), (s .pre .1 .0, (omega (arith, faces-in (mesh s) (s .pre .0), w .kept .1 .1 .1 .1 .1 .0), s .pre .1 .1 .1)))
+
+write-corners-requires : tie.Need-write-corners-requires
+write-corners-requires c κs =
+    let s = c .before .before .before .before .before .before .before .before .before .before .before .before .before .before in
+    let p = c .before .before .before .fill-points in
+    let w = c .before .before .before .before .before .before .before .before .fill-wanted in
+    let range = s .pre .1 .1 .0 in
+    (drawn-of (mesh s) (s .pre .0) (now (s .args .table)) (w .last .1 .1 .1 .1 .1 .0) (now (s .args .points)) _ (s .args .first) (s .args .count) (s .pre .1 .0) (w .ensures .0) (s .pre .1 .1 .1 .0) (p .ensures), (range .0, range .1, range .2))
 
 same-length : tie.Need-same-length
 same-length c = search needs
 
-returns : tie.Need-returns
-returns c = search needs
-
 same-length-2 : tie.Need-same-length-2
 same-length-2 c = search needs
 
-returns-2 : tie.Need-returns-2
-returns-2 c = search needs
+returns : tie.Need-returns
+returns c =
+    let s = c .before .before .before .before .before .before .before .before .before .before .before .before .before .before .before .before in
+    let n = c .before .write-corners in
+    let p = c .before .before .before .before .before .fill-points in
+    let w = c .before .before .before .before .before .before .before .before .before .before .fill-wanted in
+    let range = s .pre .1 .1 .0 in
+    drawn-written (mesh s) (s .pre .0) (now (s .args .table)) (w .last .1 .1 .1 .1 .1 .0) (now (s .args .points)) _ (s .args .first) (s .args .count) (s .pre .1 .0) (w .ensures .0) (s .pre .1 .1 .1 .0) (p .ensures) _ (range .1)
+    (n .kept .1 .1 .1 .1 .1 .0 ∙ range .2) (n .ensures)
 
 pub write-nets-spec : {M : Type 1} → statement M
 write-nets-spec =
     tie.close
     (tie.spec
-    mul-if3
-    write-few-requires
-    write-many-requires
+    slice-aggregate-fill-wanted
+    slice-aggregate-fill-wanted-2
+    fill-wanted-requires
+    slice-aggregate-fill-points
+    fill-points-requires
+    write-corners-requires
     same-length
-    returns
     same-length-2
-    returns-2)
+    returns)
