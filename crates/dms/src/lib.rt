@@ -131,9 +131,7 @@ pub fn survey_mesh(coordinates: &[i32], sides: &[u8], corners: &[u16]) -> Summar
 fn check_mesh(coordinates: &[i32], sides: &[u8], corners: &[u16]) -> Answer
     ensures { λ r. ⌜ stated r ≡ verdict (meshOf (now (coordinates .entry)) (now (sides .entry)) (now (corners .entry))) ⌝ }
 {
-    let mut nexts = [0u16; MOST_CORNERS];
-    let mut links = [0u16; MOST_CORNERS];
-    checks::check(coordinates, sides, corners, &mut nexts, &mut links)
+    checks::check(coordinates, sides, corners)
 }
 
 // The same as `decode`, of the file itself.
