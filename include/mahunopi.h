@@ -17,7 +17,8 @@
  * another one is given. Nothing is allocated. Scratch lies on the stack, of which a call needs up to
  * MAHUNOPI_CALL_STACK bytes; a stack that is too small ends the program, and no answer tells of it.
  *
- * The archive is for x86-64 Linux with glibc, in the C calling convention; link with -lmahunopi and nothing else.
+ * The archive is one object file of x86-64 code for Linux, in the System V calling convention. It needs no more of the
+ * processor than every x86-64 one has, and of the C library memcpy and memset; it is tested with glibc.
  */
 #ifndef MAHUNOPI_H
 #define MAHUNOPI_H
