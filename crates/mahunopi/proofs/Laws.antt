@@ -60,13 +60,15 @@ kept-old : {A : Type 0} (v : Verdict) (n p : ℕ) (new old x : A) → v ≡ faul
 kept-old sound n p new old x e h = let z : _≡_ {A = ℕ} 0 1 = cc in absurd (omega arith)
 kept-old (fault k q) n p new old x e h = h
 
-module _ (file : List ℕ) (counted : ℕ) (cs : List ℤ) (sides corners : List ℕ) (r : Decoded) (cs' : List ℤ) (sides' corners' : List ℕ) (lengths : Lengths) (before : ℕ)
+module _ (file : List ℕ) (counted : ℕ) (cs : List ℤ) (sides corners : List ℕ) (r : Decoded) (cs' : List ℤ) (sides' corners' : List ℕ)
+    (lengths : Lengths) (before : ℕ)
     (d : DecodedTo file counted cs sides corners r cs' sides' corners') where
   -- what a lent space or a length holds, by what the answer states
   at : {A : Type 0} (x new old : A) (w : Verdict) → stated (r .answer) ≡ w → x ≡ kept (stated (r .answer)) new old → x ≡ kept w new old
   at x new old w e h = subst (λ (u : Verdict). x ≡ kept u new old) e h
 
-  pub decode-done : r .answer ≡ Done → DecodeCall file counted (meshOf cs sides corners) lengths before 0 before (meshOf cs' sides' corners') (three (r .coordinates) (r .sides) (r .corners))
+  pub decode-done : r .answer ≡ Done
+      → DecodeCall file counted (meshOf cs sides corners) lengths before 0 before (meshOf cs' sides' corners') (three (r .coordinates) (r .sides) (r .corners))
   decode-done e =
       let s : stated (r .answer) ≡ sound = ap stated e in
       let v : lentVerdict file counted (meshOf cs sides corners) ≡ sound = sym (d .answers) ∙ s in
@@ -82,7 +84,8 @@ module _ (file : List ℕ) (counted : ℕ) (cs : List ℤ) (sides corners : List
         tells = kept-new _ _ _ _ v (cc);
       }
 
-  pub decode-refused : (n p : ℕ) → r .answer ≡ Refused n p → DecodeCall file counted (meshOf cs sides corners) lengths before n p (meshOf cs' sides' corners') lengths
+  pub decode-refused : (n p : ℕ) → r .answer ≡ Refused n p
+      → DecodeCall file counted (meshOf cs sides corners) lengths before n p (meshOf cs' sides' corners') lengths
   decode-refused n p e =
       let s : stated (r .answer) ≡ fault n p = ap stated e in
       let v : lentVerdict file counted (meshOf cs sides corners) ≡ fault n p = sym (d .answers) ∙ s in

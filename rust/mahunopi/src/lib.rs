@@ -220,9 +220,9 @@ pub fn decode(bytes: &[u8]) -> Result<Mesh, Refusal> {
     Ok(mesh)
 }
 
-/// The counts of a .dms file of `length` bytes, of which `bytes` holds the first ones: faults 1 to 13. A longer file
-/// than any mesh has need not be held whole.
-pub fn survey_long(bytes: &[u8], length: u64) -> Result<Counts, Refusal> {
+/// The counts of a .dms file of `length` bytes, of which `bytes` holds the first ones: faults 1 to 13. Of a file that is
+/// longer than that of any mesh the bytes beyond need only be counted.
+pub fn survey_counted(bytes: &[u8], length: u64) -> Result<Counts, Refusal> {
     let mut totals = [0; 3];
     let [vertices, faces, corners] = &mut totals;
     let mut vertices_with = [0; MAX_SIDES + 1];
@@ -261,5 +261,5 @@ pub fn survey_long(bytes: &[u8], length: u64) -> Result<Counts, Refusal> {
 /// # Ok::<(), Box<dyn std::error::Error>>(())
 /// ```
 pub fn survey(bytes: &[u8]) -> Result<Counts, Refusal> {
-    survey_long(bytes, bytes.len() as u64)
+    survey_counted(bytes, bytes.len() as u64)
 }

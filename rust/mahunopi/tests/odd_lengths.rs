@@ -3,7 +3,7 @@
 
 use std::ptr::{null, null_mut};
 
-use mahunopi::{build, build_all, decode, link, raw, survey, survey_long, Fault, Mesh, MeshRef, Refusal};
+use mahunopi::{build, build_all, decode, link, raw, survey, survey_counted, Fault, Mesh, MeshRef, Refusal};
 
 const BEYOND: usize = 1 << 32;
 const UNTOUCHED: u64 = 0x1234_5678_9abc_def0;
@@ -207,6 +207,56 @@ fn files_of_odd_lengths() {
 }
 
 #[test]
+fn counts_into_odd_lengths() {
+    let file = include_bytes!("../../../meshes/cube.dms");
+    let survey_into = |first: &mut [u16], second: &mut [u16]| {
+        let mut place = UNTOUCHED;
+        let mut totals = [UNTOUCHED; 3];
+        let [vertices, faces, corners] = &mut totals;
+        let pointer = |list: &mut [u16]| if list.is_empty() { null_mut() } else { list.as_mut_ptr() };
+        let number = unsafe {
+            raw::mahunopi_survey(
+                file.as_ptr(),
+                file.len(),
+                file.len() as u64,
+                vertices,
+                faces,
+                corners,
+                pointer(first),
+                first.len(),
+                pointer(second),
+                second.len(),
+                &mut place,
+            )
+        };
+        (number, place, totals)
+    };
+    // room for no m, for all but the last, for each, for more
+    for (first, second) in [(0, 0), (0, 13), (13, 0), (12, 13), (13, 12), (13, 13), (40, 14)] {
+        let (mut vertices_with, mut faces_with) = (vec![7; first], vec![7; second]);
+        let answer = survey_into(&mut vertices_with, &mut faces_with);
+        if first < 13 || second < 13 {
+            assert_eq!(answer, (255, 13, [UNTOUCHED; 3]));
+            assert!(vertices_with.iter().chain(&faces_with).all(|&entry| entry == 7));
+        } else {
+            assert_eq!(answer, (0, UNTOUCHED, [8, 6, 24]));
+            let asked = |list: &[u16], m: usize, count: u16| {
+                list.iter().enumerate().all(|(at, &n)| {
+                    n == if at == m {
+                        count
+                    } else if at < 13 {
+                        0
+                    } else {
+                        7
+                    }
+                })
+            };
+            assert!(asked(&vertices_with, 3, 8) && asked(&faces_with, 4, 6));
+        }
+    }
+}
+
+#[test]
 fn safe_functions_on_odd_lengths() {
     let refusal = |number: u32, place: u64| Refusal::new(Fault::of_number(number).unwrap(), place);
     let nothing = Mesh::default();
@@ -215,7 +265,7 @@ fn safe_functions_on_odd_lengths() {
     assert_eq!(build_all(&nothing, &[], None), Err(refusal(4, 0)));
     assert_eq!(decode(&[]), Err(refusal(1, 0)));
     assert_eq!(survey(&[]), Err(refusal(1, 0)));
-    assert_eq!(survey_long(b"DMS", u64::MAX), Err(refusal(1, 0)));
+    assert_eq!(survey_counted(b"DMS", u64::MAX), Err(refusal(1, 0)));
     let mesh = cube();
     let links = link(&mesh).unwrap();
     assert_eq!(build(&mesh, &links, 0, 0), Err(refusal(16, 0)));

@@ -4,7 +4,7 @@ use std::num::NonZeroUsize;
 use std::thread;
 
 use mahunopi::{
-    build, build_all, build_into, decode, link, link_into, survey, survey_long, Fault, Mesh, MeshRef, Refusal,
+    build, build_all, build_into, decode, link, link_into, survey, survey_counted, Fault, Mesh, MeshRef, Refusal,
     CALL_STACK, MAX_SIDES, NUMBERS_PER_CORNER,
 };
 
@@ -133,7 +133,7 @@ fn counts_of_files() {
         assert_eq!((counts.vertices_with(m), counts.faces_with(m)), (asked, asked));
     }
     assert_eq!(survey(CUBE).unwrap().to_string(), "mesh 8 6 24\n3 8 0\n4 0 6\n");
-    assert_eq!(survey_long(CUBE, 1 << 40), Err(Refusal::new(Fault::BadFileLength, 0)));
+    assert_eq!(survey_counted(CUBE, 1 << 40), Err(Refusal::new(Fault::BadFileLength, 0)));
     assert_eq!(survey(&CUBE[..100]), Err(Refusal::new(Fault::BadFileLength, 0)));
     assert_eq!(survey(&CUBE[1..]), Err(Refusal::new(Fault::BadMark, 0)));
 }

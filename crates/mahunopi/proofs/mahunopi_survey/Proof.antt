@@ -30,7 +30,8 @@ cast-result-2 c = search needs
 
 returns-2 : tie.Need-returns-2
 returns-2 c =
-    survey-no-room _ _ _ _ _ (c .before .before .before .before .survey .ensures) (c .before .before .enum-told .given .1) (sym (c .before .too-short .ensures) ∙ c .if1 .taken)
+    survey-no-room _ _ _ _ _ (c .before .before .before .before .survey .ensures) (c .before .before .enum-told .given .1)
+    (sym (c .before .too-short .ensures) ∙ c .if1 .taken)
 
 slice-aggregate-fill : tie.Need-slice-aggregate-fill
 slice-aggregate-fill c = search needs
@@ -64,7 +65,8 @@ returns-3 : tie.Need-returns-3
 returns-3 c =
     let s = c .before .before .before .before .before .before .before .before .before .before .before .before .before in
     survey-done _ _ _ _ _ (s .before .before .before .before .survey .ensures) (s .before .before .enum-told .given .1)
-    (sym (s .before .too-short .ensures) ∙ s .if1 .left) _ _ (c .before .before .before .before .before .before .before .before .fill .ensures) (c .before .before .fill2 .ensures)
+    (sym (s .before .too-short .ensures) ∙ s .if1 .left) _ _
+    (c .before .before .before .before .before .before .before .before .fill .ensures) (c .before .before .fill2 .ensures)
 
 pub mahunopi-survey-spec : {M : Type 1} → statement M
 mahunopi-survey-spec =
