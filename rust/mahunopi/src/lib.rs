@@ -41,8 +41,9 @@ pub const MAX_SIDES: usize = 12;
 pub const NUMBERS_PER_CORNER: usize = 123;
 /// The bytes of stack that a call may take.
 pub const CALL_STACK: usize = 256 * 1024;
-/// The fewest corners that [`build_all`] gives a thread: every range repeats the checks over the whole mesh.
-const LEAST_RANGE: usize = 512;
+/// The fewest corners that [`build_all`] gives a thread: a thread has to be started, and every range repeats the checks
+/// over the whole mesh.
+const LEAST_RANGE: usize = 2_048;
 
 /// Fills the lent link table, which has an entry for each corner: faults 4 to 14.
 pub fn link_into<'a>(mesh: impl Into<MeshRef<'a>>, links: &mut [u16]) -> Result<(), Refusal> {
