@@ -2,14 +2,26 @@
 use mesh::SMALL_MESH;
 use paper::Answer;
 use paper::MOST_CORNERS;
-ghost use Prim.Native.Nat.{_≤_};
+use paper::MOST_VERTICES;
+use surface::POINT_ROW;
+use walk::ROW;
+ghost use Prim.Native.Nat.{_*_, _≤_};
 ghost use lib.ListN.{length};
 ghost use Rattle.paper.specs.Mesh.{meshOf};
 ghost use Rattle.paper.specs.Faults.{Accepted};
+ghost use Rattle.paper.specs.Refined.{cornersOf};
 ghost use Rattle.paper.specs.Calls.{Built};
-ghost use Rattle.mesh.specs.Tables.{smallMesh, NextsTo, LinkTable};
+ghost use Rattle.surface.specs.Points.{pointRow};
+ghost use Rattle.walk.specs.Table.{Tabled};
 ghost use Rattle.checks.specs.Checked.{RoomFor};
-ghost use Rattle.building.specs.Answered.{Answered};
+ghost use Rattle.refine.specs.Sources.{Small};
+ghost use Rattle.building.specs.Answered.{PointRoom, Answered};
+
+// What is asked for: `count` corners from `first` on.
+struct Range {
+    first: usize,
+    count: usize,
+}
 
 // Checks 4 to 17, then the control points. Nothing is written to the output before the last check has passed.
 pub fn build(
@@ -23,63 +35,38 @@ pub fn build(
 ) -> Answer
     ensures { λ r. ⌜ Built (meshOf (now (coordinates .entry)) (now (sides .entry)) (now (corners .entry))) (now (links .entry)) first count (now (out .entry)) r (now (out .exit)) ⌝ }
 {
-    if corners.len() <= SMALL_MESH {
-        return build_few(coordinates, sides, corners, links, first, count, out);
+    let range = Range {
+        first: first,
+        count: count,
+    };
+    if corners.len() <= SMALL_MESH && coordinates.len() / 3 <= SMALL_MESH {
+        let mut table = [0u16; ROW * SMALL_MESH];
+        let mut vertices = [0u16; ROW * SMALL_MESH];
+        let mut points = [0i32; POINT_ROW * SMALL_MESH];
+        return build_over(
+            coordinates,
+            sides,
+            corners,
+            links,
+            range,
+            &mut table,
+            &mut vertices,
+            &mut points,
+            out,
+        );
     }
-    build_many(coordinates, sides, corners, links, first, count, out)
-}
-
-// The same of a small mesh.
-fn build_few(
-    coordinates: &[i32],
-    sides: &[u8],
-    corners: &[u16],
-    links: &[u16],
-    first: usize,
-    count: usize,
-    out: &mut [i32],
-) -> Answer
-    requires { ⌜ length (now corners) ≤ smallMesh ⌝ }
-    ensures { λ r. ⌜ Built (meshOf (now (coordinates .entry)) (now (sides .entry)) (now (corners .entry))) (now (links .entry)) first count (now (out .entry)) r (now (out .exit)) ⌝ }
-{
-    let mut nexts = [0u16; SMALL_MESH];
-    let mut table = [0u16; SMALL_MESH];
+    let mut table = [0u16; ROW * MOST_CORNERS];
+    let mut vertices = [0u16; ROW * MOST_VERTICES];
+    let mut points = [0i32; POINT_ROW * MOST_CORNERS];
     build_over(
         coordinates,
         sides,
         corners,
         links,
-        first,
-        count,
-        &mut nexts,
+        range,
         &mut table,
-        out,
-    )
-}
-
-// The same of any mesh.
-fn build_many(
-    coordinates: &[i32],
-    sides: &[u8],
-    corners: &[u16],
-    links: &[u16],
-    first: usize,
-    count: usize,
-    out: &mut [i32],
-) -> Answer
-    ensures { λ r. ⌜ Built (meshOf (now (coordinates .entry)) (now (sides .entry)) (now (corners .entry))) (now (links .entry)) first count (now (out .entry)) r (now (out .exit)) ⌝ }
-{
-    let mut nexts = [0u16; MOST_CORNERS];
-    let mut table = [0u16; MOST_CORNERS];
-    build_over(
-        coordinates,
-        sides,
-        corners,
-        links,
-        first,
-        count,
-        &mut nexts,
-        &mut table,
+        &mut vertices,
+        &mut points,
         out,
     )
 }
@@ -90,16 +77,17 @@ fn build_over(
     sides: &[u8],
     corners: &[u16],
     links: &[u16],
-    first: usize,
-    count: usize,
-    nexts: &mut [u16],
+    range: Range,
     table: &mut [u16],
+    vertices: &mut [u16],
+    points: &mut [i32],
     out: &mut [i32],
 ) -> Answer
-    requires { ⌜ RoomFor (now corners) (now nexts) × RoomFor (now corners) (now table) ⌝ }
-    ensures { λ r. ⌜ Built (meshOf (now (coordinates .entry)) (now (sides .entry)) (now (corners .entry))) (now (links .entry)) first count (now (out .entry)) r (now (out .exit)) ⌝ }
+    requires tables { ⌜ RoomFor (meshOf (now coordinates) (now sides) (now corners)) (now table) (now vertices) ⌝ }
+    requires points { ⌜ PointRoom (meshOf (now coordinates) (now sides) (now corners)) (now points) ⌝ }
+    ensures { λ r. ⌜ Built (meshOf (now (coordinates .entry)) (now (sides .entry)) (now (corners .entry))) (now (links .entry)) (range .first) (range .count) (now (out .entry)) r (now (out .exit)) ⌝ }
 {
-    let a = checks::check_within(coordinates, sides, corners, nexts, table);
+    let a = checks::check_within(coordinates, sides, corners, table, vertices);
     if let Answer::Refused(k, p) = a {
         return Answer::Refused(k, p);
     }
@@ -107,36 +95,45 @@ fn build_over(
         coordinates,
         sides,
         corners,
-        nexts,
-        table,
         links,
-        first,
-        count,
+        range,
+        table,
+        points,
         out,
     )
 }
 
-// The same for an accepted mesh, over its tables of next corners and links: checks 14 to 17, then the control points.
+// The same for an accepted mesh, over the table of its corners: checks 14 to 17, then the control points.
 fn answer(
     coordinates: &[i32],
     sides: &[u8],
     corners: &[u16],
-    nexts: &[u16],
-    table: &[u16],
     links: &[u16],
-    first: usize,
-    count: usize,
+    range: Range,
+    table: &[u16],
+    points: &mut [i32],
     out: &mut [i32],
 ) -> Answer
     requires mesh { ⌜ Accepted (meshOf (now coordinates) (now sides) (now corners)) ⌝ }
-    requires tables { ⌜ NextsTo (now sides) (now nexts) (length (now corners)) × LinkTable (now sides) (now corners) (now table) ⌝ }
-    requires long { ⌜ RoomFor (now corners) (now nexts) × RoomFor (now corners) (now table) ⌝ }
-    ensures { λ r. ⌜ Answered (meshOf (now (coordinates .entry)) (now (sides .entry)) (now (corners .entry))) (now (links .entry)) first count (now (out .entry)) r (now (out .exit)) ⌝ }
+    requires table { ⌜ Tabled (cornersOf (meshOf (now coordinates) (now sides) (now corners))) (now table) ⌝ }
+    requires points { ⌜ (pointRow * length (now corners) ≤ length (now points)) × Small (now points) ⌝ }
+    ensures { λ r. ⌜ Answered (meshOf (now (coordinates .entry)) (now (sides .entry)) (now (corners .entry))) (now (links .entry)) (range .first) (range .count) (now (out .entry)) r (now (out .exit)) ⌝ }
 {
+    let first = range.first;
+    let count = range.count;
     let a = requests::check_request(corners.len(), table, links, first, count, out.len());
     if let Answer::Refused(k, p) = a {
         return Answer::Refused(k, p);
     }
-    writing::write_nets(coordinates, sides, corners, nexts, table, first, count, out);
+    writing::write_nets(
+        coordinates,
+        sides,
+        corners,
+        table,
+        first,
+        count,
+        points,
+        out,
+    );
     Answer::Done
 }

@@ -1,0 +1,18 @@
+-- A table of zeros has room for the refined points of as many corners as it has rows.
+-- Assumes nothing.
+use Prim.Native.Nat.{ℕ, _*_, _≤_}
+use native.Mathlib.Omega.{arith}
+use lib.ListN.{length, replicate, length-replicate}
+use lib.IntN.{ℤ, pos}
+use Rattle.paper.specs.Mesh.{mostCorners, Mesh, cornerCount, faceCount}
+use Rattle.paper.specs.Faults.{Accepted}
+use Rattle.mesh.proofs.Accepted.{sound-of, few-corners}
+use Rattle.surface.specs.Points.{pointRow}
+use Rattle.refine.proofs.Laws.{small-zeros}
+use Rattle.building.specs.Answered.{PointRoom}
+
+pub point-room : (M : Mesh) (p : ℕ) → (cornerCount M ≤ mostCorners → cornerCount M ≤ p) → PointRoom M (replicate (pointRow * p) (pos 0))
+point-room M p a = (λ h. rw (length-replicate {A = ℤ} (pointRow * p) (pos 0)) (omega (arith, a h)), small-zeros (pointRow * p))
+
+pub few : (M : Mesh) → Accepted M → cornerCount M ≤ mostCorners
+few M a = few-corners (length (M .coordinates)) (faceCount M) (cornerCount M) (sound-of M a .four)
