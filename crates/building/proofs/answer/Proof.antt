@@ -1,42 +1,60 @@
-use native.Mathlib.Omega.{arith}
+-- `building::answer` meets its contract: checks 14 to 17 refuse and the output is as it was, or the range is within the corners and the output has its places.
+-- Assumes nothing.
+use mathlib.Core.Path.{_≡_, refl, ap, _∙_, sym}
 use borrow.Author.Needs.{needs}
+use lib.ListN.{length}
+use denote.Ref.{now}
+use Rattle.paper.specs.Mesh.{Mesh, meshOf}
+use Rattle.paper.specs.Faults.{stated, sound}
+use Rattle.mesh.proofs.Verdicts.{passed}
+use Rattle.requests.specs.Request.{requestFaults}
+use Rattle.requests.proofs.Laws.{Granted, granted}
+use Rattle.building.proofs.Laws.{few}
 use Rattle.building.proofs.answer.Statement.{statement}
 use Rattle.building.proofs.answer.Tie as tie
-use Rattle.building.proofs.answer.Reads as reads
-use Rattle.building.proofs.answer.Lts as lts
-use Rattle.requests.proofs.check_request.Reads as check-request-reads
-use Rattle.writing.proofs.write_nets.Reads as write-nets-reads
 
--- src/lib.rt:124:9
+abbrev mesh : tie.Start → Mesh
+mesh s = meshOf (now (s .args .coordinates)) (now (s .args .sides)) (now (s .args .corners))
+
+-- past the checks
+module _ (t : tie.After-enum-told) where
+  abbrev start : tie.Start
+  start = t .before .before .before .before .before .before .before
+
+  accepts : requestFaults (mesh start) (now (start .args .links)) (start .args .range .first) (start .args .range .count) (length (now (start .args .out))) ≡ sound
+  accepts = passed (t .before .before .check-request .result) (t .before .before .check-request .ensures (mesh start) refl (start .pre .1 .0 .links)) (t .enum-told .given .1)
+
+  grants : Granted (mesh start) (start .args .range .first) (start .args .range .count) (length (now (start .args .out)))
+  grants = granted (mesh start) (now (start .args .links)) (start .args .range .first) (start .args .range .count) (length (now (start .args .out))) accepts
+
 check-request-requires : tie.Need-check-request-requires
-check-request-requires c κs = ?
+check-request-requires c κs = let s = c .before .before .before .before in (few (mesh s) (s .pre .0), s .pre .1 .0 .long)
 
--- src/lib.rt:125:28
 enum-known-a : tie.Need-enum-known-a
 enum-known-a c = search needs
 
--- src/lib.rt:126:9
 returns : tie.Need-returns
-returns c = ?
+returns c =
+    let s = c .before .before .before .before .before .before .before .before in
+    record { answers = ap stated (sym (c .before .a .given .1)) ∙ c .before .before .before .check-request .ensures (mesh s) refl (s .pre .1 .0 .links); holds = refl }
 
 enum-told : tie.Need-enum-told
 enum-told c = search needs
 
--- src/lib.rt:128:5
 write-nets-requires : tie.Need-write-nets-requires
-write-nets-requires c κs = ?
+write-nets-requires c κs =
+    let s = c .before .before .before .before .before .before .before .before .before in
+    let g = grants (c .before .before) in
+    (s .pre .0, (s .pre .1 .0, ((g .some, g .within, g .room), s .pre .1 .1)))
 
--- src/lib.rt:107:1
 same-length : tie.Need-same-length
 same-length c = search needs
 
--- src/lib.rt:107:1
 same-length-2 : tie.Need-same-length-2
 same-length-2 c = search needs
 
--- src/lib.rt:107:1
 returns-2 : tie.Need-returns-2
-returns-2 c = ?
+returns-2 c = record { answers = sym (accepts (c .before .before .before .before .before)); holds = c .before .before .write-nets .ensures }
 
 pub answer-spec : {M : Type 1} → statement M
 answer-spec =

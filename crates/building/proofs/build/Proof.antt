@@ -1,56 +1,55 @@
+-- `building::build` meets its contract: a small mesh fits the short tables, and every mesh that is not too large the long ones.
+-- Assumes nothing.
 use native.Mathlib.Omega.{arith}
 use borrow.Author.Needs.{needs}
+use denote.Ref.{now}
+use Rattle.paper.specs.Mesh.{Mesh, meshOf, mostVertices, mostCorners}
+use Rattle.mesh.specs.Tables.{smallMesh}
+use Rattle.checks.proofs.Laws.{room}
+use Rattle.building.proofs.Laws.{point-room}
 use Rattle.building.proofs.build.Statement.{statement}
 use Rattle.building.proofs.build.Tie as tie
-use Rattle.building.proofs.build.Reads as reads
-use Rattle.building.proofs.build.Lts as lts
-use Rattle.building.proofs.build_over.Reads as build-over-reads
 
--- src/lib.rt:52:13
+abbrev mesh : tie.Start → Mesh
+mesh s = meshOf (now (s .args .coordinates)) (now (s .args .sides)) (now (s .args .corners))
+
 slice-aggregate-build-over : tie.Need-slice-aggregate-build-over
 slice-aggregate-build-over c = search needs
 
--- src/lib.rt:53:13
 slice-aggregate-build-over-2 : tie.Need-slice-aggregate-build-over-2
 slice-aggregate-build-over-2 c = search needs
 
--- src/lib.rt:54:13
 slice-aggregate-build-over-3 : tie.Need-slice-aggregate-build-over-3
 slice-aggregate-build-over-3 c = search needs
 
--- src/lib.rt:46:9
 build-over-requires : tie.Need-build-over-requires
-build-over-requires c κs = ?
+build-over-requires c κs =
+    let s = c .before .before .before .before .before .before .before .before .before in
+    (room (mesh s) smallMesh smallMesh (λ h. search needs) (λ h. search needs), point-room (mesh s) smallMesh (λ h. search needs))
 
--- src/lib.rt:46:9
 same-length : tie.Need-same-length
 same-length c = search needs
 
--- src/lib.rt:46:9
 returns : tie.Need-returns
 returns c = search needs
 
--- src/lib.rt:67:9
 slice-aggregate-build-over-4 : tie.Need-slice-aggregate-build-over-4
 slice-aggregate-build-over-4 c = search needs
 
--- src/lib.rt:68:9
 slice-aggregate-build-over-5 : tie.Need-slice-aggregate-build-over-5
 slice-aggregate-build-over-5 c = search needs
 
--- src/lib.rt:69:9
 slice-aggregate-build-over-6 : tie.Need-slice-aggregate-build-over-6
 slice-aggregate-build-over-6 c = search needs
 
--- src/lib.rt:61:5
 build-over-requires-2 : tie.Need-build-over-requires-2
-build-over-requires-2 c κs = ?
+build-over-requires-2 c κs =
+    let s = c .before .before .before .before .before .before .before .before in
+    (room (mesh s) mostCorners mostVertices (λ h. h) (λ h. h), point-room (mesh s) mostCorners (λ h. h))
 
--- src/lib.rt:27:1
 same-length-2 : tie.Need-same-length-2
 same-length-2 c = search needs
 
--- src/lib.rt:27:1
 returns-2 : tie.Need-returns-2
 returns-2 c = search needs
 

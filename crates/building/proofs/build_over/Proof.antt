@@ -1,58 +1,82 @@
+-- `building::build_over` meets its contract: the check of the mesh refuses, or its table serves the checks of the request and the writing.
+-- Assumes nothing.
+use mathlib.Core.Path.{refl, _∙_, sym}
 use native.Mathlib.Omega.{arith}
 use borrow.Author.Needs.{needs}
+use lib.ListN.{length}
+use denote.Ref.{now}
+use Rattle.paper.specs.Mesh.{Mesh, meshOf}
+use Rattle.paper.specs.Faults.{Accepted}
+use Rattle.mesh.proofs.Verdicts.{passed, stop, past}
+use Rattle.requests.proofs.Laws.{verdict-is}
+use Rattle.building.proofs.Laws.{few}
 use Rattle.building.proofs.build_over.Statement.{statement}
 use Rattle.building.proofs.build_over.Tie as tie
-use Rattle.building.proofs.build_over.Reads as reads
-use Rattle.building.proofs.build_over.Lts as lts
-use Rattle.building.proofs.answer.Reads as answer-reads
-use Rattle.checks.proofs.check_within.Reads as check-within-reads
 
--- src/lib.rt:90:9
+abbrev mesh : tie.Start → Mesh
+mesh s = meshOf (now (s .args .coordinates)) (now (s .args .sides)) (now (s .args .corners))
+
+-- past the check of the mesh
+accepts : (t : tie.After-enum-told) → Accepted (mesh (t .before .before .before .before .before .before .before .before .before .before .before .before .before .before))
+accepts t =
+    let a = t .before .before .before .before .before .before .check-within in
+    passed (a .result) (a .ensures .answers) (t .enum-told .given .1)
+
 check-within-requires : tie.Need-check-within-requires
 check-within-requires c κs = search needs
 
--- src/lib.rt:91:28
 enum-known-a : tie.Need-enum-known-a
 enum-known-a c = search needs
 
--- src/lib.rt:92:9
 same-length : tie.Need-same-length
 same-length c = search needs
 
--- src/lib.rt:92:9
 same-length-2 : tie.Need-same-length-2
 same-length-2 c = search needs
 
--- src/lib.rt:92:9
 returns : tie.Need-returns
-returns c = ?
+returns c =
+    let s = c .before .before .before .before .before .before .before .before .before .before .before .before .before .before .before in
+    let a = c .before .before .before .before .before .before .before .check-within in
+    record {
+      answers =
+          stop (a .result) (a .ensures .answers) (c .before .a .given .0 .0) (c .before .a .given .0 .1 .0) (c .before .a .given .1) _
+          ∙ sym (verdict-is (mesh s) (now (s .args .links)) (s .args .range .first) (s .args .range .count) (length (now (s .args .out))));
+      holds = refl;
+    }
 
 enum-told : tie.Need-enum-told
 enum-told c = search needs
 
--- src/lib.rt:94:5
 answer-requires : tie.Need-answer-requires
-answer-requires c κs = ?
+answer-requires c κs =
+    let s = c .before .before .before .before .before .before .before .before .before .before .before .before .before .before .before .before .before in
+    let t = c .before .before .before in
+    let a = t .before .before .before .before .before .before .check-within in
+    (accepts t, (a .ensures .tabled (accepts t), (s .pre .1 .0 (few (mesh s) (accepts t)), s .pre .1 .1)))
 
--- src/lib.rt:75:1
 same-length-3 : tie.Need-same-length-3
 same-length-3 c = search needs
 
--- src/lib.rt:75:1
 same-length-4 : tie.Need-same-length-4
 same-length-4 c = search needs
 
--- src/lib.rt:75:1
 same-length-5 : tie.Need-same-length-5
 same-length-5 c = search needs
 
--- src/lib.rt:75:1
 same-length-6 : tie.Need-same-length-6
 same-length-6 c = search needs
 
--- src/lib.rt:75:1
 returns-2 : tie.Need-returns-2
-returns-2 c = ?
+returns-2 c =
+    let s = c .before .before .before .before .before .before .before .before .before .before .before .before .before .before .before .before .before .before .before .before in
+    let r = c .before .before .answer in
+    record {
+      answers =
+          past (accepts (c .before .before .before .before .before .before)) _ (r .ensures .answers)
+          ∙ sym (verdict-is (mesh s) (now (s .args .links)) (s .args .range .first) (s .args .range .count) (length (now (s .args .out))));
+      holds = r .ensures .holds;
+    }
 
 pub build-over-spec : {M : Type 1} → statement M
 build-over-spec =
