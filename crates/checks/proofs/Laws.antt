@@ -10,7 +10,8 @@ use lib.ListN.{length, replicate, length-replicate}
 use Rattle.paper.specs.Mesh.{Mesh, vertexCount, faceCount, cornerCount, mostVertices, mostCorners}
 use Rattle.paper.specs.Links.{link}
 use Rattle.paper.specs.Refined.{cornersOf}
-use Rattle.paper.specs.Faults.{Verdict, sound, fault, _orElse_, lowestOf, fault4, fault5, fault8, fault10, fault11, fault12, fault13, listFaults, linkFaults, verdict, stated}
+use Rattle.paper.specs.Faults.{Verdict, sound, fault, _orElse_, lowestOf, fault4, fault5, fault8, fault10, fault11, fault12, fault13, listFaults}
+use Rattle.paper.specs.Faults.{linkFaults, verdict, stated}
 use Rattle.paper.specs.declared.Answer.{Answer}
 use Rattle.paper.specs.declared.Answer.the-variants.{Refused}
 use Rattle.mesh.specs.Closed.{Closed}

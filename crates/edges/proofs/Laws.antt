@@ -27,7 +27,8 @@ use Rattle.walk.proofs.Table.{put, kept-put}
 use Rattle.tables.specs.Vertices.{lastHere, leavingHere, arrivingHere, countHere, Rowed}
 use Rattle.tables.specs.Chain.{EarliersTo, LastsTo, Chained, Clear}
 use Rattle.tables.proofs.Chains.{On, above-head, at-in, at-vertex, on-from}
-use Rattle.edges.specs.Entries.{repeated, alone, Entry, again, single, joined, Entries, has, to, from, Searchable, Keyed, BothKeyed, Hit, Marked, MarkedFrom, Unmarked, Ends, EntryFor, Collected, Found, EdgesChecked}
+use Rattle.edges.specs.Entries.{repeated, alone, Entry, again, single, joined, Entries, has, to, from, Searchable, Keyed, BothKeyed, Hit}
+use Rattle.edges.specs.Entries.{Marked, MarkedFrom, Unmarked, Ends, EntryFor, Collected, Found, EdgesChecked}
 
 -- ---- marking
 pub keyed-clear : (corners table vertices : List ℕ) → Clear vertices leavingHere → Clear vertices arrivingHere → BothKeyed corners table vertices
@@ -90,7 +91,8 @@ module _ (corners table : List ℕ) (last : ℕ → ℕ) (k : Chained corners (e
       subst P (sym (kept-put (set vertices (rowLength * t + leavingHere) at) arrivingHere f at (omega arith) leavingHere (omega arith) (λ q. omega arith) j))
       (put vertices leavingHere t at P j (omega arith) (λ q. same (q ∙ et)) (λ q. other (λ z. q (z ∙ sym et))))
 
-  arriving-stored : (P : ℕ → Type 0) (j : ℕ) → (j ≡ from corners table (at - 1) → P at) → ((j ≡ from corners table (at - 1) → ⊥) → P (entry vertices arrivingHere j))
+  arriving-stored : (P : ℕ → Type 0) (j : ℕ) → (j ≡ from corners table (at - 1) → P at) →
+      ((j ≡ from corners table (at - 1) → ⊥) → P (entry vertices arrivingHere j))
       → P (entry (set (set vertices (rowLength * t + leavingHere) at) (rowLength * f + arrivingHere) at) arrivingHere j)
   arriving-stored P j same other =
       put (set vertices (rowLength * t + leavingHere) at) arrivingHere f at P j
@@ -103,10 +105,15 @@ module _ (corners table : List ℕ) (last : ℕ → ℕ) (k : Chained corners (e
       record {
         keyed = record {
           left = keyed-step corners (entry table valenceHere) last k u at o n (to corners table) (entry vertices leavingHere) _ leaving-stored (m .keyed .left);
-          arrived = keyed-step corners (entry table valenceHere) last k u at o n (from corners table) (entry vertices arrivingHere) _ arriving-stored (m .keyed .arrived);
+          arrived =
+              keyed-step corners (entry table valenceHere) last k u at o n (from corners table) (entry vertices arrivingHere) _ arriving-stored
+              (m .keyed .arrived);
         };
-        left-from = marked-step corners (entry table valenceHere) last k u at o n (to corners table) (entry vertices leavingHere) _ leaving-stored (m .left-from);
-        arrived-from = marked-step corners (entry table valenceHere) last k u at o n (from corners table) (entry vertices arrivingHere) _ arriving-stored (m .arrived-from);
+        left-from =
+            marked-step corners (entry table valenceHere) last k u at o n (to corners table) (entry vertices leavingHere) _ leaving-stored (m .left-from);
+        arrived-from =
+            marked-step corners (entry table valenceHere) last k u at o n (from corners table) (entry vertices arrivingHere) _ arriving-stored
+            (m .arrived-from);
       }
 
 -- the corner of an edge's reverse is the one before the corner where the reverse arrives

@@ -76,7 +76,8 @@ lowest-in corners u h =
     ⊎-elim
     (λ (q : firstBelow (length corners) (names corners u) ≡ length corners).
     absurd (omega (arith, count-none (names corners u) (length corners) (λ j l. first-fails (length corners) (names corners u) j (omega arith)))))
-    (λ o. ⊎-elim (λ z. z) (λ (z : length corners < firstBelow (length corners) (names corners u)). absurd (omega (arith, first-le-all (length corners) (names corners u)))) o)
+    (λ o. ⊎-elim (λ z. z) (λ (z : length corners < firstBelow (length corners) (names corners u)). absurd
+    (omega (arith, first-le-all (length corners) (names corners u)))) o)
     (compared (firstBelow (length corners) (names corners u)) (length corners))
 
 pub lowest-of : (corners : List ℕ) (u : ℕ) → lowest corners u < length corners → vertexOf corners (lowest corners u) ≡ u
@@ -84,19 +85,24 @@ unfolding lowest names
 lowest-of corners u h = eqb-true _ _ (first-passes (length corners) (names corners u) h)
 
 -- check 13 at a vertex
-module _ (sides corners table : List ℕ) (k : Closed sides corners) (t : Column table toLink (link sides corners) (length corners)) (u : ℕ) (h : leastSides ≤ valence corners u) where
+module _ (sides corners table : List ℕ) (k : Closed sides corners) (t : Column table toLink (link sides corners) (length corners)) (u : ℕ)
+    (h : leastSides ≤ valence corners u) where
   low : lowest corners u < length corners
   low = lowest-in corners u h
 
   around : Turns (length corners) (names corners u) (link sides corners) (lowest corners u)
   around = turns sides corners k u (lowest corners u) low (lowest-of corners u low)
 
-  followed : (j : ℕ) → (iterate j (entry table toLink) (lowest corners u) ≡ iterate j (link sides corners) (lowest corners u)) × (iterate j (link sides corners) (lowest corners u) < length corners)
+  followed : (j : ℕ) → (iterate j (entry table toLink) (lowest corners u) ≡ iterate j (link sides corners) (lowest corners u)) ×
+      (iterate j (link sides corners) (lowest corners u) < length corners)
   unfolding iterate
   followed zero = (refl, low)
   followed (suc j) =
-      let r = followed j in
-      (ap (entry table toLink) (r .0) ∙ t (iterate j (link sides corners) (lowest corners u)) (r .1), link-in sides corners k (iterate j (link sides corners) (lowest corners u)) (r .1))
+      let r = followed j in (
+        ap (entry table toLink) (r .0) ∙ t (iterate j (link sides corners) (lowest corners u)) (r .1),
+        link-in sides corners k
+            (iterate j (link sides corners) (lowest corners u)) (r .1),
+      )
 
   ring-is : ringWithin (entry table toLink) (lowest corners u) (valence corners u) ≡ ringLength sides corners u
   unfolding ringWithin ringLength after valence
@@ -106,7 +112,8 @@ module _ (sides corners table : List ℕ) (k : Closed sides corners) (t : Column
       let q : firstBelow (valence corners u) (backAt (entry table toLink) (lowest corners u)) ≡ P =
       first-at (valence corners u) (backAt (entry table toLink) (lowest corners u)) P le
       (eq-eqb _ _ (followed (suc P) .0 ∙ comes-back (length corners) (names corners u) (link sides corners) (lowest corners u) around))
-      (λ j l. ap (λ (x : ℕ). eqb x (lowest corners u)) (followed (suc j) .0) ∙ first-fails (length corners) (λ j. eqb (iterate (suc j) (link sides corners) (lowest corners u)) (lowest corners u)) j l) in
+      (λ j l. ap (λ (x : ℕ). eqb x (lowest corners u)) (followed (suc j) .0) ∙ first-fails (length corners)
+      (λ j. eqb (iterate (suc j) (link sides corners) (lowest corners u)) (lowest corners u)) j l) in
       rw (q, lt-ltb P (countBelow (length corners) (names corners u)) le)
 
   pub whole-ring : ringWithin (entry table toLink) (lowest corners u) (valence corners u) ≡ valence corners u → fault13 sides corners u ≡ false
@@ -114,10 +121,13 @@ module _ (sides corners table : List ℕ) (k : Closed sides corners) (t : Column
   whole-ring e = some-false (length corners) _ (met-all (length corners) (names corners u) (link sides corners) (lowest corners u) around (sym ring-is ∙ e))
 
   pub torn-ring : (ringWithin (entry table toLink) (lowest corners u) (valence corners u) ≡ valence corners u → ⊥) → fault13 sides corners u ≡ true
-  torn-ring ne = ⊎-elim (λ b. b) (λ b. absurd (ne (ring-is ∙ ring-full sides corners k u (lowest corners u) low (lowest-of corners u low) b))) (ways (fault13 sides corners u))
+  torn-ring ne =
+      ⊎-elim (λ b. b) (λ b. absurd (ne (ring-is ∙ ring-full sides corners k u (lowest corners u) low (lowest-of corners u low) b)))
+      (ways (fault13 sides corners u))
 
 pub Whole : List ℕ → List ℕ → ℕ → Type 0
-Whole corners table u = (sides : List ℕ) → Closed sides corners → Column table toLink (link sides corners) (length corners) → (j : ℕ) → j < u → fault13 sides corners j ≡ false
+Whole corners table u =
+    (sides : List ℕ) → Closed sides corners → Column table toLink (link sides corners) (length corners) → (j : ℕ) → j < u → fault13 sides corners j ≡ false
 
 module _ (corners table : List ℕ) where
   pub whole-none : Whole corners table 0
@@ -125,7 +135,8 @@ module _ (corners table : List ℕ) where
   whole-none sides k t j l = absurd (omega arith)
 
   module _ (u count : ℕ) (w : Whole corners table u) (f : Cornered corners count) (l : u < count)
-      (vertices : List ℕ) (g : CornersCounted corners vertices) (len : ℕ) (en : len ≡ ringWithin (entry table toLink) (entry vertices lowestHere u) (entry vertices countHere u)) where
+      (vertices : List ℕ) (g : CornersCounted corners vertices) (len : ℕ)
+      (en : len ≡ ringWithin (entry table toLink) (entry vertices lowestHere u) (entry vertices countHere u)) where
     len-is : len ≡ ringWithin (entry table toLink) (lowest corners u) (valence corners u)
     len-is =
         en ∙ ap (λ (x : ℕ). ringWithin (entry table toLink) x (entry vertices countHere u)) (g .lowest-is u (lowest-in corners u (f u l)))
@@ -138,13 +149,15 @@ module _ (corners table : List ℕ) where
         (whole-ring sides corners table k t u (f u l) (sym len-is ∙ e ∙ g .count-is u))
 
     pub whole-torn : (len ≡ entry vertices countHere u → ⊥)
-        → (sides : List ℕ) → Closed sides corners → Column table toLink (link sides corners) (length corners) → fault 13 u ≡ lowestOf 13 count (fault13 sides corners)
+        → (sides : List ℕ) → Closed sides corners → Column table toLink (link sides corners) (length corners) → fault 13 u ≡ lowestOf 13 count
+        (fault13 sides corners)
     unfolding Whole
     whole-torn ne sides k t =
         sym (lowest-hit 13 count (fault13 sides corners) u l
         (torn-ring sides corners table k t u (f u l) (λ e. ne (len-is ∙ e ∙ sym (g .count-is u)))) (w sides k t))
 
-  pub whole-all : (u count : ℕ) → Whole corners table u → count ≤ u → (sides : List ℕ) → Closed sides corners → Column table toLink (link sides corners) (length corners) → sound ≡ lowestOf 13 count (fault13 sides corners)
+  pub whole-all : (u count : ℕ) → Whole corners table u → count ≤ u → (sides : List ℕ) → Closed sides corners → Column table toLink (link sides corners)
+      (length corners) → sound ≡ lowestOf 13 count (fault13 sides corners)
   unfolding Whole
   whole-all u count w e sides k t = sym (lowest-none 13 count (fault13 sides corners) (λ j l. w sides k t j (omega arith)))
 

@@ -189,7 +189,8 @@ module _ (corners vertices old table : List ℕ) (c : ℕ) (n : CornersCounted c
   pub valences-step : Column (set table (rowLength * c + valenceHere) (entry vertices countHere (vertexOf corners c))) valenceHere
       (λ d. valence corners (vertexOf corners d)) (c + 1)
   valences-step =
-      column-put table valenceHere c (entry vertices countHere (vertexOf corners c)) (λ d. valence corners (vertexOf corners d)) r (n .count-is (vertexOf corners c)) k
+      column-put table valenceHere c (entry vertices countHere (vertexOf corners c)) (λ d. valence corners (vertexOf corners d)) r
+      (n .count-is (vertexOf corners c)) k
 
   pub valences-kept : (j : ℕ) → j < rowLength → (j ≡ valenceHere → ⊥)
       → Kept old (set table (rowLength * c + valenceHere) (entry vertices countHere (vertexOf corners c))) j

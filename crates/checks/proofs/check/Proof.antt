@@ -8,7 +8,6 @@ use native.Mathlib.Omega.{arith}
 use borrow.Author.Needs.{needs}
 use Rattle.checks.proofs.check.Statement.{statement}
 use Rattle.checks.proofs.check.Tie as tie
-use Rattle.checks.proofs.check_within.Reads as check-within-reads
 
 slice-aggregate-check-within : tie.Need-slice-aggregate-check-within
 slice-aggregate-check-within c = search needs

@@ -1,21 +1,52 @@
 -- Checks 4 to 9 meet their contract: each stops the chain with its fault or is passed.
 -- Assumes nothing.
+use mathlib.Core.Path.{_≡_}
+use lib.ListN.{length}
 use denote.Ref.{now}
-use Rattle.paper.specs.Mesh.{meshOf}
-use Rattle.paper.specs.Faults.{listFaults}
+use Rattle.paper.specs.Mesh.{Mesh, meshOf, vertexCount, faceCount, cornerCount}
+use Rattle.paper.specs.Corners.{sumOf}
+use Rattle.paper.specs.Faults.{sound, single, lowestOf, fault4, fault5, fault6, fault7, fault8, listFaults}
 use Rattle.mesh.proofs.Verdicts.{stop, passed, past, single-sound}
 use Rattle.mesh.proofs.Accepted.{few-vertices, few-faces, few-corners, sums-of}
 use Rattle.checks.proofs.Laws.{rowed, lists-refused}
-use native.Mathlib.Omega.{arith}
 use borrow.Author.Needs.{needs}
 use Rattle.checks.proofs.check_lists.Statement.{statement}
 use Rattle.checks.proofs.check_lists.Tie as tie
-use Rattle.lists.proofs.check_coordinates.Reads as check-coordinates-reads
-use Rattle.lists.proofs.check_faces.Reads as check-faces-reads
-use Rattle.lists.proofs.check_lengths.Reads as check-lengths-reads
-use Rattle.lists.proofs.check_names.Reads as check-names-reads
-use Rattle.lists.proofs.check_sides.Reads as check-sides-reads
-use Rattle.lists.proofs.check_sum.Reads as check-sum-reads
+
+-- the mesh of a call
+abbrev mesh : tie.Start → Mesh
+mesh s = meshOf (now (s .args .coordinates)) (now (s .args .sides)) (now (s .args .corners))
+
+-- after each check: it has passed
+abbrev of4 : tie.After-enum-told → Mesh
+of4 t = mesh (t .before .before .before .before .before .before .before)
+
+four : (t : tie.After-enum-told) → single 4 (fault4 (length (of4 t .coordinates)) (faceCount (of4 t)) (cornerCount (of4 t))) 0 ≡ sound
+four t = passed (t .before .before .check-lengths .result) (t .before .before .check-lengths .ensures) (t .enum-told .given .1)
+
+abbrev of5 : tie.After-enum-told2 → Mesh
+of5 t = of4 (t .before .before .before)
+
+five : (t : tie.After-enum-told2) → lowestOf 5 (faceCount (of5 t)) (fault5 (of5 t .sides)) ≡ sound
+five t = passed (t .before .before .check-sides .result) (t .before .before .check-sides .ensures) (t .enum-told2 .given .1)
+
+abbrev of6 : tie.After-enum-told3 → Mesh
+of6 t = of5 (t .before .before .before)
+
+six : (t : tie.After-enum-told3) → single 6 (fault6 (of6 t .sides) (cornerCount (of6 t))) (sumOf (of6 t .sides)) ≡ sound
+six t = passed (t .before .before .check-sum .result) (t .before .before .check-sum .ensures) (t .enum-told3 .given .1)
+
+abbrev of7 : tie.After-enum-told4 → Mesh
+of7 t = of6 (t .before .before .before)
+
+seven : (t : tie.After-enum-told4) → lowestOf 7 (length (of7 t .coordinates)) (fault7 (of7 t .coordinates)) ≡ sound
+seven t = passed (t .before .before .check-coordinates .result) (t .before .before .check-coordinates .ensures) (t .enum-told4 .given .1)
+
+abbrev of8 : tie.After-enum-told5 → Mesh
+of8 t = of7 (t .before .before .before)
+
+eight : (t : tie.After-enum-told5) → lowestOf 8 (cornerCount (of8 t)) (fault8 (vertexCount (of8 t)) (of8 t .corners)) ≡ sound
+eight t = passed (t .before .before .check-names .result) (t .before .before .check-names .ensures) (t .enum-told5 .given .1)
 
 check-lengths-requires : tie.Need-check-lengths-requires
 check-lengths-requires c κs = search needs
@@ -26,9 +57,10 @@ enum-known-a4 c = search needs
 returns : tie.Need-returns
 unfolding listFaults
 returns c =
-    let s = c .before .before .before .before .before .before .before .before in let M = meshOf (now (s .args .coordinates)) (now (s .args .sides)) (now (s .args .corners)) in
-    let a = c .before .before .before .check-lengths in let r = c .before .a4 .given in
-    lists-refused M _ _ (r .0 .0) (r .0 .1 .0) (stop (a .result) (a .ensures) (r .0 .0) (r .0 .1 .0) (r .1) _)
+    let a = c .before .before .before .check-lengths in
+    let r = c .before .a4 .given in
+    lists-refused (mesh (c .before .before .before .before .before .before .before .before)) _ _ (r .0 .0) (r .0 .1 .0)
+    (stop (a .result) (a .ensures) (r .0 .0) (r .0 .1 .0) (r .1) _)
 
 enum-told : tie.Need-enum-told
 enum-told c = search needs
@@ -42,18 +74,17 @@ enum-known-a5 c = search needs
 returns-2 : tie.Need-returns-2
 unfolding listFaults
 returns-2 c =
-    let s = c .before .before .before .before .before .before .before .before .before .before .before in let M = meshOf (now (s .args .coordinates)) (now (s .args .sides)) (now (s .args .corners)) in
-    let t4 = c .before .before .before .before in let r4 = t4 .before .before .check-lengths in let four = passed (r4 .result) (r4 .ensures) (t4 .enum-told .given .1) in
-    let a = c .before .before .before .check-sides in let r = c .before .a5 .given in
-    lists-refused M _ _ (r .0 .0) (r .0 .1 .0) (past four _ (stop (a .result) (a .ensures) (r .0 .0) (r .0 .1 .0) (r .1) _))
+    let t4 = c .before .before .before .before in
+    let a = c .before .before .before .check-sides in
+    let r = c .before .a5 .given in
+    lists-refused (of4 t4) _ _ (r .0 .0) (r .0 .1 .0)
+    (past (four t4) _ (stop (a .result) (a .ensures) (r .0 .0) (r .0 .1 .0) (r .1) _))
 
 enum-told-2 : tie.Need-enum-told-2
 enum-told-2 c = search needs
 
 check-sum-requires : tie.Need-check-sum-requires
-check-sum-requires c κs =
-    let t4 = c .before .before .before in let r4 = t4 .before .before .check-lengths in let four = passed (r4 .result) (r4 .ensures) (t4 .enum-told .given .1) in
-    few-faces _ _ _ (single-sound 4 _ 0 four)
+check-sum-requires c κs = few-faces _ _ _ (single-sound 4 _ 0 (four (c .before .before .before)))
 
 enum-known-a6 : tie.Need-enum-known-a6
 enum-known-a6 c = search needs
@@ -61,11 +92,12 @@ enum-known-a6 c = search needs
 returns-3 : tie.Need-returns-3
 unfolding listFaults
 returns-3 c =
-    let s = c .before .before .before .before .before .before .before .before .before .before .before .before .before .before in let M = meshOf (now (s .args .coordinates)) (now (s .args .sides)) (now (s .args .corners)) in
-    let t4 = c .before .before .before .before .before .before .before in let r4 = t4 .before .before .check-lengths in let four = passed (r4 .result) (r4 .ensures) (t4 .enum-told .given .1) in
-    let t5 = c .before .before .before .before in let r5 = t5 .before .before .check-sides in let five = passed (r5 .result) (r5 .ensures) (t5 .enum-told2 .given .1) in
-    let a = c .before .before .before .check-sum in let r = c .before .a6 .given in
-    lists-refused M _ _ (r .0 .0) (r .0 .1 .0) (past four _ (past five _ (stop (a .result) (a .ensures) (r .0 .0) (r .0 .1 .0) (r .1) _)))
+    let t5 = c .before .before .before .before in
+    let t4 = t5 .before .before .before in
+    let a = c .before .before .before .check-sum in
+    let r = c .before .a6 .given in
+    lists-refused (of4 t4) _ _ (r .0 .0) (r .0 .1 .0)
+    (past (four t4) _ (past (five t5) _ (stop (a .result) (a .ensures) (r .0 .0) (r .0 .1 .0) (r .1) _)))
 
 enum-told-3 : tie.Need-enum-told-3
 enum-told-3 c = search needs
@@ -79,12 +111,13 @@ enum-known-a7 c = search needs
 returns-4 : tie.Need-returns-4
 unfolding listFaults
 returns-4 c =
-    let s = c .before .before .before .before .before .before .before .before .before .before .before .before .before .before .before .before .before in let M = meshOf (now (s .args .coordinates)) (now (s .args .sides)) (now (s .args .corners)) in
-    let t4 = c .before .before .before .before .before .before .before .before .before .before in let r4 = t4 .before .before .check-lengths in let four = passed (r4 .result) (r4 .ensures) (t4 .enum-told .given .1) in
-    let t5 = c .before .before .before .before .before .before .before in let r5 = t5 .before .before .check-sides in let five = passed (r5 .result) (r5 .ensures) (t5 .enum-told2 .given .1) in
-    let t6 = c .before .before .before .before in let r6 = t6 .before .before .check-sum in let six = passed (r6 .result) (r6 .ensures) (t6 .enum-told3 .given .1) in
-    let a = c .before .before .before .check-coordinates in let r = c .before .a7 .given in
-    lists-refused M _ _ (r .0 .0) (r .0 .1 .0) (past four _ (past five _ (past six _ (stop (a .result) (a .ensures) (r .0 .0) (r .0 .1 .0) (r .1) _))))
+    let t6 = c .before .before .before .before in
+    let t5 = t6 .before .before .before in
+    let t4 = t5 .before .before .before in
+    let a = c .before .before .before .check-coordinates in
+    let r = c .before .a7 .given in
+    lists-refused (of4 t4) _ _ (r .0 .0) (r .0 .1 .0)
+    (past (four t4) _ (past (five t5) _ (past (six t6) _ (stop (a .result) (a .ensures) (r .0 .0) (r .0 .1 .0) (r .1) _))))
 
 enum-told-4 : tie.Need-enum-told-4
 enum-told-4 c = search needs
@@ -98,28 +131,29 @@ enum-known-a8 c = search needs
 returns-5 : tie.Need-returns-5
 unfolding listFaults
 returns-5 c =
-    let s = c .before .before .before .before .before .before .before .before .before .before .before .before .before .before .before .before .before .before .before .before in let M = meshOf (now (s .args .coordinates)) (now (s .args .sides)) (now (s .args .corners)) in
-    let t4 = c .before .before .before .before .before .before .before .before .before .before .before .before .before in let r4 = t4 .before .before .check-lengths in let four = passed (r4 .result) (r4 .ensures) (t4 .enum-told .given .1) in
-    let t5 = c .before .before .before .before .before .before .before .before .before .before in let r5 = t5 .before .before .check-sides in let five = passed (r5 .result) (r5 .ensures) (t5 .enum-told2 .given .1) in
-    let t6 = c .before .before .before .before .before .before .before in let r6 = t6 .before .before .check-sum in let six = passed (r6 .result) (r6 .ensures) (t6 .enum-told3 .given .1) in
-    let t7 = c .before .before .before .before in let r7 = t7 .before .before .check-coordinates in let seven = passed (r7 .result) (r7 .ensures) (t7 .enum-told4 .given .1) in
-    let a = c .before .before .before .check-names in let r = c .before .a8 .given in
-    lists-refused M _ _ (r .0 .0) (r .0 .1 .0) (past four _ (past five _ (past six _ (past seven _ (stop (a .result) (a .ensures) (r .0 .0) (r .0 .1 .0) (r .1) _)))))
+    let t7 = c .before .before .before .before in
+    let t6 = t7 .before .before .before in
+    let t5 = t6 .before .before .before in
+    let t4 = t5 .before .before .before in
+    let a = c .before .before .before .check-names in
+    let r = c .before .a8 .given in
+    lists-refused (of4 t4) _ _ (r .0 .0) (r .0 .1 .0)
+    (past (four t4) _ (past (five t5) _ (past (six t6) _ (past (seven t7) _ (stop (a .result) (a .ensures) (r .0 .0) (r .0 .1 .0) (r .1) _)))))
 
 enum-told-5 : tie.Need-enum-told-5
 enum-told-5 c = search needs
 
 check-faces-requires : tie.Need-check-faces-requires
 check-faces-requires c κs =
-    let s = c .before .before .before .before .before .before .before .before .before .before .before .before .before .before .before .before .before .before .before .before .before in let M = meshOf (now (s .args .coordinates)) (now (s .args .sides)) (now (s .args .corners)) in
-    let t4 = c .before .before .before .before .before .before .before .before .before .before .before .before .before .before in let r4 = t4 .before .before .check-lengths in let four = passed (r4 .result) (r4 .ensures) (t4 .enum-told .given .1) in
-    let t6 = c .before .before .before .before .before .before .before .before in let r6 = t6 .before .before .check-sum in let six = passed (r6 .result) (r6 .ensures) (t6 .enum-told3 .given .1) in
-    let t8 = c .before .before in let r8 = t8 .before .before .check-names in let eight = passed (r8 .result) (r8 .ensures) (t8 .enum-told5 .given .1) in
-    let b = single-sound 4 _ 0 four in
+    let t8 = c .before .before in
+    let t6 = t8 .before .before .before .before .before .before in
+    let t4 = t6 .before .before .before .before .before .before in
+    let s = t4 .before .before .before .before .before .before .before in
+    let b = single-sound 4 _ 0 (four t4) in
     let few = few-vertices _ _ _ b in
     let small = few-corners _ _ _ b in (
-      (sums-of _ _ (single-sound 6 _ _ six), small),
-      (s .pre .corners-fit small, rowed M (now (s .args .vertices)) few (s .pre .vertices-fit) eight, s .pre .blank),
+      (sums-of _ _ (single-sound 6 _ _ (six t6)), small),
+      (s .pre .corners-fit small, rowed (mesh s) (now (s .args .vertices)) few (s .pre .vertices-fit) (eight t8), s .pre .blank),
     )
 
 same-length : tie.Need-same-length
@@ -131,14 +165,14 @@ same-length-2 c = search needs
 returns-6 : tie.Need-returns-6
 unfolding listFaults
 returns-6 c =
-    let t4 = c .before .before .before .before .before .before .before .before .before .before .before .before .before .before .before .before .before .before .before in let r4 = t4 .before .before .check-lengths in let four = passed (r4 .result) (r4 .ensures) (t4 .enum-told .given .1) in
-    let t5 = c .before .before .before .before .before .before .before .before .before .before .before .before .before .before .before .before in let r5 = t5 .before .before .check-sides in let five = passed (r5 .result) (r5 .ensures) (t5 .enum-told2 .given .1) in
-    let t6 = c .before .before .before .before .before .before .before .before .before .before .before .before .before in let r6 = t6 .before .before .check-sum in let six = passed (r6 .result) (r6 .ensures) (t6 .enum-told3 .given .1) in
-    let t7 = c .before .before .before .before .before .before .before .before .before .before in let r7 = t7 .before .before .check-coordinates in let seven = passed (r7 .result) (r7 .ensures) (t7 .enum-told4 .given .1) in
-    let t8 = c .before .before .before .before .before .before .before in let r8 = t8 .before .before .check-names in let eight = passed (r8 .result) (r8 .ensures) (t8 .enum-told5 .given .1) in
+    let t8 = c .before .before .before .before .before .before .before in
+    let t7 = t8 .before .before .before in
+    let t6 = t7 .before .before .before in
+    let t5 = t6 .before .before .before in
+    let t4 = t5 .before .before .before in
     let f = c .before .before .before .before .check-faces in
     record {
-      answers = past four _ (past five _ (past six _ (past seven _ (past eight _ (f .ensures .0)))));
+      answers = past (four t4) _ (past (five t5) _ (past (six t6) _ (past (seven t7) _ (past (eight t8) _ (f .ensures .0)))));
       ready = f .ensures .1;
     }
 

@@ -1,22 +1,74 @@
 -- The shared check meets its contract: after 4 to 9 the columns of the faces are filled, after 10 and 11 the links stand in theirs, and
 -- 12 and 13 complete the verdict and the table. Assumes nothing.
-use mathlib.Core.Path.{ap, _∙_, sym}
+use mathlib.Core.Path.{_≡_, ap, _∙_, sym}
 use Prim.Native.Nat.{_*_, _≤_}
 use lib.ListN.{length}
 use denote.Ref.{now}
-use Rattle.paper.specs.Mesh.{meshOf, cornerCount, vertexCount}
-use Rattle.paper.specs.Faults.{stated}
+use Rattle.paper.specs.Mesh.{Mesh, meshOf, cornerCount, vertexCount}
+use Rattle.paper.specs.Links.{link}
+use Rattle.paper.specs.Faults.{sound, listFaults, stated}
 use Rattle.mesh.proofs.Verdicts.{passed}
-use Rattle.walk.specs.Table.{rowLength}
-use Rattle.checks.proofs.Laws.{listed, fillable, rows, ends, searchable, closed, linking, tabled, stopped-lists, stopped-edges, checked}
+use Rattle.walk.specs.Table.{rowLength, toLink, Column}
+use Rattle.tables.specs.Chain.{Ready}
+use Rattle.edges.specs.Entries.{Ends}
+use Rattle.checks.specs.Checked.{Listed}
+use Rattle.checks.proofs.Laws.{listed, fillable, rows, ends, searchable, edgeFaults, closed, linking, tabled, stopped-lists, stopped-edges, checked}
 use native.Mathlib.Omega.{arith}
 use borrow.Author.Needs.{needs}
 use Rattle.checks.proofs.check_within.Statement.{statement}
 use Rattle.checks.proofs.check_within.Tie as tie
-use Rattle.checks.proofs.check_lists.Reads as check-lists-reads
-use Rattle.edges.proofs.check_edges.Reads as check-edges-reads
-use Rattle.rings.proofs.check_vertices.Reads as check-vertices-reads
-use Rattle.tables.proofs.fill_faces.Reads as fill-faces-reads
+
+-- after checks 4 to 9
+module _ (t : tie.After-enum-told) where
+  abbrev start : tie.Start
+  start = t .before .before .before .before .before .before .before .before .before .before .before .before .before
+
+  abbrev mesh : Mesh
+  mesh = meshOf (now (start .args .coordinates)) (now (start .args .sides)) (now (start .args .corners))
+
+  lists-sound : listFaults mesh ≡ sound
+  lists-sound =
+      let a = t .before .before .before .before .before .before .check-lists in passed {v = listFaults mesh} (a .result) (a .ensures .answers)
+      (t .enum-told .given .1)
+
+  lists : Listed mesh
+  lists = listed mesh lists-sound
+
+  ready : Ready (mesh .corners) (t .before .before .before .before .before .before .check-lists .last .1 .1 .1 .0)
+      (t .before .before .before .before .before .before .check-lists .last .1 .1 .1 .1 .0)
+  ready = t .before .before .before .before .before .before .check-lists .ensures .ready (ap stated (t .enum-told .given .1))
+
+  long-table : rowLength * cornerCount mesh ≤ length (t .before .before .before .before .before .before .check-lists .last .1 .1 .1 .0)
+  long-table = omega (arith, start .pre .corners-fit (lists .small), t .before .before .before .before .before .before .check-lists .kept .1 .1 .1 .0)
+
+  long-vertices : rowLength * vertexCount mesh ≤ length (t .before .before .before .before .before .before .check-lists .last .1 .1 .1 .1 .0)
+  long-vertices = omega (arith, start .pre .vertices-fit (lists .few), t .before .before .before .before .before .before .check-lists .kept .1 .1 .1 .1 .0)
+
+-- after the columns of the faces
+module _ (t : tie.After-fill-faces) where
+  faced : Ends (mesh (t .before .before) .sides) (mesh (t .before .before) .corners) (t .fill-faces .last .1 .0)
+  faced = ends (mesh (t .before .before)) (lists (t .before .before)) _ _ (t .fill-faces .ensures)
+
+-- after checks 10 and 11
+module _ (t : tie.After-enum-told2) where
+  abbrev filled : tie.After-fill-faces
+  filled = t .before .before .before .before .before .before .before .before .before .before .before
+
+  abbrev of : Mesh
+  of = mesh (filled .before .before)
+
+  edges-sound : edgeFaults of ≡ sound
+  edges-sound =
+      let b = t .before .before .before .before .before .before .check-edges in
+      passed {v = edgeFaults of} (b .result) (b .ensures .answers (of .sides) (faced filled)) (t .enum-told2 .given .1)
+
+  links : Column (t .before .before .before .before .before .before .check-edges .last .1 .1 .0) toLink (link (of .sides) (of .corners)) (cornerCount of)
+  links = t .before .before .before .before .before .before .check-edges .ensures .links (of .sides) (faced filled) (ap stated (t .enum-told2 .given .1))
+
+  long-linked : rowLength * cornerCount of ≤ length (t .before .before .before .before .before .before .check-edges .last .1 .1 .0)
+  long-linked =
+      let b = t .before .before .before .before .before .before .check-edges in
+      omega (arith, long-table (filled .before .before), filled .fill-faces .kept .1 .0, b .kept .1 .1 .0)
 
 check-lists-requires : tie.Need-check-lists-requires
 check-lists-requires c κs = search needs
@@ -32,7 +84,9 @@ same-length-2 c = search needs
 
 returns : tie.Need-returns
 returns c =
-    let a = c .before .before .before .before .before .before .before .check-lists in let s = c .before .before .before .before .before .before .before .before .before .before .before .before .before .before in let k = c .before .a .given in
+    let a = c .before .before .before .before .before .before .before .check-lists in
+    let s = c .before .before .before .before .before .before .before .before .before .before .before .before .before .before in
+    let k = c .before .a .given in
     let M = meshOf (now (s .args .coordinates)) (now (s .args .sides)) (now (s .args .corners)) in
     stopped-lists M _ (k .0 .0) (k .0 .1 .0) (sym (ap stated (k .1)) ∙ a .ensures .answers)
 
@@ -40,22 +94,15 @@ enum-told : tie.Need-enum-told
 enum-told c = search needs
 
 fill-faces-requires : tie.Need-fill-faces-requires
-fill-faces-requires c κs =
-    let a = c .before .before .before .before .before .before .before .check-lists in let s = c .before .before .before .before .before .before .before .before .before .before .before .before .before .before in
-    let M = meshOf (now (s .args .coordinates)) (now (s .args .sides)) (now (s .args .corners)) in
-    let e = passed (a .result) (a .ensures .answers) (c .before .enum-told .given .1) in let g = listed M e in
-    fillable M g (a .last .1 .1 .1 .0) (omega (arith, s .pre .corners-fit (g .small), a .kept .1 .1 .1 .0))
+fill-faces-requires c κs = fillable (mesh (c .before)) (lists (c .before)) _ (long-table (c .before))
 
 check-edges-requires : tie.Need-check-edges-requires
 check-edges-requires c κs =
-    let a = c .before .before .before .before .before .before .before .before .before .before .before .before .check-lists in let s = c .before .before .before .before .before .before .before .before .before .before .before .before .before .before .before .before .before .before .before in
-    let M = meshOf (now (s .args .coordinates)) (now (s .args .sides)) (now (s .args .corners)) in
-    let e = passed (a .result) (a .ensures .answers) (c .before .before .before .before .before .before .enum-told .given .1) in let g = listed M e in
-    let f = c .before .before .before .before .fill-faces in
-    let lt : rowLength * cornerCount M ≤ length (f .last .1 .0) = omega (arith, s .pre .corners-fit (g .small), a .kept .1 .1 .1 .0, f .kept .1 .0) in
-    let lv : rowLength * vertexCount M ≤ length (a .last .1 .1 .1 .1 .0) = omega (arith, s .pre .vertices-fit (g .few), a .kept .1 .1 .1 .1 .0) in
-    let r = a .ensures .ready (ap stated (c .before .before .before .before .before .before .enum-told .given .1)) in
-    (searchable M g _ _ (f .ensures) _ lt lv r, ((g .named, lv), (r .leaving-clear, r .arriving-clear)))
+    let f = c .before .before .before .before in
+    let t = f .before .before in (
+      searchable (mesh t) (lists t) _ _ (f .fill-faces .ensures) _ (omega (arith, long-table t, f .fill-faces .kept .1 .0)) (long-vertices t) (ready t),
+      ((lists t .named, long-vertices t), (ready t .leaving-clear, ready t .arriving-clear)),
+    )
 
 enum-known-b : tie.Need-enum-known-b
 enum-known-b c = search needs
@@ -68,28 +115,32 @@ same-length-4 c = search needs
 
 returns-2 : tie.Need-returns-2
 returns-2 c =
-    let a = c .before .before .before .before .before .before .before .before .before .before .before .before .before .before .before .before .before .before .before .before .check-lists in let s = c .before .before .before .before .before .before .before .before .before .before .before .before .before .before .before .before .before .before .before .before .before .before .before .before .before .before .before in
-    let M = meshOf (now (s .args .coordinates)) (now (s .args .sides)) (now (s .args .corners)) in
-    let e = passed (a .result) (a .ensures .answers) (c .before .before .before .before .before .before .before .before .before .before .before .before .before .before .enum-told .given .1) in let g = listed M e in
-    let f = c .before .before .before .before .before .before .before .before .before .before .before .before .fill-faces in let b = c .before .before .before .before .before .before .before .check-edges in let k = c .before .b .given in
-    stopped-edges M _ e (k .0 .0) (k .0 .1 .0) (sym (ap stated (k .1)) ∙ b .ensures .answers (M .sides) (ends M g _ _ (f .ensures)))
+    let f = c .before .before .before .before .before .before .before .before .before .before .before .before in
+    let t = f .before .before in
+    let b = c .before .before .before .before .before .before .before .check-edges in
+    let k = c .before .b .given in
+    stopped-edges (mesh t) _ (lists-sound t) (k .0 .0) (k .0 .1 .0) (sym (ap stated (k .1)) ∙ b .ensures .answers (mesh t .sides) (faced f))
 
 enum-told-2 : tie.Need-enum-told-2
 enum-told-2 c = search needs
 
 check-vertices-requires : tie.Need-check-vertices-requires
 check-vertices-requires c κs =
-    let a = c .before .before .before .before .before .before .before .before .before .before .before .before .before .before .before .before .before .before .before .before .before .check-lists in let s = c .before .before .before .before .before .before .before .before .before .before .before .before .before .before .before .before .before .before .before .before .before .before .before .before .before .before .before .before in
-    let M = meshOf (now (s .args .coordinates)) (now (s .args .sides)) (now (s .args .corners)) in
-    let e = passed (a .result) (a .ensures .answers) (c .before .before .before .before .before .before .before .before .before .before .before .before .before .before .before .enum-told .given .1) in let g = listed M e in
-    let f = c .before .before .before .before .before .before .before .before .before .before .before .before .before .fill-faces in let b = c .before .before .before .before .before .before .before .before .check-edges in let w = c .before .before .enum-told2 .given .1 in
-    let n = ends M g _ _ (f .ensures) in
-    let ok = passed (b .result) (b .ensures .answers (M .sides) n) w in
-    let lt : rowLength * cornerCount M ≤ length (b .last .1 .1 .0) = omega (arith, s .pre .corners-fit (g .small), a .kept .1 .1 .1 .0, f .kept .1 .0, b .kept .1 .1 .0) in
-    let lv : rowLength * vertexCount M ≤ length (b .last .1 .1 .1 .0) = omega (arith, s .pre .vertices-fit (g .few), a .kept .1 .1 .1 .1 .0, b .kept .1 .1 .1 .0) in
-    let r = a .ensures .ready (ap stated (c .before .before .before .before .before .before .before .before .before .before .before .before .before .before .before .enum-told .given .1)) in (
-      (record { small = g .small; rowed = rows M g (b .last .1 .1 .1 .0) lv; clear = λ u. b .ensures .counts u ∙ r .count-clear u }, g .few, lv),
-      linking M _ (closed M g ok) lt (b .ensures .links (M .sides) n (ap stated w)),
+    let u = c .before .before in
+    let t = filled u .before .before in
+    let b = u .before .before .before .before .before .before .check-edges in
+    let g = lists t in
+    let lv : rowLength * vertexCount (mesh t) ≤ length (b .last .1 .1 .1 .0) = omega (arith, long-vertices t, b .kept .1 .1 .1 .0) in (
+      (
+        record {
+          small = g .small;
+          rowed = rows (mesh t) g (b .last .1 .1 .1 .0) lv;
+          clear = λ v. b .ensures .counts v ∙ ready t .count-clear v;
+        },
+        g .few,
+        lv,
+      ),
+      linking (mesh t) _ (closed (mesh t) g (edges-sound u)) (long-linked u) (links u),
     )
 
 same-length-5 : tie.Need-same-length-5
@@ -100,17 +151,15 @@ same-length-6 c = search needs
 
 returns-3 : tie.Need-returns-3
 returns-3 c =
-    let a = c .before .before .before .before .before .before .before .before .before .before .before .before .before .before .before .before .before .before .before .before .before .before .before .before .before .before .check-lists in let s = c .before .before .before .before .before .before .before .before .before .before .before .before .before .before .before .before .before .before .before .before .before .before .before .before .before .before .before .before .before .before .before .before .before in
-    let M = meshOf (now (s .args .coordinates)) (now (s .args .sides)) (now (s .args .corners)) in
-    let e = passed (a .result) (a .ensures .answers) (c .before .before .before .before .before .before .before .before .before .before .before .before .before .before .before .before .before .before .before .before .enum-told .given .1) in let g = listed M e in
-    let f = c .before .before .before .before .before .before .before .before .before .before .before .before .before .before .before .before .before .before .fill-faces in let b = c .before .before .before .before .before .before .before .before .before .before .before .before .before .check-edges in let v = c .before .before .before .before .check-vertices in let w = c .before .before .before .before .before .before .before .enum-told2 .given .1 in
-    let n = ends M g _ _ (f .ensures) in
-    let ok = passed (b .result) (b .ensures .answers (M .sides) n) w in
-    let t = b .ensures .links (M .sides) n (ap stated w) in
-    let l : rowLength * cornerCount M ≤ length (v .last .1 .1 .0) =
-    omega (arith, s .pre .corners-fit (g .small), a .kept .1 .1 .1 .0, f .kept .1 .0, b .kept .1 .1 .0, v .kept .1 .1 .0) in
-    checked M _ e (v .result) ok (v .ensures .answers (M .sides) (closed M g ok) t)
-    (λ z. tabled M g _ _ _ _ l (f .ensures) (b .ensures .columns) t (v .ensures .filled z))
+    let u = c .before .before .before .before .before .before .before in
+    let f = filled u in
+    let t = f .before .before in
+    let b = u .before .before .before .before .before .before .check-edges in
+    let v = c .before .before .before .before .check-vertices in
+    let g = lists t in
+    checked (mesh t) _ (lists-sound t) (v .result) (edges-sound u) (v .ensures .answers (mesh t .sides) (closed (mesh t) g (edges-sound u)) (links u))
+    (λ z. tabled (mesh t) g _ _ _ _ (omega (arith, long-linked u, v .kept .1 .1 .0))
+    (f .fill-faces .ensures) (b .ensures .columns) (links u) (v .ensures .filled z))
 
 pub check-within-spec : {M : Type 1} → statement M
 check-within-spec =

@@ -8,9 +8,6 @@ use native.Mathlib.Omega.{arith}
 use borrow.Author.Needs.{needs}
 use Rattle.edges.proofs.check_edges.Statement.{statement}
 use Rattle.edges.proofs.check_edges.Tie as tie
-use Rattle.edges.proofs.check_repeats.Reads as check-repeats-reads
-use Rattle.edges.proofs.check_reverses.Reads as check-reverses-reads
-use Rattle.edges.proofs.fill_links.Reads as fill-links-reads
 
 fill-links-requires : tie.Need-fill-links-requires
 fill-links-requires c κs = search needs
@@ -51,7 +48,8 @@ returns-2 c =
     let s = c .before .before .before .before .before .before .before .before .before .before .before .before .before .before .before .before in
     let f = c .before .before .before .before .before .before .before .before .before .before .fill-links in
     let a = c .before .before .before .before .check-repeats in let q = c .before .before .enum-told .given .1 in
-    edges-checked _ _ _ _ _ (s .pre .0 .small) (f .ensures) (c .check-reverses .result) (λ sides t. sym (ap stated q) ∙ a .ensures sides t) (c .check-reverses .ensures)
+    edges-checked _ _ _ _ _ (s .pre .0 .small) (f .ensures) (c .check-reverses .result) (λ sides t. sym (ap stated q) ∙ a .ensures sides t)
+    (c .check-reverses .ensures)
 
 pub check-edges-spec : {M : Type 1} → statement M
 check-edges-spec =

@@ -13,7 +13,6 @@ use native.Mathlib.Omega.{arith}
 use borrow.Author.Needs.{needs}
 use Rattle.edges.proofs.collect.Statement.{statement}
 use Rattle.edges.proofs.collect.Tie as tie
-use Rattle.edges.proofs.entry.Reads as entry-reads
 
 abbrev Inv-loop : tie.InvT-loop
 Inv-loop corners vertices u table₀ at₀ table at = On corners u at × (length table ≡ length table₀) × CollectedFrom corners table₀ table u at
@@ -89,13 +88,17 @@ mul-at-4 c =
 
 slice-read-at : tie.Need-slice-read-at Inv-loop μ-loop
 slice-read-at c =
-    let l = c .before .before .before .before .loop in let s = c .before .before .before .before .before .before .before .before .before in let k = s .pre .0 .0 in
+    let l = c .before .before .before .before .loop in
+    let s = c .before .before .before .before .before .before .before .before .before in
+    let k = s .pre .0 .0 in
     let n : l .at ≡ 0 → ⊥ = search needs in
     simp length-set (omega (arith, n, l .inv .0 .inside, l .inv .1, k .long))
 
 loop-less : tie.Need-loop-less Inv-loop μ-loop
 loop-less c =
-    let l = c .before .before .before .before .loop in let s = c .before .before .before .before .before .before .before .before .before in let k = s .pre .0 .0 in
+    let l = c .before .before .before .before .loop in
+    let s = c .before .before .before .before .before .before .before .before .before in
+    let k = s .pre .0 .0 in
     let cs = now (s .args .corners) in let ts = now (s .args .table) in let last = entry (now (s .args .vertices)) lastHere in
     let n : l .at ≡ 0 → ⊥ = search needs in
     let x = c .before .entry in
@@ -106,7 +109,9 @@ loop-less c =
 
 loop-again : tie.Need-loop-again Inv-loop μ-loop
 loop-again c =
-    let l = c .before .before .before .before .loop in let s = c .before .before .before .before .before .before .before .before .before in let k = s .pre .0 .0 in
+    let l = c .before .before .before .before .loop in
+    let s = c .before .before .before .before .before .before .before .before .before in
+    let k = s .pre .0 .0 in
     let cs = now (s .args .corners) in let ts = now (s .args .table) in let last = entry (now (s .args .vertices)) lastHere in
     let n : l .at ≡ 0 → ⊥ = search needs in
     let x = c .before .entry in

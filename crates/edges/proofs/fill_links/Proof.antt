@@ -12,8 +12,6 @@ use native.Mathlib.Omega.{arith}
 use borrow.Author.Needs.{needs}
 use Rattle.edges.proofs.fill_links.Statement.{statement}
 use Rattle.edges.proofs.fill_links.Tie as tie
-use Rattle.edges.proofs.collect.Reads as collect-reads
-use Rattle.edges.proofs.mark.Reads as mark-reads
 
 abbrev Inv-loop : tie.InvT-loop
 Inv-loop corners count table₀ vertices₀ u₀ table vertices u =
@@ -35,9 +33,12 @@ mark-requires c κs =
 
 collect-requires : tie.Need-collect-requires Inv-loop μ-loop
 collect-requires c κs =
-    let m = c .before .before .before .before .mark in let l = c .before .before .before .before .before .before .before .before .loop in let s = c .before .before .before .before .before .before .before .before .before .before .before .before in
+    let m = c .before .before .before .before .mark in
+    let l = c .before .before .before .before .before .before .before .before .loop in
+    let s = c .before .before .before .before .before .before .before .before .before .before .before .before in
     let k = searchable-on _ (l .table) (l .table) (λ j a n d. refl) (l .vertices) _ refl (m .kept .1 .1 .1 .0) (m .ensures .1 .lasts) (l .inv .3) in
-    ((k, omega (arith, s .pre .1 .0 .1, l .inv .2, m .kept .1 .1 .1 .0, c .before .before .before .before .before .before .before .loop-test .taken)), m .ensures .0)
+    let h = c .before .before .before .before .before .before .before .loop-test .taken in
+    ((k, omega (arith, s .pre .1 .0 .1, l .inv .2, m .kept .1 .1 .1 .0)), m .ensures .0)
 
 add-u : tie.Need-add-u Inv-loop μ-loop
 add-u c = search needs
@@ -47,7 +48,10 @@ loop-less c = search needs
 
 loop-again : tie.Need-loop-again Inv-loop μ-loop
 loop-again c =
-    let k = c .before .before .collect in let m = c .before .before .before .before .before .before .before .mark in let l = c .before .before .before .before .before .before .before .before .before .before .before .loop in let s = c .before .before .before .before .before .before .before .before .before .before .before .before .before .before .before in
+    let k = c .before .before .collect in
+    let m = c .before .before .before .before .before .before .before .mark in
+    let l = c .before .before .before .before .before .before .before .before .before .before .before .loop in
+    let s = c .before .before .before .before .before .before .before .before .before .before .before .before .before .before .before in
     let e = k .ensures .columns in (
       search needs,
       k .kept .1 .1 .1 .0 ∙ l .inv .1,

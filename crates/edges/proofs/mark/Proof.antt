@@ -179,19 +179,26 @@ mul-at-4 c = let t = c .before .before .before .before .before in omega (arith, 
 
 shared-slice-read-at : tie.Need-shared-slice-read-at Inv-loop μ-loop
 shared-slice-read-at c =
-    let l = c .before .before .before .before .before .before .loop in let s = c .before .before .before .before .before .before .before .before in let k = s .pre .0 .0 in
+    let l = c .before .before .before .before .before .before .loop in
+    let s = c .before .before .before .before .before .before .before .before in
+    let k = s .pre .0 .0 in
     let n : l .at ≡ 0 → ⊥ = search needs in
     omega (arith, n, l .inv .0 .inside, k .long)
 
 loop-less : tie.Need-loop-less Inv-loop μ-loop
 loop-less c =
-    let l = c .before .before .before .before .before .before .loop in let s = c .before .before .before .before .before .before .before .before in let k = s .pre .0 .0 in
+    let l = c .before .before .before .before .before .before .loop in
+    let s = c .before .before .before .before .before .before .before .before in
+    let k = s .pre .0 .0 in
     let n : l .at ≡ 0 → ⊥ = search needs in
-    on-falls (now (s .args .corners)) (entry (now (s .args .table)) valenceHere) (entry (now (s .args .vertices)) lastHere) (k .chained) (s .args .u) (l .at) (l .inv .0) n
+    on-falls (now (s .args .corners)) (entry (now (s .args .table)) valenceHere) (entry (now (s .args .vertices)) lastHere) (k .chained) (s .args .u) (l .at)
+    (l .inv .0) n
 
 loop-again : tie.Need-loop-again Inv-loop μ-loop
 loop-again c =
-    let l = c .before .before .before .before .before .before .loop in let s = c .before .before .before .before .before .before .before .before in let k = s .pre .0 .0 in
+    let l = c .before .before .before .before .before .before .loop in
+    let s = c .before .before .before .before .before .before .before .before in
+    let k = s .pre .0 .0 in
     let cs = now (s .args .corners) in let ts = now (s .args .table) in let last = entry (now (s .args .vertices)) lastHere in
     let n : l .at ≡ 0 → ⊥ = search needs in
     let h : l .at - 1 < length cs = omega (arith, n, l .inv .0 .inside) in

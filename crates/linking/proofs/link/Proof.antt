@@ -8,7 +8,6 @@ use native.Mathlib.Omega.{arith}
 use borrow.Author.Needs.{needs}
 use Rattle.linking.proofs.link.Statement.{statement}
 use Rattle.linking.proofs.link.Tie as tie
-use Rattle.linking.proofs.link_over.Reads as link-over-reads
 
 slice-aggregate-link-over : tie.Need-slice-aggregate-link-over
 slice-aggregate-link-over c = search needs

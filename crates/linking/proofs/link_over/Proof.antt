@@ -16,9 +16,6 @@ use native.Mathlib.Omega.{arith}
 use borrow.Author.Needs.{needs}
 use Rattle.linking.proofs.link_over.Statement.{statement}
 use Rattle.linking.proofs.link_over.Tie as tie
-use Rattle.checks.proofs.check_within.Reads as check-within-reads
-use Rattle.linking.proofs.copy.Reads as copy-reads
-use Rattle.requests.proofs.check_length.Reads as check-length-reads
 
 -- after checks 4 to 13
 module _ (t : tie.After-enum-told) where
@@ -29,7 +26,9 @@ module _ (t : tie.After-enum-told) where
   mesh = meshOf (now (start .args .coordinates)) (now (start .args .sides)) (now (start .args .corners))
 
   accepted : verdict mesh ≡ sound
-  accepted = let a = t .before .before .before .before .before .before .check-within in passed (a .result) (a .ensures .answers) (t .enum-told .given .1)
+  accepted =
+      let a = t .before .before .before .before .before .before .check-within in passed {v = verdict mesh} (a .result) (a .ensures .answers)
+      (t .enum-told .given .1)
 
 -- after check 14
 module _ (t : tie.After-enum-told2) where
@@ -51,7 +50,9 @@ same-length-2 c = search needs
 
 returns : tie.Need-returns
 returns c =
-    let a = c .before .before .before .before .before .before .before .check-within in let s = c .before .before .before .before .before .before .before .before .before .before .before .before .before .before .before in let k = c .before .a .given in
+    let a = c .before .before .before .before .before .before .before .check-within in
+    let s = c .before .before .before .before .before .before .before .before .before .before .before .before .before .before .before in
+    let k = c .before .a .given in
     let M = meshOf (now (s .args .coordinates)) (now (s .args .sides)) (now (s .args .corners)) in
     link-refused M (now (s .args .links)) (k .0 .0) (k .0 .1 .0) (sym (ap stated (k .1)) ∙ a .ensures .answers)
 
@@ -97,7 +98,9 @@ same-length-7 c = search needs
 
 returns-3 : tie.Need-returns-3
 returns-3 c =
-    let t14 = c .before .before .before .before .before in let t = t14 .before .before .before in let a = t .before .before .before .before .before .before .check-within in
+    let t14 = c .before .before .before .before .before in
+    let t = t14 .before .before .before in
+    let a = t .before .before .before .before .before .before .check-within in
     let k = c .before .before .copy in
     link-done (mesh t) (now (start t .args .links)) (accepted t) _ _ (fourteen t14) (k .kept .1 .0) (a .ensures .tabled (accepted t)) (k .ensures)
 

@@ -36,7 +36,8 @@ returns : tie.Need-returns Inv-loop μ-loop
 unfolding fault8
 returns c = let s = c .before .before .before .before in let l = c .before .before .before .loop in
     let xs = now (s .args .corners) in
-    sym (lowest-hit 8 (length xs) (fault8 (s .args .vertices) xs) (l .c) (search needs) (le-leb (s .args .vertices) (getD xs (l .c) 0) (c .if1 .taken)) (l .inv .1))
+    sym (lowest-hit 8 (length xs) (fault8 (s .args .vertices) xs) (l .c) (search needs) (le-leb (s .args .vertices) (getD xs (l .c) 0) (c .if1 .taken))
+    (l .inv .1))
 
 add-c : tie.Need-add-c Inv-loop μ-loop
 add-c c = search needs

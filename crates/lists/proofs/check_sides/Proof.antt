@@ -37,7 +37,8 @@ unfolding fault5
 returns c = let s = c .before .before .before .before in let l = c .before .before .before .loop in
     let xs = now (s .args .sides) in
     sym (lowest-hit 5 (length xs) (fault5 xs) (l .f) (search needs)
-    (⊎-elim (λ w. outside-low leastSides mostSides (getD xs (l .f) 0) (w .taken)) (λ w. outside-high leastSides mostSides (getD xs (l .f) 0) (ltb-true _ _ (w .1 .taken))) (c .if1 .came))
+    (⊎-elim (λ w. outside-low leastSides mostSides (getD xs (l .f) 0) (w .taken))
+    (λ w. outside-high leastSides mostSides (getD xs (l .f) 0) (ltb-true _ _ (w .1 .taken))) (c .if1 .came))
     (l .inv .1))
 
 add-f : tie.Need-add-f Inv-loop μ-loop
@@ -49,8 +50,11 @@ loop-less c = search needs
 loop-again : tie.Need-loop-again Inv-loop μ-loop
 unfolding fault5
 loop-again c = let s = c .before .before .before .before .before in let l = c .before .before .before .before .loop in
-    let xs = now (s .args .sides) in
-    (search needs, fails-step (fault5 xs) (l .f) (l .inv .1) (inside leastSides mostSides (getD xs (l .f) 0) (c .before .if1 .left) (ltb-false _ _ (c .if2 .left))))
+    let xs = now (s .args .sides) in (
+      search needs,
+      fails-step (fault5 xs) (l .f) (l .inv .1) (inside leastSides mostSides (getD xs (l .f) 0) (c .before .if1 .left)
+          (ltb-false _ _ (c .if2 .left))),
+    )
 
 returns-2 : tie.Need-returns-2 Inv-loop μ-loop
 returns-2 c = let l = c .before .loop in sym (lowest-none 5 _ (fault5 (now (c .before .before .args .sides))) (λ j h. l .inv .1 j (omega arith)))

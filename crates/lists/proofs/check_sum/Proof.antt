@@ -37,8 +37,12 @@ loop-less : tie.Need-loop-less Inv-loop μ-loop
 loop-less c = search needs
 
 loop-again : tie.Need-loop-again Inv-loop μ-loop
-loop-again c = let s = c .before .before .before in let l = c .before .before .loop in
-    (search needs, omega (arith, start-next (now (s .args .sides)) (l .f) (search needs), l .inv .1), omega (arith, c .shared-slice-known .given (l .f), l .inv .2))
+loop-again c = let s = c .before .before .before in let l = c .before .before .loop in (
+  search needs,
+  omega (arith, start-next (now (s .args .sides)) (l .f) (search needs), l .inv .1),
+  omega
+      (arith, c .shared-slice-known .given (l .f), l .inv .2),
+)
 
 returns : tie.Need-returns Inv-loop μ-loop
 returns c = let s = c .before .before .before in let l = c .before .before .loop in

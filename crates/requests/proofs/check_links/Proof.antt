@@ -47,7 +47,8 @@ returns c =
     let s = c .before .before .before .before .before in
     let l = c .before .before .before .before .loop in
     λ M e t. let h : l .c < cornerCount M = omega arith in
-    sym (lowest-hit 15 (cornerCount M) (fault15 M (now (s .args .links))) (l .c) h (links-differ M (now (s .args .table)) (now (s .args .links)) t (l .c) h (c .if1 .taken))
+    sym (lowest-hit 15 (cornerCount M) (fault15 M (now (s .args .links))) (l .c) h
+    (links-differ M (now (s .args .table)) (now (s .args .links)) t (l .c) h (c .if1 .taken))
     (λ j k. links-agree M (now (s .args .table)) (now (s .args .links)) t j (omega arith) (l .inv .1 j k)))
 
 add-c : tie.Need-add-c Inv-loop μ-loop

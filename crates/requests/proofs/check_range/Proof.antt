@@ -12,7 +12,8 @@ use Rattle.requests.proofs.check_range.Tie as tie
 returns : tie.Need-returns
 returns c =
     let s = c .before .args in
-    sym (single-hit 16 _ (⊎-elim (λ w. range-empty (s .corners) (s .first) (s .count) (w .taken)) (λ w. range-past (s .corners) (s .first) (s .count) (omega (arith, ltb-true))) (c .if1 .came)))
+    sym (single-hit 16 _ (⊎-elim (λ w. range-empty (s .corners) (s .first) (s .count) (w .taken))
+    (λ w. range-past (s .corners) (s .first) (s .count) (omega (arith, ltb-true))) (c .if1 .came)))
 
 add-if4 : tie.Need-add-if4
 add-if4 c = omega (arith, ltb-false)
@@ -20,7 +21,8 @@ add-if4 c = omega (arith, ltb-false)
 returns-2 : tie.Need-returns-2
 returns-2 c =
     let s = c .before .before .before .args in
-    sym (single-hit 16 _ (⊎-elim (λ w. range-past (s .corners) (s .first) (s .count) (omega (arith, ltb-true))) (λ w. range-past (s .corners) (s .first) (s .count) (omega (arith, ltb-true))) (c .if3 .came)))
+    sym (single-hit 16 _ (⊎-elim (λ w. range-past (s .corners) (s .first) (s .count) (omega (arith, ltb-true)))
+    (λ w. range-past (s .corners) (s .first) (s .count) (omega (arith, ltb-true))) (c .if3 .came)))
 
 returns-3 : tie.Need-returns-3
 returns-3 c =

@@ -24,7 +24,8 @@ module _ (t : tie.After-enum-told) where
   abbrev s14 : tie.Start
   s14 = t .before .before .before .before .before
 
-  past-14 : (M : Mesh) → cornerCount M ≡ s14 .args .corners → single 14 (not (eqb (length (now (s14 .args .links))) (cornerCount M))) (length (now (s14 .args .links))) ≡ sound
+  past-14 : (M : Mesh) → cornerCount M ≡ s14 .args .corners → single 14 (not (eqb (length (now (s14 .args .links))) (cornerCount M)))
+      (length (now (s14 .args .links))) ≡ sound
   past-14 M e =
       passed (t .before .before .check-length .result)
       (as-14 M (s14 .args .corners) e (length (now (s14 .args .links))) (t .before .before .check-length .ensures))
@@ -38,8 +39,11 @@ module _ (t : tie.After-enum-told2) where
   abbrev s15 : tie.Start
   s15 = t .before .before .before .before .before .before .before .before
 
-  past-15 : (M : Mesh) → cornerCount M ≡ s15 .args .corners → Column (now (s15 .args .table)) toLink (link (M .sides) (M .corners)) (cornerCount M) → lowestOf 15 (cornerCount M) (fault15 M (now (s15 .args .links))) ≡ sound
-  past-15 M e l = passed (t .before .before .check-links .result) (t .before .before .check-links .ensures M (e ∙ sym (same-length (t .before .before .before))) l) (t .enum-told2 .given .1)
+  past-15 : (M : Mesh) → cornerCount M ≡ s15 .args .corners → Column (now (s15 .args .table)) toLink (link (M .sides) (M .corners)) (cornerCount M)
+      → lowestOf 15 (cornerCount M) (fault15 M (now (s15 .args .links))) ≡ sound
+  past-15 M e l =
+      passed (t .before .before .check-links .result) (t .before .before .check-links .ensures M (e ∙ sym (same-length (t .before .before .before))) l)
+      (t .enum-told2 .given .1)
 
 -- after check 16
 module _ (t : tie.After-enum-told3) where
@@ -63,7 +67,11 @@ enum-known-a14 c = search needs
 
 returns : tie.Need-returns
 unfolding requestFaults
-returns c = λ M e t. stop (c .before .before .before .check-length .result) (as-14 M (c .before .before .before .before .before .before .args .corners) e (length (now (c .before .before .before .before .before .before .args .links))) (c .before .before .before .check-length .ensures)) (c .before .a14 .given .0 .0) (c .before .a14 .given .0 .1 .0) (c .before .a14 .given .1) _
+returns c =
+    λ M e t. stop (c .before .before .before .check-length .result)
+    (as-14 M (c .before .before .before .before .before .before .args .corners) e
+    (length (now (c .before .before .before .before .before .before .args .links))) (c .before .before .before .check-length .ensures))
+    (c .before .a14 .given .0 .0) (c .before .a14 .given .0 .1 .0) (c .before .a14 .given .1) _
 
 enum-told : tie.Need-enum-told
 enum-told c = search needs
@@ -79,7 +87,9 @@ returns-2 : tie.Need-returns-2
 unfolding requestFaults
 returns-2 c =
     let t14 = c .before .before .before .before in
-    λ M e t. past (past-14 t14 M e) _ (stop (c .before .before .before .check-links .result) (c .before .before .before .check-links .ensures M (e ∙ sym (same-length t14)) t) (c .before .a15 .given .0 .0) (c .before .a15 .given .0 .1 .0) (c .before .a15 .given .1) _)
+    λ M e t. past (past-14 t14 M e) _ (stop (c .before .before .before .check-links .result)
+    (c .before .before .before .check-links .ensures M (e ∙ sym (same-length t14)) t) (c .before .a15 .given .0 .0) (c .before .a15 .given .0 .1 .0)
+    (c .before .a15 .given .1) _)
 
 enum-told-2 : tie.Need-enum-told-2
 enum-told-2 c = search needs
@@ -94,7 +104,12 @@ returns-3 : tie.Need-returns-3
 unfolding requestFaults
 returns-3 c =
     let t15 = c .before .before .before .before in
-    λ M e t. past (past-14 (t15 .before .before .before) M e) _ (past (past-15 t15 M e t) _ (stop (c .before .before .before .check-range .result) (as-16 M (c .before .before .before .before .before .before .before .before .before .before .before .before .args .corners) e (c .before .before .before .before .before .before .before .before .before .before .before .before .args .first) (c .before .before .before .before .before .before .before .before .before .before .before .before .args .count) (c .before .before .before .check-range .ensures)) (c .before .a16 .given .0 .0) (c .before .a16 .given .0 .1 .0) (c .before .a16 .given .1) _))
+    λ M e t. past (past-14 (t15 .before .before .before) M e) _
+    (past (past-15 t15 M e t) _ (stop (c .before .before .before .check-range .result)
+    (as-16 M (c .before .before .before .before .before .before .before .before .before .before .before .before .args .corners) e
+    (c .before .before .before .before .before .before .before .before .before .before .before .before .args .first)
+    (c .before .before .before .before .before .before .before .before .before .before .before .before .args .count)
+    (c .before .before .before .check-range .ensures)) (c .before .a16 .given .0 .0) (c .before .a16 .given .0 .1 .0) (c .before .a16 .given .1) _))
 
 enum-told-3 : tie.Need-enum-told-3
 enum-told-3 c = search needs

@@ -9,7 +9,6 @@ use native.Mathlib.Omega.{arith}
 use borrow.Author.Needs.{needs}
 use Rattle.rings.proofs.check_rings.Statement.{statement}
 use Rattle.rings.proofs.check_rings.Tie as tie
-use Rattle.rings.proofs.ring.Reads as ring-reads
 
 abbrev Inv-loop : tie.InvT-loop
 Inv-loop corners table vertices count u₀ u = (u ≤ count) × Whole corners table u

@@ -8,7 +8,6 @@ use native.Mathlib.Omega.{arith}
 use borrow.Author.Needs.{needs}
 use Rattle.rings.proofs.ring.Statement.{statement}
 use Rattle.rings.proofs.ring.Tie as tie
-use Rattle.walk.proofs.Walker.linked.Reads as linked-reads
 
 abbrev Inv-loop : tie.InvT-loop
 Inv-loop table count start bound left₀ len₀ w₀ left len w = Around (entry table toLink) count start bound left len (w .corner)

@@ -31,7 +31,13 @@ cast-n c = omega (arith, c .shared-slice-known .given (c .before .args .f))
 
 add-end : tie.Need-add-end Inv-loop μ-loop
 add-end c =
-    omega (arith, c .shared-slice-known .given (c .before .args .f), start-ends (now (c .before .args .sides)) (c .before .args .f) (c .before .pre .1 .0 .0), c .before .pre .0 .few)
+    omega (
+      arith,
+      c .shared-slice-known .given (c .before .args .f),
+      start-ends (now (c .before .args .sides)) (c .before .args .f)
+          (c .before .pre .1 .0 .0),
+      c .before .pre .0 .few,
+    )
 
 sub-last : tie.Need-sub-last Inv-loop μ-loop
 sub-last c = omega (arith, c .before .pre .0 .least (c .before .args .f) (c .before .pre .1 .0 .0))
@@ -134,7 +140,8 @@ returns : tie.Need-returns Inv-loop μ-loop
 returns c =
     let s = c .before .before .before in
     let l = c .before .loop in
-    let q : l .c ≡ startOf (now (s .args .sides)) (s .args .f + 1) = omega (arith, start-next (now (s .args .sides)) (s .args .f) (s .pre .1 .0 .0), s .pre .1 .0 .1) in
+    let q : l .c ≡ startOf (now (s .args .sides)) (s .args .f + 1) = omega
+    (arith, start-next (now (s .args .sides)) (s .args .f) (s .pre .1 .0 .0), s .pre .1 .0 .1) in
     (subst (FacesTo (now (s .args .sides)) (l .table)) q (l .inv .7), l .inv .8)
 
 pub fill-face-spec : {M : Type 1} → statement M

@@ -13,7 +13,6 @@ use native.Mathlib.Omega.{arith}
 use borrow.Author.Needs.{needs}
 use Rattle.tables.proofs.fill_faces.Statement.{statement}
 use Rattle.tables.proofs.fill_faces.Tie as tie
-use Rattle.tables.proofs.fill_face.Reads as fill-face-reads
 
 abbrev Inv-loop : tie.InvT-loop
 Inv-loop sides table₀ start₀ f₀ table start f =

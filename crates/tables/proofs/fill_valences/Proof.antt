@@ -14,7 +14,8 @@ use Rattle.tables.proofs.fill_valences.Tie as tie
 
 abbrev Inv-loop : tie.InvT-loop
 Inv-loop corners vertices table₀ c₀ table c =
-    (c ≤ length corners) × (length table ≡ length table₀) × Column table valenceHere (λ d. valence corners (vertexOf corners d)) c × KeptBut valenceHere table₀ table
+    (c ≤ length corners) × (length table ≡ length table₀) × Column table valenceHere (λ d. valence corners (vertexOf corners d)) c
+    × KeptBut valenceHere table₀ table
 
 abbrev μ-loop : tie.MeasureT-loop
 μ-loop corners vertices table₀ c₀ table c = length corners - c
