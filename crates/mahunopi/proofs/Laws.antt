@@ -31,25 +31,20 @@ module _ (v : Verdict) (r : Answer) (before : ℕ) (e : stated r ≡ v) where
   pub states-done : r ≡ Done → States v before 0 before
   states-done d = subst (λ (w : Verdict). States w before 0 before) (sym (ap stated d) ∙ e) (record { number = refl; place = refl })
 
-  pub states-refused : (n p : ℕ) → r ≡ Refused n p → States v before n p
-  states-refused n p d = subst (λ (w : Verdict). States w before n p) (sym (ap stated d) ∙ e) (record { number = refl; place = refl })
+-- what is told of an answer, where the call states that answer
+pub told : (v : Verdict) (r : Answer) (before n after : ℕ) → stated r ≡ v → States (stated r) before n after → States v before n after
+told v r before n after e s = subst (λ (w : Verdict). States w before n after) e s
 
-module _ (M : Mesh) (old : List ℕ) (r : Answer) (links : List ℕ) (before : ℕ) (l : Linked M old r links) where
-  pub link-done : r ≡ Done → LinkCall M old before 0 before links
-  link-done d = record { answers = states-done _ r before (l .answers) d; holds = l .holds }
+pub link-call : (M : Mesh) (old : List ℕ) (r : Answer) (links : List ℕ) (before n after : ℕ) → Linked M old r links
+    → States (stated r) before n after → LinkCall M old before n after links
+link-call M old r links before n after l s = record { answers = told _ r before n after (l .answers) s; holds = l .holds }
 
-  pub link-refused : (n p : ℕ) → r ≡ Refused n p → LinkCall M old before n p links
-  link-refused n p d = record { answers = states-refused _ r before (l .answers) n p d; holds = l .holds }
-
-module _ (M : Mesh) (links : List ℕ) (first count : ℕ) (old : List ℤ) (r : Answer) (out : List ℤ) (before : ℕ) (b : Built M links first count old r out) where
-  written : out ≡ kept (buildVerdict M links first count (length old)) (nets M first count) old
-  written = subst (λ (v : Verdict). out ≡ kept v (nets M first count) old) (b .answers) (b .holds)
-
-  pub build-done : r ≡ Done → BuildCall M links first count old before 0 before out
-  build-done d = record { answers = states-done _ r before (b .answers) d; holds = written }
-
-  pub build-refused : (n p : ℕ) → r ≡ Refused n p → BuildCall M links first count old before n p out
-  build-refused n p d = record { answers = states-refused _ r before (b .answers) n p d; holds = written }
+pub build-call : (M : Mesh) (links : List ℕ) (first count : ℕ) (old : List ℤ) (r : Answer) (out : List ℤ) (before n after : ℕ)
+    → Built M links first count old r out → States (stated r) before n after → BuildCall M links first count old before n after out
+build-call M links first count old r out before n after b s = record {
+  answers = told _ r before n after (b .answers) s;
+  holds = subst (λ (v : Verdict). out ≡ kept v (nets M first count) old) (b .answers) (b .holds);
+}
 
 -- ---- decoding
 kept-new : {A : Type 0} (v : Verdict) (new old x : A) → v ≡ sound → x ≡ new → x ≡ kept v new old
@@ -84,16 +79,16 @@ module _ (file : List ℕ) (counted : ℕ) (cs : List ℤ) (sides corners : List
         tells = kept-new _ _ _ _ v (cc);
       }
 
-  pub decode-refused : (n p : ℕ) → r .answer ≡ Refused n p
-      → DecodeCall file counted (meshOf cs sides corners) lengths before n p (meshOf cs' sides' corners') lengths
-  decode-refused n p e =
+  pub decode-refused : (n p m q : ℕ) → r .answer ≡ Refused n p → States (fault n p) before m q
+      → DecodeCall file counted (meshOf cs sides corners) lengths before m q (meshOf cs' sides' corners') lengths
+  decode-refused n p m q e tells =
       let s : stated (r .answer) ≡ fault n p = ap stated e in
       let v : lentVerdict file counted (meshOf cs sides corners) ≡ fault n p = sym (d .answers) ∙ s in
       let x = at cs' _ _ _ s (d .coordinates-hold) in
       let y = at sides' _ _ _ s (d .sides-hold) in
       let z = at corners' _ _ _ s (d .corners-hold) in
       record {
-        answers = states-refused _ (r .answer) before (d .answers) n p e;
+        answers = subst (λ (w : Verdict). States w before m q) (sym v) tells;
         holds = kept-old _ n p _ _ _ v (cc);
         tells = kept-old _ n p _ _ _ v refl;
       }
@@ -133,25 +128,25 @@ numbered file counted r s e =
     (ap length (k .cornered) ∙ values-length (verticesWith M) 0 (mostSides + 1), ap length (k .sided) ∙ values-length (facesWith M) 0 (mostSides + 1))
 
 module _ (file : List ℕ) (counted : ℕ) (lent : Counts) (before : ℕ) where
-  refuses : (n p : ℕ) → surveyVerdict file counted lent ≡ fault n p → SurveyCall file counted lent before n p lent
-  refuses n p v = record {
-    answers = subst (λ (w : Verdict). States w before n p) (sym v) (record { number = refl; place = refl });
+  refuses : (n p m q : ℕ) → surveyVerdict file counted lent ≡ fault n p → States (fault n p) before m q → SurveyCall file counted lent before m q lent
+  refuses n p m q v s = record {
+    answers = subst (λ (w : Verdict). States w before m q) (sym v) s;
     tells = kept-old _ n p _ _ _ v refl;
   }
 
   module _ (r : Summary) (s : FileSurveyed file counted r) where
-    pub survey-refused : (n p : ℕ) → r .answer ≡ Refused n p → SurveyCall file counted lent before n p lent
+    pub survey-refused : (n p m q : ℕ) → r .answer ≡ Refused n p → States (fault n p) before m q → SurveyCall file counted lent before m q lent
     unfolding surveyVerdict
-    survey-refused n p e = refuses n p (orElse-fault n p _ (sym (s .answers) ∙ ap stated e))
+    survey-refused n p m q e t = refuses n p m q (orElse-fault n p _ (sym (s .answers) ∙ ap stated e)) t
 
     module _ (e : r .answer ≡ Done) where
       passes : fileVerdict file counted ≡ sound
       passes = sym (s .answers) ∙ ap stated e
 
-      pub survey-no-room : (ltb (length (lent .cornered)) (mostSides + 1) || ltb (length (lent .sided)) (mostSides + 1)) ≡ true
-          → SurveyCall file counted lent before noRoom (mostSides + 1) lent
+      pub survey-no-room : (m q : ℕ) → (ltb (length (lent .cornered)) (mostSides + 1) || ltb (length (lent .sided)) (mostSides + 1)) ≡ true
+          → States (fault noRoom (mostSides + 1)) before m q → SurveyCall file counted lent before m q lent
       unfolding surveyVerdict
-      survey-no-room t = refuses noRoom (mostSides + 1) (orElse-sound _ passes ∙ single-hit noRoom (mostSides + 1) t)
+      survey-no-room m q t s = refuses noRoom (mostSides + 1) m q (orElse-sound _ passes ∙ single-hit noRoom (mostSides + 1) t) s
 
       pub survey-done : (ltb (length (lent .cornered)) (mostSides + 1) || ltb (length (lent .sided)) (mostSides + 1)) ≡ false
           → (cornered sided : List ℕ) → cornered ≡ begins (r .counts .cornered) (lent .cornered) → sided ≡ begins (r .counts .sided) (lent .sided)

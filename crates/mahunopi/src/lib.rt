@@ -6,10 +6,24 @@ ghost use Prim.Native.Nat.{_+_, _≤_};
 ghost use lib.Dec.{ltb};
 ghost use lib.ListN.{length};
 ghost use Rattle.paper.specs.Mesh.{meshOf, mostSides};
+ghost use Rattle.paper.specs.Faults.{stated};
 ghost use Rattle.paper.specs.File.{fileOf, begins};
-ghost use Rattle.paper.specs.CFace.{LinkCall, BuildCall, three, DecodeCall, countsOf, SurveyCall};
+ghost use Rattle.paper.specs.CFace.{States, LinkCall, BuildCall, three, DecodeCall, countsOf, SurveyCall};
 use paper::Answer;
 use paper::NUMBERS;
+
+// What C is told of an answer: 0 for done, else the refusal's number, and then its place.
+fn tell(a: Answer, place: &mut u64) -> u32
+    ensures { λ r. ⌜ States (stated a) (now (place .entry)) r (now (place .exit)) ⌝ }
+{
+    match a {
+        Answer::Done => 0,
+        Answer::Refused(number, at) => {
+            *place = at as u64;
+            number as u32
+        }
+    }
+}
 
 // Linking.
 #[no_mangle]
@@ -23,13 +37,7 @@ pub extern "C" fn mahunopi_link(
     ensures { λ r. ⌜ LinkCall (meshOf (now (coordinates .entry)) (now (sides .entry)) (now (corners .entry))) (now (links .entry)) (now (place .entry)) r (now (place .exit)) (now (links .exit)) ⌝ }
 {
     let a = linking::link(coordinates, sides, corners, links);
-    match a {
-        Answer::Done => 0,
-        Answer::Refused(number, at) => {
-            *place = at as u64;
-            number as u32
-        }
-    }
+    tell(a, place)
 }
 
 // Building.
@@ -47,13 +55,7 @@ pub extern "C" fn mahunopi_build(
     ensures { λ r. ⌜ BuildCall (meshOf (now (coordinates .entry)) (now (sides .entry)) (now (corners .entry))) (now (links .entry)) first count (now (output .entry)) (now (place .entry)) r (now (place .exit)) (now (output .exit)) ⌝ }
 {
     let a = building::build(coordinates, sides, corners, links, first, count, output);
-    match a {
-        Answer::Done => 0,
-        Answer::Refused(number, at) => {
-            *place = at as u64;
-            number as u32
-        }
-    }
+    tell(a, place)
 }
 
 // Reading a file's lists into the beginnings of lent ones. The three lengths are left alone beside a refusal.
@@ -73,18 +75,13 @@ pub extern "C" fn mahunopi_decode(
 {
     let d = dms::decode(bytes, length as usize, coordinates, sides, corners);
     let a = d.answer;
-    match a {
-        Answer::Done => {
-            *numbers = d.coordinates as u64;
-            *faces = d.sides as u64;
-            *count = d.corners as u64;
-            0
-        }
-        Answer::Refused(number, at) => {
-            *place = at as u64;
-            number as u32
-        }
+    if let Answer::Refused(number, at) = a {
+        return tell(Answer::Refused(number, at), place);
     }
+    *numbers = d.coordinates as u64;
+    *faces = d.sides as u64;
+    *count = d.corners as u64;
+    0
 }
 
 // The counts of a file: vertices, faces and corners; and into the beginnings of two lent lists, for each m from 0 to the most sides,
@@ -105,12 +102,10 @@ pub extern "C" fn mahunopi_survey(
     let s = dms::survey(bytes, length as usize);
     let a = s.answer;
     if let Answer::Refused(number, at) = a {
-        *place = at as u64;
-        return number as u32;
+        return tell(Answer::Refused(number, at), place);
     }
     if too_short(cornered.len(), sided.len()) {
-        *place = NUMBERS as u64;
-        return dms::NO_ROOM as u32;
+        return tell(Answer::Refused(dms::NO_ROOM, NUMBERS), place);
     }
     let counts = s.counts;
     *vertices = counts.vertices as u64;

@@ -1,21 +1,18 @@
--- `mahunopi::mahunopi_decode` meets its contract: it answers what `dms::decode` states, and tells its lengths.
+-- `mahunopi::mahunopi_decode` meets its contract: it tells what `dms::decode` answers, and its lengths.
 -- Assumes nothing.
-use Rattle.mahunopi.proofs.Laws.{decode-done, decode-refused}
 use borrow.Author.Needs.{needs}
+use Rattle.mahunopi.proofs.Laws.{decode-done, decode-refused}
 use Rattle.mahunopi.proofs.mahunopi_decode.Statement.{statement}
 use Rattle.mahunopi.proofs.mahunopi_decode.Tie as tie
 
 decode-requires : tie.Need-decode-requires
 decode-requires c κs = search needs
 
-enum-told : tie.Need-enum-told
-enum-told c = search needs
-
 enum-known-a : tie.Need-enum-known-a
 enum-known-a c = search needs
 
-cast-result : tie.Need-cast-result
-cast-result c = search needs
+tell-requires : tie.Need-tell-requires
+tell-requires c κs = search needs
 
 same-length : tie.Need-same-length
 same-length c = search needs
@@ -27,7 +24,13 @@ same-length-3 : tie.Need-same-length-3
 same-length-3 c = search needs
 
 returns : tie.Need-returns
-returns c = decode-done _ _ _ _ _ _ _ _ _ _ _ (c .before .before .before .before .before .before .before .decode .ensures) (c .enum-told .given .1)
+returns c =
+    let a = c .before .before .before .a .given in
+    let d = c .before .before .before .before .before .before .before .before .before .before .decode .ensures in
+    decode-refused _ _ _ _ _ _ _ _ _ _ _ d (a .0 .0) (a .0 .1 .0) _ _ (a .1) (c .tell .ensures)
+
+enum-told : tie.Need-enum-told
+enum-told c = search needs
 
 same-length-4 : tie.Need-same-length-4
 same-length-4 c = search needs
@@ -40,21 +43,21 @@ same-length-6 c = search needs
 
 returns-2 : tie.Need-returns-2
 returns-2 c =
-    let a = c .before .a .given in
-    decode-refused _ _ _ _ _ _ _ _ _ _ _ (c .before .before .before .before .before .before .before .before .decode .ensures) (a .0 .0) (a .0 .1 .0) (a .1)
+    let d = c .before .before .before .before .before .before .before .decode .ensures in
+    decode-done _ _ _ _ _ _ _ _ _ _ _ d (c .enum-told .given .1)
 
 pub mahunopi-decode-spec : {M : Type 1} → statement M
 mahunopi-decode-spec =
     tie.close
     (tie.spec
     decode-requires
-    enum-told
     enum-known-a
-    cast-result
+    tell-requires
     same-length
     same-length-2
     same-length-3
     returns
+    enum-told
     same-length-4
     same-length-5
     same-length-6

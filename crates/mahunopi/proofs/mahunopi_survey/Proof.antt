@@ -13,11 +13,14 @@ survey-requires c κs = search needs
 enum-known-a : tie.Need-enum-known-a
 enum-known-a c = search needs
 
-cast-result : tie.Need-cast-result
-cast-result c = search needs
+tell-requires : tie.Need-tell-requires
+tell-requires c κs = search needs
 
 returns : tie.Need-returns
-returns c = let a = c .before .a .given in survey-refused _ _ _ _ _ (c .before .before .before .survey .ensures) (a .0 .0) (a .0 .1 .0) (a .1)
+returns c =
+    let a = c .before .before .before .a .given in
+    let s = c .before .before .before .before .before .survey .ensures in
+    survey-refused _ _ _ _ _ s (a .0 .0) (a .0 .1 .0) _ _ (a .1) (c .tell .ensures)
 
 enum-told : tie.Need-enum-told
 enum-told c = search needs
@@ -25,13 +28,14 @@ enum-told c = search needs
 too-short-requires : tie.Need-too-short-requires
 too-short-requires c κs = search needs
 
-cast-result-2 : tie.Need-cast-result-2
-cast-result-2 c = search needs
+tell-requires-2 : tie.Need-tell-requires-2
+tell-requires-2 c κs = search needs
 
 returns-2 : tie.Need-returns-2
 returns-2 c =
-    survey-no-room _ _ _ _ _ (c .before .before .before .before .survey .ensures) (c .before .before .enum-told .given .1)
-    (sym (c .before .too-short .ensures) ∙ c .if1 .taken)
+    let t = c .before .before in
+    survey-no-room _ _ _ _ _ (t .before .before .before .before .survey .ensures) (t .before .before .enum-told .given .1) _ _
+    (sym (t .before .too-short .ensures) ∙ t .if1 .taken) (c .tell2 .ensures)
 
 slice-aggregate-fill : tie.Need-slice-aggregate-fill
 slice-aggregate-fill c = search needs
@@ -74,11 +78,11 @@ mahunopi-survey-spec =
     (tie.spec
     survey-requires
     enum-known-a
-    cast-result
+    tell-requires
     returns
     enum-told
     too-short-requires
-    cast-result-2
+    tell-requires-2
     returns-2
     slice-aggregate-fill
     fill-requires
