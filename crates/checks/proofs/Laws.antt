@@ -1,10 +1,10 @@
 -- What each passed check gives to the later ones: rooms, sums and names for filling the tables, unique edges with reverses for the links;
 -- and how the answers make up the verdict.
 -- Assumes nothing.
-use mathlib.Core.Path.{_≡_, refl, _∙_, sym}
+use mathlib.Core.Path.{_≡_, _∙_, sym}
 use mathlib.Core.Bool.{false}
 use mathlib.Core.List.{List}
-use Prim.Native.Nat.{ℕ, _*_, _<_, _≤_}
+use Prim.Native.Nat.{ℕ, _*_, _≤_}
 use native.Mathlib.Omega.{arith}
 use lib.ListN.{length, replicate, length-replicate}
 use Rattle.paper.specs.Mesh.{Mesh, vertexCount, faceCount, cornerCount, mostVertices, mostCorners}
@@ -19,7 +19,7 @@ use Rattle.mesh.proofs.Faces.{next-below, previous-below}
 use Rattle.mesh.proofs.Links.{link-in}
 use Rattle.mesh.proofs.Verdicts.{sound-left, sound-right, single-sound, lowest-sound, orElse-fault, orElse-sound, orElse-assoc, unsound}
 use Rattle.mesh.proofs.Accepted.{few-vertices, few-corners, sides-within, sums-of, named-of}
-use Rattle.walk.specs.Table.{rowLength, toNext, toPrevious, toLink, sidesHere, valenceHere, Column, KeptBut, Tabled}
+use Rattle.walk.specs.Table.{rowLength, toNext, toPrevious, toLink, sidesHere, Column, KeptBut, Tabled}
 use Rattle.walk.proofs.Table.{blank}
 use Rattle.tables.specs.Vertices.{Rowed}
 use Rattle.tables.specs.Chain.{EarliersTo, Ready}

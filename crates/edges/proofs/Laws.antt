@@ -2,7 +2,7 @@
 -- Assumes nothing.
 use mathlib.Core.Path.{_≡_, refl, ap, _∙_, sym, subst}
 use mathlib.Core.Bool.{Bool, true, false, not}
-use mathlib.Core.Logic.{_⊎_, ⊎-elim}
+use mathlib.Core.Logic.{⊎-elim}
 use mathlib.Core.List.{List}
 use Prim.Native.Nat.{ℕ, _+_, _-_, _*_, _<_, _≤_}
 use native.Mathlib.Omega.{arith}
@@ -13,7 +13,7 @@ use Rattle.paper.specs.Scan.{someBelow, firstBelow}
 use Rattle.paper.specs.Mesh.{mostCorners}
 use Rattle.paper.specs.Corners.{sumOf, next, previous}
 use Rattle.paper.specs.Links.{vertexOf, leavesTo, arrivesFrom, sameEdge, reverseEdge, linked, link, reverse}
-use Rattle.paper.specs.Faults.{sound, fault, _orElse_, lowestOf, fault10, fault11, stated}
+use Rattle.paper.specs.Faults.{sound, lowestOf, fault10, fault11, stated}
 use Rattle.paper.specs.declared.Answer.{Answer}
 use Rattle.paper.specs.declared.Answer.the-variants.{Refused}
 use Rattle.mesh.specs.Closed.{Closed}
@@ -24,9 +24,9 @@ use Rattle.mesh.proofs.Links.{unique, reverse-in, reverse-vertex, reverse-to, l
 use Rattle.mesh.proofs.Verdicts.{lowest-hit, lowest-none, lowest-sound, orElse-fault, orElse-sound, unsound}
 use Rattle.walk.specs.Table.{rowLength, toNext, toPrevious, toLink, valenceHere, entry, Column, Kept, KeptBut}
 use Rattle.walk.proofs.Table.{put, kept-put}
-use Rattle.tables.specs.Vertices.{lastHere, leavingHere, arrivingHere, countHere, Rowed}
+use Rattle.tables.specs.Vertices.{lastHere, leavingHere, arrivingHere, countHere}
 use Rattle.tables.specs.Chain.{EarliersTo, LastsTo, Chained, Clear}
-use Rattle.tables.proofs.Chains.{On, above-head, at-in, at-vertex, on-from}
+use Rattle.tables.proofs.Chains.{On, above-head, at-vertex, on-from}
 use Rattle.edges.specs.Entries.{repeated, alone, Entry, again, single, joined, Entries, has, to, from, Searchable, Keyed, BothKeyed, Hit}
 use Rattle.edges.specs.Entries.{Marked, MarkedFrom, Unmarked, Ends, EntryFor, Collected, Found, EdgesChecked}
 

@@ -2,7 +2,7 @@
 -- Assumes nothing.
 use mathlib.Core.Path.{_≡_, refl, ap, _∙_, sym}
 use mathlib.Core.Bool.{Bool, true, false}
-use mathlib.Core.Logic.{_⊎_, ⊎-elim}
+use mathlib.Core.Logic.{⊎-elim}
 use mathlib.Core.List.{List}
 use Prim.Native.Nat.{ℕ, zero, suc, _+_, _-_, _<_, _≤_}
 use native.Mathlib.Omega.{arith}
@@ -13,7 +13,7 @@ use borrow.Author.Tests.{eq-eqb, ne-eqb, eqb-true, lt-ltb, le-ltb}
 use Rattle.paper.specs.Scan.{firstBelow, countBelow, iterate}
 use Rattle.paper.specs.Mesh.{leastSides}
 use Rattle.paper.specs.Links.{vertexOf, names, link, valence, lowest}
-use Rattle.paper.specs.Faults.{fault12, fault13, after, ringLength, met, sound, fault, _orElse_, lowestOf, stated}
+use Rattle.paper.specs.Faults.{fault12, fault13, after, ringLength, met, sound, fault, lowestOf, stated}
 use Rattle.paper.specs.declared.Answer.{Answer}
 use Rattle.paper.specs.declared.Answer.the-variants.{Done, Refused}
 use Rattle.mesh.specs.Closed.{Closed}

@@ -2,7 +2,7 @@
 -- Assumes nothing.
 use mathlib.Core.Path.{_≡_, refl, ap, _∙_, sym, subst}
 use mathlib.Core.Bool.{Bool, true, false}
-use mathlib.Core.Logic.{_⊎_, ⊎-elim}
+use mathlib.Core.Logic.{⊎-elim}
 use mathlib.Core.List.{List}
 use Prim.Native.Nat.{ℕ, zero, suc, _+_, _-_, _*_, _<_, _≤_}
 use native.Mathlib.Omega.{arith}
@@ -13,7 +13,7 @@ use Rattle.paper.specs.Links.{vertexOf, names}
 use Rattle.mesh.proofs.Scans.{ways, clash, compared}
 use Rattle.walk.specs.Table.{rowLength, valenceHere, entry, Blank}
 use Rattle.walk.proofs.Table.{put, kept-put}
-use Rattle.tables.specs.Vertices.{lastHere, leavingHere, arrivingHere, countHere, Rowed}
+use Rattle.tables.specs.Vertices.{lastHere, leavingHere, arrivingHere, countHere}
 use Rattle.tables.specs.Chain.{lastBelow, EarliersTo, LastsTo, Chain, Chained, Clear, Ready}
 
 -- the highest number that passes

@@ -1,6 +1,6 @@
 -- The turns of the loops that fill the columns.
 -- Assumes nothing.
-use mathlib.Core.Path.{_≡_, refl, ap, _∙_, sym}
+use mathlib.Core.Path.{_≡_, ap, _∙_, sym}
 use mathlib.Core.Bool.{true, false}
 use mathlib.Core.List.{List}
 use Prim.Native.Nat.{ℕ, suc, _+_, _-_, _*_, _<_, _≤_}
@@ -17,7 +17,7 @@ use Rattle.walk.specs.Table.{rowLength, toNext, toPrevious, sidesHere, valenceH
 use Rattle.walk.proofs.Table.{put, kept-put, column-put}
 use Rattle.tables.specs.Vertices.{countHere, lowestHere}
 use Rattle.tables.specs.Chain.{Clear}
-use Rattle.tables.specs.Filled.{FacesTo, FacesFilled, CornersCounted, ValencesFilled}
+use Rattle.tables.specs.Filled.{FacesTo, FacesFilled, CornersCounted}
 
 -- ---- the corners of face f
 module _ (sides : List ℕ) (f : ℕ) (l : f < length sides) where

@@ -7,11 +7,11 @@ use mathlib.Core.List.{List}
 use Prim.Native.Nat.{ℕ, zero, suc, _+_, _*_, _<_, _≤_}
 use native.Mathlib.Omega.{arith}
 use lib.Dec.{eqb}
-use lib.ListN.{length, getD, set, replicate}
+use lib.ListN.{length, set, replicate}
 use lib.Seq.{getD-set-same, getD-set-other}
 use borrow.Author.Tests.{eqb-true, eqb-false}
 use Rattle.paper.specs.Refined.{Corners}
-use Rattle.walk.specs.Table.{rowLength, entry, Column, Kept, KeptBut, Blank, Tabled, tabled, Led}
+use Rattle.walk.specs.Table.{rowLength, entry, Column, KeptBut, Blank, Tabled, tabled, Led}
 
 -- what is read is where the step leads, if the column holds that step
 pub led : (table : List ℕ) (k : ℕ) (step : Corners → ℕ → ℕ) (c d : ℕ)

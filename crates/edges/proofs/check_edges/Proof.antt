@@ -1,10 +1,8 @@
 -- Checks 10 and 11 meet their contract: after both the entries are the links.
 -- Assumes nothing.
 use mathlib.Core.Path.{_∙_, sym, ap}
-use denote.Ref.{now}
 use Rattle.paper.specs.Faults.{stated}
 use Rattle.edges.proofs.Laws.{repeats-refused, edges-checked}
-use native.Mathlib.Omega.{arith}
 use borrow.Author.Needs.{needs}
 use Rattle.edges.proofs.check_edges.Statement.{statement}
 use Rattle.edges.proofs.check_edges.Tie as tie

@@ -1,10 +1,10 @@
 -- `collect` meets its contract: the corners of the vertex from `at` on have their entries. The chain falls.
 -- Assumes nothing.
-use mathlib.Core.Path.{_≡_, refl, _∙_, sym, subst}
-use Prim.Native.Nat.{ℕ, _+_, _*_, _<_, _-_}
+use mathlib.Core.Path.{_≡_, refl, sym, subst}
+use Prim.Native.Nat.{ℕ, _-_}
 use lib.ListN.{length, length-set}
 use denote.Ref.{now}
-use Rattle.walk.specs.Table.{rowLength, toLink, valenceHere, entry}
+use Rattle.walk.specs.Table.{valenceHere, entry}
 use Rattle.tables.specs.Vertices.{lastHere}
 use Rattle.tables.proofs.Chains.{On, on-head, on-next, on-falls, at-in, at-vertex}
 use Rattle.edges.specs.Entries.{MarkedFrom}

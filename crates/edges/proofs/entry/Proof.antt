@@ -1,8 +1,7 @@
 -- `entry` meets its contract: the columns name the first corner that the leaving edge leaves, and a corner of the vertex where its
 -- reverse arrives, if there is one. Assumes nothing.
 use mathlib.Core.Path.{_≡_}
-use Prim.Native.Nat.{_+_, _*_, _-_}
-use lib.ListN.{getD}
+use Prim.Native.Nat.{_+_, _*_}
 use denote.Ref.{now}
 use Rattle.walk.specs.Table.{rowLength, toNext, entry}
 use Rattle.tables.specs.Vertices.{leavingHere, arrivingHere}

@@ -1,9 +1,8 @@
 -- `fill_links` meets its contract: the corners of the vertices below `u` have their entries.
 -- Assumes nothing.
 use mathlib.Core.Path.{_≡_, refl, _∙_}
-use Prim.Native.Nat.{_*_, _<_, _≤_, _-_}
+use Prim.Native.Nat.{_≤_, _-_}
 use lib.ListN.{length}
-use denote.Ref.{now}
 use Rattle.walk.specs.Table.{toLink, Kept, KeptBut}
 use Rattle.tables.specs.Vertices.{countHere}
 use Rattle.edges.specs.Entries.{Searchable, BothKeyed}

@@ -1,7 +1,7 @@
 -- `mark` meets its contract: the corners of the vertex from `at` on are in both columns. The chain falls.
 -- Assumes nothing.
 use mathlib.Core.Path.{_≡_, refl, subst}
-use Prim.Native.Nat.{_+_, _*_, _<_, _-_}
+use Prim.Native.Nat.{_<_, _-_}
 use lib.ListN.{length, length-set}
 use denote.Ref.{now}
 use Rattle.walk.specs.Table.{toNext, toPrevious, valenceHere, entry}

@@ -1,7 +1,7 @@
 -- `copy` meets its contract: the links below `c` are copied.
 -- Assumes nothing.
 use mathlib.Core.Path.{_≡_, refl}
-use Prim.Native.Nat.{_+_, _*_, _≤_, _-_}
+use Prim.Native.Nat.{_≤_, _-_}
 use lib.ListN.{length, length-set}
 use denote.Ref.{now}
 use Rattle.linking.proofs.Laws.{Copied, copied-none, copied-step, copied-all}

@@ -2,7 +2,6 @@
 -- Assumes nothing.
 use mathlib.Core.Path.{_≡_, ap, _∙_, sym}
 use mathlib.Core.Bool.{not}
-use Prim.Native.Nat.{_*_, _≤_}
 use lib.Dec.{eqb}
 use lib.ListN.{length}
 use denote.Ref.{now}

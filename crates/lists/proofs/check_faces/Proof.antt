@@ -8,7 +8,7 @@ use Rattle.paper.specs.Corners.{startOf}
 use Rattle.paper.specs.Faults.{fault9}
 use Rattle.mesh.proofs.Faces.{start-zero, start-next, start-all, start-ends}
 use Rattle.mesh.proofs.Verdicts.{lowest-none, unsound}
-use Rattle.walk.specs.Table.{rowLength, valenceHere}
+use Rattle.walk.specs.Table.{rowLength}
 use Rattle.tables.specs.Vertices.{lastHere}
 use Rattle.tables.proofs.Chains.{chains-all}
 use Rattle.lists.proofs.Laws.{Passed, passed-none, passed-step, doubled}

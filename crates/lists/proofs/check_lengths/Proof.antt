@@ -2,7 +2,7 @@
 -- Assumes nothing.
 use mathlib.Core.Path.{sym}
 use mathlib.Core.Logic.{⊎-elim}
-use Prim.Native.Nat.{_/_, _-_}
+use Prim.Native.Nat.{_/_}
 use borrow.Author.Tests.{ltb-true, ltb-false}
 use Rattle.paper.specs.Mesh.{mostVertices, mostFaces, mostCorners}
 use Rattle.mesh.proofs.Ranges.{outside-low, outside-high, inside}

@@ -1,6 +1,5 @@
 -- `ring` meets its contract: after `len` steps the walker stands where that many links lead, and the start has not come back.
 -- What is left of the bound falls. Assumes nothing.
-use Prim.Native.Nat.{_-_}
 use denote.Ref.{now}
 use Rattle.walk.specs.Table.{toLink, entry}
 use Rattle.rings.proofs.Laws.{Around, around-start, ring-none, ring-back, around-next}

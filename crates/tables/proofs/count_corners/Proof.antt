@@ -1,10 +1,9 @@
 -- `count_corners` meets its contract: the corners from `c` on are counted, and the lowest of them is noted.
 -- Assumes nothing.
 use mathlib.Core.Path.{_≡_, refl}
-use Prim.Native.Nat.{_+_, _*_, _≤_, _<_, _-_}
-use lib.ListN.{length, getD, length-set}
+use Prim.Native.Nat.{_≤_, _<_, _-_}
+use lib.ListN.{length, length-set}
 use denote.Ref.{now}
-use Rattle.walk.specs.Table.{rowLength}
 use Rattle.tables.proofs.Laws.{CountedFrom, counted-start, counted-small, counted-step, counted-done}
 use native.Mathlib.Omega.{arith}
 use borrow.Author.Needs.{needs}

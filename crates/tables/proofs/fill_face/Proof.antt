@@ -1,10 +1,9 @@
 -- One face meets its contract: the corners below `c` have their rows, and `last` is the corner before `c`, at first the face's last.
 -- Assumes nothing.
 use mathlib.Core.Path.{_≡_, refl, _∙_, sym, subst}
-use Prim.Native.Nat.{ℕ, _+_, _*_, _≤_, _<_, _-_}
+use Prim.Native.Nat.{_+_, _*_, _≤_, _<_, _-_}
 use lib.ListN.{length, getD, length-set}
 use denote.Ref.{now}
-use Rattle.paper.specs.Mesh.{mostCorners}
 use Rattle.paper.specs.Corners.{sumOf, startOf, previous}
 use Rattle.mesh.proofs.Faces.{start-next, start-ends}
 use Rattle.walk.specs.Table.{rowLength, valenceHere, Kept}

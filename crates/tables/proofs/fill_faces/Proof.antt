@@ -1,7 +1,7 @@
 -- All faces meet their contract: the corners of the faces before `f` have their rows.
 -- Assumes nothing.
 use mathlib.Core.Path.{_≡_, refl, _∙_, sym}
-use Prim.Native.Nat.{_*_, _≤_, _<_, _-_}
+use Prim.Native.Nat.{_≤_, _<_, _-_}
 use lib.ListN.{length}
 use denote.Ref.{now}
 use Rattle.paper.specs.Corners.{startOf}
