@@ -125,7 +125,7 @@ fn divide(s: Sums, m: usize) -> Face
 }
 
 // The refined face of three corners: row 3 of the cosine table is exact, so the weights are 4/9, 4/9, 1/9.
-fn ring_of_three(points: &[i32], axis: usize, table: &[u16], column: usize, c: usize) -> Face
+pub fn ring_of_three(points: &[i32], axis: usize, table: &[u16], column: usize, c: usize) -> Face
     requires { ⌜ Ring (now points) axis (now table) column c 3 ⌝ }
     ensures { λ r. ⌜ IsFace (around (now (points .entry)) axis (now (table .entry)) column c) 3 0 2 r ⌝ }
 {
@@ -143,7 +143,7 @@ fn ring_of_three(points: &[i32], axis: usize, table: &[u16], column: usize, c: u
 }
 
 // The refined face of four corners: row 4 is exact too, and the weights are those of an edge's face.
-fn ring_of_four(points: &[i32], axis: usize, table: &[u16], column: usize, c: usize) -> Face
+pub fn ring_of_four(points: &[i32], axis: usize, table: &[u16], column: usize, c: usize) -> Face
     requires { ⌜ Ring (now points) axis (now table) column c 4 ⌝ }
     ensures { λ r. ⌜ IsFace (around (now (points .entry)) axis (now (table .entry)) column c) 4 0 3 r ⌝ }
 {
@@ -160,7 +160,7 @@ fn ring_of_four(points: &[i32], axis: usize, table: &[u16], column: usize, c: us
 }
 
 // The refined face of any ring of m corners.
-fn ring_of_many(
+pub fn ring_of_many(
     points: &[i32],
     axis: usize,
     table: &[u16],
@@ -175,27 +175,6 @@ fn ring_of_many(
 {
     let s = ring_sums(points, axis, table, column, rows, c, m);
     divide(s, m)
-}
-
-// The refined face of m corners at c, gone round by a column.
-pub fn ring_face(
-    points: &[i32],
-    axis: usize,
-    table: &[u16],
-    column: usize,
-    rows: &cosines::Rows,
-    c: usize,
-    m: usize,
-) -> Face
-    requires ring { ⌜ Ring (now points) axis (now table) column c m ⌝ }
-    requires rows { ⌜ now rows ≡ stored ⌝ }
-    ensures { λ r. ⌜ IsFace (around (now (points .entry)) axis (now (table .entry)) column c) m 0 (m - 1) r ⌝ }
-{
-    match m {
-        3 => ring_of_three(points, axis, table, column, c),
-        4 => ring_of_four(points, axis, table, column, c),
-        _ => ring_of_many(points, axis, table, column, rows, c, m),
-    }
 }
 
 // The four-sided refined face of an edge, from its points in turn: row 4 of the table is exact, so the weights are fractions.

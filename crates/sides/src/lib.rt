@@ -3,10 +3,12 @@ use walk::LINK;
 use walk::NEXT;
 use walk::Walker;
 ghost use mathlib.Core.Path.{_≡_};
-ghost use Prim.Native.Nat.{_<_};
+ghost use Prim.Native.Nat.{_-_, _<_};
 ghost use Rattle.formulas.specs.Sizes.{Corner, FacePoint, Row};
 ghost use Rattle.cosines.specs.Stored.{stored};
 ghost use Rattle.surface.specs.Points.{pointAt};
+ghost use Rattle.walk.specs.Table.{toNext, toLink};
+ghost use Rattle.faces.specs.Ring.{around, Ring, IsFace};
 ghost use Rattle.sides.specs.Drawn.{drawn, Drawn, Readable};
 ghost use Rattle.sides.specs.Values.{Through, IsLeaving, IsArriving, Made, FourSides};
 
@@ -103,6 +105,47 @@ fn side(head: i64, tail: i64, x: i64, y: i64, v: i64, w: i64, cosine: i64) -> Si
     }
 }
 
+// The refined face of the vertex of c, whose ring the links go round. It stands beside that of the face, with the same body: a function
+// that is called once is put in line, and then only a ring of five and more costs a call.
+fn vertex_face(
+    points: &[i32],
+    table: &[u16],
+    rows: &cosines::Rows,
+    c: usize,
+    m: usize,
+    axis: usize,
+) -> faces::Face
+    requires ring { ⌜ Ring (now points) axis (now table) toLink c m ⌝ }
+    requires rows { ⌜ now rows ≡ stored ⌝ }
+    ensures { λ r. ⌜ IsFace (around (now (points .entry)) axis (now (table .entry)) toLink c) m 0 (m - 1) r ⌝ }
+{
+    match m {
+        3 => faces::ring_of_three(points, axis, table, LINK, c),
+        4 => faces::ring_of_four(points, axis, table, LINK, c),
+        _ => faces::ring_of_many(points, axis, table, LINK, rows, c, m),
+    }
+}
+
+// The refined face of the face of c, whose ring the next corners go round.
+fn mesh_face(
+    points: &[i32],
+    table: &[u16],
+    rows: &cosines::Rows,
+    c: usize,
+    m: usize,
+    axis: usize,
+) -> faces::Face
+    requires ring { ⌜ Ring (now points) axis (now table) toNext c m ⌝ }
+    requires rows { ⌜ now rows ≡ stored ⌝ }
+    ensures { λ r. ⌜ IsFace (around (now (points .entry)) axis (now (table .entry)) toNext c) m 0 (m - 1) r ⌝ }
+{
+    match m {
+        3 => faces::ring_of_three(points, axis, table, NEXT, c),
+        4 => faces::ring_of_four(points, axis, table, NEXT, c),
+        _ => faces::ring_of_many(points, axis, table, NEXT, rows, c, m),
+    }
+}
+
 // The four sides of the net of c, one of `count` corners, on an axis.
 pub fn net_sides(
     points: &[i32],
@@ -119,8 +162,8 @@ pub fn net_sides(
     let here = Walker { corner: c };
     let m = here.valence(table);
     let n = here.sides(table);
-    let vertex = faces::ring_face(points, axis, table, LINK, rows, c, m);
-    let face = faces::ring_face(points, axis, table, NEXT, rows, c, n);
+    let vertex = vertex_face(points, table, rows, c, m, axis);
+    let face = mesh_face(points, table, rows, c, n, axis);
     let leaving = leaving_edge(points, table, count, c, axis);
     let arriving = arriving_edge(points, table, count, c, axis);
     let k = cosines::cosine(rows, m, 1);

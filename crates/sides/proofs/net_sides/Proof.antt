@@ -30,10 +30,10 @@ sides-is : (a : tie.After-cosine2) → a .before .before .before .before .before
 sides-is a = a .before .before .before .before .before .before .sides .ensures .read
 
 abbrev vertex : tie.After-cosine2 → Face
-vertex a = a .before .before .before .before .before .ring-face .result
+vertex a = a .before .before .before .before .before .vertex-face .result
 
 abbrev face : tie.After-cosine2 → Face
-face a = a .before .before .before .before .ring-face2 .result
+face a = a .before .before .before .before .mesh-face .result
 
 abbrev leaving : tie.After-cosine2 → Edge
 leaving a = a .before .before .before .leaving-edge .result
@@ -47,7 +47,7 @@ part0 : (a : tie.After-cosine2)
 unfolding H T C
 part0 a =
     let s = start a in
-    let f = vertex-is _ _ _ _ _ (s .pre .0) _ _ (valence-is a) (a .before .before .before .before .before .ring-face .ensures) in
+    let f = vertex-is _ _ _ _ _ (s .pre .0) _ _ (valence-is a) (a .before .before .before .before .before .vertex-face .ensures) in
     let e = leaving-is _ _ _ _ _ (s .pre .0) _ (a .before .before .before .leaving-edge .ensures) in
     record {
       head = f .0;
@@ -65,7 +65,7 @@ part1 : (a : tie.After-cosine2)
 unfolding H T C
 part1 a =
     let s = start a in
-    let f = face-is _ _ _ _ _ (s .pre .0) _ _ (sides-is a) (a .before .before .before .before .ring-face2 .ensures) in
+    let f = face-is _ _ _ _ _ (s .pre .0) _ _ (sides-is a) (a .before .before .before .before .mesh-face .ensures) in
     let e = leaving-is _ _ _ _ _ (s .pre .0) _ (a .before .before .before .leaving-edge .ensures) in
     record {
       head = f .0;
@@ -83,7 +83,7 @@ part2 : (a : tie.After-cosine2)
 unfolding H T C
 part2 a =
     let s = start a in
-    let f = face-is _ _ _ _ _ (s .pre .0) _ _ (sides-is a) (a .before .before .before .before .ring-face2 .ensures) in
+    let f = face-is _ _ _ _ _ (s .pre .0) _ _ (sides-is a) (a .before .before .before .before .mesh-face .ensures) in
     let e = arriving-is _ _ _ _ _ (s .pre .0) _ (a .before .before .arriving-edge .ensures) in
     record {
       head = f .0;
@@ -101,7 +101,7 @@ part3 : (a : tie.After-cosine2)
 unfolding H T C
 part3 a =
     let s = start a in
-    let f = vertex-is _ _ _ _ _ (s .pre .0) _ _ (valence-is a) (a .before .before .before .before .before .ring-face .ensures) in
+    let f = vertex-is _ _ _ _ _ (s .pre .0) _ _ (valence-is a) (a .before .before .before .before .before .vertex-face .ensures) in
     let e = arriving-is _ _ _ _ _ (s .pre .0) _ (a .before .before .arriving-edge .ensures) in
     record {
       head = f .0;
@@ -119,11 +119,11 @@ valence-requires c κs = search needs
 sides-requires : tie.Need-sides-requires
 sides-requires c κs = search needs
 
-ring-face-requires : tie.Need-ring-face-requires
-ring-face-requires c κs = let s = c .before .before .before in (vertex-ring _ _ _ _ _ (s .pre .0) _ (c .before .valence .ensures .read), s .pre .1)
+vertex-face-requires : tie.Need-vertex-face-requires
+vertex-face-requires c κs = let s = c .before .before .before in (vertex-ring _ _ _ _ _ (s .pre .0) _ (c .before .valence .ensures .read), s .pre .1)
 
-ring-face-requires-2 : tie.Need-ring-face-requires-2
-ring-face-requires-2 c κs = let s = c .before .before .before .before in (face-ring _ _ _ _ _ (s .pre .0) _ (c .before .sides .ensures .read), s .pre .1)
+mesh-face-requires : tie.Need-mesh-face-requires
+mesh-face-requires c κs = let s = c .before .before .before .before in (face-ring _ _ _ _ _ (s .pre .0) _ (c .before .sides .ensures .read), s .pre .1)
 
 leaving-edge-requires : tie.Need-leaving-edge-requires
 leaving-edge-requires c κs = search needs
@@ -184,8 +184,8 @@ net-sides-spec =
     (tie.spec
     valence-requires
     sides-requires
-    ring-face-requires
-    ring-face-requires-2
+    vertex-face-requires
+    mesh-face-requires
     leaving-edge-requires
     arriving-edge-requires
     cosine-requires

@@ -1,8 +1,8 @@
--- `faces::ring_face` meets its contract: each arm is given a ring of its own key.
+-- `sides::mesh_face` meets its contract: each arm is given a ring of its own key.
 -- Assumes nothing.
 use borrow.Author.Needs.{needs}
-use Rattle.faces.proofs.ring_face.Statement.{statement}
-use Rattle.faces.proofs.ring_face.Tie as tie
+use Rattle.sides.proofs.mesh_face.Statement.{statement}
+use Rattle.sides.proofs.mesh_face.Tie as tie
 
 ring-of-three-requires : tie.Need-ring-of-three-requires
 ring-of-three-requires c κs = rw (← c .match .keys1) (c .before .before .pre .0)
@@ -22,8 +22,8 @@ returns-2 c = rw (c .before .match .keys2) (c .ring-of-four .ensures)
 returns-3 : tie.Need-returns-3
 returns-3 c = search needs
 
-pub ring-face-spec : {M : Type 1} → statement M
-ring-face-spec =
+pub mesh-face-spec : {M : Type 1} → statement M
+mesh-face-spec =
     tie.close
     (tie.spec
     ring-of-three-requires
