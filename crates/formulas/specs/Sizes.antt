@@ -3,6 +3,7 @@
 use Prim.Native.Nat.{_+_, _-_, _^_, _≤_}
 use lib.IntN.{ℤ, pos, negℤ, natAbs}
 use lib.Signed.{_≤ℤ_}
+use Rattle.paper.specs.Cosines.{unit}
 
 -- a refined point, or a centre of a refined face
 abbrev pub Corner : ℤ → Type 0
@@ -22,4 +23,4 @@ Written z = natAbs z ≤ 2 ^ 26 - 1
 
 -- C(m, 1) of a row of the cosine table
 abbrev pub Row : ℤ → Type 0
-Row c = (negℤ (pos (2 ^ 29)) ≤ℤ c) × (c ≤ℤ pos (2 ^ 30))
+Row c = (negℤ (pos (2 ^ 29)) ≤ℤ c) × (c ≤ℤ pos unit)

@@ -1,10 +1,17 @@
 // The formulas of a quad-net over plain numbers, each with its one rounding: face points of four-sided and three-sided refined faces,
 // inner points, points of the outer rows and of the a rows, and the middles. One function serves four sides and three axes.
+use paper::UNIT;
 ghost use mathlib.Core.Path.{_≡_};
-ghost use Prim.Native.Nat.{_*_, _+_, _-_, _^_};
+ghost use Prim.Native.Nat.{_*_};
 ghost use lib.IntN.{pos, _+ℤ_, _-ℤ_, _*ℤ_};
 ghost use Rattle.paper.specs.Numbers.{round};
+ghost use Rattle.paper.specs.Cosines.{unit};
 ghost use Rattle.formulas.specs.Sizes.{Corner, FacePoint, Value, Written, Row};
+
+// Three and four, where the cosine table has UNIT for 1; a shift by 33 divides by eight.
+const THREE: i64 = 3 * UNIT;
+
+const FOUR: i64 = 4 * UNIT;
 
 // The centre of a four-sided refined face.
 pub fn mean(a: i64, b: i64, c: i64, d: i64) -> i64
@@ -65,10 +72,10 @@ pub fn inner(x: i64, y: i64, v: i64, w: i64) -> i64
 // The second point of an a row; s is X of the other side at the head.
 pub fn second(c: i64, h: i64, x: i64, y: i64, s: i64, n: i64) -> i64
     requires { ⌜ Row c × Value h × Value x × Value y × Value s × Value n ⌝ }
-    ensures { λ r. ⌜ (r ≡ round (c *ℤ h +ℤ pos 3 *ℤ (pos (2 ^ 30) -ℤ c) *ℤ x +ℤ pos 2 *ℤ c *ℤ y +ℤ pos (2 ^ 30) *ℤ s +ℤ pos (2 ^ 32) *ℤ n) (pos (2 ^ 33))) × Written r ⌝ }
+    ensures { λ r. ⌜ (r ≡ round (c *ℤ h +ℤ pos 3 *ℤ (pos unit -ℤ c) *ℤ x +ℤ pos 2 *ℤ c *ℤ y +ℤ pos unit *ℤ s +ℤ pos (4 * unit) *ℤ n) (pos (8 * unit))) × Written r ⌝ }
 {
     rounding::round_shift(
-        c * h + 3 * (1073741824 - c) * x + 2 * c * y + 1073741824 * s + 4294967296 * n,
+        c * h + 3 * (UNIT - c) * x + 2 * c * y + UNIT * s + FOUR * n,
         33,
     )
 }
@@ -76,12 +83,9 @@ pub fn second(c: i64, h: i64, x: i64, y: i64, s: i64, n: i64) -> i64
 // The third point of an a row; c is the head's too, s is Y of the other side at the tail.
 pub fn third(c: i64, t: i64, y: i64, s: i64, n: i64) -> i64
     requires { ⌜ Row c × Value t × Value y × Value s × Value n ⌝ }
-    ensures { λ r. ⌜ (r ≡ round ((pos (3 * 2 ^ 30) -ℤ c) *ℤ y +ℤ c *ℤ t +ℤ pos (2 ^ 32) *ℤ n +ℤ pos (2 ^ 30) *ℤ s) (pos (2 ^ 33))) × Written r ⌝ }
+    ensures { λ r. ⌜ (r ≡ round ((pos (3 * unit) -ℤ c) *ℤ y +ℤ c *ℤ t +ℤ pos (4 * unit) *ℤ n +ℤ pos unit *ℤ s) (pos (8 * unit))) × Written r ⌝ }
 {
-    rounding::round_shift(
-        (3221225472 - c) * y + c * t + 4294967296 * n + 1073741824 * s,
-        33,
-    )
+    rounding::round_shift((THREE - c) * y + c * t + FOUR * n + UNIT * s, 33)
 }
 
 // The middle of the row next to an outer row: n is N of the side, o of the opposite one, g and l of the adjoining ones; x and y

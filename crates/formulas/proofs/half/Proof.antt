@@ -1,6 +1,5 @@
 -- `formulas::half` meets its contract: the sum fits, and half of it is no larger than the larger of the two.
 -- Assumes nothing.
-use mathlib.Core.Path.{_≡_}
 use Prim.Native.Nat.{_^_, _≤_}
 use native.Mathlib.Omega.{arith}
 use borrow.Author.Needs.{needs}
@@ -9,10 +8,9 @@ use mir.Syntax.{w64}
 use mir.Val.{SFits}
 use mir.Facts.{toZ-ofZ}
 use Rattle.integers.proofs.Poly.{over, poly}
-use Rattle.paper.specs.Numbers.{round}
 use Rattle.rounding.specs.Near.{Near}
-use Rattle.rounding.proofs.Laws.{near-is}
 use Rattle.formulas.specs.Sizes.{Written}
+use Rattle.formulas.proofs.Laws.{rounded-is}
 use Rattle.formulas.proofs.half.Statement.{statement}
 use Rattle.formulas.proofs.half.Tie as tie
 
@@ -47,9 +45,10 @@ returns c =
     let s = c .before in
     let k = facts s in
     let q = c .round-shift .result in
-    let f : SFits w64 q = search needs in
-    let e : q ≡ round (total (s .args .a) (s .args .b)) (pos 2) = simp (toZ-ofZ, s .fits .a, s .fits .b, k .0) at (c .round-shift .ensures) in
-    rw (toZ-ofZ f) (e, size (s .args .a) (s .args .b) q (s .pre) (near-is (total (s .args .a) (s .args .b)) (pos 2) q tt e))
+    rounded-is (total (s .args .a) (s .args .b)) (pos 2) q Written tt
+    (size (s .args .a) (s .args .b) q (s .pre))
+    (search needs)
+    (simp (toZ-ofZ, s .fits .a, s .fits .b, k .0) at (c .round-shift .ensures))
 
 pub half-spec : {M : Type 1} → statement M
 half-spec = tie.close (tie.spec add-round-shift round-shift-requires returns)

@@ -1,6 +1,5 @@
 -- `formulas::inner` meets its contract: the sums fit, and a sixth of the last one is bounded by its terms.
 -- Assumes nothing.
-use mathlib.Core.Path.{_≡_}
 use Prim.Native.Nat.{_^_, _≤_}
 use native.Mathlib.Omega.{arith}
 use borrow.Author.Needs.{needs}
@@ -9,10 +8,9 @@ use mir.Syntax.{w64}
 use mir.Val.{SFits}
 use mir.Facts.{toZ-ofZ}
 use Rattle.integers.proofs.Poly.{over, poly}
-use Rattle.paper.specs.Numbers.{round}
 use Rattle.rounding.specs.Near.{Near}
-use Rattle.rounding.proofs.Laws.{near-is}
 use Rattle.formulas.specs.Sizes.{Corner, FacePoint, Value}
+use Rattle.formulas.proofs.Laws.{rounded-is}
 use Rattle.formulas.proofs.inner.Statement.{statement}
 use Rattle.formulas.proofs.inner.Tie as tie
 
@@ -59,9 +57,10 @@ returns c =
     let s = c .before in
     let k = facts s in
     let q = c .round-div .result in
-    let f : SFits w64 q = search needs in
-    let e : q ≡ round (total (s .args .x) (s .args .y) (s .args .v) (s .args .w)) (pos 6) = simp (toZ-ofZ, s .fits .x, s .fits .y, s .fits .v, s .fits .w, k .0, k .1, k .2, k .3, k .4) at (c .round-div .ensures) in
-    rw (toZ-ofZ f) (e, size (s .args .x) (s .args .y) (s .args .v) (s .args .w) q (s .pre) (near-is (total (s .args .x) (s .args .y) (s .args .v) (s .args .w)) (pos 6) q tt e))
+    rounded-is (total (s .args .x) (s .args .y) (s .args .v) (s .args .w)) (pos 6) q Value tt
+    (size (s .args .x) (s .args .y) (s .args .v) (s .args .w) q (s .pre))
+    (search needs)
+    (simp (toZ-ofZ, s .fits .x, s .fits .y, s .fits .v, s .fits .w, k .0, k .1, k .2, k .3, k .4) at (c .round-div .ensures))
 
 pub inner-spec : {M : Type 1} → statement M
 inner-spec = tie.close (tie.spec mul-round-div mul-round-div-2 add-round-div add-round-div-2 sub-round-div round-div-requires returns)

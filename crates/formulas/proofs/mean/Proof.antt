@@ -1,6 +1,5 @@
 -- `formulas::mean` meets its contract: the sums fit, and a quarter of the last one is no larger than its largest term.
 -- Assumes nothing.
-use mathlib.Core.Path.{_≡_}
 use Prim.Native.Nat.{_^_, _≤_}
 use native.Mathlib.Omega.{arith}
 use borrow.Author.Needs.{needs}
@@ -9,10 +8,9 @@ use mir.Syntax.{w64}
 use mir.Val.{SFits}
 use mir.Facts.{toZ-ofZ}
 use Rattle.integers.proofs.Poly.{over, poly}
-use Rattle.paper.specs.Numbers.{round}
 use Rattle.rounding.specs.Near.{Near}
-use Rattle.rounding.proofs.Laws.{near-is}
 use Rattle.formulas.specs.Sizes.{Corner}
+use Rattle.formulas.proofs.Laws.{rounded-is}
 use Rattle.formulas.proofs.mean.Statement.{statement}
 use Rattle.formulas.proofs.mean.Tie as tie
 
@@ -53,9 +51,10 @@ returns c =
     let s = c .before in
     let k = facts s in
     let q = c .round-shift .result in
-    let f : SFits w64 q = search needs in
-    let e : q ≡ round (total (s .args .a) (s .args .b) (s .args .c) (s .args .d)) (pos 4) = simp (toZ-ofZ, s .fits .a, s .fits .b, s .fits .c, s .fits .d, k .0, k .1, k .2) at (c .round-shift .ensures) in
-    rw (toZ-ofZ f) (e, size (s .args .a) (s .args .b) (s .args .c) (s .args .d) q (s .pre) (near-is (total (s .args .a) (s .args .b) (s .args .c) (s .args .d)) (pos 4) q tt e))
+    rounded-is (total (s .args .a) (s .args .b) (s .args .c) (s .args .d)) (pos 4) q Corner tt
+    (size (s .args .a) (s .args .b) (s .args .c) (s .args .d) q (s .pre))
+    (search needs)
+    (simp (toZ-ofZ, s .fits .a, s .fits .b, s .fits .c, s .fits .d, k .0, k .1, k .2) at (c .round-shift .ensures))
 
 pub mean-spec : {M : Type 1} → statement M
 mean-spec = tie.close (tie.spec add-round-shift add-round-shift-2 add-round-shift-3 round-shift-requires returns)

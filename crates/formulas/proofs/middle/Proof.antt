@@ -1,6 +1,5 @@
 -- `formulas::middle` meets its contract: the sums fit, and a sixteenth of the last one is bounded by its terms.
 -- Assumes nothing.
-use mathlib.Core.Path.{_≡_}
 use Prim.Native.Nat.{_^_, _≤_}
 use native.Mathlib.Omega.{arith}
 use borrow.Author.Needs.{needs}
@@ -10,10 +9,9 @@ use mir.Syntax.{w64}
 use mir.Val.{SFits}
 use mir.Facts.{toZ-ofZ}
 use Rattle.integers.proofs.Poly.{over, poly}
-use Rattle.paper.specs.Numbers.{round}
 use Rattle.rounding.specs.Near.{Near}
-use Rattle.rounding.proofs.Laws.{near-is}
 use Rattle.formulas.specs.Sizes.{Value, Written}
+use Rattle.formulas.proofs.Laws.{rounded-is}
 use Rattle.formulas.proofs.middle.Statement.{statement}
 use Rattle.formulas.proofs.middle.Tie as tie
 
@@ -75,9 +73,10 @@ returns c =
     let s = c .before in
     let k = facts s in
     let q = c .round-shift .result in
-    let f : SFits w64 q = search needs in
-    let e : q ≡ round (total (s .args .n) (s .args .o) (s .args .g) (s .args .l) (s .args .x) (s .args .y) (s .args .h) (s .args .t)) (pos 16) = simp (toZ-ofZ, s .fits .n, s .fits .o, s .fits .g, s .fits .l, s .fits .x, s .fits .y, s .fits .h, s .fits .t, k .0, k .1, k .2, k .3, k .4, k .5, k .6, k .7, k .8, k .9) at (c .round-shift .ensures) in
-    rw (toZ-ofZ f) (e, size (s .args .n) (s .args .o) (s .args .g) (s .args .l) (s .args .x) (s .args .y) (s .args .h) (s .args .t) q (s .pre) (near-is (total (s .args .n) (s .args .o) (s .args .g) (s .args .l) (s .args .x) (s .args .y) (s .args .h) (s .args .t)) (pos 16) q tt e))
+    rounded-is (total (s .args .n) (s .args .o) (s .args .g) (s .args .l) (s .args .x) (s .args .y) (s .args .h) (s .args .t)) (pos 16) q Written tt
+    (size (s .args .n) (s .args .o) (s .args .g) (s .args .l) (s .args .x) (s .args .y) (s .args .h) (s .args .t) q (s .pre))
+    (search needs)
+    (simp (toZ-ofZ, s .fits .n, s .fits .o, s .fits .g, s .fits .l, s .fits .x, s .fits .y, s .fits .h, s .fits .t, k .0, k .1, k .2, k .3, k .4, k .5, k .6, k .7, k .8, k .9) at (c .round-shift .ensures))
 
 pub middle-spec : {M : Type 1} → statement M
 middle-spec = tie.close (tie.spec mul-round-shift sub-round-shift sub-round-shift-2 mul-round-shift-2 add-round-shift add-round-shift-2 mul-round-shift-3 add-round-shift-3 sub-round-shift-3 sub-round-shift-4 round-shift-requires returns)

@@ -1,6 +1,5 @@
 -- `formulas::quarter` meets its contract: the sum fits, and a quarter of it is no larger than the larger of the two.
 -- Assumes nothing.
-use mathlib.Core.Path.{_≡_}
 use Prim.Native.Nat.{_^_, _≤_}
 use native.Mathlib.Omega.{arith}
 use borrow.Author.Needs.{needs}
@@ -10,10 +9,9 @@ use mir.Syntax.{w64}
 use mir.Val.{SFits}
 use mir.Facts.{toZ-ofZ}
 use Rattle.integers.proofs.Poly.{over, poly}
-use Rattle.paper.specs.Numbers.{round}
 use Rattle.rounding.specs.Near.{Near}
-use Rattle.rounding.proofs.Laws.{near-is}
 use Rattle.formulas.specs.Sizes.{Value, Written}
+use Rattle.formulas.proofs.Laws.{rounded-is}
 use Rattle.formulas.proofs.quarter.Statement.{statement}
 use Rattle.formulas.proofs.quarter.Tie as tie
 
@@ -51,9 +49,10 @@ returns c =
     let s = c .before in
     let k = facts s in
     let q = c .round-shift .result in
-    let f : SFits w64 q = search needs in
-    let e : q ≡ round (total (s .args .e) (s .args .x)) (pos 4) = simp (toZ-ofZ, s .fits .e, s .fits .x, k .0, k .1) at (c .round-shift .ensures) in
-    rw (toZ-ofZ f) (e, size (s .args .e) (s .args .x) q (s .pre) (near-is (total (s .args .e) (s .args .x)) (pos 4) q tt e))
+    rounded-is (total (s .args .e) (s .args .x)) (pos 4) q Written tt
+    (size (s .args .e) (s .args .x) q (s .pre))
+    (search needs)
+    (simp (toZ-ofZ, s .fits .e, s .fits .x, k .0, k .1) at (c .round-shift .ensures))
 
 pub quarter-spec : {M : Type 1} → statement M
 quarter-spec = tie.close (tie.spec mul-round-shift add-round-shift round-shift-requires returns)

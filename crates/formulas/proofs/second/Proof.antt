@@ -1,6 +1,5 @@
 -- `formulas::second` meets its contract: the products fit by the bounds on c, the sums by those on the products, and the rounded quotient is bounded by its terms.
 -- Assumes nothing.
-use mathlib.Core.Path.{_≡_}
 use Prim.Native.Nat.{_*_, _^_, _≤_}
 use native.Mathlib.Omega.{arith}
 use borrow.Author.Needs.{needs}
@@ -11,43 +10,43 @@ use mir.Val.{SFits}
 use mir.Facts.{toZ-ofZ}
 use Rattle.integers.proofs.Poly.{over, poly}
 use Rattle.integers.proofs.Laws.{abs-mul-le}
-use Rattle.paper.specs.Numbers.{round}
+use Rattle.paper.specs.Cosines.{unit}
 use Rattle.rounding.specs.Near.{Near}
-use Rattle.rounding.proofs.Laws.{near-is}
 use Rattle.formulas.specs.Sizes.{Value, Written, Row}
+use Rattle.formulas.proofs.Laws.{rounded-is}
 use Rattle.formulas.proofs.second.Statement.{statement}
 use Rattle.formulas.proofs.second.Tie as tie
 
 abbrev total : ℤ → ℤ → ℤ → ℤ → ℤ → ℤ → ℤ
-total c h x y s n = c *ℤ h +ℤ pos 3 *ℤ (pos (2 ^ 30) -ℤ c) *ℤ x +ℤ pos 2 *ℤ c *ℤ y +ℤ pos (2 ^ 30) *ℤ s +ℤ pos (2 ^ 32) *ℤ n
+total c h x y s n = c *ℤ h +ℤ pos 3 *ℤ (pos unit -ℤ c) *ℤ x +ℤ pos 2 *ℤ c *ℤ y +ℤ pos unit *ℤ s +ℤ pos (4 * unit) *ℤ n
 
 abbrev Given : ℤ → ℤ → ℤ → ℤ → ℤ → ℤ → Type 0
 Given c h x y s n = Row c × Value h × Value x × Value y × Value s × Value n
 
 -- the three products
 abbrev Products : ℤ → ℤ → ℤ → ℤ → ℤ → ℤ → Type 0
-Products c h x y s n = (natAbs (c *ℤ h) ≤ 2 ^ 30 * 2 ^ 25) × (natAbs ((pos (2 ^ 30) -ℤ c) *ℤ x) ≤ 3 * 2 ^ 29 * 2 ^ 25) × (natAbs (c *ℤ y) ≤ 2 ^ 30 * 2 ^ 25)
+Products c h x y s n = (natAbs (c *ℤ h) ≤ 2 ^ 30 * 2 ^ 25) × (natAbs ((pos unit -ℤ c) *ℤ x) ≤ 3 * 2 ^ 29 * 2 ^ 25) × (natAbs (c *ℤ y) ≤ 2 ^ 30 * 2 ^ 25)
 
-cosine-size : (c : ℤ) → Row c → (natAbs c ≤ 2 ^ 30) × (natAbs (pos (2 ^ 30) -ℤ c) ≤ 3 * 2 ^ 29)
+cosine-size : (c : ℤ) → Row c → (natAbs c ≤ 2 ^ 30) × (natAbs (pos unit -ℤ c) ≤ 3 * 2 ^ 29)
 cosine-size = over 1 _ λ ρ. simp (poly, ρ) (omega arith)
 
 products : (c h x y s n : ℤ) → Given c h x y s n → Products c h x y s n
 products c h x y s n g =
     let k = cosine-size c (g .0) in (
       abs-mul-le c h (2 ^ 30) (2 ^ 25) (k .0) (g .1),
-      abs-mul-le (pos (2 ^ 30) -ℤ c) x (3 * 2 ^ 29) (2 ^ 25) (k .1) (g .2),
+      abs-mul-le (pos unit -ℤ c) x (3 * 2 ^ 29) (2 ^ 25) (k .1) (g .2),
       abs-mul-le c y (2 ^ 30) (2 ^ 25) (k .0) (g .3),
     )
 
 abbrev Fine : ℤ → ℤ → ℤ → ℤ → ℤ → ℤ → Type 0
 Fine c h x y s n =
-    SFits w64 (c *ℤ h) × SFits w64 (pos (2 ^ 30) -ℤ c) × SFits w64 (pos 3 *ℤ (pos (2 ^ 30) -ℤ c)) × SFits w64 (pos 3 *ℤ (pos (2 ^ 30) -ℤ c) *ℤ x) × SFits w64 (c *ℤ h +ℤ pos 3 *ℤ (pos (2 ^ 30) -ℤ c) *ℤ x) × SFits w64 (pos 2 *ℤ c) × SFits w64 (pos 2 *ℤ c *ℤ y) × SFits w64 (c *ℤ h +ℤ pos 3 *ℤ (pos (2 ^ 30) -ℤ c) *ℤ x +ℤ pos 2 *ℤ c *ℤ y) × SFits w64 (pos (2 ^ 30) *ℤ s) × SFits w64 (c *ℤ h +ℤ pos 3 *ℤ (pos (2 ^ 30) -ℤ c) *ℤ x +ℤ pos 2 *ℤ c *ℤ y +ℤ pos (2 ^ 30) *ℤ s) × SFits w64 (pos (2 ^ 32) *ℤ n) × SFits w64 (total c h x y s n)
+    SFits w64 (c *ℤ h) × SFits w64 (pos unit -ℤ c) × SFits w64 (pos 3 *ℤ (pos unit -ℤ c)) × SFits w64 (pos 3 *ℤ (pos unit -ℤ c) *ℤ x) × SFits w64 (c *ℤ h +ℤ pos 3 *ℤ (pos unit -ℤ c) *ℤ x) × SFits w64 (pos 2 *ℤ c) × SFits w64 (pos 2 *ℤ c *ℤ y) × SFits w64 (c *ℤ h +ℤ pos 3 *ℤ (pos unit -ℤ c) *ℤ x +ℤ pos 2 *ℤ c *ℤ y) × SFits w64 (pos unit *ℤ s) × SFits w64 (c *ℤ h +ℤ pos 3 *ℤ (pos unit -ℤ c) *ℤ x +ℤ pos 2 *ℤ c *ℤ y +ℤ pos unit *ℤ s) × SFits w64 (pos (4 * unit) *ℤ n) × SFits w64 (total c h x y s n)
     × (natAbs (total c h x y s n) ≤ 2 ^ 60)
 
 fits : (c h x y s n : ℤ) → Given c h x y s n → Products c h x y s n → Fine c h x y s n
 fits = over 6 _ λ ρ. simp (poly, ρ) (omega arith)
 
-size : (c h x y s n q : ℤ) → Given c h x y s n → Products c h x y s n → Near (total c h x y s n) (pos (2 ^ 33)) q → Written q
+size : (c h x y s n q : ℤ) → Given c h x y s n → Products c h x y s n → Near (total c h x y s n) (pos (8 * unit)) q → Written q
 size = over 7 _ λ ρ. simp (poly, ρ) (omega arith)
 
 facts : (s : tie.Start) → Fine (s .args .c) (s .args .h) (s .args .x) (s .args .y) (s .args .s) (s .args .n)
@@ -97,9 +96,10 @@ returns c =
     let s = c .before in
     let k = facts s in
     let q = c .round-shift .result in
-    let f : SFits w64 q = search needs in
-    let e : q ≡ round (total (s .args .c) (s .args .h) (s .args .x) (s .args .y) (s .args .s) (s .args .n)) (pos (2 ^ 33)) = simp (toZ-ofZ, s .fits .c, s .fits .h, s .fits .x, s .fits .y, s .fits .s, s .fits .n, k .0, k .1, k .2, k .3, k .4, k .5, k .6, k .7, k .8, k .9, k .10, k .11) at (c .round-shift .ensures) in
-    rw (toZ-ofZ f) (e, size (s .args .c) (s .args .h) (s .args .x) (s .args .y) (s .args .s) (s .args .n) q (s .pre) (products (s .args .c) (s .args .h) (s .args .x) (s .args .y) (s .args .s) (s .args .n) (s .pre)) (near-is (total (s .args .c) (s .args .h) (s .args .x) (s .args .y) (s .args .s) (s .args .n)) (pos (2 ^ 33)) q tt e))
+    rounded-is (total (s .args .c) (s .args .h) (s .args .x) (s .args .y) (s .args .s) (s .args .n)) (pos (8 * unit)) q Written tt
+    (size (s .args .c) (s .args .h) (s .args .x) (s .args .y) (s .args .s) (s .args .n) q (s .pre) (products (s .args .c) (s .args .h) (s .args .x) (s .args .y) (s .args .s) (s .args .n) (s .pre)))
+    (search needs)
+    (simp (toZ-ofZ, s .fits .c, s .fits .h, s .fits .x, s .fits .y, s .fits .s, s .fits .n, k .0, k .1, k .2, k .3, k .4, k .5, k .6, k .7, k .8, k .9, k .10, k .11) at (c .round-shift .ensures))
 
 pub second-spec : {M : Type 1} → statement M
 second-spec = tie.close (tie.spec mul-round-shift sub-round-shift mul-round-shift-2 mul-round-shift-3 add-round-shift mul-round-shift-4 mul-round-shift-5 add-round-shift-2 mul-round-shift-6 add-round-shift-3 mul-round-shift-7 add-round-shift-4 round-shift-requires returns)

@@ -1,6 +1,5 @@
 -- `formulas::toward` meets its contract: the sums fit, and the weights sum to twelve.
 -- Assumes nothing.
-use mathlib.Core.Path.{_≡_}
 use Prim.Native.Nat.{_^_, _≤_}
 use native.Mathlib.Omega.{arith}
 use borrow.Author.Needs.{needs}
@@ -9,10 +8,9 @@ use mir.Syntax.{w64}
 use mir.Val.{SFits}
 use mir.Facts.{toZ-ofZ}
 use Rattle.integers.proofs.Poly.{over, poly}
-use Rattle.paper.specs.Numbers.{round}
 use Rattle.rounding.specs.Near.{Near}
-use Rattle.rounding.proofs.Laws.{near-is}
 use Rattle.formulas.specs.Sizes.{Corner}
+use Rattle.formulas.proofs.Laws.{rounded-is}
 use Rattle.formulas.proofs.toward.Statement.{statement}
 use Rattle.formulas.proofs.toward.Tie as tie
 
@@ -59,9 +57,10 @@ returns c =
     let s = c .before in
     let k = facts s in
     let q = c .round-div .result in
-    let f : SFits w64 q = search needs in
-    let e : q ≡ round (total (s .args .a) (s .args .b) (s .args .c) (s .args .d)) (pos 12) = simp (toZ-ofZ, s .fits .a, s .fits .b, s .fits .c, s .fits .d, k .0, k .1, k .2, k .3, k .4) at (c .round-div .ensures) in
-    rw (toZ-ofZ f) (e, size (s .args .a) (s .args .b) (s .args .c) (s .args .d) q (s .pre) (near-is (total (s .args .a) (s .args .b) (s .args .c) (s .args .d)) (pos 12) q tt e))
+    rounded-is (total (s .args .a) (s .args .b) (s .args .c) (s .args .d)) (pos 12) q Corner tt
+    (size (s .args .a) (s .args .b) (s .args .c) (s .args .d) q (s .pre))
+    (search needs)
+    (simp (toZ-ofZ, s .fits .a, s .fits .b, s .fits .c, s .fits .d, k .0, k .1, k .2, k .3, k .4) at (c .round-div .ensures))
 
 pub toward-spec : {M : Type 1} → statement M
 toward-spec = tie.close (tie.spec mul-round-div mul-round-div-2 add-round-div add-round-div-2 add-round-div-3 round-div-requires returns)
