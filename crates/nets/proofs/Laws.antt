@@ -1,14 +1,15 @@
 -- Numbers placed in threes: one more, row after row, and the whole net.
 -- Assumes nothing.
-use mathlib.Core.Path.{_≡_, refl, sym, ap, _∙_}
+use mathlib.Core.Path.{_≡_, refl, sym, ap, _∙_, subst}
 use mathlib.Core.Bool.{Bool, true, false, not}
 use mathlib.Core.List.{List, [], _∷_, _++_, append-assoc}
 use Prim.Native.Nat.{ℕ, zero, suc, _+_, _-_, _*_, _^_, _≤_, _<_}
+use native.Mathlib.Nat.{mul-le-mul-left}
 use native.Mathlib.Numerals.{add-one}
 use native.Mathlib.Omega.{arith}
 use lib.Dec.{T, ltb, ltb→lt, nltb→le, lit<}
 use lib.ListN.{length, getD, take, set, length-set, length-append, List·getD-append}
-use lib.Seq.{take-suc, getD-append-add, getD-set-same, getD-set-other, length-take-le}
+use lib.Seq.{take-suc, take-all, getD-append-add, getD-set-same, getD-set-other, length-take-le}
 use lib.IntN.{ℤ, pos}
 use mir.Syntax.{w32, w64}
 use mir.Val.{SFits, ofZ, toZ}
@@ -26,7 +27,7 @@ use Rattle.sides.specs.Values.{FourSides}
 use Rattle.grids.specs.declared.RowValues.{RowValues}
 use Rattle.grids.specs.Rows.{RowsOf, AllRows, AllSized, IsAGrid, IsBGrid}
 use Rattle.grids.proofs.Laws.{value-is}
-use Rattle.nets.specs.Put.{Placed, Put}
+use Rattle.nets.specs.Put.{Square, Placed, Put}
 
 pub placed-none : (old : List ℤ) (from : ℕ) → Placed old old from []
 placed-none old from = record { same = refl; points-are = λ p h. absurd (omega arith); others = λ i n. refl }
@@ -97,6 +98,24 @@ grid-step old mid new from at g n i l r e p q = (
   where
     more : {a b : ℕ} → a ≡ n * i → b ≡ n → a + b ≡ n * (i + 1)
     more e f = omega arith
+
+-- a grid that is written row by row: before the first row, at row i, and after the last
+pub grid-start : (old : List ℤ) (from n : ℕ) (g : List (List ℤ)) → Rowed old old from g n 0
+grid-start old from n g = (omega arith, placed-none old from)
+
+pub grid-row : (old out : List ℤ) (from at : ℕ) (g : List (List ℤ)) (n i : ℕ) → Square n g → i < n → at ≡ from + 3 * (n * i)
+    → from + 3 * (n * n) ≤ length old + 2 → Rowed old out from g n i
+    → (at + 3 * length (getD g i []) ≤ length out + 2) × ((j : ℕ) → j < length (getD g i []) → Written (getD (getD g i []) j (pos 0)))
+grid-row old out from at g n i q l e room p =
+    let h : i + 1 ≤ n = omega arith in
+    let m = mul-le-mul-left n h in
+    let k : length (getD g i []) ≡ n = q .long i l in (
+      omega (arith, m, k, p .1 .same),
+      λ j h. q .written i j l (omega (arith, k)),
+    )
+
+pub grid-end : (old new : List ℤ) (from : ℕ) (g : List (List ℤ)) (n i : ℕ) → length g ≤ i → Rowed old new from g n i → Placed old new from (rows g)
+grid-end old new from g n i l p = subst (λ (h : List (List ℤ)). Placed old new from (rows h)) (take-all i g l) (p .1)
 
 -- a number of a grid, in its row
 pub rows-at : (g : List (List ℤ)) (n : ℕ) → ((i : ℕ) → i < length g → length (getD g i []) ≡ n) → (i j : ℕ) → i < length g → j < n
@@ -204,10 +223,8 @@ module _ (K : RefinedMesh rounded) (ok : Sound (K .corners)) (small : Small K) (
       (net-size K ok small c here (25 + (4 * i + j)))
 
   -- of lists that are these grids
-  pub b-fine : (b : List (List ℤ)) → b ≡ bGrid K c
-      → ((i : ℕ) → i < 5 → length (getD b i []) ≡ 5) × ((i j : ℕ) → i < 5 → j < 5 → Written (getD (getD b i []) j (pos 0)))
-  b-fine b e = rw e (b-long K c, b-written)
+  pub b-fine : (b : List (List ℤ)) → b ≡ bGrid K c → Square 5 b
+  b-fine b e = rw e (record { long = b-long K c; written = b-written })
 
-  pub a-fine : (a : List (List ℤ)) → a ≡ aGrid K c
-      → ((i : ℕ) → i < 4 → length (getD a i []) ≡ 4) × ((i j : ℕ) → i < 4 → j < 4 → Written (getD (getD a i []) j (pos 0)))
-  a-fine a e = rw e (a-long K c, a-written)
+  pub a-fine : (a : List (List ℤ)) → a ≡ aGrid K c → Square 4 a
+  a-fine a e = rw e (record { long = a-long K c; written = a-written })

@@ -1,7 +1,6 @@
 // The quad-net of one corner on one axis: its 41 control points from the tables of the mesh, by value as two grids, and then
 // written out, every third number of the corner's part of the output.
 ghost use mathlib.Core.Path.{_≡_};
-ghost use mathlib.Core.List.{[]};
 ghost use Prim.Native.Nat.{ℕ, _+_, _*_, _≤_, _<_};
 ghost use lib.ListN.{length, getD};
 ghost use lib.IntN.{pos};
@@ -10,7 +9,7 @@ ghost use Rattle.paper.specs.Net.{rows};
 ghost use Rattle.paper.specs.Calls.{perCorner};
 ghost use Rattle.cosines.specs.Stored.{stored};
 ghost use Rattle.sides.specs.Drawn.{drawn, Drawn};
-ghost use Rattle.nets.specs.Put.{Placed, Put};
+ghost use Rattle.nets.specs.Put.{Square, Placed, Put};
 
 // A row, every third number from `from` on.
 fn put_row(row: &[i64], out: &mut [i32], from: usize)
@@ -27,7 +26,7 @@ fn put_row(row: &[i64], out: &mut [i32], from: usize)
 
 // The five rows of five b points.
 fn put_b(g: [[i64; 5]; 5], out: &mut [i32], from: usize)
-    requires { ⌜ (from + 75 ≤ length (now out) + 2) × ((i : ℕ) → i < 5 → length (getD g i []) ≡ 5) × ((i j : ℕ) → i < 5 → j < 5 → Written (getD (getD g i []) j (pos 0))) ⌝ }
+    requires { ⌜ (from + 3 * (5 * 5) ≤ length (now out) + 2) × Square 5 g ⌝ }
     ensures { λ _. ⌜ Placed (now (out .entry)) (now (out .exit)) from (rows g) ⌝ }
 {
     let mut i: usize = 0;
@@ -40,7 +39,7 @@ fn put_b(g: [[i64; 5]; 5], out: &mut [i32], from: usize)
 
 // The four rows of four a points.
 fn put_a(g: [[i64; 4]; 4], out: &mut [i32], from: usize)
-    requires { ⌜ (from + 48 ≤ length (now out) + 2) × ((i : ℕ) → i < 4 → length (getD g i []) ≡ 4) × ((i j : ℕ) → i < 4 → j < 4 → Written (getD (getD g i []) j (pos 0))) ⌝ }
+    requires { ⌜ (from + 3 * (4 * 4) ≤ length (now out) + 2) × Square 4 g ⌝ }
     ensures { λ _. ⌜ Placed (now (out .entry)) (now (out .exit)) from (rows g) ⌝ }
 {
     let mut i: usize = 0;

@@ -1,14 +1,8 @@
 -- `nets::put_a` meets its contract. The invariant: the first i rows of four are placed. One law, `grid-step`, has both grids.
 -- Assumes nothing.
-use mathlib.Core.Path.{_≡_, refl, sym, subst}
-use mathlib.Core.List.{List, []}
+use mathlib.Core.Path.{sym}
 use Prim.Native.Nat.{_+_, _-_, _*_, _≤_}
-use lib.ListN.{length, getD}
-use lib.Seq.{take-all}
-use lib.IntN.{ℤ}
-use Rattle.paper.specs.Net.{rows}
-use Rattle.nets.specs.Put.{Placed}
-use Rattle.nets.proofs.Laws.{placed-none, Rowed, grid-step}
+use Rattle.nets.proofs.Laws.{Rowed, grid-start, grid-row, grid-step, grid-end}
 use native.Mathlib.Omega.{arith}
 use borrow.Author.Needs.{needs}
 use Rattle.nets.proofs.put_a.Statement.{statement}
@@ -21,7 +15,7 @@ abbrev μ-loop : tie.MeasureT-loop
 μ-loop out₀ from g i₀ out i = 4 - i
 
 loop-holds : tie.Need-loop-holds Inv-loop μ-loop
-loop-holds c = (search needs, (refl, placed-none (c .args .out .now) (c .args .from)))
+loop-holds c = (search needs, grid-start (c .args .out .now) (c .args .from) 4 (c .args .t1))
 
 mul-row : tie.Need-mul-row Inv-loop μ-loop
 mul-row c = search needs
@@ -30,7 +24,7 @@ array-copy-out-row : tie.Need-array-copy-out-row Inv-loop μ-loop
 array-copy-out-row c = search needs
 
 slice-aggregate-put-row : tie.Need-slice-aggregate-put-row Inv-loop μ-loop
-slice-aggregate-put-row c = let a = c .before .before .before in sym (a .before .pre .1 (a .loop .i) (c .before .before .loop-test .taken))
+slice-aggregate-put-row c = let a = c .before .before .before in sym (a .before .pre .1 .long (a .loop .i) (c .before .before .loop-test .taken))
 
 mul-put-row : tie.Need-mul-put-row Inv-loop μ-loop
 mul-put-row c = search needs
@@ -43,10 +37,7 @@ put-row-requires c κs =
     let a = c .before .before .before .before in
     let s = a .before in
     let l = c .before .before .before .loop-test .taken in
-    let n : length (getD (s .args .t1) (a .loop .i) []) ≡ 4 = s .pre .1 (a .loop .i) l in (
-      omega (arith, s .pre .0, a .loop .inv .1 .1 .same),
-      λ j h. s .pre .2 (a .loop .i) j l (omega arith),
-    )
+    grid-row (s .args .out .now) (a .loop .out) (s .args .from) _ (s .args .t1) 4 (a .loop .i) (s .pre .1) l (omega arith) (s .pre .0) (a .loop .inv .1)
 
 add-i : tie.Need-add-i Inv-loop μ-loop
 add-i c = search needs
@@ -58,8 +49,11 @@ loop-again : tie.Need-loop-again Inv-loop μ-loop
 loop-again c =
     let a = c .before .before .before .before .before .before in
     let s = a .before in
-    let l = c .before .before .before .before .before .loop-test .taken in
-    (omega arith, grid-step (s .args .out .now) (a .loop .out) _ (s .args .from) (s .args .from + 12 * a .loop .i) (s .args .t1) 4 (a .loop .i) (omega (arith, s .good .0 .1 .0 .1)) (s .pre .1 (a .loop .i) l) (omega arith) (a .loop .inv .1) (c .before .put-row .ensures))
+    let l = c .before .before .before .before .before .loop-test .taken in (
+      omega arith,
+      grid-step (s .args .out .now) (a .loop .out) _ (s .args .from) (s .args .from + 12 * a .loop .i) (s .args .t1) 4 (a .loop .i)
+          (omega (arith, s .good .0 .1 .0 .1)) (s .pre .1 .long (a .loop .i) l) (omega arith) (a .loop .inv .1) (c .before .put-row .ensures),
+    )
 
 same-length : tie.Need-same-length Inv-loop μ-loop
 same-length c = c .before .loop .inv .1 .1 .same
@@ -68,7 +62,7 @@ returns : tie.Need-returns Inv-loop μ-loop
 returns c =
     let s = c .before .before in
     let l = c .before .loop in
-    subst (λ (g : List (List ℤ)). Placed (s .args .out .now) (l .out) (s .args .from) (rows g)) (take-all (l .i) (s .args .t1) (omega (arith, s .good .0 .1 .0 .1))) (l .inv .1 .1)
+    grid-end (s .args .out .now) (l .out) (s .args .from) (s .args .t1) 4 (l .i) (omega (arith, s .good .0 .1 .0 .1)) (l .inv .1)
 
 pub put-a-spec : {M : Type 1} → statement M
 put-a-spec =

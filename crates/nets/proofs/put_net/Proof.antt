@@ -66,7 +66,7 @@ b-grid-requires : tie.Need-b-grid-requires
 b-grid-requires c κs =
     let a = c .before .before .before .before in
     let s = start a in
-    let w = a-fine (mesh s) (s .pre .0 .0 .sound) (s .pre .0 .0 .small (s .args .axis) (s .pre .0 .2)) (s .args .c) (s .pre .0 .1) _ (a-grid a) .1 in
+    let w = a-fine (mesh s) (s .pre .0 .0 .sound) (s .pre .0 .0 .small (s .args .axis) (s .pre .0 .2)) (s .args .c) (s .pre .0 .1) _ (a-grid a) .written in
     let z = all-sized (mesh s) (s .args .c) _ (a .before .before .before .before .before .before .before .before .before .net-sides .ensures) _ _ _ _
     (a .before .before .before .before .side-rows .ensures) (a .before .before .before .side-rows2 .ensures) (a .before .before .side-rows3 .ensures)
     (a .before .side-rows4 .ensures) in
@@ -76,7 +76,7 @@ put-b-requires : tie.Need-put-b-requires
 put-b-requires c κs =
     let s = start (first (c .before)) in
     let w = b-fine (mesh s) (s .pre .0 .0 .sound) (s .pre .0 .0 .small (s .args .axis) (s .pre .0 .2)) (s .args .c) (s .pre .0 .1) _ (b-grid (c .before)) in
-    (omega (arith, s .pre .0 .2, s .pre .1), w .0, w .1)
+    (omega (arith, s .pre .0 .2, s .pre .1), w)
 
 add-put-a : tie.Need-add-put-a
 add-put-a c =
@@ -88,7 +88,7 @@ put-a-requires c κs =
     let a = first (c .before .before .before .before) in
     let s = start a in
     let w = a-fine (mesh s) (s .pre .0 .0 .sound) (s .pre .0 .0 .small (s .args .axis) (s .pre .0 .2)) (s .args .c) (s .pre .0 .1) _ (a-grid a) in
-    (omega (arith, s .pre .0 .2, s .pre .1, c .before .before .put-b .ensures .same), w .0, w .1)
+    (omega (arith, s .pre .0 .2, s .pre .1, c .before .before .put-b .ensures .same), w)
 
 same-length : tie.Need-same-length
 same-length c = search needs
