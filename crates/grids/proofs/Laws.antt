@@ -62,9 +62,12 @@ module _ (f g l o : SideValues) (z : Sized f × Sized g × Sized l × Sized o) (
     (e1 : Rounds (plain (f .head) +ℤ pos 3 *ℤ plain (f .x)) (pos 4) q1)
     (e2 : Rounds (plain (f .x) +ℤ plain (f .y)) (pos 2) q2)
     (e3 : Rounds (plain (f .tail) +ℤ pos 3 *ℤ plain (f .y)) (pos 4) q3)
-    (e4 : Rounds (plain (f .cosine) *ℤ plain (f .head) +ℤ pos 3 *ℤ (pos (2 ^ 30) -ℤ plain (f .cosine)) *ℤ plain (f .x) +ℤ pos 2 *ℤ plain (f .cosine) *ℤ plain (f .y) +ℤ pos (2 ^ 30) *ℤ plain (g .x) +ℤ pos (2 ^ 32) *ℤ plain (f .inner)) (pos (2 ^ 33)) q4)
-    (e5 : Rounds ((pos (3 * 2 ^ 30) -ℤ plain (f .cosine)) *ℤ plain (f .y) +ℤ plain (f .cosine) *ℤ plain (f .tail) +ℤ pos (2 ^ 32) *ℤ plain (f .inner) +ℤ pos (2 ^ 30) *ℤ plain (l .y)) (pos (2 ^ 33)) q5)
-    (e6 : Rounds (pos 14 *ℤ plain (f .inner) +ℤ pos 2 *ℤ (plain (o .inner) -ℤ plain (g .inner) -ℤ plain (l .inner)) +ℤ pos 3 *ℤ (plain (g .x) +ℤ plain (l .y)) -ℤ plain (f .head) -ℤ plain (f .tail)) (pos 16) q6)
+    (e4 : Rounds (plain (f .cosine) *ℤ plain (f .head) +ℤ pos 3 *ℤ (pos (2 ^ 30) -ℤ plain (f .cosine)) *ℤ plain (f .x) +ℤ pos 2 *ℤ plain
+    (f .cosine) *ℤ plain (f .y) +ℤ pos (2 ^ 30) *ℤ plain (g .x) +ℤ pos (2 ^ 32) *ℤ plain (f .inner)) (pos (2 ^ 33)) q4)
+    (e5 : Rounds ((pos (3 * 2 ^ 30) -ℤ plain (f .cosine)) *ℤ plain (f .y) +ℤ plain (f .cosine) *ℤ plain (f .tail) +ℤ pos (2 ^ 32) *ℤ plain
+    (f .inner) +ℤ pos (2 ^ 30) *ℤ plain (l .y)) (pos (2 ^ 33)) q5)
+    (e6 : Rounds (pos 14 *ℤ plain (f .inner) +ℤ pos 2 *ℤ (plain (o .inner) -ℤ plain (g .inner) -ℤ plain (l .inner)) +ℤ pos 3 *ℤ (plain
+    (g .x) +ℤ plain (l .y)) -ℤ plain (f .head) -ℤ plain (f .tail)) (pos 16) q6)
   where
     pub rows-of : RowsOf f g l o (record { outer1 = plain q1; outer2 = plain q2; outer3 = plain q3; a1 = plain q4; a2 = plain q5; middle = plain q6 })
     unfolding outer1 outer2 outer3 a1 a2 middle

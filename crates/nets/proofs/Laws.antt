@@ -136,7 +136,8 @@ rows-at (r ∷ g) n h (suc i) j l m =
     next s n i j e = omega arith
 
 -- ---- the net: its b grid, then its a grid
-pub put-is : (K : RefinedMesh rounded) (c axis at : ℕ) (old mid new : List ℤ) → Placed old mid (at + axis) (rows (bGrid K c)) → Placed mid new (at + axis + 75) (rows (aGrid K c))
+pub put-is : (K : RefinedMesh rounded) (c axis at : ℕ) (old mid new : List ℤ) → Placed old mid (at + axis) (rows (bGrid K c)) → Placed mid new
+    (at + axis + 75) (rows (aGrid K c))
     → Put K c axis at old new
 unfolding net bGrid aGrid
 put-is K c axis at old mid new p q =

@@ -84,7 +84,8 @@ sizes total before here after n t =
     let s = near-sizes before here after (t .before-size) (t .here-size) (t .after-size) in
     let w = abs-mul-le (pos 2) total 2 (n * 2 ^ 24) (lit≤ tt) (t .total-size) in
     let p = abs-mul-le (pos n) (around before here after) n (6 * 2 ^ 24) (omega arith) (s .3) in
-    let e : natAbs (eightfold total before here after n) ≤ 8 * n * 2 ^ 24 = le-trans (abs-add-le (pos 2 *ℤ total) (pos n *ℤ around before here after) _ _ w p) (omega arith) in
+    let e : natAbs (eightfold total before here after n) ≤ 8 * n * 2 ^ 24 = le-trans (abs-add-le (pos 2 *ℤ total)
+    (pos n *ℤ around before here after) _ _ w p) (omega arith) in
     record {
       read = toZ-pos w64 (omega (arith, t .most));
       twice = abs-fits w64 (pos 2 *ℤ total) (2 ^ 40) (le-trans w (omega (arith, t .most))) (lit< tt);
@@ -110,14 +111,17 @@ module _ (M : Mesh) (R : Refinable M) (f : ℕ) (l : f < faceCount M) where
   refined-is : (axis c : ℕ) → faceOf (M .sides) c ≡ f
       → refinedPoint rounded M axis c
       ≡ round
-      (eightfold (sum (λ j. ticks M axis (startOf (M .sides) f + j)) (getD (M .sides) f 0)) (ticks M axis (previous (M .sides) c)) (ticks M axis c) (ticks M axis (next (M .sides) c)) (getD (M .sides) f 0))
+      (eightfold (sum (λ j. ticks M axis (startOf (M .sides) f + j)) (getD (M .sides) f 0)) (ticks M axis (previous (M .sides) c)) (ticks M axis c)
+      (ticks M axis (next (M .sides) c)) (getD (M .sides) f 0))
       (pos 8 *ℤ pos (getD (M .sides) f 0))
   unfolding refinedPoint faceSum sidesOf
   refined-is axis c e = rw e
 
   -- from the values that the code has of a corner: their sizes, and the refined point
-  module _ (start c p q axis : ℕ) (e : start ≡ startOf (M .sides) f) (a : start ≤ c) (b : c < start + getD (M .sides) f 0) (ep : p ≡ previous (M .sides) c) (eq : q ≡ next (M .sides) c)
-      (ax : axis < 3) (T B H A : ℤ) (eT : T ≡ sum (λ j. ticks M axis (start + j)) (getD (M .sides) f 0)) (eB : B ≡ ticks M axis p) (eH : H ≡ ticks M axis c) (eA : A ≡ ticks M axis q) where
+  module _ (start c p q axis : ℕ) (e : start ≡ startOf (M .sides) f) (a : start ≤ c) (b : c < start + getD (M .sides) f 0) (ep : p ≡ previous
+      (M .sides) c) (eq : q ≡ next (M .sides) c)
+      (ax : axis < 3) (T B H A : ℤ) (eT : T ≡ sum (λ j. ticks M axis (start + j)) (getD (M .sides) f 0)) (eB : B ≡ ticks M axis p) (eH : H
+      ≡ ticks M axis c) (eA : A ≡ ticks M axis q) where
     inside : c < sumOf (M .sides)
     inside = omega (arith, end-in, R .sums)
 
@@ -205,7 +209,11 @@ module _ (M : Mesh) (k start : ℕ) (l : k < 3) where
       holds-more M _ _ _ old new _
       (λ axis c r. ⊎-elim
       (λ (q : c ≡ end). inl (r .0, q))
-      (λ o. inr ((r .0, r .1, ⊎-elim (λ (m : c < end). m) (λ (m : end < c). absurd (omega (arith, r .2))) o), λ x d p q. apart-corner axis k c end x d o (r .0) (p .0) (p .1) q))
+      (λ o. inr (
+        (r .0, r .1, ⊎-elim (λ (m : c < end). m) (λ (m : end < c). absurd (omega (arith, r .2))) o),
+        λ x d p q. apart-corner axis k c end x
+            d o (r .0) (p .0) (p .1) q,
+      ))
       (compared c end))
       (λ axis c p. (p .0, p .1, omega (arith, p .2))) (λ axis c p. (p .0, omega (arith, p .1), omega (arith, p .1)))
       h (holds-one M k end new v b e s (h .small))
@@ -216,7 +224,11 @@ module _ (M : Mesh) (k start : ℕ) (l : k < 3) where
       holds-more M _ _ _ old mid new
       (λ axis c r. ⊎-elim
       (λ (q : axis ≡ k). inl (q, r .1, r .2))
-      (λ o. inr ((⊎-elim (λ (m : axis < k). m) (λ (m : k < axis). absurd (omega (arith, r .0))) o, r .1, r .2), λ x d p q. apart-axis axis k c x d o (omega (arith, r .0)) l (p .0) q))
+      (λ o. inr (
+        (⊎-elim (λ (m : axis < k). m) (λ (m : k < axis). absurd (omega (arith, r .0))) o, r .1, r .2),
+        λ x d p q. apart-axis axis k c x d o
+            (omega (arith, r .0)) l (p .0) q,
+      ))
       (compared axis k))
       (λ axis c p. (omega (arith, p .0), p .1, p .2)) (λ axis c p. (omega (arith, p .0), p .1, p .2))
 

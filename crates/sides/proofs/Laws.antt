@@ -133,7 +133,8 @@ row-plain z y e h = let f = ap plain e ∙ toZ-ofZ (fits y h) in (f, rw f h)
     fits : (y : ℤ) → Row y → SFits w64 y
     fits = over 1 _ λ ρ. simp (poly, ρ) (omega arith)
 
-module _ (K : RefinedMesh rounded) (ok : Sound (K .corners)) (small : Small K) (c : ℕ) (here : c < K .corners .count) (s : Side) (h t p q v w k : ℤ) (e : Parts K c s h t p q v w k) where
+module _ (K : RefinedMesh rounded) (ok : Sound (K .corners)) (small : Small K) (c : ℕ) (here : c < K .corners .count) (s : Side) (h t p q v w k : ℤ)
+    (e : Parts K c s h t p q v w k) where
   row : Row (C K c s)
   row = (C-bottom K ok small c here s, top (C K c s) (C-size K ok small c here s))
     where

@@ -65,7 +65,8 @@ pub written-none : (K : ℕ → RefinedMesh rounded) (first : ℕ) (out : List �
 unfolding NetsWritten
 written-none K first out a j p h l = absurd (omega arith)
 
-module _ (K : ℕ → RefinedMesh rounded) (first k : ℕ) (old xs ys zs : List ℤ) (w : NetsWritten K first k old) (x : Put (K 0) (first + k) 0 (perCorner * k) old xs)
+module _ (K : ℕ → RefinedMesh rounded) (first k : ℕ) (old xs ys zs : List ℤ) (w : NetsWritten K first k old) (x : Put (K 0) (first + k) 0
+    (perCorner * k) old xs)
     (y : Put (K 1) (first + k) 1 (perCorner * k) xs ys) (z : Put (K 2) (first + k) 2 (perCorner * k) ys zs) where
   -- earlier corners are kept by all three
   earlier : (a j p : ℕ) → a < 3 → j < k → p < netPoints → getD zs (perCorner * j + 3 * p + a) (pos 0) ≡ getD (net (K a) (first + j)) p (pos 0)
@@ -97,7 +98,13 @@ zeros n = ap (λ (k : ℕ). replicate {A = ℕ} k 0) (sym (length-replicate {A =
 module _ (M : Mesh) (accepted : Accepted M) where
   pub named-in : Named (M .corners) (length {A = ℕ} (replicate mostVertices 0))
   named-in c h =
-      omega (arith, vertex-in M accepted c h, length-replicate {A = ℕ} mostVertices 0, few-vertices (length (M .coordinates)) (faceCount M) (cornerCount M) (sound-of M accepted .four))
+      omega (
+        arith,
+        vertex-in M accepted c h,
+        length-replicate {A = ℕ} mostVertices 0,
+        few-vertices (length (M .coordinates)) (faceCount M)
+            (cornerCount M) (sound-of M accepted .four),
+      )
 
   pub faces-in : faceCount M ≤ length {A = ℕ} (replicate mostFaces 0)
   faces-in = omega (arith, length-replicate {A = ℕ} mostFaces 0, few-faces (length (M .coordinates)) (faceCount M) (cornerCount M) (sound-of M accepted .four))

@@ -21,8 +21,10 @@ module _ (t : tie.After-enum-told) where
   abbrev start : tie.Start
   start = t .before .before .before .before .before .before .before
 
-  accepts : requestFaults (mesh start) (now (start .args .links)) (start .args .range .first) (start .args .range .count) (length (now (start .args .out))) ≡ sound
-  accepts = passed (t .before .before .check-request .result) (t .before .before .check-request .ensures (mesh start) refl (start .pre .1 .0 .links)) (t .enum-told .given .1)
+  accepts : requestFaults (mesh start) (now (start .args .links)) (start .args .range .first) (start .args .range .count) (length (now
+      (start .args .out))) ≡ sound
+  accepts = passed (t .before .before .check-request .result) (t .before .before .check-request .ensures (mesh start) refl
+      (start .pre .1 .0 .links)) (t .enum-told .given .1)
 
   grants : Granted (mesh start) (start .args .range .first) (start .args .range .count) (length (now (start .args .out)))
   grants = granted (mesh start) (now (start .args .links)) (start .args .range .first) (start .args .range .count) (length (now (start .args .out))) accepts
@@ -36,7 +38,11 @@ enum-known-a c = search needs
 returns : tie.Need-returns
 returns c =
     let s = c .before .before .before .before .before .before .before .before in
-    record { answers = ap stated (sym (c .before .a .given .1)) ∙ c .before .before .before .check-request .ensures (mesh s) refl (s .pre .1 .0 .links); holds = refl }
+    record {
+      answers = ap stated (sym (c .before .a .given .1)) ∙ c .before .before .before .check-request .ensures (mesh s) refl
+          (s .pre .1 .0 .links);
+      holds = refl;
+    }
 
 enum-told : tie.Need-enum-told
 enum-told c = search needs

@@ -17,7 +17,8 @@ abbrev mesh : tie.Start → Mesh
 mesh s = meshOf (now (s .args .coordinates)) (now (s .args .sides)) (now (s .args .corners))
 
 -- past the check of the mesh
-accepts : (t : tie.After-enum-told) → Accepted (mesh (t .before .before .before .before .before .before .before .before .before .before .before .before .before .before))
+accepts : (t : tie.After-enum-told) → Accepted (mesh (t .before .before .before .before .before .before .before .before .before .before .before
+    .before .before .before))
 accepts t =
     let a = t .before .before .before .before .before .before .check-within in
     passed (a .result) (a .ensures .answers) (t .enum-told .given .1)
@@ -69,7 +70,8 @@ same-length-6 c = search needs
 
 returns-2 : tie.Need-returns-2
 returns-2 c =
-    let s = c .before .before .before .before .before .before .before .before .before .before .before .before .before .before .before .before .before .before .before .before in
+    let s = c .before .before .before .before .before .before .before .before .before .before .before .before .before .before .before .before .before
+    .before .before .before in
     let r = c .before .before .answer in
     record {
       answers =

@@ -34,7 +34,8 @@ weight-of m j h = ap (λ (z : ℤ). pos (3 * unit) +ℤ pos 2 *ℤ cosine m (j +
 
 abbrev Fine : ℤ → ℤ → Type 0
 Fine x y =
-    SFits w64 x × SFits w64 y × SFits w64 (pos 2 *ℤ x) × SFits w64 (pos (3 * unit) +ℤ pos 2 *ℤ x) × SFits w64 (pos 2 *ℤ y) × SFits w64 (pos (3 * unit) +ℤ pos 2 *ℤ x +ℤ pos 2 *ℤ y)
+    SFits w64 x × SFits w64 y × SFits w64 (pos 2 *ℤ x) × SFits w64 (pos (3 * unit) +ℤ pos 2 *ℤ x) × SFits w64 (pos 2 *ℤ y) × SFits w64 (pos
+    (3 * unit) +ℤ pos 2 *ℤ x +ℤ pos 2 *ℤ y)
 
 fits : (x y : ℤ) → natAbs x ≤ unit → natAbs y ≤ unit → Fine x y
 fits = over 2 _ λ ρ. simp (poly, ρ) (omega arith)
@@ -59,7 +60,8 @@ module _ (b k l : ℕ) (x y : ℤ) (hb : b ≤ 8 * unit) (hk : k ≤ 8) (hl : l 
   two-fits : SFits w64 (plain (pos b +ℤ plain (pos k *ℤ plain x)) +ℤ plain (pos l *ℤ plain y))
   two-fits =
       abs-fits w64 _ (8 * unit + 8 * unit + 8 * unit)
-      (abs-add-le (plain (pos b +ℤ plain (pos k *ℤ plain x))) (plain (pos l *ℤ plain y)) (8 * unit + 8 * unit) (8 * unit) (still (pos b +ℤ plain (pos k *ℤ plain x)) (8 * unit + 8 * unit) (lit≤ tt) one-size)
+      (abs-add-le (plain (pos b +ℤ plain (pos k *ℤ plain x))) (plain (pos l *ℤ plain y)) (8 * unit + 8 * unit) (8 * unit) (still (pos b +ℤ plain
+      (pos k *ℤ plain x)) (8 * unit + 8 * unit) (lit≤ tt) one-size)
       (still (pos l *ℤ plain y) (8 * unit) (lit≤ tt) (times l y hl hy)))
       (lit< tt)
 

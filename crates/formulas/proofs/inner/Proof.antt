@@ -22,7 +22,8 @@ Given x y v w = FacePoint x × FacePoint y × Corner v × Corner w
 
 abbrev Fine : ℤ → ℤ → ℤ → ℤ → Type 0
 Fine x y v w =
-    SFits w64 (pos 3 *ℤ x) × SFits w64 (pos 3 *ℤ y) × SFits w64 (pos 3 *ℤ x +ℤ pos 3 *ℤ y) × SFits w64 (pos 3 *ℤ x +ℤ pos 3 *ℤ y +ℤ v) × SFits w64 (pos 3 *ℤ x +ℤ pos 3 *ℤ y +ℤ v -ℤ w)
+    SFits w64 (pos 3 *ℤ x) × SFits w64 (pos 3 *ℤ y) × SFits w64 (pos 3 *ℤ x +ℤ pos 3 *ℤ y) × SFits w64 (pos 3 *ℤ x +ℤ pos 3 *ℤ y +ℤ v) × SFits w64
+    (pos 3 *ℤ x +ℤ pos 3 *ℤ y +ℤ v -ℤ w)
     × (natAbs (total x y v w) ≤ 2 ^ 60)
 
 fits : (x y v w : ℤ) → Given x y v w → Fine x y v w

@@ -1,4 +1,5 @@
--- `formulas::third` meets its contract: the products fit by the bounds on c, the sums by those on the products, and the rounded quotient is bounded by its terms.
+-- `formulas::third` meets its contract: the products fit by the bounds on c, the sums by those on the products, and the rounded quotient is bounded
+-- by its terms.
 -- Assumes nothing.
 use Prim.Native.Nat.{_*_, _^_, _≤_}
 use native.Mathlib.Omega.{arith}
@@ -36,7 +37,9 @@ products c t y s n g =
 
 abbrev Fine : ℤ → ℤ → ℤ → ℤ → ℤ → Type 0
 Fine c t y s n =
-    SFits w64 (pos (3 * unit) -ℤ c) × SFits w64 ((pos (3 * unit) -ℤ c) *ℤ y) × SFits w64 (c *ℤ t) × SFits w64 ((pos (3 * unit) -ℤ c) *ℤ y +ℤ c *ℤ t) × SFits w64 (pos (4 * unit) *ℤ n) × SFits w64 ((pos (3 * unit) -ℤ c) *ℤ y +ℤ c *ℤ t +ℤ pos (4 * unit) *ℤ n) × SFits w64 (pos unit *ℤ s) × SFits w64 (total c t y s n)
+    SFits w64 (pos (3 * unit) -ℤ c) × SFits w64 ((pos (3 * unit) -ℤ c) *ℤ y) × SFits w64 (c *ℤ t) × SFits w64 ((pos
+    (3 * unit) -ℤ c) *ℤ y +ℤ c *ℤ t) × SFits w64 (pos (4 * unit) *ℤ n) × SFits w64 ((pos (3 * unit) -ℤ c) *ℤ y +ℤ c *ℤ t +ℤ pos
+    (4 * unit) *ℤ n) × SFits w64 (pos unit *ℤ s) × SFits w64 (total c t y s n)
     × (natAbs (total c t y s n) ≤ 2 ^ 60)
 
 fits : (c t y s n : ℤ) → Given c t y s n → Products c t y s n → Fine c t y s n
@@ -46,7 +49,8 @@ size : (c t y s n q : ℤ) → Given c t y s n → Products c t y s n → Near (
 size = over 6 _ λ ρ. simp (poly, ρ) (omega arith)
 
 facts : (s : tie.Start) → Fine (s .args .c) (s .args .t) (s .args .y) (s .args .s) (s .args .n)
-facts s = fits (s .args .c) (s .args .t) (s .args .y) (s .args .s) (s .args .n) (s .pre) (products (s .args .c) (s .args .t) (s .args .y) (s .args .s) (s .args .n) (s .pre))
+facts s = fits (s .args .c) (s .args .t) (s .args .y) (s .args .s) (s .args .n) (s .pre) (products (s .args .c) (s .args .t) (s .args .y)
+    (s .args .s) (s .args .n) (s .pre))
 
 sub-round-shift : tie.Need-sub-round-shift
 sub-round-shift c = search (needs, facts c)
@@ -81,9 +85,11 @@ returns c =
     let k = facts s in
     let q = c .round-shift .result in
     rounded-is (total (s .args .c) (s .args .t) (s .args .y) (s .args .s) (s .args .n)) (pos (8 * unit)) q Written tt
-    (size (s .args .c) (s .args .t) (s .args .y) (s .args .s) (s .args .n) q (s .pre) (products (s .args .c) (s .args .t) (s .args .y) (s .args .s) (s .args .n) (s .pre)))
+    (size (s .args .c) (s .args .t) (s .args .y) (s .args .s) (s .args .n) q (s .pre) (products (s .args .c) (s .args .t) (s .args .y) (s .args .s)
+    (s .args .n) (s .pre)))
     (search needs)
     (simp (toZ-ofZ, s .fits .c, s .fits .t, s .fits .y, s .fits .s, s .fits .n, k .0, k .1, k .2, k .3, k .4, k .5, k .6, k .7) at (c .round-shift .ensures))
 
 pub third-spec : {M : Type 1} → statement M
-third-spec = tie.close (tie.spec sub-round-shift mul-round-shift mul-round-shift-2 add-round-shift mul-round-shift-3 add-round-shift-2 mul-round-shift-4 add-round-shift-3 round-shift-requires returns)
+third-spec = tie.close (tie.spec sub-round-shift mul-round-shift mul-round-shift-2 add-round-shift mul-round-shift-3 add-round-shift-2
+    mul-round-shift-4 add-round-shift-3 round-shift-requires returns)

@@ -22,7 +22,8 @@ Given a b c d = Corner a × Corner b × Corner c × Corner d
 
 abbrev Fine : ℤ → ℤ → ℤ → ℤ → Type 0
 Fine a b c d =
-    SFits w64 (pos 5 *ℤ a) × SFits w64 (pos 5 *ℤ b) × SFits w64 (pos 5 *ℤ a +ℤ pos 5 *ℤ b) × SFits w64 (pos 5 *ℤ a +ℤ pos 5 *ℤ b +ℤ c) × SFits w64 (pos 5 *ℤ a +ℤ pos 5 *ℤ b +ℤ c +ℤ d)
+    SFits w64 (pos 5 *ℤ a) × SFits w64 (pos 5 *ℤ b) × SFits w64 (pos 5 *ℤ a +ℤ pos 5 *ℤ b) × SFits w64 (pos 5 *ℤ a +ℤ pos 5 *ℤ b +ℤ c) × SFits w64
+    (pos 5 *ℤ a +ℤ pos 5 *ℤ b +ℤ c +ℤ d)
     × (natAbs (total a b c d) ≤ 2 ^ 60)
 
 fits : (a b c d : ℤ) → Given a b c d → Fine a b c d

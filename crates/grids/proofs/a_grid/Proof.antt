@@ -36,18 +36,31 @@ half-requires-6 c κs =
 
 half-requires-7 : tie.Need-half-requires-7
 half-requires-7 c κs =
-    let s = c .before .before .before .before .before .before .before .before .before .before .before .before .before .before .before .before .before .before .before .before in
+    let s = c .before .before .before .before .before .before .before .before .before .before .before .before .before .before .before .before .before
+    .before .before .before in
     (written (s .args .r3 .middle) (s .pre .rows3 .middle), written (s .args .r2 .middle) (s .pre .rows2 .middle))
 
 half-requires-8 : tie.Need-half-requires-8
 half-requires-8 c κs =
-    let s = c .before .before .before .before .before .before .before .before .before .before .before .before .before .before .before .before .before .before .before .before .before .before .before in
+    let s = c .before .before .before .before .before .before .before .before .before .before .before .before .before .before .before .before .before
+    .before .before .before .before .before .before in
     (written (s .args .r1 .middle) (s .pre .rows1 .middle), written (s .args .r2 .middle) (s .pre .rows2 .middle))
 
 returns : tie.Need-returns
 returns c =
-    let s = c .before .before .before .before .before .before .before .before .before .before .before .before .before .before .before .before .before .before .before .before .before .before .before .before .before .before .before .before .before .before in
-    a-grid-is (s .args .r0) (s .args .r1) (s .args .r2) (s .args .r3) (s .pre) _ _ _ _ _ _ _ _ (c .before .before .before .before .before .before .before .before .before .before .before .before .before .before .before .before .before .before .before .before .before .before .before .before .before .before .before .half .ensures) (c .before .before .before .before .before .before .before .before .before .before .before .before .before .before .before .before .before .before .before .before .before .before .before .before .half2 .ensures) (c .before .before .before .before .before .before .before .before .before .before .before .before .before .before .before .before .before .before .before .before .before .half3 .ensures) (c .before .before .before .before .before .before .before .before .before .before .before .before .before .before .before .before .before .before .half4 .ensures) (c .before .before .before .before .before .before .before .before .before .before .before .before .before .before .before .half5 .ensures) (c .before .before .before .before .before .before .before .before .before .before .before .before .half6 .ensures) (c .before .before .before .before .before .before .before .before .before .half7 .ensures) (c .before .before .before .before .before .before .half8 .ensures)
+    let s = c .before .before .before .before .before .before .before .before .before .before .before .before .before .before .before .before .before
+    .before .before .before .before .before .before .before .before .before .before .before .before .before in
+    a-grid-is (s .args .r0) (s .args .r1) (s .args .r2) (s .args .r3) (s .pre) _ _ _ _ _ _ _ _
+    (c .before .before .before .before .before .before .before .before .before .before .before .before .before .before .before .before .before
+    .before .before .before .before .before .before .before .before .before .before .half .ensures)
+    (c .before .before .before .before .before .before .before .before .before .before .before .before .before .before .before .before .before
+    .before .before .before .before .before .before .before .half2 .ensures) (c .before .before .before .before .before .before .before .before
+    .before .before .before .before .before .before .before .before .before .before .before .before .before .half3 .ensures)
+    (c .before .before .before .before .before .before .before .before .before .before .before .before .before .before .before .before .before
+    .before .half4 .ensures) (c .before .before .before .before .before .before .before .before .before .before .before .before .before .before
+    .before .half5 .ensures) (c .before .before .before .before .before .before .before .before .before .before .before .before .half6 .ensures)
+    (c .before .before .before .before .before .before .before .before .before .half7 .ensures)
+    (c .before .before .before .before .before .before .half8 .ensures)
 
 pub a-grid-spec : {M : Type 1} → statement M
 a-grid-spec =

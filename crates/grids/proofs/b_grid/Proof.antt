@@ -49,10 +49,16 @@ half-requires-5 c κs =
 
 returns : tie.Need-returns
 returns c =
-    let s = c .before .before .before .before .before .before .before .before .before .before .before .before .before .before .before .before .before .before .before .before .before .before .before .before .before in
+    let s = c .before .before .before .before .before .before .before .before .before .before .before .before .before .before .before .before .before
+    .before .before .before .before .before .before .before .before in
     let k = s .fits in
     b-grid-is (s .args .e0) (s .args .e1) (s .args .e2) (s .args .e3) (k .e0) (k .e1) (k .e2) (k .e3) (s .args .r0) (s .args .r1) (s .args .r2) (s .args .r3)
-    (s .pre .0) (s .args .t9) (s .pre .1) (s .pre .2) _ _ _ _ _ (c .before .before .before .before .before .before .before .before .before .before .before .before .before .before .before .before .before .before .before .before .before .before .half .ensures) (c .before .before .before .before .before .before .before .before .before .before .before .before .before .before .before .before .before .before .before .half2 .ensures) (c .before .before .before .before .before .before .before .before .before .before .before .before .before .before .before .before .half3 .ensures) (c .before .before .before .before .before .before .before .before .before .before .before .before .before .half4 .ensures) (c .before .before .before .before .before .before .before .before .before .before .half5 .ensures)
+    (s .pre .0) (s .args .t9) (s .pre .1) (s .pre .2) _ _ _ _ _ (c .before .before .before .before .before .before .before .before .before .before
+    .before .before .before .before .before .before .before .before .before .before .before .before .half .ensures)
+    (c .before .before .before .before .before .before .before .before .before .before .before .before .before .before .before .before .before
+    .before .before .half2 .ensures) (c .before .before .before .before .before .before .before .before .before .before .before .before .before
+    .before .before .before .half3 .ensures) (c .before .before .before .before .before .before .before .before .before .before .before .before
+    .before .half4 .ensures) (c .before .before .before .before .before .before .before .before .before .before .half5 .ensures)
 
 pub b-grid-spec : {M : Type 1} → statement M
 b-grid-spec =

@@ -5,13 +5,22 @@ use Rattle.grids.proofs.side_rows.Statement.{statement}
 use Rattle.grids.proofs.side_rows.Tie as tie
 
 quarter-requires : tie.Need-quarter-requires
-quarter-requires c κs = let s = c .before .before .before .before .before .before .before .before .before .before .before in (value (s .args .f .head) (s .pre .0 .head), value (s .args .f .x) (s .pre .0 .x))
+quarter-requires c κs = let s = c .before .before .before .before .before .before .before .before .before .before .before in (
+  value
+      (s .args .f .head) (s .pre .0 .head),
+  value (s .args .f .x) (s .pre .0 .x),
+)
 
 half-requires : tie.Need-half-requires
-half-requires c κs = let s = c .before .before .before .before .before .before .before .before .before .before .before .before in (value-written (s .args .f .x) (s .pre .0 .x), value-written (s .args .f .y) (s .pre .0 .y))
+half-requires c κs = let s = c .before .before .before .before .before .before .before .before .before .before .before .before in (
+  value-written
+      (s .args .f .x) (s .pre .0 .x),
+  value-written (s .args .f .y) (s .pre .0 .y),
+)
 
 quarter-requires-2 : tie.Need-quarter-requires-2
-quarter-requires-2 c κs = let s = c .before .before .before .before .before .before .before .before .before .before .before .before .before in (value (s .args .f .tail) (s .pre .0 .tail), value (s .args .f .y) (s .pre .0 .y))
+quarter-requires-2 c κs = let s = c .before .before .before .before .before .before .before .before .before .before .before .before .before in
+    (value (s .args .f .tail) (s .pre .0 .tail), value (s .args .f .y) (s .pre .0 .y))
 
 second-requires : tie.Need-second-requires
 second-requires c κs =
@@ -54,7 +63,8 @@ middle-requires c κs =
 returns : tie.Need-returns
 returns c =
     let s = c .before .before .before .before .before .before .before .before .before .before .before .before .before .before .before .before .before in
-    rows-of (s .args .f) (s .args .g) (s .args .l) (s .args .o) (s .pre) _ _ _ _ _ _ (c .before .before .before .before .before .quarter .ensures) (c .before .before .before .before .half .ensures) (c .before .before .before .quarter2 .ensures)
+    rows-of (s .args .f) (s .args .g) (s .args .l) (s .args .o) (s .pre) _ _ _ _ _ _ (c .before .before .before .before .before .quarter .ensures)
+    (c .before .before .before .before .half .ensures) (c .before .before .before .quarter2 .ensures)
     (c .before .before .second .ensures) (c .before .third .ensures) (c .middle .ensures)
 
 pub side-rows-spec : {M : Type 1} → statement M

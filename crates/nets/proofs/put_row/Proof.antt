@@ -33,7 +33,8 @@ shared-slice-copy-out-v : tie.Need-shared-slice-copy-out-v Inv-loop μ-loop
 shared-slice-copy-out-v c = search needs
 
 cast-out : tie.Need-cast-out Inv-loop μ-loop
-cast-out c = let s = c .before .before .before in number (getD (s .args .row .now) (c .before .before .loop .j) (pos 0)) (s .pre .1 _ (c .before .loop-test .taken)) .0
+cast-out c = let s = c .before .before .before in number (getD (s .args .row .now) (c .before .before .loop .j) (pos 0)) (s .pre .1 _
+    (c .before .loop-test .taken)) .0
 
 mul-t6 : tie.Need-mul-t6 Inv-loop μ-loop
 mul-t6 c = omega (arith, room c)
@@ -59,7 +60,8 @@ loop-again c =
     let l = c .before .before .loop in
     let n = number (getD (s .args .row .now) (l .j) (pos 0)) (s .pre .1 _ (c .before .loop-test .taken)) in (
       omega arith,
-      rw (n .1) (row-step (s .args .out .now) (l .out) (s .args .from) (s .args .from + 3 * l .j) (l .j) (s .args .row .now) (c .before .loop-test .taken) refl (room c) (l .inv .1)),
+      rw (n .1) (row-step (s .args .out .now) (l .out) (s .args .from) (s .args .from + 3 * l .j) (l .j) (s .args .row .now)
+          (c .before .loop-test .taken) refl (room c) (l .inv .1)),
     )
 
 same-length : tie.Need-same-length Inv-loop μ-loop

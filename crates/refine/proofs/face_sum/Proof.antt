@@ -43,7 +43,8 @@ module _ (c : tie.After-tick Inv-loop μ-loop) (sides : List ℕ) where
       let l = c .before .before .loop in
       let fits = sum-fits (now (s .args .coordinates)) (now (s .args .corners)) (s .pre .0) (s .args .axis) (s .args .start) (s .pre .1 .0) sides (l .j + 1)
       (omega (arith, s .pre .1 .1)) (omega (arith, s .pre .1 .2)) in
-      rw sum-more (turn (l .total) (c .tick .result) (sum vertex (l .j)) (vertex (l .j)) (search needs) (l .inv .1 sides) (c .tick .ensures sides) (rw sum-more at fits))
+      rw sum-more (turn (l .total) (c .tick .result) (sum vertex (l .j)) (vertex (l .j)) (search needs) (l .inv .1 sides) (c .tick .ensures sides)
+      (rw sum-more at fits))
 
 loop-holds : tie.Need-loop-holds Inv-loop μ-loop
 loop-holds c = (search needs, λ sides. sym (sum-zero _))

@@ -49,12 +49,14 @@ module _ (s : tie.Start Inv-loop μ-loop) (c : ℕ) (h : c < length (now (s .arg
   next-in d e = omega (arith, e, next-below (now (s .args .sides)) c inner, s .pre .0 .sums)
 
 -- where the walk leads
-before-is : (c : tie.After-previous Inv-loop μ-loop) → c .previous .result .corner ≡ previous (now (c .before .before .before .before .before .before .before .before .args .sides)) (c .before .before .loop .c)
+before-is : (c : tie.After-previous Inv-loop μ-loop) → c .previous .result .corner ≡ previous (now
+    (c .before .before .before .before .before .before .before .before .args .sides)) (c .before .before .loop .c)
 before-is c =
     let s = c .before .before .before .before .before .before .before .before in
     c .previous .ensures .leads (cornersOf (mesh s)) (s .pre .1 .0) (omega (arith, c .before .loop-test .taken, c .before .before .loop .inv .2))
 
-after-is : (c : tie.After-next Inv-loop μ-loop) → c .next .result .corner ≡ next (now (c .before .before .before .before .before .before .before .before .before .args .sides)) (c .before .before .before .loop .c)
+after-is : (c : tie.After-next Inv-loop μ-loop) → c .next .result .corner ≡ next (now (c .before .before .before .before .before .before .before
+    .before .before .args .sides)) (c .before .before .before .loop .c)
 after-is c =
     let s = c .before .before .before .before .before .before .before .before .before in
     c .next .ensures .leads (cornersOf (mesh s)) (s .pre .1 .0) (omega (arith, c .before .before .loop-test .taken, c .before .before .before .loop .inv .2))
@@ -100,8 +102,10 @@ module _ (c : tie.After-tick3 Inv-loop μ-loop) where
       let e = s .pre .1 .1 .0 .2 in
       let low : s .args .start ≤ at = l .inv .0 in
       let high : at < s .args .start + n = c .before .before .before .before .before .loop-test .taken in (
-        point-sizes (mesh s) (s .pre .0) (s .args .f) face (s .args .start) at _ _ (s .args .axis) e low high p q (s .pre .1 .1 .0 .0) total before here after eT eB eH eA,
-        point-is (mesh s) (s .pre .0) (s .args .f) face (s .args .start) at _ _ (s .args .axis) e low high p q (s .pre .1 .1 .0 .0) total before here after eT eB eH eA,
+        point-sizes (mesh s) (s .pre .0) (s .args .f) face (s .args .start) at _ _ (s .args .axis) e low high p q
+            (s .pre .1 .1 .0 .0) total before here after eT eB eH eA,
+        point-is (mesh s) (s .pre .0) (s .args .f) face (s .args .start) at _ _ (s .args .axis) e low high p q
+            (s .pre .1 .1 .0 .0) total before here after eT eB eH eA,
       )
 
 shared-slice-read-n : tie.Need-shared-slice-read-n Inv-loop μ-loop
@@ -165,7 +169,8 @@ refined-requires : tie.Need-refined-requires Inv-loop μ-loop
 refined-requires c κs = made c .0
 
 -- the place of the point
-room : (c : tie.After-refined Inv-loop μ-loop) → pointRow * at (c .before) + s (c .before) .args .axis < length (c .before .before .before .before .before .before .before .loop .points)
+room : (c : tie.After-refined Inv-loop μ-loop) → pointRow * at (c .before) + s (c .before) .args .axis < length
+    (c .before .before .before .before .before .before .before .loop .points)
 room c =
     let l = c .before .before .before .before .before .before .before .loop in
     omega (arith, l .inv .4, l .inv .2, s (c .before) .pre .1 .1 .0 .0, c .before .before .before .before .before .before .loop-test .taken)
@@ -200,7 +205,8 @@ loop-again c =
       l .inv .2,
       l .inv .3,
       simp length-set (l .inv .4),
-      added-set (mesh (s b)) (s b .args .axis) (s b .args .start) (s b .pre .1 .1 .0 .0) (l .c) (now (s b .args .points)) (l .points) (toZ w32 (ofZ w32 (c .refined .result)))
+      added-set (mesh (s b)) (s b .args .axis) (s b .args .start) (s b .pre .1 .1 .0 .0) (l .c) (now (s b .args .points)) (l .points) (toZ w32
+          (ofZ w32 (c .refined .result)))
           (l .inv .5) (l .inv .0) (room c) (e ∙ t .1) (rw e (sizes _ _ _ _ _ (t .0) .result)),
     )
 

@@ -36,7 +36,8 @@ returns c =
     let s = c .before .before .before .before .before .before .before .before .before .before .before .before in
     added-axis _ 2 _ (lit< tt) _ _ _ _
     (added-axis _ 1 _ (lit< tt) _ _ _ _
-    (added-axis _ 0 _ (lit< tt) _ _ _ _ (added-none _ _ _ _ (s .pre .1 .1 .1 .1)) (c .before .before .before .before .before .before .before .fill-axis .ensures))
+    (added-axis _ 0 _ (lit< tt) _ _ _ _ (added-none _ _ _ _ (s .pre .1 .1 .1 .1)) (c .before .before .before .before .before .before .before
+    .fill-axis .ensures))
     (c .before .before .before .before .fill-axis2 .ensures))
     (c .before .fill-axis3 .ensures)
 

@@ -68,7 +68,8 @@ loop-again c =
       omega arith,
       omega (arith, start-next (now (s .args .sides)) (l .f) h, l .inv .1),
       ⊎-elim
-          (λ w. rw (w .4) (pointed-added (mesh s) (now (s .args .wanted)) (l .f) h _ _ _ (omega (arith, w .0 .taken)) (l .inv .2) (rw (← l .inv .1) (w .2 .ensures))))
+          (λ w. rw (w .4) (pointed-added (mesh s) (now (s .args .wanted)) (l .f) h _ _ _ (omega (arith, w .0 .taken)) (l .inv .2) (rw (← l .inv .1)
+          (w .2 .ensures))))
           (λ w. rw (w .1) (pointed-passed (mesh s) (now (s .args .wanted)) (l .f) h _ _ (omega (arith, w .0 .left)) (l .inv .2)))
           (c .before .if1 .came),
     )
@@ -80,7 +81,8 @@ returns : tie.Need-returns Inv-loop μ-loop
 returns c =
     let s = c .before .before .before .before .before .before in
     let l = c .before .loop in
-    let e : startOf (now (s .args .sides)) (l .f) ≡ length (now (s .args .corners)) = start-all (now (s .args .sides)) (l .f) (c .loop-test .left) ∙ s .pre .0 .sums in
+    let e : startOf (now (s .args .sides)) (l .f) ≡ length (now (s .args .corners)) = start-all (now (s .args .sides)) (l .f) (c .loop-test .left)
+    ∙ s .pre .0 .sums in
     rw (← e) (l .inv .2)
 
 pub fill-points-spec : {M : Type 1} → statement M

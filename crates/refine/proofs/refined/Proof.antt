@@ -21,8 +21,22 @@ facts s = sizes (s .args .total) (s .args .before) (s .args .here) (s .args .aft
 
 -- what `divide` answered
 module _ (c : tie.After-divide) where
-  answer : c .divide .result ≡ round (eightfold (c .before .args .total) (c .before .args .before) (c .before .args .here) (c .before .args .after) (c .before .args .n)) (pos 8 *ℤ pos (c .before .args .n))
-  answer = let s = c .before in let k = facts s in simp (toZ-ofZ, s .fits .total, s .fits .before, s .fits .here, s .fits .after, k .read, k .twice, k .fourfold, k .two, k .three, k .product, k .all) at (c .divide .ensures)
+  answer : c .divide .result ≡ round (eightfold (c .before .args .total) (c .before .args .before) (c .before .args .here) (c .before .args .after)
+      (c .before .args .n)) (pos 8 *ℤ pos (c .before .args .n))
+  answer = let s = c .before in let k = facts s in simp (
+    toZ-ofZ,
+    s .fits .total,
+    s .fits .before,
+    s .fits .here,
+    s .fits .after,
+    k .read,
+    k .twice,
+    k .fourfold,
+    k .two,
+    k .three,
+    k .product,
+    k .all,
+  ) at (c .divide .ensures)
 
   size : natAbs (c .divide .result) ≤ 2 ^ 24
   size = rw answer (facts (c .before) .result)
@@ -49,25 +63,81 @@ add-t-2 : tie.Need-add-t-2
 add-t-2 c =
     let s = c in
     let k = facts s in
-    simp (toZ-ofZ, s .fits .total, s .fits .before, s .fits .here, s .fits .after, k .read, k .twice, k .fourfold, k .two, k .three, k .product, k .all) (k .three)
+    simp (
+      toZ-ofZ,
+      s .fits .total,
+      s .fits .before,
+      s .fits .here,
+      s .fits .after,
+      k .read,
+      k .twice,
+      k .fourfold,
+      k .two,
+      k .three,
+      k .product,
+      k
+          .all,
+    ) (k .three)
 
 mul-t-3 : tie.Need-mul-t-3
 mul-t-3 c =
     let s = c in
     let k = facts s in
-    simp (toZ-ofZ, s .fits .total, s .fits .before, s .fits .here, s .fits .after, k .read, k .twice, k .fourfold, k .two, k .three, k .product, k .all) (k .product)
+    simp (
+      toZ-ofZ,
+      s .fits .total,
+      s .fits .before,
+      s .fits .here,
+      s .fits .after,
+      k .read,
+      k .twice,
+      k .fourfold,
+      k .two,
+      k .three,
+      k .product,
+      k
+          .all,
+    ) (k .product)
 
 add-t-3 : tie.Need-add-t-3
 add-t-3 c =
     let s = c in
     let k = facts s in
-    simp (toZ-ofZ, s .fits .total, s .fits .before, s .fits .here, s .fits .after, k .read, k .twice, k .fourfold, k .two, k .three, k .product, k .all) (k .all)
+    simp (
+      toZ-ofZ,
+      s .fits .total,
+      s .fits .before,
+      s .fits .here,
+      s .fits .after,
+      k .read,
+      k .twice,
+      k .fourfold,
+      k .two,
+      k .three,
+      k .product,
+      k
+          .all,
+    ) (k .all)
 
 divide-requires : tie.Need-divide-requires
 divide-requires c κs =
     let s = c in
     let k = facts s in
-    simp (toZ-ofZ, s .fits .total, s .fits .before, s .fits .here, s .fits .after, k .read, k .twice, k .fourfold, k .two, k .three, k .product, k .all) (omega (arith, s .pre .least), le-trans (k .size) (omega (arith, s .pre .most)))
+    simp (
+      toZ-ofZ,
+      s .fits .total,
+      s .fits .before,
+      s .fits .here,
+      s .fits .after,
+      k .read,
+      k .twice,
+      k .fourfold,
+      k .two,
+      k .three,
+      k .product,
+      k
+          .all,
+    ) (omega (arith, s .pre .least), le-trans (k .size) (omega (arith, s .pre .most)))
 
 cast-result : tie.Need-cast-result
 cast-result c = simp (toZ-ofZ, wide c) (narrow c)

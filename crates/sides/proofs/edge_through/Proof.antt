@@ -40,7 +40,13 @@ returns c =
     let fc : SFits w64 (f .centre) = search needs in
     let fa : SFits w64 (f .ahead) = search needs in
     let fb : SFits w64 (f .behind) = search needs in
-    record { face = edge-plain (p .before .before .before .point .result) (p .before .before .point2 .result) (p .before .point3 .result) (p .point4 .result) _ _ _ _ f a b d e fc fa fb (c .before .edge-face .ensures); here = a; after = b; before = e }
+    record {
+      face = edge-plain (p .before .before .before .point .result) (p .before .before .point2 .result) (p .before .point3 .result)
+          (p .point4 .result) _ _ _ _ f a b d e fc fa fb (c .before .edge-face .ensures);
+      here = a;
+      after = b;
+      before = e;
+    }
 
 pub edge-through-spec : {M : Type 1} → statement M
 edge-through-spec =

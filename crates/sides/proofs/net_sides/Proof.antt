@@ -23,7 +23,8 @@ mesh s = drawn (s .args .count) (s .args .table .now) (s .args .points .now) (s 
 abbrev start : tie.After-cosine2 → tie.Start
 start a = a .before .before .before .before .before .before .before .before .before
 
-valence-is : (a : tie.After-cosine2) → a .before .before .before .before .before .before .before .valence .result ≡ mesh (start a) .corners .valence (start a .args .c)
+valence-is : (a : tie.After-cosine2) → a .before .before .before .before .before .before .before .valence .result ≡ mesh (start a) .corners .valence
+    (start a .args .c)
 valence-is a = a .before .before .before .before .before .before .before .valence .ensures .read
 
 sides-is : (a : tie.After-cosine2) → a .before .before .before .before .before .before .sides .result ≡ mesh (start a) .corners .sides (start a .args .c)
@@ -157,25 +158,34 @@ side-requires-2 c κs =
 
 side-requires-3 : tie.Need-side-requires-3
 side-requires-3 c κs =
-    let a = c .before .before .before .before .before .before .before .before .before .before .before .before .before .before .before .before .before .before .before .before in
+    let a = c .before .before .before .before .before .before .before .before .before .before .before .before .before .before .before .before .before
+    .before .before .before in
     let s = start a in
     sizes (mesh s) (s .pre .0 .0 .sound) (s .pre .0 .0 .small (s .args .axis) (s .pre .0 .2)) (s .args .c) (s .pre .0 .1) side2 _ _ _ _ _ _ _ (part2 a)
 
 side-requires-4 : tie.Need-side-requires-4
 side-requires-4 c κs =
-    let a = c .before .before .before .before .before .before .before .before .before .before .before .before .before .before .before .before .before .before .before .before .before .before .before .before .before .before .before in
+    let a = c .before .before .before .before .before .before .before .before .before .before .before .before .before .before .before .before .before
+    .before .before .before .before .before .before .before .before .before .before in
     let s = start a in
     sizes (mesh s) (s .pre .0 .0 .sound) (s .pre .0 .0 .small (s .args .axis) (s .pre .0 .2)) (s .args .c) (s .pre .0 .1) side3 _ _ _ _ _ _ _ (part3 a)
 
 returns : tie.Need-returns
 returns c =
-    let a = c .before .before .before .before .before .before .before .before .before .before .before .before .before .before .before .before .before .before .before .before .before .before .before .before .before .before .before .before in
+    let a = c .before .before .before .before .before .before .before .before .before .before .before .before .before .before .before .before .before
+    .before .before .before .before .before .before .before .before .before .before .before in
     let s = start a in
     record {
-      side0 = made-is (mesh s) (s .pre .0 .0 .sound) (s .pre .0 .0 .small (s .args .axis) (s .pre .0 .2)) (s .args .c) (s .pre .0 .1) side0 _ _ _ _ _ _ _ (part0 a) _ (c .before .before .before .before .before .before .before .before .before .before .before .before .before .before .before .before .before .before .before .before .before .side .ensures);
-      side1 = made-is (mesh s) (s .pre .0 .0 .sound) (s .pre .0 .0 .small (s .args .axis) (s .pre .0 .2)) (s .args .c) (s .pre .0 .1) side1 _ _ _ _ _ _ _ (part1 a) _ (c .before .before .before .before .before .before .before .before .before .before .before .before .before .before .side2 .ensures);
-      side2 = made-is (mesh s) (s .pre .0 .0 .sound) (s .pre .0 .0 .small (s .args .axis) (s .pre .0 .2)) (s .args .c) (s .pre .0 .1) side2 _ _ _ _ _ _ _ (part2 a) _ (c .before .before .before .before .before .before .before .side3 .ensures);
-      side3 = made-is (mesh s) (s .pre .0 .0 .sound) (s .pre .0 .0 .small (s .args .axis) (s .pre .0 .2)) (s .args .c) (s .pre .0 .1) side3 _ _ _ _ _ _ _ (part3 a) _ (c .side4 .ensures);
+      side0 = made-is (mesh s) (s .pre .0 .0 .sound) (s .pre .0 .0 .small (s .args .axis) (s .pre .0 .2)) (s .args .c)
+          (s .pre .0 .1) side0 _ _ _ _ _ _ _ (part0 a) _ (c .before .before .before .before .before .before .before .before .before .before .before
+          .before .before .before .before .before .before .before .before .before .before .side .ensures);
+      side1 = made-is (mesh s) (s .pre .0 .0 .sound) (s .pre .0 .0 .small (s .args .axis) (s .pre .0 .2)) (s .args .c)
+          (s .pre .0 .1) side1 _ _ _ _ _ _ _ (part1 a) _ (c .before .before .before .before .before .before .before .before .before .before .before
+          .before .before .before .side2 .ensures);
+      side2 = made-is (mesh s) (s .pre .0 .0 .sound) (s .pre .0 .0 .small (s .args .axis) (s .pre .0 .2)) (s .args .c)
+          (s .pre .0 .1) side2 _ _ _ _ _ _ _ (part2 a) _ (c .before .before .before .before .before .before .before .side3 .ensures);
+      side3 = made-is (mesh s) (s .pre .0 .0 .sound) (s .pre .0 .0 .small (s .args .axis) (s .pre .0 .2)) (s .args .c)
+          (s .pre .0 .1) side3 _ _ _ _ _ _ _ (part3 a) _ (c .side4 .ensures);
     }
 
 pub net-sides-spec : {M : Type 1} → statement M

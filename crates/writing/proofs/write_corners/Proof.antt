@@ -53,8 +53,14 @@ put-net-requires-2 c κs =
     let s = c .before .before .before .before .before .before .before .before .before .before in
     let l = c .before .before .before .before .before .before .before .loop in
     let h : l .k < s .args .count = search needs in
-    let p = c .before .before .before .put-net in
-    ((s .pre .0, omega (arith, s .pre .1 .1), lit< tt), (omega (arith, l .inv .1, p .kept .1 .1 .1 .1 .1 .1 .0), c .before .before .before .before .before .before .before .before .rows .ensures))
+    let p = c .before .before .before .put-net in (
+      (s .pre .0, omega (arith, s .pre .1 .1), lit< tt),
+      (
+        omega (arith, l .inv .1, p .kept .1 .1 .1 .1 .1 .1 .0),
+        c .before .before .before .before
+            .before .before .before .before .rows .ensures,
+      ),
+    )
 
 put-net-requires-3 : tie.Need-put-net-requires-3 Inv-loop μ-loop
 put-net-requires-3 c κs =
@@ -62,8 +68,14 @@ put-net-requires-3 c κs =
     let l = c .before .before .before .before .before .before .before .before .before .before .before .loop in
     let h : l .k < s .args .count = search needs in
     let p = c .before .before .before .before .before .before .before .put-net in
-    let q = c .before .before .before .put-net2 in
-    ((s .pre .0, omega (arith, s .pre .1 .1), lit< tt), (omega (arith, l .inv .1, p .kept .1 .1 .1 .1 .1 .1 .0, q .kept .1 .1 .1 .1 .1 .1 .0), c .before .before .before .before .before .before .before .before .before .before .before .before .rows .ensures))
+    let q = c .before .before .before .put-net2 in (
+      (s .pre .0, omega (arith, s .pre .1 .1), lit< tt),
+      (
+        omega (arith, l .inv .1, p .kept .1 .1 .1 .1 .1 .1 .0, q .kept .1 .1 .1 .1 .1 .1 .0),
+        c
+            .before .before .before .before .before .before .before .before .before .before .before .before .rows .ensures,
+      ),
+    )
 
 add-k : tie.Need-add-k Inv-loop μ-loop
 add-k c =

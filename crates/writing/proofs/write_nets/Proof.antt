@@ -1,4 +1,5 @@
--- `writing::write_nets` meets its contract: the faces near the range are wanted, and with their refined points the tables draw the mesh as far as the nets look.
+-- `writing::write_nets` meets its contract: the faces near the range are wanted, and with their refined points the tables draw the mesh as far as
+-- the nets look.
 -- Assumes nothing.
 use mathlib.Core.Path.{_∙_}
 use native.Mathlib.Omega.{arith}
@@ -23,8 +24,17 @@ slice-aggregate-fill-wanted-2 c = search needs
 fill-wanted-requires : tie.Need-fill-wanted-requires
 fill-wanted-requires c κs =
     let s = c .before .before .before .before .before in
-    let M = mesh s in
-    ((faces-of M (s .pre .0), omega (arith, refinable-of M (s .pre .0) .sums), faces-in M (s .pre .0)), ((named-in M (s .pre .0), zeros mostVertices), s .pre .1 .1 .0 .1))
+    let M = mesh s in (
+      (faces-of M (s .pre .0), omega (arith, refinable-of M (s .pre .0) .sums), faces-in M (s .pre .0)),
+      (
+        (
+          named-in M
+              (s .pre .0),
+          zeros mostVertices,
+        ),
+        s .pre .1 .1 .0 .1,
+      ),
+    )
 
 slice-aggregate-fill-points : tie.Need-slice-aggregate-fill-points
 slice-aggregate-fill-points c = search needs
@@ -40,8 +50,11 @@ write-corners-requires c κs =
     let s = c .before .before .before .before .before .before .before .before .before .before .before .before .before .before in
     let p = c .before .before .before .fill-points in
     let w = c .before .before .before .before .before .before .before .before .fill-wanted in
-    let range = s .pre .1 .1 .0 in
-    (drawn-of (mesh s) (s .pre .0) (now (s .args .table)) (w .last .1 .1 .1 .1 .1 .0) (now (s .args .points)) _ (s .args .first) (s .args .count) (s .pre .1 .0) (w .ensures .0) (s .pre .1 .1 .1 .0) (p .ensures), (range .0, range .1, range .2))
+    let range = s .pre .1 .1 .0 in (
+      drawn-of (mesh s) (s .pre .0) (now (s .args .table)) (w .last .1 .1 .1 .1 .1 .0) (now (s .args .points)) _ (s .args .first) (s .args .count)
+          (s .pre .1 .0) (w .ensures .0) (s .pre .1 .1 .1 .0) (p .ensures),
+      (range .0, range .1, range .2),
+    )
 
 same-length : tie.Need-same-length
 same-length c = search needs
@@ -56,7 +69,8 @@ returns c =
     let p = c .before .before .before .before .before .fill-points in
     let w = c .before .before .before .before .before .before .before .before .before .before .fill-wanted in
     let range = s .pre .1 .1 .0 in
-    drawn-written (mesh s) (s .pre .0) (now (s .args .table)) (w .last .1 .1 .1 .1 .1 .0) (now (s .args .points)) _ (s .args .first) (s .args .count) (s .pre .1 .0) (w .ensures .0) (s .pre .1 .1 .1 .0) (p .ensures) _ (range .1)
+    drawn-written (mesh s) (s .pre .0) (now (s .args .table)) (w .last .1 .1 .1 .1 .1 .0) (now (s .args .points)) _ (s .args .first)
+    (s .args .count) (s .pre .1 .0) (w .ensures .0) (s .pre .1 .1 .1 .0) (p .ensures) _ (range .1)
     (n .kept .1 .1 .1 .1 .1 .0 ∙ range .2) (n .ensures)
 
 pub write-nets-spec : {M : Type 1} → statement M
