@@ -10,7 +10,7 @@ use Rattle.paper.specs.Faults.{stated, kept}
 use Rattle.paper.specs.Calls.{nets}
 use Rattle.paper.specs.declared.Answer.{Answer}
 use Rattle.surface.specs.Points.{pointRow}
-use Rattle.requests.specs.Request.{requestFaults}
+use Rattle.checks.specs.Request.{requestFaults}
 use Rattle.refine.specs.Sources.{Small}
 
 -- a table of refined points with a row for each corner, where there are not too many, and no entry larger than a refined point may be

@@ -121,7 +121,7 @@ fn answer(
 {
     let first = range.first;
     let count = range.count;
-    let a = requests::check_request(corners.len(), table, links, first, count, out.len());
+    let a = checks::check_request(corners.len(), table, links, first, count, out.len());
     if let Answer::Refused(k, p) = a {
         return Answer::Refused(k, p);
     }

@@ -1,12 +1,12 @@
 // Prints the control points of every corner of the mesh file on standard input, in ticks: a line `corner N`, then 41 lines of
 // x, y, z, the b points row by row and then the a points; or why the file is turned down, as `inspect` does.
+use checks::PER_CORNER;
 use libc::STDIN_FILENO;
 use libc::STDOUT_FILENO;
 use paper::Answer;
 use paper::MOST_CORNERS;
 use paper::MOST_FACES;
 use paper::MOST_VERTICES;
-use requests::PER_CORNER;
 ghost use Prim.Native.Nat.{_≤_, _<_};
 ghost use Rattle.paper.specs.Mesh.{mostCorners};
 

@@ -4,8 +4,8 @@ use mathlib.Core.Path.{ap, sym}
 use Rattle.mesh.proofs.Verdicts.{single-hit, single-miss}
 use mathlib.Core.Bool.{not}
 use borrow.Author.Tests.{eq-eqb, ne-eqb}
-use Rattle.requests.proofs.check_length.Statement.{statement}
-use Rattle.requests.proofs.check_length.Tie as tie
+use Rattle.checks.proofs.check_length.Statement.{statement}
+use Rattle.checks.proofs.check_length.Tie as tie
 
 returns : tie.Need-returns
 returns c = sym (single-hit 14 _ (ap not (ne-eqb _ _ (c .if1 .taken))))

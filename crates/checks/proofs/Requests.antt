@@ -15,7 +15,7 @@ use Rattle.paper.specs.Calls.{perCorner, fault15, fault16, fault17, buildVerdic
 use Rattle.walk.specs.Table.{toLink, entry, Column}
 use Rattle.mesh.proofs.Ranges.{or-left, or-right, or-none, none-left, none-right}
 use Rattle.mesh.proofs.Verdicts.{single-sound, sound-left, sound-right, orElse-assoc}
-use Rattle.requests.specs.Request.{requestFaults}
+use Rattle.checks.specs.Request.{requestFaults}
 
 -- 15, by the table of the mesh's links
 module _ (M : Mesh) (table links : List ℕ) (t : Column table toLink (link (M .sides) (M .corners)) (cornerCount M)) (c : ℕ) (h : c < cornerCount M)

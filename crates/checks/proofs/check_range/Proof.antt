@@ -4,10 +4,10 @@ use mathlib.Core.Path.{sym}
 use Rattle.mesh.proofs.Verdicts.{single-hit, single-miss}
 use mathlib.Core.Logic.{⊎-elim}
 use borrow.Author.Tests.{ltb-true, ltb-false}
-use Rattle.requests.proofs.Laws.{range-empty, range-past, range-fits}
+use Rattle.checks.proofs.Requests.{range-empty, range-past, range-fits}
 use native.Mathlib.Omega.{arith}
-use Rattle.requests.proofs.check_range.Statement.{statement}
-use Rattle.requests.proofs.check_range.Tie as tie
+use Rattle.checks.proofs.check_range.Statement.{statement}
+use Rattle.checks.proofs.check_range.Tie as tie
 
 returns : tie.Need-returns
 returns c =

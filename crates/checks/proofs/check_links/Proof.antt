@@ -9,11 +9,11 @@ use borrow.Author.Count.{below-more}
 use Rattle.paper.specs.Mesh.{cornerCount}
 use Rattle.paper.specs.Calls.{fault15}
 use Rattle.walk.specs.Table.{toLink, entry}
-use Rattle.requests.proofs.Laws.{links-differ, links-agree}
+use Rattle.checks.proofs.Requests.{links-differ, links-agree}
 use native.Mathlib.Omega.{arith}
 use borrow.Author.Needs.{needs}
-use Rattle.requests.proofs.check_links.Statement.{statement}
-use Rattle.requests.proofs.check_links.Tie as tie
+use Rattle.checks.proofs.check_links.Statement.{statement}
+use Rattle.checks.proofs.check_links.Tie as tie
 
 abbrev Inv-loop : tie.InvT-loop
 Inv-loop table links c₀ c = (c ≤ length links) × ((j : ℕ) → j < c → getD links j 0 ≡ entry table toLink j)

@@ -12,12 +12,12 @@ use Rattle.paper.specs.Calls.{fault15, fault16}
 use Rattle.paper.specs.Links.{link}
 use Rattle.walk.specs.Table.{toLink, Column}
 use Rattle.mesh.proofs.Verdicts.{stop, passed, past}
-use Rattle.requests.specs.Request.{requestFaults}
-use Rattle.requests.proofs.Laws.{range-of, length-of, as-14, as-16}
+use Rattle.checks.specs.Request.{requestFaults}
+use Rattle.checks.proofs.Requests.{range-of, length-of, as-14, as-16}
 use native.Mathlib.Omega.{arith}
 use borrow.Author.Needs.{needs}
-use Rattle.requests.proofs.check_request.Statement.{statement}
-use Rattle.requests.proofs.check_request.Tie as tie
+use Rattle.checks.proofs.check_request.Statement.{statement}
+use Rattle.checks.proofs.check_request.Tie as tie
 
 -- after check 14
 module _ (t : tie.After-enum-told) where

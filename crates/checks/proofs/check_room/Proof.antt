@@ -2,10 +2,10 @@
 -- Assumes nothing.
 use mathlib.Core.Path.{sym}
 use Rattle.mesh.proofs.Verdicts.{single-hit, single-miss}
-use Rattle.requests.proofs.Laws.{room-differs, room-fits}
+use Rattle.checks.proofs.Requests.{room-differs, room-fits}
 use borrow.Author.Needs.{needs}
-use Rattle.requests.proofs.check_room.Statement.{statement}
-use Rattle.requests.proofs.check_room.Tie as tie
+use Rattle.checks.proofs.check_room.Statement.{statement}
+use Rattle.checks.proofs.check_room.Tie as tie
 
 mul-if1 : tie.Need-mul-if1
 mul-if1 c = search needs
