@@ -81,7 +81,8 @@ returns-3 : tie.Need-returns-3
 returns-3 c =
     let t = c .before .before .before .before .before .before .before .before .before .before in
     let r = c .before .before .before .before .before .before .before .check-rings in
-    vertices-checked (now (start t .args .corners)) (start t .args .count) _ _ (twelve t) (r .result) (c .before .before .before .before .before .enum-told2 .given .1)
+    vertices-checked (now (start t .args .corners)) (start t .args .count) _ _ (twelve t) (r .result)
+    (c .before .before .before .before .before .enum-told2 .given .1)
     (r .ensures) (c .before .before .fill-valences .ensures)
 
 pub check-vertices-spec : {M : Type 1} → statement M
