@@ -4,6 +4,7 @@ use mesh::SMALL_MESH;
 use paper::Answer;
 use paper::MOST_CORNERS;
 use paper::MOST_VERTICES;
+use paper::NUMBERS_PER_CORNER;
 use walk::LINK;
 use walk::ROW;
 ghost use mathlib.Core.Path.{_≡_};
@@ -18,9 +19,6 @@ ghost use Rattle.paper.specs.Calls.{fault15, fault17};
 ghost use Rattle.walk.specs.Table.{rowLength, toLink, Column};
 ghost use Rattle.checks.specs.Checked.{RoomFor, Checked, ListsChecked};
 ghost use Rattle.checks.specs.Request.{requestFaults};
-
-// The numbers that building writes for a corner.
-pub const PER_CORNER: usize = 123;
 
 // Checks 4 to 13, over tables of its own.
 pub fn check(coordinates: &[i32], sides: &[u8], corners: &[u16]) -> Answer
@@ -165,7 +163,7 @@ fn check_room(count: usize, room: usize) -> Answer
     requires { ⌜ count ≤ mostCorners ⌝ }
     ensures { λ r. ⌜ stated r ≡ single 17 (fault17 count room) room ⌝ }
 {
-    if room != PER_CORNER * count {
+    if room != NUMBERS_PER_CORNER * count {
         return Answer::Refused(17, room);
     }
     Answer::Done
