@@ -1,8 +1,10 @@
 // Builds the cube of 01 and a tetrahedron, and prints what 01's checked examples print: points of the cube's corner 0, what building
 // refuses, and whether a mesh built in one call and built corner by corner, so that every border lies between two calls, gives the
 // same numbers.
-use libc::STDOUT_FILENO;
 use paper::Answer;
+use print::output::say_up_to;
+use print::text::put_entry;
+use print::text::put_word;
 ghost use Prim.Native.Nat.{_*_, _≤_, _<_};
 
 const COORDINATES: [i32; 24] = [
@@ -71,18 +73,26 @@ fn cube() {
     let sides = SIDES;
     let corners = CORNERS;
     let mut links = [0u16; 24];
+    link(b"cube, link", &coordinates, &sides, &corners, &mut links);
+    cube_points(&coordinates, &sides, &corners, &links);
+    refusals(&coordinates, &sides, &corners, &links);
+}
+
+// The cube built as a whole, and its corner 0.
+fn cube_points(coordinates: &[i32], sides: &[u8], corners: &[u16], links: &[u16]) {
     let mut whole = [0i32; 2952];
-    say(
-        b"cube, link",
-        linking::link(&coordinates, &sides, &corners, &mut links),
-    );
-    say(
+    build(
         b"cube, build",
-        building::build(&coordinates, &sides, &corners, &links, 0, 24, &mut whole),
+        coordinates,
+        sides,
+        corners,
+        links,
+        0,
+        24,
+        &mut whole,
     );
     points(&whole);
-    corner_by_corner(&coordinates, &sides, &corners, &links, &whole);
-    refusals(&coordinates, &sides, &corners, &links);
+    corner_by_corner(coordinates, sides, corners, links, &whole);
 }
 
 fn tetrahedron() {
@@ -91,13 +101,22 @@ fn tetrahedron() {
     let corners = [0u16, 1, 2, 0, 2, 3, 0, 3, 1, 1, 3, 2];
     let mut links = [0u16; 12];
     let mut whole = [0i32; 1476];
-    say(
+    link(
         b"tetrahedron, link",
-        linking::link(&coordinates, &sides, &corners, &mut links),
+        &coordinates,
+        &sides,
+        &corners,
+        &mut links,
     );
-    say(
+    build(
         b"tetrahedron, build",
-        building::build(&coordinates, &sides, &corners, &links, 0, 12, &mut whole),
+        &coordinates,
+        &sides,
+        &corners,
+        &links,
+        0,
+        12,
+        &mut whole,
     );
     corner_by_corner(&coordinates, &sides, &corners, &links, &whole);
 }
@@ -115,57 +134,77 @@ fn points(whole: &[i32; 2952]) {
 }
 
 // 14 to 17, also where the end of the range would wrap.
-fn refusals(coordinates: &[i32; 24], sides: &[u8; 6], corners: &[u16; 24], links: &[u16; 24]) {
-    let mut output = [7i32; 123];
+fn refusals(coordinates: &[i32], sides: &[u8], corners: &[u16], links: &[u16]) {
     let short = [0u16; 23];
     let other = [0u16; 24];
-    say(
-        b"short table",
-        building::build(coordinates, sides, corners, &short, 0, 1, &mut output),
-    );
-    say(
-        b"other links",
-        building::build(coordinates, sides, corners, &other, 0, 1, &mut output),
-    );
-    say(
-        b"no count",
-        building::build(coordinates, sides, corners, links, 9, 0, &mut output),
-    );
-    say(
-        b"past the end",
-        building::build(coordinates, sides, corners, links, 24, 1, &mut output),
-    );
-    say(
+    attempt(b"short table", coordinates, sides, corners, &short, 0, 1);
+    attempt(b"other links", coordinates, sides, corners, &other, 0, 1);
+    attempt(b"no count", coordinates, sides, corners, links, 9, 0);
+    attempt(b"past the end", coordinates, sides, corners, links, 24, 1);
+    attempt(
         b"far past the end",
-        building::build(
-            coordinates,
-            sides,
-            corners,
-            links,
-            18446744073709551615,
-            1,
-            &mut output,
-        ),
+        coordinates,
+        sides,
+        corners,
+        links,
+        18446744073709551615,
+        1,
     );
-    say(
+    attempt(
         b"count that wraps",
-        building::build(
-            coordinates,
-            sides,
-            corners,
-            links,
-            1,
-            18446744073709551615,
-            &mut output,
-        ),
+        coordinates,
+        sides,
+        corners,
+        links,
+        1,
+        18446744073709551615,
     );
-    say(
-        b"long range",
-        building::build(coordinates, sides, corners, links, 0, 2, &mut output),
+    attempt(b"long range", coordinates, sides, corners, links, 0, 2);
+    attempt(b"last corner", coordinates, sides, corners, links, 23, 1);
+}
+
+// Building into room for one corner.
+fn attempt(
+    what: &[u8],
+    coordinates: &[i32],
+    sides: &[u8],
+    corners: &[u16],
+    links: &[u16],
+    first: usize,
+    count: usize,
+) {
+    let mut output = [7i32; 123];
+    build(
+        what,
+        coordinates,
+        sides,
+        corners,
+        links,
+        first,
+        count,
+        &mut output,
     );
+}
+
+// A call of linking, and its line.
+fn link(what: &[u8], coordinates: &[i32], sides: &[u8], corners: &[u16], links: &mut [u16]) {
+    say(what, linking::link(coordinates, sides, corners, links));
+}
+
+// A call of building, and its line.
+fn build(
+    what: &[u8],
+    coordinates: &[i32],
+    sides: &[u8],
+    corners: &[u16],
+    links: &[u16],
+    first: usize,
+    count: usize,
+    output: &mut [i32],
+) {
     say(
-        b"last corner",
-        building::build(coordinates, sides, corners, links, 23, 1, &mut output),
+        what,
+        building::build(coordinates, sides, corners, links, first, count, output),
     );
 }
 
@@ -181,12 +220,12 @@ fn corner_by_corner(
     while c < 24 {
         if c < corners.len() {
             if !agrees(coordinates, sides, corners, links, whole, c) {
-                words(b"a corner built by itself differs\n");
+                print::output::say(b"a corner built by itself differs\n");
             }
         }
         c += 1;
     }
-    words(b"compared corner by corner\n");
+    print::output::say(b"compared corner by corner\n");
 }
 
 fn agrees(
@@ -224,11 +263,17 @@ fn same(whole: &[i32], from: usize, one: &[i32; 123]) -> bool
 
 // A line: what was called, and its answer.
 fn say(what: &[u8], answer: Answer) {
-    words(what);
-    words(b": ");
+    let mut line = [0u8; 64];
+    let name = put_word(&mut line, 0, what);
+    let colon = put_word(&mut line, name, b": ");
+    let end = put_answer(&mut line, colon, answer);
+    say_up_to(&line, end);
+}
+
+fn put_answer(line: &mut [u8; 64], at: usize, answer: Answer) -> usize {
     match answer {
-        Answer::Done => words(b"done\n"),
-        Answer::Refused(number, place) => report::print_refusal(number, place),
+        Answer::Done => put_word(line, at, b"done\n"),
+        Answer::Refused(number, place) => print::lines::put_refusal(line, at, number, place),
     }
 }
 
@@ -237,17 +282,10 @@ fn point(name: &[u8], numbers: &[i32; 2952], k: usize)
     requires { ⌜ k < 41 ⌝ }
 {
     let mut line = [0u8; 64];
-    let a = text::put_word(&mut line, 0, name);
-    let b = text::put_byte(&mut line, a, b' ');
-    let c = text::put_signed(&mut line, b, numbers[3 * k]);
-    let d = text::put_byte(&mut line, c, b' ');
-    let e = text::put_signed(&mut line, d, numbers[3 * k + 1]);
-    let f = text::put_byte(&mut line, e, b' ');
-    let g = text::put_signed(&mut line, f, numbers[3 * k + 2]);
-    let h = text::put_byte(&mut line, g, b'\n');
-    text::write(STDOUT_FILENO, &line, h);
-}
-
-fn words(s: &[u8]) {
-    io::write_all(STDOUT_FILENO, s);
+    let word = put_word(&mut line, 0, name);
+    let space = put_word(&mut line, word, b" ");
+    let x = put_entry(&mut line, space, numbers[3 * k], b' ');
+    let y = put_entry(&mut line, x, numbers[3 * k + 1], b' ');
+    let z = put_entry(&mut line, y, numbers[3 * k + 2], b'\n');
+    say_up_to(&line, z);
 }

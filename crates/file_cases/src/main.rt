@@ -1,6 +1,4 @@
 // Prints what `inspect` prints for each file of data/ that an argument names, after the file's name.
-use libc::STDOUT_FILENO;
-
 fn show(i: usize) {
     let mut path = io::buffer();
     let n = os::arg(i, &mut path);
@@ -9,9 +7,9 @@ fn show(i: usize) {
         os::fail(&path[..n]);
         return;
     }
-    io::write_all(STDOUT_FILENO, &path[..n]);
-    io::write_all(STDOUT_FILENO, b": ");
-    report::inspect(fd);
+    print::output::say(&path[..n]);
+    print::output::say(b": ");
+    print::inspect(fd, &path[..n]);
     libc::close(fd);
 }
 

@@ -1,4 +1,8 @@
 // Prints what the mesh file on standard input says: its counts, or why it is turned down.
 fn main() {
-    report::inspect(libc::STDIN_FILENO);
+    if 1 < os::arg_count() {
+        print::output::complain(b"usage: inspect < FILE\n");
+        return;
+    }
+    print::inspect(libc::STDIN_FILENO, b"standard input");
 }

@@ -1,12 +1,15 @@
 // Prints the control points of every corner of the mesh file on standard input, in ticks: a line `corner N`, then 41 lines of
 // x, y, z, the b points row by row and then the a points; or why the file is turned down, as `inspect` does.
-use checks::PER_CORNER;
 use libc::STDIN_FILENO;
-use libc::STDOUT_FILENO;
 use paper::Answer;
 use paper::MOST_CORNERS;
 use paper::MOST_FACES;
 use paper::MOST_VERTICES;
+use print::input::BUFFER;
+use print::output::say_up_to;
+use print::say_refusal;
+use print::text::put_entry;
+use requests::PER_CORNER;
 ghost use Prim.Native.Nat.{_≤_, _<_};
 ghost use Rattle.paper.specs.Mesh.{mostCorners};
 
@@ -15,30 +18,78 @@ const RANGE: usize = 64;
 
 const NUMBERS: usize = PER_CORNER * RANGE;
 
-// Room for a corner's 42 lines.
-const LINES: usize = 2048;
+// The bytes of one write, of which a corner's 42 lines take less than an eighth.
+const PIECE: usize = 16384;
+
+// The lengths of a mesh's lists, if there is a mesh.
+struct Lengths {
+    ok: bool,
+    numbers: usize,
+    faces: usize,
+    corners: usize,
+}
 
 fn main() {
-    let mut bytes = [0u8; report::BUFFER];
-    let held = io::read_full(STDIN_FILENO, &mut bytes);
-    let counted = report::count_on(STDIN_FILENO, &bytes[..held]);
+    if 1 < os::arg_count() {
+        print::output::complain(b"usage: patches < FILE\n");
+        return;
+    }
+    print_input();
+}
+
+// Reads the mesh, and prints its corners.
+fn print_input() {
     let mut coordinates = [0i32; 3 * MOST_VERTICES];
     let mut sides = [0u8; MOST_FACES];
     let mut corners = [0u16; MOST_CORNERS];
-    let d = file::decode(
-        &bytes[..held],
-        counted,
-        &mut coordinates,
-        &mut sides,
-        &mut corners,
-    );
-    let numbers = least(d.coordinates, 3 * MOST_VERTICES);
-    let faces = least(d.sides, MOST_FACES);
-    let count = least(d.corners, MOST_CORNERS);
+    let mesh = read_mesh(&mut coordinates, &mut sides, &mut corners);
+    let numbers = least(mesh.numbers, 3 * MOST_VERTICES);
+    let faces = least(mesh.faces, MOST_FACES);
+    let count = least(mesh.corners, MOST_CORNERS);
+    if mesh.ok {
+        print_mesh(&coordinates[..numbers], &sides[..faces], &corners[..count]);
+    }
+}
+
+// Reads the file on standard input into the lent lists.
+fn read_mesh(coordinates: &mut [i32], sides: &mut [u8], corners: &mut [u16]) -> Lengths {
+    let mut bytes = [0u8; BUFFER];
+    let read = print::input::read_file(STDIN_FILENO, b"standard input", &mut bytes);
+    let held = read.held;
+    if read.ok {
+        return decode(&bytes[..held], read.counted, coordinates, sides, corners);
+    }
+    no_mesh()
+}
+
+fn no_mesh() -> Lengths {
+    Lengths {
+        ok: false,
+        numbers: 0,
+        faces: 0,
+        corners: 0,
+    }
+}
+
+// The lists of the file, or the line that says why it is turned down.
+fn decode(
+    bytes: &[u8],
+    counted: usize,
+    coordinates: &mut [i32],
+    sides: &mut [u8],
+    corners: &mut [u16],
+) -> Lengths {
+    let d = dms::decode(bytes, counted, coordinates, sides, corners);
     let answer = d.answer;
-    match answer {
-        Answer::Refused(number, place) => report::print_refusal(number, place),
-        Answer::Done => print_mesh(&coordinates[..numbers], &sides[..faces], &corners[..count]),
+    if let Answer::Refused(number, place) = answer {
+        say_refusal(number, place);
+        return no_mesh();
+    }
+    Lengths {
+        ok: true,
+        numbers: d.coordinates,
+        faces: d.sides,
+        corners: d.corners,
     }
 }
 
@@ -52,25 +103,23 @@ fn print_mesh(coordinates: &[i32], sides: &[u8], corners: &[u16]) {
 // Links the mesh and prints all its corners.
 fn print_linked(coordinates: &[i32], sides: &[u8], corners: &[u16], links: &mut [u16]) {
     let answer = linking::link(coordinates, sides, corners, links);
-    match answer {
-        Answer::Refused(number, place) => report::print_refusal(number, place),
-        Answer::Done => print_ranges(coordinates, sides, corners, links),
+    if let Answer::Refused(number, place) = answer {
+        say_refusal(number, place);
+        return;
     }
+    print_ranges(coordinates, sides, corners, links);
 }
 
-// Builds and prints one range of corners after the other.
+// Builds and prints one range of corners after the other, as long as writing goes well.
 fn print_ranges(coordinates: &[i32], sides: &[u8], corners: &[u16], links: &[u16]) {
     let mut first = 0;
     while first < MOST_CORNERS {
-        if first < corners.len() {
-            print_range(
-                coordinates,
-                sides,
-                corners,
-                links,
-                first,
-                least(corners.len() - first, RANGE),
-            );
+        if corners.len() <= first {
+            return;
+        }
+        let count = least(corners.len() - first, RANGE);
+        if !print_range(coordinates, sides, corners, links, first, count) {
+            return;
         }
         first += RANGE;
     }
@@ -84,7 +133,7 @@ fn print_range(
     links: &[u16],
     first: usize,
     count: usize,
-)
+) -> bool
     requires { ⌜ (first < mostCorners) × (count ≤ 64) ⌝ }
 {
     let mut output = [0i32; NUMBERS];
@@ -98,51 +147,58 @@ fn print_range(
         &mut output[..PER_CORNER * count],
     );
     match answer {
-        Answer::Refused(number, place) => report::print_refusal(number, place),
+        Answer::Refused(number, place) => say_refusal(number, place),
         Answer::Done => print_corners(&output, first, count),
     }
 }
 
-// Prints the corners of a range.
-fn print_corners(output: &[i32; NUMBERS], first: usize, count: usize)
+// Prints the corners of a range, some of them in each write.
+fn print_corners(output: &[i32; NUMBERS], first: usize, count: usize) -> bool
     requires { ⌜ (first < mostCorners) × (count ≤ 64) ⌝ }
 {
+    let mut lines = [0u8; PIECE];
+    let mut at = 0;
     let mut i = 0;
     while i < count {
-        print_corner(output, i, first + i);
+        at = put_corner(&mut lines, at, output, i, first + i);
+        if PIECE - PIECE / 8 < at {
+            if !say_up_to(&lines, at) {
+                return false;
+            }
+            at = 0;
+        }
         i += 1;
     }
+    say_up_to(&lines, at)
 }
 
-// The lines of one corner, the one with this place in the range, written at once.
-fn print_corner(output: &[i32; NUMBERS], place: usize, corner: usize)
+// Puts the lines of one corner, the one with this place in the range.
+fn put_corner(
+    lines: &mut [u8; PIECE],
+    at: usize,
+    output: &[i32; NUMBERS],
+    place: usize,
+    corner: usize,
+) -> usize
     requires { ⌜ place < 64 ⌝ }
 {
-    let mut lines = [0u8; LINES];
-    let mut at = text::put_word(&mut lines, 0, b"corner ");
-    at = text::put_number(&mut lines, at, corner as u64);
-    at = text::put_byte(&mut lines, at, b'\n');
-    at = put_points(&mut lines, at, output, place);
-    text::write(STDOUT_FILENO, &lines, at);
+    let word = print::text::put_word(lines, at, b"corner ");
+    let first = print::lines::put_ended(lines, word, corner as u64, b'\n');
+    put_points(lines, first, output, place)
 }
 
 // Puts the numbers of one corner, three in a line.
-fn put_points(lines: &mut [u8], from: usize, output: &[i32; NUMBERS], place: usize) -> usize
+fn put_points(lines: &mut [u8; PIECE], from: usize, output: &[i32; NUMBERS], place: usize) -> usize
     requires { ⌜ place < 64 ⌝ }
 {
     let mut at = from;
     let mut i = 0;
     while i < PER_CORNER {
-        at = put_entry(lines, at, output[PER_CORNER * place + i], i % 3 == 2);
+        let last = if i % 3 == 2 { b'\n' } else { b' ' };
+        at = put_entry(lines, at, output[PER_CORNER * place + i], last);
         i += 1;
     }
     at
-}
-
-// Puts a number, and what stands after it: a line feed after the last of a point.
-fn put_entry(lines: &mut [u8], at: usize, number: i32, last: bool) -> usize {
-    let to = text::put_signed(lines, at, number);
-    text::put_byte(lines, to, if last { b'\n' } else { b' ' })
 }
 
 // The lesser of two numbers.

@@ -1,0 +1,78 @@
+-- After m turns the lines below m were put.
+-- Assumes nothing.
+use mathlib.Core.Path.{_≡_, refl, ap, _∙_}
+use Prim.Native.Nat.{_-_, _≤_}
+use lib.ListN.{length}
+use Rattle.print.specs.Text.{Put}
+use Rattle.print.specs.Lines.{countLines}
+use Rattle.print.proofs.Putting.{put-none, put-then, put-same}
+use Rattle.print.proofs.Rooms.{no-lines, next-lines}
+use borrow.Author.Needs.{needs}
+use native.Mathlib.Omega.{arith}
+use Rattle.print.proofs.lines.put_counts.Statement.{statement}
+use Rattle.print.proofs.lines.put_counts.Tie as tie
+
+abbrev Inv-loop : tie.InvT-loop
+Inv-loop lines₀ from cornered sided at₀ m₀ lines at m = (m ≤ 13) × (length lines ≡ length lines₀) × Put lines₀ from (countLines cornered sided m) lines at
+
+abbrev μ-loop : tie.MeasureT-loop
+μ-loop lines₀ from cornered sided at₀ m₀ lines at m = 13 - m
+
+loop-holds : tie.Need-loop-holds Inv-loop μ-loop
+loop-holds c = (omega arith, refl, put-same (no-lines _ _) (put-none _ _))
+
+mul-put-count : tie.Need-mul-put-count Inv-loop μ-loop
+mul-put-count c = search needs
+
+element-copy-out-put-count : tie.Need-element-copy-out-put-count Inv-loop μ-loop
+element-copy-out-put-count c = search needs
+
+mul-put-count-2 : tie.Need-mul-put-count-2 Inv-loop μ-loop
+mul-put-count-2 c = search needs
+
+element-copy-out-put-count-2 : tie.Need-element-copy-out-put-count-2 Inv-loop μ-loop
+element-copy-out-put-count-2 c = search needs
+
+put-count-requires : tie.Need-put-count-requires Inv-loop μ-loop
+put-count-requires c κs = search needs
+
+add-m : tie.Need-add-m Inv-loop μ-loop
+add-m c = search needs
+
+loop-less : tie.Need-loop-less Inv-loop μ-loop
+loop-less c = search needs
+
+loop-again : tie.Need-loop-again Inv-loop μ-loop
+loop-again c =
+    let s = c .before .before .before .before .before .before .before .before .before in
+    let l = c .before .before .before .before .before .before .before .loop in
+    let p = c .before .before .put-count in
+    (omega arith, p .kept .0 ∙ l .inv .1, put-same (next-lines (s .args .cornered .now) (s .args .sided .now) (l .m)) (put-then (l .inv .1) (l .inv .2) (p .ensures)))
+
+same-length : tie.Need-same-length Inv-loop μ-loop
+same-length c = c .before .loop .inv .1
+
+returns : tie.Need-returns Inv-loop μ-loop
+returns c =
+    let s = c .before .before .before in
+    let l = c .before .loop in
+    let q : l .m ≡ 13 = omega arith in
+    put-same (ap (countLines (s .args .cornered .now) (s .args .sided .now)) q) (l .inv .2)
+
+pub put-counts-spec : {M : Type 1} → statement M
+put-counts-spec =
+    tie.close
+    (tie.spec
+    Inv-loop
+    μ-loop
+    loop-holds
+    mul-put-count
+    element-copy-out-put-count
+    mul-put-count-2
+    element-copy-out-put-count-2
+    put-count-requires
+    add-m
+    loop-less
+    loop-again
+    same-length
+    returns)

@@ -1,0 +1,30 @@
+-- Three numbers, each with the byte that ends it.
+-- Assumes nothing.
+use Rattle.print.specs.Lines.{ended, space, feed}
+use Rattle.print.proofs.Putting.{put-three}
+use borrow.Author.Needs.{needs}
+use Rattle.print.proofs.lines.put_three.Statement.{statement}
+use Rattle.print.proofs.lines.put_three.Tie as tie
+
+put-ended-requires : tie.Need-put-ended-requires
+put-ended-requires c κs = search needs
+
+put-ended-requires-2 : tie.Need-put-ended-requires-2
+put-ended-requires-2 c κs = search needs
+
+put-ended-requires-3 : tie.Need-put-ended-requires-3
+put-ended-requires-3 c κs = search needs
+
+same-length : tie.Need-same-length
+same-length c = search needs
+
+returns : tie.Need-returns
+returns c =
+    let s = c .before .before .before .before .before .before .before .before .before .before .before .before .before in
+    put-three (ended (s .args .a) space) (ended (s .args .b) space) (ended (s .args .c) feed) (c .before .before .before .before .before .before .before .before .before .before .put-ended .kept .0) (c .before .before .before .before .before .before .put-ended2 .kept .0)
+    (c .before .before .before .before .before .before .before .before .before .before .put-ended .ensures) (c .before .before .before .before .before .before .put-ended2 .ensures) (c .before .before .put-ended3 .ensures)
+
+pub put-three-spec : {M : Type 1} → statement M
+put-three-spec =
+    tie.close
+    (tie.spec put-ended-requires put-ended-requires-2 put-ended-requires-3 same-length returns)

@@ -1,0 +1,46 @@
+// What the programs print, and how they read and write: text and lines in a lent buffer, with the bytes that they then hold stated; a
+// file read from a descriptor; and what `inspect` does with it.
+pub mod input;
+pub mod lines;
+pub mod output;
+pub mod text;
+
+ghost use lib.ListN.{take};
+ghost use Rattle.io.specs.Counts.{Counts};
+ghost use Rattle.paper.specs.File.{fileOf};
+ghost use Rattle.print.specs.Files.{Reported};
+use input::BUFFER;
+use lines::ANSWER;
+
+// The lines that say what `dms::survey` answers, of the bytes read and the length counted.
+pub fn report(bytes: &[u8], counted: usize, lines: &mut [u8; ANSWER]) -> usize
+    ensures { λ r. ⌜ Counts r (now (lines .exit)) ⌝ }
+    ensures { λ r. ⌜ Reported (fileOf (now (bytes .entry)) counted) counted (take r (now (lines .exit))) ⌝ }
+{
+    let summary = dms::survey(bytes, counted);
+    lines::put_summary(lines, summary)
+}
+
+// Reads the file on a descriptor and prints its lines, or on standard error why it could not be read.
+pub fn inspect(fd: i32, name: &[u8]) {
+    let mut buffer = [0u8; BUFFER];
+    let read = input::read_file(fd, name, &mut buffer);
+    let held = read.held;
+    if read.ok {
+        print_report(&buffer[..held], read.counted);
+    }
+}
+
+// Prints the lines of a file.
+fn print_report(bytes: &[u8], counted: usize) {
+    let mut answer = [0u8; ANSWER];
+    let end = report(bytes, counted, &mut answer);
+    output::say(&answer[..end]);
+}
+
+// Prints the line of a refusal, and answers whether it was written.
+pub fn say_refusal(number: u8, place: usize) -> bool {
+    let mut line = [0u8; 64];
+    let end = lines::put_refusal(&mut line, 0, number, place);
+    output::say_up_to(&line, end)
+}
