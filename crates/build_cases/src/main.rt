@@ -270,7 +270,7 @@ fn say(what: &[u8], answer: Answer) {
     say_up_to(&line, end);
 }
 
-fn put_answer(line: &mut [u8; 64], at: usize, answer: Answer) -> usize {
+fn put_answer(line: &mut [u8], at: usize, answer: Answer) -> usize {
     match answer {
         Answer::Done => put_word(line, at, b"done\n"),
         Answer::Refused(number, place) => print::lines::put_refusal(line, at, number, place),

@@ -18,8 +18,8 @@ const RANGE: usize = 64;
 
 const NUMBERS: usize = PER_CORNER * RANGE;
 
-// The bytes of one write, of which a corner's 42 lines take less than an eighth.
-const PIECE: usize = 16384;
+// Room for a corner's 42 lines.
+const LINES: usize = 2048;
 
 // The lengths of a mesh's lists, if there is a mesh.
 struct Lengths {
@@ -152,43 +152,33 @@ fn print_range(
     }
 }
 
-// Prints the corners of a range, some of them in each write.
+// Prints the corners of a range, as long as writing goes well.
 fn print_corners(output: &[i32; NUMBERS], first: usize, count: usize) -> bool
     requires { ⌜ (first < mostCorners) × (count ≤ 64) ⌝ }
 {
-    let mut lines = [0u8; PIECE];
-    let mut at = 0;
     let mut i = 0;
     while i < count {
-        at = put_corner(&mut lines, at, output, i, first + i);
-        if PIECE - PIECE / 8 < at {
-            if !say_up_to(&lines, at) {
-                return false;
-            }
-            at = 0;
+        if !print_corner(output, i, first + i) {
+            return false;
         }
         i += 1;
     }
-    say_up_to(&lines, at)
+    true
 }
 
-// Puts the lines of one corner, the one with this place in the range.
-fn put_corner(
-    lines: &mut [u8; PIECE],
-    at: usize,
-    output: &[i32; NUMBERS],
-    place: usize,
-    corner: usize,
-) -> usize
+// The lines of one corner, the one with this place in the range, in one write.
+fn print_corner(output: &[i32; NUMBERS], place: usize, corner: usize) -> bool
     requires { ⌜ place < 64 ⌝ }
 {
-    let word = print::text::put_word(lines, at, b"corner ");
-    let first = print::lines::put_ended(lines, word, corner as u64, b'\n');
-    put_points(lines, first, output, place)
+    let mut lines = [0u8; LINES];
+    let word = print::text::put_word(&mut lines, 0, b"corner ");
+    let first = print::lines::put_ended(&mut lines, word, corner as u64, b'\n');
+    let end = put_points(&mut lines, first, output, place);
+    say_up_to(&lines, end)
 }
 
 // Puts the numbers of one corner, three in a line.
-fn put_points(lines: &mut [u8; PIECE], from: usize, output: &[i32; NUMBERS], place: usize) -> usize
+fn put_points(lines: &mut [u8], from: usize, output: &[i32; NUMBERS], place: usize) -> usize
     requires { ⌜ place < 64 ⌝ }
 {
     let mut at = from;

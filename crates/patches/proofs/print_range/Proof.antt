@@ -21,8 +21,8 @@ build-requires c κs = search needs
 enum-known-answer : tie.Need-enum-known-answer
 enum-known-answer c = search needs
 
-print-refusal-requires : tie.Need-print-refusal-requires
-print-refusal-requires c κs = search needs
+say-refusal-requires : tie.Need-say-refusal-requires
+say-refusal-requires c κs = search needs
 
 enum-told : tie.Need-enum-told
 enum-told c = search needs
@@ -37,4 +37,4 @@ returns-2 : tie.Need-returns-2
 returns-2 c = search needs
 
 pub print-range-spec : {M : Type 1} → statement M
-print-range-spec = tie.close (tie.spec mul-output array-borrow-prefix-output slice-aggregate-build build-requires enum-known-answer print-refusal-requires enum-told print-corners-requires returns returns-2)
+print-range-spec = tie.close (tie.spec mul-output array-borrow-prefix-output slice-aggregate-build build-requires enum-known-answer say-refusal-requires enum-told print-corners-requires returns returns-2)

@@ -1,4 +1,4 @@
--- One turn for each range.
+-- Each turn is 64 corners further.
 -- Assumes nothing.
 use Prim.Native.Nat.{_-_}
 use borrow.Author.Needs.{needs}
@@ -14,6 +14,9 @@ abbrev μ-loop : tie.MeasureT-loop
 loop-holds : tie.Need-loop-holds Inv-loop μ-loop
 loop-holds c = search needs
 
+returns : tie.Need-returns Inv-loop μ-loop
+returns c = search needs
+
 sub-least : tie.Need-sub-least Inv-loop μ-loop
 sub-least c = search needs
 
@@ -22,6 +25,9 @@ least-requires c κs = search needs
 
 print-range-requires : tie.Need-print-range-requires Inv-loop μ-loop
 print-range-requires c κs = search needs
+
+returns-2 : tie.Need-returns-2 Inv-loop μ-loop
+returns-2 c = search needs
 
 add-first : tie.Need-add-first Inv-loop μ-loop
 add-first c = search needs
@@ -32,8 +38,22 @@ loop-less c = search needs
 loop-again : tie.Need-loop-again Inv-loop μ-loop
 loop-again c = search needs
 
-returns : tie.Need-returns Inv-loop μ-loop
-returns c = search needs
+returns-3 : tie.Need-returns-3 Inv-loop μ-loop
+returns-3 c = search needs
 
 pub print-ranges-spec : {M : Type 1} → statement M
-print-ranges-spec = tie.close (tie.spec Inv-loop μ-loop loop-holds sub-least least-requires print-range-requires add-first loop-less loop-again returns)
+print-ranges-spec =
+    tie.close
+    (tie.spec
+    Inv-loop
+    μ-loop
+    loop-holds
+    returns
+    sub-least
+    least-requires
+    print-range-requires
+    returns-2
+    add-first
+    loop-less
+    loop-again
+    returns-3)
