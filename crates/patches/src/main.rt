@@ -5,18 +5,18 @@ use paper::Answer;
 use paper::MOST_CORNERS;
 use paper::MOST_FACES;
 use paper::MOST_VERTICES;
+use paper::NUMBERS_PER_CORNER;
 use print::input::BUFFER;
 use print::output::say_up_to;
 use print::say_refusal;
 use print::text::put_entry;
-use requests::PER_CORNER;
 ghost use Prim.Native.Nat.{_≤_, _<_};
 ghost use Rattle.paper.specs.Mesh.{mostCorners};
 
 // The corners of one call of building, and their numbers.
 const RANGE: usize = 64;
 
-const NUMBERS: usize = PER_CORNER * RANGE;
+const NUMBERS: usize = NUMBERS_PER_CORNER * RANGE;
 
 // Room for a corner's 42 lines.
 const LINES: usize = 2048;
@@ -144,7 +144,7 @@ fn print_range(
         links,
         first,
         count,
-        &mut output[..PER_CORNER * count],
+        &mut output[..NUMBERS_PER_CORNER * count],
     );
     match answer {
         Answer::Refused(number, place) => say_refusal(number, place),
@@ -183,9 +183,9 @@ fn put_points(lines: &mut [u8], from: usize, output: &[i32; NUMBERS], place: usi
 {
     let mut at = from;
     let mut i = 0;
-    while i < PER_CORNER {
+    while i < NUMBERS_PER_CORNER {
         let last = if i % 3 == 2 { b'\n' } else { b' ' };
-        at = put_entry(lines, at, output[PER_CORNER * place + i], last);
+        at = put_entry(lines, at, output[NUMBERS_PER_CORNER * place + i], last);
         i += 1;
     }
     at
