@@ -9,7 +9,7 @@
 # Prints a line for each file; the status is 0 when both agree.
 set -u
 cd "$(dirname "$0")/.." || exit 2
-code=${1:-crates/cosines/src/lib.rt}
+code=${1:-crates/numbers/src/cosines.rt}
 definition=${2:-crates/paper/specs/Cosines.antt}
 last=${3:-12}
 status=0

@@ -13,8 +13,8 @@ use Rattle.paper.specs.Refined.{RefinedMesh}
 use Rattle.paper.specs.Net.{Side, side0, side1, side2, side3, atHead, atTail, H, T, X, Y, N, C, outer1, outer2, outer3, a0, a1, a2, a3}
 use Rattle.paper.specs.Borders.{first, second, third, fourth, InBounds}
 use Rattle.paper.specs.Cosines.{unit}
-use Rattle.rounding.specs.Near.{Near}
-use Rattle.rounding.proofs.Laws.{near-is}
+use Rattle.numbers.specs.Near.{Near}
+use Rattle.numbers.proofs.Nearest.{near-is}
 use Rattle.surface.proofs.Faces.{HeadRule, TailRule}
 use Rattle.surface.proofs.Border.{Border}
 use Rattle.surface.proofs.Roundings.{SecondRow, ThirdRow, outer1-is, outer2-is, outer3-is, N-is, a0-is, a1-is, a2-is, a3-is}

@@ -21,11 +21,11 @@ use Rattle.mesh.proofs.Verdicts.{sound-left, sound-right, single-sound, lowest-
 use Rattle.mesh.proofs.Accepted.{few-vertices, few-corners, sides-within, sums-of, named-of}
 use Rattle.walk.specs.Table.{rowLength, toNext, toPrevious, toLink, sidesHere, Column, KeptBut, Tabled}
 use Rattle.walk.proofs.Table.{blank}
-use Rattle.tables.specs.Vertices.{Rowed}
-use Rattle.tables.specs.Chain.{EarliersTo, Ready}
-use Rattle.tables.specs.Filled.{Fillable, FacesFilled, ValencesFilled}
-use Rattle.edges.specs.Entries.{Searchable, Ends}
-use Rattle.rings.specs.Ring.{Linking}
+use Rattle.columns.specs.Vertices.{Rowed}
+use Rattle.columns.specs.Chain.{EarliersTo, Ready}
+use Rattle.columns.specs.Filled.{Fillable, FacesFilled, ValencesFilled}
+use Rattle.edge_checks.specs.Entries.{Searchable, Ends}
+use Rattle.vertex_checks.specs.Ring.{Linking}
 use Rattle.checks.specs.Checked.{RoomFor, Checked, ListsChecked, Listed}
 
 -- tables of p and q rows, of zeros

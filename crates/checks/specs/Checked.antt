@@ -11,7 +11,7 @@ use Rattle.paper.specs.Refined.{cornersOf}
 use Rattle.paper.specs.declared.Answer.{Answer}
 use Rattle.mesh.specs.Tables.{Named}
 use Rattle.walk.specs.Table.{rowLength, Blank, Tabled}
-use Rattle.tables.specs.Chain.{Ready}
+use Rattle.columns.specs.Chain.{Ready}
 
 -- a table of corners and a table of vertices with a row for each, where there are not too many; the second is of zeros
 pub record RoomFor (M : Mesh) (table vertices : List ℕ) : Type 0 where

@@ -49,13 +49,13 @@ pub fn check_within(
     if let Answer::Refused(k, p) = a {
         return Answer::Refused(k, p);
     }
-    tables::fill_faces(sides, table);
+    columns::fill_faces(sides, table);
     let count = coordinates.len() / 3;
-    let b = edges::check_edges(corners, count, table, vertices);
+    let b = edge_checks::check_edges(corners, count, table, vertices);
     if let Answer::Refused(k, p) = b {
         return Answer::Refused(k, p);
     }
-    rings::check_vertices(corners, count, table, vertices)
+    vertex_checks::check_vertices(corners, count, table, vertices)
 }
 
 // Checks 4 to 9, of the lists themselves; the last of them leaves the chains of the vertices in the two tables.
@@ -69,27 +69,27 @@ fn check_lists(
     requires { ⌜ RoomFor (meshOf (now coordinates) (now sides) (now corners)) (now table) (now vertices) ⌝ }
     ensures { λ r. ⌜ ListsChecked (meshOf (now (coordinates .entry)) (now (sides .entry)) (now (corners .entry))) r (now (table .exit)) (now (vertices .exit)) ⌝ }
 {
-    let a4 = lists::check_lengths(coordinates.len(), sides.len(), corners.len());
+    let a4 = list_checks::check_lengths(coordinates.len(), sides.len(), corners.len());
     if let Answer::Refused(k, p) = a4 {
         return Answer::Refused(k, p);
     }
-    let a5 = lists::check_sides(sides);
+    let a5 = list_checks::check_sides(sides);
     if let Answer::Refused(k, p) = a5 {
         return Answer::Refused(k, p);
     }
-    let a6 = lists::check_sum(sides, corners.len());
+    let a6 = list_checks::check_sum(sides, corners.len());
     if let Answer::Refused(k, p) = a6 {
         return Answer::Refused(k, p);
     }
-    let a7 = lists::check_coordinates(coordinates);
+    let a7 = list_checks::check_coordinates(coordinates);
     if let Answer::Refused(k, p) = a7 {
         return Answer::Refused(k, p);
     }
-    let a8 = lists::check_names(coordinates.len() / 3, corners);
+    let a8 = list_checks::check_names(coordinates.len() / 3, corners);
     if let Answer::Refused(k, p) = a8 {
         return Answer::Refused(k, p);
     }
-    lists::check_faces(sides, corners, table, vertices)
+    list_checks::check_faces(sides, corners, table, vertices)
 }
 
 // Checks 14 to 17; `table` is the mesh's table of corners, `room` is the output's length.

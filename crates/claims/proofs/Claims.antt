@@ -1,7 +1,7 @@
 -- Every theorem that paper's Claims states, from the crate that proves it.
 -- Assumes nothing.
 use Rattle.paper.specs.Claims.{Claims}
-use Rattle.cosines.proofs.Rules.{rules}
+use Rattle.numbers.proofs.Rules.{rules}
 use Rattle.mesh.proofs.Theorems.{manifold}
 use Rattle.borders.proofs.Ranges.{ranges, every-border}
 use Rattle.borders.proofs.Theorem.{demand3}

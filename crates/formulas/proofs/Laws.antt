@@ -8,8 +8,8 @@ use mir.Syntax.{w64}
 use mir.Val.{SFits, toZ, ofZ}
 use mir.Facts.{toZ-ofZ}
 use Rattle.paper.specs.Numbers.{round}
-use Rattle.rounding.specs.Near.{Near}
-use Rattle.rounding.proofs.Laws.{near-is}
+use Rattle.numbers.specs.Near.{Near}
+use Rattle.numbers.proofs.Nearest.{near-is}
 
 pub rounded-is : (n d q : ℤ) (P : ℤ → Type 0) → T (ltZ (pos 0) d) → (Near n d q → P q) → SFits w64 q → q ≡ round n d
     → (toZ w64 (ofZ w64 q) ≡ round n d) × P (toZ w64 (ofZ w64 q))

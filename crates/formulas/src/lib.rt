@@ -1,5 +1,6 @@
 // The formulas of a quad-net over plain numbers, each with its one rounding: face points of four-sided and three-sided refined faces,
 // inner points, points of the outer rows and of the a rows, and the middles. One function serves four sides and three axes.
+use numbers::rounding;
 use paper::UNIT;
 ghost use mathlib.Core.Path.{_≡_};
 ghost use Prim.Native.Nat.{_*_};

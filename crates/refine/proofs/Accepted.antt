@@ -4,7 +4,7 @@ use Rattle.paper.specs.Mesh.{Mesh, cornerCount}
 use Rattle.paper.specs.Faults.{Accepted}
 use Rattle.mesh.proofs.Accepted.{sound-of, sums-of}
 use Rattle.surface.proofs.Hull.{coordinate-size}
-use Rattle.corner_tables.proofs.Accepted.{vertex-in, faces-of}
+use Rattle.wanted.proofs.Accepted.{vertex-in, faces-of}
 use Rattle.refine.specs.Sources.{Refinable}
 
 pub refinable-of : (M : Mesh) → Accepted M → Refinable M

@@ -11,7 +11,7 @@ use Rattle.paper.specs.Numbers.{rounded}
 use Rattle.paper.specs.Refined.{refinedPoint}
 use Rattle.surface.specs.Points.{pointRow, pointAt}
 use Rattle.mesh.specs.Tables.{Named}
-use Rattle.corner_tables.specs.Tables.{Faces}
+use Rattle.wanted.specs.Tables.{Faces}
 
 -- corners whose vertices have coordinates, within their limits
 pub record Placed (coordinates : List ℤ) (corners : List ℕ) : Type 0 where

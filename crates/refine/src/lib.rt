@@ -1,7 +1,7 @@
 // The refined points of the faces that are wanted, on the three axes: a row for each corner. A face's sum is formed once and serves all its
 // corners.
+use numbers::rounding::round_div;
 use paper::TICKS_PER_STEP;
-use rounding::round_div;
 use surface::POINT_ROW;
 use walk::Walker;
 ghost use mathlib.Core.Path.{_≡_};

@@ -15,9 +15,9 @@ use Rattle.integers.proofs.Poly.{over, poly}
 use Rattle.integers.proofs.Diff.{diff}
 use Rattle.integers.proofs.Laws.{abs-mul-le, mul-comm, mul-le, lt-or-ge, nonneg}
 use Rattle.integers.proofs.Sum.{sum-same, sum-abs, cycle, cycle-one, Cyclic}
-use Rattle.rounding.specs.Near.{Near}
-use Rattle.rounding.proofs.Laws.{round-near}
-use Rattle.cosines.proofs.Rules.{rules, period, cosine-size, bottom, exact, quarter}
+use Rattle.numbers.specs.Near.{Near}
+use Rattle.numbers.proofs.Nearest.{round-near}
+use Rattle.numbers.proofs.Rules.{rules, period, cosine-size, bottom, exact, quarter}
 use Rattle.surface.proofs.Within.{Within, within-times, within-cancel, abs-within, positive}
 
 -- ---- the sum with each point before its weight

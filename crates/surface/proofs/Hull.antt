@@ -21,8 +21,8 @@ use Rattle.paper.specs.Links.{vertexOf}
 use Rattle.paper.specs.Faults.{fault7, Accepted}
 use Rattle.paper.specs.Numbers.{round, rounded}
 use Rattle.paper.specs.Refined.{ticks, faceSum, refinedPoint, cornersOf, refinedOf}
-use Rattle.rounding.specs.Near.{Near}
-use Rattle.rounding.proofs.Laws.{round-near}
+use Rattle.numbers.specs.Near.{Near}
+use Rattle.numbers.proofs.Nearest.{round-near}
 use Rattle.mesh.proofs.Scans.{ways}
 use Rattle.mesh.proofs.Accepted.{sound-of}
 use Rattle.mesh.proofs.Theorems.{manifold}

@@ -21,9 +21,9 @@ use Rattle.integers.proofs.Poly.{over, poly}
 use Rattle.integers.proofs.Laws.{abs-mul-le}
 use Rattle.integers.proofs.Sum.{sum-abs}
 use Rattle.integers.proofs.Below.{below-at}
-use Rattle.rounding.specs.Near.{Near}
-use Rattle.rounding.proofs.Laws.{near-is}
-use Rattle.cosines.proofs.Rules.{bottom, cosine-size}
+use Rattle.numbers.specs.Near.{Near}
+use Rattle.numbers.proofs.Nearest.{near-is}
+use Rattle.numbers.proofs.Rules.{bottom, cosine-size}
 use Rattle.surface.specs.Sound.{Sound, Small as SmallPoints}
 use Rattle.surface.proofs.Within.{Within, within-cancel, abs-within, positive}
 use Rattle.surface.proofs.Faces.{toward-near, centre-near}

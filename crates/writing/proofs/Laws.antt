@@ -28,12 +28,12 @@ use Rattle.surface.proofs.Rings.{ring-in}
 use Rattle.surface.proofs.Near.{ring-near}
 use Rattle.surface.proofs.Agree.{net-same, sound-same}
 use Rattle.walk.specs.Table.{Tabled, tabled}
-use Rattle.corner_tables.specs.Tables.{Near, Wanted}
-use Rattle.corner_tables.proofs.Accepted.{vertex-in}
+use Rattle.wanted.specs.Tables.{Near, Wanted}
+use Rattle.wanted.proofs.Accepted.{vertex-in}
 use Rattle.refine.specs.Sources.{Pointed}
 use Rattle.refine.proofs.Accepted.{refinable-of}
-use Rattle.sides.specs.Drawn.{drawn, Drawn}
-use Rattle.nets.specs.Put.{Put}
+use Rattle.net_sides.specs.Drawn.{drawn, Drawn}
+use Rattle.net.specs.Put.{Put}
 use Rattle.writing.specs.Written.{NetsWritten}
 
 -- ---- place i of the output holds point `i % perCorner / 3` of corner `i / perCorner` on axis `i % 3`

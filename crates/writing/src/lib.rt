@@ -1,5 +1,6 @@
 // The numbers that building writes: the refined points of the faces at the range's vertices are computed once, and then the quad-nets are
 // written corner by corner, so that each part of the output is gone over once.
+use numbers::cosines;
 use paper::MOST_FACES;
 use paper::MOST_VERTICES;
 use paper::NUMBERS_PER_CORNER;
@@ -13,7 +14,7 @@ ghost use Rattle.paper.specs.Calls.{nets, perCorner};
 ghost use Rattle.surface.specs.Points.{pointRow};
 ghost use Rattle.walk.specs.Table.{Tabled};
 ghost use Rattle.refine.specs.Sources.{Small};
-ghost use Rattle.sides.specs.Drawn.{drawn, Drawn};
+ghost use Rattle.net_sides.specs.Drawn.{drawn, Drawn};
 ghost use Rattle.writing.specs.Written.{NetsWritten};
 
 // The numbers of `count` corners from `first` on, by the table of the mesh's corners. The refined points are put into `points`.
@@ -35,7 +36,7 @@ pub fn write_nets(
 {
     let mut marked = [0u8; MOST_VERTICES];
     let mut wanted = [0u8; MOST_FACES];
-    corner_tables::fill_wanted(sides, corners, first, count, &mut marked, &mut wanted);
+    wanted::fill_wanted(sides, corners, first, count, &mut marked, &mut wanted);
     refine::fill_points(coordinates, sides, corners, table, &wanted, points);
     write_corners(points, table, corners.len(), first, count, out);
 }
@@ -58,9 +59,9 @@ fn write_corners(
     while k < count {
         let c = first + k;
         let at = NUMBERS_PER_CORNER * k;
-        nets::put_net(points, table, &rows, n, c, 0, out, at);
-        nets::put_net(points, table, &rows, n, c, 1, out, at);
-        nets::put_net(points, table, &rows, n, c, 2, out, at);
+        net::put_net(points, table, &rows, n, c, 0, out, at);
+        net::put_net(points, table, &rows, n, c, 1, out, at);
+        net::put_net(points, table, &rows, n, c, 2, out, at);
         k += 1;
     }
 }

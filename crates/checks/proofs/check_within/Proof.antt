@@ -9,8 +9,8 @@ use Rattle.paper.specs.Links.{link}
 use Rattle.paper.specs.Faults.{sound, listFaults, stated}
 use Rattle.mesh.proofs.Verdicts.{passed}
 use Rattle.walk.specs.Table.{rowLength, toLink, Column}
-use Rattle.tables.specs.Chain.{Ready}
-use Rattle.edges.specs.Entries.{Ends}
+use Rattle.columns.specs.Chain.{Ready}
+use Rattle.edge_checks.specs.Entries.{Ends}
 use Rattle.checks.specs.Checked.{Listed}
 use Rattle.checks.proofs.Laws.{listed, fillable, rows, ends, searchable, edgeFaults, closed, linking, tabled, stopped-lists, stopped-edges, checked}
 use native.Mathlib.Omega.{arith}

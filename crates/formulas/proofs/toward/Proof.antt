@@ -8,7 +8,7 @@ use mir.Syntax.{w64}
 use mir.Val.{SFits}
 use mir.Facts.{toZ-ofZ}
 use Rattle.integers.proofs.Poly.{over, poly}
-use Rattle.rounding.specs.Near.{Near}
+use Rattle.numbers.specs.Near.{Near}
 use Rattle.formulas.specs.Sizes.{Corner}
 use Rattle.formulas.proofs.Laws.{rounded-is}
 use Rattle.formulas.proofs.toward.Statement.{statement}

@@ -12,7 +12,7 @@ use mir.Val.{Fits}
 use Rattle.paper.specs.Numbers.{rounded}
 use Rattle.paper.specs.Refined.{RefinedMesh}
 use Rattle.paper.specs.Calls.{perCorner}
-use Rattle.sides.specs.Drawn.{drawn}
+use Rattle.net_sides.specs.Drawn.{drawn}
 use Rattle.writing.specs.Written.{NetsWritten}
 use Rattle.writing.proofs.Laws.{written-none, written-step}
 use Rattle.writing.proofs.write_corners.Statement.{statement}

@@ -6,7 +6,7 @@ use native.Mathlib.Omega.{arith}
 use borrow.Author.Needs.{needs}
 use denote.Ref.{now}
 use Rattle.paper.specs.Mesh.{Mesh, meshOf, mostVertices}
-use Rattle.corner_tables.proofs.Accepted.{faces-of}
+use Rattle.wanted.proofs.Accepted.{faces-of}
 use Rattle.refine.proofs.Accepted.{refinable-of}
 use Rattle.writing.proofs.Laws.{zeros, named-in, faces-in, drawn-of, drawn-written}
 use Rattle.writing.proofs.write_nets.Statement.{statement}

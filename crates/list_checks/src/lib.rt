@@ -1,0 +1,133 @@
+// Checks 4 to 9, over the lists themselves: each answers its fault at the lowest place, or that there is none.
+use columns::LAST;
+use paper::Answer;
+use paper::LEAST_SIDES;
+use paper::MOST_COORDINATE;
+use paper::MOST_CORNERS;
+use paper::MOST_FACES;
+use paper::MOST_SIDES;
+use paper::MOST_VERTICES;
+use walk::ROW;
+use walk::VALENCE;
+ghost use mathlib.Core.Path.{_≡_};
+ghost use Prim.Native.Nat.{_*_, _≤_};
+ghost use lib.ListN.{length};
+ghost use Rattle.paper.specs.Mesh.{mostFaces, mostCorners};
+ghost use Rattle.paper.specs.Corners.{sumOf};
+ghost use Rattle.paper.specs.Faults.{sound, single, lowestOf, fault4, fault5, fault6, fault7, fault8, fault9, stated};
+ghost use Rattle.walk.specs.Table.{rowLength, Blank};
+ghost use Rattle.columns.specs.Vertices.{Rowed};
+ghost use Rattle.columns.specs.Chain.{Ready};
+
+// Check 4, of the lists' lengths.
+pub fn check_lengths(coordinates: usize, faces: usize, corners: usize) -> Answer
+    ensures { λ r. ⌜ stated r ≡ single 4 (fault4 coordinates faces corners) 0 ⌝ }
+{
+    if coordinates % 3 != 0 {
+        return Answer::Refused(4, 0);
+    }
+    let vertices = coordinates / 3;
+    if vertices < 1 || MOST_VERTICES < vertices {
+        return Answer::Refused(4, 0);
+    }
+    if faces < 1 || MOST_FACES < faces {
+        return Answer::Refused(4, 0);
+    }
+    if corners < 1 || MOST_CORNERS < corners {
+        return Answer::Refused(4, 0);
+    }
+    Answer::Done
+}
+
+// Check 5, of the faces' side counts.
+pub fn check_sides(sides: &[u8]) -> Answer
+    ensures { λ r. ⌜ stated r ≡ lowestOf 5 (length (now (sides .entry))) (fault5 (now (sides .entry))) ⌝ }
+{
+    let mut f = 0;
+    while f < sides.len() {
+        let s = sides[f] as usize;
+        if s < LEAST_SIDES || MOST_SIDES < s {
+            return Answer::Refused(5, f);
+        }
+        f += 1;
+    }
+    Answer::Done
+}
+
+// Check 6: the side counts sum to the corner count.
+pub fn check_sum(sides: &[u8], corners: usize) -> Answer
+    requires { ⌜ length (now sides) ≤ mostFaces ⌝ }
+    ensures { λ r. ⌜ stated r ≡ single 6 (fault6 (now (sides .entry)) corners) (sumOf (now (sides .entry))) ⌝ }
+{
+    let mut total: usize = 0;
+    let mut f = 0;
+    while f < sides.len() {
+        total += sides[f] as usize;
+        f += 1;
+    }
+    if total != corners {
+        return Answer::Refused(6, total);
+    }
+    Answer::Done
+}
+
+// Check 7, of the coordinates.
+pub fn check_coordinates(coordinates: &[i32]) -> Answer
+    ensures { λ r. ⌜ stated r ≡ lowestOf 7 (length (now (coordinates .entry))) (fault7 (now (coordinates .entry))) ⌝ }
+{
+    let mut i = 0;
+    while i < coordinates.len() {
+        let z = coordinates[i];
+        if z < -MOST_COORDINATE || MOST_COORDINATE < z {
+            return Answer::Refused(7, i);
+        }
+        i += 1;
+    }
+    Answer::Done
+}
+
+// Check 8: each corner names a vertex.
+pub fn check_names(vertices: usize, corners: &[u16]) -> Answer
+    ensures { λ r. ⌜ stated r ≡ lowestOf 8 (length (now (corners .entry))) (fault8 vertices (now (corners .entry))) ⌝ }
+{
+    let mut c = 0;
+    while c < corners.len() {
+        let u = corners[c] as usize;
+        if vertices <= u {
+            return Answer::Refused(8, c);
+        }
+        c += 1;
+    }
+    Answer::Done
+}
+
+// Check 9: no corner names the vertex of an earlier corner of its face. The table of vertices holds one more than the last corner met of
+// each vertex: that corner is in the face if the entry is above the face's first corner. It is kept for the corner, so that the corners
+// of a vertex form a falling chain. A refused mesh leaves the two tables with any contents.
+pub fn check_faces(sides: &[u8], corners: &[u16], table: &mut [u16], vertices: &mut [u16]) -> Answer
+    requires mesh { ⌜ (sumOf (now sides) ≡ length (now corners)) × (length (now corners) ≤ mostCorners) ⌝ }
+    requires room { ⌜ (rowLength * length (now corners) ≤ length (now table)) × Rowed (now corners) (now vertices) × Blank (now vertices) ⌝ }
+    ensures answer { λ r. ⌜ stated r ≡ lowestOf 9 (length (now (corners .entry))) (fault9 (now (sides .entry)) (now (corners .entry))) ⌝ }
+    ensures chains { λ r. ⌜ (stated r ≡ sound → Ready (now (corners .entry)) (now (table .exit)) (now (vertices .exit))) ⌝ }
+{
+    let mut start = 0;
+    let mut f = 0;
+    while f < sides.len() {
+        let count = sides[f] as usize;
+        let end = start + count;
+        let mut c = start;
+        while c < end {
+            let u = corners[c] as usize;
+            let last = vertices[ROW * u + LAST];
+            if start < last as usize {
+                return Answer::Refused(9, c);
+            }
+            table[ROW * c + VALENCE] = last;
+            vertices[ROW * u + LAST] = (c + 1) as u16;
+            c += 1;
+        }
+        start = end;
+        f += 1;
+    }
+    Answer::Done
+}

@@ -1,0 +1,180 @@
+-- The faces at a corner, as the code has them from the tables, are those of the definitions; and so are the sides made from them.
+-- Assumes nothing.
+use mathlib.Core.Path.{_≡_, refl, ap, _∙_, subst}
+use mathlib.Core.List.{List}
+use Prim.Native.Nat.{ℕ, _+_, _-_, _*_, _^_, _≤_, _<_}
+use native.Mathlib.Omega.{arith}
+use lib.Dec.{lit<}
+use lib.ListN.{length}
+use lib.IntN.{ℤ, pos, natAbs}
+use lib.Signed.{_≤ℤ_}
+use mir.Syntax.{w64}
+use mir.Val.{SFits}
+use mir.Facts.{toZ-ofZ}
+use Rattle.integers.proofs.Poly.{over, poly}
+use Rattle.integers.proofs.Machine.{abs-fits}
+use Rattle.formulas.specs.Sizes.{Corner, FacePoint, Row}
+use Rattle.refined_faces.specs.Ring.{around, Ring, IsFace, IsEdgeFace}
+use Rattle.refined_faces.specs.declared.Face.{Face}
+use Rattle.refined_faces.proofs.Laws.{plain}
+use Rattle.paper.specs.Scan.{iterate}
+use Rattle.paper.specs.Mesh.{leastSides, mostSides}
+use Rattle.paper.specs.Numbers.{rounded}
+use Rattle.paper.specs.Refined.{Corners, RefinedMesh}
+use Rattle.paper.specs.Net.{leaving, arriving, Side, side0, side1, side2, side3, neighbour, quad, points, H, T, X, Y, N, C}
+use Rattle.surface.specs.Points.{pointAt}
+use Rattle.surface.specs.Sound.{Sound, Small}
+use Rattle.surface.proofs.Rings.{points-cyclic, neighbour-in}
+use Rattle.surface.proofs.Faces.{toward-same}
+use Rattle.surface.proofs.Sizes.{H-size, T-size, X-size, Y-size, C-size, C-bottom}
+use Rattle.walk.specs.Table.{rowLength, toNext, toLink, entry, tabled}
+use Rattle.net_sides.specs.Drawn.{drawn, Drawn, Readable}
+use Rattle.net_sides.specs.Values.{IsLeaving, IsArriving, IsSide, Sized, Made}
+use Rattle.net_sides.specs.declared.Edge.{Edge}
+use Rattle.net_sides.specs.declared.SideValues.{SideValues}
+
+-- ---- the four-sided face, in the machine's numbers
+pub edge-plain : (a b c d A B C D : ℤ) (f : Face) → plain a ≡ A → plain b ≡ B → plain c ≡ C → plain d ≡ D
+    → SFits w64 (f .centre) → SFits w64 (f .ahead) → SFits w64 (f .behind) → IsEdgeFace (plain a) (plain b) (plain c) (plain d) f
+    → IsEdgeFace A B C D (record { centre = plain (f .centre); ahead = plain (f .ahead); behind = plain (f .behind) })
+edge-plain a b c d A B C D f ea eb ec ed fc fa fb i =
+    rw (toZ-ofZ fc, toZ-ofZ fa, toZ-ofZ fb)
+    (subst (λ (z : ℤ). IsEdgeFace A B C z f) ed
+    (subst (λ (z : ℤ). IsEdgeFace A B z (plain d) f) ec
+    (subst (λ (z : ℤ). IsEdgeFace A z (plain c) (plain d) f) eb (subst (λ (z : ℤ). IsEdgeFace z (plain b) (plain c) (plain d) f) ea i))))
+
+-- ---- what the tables hold of each corner
+module _ (count : ℕ) (table : List ℕ) (points : List ℤ) (d : Drawn count table points) where
+  pub row-in : (k i : ℕ) → k < rowLength → i < count → rowLength * i + k < length table
+  row-in k i l h = omega (arith, d .table-long)
+
+  pub readable : (axis i : ℕ) → axis < 3 → i < count → Readable points axis i
+  readable axis i l h = (omega (arith, d .points-long), d .small axis l i h)
+
+-- ---- the faces at corner c
+module _ (count : ℕ) (table : List ℕ) (ticks : List ℤ) (c axis : ℕ) (t : Drawn count table ticks × (c < count) × (axis < 3)) where
+  abbrev K : RefinedMesh rounded
+  K = drawn count table ticks axis
+
+  -- the ring by a column
+  ring-by : (k m : ℕ) → k < rowLength → ((i : ℕ) → i < count → entry table k i < count)
+      → iterate m (entry table k) c ≡ c → leastSides ≤ m → m ≤ mostSides → Ring ticks axis table k c m
+  ring-by k m l inside closes least most = record {
+    count = count;
+    here = t .1;
+    points-hold = λ i h. readable count table ticks (t .0) axis i (t .2) h .0;
+    table-holds = λ i h. row-in count table ticks (t .0) k i l h;
+    step-in = inside;
+    point-size = t .0 .small axis (t .2);
+    closes = closes;
+    least = least;
+    most = most;
+  }
+
+  pub vertex-ring : (m : ℕ) → m ≡ K .corners .valence c → Ring ticks axis table toLink c m
+  vertex-ring m e =
+      let s = t .0 .sound in
+      rw e (ring-by toLink _ (lit< tt) (s .link-in) (s .vertex-closes c (t .1)) (s .valence-least c (t .1)) (s .valence-most c (t .1)))
+
+  pub face-ring : (n : ℕ) → n ≡ K .corners .sides c → Ring ticks axis table toNext c n
+  face-ring n e =
+      let s = t .0 .sound in
+      rw e (ring-by toNext _ (lit< tt) (s .next-in) (s .face-closes c (t .1)) (s .sides-least c (t .1)) (s .sides-most c (t .1)))
+
+  pub vertex-is : (m : ℕ) (f : Face) → m ≡ K .corners .valence c → IsFace (around ticks axis table toLink c) m 0 (m - 1) f
+      → (f .centre ≡ H K c side0) × (f .ahead ≡ X K c side0) × (f .behind ≡ X K c side3)
+  unfolding H X around
+  vertex-is m f e i = let k = subst (λ (m : ℕ). IsFace (around ticks axis table toLink c) m 0 (m - 1) f) e i in (k .centre, k .ahead, k .behind)
+
+  pub face-is : (n : ℕ) (f : Face) → n ≡ K .corners .sides c → IsFace (around ticks axis table toNext c) n 0 (n - 1) f
+      → (f .centre ≡ H K c side1) × (f .ahead ≡ X K c side1) × (f .behind ≡ X K c side2)
+  unfolding H X around
+  face-is n f e i = let k = subst (λ (n : ℕ). IsFace (around ticks axis table toNext c) n 0 (n - 1) f) e i in (k .centre, k .ahead, k .behind)
+
+  pub leaving-is : (r : Edge) → IsLeaving K c r → (r .centre ≡ T K c side0) × (r .behind ≡ Y K c side0) × (r .ahead ≡ Y K c side1)
+  unfolding T Y quad
+  leaving-is r h =
+      let k = h .face .faces (points K c leaving) (points-cyclic K (t .0 .sound) c (t .1) leaving) 0 refl refl refl refl in
+      (k .centre, k .behind, k .ahead)
+
+  pub arriving-is : (r : Edge) → IsArriving K c r → (r .centre ≡ T K c side3) × (r .behind ≡ Y K c side2) × (r .ahead ≡ Y K c side3)
+  unfolding T Y quad
+  arriving-is r h =
+      let p = points K c arriving in
+      let cyc = points-cyclic K (t .0 .sound) c (t .1) arriving in
+      let k = h .face .faces p cyc 1 (ap (pointAt ticks axis) (t .0 .sound .next-previous c (t .1))) refl refl refl in
+      (k .centre, k .behind ∙ toward-same p p 4 4 0 (λ k l. ap p (swap k) ∙ cyc k ∙ ap p (zero k)), k .ahead)
+    where
+      swap : (k : ℕ) → 4 + k ≡ k + 4
+      swap k = omega arith
+
+      zero : (k : ℕ) → k ≡ 0 + k
+      zero k = omega arith
+
+-- ---- a side from its parts
+pub record Parts (K : RefinedMesh rounded) (c : ℕ) (s : Side) (h t p q v w k : ℤ) : Type 0 where
+  pub head : h ≡ H K c s
+  pub tail : t ≡ T K c s
+  pub x : p ≡ X K c s
+  pub y : q ≡ Y K c s
+  pub here : v ≡ K .point c
+  pub there : w ≡ K .point (neighbour (K .corners) c s)
+  pub cosine : k ≡ C K c s
+
+pub corner-plain : (z y : ℤ) → z ≡ y → Corner y → (plain z ≡ y) × Corner (plain z)
+corner-plain z y e h = let f = ap plain e ∙ toZ-ofZ (abs-fits w64 y (2 ^ 24) h (lit< tt)) in (f, rw f h)
+
+point-plain : (z y : ℤ) → z ≡ y → FacePoint y → (plain z ≡ y) × FacePoint (plain z)
+point-plain z y e h = let f = ap plain e ∙ toZ-ofZ (abs-fits w64 y (2 ^ 24 + 2 ^ 21) h (lit< tt)) in (f, rw f h)
+
+row-plain : (z y : ℤ) → z ≡ y → Row y → (plain z ≡ y) × Row (plain z)
+row-plain z y e h = let f = ap plain e ∙ toZ-ofZ (fits y h) in (f, rw f h)
+  where
+    fits : (y : ℤ) → Row y → SFits w64 y
+    fits = over 1 _ λ ρ. simp (poly, ρ) (omega arith)
+
+module _ (K : RefinedMesh rounded) (ok : Sound (K .corners)) (small : Small K) (c : ℕ) (here : c < K .corners .count) (s : Side) (h t p q v w k : ℤ)
+    (e : Parts K c s h t p q v w k) where
+  row : Row (C K c s)
+  row = (C-bottom K ok small c here s, top (C K c s) (C-size K ok small c here s))
+    where
+      top : (z : ℤ) → natAbs z ≤ 2 ^ 30 → z ≤ℤ pos (2 ^ 30)
+      top = over 1 _ λ ρ. simp (poly, ρ) (omega arith)
+
+  head′ : (plain h ≡ H K c s) × Corner (plain h)
+  head′ = corner-plain h (H K c s) (e .head) (H-size K ok small c here s)
+
+  tail′ : (plain t ≡ T K c s) × Corner (plain t)
+  tail′ = corner-plain t (T K c s) (e .tail) (T-size K ok small c here s)
+
+  x′ : (plain p ≡ X K c s) × FacePoint (plain p)
+  x′ = point-plain p (X K c s) (e .x) (X-size K ok small c here s)
+
+  y′ : (plain q ≡ Y K c s) × FacePoint (plain q)
+  y′ = point-plain q (Y K c s) (e .y) (Y-size K ok small c here s)
+
+  here′ : (plain v ≡ K .point c) × Corner (plain v)
+  here′ = corner-plain v (K .point c) (e .here) (small c here)
+
+  there′ : (plain w ≡ K .point (neighbour (K .corners) c s)) × Corner (plain w)
+  there′ = corner-plain w (K .point (neighbour (K .corners) c s)) (e .there) (small (neighbour (K .corners) c s) (neighbour-in (K .corners) ok c here s))
+
+  cosine′ : (plain k ≡ C K c s) × Row (plain k)
+  cosine′ = row-plain k (C K c s) (e .cosine) row
+
+  pub sizes : Corner (plain h) × Corner (plain t) × FacePoint (plain p) × FacePoint (plain q) × Corner (plain v) × Corner (plain w) × Row (plain k)
+  sizes = (head′ .1, tail′ .1, x′ .1, y′ .1, here′ .1, there′ .1, cosine′ .1)
+
+  pub made-is : (r : SideValues) → Made (plain h) (plain t) (plain p) (plain q) (plain v) (plain w) (plain k) r → IsSide K c s r × Sized r
+  unfolding N
+  made-is r m = (
+    record {
+      head = m .head ∙ head′ .0;
+      tail = m .tail ∙ tail′ .0;
+      x = m .x ∙ x′ .0;
+      y = m .y ∙ y′ .0;
+      inner = m .inner ∙ cc (x′ .0, y′ .0, here′ .0, there′ .0);
+      cosine = m .cosine ∙ cosine′ .0;
+    },
+    m .sized,
+  )

@@ -1,0 +1,214 @@
+// The four sides of a corner's quad-net on one axis: H, T, X, Y, N and C of each, from the tables of corners and refined points.
+use numbers::cosines;
+use walk::LINK;
+use walk::NEXT;
+use walk::Walker;
+ghost use mathlib.Core.Path.{_≡_};
+ghost use Prim.Native.Nat.{_-_, _<_};
+ghost use Rattle.formulas.specs.Sizes.{Corner, FacePoint, Row};
+ghost use Rattle.numbers.specs.Stored.{stored};
+ghost use Rattle.surface.specs.Points.{pointAt};
+ghost use Rattle.walk.specs.Table.{toNext, toLink};
+ghost use Rattle.refined_faces.specs.Ring.{around, Ring, IsFace};
+ghost use Rattle.net_sides.specs.Drawn.{drawn, Drawn, Readable};
+ghost use Rattle.net_sides.specs.Values.{Through, IsLeaving, IsArriving, Made, FourSides};
+
+// The refined face of an edge at a corner, with the refined points of the corner and of its neighbours in that face.
+pub struct Edge {
+    pub centre: i64,
+    pub ahead: i64,
+    pub behind: i64,
+    pub here: i64,
+    pub after: i64,
+    pub before: i64,
+}
+
+// H, T, X, Y, N and C of a side.
+pub struct SideValues {
+    pub head: i64,
+    pub tail: i64,
+    pub x: i64,
+    pub y: i64,
+    pub inner: i64,
+    pub cosine: i64,
+}
+
+pub struct NetSides {
+    pub side0: SideValues,
+    pub side1: SideValues,
+    pub side2: SideValues,
+    pub side3: SideValues,
+}
+
+// The face through four corners in turn.
+fn edge_through(
+    points: &[i32],
+    axis: usize,
+    here: usize,
+    after: usize,
+    far: usize,
+    before: usize,
+) -> Edge
+    requires { ⌜ Readable (now points) axis here × Readable (now points) axis after × Readable (now points) axis far × Readable (now points) axis before ⌝ }
+    ensures { λ r. ⌜ Through (pointAt (now (points .entry)) axis) here after far before r ⌝ }
+{
+    let v = refined_faces::point(points, axis, here);
+    let w = refined_faces::point(points, axis, after);
+    let x = refined_faces::point(points, axis, far);
+    let y = refined_faces::point(points, axis, before);
+    let f = refined_faces::edge_face(v, w, x, y);
+    Edge {
+        centre: f.centre,
+        ahead: f.ahead,
+        behind: f.behind,
+        here: v,
+        after: w,
+        before: y,
+    }
+}
+
+// The face of the leaving edge of c, one of `count` corners.
+fn leaving_edge(points: &[i32], table: &[u16], count: usize, c: usize, axis: usize) -> Edge
+    requires { ⌜ Drawn count (now table) (now points) × (c < count) × (axis < 3) ⌝ }
+    ensures { λ r. ⌜ IsLeaving (drawn count (now (table .entry)) (now (points .entry)) axis) c r ⌝ }
+{
+    let here = Walker { corner: c };
+    let next = here.next(table);
+    let link = here.linked(table);
+    let far = link.previous(table);
+    edge_through(points, axis, c, next.corner, far.corner, link.corner)
+}
+
+// The face of the arriving edge of c, which leaves the previous corner.
+fn arriving_edge(points: &[i32], table: &[u16], count: usize, c: usize, axis: usize) -> Edge
+    requires { ⌜ Drawn count (now table) (now points) × (c < count) × (axis < 3) ⌝ }
+    ensures { λ r. ⌜ IsArriving (drawn count (now (table .entry)) (now (points .entry)) axis) c r ⌝ }
+{
+    let here = Walker { corner: c };
+    let previous = here.previous(table);
+    let far = previous.linked(table);
+    let across = far.previous(table);
+    edge_through(points, axis, c, across.corner, far.corner, previous.corner)
+}
+
+// One side from its parts; v is the corner's refined point, w the neighbour's.
+fn side(head: i64, tail: i64, x: i64, y: i64, v: i64, w: i64, cosine: i64) -> SideValues
+    requires { ⌜ Corner head × Corner tail × FacePoint x × FacePoint y × Corner v × Corner w × Row cosine ⌝ }
+    ensures { λ r. ⌜ Made head tail x y v w cosine r ⌝ }
+{
+    SideValues {
+        head: head,
+        tail: tail,
+        x: x,
+        y: y,
+        inner: formulas::inner(x, y, v, w),
+        cosine: cosine,
+    }
+}
+
+// The refined face of the vertex of c, whose ring the links go round. It stands beside that of the face, with the same body: a function
+// that is called once is put in line, and then only a ring of five and more costs a call.
+fn vertex_face(
+    points: &[i32],
+    table: &[u16],
+    rows: &cosines::Rows,
+    c: usize,
+    m: usize,
+    axis: usize,
+) -> refined_faces::Face
+    requires ring { ⌜ Ring (now points) axis (now table) toLink c m ⌝ }
+    requires rows { ⌜ now rows ≡ stored ⌝ }
+    ensures { λ r. ⌜ IsFace (around (now (points .entry)) axis (now (table .entry)) toLink c) m 0 (m - 1) r ⌝ }
+{
+    match m {
+        3 => refined_faces::ring_of_three(points, axis, table, LINK, c),
+        4 => refined_faces::ring_of_four(points, axis, table, LINK, c),
+        _ => refined_faces::ring_of_many(points, axis, table, LINK, rows, c, m),
+    }
+}
+
+// The refined face of the face of c, whose ring the next corners go round.
+fn mesh_face(
+    points: &[i32],
+    table: &[u16],
+    rows: &cosines::Rows,
+    c: usize,
+    m: usize,
+    axis: usize,
+) -> refined_faces::Face
+    requires ring { ⌜ Ring (now points) axis (now table) toNext c m ⌝ }
+    requires rows { ⌜ now rows ≡ stored ⌝ }
+    ensures { λ r. ⌜ IsFace (around (now (points .entry)) axis (now (table .entry)) toNext c) m 0 (m - 1) r ⌝ }
+{
+    match m {
+        3 => refined_faces::ring_of_three(points, axis, table, NEXT, c),
+        4 => refined_faces::ring_of_four(points, axis, table, NEXT, c),
+        _ => refined_faces::ring_of_many(points, axis, table, NEXT, rows, c, m),
+    }
+}
+
+// The four sides of the net of c, one of `count` corners, on an axis.
+pub fn net_sides(
+    points: &[i32],
+    table: &[u16],
+    rows: &cosines::Rows,
+    count: usize,
+    c: usize,
+    axis: usize,
+) -> NetSides
+    requires mesh { ⌜ Drawn count (now table) (now points) × (c < count) × (axis < 3) ⌝ }
+    requires rows { ⌜ now rows ≡ stored ⌝ }
+    ensures { λ r. ⌜ FourSides (drawn count (now (table .entry)) (now (points .entry)) axis) c r ⌝ }
+{
+    let here = Walker { corner: c };
+    let m = here.valence(table);
+    let n = here.sides(table);
+    let vertex = vertex_face(points, table, rows, c, m, axis);
+    let face = mesh_face(points, table, rows, c, n, axis);
+    let leaving = leaving_edge(points, table, count, c, axis);
+    let arriving = arriving_edge(points, table, count, c, axis);
+    let k = cosines::cosine(rows, m, 1);
+    let l = cosines::cosine(rows, n, 1);
+    let side0 = side(
+        vertex.centre,
+        leaving.centre,
+        vertex.ahead,
+        leaving.behind,
+        leaving.here,
+        leaving.before,
+        k,
+    );
+    let side1 = side(
+        face.centre,
+        leaving.centre,
+        face.ahead,
+        leaving.ahead,
+        leaving.here,
+        leaving.after,
+        l,
+    );
+    let side2 = side(
+        face.centre,
+        arriving.centre,
+        face.behind,
+        arriving.behind,
+        arriving.here,
+        arriving.before,
+        l,
+    );
+    let side3 = side(
+        vertex.centre,
+        arriving.centre,
+        vertex.behind,
+        arriving.ahead,
+        arriving.here,
+        arriving.after,
+        k,
+    );
+    NetSides {
+        side0: side0,
+        side1: side1,
+        side2: side2,
+        side3: side3,
+    }
+}

@@ -1,0 +1,3 @@
+pub mod Lift
+pub mod Near
+pub mod Stored

@@ -1,0 +1,65 @@
+-- A refined face as the code goes round it: by a column of the table of corners, reading the refined points of one axis.
+-- Assumes nothing.
+use mathlib.Core.Path.{_≡_}
+use mathlib.Core.List.{List}
+use Prim.Native.Nat.{ℕ, _+_, _*_, _^_, _≤_, _<_}
+use lib.ListN.{length}
+use lib.IntN.{ℤ, pos, natAbs, _*ℤ_}
+use Rattle.paper.specs.Scan.{iterate}
+use Rattle.paper.specs.Mesh.{leastSides, mostSides}
+use Rattle.paper.specs.Numbers.{sum, round, rounded}
+use Rattle.paper.specs.Cosines.{unit}
+use Rattle.paper.specs.Face.{centre, weight, toward}
+use Rattle.surface.specs.Points.{pointRow, pointAt}
+use Rattle.walk.specs.Table.{rowLength, entry}
+use Rattle.formulas.specs.Sizes.{Corner, FacePoint}
+use Rattle.refined_faces.specs.declared.Sums.{Sums}
+use Rattle.refined_faces.specs.declared.Face.{Face}
+
+-- the point of an axis after j steps from c by a column
+unfoldable pub around : List ℤ → ℕ → List ℕ → ℕ → ℕ → ℕ → ℤ
+around points axis table column c j = pointAt points axis (iterate j (entry table column) c)
+
+-- the tables hold a ring of m corners at c
+pub record Ring (points : List ℤ) (axis : ℕ) (table : List ℕ) (column c m : ℕ) : Type 0 where
+  pub count : ℕ
+  pub here : c < count
+  pub points-hold : (i : ℕ) → i < count → pointRow * i + axis < length points
+  pub table-holds : (i : ℕ) → i < count → rowLength * i + column < length table
+  pub step-in : (i : ℕ) → i < count → entry table column i < count
+  pub point-size : (i : ℕ) → i < count → Corner (pointAt points axis i)
+  pub closes : iterate m (entry table column) c ≡ c
+  pub least : leastSides ≤ m
+  pub most : m ≤ mostSides
+
+-- the sums of one way round: of the points, and of the points by their weights towards the side that leaves c and the side before it
+pub record Summed (p : ℕ → ℤ) (m : ℕ) (r : Sums) : Type 0 where
+  pub total : r .total ≡ sum p m
+  pub ahead : r .ahead ≡ sum (λ k. p k *ℤ weight m k) m
+  pub behind : r .behind ≡ sum (λ k. p k *ℤ weight m (k + 1)) m
+
+-- sums that the rounding takes
+pub record Divisible (s : Sums) : Type 0 where
+  pub total : natAbs (s .total) ≤ 2 ^ 60
+  pub ahead : natAbs (s .ahead) ≤ 2 ^ 60
+  pub behind : natAbs (s .behind) ≤ 2 ^ 60
+
+-- their quotients for m corners: of the points by m, of the weighted points by what the weights sum to
+pub record Divided (s : Sums) (m : ℕ) (r : Face) : Type 0 where
+  pub centre : r .centre ≡ round (s .total) (pos m)
+  pub ahead : r .ahead ≡ round (s .ahead) (pos (3 * unit) *ℤ pos m)
+  pub behind : r .behind ≡ round (s .behind) (pos (3 * unit) *ℤ pos m)
+
+-- centre rounded and face points towards the side from place i to the next, and towards the side from place j
+pub record IsFace (p : ℕ → ℤ) (m i j : ℕ) (r : Face) : Type 0 where
+  pub centre : r .centre ≡ centre rounded p m
+  pub ahead : r .ahead ≡ toward rounded p m i
+  pub behind : r .behind ≡ toward rounded p m j
+  pub centre-size : Corner (r .centre)
+  pub ahead-size : FacePoint (r .ahead)
+  pub behind-size : FacePoint (r .behind)
+
+-- the face of any ring of four that has these points in turn from its place i
+pub record IsEdgeFace (here after far before : ℤ) (r : Face) : Type 0 where
+  pub faces : (p : ℕ → ℤ) → ((j : ℕ) → p (j + 4) ≡ p j) → (i : ℕ)
+      → p i ≡ here → p (i + 1) ≡ after → p (i + 2) ≡ far → p (i + 3) ≡ before → IsFace p 4 i (i + 3) r

@@ -1,2 +1,0 @@
-pub mod Lift
-pub mod Near
