@@ -123,7 +123,10 @@ fn vertex_face(
     match m {
         3 => refined_faces::ring_of_three(points, axis, table, LINK, c),
         4 => refined_faces::ring_of_four(points, axis, table, LINK, c),
-        _ => refined_faces::ring_of_many(points, axis, table, LINK, rows, c, m),
+        _ => {
+            let s = refined_faces::ring_sums(points, axis, table, LINK, rows, c, m);
+            refined_faces::divide(s, m)
+        }
     }
 }
 
@@ -143,7 +146,10 @@ fn mesh_face(
     match m {
         3 => refined_faces::ring_of_three(points, axis, table, NEXT, c),
         4 => refined_faces::ring_of_four(points, axis, table, NEXT, c),
-        _ => refined_faces::ring_of_many(points, axis, table, NEXT, rows, c, m),
+        _ => {
+            let s = refined_faces::ring_sums(points, axis, table, NEXT, rows, c, m);
+            refined_faces::divide(s, m)
+        }
     }
 }
 

@@ -55,8 +55,8 @@ fn weight_after(rows: &cosines::Rows, m: usize, j: usize) -> i64
     WEIGHTS + 2 * cosines::cosine(rows, m, k) + 2 * cosines::cosine(rows, m, j)
 }
 
-// One way round the ring of m corners at c.
-fn ring_sums(
+// One way round the ring of m corners at c. It is called with a column that the compiler sees, and put in line.
+pub fn ring_sums(
     points: &[i32],
     axis: usize,
     table: &[u16],
@@ -108,7 +108,7 @@ fn quotients(s: Sums, m: usize) -> Face
 }
 
 // The same, with each count written out, so that each division is a product and a shift.
-fn divide(s: Sums, m: usize) -> Face
+pub fn divide(s: Sums, m: usize) -> Face
     requires count { ⌜ (leastSides ≤ m) × (m ≤ mostSides) ⌝ }
     requires sums { ⌜ Divisible s ⌝ }
     ensures { λ r. ⌜ Divided s m r ⌝ }
@@ -159,24 +159,6 @@ pub fn ring_of_four(points: &[i32], axis: usize, table: &[u16], column: usize, c
         point(points, axis, third.corner),
         point(points, axis, fourth.corner),
     )
-}
-
-// The refined face of any ring of m corners.
-pub fn ring_of_many(
-    points: &[i32],
-    axis: usize,
-    table: &[u16],
-    column: usize,
-    rows: &cosines::Rows,
-    c: usize,
-    m: usize,
-) -> Face
-    requires ring { ⌜ Ring (now points) axis (now table) column c m ⌝ }
-    requires rows { ⌜ now rows ≡ stored ⌝ }
-    ensures { λ r. ⌜ IsFace (around (now (points .entry)) axis (now (table .entry)) column c) m 0 (m - 1) r ⌝ }
-{
-    let s = ring_sums(points, axis, table, column, rows, c, m);
-    divide(s, m)
 }
 
 // The four-sided refined face of an edge, from its points in turn: row 4 of the table is exact, so the weights are fractions.

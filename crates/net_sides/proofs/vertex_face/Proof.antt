@@ -1,6 +1,7 @@
--- `net_sides::vertex_face` meets its contract: each arm is given a ring of its own key.
+-- `net_sides::vertex_face` meets its contract: each arm is given a ring of its own key, and the sums of a ring are small enough to divide.
 -- Assumes nothing.
 use borrow.Author.Needs.{needs}
+use Rattle.refined_faces.proofs.Laws.{point-ring, divisible, ring-is}
 use Rattle.net_sides.proofs.vertex_face.Statement.{statement}
 use Rattle.net_sides.proofs.vertex_face.Tie as tie
 
@@ -10,8 +11,13 @@ ring-of-three-requires c κs = rw (← c .match .keys1) (c .before .before .pre 
 ring-of-four-requires : tie.Need-ring-of-four-requires
 ring-of-four-requires c κs = rw (← c .match .keys2) (c .before .before .pre .0)
 
-ring-of-many-requires : tie.Need-ring-of-many-requires
-ring-of-many-requires c κs = search needs
+ring-sums-requires : tie.Need-ring-sums-requires
+ring-sums-requires c κs = search needs
+
+divide-requires : tie.Need-divide-requires
+divide-requires c κs =
+    let r = c .before .before .before .pre .0 in
+    ((r .least, r .most), divisible _ _ (point-ring _ _ _ _ _ _ r) _ (c .ring-sums .ensures))
 
 returns : tie.Need-returns
 returns c = rw (c .before .match .keys1) (c .ring-of-three .ensures)
@@ -20,7 +26,7 @@ returns-2 : tie.Need-returns-2
 returns-2 c = rw (c .before .match .keys2) (c .ring-of-four .ensures)
 
 returns-3 : tie.Need-returns-3
-returns-3 c = search needs
+returns-3 c = ring-is _ _ (point-ring _ _ _ _ _ _ (c .before .before .before .before .pre .0)) _ (c .before .ring-sums .ensures) _ (c .divide .ensures)
 
 pub vertex-face-spec : {M : Type 1} → statement M
 vertex-face-spec =
@@ -28,7 +34,8 @@ vertex-face-spec =
     (tie.spec
     ring-of-three-requires
     ring-of-four-requires
-    ring-of-many-requires
+    ring-sums-requires
+    divide-requires
     returns
     returns-2
     returns-3)
