@@ -23,6 +23,7 @@ use Rattle.integers.proofs.Laws.{abs-mul-le, abs-add-le, zero-add}
 use Rattle.integers.proofs.Machine.{abs-fits}
 use Rattle.integers.proofs.Sum.{Cyclic, sum-same, sum-abs, cycle-one, sum-more, cycle}
 use Rattle.mesh.proofs.Rings.{iterate-suc}
+use Rattle.numbers.proofs.Rules.{period, cosine-size}
 use Rattle.surface.specs.Points.{pointAt}
 use Rattle.surface.proofs.Rings.{iterate-in, iterate-round}
 use Rattle.surface.proofs.Faces.{weight-period, toward-is}
@@ -163,6 +164,14 @@ module _ (p : ℕ → ℤ) (m : ℕ) where
   first r u e =
       let f : u ≡ weight m 0 = e ∙ ap (weight m) (omega (arith, r .least)) ∙ weight-period m 0 in
       ap plain f ∙ toZ-ofZ (abs-fits w64 (weight m 0) (7 * unit) (weight-fits p m r 0) (lit< tt))
+
+-- a number of the cosine table in the machine's numbers, and the one after the last, which is the first
+pub cosine-plain : (m k : ℕ) → leastSides ≤ m → m ≤ mostSides → (u : ℤ) → u ≡ cosine m k → plain u ≡ cosine m k
+cosine-plain m k low high u e = ap plain e ∙ toZ-ofZ (abs-fits w64 (cosine m k) unit (cosine-size m low high k) (lit< tt))
+
+pub cosine-first : (m : ℕ) → leastSides ≤ m → m ≤ mostSides → (u : ℤ) → u ≡ cosine m (m - 1 + 1) → plain u ≡ cosine m 0
+cosine-first m low high u e =
+    cosine-plain m (m - 1 + 1) low high u e ∙ ap (cosine m) (let f : m - 1 + 1 ≡ 0 + m = omega arith in f) ∙ period m 0
 
 -- one step more
 pub step-more : (step : ℕ → ℕ) (c j at : ℕ) → at ≡ iterate j step c → step at ≡ iterate (j + 1) step c

@@ -9,6 +9,7 @@ ghost use mathlib.Core.Path.{_≡_};
 ghost use Prim.Native.Nat.{_+_, _-_, _*_, _≤_, _<_};
 ghost use lib.ListN.{length};
 ghost use Rattle.paper.specs.Mesh.{leastSides, mostSides};
+ghost use Rattle.paper.specs.Cosines.{cosine};
 ghost use Rattle.paper.specs.Face.{weight};
 ghost use Rattle.numbers.specs.Stored.{stored};
 ghost use Rattle.surface.specs.Points.{pointRow, pointAt};
@@ -32,6 +33,12 @@ pub struct Sums {
     pub behind: i64,
 }
 
+// The weight of a place of a ring, and the cosine that the next one shares with it.
+pub struct Weight {
+    pub weight: i64,
+    pub cosine: i64,
+}
+
 fn wide(x: i32) -> i64
     ensures { λ r. ⌜ r ≡ x ⌝ }
 {
@@ -46,13 +53,18 @@ pub fn point(points: &[i32], axis: usize, c: usize) -> i64
     wide(points[POINT_ROW * c + axis])
 }
 
-// The weight of the place after j, k = j + 1.
-fn weight_after(rows: &cosines::Rows, m: usize, j: usize) -> i64
-    requires { ⌜ (leastSides ≤ m) × (m ≤ mostSides) × (j < m) × (now rows ≡ stored) ⌝ }
-    ensures { λ r. ⌜ r ≡ weight m (j + 1) ⌝ }
+// The weight of the place after j, k = j + 1, from C(m, j); and C(m, k), for the next place.
+fn weight_after(rows: &cosines::Rows, m: usize, j: usize, last: i64) -> Weight
+    requires row { ⌜ (leastSides ≤ m) × (m ≤ mostSides) × (j < m) × (now rows ≡ stored) ⌝ }
+    requires last { ⌜ last ≡ cosine m j ⌝ }
+    ensures { λ r. ⌜ (r .weight ≡ weight m (j + 1)) × (r .cosine ≡ cosine m (j + 1)) ⌝ }
 {
     let k = if j + 1 < m { j + 1 } else { 0 };
-    WEIGHTS + 2 * cosines::cosine(rows, m, k) + 2 * cosines::cosine(rows, m, j)
+    let next = cosines::cosine(rows, m, k);
+    Weight {
+        weight: WEIGHTS + 2 * next + 2 * last,
+        cosine: next,
+    }
 }
 
 // One way round the ring of m corners at c. It is called with a column that the compiler sees, and put in line.
@@ -72,16 +84,19 @@ pub fn ring_sums(
     let mut total: i64 = 0;
     let mut ahead: i64 = 0;
     let mut behind: i64 = 0;
-    let mut w = weight_after(rows, m, m - 1);
+    let first = weight_after(rows, m, m - 1, cosines::cosine(rows, m, m - 1));
+    let mut w = first.weight;
+    let mut last = first.cosine;
     let mut at = Walker { corner: c };
     let mut j: usize = 0;
     while j < m {
         let v = point(points, axis, at.corner);
-        let u = weight_after(rows, m, j);
+        let u = weight_after(rows, m, j, last);
         total += v;
         ahead += v * w;
-        behind += v * u;
-        w = u;
+        behind += v * u.weight;
+        w = u.weight;
+        last = u.cosine;
         at = at.by(table, column);
         j += 1;
     }

@@ -72,17 +72,17 @@ chosen c =
     let s = c .before in
     ⊎-elim
     (λ w. (omega (arith, w .0 .taken, w .1), ap (cosine (s .args .m)) (w .1)))
-    (λ w. (omega (arith, s .pre .0, w .1), again (s .args .m) (s .args .j) (c .if1 .k) (s .pre .2) (omega (arith, w .0 .left)) (w .1)))
+    (λ w. (omega (arith, s .pre .0 .0, w .1), again (s .args .m) (s .args .j) (c .if1 .k) (s .pre .0 .2) (omega (arith, w .0 .left)) (w .1)))
     (c .if1 .came)
 
 one : (c : tie.After-cosine) → natAbs (c .cosine .result) ≤ unit
-one c = let s = c .before .before in rw (c .cosine .ensures) (cosine-size (s .args .m) (s .pre .0) (s .pre .1) (c .before .if1 .k))
+one c = let s = c .before .before in rw (c .cosine .ensures) (cosine-size (s .args .m) (s .pre .0 .0) (s .pre .0 .1) (c .before .if1 .k))
 
-two : (c : tie.After-cosine2) → natAbs (c .cosine2 .result) ≤ unit
-two c = let s = c .before .before .before in rw (c .cosine2 .ensures) (cosine-size (s .args .m) (s .pre .0) (s .pre .1) (s .args .j))
+two : (c : tie.After-cosine) → natAbs (c .before .before .args .last) ≤ unit
+two c = let s = c .before .before in rw (s .pre .1) (cosine-size (s .args .m) (s .pre .0 .0) (s .pre .0 .1) (s .args .j))
 
-facts : (c : tie.After-cosine2) → Fine (c .before .cosine .result) (c .cosine2 .result)
-facts c = fits (c .before .cosine .result) (c .cosine2 .result) (one (c .before)) (two c)
+facts : (c : tie.After-cosine) → Fine (c .cosine .result) (c .before .before .args .last)
+facts c = fits (c .cosine .result) (c .before .before .args .last) (one c) (two c)
 
 add-if1 : tie.Need-add-if1
 add-if1 c = search needs
@@ -91,31 +91,28 @@ add-k : tie.Need-add-k
 add-k c = search needs
 
 cosine-requires : tie.Need-cosine-requires
-cosine-requires c κs = (c .before .pre .3, c .before .pre .0, c .before .pre .1, chosen c .0)
+cosine-requires c κs = let r = c .before .pre .0 in (r .3, r .0, r .1, chosen c .0)
 
-mul-result : tie.Need-mul-result
-mul-result c = let x = c .cosine .result in product-fits 0 _ 0 x x (lit≤ tt) (lit≤ tt) (lit≤ tt) (one c) (one c)
+mul-t10 : tie.Need-mul-t10
+mul-t10 c = let x = c .cosine .result in product-fits 0 _ 0 x x (lit≤ tt) (lit≤ tt) (lit≤ tt) (one c) (one c)
 
-add-result : tie.Need-add-result
-add-result c = let x = c .cosine .result in one-fits _ _ 0 x x (lit≤ tt) (lit≤ tt) (lit≤ tt) (one c) (one c)
+add-t11 : tie.Need-add-t11
+add-t11 c = let x = c .cosine .result in one-fits _ _ 0 x x (lit≤ tt) (lit≤ tt) (lit≤ tt) (one c) (one c)
 
-cosine-requires-2 : tie.Need-cosine-requires-2
-cosine-requires-2 c κs = search needs
+mul-t12 : tie.Need-mul-t12
+mul-t12 c = let y = c .before .before .args .last in product-fits 0 _ 0 y y (lit≤ tt) (lit≤ tt) (lit≤ tt) (two c) (two c)
 
-mul-result-2 : tie.Need-mul-result-2
-mul-result-2 c = let y = c .cosine2 .result in product-fits 0 _ 0 y y (lit≤ tt) (lit≤ tt) (lit≤ tt) (two c) (two c)
-
-add-result-2 : tie.Need-add-result-2
-add-result-2 c = two-fits _ _ _ (c .before .cosine .result) (c .cosine2 .result) (lit≤ tt) (lit≤ tt) (lit≤ tt) (one (c .before)) (two c)
+add-t13 : tie.Need-add-t13
+add-t13 c = two-fits _ _ _ (c .cosine .result) (c .before .before .args .last) (lit≤ tt) (lit≤ tt) (lit≤ tt) (one c) (two c)
 
 returns : tie.Need-returns
 returns c =
-    let s = c .before .before .before in
+    let s = c .before .before in
     let k = facts c in
-    let e : pos (3 * unit) +ℤ pos 2 *ℤ c .before .cosine .result +ℤ pos 2 *ℤ c .cosine2 .result ≡ weight (s .args .m) (s .args .j + 1)
-    = cc (weight-of (s .args .m) (s .args .j) (s .pre .2), chosen (c .before .before) .1, c .before .cosine .ensures, c .cosine2 .ensures) in
-    simp (toZ-ofZ, k .0, k .1, k .2, k .3, k .4, k .5) e
+    let next : c .cosine .result ≡ cosine (s .args .m) (s .args .j + 1) = c .cosine .ensures ∙ chosen (c .before) .1 in
+    let e : pos (3 * unit) +ℤ pos 2 *ℤ c .cosine .result +ℤ pos 2 *ℤ s .args .last ≡ weight (s .args .m) (s .args .j + 1)
+    = cc (weight-of (s .args .m) (s .args .j) (s .pre .0 .2), next, s .pre .1) in
+    simp (toZ-ofZ, k .0, k .1, k .2, k .3, k .4, k .5) (e, next)
 
 pub weight-after-spec : {M : Type 1} → statement M
-weight-after-spec =
-    tie.close (tie.spec add-if1 add-k cosine-requires mul-result add-result cosine-requires-2 mul-result-2 add-result-2 returns)
+weight-after-spec = tie.close (tie.spec add-if1 add-k cosine-requires mul-t10 add-t11 mul-t12 add-t13 returns)
