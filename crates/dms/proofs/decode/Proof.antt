@@ -29,7 +29,8 @@ returns : tie.Need-returns
 returns c =
     let s = c .before .before .before .before .before .before .before .before .before .before .before .before .before .before in
     let l = c .before .before .before .before .before .before .before .before .before .before .least in
-    decode-held _ _ _ _ _ _ _ _ _ _ (held-bytes (s .args .bytes .now) _ (s .args .counted) (l .ensures .1 .0) (l .ensures .1 .1)) (c .before .before .before .before .before .decode-file .ensures)
+    decode-held _ _ _ _ _ _ _ _ _ _ (held-bytes (s .args .bytes .now) _ (s .args .counted) (l .ensures .1 .0) (l .ensures .1 .1))
+    (c .before .before .before .before .before .decode-file .ensures)
 
 pub decode-spec : {M : Type 1} → statement M
 decode-spec =

@@ -21,7 +21,8 @@ refused-requires c κs = search needs
 returns : tie.Need-returns
 returns c =
     let r = c .refused .ensures in
-    refused-decode _ _ _ _ _ _ _ _ (r .0) (r .1) (r .2) (r .3) (sym (ap stated (c .before .before .answer .given .1)) ∙ c .before .before .before .before .check-decode .ensures)
+    refused-decode _ _ _ _ _ _ _ _ (r .0) (r .1) (r .2) (r .3)
+    (sym (ap stated (c .before .before .answer .given .1)) ∙ c .before .before .before .before .check-decode .ensures)
 
 enum-told : tie.Need-enum-told
 enum-told c = search needs
@@ -32,16 +33,22 @@ read-lists-requires c κs =
     (decode-sized _ _ _ _ _ e, decode-room _ _ _ _ _ e)
 
 vertex-count-requires : tie.Need-vertex-count-requires
-vertex-count-requires c κs = decode-sized _ _ _ _ _ (passed _ (c .before .before .before .before .before .before .before .before .before .before .before .check-decode .ensures) (c .before .before .before .before .before .before .before .before .before .enum-told .given .1)) .header
+vertex-count-requires c κs = decode-sized _ _ _ _ _
+    (passed _ (c .before .before .before .before .before .before .before .before .before .before .before .check-decode .ensures)
+    (c .before .before .before .before .before .before .before .before .before .enum-told .given .1)) .header
 
 mul-t10 : tie.Need-mul-t10
 mul-t10 c = search needs
 
 face-count-requires : tie.Need-face-count-requires
-face-count-requires c κs = decode-sized _ _ _ _ _ (passed _ (c .before .before .before .before .before .before .before .before .before .before .before .before .check-decode .ensures) (c .before .before .before .before .before .before .before .before .before .before .enum-told .given .1)) .header
+face-count-requires c κs = decode-sized _ _ _ _ _
+    (passed _ (c .before .before .before .before .before .before .before .before .before .before .before .before .check-decode .ensures)
+    (c .before .before .before .before .before .before .before .before .before .before .enum-told .given .1)) .header
 
 corner-count-requires : tie.Need-corner-count-requires
-corner-count-requires c κs = decode-sized _ _ _ _ _ (passed _ (c .before .before .before .before .before .before .before .before .before .before .before .before .before .check-decode .ensures) (c .before .before .before .before .before .before .before .before .before .before .before .enum-told .given .1)) .header
+corner-count-requires c κs = decode-sized _ _ _ _ _
+    (passed _ (c .before .before .before .before .before .before .before .before .before .before .before .before .before .check-decode .ensures)
+    (c .before .before .before .before .before .before .before .before .before .before .before .enum-told .given .1)) .header
 
 same-length : tie.Need-same-length
 same-length c = search needs
@@ -55,8 +62,10 @@ same-length-3 c = search needs
 returns-2 : tie.Need-returns-2
 returns-2 c =
     let t = c .before .before .before .before .before .before .before .before .before .before .before .before in
-    done-decode _ _ _ _ _ _ _ _ _ _ _ (ap (λ (n : ℕ). 3 * n) (c .before .before .vertex-count .ensures .0)) (c .before .face-count .ensures .0) (c .corner-count .ensures .0)
-    (sym (ap stated (t .enum-told .given .1)) ∙ t .before .before .check-decode .ensures) (c .before .before .before .before .before .before .before .before .read-lists .ensures)
+    done-decode _ _ _ _ _ _ _ _ _ _ _ (ap (λ (n : ℕ). 3 * n) (c .before .before .vertex-count .ensures .0)) (c .before .face-count .ensures .0)
+    (c .corner-count .ensures .0)
+    (sym (ap stated (t .enum-told .given .1)) ∙ t .before .before .check-decode .ensures)
+    (c .before .before .before .before .before .before .before .before .read-lists .ensures)
 
 pub decode-file-spec : {M : Type 1} → statement M
 decode-file-spec =

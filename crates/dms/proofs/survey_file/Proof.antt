@@ -23,7 +23,8 @@ unfolding fileVerdict
 returns c =
     let s = c .before .before .before .before .before .before in
     let M = fileMesh (s .args .file .now) in
-    refused-survey M _ _ _ _ (stop _ (c .before .before .before .before .check-header .ensures) _ _ (c .before .before .header .given .1) (verdict M)) (c .none .ensures)
+    refused-survey M _ _ _ _ (stop _ (c .before .before .before .before .check-header .ensures) _ _ (c .before .before .header .given .1) (verdict M))
+    (c .none .ensures)
 
 enum-told : tie.Need-enum-told
 enum-told c = search needs

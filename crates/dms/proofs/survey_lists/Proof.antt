@@ -71,7 +71,8 @@ returns c =
     let counts = c .before .before .before .before in
     let read =
     mesh-read (s .args .file .now) _ _ _ _ _ _ _ _ _ (ap (λ (n : ℕ). 3 * n) (counts .before .before .vertex-count .ensures .0))
-    (counts .before .face-count .ensures .0) (counts .corner-count .ensures .0) (c .before .before .before .before .before .before .before .before .before .before .read-lists .ensures)
+    (counts .before .face-count .ensures .0) (counts .corner-count .ensures .0)
+    (c .before .before .before .before .before .before .before .before .before .before .read-lists .ensures)
     in
     subst (λ (M : Mesh). Surveyed M (verdict M) (c .survey-mesh .result)) read (c .survey-mesh .ensures)
 

@@ -22,7 +22,8 @@ returns : tie.Need-returns
 returns c =
     let s = c .before .before .before .before .before .before .before in
     let M = meshOf (s .args .coordinates .now) (s .args .sides .now) (s .args .corners .now) in
-    refused-survey M (verdict M) _ _ _ (sym (ap stated (c .before .before .answer .given .1)) ∙ c .before .before .before .before .check-mesh .ensures) (c .none .ensures)
+    refused-survey M (verdict M) _ _ _ (sym (ap stated (c .before .before .answer .given .1)) ∙ c .before .before .before .before .check-mesh .ensures)
+    (c .none .ensures)
 
 enum-told : tie.Need-enum-told
 enum-told c = search needs

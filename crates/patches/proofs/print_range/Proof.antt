@@ -37,4 +37,6 @@ returns-2 : tie.Need-returns-2
 returns-2 c = search needs
 
 pub print-range-spec : {M : Type 1} → statement M
-print-range-spec = tie.close (tie.spec mul-output array-borrow-prefix-output slice-aggregate-build build-requires enum-known-answer say-refusal-requires enum-told print-corners-requires returns returns-2)
+print-range-spec = tie.close
+    (tie.spec mul-output array-borrow-prefix-output slice-aggregate-build build-requires enum-known-answer say-refusal-requires enum-told
+    print-corners-requires returns returns-2)

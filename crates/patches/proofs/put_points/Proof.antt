@@ -47,4 +47,6 @@ returns : tie.Need-returns Inv-loop μ-loop
 returns c = search needs
 
 pub put-points-spec : {M : Type 1} → statement M
-put-points-spec = tie.close (tie.spec Inv-loop μ-loop loop-holds mul-put-entry add-put-entry mul-put-entry-2 element-copy-out-put-entry put-entry-requires add-i loop-less loop-again same-length returns)
+put-points-spec = tie.close
+    (tie.spec Inv-loop μ-loop loop-holds mul-put-entry add-put-entry mul-put-entry-2 element-copy-out-put-entry put-entry-requires add-i loop-less loop-again
+    same-length returns)

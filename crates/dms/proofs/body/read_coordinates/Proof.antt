@@ -50,8 +50,14 @@ loop-again : tie.Need-loop-again Inv-loop μ-loop
 loop-again c =
     let s = c .before .before .before .before in
     let f = coordinateIn (s .args .file .now) in
-    let l = c .before .before .loop in
-    (search needs, (rw length-set (l .inv .1 .0), filled-step f (s .args .out .now) (l .i) (l .out) _ (pos 0) (omega arith) (l .inv .1 .1) (toZ-ofZ w32 (c .coordinate .result) (record { sfits = c .coordinate .ok }) ∙ c .coordinate .ensures)))
+    let l = c .before .before .loop in (
+      search needs,
+      (
+        rw length-set (l .inv .1 .0),
+        filled-step f (s .args .out .now) (l .i) (l .out) _ (pos 0) (omega arith) (l .inv .1 .1)
+            (toZ-ofZ w32 (c .coordinate .result) (record { sfits = c .coordinate .ok }) ∙ c .coordinate .ensures),
+      ),
+    )
 
 same-length : tie.Need-same-length Inv-loop μ-loop
 same-length c = search needs

@@ -45,12 +45,20 @@ same-length-3 c = search needs
 
 returns : tie.Need-returns
 returns c =
-    let s = c .before .before .before .before .before .before .before .before .before .before .before .before .before .before .before .before .before .before .before in
+    let s = c .before .before .before .before .before .before .before .before .before .before .before .before .before .before .before .before .before .before
+    .before in
     let file = s .args .file .now in
     record {
-      coordinates-hold = coordinates-read file _ _ _ (ap (λ (n : ℕ). 3 * n) (c .before .before .before .before .before .before .before .before .before .before .before .before .before .before .before .vertex-count .ensures .0)) (c .before .before .before .before .before .before .before .before .before .before .before .before .before .read-coordinates .ensures);
-      sides-hold = sides-read file _ _ _ _ (c .before .before .before .before .before .before .before .before .before .before .before .sides-start .ensures .0) (c .before .before .before .before .before .before .before .before .before .before .face-count .ensures .0) (c .before .before .before .before .before .before .before .before .read-sides .ensures);
-      corners-hold = corners-read file _ _ _ _ (c .before .before .before .before .before .corners-start .ensures .0) (c .before .before .before .before .corner-count .ensures .0) (c .before .before .read-corners .ensures);
+      coordinates-hold = coordinates-read file _ _ _
+          (ap (λ (n : ℕ). 3 * n)
+          (c .before .before .before .before .before .before .before .before .before .before .before .before .before .before .before .vertex-count .ensures
+          .0)) (c .before .before .before .before .before .before .before .before .before .before .before .before .before .read-coordinates .ensures);
+      sides-hold = sides-read file _ _ _ _
+          (c .before .before .before .before .before .before .before .before .before .before .before .sides-start .ensures .0)
+          (c .before .before .before .before .before .before .before .before .before .before .face-count .ensures .0)
+          (c .before .before .before .before .before .before .before .before .read-sides .ensures);
+      corners-hold = corners-read file _ _ _ _ (c .before .before .before .before .before .corners-start .ensures .0)
+          (c .before .before .before .before .corner-count .ensures .0) (c .before .before .read-corners .ensures);
     }
 
 pub read-lists-spec : {M : Type 1} → statement M

@@ -47,7 +47,8 @@ returns c =
       vertices = refl;
       faces = refl;
       corners = refl;
-      cornered = cornered-is M (vertexCount M) _ (c .before .before .before .before .before .before .before .before .tally .ensures) (s .pre .0) _ refl (c .before .before .before .before .tally2 .ensures);
+      cornered = cornered-is M (vertexCount M) _ (c .before .before .before .before .before .before .before .before .tally .ensures) (s .pre .0) _ refl
+          (c .before .before .before .before .tally2 .ensures);
       sided = sided-is M _ (c .before .tally-bytes .ensures);
     }
 

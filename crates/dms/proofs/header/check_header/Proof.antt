@@ -20,7 +20,8 @@ returns : tie.Need-returns
 unfolding headerVerdict
 returns c =
     let s = c .before .before .before .before .before in
-    stop _ (c .before .before .before .check-length .ensures) _ _ (c .before .length .given .1) (countsVerdict (s .args .file .now) orElse single 3 (ltb (length (s .args .file .now)) (s .args .counted)) 0)
+    stop _ (c .before .before .before .check-length .ensures) _ _ (c .before .length .given .1)
+    (countsVerdict (s .args .file .now) orElse single 3 (ltb (length (s .args .file .now)) (s .args .counted)) 0)
 
 enum-told : tie.Need-enum-told
 enum-told c = search needs
@@ -38,7 +39,8 @@ unfolding headerVerdict
 returns-2 c =
     let s = c .before .before .before .before .before .before .before .before in
     past (passed _ (c .before .before .before .before .before .before .check-length .ensures) (c .before .before .before .before .enum-told .given .1)) _
-    (stop _ (c .before .before .before .check-counts .ensures) _ _ (c .before .counts .given .1) (single 3 (ltb (length (s .args .file .now)) (s .args .counted)) 0))
+    (stop _ (c .before .before .before .check-counts .ensures) _ _ (c .before .counts .given .1)
+    (single 3 (ltb (length (s .args .file .now)) (s .args .counted)) 0))
 
 enum-told-2 : tie.Need-enum-told-2
 enum-told-2 c = search needs
@@ -48,14 +50,16 @@ unfolding headerVerdict
 returns-3 c =
     let s = c .before .before .before .before .before .before .before .before in
     past (passed _ (c .before .before .before .before .before .before .check-length .ensures) (c .before .before .before .before .enum-told .given .1)) _
-    (past (passed _ (c .before .before .before .check-counts .ensures) (c .before .enum-told2 .given .1)) _ (not-held (s .args .file .now) (s .args .counted) (c .if1 .taken)))
+    (past (passed _ (c .before .before .before .check-counts .ensures) (c .before .enum-told2 .given .1)) _
+    (not-held (s .args .file .now) (s .args .counted) (c .if1 .taken)))
 
 returns-4 : tie.Need-returns-4
 unfolding headerVerdict
 returns-4 c =
     let s = c .before .before .before .before .before .before .before .before in
     past (passed _ (c .before .before .before .before .before .before .check-length .ensures) (c .before .before .before .before .enum-told .given .1)) _
-    (past (passed _ (c .before .before .before .check-counts .ensures) (c .before .enum-told2 .given .1)) _ (all-held (s .args .file .now) (s .args .counted) (c .if1 .left)))
+    (past (passed _ (c .before .before .before .check-counts .ensures) (c .before .enum-told2 .given .1)) _
+    (all-held (s .args .file .now) (s .args .counted) (c .if1 .left)))
 
 pub check-header-spec : {M : Type 1} → statement M
 check-header-spec =

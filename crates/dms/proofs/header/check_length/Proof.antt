@@ -26,7 +26,8 @@ has-version-requires c κs = search needs
 returns-3 : tie.Need-returns-3
 returns-3 c =
     let s = c .before .before .before .before .before .before in
-    no-version (s .args .file .now) (s .args .counted) (c .before .before .before .before .if1 .left) (sym (c .before .before .before .has-mark .ensures) ∙ not-false _ (c .before .before .if2 .left))
+    no-version (s .args .file .now) (s .args .counted) (c .before .before .before .before .if1 .left)
+    (sym (c .before .before .before .has-mark .ensures) ∙ not-false _ (c .before .before .if2 .left))
     (sym (c .before .has-version .ensures) ∙ not-true _ (c .if3 .taken))
 
 expected-length-requires : tie.Need-expected-length-requires
@@ -35,13 +36,17 @@ expected-length-requires c κs = search needs
 returns-4 : tie.Need-returns-4
 returns-4 c =
     let s = c .before .before .before .before .before .before .before .before in
-    no-length (s .args .file .now) (s .args .counted) (c .before .before .before .before .before .before .if1 .left) (sym (c .before .before .before .before .before .has-mark .ensures) ∙ not-false _ (c .before .before .before .before .if2 .left)) (sym (c .before .before .before .has-version .ensures) ∙ not-false _ (c .before .before .if3 .left))
+    no-length (s .args .file .now) (s .args .counted) (c .before .before .before .before .before .before .if1 .left)
+    (sym (c .before .before .before .before .before .has-mark .ensures) ∙ not-false _ (c .before .before .before .before .if2 .left))
+    (sym (c .before .before .before .has-version .ensures) ∙ not-false _ (c .before .before .if3 .left))
     (λ e. c .if4 .taken (e ∙ sym (c .before .expected-length .ensures .0)))
 
 returns-5 : tie.Need-returns-5
 returns-5 c =
     let s = c .before .before .before .before .before .before .before .before in
-    length-fits (s .args .file .now) (s .args .counted) (c .before .before .before .before .before .before .if1 .left) (sym (c .before .before .before .before .before .has-mark .ensures) ∙ not-false _ (c .before .before .before .before .if2 .left)) (sym (c .before .before .before .has-version .ensures) ∙ not-false _ (c .before .before .if3 .left))
+    length-fits (s .args .file .now) (s .args .counted) (c .before .before .before .before .before .before .if1 .left)
+    (sym (c .before .before .before .before .before .has-mark .ensures) ∙ not-false _ (c .before .before .before .before .if2 .left))
+    (sym (c .before .before .before .has-version .ensures) ∙ not-false _ (c .before .before .if3 .left))
     (c .if4 .left ∙ c .before .expected-length .ensures .0)
 
 pub check-length-spec : {M : Type 1} → statement M

@@ -46,7 +46,8 @@ returns c =
 returns-2 : tie.Need-returns-2 Inv-loop μ-loop
 returns-2 c =
     let l = c .before .before .before .loop in
-    measured-long _ _ _ (l .counted) (c .before .before .before .before .before .if1 .taken) (c .before .before .before .before .expected-length .ensures .0) (l .inv .0) (l .inv .1)
+    measured-long _ _ _ (l .counted) (c .before .before .before .before .before .if1 .taken) (c .before .before .before .before .expected-length .ensures .0)
+    (l .inv .0) (l .inv .1)
 
 returns-3 : tie.Need-returns-3 Inv-loop μ-loop
 returns-3 c = measured-short _ _

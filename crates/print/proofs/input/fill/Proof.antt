@@ -48,7 +48,8 @@ same-length-2 c = c .before .before .before .read-at .kept .1 .0 ∙ c .before .
 returns-2 : tie.Need-returns-2 Inv-loop μ-loop
 returns-2 c =
     let l = c .before .before .before .before .before .before .loop in
-    let h : l .done ≤ length (c .before .before .before .read-at .last .1 .0) = subst (λ (n : ℕ). l .done ≤ n) (sym (c .before .before .before .read-at .kept .1 .0)) (l .inv .0) in
+    let h : l .done ≤ length (c .before .before .before .read-at .last .1 .0) = subst (λ (n : ℕ). l .done ≤ n)
+    (sym (c .before .before .before .read-at .kept .1 .0)) (l .inv .0) in
     (h, sym (length-take-le (l .done) (c .before .before .before .read-at .last .1 .0) h))
 
 pub fill-spec : {M : Type 1} → statement M

@@ -46,8 +46,12 @@ loop-again : tie.Need-loop-again Inv-loop μ-loop
 loop-again c =
     let s = c .before .before .before .before .before .before .before .before .before in
     let l = c .before .before .before .before .before .before .before .loop in
-    let p = c .before .before .put-count in
-    (omega arith, p .kept .0 ∙ l .inv .1, put-same (next-lines (s .args .cornered .now) (s .args .sided .now) (l .m)) (put-then (l .inv .1) (l .inv .2) (p .ensures)))
+    let p = c .before .before .put-count in (
+      omega arith,
+      p .kept .0 ∙ l .inv .1,
+      put-same (next-lines (s .args .cornered .now) (s .args .sided .now) (l .m))
+          (put-then (l .inv .1) (l .inv .2) (p .ensures)),
+    )
 
 same-length : tie.Need-same-length Inv-loop μ-loop
 same-length c = c .before .loop .inv .1

@@ -15,7 +15,8 @@ same-length : tie.Need-same-length
 same-length c = search needs
 
 returns : tie.Need-returns
-returns c = put-then (c .before .before .before .before .before .before .put-number .kept .0) (c .before .before .before .before .before .before .put-number .ensures) (c .before .before .put-byte .ensures)
+returns c = put-then (c .before .before .before .before .before .before .put-number .kept .0)
+    (c .before .before .before .before .before .before .put-number .ensures) (c .before .before .put-byte .ensures)
 
 pub put-ended-spec : {M : Type 1} → statement M
 put-ended-spec = tie.close (tie.spec put-number-requires put-byte-requires same-length returns)

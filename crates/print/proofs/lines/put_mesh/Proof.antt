@@ -25,8 +25,11 @@ returns : tie.Need-returns
 returns c =
     let s = c .before .before .before .before .before .before .before .before .before .before .before .before .before .before .before .before .before .before in
     let n = s .args .counts in
-    put-three meshWord (threeLine (n .vertices) (n .faces) (n .corners)) (countLines (n .cornered) (n .sided) 13) (c .before .before .before .before .before .before .before .before .before .before .before .before .before .before .put-word .kept .0) (c .before .before .before .before .before .before .before .before .before .before .put-three .kept .0)
-    (c .before .before .before .before .before .before .before .before .before .before .before .before .before .before .put-word .ensures) (c .before .before .before .before .before .before .before .before .before .before .put-three .ensures) (c .before .before .put-counts .ensures)
+    put-three meshWord (threeLine (n .vertices) (n .faces) (n .corners)) (countLines (n .cornered) (n .sided) 13)
+    (c .before .before .before .before .before .before .before .before .before .before .before .before .before .before .put-word .kept .0)
+    (c .before .before .before .before .before .before .before .before .before .before .put-three .kept .0)
+    (c .before .before .before .before .before .before .before .before .before .before .before .before .before .before .put-word .ensures)
+    (c .before .before .before .before .before .before .before .before .before .before .put-three .ensures) (c .before .before .put-counts .ensures)
 
 pub put-mesh-spec : {M : Type 1} → statement M
 put-mesh-spec =

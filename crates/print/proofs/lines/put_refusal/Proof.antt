@@ -24,8 +24,11 @@ same-length c = search needs
 returns : tie.Need-returns
 returns c =
     let s = c .before .before .before .before .before .before .before .before .before .before .before .before .before .before in
-    put-three refusedWord (ended (s .args .number) space) (ended (s .args .place) feed) (c .before .before .before .before .before .before .before .before .before .before .put-word .kept .0) (c .before .before .before .before .before .before .put-ended .kept .0)
-    (c .before .before .before .before .before .before .before .before .before .before .put-word .ensures) (c .before .before .before .before .before .before .put-ended .ensures) (c .before .before .put-ended2 .ensures)
+    put-three refusedWord (ended (s .args .number) space) (ended (s .args .place) feed)
+    (c .before .before .before .before .before .before .before .before .before .before .put-word .kept .0)
+    (c .before .before .before .before .before .before .put-ended .kept .0)
+    (c .before .before .before .before .before .before .before .before .before .before .put-word .ensures)
+    (c .before .before .before .before .before .before .put-ended .ensures) (c .before .before .put-ended2 .ensures)
 
 pub put-refusal-spec : {M : Type 1} → statement M
 put-refusal-spec =

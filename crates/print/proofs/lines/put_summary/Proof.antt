@@ -18,7 +18,8 @@ put-mesh-requires : tie.Need-put-mesh-requires
 put-mesh-requires c κs = search needs
 
 returns : tie.Need-returns
-returns c = summary-put (c .before .before .before .before .before .args .summary) _ (c .before .before .before .answer .given .1) (search needs) (c .put-refusal .ensures)
+returns c = summary-put (c .before .before .before .before .before .args .summary) _ (c .before .before .before .answer .given .1) (search needs)
+    (c .put-refusal .ensures)
 
 returns-2 : tie.Need-returns-2
 returns-2 c = summary-put (c .before .before .before .before .args .summary) _ (c .before .before .enum-told .given .1) (search needs) (c .put-mesh .ensures)

@@ -21,8 +21,11 @@ same-length c = search needs
 returns : tie.Need-returns
 returns c =
     let s = c .before .before .before .before .before .before .before .before .before .before .before .before .before in
-    put-three (ended (s .args .a) space) (ended (s .args .b) space) (ended (s .args .c) feed) (c .before .before .before .before .before .before .before .before .before .before .put-ended .kept .0) (c .before .before .before .before .before .before .put-ended2 .kept .0)
-    (c .before .before .before .before .before .before .before .before .before .before .put-ended .ensures) (c .before .before .before .before .before .before .put-ended2 .ensures) (c .before .before .put-ended3 .ensures)
+    put-three (ended (s .args .a) space) (ended (s .args .b) space) (ended (s .args .c) feed)
+    (c .before .before .before .before .before .before .before .before .before .before .put-ended .kept .0)
+    (c .before .before .before .before .before .before .put-ended2 .kept .0)
+    (c .before .before .before .before .before .before .before .before .before .before .put-ended .ensures)
+    (c .before .before .before .before .before .before .put-ended2 .ensures) (c .before .before .put-ended3 .ensures)
 
 pub put-three-spec : {M : Type 1} → statement M
 put-three-spec =

@@ -19,7 +19,12 @@ same-length : tie.Need-same-length
 same-length c = search needs
 
 returns : tie.Need-returns
-returns c = put-then (c .before .before .before .before .before .before .put-signed .kept .0) (put-same (ap signedDecimal (toZ-ofZ w32 (c .before .before .before .before .before .before .before .before .before .args .z) (c .before .before .before .before .before .before .before .before .before .fits .z))) (c .before .before .before .before .before .before .put-signed .ensures)) (c .before .before .put-byte .ensures)
+returns c = put-then (c .before .before .before .before .before .before .put-signed .kept .0)
+    (put-same
+    (ap signedDecimal
+    (toZ-ofZ w32 (c .before .before .before .before .before .before .before .before .before .args .z)
+    (c .before .before .before .before .before .before .before .before .before .fits .z)))
+    (c .before .before .before .before .before .before .put-signed .ensures)) (c .before .before .put-byte .ensures)
 
 pub put-entry-spec : {M : Type 1} → statement M
 put-entry-spec = tie.close (tie.spec put-signed-requires put-byte-requires same-length returns)

@@ -29,8 +29,11 @@ same-length c = search needs
 returns : tie.Need-returns
 returns c =
     let s = c .before .before .before .before .before .before .before .before .before .before .before in
-    put-same (ap (λ (n : ℕ). 45 ∷ decimal n) (c .before .before .before .size .ensures ∙ ap natAbs (exact w32 (s .args .z) (s .fits .z))) ∙ signed-below (s .args .z) (simp (toZ-ofZ, s .fits .z) at (c .before .before .before .before .before .before .before .before .before .if1 .taken)))
-    (put-then (c .before .before .before .before .before .before .before .put-byte .kept .0) (c .before .before .before .before .before .before .before .put-byte .ensures) (c .before .before .put-number .ensures))
+    put-same
+    (ap (λ (n : ℕ). 45 ∷ decimal n) (c .before .before .before .size .ensures ∙ ap natAbs (exact w32 (s .args .z) (s .fits .z))) ∙ signed-below (s .args .z)
+    (simp (toZ-ofZ, s .fits .z) at (c .before .before .before .before .before .before .before .before .before .if1 .taken)))
+    (put-then (c .before .before .before .before .before .before .before .put-byte .kept .0)
+    (c .before .before .before .before .before .before .before .put-byte .ensures) (c .before .before .put-number .ensures))
 
 size-requires-2 : tie.Need-size-requires-2
 size-requires-2 c κs = search needs
@@ -44,7 +47,9 @@ same-length-2 c = search needs
 returns-2 : tie.Need-returns-2
 returns-2 c =
     let s = c .before .before .before .before .before .before .before in
-    put-same (ap decimal (c .before .before .before .size2 .ensures ∙ ap natAbs (exact w32 (s .args .z) (s .fits .z))) ∙ signed-above (s .args .z) (simp (toZ-ofZ, s .fits .z) at (c .before .before .before .before .before .if1 .left))) (c .before .before .put-number2 .ensures)
+    put-same
+    (ap decimal (c .before .before .before .size2 .ensures ∙ ap natAbs (exact w32 (s .args .z) (s .fits .z))) ∙ signed-above (s .args .z)
+    (simp (toZ-ofZ, s .fits .z) at (c .before .before .before .before .before .if1 .left))) (c .before .before .put-number2 .ensures)
 
 pub put-signed-spec : {M : Type 1} → statement M
 put-signed-spec =

@@ -33,8 +33,13 @@ loop-less c = search needs
 
 loop-again : tie.Need-loop-again Inv-loop μ-loop
 loop-again c =
-    let l = c .before .before .before .before .before .before .loop in
-    (search needs, c .before .before .put-byte .kept .0 ∙ l .inv .1, put-next (c .before .before .before .before .before .before .before .before .before .args .word .now) (l .i) (omega arith) (l .inv .1) (l .inv .2) (c .before .before .put-byte .ensures))
+    let l = c .before .before .before .before .before .before .loop in (
+      search needs,
+      c .before .before .put-byte .kept .0 ∙ l .inv .1,
+      put-next
+          (c .before .before .before .before .before .before .before .before .before .args .word .now) (l .i) (omega arith) (l .inv .1) (l .inv .2)
+          (c .before .before .put-byte .ensures),
+    )
 
 same-length : tie.Need-same-length Inv-loop μ-loop
 same-length c = search needs
