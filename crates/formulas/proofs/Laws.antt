@@ -1,6 +1,6 @@
 -- The end of every formula: what the rounding answers is the rounded quotient, and as large as one near it may be.
 -- Assumes nothing.
-use mathlib.Core.Path.{_≡_, _∙_}
+use mathlib.Core.Path.{_≡_}
 use lib.Dec.{T}
 use lib.IntN.{ℤ, pos}
 use lib.Signed.{ltZ}

@@ -7,7 +7,7 @@ ghost use Prim.Native.Nat.{_*_};
 ghost use lib.IntN.{pos, _+ℤ_, _-ℤ_, _*ℤ_};
 ghost use Rattle.paper.specs.Numbers.{round};
 ghost use Rattle.paper.specs.Cosines.{unit};
-ghost use Rattle.formulas.specs.Sizes.{Corner, FacePoint, Value, Written, Row};
+ghost use Rattle.surface.specs.Sizes.{RefinedSize, FaceSize, ValueSize, WrittenSize, CosineSize};
 
 // Three and four, where the cosine table has UNIT for 1; a shift by 33 divides by eight.
 const THREE: i64 = 3 * UNIT;
@@ -16,64 +16,64 @@ const FOUR: i64 = 4 * UNIT;
 
 // The centre of a four-sided refined face.
 pub fn mean(a: i64, b: i64, c: i64, d: i64) -> i64
-    requires { ⌜ Corner a × Corner b × Corner c × Corner d ⌝ }
-    ensures { λ r. ⌜ (r ≡ round (a +ℤ b +ℤ c +ℤ d) (pos 4)) × Corner r ⌝ }
+    requires { ⌜ RefinedSize a × RefinedSize b × RefinedSize c × RefinedSize d ⌝ }
+    ensures { λ r. ⌜ (r ≡ round (a +ℤ b +ℤ c +ℤ d) (pos 4)) × RefinedSize r ⌝ }
 {
     rounding::round_shift(a + b + c + d, 2)
 }
 
 // The point of a four-sided refined face towards its side from a to b: the weights 5/12, 5/12, 1/12, 1/12.
 pub fn toward(a: i64, b: i64, c: i64, d: i64) -> i64
-    requires { ⌜ Corner a × Corner b × Corner c × Corner d ⌝ }
-    ensures { λ r. ⌜ (r ≡ round (pos 5 *ℤ a +ℤ pos 5 *ℤ b +ℤ c +ℤ d) (pos 12)) × Corner r ⌝ }
+    requires { ⌜ RefinedSize a × RefinedSize b × RefinedSize c × RefinedSize d ⌝ }
+    ensures { λ r. ⌜ (r ≡ round (pos 5 *ℤ a +ℤ pos 5 *ℤ b +ℤ c +ℤ d) (pos 12)) × RefinedSize r ⌝ }
 {
     rounding::round_div(5 * a + 5 * b + c + d, 12)
 }
 
 // The centre of a three-sided refined face.
 pub fn mean_of_three(a: i64, b: i64, c: i64) -> i64
-    requires { ⌜ Corner a × Corner b × Corner c ⌝ }
-    ensures { λ r. ⌜ (r ≡ round (a +ℤ b +ℤ c) (pos 3)) × Corner r ⌝ }
+    requires { ⌜ RefinedSize a × RefinedSize b × RefinedSize c ⌝ }
+    ensures { λ r. ⌜ (r ≡ round (a +ℤ b +ℤ c) (pos 3)) × RefinedSize r ⌝ }
 {
     rounding::round_div(a + b + c, 3)
 }
 
 // The point of a three-sided refined face towards its side from a to b: the weights 4/9, 4/9, 1/9.
 pub fn toward_of_three(a: i64, b: i64, c: i64) -> i64
-    requires { ⌜ Corner a × Corner b × Corner c ⌝ }
-    ensures { λ r. ⌜ (r ≡ round (pos 4 *ℤ a +ℤ pos 4 *ℤ b +ℤ c) (pos 9)) × Corner r ⌝ }
+    requires { ⌜ RefinedSize a × RefinedSize b × RefinedSize c ⌝ }
+    ensures { λ r. ⌜ (r ≡ round (pos 4 *ℤ a +ℤ pos 4 *ℤ b +ℤ c) (pos 9)) × RefinedSize r ⌝ }
 {
     rounding::round_div(4 * a + 4 * b + c, 9)
 }
 
 // Half the sum of two points.
 pub fn half(a: i64, b: i64) -> i64
-    requires { ⌜ Written a × Written b ⌝ }
-    ensures { λ r. ⌜ (r ≡ round (a +ℤ b) (pos 2)) × Written r ⌝ }
+    requires { ⌜ WrittenSize a × WrittenSize b ⌝ }
+    ensures { λ r. ⌜ (r ≡ round (a +ℤ b) (pos 2)) × WrittenSize r ⌝ }
 {
     rounding::round_shift(a + b, 1)
 }
 
 // The second point of an outer row from its head, and the fourth from its tail.
 pub fn quarter(e: i64, x: i64) -> i64
-    requires { ⌜ Value e × Value x ⌝ }
-    ensures { λ r. ⌜ (r ≡ round (e +ℤ pos 3 *ℤ x) (pos 4)) × Written r ⌝ }
+    requires { ⌜ ValueSize e × ValueSize x ⌝ }
+    ensures { λ r. ⌜ (r ≡ round (e +ℤ pos 3 *ℤ x) (pos 4)) × WrittenSize r ⌝ }
 {
     rounding::round_shift(e + 3 * x, 2)
 }
 
 // The inner point N of a side; v is the refined point, w the neighbour's.
 pub fn inner(x: i64, y: i64, v: i64, w: i64) -> i64
-    requires { ⌜ FacePoint x × FacePoint y × Corner v × Corner w ⌝ }
-    ensures { λ r. ⌜ (r ≡ round (pos 3 *ℤ x +ℤ pos 3 *ℤ y +ℤ v -ℤ w) (pos 6)) × Value r ⌝ }
+    requires { ⌜ FaceSize x × FaceSize y × RefinedSize v × RefinedSize w ⌝ }
+    ensures { λ r. ⌜ (r ≡ round (pos 3 *ℤ x +ℤ pos 3 *ℤ y +ℤ v -ℤ w) (pos 6)) × ValueSize r ⌝ }
 {
     rounding::round_div(3 * x + 3 * y + v - w, 6)
 }
 
 // The second point of an a row; s is X of the other side at the head.
 pub fn second(c: i64, h: i64, x: i64, y: i64, s: i64, n: i64) -> i64
-    requires { ⌜ Row c × Value h × Value x × Value y × Value s × Value n ⌝ }
-    ensures { λ r. ⌜ (r ≡ round (c *ℤ h +ℤ pos 3 *ℤ (pos unit -ℤ c) *ℤ x +ℤ pos 2 *ℤ c *ℤ y +ℤ pos unit *ℤ s +ℤ pos (4 * unit) *ℤ n) (pos (8 * unit))) × Written r ⌝ }
+    requires { ⌜ CosineSize c × ValueSize h × ValueSize x × ValueSize y × ValueSize s × ValueSize n ⌝ }
+    ensures { λ r. ⌜ (r ≡ round (c *ℤ h +ℤ pos 3 *ℤ (pos unit -ℤ c) *ℤ x +ℤ pos 2 *ℤ c *ℤ y +ℤ pos unit *ℤ s +ℤ pos (4 * unit) *ℤ n) (pos (8 * unit))) × WrittenSize r ⌝ }
 {
     rounding::round_shift(
         c * h + 3 * (UNIT - c) * x + 2 * c * y + UNIT * s + FOUR * n,
@@ -83,8 +83,8 @@ pub fn second(c: i64, h: i64, x: i64, y: i64, s: i64, n: i64) -> i64
 
 // The third point of an a row; c is the head's too, s is Y of the other side at the tail.
 pub fn third(c: i64, t: i64, y: i64, s: i64, n: i64) -> i64
-    requires { ⌜ Row c × Value t × Value y × Value s × Value n ⌝ }
-    ensures { λ r. ⌜ (r ≡ round ((pos (3 * unit) -ℤ c) *ℤ y +ℤ c *ℤ t +ℤ pos (4 * unit) *ℤ n +ℤ pos unit *ℤ s) (pos (8 * unit))) × Written r ⌝ }
+    requires { ⌜ CosineSize c × ValueSize t × ValueSize y × ValueSize s × ValueSize n ⌝ }
+    ensures { λ r. ⌜ (r ≡ round ((pos (3 * unit) -ℤ c) *ℤ y +ℤ c *ℤ t +ℤ pos (4 * unit) *ℤ n +ℤ pos unit *ℤ s) (pos (8 * unit))) × WrittenSize r ⌝ }
 {
     rounding::round_shift((THREE - c) * y + c * t + FOUR * n + UNIT * s, 33)
 }
@@ -92,8 +92,8 @@ pub fn third(c: i64, t: i64, y: i64, s: i64, n: i64) -> i64
 // The middle of the row next to an outer row: n is N of the side, o of the opposite one, g and l of the adjoining ones; x and y
 // are X* and Y*.
 pub fn middle(n: i64, o: i64, g: i64, l: i64, x: i64, y: i64, h: i64, t: i64) -> i64
-    requires { ⌜ Value n × Value o × Value g × Value l × Value x × Value y × Value h × Value t ⌝ }
-    ensures { λ r. ⌜ (r ≡ round (pos 14 *ℤ n +ℤ pos 2 *ℤ (o -ℤ g -ℤ l) +ℤ pos 3 *ℤ (x +ℤ y) -ℤ h -ℤ t) (pos 16)) × Written r ⌝ }
+    requires { ⌜ ValueSize n × ValueSize o × ValueSize g × ValueSize l × ValueSize x × ValueSize y × ValueSize h × ValueSize t ⌝ }
+    ensures { λ r. ⌜ (r ≡ round (pos 14 *ℤ n +ℤ pos 2 *ℤ (o -ℤ g -ℤ l) +ℤ pos 3 *ℤ (x +ℤ y) -ℤ h -ℤ t) (pos 16)) × WrittenSize r ⌝ }
 {
     rounding::round_shift(14 * n + 2 * (o - g - l) + 3 * (x + y) - h - t, 4)
 }

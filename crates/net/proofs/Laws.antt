@@ -15,7 +15,7 @@ use mir.Syntax.{w32, w64}
 use mir.Val.{SFits, ofZ, toZ}
 use mir.Facts.{toZ-ofZ}
 use Rattle.integers.proofs.Machine.{abs-fits}
-use Rattle.formulas.specs.Sizes.{Written}
+use Rattle.surface.specs.Sizes.{WrittenSize}
 use Rattle.refined_faces.proofs.Laws.{plain}
 use Rattle.paper.specs.Numbers.{rounded}
 use Rattle.paper.specs.Refined.{RefinedMesh}
@@ -105,7 +105,7 @@ grid-start old from n g = (omega arith, placed-none old from)
 
 pub grid-row : (old out : List ℤ) (from at : ℕ) (g : List (List ℤ)) (n i : ℕ) → Square n g → i < n → at ≡ from + 3 * (n * i)
     → from + 3 * (n * n) ≤ length old + 2 → Rowed old out from g n i
-    → (at + 3 * length (getD g i []) ≤ length out + 2) × ((j : ℕ) → j < length (getD g i []) → Written (getD (getD g i []) j (pos 0)))
+    → (at + 3 * length (getD g i []) ≤ length out + 2) × ((j : ℕ) → j < length (getD g i []) → WrittenSize (getD (getD g i []) j (pos 0)))
 grid-row old out from at g n i q l e room p =
     let h : i + 1 ≤ n = omega arith in
     let m = mul-le-mul-left n h in
@@ -151,7 +151,7 @@ put-is K c axis at old mid new p q =
     turned k = omega arith
 
 -- ---- a number that is written, in 32 bits
-pub number : (z : ℤ) → Written z → SFits w32 (plain z) × (toZ w32 (ofZ w32 (plain z)) ≡ z)
+pub number : (z : ℤ) → WrittenSize z → SFits w32 (plain z) × (toZ w32 (ofZ w32 (plain z)) ≡ z)
 number z h =
     let e = toZ-ofZ (abs-fits w64 z (2 ^ 26 - 1) h (lit< tt)) in
     let f = abs-fits w32 z (2 ^ 26 - 1) h (lit< tt) in
@@ -211,13 +211,13 @@ a-long K c (suc (suc (suc zero))) h = refl
 a-long K c (suc (suc (suc (suc i)))) h = absurd (omega arith)
 
 module _ (K : RefinedMesh rounded) (ok : Sound (K .corners)) (small : Small K) (c : ℕ) (here : c < K .corners .count) where
-  b-written : (i j : ℕ) → i < 5 → j < 5 → Written (getD (getD (bGrid K c) i []) j (pos 0))
+  b-written : (i j : ℕ) → i < 5 → j < 5 → WrittenSize (getD (getD (bGrid K c) i []) j (pos 0))
   unfolding net bGrid
   b-written i j l m =
       rw (← rows-at (bGrid K c) 5 (λ i h. b-long K c i h) i j l m, ← List·getD-append (rows (bGrid K c)) (rows (aGrid K c)) (pos 0) (5 * i + j) (omega arith))
       (net-size K ok small c here (5 * i + j))
 
-  a-written : (i j : ℕ) → i < 4 → j < 4 → Written (getD (getD (aGrid K c) i []) j (pos 0))
+  a-written : (i j : ℕ) → i < 4 → j < 4 → WrittenSize (getD (getD (aGrid K c) i []) j (pos 0))
   unfolding net bGrid aGrid
   a-written i j l m =
       rw (← rows-at (aGrid K c) 4 (λ i h. a-long K c i h) i j l m, ← getD-append-add (rows (bGrid K c)) (rows (aGrid K c)) (4 * i + j) (pos 0))

@@ -5,7 +5,7 @@ use mathlib.Core.List.{List, []}
 use Prim.Native.Nat.{ℕ, _+_, _*_, _<_}
 use lib.ListN.{length, getD}
 use lib.IntN.{ℤ, pos}
-use Rattle.formulas.specs.Sizes.{Written}
+use Rattle.surface.specs.Sizes.{WrittenSize}
 use Rattle.paper.specs.Numbers.{rounded}
 use Rattle.paper.specs.Refined.{RefinedMesh}
 use Rattle.paper.specs.Net.{net, netPoints}
@@ -13,7 +13,7 @@ use Rattle.paper.specs.Net.{net, netPoints}
 -- a grid of n rows of n numbers that can be written
 pub record Square (n : ℕ) (g : List (List ℤ)) : Type 0 where
   pub long : (i : ℕ) → i < n → length (getD g i []) ≡ n
-  pub written : (i j : ℕ) → i < n → j < n → Written (getD (getD g i []) j (pos 0))
+  pub written : (i j : ℕ) → i < n → j < n → WrittenSize (getD (getD g i []) j (pos 0))
 
 -- every third number from `from` on, as many as there are points, is a point's; the others are as before
 pub record Placed (old new : List ℤ) (from : ℕ) (points : List ℤ) : Type 0 where

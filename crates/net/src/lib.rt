@@ -5,7 +5,7 @@ ghost use mathlib.Core.Path.{_≡_};
 ghost use Prim.Native.Nat.{ℕ, _+_, _*_, _≤_, _<_};
 ghost use lib.ListN.{length, getD};
 ghost use lib.IntN.{pos};
-ghost use Rattle.formulas.specs.Sizes.{Written};
+ghost use Rattle.surface.specs.Sizes.{WrittenSize};
 ghost use Rattle.paper.specs.Net.{rows};
 ghost use Rattle.paper.specs.Calls.{perCorner};
 ghost use Rattle.numbers.specs.Stored.{stored};
@@ -14,7 +14,7 @@ ghost use Rattle.net.specs.Put.{Square, Placed, Put};
 
 // A row, every third number from `from` on.
 fn put_row(row: &[i64], out: &mut [i32], from: usize)
-    requires { ⌜ (from + 3 * length (now row) ≤ length (now out) + 2) × ((j : ℕ) → j < length (now row) → Written (getD (now row) j (pos 0))) ⌝ }
+    requires { ⌜ (from + 3 * length (now row) ≤ length (now out) + 2) × ((j : ℕ) → j < length (now row) → WrittenSize (getD (now row) j (pos 0))) ⌝ }
     ensures { λ _. ⌜ Placed (now (out .entry)) (now (out .exit)) from (now (row .entry)) ⌝ }
 {
     let mut j: usize = 0;

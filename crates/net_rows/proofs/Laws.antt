@@ -14,8 +14,9 @@ use Rattle.integers.proofs.Poly.{over, poly}
 use Rattle.integers.proofs.Laws.{add-comm}
 use Rattle.integers.proofs.Machine.{abs-fits}
 use Rattle.paper.specs.Numbers.{round}
+use Rattle.paper.specs.Cosines.{unit}
 use Rattle.paper.specs.Net.{side0, side3, T, Y, outer1, outer2, outer3, a0, a1, a2, a3, middle, aHead, aTail, bHead, bTail, b22, bGrid, aGrid}
-use Rattle.formulas.specs.Sizes.{Value, Written, Row}
+use Rattle.surface.specs.Sizes.{ValueSize, WrittenSize, CosineSize}
 use Rattle.refined_faces.proofs.Laws.{plain}
 use Rattle.net_sides.specs.declared.SideValues.{SideValues}
 use Rattle.net_sides.specs.Values.{Sized}
@@ -23,49 +24,49 @@ use Rattle.net_rows.specs.declared.RowValues.{RowValues}
 use Rattle.net_rows.specs.Rows.{RowsOf, AllSized, IsAGrid, IsBGrid}
 
 -- ---- the machine's number of a value is the value
-value-fits : (z : ℤ) → Value z → SFits w64 z
+value-fits : (z : ℤ) → ValueSize z → SFits w64 z
 value-fits z h = abs-fits w64 z (2 ^ 25) h (lit< tt)
 
-written-fits : (z : ℤ) → Written z → SFits w64 z
+written-fits : (z : ℤ) → WrittenSize z → SFits w64 z
 written-fits z h = abs-fits w64 z (2 ^ 26 - 1) h (lit< tt)
 
-row-fits : (z : ℤ) → Row z → SFits w64 z
+row-fits : (z : ℤ) → CosineSize z → SFits w64 z
 row-fits = over 1 _ λ ρ. simp (poly, ρ) (omega arith)
 
-pub value : (z : ℤ) → Value z → Value (plain z)
+pub value : (z : ℤ) → ValueSize z → ValueSize (plain z)
 value z h = rw (toZ-ofZ (value-fits z h)) h
 
-pub written : (z : ℤ) → Written z → Written (plain z)
+pub written : (z : ℤ) → WrittenSize z → WrittenSize (plain z)
 written z h = rw (toZ-ofZ (written-fits z h)) h
 
-pub value-written : (z : ℤ) → Value z → Written (plain z)
+pub value-written : (z : ℤ) → ValueSize z → WrittenSize (plain z)
 value-written z h = written z (omega arith)
 
-pub row : (z : ℤ) → Row z → Row (plain z)
+pub row : (z : ℤ) → CosineSize z → CosineSize (plain z)
 row z h = rw (toZ-ofZ (row-fits z h)) h
 
-pub value-is : (z y : ℤ) → Value z → z ≡ y → plain z ≡ y
+pub value-is : (z y : ℤ) → ValueSize z → z ≡ y → plain z ≡ y
 value-is z y h e = toZ-ofZ (value-fits z h) ∙ e
 
-written-is : (z y : ℤ) → Written z → z ≡ y → plain z ≡ y
+written-is : (z y : ℤ) → WrittenSize z → z ≡ y → plain z ≡ y
 written-is z y h e = toZ-ofZ (written-fits z h) ∙ e
 
-row-is : (z y : ℤ) → Row z → z ≡ y → plain z ≡ y
+row-is : (z y : ℤ) → CosineSize z → z ≡ y → plain z ≡ y
 row-is z y h e = toZ-ofZ (row-fits z h) ∙ e
 
 -- what a call gives: q is r of n / d
 abbrev pub Rounds : ℤ → ℤ → ℤ → Type 0
-Rounds n d q = (q ≡ round n d) × Written q
+Rounds n d q = (q ≡ round n d) × WrittenSize q
 
 -- ---- the rows of a side
 module _ (f g l o : SideValues) (z : Sized f × Sized g × Sized l × Sized o) (q1 q2 q3 q4 q5 q6 : ℤ)
     (e1 : Rounds (plain (f .head) +ℤ pos 3 *ℤ plain (f .x)) (pos 4) q1)
     (e2 : Rounds (plain (f .x) +ℤ plain (f .y)) (pos 2) q2)
     (e3 : Rounds (plain (f .tail) +ℤ pos 3 *ℤ plain (f .y)) (pos 4) q3)
-    (e4 : Rounds (plain (f .cosine) *ℤ plain (f .head) +ℤ pos 3 *ℤ (pos (2 ^ 30) -ℤ plain (f .cosine)) *ℤ plain (f .x) +ℤ pos 2 *ℤ plain
-    (f .cosine) *ℤ plain (f .y) +ℤ pos (2 ^ 30) *ℤ plain (g .x) +ℤ pos (2 ^ 32) *ℤ plain (f .inner)) (pos (2 ^ 33)) q4)
-    (e5 : Rounds ((pos (3 * 2 ^ 30) -ℤ plain (f .cosine)) *ℤ plain (f .y) +ℤ plain (f .cosine) *ℤ plain (f .tail) +ℤ pos (2 ^ 32) *ℤ plain
-    (f .inner) +ℤ pos (2 ^ 30) *ℤ plain (l .y)) (pos (2 ^ 33)) q5)
+    (e4 : Rounds (plain (f .cosine) *ℤ plain (f .head) +ℤ pos 3 *ℤ (pos unit -ℤ plain (f .cosine)) *ℤ plain (f .x) +ℤ pos 2 *ℤ plain
+    (f .cosine) *ℤ plain (f .y) +ℤ pos unit *ℤ plain (g .x) +ℤ pos (4 * unit) *ℤ plain (f .inner)) (pos (8 * unit)) q4)
+    (e5 : Rounds ((pos (3 * unit) -ℤ plain (f .cosine)) *ℤ plain (f .y) +ℤ plain (f .cosine) *ℤ plain (f .tail) +ℤ pos (4 * unit) *ℤ plain
+    (f .inner) +ℤ pos unit *ℤ plain (l .y)) (pos (8 * unit)) q5)
     (e6 : Rounds (pos 14 *ℤ plain (f .inner) +ℤ pos 2 *ℤ (plain (o .inner) -ℤ plain (g .inner) -ℤ plain (l .inner)) +ℤ pos 3 *ℤ (plain
     (g .x) +ℤ plain (l .y)) -ℤ plain (f .head) -ℤ plain (f .tail)) (pos 16) q6)
   where
@@ -106,7 +107,7 @@ module _ (f g l o : SideValues) (z : Sized f × Sized g × Sized l × Sized o) (
 abbrev pub Half : ℤ → ℤ → ℤ → Type 0
 Half p q r = Rounds (plain p +ℤ plain q) (pos 2) r
 
-half-is : (p q r x y : ℤ) → Written p → Written q → p ≡ x → q ≡ y → Half p q r → plain r ≡ round (x +ℤ y) (pos 2)
+half-is : (p q r x y : ℤ) → WrittenSize p → WrittenSize q → p ≡ x → q ≡ y → Half p q r → plain r ≡ round (x +ℤ y) (pos 2)
 half-is p q r x y hp hq ep eq e = written-is r _ (e .1) (e .0 ∙ cc (written-is p x hp ep, written-is q y hq eq))
 
 module _ (r0 r1 r2 r3 : RowValues) (z : AllSized r0 r1 r2 r3) (h00 h03 h30 h33 h11 h12 h21 h22 : ℤ)
@@ -153,7 +154,7 @@ module _ (r0 r1 r2 r3 : RowValues) (z : AllSized r0 r1 r2 r3) (h00 h03 h30 h33 h
 
 module _ (c0 c1 c2 c3 : ℤ) (f0 : SFits w64 c0) (f1 : SFits w64 c1) (f2 : SFits w64 c2) (f3 : SFits w64 c3)
     (r0 r1 r2 r3 : RowValues) (z : AllSized r0 r1 r2 r3) (a : List (List ℤ))
-    (za : Written (getD (getD a 1 []) 2 (pos 0))) (zb : Written (getD (getD a 2 []) 1 (pos 0))) (h11 h13 h31 h33 h22 : ℤ)
+    (za : WrittenSize (getD (getD a 1 []) 2 (pos 0))) (zb : WrittenSize (getD (getD a 2 []) 1 (pos 0))) (h11 h13 h31 h33 h22 : ℤ)
     (e11 : Half (r3 .a1) (r0 .a1) h11) (e13 : Half (r0 .a2) (r1 .a2) h13) (e31 : Half (r3 .a2) (r2 .a2) h31) (e33 : Half (r2 .a1) (r1 .a1) h33)
     (e22 : Half (getD (getD a 1 []) 2 (pos 0)) (getD (getD a 2 []) 1 (pos 0)) h22) where
   pub b-grid-is : IsBGrid c0 c1 c2 c3 r0 r1 r2 r3 a

@@ -4,7 +4,7 @@ use mathlib.Core.Path.{_≡_}
 use mathlib.Core.List.{List}
 use Prim.Native.Nat.{ℕ}
 use lib.IntN.{ℤ}
-use Rattle.formulas.specs.Sizes.{Written}
+use Rattle.surface.specs.Sizes.{WrittenSize}
 use Rattle.paper.specs.Numbers.{rounded}
 use Rattle.paper.specs.Refined.{RefinedMesh}
 use Rattle.paper.specs.Net.{Side, side0, side1, side2, side3, atHead, atTail, opposite, H, T, outer1, outer2, outer3, a1, a2, middle, bGrid, aGrid}
@@ -22,12 +22,12 @@ pub record IsRows (K : RefinedMesh rounded) (c : ℕ) (s : Side) (r : RowValues)
   pub middle : r .middle ≡ middle K c s
 
 pub record RowsSized (r : RowValues) : Type 0 where
-  pub outer1 : Written (r .outer1)
-  pub outer2 : Written (r .outer2)
-  pub outer3 : Written (r .outer3)
-  pub a1 : Written (r .a1)
-  pub a2 : Written (r .a2)
-  pub middle : Written (r .middle)
+  pub outer1 : WrittenSize (r .outer1)
+  pub outer2 : WrittenSize (r .outer2)
+  pub outer3 : WrittenSize (r .outer3)
+  pub a1 : WrittenSize (r .a1)
+  pub a2 : WrittenSize (r .a2)
+  pub middle : WrittenSize (r .middle)
 
 -- the rows of the side whose values are f, for whichever net: g and l are the other sides at its head and tail, o is the opposite one
 pub record RowsOf (f g l o : SideValues) (r : RowValues) : Type 0 where

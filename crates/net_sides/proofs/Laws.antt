@@ -6,14 +6,13 @@ use Prim.Native.Nat.{ℕ, _+_, _-_, _*_, _^_, _≤_, _<_}
 use native.Mathlib.Omega.{arith}
 use lib.Dec.{lit<}
 use lib.ListN.{length}
-use lib.IntN.{ℤ, pos, natAbs}
-use lib.Signed.{_≤ℤ_}
+use lib.IntN.{ℤ}
 use mir.Syntax.{w64}
 use mir.Val.{SFits}
 use mir.Facts.{toZ-ofZ}
 use Rattle.integers.proofs.Poly.{over, poly}
 use Rattle.integers.proofs.Machine.{abs-fits}
-use Rattle.formulas.specs.Sizes.{Corner, FacePoint, Row}
+use Rattle.surface.specs.Sizes.{RefinedSize, FaceSize, CosineSize}
 use Rattle.refined_faces.specs.Ring.{around, Ring, IsFace, IsEdgeFace}
 use Rattle.refined_faces.specs.declared.Face.{Face}
 use Rattle.refined_faces.proofs.Laws.{plain}
@@ -26,7 +25,7 @@ use Rattle.surface.specs.Points.{pointAt}
 use Rattle.surface.specs.Sound.{Sound, Small}
 use Rattle.surface.proofs.Rings.{points-cyclic, neighbour-in}
 use Rattle.surface.proofs.Faces.{toward-same}
-use Rattle.surface.proofs.Sizes.{H-size, T-size, X-size, Y-size, C-size, C-bottom}
+use Rattle.surface.proofs.Sizes.{H-size, T-size, X-size, Y-size, C-cosine}
 use Rattle.walk.specs.Table.{rowLength, toNext, toLink, entry, tabled}
 use Rattle.net_sides.specs.Drawn.{drawn, Drawn, Readable}
 use Rattle.net_sides.specs.Values.{IsLeaving, IsArriving, IsSide, Sized, Made}
@@ -121,48 +120,43 @@ pub record Parts (K : RefinedMesh rounded) (c : ℕ) (s : Side) (h t p q v w k :
   pub there : w ≡ K .point (neighbour (K .corners) c s)
   pub cosine : k ≡ C K c s
 
-pub corner-plain : (z y : ℤ) → z ≡ y → Corner y → (plain z ≡ y) × Corner (plain z)
+pub corner-plain : (z y : ℤ) → z ≡ y → RefinedSize y → (plain z ≡ y) × RefinedSize (plain z)
 corner-plain z y e h = let f = ap plain e ∙ toZ-ofZ (abs-fits w64 y (2 ^ 24) h (lit< tt)) in (f, rw f h)
 
-point-plain : (z y : ℤ) → z ≡ y → FacePoint y → (plain z ≡ y) × FacePoint (plain z)
+point-plain : (z y : ℤ) → z ≡ y → FaceSize y → (plain z ≡ y) × FaceSize (plain z)
 point-plain z y e h = let f = ap plain e ∙ toZ-ofZ (abs-fits w64 y (2 ^ 24 + 2 ^ 21) h (lit< tt)) in (f, rw f h)
 
-row-plain : (z y : ℤ) → z ≡ y → Row y → (plain z ≡ y) × Row (plain z)
+row-plain : (z y : ℤ) → z ≡ y → CosineSize y → (plain z ≡ y) × CosineSize (plain z)
 row-plain z y e h = let f = ap plain e ∙ toZ-ofZ (fits y h) in (f, rw f h)
   where
-    fits : (y : ℤ) → Row y → SFits w64 y
+    fits : (y : ℤ) → CosineSize y → SFits w64 y
     fits = over 1 _ λ ρ. simp (poly, ρ) (omega arith)
 
 module _ (K : RefinedMesh rounded) (ok : Sound (K .corners)) (small : Small K) (c : ℕ) (here : c < K .corners .count) (s : Side) (h t p q v w k : ℤ)
     (e : Parts K c s h t p q v w k) where
-  row : Row (C K c s)
-  row = (C-bottom K ok small c here s, top (C K c s) (C-size K ok small c here s))
-    where
-      top : (z : ℤ) → natAbs z ≤ 2 ^ 30 → z ≤ℤ pos (2 ^ 30)
-      top = over 1 _ λ ρ. simp (poly, ρ) (omega arith)
-
-  head′ : (plain h ≡ H K c s) × Corner (plain h)
+  head′ : (plain h ≡ H K c s) × RefinedSize (plain h)
   head′ = corner-plain h (H K c s) (e .head) (H-size K ok small c here s)
 
-  tail′ : (plain t ≡ T K c s) × Corner (plain t)
+  tail′ : (plain t ≡ T K c s) × RefinedSize (plain t)
   tail′ = corner-plain t (T K c s) (e .tail) (T-size K ok small c here s)
 
-  x′ : (plain p ≡ X K c s) × FacePoint (plain p)
+  x′ : (plain p ≡ X K c s) × FaceSize (plain p)
   x′ = point-plain p (X K c s) (e .x) (X-size K ok small c here s)
 
-  y′ : (plain q ≡ Y K c s) × FacePoint (plain q)
+  y′ : (plain q ≡ Y K c s) × FaceSize (plain q)
   y′ = point-plain q (Y K c s) (e .y) (Y-size K ok small c here s)
 
-  here′ : (plain v ≡ K .point c) × Corner (plain v)
+  here′ : (plain v ≡ K .point c) × RefinedSize (plain v)
   here′ = corner-plain v (K .point c) (e .here) (small c here)
 
-  there′ : (plain w ≡ K .point (neighbour (K .corners) c s)) × Corner (plain w)
+  there′ : (plain w ≡ K .point (neighbour (K .corners) c s)) × RefinedSize (plain w)
   there′ = corner-plain w (K .point (neighbour (K .corners) c s)) (e .there) (small (neighbour (K .corners) c s) (neighbour-in (K .corners) ok c here s))
 
-  cosine′ : (plain k ≡ C K c s) × Row (plain k)
-  cosine′ = row-plain k (C K c s) (e .cosine) row
+  cosine′ : (plain k ≡ C K c s) × CosineSize (plain k)
+  cosine′ = row-plain k (C K c s) (e .cosine) (C-cosine K ok small c here s)
 
-  pub sizes : Corner (plain h) × Corner (plain t) × FacePoint (plain p) × FacePoint (plain q) × Corner (plain v) × Corner (plain w) × Row (plain k)
+  pub sizes : RefinedSize (plain h) × RefinedSize (plain t) × FaceSize (plain p) × FaceSize (plain q) × RefinedSize (plain v) × RefinedSize (plain w)
+      × CosineSize (plain k)
   sizes = (head′ .1, tail′ .1, x′ .1, y′ .1, here′ .1, there′ .1, cosine′ .1)
 
   pub made-is : (r : SideValues) → Made (plain h) (plain t) (plain p) (plain q) (plain v) (plain w) (plain k) r → IsSide K c s r × Sized r

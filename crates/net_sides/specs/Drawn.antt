@@ -4,7 +4,7 @@ use mathlib.Core.List.{List}
 use Prim.Native.Nat.{ℕ, _+_, _*_, _≤_, _<_}
 use lib.ListN.{length}
 use lib.IntN.{ℤ}
-use Rattle.formulas.specs.Sizes.{Corner}
+use Rattle.surface.specs.Sizes.{RefinedSize}
 use Rattle.paper.specs.Numbers.{rounded}
 use Rattle.paper.specs.Refined.{RefinedMesh}
 use Rattle.surface.specs.Sound.{Sound, Small}
@@ -24,4 +24,4 @@ pub record Drawn (count : ℕ) (table : List ℕ) (points : List ℤ) : Type 0 w
 
 -- the table has a point for corner c
 abbrev pub Readable : List ℤ → ℕ → ℕ → Type 0
-Readable points axis c = (pointRow * c + axis < length points) × Corner (pointAt points axis c)
+Readable points axis c = (pointRow * c + axis < length points) × RefinedSize (pointAt points axis c)

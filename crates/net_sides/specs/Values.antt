@@ -6,7 +6,7 @@ use lib.IntN.{ℤ, pos, _+ℤ_, _-ℤ_, _*ℤ_}
 use Rattle.paper.specs.Numbers.{round, rounded}
 use Rattle.paper.specs.Refined.{RefinedMesh}
 use Rattle.paper.specs.Net.{Side, side0, side1, side2, side3, H, T, X, Y, N, C}
-use Rattle.formulas.specs.Sizes.{Value, Row}
+use Rattle.surface.specs.Sizes.{ValueSize, CosineSize}
 use Rattle.refined_faces.specs.Ring.{IsEdgeFace}
 use Rattle.net_sides.specs.declared.Edge.{Edge}
 use Rattle.net_sides.specs.declared.SideValues.{SideValues}
@@ -37,12 +37,12 @@ pub record IsSide (K : RefinedMesh rounded) (c : ℕ) (s : Side) (r : SideValues
   pub cosine : r .cosine ≡ C K c s
 
 pub record Sized (r : SideValues) : Type 0 where
-  pub head : Value (r .head)
-  pub tail : Value (r .tail)
-  pub x : Value (r .x)
-  pub y : Value (r .y)
-  pub inner : Value (r .inner)
-  pub cosine : Row (r .cosine)
+  pub head : ValueSize (r .head)
+  pub tail : ValueSize (r .tail)
+  pub x : ValueSize (r .x)
+  pub y : ValueSize (r .y)
+  pub inner : ValueSize (r .inner)
+  pub cosine : CosineSize (r .cosine)
 
 -- one side made from its H, T, X, Y, from the refined points v of the corner and w of the neighbour, and from C
 pub record Made (h t p q v w k : ℤ) (r : SideValues) : Type 0 where

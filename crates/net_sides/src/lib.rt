@@ -5,7 +5,7 @@ use walk::NEXT;
 use walk::Walker;
 ghost use mathlib.Core.Path.{_≡_};
 ghost use Prim.Native.Nat.{_-_, _<_};
-ghost use Rattle.formulas.specs.Sizes.{Corner, FacePoint, Row};
+ghost use Rattle.surface.specs.Sizes.{RefinedSize, FaceSize, CosineSize};
 ghost use Rattle.numbers.specs.Stored.{stored};
 ghost use Rattle.surface.specs.Points.{pointAt};
 ghost use Rattle.walk.specs.Table.{toNext, toLink};
@@ -93,7 +93,7 @@ fn arriving_edge(points: &[i32], table: &[u16], count: usize, c: usize, axis: us
 
 // One side from its parts; v is the corner's refined point, w the neighbour's.
 fn side(head: i64, tail: i64, x: i64, y: i64, v: i64, w: i64, cosine: i64) -> SideValues
-    requires { ⌜ Corner head × Corner tail × FacePoint x × FacePoint y × Corner v × Corner w × Row cosine ⌝ }
+    requires { ⌜ RefinedSize head × RefinedSize tail × FaceSize x × FaceSize y × RefinedSize v × RefinedSize w × CosineSize cosine ⌝ }
     ensures { λ r. ⌜ Made head tail x y v w cosine r ⌝ }
 {
     SideValues {

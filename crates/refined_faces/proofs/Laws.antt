@@ -30,7 +30,7 @@ use Rattle.surface.proofs.Faces.{weight-period, toward-is}
 use Rattle.surface.proofs.Sizes.{weight-size, gather-size, centre-size, toward-size}
 use Rattle.walk.specs.Table.{entry}
 use Rattle.numbers.proofs.Nearest.{round-scale}
-use Rattle.formulas.specs.Sizes.{Corner, FacePoint}
+use Rattle.surface.specs.Sizes.{RefinedSize, FaceSize}
 use Rattle.refined_faces.specs.Ring.{around, Ring, Summed, Divisible, Divided, IsFace, IsEdgeFace}
 use Rattle.refined_faces.specs.declared.Sums.{Sums}
 use Rattle.refined_faces.specs.declared.Face.{Face}
@@ -39,7 +39,7 @@ use Rattle.refined_faces.specs.declared.Face.{Face}
 pub record PointRing (p : ℕ → ℤ) (m : ℕ) : Type 0 where
   pub least : leastSides ≤ m
   pub most : m ≤ mostSides
-  pub small : (j : ℕ) → Corner (p j)
+  pub small : (j : ℕ) → RefinedSize (p j)
   pub cyclic : Cyclic p m
 
 -- ---- the sums of a ring p of m points, numbered from its corner
@@ -260,8 +260,8 @@ centre-four p cyc i = ap (λ (z : ℤ). round z (pos 4)) (sym (cycle p 4 cyc i) 
 module _ (here after far before : ℤ) (r : Face)
     (e : r .centre ≡ round (here +ℤ after +ℤ far +ℤ before) (pos 4)) (a : r .ahead ≡ round (pos 5 *ℤ here +ℤ pos 5 *ℤ after +ℤ far +ℤ before) (pos 12))
     (b : r .behind ≡ round (pos 5 *ℤ before +ℤ pos 5 *ℤ here +ℤ after +ℤ far) (pos 12))
-    (se : Corner (r .centre)) (sa : Corner (r .ahead)) (sb : Corner (r .behind)) where
-  wider : (z : ℤ) → Corner z → FacePoint z
+    (se : RefinedSize (r .centre)) (sa : RefinedSize (r .ahead)) (sb : RefinedSize (r .behind)) where
+  wider : (z : ℤ) → RefinedSize z → FaceSize z
   wider z h = omega arith
 
   pub edge-is : IsEdgeFace here after far before r
@@ -302,7 +302,7 @@ module _ (points : List ℤ) (axis : ℕ) (table : List ℕ) (column c m : ℕ) 
   met-next j d e t q =
       record { inside = stepped points axis table column c m r d e (t .inside) q; place = q ∙ step-more (entry table column) c j d (t .place) }
 
-  pub held : (j d : ℕ) (v : ℤ) → Met j d → v ≡ pointAt points axis d → (around points axis table column c j ≡ plain v) × Corner (plain v)
+  pub held : (j d : ℕ) (v : ℤ) → Met j d → v ≡ pointAt points axis d → (around points axis table column c j ≡ plain v) × RefinedSize (plain v)
   unfolding around
   held j d v t e =
       let z = r .point-size d (t .inside) in

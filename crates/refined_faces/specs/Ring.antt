@@ -12,7 +12,7 @@ use Rattle.paper.specs.Cosines.{unit}
 use Rattle.paper.specs.Face.{centre, weight, toward}
 use Rattle.surface.specs.Points.{pointRow, pointAt}
 use Rattle.walk.specs.Table.{rowLength, entry}
-use Rattle.formulas.specs.Sizes.{Corner, FacePoint}
+use Rattle.surface.specs.Sizes.{RefinedSize, FaceSize}
 use Rattle.refined_faces.specs.declared.Sums.{Sums}
 use Rattle.refined_faces.specs.declared.Face.{Face}
 
@@ -27,7 +27,7 @@ pub record Ring (points : List ℤ) (axis : ℕ) (table : List ℕ) (column c m 
   pub points-hold : (i : ℕ) → i < count → pointRow * i + axis < length points
   pub table-holds : (i : ℕ) → i < count → rowLength * i + column < length table
   pub step-in : (i : ℕ) → i < count → entry table column i < count
-  pub point-size : (i : ℕ) → i < count → Corner (pointAt points axis i)
+  pub point-size : (i : ℕ) → i < count → RefinedSize (pointAt points axis i)
   pub closes : iterate m (entry table column) c ≡ c
   pub least : leastSides ≤ m
   pub most : m ≤ mostSides
@@ -55,9 +55,9 @@ pub record IsFace (p : ℕ → ℤ) (m i j : ℕ) (r : Face) : Type 0 where
   pub centre : r .centre ≡ centre rounded p m
   pub ahead : r .ahead ≡ toward rounded p m i
   pub behind : r .behind ≡ toward rounded p m j
-  pub centre-size : Corner (r .centre)
-  pub ahead-size : FacePoint (r .ahead)
-  pub behind-size : FacePoint (r .behind)
+  pub centre-size : RefinedSize (r .centre)
+  pub ahead-size : FaceSize (r .ahead)
+  pub behind-size : FaceSize (r .behind)
 
 -- the face of any ring of four that has these points in turn from its place i
 pub record IsEdgeFace (here after far before : ℤ) (r : Face) : Type 0 where

@@ -13,7 +13,7 @@ ghost use Rattle.paper.specs.Cosines.{cosine};
 ghost use Rattle.paper.specs.Face.{weight};
 ghost use Rattle.numbers.specs.Stored.{stored};
 ghost use Rattle.surface.specs.Points.{pointRow, pointAt};
-ghost use Rattle.formulas.specs.Sizes.{Corner};
+ghost use Rattle.surface.specs.Sizes.{RefinedSize};
 ghost use Rattle.refined_faces.specs.Ring.{around, Ring, Summed, Divisible, Divided, IsFace, IsEdgeFace};
 
 // What the weights of a ring sum to for each of its corners, where the table has UNIT for 1.
@@ -178,7 +178,7 @@ pub fn ring_of_four(points: &[i32], axis: usize, table: &[u16], column: usize, c
 
 // The four-sided refined face of an edge, from its points in turn: row 4 of the table is exact, so the weights are fractions.
 pub fn edge_face(here: i64, after: i64, far: i64, before: i64) -> Face
-    requires { ⌜ Corner here × Corner after × Corner far × Corner before ⌝ }
+    requires { ⌜ RefinedSize here × RefinedSize after × RefinedSize far × RefinedSize before ⌝ }
     ensures { λ r. ⌜ IsEdgeFace here after far before r ⌝ }
 {
     Face {

@@ -4,6 +4,7 @@
 --     Faces       centre and face points of one refined face, and the table's rule among them
 --     Border      what the two sides of a border have in common, and the two rules across it
 --     Roundings   each value is off by at most half
+--     Plain       what each formula gives for numbers of a net's sizes
 --     Sizes       every value, every sum before a division and every written number
 --     Hull        the refined point's size; the corners of an accepted mesh have the laws of `Sound`
 --     Agree       corners that agree have the same nets
@@ -14,6 +15,7 @@ pub mod Rings
 pub mod Faces
 pub mod Border
 pub mod Roundings
+pub mod Plain
 pub mod Sizes
 pub mod Hull
 pub mod Agree

@@ -1,13 +1,13 @@
--- Sizes at a corner of an accepted mesh: the ends, the face points, the inner points and all 41 points, and the sums before each division.
+-- Sizes at a corner of an accepted mesh: the ends, the face points with their sums before the division, the inner points and all 41 points.
 -- The weights of a face point add up, signs dropped, to at most 10/9 of its divisor: one computed test over all rows (`heavy`).
 -- Assumes nothing.
-use mathlib.Core.Path.{_≡_, refl, subst}
+use mathlib.Core.Path.{_≡_, _∙_, ap, refl, subst}
 use mathlib.Core.Bool.{Bool}
 use mathlib.Core.List.{List, [], _∷_}
 use Prim.Native.Nat.{ℕ, zero, suc, _+_, _-_, _*_, _^_, _<_, _≤_}
 use native.Mathlib.Omega.{arith}
 use lib.ListN.{getD}
-use lib.IntN.{ℤ, pos, _+ℤ_, _-ℤ_, _*ℤ_, negℤ, natAbs}
+use lib.IntN.{ℤ, pos, _+ℤ_, _*ℤ_, natAbs}
 use lib.Signed.{leZ, _≤ℤ_}
 use Rattle.paper.specs.Mesh.{leastSides, mostSides}
 use Rattle.paper.specs.Numbers.{sum, sumBy, round, rounded}
@@ -18,18 +18,19 @@ use Rattle.paper.specs.Net.{End, Side, side0, side1, side2, side3, head, tail, 
 use Rattle.paper.specs.Net.{X, Y, N, C, outer1, outer2, outer3, a0, a1, a2, a3, middle, bHead, bTail, aHead, aTail, b22, bGrid, aGrid, net}
 use Rattle.integers.proofs.Diff.{diff}
 use Rattle.integers.proofs.Poly.{over, poly}
-use Rattle.integers.proofs.Laws.{abs-mul-le}
+use Rattle.integers.proofs.Laws.{abs-mul-le, add-comm}
 use Rattle.integers.proofs.Sum.{sum-abs}
 use Rattle.integers.proofs.Below.{below-at}
 use Rattle.numbers.specs.Near.{Near}
 use Rattle.numbers.proofs.Nearest.{near-is}
 use Rattle.numbers.proofs.Rules.{bottom, cosine-size}
-use Rattle.surface.specs.Sound.{Sound, Small as SmallPoints}
+use Rattle.surface.specs.Sound.{Sound, Small}
+use Rattle.surface.specs.Sizes.{RefinedSize, FaceSize, ValueSize, WrittenSize, CosineSize}
 use Rattle.surface.proofs.Within.{Within, within-cancel, abs-within, positive}
 use Rattle.surface.proofs.Faces.{toward-near, centre-near}
 use Rattle.surface.proofs.Rings.{neighbour-in, points-small, size-least, size-most}
-use Rattle.surface.proofs.Roundings.{SecondRow, ThirdRow, secondSum, thirdSum, outer1-is, outer2-is, outer3-is, N-is, a0-is, a1-is, a2-is, a3-is}
-use Rattle.surface.proofs.Roundings.{middle-is}
+use Rattle.surface.proofs.Roundings.{outer1-is, outer3-is, N-is, a1-is, a2-is, middle-is}
+use Rattle.surface.proofs.Plain.{half-written, quarter-written, inner-value, second-written, third-written, middle-written}
 
 -- ---- the weights of a row
 heavy-test : ℕ → Bool
@@ -56,21 +57,21 @@ weighted p w B (suc n) h =
 mean : (M P Q : ℤ) → Within P (M *ℤ pos (2 ^ 24)) → Near P M Q → Within (M *ℤ (pos 2 *ℤ Q)) (M *ℤ pos (2 * 2 ^ 24 + 1))
 mean = over 3 _ λ ρ. simp (poly, ρ) (omega arith)
 
-pub halve : (Q : ℤ) → Within (pos 2 *ℤ Q) (pos (2 * 2 ^ 24 + 1)) → natAbs Q ≤ 2 ^ 24
+pub halve : (Q : ℤ) → Within (pos 2 *ℤ Q) (pos (2 * 2 ^ 24 + 1)) → RefinedSize Q
 halve = over 1 _ λ ρ. simp (poly, ρ) (omega arith)
 
 face-mean : (M G W Q : ℤ) → (pos 3 *ℤ W) ≤ℤ (pos (10 * unit) *ℤ M) → Within G (pos (2 ^ 24) *ℤ W) → Near G (pos (3 * unit) *ℤ M) Q
     → Within (M *ℤ (pos 18 *ℤ Q)) (M *ℤ pos (20 * 2 ^ 24 + 9))
 face-mean = over 4 _ λ ρ. simp (poly, ρ) (omega arith)
 
-ninth : (Q : ℤ) → Within (pos 18 *ℤ Q) (pos (20 * 2 ^ 24 + 9)) → natAbs Q ≤ 2 ^ 24 + 2 ^ 21
+ninth : (Q : ℤ) → Within (pos 18 *ℤ Q) (pos (20 * 2 ^ 24 + 9)) → FaceSize Q
 ninth = over 1 _ λ ρ. simp (poly, ρ) (omega arith)
 
 before : (G W M : ℤ) → (pos 3 *ℤ W) ≤ℤ (pos (10 * unit) *ℤ M) → Within G (pos (2 ^ 24) *ℤ W) → M ≤ℤ pos mostSides → natAbs G ≤ 2 ^ 60
 before = over 3 _ λ ρ. simp (poly, ρ) (omega arith)
 
-module _ (p : ℕ → ℤ) (m : ℕ) (low : leastSides ≤ m) (high : m ≤ mostSides) (small : (j : ℕ) → natAbs (p j) ≤ 2 ^ 24) where
-  pub centre-size : natAbs (centre rounded p m) ≤ 2 ^ 24
+module _ (p : ℕ → ℤ) (m : ℕ) (low : leastSides ≤ m) (high : m ≤ mostSides) (small : (j : ℕ) → RefinedSize (p j)) where
+  pub centre-size : RefinedSize (centre rounded p m)
   centre-size =
       let here : 0 < m = omega arith in
       halve (centre rounded p m) (within-cancel (pos m) (pos 2 *ℤ centre rounded p m) (pos (2 * 2 ^ 24 + 1)) (positive m here)
@@ -79,7 +80,7 @@ module _ (p : ℕ → ℤ) (m : ℕ) (low : leastSides ≤ m) (high : m ≤ most
   bounded : (i : ℕ) → Within (sum (λ k. p (i + k) *ℤ weight m k) m) (pos (2 ^ 24) *ℤ sum (λ k. pos (natAbs (weight m k))) m)
   bounded i = weighted (λ k. p (i + k)) (weight m) (2 ^ 24) m (λ k. small (i + k))
 
-  pub toward-size : (i : ℕ) → natAbs (toward rounded p m i) ≤ 2 ^ 24 + 2 ^ 21
+  pub toward-size : (i : ℕ) → FaceSize (toward rounded p m i)
   toward-size i =
       let here : 0 < m = omega arith in
       ninth (toward rounded p m i) (within-cancel (pos m) (pos 18 *ℤ toward rounded p m i) (pos (20 * 2 ^ 24 + 9)) (positive m here)
@@ -98,54 +99,27 @@ module _ (p : ℕ → ℤ) (m : ℕ) (low : leastSides ≤ m) (high : m ≤ most
       seven : (x y : ℤ) → natAbs x ≤ unit → natAbs y ≤ unit → natAbs (pos (3 * unit) +ℤ pos 2 *ℤ x +ℤ pos 2 *ℤ y) ≤ 7 * unit
       seven = over 2 _ λ ρ. simp (poly, ρ) (omega arith)
 
--- ---- plain integers; Q is the rounded value
-inner : (x y v w Q : ℤ) → natAbs x ≤ 2 ^ 24 + 2 ^ 21 → natAbs y ≤ 2 ^ 24 + 2 ^ 21 → natAbs v ≤ 2 ^ 24 → natAbs w ≤ 2 ^ 24
-    → Near (pos 3 *ℤ x +ℤ pos 3 *ℤ y +ℤ v -ℤ w) (pos 6) Q → natAbs Q ≤ 2 ^ 24 + 2 ^ 23
-inner = over 5 _ λ ρ. simp (poly, ρ) (omega arith)
+-- ---- smaller classes within larger ones
+refined-value : (z : ℤ) → RefinedSize z → ValueSize z
+refined-value z h = omega arith
 
-quarter-of : (h x Q : ℤ) → natAbs h ≤ 2 ^ 24 → natAbs x ≤ 2 ^ 24 + 2 ^ 21 → Near (h +ℤ pos 3 *ℤ x) (pos 4) Q → natAbs Q ≤ 2 ^ 24 + 2 ^ 21
-quarter-of = over 3 _ λ ρ. simp (poly, ρ) (omega arith)
+face-value : (z : ℤ) → FaceSize z → ValueSize z
+face-value z h = omega arith
 
-quarter-to : (h x Q : ℤ) → natAbs h ≤ 2 ^ 24 → natAbs x ≤ 2 ^ 24 + 2 ^ 21 → Near (pos 3 *ℤ x +ℤ h) (pos 4) Q → natAbs Q ≤ 2 ^ 24 + 2 ^ 21
-quarter-to = over 3 _ λ ρ. simp (poly, ρ) (omega arith)
+face-written : (z : ℤ) → FaceSize z → WrittenSize z
+face-written z h = omega arith
 
-half-of : (k : ℕ) (x y Q : ℤ) → natAbs x ≤ k → natAbs y ≤ k → Near (x +ℤ y) (pos 2) Q → natAbs Q ≤ k
-half-of k = over 3 _ λ ρ. simp (poly, ρ) (omega arith)
+refined-written : (z : ℤ) → RefinedSize z → WrittenSize z
+refined-written z h = omega arith
 
-middle-of : (n o g l x y h t Q : ℤ) → natAbs n ≤ 2 ^ 24 + 2 ^ 23 → natAbs o ≤ 2 ^ 24 + 2 ^ 23 → natAbs g ≤ 2 ^ 24 + 2 ^ 23 → natAbs l ≤ 2 ^ 24 + 2 ^ 23
-    → natAbs x ≤ 2 ^ 24 + 2 ^ 21 → natAbs y ≤ 2 ^ 24 + 2 ^ 21 → natAbs h ≤ 2 ^ 24 → natAbs t ≤ 2 ^ 24
-    → Near (pos 14 *ℤ n +ℤ pos 2 *ℤ (o -ℤ g -ℤ l) +ℤ pos 3 *ℤ (x +ℤ y) -ℤ h -ℤ t) (pos 16) Q → natAbs Q ≤ 2 ^ 26 - 1
-middle-of = over 9 _ λ ρ. simp (poly, ρ) (omega arith)
+top : (z : ℤ) → natAbs z ≤ unit → z ≤ℤ pos unit
+top = over 1 _ λ ρ. simp (poly, ρ) (omega arith)
 
--- the sums of the second and third a points, and what they are rounded to
-second-sum : (c h x y x* n : ℤ) → natAbs (c *ℤ h) ≤ unit * 2 ^ 24 → natAbs ((pos unit -ℤ c) *ℤ x) ≤ 3 * 2 ^ 29 * (2 ^ 24 + 2 ^ 21)
-    → natAbs (c *ℤ y) ≤ unit * (2 ^ 24 + 2 ^ 21) → natAbs x* ≤ 2 ^ 24 + 2 ^ 21 → natAbs n ≤ 2 ^ 24 + 2 ^ 23
-    → natAbs (SecondRow (pos unit) (pos (4 * unit)) c h x y x* n) ≤ 2 ^ 58
-second-sum = over 6 _ λ ρ. simp (poly, ρ) (omega arith)
-
-third-sum : (c t y y* n : ℤ) → natAbs ((pos (3 * unit) -ℤ c) *ℤ y) ≤ 7 * 2 ^ 29 * (2 ^ 24 + 2 ^ 21) → natAbs (c *ℤ t) ≤ unit * 2 ^ 24
-    → natAbs y* ≤ 2 ^ 24 + 2 ^ 21 → natAbs n ≤ 2 ^ 24 + 2 ^ 23
-    → natAbs (ThirdRow (pos (3 * unit)) (pos unit) (pos (4 * unit)) c t y y* n) ≤ 2 ^ 58
-third-sum = over 5 _ λ ρ. simp (poly, ρ) (omega arith)
-
-eighth : (z Q : ℤ) → natAbs z ≤ 2 ^ 58 → Near z (pos (8 * unit)) Q → natAbs Q ≤ 2 ^ 26 - 1
-eighth = over 2 _ λ ρ. simp (poly, ρ) (omega arith)
-
-pub one-less : (c : ℤ) → negℤ (pos (2 ^ 29)) ≤ℤ c → natAbs c ≤ unit → natAbs (pos unit -ℤ c) ≤ 3 * 2 ^ 29
-one-less = over 1 _ λ ρ. simp (poly, ρ) (omega arith)
-
-pub three-less : (c : ℤ) → negℤ (pos (2 ^ 29)) ≤ℤ c → natAbs c ≤ unit → natAbs (pos (3 * unit) -ℤ c) ≤ 7 * 2 ^ 29
-three-less = over 1 _ λ ρ. simp (poly, ρ) (omega arith)
-
--- what every written number is
-abbrev pub Small : ℤ → Type 0
-Small z = natAbs z ≤ 2 ^ 26 - 1
-
-half-small : (x y : ℤ) → Small x → Small y → Small (round (x +ℤ y) (pos 2))
-half-small x y h l = half-of (2 ^ 26 - 1) x y (round (x +ℤ y) (pos 2)) h l (near-is (x +ℤ y) (pos 2) (round (x +ℤ y) (pos 2)) tt refl)
+half-small : (x y : ℤ) → WrittenSize x → WrittenSize y → WrittenSize (round (x +ℤ y) (pos 2))
+half-small x y h l = half-written x y (round (x +ℤ y) (pos 2)) (h, l) (near-is (x +ℤ y) (pos 2) (round (x +ℤ y) (pos 2)) tt refl)
 
 -- ---- of a corner's sides
-module _ (K : RefinedMesh rounded) (ok : Sound (K .corners)) (bound : SmallPoints K) (c : ℕ) (here : c < K .corners .count) where
+module _ (K : RefinedMesh rounded) (ok : Sound (K .corners)) (bound : Small K) (c : ℕ) (here : c < K .corners .count) where
   end-size : (e : End) → natAbs (centre rounded (points K c e) (size (K .corners) c e)) ≤ 2 ^ 24
   end-size e = centre-size (points K c e) (size (K .corners) c e) (size-least (K .corners) ok c here e) (size-most (K .corners) ok c here e)
       (points-small K ok c here bound e)
@@ -154,108 +128,101 @@ module _ (K : RefinedMesh rounded) (ok : Sound (K .corners)) (bound : SmallPoint
   face-size e = toward-size (points K c e) (size (K .corners) c e) (size-least (K .corners) ok c here e) (size-most (K .corners) ok c here e)
       (points-small K ok c here bound e)
 
-  pub H-size : (s : Side) → natAbs (H K c s) ≤ 2 ^ 24
+  pub H-size : (s : Side) → RefinedSize (H K c s)
   unfolding H
   H-size s = end-size (head s)
 
-  pub T-size : (s : Side) → natAbs (T K c s) ≤ 2 ^ 24
+  pub T-size : (s : Side) → RefinedSize (T K c s)
   unfolding T
   T-size s = end-size (tail s)
 
-  pub X-size : (s : Side) → natAbs (X K c s) ≤ 2 ^ 24 + 2 ^ 21
+  pub X-size : (s : Side) → FaceSize (X K c s)
   unfolding X
   X-size s = face-size (head s) (headPlace (K .corners) c s)
 
-  pub Y-size : (s : Side) → natAbs (Y K c s) ≤ 2 ^ 24 + 2 ^ 21
+  pub Y-size : (s : Side) → FaceSize (Y K c s)
   unfolding Y
   Y-size s = face-size (tail s) (tailPlace s)
 
-  pub N-size : (s : Side) → natAbs (N K c s) ≤ 2 ^ 24 + 2 ^ 23
+  pub N-size : (s : Side) → ValueSize (N K c s)
   N-size s =
-      inner (X K c s) (Y K c s) (K .point c) (K .point (neighbour (K .corners) c s)) (N K c s) (X-size s) (Y-size s)
-      (bound c here) (bound _ (neighbour-in (K .corners) ok c here s)) (near-is _ _ _ tt (N-is K c s))
+      inner-value (X K c s) (Y K c s) (K .point c) (K .point (neighbour (K .corners) c s)) (N K c s)
+      (X-size s, Y-size s, bound c here, bound _ (neighbour-in (K .corners) ok c here s)) (near-is _ _ _ tt (N-is K c s))
 
-  pub C-size : (s : Side) → natAbs (C K c s) ≤ unit
+  pub C-cosine : (s : Side) → CosineSize (C K c s)
   unfolding C
-  C-size s = cosine-size (size (K .corners) c (head s)) (size-least (K .corners) ok c here (head s)) (size-most (K .corners) ok c here (head s)) 1
+  C-cosine s =
+      let low = size-least (K .corners) ok c here (head s) in
+      let high = size-most (K .corners) ok c here (head s) in
+      (bottom (size (K .corners) c (head s)) low high, top (C K c s) (cosine-size (size (K .corners) c (head s)) low high 1))
 
-  pub C-bottom : (s : Side) → negℤ (pos (2 ^ 29)) ≤ℤ C K c s
-  unfolding C
-  C-bottom s = bottom (size (K .corners) c (head s)) (size-least (K .corners) ok c here (head s)) (size-most (K .corners) ok c here (head s))
+  H-value : (s : Side) → ValueSize (H K c s)
+  H-value s = refined-value (H K c s) (H-size s)
 
-  -- the products of the second and third a points
-  pub CH-size : (s : Side) → natAbs (C K c s *ℤ H K c s) ≤ unit * 2 ^ 24
-  CH-size s = abs-mul-le (C K c s) (H K c s) unit (2 ^ 24) (C-size s) (H-size s)
+  T-value : (s : Side) → ValueSize (T K c s)
+  T-value s = refined-value (T K c s) (T-size s)
 
-  pub CT-size : (s : Side) → natAbs (C K c s *ℤ T K c s) ≤ unit * 2 ^ 24
-  CT-size s = abs-mul-le (C K c s) (T K c s) unit (2 ^ 24) (C-size s) (T-size s)
+  X-value : (s : Side) → ValueSize (X K c s)
+  X-value s = face-value (X K c s) (X-size s)
 
-  pub CY-size : (s : Side) → natAbs (C K c s *ℤ Y K c s) ≤ unit * (2 ^ 24 + 2 ^ 21)
-  CY-size s = abs-mul-le (C K c s) (Y K c s) unit (2 ^ 24 + 2 ^ 21) (C-size s) (Y-size s)
-
-  -- (1 - c) X and (3 - c) Y, times 2^30
-  pub lessX-size : (s : Side) → natAbs ((pos unit -ℤ C K c s) *ℤ X K c s) ≤ 3 * 2 ^ 29 * (2 ^ 24 + 2 ^ 21)
-  lessX-size s =
-      abs-mul-le (pos unit -ℤ C K c s) (X K c s) (3 * 2 ^ 29) (2 ^ 24 + 2 ^ 21) (one-less (C K c s) (C-bottom s) (C-size s)) (X-size s)
-
-  pub lessY-size : (s : Side) → natAbs ((pos (3 * unit) -ℤ C K c s) *ℤ Y K c s) ≤ 7 * 2 ^ 29 * (2 ^ 24 + 2 ^ 21)
-  lessY-size s =
-      abs-mul-le (pos (3 * unit) -ℤ C K c s) (Y K c s) (7 * 2 ^ 29) (2 ^ 24 + 2 ^ 21) (three-less (C K c s) (C-bottom s) (C-size s)) (Y-size s)
-
-  pub a1-sum : (s : Side) → natAbs (secondSum K c s) ≤ 2 ^ 58
-  a1-sum s =
-      second-sum (C K c s) (H K c s) (X K c s) (Y K c s) (X K c (atHead s)) (N K c s) (CH-size s) (lessX-size s) (CY-size s) (X-size (atHead s)) (N-size s)
-
-  pub a2-sum : (s : Side) → natAbs (thirdSum K c s) ≤ 2 ^ 58
-  a2-sum s = third-sum (C K c s) (T K c s) (Y K c s) (Y K c (atTail s)) (N K c s) (lessY-size s) (CT-size s) (Y-size (atTail s)) (N-size s)
+  Y-value : (s : Side) → ValueSize (Y K c s)
+  Y-value s = face-value (Y K c s) (Y-size s)
 
   -- ---- the points
-  pub outer1-size : (s : Side) → natAbs (outer1 K c s) ≤ 2 ^ 24 + 2 ^ 21
-  outer1-size s = quarter-of (H K c s) (X K c s) (outer1 K c s) (H-size s) (X-size s) (near-is _ _ _ tt (outer1-is K c s))
+  pub outer1-size : (s : Side) → WrittenSize (outer1 K c s)
+  outer1-size s = quarter-written (H K c s) (X K c s) (outer1 K c s) (H-value s, X-value s) (near-is _ _ _ tt (outer1-is K c s))
 
-  pub outer2-size : (s : Side) → natAbs (outer2 K c s) ≤ 2 ^ 24 + 2 ^ 21
-  outer2-size s = half-of (2 ^ 24 + 2 ^ 21) (X K c s) (Y K c s) (outer2 K c s) (X-size s) (Y-size s) (near-is _ _ _ tt (outer2-is K c s))
+  pub outer2-size : (s : Side) → WrittenSize (outer2 K c s)
+  unfolding outer2
+  outer2-size s = half-small (X K c s) (Y K c s) (face-written (X K c s) (X-size s)) (face-written (Y K c s) (Y-size s))
 
-  pub outer3-size : (s : Side) → natAbs (outer3 K c s) ≤ 2 ^ 24 + 2 ^ 21
-  outer3-size s = quarter-to (T K c s) (Y K c s) (outer3 K c s) (T-size s) (Y-size s) (near-is _ _ _ tt (outer3-is K c s))
+  pub outer3-size : (s : Side) → WrittenSize (outer3 K c s)
+  outer3-size s =
+      quarter-written (T K c s) (Y K c s) (outer3 K c s) (T-value s, Y-value s)
+      (near-is _ _ _ tt (outer3-is K c s ∙ ap (λ n. round n (pos 4)) (add-comm (pos 3 *ℤ Y K c s) (T K c s))))
 
-  pub a0-size : (s : Side) → natAbs (a0 K c s) ≤ 2 ^ 24 + 2 ^ 21
-  a0-size s =
-      half-of (2 ^ 24 + 2 ^ 21) (outer1 K c s) (outer1 K c (atHead s)) (a0 K c s) (outer1-size s) (outer1-size (atHead s)) (near-is _ _ _ tt (a0-is K c s))
+  pub a0-size : (s : Side) → WrittenSize (a0 K c s)
+  unfolding a0
+  a0-size s = half-small (outer1 K c s) (outer1 K c (atHead s)) (outer1-size s) (outer1-size (atHead s))
 
-  pub a1-size : (s : Side) → Small (a1 K c s)
-  a1-size s = eighth (secondSum K c s) (a1 K c s) (a1-sum s) (near-is _ _ _ tt (a1-is K c s))
+  pub a1-size : (s : Side) → WrittenSize (a1 K c s)
+  a1-size s =
+      second-written (C K c s) (H K c s) (X K c s) (Y K c s) (X K c (atHead s)) (N K c s) (a1 K c s)
+      (C-cosine s, H-value s, X-value s, Y-value s, X-value (atHead s), N-size s) (near-is _ _ _ tt (a1-is K c s))
 
-  pub a2-size : (s : Side) → Small (a2 K c s)
-  a2-size s = eighth (thirdSum K c s) (a2 K c s) (a2-sum s) (near-is _ _ _ tt (a2-is K c s))
+  pub a2-size : (s : Side) → WrittenSize (a2 K c s)
+  a2-size s =
+      third-written (C K c s) (T K c s) (Y K c s) (Y K c (atTail s)) (N K c s) (a2 K c s)
+      (C-cosine s, T-value s, Y-value s, Y-value (atTail s), N-size s) (near-is _ _ _ tt (a2-is K c s))
 
-  pub a3-size : (s : Side) → natAbs (a3 K c s) ≤ 2 ^ 24 + 2 ^ 21
-  a3-size s =
-      half-of (2 ^ 24 + 2 ^ 21) (outer3 K c s) (outer3 K c (atTail s)) (a3 K c s) (outer3-size s) (outer3-size (atTail s)) (near-is _ _ _ tt (a3-is K c s))
+  pub a3-size : (s : Side) → WrittenSize (a3 K c s)
+  unfolding a3
+  a3-size s = half-small (outer3 K c s) (outer3 K c (atTail s)) (outer3-size s) (outer3-size (atTail s))
 
-  pub middle-size : (s : Side) → Small (middle K c s)
+  pub middle-size : (s : Side) → WrittenSize (middle K c s)
   middle-size s =
-      middle-of (N K c s) (N K c (opposite s)) (N K c (atHead s)) (N K c (atTail s)) (X K c (atHead s)) (Y K c (atTail s)) (H K c s) (T K c s) (middle K c s)
-      (N-size s) (N-size (opposite s)) (N-size (atHead s)) (N-size (atTail s))
-      (X-size (atHead s)) (Y-size (atTail s)) (H-size s) (T-size s) (near-is _ _ _ tt (middle-is K c s))
+      middle-written (N K c s) (N K c (opposite s)) (N K c (atHead s)) (N K c (atTail s)) (X K c (atHead s)) (Y K c (atTail s)) (H K c s) (T K c s)
+      (middle K c s)
+      (N-size s, N-size (opposite s), N-size (atHead s), N-size (atTail s), X-value (atHead s), Y-value (atTail s), H-value s, T-value s)
+      (near-is _ _ _ tt (middle-is K c s))
 
-  pub bHead-size : (s : Side) → Small (bHead K c s)
+  pub bHead-size : (s : Side) → WrittenSize (bHead K c s)
   unfolding bHead
   bHead-size s = half-small (a1 K c (atHead s)) (a1 K c s) (a1-size (atHead s)) (a1-size s)
 
-  pub bTail-size : (s : Side) → Small (bTail K c s)
+  pub bTail-size : (s : Side) → WrittenSize (bTail K c s)
   unfolding bTail
   bTail-size s = half-small (a2 K c s) (a2 K c (atTail s)) (a2-size s) (a2-size (atTail s))
 
-  pub aHead-size : (s : Side) → Small (aHead K c s)
+  pub aHead-size : (s : Side) → WrittenSize (aHead K c s)
   unfolding aHead
   aHead-size s = half-small (middle K c s) (middle K c (atHead s)) (middle-size s) (middle-size (atHead s))
 
-  pub aTail-size : (s : Side) → Small (aTail K c s)
+  pub aTail-size : (s : Side) → WrittenSize (aTail K c s)
   unfolding aTail
   aTail-size s = half-small (middle K c s) (middle K c (atTail s)) (middle-size s) (middle-size (atTail s))
 
-  pub b22-size : Small (b22 K c)
+  pub b22-size : WrittenSize (b22 K c)
   unfolding b22
   b22-size = half-small (aTail K c side0) (aTail K c side3) (aTail-size side0) (aTail-size side3)
 
@@ -263,34 +230,31 @@ module _ (K : RefinedMesh rounded) (ok : Sound (K .corners)) (bound : SmallPoint
 infixr 25 _then_
 data All : List ℤ → Type 0 where
   none : All []
-  _then_ : {z : ℤ} {l : List ℤ} → Small z → All l → All (z ∷ l)
+  _then_ : {z : ℤ} {l : List ℤ} → WrittenSize z → All l → All (z ∷ l)
 
-all-at : (l : List ℤ) → All l → (j : ℕ) → Small (getD l j (pos 0))
+all-at : (l : List ℤ) → All l → (j : ℕ) → WrittenSize (getD l j (pos 0))
 all-at [] none j = omega arith
 all-at (z ∷ l) (h then t) zero = h
 all-at (z ∷ l) (h then t) (suc j) = all-at l t j
 
-module _ (K : RefinedMesh rounded) (ok : Sound (K .corners)) (bound : SmallPoints K) (c : ℕ) (here : c < K .corners .count) where
-  wide : (z : ℤ) → natAbs z ≤ 2 ^ 24 + 2 ^ 21 → Small z
-  wide z h = omega arith
-
+module _ (K : RefinedMesh rounded) (ok : Sound (K .corners)) (bound : Small K) (c : ℕ) (here : c < K .corners .count) where
   all-small : All (net K c)
   unfolding net bGrid aGrid
   all-small =
-      let h : (s : Side) → Small (H K c s) = λ s. wide (H K c s) (omega (arith, H-size K ok bound c here s)) in
-      let t : (s : Side) → Small (T K c s) = λ s. wide (T K c s) (omega (arith, T-size K ok bound c here s)) in
-      let b1 : (s : Side) → Small (outer1 K c s) = λ s. wide (outer1 K c s) (outer1-size K ok bound c here s) in
-      let b2 : (s : Side) → Small (outer2 K c s) = λ s. wide (outer2 K c s) (outer2-size K ok bound c here s) in
-      let b3 : (s : Side) → Small (outer3 K c s) = λ s. wide (outer3 K c s) (outer3-size K ok bound c here s) in
-      let r0 : (s : Side) → Small (a0 K c s) = λ s. wide (a0 K c s) (a0-size K ok bound c here s) in
-      let r1 : (s : Side) → Small (a1 K c s) = a1-size K ok bound c here in
-      let r2 : (s : Side) → Small (a2 K c s) = a2-size K ok bound c here in
-      let r3 : (s : Side) → Small (a3 K c s) = λ s. wide (a3 K c s) (a3-size K ok bound c here s) in
-      let m : (s : Side) → Small (middle K c s) = middle-size K ok bound c here in
-      let bh : (s : Side) → Small (bHead K c s) = bHead-size K ok bound c here in
-      let bt : (s : Side) → Small (bTail K c s) = bTail-size K ok bound c here in
-      let ah : (s : Side) → Small (aHead K c s) = aHead-size K ok bound c here in
-      let at : (s : Side) → Small (aTail K c s) = aTail-size K ok bound c here in
+      let h : (s : Side) → WrittenSize (H K c s) = λ s. refined-written (H K c s) (H-size K ok bound c here s) in
+      let t : (s : Side) → WrittenSize (T K c s) = λ s. refined-written (T K c s) (T-size K ok bound c here s) in
+      let b1 : (s : Side) → WrittenSize (outer1 K c s) = outer1-size K ok bound c here in
+      let b2 : (s : Side) → WrittenSize (outer2 K c s) = outer2-size K ok bound c here in
+      let b3 : (s : Side) → WrittenSize (outer3 K c s) = outer3-size K ok bound c here in
+      let r0 : (s : Side) → WrittenSize (a0 K c s) = a0-size K ok bound c here in
+      let r1 : (s : Side) → WrittenSize (a1 K c s) = a1-size K ok bound c here in
+      let r2 : (s : Side) → WrittenSize (a2 K c s) = a2-size K ok bound c here in
+      let r3 : (s : Side) → WrittenSize (a3 K c s) = a3-size K ok bound c here in
+      let m : (s : Side) → WrittenSize (middle K c s) = middle-size K ok bound c here in
+      let bh : (s : Side) → WrittenSize (bHead K c s) = bHead-size K ok bound c here in
+      let bt : (s : Side) → WrittenSize (bTail K c s) = bTail-size K ok bound c here in
+      let ah : (s : Side) → WrittenSize (aHead K c s) = aHead-size K ok bound c here in
+      let at : (s : Side) → WrittenSize (aTail K c s) = aTail-size K ok bound c here in
       h side0 then b1 side0 then b2 side0 then b3 side0 then t side0
       then b1 side3 then bh side0 then m side0 then bt side0 then b3 side1
       then b2 side3 then m side3 then b22-size K ok bound c here then m side1 then b2 side1
@@ -303,5 +267,5 @@ module _ (K : RefinedMesh rounded) (ok : Sound (K .corners)) (bound : SmallPoint
       then none
 
   -- every number that is written fits 32 bits
-  pub net-size : (j : ℕ) → Small (getD (net K c) j (pos 0))
+  pub net-size : (j : ℕ) → WrittenSize (getD (net K c) j (pos 0))
   net-size j = all-at (net K c) all-small j

@@ -8,8 +8,8 @@ use mir.Syntax.{w64}
 use mir.Val.{SFits}
 use mir.Facts.{toZ-ofZ}
 use Rattle.integers.proofs.Poly.{over, poly}
-use Rattle.numbers.specs.Near.{Near}
-use Rattle.formulas.specs.Sizes.{Written}
+use Rattle.surface.specs.Sizes.{WrittenSize}
+use Rattle.surface.proofs.Plain.{half-written}
 use Rattle.formulas.proofs.Laws.{rounded-is}
 use Rattle.formulas.proofs.half.Statement.{statement}
 use Rattle.formulas.proofs.half.Tie as tie
@@ -18,7 +18,7 @@ abbrev total : ℤ → ℤ → ℤ
 total a b = a +ℤ b
 
 abbrev Given : ℤ → ℤ → Type 0
-Given a b = Written a × Written b
+Given a b = WrittenSize a × WrittenSize b
 
 abbrev Fine : ℤ → ℤ → Type 0
 Fine a b =
@@ -27,9 +27,6 @@ Fine a b =
 
 fits : (a b : ℤ) → Given a b → Fine a b
 fits = over 2 _ λ ρ. simp poly (omega arith)
-
-size : (a b q : ℤ) → Given a b → Near (total a b) (pos 2) q → Written q
-size = over 3 _ λ ρ. simp (poly, ρ) (omega arith)
 
 facts : (s : tie.Start) → Fine (s .args .a) (s .args .b)
 facts s = fits (s .args .a) (s .args .b) (s .pre)
@@ -45,8 +42,8 @@ returns c =
     let s = c .before in
     let k = facts s in
     let q = c .round-shift .result in
-    rounded-is (total (s .args .a) (s .args .b)) (pos 2) q Written tt
-    (size (s .args .a) (s .args .b) q (s .pre))
+    rounded-is (total (s .args .a) (s .args .b)) (pos 2) q WrittenSize tt
+    (half-written (s .args .a) (s .args .b) q (s .pre))
     (search needs)
     (simp (toZ-ofZ, s .fits .a, s .fits .b, k .0) at (c .round-shift .ensures))
 

@@ -8,8 +8,8 @@ use mir.Syntax.{w64}
 use mir.Val.{SFits}
 use mir.Facts.{toZ-ofZ}
 use Rattle.integers.proofs.Poly.{over, poly}
-use Rattle.numbers.specs.Near.{Near}
-use Rattle.formulas.specs.Sizes.{Corner, FacePoint, Value}
+use Rattle.surface.specs.Sizes.{RefinedSize, FaceSize, ValueSize}
+use Rattle.surface.proofs.Plain.{inner-value}
 use Rattle.formulas.proofs.Laws.{rounded-is}
 use Rattle.formulas.proofs.inner.Statement.{statement}
 use Rattle.formulas.proofs.inner.Tie as tie
@@ -18,7 +18,7 @@ abbrev total : ℤ → ℤ → ℤ → ℤ → ℤ
 total x y v w = pos 3 *ℤ x +ℤ pos 3 *ℤ y +ℤ v -ℤ w
 
 abbrev Given : ℤ → ℤ → ℤ → ℤ → Type 0
-Given x y v w = FacePoint x × FacePoint y × Corner v × Corner w
+Given x y v w = FaceSize x × FaceSize y × RefinedSize v × RefinedSize w
 
 abbrev Fine : ℤ → ℤ → ℤ → ℤ → Type 0
 Fine x y v w =
@@ -28,9 +28,6 @@ Fine x y v w =
 
 fits : (x y v w : ℤ) → Given x y v w → Fine x y v w
 fits = over 4 _ λ ρ. simp (poly, ρ) (omega arith)
-
-size : (x y v w q : ℤ) → Given x y v w → Near (total x y v w) (pos 6) q → Value q
-size = over 5 _ λ ρ. simp (poly, ρ) (omega arith)
 
 facts : (s : tie.Start) → Fine (s .args .x) (s .args .y) (s .args .v) (s .args .w)
 facts s = fits (s .args .x) (s .args .y) (s .args .v) (s .args .w) (s .pre)
@@ -58,8 +55,8 @@ returns c =
     let s = c .before in
     let k = facts s in
     let q = c .round-div .result in
-    rounded-is (total (s .args .x) (s .args .y) (s .args .v) (s .args .w)) (pos 6) q Value tt
-    (size (s .args .x) (s .args .y) (s .args .v) (s .args .w) q (s .pre))
+    rounded-is (total (s .args .x) (s .args .y) (s .args .v) (s .args .w)) (pos 6) q ValueSize tt
+    (inner-value (s .args .x) (s .args .y) (s .args .v) (s .args .w) q (s .pre))
     (search needs)
     (simp (toZ-ofZ, s .fits .x, s .fits .y, s .fits .v, s .fits .w, k .0, k .1, k .2, k .3, k .4) at (c .round-div .ensures))
 

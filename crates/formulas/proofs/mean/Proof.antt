@@ -8,8 +8,8 @@ use mir.Syntax.{w64}
 use mir.Val.{SFits}
 use mir.Facts.{toZ-ofZ}
 use Rattle.integers.proofs.Poly.{over, poly}
-use Rattle.numbers.specs.Near.{Near}
-use Rattle.formulas.specs.Sizes.{Corner}
+use Rattle.surface.specs.Sizes.{RefinedSize}
+use Rattle.surface.proofs.Plain.{mean-refined}
 use Rattle.formulas.proofs.Laws.{rounded-is}
 use Rattle.formulas.proofs.mean.Statement.{statement}
 use Rattle.formulas.proofs.mean.Tie as tie
@@ -18,7 +18,7 @@ abbrev total : ℤ → ℤ → ℤ → ℤ → ℤ
 total a b c d = a +ℤ b +ℤ c +ℤ d
 
 abbrev Given : ℤ → ℤ → ℤ → ℤ → Type 0
-Given a b c d = Corner a × Corner b × Corner c × Corner d
+Given a b c d = RefinedSize a × RefinedSize b × RefinedSize c × RefinedSize d
 
 abbrev Fine : ℤ → ℤ → ℤ → ℤ → Type 0
 Fine a b c d =
@@ -27,9 +27,6 @@ Fine a b c d =
 
 fits : (a b c d : ℤ) → Given a b c d → Fine a b c d
 fits = over 4 _ λ ρ. simp poly (omega arith)
-
-size : (a b c d q : ℤ) → Given a b c d → Near (total a b c d) (pos 4) q → Corner q
-size = over 5 _ λ ρ. simp (poly, ρ) (omega arith)
 
 facts : (s : tie.Start) → Fine (s .args .a) (s .args .b) (s .args .c) (s .args .d)
 facts s = fits (s .args .a) (s .args .b) (s .args .c) (s .args .d) (s .pre)
@@ -51,8 +48,8 @@ returns c =
     let s = c .before in
     let k = facts s in
     let q = c .round-shift .result in
-    rounded-is (total (s .args .a) (s .args .b) (s .args .c) (s .args .d)) (pos 4) q Corner tt
-    (size (s .args .a) (s .args .b) (s .args .c) (s .args .d) q (s .pre))
+    rounded-is (total (s .args .a) (s .args .b) (s .args .c) (s .args .d)) (pos 4) q RefinedSize tt
+    (mean-refined (s .args .a) (s .args .b) (s .args .c) (s .args .d) q (s .pre))
     (search needs)
     (simp (toZ-ofZ, s .fits .a, s .fits .b, s .fits .c, s .fits .d, k .0, k .1, k .2) at (c .round-shift .ensures))
 

@@ -9,8 +9,8 @@ use mir.Syntax.{w64}
 use mir.Val.{SFits}
 use mir.Facts.{toZ-ofZ}
 use Rattle.integers.proofs.Poly.{over, poly}
-use Rattle.numbers.specs.Near.{Near}
-use Rattle.formulas.specs.Sizes.{Value, Written}
+use Rattle.surface.specs.Sizes.{ValueSize, WrittenSize}
+use Rattle.surface.proofs.Plain.{middle-written}
 use Rattle.formulas.proofs.Laws.{rounded-is}
 use Rattle.formulas.proofs.middle.Statement.{statement}
 use Rattle.formulas.proofs.middle.Tie as tie
@@ -19,7 +19,7 @@ abbrev total : ℤ → ℤ → ℤ → ℤ → ℤ → ℤ → ℤ → ℤ → �
 total n o g l x y h t = pos 14 *ℤ n +ℤ pos 2 *ℤ (o -ℤ g -ℤ l) +ℤ pos 3 *ℤ (x +ℤ y) -ℤ h -ℤ t
 
 abbrev Given : ℤ → ℤ → ℤ → ℤ → ℤ → ℤ → ℤ → ℤ → Type 0
-Given n o g l x y h t = Value n × Value o × Value g × Value l × Value x × Value y × Value h × Value t
+Given n o g l x y h t = ValueSize n × ValueSize o × ValueSize g × ValueSize l × ValueSize x × ValueSize y × ValueSize h × ValueSize t
 
 abbrev Fine : ℤ → ℤ → ℤ → ℤ → ℤ → ℤ → ℤ → ℤ → Type 0
 Fine n o g l x y h t =
@@ -30,9 +30,6 @@ Fine n o g l x y h t =
 
 fits : (n o g l x y h t : ℤ) → Given n o g l x y h t → Fine n o g l x y h t
 fits = over 8 _ λ ρ. simp (poly, ρ) (omega arith)
-
-size : (n o g l x y h t q : ℤ) → Given n o g l x y h t → Near (total n o g l x y h t) (pos 16) q → Written q
-size = over 9 _ λ ρ. simp (poly, ρ) (omega arith)
 
 facts : (s : tie.Start) → Fine (s .args .n) (s .args .o) (s .args .g) (s .args .l) (s .args .x) (s .args .y) (s .args .h) (s .args .t)
 facts s = fits (s .args .n) (s .args .o) (s .args .g) (s .args .l) (s .args .x) (s .args .y) (s .args .h) (s .args .t) (s .pre)
@@ -153,8 +150,8 @@ returns c =
     let s = c .before in
     let k = facts s in
     let q = c .round-shift .result in
-    rounded-is (total (s .args .n) (s .args .o) (s .args .g) (s .args .l) (s .args .x) (s .args .y) (s .args .h) (s .args .t)) (pos 16) q Written tt
-    (size (s .args .n) (s .args .o) (s .args .g) (s .args .l) (s .args .x) (s .args .y) (s .args .h) (s .args .t) q (s .pre))
+    rounded-is (total (s .args .n) (s .args .o) (s .args .g) (s .args .l) (s .args .x) (s .args .y) (s .args .h) (s .args .t)) (pos 16) q WrittenSize tt
+    (middle-written (s .args .n) (s .args .o) (s .args .g) (s .args .l) (s .args .x) (s .args .y) (s .args .h) (s .args .t) q (s .pre))
     (search needs)
     (simp (
       toZ-ofZ,

@@ -9,8 +9,8 @@ use mir.Syntax.{w64}
 use mir.Val.{SFits}
 use mir.Facts.{toZ-ofZ}
 use Rattle.integers.proofs.Poly.{over, poly}
-use Rattle.numbers.specs.Near.{Near}
-use Rattle.formulas.specs.Sizes.{Value, Written}
+use Rattle.surface.specs.Sizes.{ValueSize, WrittenSize}
+use Rattle.surface.proofs.Plain.{quarter-written}
 use Rattle.formulas.proofs.Laws.{rounded-is}
 use Rattle.formulas.proofs.quarter.Statement.{statement}
 use Rattle.formulas.proofs.quarter.Tie as tie
@@ -19,7 +19,7 @@ abbrev total : ℤ → ℤ → ℤ
 total e x = e +ℤ pos 3 *ℤ x
 
 abbrev Given : ℤ → ℤ → Type 0
-Given e x = Value e × Value x
+Given e x = ValueSize e × ValueSize x
 
 abbrev Fine : ℤ → ℤ → Type 0
 Fine e x =
@@ -28,9 +28,6 @@ Fine e x =
 
 fits : (e x : ℤ) → Given e x → Fine e x
 fits = over 2 _ λ ρ. simp (poly, ρ) (omega arith)
-
-size : (e x q : ℤ) → Given e x → Near (total e x) (pos 4) q → Written q
-size = over 3 _ λ ρ. simp (poly, ρ) (omega arith)
 
 facts : (s : tie.Start) → Fine (s .args .e) (s .args .x)
 facts s = fits (s .args .e) (s .args .x) (s .pre)
@@ -49,8 +46,8 @@ returns c =
     let s = c .before in
     let k = facts s in
     let q = c .round-shift .result in
-    rounded-is (total (s .args .e) (s .args .x)) (pos 4) q Written tt
-    (size (s .args .e) (s .args .x) q (s .pre))
+    rounded-is (total (s .args .e) (s .args .x)) (pos 4) q WrittenSize tt
+    (quarter-written (s .args .e) (s .args .x) q (s .pre))
     (search needs)
     (simp (toZ-ofZ, s .fits .e, s .fits .x, k .0, k .1) at (c .round-shift .ensures))
 

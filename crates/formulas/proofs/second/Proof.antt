@@ -10,34 +10,15 @@ use mir.Syntax.{w64}
 use mir.Val.{SFits}
 use mir.Facts.{toZ-ofZ}
 use Rattle.integers.proofs.Poly.{over, poly}
-use Rattle.integers.proofs.Laws.{abs-mul-le}
 use Rattle.paper.specs.Cosines.{unit}
-use Rattle.numbers.specs.Near.{Near}
-use Rattle.formulas.specs.Sizes.{Value, Written, Row}
+use Rattle.surface.specs.Sizes.{WrittenSize}
+use Rattle.surface.proofs.Plain.{SecondGiven, SecondProducts, second-products, second-written}
 use Rattle.formulas.proofs.Laws.{rounded-is}
 use Rattle.formulas.proofs.second.Statement.{statement}
 use Rattle.formulas.proofs.second.Tie as tie
 
 abbrev total : ℤ → ℤ → ℤ → ℤ → ℤ → ℤ → ℤ
 total c h x y s n = c *ℤ h +ℤ pos 3 *ℤ (pos unit -ℤ c) *ℤ x +ℤ pos 2 *ℤ c *ℤ y +ℤ pos unit *ℤ s +ℤ pos (4 * unit) *ℤ n
-
-abbrev Given : ℤ → ℤ → ℤ → ℤ → ℤ → ℤ → Type 0
-Given c h x y s n = Row c × Value h × Value x × Value y × Value s × Value n
-
--- the three products
-abbrev Products : ℤ → ℤ → ℤ → ℤ → ℤ → ℤ → Type 0
-Products c h x y s n = (natAbs (c *ℤ h) ≤ 2 ^ 30 * 2 ^ 25) × (natAbs ((pos unit -ℤ c) *ℤ x) ≤ 3 * 2 ^ 29 * 2 ^ 25) × (natAbs (c *ℤ y) ≤ 2 ^ 30 * 2 ^ 25)
-
-cosine-size : (c : ℤ) → Row c → (natAbs c ≤ 2 ^ 30) × (natAbs (pos unit -ℤ c) ≤ 3 * 2 ^ 29)
-cosine-size = over 1 _ λ ρ. simp (poly, ρ) (omega arith)
-
-products : (c h x y s n : ℤ) → Given c h x y s n → Products c h x y s n
-products c h x y s n g =
-    let k = cosine-size c (g .0) in (
-      abs-mul-le c h (2 ^ 30) (2 ^ 25) (k .0) (g .1),
-      abs-mul-le (pos unit -ℤ c) x (3 * 2 ^ 29) (2 ^ 25) (k .1) (g .2),
-      abs-mul-le c y (2 ^ 30) (2 ^ 25) (k .0) (g .3),
-    )
 
 abbrev Fine : ℤ → ℤ → ℤ → ℤ → ℤ → ℤ → Type 0
 Fine c h x y s n =
@@ -47,14 +28,11 @@ Fine c h x y s n =
     (pos unit -ℤ c) *ℤ x +ℤ pos 2 *ℤ c *ℤ y +ℤ pos unit *ℤ s) × SFits w64 (pos (4 * unit) *ℤ n) × SFits w64 (total c h x y s n)
     × (natAbs (total c h x y s n) ≤ 2 ^ 60)
 
-fits : (c h x y s n : ℤ) → Given c h x y s n → Products c h x y s n → Fine c h x y s n
+fits : (c h x y s n : ℤ) → SecondGiven c h x y s n → SecondProducts c h x y → Fine c h x y s n
 fits = over 6 _ λ ρ. simp (poly, ρ) (omega arith)
 
-size : (c h x y s n q : ℤ) → Given c h x y s n → Products c h x y s n → Near (total c h x y s n) (pos (8 * unit)) q → Written q
-size = over 7 _ λ ρ. simp (poly, ρ) (omega arith)
-
 facts : (s : tie.Start) → Fine (s .args .c) (s .args .h) (s .args .x) (s .args .y) (s .args .s) (s .args .n)
-facts s = fits (s .args .c) (s .args .h) (s .args .x) (s .args .y) (s .args .s) (s .args .n) (s .pre) (products (s .args .c) (s .args .h)
+facts s = fits (s .args .c) (s .args .h) (s .args .x) (s .args .y) (s .args .s) (s .args .n) (s .pre) (second-products (s .args .c) (s .args .h)
     (s .args .x) (s .args .y) (s .args .s) (s .args .n) (s .pre))
 
 mul-round-shift : tie.Need-mul-round-shift
@@ -176,9 +154,8 @@ returns c =
     let s = c .before in
     let k = facts s in
     let q = c .round-shift .result in
-    rounded-is (total (s .args .c) (s .args .h) (s .args .x) (s .args .y) (s .args .s) (s .args .n)) (pos (8 * unit)) q Written tt
-    (size (s .args .c) (s .args .h) (s .args .x) (s .args .y) (s .args .s) (s .args .n) q (s .pre) (products (s .args .c) (s .args .h) (s .args .x)
-    (s .args .y) (s .args .s) (s .args .n) (s .pre)))
+    rounded-is (total (s .args .c) (s .args .h) (s .args .x) (s .args .y) (s .args .s) (s .args .n)) (pos (8 * unit)) q WrittenSize tt
+    (second-written (s .args .c) (s .args .h) (s .args .x) (s .args .y) (s .args .s) (s .args .n) q (s .pre))
     (search needs)
     (simp (
       toZ-ofZ,

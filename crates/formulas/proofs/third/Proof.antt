@@ -9,31 +9,15 @@ use mir.Syntax.{w64}
 use mir.Val.{SFits}
 use mir.Facts.{toZ-ofZ}
 use Rattle.integers.proofs.Poly.{over, poly}
-use Rattle.integers.proofs.Laws.{abs-mul-le}
 use Rattle.paper.specs.Cosines.{unit}
-use Rattle.numbers.specs.Near.{Near}
-use Rattle.formulas.specs.Sizes.{Value, Written, Row}
+use Rattle.surface.specs.Sizes.{WrittenSize}
+use Rattle.surface.proofs.Plain.{ThirdGiven, ThirdProducts, third-products, third-written}
 use Rattle.formulas.proofs.Laws.{rounded-is}
 use Rattle.formulas.proofs.third.Statement.{statement}
 use Rattle.formulas.proofs.third.Tie as tie
 
 abbrev total : ℤ → ℤ → ℤ → ℤ → ℤ → ℤ
 total c t y s n = (pos (3 * unit) -ℤ c) *ℤ y +ℤ c *ℤ t +ℤ pos (4 * unit) *ℤ n +ℤ pos unit *ℤ s
-
-abbrev Given : ℤ → ℤ → ℤ → ℤ → ℤ → Type 0
-Given c t y s n = Row c × Value t × Value y × Value s × Value n
-
--- the two products
-abbrev Products : ℤ → ℤ → ℤ → ℤ → ℤ → Type 0
-Products c t y s n = (natAbs ((pos (3 * unit) -ℤ c) *ℤ y) ≤ 7 * 2 ^ 29 * 2 ^ 25) × (natAbs (c *ℤ t) ≤ 2 ^ 30 * 2 ^ 25)
-
-cosine-size : (c : ℤ) → Row c → (natAbs c ≤ 2 ^ 30) × (natAbs (pos (3 * unit) -ℤ c) ≤ 7 * 2 ^ 29)
-cosine-size = over 1 _ λ ρ. simp (poly, ρ) (omega arith)
-
-products : (c t y s n : ℤ) → Given c t y s n → Products c t y s n
-products c t y s n g =
-    let k = cosine-size c (g .0) in
-    (abs-mul-le (pos (3 * unit) -ℤ c) y (7 * 2 ^ 29) (2 ^ 25) (k .1) (g .2), abs-mul-le c t (2 ^ 30) (2 ^ 25) (k .0) (g .1))
 
 abbrev Fine : ℤ → ℤ → ℤ → ℤ → ℤ → Type 0
 Fine c t y s n =
@@ -42,14 +26,11 @@ Fine c t y s n =
     (4 * unit) *ℤ n) × SFits w64 (pos unit *ℤ s) × SFits w64 (total c t y s n)
     × (natAbs (total c t y s n) ≤ 2 ^ 60)
 
-fits : (c t y s n : ℤ) → Given c t y s n → Products c t y s n → Fine c t y s n
+fits : (c t y s n : ℤ) → ThirdGiven c t y s n → ThirdProducts c t y → Fine c t y s n
 fits = over 5 _ λ ρ. simp (poly, ρ) (omega arith)
 
-size : (c t y s n q : ℤ) → Given c t y s n → Products c t y s n → Near (total c t y s n) (pos (8 * unit)) q → Written q
-size = over 6 _ λ ρ. simp (poly, ρ) (omega arith)
-
 facts : (s : tie.Start) → Fine (s .args .c) (s .args .t) (s .args .y) (s .args .s) (s .args .n)
-facts s = fits (s .args .c) (s .args .t) (s .args .y) (s .args .s) (s .args .n) (s .pre) (products (s .args .c) (s .args .t) (s .args .y)
+facts s = fits (s .args .c) (s .args .t) (s .args .y) (s .args .s) (s .args .n) (s .pre) (third-products (s .args .c) (s .args .t) (s .args .y)
     (s .args .s) (s .args .n) (s .pre))
 
 sub-round-shift : tie.Need-sub-round-shift
@@ -84,9 +65,8 @@ returns c =
     let s = c .before in
     let k = facts s in
     let q = c .round-shift .result in
-    rounded-is (total (s .args .c) (s .args .t) (s .args .y) (s .args .s) (s .args .n)) (pos (8 * unit)) q Written tt
-    (size (s .args .c) (s .args .t) (s .args .y) (s .args .s) (s .args .n) q (s .pre) (products (s .args .c) (s .args .t) (s .args .y) (s .args .s)
-    (s .args .n) (s .pre)))
+    rounded-is (total (s .args .c) (s .args .t) (s .args .y) (s .args .s) (s .args .n)) (pos (8 * unit)) q WrittenSize tt
+    (third-written (s .args .c) (s .args .t) (s .args .y) (s .args .s) (s .args .n) q (s .pre))
     (search needs)
     (simp (toZ-ofZ, s .fits .c, s .fits .t, s .fits .y, s .fits .s, s .fits .n, k .0, k .1, k .2, k .3, k .4, k .5, k .6, k .7) at (c .round-shift .ensures))
 

@@ -9,17 +9,17 @@ use mir.Syntax.{w64}
 use mir.Val.{SFits}
 use mir.Facts.{toZ-ofZ}
 use Rattle.paper.specs.Numbers.{round}
-use Rattle.formulas.specs.Sizes.{FacePoint, Value}
+use Rattle.surface.specs.Sizes.{FaceSize, ValueSize}
 use Rattle.net_sides.proofs.side.Statement.{statement}
 use Rattle.net_sides.proofs.side.Tie as tie
 
 inner-requires : tie.Need-inner-requires
 inner-requires c κs = search needs
 
-wider : (z y : ℤ) → z ≡ y → natAbs y ≤ 2 ^ 24 + 2 ^ 21 → Value z
+wider : (z y : ℤ) → z ≡ y → natAbs y ≤ 2 ^ 24 + 2 ^ 21 → ValueSize z
 wider z y e h = rw e (omega arith)
 
-as-face : (z : ℤ) → natAbs z ≤ 2 ^ 24 → FacePoint z
+as-face : (z : ℤ) → natAbs z ≤ 2 ^ 24 → FaceSize z
 as-face z h = omega arith
 
 returns : tie.Need-returns
