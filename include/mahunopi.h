@@ -1,17 +1,17 @@
 /*
  * Mahunopi: smooth patches over a closed mesh, in whole numbers.
  *
- * The four functions below are the proved library's C face (libmahunopi.a). A mesh is three lists: coordinates, side
+ * The five functions below are the proved library's C face (libmahunopi.a). A mesh is three lists: coordinates, side
  * counts and corners. mahunopi_survey counts what a .dms file holds, mahunopi_decode reads its lists, mahunopi_link
- * fills the link table of a mesh, mahunopi_build writes the control points of a range of corners. Each is complete in
- * itself: none relies on an earlier call.
+ * fills the link table of a mesh, mahunopi_build writes the control points of a range of corners, mahunopi_floats
+ * gives one of these points as floats. Each is complete in itself: none relies on an earlier call.
  *
  * Every function returns MAHUNOPI_DONE, or the number of a refusal (enum mahunopi_refusal). After a refusal *place
  * says where, and everything else that was lent keeps its contents; when done, *place keeps its contents.
  *
  * A list is a pointer and the number of its entries. The pointer may be null where that number is 0. The pointers to
- * single numbers (place, and the three counts of surveying and of decoding) must not be null. What a function writes
- * to must not overlap anything else that it is given.
+ * single numbers (place, pairs, and the three counts of surveying and of decoding) and to the six floats must not be
+ * null. What a function writes to must not overlap anything else that it is given.
  *
  * Calls share no state: any number of them may run at the same time, on any threads, as long as none writes to what
  * another one is given. Nothing is allocated. Scratch lies on the stack, of which a call needs up to
@@ -47,8 +47,9 @@ extern "C" {
 #define MAHUNOPI_CALL_STACK 262144
 
 /*
- * What a function answers. A file is checked by 1 to 13, linking by 4 to 14, building by 4 to 17. Each number is tried
- * over the whole input before the next, and the place is the lowest that applies.
+ * What a function answers. A file is checked by 1 to 13, linking by 4 to 14, building by 4 to 17, a control point in
+ * floats by 18 to 20. Each number is tried over the whole input before the next, and the place is the lowest that
+ * applies.
  *
  * From a corner the leaving edge runs to the vertex of the next corner of its face, cyclically, and the arriving edge
  * comes from the vertex of the previous one. The link of a corner is the corner of the same vertex whose arriving edge
@@ -94,6 +95,12 @@ enum mahunopi_refusal {
     MAHUNOPI_BAD_RANGE = 16,
     /* the output's length is not 123 times the count (place: its length) */
     MAHUNOPI_BAD_OUTPUT_LENGTH = 17,
+    /* the list of a corner's numbers is not 123 long (place: its length) */
+    MAHUNOPI_BAD_NET_LENGTH = 18,
+    /* a number in that list is outside -2^27 to 2^27 (place: its position in the list) */
+    MAHUNOPI_BAD_NUMBER = 19,
+    /* the point number is above 40 (place: that number) */
+    MAHUNOPI_NO_SUCH_POINT = 20,
     /* surveying and decoding, after 1 to 13: a lent list is too short (place: the length that the first such needs) */
     MAHUNOPI_LENT_TOO_SHORT = 255
 };
@@ -206,6 +213,27 @@ uint32_t mahunopi_survey(
     uint16_t *faces_with,
     /* how many entries it has */
     size_t faces_with_space,
+    /* receives the place of a refusal; not null */
+    uint64_t *place);
+
+/*
+ * One control point in floats: checks the 123 numbers of a corner and a point number by 18 to 20 and gives the point's
+ * difference from b00, in ticks. Every float is a whole number, and every zero is plus zero. A near point, all of whose
+ * differences lie within -2^24 to 2^24, is x, y, z in floats[0] to floats[2]; floats[3] to floats[5] keep their
+ * contents. A far point is three pairs: floats[0] to floats[2] hold the first of each, a multiple of 4,096, floats[3]
+ * to floats[5] the second, 0 to 4,095, and the two add up to the difference.
+ */
+uint32_t mahunopi_floats(
+    /* the numbers of a corner, as mahunopi_build writes them */
+    const int32_t *numbers,
+    /* how many numbers that are: has to be 123 */
+    size_t number_count,
+    /* the point: 0 to 24 are the b points row by row, 25 to 40 the a points */
+    size_t point,
+    /* receives the floats */
+    float floats[6],
+    /* receives 0 where the point is near and 1 where it is far; not null */
+    uint32_t *pairs,
     /* receives the place of a refusal; not null */
     uint64_t *place);
 

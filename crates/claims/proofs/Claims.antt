@@ -7,6 +7,8 @@ use Rattle.borders.proofs.Ranges.{ranges, every-border}
 use Rattle.borders.proofs.Theorem.{demand3}
 use Rattle.borders.proofs.FromC.{from-c}
 use Rattle.examples.proofs.Claim.{examples}
+use Rattle.floats.proofs.Theorems.{far-pairs, float-sums, one-answer}
+use Rattle.floats.proofs.Nets.{nets-pass}
 
 pub claims : Claims
 claims = record {
@@ -17,4 +19,8 @@ claims = record {
   every-border = every-border;
   from-c = from-c;
   examples = examples;
+  far-pairs = far-pairs;
+  float-sums = float-sums;
+  one-answer = one-answer;
+  nets-pass = nets-pass;
 }

@@ -10,6 +10,7 @@ use lib.Dec.{ltb}
 use lib.ListN.{length, getD, take, drop, set}
 use lib.Seq.{length-take-le, take-suc, take-length, drop-cons, append-snoc, set-at}
 use lib.IntN.{ℤ}
+use lib.Ieee.{Float}
 use borrow.Author.Tests.{ltb-false}
 use Rattle.mesh.proofs.Links.{values-length}
 use Rattle.mesh.proofs.Ranges.{none-left, none-right}
@@ -19,12 +20,17 @@ use Rattle.paper.specs.Faults.{Verdict, sound, fault, stated, kept}
 use Rattle.paper.specs.Counts.{verticesWith, facesWith, forEach}
 use Rattle.paper.specs.File.{fileVerdict, fileMesh, begins, noRoom, FileSurveyed, DecodedTo}
 use Rattle.paper.specs.Calls.{Linked, nets, buildVerdict, Built}
-use Rattle.paper.specs.CFace.{States, LinkCall, BuildCall, Lengths, three, lentVerdict, DecodeCall, countsOf, surveyVerdict, SurveyCall}
+use Rattle.paper.specs.Floats.{pointVerdict, Pointed}
+use Rattle.paper.specs.CFace.{States, LinkCall, BuildCall, Lengths, three, lentVerdict, DecodeCall, countsOf, surveyVerdict, SurveyCall, put, FloatsCall}
 use Rattle.paper.specs.declared.Answer.{Answer}
 use Rattle.paper.specs.declared.Answer.the-variants.{Done, Refused}
 use Rattle.paper.specs.declared.Counts.{Counts}
 use Rattle.paper.specs.declared.Decoded.{Decoded}
 use Rattle.paper.specs.declared.Summary.{Summary}
+use Rattle.paper.specs.declared.Floats.{Floats}
+use Rattle.paper.specs.declared.FloatPoint.{FloatPoint}
+use Rattle.paper.specs.declared.FloatPoint.the-variants.{Near, Far, Refused as NoPoint}
+use Rattle.floats.proofs.Theorems.{near-sound, far-sound, refused-fault}
 
 -- the verdict v that the answer r states
 module _ (v : Verdict) (r : Answer) (before : ℕ) (e : stated r ≡ v) where
@@ -164,3 +170,41 @@ module _ (file : List ℕ) (counted : ℕ) (lent : Counts) (before : ℕ) where
             answers = subst (λ (w : Verdict). States w before 0 before) (sym v) (record { number = refl; place = refl });
             tells = kept-new _ _ _ _ v (cc);
           }
+
+-- ---- floats
+module _ (numbers : List ℤ) (point : ℕ) (r : FloatPoint) (c : Pointed numbers point r) (old : List Float) (pairs before : ℕ) where
+  stated-sound : pointVerdict numbers point ≡ sound → States (pointVerdict numbers point) before 0 before
+  stated-sound e = subst (λ (w : Verdict). States w before 0 before) (sym e) (record { number = refl; place = refl })
+
+  pub floats-near : (p : Floats) → r ≡ Near p → FloatsCall numbers point old pairs before 0 before (put 0 p old) 0
+  floats-near p e =
+      let k : Pointed numbers point (Near p) = subst (Pointed numbers point) e c in
+      record {
+        answers = stated-sound (near-sound numbers point p k);
+        point-is = Near p;
+        pointed = k;
+        holds = refl;
+        tells = refl;
+      }
+
+  pub floats-far : (p q : Floats) → r ≡ Far p q → FloatsCall numbers point old pairs before 0 before (put 3 q (put 0 p old)) 1
+  floats-far p q e =
+      let k : Pointed numbers point (Far p q) = subst (Pointed numbers point) e c in
+      record {
+        answers = stated-sound (far-sound numbers point p q k);
+        point-is = Far p q;
+        pointed = k;
+        holds = refl;
+        tells = refl;
+      }
+
+  pub floats-refused : (n at m q : ℕ) → r ≡ NoPoint n at → States (fault n at) before m q → FloatsCall numbers point old pairs before m q old pairs
+  floats-refused n at m q e s =
+      let k : Pointed numbers point (NoPoint n at) = subst (Pointed numbers point) e c in
+      record {
+        answers = subst (λ (w : Verdict). States w before m q) (sym (refused-fault numbers point n at k)) s;
+        point-is = NoPoint n at;
+        pointed = k;
+        holds = refl;
+        tells = refl;
+      }

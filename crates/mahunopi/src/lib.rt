@@ -8,8 +8,9 @@ ghost use lib.ListN.{length};
 ghost use Rattle.paper.specs.Mesh.{meshOf, mostSides};
 ghost use Rattle.paper.specs.Faults.{stated};
 ghost use Rattle.paper.specs.File.{fileOf, begins};
-ghost use Rattle.paper.specs.CFace.{States, LinkCall, BuildCall, three, DecodeCall, countsOf, SurveyCall};
+ghost use Rattle.paper.specs.CFace.{States, LinkCall, BuildCall, three, DecodeCall, countsOf, SurveyCall, FloatsCall};
 use paper::Answer;
+use paper::FloatPoint;
 use paper::NUMBERS;
 
 // What C is told of an answer: 0 for done, else the refusal's number, and then its place.
@@ -116,6 +117,40 @@ pub extern "C" fn mahunopi_survey(
     let by_sides = counts.sided;
     fill(&by_sides, sided);
     0
+}
+
+// One control point in floats. A near point fills the first three floats, a far one all six.
+#[no_mangle]
+pub extern "C" fn mahunopi_floats(
+    numbers: &[i32],
+    point: usize,
+    floats: &mut [f32; 6],
+    pairs: &mut u32,
+    place: &mut u64,
+) -> u32
+    ensures { λ r. ⌜ FloatsCall (now (numbers .entry)) point (now (floats .entry)) (now (pairs .entry)) (now (place .entry)) r (now (place .exit)) (now (floats .exit)) (now (pairs .exit)) ⌝ }
+{
+    let a = floats::point(numbers, point);
+    match a {
+        FloatPoint::Near(p) => {
+            floats[0] = p.x;
+            floats[1] = p.y;
+            floats[2] = p.z;
+            *pairs = 0;
+            0
+        }
+        FloatPoint::Far(p, q) => {
+            floats[0] = p.x;
+            floats[1] = p.y;
+            floats[2] = p.z;
+            floats[3] = q.x;
+            floats[4] = q.y;
+            floats[5] = q.z;
+            *pairs = 1;
+            0
+        }
+        FloatPoint::Refused(number, at) => { tell(Answer::Refused(number, at), place) }
+    }
 }
 
 // Whether one of two lists has no room for every m.

@@ -6,15 +6,20 @@ use mathlib.Core.Bool.{_||_}
 use mathlib.Core.List.{List}
 use Prim.Native.Nat.{ℕ, _+_}
 use lib.Dec.{ltb}
-use lib.ListN.{length}
+use lib.ListN.{length, set}
 use lib.IntN.{ℤ}
+use lib.Ieee.{Float}
 use Rattle.paper.specs.Mesh.{Mesh, meshOf, mostSides, vertexCount, faceCount, cornerCount}
 use Rattle.paper.specs.Links.{linkTable}
 use Rattle.paper.specs.Faults.{Verdict, sound, fault, _orElse_, single, linkVerdict, kept}
 use Rattle.paper.specs.Counts.{verticesWith, facesWith, forEach}
 use Rattle.paper.specs.File.{fileMesh, fileVerdict, begins, noRoom, decodeVerdict}
 use Rattle.paper.specs.Calls.{nets, buildVerdict}
+use Rattle.paper.specs.Floats.{pointVerdict, Pointed}
 use Rattle.paper.specs.declared.Counts.{Counts}
+use Rattle.paper.specs.declared.Floats.{Floats}
+use Rattle.paper.specs.declared.FloatPoint.{FloatPoint}
+use Rattle.paper.specs.declared.FloatPoint.the-variants.{Near, Far, Refused}
 
 -- 0 is done, any other number is the refusal's
 abbrev pub numberOf : Verdict → ℕ
@@ -82,3 +87,27 @@ surveyVerdict file counted lent =
 pub record SurveyCall (file : List ℕ) (counted : ℕ) (lent : Counts) (before r after : ℕ) (told : Counts) : Type 0 where
   pub answers : States (surveyVerdict file counted lent) before r after
   pub tells : told ≡ kept (surveyVerdict file counted lent) (countsInto (fileMesh file) lent) lent
+
+-- one control point in floats: what the six floats hold, and what stands behind `pairs`
+-- a point's floats in the three places from `at` on
+abbrev pub put : ℕ → Floats → List Float → List Float
+put at p old = set (set (set old at (p .x)) (at + 1) (p .y)) (at + 2) (p .z)
+
+-- near: three floats and 0, the other three left alone; far: the first floats, then the second ones, and 1
+abbrev pub laid : FloatPoint → List Float → List Float
+laid (Near p) old = put 0 p old
+laid (Far p q) old = put 3 q (put 0 p old)
+laid (Refused number place) old = old
+
+abbrev pub pairsOf : FloatPoint → ℕ → ℕ
+pairsOf (Near p) old = 0
+pairsOf (Far p q) old = 1
+pairsOf (Refused number place) old = old
+
+pub record FloatsCall (numbers : List ℤ) (point : ℕ) (old : List Float) (pairs before r after : ℕ) (floats : List Float) (told : ℕ) : Type 0 where
+  pub answers : States (pointVerdict numbers point) before r after
+  -- the point as it is asked, to the bit
+  pub point-is : FloatPoint
+  pub pointed : Pointed numbers point point-is
+  pub holds : floats ≡ laid point-is old
+  pub tells : told ≡ pairsOf point-is pairs

@@ -3,19 +3,21 @@
 use mathlib.Core.Path.{_≡_}
 use mathlib.Core.List.{List}
 use Prim.Native.Nat.{ℕ, _+_, _*_, _≤_, _<_}
-use lib.ListN.{length}
+use lib.ListN.{length, take, drop}
 use lib.IntN.{ℤ}
 use Rattle.paper.specs.Mesh.{Mesh, cornerCount, leastSides, mostSides}
 use Rattle.paper.specs.Links.{linkTable}
-use Rattle.paper.specs.Faults.{Accepted}
+use Rattle.paper.specs.Faults.{sound, Accepted}
 use Rattle.paper.specs.Cosines.{RowRules}
 use Rattle.paper.specs.Net.{Side}
 use Rattle.paper.specs.Calls.{perCorner, nets, Built}
+use Rattle.paper.specs.Floats.{netVerdict, difference, first, second, axes, Pointed, sums, FarPair}
 use Rattle.paper.specs.CFace.{BuildCall}
 use Rattle.paper.specs.Borders.{Output, Wrote, outputOf, Borders, Smooth}
 use Rattle.paper.specs.Manifold.{Manifold}
 use Rattle.paper.specs.Examples.{AllGive, examples}
 use Rattle.paper.specs.declared.Answer.the-variants.{Done}
+use Rattle.paper.specs.declared.FloatPoint.{FloatPoint}
 
 -- ---- "Numbers used": the four rules of the cosine table, of every row
 abbrev pub TableRules : Type 0
@@ -51,6 +53,26 @@ CallsFromC =
 abbrev pub ExamplesAgree : Type 0
 ExamplesAgree = AllGive examples
 
+-- ---- L1: a far pair is what 02 says of it
+abbrev pub FarPairs : Type 0
+FarPairs = (d : ℤ) → FarPair d (first d) (second d)
+
+-- for every list that passes 18 and 19 and every point, the whole-number sum of what comes back is the difference, near or far
+abbrev pub FloatSums : Type 0
+FloatSums =
+    (numbers : List ℤ) (point : ℕ) (r : FloatPoint) → Pointed numbers point r → netVerdict numbers ≡ sound → point ≤ 40
+    → sums r ≡ axes (difference numbers point 0) (difference numbers point 1) (difference numbers point 2)
+
+-- there is one answer, to the bit
+abbrev pub OneAnswer : Type 0
+OneAnswer = (numbers : List ℤ) (point : ℕ) (r s : FloatPoint) → Pointed numbers point r → Pointed numbers point s → r ≡ s
+
+-- every net that building writes passes 18 and 19
+abbrev pub NetsPass : Type 0
+NetsPass =
+    (M : Mesh) (links : List ℕ) (first count : ℕ) (old out : List ℤ) → Built M links first count old Done out
+    → (k : ℕ) → k < count → netVerdict (take perCorner (drop (perCorner * k) out)) ≡ sound
+
 -- ---- all of them
 pub record Claims : Type 0 where
   pub rules : TableRules
@@ -60,3 +82,7 @@ pub record Claims : Type 0 where
   pub every-border : EveryBorder
   pub from-c : CallsFromC
   pub examples : ExamplesAgree
+  pub far-pairs : FarPairs
+  pub float-sums : FloatSums
+  pub one-answer : OneAnswer
+  pub nets-pass : NetsPass

@@ -6,7 +6,9 @@
 --     Counts, File   "The file": what `inspect` counts; format, 1 to 3, `survey` and `decode`
 --     Numbers, Cosines   "Numbers used": rounding and the reading `rounded`; the cosine table
 --     Refined, Face, Net   "From corner to 41 points"
---     Calls, CFace   linking and building as calls, 14 to 17; the C face
+--     Calls      linking and building as calls, 14 to 17
+--     Floats     L1: a control point as floats, 18 to 20
+--     CFace      the C face
 --     Borders    "The four conditions across a side"
 --     Manifold   what an accepted mesh is
 --     Examples   "Checked examples"
@@ -24,6 +26,7 @@ pub mod Refined
 pub mod Face
 pub mod Net
 pub mod Calls
+pub mod Floats
 pub mod CFace
 pub mod Borders
 pub mod Manifold

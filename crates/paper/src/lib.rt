@@ -53,3 +53,18 @@ pub struct Decoded {
     pub sides: usize,
     pub corners: usize,
 }
+
+// One point's three floats, which travel together.
+pub struct Floats {
+    pub x: f32,
+    pub y: f32,
+    pub z: f32,
+}
+
+// What `floats::point` answers: a near point; a far one, with the first floats of its pairs and the second ones; or refused with 02's
+// number and place.
+pub enum FloatPoint {
+    Near(Floats),
+    Far(Floats, Floats),
+    Refused(u8, usize),
+}

@@ -3,7 +3,7 @@
 //! when the library is done, the lengths after a refusal.
 
 use mahunopi::raw;
-use reference::{Counts, Lengths, Lists, Refusal, LENT_TOO_SHORT, MOST};
+use reference::{Counts, FloatPoint, Lengths, Lists, Refusal, LENT_TOO_SHORT, MOST};
 use shapes::{Random, Tables};
 
 /// What `place` and the lengths hold before a call.
@@ -187,6 +187,36 @@ fn check_file_answer<T>(bytes: &[u8], length: u64, number: u32, place: u64, resu
     } else {
         assert_eq!(answer(number, place), result.as_ref().map(|_| ()).map_err(|&refusal| refusal), "another answer");
     }
+}
+
+/// One control point in floats, with lent floats and a lent `pairs` of any contents; every bit is compared.
+pub fn floats(numbers: &[i32], point: usize, random: &mut Random) -> Result<FloatPoint, Refusal> {
+    // no NaN: its bits need not last
+    let mut lent = [0; 6].map(|_: u32| f32::from_bits(random.bits() as u32 & 0xbfff_ffff));
+    let lent_pairs = random.bits() as u32;
+    let mut bits = lent.map(f32::to_bits);
+    let mut pairs = lent_pairs;
+    let mut place = UNTOUCHED;
+    // SAFETY: the pointer goes with the length of its list
+    let number =
+        unsafe { raw::mahunopi_floats(numbers.as_ptr(), numbers.len(), point, &mut lent, &mut pairs, &mut place) };
+    let result = reference::floats(numbers, point);
+    assert_eq!(answer(number, place), result.map(|_| ()), "point {point} is answered otherwise");
+    let asked = match result {
+        Ok(FloatPoint::Near(near)) => {
+            bits[..3].copy_from_slice(&near.map(f32::to_bits));
+            0
+        }
+        Ok(FloatPoint::Far(first, second)) => {
+            bits[..3].copy_from_slice(&first.map(f32::to_bits));
+            bits[3..].copy_from_slice(&second.map(f32::to_bits));
+            1
+        }
+        Err(_) => lent_pairs,
+    };
+    assert_eq!(pairs, asked, "point {point} has other pairs");
+    same("floats", &lent.map(f32::to_bits), &bits);
+    result
 }
 
 /// Runs a check for each case number, and says which one failed. MAHUNOPI_CASES in the environment multiplies the

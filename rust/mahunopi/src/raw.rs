@@ -59,4 +59,13 @@ extern "C" {
         faces_with_space: usize,
         place: *mut u64,
     ) -> u32;
+    /// One control point in floats.
+    pub fn mahunopi_floats(
+        numbers: *const i32,
+        number_count: usize,
+        point: usize,
+        floats: *mut [f32; 6],
+        pairs: *mut u32,
+        place: *mut u64,
+    ) -> u32;
 }

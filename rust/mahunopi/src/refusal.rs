@@ -6,7 +6,8 @@ use std::fmt;
 macro_rules! faults {
     ($($name:ident = $number:literal, $words:literal, $place:expr;)*) => {
         /// The faults that an input is turned down for, each with its number. A file is checked by 1 to 13, linking by
-        /// 4 to 14, building by 4 to 17, each over the whole input before the next.
+        /// 4 to 14, building by 4 to 17, a control point in floats by 18 to 20, each over the whole input before the
+        /// next.
         #[derive(Clone, Copy, Debug, PartialEq, Eq, PartialOrd, Ord, Hash)]
         #[non_exhaustive]
         pub enum Fault {
@@ -52,6 +53,9 @@ faults! {
     BadLink = 15, "the link table differs from what linking writes", Some("the corner");
     BadRange = 16, "the count asked is 0, or the first corner plus the count exceeds the corner count", Some("the first corner");
     BadOutputLength = 17, "the output's length is not 123 times the count", Some("its length");
+    BadNetLength = 18, "the list of a corner's numbers is not 123 long", Some("its length");
+    BadNumber = 19, "a number in the list is outside -2^27 to 2^27", Some("its position in the list");
+    NoSuchPoint = 20, "the point number is above 40", Some("that number");
     LentTooShort = 255, "a lent list is too short for what the file holds", Some("the length it needs");
 }
 

@@ -36,7 +36,7 @@ fn file_of(mesh: &Mesh) -> Vec<u8> {
 #[test]
 fn every_fault_has_a_number_and_one_line_of_words() {
     let numbers: Vec<u32> = Fault::ALL.iter().map(|fault| fault.number()).collect();
-    assert_eq!(numbers, (1..=17).chain([255]).collect::<Vec<u32>>());
+    assert_eq!(numbers, (1..=20).chain([255]).collect::<Vec<u32>>());
     for &fault in Fault::ALL {
         assert_eq!(Fault::of_number(fault.number()), Some(fault));
         assert!(!fault.words().is_empty() && !fault.words().contains('\n'));
@@ -45,7 +45,7 @@ fn every_fault_has_a_number_and_one_line_of_words() {
         assert_eq!(line.ends_with("is 5)"), fault.place().is_some(), "{line}");
         assert_eq!(fault.place().is_some(), fault.number() > 4, "{line}");
     }
-    for number in [0, 18, 254, 256, u32::MAX] {
+    for number in [0, 21, 254, 256, u32::MAX] {
         assert_eq!(Fault::of_number(number), None);
     }
 }

@@ -1,16 +1,18 @@
-//! An independent implementation of document 01, in plain Rust: the file, the check of a mesh, linking, building and
-//! the four conditions across a side. It is written from the papers alone and shares nothing with the proved library,
-//! so that the two can be compared; nobody has proved it.
+//! An independent implementation of document 01 and of L1, in plain Rust: the file, the check of a mesh, linking,
+//! building, the four conditions across a side, a control point in floats. It is written from the papers alone and
+//! shares nothing with the proved library, so that the two can be compared; nobody has proved it.
 
 mod check;
 pub mod conditions;
 mod cosines;
 mod file;
+mod floats;
 mod surface;
 
 pub use check::{check, link, links_of};
 pub use cosines::cosine;
 pub use file::{decode, encode, inspect, patches, summary, Counts, Lengths, LENT_TOO_SHORT};
+pub use floats::{floats, FloatPoint};
 pub use surface::{build, nets, round, Net, Point, NUMBERS_PER_CORNER};
 
 /// The most vertices, faces and corners that a mesh may have.

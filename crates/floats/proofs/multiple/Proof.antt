@@ -1,0 +1,21 @@
+-- `floats::multiple` meets its contract: a shift by 12 is the floor by 4,096.
+-- Assumes nothing.
+use borrow.Author.Needs.{needs}
+use Rattle.floats.proofs.Laws.{multiple-fits, multiple-is}
+use Rattle.floats.proofs.multiple.Statement.{statement}
+use Rattle.floats.proofs.multiple.Tie as tie
+
+cast-result : tie.Need-cast-result
+cast-result c = search needs
+
+shr-result : tie.Need-shr-result
+shr-result c = search needs
+
+mul-result : tie.Need-mul-result
+mul-result c = multiple-fits (c .args .d) (c .pre)
+
+returns : tie.Need-returns
+returns c = multiple-is (c .args .d) (c .pre)
+
+pub multiple-spec : {M : Type 1} → statement M
+multiple-spec = tie.close (tie.spec cast-result shr-result mul-result returns)
