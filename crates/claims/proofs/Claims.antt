@@ -6,6 +6,7 @@ use Rattle.mesh.proofs.Theorems.{manifold}
 use Rattle.borders.proofs.Ranges.{ranges, every-border}
 use Rattle.borders.proofs.Theorem.{demand3}
 use Rattle.borders.proofs.FromC.{from-c}
+use Rattle.mirror.proofs.Theorem.{mirrors}
 use Rattle.examples.proofs.Claim.{examples}
 use Rattle.floats.proofs.Theorems.{far-pairs, float-sums, one-answer}
 use Rattle.floats.proofs.Nets.{nets-pass}
@@ -18,6 +19,7 @@ claims = record {
   demand3 = demand3;
   every-border = every-border;
   from-c = from-c;
+  mirrors = mirrors;
   examples = examples;
   far-pairs = far-pairs;
   float-sums = float-sums;

@@ -5,7 +5,7 @@ use mathlib.Core.Bool.{Bool}
 use mathlib.Core.List.{[], _∷_}
 use Prim.Native.Nat.{ℕ, _*_}
 use lib.Dec.{leb, T as Holds}
-use lib.IntN.{ℤ, pos, negsuc, natAbs}
+use lib.IntN.{ℤ, pos, natAbs}
 use Rattle.paper.specs.Scan.{firstFrom, firstBelow, someBelow, countBelow, iterate, valuesFrom}
 use Rattle.paper.specs.Mesh.{Mesh, meshOf}
 use Rattle.paper.specs.Corners.{sumOf, faceOf, startOf, firstOf, sidesOf, next, previous}
@@ -24,8 +24,8 @@ use Rattle.integers.proofs.Below.{both}
 pyramid : Mesh
 pyramid =
     meshOf
-    (negsuc 10 ∷ pos 0 ∷ pos 0 ∷ pos 23 ∷ pos 0 ∷ pos 0 ∷ negsuc 22 ∷ pos 0 ∷ pos 0
-    ∷ negsuc 4 ∷ pos 0 ∷ pos 0 ∷ negsuc 37 ∷ pos 0 ∷ pos 0 ∷ pos 33 ∷ pos 0 ∷ pos 0 ∷ [])
+    (pos 39 ∷ pos 0 ∷ pos 0 ∷ pos 73 ∷ pos 0 ∷ pos 0 ∷ pos 27 ∷ pos 0 ∷ pos 0
+    ∷ pos 45 ∷ pos 0 ∷ pos 0 ∷ pos 12 ∷ pos 0 ∷ pos 0 ∷ pos 83 ∷ pos 0 ∷ pos 0 ∷ [])
     (5 ∷ 3 ∷ 3 ∷ 3 ∷ 3 ∷ 3 ∷ [])
     (0 ∷ 1 ∷ 2 ∷ 3 ∷ 4 ∷ 1 ∷ 0 ∷ 5 ∷ 2 ∷ 1 ∷ 5 ∷ 3 ∷ 2 ∷ 5 ∷ 4 ∷ 3 ∷ 5 ∷ 0 ∷ 4 ∷ 5 ∷ [])
 

@@ -1,5 +1,6 @@
 // The formulas of a quad-net over plain numbers, each with its one rounding: face points of four-sided and three-sided refined faces,
-// inner points, points of the outer rows and of the a rows, and the middles. One function serves four sides and three axes.
+// inner points, points of the outer rows and of the a rows, and the middles. One function serves four sides and three axes. Where the divisor is
+// 2h and the sum is small, r is a product with a little more than 2^30 / h.
 use numbers::rounding;
 use paper::UNIT;
 ghost use mathlib.Core.Path.{_≡_};
@@ -19,7 +20,7 @@ pub fn mean(a: i64, b: i64, c: i64, d: i64) -> i64
     requires { ⌜ RefinedSize a × RefinedSize b × RefinedSize c × RefinedSize d ⌝ }
     ensures { λ r. ⌜ (r ≡ round (a +ℤ b +ℤ c +ℤ d) (pos 4)) × RefinedSize r ⌝ }
 {
-    rounding::round_shift(a + b + c + d, 2)
+    rounding::round_product(a + b + c + d, 2, 536870915)
 }
 
 // The point of a four-sided refined face towards its side from a to b: the weights 5/12, 5/12, 1/12, 1/12.
@@ -27,7 +28,7 @@ pub fn toward(a: i64, b: i64, c: i64, d: i64) -> i64
     requires { ⌜ RefinedSize a × RefinedSize b × RefinedSize c × RefinedSize d ⌝ }
     ensures { λ r. ⌜ (r ≡ round (pos 5 *ℤ a +ℤ pos 5 *ℤ b +ℤ c +ℤ d) (pos 12)) × RefinedSize r ⌝ }
 {
-    rounding::round_div(5 * a + 5 * b + c + d, 12)
+    rounding::round_product(5 * a + 5 * b + c + d, 6, 178956971)
 }
 
 // The centre of a three-sided refined face.
@@ -51,7 +52,7 @@ pub fn half(a: i64, b: i64) -> i64
     requires { ⌜ WrittenSize a × WrittenSize b ⌝ }
     ensures { λ r. ⌜ (r ≡ round (a +ℤ b) (pos 2)) × WrittenSize r ⌝ }
 {
-    rounding::round_shift(a + b, 1)
+    rounding::round_product(a + b, 1, 1073741827)
 }
 
 // The second point of an outer row from its head, and the fourth from its tail.
@@ -59,7 +60,7 @@ pub fn quarter(e: i64, x: i64) -> i64
     requires { ⌜ ValueSize e × ValueSize x ⌝ }
     ensures { λ r. ⌜ (r ≡ round (e +ℤ pos 3 *ℤ x) (pos 4)) × WrittenSize r ⌝ }
 {
-    rounding::round_shift(e + 3 * x, 2)
+    rounding::round_product(e + 3 * x, 2, 536870915)
 }
 
 // The inner point N of a side; v is the refined point, w the neighbour's.
@@ -67,7 +68,7 @@ pub fn inner(x: i64, y: i64, v: i64, w: i64) -> i64
     requires { ⌜ FaceSize x × FaceSize y × RefinedSize v × RefinedSize w ⌝ }
     ensures { λ r. ⌜ (r ≡ round (pos 3 *ℤ x +ℤ pos 3 *ℤ y +ℤ v -ℤ w) (pos 6)) × ValueSize r ⌝ }
 {
-    rounding::round_div(3 * x + 3 * y + v - w, 6)
+    rounding::round_product(3 * x + 3 * y + v - w, 3, 357913942)
 }
 
 // The second point of an a row; s is X of the other side at the head.

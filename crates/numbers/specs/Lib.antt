@@ -1,3 +1,4 @@
 pub mod Lift
 pub mod Near
+pub mod Product
 pub mod Stored

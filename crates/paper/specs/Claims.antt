@@ -14,6 +14,7 @@ use Rattle.paper.specs.Calls.{perCorner, nets, Built}
 use Rattle.paper.specs.Floats.{netVerdict, difference, first, second, axes, Pointed, sums, FarPair}
 use Rattle.paper.specs.CFace.{BuildCall}
 use Rattle.paper.specs.Borders.{Output, Wrote, outputOf, Borders, Smooth}
+use Rattle.paper.specs.Mirror.{Mirror}
 use Rattle.paper.specs.Manifold.{Manifold}
 use Rattle.paper.specs.Examples.{AllGive, examples}
 use Rattle.paper.specs.declared.Answer.the-variants.{Done}
@@ -49,6 +50,10 @@ CallsFromC =
     (M : Mesh) (links : List ℕ) (first count : ℕ) (old : List ℤ) (before after : ℕ) (out : List ℤ)
     → BuildCall M links first count old before 0 after out → Built M links first count old Done out
 
+-- ---- mirrored meshes, on each axis and for every mesh
+abbrev pub Mirrors : Type 0
+Mirrors = (axis : ℕ) (M : Mesh) → Mirror axis M
+
 -- ---- "Checked examples", those marked (p)
 abbrev pub ExamplesAgree : Type 0
 ExamplesAgree = AllGive examples
@@ -81,6 +86,7 @@ pub record Claims : Type 0 where
   pub demand3 : Demand3
   pub every-border : EveryBorder
   pub from-c : CallsFromC
+  pub mirrors : Mirrors
   pub examples : ExamplesAgree
   pub far-pairs : FarPairs
   pub float-sums : FloatSums

@@ -73,7 +73,7 @@ examples =
     ∷ (take 15 (nets cube 0 1) gives xyz 512 512 512 ++ xyz 544 448 544 ++ xyz 566 342 566 ++ xyz 576 192 576 ++ xyz 576 0 576)
     ∷ (take 6 (drop 75 (nets cube 0 1)) gives xyz 496 496 544 ++ xyz 513 417 593)
     -- rounding, and row 6 of the cosine table
-    ∷ (round (pos 1003) (pos 2) ∷ round (negsuc 1002) (pos 2) ∷ [] gives pos 502 ∷ negsuc 500 ∷ [])
+    ∷ (round (pos 1003) (pos 2) ∷ round (negsuc 1002) (pos 2) ∷ [] gives pos 502 ∷ negsuc 501 ∷ [])
     ∷ (cosine 6 0 ∷ cosine 6 1 ∷ cosine 6 2 ∷ cosine 6 3 ∷ cosine 6 4 ∷ cosine 6 5 ∷ []
     gives pos (2 ^ 30) ∷ pos (2 ^ 29) ∷ negℤ (pos (2 ^ 29)) ∷ negℤ (pos (2 ^ 30)) ∷ negℤ (pos (2 ^ 29)) ∷ pos (2 ^ 29) ∷ [])
     -- refused meshes

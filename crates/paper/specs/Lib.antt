@@ -10,6 +10,7 @@
 --     Floats     L1: a control point as floats, 18 to 20
 --     CFace      the C face
 --     Borders    "The four conditions across a side"
+--     Mirror     a mesh with one axis negated
 --     Manifold   what an accepted mesh is
 --     Examples   "Checked examples"
 --     Claims     the theorems
@@ -29,6 +30,7 @@ pub mod Calls
 pub mod Floats
 pub mod CFace
 pub mod Borders
+pub mod Mirror
 pub mod Manifold
 pub mod Examples
 pub mod Claims

@@ -2,16 +2,18 @@
 -- numbers; its reading `rounded`, whole numbers of ticks where every division rounds, is what building writes.
 -- Assumes nothing.
 use Prim.Native.Nat.{_/_, ℕ, zero, suc}
-use lib.IntN.{ℤ, pos, negsuc, natAbs, _+ℤ_, _-ℤ_, _*ℤ_}
+use lib.IntN.{ℤ, pos, negsuc, negℤ, natAbs, _+ℤ_, _-ℤ_, _*ℤ_}
 
 -- the largest whole number that is not above z / d, for d > 0
 unfoldable pub floor : ℤ → ℤ → ℤ
 floor (pos a) d = pos (a / natAbs d)
 floor (negsuc a) d = negsuc (a / natAbs d)
 
--- r(n / d), for d > 0: n / d + 1/2, rounded down. It computes on literals
+-- r(n / d), for d > 0: the nearest whole number, halves away from zero. From zero on it is n / d + 1/2, rounded down; below zero that of the
+-- size, negated. It computes on literals
 unfoldable pub round : ℤ → ℤ → ℤ
-round n d = floor (pos 2 *ℤ n +ℤ d) (pos 2 *ℤ d)
+round (pos a) d = floor (pos 2 *ℤ pos a +ℤ d) (pos 2 *ℤ d)
+round (negsuc a) d = negℤ (floor (pos 2 *ℤ pos (suc a) +ℤ d) (pos 2 *ℤ d))
 
 -- f 0 + .. + f (n - 1), for any sum and what it starts from
 unfoldable pub sumBy : {A : Type 0} → (A → A → A) → A → (ℕ → A) → ℕ → A

@@ -12,10 +12,12 @@ const TICKS: i64 = 256;
 /// 25 b points and 16 a points of three numbers each.
 pub const NUMBERS_PER_CORNER: usize = 3 * (25 + 16);
 
-/// The nearest whole number to a fraction with a positive denominator, halves towards plus infinity.
+/// The nearest whole number to a fraction with a positive denominator, halves away from zero: half a denominator is
+/// added to the numerator's size, and the division cuts towards zero.
 #[inline(always)]
 pub fn round(numerator: i64, denominator: i64) -> i64 {
-    (numerator + denominator / 2).div_euclid(denominator)
+    let half = denominator / 2;
+    (numerator + if numerator < 0 { -half } else { half }) / denominator
 }
 
 /// `round` of a formula over the three coordinates.

@@ -44,7 +44,7 @@ fn the_cube() {
 #[test]
 fn rounding_and_row_six() {
     assert_eq!(round(1003, 2), 502);
-    assert_eq!(round(-1003, 2), -501);
+    assert_eq!(round(-1003, 2), -502);
     let half = 1 << 29;
     let row = [2 * half, half, -half, -2 * half, -half, half];
     assert_eq!([0, 1, 2, 3, 4, 5].map(|k| cosine(6, k)), row);

@@ -1,10 +1,11 @@
 -- `formulas::quarter` meets its contract: the sum fits, and a quarter of it is no larger than the larger of the two.
 -- Assumes nothing.
-use Prim.Native.Nat.{_^_, _≤_}
+use Prim.Native.Nat.{_-_, _^_, _≤_}
 use native.Mathlib.Omega.{arith}
 use borrow.Author.Needs.{needs}
 use lib.Dec.{lit≤}
-use lib.IntN.{ℤ, pos, natAbs, _+ℤ_, _*ℤ_}
+use lib.IntN.{ℤ, pos, natAbs, _+ℤ_, _-ℤ_, _*ℤ_}
+use lib.Signed.{ltZ-yes}
 use mir.Syntax.{w64}
 use mir.Val.{SFits}
 use mir.Facts.{toZ-ofZ}
@@ -24,7 +25,8 @@ Given e x = ValueSize e × ValueSize x
 abbrev Fine : ℤ → ℤ → Type 0
 Fine e x =
     SFits w64 (pos 3 *ℤ x) × SFits w64 (e +ℤ pos 3 *ℤ x)
-    × (natAbs (total e x) ≤ 2 ^ 60)
+    × (natAbs (total e x) ≤ 2 ^ 28)
+    × (natAbs (total e x *ℤ (pos 2 *ℤ pos 536870915 -ℤ pos (2 ^ 30))) ≤ 2 ^ 30 - 1)
 
 fits : (e x : ℤ) → Given e x → Fine e x
 fits = over 2 _ λ ρ. simp (poly, ρ) (omega arith)
@@ -32,24 +34,24 @@ fits = over 2 _ λ ρ. simp (poly, ρ) (omega arith)
 facts : (s : tie.Start) → Fine (s .args .e) (s .args .x)
 facts s = fits (s .args .e) (s .args .x) (s .pre)
 
-mul-round-shift : tie.Need-mul-round-shift
-mul-round-shift c = search (needs, facts c)
+mul-round-product : tie.Need-mul-round-product
+mul-round-product c = search (needs, facts c)
 
-add-round-shift : tie.Need-add-round-shift
-add-round-shift c = search (needs, facts c)
+add-round-product : tie.Need-add-round-product
+add-round-product c = search (needs, facts c)
 
-round-shift-requires : tie.Need-round-shift-requires
-round-shift-requires c κs = let k = facts c in simp (toZ-ofZ, c .fits .e, c .fits .x, k .0, k .1) (lit≤ tt, lit≤ tt, k .2)
+round-product-requires : tie.Need-round-product-requires
+round-product-requires c κs = let k = facts c in simp (toZ-ofZ, c .fits .e, c .fits .x, k .0, k .1) (ltZ-yes tt, ltZ-yes tt, lit≤ tt, k .2, k .3)
 
 returns : tie.Need-returns
 returns c =
     let s = c .before in
     let k = facts s in
-    let q = c .round-shift .result in
+    let q = c .round-product .result in
     rounded-is (total (s .args .e) (s .args .x)) (pos 4) q WrittenSize tt
     (quarter-written (s .args .e) (s .args .x) q (s .pre))
     (search needs)
-    (simp (toZ-ofZ, s .fits .e, s .fits .x, k .0, k .1) at (c .round-shift .ensures))
+    (simp (toZ-ofZ, s .fits .e, s .fits .x, k .0, k .1) at (c .round-product .ensures))
 
 pub quarter-spec : {M : Type 1} → statement M
-quarter-spec = tie.close (tie.spec mul-round-shift add-round-shift round-shift-requires returns)
+quarter-spec = tie.close (tie.spec mul-round-product add-round-product round-product-requires returns)

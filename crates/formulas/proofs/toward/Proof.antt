@@ -1,9 +1,11 @@
 -- `formulas::toward` meets its contract: the sums fit, and the weights sum to twelve.
 -- Assumes nothing.
-use Prim.Native.Nat.{_^_, _≤_}
+use Prim.Native.Nat.{_-_, _^_, _≤_}
 use native.Mathlib.Omega.{arith}
 use borrow.Author.Needs.{needs}
-use lib.IntN.{ℤ, pos, natAbs, _+ℤ_, _*ℤ_}
+use lib.Dec.{lit≤}
+use lib.IntN.{ℤ, pos, natAbs, _+ℤ_, _-ℤ_, _*ℤ_}
+use lib.Signed.{ltZ-yes}
 use mir.Syntax.{w64}
 use mir.Val.{SFits}
 use mir.Facts.{toZ-ofZ}
@@ -24,7 +26,8 @@ abbrev Fine : ℤ → ℤ → ℤ → ℤ → Type 0
 Fine a b c d =
     SFits w64 (pos 5 *ℤ a) × SFits w64 (pos 5 *ℤ b) × SFits w64 (pos 5 *ℤ a +ℤ pos 5 *ℤ b) × SFits w64 (pos 5 *ℤ a +ℤ pos 5 *ℤ b +ℤ c) × SFits w64
     (pos 5 *ℤ a +ℤ pos 5 *ℤ b +ℤ c +ℤ d)
-    × (natAbs (total a b c d) ≤ 2 ^ 60)
+    × (natAbs (total a b c d) ≤ 2 ^ 28)
+    × (natAbs (total a b c d *ℤ (pos 6 *ℤ pos 178956971 -ℤ pos (2 ^ 30))) ≤ 2 ^ 30 - 1)
 
 fits : (a b c d : ℤ) → Given a b c d → Fine a b c d
 fits = over 4 _ λ ρ. simp (poly, ρ) (omega arith)
@@ -32,33 +35,38 @@ fits = over 4 _ λ ρ. simp (poly, ρ) (omega arith)
 facts : (s : tie.Start) → Fine (s .args .a) (s .args .b) (s .args .c) (s .args .d)
 facts s = fits (s .args .a) (s .args .b) (s .args .c) (s .args .d) (s .pre)
 
-mul-round-div : tie.Need-mul-round-div
-mul-round-div c = search (needs, facts c)
+mul-round-product : tie.Need-mul-round-product
+mul-round-product c = search (needs, facts c)
 
-mul-round-div-2 : tie.Need-mul-round-div-2
-mul-round-div-2 c = search (needs, facts c)
+mul-round-product-2 : tie.Need-mul-round-product-2
+mul-round-product-2 c = search (needs, facts c)
 
-add-round-div : tie.Need-add-round-div
-add-round-div c = search (needs, facts c)
+add-round-product : tie.Need-add-round-product
+add-round-product c = search (needs, facts c)
 
-add-round-div-2 : tie.Need-add-round-div-2
-add-round-div-2 c = search (needs, facts c)
+add-round-product-2 : tie.Need-add-round-product-2
+add-round-product-2 c = search (needs, facts c)
 
-add-round-div-3 : tie.Need-add-round-div-3
-add-round-div-3 c = search (needs, facts c)
+add-round-product-3 : tie.Need-add-round-product-3
+add-round-product-3 c = search (needs, facts c)
 
-round-div-requires : tie.Need-round-div-requires
-round-div-requires c κs = search (needs, facts c)
+round-product-requires : tie.Need-round-product-requires
+round-product-requires c κs =
+    let k = facts c in
+    simp (toZ-ofZ, c .fits .a, c .fits .b, c .fits .c, c .fits .d, k .0, k .1, k .2, k .3, k .4)
+    (ltZ-yes tt, ltZ-yes tt, lit≤ tt, k .5, k .6)
 
 returns : tie.Need-returns
 returns c =
     let s = c .before in
     let k = facts s in
-    let q = c .round-div .result in
+    let q = c .round-product .result in
     rounded-is (total (s .args .a) (s .args .b) (s .args .c) (s .args .d)) (pos 12) q RefinedSize tt
     (toward-refined (s .args .a) (s .args .b) (s .args .c) (s .args .d) q (s .pre))
     (search needs)
-    (simp (toZ-ofZ, s .fits .a, s .fits .b, s .fits .c, s .fits .d, k .0, k .1, k .2, k .3, k .4) at (c .round-div .ensures))
+    (simp (toZ-ofZ, s .fits .a, s .fits .b, s .fits .c, s .fits .d, k .0, k .1, k .2, k .3, k .4) at (c .round-product .ensures))
 
 pub toward-spec : {M : Type 1} → statement M
-toward-spec = tie.close (tie.spec mul-round-div mul-round-div-2 add-round-div add-round-div-2 add-round-div-3 round-div-requires returns)
+toward-spec =
+    tie.close
+    (tie.spec mul-round-product mul-round-product-2 add-round-product add-round-product-2 add-round-product-3 round-product-requires returns)

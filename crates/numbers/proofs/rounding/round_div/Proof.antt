@@ -1,5 +1,5 @@
 -- `rounding::round_div` meets its contract. Each step's value fits by the bounds on n and d; the lifted dividend is not negative, so the quotient
--- of the machine is the floor; and the floor of 2n + d + l·m is the floor of 2n + d, plus l.
+-- of the machine is the floor; and with the sign s the floor of 2n + d + s + l·m is the floor of 2n + d + s, plus l.
 -- Assumes nothing.
 use mathlib.Core.Path.{_≡_, refl, sym, _∙_}
 use Prim.Native.Nat.{_+_, _-_, _/_, _^_, _<_, _≤_}
@@ -8,9 +8,9 @@ use native.Mathlib.Omega.{arith}
 use borrow.Author.Needs.{needs}
 use lib.Dec.{T}
 use lib.IntN.{ℤ, pos, negsuc, natAbs, _+ℤ_, _-ℤ_, _*ℤ_}
-use lib.Signed.{_≤ℤ_, _<ℤ_, nonNeg}
+use lib.Signed.{_≤ℤ_, _<ℤ_, nonNeg, shrZ}
 use mir.Syntax.{w64}
-use mir.Val.{Fits, SFits, ofZ, toZ}
+use mir.Val.{Fits, SFits, toZ}
 use mir.Facts.{toZ-ofZ, toZ-pos}
 use Rattle.paper.specs.Numbers.{floor, round}
 use Rattle.integers.proofs.Diff.{diff}
@@ -18,27 +18,32 @@ use Rattle.integers.proofs.Poly.{over, poly}
 use Rattle.integers.proofs.Laws.{nonneg}
 use Rattle.integers.proofs.Floor.{IsFloor, floor-is, floor-unique, double-pos}
 use Rattle.numbers.specs.Lift.{Lifts}
+use Rattle.numbers.proofs.Nearest.{sign, sign-bounds, sign-size, shift-sign, round-floor}
 use Rattle.numbers.proofs.rounding.round_div.Statement.{statement}
 use Rattle.numbers.proofs.rounding.round_div.Tie as tie
 
--- what the contract asks, and what is known of the lift; the divisor and the lifted dividend
+-- what the contract asks, and what is known of the lift and of the sign; the divisor and the lifted dividend
 abbrev Ok : ℤ → ℤ → Type 0
 Ok n d = (pos 0 <ℤ d) × ((d ≤ℤ pos (2 ^ 36)) × (natAbs n ≤ 2 ^ 60))
+
+abbrev Sign : ℤ → Type 0
+Sign s = (negsuc 0 ≤ℤ s) × (s ≤ℤ pos 0)
 
 abbrev m : ℤ → ℤ
 m d = pos 2 *ℤ d
 
-abbrev t : ℤ → ℤ → ℤ → ℤ
-t n d l = pos 2 *ℤ n +ℤ d +ℤ l *ℤ m d
+abbrev t : ℤ → ℤ → ℤ → ℤ → ℤ
+t n d s l = pos 2 *ℤ n +ℤ d +ℤ s +ℤ l *ℤ m d
 
 -- before the lift is known
-plain : (n d : ℤ) → Ok n d → SFits w64 (pos 2 *ℤ n) × SFits w64 (pos 2 *ℤ n +ℤ d) × SFits w64 (m d) × (m d ≤ℤ pos (2 ^ 37)) × (pos 0 ≤ℤ m d)
-    × (natAbs (m d) ≤ 2 ^ 37)
-plain = over 2 _ λ ρ. simp (poly, ρ) (omega arith)
+plain : (n d s : ℤ) → Ok n d → Sign s
+    → SFits w64 (pos 2 *ℤ n) × SFits w64 (pos 2 *ℤ n +ℤ d) × SFits w64 (m d) × (m d ≤ℤ pos (2 ^ 37)) × (pos 0 ≤ℤ m d) × (natAbs (m d) ≤ 2 ^ 37)
+    × SFits w64 (pos 2 *ℤ n +ℤ d +ℤ s)
+plain = over 3 _ λ ρ. simp (poly, ρ) (omega arith)
 
-lifted : (n d l : ℤ) → Ok n d → pos (2 ^ 61 + 2 ^ 37) ≤ℤ (l *ℤ m d) → (l *ℤ m d) ≤ℤ pos (2 ^ 62)
-    → SFits w64 (l *ℤ m d) × SFits w64 (t n d l) × (pos 0 ≤ℤ t n d l) × (natAbs (t n d l) ≤ 2 ^ 63 - 1)
-lifted = over 3 _ λ ρ. simp (poly, ρ) (omega arith)
+lifted : (n d s l : ℤ) → Ok n d → Sign s → pos (2 ^ 61 + 2 ^ 37) ≤ℤ (l *ℤ m d) → (l *ℤ m d) ≤ℤ pos (2 ^ 62)
+    → SFits w64 (l *ℤ m d) × SFits w64 (t n d s l) × (pos 0 ≤ℤ t n d s l) × (natAbs (t n d s l) ≤ 2 ^ 63 - 1)
+lifted = over 4 _ λ ρ. simp (poly, ρ) (omega arith)
 
 above-zero : (z : ℤ) → pos 0 ≤ℤ z → T (nonNeg z)
 above-zero (pos a) h = tt
@@ -54,8 +59,8 @@ some : (d : ℤ) → pos 0 <ℤ d → 0 < natAbs d
 some (pos a) h = let k = simp diff at h in omega arith
 some (negsuc a) h = absurd (h .lt)
 
-raised : (n d l q : ℤ) → IsFloor (pos 2 *ℤ n +ℤ d) (m d) q → IsFloor (t n d l) (m d) (q +ℤ l)
-raised = over 4 _ λ ρ. simp (poly, ρ) (omega arith)
+raised : (n d s l q : ℤ) → IsFloor (pos 2 *ℤ n +ℤ d +ℤ s) (m d) q → IsFloor (t n d s l) (m d) (q +ℤ l)
+raised = over 5 _ λ ρ. simp (poly, ρ) (omega arith)
 
 lowered : (q l r : ℤ) → q ≡ r +ℤ l → q -ℤ l ≡ r
 lowered = over 3 _ λ ρ. simp poly (omega arith)
@@ -64,35 +69,40 @@ less-fits : (q l : ℤ) → pos 0 ≤ℤ q → pos 0 ≤ℤ l → natAbs q ≤ 2
 less-fits = over 2 _ λ ρ. simp (poly, ρ) (omega arith)
 
 -- what each step after the lift asks
+abbrev dividend : ℤ → ℤ → ℤ → ℤ
+dividend n d l = t n d (sign n) l
+
 pub record Facts (n d l : ℤ) : Type 0 where
-  pub sums : SFits w64 (l *ℤ m d) × SFits w64 (t n d l)
-  pub dividend : T (nonNeg (t n d l)) × Fits w64 (natAbs (t n d l))
+  pub sums : SFits w64 (l *ℤ m d) × SFits w64 (dividend n d l)
+  pub raised : T (nonNeg (dividend n d l)) × Fits w64 (natAbs (dividend n d l))
   pub divisor : T (nonNeg (m d)) × Fits w64 (natAbs (m d))
   pub some : 0 < natAbs (m d)
-  pub quotient : SFits w64 (pos (natAbs (t n d l) / natAbs (m d)))
-  pub read : toZ w64 (natAbs (t n d l) / natAbs (m d)) ≡ pos (natAbs (t n d l) / natAbs (m d))
-  pub result : SFits w64 (pos (natAbs (t n d l) / natAbs (m d)) -ℤ l)
-  pub value : pos (natAbs (t n d l) / natAbs (m d)) -ℤ l ≡ round n d
+  pub quotient : SFits w64 (pos (natAbs (dividend n d l) / natAbs (m d)))
+  pub read : toZ w64 (natAbs (dividend n d l) / natAbs (m d)) ≡ pos (natAbs (dividend n d l) / natAbs (m d))
+  pub result : SFits w64 (pos (natAbs (dividend n d l) / natAbs (m d)) -ℤ l)
+  pub value : pos (natAbs (dividend n d l) / natAbs (m d)) -ℤ l ≡ round n d
 
 module _ (n d l : ℤ) (ok : Ok n d) (k : Lifts (m d) l) where
-  up : SFits w64 (l *ℤ m d) × SFits w64 (t n d l) × (pos 0 ≤ℤ t n d l) × (natAbs (t n d l) ≤ 2 ^ 63 - 1)
-  up = lifted n d l ok (k .enough) (k .fits)
+  up : SFits w64 (l *ℤ m d) × SFits w64 (dividend n d l) × (pos 0 ≤ℤ dividend n d l) × (natAbs (dividend n d l) ≤ 2 ^ 63 - 1)
+  up = lifted n d (sign n) l ok (sign-bounds n) (k .enough) (k .fits)
 
-  within : natAbs (t n d l) / natAbs (m d) ≤ 2 ^ 63 - 1
-  within = le-trans (div-le-self (natAbs (t n d l)) (natAbs (m d))) (up .3)
+  within : natAbs (dividend n d l) / natAbs (m d) ≤ 2 ^ 63 - 1
+  within = le-trans (div-le-self (natAbs (dividend n d l)) (natAbs (m d))) (up .3)
 
-  value : pos (natAbs (t n d l) / natAbs (m d)) -ℤ l ≡ round n d
-  unfolding round
-  value = lowered _ l (floor (pos 2 *ℤ n +ℤ d) (m d))
-      (quotient (t n d l) (m d) (up .2)
-      ∙ sym (floor-unique (t n d l) (m d) (floor (pos 2 *ℤ n +ℤ d) (m d) +ℤ l) (double-pos d (ok .0))
-      (raised n d l (floor (pos 2 *ℤ n +ℤ d) (m d)) (floor-is (pos 2 *ℤ n +ℤ d) (m d) (double-pos d (ok .0))))))
+  value : pos (natAbs (dividend n d l) / natAbs (m d)) -ℤ l ≡ round n d
+  value =
+      let z = pos 2 *ℤ n +ℤ d +ℤ sign n in
+      let h = double-pos d (ok .0) in
+      lowered _ l (floor z (m d))
+      (quotient (dividend n d l) (m d) (up .2)
+      ∙ sym (floor-unique (dividend n d l) (m d) (floor z (m d) +ℤ l) h (raised n d (sign n) l (floor z (m d)) (floor-is z (m d) h))))
+      ∙ sym (round-floor n d (ok .0))
 
   facts : Facts n d l
   facts = record {
     sums = (up .0, up .1);
-    dividend = (above-zero (t n d l) (up .2), record { fits = omega (arith, up .3) });
-    divisor = (above-zero (m d) (plain n d ok .4), record { fits = omega (arith, plain n d ok .5) });
+    raised = (above-zero (dividend n d l) (up .2), record { fits = omega (arith, up .3) });
+    divisor = (above-zero (m d) (plain n d (sign n) ok (sign-bounds n) .4), record { fits = omega (arith, plain n d (sign n) ok (sign-bounds n) .5) });
     some = some (m d) (double-pos d (ok .0));
     quotient = record { sfits = omega (arith, within) };
     read = toZ-pos w64 (omega (arith, within));
@@ -100,75 +110,91 @@ module _ (n d l : ℤ) (ok : Ok n d) (k : Lifts (m d) l) where
     value = value;
   }
 
+-- before the lift
+module _ (c : tie.Start) where
+  plainly : SFits w64 (pos 2 *ℤ c .args .n) × SFits w64 (pos 2 *ℤ c .args .n +ℤ c .args .d) × SFits w64 (m (c .args .d))
+      × (m (c .args .d) ≤ℤ pos (2 ^ 37)) × (pos 0 ≤ℤ m (c .args .d)) × (natAbs (m (c .args .d)) ≤ 2 ^ 37)
+      × SFits w64 (pos 2 *ℤ c .args .n +ℤ c .args .d +ℤ sign (c .args .n))
+  plainly = plain (c .args .n) (c .args .d) (sign (c .args .n)) (c .pre) (sign-bounds (c .args .n))
+
+  signed : shrZ (c .args .n) 9223372036854775808 ≡ sign (c .args .n)
+  signed = shift-sign (c .args .n) (c .pre .1 .1)
+
 -- the lift, in plain integers
 module _ (c : tie.After-lift) where
   known : Facts (c .before .args .n) (c .before .args .d) (c .lift .result)
   known =
-      let p = plain (c .before .args .n) (c .before .args .d) (c .before .pre) in
       facts (c .before .args .n) (c .before .args .d) (c .lift .result) (c .before .pre)
-      (simp (toZ-ofZ, c .before .fits .d, p .2) at (c .lift .ensures))
+      (simp (toZ-ofZ, c .before .fits .d, plainly (c .before) .2) at (c .lift .ensures))
 
 mul-m : tie.Need-mul-m
-mul-m c = search (needs, plain (c .args .n) (c .args .d) (c .pre))
+mul-m c = search (needs, plainly c)
 
 lift-requires : tie.Need-lift-requires
-lift-requires c κs = simp (toZ-ofZ, c .fits .d, plain (c .args .n) (c .args .d) (c .pre) .2)
-    (double-pos (c .args .d) (c .pre .0), plain (c .args .n) (c .args .d) (c .pre) .3)
+lift-requires c κs = simp (toZ-ofZ, c .fits .d, plainly c .2) (double-pos (c .args .d) (c .pre .0), plainly c .3)
 
 mul-t : tie.Need-mul-t
-mul-t c = search (needs, plain (c .before .args .n) (c .before .args .d) (c .before .pre))
+mul-t c = search (needs, plainly (c .before))
 
 add-t : tie.Need-add-t
-add-t c = search (needs, plain (c .before .args .n) (c .before .args .d) (c .before .pre))
-
-mul-t-2 : tie.Need-mul-t-2
-mul-t-2 c = search (needs, plain (c .before .args .n) (c .before .args .d) (c .before .pre), known c)
+add-t c = search (needs, plainly (c .before))
 
 add-t-2 : tie.Need-add-t-2
 add-t-2 c =
-    let p = plain (c .before .args .n) (c .before .args .d) (c .before .pre) in
+    let p = plainly (c .before) in
+    simp (toZ-ofZ, c .before .fits .n, c .before .fits .d, signed (c .before), sign-size (c .before .args .n), p .0, p .1) (p .6)
+
+mul-t-2 : tie.Need-mul-t-2
+mul-t-2 c = search (needs, plainly (c .before), known c)
+
+add-t-3 : tie.Need-add-t-3
+add-t-3 c =
+    let p = plainly (c .before) in
     let k = known c in
     let f : SFits w64 (c .lift .result) = search needs in
-    simp (toZ-ofZ, c .before .fits .n, c .before .fits .d, p .0, p .1, p .2, f, k .sums .0) (k .sums .1)
+    let g = sign-size (c .before .args .n) in
+    simp (toZ-ofZ, c .before .fits .n, c .before .fits .d, signed (c .before), g, p .0, p .1, p .2, p .6, f, k .sums .0) (k .sums .1)
 
 cast-q : tie.Need-cast-q
 cast-q c =
-    let p = plain (c .before .args .n) (c .before .args .d) (c .before .pre) in
+    let p = plainly (c .before) in
     let k = known c in
     let f : SFits w64 (c .lift .result) = search needs in
-    simp (toZ-ofZ, c .before .fits .n, c .before .fits .d, p .0, p .1, p .2, f, k .sums .0, k .sums .1) (k .dividend)
+    let g = sign-size (c .before .args .n) in
+    simp (toZ-ofZ, c .before .fits .n, c .before .fits .d, signed (c .before), g, p .0, p .1, p .2, p .6, f, k .sums .0, k .sums .1) (k .raised)
 
 cast-q-2 : tie.Need-cast-q-2
-cast-q-2 c = search (needs, plain (c .before .args .n) (c .before .args .d) (c .before .pre), known c)
+cast-q-2 c = search (needs, plainly (c .before), known c)
 
 div-q : tie.Need-div-q
-div-q c = search (needs, plain (c .before .args .n) (c .before .args .d) (c .before .pre), known c)
+div-q c = search (needs, plainly (c .before), known c)
 
 cast-result : tie.Need-cast-result
 cast-result c =
-    let p = plain (c .before .args .n) (c .before .args .d) (c .before .pre) in
+    let p = plainly (c .before) in
     let k = known c in
     let f : SFits w64 (c .lift .result) = search needs in
-    simp (toZ-ofZ, c .before .fits .n, c .before .fits .d, p .0, p .1, p .2, f, k .sums .0, k .sums .1) (k .quotient)
+    let g = sign-size (c .before .args .n) in
+    simp (toZ-ofZ, c .before .fits .n, c .before .fits .d, signed (c .before), g, p .0, p .1, p .2, p .6, f, k .sums .0, k .sums .1) (k .quotient)
 
 sub-result : tie.Need-sub-result
 sub-result c =
-    let p = plain (c .before .args .n) (c .before .args .d) (c .before .pre) in
+    let p = plainly (c .before) in
     let k = known c in
     let f : SFits w64 (c .lift .result) = search needs in
-    simp (toZ-ofZ, c .before .fits .n, c .before .fits .d, p .0, p .1, p .2, f, k .sums .0, k .sums .1, k .read) (k .result)
+    let g = sign-size (c .before .args .n) in
+    simp (toZ-ofZ, c .before .fits .n, c .before .fits .d, signed (c .before), g, p .0, p .1, p .2, p .6, f, k .sums .0, k .sums .1, k .read) (k .result)
 
 returns : tie.Need-returns
 returns c =
-    let p = plain (c .before .args .n) (c .before .args .d) (c .before .pre) in
+    let p = plainly (c .before) in
     let k = known c in
     let f : SFits w64 (c .lift .result) = search needs in
-    let r : toZ w64
-    (ofZ w64 (pos (natAbs (t (c .before .args .n) (c .before .args .d) (c .lift .result)) / natAbs (m (c .before .args .d))) -ℤ c .lift .result)) ≡ round
-    (c .before .args .n) (c .before .args .d) = toZ-ofZ (k .result) ∙ k .value in
-    simp (toZ-ofZ, c .before .fits .n, c .before .fits .d, p .0, p .1, p .2, f, k .sums .0, k .sums .1, k .read) r
+    let g = sign-size (c .before .args .n) in
+    simp (toZ-ofZ, c .before .fits .n, c .before .fits .d, signed (c .before), g, p .0, p .1, p .2, p .6, f, k .sums .0, k .sums .1, k .read)
+    (toZ-ofZ (k .result) ∙ k .value)
 
 pub round-div-spec : {M : Type 1} → statement M
 round-div-spec =
     tie.close
-    (tie.spec mul-m lift-requires mul-t add-t mul-t-2 add-t-2 cast-q cast-q-2 div-q cast-result sub-result returns)
+    (tie.spec mul-m lift-requires mul-t add-t add-t-2 mul-t-2 add-t-3 cast-q cast-q-2 div-q cast-result sub-result returns)

@@ -1,86 +1,93 @@
--- `rounding::round_shift` meets its contract. A shift is the floor by its power of two; the floor of n / 2^(k-1), and one, halved and rounded down
--- is the floor of n / 2^k + 1/2.
+-- `rounding::round_shift` meets its contract. A shift is the floor by its power of two; with n' one below n where n is below zero it is the floor of
+-- n' / 2^k + 1/2.
 -- Assumes nothing.
-use mathlib.Core.Path.{_≡_, refl, ap, _∙_}
-use Prim.Native.Nat.{ℕ, zero, suc, _-_, _*_, _^_, _≤_, _<_}
-use native.Mathlib.Nat.{le-trans, div-le-self, pow-suc}
+use mathlib.Core.Path.{_≡_, sym, ap, _∙_}
+use Prim.Native.Nat.{ℕ, zero, suc, _-_, _*_, _^_, _%_, _≤_, _<_}
+use native.Mathlib.Nat.{pow-suc, one-mul, mod-eq-of-lt}
 use native.Mathlib.Omega.{arith}
 use borrow.Author.Needs.{needs}
 use lib.Dec.{lit<}
 use lib.IntN.{ℤ, pos, negsuc, natAbs, _+ℤ_, _*ℤ_}
-use lib.Pow.{pow-pos}
-use lib.Signed.{_≤ℤ_, _<ℤ_, ltZ-yes, shrZ}
+use lib.Pow.{pow-pos, pow-mono}
+use lib.Signed.{_≤ℤ_, _<ℤ_, shrZ}
 use mir.Syntax.{w64}
-use mir.Val.{SFits}
-use mir.Facts.{toZ-ofZ}
+use mir.Val.{SFits, toZ}
+use mir.Facts.{toZ-ofZ, toZ-pos}
 use Rattle.paper.specs.Numbers.{floor, round}
 use Rattle.integers.proofs.Diff.{diff}
 use Rattle.integers.proofs.Poly.{over, poly}
-use Rattle.integers.proofs.Laws.{mul-le, nonneg}
 use Rattle.integers.proofs.Floor.{IsFloor, floor-is, floor-unique, double-pos}
 use Rattle.integers.proofs.Machine.{abs-fits}
+use Rattle.numbers.proofs.Nearest.{sign, sign-bounds, sign-size, shift-sign, shift-floor, shift-size, round-floor}
 use Rattle.numbers.proofs.rounding.round_shift.Statement.{statement}
 use Rattle.numbers.proofs.rounding.round_shift.Tie as tie
-
-shift-floor : (z : ℤ) (m : ℕ) → shrZ z m ≡ floor z (pos m)
-unfolding floor
-shift-floor (pos a) m = refl
-shift-floor (negsuc a) m = refl
-
-shift-size : (z : ℤ) (m b : ℕ) → natAbs z ≤ b → natAbs (shrZ z m) ≤ b
-shift-size (pos a) m b h = le-trans (div-le-self a m) h
-shift-size (negsuc a) m b h = omega (arith, div-le-self a m)
 
 above : (m : ℕ) → 0 < m → pos 0 <ℤ pos m
 above m h = simp diff (omega arith)
 
--- e is half the divisor, a the first quotient
-both : (e n a q : ℤ) → IsFloor n e a → (e *ℤ (pos 2 *ℤ q)) ≤ℤ (e *ℤ (a +ℤ pos 1)) → (e *ℤ (a +ℤ pos 1)) ≤ℤ (e *ℤ (pos 2 *ℤ q +ℤ pos 1))
-    → IsFloor (pos 2 *ℤ n +ℤ pos 2 *ℤ e) (pos 2 *ℤ (pos 2 *ℤ e)) q
+-- e is half the divisor, s the sign
+both : (e n s q : ℤ) → (negsuc 0 ≤ℤ s) × (s ≤ℤ pos 0) → IsFloor (n +ℤ s +ℤ e) (pos 2 *ℤ e) q
+    → IsFloor (pos 2 *ℤ n +ℤ pos 2 *ℤ e +ℤ s) (pos 2 *ℤ (pos 2 *ℤ e)) q
 both = over 4 _ λ ρ. simp (poly, ρ) (omega arith)
 
-before : (a q : ℤ) → (a +ℤ pos 1) <ℤ (pos 2 *ℤ q +ℤ pos 2) → (a +ℤ pos 1) ≤ℤ (pos 2 *ℤ q +ℤ pos 1)
-before = over 2 _ λ ρ. simp (poly, ρ) (omega arith)
-
-module _ (n : ℤ) (m : ℕ) (h : 0 < m) where
-  twice : floor (floor n (pos m) +ℤ pos 1) (pos 2) ≡ round n (pos 2 *ℤ pos m)
-  unfolding round
-  twice =
-      let a = floor n (pos m) in
-      let q = floor (a +ℤ pos 1) (pos 2) in
-      let f = floor-is (a +ℤ pos 1) (pos 2) (ltZ-yes tt) in
-      floor-unique (pos 2 *ℤ n +ℤ pos 2 *ℤ pos m) (pos 2 *ℤ (pos 2 *ℤ pos m)) q (double-pos (pos 2 *ℤ pos m) (double-pos (pos m) (above m h)))
-      (both (pos m) n a q (floor-is n (pos m) (above m h)) (mul-le (pos m) _ _ (nonneg m) (f .0)) (mul-le (pos m) _ _ (nonneg m) (before a q (f .1))))
+halved : (n : ℤ) (m : ℕ) → 0 < m → floor (n +ℤ sign n +ℤ pos m) (pos 2 *ℤ pos m) ≡ round n (pos 2 *ℤ pos m)
+halved n m h =
+    let d = double-pos (pos m) (above m h) in
+    let q = floor (n +ℤ sign n +ℤ pos m) (pos 2 *ℤ pos m) in
+    floor-unique (pos 2 *ℤ n +ℤ pos 2 *ℤ pos m +ℤ sign n) (pos 2 *ℤ (pos 2 *ℤ pos m)) q (double-pos (pos 2 *ℤ pos m) d)
+    (both (pos m) n (sign n) q (sign-bounds n) (floor-is (n +ℤ sign n +ℤ pos m) (pos 2 *ℤ pos m) d))
+    ∙ sym (round-floor n (pos 2 *ℤ pos m) d)
 
 power : (k : ℕ) → 1 ≤ k → pos 2 *ℤ pos (2 ^ (k - 1)) ≡ pos (2 ^ k)
 power zero h = absurd (omega arith)
 power (suc j) h = ap pos (let e = pow-suc 2 j in let p : 2 ^ (suc j - 1) ≡ 2 ^ j = ap (λ (i : ℕ). 2 ^ i) (omega arith) in omega arith)
 
-value : (n : ℤ) (k : ℕ) → 1 ≤ k → shrZ (shrZ n (2 ^ (k - 1)) +ℤ pos 1) 2 ≡ round n (pos (2 ^ k))
+value : (n : ℤ) (k : ℕ) → 1 ≤ k → shrZ (n +ℤ sign n +ℤ pos (2 ^ (k - 1))) (2 ^ k) ≡ round n (pos (2 ^ k))
 value n k h =
-    shift-floor (shrZ n (2 ^ (k - 1)) +ℤ pos 1) 2
-    ∙ ap (λ (a : ℤ). floor (a +ℤ pos 1) (pos 2)) (shift-floor n (2 ^ (k - 1)))
-    ∙ twice n (2 ^ (k - 1)) (pow-pos (k - 1))
+    shift-floor (n +ℤ sign n +ℤ pos (2 ^ (k - 1))) (2 ^ k)
+    ∙ ap (floor (n +ℤ sign n +ℤ pos (2 ^ (k - 1)))) (sym (power k h))
+    ∙ halved n (2 ^ (k - 1)) (pow-pos (k - 1))
     ∙ ap (round n) (power k h)
 
-more-size : (a : ℤ) → natAbs a ≤ 2 ^ 60 → natAbs (a +ℤ pos 1) ≤ 2 ^ 61
-more-size = over 1 _ λ ρ. simp (poly, ρ) (omega arith)
+-- the half that is added
+at-most : (k : ℕ) → k ≤ 36 → 2 ^ (k - 1) ≤ 2 ^ 35
+at-most k h = pow-mono {i = k - 1} {j = 35} (omega arith)
+
+half-is : (k : ℕ) → k ≤ 36 → toZ w64 ((1 * 2 ^ (k - 1)) % 18446744073709551616) ≡ pos (2 ^ (k - 1))
+half-is k h =
+    ap (toZ w64) (ap (λ (i : ℕ). i % 18446744073709551616) (one-mul (2 ^ (k - 1))) ∙ mod-eq-of-lt (omega (arith, at-most k h)))
+    ∙ toZ-pos w64 (omega (arith, at-most k h))
+
+sum-size : (n s e : ℤ) → (negsuc 0 ≤ℤ s) × (s ≤ℤ pos 0) → natAbs n ≤ 2 ^ 60 → natAbs e ≤ 2 ^ 35
+    → (natAbs (n +ℤ s) ≤ 2 ^ 61) × (natAbs (n +ℤ s +ℤ e) ≤ 2 ^ 61)
+sum-size = over 3 _ λ ρ. simp (poly, ρ) (omega arith)
 
 -- the sizes on the way
-pub record Sizes (n : ℤ) (m : ℕ) : Type 0 where
-  pub first : SFits w64 (shrZ n m)
-  pub more : SFits w64 (shrZ n m +ℤ pos 1)
-  pub last : SFits w64 (shrZ (shrZ n m +ℤ pos 1) 2)
+pub record Sizes (n : ℤ) (k : ℕ) : Type 0 where
+  pub lower : SFits w64 (n +ℤ sign n)
+  pub more : SFits w64 (n +ℤ sign n +ℤ pos (2 ^ (k - 1)))
+  pub last : SFits w64 (shrZ (n +ℤ sign n +ℤ pos (2 ^ (k - 1))) (2 ^ k))
 
-sizes : (n : ℤ) (m : ℕ) → natAbs n ≤ 2 ^ 60 → Sizes n m
-sizes n m h =
-    let f = shift-size n m (2 ^ 60) h in
-    let g = more-size (shrZ n m) f in
+sizes : (n : ℤ) (k : ℕ) → k ≤ 36 → natAbs n ≤ 2 ^ 60 → Sizes n k
+sizes n k l h =
+    let z = n +ℤ sign n +ℤ pos (2 ^ (k - 1)) in
+    let f = sum-size n (sign n) (pos (2 ^ (k - 1))) (sign-bounds n) h (at-most k l) in
     record {
-      first = abs-fits w64 _ (2 ^ 60) f (lit< tt);
-      more = abs-fits w64 _ (2 ^ 61) g (lit< tt);
-      last = abs-fits w64 _ (2 ^ 61) (shift-size (shrZ n m +ℤ pos 1) 2 (2 ^ 61) g) (lit< tt);
+      lower = abs-fits w64 _ (2 ^ 61) (f .0) (lit< tt);
+      more = abs-fits w64 _ (2 ^ 61) (f .1) (lit< tt);
+      last = abs-fits w64 _ (2 ^ 61) (shift-size z (2 ^ k) (2 ^ 61) (f .1)) (lit< tt);
     }
+
+-- the sizes at a call, the sign that the first shift leaves, and the half
+module _ (c : tie.Start) where
+  at-call : Sizes (c .args .n) (c .args .k)
+  at-call = sizes (c .args .n) (c .args .k) (c .pre .1) (c .pre .2)
+
+  signed : shrZ (c .args .n) 9223372036854775808 ≡ sign (c .args .n)
+  signed = shift-sign (c .args .n) (c .pre .2)
+
+add-result : tie.Need-add-result
+add-result c = let s = at-call c in rw (toZ-ofZ (c .fits .n), signed c, toZ-ofZ (sign-size (c .args .n))) (s .lower)
 
 sub-result : tie.Need-sub-result
 sub-result c = search needs
@@ -88,18 +95,33 @@ sub-result c = search needs
 cast-result : tie.Need-cast-result
 cast-result c = search needs
 
+shl-result : tie.Need-shl-result
+shl-result c = search needs
+
+add-result-2 : tie.Need-add-result-2
+add-result-2 c =
+    let s = at-call c in
+    rw (toZ-ofZ (c .fits .n), signed c, toZ-ofZ (sign-size (c .args .n)), toZ-ofZ (s .lower), half-is (c .args .k) (c .pre .1)) (s .more)
+
+cast-result-2 : tie.Need-cast-result-2
+cast-result-2 c = search needs
+
 shr-result : tie.Need-shr-result
 shr-result c = search needs
 
-add-result : tie.Need-add-result
-add-result c =
-    let s = sizes (c .args .n) (2 ^ (c .args .k - 1)) (c .pre .2) in
-    rw (toZ-ofZ (c .fits .n), toZ-ofZ (s .first)) (s .more)
-
 returns : tie.Need-returns
 returns c =
-    let s = sizes (c .args .n) (2 ^ (c .args .k - 1)) (c .pre .2) in
-    rw (toZ-ofZ (c .fits .n), toZ-ofZ (s .first), toZ-ofZ (s .more), toZ-ofZ (s .last)) (value (c .args .n) (c .args .k) (c .pre .0))
+    let s = at-call c in
+    rw (
+      toZ-ofZ (c .fits .n),
+      signed c,
+      toZ-ofZ (sign-size (c .args .n)),
+      toZ-ofZ (s .lower),
+      half-is (c .args .k) (c .pre .1),
+      toZ-ofZ (s .more),
+      toZ-ofZ (s .last),
+    )
+    (value (c .args .n) (c .args .k) (c .pre .0))
 
 pub round-shift-spec : {M : Type 1} → statement M
-round-shift-spec = tie.close (tie.spec sub-result cast-result shr-result add-result returns)
+round-shift-spec = tie.close (tie.spec add-result sub-result cast-result shl-result add-result-2 cast-result-2 shr-result returns)

@@ -1,0 +1,5 @@
+pub mod Turn
+pub mod Nets
+pub mod Lists
+pub mod Theorem
+pub mod Examples
