@@ -32,7 +32,7 @@ extern "C" {
 
 /* The version of this face: it rises with every change of a signature, a limit or a refusal's number or meaning. The
  * archive does not tell its own, so keep header and archive of one build together. */
-#define MAHUNOPI_VERSION 1
+#define MAHUNOPI_VERSION 2
 
 /* The most vertices, faces and corners of a mesh. */
 #define MAHUNOPI_MAX_VERTICES 2048
@@ -44,7 +44,7 @@ extern "C" {
 /* The numbers that building writes for a corner: 41 control points of x, y, z. */
 #define MAHUNOPI_NUMBERS_PER_CORNER 123
 /* The bytes of stack that a call may take. */
-#define MAHUNOPI_CALL_STACK 262144
+#define MAHUNOPI_CALL_STACK 294912
 
 /*
  * What a function answers. A file is checked by 1 to 13, linking by 4 to 14, building by 4 to 17, a control point in

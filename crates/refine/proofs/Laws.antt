@@ -3,7 +3,7 @@
 use mathlib.Core.Path.{_≡_, refl, ap, _∙_, sym, subst}
 use mathlib.Core.Logic.{_⊎_, inl, inr, ⊎-elim}
 use mathlib.Core.List.{List}
-use Prim.Native.Nat.{ℕ, _+_, _*_, _^_, _<_, _≤_}
+use Prim.Native.Nat.{ℕ, zero, suc, _+_, _*_, _^_, _<_, _≤_}
 use native.Mathlib.Nat.{le-trans}
 use native.Mathlib.Omega.{arith}
 use lib.Dec.{ltb, eqb, lit≤, lit<}
@@ -14,7 +14,7 @@ use lib.IntN.{ℤ, pos, natAbs, _+ℤ_, _*ℤ_}
 use mir.Syntax.{w64}
 use mir.Val.{SFits, toZ, ofZ}
 use mir.Facts.{toZ-ofZ, toZ-pos}
-use Rattle.paper.specs.Mesh.{mostSides, mostCoordinate, Mesh, meshOf, faceCount, cornerCount}
+use Rattle.paper.specs.Mesh.{mostSides, mostCorners, mostCoordinate, Mesh, meshOf, faceCount, cornerCount}
 use Rattle.paper.specs.Corners.{sumOf, startOf, faceOf, sidesOf, next, previous}
 use Rattle.paper.specs.Links.{vertexOf}
 use Rattle.paper.specs.Numbers.{sum, round, rounded}
@@ -24,10 +24,29 @@ use Rattle.integers.proofs.Laws.{abs-mul-le, abs-add-le}
 use Rattle.integers.proofs.Sum.{sum-abs}
 use Rattle.integers.proofs.Machine.{abs-fits}
 use Rattle.mesh.proofs.Scans.{ways, compared}
-use Rattle.mesh.proofs.Faces.{face-at, start-zero, start-next, start-ends, next-below, previous-below}
+use Rattle.mesh.proofs.Faces.{face-at, start-zero, start-next, start-ends, start-all, next-below, previous-below}
 use Rattle.surface.proofs.Hull.{point-size}
 use Rattle.surface.specs.Points.{pointRow, pointAt}
-use Rattle.refine.specs.Sources.{Placed, Refinable, Ticks, Small, Apart, Holds, Pointed, Added, AddedOn}
+use Rattle.wanted.specs.Tables.{Faces}
+use Rattle.refine.specs.Sources.{
+  Placed,
+  Refinable,
+  Ticks,
+  Within,
+  Small,
+  Apart,
+  Holds,
+  Pointed,
+  Added,
+  AddedOn,
+  sumRow,
+  SumRoom,
+  Summed,
+  SummedFace,
+  SummedOn,
+  SumsOf,
+  SumsAre,
+}
 
 -- ---- ticks and their sums
 pub tick-size : (z : ℤ) → natAbs z ≤ mostCoordinate → natAbs (pos ticksPerStep *ℤ z) ≤ 2 ^ 24
@@ -52,10 +71,9 @@ module _ (coordinates : List ℤ) (corners : List ℕ) (p : Placed coordinates c
       sum-abs (λ j. ticks (meshOf coordinates sides corners) axis (start + j)) n (2 ^ 24)
       (λ j l. ticks-size coordinates corners p axis (start + j) a (omega arith) sides)
 
-  pub sum-fits : (sides : List ℕ) (n : ℕ) → start + n ≤ length corners → n ≤ mostSides
-      → SFits w64 (sum (λ j. ticks (meshOf coordinates sides corners) axis (start + j)) n)
-  sum-fits sides n h l =
-      abs-fits w64 (sum (λ j. ticks (meshOf coordinates sides corners) axis (start + j)) n) (2 ^ 28) (omega (arith, sum-size sides n h)) (lit< tt)
+  pub sum-most : (sides : List ℕ) (n : ℕ) → start + n ≤ length corners → n ≤ mostSides
+      → natAbs (sum (λ j. ticks (meshOf coordinates sides corners) axis (start + j)) n) ≤ 2 ^ 28
+  sum-most sides n h l = omega (arith, sum-size sides n h)
 
 -- ---- the sizes on the way to a refined point
 abbrev pub around : ℤ → ℤ → ℤ → ℤ
@@ -108,19 +126,30 @@ module _ (M : Mesh) (R : Refinable M) (f : ℕ) (l : f < faceCount M) where
   pub end-in : startOf (M .sides) f + getD (M .sides) f 0 ≤ cornerCount M
   end-in = omega (arith, start-ends (M .sides) f l, R .sums)
 
+  -- Σ of the face: what the code sums, and its size
+  pub face-sum-is : (axis start : ℕ) → start ≡ startOf (M .sides) f → sum (λ j. ticks M axis (start + j)) (getD (M .sides) f 0) ≡ faceSum M axis f
+  unfolding faceSum
+  face-sum-is axis start e = rw e refl
+
+  pub face-sum-size : (axis : ℕ) → axis < 3 → natAbs (faceSum M axis f) ≤ getD (M .sides) f 0 * 2 ^ 24
+  unfolding faceSum
+  face-sum-size axis a = sum-size (M .coordinates) (M .corners) (R .placed) axis (startOf (M .sides) f) a (M .sides) (getD (M .sides) f 0) end-in
+
+  pub face-sum-most : (axis : ℕ) → axis < 3 → natAbs (faceSum M axis f) ≤ 2 ^ 28
+  face-sum-most axis a = le-trans (face-sum-size axis a) (omega (arith, R .faces .most f l))
+
   refined-is : (axis c : ℕ) → faceOf (M .sides) c ≡ f
       → refinedPoint rounded M axis c
       ≡ round
-      (eightfold (sum (λ j. ticks M axis (startOf (M .sides) f + j)) (getD (M .sides) f 0)) (ticks M axis (previous (M .sides) c)) (ticks M axis c)
-      (ticks M axis (next (M .sides) c)) (getD (M .sides) f 0))
+      (eightfold (faceSum M axis f) (ticks M axis (previous (M .sides) c)) (ticks M axis c) (ticks M axis (next (M .sides) c)) (getD (M .sides) f 0))
       (pos 8 *ℤ pos (getD (M .sides) f 0))
-  unfolding refinedPoint faceSum sidesOf
+  unfolding refinedPoint sidesOf
   refined-is axis c e = rw e
 
   -- from the values that the code has of a corner: their sizes, and the refined point
   module _ (start c p q axis : ℕ) (e : start ≡ startOf (M .sides) f) (a : start ≤ c) (b : c < start + getD (M .sides) f 0) (ep : p ≡ previous
       (M .sides) c) (eq : q ≡ next (M .sides) c)
-      (ax : axis < 3) (T B H A : ℤ) (eT : T ≡ sum (λ j. ticks M axis (start + j)) (getD (M .sides) f 0)) (eB : B ≡ ticks M axis p) (eH : H
+      (ax : axis < 3) (T B H A : ℤ) (eT : T ≡ faceSum M axis f) (eB : B ≡ ticks M axis p) (eH : H
       ≡ ticks M axis c) (eA : A ≡ ticks M axis q) where
     inside : c < sumOf (M .sides)
     inside = omega (arith, end-in, R .sums)
@@ -133,66 +162,67 @@ module _ (M : Mesh) (R : Refinable M) (f : ℕ) (l : f < faceCount M) where
         record {
           least = R .faces .least f l;
           most = R .faces .most f l;
-          total-size = rw eT (sum-size (M .coordinates) (M .corners) (R .placed) axis start ax (M .sides) (getD (M .sides) f 0) (omega (arith, end-in)));
+          total-size = rw eT (face-sum-size axis ax);
           before-size = rw (eB, ep) (size-at (previous (M .sides) c) (previous-below (M .sides) c inside));
           here-size = rw eH (size-at c inside);
           after-size = rw (eA, eq) (size-at (next (M .sides) c) (next-below (M .sides) c inside));
         }
 
     pub point-is : round (eightfold T B H A (getD (M .sides) f 0)) (pos 8 *ℤ pos (getD (M .sides) f 0)) ≡ refinedPoint rounded M axis c
-    point-is = rw (eT, eB, eH, eA, ep, eq, e) (sym (refined-is axis c (face-at (M .sides) f c (omega arith) (omega arith) l)))
+    point-is = rw (eT, eB, eH, eA, ep, eq) (sym (refined-is axis c (face-at (M .sides) f c (omega arith) (omega arith) l)))
 
--- ---- the table of refined points
--- a new table
-pub small-zeros : (n : ℕ) → Small (replicate n (pos 0))
+-- ---- tables: a new one
+pub small-zeros : {bound : ℕ} (n : ℕ) → Within bound (replicate n (pos 0))
 small-zeros n c =
     ⊎-elim
     (λ b. rw (getD-replicate n c (pos 0) (pos 0) (ltb-true c n b)) (omega arith))
     (λ b. rw (List·getD-eq-default (replicate n (pos 0)) (pos 0) {n = c} (omega (arith, length-replicate {A = ℤ} n (pos 0), ltb-false c n b))) (omega arith))
     (ways (ltb c n))
 
--- what P and Q choose, put in one after the other, is what R chooses
-holds-more : (M : Mesh) (P Q R : ℕ → ℕ → Type 0) (old mid new : List ℤ)
-    → ((axis c : ℕ) → R axis c → Q axis c ⊎ (P axis c × Apart Q (pointRow * c + axis)))
-    → ((axis c : ℕ) → P axis c → R axis c) → ((axis c : ℕ) → Q axis c → R axis c)
-    → Holds M P old mid → Holds M Q mid new → Holds M R old new
-holds-more M P Q R old mid new split up vp p q = record {
-  points-are = λ axis c r. ⊎-elim
-      (λ h. q .points-are axis c h)
-      (λ h. q .others (pointRow * c + axis) (h .1) ∙ p .points-are axis c (h .0))
-      (split axis c r);
-  others = λ i n. q .others i (λ axis c h. n axis c (vp axis c h)) ∙ p .others i (λ axis c h. n axis c (up axis c h));
-  same = q .same ∙ p .same;
-  small = q .small;
-}
+module _ (width bound : ℕ) (value : ℕ → ℕ → ℤ) where
+  -- what P and Q choose, put in one after the other, is what R chooses
+  holds-more : (P Q R : ℕ → ℕ → Type 0) (old mid new : List ℤ)
+      → ((axis r : ℕ) → R axis r → Q axis r ⊎ (P axis r × Apart width Q (width * r + axis)))
+      → ((axis r : ℕ) → P axis r → R axis r) → ((axis r : ℕ) → Q axis r → R axis r)
+      → Holds width bound value P old mid → Holds width bound value Q mid new → Holds width bound value R old new
+  holds-more P Q R old mid new split up vp p q = record {
+    entries-are = λ axis r h. ⊎-elim
+        (λ k. q .entries-are axis r k)
+        (λ k. q .others (width * r + axis) (k .1) ∙ p .entries-are axis r (k .0))
+        (split axis r h);
+    others = λ i n. q .others i (λ axis r h. n axis r (vp axis r h)) ∙ p .others i (λ axis r h. n axis r (up axis r h));
+    same = q .same ∙ p .same;
+    small = q .small;
+  }
 
--- where nothing is chosen
-holds-none : (M : Mesh) (P : ℕ → ℕ → Type 0) (points : List ℤ) → ((axis c : ℕ) → P axis c → ⊥) → Small points → Holds M P points points
-holds-none M P points never h = record { points-are = λ axis c p. absurd (never axis c p); others = λ i n. refl; same = refl; small = h }
+  -- where nothing is chosen
+  holds-none : (P : ℕ → ℕ → Type 0) (entries : List ℤ) → ((axis r : ℕ) → P axis r → ⊥) → Within bound entries → Holds width bound value P entries entries
+  holds-none P entries never h = record { entries-are = λ axis r p. absurd (never axis r p); others = λ i n. refl; same = refl; small = h }
 
+  -- one entry
+  holds-one : (k d : ℕ) (old : List ℤ) (v : ℤ) → width * d + k < length old → v ≡ value k d → natAbs v ≤ bound → Within bound old
+      → Holds width bound value (λ axis r. (axis ≡ k) × (r ≡ d)) old (set old (width * d + k) v)
+  holds-one k d old v b e s h = record {
+    entries-are = λ axis r p. rw (p .0, p .1) (getD-set-same old (width * d + k) v (pos 0) b ∙ e);
+    others = λ i n. getD-set-other old (width * d + k) i v (pos 0) (λ q. n k d (refl, refl) q);
+    same = length-set old (width * d + k) v;
+    small = λ i. ⊎-elim
+        (λ b′. let q : i ≡ width * d + k = eqb-true i (width * d + k) b′ in rw (q, getD-set-same old (width * d + k) v (pos 0) b) s)
+        (λ b′. rw (getD-set-other old (width * d + k) i v (pos 0) (eqb-false i (width * d + k) b′)) (h i))
+        (ways (eqb i (width * d + k)));
+  }
+
+-- ---- the table of refined points
 -- no axis, and no corner, yet
 pub added-none : (M : Mesh) (start end : ℕ) (points : List ℤ) → Small points → Added M 0 start end points points
-added-none M start end points = holds-none M _ points (λ axis c q. omega (arith, q .0))
+added-none M start end points = holds-none pointRow (2 ^ 24) (refinedPoint rounded M) _ points (λ axis c q. omega (arith, q .0))
 
 pub added-on-none : (M : Mesh) (k start : ℕ) (points : List ℤ) → Small points → AddedOn M k start start points points
-added-on-none M k start points = holds-none M _ points (λ axis c q. omega (arith, q .1, q .2))
+added-on-none M k start points = holds-none pointRow (2 ^ 24) (refinedPoint rounded M) _ points (λ axis c q. omega (arith, q .1, q .2))
 
 -- no face yet
 pub pointed-none : (M : Mesh) (wanted : List ℕ) (points : List ℤ) → Small points → Pointed M wanted (startOf (M .sides) 0) points points
-pointed-none M wanted points = holds-none M _ points (λ axis c q. omega (arith, q .1, start-zero (M .sides)))
-
--- one point
-holds-one : (M : Mesh) (k d : ℕ) (old : List ℤ) (v : ℤ) → pointRow * d + k < length old → v ≡ refinedPoint rounded M k d → natAbs v ≤ 2 ^ 24 → Small old
-    → Holds M (λ axis c. (axis ≡ k) × (c ≡ d)) old (set old (pointRow * d + k) v)
-holds-one M k d old v b e s h = record {
-  points-are = λ axis c p. rw (p .0, p .1) (getD-set-same old (pointRow * d + k) v (pos 0) b ∙ e);
-  others = λ i n. getD-set-other old (pointRow * d + k) i v (pos 0) (λ q. n k d (refl, refl) q);
-  same = length-set old (pointRow * d + k) v;
-  small = λ i. ⊎-elim
-      (λ b′. let q : i ≡ pointRow * d + k = eqb-true i (pointRow * d + k) b′ in rw (q, getD-set-same old (pointRow * d + k) v (pos 0) b) s)
-      (λ b′. rw (getD-set-other old (pointRow * d + k) i v (pos 0) (eqb-false i (pointRow * d + k) b′)) (h i))
-      (ways (eqb i (pointRow * d + k)));
-}
+pointed-none M wanted points = holds-none pointRow (2 ^ 24) (refinedPoint rounded M) _ points (λ axis c q. omega (arith, q .1, start-zero (M .sides)))
 
 -- two corners, and two axes, have places of their own
 apart-corner : (axis k c end x d : ℕ) → (c < end) ⊎ (end < c) → axis ≡ k → x ≡ k → d ≡ end → pointRow * c + axis ≡ pointRow * d + x → ⊥
@@ -206,7 +236,7 @@ module _ (M : Mesh) (k start : ℕ) (l : k < 3) where
   pub added-set : (end : ℕ) (old new : List ℤ) (v : ℤ) → AddedOn M k start end old new → start ≤ end → pointRow * end + k < length new
       → v ≡ refinedPoint rounded M k end → natAbs v ≤ 2 ^ 24 → AddedOn M k start (end + 1) old (set new (pointRow * end + k) v)
   added-set end old new v h a b e s =
-      holds-more M _ _ _ old new _
+      holds-more pointRow (2 ^ 24) (refinedPoint rounded M) _ _ _ old new _
       (λ axis c r. ⊎-elim
       (λ (q : c ≡ end). inl (r .0, q))
       (λ o. inr (
@@ -216,12 +246,12 @@ module _ (M : Mesh) (k start : ℕ) (l : k < 3) where
       ))
       (compared c end))
       (λ axis c p. (p .0, p .1, omega (arith, p .2))) (λ axis c p. (p .0, omega (arith, p .1), omega (arith, p .1)))
-      h (holds-one M k end new v b e s (h .small))
+      h (holds-one pointRow (2 ^ 24) (refinedPoint rounded M) k end new v b e s (h .small))
 
   -- one axis more
   pub added-axis : (end : ℕ) (old mid new : List ℤ) → Added M k start end old mid → AddedOn M k start end mid new → Added M (k + 1) start end old new
   added-axis end old mid new =
-      holds-more M _ _ _ old mid new
+      holds-more pointRow (2 ^ 24) (refinedPoint rounded M) _ _ _ old mid new
       (λ axis c r. ⊎-elim
       (λ (q : axis ≡ k). inl (q, r .1, r .2))
       (λ o. inr (
@@ -240,7 +270,7 @@ module _ (M : Mesh) (wanted : List ℕ) (f : ℕ) (l : f < faceCount M) where
   pub pointed-added : (old mid new : List ℤ) → 0 < getD wanted f 0 → Pointed M wanted (startOf (M .sides) f) old mid
       → Added M 3 (startOf (M .sides) f) (startOf (M .sides) (f + 1)) mid new → Pointed M wanted (startOf (M .sides) (f + 1)) old new
   pointed-added old mid new w =
-      holds-more M _ _ _ old mid new
+      holds-more pointRow (2 ^ 24) (refinedPoint rounded M) _ _ _ old mid new
       (λ axis c r. ⊎-elim
       (λ b. let m = ltb-true c (startOf (M .sides) f) b in inr ((r .0, m, r .2), λ x d p q. omega (arith, r .0, p .0, p .1)))
       (λ b. inl (r .0, ltb-false c (startOf (M .sides) f) b, r .1))
@@ -251,10 +281,86 @@ module _ (M : Mesh) (wanted : List ℕ) (f : ℕ) (l : f < faceCount M) where
   pub pointed-passed : (old new : List ℤ) → getD wanted f 0 ≡ 0 → Pointed M wanted (startOf (M .sides) f) old new
       → Pointed M wanted (startOf (M .sides) (f + 1)) old new
   pointed-passed old new z p =
-      holds-more M _ (λ axis c. ⊥) _ old new new
+      holds-more pointRow (2 ^ 24) (refinedPoint rounded M) _ (λ axis c. ⊥) _ old new new
       (λ axis c r. ⊎-elim
       (λ b. inr ((r .0, ltb-true c (startOf (M .sides) f) b, r .2), λ x d q. absurd q))
       (λ b. absurd (omega (arith, z, subst (λ (g : ℕ). 0 < getD wanted g 0) (face-is c (ltb-false c (startOf (M .sides) f) b) (r .1)) (r .2))))
       (ways (ltb c (startOf (M .sides) f))))
       (λ axis c q. (q .0, omega (arith, q .1, start-next (M .sides) f l), q .2)) (λ axis c q. absurd q)
-      p (holds-none M _ new (λ axis c q. q) (p .small))
+      p (holds-none pointRow (2 ^ 24) (refinedPoint rounded M) _ new (λ axis c q. q) (p .small))
+
+-- ---- the table of sums
+-- a face has at least three corners, so there are no more sums than corners
+sums-before : (sides : List ℕ) → Faces sides → (f : ℕ) → f ≤ length sides → sumRow * f ≤ startOf sides f
+sums-before sides h zero l = omega arith
+sums-before sides h (suc f) l =
+    let k : suc f ≡ f + 1 = omega arith in
+    let e : startOf sides (suc f) ≡ startOf sides f + getD sides f 0 = ap (startOf sides) k ∙ start-next sides f (omega arith) in
+    omega (arith, sums-before sides h f (omega arith), e, h .least f (omega arith))
+
+pub sums-fit : (M : Mesh) → Refinable M → sumRow * faceCount M ≤ mostCorners
+sums-fit M R =
+    omega (
+      arith,
+      sums-before (M .sides) (R .faces) (faceCount M) (omega arith),
+      start-all (M .sides) (faceCount M) (omega arith),
+      R .faces .few,
+    )
+
+-- a new table that is long enough
+pub sum-room : (sides : List ℕ) (n : ℕ) → sumRow * length sides ≤ n → SumRoom sides (replicate n (pos 0))
+sum-room sides n h = (rw (length-replicate {A = ℤ} n (pos 0)) h, small-zeros n)
+
+-- no axis, and no face, yet
+pub summed-face-none : (M : Mesh) (f : ℕ) (sums : List ℤ) → Within (2 ^ 28) sums → SummedFace M 0 f sums sums
+summed-face-none M f sums = holds-none sumRow (2 ^ 28) (faceSum M) _ sums (λ axis g q. omega (arith, q .0))
+
+pub summed-none : (M : Mesh) (wanted : List ℕ) (sums : List ℤ) → Within (2 ^ 28) sums → Summed M wanted 0 sums sums
+summed-none M wanted sums = holds-none sumRow (2 ^ 28) (faceSum M) _ sums (λ axis g q. omega (arith, q .1))
+
+-- one sum
+module _ (M : Mesh) (R : Refinable M) (f : ℕ) (l : f < faceCount M) (axis : ℕ) (a : axis < 3) where
+  pub summed-set : (old : List ℤ) (v : ℤ) → SumRoom (M .sides) old → v ≡ faceSum M axis f → SummedOn M axis f old (set old (sumRow * f + axis) v)
+  summed-set old v r q =
+      holds-one sumRow (2 ^ 28) (faceSum M) axis f old v (omega (arith, r .0)) q
+      (rw q (face-sum-most M R f l axis a)) (r .1)
+
+-- one axis more
+pub summed-axis : (M : Mesh) (k f : ℕ) → k < 3 → (old mid new : List ℤ) → SummedFace M k f old mid → SummedOn M k f mid new
+    → SummedFace M (k + 1) f old new
+summed-axis M k f l old mid new =
+    holds-more sumRow (2 ^ 28) (faceSum M) _ _ _ old mid new
+    (λ axis g r. ⊎-elim
+    (λ (q : axis ≡ k). inl (q, r .1))
+    (λ o. inr (
+      (⊎-elim (λ (m : axis < k). m) (λ (m : k < axis). absurd (omega (arith, r .0))) o, r .1),
+      λ x d p q. ⊎-elim (λ (m : axis < k). omega (arith, r .1, p .0, p .1)) (λ (m : k < axis). omega (arith, r .1, p .0, p .1)) o,
+    ))
+    (compared axis k))
+    (λ axis g p. (omega (arith, p .0), p .1)) (λ axis g p. (omega (arith, p .0), p .1))
+
+-- one face more: one that is wanted, and one that is not
+module _ (M : Mesh) (wanted : List ℕ) (f : ℕ) where
+  pub summed-added : (old mid new : List ℤ) → 0 < getD wanted f 0 → Summed M wanted f old mid → SummedFace M 3 f mid new → Summed M wanted (f + 1) old new
+  summed-added old mid new w =
+      holds-more sumRow (2 ^ 28) (faceSum M) _ _ _ old mid new
+      (λ axis g r. ⊎-elim
+      (λ b. let m = ltb-true g f b in inr ((r .0, m, r .2), λ x d p q. omega (arith, r .0, p .0, p .1)))
+      (λ b. inl (r .0, omega (arith, ltb-false g f b, r .1)))
+      (ways (ltb g f)))
+      (λ axis g p. (p .0, omega (arith, p .1), p .2))
+      (λ axis g p. (p .0, omega (arith, p .1), rw (p .1) w))
+
+  pub summed-passed : (old new : List ℤ) → getD wanted f 0 ≡ 0 → Summed M wanted f old new → Summed M wanted (f + 1) old new
+  summed-passed old new z p =
+      holds-more sumRow (2 ^ 28) (faceSum M) _ (λ axis g. ⊥) _ old new new
+      (λ axis g r. ⊎-elim
+      (λ b. inr ((r .0, ltb-true g f b, r .2), λ x d q. absurd q))
+      (λ b. let e : g ≡ f = omega (arith, ltb-false g f b, r .1) in absurd (omega (arith, z, subst (λ (h : ℕ). 0 < getD wanted h 0) e (r .2))))
+      (ways (ltb g f)))
+      (λ axis g q. (q .0, omega (arith, q .1), q .2)) (λ axis g q. absurd q)
+      p (holds-none sumRow (2 ^ 28) (faceSum M) _ new (λ axis g q. q) (p .small))
+
+-- what the loop over corners takes from the table
+pub sums-of : (M : Mesh) (wanted : List ℕ) (old new : List ℤ) → SumRoom (M .sides) old → Summed M wanted (faceCount M) old new → SumsAre M wanted new
+sums-of M wanted old new r s = λ g l w. record { long = omega (arith, r .0, s .same); sums-are = λ axis a. s .entries-are axis g (a, l, w) }

@@ -1,15 +1,15 @@
--- What refined points are computed from, which an accepted mesh gives, and what the table of refined points holds.
+-- What refined points are computed from, which an accepted mesh gives, and what the tables of sums and of refined points hold.
 -- Assumes nothing.
 use mathlib.Core.Path.{_≡_}
 use mathlib.Core.List.{List}
 use Prim.Native.Nat.{ℕ, _+_, _*_, _^_, _<_, _≤_, _/_}
 use lib.ListN.{length, getD}
 use lib.IntN.{ℤ, pos, natAbs}
-use Rattle.paper.specs.Mesh.{leastSides, mostSides, mostCoordinate, Mesh, cornerCount}
+use Rattle.paper.specs.Mesh.{leastSides, mostSides, mostCoordinate, Mesh, faceCount, cornerCount}
 use Rattle.paper.specs.Corners.{sumOf, faceOf}
 use Rattle.paper.specs.Numbers.{rounded}
-use Rattle.paper.specs.Refined.{refinedPoint}
-use Rattle.surface.specs.Points.{pointRow, pointAt}
+use Rattle.paper.specs.Refined.{faceSum, refinedPoint}
+use Rattle.surface.specs.Points.{pointRow}
 use Rattle.mesh.specs.Tables.{Named}
 use Rattle.wanted.specs.Tables.{Faces}
 
@@ -33,28 +33,66 @@ pub record Ticks (total before here after : ℤ) (n : ℕ) : Type 0 where
   pub here-size : natAbs here ≤ 2 ^ 24
   pub after-size : natAbs after ≤ 2 ^ 24
 
--- no entry is larger than a refined point may be
+-- no entry is larger than the bound, and no larger than a refined point may be
+abbrev pub Within : ℕ → List ℤ → Type 0
+Within bound entries = (i : ℕ) → natAbs (getD entries i (pos 0)) ≤ bound
+
 abbrev pub Small : List ℤ → Type 0
-Small points = (c : ℕ) → natAbs (getD points c (pos 0)) ≤ 2 ^ 24
+Small = Within (2 ^ 24)
 
--- a place that holds none of the points that P chooses, by axis and corner
-abbrev pub Apart : (ℕ → ℕ → Type 0) → ℕ → Type 0
-Apart P i = (axis c : ℕ) → P axis c → i ≡ pointRow * c + axis → ⊥
+-- a place that holds none of the entries that P chooses, by axis and row
+abbrev pub Apart : ℕ → (ℕ → ℕ → Type 0) → ℕ → Type 0
+Apart width P i = (axis r : ℕ) → P axis r → i ≡ width * r + axis → ⊥
 
--- the table `new` has the refined points that P chooses, and is otherwise as before
-pub record Holds (M : Mesh) (P : ℕ → ℕ → Type 0) (old new : List ℤ) : Type 0 where
-  pub points-are : (axis c : ℕ) → P axis c → pointAt new axis c ≡ refinedPoint rounded M axis c
-  pub others : (i : ℕ) → Apart P i → getD new i (pos 0) ≡ getD old i (pos 0)
+-- the table `new`, whose rows have that width, has the values that P chooses, and is otherwise as before
+pub record Holds (width bound : ℕ) (value : ℕ → ℕ → ℤ) (P : ℕ → ℕ → Type 0) (old new : List ℤ) : Type 0 where
+  pub entries-are : (axis r : ℕ) → P axis r → getD new (width * r + axis) (pos 0) ≡ value axis r
+  pub others : (i : ℕ) → Apart width P i → getD new i (pos 0) ≡ getD old i (pos 0)
   pub same : length new ≡ length old
-  pub small : Small new
+  pub small : Within bound new
+
+-- ---- the table of refined points, with a row for each corner
+abbrev pub HoldsPoints : Mesh → (ℕ → ℕ → Type 0) → List ℤ → List ℤ → Type 0
+HoldsPoints M = Holds pointRow (2 ^ 24) (refinedPoint rounded M)
 
 -- those of the corners below n whose face has a nonzero entry in `wanted`, on the three axes
 abbrev pub Pointed : Mesh → List ℕ → ℕ → List ℤ → List ℤ → Type 0
-Pointed M wanted n = Holds M (λ axis c. (axis < 3) × (c < n) × (0 < getD wanted (faceOf (M .sides) c) 0))
+Pointed M wanted n = HoldsPoints M (λ axis c. (axis < 3) × (c < n) × (0 < getD wanted (faceOf (M .sides) c) 0))
 
 -- those of the corners from `start` to before `end`: on the axes below k, and on one
 abbrev pub Added : Mesh → ℕ → ℕ → ℕ → List ℤ → List ℤ → Type 0
-Added M k start end = Holds M (λ axis c. (axis < k) × (start ≤ c) × (c < end))
+Added M k start end = HoldsPoints M (λ axis c. (axis < k) × (start ≤ c) × (c < end))
 
 abbrev pub AddedOn : Mesh → ℕ → ℕ → ℕ → List ℤ → List ℤ → Type 0
-AddedOn M k start end = Holds M (λ axis c. (axis ≡ k) × (start ≤ c) × (c < end))
+AddedOn M k start end = HoldsPoints M (λ axis c. (axis ≡ k) × (start ≤ c) × (c < end))
+
+-- ---- the table of sums, with a row for each face
+abbrev pub sumRow : ℕ
+sumRow = 3
+
+-- a table with a row for each face, and what may stand in it
+abbrev pub SumRoom : List ℕ → List ℤ → Type 0
+SumRoom sides sums = (sumRow * length sides ≤ length sums) × Within (2 ^ 28) sums
+
+abbrev pub HoldsSums : Mesh → (ℕ → ℕ → Type 0) → List ℤ → List ℤ → Type 0
+HoldsSums M = Holds sumRow (2 ^ 28) (faceSum M)
+
+-- the sums of the faces below n that have a nonzero entry in `wanted`, on the three axes
+abbrev pub Summed : Mesh → List ℕ → ℕ → List ℤ → List ℤ → Type 0
+Summed M wanted n = HoldsSums M (λ axis f. (axis < 3) × (f < n) × (0 < getD wanted f 0))
+
+-- those of one face: on the axes below k, and on one
+abbrev pub SummedFace : Mesh → ℕ → ℕ → List ℤ → List ℤ → Type 0
+SummedFace M k f = HoldsSums M (λ axis g. (axis < k) × (g ≡ f))
+
+abbrev pub SummedOn : Mesh → ℕ → ℕ → List ℤ → List ℤ → Type 0
+SummedOn M k f = HoldsSums M (λ axis g. (axis ≡ k) × (g ≡ f))
+
+-- what the loop over corners takes: the table has a row for face f, and its sums are there
+pub record SumsOf (M : Mesh) (f : ℕ) (sums : List ℤ) : Type 0 where
+  pub long : sumRow * f + sumRow ≤ length sums
+  pub sums-are : (axis : ℕ) → axis < 3 → getD sums (sumRow * f + axis) (pos 0) ≡ faceSum M axis f
+
+-- the same for each face that has a nonzero entry in `wanted`
+abbrev pub SumsAre : Mesh → List ℕ → List ℤ → Type 0
+SumsAre M wanted sums = (f : ℕ) → f < faceCount M → 0 < getD wanted f 0 → SumsOf M f sums

@@ -1,6 +1,8 @@
-// The refined points of the faces that are wanted, on the three axes: a row for each corner. A face's sum is formed once and serves all its
-// corners.
+// The refined points of the faces that are wanted, on the three axes: a row for each corner. The sums of these faces are formed first, once
+// for each face and axis, and put into a table; the loop over the corners takes them from there.
+use mesh::SMALL_MESH;
 use numbers::rounding::round_div;
+use paper::MOST_CORNERS;
 use paper::TICKS_PER_STEP;
 use surface::POINT_ROW;
 use walk::Walker;
@@ -15,7 +17,11 @@ ghost use Rattle.paper.specs.Numbers.{sum, round};
 ghost use Rattle.paper.specs.Refined.{ticks, cornersOf};
 ghost use Rattle.surface.specs.Points.{pointRow};
 ghost use Rattle.walk.specs.Table.{Tabled};
-ghost use Rattle.refine.specs.Sources.{Placed, Refinable, Ticks, Small, Pointed, Added, AddedOn};
+ghost use Rattle.refine.specs.Sources.{Placed, Refinable, Ticks, Small, Pointed, Added, AddedOn, SumRoom, Summed, SummedFace, SummedOn, SumsOf, SumsAre};
+
+// The numbers in a row of the table of sums, which has a row for each face. A face has at least three corners, so there are no more sums than
+// corners.
+const SUM_ROW: usize = 3;
 
 // The refined points of the corners whose face has a nonzero entry in `wanted`.
 pub fn fill_points(
@@ -32,11 +38,146 @@ pub fn fill_points(
     requires points { ⌜ (pointRow * length (now corners) ≤ length (now points)) × Small (now points) ⌝ }
     ensures { λ _. ⌜ Pointed (meshOf (now (coordinates .entry)) (now (sides .entry)) (now (corners .entry))) (now (wanted .entry)) (length (now (corners .entry))) (now (points .entry)) (now (points .exit)) ⌝ }
 {
+    if SUM_ROW * sides.len() <= SMALL_MESH {
+        let mut sums = [0i32; SMALL_MESH];
+        fill_over(
+            coordinates,
+            sides,
+            corners,
+            table,
+            wanted,
+            &mut sums,
+            points,
+        );
+    } else {
+        let mut sums = [0i32; MOST_CORNERS];
+        fill_over(
+            coordinates,
+            sides,
+            corners,
+            table,
+            wanted,
+            &mut sums,
+            points,
+        );
+    }
+}
+
+// The same over a table of its own, which is filled first.
+fn fill_over(
+    coordinates: &[i32],
+    sides: &[u8],
+    corners: &[u16],
+    table: &[u16],
+    wanted: &[u8],
+    sums: &mut [i32],
+    points: &mut [i32],
+)
+    requires mesh { ⌜ Refinable (meshOf (now coordinates) (now sides) (now corners)) ⌝ }
+    requires table { ⌜ Tabled (cornersOf (meshOf (now coordinates) (now sides) (now corners))) (now table) ⌝ }
+    requires wanted { ⌜ length (now sides) ≤ length (now wanted) ⌝ }
+    requires sums { ⌜ SumRoom (now sides) (now sums) ⌝ }
+    requires points { ⌜ (pointRow * length (now corners) ≤ length (now points)) × Small (now points) ⌝ }
+    ensures { λ _. ⌜ Pointed (meshOf (now (coordinates .entry)) (now (sides .entry)) (now (corners .entry))) (now (wanted .entry)) (length (now (corners .entry))) (now (points .entry)) (now (points .exit)) ⌝ }
+{
+    fill_sums(coordinates, sides, corners, wanted, sums);
+    fill_faces(coordinates, sides, corners, table, wanted, sums, points);
+}
+
+// Σ of the faces that have a nonzero entry in `wanted`: a row for each, its sum on the three axes.
+fn fill_sums(coordinates: &[i32], sides: &[u8], corners: &[u16], wanted: &[u8], sums: &mut [i32])
+    requires mesh { ⌜ Refinable (meshOf (now coordinates) (now sides) (now corners)) ⌝ }
+    requires wanted { ⌜ length (now sides) ≤ length (now wanted) ⌝ }
+    requires sums { ⌜ SumRoom (now sides) (now sums) ⌝ }
+    ensures { λ _. ⌜ Summed (meshOf (now (coordinates .entry)) (now (sides .entry)) (now (corners .entry))) (now (wanted .entry)) (length (now (sides .entry))) (now (sums .entry)) (now (sums .exit)) ⌝ }
+{
+    let faces = sides.len();
+    let mut start = 0;
+    let mut f = 0;
+    while f < faces {
+        if 0 < wanted[f] {
+            sum_face(coordinates, sides, corners, f, start, sums);
+        }
+        start += sides[f] as usize;
+        f += 1;
+    }
+}
+
+// Σ of one face, whose first corner is `start`.
+fn sum_face(
+    coordinates: &[i32],
+    sides: &[u8],
+    corners: &[u16],
+    f: usize,
+    start: usize,
+    sums: &mut [i32],
+)
+    requires mesh { ⌜ Refinable (meshOf (now coordinates) (now sides) (now corners)) ⌝ }
+    requires face { ⌜ (f < length (now sides)) × (start ≡ startOf (now sides) f) ⌝ }
+    requires sums { ⌜ SumRoom (now sides) (now sums) ⌝ }
+    ensures { λ _. ⌜ SummedFace (meshOf (now (coordinates .entry)) (now (sides .entry)) (now (corners .entry))) 3 f (now (sums .entry)) (now (sums .exit)) ⌝ }
+{
+    sum_axis(coordinates, sides, corners, 0, f, start, sums);
+    sum_axis(coordinates, sides, corners, 1, f, start, sums);
+    sum_axis(coordinates, sides, corners, 2, f, start, sums);
+}
+
+// The same on one axis.
+fn sum_axis(
+    coordinates: &[i32],
+    sides: &[u8],
+    corners: &[u16],
+    axis: usize,
+    f: usize,
+    start: usize,
+    sums: &mut [i32],
+)
+    requires mesh { ⌜ Refinable (meshOf (now coordinates) (now sides) (now corners)) ⌝ }
+    requires face { ⌜ (axis < 3) × (f < length (now sides)) × (start ≡ startOf (now sides) f) ⌝ }
+    requires sums { ⌜ SumRoom (now sides) (now sums) ⌝ }
+    ensures { λ _. ⌜ SummedOn (meshOf (now (coordinates .entry)) (now (sides .entry)) (now (corners .entry))) axis f (now (sums .entry)) (now (sums .exit)) ⌝ }
+{
+    let n = sides[f] as usize;
+    sums[SUM_ROW * f + axis] = face_sum(coordinates, corners, axis, start, n);
+}
+
+// Σ: the sum of the vertices of `n` corners from `start` on.
+fn face_sum(coordinates: &[i32], corners: &[u16], axis: usize, start: usize, n: usize) -> i32
+    requires placed { ⌜ Placed (now coordinates) (now corners) ⌝ }
+    requires face { ⌜ (axis < 3) × (start + n ≤ length (now corners)) × (n ≤ mostSides) ⌝ }
+    ensures { λ r. ⌜ ((sides : List ℕ) → r ≡ sum (λ j. ticks (meshOf (now (coordinates .entry)) sides (now (corners .entry))) axis (start + j)) n) ⌝ }
+{
+    let mut total: i64 = 0;
+    let mut j = 0;
+    while j < n {
+        total += tick(coordinates, corners, axis, start + j);
+        j += 1;
+    }
+    total as i32
+}
+
+// The refined points of the corners whose face has a nonzero entry in `wanted`, with the sums of these faces.
+fn fill_faces(
+    coordinates: &[i32],
+    sides: &[u8],
+    corners: &[u16],
+    table: &[u16],
+    wanted: &[u8],
+    sums: &[i32],
+    points: &mut [i32],
+)
+    requires mesh { ⌜ Refinable (meshOf (now coordinates) (now sides) (now corners)) ⌝ }
+    requires table { ⌜ Tabled (cornersOf (meshOf (now coordinates) (now sides) (now corners))) (now table) ⌝ }
+    requires wanted { ⌜ length (now sides) ≤ length (now wanted) ⌝ }
+    requires sums { ⌜ SumsAre (meshOf (now coordinates) (now sides) (now corners)) (now wanted) (now sums) ⌝ }
+    requires points { ⌜ (pointRow * length (now corners) ≤ length (now points)) × Small (now points) ⌝ }
+    ensures { λ _. ⌜ Pointed (meshOf (now (coordinates .entry)) (now (sides .entry)) (now (corners .entry))) (now (wanted .entry)) (length (now (corners .entry))) (now (points .entry)) (now (points .exit)) ⌝ }
+{
     let mut start = 0;
     let mut f = 0;
     while f < sides.len() {
         if wanted[f] != 0 {
-            fill_face(coordinates, sides, corners, table, f, start, points);
+            fill_face(coordinates, sides, corners, table, sums, f, start, points);
         }
         start += sides[f] as usize;
         f += 1;
@@ -49,6 +190,7 @@ fn fill_face(
     sides: &[u8],
     corners: &[u16],
     table: &[u16],
+    sums: &[i32],
     f: usize,
     start: usize,
     points: &mut [i32],
@@ -56,20 +198,52 @@ fn fill_face(
     requires mesh { ⌜ Refinable (meshOf (now coordinates) (now sides) (now corners)) ⌝ }
     requires table { ⌜ Tabled (cornersOf (meshOf (now coordinates) (now sides) (now corners))) (now table) ⌝ }
     requires face { ⌜ (f < length (now sides)) × (start ≡ startOf (now sides) f) ⌝ }
+    requires sums { ⌜ SumsOf (meshOf (now coordinates) (now sides) (now corners)) f (now sums) ⌝ }
     requires points { ⌜ (pointRow * length (now corners) ≤ length (now points)) × Small (now points) ⌝ }
     ensures { λ _. ⌜ Added (meshOf (now (coordinates .entry)) (now (sides .entry)) (now (corners .entry))) 3 start (startOf (now (sides .entry)) (f + 1)) (now (points .entry)) (now (points .exit)) ⌝ }
 {
-    fill_axis(coordinates, sides, corners, table, 0, f, start, points);
-    fill_axis(coordinates, sides, corners, table, 1, f, start, points);
-    fill_axis(coordinates, sides, corners, table, 2, f, start, points);
+    fill_axis(
+        coordinates,
+        sides,
+        corners,
+        table,
+        sums,
+        0,
+        f,
+        start,
+        points,
+    );
+    fill_axis(
+        coordinates,
+        sides,
+        corners,
+        table,
+        sums,
+        1,
+        f,
+        start,
+        points,
+    );
+    fill_axis(
+        coordinates,
+        sides,
+        corners,
+        table,
+        sums,
+        2,
+        f,
+        start,
+        points,
+    );
 }
 
-// The same on one axis: the sum of the face's vertices is formed once.
+// The same on one axis.
 fn fill_axis(
     coordinates: &[i32],
     sides: &[u8],
     corners: &[u16],
     table: &[u16],
+    sums: &[i32],
     axis: usize,
     f: usize,
     start: usize,
@@ -78,12 +252,13 @@ fn fill_axis(
     requires mesh { ⌜ Refinable (meshOf (now coordinates) (now sides) (now corners)) ⌝ }
     requires table { ⌜ Tabled (cornersOf (meshOf (now coordinates) (now sides) (now corners))) (now table) ⌝ }
     requires face { ⌜ (axis < 3) × (f < length (now sides)) × (start ≡ startOf (now sides) f) ⌝ }
+    requires sums { ⌜ SumsOf (meshOf (now coordinates) (now sides) (now corners)) f (now sums) ⌝ }
     requires points { ⌜ (pointRow * length (now corners) ≤ length (now points)) × Small (now points) ⌝ }
     ensures { λ _. ⌜ AddedOn (meshOf (now (coordinates .entry)) (now (sides .entry)) (now (corners .entry))) axis start (startOf (now (sides .entry)) (f + 1)) (now (points .entry)) (now (points .exit)) ⌝ }
 {
     let n = sides[f];
     let end = start + n as usize;
-    let total = face_sum(coordinates, corners, axis, start, n as usize);
+    let total = sums[SUM_ROW * f + axis] as i64;
     let mut c = start;
     while c < end {
         let at = Walker { corner: c };
@@ -105,21 +280,6 @@ fn tick(coordinates: &[i32], corners: &[u16], axis: usize, c: usize) -> i64
 {
     let v = corners[c] as usize;
     TICKS_PER_STEP * coordinates[3 * v + axis] as i64
-}
-
-// Σ: the sum of the vertices of `n` corners from `start` on.
-fn face_sum(coordinates: &[i32], corners: &[u16], axis: usize, start: usize, n: usize) -> i64
-    requires placed { ⌜ Placed (now coordinates) (now corners) ⌝ }
-    requires face { ⌜ (axis < 3) × (start + n ≤ length (now corners)) × (n ≤ mostSides) ⌝ }
-    ensures { λ r. ⌜ ((sides : List ℕ) → r ≡ sum (λ j. ticks (meshOf (now (coordinates .entry)) sides (now (corners .entry))) axis (start + j)) n) ⌝ }
-{
-    let mut total: i64 = 0;
-    let mut j = 0;
-    while j < n {
-        total += tick(coordinates, corners, axis, start + j);
-        j += 1;
-    }
-    total
 }
 
 // r(t / 8n).

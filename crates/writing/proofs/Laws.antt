@@ -154,7 +154,7 @@ module _ (M : Mesh) (accepted : Accepted M) (table wanted : List ℕ) (old point
       let ok = corners-sound M accepted in
       net-same (refinedOf rounded M axis) (drawn (cornerCount M) table points axis) agree ok c h
       (λ e j. let near = ring-near M accepted c h e j in
-      sym (v .points-are axis (ring K c e j) (a, ring-in K ok c h e j, rw (near .in-face) (near-of k (near .at) l (near .at-in) (near .at-vertex)))))
+      sym (v .entries-are axis (ring K c e j) (a, ring-in K ok c h e j, rw (near .in-face) (near-of k (near .at) l (near .at-in) (near .at-vertex)))))
 
   -- what is written from the tables is what the mesh has
   pub drawn-written : (out : List ℤ) → first + count ≤ cornerCount M → length out ≡ perCorner * count

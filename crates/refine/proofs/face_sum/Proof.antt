@@ -2,17 +2,19 @@
 -- Assumes nothing.
 use mathlib.Core.Path.{_≡_, ap, _∙_, sym}
 use mathlib.Core.List.{List, []}
-use Prim.Native.Nat.{ℕ, _+_, _-_, _≤_}
+use Prim.Native.Nat.{ℕ, _+_, _-_, _^_, _≤_}
+use lib.Dec.{lit<}
 use lib.IntN.{ℤ, _+ℤ_}
 use denote.Ref.{now}
-use mir.Syntax.{w64}
+use mir.Syntax.{w32, w64}
 use mir.Val.{SFits, toZ, ofZ}
 use mir.Facts.{toZ-ofZ}
 use Rattle.paper.specs.Mesh.{meshOf}
 use Rattle.paper.specs.Numbers.{sum}
 use Rattle.paper.specs.Refined.{ticks}
 use Rattle.integers.proofs.Sum.{sum-zero, sum-more}
-use Rattle.refine.proofs.Laws.{sum-fits}
+use Rattle.integers.proofs.Machine.{abs-fits}
+use Rattle.refine.proofs.Laws.{sum-most}
 use native.Mathlib.Omega.{arith}
 use borrow.Author.Needs.{needs}
 use Rattle.refine.proofs.face_sum.Statement.{statement}
@@ -41,8 +43,8 @@ module _ (c : tie.After-tick Inv-loop μ-loop) (sides : List ℕ) where
   step =
       let s = c .before .before .before .before in
       let l = c .before .before .loop in
-      let fits = sum-fits (now (s .args .coordinates)) (now (s .args .corners)) (s .pre .0) (s .args .axis) (s .args .start) (s .pre .1 .0) sides (l .j + 1)
-      (omega (arith, s .pre .1 .1)) (omega (arith, s .pre .1 .2)) in
+      let fits = abs-fits w64 (sum vertex (l .j + 1)) (2 ^ 28) (sum-most (now (s .args .coordinates)) (now (s .args .corners)) (s .pre .0) (s .args .axis)
+      (s .args .start) (s .pre .1 .0) sides (l .j + 1) (omega (arith, s .pre .1 .1)) (omega (arith, s .pre .1 .2))) (lit< tt) in
       rw sum-more (turn (l .total) (c .tick .result) (sum vertex (l .j)) (vertex (l .j)) (search needs) (l .inv .1 sides) (c .tick .ensures sides)
       (rw sum-more at fits))
 
@@ -67,12 +69,29 @@ loop-less c = search needs
 loop-again : tie.Need-loop-again Inv-loop μ-loop
 loop-again c = (search needs, λ sides. step c sides .1)
 
+-- the whole sum, and that it fits the shorter number
+module _ (c : tie.After-loop Inv-loop μ-loop) (sides : List ℕ) where
+  abbrev s : tie.Start Inv-loop μ-loop
+  s = c .before .before .before
+
+  whole : toZ w64 (c .before .loop .total)
+      ≡ sum (λ j. ticks (meshOf (now (s .args .coordinates)) sides (now (s .args .corners))) (s .args .axis) (s .args .start + j)) (s .args .n)
+  whole =
+      let e : c .before .loop .j ≡ s .args .n = omega arith in
+      c .before .loop .inv .1 sides
+      ∙ ap (sum (λ j. ticks (meshOf (now (s .args .coordinates)) sides (now (s .args .corners))) (s .args .axis) (s .args .start + j))) e
+
+  narrow : SFits w32 (toZ w64 (c .before .loop .total))
+  narrow =
+      rw whole
+      (abs-fits w32 _ (2 ^ 28) (sum-most (now (s .args .coordinates)) (now (s .args .corners)) (s .pre .0) (s .args .axis) (s .args .start) (s .pre .1 .0)
+      sides (s .args .n) (s .pre .1 .1) (s .pre .1 .2)) (lit< tt))
+
+cast-result : tie.Need-cast-result Inv-loop μ-loop
+cast-result c = narrow c []
+
 returns : tie.Need-returns Inv-loop μ-loop
-returns c =
-    let s = c .before .before .before in
-    let l = c .before .loop in
-    let e : l .j ≡ s .args .n = omega arith in
-    λ sides. l .inv .1 sides ∙ ap (sum (λ j. ticks (meshOf (now (s .args .coordinates)) sides (now (s .args .corners))) (s .args .axis) (s .args .start + j))) e
+returns c = λ sides. toZ-ofZ (narrow c sides) ∙ whole c sides
 
 pub face-sum-spec : {M : Type 1} → statement M
 face-sum-spec =
@@ -87,4 +106,5 @@ face-sum-spec =
     add-j
     loop-less
     loop-again
+    cast-result
     returns)

@@ -1,12 +1,12 @@
 -- `refine::fill_axis` meets its contract: those of the corners below `c` are put in, and the values of the calls give the next.
 -- Assumes nothing.
 use mathlib.Core.Path.{_≡_, refl, _∙_}
-use Prim.Native.Nat.{ℕ, _+_, _-_, _*_, _≤_, _<_}
+use Prim.Native.Nat.{ℕ, _+_, _-_, _*_, _^_, _≤_, _<_}
 use native.Mathlib.Omega.{arith}
 use borrow.Author.Needs.{needs}
 use lib.Dec.{lit<}
 use lib.ListN.{length, getD, length-set}
-use lib.IntN.{ℤ, pos, _*ℤ_}
+use lib.IntN.{ℤ, pos, natAbs, _*ℤ_}
 use denote.Ref.{now}
 use mir.Syntax.{w32, w64}
 use mir.Val.{SFits, toZ, ofZ}
@@ -14,25 +14,46 @@ use mir.Facts.{toZ-ofZ}
 use Rattle.paper.specs.Mesh.{mostCorners, Mesh, meshOf}
 use Rattle.paper.specs.Corners.{sumOf, startOf, next, previous}
 use Rattle.paper.specs.Numbers.{rounded, round}
-use Rattle.paper.specs.Refined.{refinedPoint, cornersOf}
+use Rattle.paper.specs.Refined.{faceSum, refinedPoint, cornersOf}
+use Rattle.integers.proofs.Machine.{abs-fits}
 use Rattle.mesh.proofs.Faces.{start-next, next-below, previous-below}
 use Rattle.surface.specs.Points.{pointRow}
 use Rattle.walk.specs.Table.{rowLength, toNext, toPrevious}
-use Rattle.refine.specs.Sources.{Ticks, AddedOn}
-use Rattle.refine.proofs.Laws.{end-in, eightfold, sizes, point-sizes, point-is, added-on-none, added-set}
+use Rattle.refine.specs.Sources.{Ticks, AddedOn, sumRow}
+use Rattle.refine.proofs.Laws.{end-in, face-sum-most, eightfold, sizes, point-sizes, point-is, added-on-none, added-set}
 use Rattle.refine.proofs.fill_axis.Statement.{statement}
 use Rattle.refine.proofs.fill_axis.Tie as tie
 
 abbrev Inv-loop : tie.InvT-loop
-Inv-loop coordinates sides corners table axis f start points₀ n end total c₀ points c =
+Inv-loop coordinates sides corners table sums axis f start points₀ n end total c₀ points c =
     (start ≤ c) × (c ≤ end) × (end ≤ length corners) × (length corners ≤ mostCorners) × (pointRow * length corners ≤ length points)
     × AddedOn (meshOf coordinates sides corners) axis start c points₀ points
 
 abbrev μ-loop : tie.MeasureT-loop
-μ-loop coordinates sides corners table axis f start points₀ n end total c₀ points c = end - c
+μ-loop coordinates sides corners table sums axis f start points₀ n end total c₀ points c = end - c
 
 abbrev mesh : tie.Start Inv-loop μ-loop → Mesh
 mesh s = meshOf (now (s .args .coordinates)) (now (s .args .sides)) (now (s .args .corners))
+
+-- the face's entry in the table of sums
+module _ (s : tie.Start Inv-loop μ-loop) where
+  abbrev entry : ℤ
+  entry = getD (now (s .args .sums)) (sumRow * s .args .f + s .args .axis) (pos 0)
+
+  entry-in : sumRow * s .args .f + s .args .axis < length (now (s .args .sums))
+  entry-in = omega (arith, s .pre .1 .1 .1 .0 .long, s .pre .1 .1 .0 .0)
+
+  entry-is : entry ≡ faceSum (mesh s) (s .args .axis) (s .args .f)
+  entry-is = s .pre .1 .1 .1 .0 .sums-are (s .args .axis) (s .pre .1 .1 .0 .0)
+
+  entry-size : natAbs entry ≤ 2 ^ 28
+  entry-size = rw entry-is (face-sum-most (mesh s) (s .pre .0) (s .args .f) (s .pre .1 .1 .0 .1) (s .args .axis) (s .pre .1 .1 .0 .0))
+
+  narrow : SFits w32 entry
+  narrow = abs-fits w32 entry (2 ^ 28) entry-size (lit< tt)
+
+  wide : SFits w64 entry
+  wide = abs-fits w64 entry (2 ^ 28) entry-size (lit< tt)
 
 -- a corner's row in the table, and the corners before and after it
 module _ (s : tie.Start Inv-loop μ-loop) (c : ℕ) (h : c < length (now (s .args .corners))) where
@@ -70,7 +91,7 @@ module _ (c : tie.After-tick3 Inv-loop μ-loop) where
   at = c .before .before .before .before .before .before .loop .c
 
   abbrev total : ℤ
-  total = toZ w64 (ofZ w64 (c .before .before .before .before .before .before .before .face-sum .result))
+  total = toZ w64 (ofZ w64 (toZ w32 (ofZ w32 (entry s))))
 
   abbrev before : ℤ
   before = toZ w64 (ofZ w64 (c .before .before .tick .result))
@@ -90,11 +111,10 @@ module _ (c : tie.After-tick3 Inv-loop μ-loop) where
       let l = c .before .before .before .before .before .before .loop in
       let p = before-is (c .before .before .before .before) in
       let q = after-is (c .before .before .before) in
-      let fT : SFits w64 (c .before .before .before .before .before .before .before .face-sum .result) = search needs in
       let fB : SFits w64 (c .before .before .tick .result) = search needs in
       let fH : SFits w64 (c .before .tick2 .result) = search needs in
       let fA : SFits w64 (c .tick3 .result) = search needs in
-      let eT = toZ-ofZ fT ∙ c .before .before .before .before .before .before .before .face-sum .ensures sides in
+      let eT : total ≡ faceSum (mesh s) (s .args .axis) (s .args .f) = simp (toZ-ofZ, narrow s, wide s) (entry-is s) in
       let eB = toZ-ofZ fB ∙ c .before .before .tick .ensures sides in
       let eH = toZ-ofZ fH ∙ c .before .tick2 .ensures sides in
       let eA = toZ-ofZ fA ∙ c .tick3 .ensures sides in
@@ -119,14 +139,20 @@ add-end c =
     let s = c .before .before .before .before in
     omega (arith, end-in (mesh s) (s .pre .0) (s .args .f) (s .pre .1 .1 .0 .1), s .pre .1 .1 .0 .2, s .pre .0 .sums, s .pre .0 .faces .few)
 
-cast-face-sum : tie.Need-cast-face-sum Inv-loop μ-loop
-cast-face-sum c = omega (arith, c .shared-slice-known4 .given (c .before .before .before .before .args .f))
+mul-total : tie.Need-mul-total Inv-loop μ-loop
+mul-total c = let s = c .before .before .before .before in omega (arith, entry-in s, s .pre .0 .faces .few)
 
-face-sum-requires : tie.Need-face-sum-requires Inv-loop μ-loop
-face-sum-requires c κs =
-    let s = c .before .before .before .before in
-    let f = s .pre .1 .1 .0 in
-    (s .pre .0 .placed, (f .0, omega (arith, end-in (mesh s) (s .pre .0) (s .args .f) (f .1), f .2), s .pre .0 .faces .most (s .args .f) (f .1)))
+add-total : tie.Need-add-total Inv-loop μ-loop
+add-total c = let s = c .before .before .before .before in omega (arith, entry-in s, s .pre .0 .faces .few)
+
+mul-total-2 : tie.Need-mul-total-2 Inv-loop μ-loop
+mul-total-2 c = let s = c .before .before .before .before in omega (arith, entry-in s, s .pre .0 .faces .few)
+
+shared-slice-copy-out-total : tie.Need-shared-slice-copy-out-total Inv-loop μ-loop
+shared-slice-copy-out-total c = entry-in (c .before .before .before .before)
+
+cast-total : tie.Need-cast-total Inv-loop μ-loop
+cast-total c = let s = c .before .before .before .before .before in simp (toZ-ofZ, narrow s) (wide s)
 
 loop-holds : tie.Need-loop-holds Inv-loop μ-loop
 loop-holds c =
@@ -136,8 +162,8 @@ loop-holds c =
       omega arith,
       omega (arith, end-in (mesh s) (s .pre .0) (s .args .f) (f .1), f .2),
       omega (arith, s .pre .0 .sums, s .pre .0 .faces .few),
-      s .pre .1 .1 .1 .0,
-      added-on-none (mesh s) (s .args .axis) (s .args .start) _ (s .pre .1 .1 .1 .1),
+      s .pre .1 .1 .1 .1 .0,
+      added-on-none (mesh s) (s .args .axis) (s .args .start) _ (s .pre .1 .1 .1 .1 .1),
     )
 
 previous-requires : tie.Need-previous-requires Inv-loop μ-loop
@@ -175,14 +201,14 @@ room c =
     let l = c .before .before .before .before .before .before .before .loop in
     omega (arith, l .inv .4, l .inv .2, s (c .before) .pre .1 .1 .0 .0, c .before .before .before .before .before .before .loop-test .taken)
 
-mul-t24 : tie.Need-mul-t24 Inv-loop μ-loop
-mul-t24 c = omega (arith, room c, s (c .before) .pre .1 .1 .0 .0)
+mul-t29 : tie.Need-mul-t29 Inv-loop μ-loop
+mul-t29 c = omega (arith, room c, s (c .before) .pre .1 .1 .0 .0)
 
-add-t25 : tie.Need-add-t25 Inv-loop μ-loop
-add-t25 c = omega (arith, room c, s (c .before) .pre .1 .1 .0 .0)
+add-t30 : tie.Need-add-t30 Inv-loop μ-loop
+add-t30 c = omega (arith, room c, s (c .before) .pre .1 .1 .0 .0)
 
-mul-t26 : tie.Need-mul-t26 Inv-loop μ-loop
-mul-t26 c = omega (arith, room c, s (c .before) .pre .1 .1 .0 .0)
+mul-t31 : tie.Need-mul-t31 Inv-loop μ-loop
+mul-t31 c = omega (arith, room c, s (c .before) .pre .1 .1 .0 .0)
 
 slice-set-from-points : tie.Need-slice-set-from-points Inv-loop μ-loop
 slice-set-from-points c = room c
@@ -230,8 +256,11 @@ fill-axis-spec =
     shared-slice-read-n
     cast-end
     add-end
-    cast-face-sum
-    face-sum-requires
+    mul-total
+    add-total
+    mul-total-2
+    shared-slice-copy-out-total
+    cast-total
     loop-holds
     previous-requires
     next-requires
@@ -239,9 +268,9 @@ fill-axis-spec =
     tick-requires-2
     tick-requires-3
     refined-requires
-    mul-t24
-    add-t25
-    mul-t26
+    mul-t29
+    add-t30
+    mul-t31
     slice-set-from-points
     add-c
     loop-less

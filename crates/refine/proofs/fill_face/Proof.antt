@@ -18,7 +18,7 @@ fill-axis-requires-2 c κs =
     let s = c .before .before .before .before .before .before .before in
     let f = s .pre .1 .1 .0 in
     let k = c .before .before .fill-axis .ensures in
-    (s .pre .0, (s .pre .1 .0, ((lit< tt, f .0, f .1), (omega (arith, s .pre .1 .1 .1 .0, k .same), k .small))))
+    (s .pre .0, (s .pre .1 .0, ((lit< tt, f .0, f .1), (s .pre .1 .1 .1 .0, (omega (arith, s .pre .1 .1 .1 .1 .0, k .same), k .small)))))
 
 fill-axis-requires-3 : tie.Need-fill-axis-requires-3
 fill-axis-requires-3 c κs =
@@ -26,7 +26,7 @@ fill-axis-requires-3 c κs =
     let f = s .pre .1 .1 .0 in
     let k = c .before .before .before .before .before .fill-axis .ensures in
     let l = c .before .before .fill-axis2 .ensures in
-    (s .pre .0, (s .pre .1 .0, ((lit< tt, f .0, f .1), (omega (arith, s .pre .1 .1 .1 .0, k .same, l .same), l .small))))
+    (s .pre .0, (s .pre .1 .0, ((lit< tt, f .0, f .1), (s .pre .1 .1 .1 .0, (omega (arith, s .pre .1 .1 .1 .1 .0, k .same, l .same), l .small)))))
 
 same-length : tie.Need-same-length
 same-length c = search needs
@@ -36,7 +36,7 @@ returns c =
     let s = c .before .before .before .before .before .before .before .before .before .before .before .before in
     added-axis _ 2 _ (lit< tt) _ _ _ _
     (added-axis _ 1 _ (lit< tt) _ _ _ _
-    (added-axis _ 0 _ (lit< tt) _ _ _ _ (added-none _ _ _ _ (s .pre .1 .1 .1 .1)) (c .before .before .before .before .before .before .before
+    (added-axis _ 0 _ (lit< tt) _ _ _ _ (added-none _ _ _ _ (s .pre .1 .1 .1 .1 .1)) (c .before .before .before .before .before .before .before
     .fill-axis .ensures))
     (c .before .before .before .before .fill-axis2 .ensures))
     (c .before .fill-axis3 .ensures)

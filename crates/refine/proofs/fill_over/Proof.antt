@@ -1,0 +1,45 @@
+-- `refine::fill_over` meets its contract: the sums are in the table when the loop over corners takes them.
+-- Assumes nothing.
+use native.Mathlib.Omega.{arith}
+use borrow.Author.Needs.{needs}
+use denote.Ref.{now}
+use Rattle.paper.specs.Mesh.{Mesh, meshOf}
+use Rattle.refine.proofs.Laws.{sums-of}
+use Rattle.refine.proofs.fill_over.Statement.{statement}
+use Rattle.refine.proofs.fill_over.Tie as tie
+
+abbrev mesh : tie.Start → Mesh
+mesh s = meshOf (now (s .args .coordinates)) (now (s .args .sides)) (now (s .args .corners))
+
+fill-sums-requires : tie.Need-fill-sums-requires
+fill-sums-requires c κs = search needs
+
+fill-faces-requires : tie.Need-fill-faces-requires
+fill-faces-requires c κs =
+    let s = c .before .before .before .before .before .before .before .before .before in
+    let room = s .pre .1 .1 .1 .0 in (
+      s .pre .0,
+      (
+        s .pre .1 .0,
+        (
+          s .pre .1 .1 .0,
+          (
+            sums-of (mesh s) (now (s .args .wanted)) _ _ room (c .before .before .before .fill-sums .ensures),
+            s .pre .1 .1 .1 .1,
+          ),
+        ),
+      ),
+    )
+
+same-length : tie.Need-same-length
+same-length c = search needs
+
+same-length-2 : tie.Need-same-length-2
+same-length-2 c = search needs
+
+returns : tie.Need-returns
+returns c = search needs
+
+pub fill-over-spec : {M : Type 1} → statement M
+fill-over-spec =
+    tie.close (tie.spec fill-sums-requires fill-faces-requires same-length same-length-2 returns)
