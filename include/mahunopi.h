@@ -1,10 +1,11 @@
 /*
  * Mahunopi: smooth patches over a closed mesh, in whole numbers.
  *
- * The five functions below are the proved library's C face (libmahunopi.a). A mesh is three lists: coordinates, side
+ * The functions below are the proved library's C face (libmahunopi.a). A mesh is three lists: coordinates, side
  * counts and corners. mahunopi_survey counts what a .dms file holds, mahunopi_decode reads its lists, mahunopi_link
  * fills the link table of a mesh, mahunopi_build writes the control points of a range of corners, mahunopi_floats
- * gives one of these points as floats. Each is complete in itself: none relies on an earlier call.
+ * gives one of these points as floats. mahunopi_nest lists a table of nested grids. Each is complete in itself: none
+ * relies on an earlier call.
  *
  * Every function returns MAHUNOPI_DONE, or the number of a refusal (enum mahunopi_refusal). After a refusal *place
  * says where, and everything else that was lent keeps its contents; when done, *place keeps its contents.
@@ -43,13 +44,16 @@ extern "C" {
 #define MAHUNOPI_MAX_SIDES 12
 /* The numbers that building writes for a corner: 41 control points of x, y, z. */
 #define MAHUNOPI_NUMBERS_PER_CORNER 123
+/* The most bodies of a nesting table, and what stands for the Sun in it. */
+#define MAHUNOPI_MAX_BODIES 256
+#define MAHUNOPI_SUN 65535
 /* The bytes of stack that a call may take. */
 #define MAHUNOPI_CALL_STACK 294912
 
 /*
  * What a function answers. A file is checked by 1 to 13, linking by 4 to 14, building by 4 to 17, a control point in
- * floats by 18 to 20. Each number is tried over the whole input before the next, and the place is the lowest that
- * applies.
+ * floats by 18 to 20, a nesting table by 21 to 23. Each number is tried over the whole input before the next, and the
+ * place is the lowest that applies.
  *
  * From a corner the leaving edge runs to the vertex of the next corner of its face, cyclically, and the arriving edge
  * comes from the vertex of the previous one. The link of a corner is the corner of the same vertex whose arriving edge
@@ -101,6 +105,12 @@ enum mahunopi_refusal {
     MAHUNOPI_BAD_NUMBER = 19,
     /* the point number is above 40 (place: that number) */
     MAHUNOPI_NO_SUCH_POINT = 20,
+    /* there are no bodies, above 256, or the listing's length differs from the bodies' (place 0) */
+    MAHUNOPI_BAD_BODY_COUNT = 21,
+    /* a number is neither below the body count nor MAHUNOPI_SUN (place: the body) */
+    MAHUNOPI_NO_SUCH_HOLDER = 22,
+    /* a chain does not end at the Sun (place: the lowest such body) */
+    MAHUNOPI_CHAIN_WITHOUT_SUN = 23,
     /* surveying and decoding, after 1 to 13: a lent list is too short (place: the length that the first such needs) */
     MAHUNOPI_LENT_TOO_SHORT = 255
 };
@@ -234,6 +244,22 @@ uint32_t mahunopi_floats(
     float floats[6],
     /* receives 0 where the point is near and 1 where it is far; not null */
     uint32_t *pairs,
+    /* receives the place of a refusal; not null */
+    uint64_t *place);
+
+/*
+ * Nesting: checks a table of nested grids by 21 to 23 and lists its bodies, each after the one whose grid it hangs in,
+ * the lowest number first among those that may come next.
+ */
+uint32_t mahunopi_nest(
+    /* for each body the number of the body whose grid it hangs in, or MAHUNOPI_SUN */
+    const uint16_t *holders,
+    /* how many bodies */
+    size_t body_count,
+    /* receives the numbers of the bodies in their order */
+    uint16_t *listing,
+    /* how many entries it has: has to be body_count */
+    size_t listing_count,
     /* receives the place of a refusal; not null */
     uint64_t *place);
 

@@ -10,6 +10,7 @@ use Rattle.mirror.proofs.Theorem.{mirrors}
 use Rattle.examples.proofs.Claim.{examples}
 use Rattle.floats.proofs.Theorems.{far-pairs, float-sums, one-answer}
 use Rattle.floats.proofs.Nets.{nets-pass}
+use Rattle.nesting.proofs.Theorems.{chains-decide, listing-ordered, one-listing}
 
 pub claims : Claims
 claims = record {
@@ -25,4 +26,7 @@ claims = record {
   float-sums = float-sums;
   one-answer = one-answer;
   nets-pass = nets-pass;
+  chains-decide = chains-decide;
+  listing-ordered = listing-ordered;
+  one-listing = one-listing;
 }

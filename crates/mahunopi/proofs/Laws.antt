@@ -21,7 +21,9 @@ use Rattle.paper.specs.Counts.{verticesWith, facesWith, forEach}
 use Rattle.paper.specs.File.{fileVerdict, fileMesh, begins, noRoom, FileSurveyed, DecodedTo}
 use Rattle.paper.specs.Calls.{Linked, nets, buildVerdict, Built}
 use Rattle.paper.specs.Floats.{pointVerdict, Pointed}
-use Rattle.paper.specs.CFace.{States, LinkCall, BuildCall, Lengths, three, lentVerdict, DecodeCall, countsOf, surveyVerdict, SurveyCall, put, FloatsCall}
+use Rattle.paper.specs.Nesting.{listing, Nested}
+use Rattle.paper.specs.CFace.{States, LinkCall, BuildCall, Lengths, three, lentVerdict, DecodeCall, countsOf, surveyVerdict, SurveyCall, put}
+use Rattle.paper.specs.CFace.{FloatsCall, NestCall}
 use Rattle.paper.specs.declared.Answer.{Answer}
 use Rattle.paper.specs.declared.Answer.the-variants.{Done, Refused}
 use Rattle.paper.specs.declared.Counts.{Counts}
@@ -50,6 +52,13 @@ pub build-call : (M : Mesh) (links : List ℕ) (first count : ℕ) (old : List �
 build-call M links first count old r out before n after b s = record {
   answers = told _ r before n after (b .answers) s;
   holds = subst (λ (v : Verdict). out ≡ kept v (nets M first count) old) (b .answers) (b .holds);
+}
+
+pub nest-call : (holders old : List ℕ) (r : Answer) (out : List ℕ) (before n after : ℕ) → Nested holders old r out
+    → States (stated r) before n after → NestCall holders old before n after out
+nest-call holders old r out before n after k s = record {
+  answers = told _ r before n after (k .answers) s;
+  holds = subst (λ (v : Verdict). out ≡ kept v (listing holders) old) (k .answers) (k .holds);
 }
 
 -- ---- decoding

@@ -8,7 +8,7 @@ ghost use lib.ListN.{length};
 ghost use Rattle.paper.specs.Mesh.{meshOf, mostSides};
 ghost use Rattle.paper.specs.Faults.{stated};
 ghost use Rattle.paper.specs.File.{fileOf, begins};
-ghost use Rattle.paper.specs.CFace.{States, LinkCall, BuildCall, three, DecodeCall, countsOf, SurveyCall, FloatsCall};
+ghost use Rattle.paper.specs.CFace.{States, LinkCall, BuildCall, three, DecodeCall, countsOf, SurveyCall, FloatsCall, NestCall};
 use paper::Answer;
 use paper::FloatPoint;
 use paper::NUMBERS;
@@ -151,6 +151,15 @@ pub extern "C" fn mahunopi_floats(
         }
         FloatPoint::Refused(number, at) => { tell(Answer::Refused(number, at), place) }
     }
+}
+
+// Listing nested grids.
+#[no_mangle]
+pub extern "C" fn mahunopi_nest(holders: &[u16], listing: &mut [u16], place: &mut u64) -> u32
+    ensures { λ r. ⌜ NestCall (now (holders .entry)) (now (listing .entry)) (now (place .entry)) r (now (place .exit)) (now (listing .exit)) ⌝ }
+{
+    let a = nesting::nest(holders, listing);
+    tell(a, place)
 }
 
 // Whether one of two lists has no room for every m.

@@ -16,6 +16,7 @@ use Rattle.paper.specs.Counts.{verticesWith, facesWith, forEach}
 use Rattle.paper.specs.File.{fileMesh, fileVerdict, begins, noRoom, decodeVerdict}
 use Rattle.paper.specs.Calls.{nets, buildVerdict}
 use Rattle.paper.specs.Floats.{pointVerdict, Pointed}
+use Rattle.paper.specs.Nesting.{nestingVerdict, listing}
 use Rattle.paper.specs.declared.Counts.{Counts}
 use Rattle.paper.specs.declared.Floats.{Floats}
 use Rattle.paper.specs.declared.FloatPoint.{FloatPoint}
@@ -111,3 +112,7 @@ pub record FloatsCall (numbers : List ℤ) (point : ℕ) (old : List Float) (pai
   pub pointed : Pointed numbers point point-is
   pub holds : floats ≡ laid point-is old
   pub tells : told ≡ pairsOf point-is pairs
+
+pub record NestCall (holders old : List ℕ) (before r after : ℕ) (out : List ℕ) : Type 0 where
+  pub answers : States (nestingVerdict holders (length old)) before r after
+  pub holds : out ≡ kept (nestingVerdict holders (length old)) (listing holders) old

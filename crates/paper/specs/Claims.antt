@@ -2,6 +2,7 @@
 -- Assumes nothing.
 use mathlib.Core.Path.{_≡_}
 use mathlib.Core.List.{List}
+use mathlib.Core.Logic.{_↔_}
 use Prim.Native.Nat.{ℕ, _+_, _*_, _≤_, _<_}
 use lib.ListN.{length, take, drop}
 use lib.IntN.{ℤ}
@@ -12,6 +13,7 @@ use Rattle.paper.specs.Cosines.{RowRules}
 use Rattle.paper.specs.Net.{Side}
 use Rattle.paper.specs.Calls.{perCorner, nets, Built}
 use Rattle.paper.specs.Floats.{netVerdict, difference, first, second, axes, Pointed, sums, FarPair}
+use Rattle.paper.specs.Nesting.{tableVerdict, nestingVerdict, Nested, Ends, Ordered}
 use Rattle.paper.specs.CFace.{BuildCall}
 use Rattle.paper.specs.Borders.{Output, Wrote, outputOf, Borders, Smooth}
 use Rattle.paper.specs.Mirror.{Mirror}
@@ -78,6 +80,19 @@ NetsPass =
     (M : Mesh) (links : List ℕ) (first count : ℕ) (old out : List ℤ) → Built M links first count old Done out
     → (k : ℕ) → k < count → netVerdict (take perCorner (drop (perCorner * k) out)) ≡ sound
 
+-- ---- L4: a table that passes 21 and 22 is accepted exactly when every body's chain ends at the Sun
+abbrev pub ChainsDecide : Type 0
+ChainsDecide =
+    (holders : List ℕ) (n : ℕ) → tableVerdict holders n ≡ sound
+    → (nestingVerdict holders n ≡ sound) ↔ ((b : ℕ) → b < length holders → Ends holders b)
+
+-- the listing that a call leaves has each body once, after the one it hangs in, with none lower possible; and no other list has
+abbrev pub ListingOrdered : Type 0
+ListingOrdered = (holders old out : List ℕ) → Nested holders old Done out → Ordered holders out
+
+abbrev pub OneListing : Type 0
+OneListing = (holders old out other : List ℕ) → Nested holders old Done out → Ordered holders other → other ≡ out
+
 -- ---- all of them
 pub record Claims : Type 0 where
   pub rules : TableRules
@@ -92,3 +107,6 @@ pub record Claims : Type 0 where
   pub float-sums : FloatSums
   pub one-answer : OneAnswer
   pub nets-pass : NetsPass
+  pub chains-decide : ChainsDecide
+  pub listing-ordered : ListingOrdered
+  pub one-listing : OneListing

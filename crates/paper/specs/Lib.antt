@@ -8,6 +8,7 @@
 --     Refined, Face, Net   "From corner to 41 points"
 --     Calls      linking and building as calls, 14 to 17
 --     Floats     L1: a control point as floats, 18 to 20
+--     Nesting    L4: the nested grids as a table, 21 to 23, the listing, the call
 --     CFace      the C face
 --     Borders    "The four conditions across a side"
 --     Mirror     a mesh with one axis negated
@@ -28,6 +29,7 @@ pub mod Face
 pub mod Net
 pub mod Calls
 pub mod Floats
+pub mod Nesting
 pub mod CFace
 pub mod Borders
 pub mod Mirror

@@ -22,6 +22,11 @@ pub const TICKS_PER_STEP: i64 = 256;
 // The numbers that building writes for a corner: x, y, z of each of its 41 points.
 pub const NUMBERS_PER_CORNER: usize = 123;
 
+// The most bodies of a nesting table, and what stands for the Sun in it.
+pub const MOST_BODIES: usize = 256;
+
+pub const SUN: u16 = 65535;
+
 // What a check, linking and building answer: done, or refused with 01's number and place.
 pub enum Answer {
     Done,

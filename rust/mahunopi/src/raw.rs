@@ -68,4 +68,12 @@ extern "C" {
         pairs: *mut u32,
         place: *mut u64,
     ) -> u32;
+    /// Listing nested grids.
+    pub fn mahunopi_nest(
+        holders: *const u16,
+        body_count: usize,
+        listing: *mut u16,
+        listing_count: usize,
+        place: *mut u64,
+    ) -> u32;
 }

@@ -6,8 +6,8 @@ use std::fmt;
 macro_rules! faults {
     ($($name:ident = $number:literal, $words:literal, $place:expr;)*) => {
         /// The faults that an input is turned down for, each with its number. A file is checked by 1 to 13, linking by
-        /// 4 to 14, building by 4 to 17, a control point in floats by 18 to 20, each over the whole input before the
-        /// next.
+        /// 4 to 14, building by 4 to 17, a control point in floats by 18 to 20, a nesting table by 21 to 23, each over
+        /// the whole input before the next.
         #[derive(Clone, Copy, Debug, PartialEq, Eq, PartialOrd, Ord, Hash)]
         #[non_exhaustive]
         pub enum Fault {
@@ -56,6 +56,9 @@ faults! {
     BadNetLength = 18, "the list of a corner's numbers is not 123 long", Some("its length");
     BadNumber = 19, "a number in the list is outside -2^27 to 2^27", Some("its position in the list");
     NoSuchPoint = 20, "the point number is above 40", Some("that number");
+    BadBodyCount = 21, "there are no bodies, above 256, or the listing's length differs from the bodies'", None;
+    NoSuchHolder = 22, "a number is neither below the body count nor 65,535", Some("the body");
+    ChainWithoutSun = 23, "a chain does not end at the Sun", Some("the lowest such body");
     LentTooShort = 255, "a lent list is too short for what the file holds", Some("the length it needs");
 }
 

@@ -1,18 +1,21 @@
-//! An independent implementation of document 01 and of L1, in plain Rust: the file, the check of a mesh, linking,
-//! building, the four conditions across a side, a control point in floats. It is written from the papers alone and
-//! shares nothing with the proved library, so that the two can be compared; nobody has proved it.
+//! An independent implementation of document 01, of L1 and of L4, in plain Rust: the file, the check of a mesh, linking,
+//! building, the four conditions across a side, a control point in floats, the listing of nested grids. It is written
+//! from the papers alone and shares nothing with the proved library, so that the two can be compared; nobody has
+//! proved it.
 
 mod check;
 pub mod conditions;
 mod cosines;
 mod file;
 mod floats;
+mod nesting;
 mod surface;
 
 pub use check::{check, link, links_of};
 pub use cosines::cosine;
 pub use file::{decode, encode, inspect, patches, summary, Counts, Lengths, LENT_TOO_SHORT};
 pub use floats::{floats, FloatPoint};
+pub use nesting::{nest, nest_lines};
 pub use surface::{build, nets, round, Net, Point, NUMBERS_PER_CORNER};
 
 /// The most vertices, faces and corners that a mesh may have.

@@ -1,0 +1,5 @@
+pub mod Lists
+pub mod Places
+pub mod Theorems
+pub mod Laws
+pub mod Examples

@@ -1,0 +1,75 @@
+-- `list` meets its contract: 23 refuses and nothing was written, or the order is copied.
+-- Assumes nothing.
+use mathlib.Core.Path.{sym, ap, _∙_}
+use denote.Ref.{now}
+use Rattle.paper.specs.Faults.{stated}
+use Rattle.mesh.proofs.Verdicts.{passed}
+use Rattle.nesting.proofs.Laws.{list-refused, list-done}
+use borrow.Author.Needs.{needs}
+use Rattle.nesting.proofs.list.Statement.{statement}
+use Rattle.nesting.proofs.list.Tie as tie
+
+arrange-requires : tie.Need-arrange-requires
+arrange-requires c κs = search needs
+
+check-chains-requires : tie.Need-check-chains-requires
+check-chains-requires c κs = search needs
+
+enum-known-a23 : tie.Need-enum-known-a23
+enum-known-a23 c = search needs
+
+same-length : tie.Need-same-length
+same-length c = search needs
+
+same-length-2 : tie.Need-same-length-2
+same-length-2 c = search needs
+
+returns : tie.Need-returns
+returns c =
+    let s = c .before .before .before .before .before .before .before .before .before .before .before .before .before .before .before .before in
+    let r = c .before .a23 .given in
+    list-refused (now (s .args .holders)) (now (s .args .listing)) (r .0 .0) (r .0 .1 .0)
+    (ap stated (sym (r .1)) ∙ c .before .before .before .check-chains .ensures)
+
+enum-told : tie.Need-enum-told
+enum-told c = search needs
+
+copy-requires : tie.Need-copy-requires
+copy-requires c κs = search needs
+
+same-length-3 : tie.Need-same-length-3
+same-length-3 c = search needs
+
+same-length-4 : tie.Need-same-length-4
+same-length-4 c = search needs
+
+same-length-5 : tie.Need-same-length-5
+same-length-5 c = search needs
+
+returns-2 : tie.Need-returns-2
+returns-2 c =
+    let t23 = c .before .before .before .before .before in
+    let d = c .before .before .before .before .before .before .before .before .before .before .before .before .before in
+    let s = d .before .before .before .before .before .before .before in
+    let a = d .arrange in
+    let k = c .before .before .copy in
+    let e23 = passed (t23 .before .before .check-chains .result) (t23 .before .before .check-chains .ensures) (t23 .enum-told .given .1) in
+    list-done (now (s .args .holders)) (now (s .args .listing)) e23 (s .pre .1) (a .last .1 .0) (a .last .1 .1 .0) (k .last .1 .0)
+    (a .ensures) (k .ensures)
+
+pub list-spec : {M : Type 1} → statement M
+list-spec =
+    tie.close
+    (tie.spec
+    arrange-requires
+    check-chains-requires
+    enum-known-a23
+    same-length
+    same-length-2
+    returns
+    enum-told
+    copy-requires
+    same-length-3
+    same-length-4
+    same-length-5
+    returns-2)
