@@ -17,6 +17,7 @@ use Rattle.integers.proofs.Poly.{over, poly}
 use Rattle.integers.proofs.Laws.{mul-le}
 use Rattle.integers.proofs.Floor.{IsFloor, floor-is, floor-unique, double-pos, pos-of}
 use Rattle.numbers.specs.Near.{Near}
+use Rattle.numbers.specs.Sign.{sign}
 
 -- r from zero on: n / d + 1/2, rounded down
 abbrev up : ℤ → ℤ → ℤ
@@ -65,11 +66,6 @@ pub near-is : (n d q : ℤ) → T (ltZ (pos 0) d) → q ≡ round n d → Near n
 near-is n d q t e = rw e (round-near n d (ltZ-yes t))
 
 -- ---- as the code computes it
--- one less below zero: n shifted down to its sign
-abbrev pub sign : ℤ → ℤ
-sign (pos a) = pos 0
-sign (negsuc a) = negsuc 0
-
 pub sign-bounds : (n : ℤ) → (negsuc 0 ≤ℤ sign n) × (sign n ≤ℤ pos 0)
 sign-bounds (pos a) = simp diff (omega arith, omega arith)
 sign-bounds (negsuc a) = simp diff (omega arith, omega arith)
@@ -78,9 +74,16 @@ pub sign-size : (n : ℤ) → SFits w64 (sign n)
 sign-size (pos a) = record { sfits = lit< tt }
 sign-size (negsuc a) = record { sfits = lit< tt }
 
-pub shift-sign : (n : ℤ) → natAbs n ≤ 2 ^ 60 → shrZ n 9223372036854775808 ≡ sign n
-shift-sign (pos a) h = ap pos (div-eq-of-lt (omega arith))
-shift-sign (negsuc a) h = ap negsuc (div-eq-of-lt (omega arith))
+pub sign-double : (n : ℤ) → sign (pos 2 *ℤ n) ≡ sign n
+sign-double (pos a) = refl
+sign-double (negsuc a) = ap sign (below a)
+  where
+    below : (a : ℕ) → pos 2 *ℤ negsuc a ≡ negsuc (2 * a + 1)
+    below a = simp diff (omega arith)
+
+pub shift-sign : (n : ℤ) → SFits w64 n → shrZ n 9223372036854775808 ≡ sign n
+shift-sign (pos a) h = ap pos (div-eq-of-lt (omega (arith, h .sfits)))
+shift-sign (negsuc a) h = ap negsuc (div-eq-of-lt (omega (arith, h .sfits)))
 
 -- a shift rounds down, and makes no number larger
 pub shift-floor : (z : ℤ) (m : ℕ) → shrZ z m ≡ floor z (pos m)

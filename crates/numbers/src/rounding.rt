@@ -1,14 +1,29 @@
 // The rounding r of every stage: a quotient to the nearest whole number, halves away from zero. Every other crate calls `round_div`,
 // `round_shift` where the divisor is a power of two, or `round_product` where the sum is small, and cites the laws of `round`, so that another
-// rounding is another definition, here alone. A number shifted down by 63 bits is its sign, -1 below zero and else 0: added to the dividend it
-// turns halves below zero down, and no branch is needed.
+// rounding is another definition, here alone. The sign, -1 below zero and else 0, turns halves below zero down, and no branch is needed.
 ghost use mathlib.Core.Path.{_≡_};
 ghost use Prim.Native.Nat.{_^_, _≤_};
-ghost use lib.IntN.{pos, natAbs, _*ℤ_};
+ghost use lib.IntN.{pos, negsuc, natAbs, _+ℤ_, _-ℤ_, _*ℤ_};
 ghost use lib.Signed.{_≤ℤ_, _<ℤ_};
 ghost use Rattle.paper.specs.Numbers.{round};
+ghost use Rattle.numbers.specs.Sign.{sign};
 ghost use Rattle.numbers.specs.Lift.{Lifts};
 ghost use Rattle.numbers.specs.Product.{Scales};
+
+// The sign of n: a shift copies it down.
+fn sign(n: i64) -> i64
+    ensures { λ r. ⌜ (r ≡ sign n) × (negsuc 0 ≤ℤ r) × (r ≤ℤ pos 0) ⌝ }
+{
+    n >> 63
+}
+
+// What both roundings divide, rounding down: n and half its divisor, one less below zero.
+fn raised(n: i64, half: i64) -> i64
+    requires { ⌜ (natAbs n ≤ 2 ^ 61) × (natAbs half ≤ 2 ^ 36) ⌝ }
+    ensures { λ r. ⌜ r ≡ n +ℤ half +ℤ sign n ⌝ }
+{
+    n + half + sign(n)
+}
 
 // A number whose product with m lies between every dividend of `round_div` and what is left of the width above it.
 fn lift(m: i64) -> i64
@@ -28,7 +43,7 @@ pub fn round_div(n: i64, d: i64) -> i64
 {
     let m = 2 * d;
     let l = lift(m);
-    let t = 2 * n + d + (n >> 63) + l * m;
+    let t = raised(2 * n, d) + l * m;
     let q = t as u64 / m as u64;
     q as i64 - l
 }
@@ -38,7 +53,7 @@ pub fn round_shift(n: i64, k: u32) -> i64
     requires { ⌜ (1 ≤ k) × (k ≤ 36) × (natAbs n ≤ 2 ^ 60) ⌝ }
     ensures { λ r. ⌜ r ≡ round n (pos (2 ^ k)) ⌝ }
 {
-    (n + (n >> 63) + (1 << (k - 1))) >> k
+    raised(n, 1 << (k - 1)) >> k
 }
 
 // r(n / 2h) of a small n, by a product: m is a little more than 2^30 / h, so the product lies a little further from zero than n / 2h, and halves go

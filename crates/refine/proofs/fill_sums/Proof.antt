@@ -1,10 +1,12 @@
 -- `refine::fill_sums` meets its contract: the sums of the faces before `f` are put in.
 -- Assumes nothing.
-use mathlib.Core.Path.{_≡_, refl, _∙_, sym}
+use mathlib.Core.Path.{_≡_, refl, _∙_, sym, subst}
+use mathlib.Core.List.{List}
 use mathlib.Core.Logic.{⊎-elim}
-use Prim.Native.Nat.{_-_, _*_, _≤_, _<_}
+use Prim.Native.Nat.{ℕ, _-_, _*_, _≤_, _<_}
 use native.Mathlib.Omega.{arith}
 use borrow.Author.Needs.{needs}
+use lib.IntN.{ℤ}
 use lib.ListN.{length}
 use denote.Ref.{now}
 use Rattle.paper.specs.Mesh.{Mesh, meshOf}
@@ -76,12 +78,15 @@ loop-again c =
 same-length : tie.Need-same-length Inv-loop μ-loop
 same-length c = c .before .loop .inv .2 .same
 
+up-to : (M : Mesh) (wanted : List ℕ) {n m : ℕ} (old new : List ℤ) → n ≡ m → Summed M wanted n old new → Summed M wanted m old new
+up-to M wanted old new e h = subst (λ (k : ℕ). Summed M wanted k old new) e h
+
 returns : tie.Need-returns Inv-loop μ-loop
 returns c =
     let s = c .before .before .before .before .before in
     let l = c .before .loop in
     let e : l .f ≡ length (now (s .args .sides)) = omega arith in
-    rw (← e) (l .inv .2)
+    up-to (mesh s) (now (s .args .wanted)) _ _ e (l .inv .2)
 
 pub fill-sums-spec : {M : Type 1} → statement M
 fill-sums-spec =

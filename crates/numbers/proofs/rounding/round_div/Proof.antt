@@ -1,14 +1,14 @@
 -- `rounding::round_div` meets its contract. Each step's value fits by the bounds on n and d; the lifted dividend is not negative, so the quotient
 -- of the machine is the floor; and with the sign s the floor of 2n + d + s + l·m is the floor of 2n + d + s, plus l.
 -- Assumes nothing.
-use mathlib.Core.Path.{_≡_, refl, sym, _∙_}
+use mathlib.Core.Path.{_≡_, refl, sym, ap, _∙_}
 use Prim.Native.Nat.{_+_, _-_, _/_, _^_, _<_, _≤_}
 use native.Mathlib.Nat.{le-trans, div-le-self}
 use native.Mathlib.Omega.{arith}
 use borrow.Author.Needs.{needs}
 use lib.Dec.{T}
 use lib.IntN.{ℤ, pos, negsuc, natAbs, _+ℤ_, _-ℤ_, _*ℤ_}
-use lib.Signed.{_≤ℤ_, _<ℤ_, nonNeg, shrZ}
+use lib.Signed.{_≤ℤ_, _<ℤ_, nonNeg}
 use mir.Syntax.{w64}
 use mir.Val.{Fits, SFits, toZ}
 use mir.Facts.{toZ-ofZ, toZ-pos}
@@ -18,7 +18,8 @@ use Rattle.integers.proofs.Poly.{over, poly}
 use Rattle.integers.proofs.Laws.{nonneg}
 use Rattle.integers.proofs.Floor.{IsFloor, floor-is, floor-unique, double-pos}
 use Rattle.numbers.specs.Lift.{Lifts}
-use Rattle.numbers.proofs.Nearest.{sign, sign-bounds, sign-size, shift-sign, round-floor}
+use Rattle.numbers.specs.Sign.{sign}
+use Rattle.numbers.proofs.Nearest.{sign-bounds, sign-double, round-floor}
 use Rattle.numbers.proofs.rounding.round_div.Statement.{statement}
 use Rattle.numbers.proofs.rounding.round_div.Tie as tie
 
@@ -32,13 +33,20 @@ Sign s = (negsuc 0 ≤ℤ s) × (s ≤ℤ pos 0)
 abbrev m : ℤ → ℤ
 m d = pos 2 *ℤ d
 
+-- what `raised` answers, with its sign s
+abbrev z : ℤ → ℤ → ℤ → ℤ
+z n d s = pos 2 *ℤ n +ℤ d +ℤ s
+
 abbrev t : ℤ → ℤ → ℤ → ℤ → ℤ
-t n d s l = pos 2 *ℤ n +ℤ d +ℤ s +ℤ l *ℤ m d
+t n d s l = z n d s +ℤ l *ℤ m d
 
 -- before the lift is known
-plain : (n d s : ℤ) → Ok n d → Sign s
-    → SFits w64 (pos 2 *ℤ n) × SFits w64 (pos 2 *ℤ n +ℤ d) × SFits w64 (m d) × (m d ≤ℤ pos (2 ^ 37)) × (pos 0 ≤ℤ m d) × (natAbs (m d) ≤ 2 ^ 37)
-    × SFits w64 (pos 2 *ℤ n +ℤ d +ℤ s)
+abbrev Plain : ℤ → ℤ → ℤ → Type 0
+Plain n d s =
+    SFits w64 (pos 2 *ℤ n) × SFits w64 (m d) × (m d ≤ℤ pos (2 ^ 37)) × (pos 0 ≤ℤ m d) × (natAbs (m d) ≤ 2 ^ 37) × SFits w64 (z n d s)
+    × (natAbs (pos 2 *ℤ n) ≤ 2 ^ 61) × (natAbs d ≤ 2 ^ 36)
+
+plain : (n d s : ℤ) → Ok n d → Sign s → Plain n d s
 plain = over 3 _ λ ρ. simp (poly, ρ) (omega arith)
 
 lifted : (n d s l : ℤ) → Ok n d → Sign s → pos (2 ^ 61 + 2 ^ 37) ≤ℤ (l *ℤ m d) → (l *ℤ m d) ≤ℤ pos (2 ^ 62)
@@ -59,7 +67,7 @@ some : (d : ℤ) → pos 0 <ℤ d → 0 < natAbs d
 some (pos a) h = let k = simp diff at h in omega arith
 some (negsuc a) h = absurd (h .lt)
 
-raised : (n d s l q : ℤ) → IsFloor (pos 2 *ℤ n +ℤ d +ℤ s) (m d) q → IsFloor (t n d s l) (m d) (q +ℤ l)
+raised : (n d s l q : ℤ) → IsFloor (z n d s) (m d) q → IsFloor (t n d s l) (m d) (q +ℤ l)
 raised = over 5 _ λ ρ. simp (poly, ρ) (omega arith)
 
 lowered : (q l r : ℤ) → q ≡ r +ℤ l → q -ℤ l ≡ r
@@ -70,7 +78,7 @@ less-fits = over 2 _ λ ρ. simp (poly, ρ) (omega arith)
 
 -- what each step after the lift asks
 abbrev dividend : ℤ → ℤ → ℤ → ℤ
-dividend n d l = t n d (sign n) l
+dividend n d l = t n d (sign (pos 2 *ℤ n)) l
 
 pub record Facts (n d l : ℤ) : Type 0 where
   pub sums : SFits w64 (l *ℤ m d) × SFits w64 (dividend n d l)
@@ -84,25 +92,29 @@ pub record Facts (n d l : ℤ) : Type 0 where
 
 module _ (n d l : ℤ) (ok : Ok n d) (k : Lifts (m d) l) where
   up : SFits w64 (l *ℤ m d) × SFits w64 (dividend n d l) × (pos 0 ≤ℤ dividend n d l) × (natAbs (dividend n d l) ≤ 2 ^ 63 - 1)
-  up = lifted n d (sign n) l ok (sign-bounds n) (k .enough) (k .fits)
+  up = lifted n d (sign (pos 2 *ℤ n)) l ok (sign-bounds (pos 2 *ℤ n)) (k .enough) (k .fits)
+
+  plainly : Plain n d (sign (pos 2 *ℤ n))
+  plainly = plain n d (sign (pos 2 *ℤ n)) ok (sign-bounds (pos 2 *ℤ n))
 
   within : natAbs (dividend n d l) / natAbs (m d) ≤ 2 ^ 63 - 1
   within = le-trans (div-le-self (natAbs (dividend n d l)) (natAbs (m d))) (up .3)
 
   value : pos (natAbs (dividend n d l) / natAbs (m d)) -ℤ l ≡ round n d
   value =
-      let z = pos 2 *ℤ n +ℤ d +ℤ sign n in
+      let s = sign (pos 2 *ℤ n) in
       let h = double-pos d (ok .0) in
-      lowered _ l (floor z (m d))
+      lowered _ l (floor (z n d s) (m d))
       (quotient (dividend n d l) (m d) (up .2)
-      ∙ sym (floor-unique (dividend n d l) (m d) (floor z (m d) +ℤ l) h (raised n d (sign n) l (floor z (m d)) (floor-is z (m d) h))))
+      ∙ sym (floor-unique (dividend n d l) (m d) (floor (z n d s) (m d) +ℤ l) h (raised n d s l (floor (z n d s) (m d)) (floor-is (z n d s) (m d) h))))
+      ∙ ap (λ (s : ℤ). floor (z n d s) (m d)) (sign-double n)
       ∙ sym (round-floor n d (ok .0))
 
   facts : Facts n d l
   facts = record {
     sums = (up .0, up .1);
     raised = (above-zero (dividend n d l) (up .2), record { fits = omega (arith, up .3) });
-    divisor = (above-zero (m d) (plain n d (sign n) ok (sign-bounds n) .4), record { fits = omega (arith, plain n d (sign n) ok (sign-bounds n) .5) });
+    divisor = (above-zero (m d) (plainly .3), record { fits = omega (arith, plainly .4) });
     some = some (m d) (double-pos d (ok .0));
     quotient = record { sfits = omega (arith, within) };
     read = toZ-pos w64 (omega (arith, within));
@@ -112,89 +124,79 @@ module _ (n d l : ℤ) (ok : Ok n d) (k : Lifts (m d) l) where
 
 -- before the lift
 module _ (c : tie.Start) where
-  plainly : SFits w64 (pos 2 *ℤ c .args .n) × SFits w64 (pos 2 *ℤ c .args .n +ℤ c .args .d) × SFits w64 (m (c .args .d))
-      × (m (c .args .d) ≤ℤ pos (2 ^ 37)) × (pos 0 ≤ℤ m (c .args .d)) × (natAbs (m (c .args .d)) ≤ 2 ^ 37)
-      × SFits w64 (pos 2 *ℤ c .args .n +ℤ c .args .d +ℤ sign (c .args .n))
-  plainly = plain (c .args .n) (c .args .d) (sign (c .args .n)) (c .pre) (sign-bounds (c .args .n))
+  plainly-at : Plain (c .args .n) (c .args .d) (sign (pos 2 *ℤ c .args .n))
+  plainly-at = plain (c .args .n) (c .args .d) (sign (pos 2 *ℤ c .args .n)) (c .pre) (sign-bounds (pos 2 *ℤ c .args .n))
 
-  signed : shrZ (c .args .n) 9223372036854775808 ≡ sign (c .args .n)
-  signed = shift-sign (c .args .n) (c .pre .1 .1)
-
--- the lift, in plain integers
-module _ (c : tie.After-lift) where
-  known : Facts (c .before .args .n) (c .before .args .d) (c .lift .result)
+-- the lift and what is lifted, in plain integers
+module _ (c : tie.After-raised) where
+  known : Facts (c .before .before .args .n) (c .before .before .args .d) (c .before .lift .result)
   known =
-      facts (c .before .args .n) (c .before .args .d) (c .lift .result) (c .before .pre)
-      (simp (toZ-ofZ, c .before .fits .d, plainly (c .before) .2) at (c .lift .ensures))
+      facts (c .before .before .args .n) (c .before .before .args .d) (c .before .lift .result) (c .before .before .pre)
+      (simp (toZ-ofZ, c .before .before .fits .d, plainly-at (c .before .before) .1) at (c .before .lift .ensures))
+
+  is-raised : c .raised .result ≡ z (c .before .before .args .n) (c .before .before .args .d) (sign (pos 2 *ℤ c .before .before .args .n))
+  is-raised = simp (toZ-ofZ, c .before .before .fits .n, c .before .before .fits .d, plainly-at (c .before .before) .0) at (c .raised .ensures)
 
 mul-m : tie.Need-mul-m
-mul-m c = search (needs, plainly c)
+mul-m c = search (needs, plainly-at c)
 
 lift-requires : tie.Need-lift-requires
-lift-requires c κs = simp (toZ-ofZ, c .fits .d, plainly c .2) (double-pos (c .args .d) (c .pre .0), plainly c .3)
+lift-requires c κs = simp (toZ-ofZ, c .fits .d, plainly-at c .1) (double-pos (c .args .d) (c .pre .0), plainly-at c .2)
+
+mul-raised : tie.Need-mul-raised
+mul-raised c = search (needs, plainly-at (c .before))
+
+raised-requires : tie.Need-raised-requires
+raised-requires c κs =
+    let p = plainly-at (c .before) in
+    simp (toZ-ofZ, c .before .fits .n, c .before .fits .d, p .0) (p .6, p .7)
 
 mul-t : tie.Need-mul-t
-mul-t c = search (needs, plainly (c .before))
+mul-t c = search (needs, plainly-at (c .before .before), known c)
 
 add-t : tie.Need-add-t
-add-t c = search (needs, plainly (c .before))
-
-add-t-2 : tie.Need-add-t-2
-add-t-2 c =
-    let p = plainly (c .before) in
-    simp (toZ-ofZ, c .before .fits .n, c .before .fits .d, signed (c .before), sign-size (c .before .args .n), p .0, p .1) (p .6)
-
-mul-t-2 : tie.Need-mul-t-2
-mul-t-2 c = search (needs, plainly (c .before), known c)
-
-add-t-3 : tie.Need-add-t-3
-add-t-3 c =
-    let p = plainly (c .before) in
+add-t c =
+    let p = plainly-at (c .before .before) in
     let k = known c in
-    let f : SFits w64 (c .lift .result) = search needs in
-    let g = sign-size (c .before .args .n) in
-    simp (toZ-ofZ, c .before .fits .n, c .before .fits .d, signed (c .before), g, p .0, p .1, p .2, p .6, f, k .sums .0) (k .sums .1)
+    let f : SFits w64 (c .before .lift .result) = search needs in
+    simp (is-raised c, toZ-ofZ, c .before .before .fits .n, c .before .before .fits .d, p .0, p .1, p .5, f, k .sums .0) (k .sums .1)
 
 cast-q : tie.Need-cast-q
 cast-q c =
-    let p = plainly (c .before) in
+    let p = plainly-at (c .before .before) in
     let k = known c in
-    let f : SFits w64 (c .lift .result) = search needs in
-    let g = sign-size (c .before .args .n) in
-    simp (toZ-ofZ, c .before .fits .n, c .before .fits .d, signed (c .before), g, p .0, p .1, p .2, p .6, f, k .sums .0, k .sums .1) (k .raised)
+    let f : SFits w64 (c .before .lift .result) = search needs in
+    simp (is-raised c, toZ-ofZ, c .before .before .fits .n, c .before .before .fits .d, p .0, p .1, p .5, f, k .sums .0, k .sums .1) (k .raised)
 
 cast-q-2 : tie.Need-cast-q-2
-cast-q-2 c = search (needs, plainly (c .before), known c)
+cast-q-2 c = search (needs, plainly-at (c .before .before), known c)
 
 div-q : tie.Need-div-q
-div-q c = search (needs, plainly (c .before), known c)
+div-q c = search (needs, plainly-at (c .before .before), known c)
 
 cast-result : tie.Need-cast-result
 cast-result c =
-    let p = plainly (c .before) in
+    let p = plainly-at (c .before .before) in
     let k = known c in
-    let f : SFits w64 (c .lift .result) = search needs in
-    let g = sign-size (c .before .args .n) in
-    simp (toZ-ofZ, c .before .fits .n, c .before .fits .d, signed (c .before), g, p .0, p .1, p .2, p .6, f, k .sums .0, k .sums .1) (k .quotient)
+    let f : SFits w64 (c .before .lift .result) = search needs in
+    simp (is-raised c, toZ-ofZ, c .before .before .fits .n, c .before .before .fits .d, p .0, p .1, p .5, f, k .sums .0, k .sums .1) (k .quotient)
 
 sub-result : tie.Need-sub-result
 sub-result c =
-    let p = plainly (c .before) in
+    let p = plainly-at (c .before .before) in
     let k = known c in
-    let f : SFits w64 (c .lift .result) = search needs in
-    let g = sign-size (c .before .args .n) in
-    simp (toZ-ofZ, c .before .fits .n, c .before .fits .d, signed (c .before), g, p .0, p .1, p .2, p .6, f, k .sums .0, k .sums .1, k .read) (k .result)
+    let f : SFits w64 (c .before .lift .result) = search needs in
+    simp (is-raised c, toZ-ofZ, c .before .before .fits .n, c .before .before .fits .d, p .0, p .1, p .5, f, k .sums .0, k .sums .1, k .read) (k .result)
 
 returns : tie.Need-returns
 returns c =
-    let p = plainly (c .before) in
+    let p = plainly-at (c .before .before) in
     let k = known c in
-    let f : SFits w64 (c .lift .result) = search needs in
-    let g = sign-size (c .before .args .n) in
-    simp (toZ-ofZ, c .before .fits .n, c .before .fits .d, signed (c .before), g, p .0, p .1, p .2, p .6, f, k .sums .0, k .sums .1, k .read)
+    let f : SFits w64 (c .before .lift .result) = search needs in
+    simp (is-raised c, toZ-ofZ, c .before .before .fits .n, c .before .before .fits .d, p .0, p .1, p .5, f, k .sums .0, k .sums .1, k .read)
     (toZ-ofZ (k .result) ∙ k .value)
 
 pub round-div-spec : {M : Type 1} → statement M
 round-div-spec =
     tie.close
-    (tie.spec mul-m lift-requires mul-t add-t add-t-2 mul-t-2 add-t-3 cast-q cast-q-2 div-q cast-result sub-result returns)
+    (tie.spec mul-m lift-requires mul-raised raised-requires mul-t add-t cast-q cast-q-2 div-q cast-result sub-result returns)

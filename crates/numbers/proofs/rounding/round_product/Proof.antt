@@ -16,7 +16,8 @@ use Rattle.integers.proofs.Laws.{mul-le, abs-mul-le}
 use Rattle.integers.proofs.Floor.{IsFloor, floor-is, floor-unique, double-pos, step-le}
 use Rattle.integers.proofs.Machine.{abs-fits}
 use Rattle.numbers.specs.Product.{Scales}
-use Rattle.numbers.proofs.Nearest.{sign, shift-floor, shift-size, round-floor}
+use Rattle.numbers.specs.Sign.{sign}
+use Rattle.numbers.proofs.Nearest.{shift-floor, shift-size, round-floor}
 use Rattle.numbers.proofs.rounding.round_product.Statement.{statement}
 use Rattle.numbers.proofs.rounding.round_product.Tie as tie
 

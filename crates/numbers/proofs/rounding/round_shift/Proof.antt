@@ -18,7 +18,8 @@ use Rattle.integers.proofs.Diff.{diff}
 use Rattle.integers.proofs.Poly.{over, poly}
 use Rattle.integers.proofs.Floor.{IsFloor, floor-is, floor-unique, double-pos}
 use Rattle.integers.proofs.Machine.{abs-fits}
-use Rattle.numbers.proofs.Nearest.{sign, sign-bounds, sign-size, shift-sign, shift-floor, shift-size, round-floor}
+use Rattle.numbers.specs.Sign.{sign}
+use Rattle.numbers.proofs.Nearest.{sign-bounds, sign-size, shift-sign, shift-floor, shift-size, round-floor}
 use Rattle.numbers.proofs.rounding.round_shift.Statement.{statement}
 use Rattle.numbers.proofs.rounding.round_shift.Tie as tie
 
@@ -26,26 +27,26 @@ above : (m : ℕ) → 0 < m → pos 0 <ℤ pos m
 above m h = simp diff (omega arith)
 
 -- e is half the divisor, s the sign
-both : (e n s q : ℤ) → (negsuc 0 ≤ℤ s) × (s ≤ℤ pos 0) → IsFloor (n +ℤ s +ℤ e) (pos 2 *ℤ e) q
+both : (e n s q : ℤ) → (negsuc 0 ≤ℤ s) × (s ≤ℤ pos 0) → IsFloor (n +ℤ e +ℤ s) (pos 2 *ℤ e) q
     → IsFloor (pos 2 *ℤ n +ℤ pos 2 *ℤ e +ℤ s) (pos 2 *ℤ (pos 2 *ℤ e)) q
 both = over 4 _ λ ρ. simp (poly, ρ) (omega arith)
 
-halved : (n : ℤ) (m : ℕ) → 0 < m → floor (n +ℤ sign n +ℤ pos m) (pos 2 *ℤ pos m) ≡ round n (pos 2 *ℤ pos m)
+halved : (n : ℤ) (m : ℕ) → 0 < m → floor (n +ℤ pos m +ℤ sign n) (pos 2 *ℤ pos m) ≡ round n (pos 2 *ℤ pos m)
 halved n m h =
     let d = double-pos (pos m) (above m h) in
-    let q = floor (n +ℤ sign n +ℤ pos m) (pos 2 *ℤ pos m) in
+    let q = floor (n +ℤ pos m +ℤ sign n) (pos 2 *ℤ pos m) in
     floor-unique (pos 2 *ℤ n +ℤ pos 2 *ℤ pos m +ℤ sign n) (pos 2 *ℤ (pos 2 *ℤ pos m)) q (double-pos (pos 2 *ℤ pos m) d)
-    (both (pos m) n (sign n) q (sign-bounds n) (floor-is (n +ℤ sign n +ℤ pos m) (pos 2 *ℤ pos m) d))
+    (both (pos m) n (sign n) q (sign-bounds n) (floor-is (n +ℤ pos m +ℤ sign n) (pos 2 *ℤ pos m) d))
     ∙ sym (round-floor n (pos 2 *ℤ pos m) d)
 
 power : (k : ℕ) → 1 ≤ k → pos 2 *ℤ pos (2 ^ (k - 1)) ≡ pos (2 ^ k)
 power zero h = absurd (omega arith)
 power (suc j) h = ap pos (let e = pow-suc 2 j in let p : 2 ^ (suc j - 1) ≡ 2 ^ j = ap (λ (i : ℕ). 2 ^ i) (omega arith) in omega arith)
 
-value : (n : ℤ) (k : ℕ) → 1 ≤ k → shrZ (n +ℤ sign n +ℤ pos (2 ^ (k - 1))) (2 ^ k) ≡ round n (pos (2 ^ k))
+value : (n : ℤ) (k : ℕ) → 1 ≤ k → shrZ (n +ℤ pos (2 ^ (k - 1)) +ℤ sign n) (2 ^ k) ≡ round n (pos (2 ^ k))
 value n k h =
-    shift-floor (n +ℤ sign n +ℤ pos (2 ^ (k - 1))) (2 ^ k)
-    ∙ ap (floor (n +ℤ sign n +ℤ pos (2 ^ (k - 1)))) (sym (power k h))
+    shift-floor (n +ℤ pos (2 ^ (k - 1)) +ℤ sign n) (2 ^ k)
+    ∙ ap (floor (n +ℤ pos (2 ^ (k - 1)) +ℤ sign n)) (sym (power k h))
     ∙ halved n (2 ^ (k - 1)) (pow-pos (k - 1))
     ∙ ap (round n) (power k h)
 
@@ -59,69 +60,51 @@ half-is k h =
     ∙ toZ-pos w64 (omega (arith, at-most k h))
 
 sum-size : (n s e : ℤ) → (negsuc 0 ≤ℤ s) × (s ≤ℤ pos 0) → natAbs n ≤ 2 ^ 60 → natAbs e ≤ 2 ^ 35
-    → (natAbs (n +ℤ s) ≤ 2 ^ 61) × (natAbs (n +ℤ s +ℤ e) ≤ 2 ^ 61)
+    → natAbs (n +ℤ e +ℤ s) ≤ 2 ^ 61
 sum-size = over 3 _ λ ρ. simp (poly, ρ) (omega arith)
 
 -- the sizes on the way
 pub record Sizes (n : ℤ) (k : ℕ) : Type 0 where
-  pub lower : SFits w64 (n +ℤ sign n)
-  pub more : SFits w64 (n +ℤ sign n +ℤ pos (2 ^ (k - 1)))
-  pub last : SFits w64 (shrZ (n +ℤ sign n +ℤ pos (2 ^ (k - 1))) (2 ^ k))
+  pub sum : SFits w64 (n +ℤ pos (2 ^ (k - 1)) +ℤ sign n)
+  pub last : SFits w64 (shrZ (n +ℤ pos (2 ^ (k - 1)) +ℤ sign n) (2 ^ k))
 
 sizes : (n : ℤ) (k : ℕ) → k ≤ 36 → natAbs n ≤ 2 ^ 60 → Sizes n k
 sizes n k l h =
-    let z = n +ℤ sign n +ℤ pos (2 ^ (k - 1)) in
+    let z = n +ℤ pos (2 ^ (k - 1)) +ℤ sign n in
     let f = sum-size n (sign n) (pos (2 ^ (k - 1))) (sign-bounds n) h (at-most k l) in
     record {
-      lower = abs-fits w64 _ (2 ^ 61) (f .0) (lit< tt);
-      more = abs-fits w64 _ (2 ^ 61) (f .1) (lit< tt);
-      last = abs-fits w64 _ (2 ^ 61) (shift-size z (2 ^ k) (2 ^ 61) (f .1)) (lit< tt);
+      sum = abs-fits w64 _ (2 ^ 61) f (lit< tt);
+      last = abs-fits w64 _ (2 ^ 61) (shift-size z (2 ^ k) (2 ^ 61) f) (lit< tt);
     }
 
--- the sizes at a call, the sign that the first shift leaves, and the half
-module _ (c : tie.Start) where
-  at-call : Sizes (c .args .n) (c .args .k)
-  at-call = sizes (c .args .n) (c .args .k) (c .pre .1) (c .pre .2)
+at-call : (c : tie.Start) → Sizes (c .args .n) (c .args .k)
+at-call c = sizes (c .args .n) (c .args .k) (c .pre .1) (c .pre .2)
 
-  signed : shrZ (c .args .n) 9223372036854775808 ≡ sign (c .args .n)
-  signed = shift-sign (c .args .n) (c .pre .2)
+sub-raised : tie.Need-sub-raised
+sub-raised c = search needs
 
-add-result : tie.Need-add-result
-add-result c = let s = at-call c in rw (toZ-ofZ (c .fits .n), signed c, toZ-ofZ (sign-size (c .args .n))) (s .lower)
+cast-raised : tie.Need-cast-raised
+cast-raised c = search needs
 
-sub-result : tie.Need-sub-result
-sub-result c = search needs
+shl-raised : tie.Need-shl-raised
+shl-raised c = search needs
+
+raised-requires : tie.Need-raised-requires
+raised-requires c κs =
+    rw (toZ-ofZ (c .fits .n), half-is (c .args .k) (c .pre .1)) (omega (arith, c .pre .2), omega (arith, at-most (c .args .k) (c .pre .1)))
 
 cast-result : tie.Need-cast-result
 cast-result c = search needs
-
-shl-result : tie.Need-shl-result
-shl-result c = search needs
-
-add-result-2 : tie.Need-add-result-2
-add-result-2 c =
-    let s = at-call c in
-    rw (toZ-ofZ (c .fits .n), signed c, toZ-ofZ (sign-size (c .args .n)), toZ-ofZ (s .lower), half-is (c .args .k) (c .pre .1)) (s .more)
-
-cast-result-2 : tie.Need-cast-result-2
-cast-result-2 c = search needs
 
 shr-result : tie.Need-shr-result
 shr-result c = search needs
 
 returns : tie.Need-returns
 returns c =
-    let s = at-call c in
-    rw (
-      toZ-ofZ (c .fits .n),
-      signed c,
-      toZ-ofZ (sign-size (c .args .n)),
-      toZ-ofZ (s .lower),
-      half-is (c .args .k) (c .pre .1),
-      toZ-ofZ (s .more),
-      toZ-ofZ (s .last),
-    )
-    (value (c .args .n) (c .args .k) (c .pre .0))
+    let k = at-call (c .before) in
+    let f : SFits w64 (c .raised .result) = search needs in
+    let e = simp (toZ-ofZ, c .before .fits .n, half-is (c .before .args .k) (c .before .pre .1)) at (c .raised .ensures) in
+    rw (toZ-ofZ f, e, toZ-ofZ (k .last)) (value (c .before .args .n) (c .before .args .k) (c .before .pre .0))
 
 pub round-shift-spec : {M : Type 1} → statement M
-round-shift-spec = tie.close (tie.spec add-result sub-result cast-result shl-result add-result-2 cast-result-2 shr-result returns)
+round-shift-spec = tie.close (tie.spec sub-raised cast-raised shl-raised raised-requires cast-result shr-result returns)
