@@ -6,25 +6,12 @@ ghost use Prim.Native.Nat.{_+_, _≤_};
 ghost use lib.Dec.{ltb};
 ghost use lib.ListN.{length};
 ghost use Rattle.paper.specs.Mesh.{meshOf, mostSides};
-ghost use Rattle.paper.specs.Faults.{stated};
 ghost use Rattle.paper.specs.File.{fileOf, begins};
-ghost use Rattle.paper.specs.CFace.{States, LinkCall, BuildCall, three, DecodeCall, countsOf, SurveyCall, FloatsCall, NestCall};
+ghost use Rattle.paper.specs.CFace.{LinkCall, BuildCall, three, DecodeCall, countsOf, SurveyCall, FloatsCall, NestCall};
 use paper::Answer;
 use paper::FloatPoint;
 use paper::NUMBERS;
-
-// What C is told of an answer: 0 for done, else the refusal's number, and then its place.
-fn tell(a: Answer, place: &mut u64) -> u32
-    ensures { λ r. ⌜ States (stated a) (now (place .entry)) r (now (place .exit)) ⌝ }
-{
-    match a {
-        Answer::Done => 0,
-        Answer::Refused(number, at) => {
-            *place = at as u64;
-            number as u32
-        }
-    }
-}
+use telling::tell;
 
 // Linking.
 #[no_mangle]
