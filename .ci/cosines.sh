@@ -11,7 +11,7 @@ set -u
 cd "$(dirname "$0")/.." || exit 2
 code=${1:-crates/numbers/src/cosines.rt}
 definition=${2:-crates/paper/specs/Cosines.antt}
-last=${3:-12}
+last=${3:-16}
 status=0
 
 # Code: the two-fold bracketed list after `= [` of the constant; one line per row, its numbers parted by spaces.
@@ -21,7 +21,7 @@ code_rows() {
             start = index($0, "const ")
             while (start > 0) {
                 rest = substr($0, start)
-                # from the equals sign on: the type, as [[i64; 12]; 10], has semicolons of its own
+                # from the equals sign on: the type, as [[i64; 16]; 14], has semicolons of its own
                 body = substr(rest, index(rest, "=") + 1)
                 stop = index(body, ";")
                 if (stop > 0) body = substr(body, 1, stop - 1)
@@ -36,7 +36,7 @@ code_rows() {
                     }
                     exit
                 }
-                $0 = body
+                $0 = substr(rest, 7)
                 start = index($0, "const ")
             }
         }'

@@ -33,7 +33,7 @@ extern "C" {
 
 /* The version of this face: it rises with every change of a signature, a limit or a refusal's number or meaning. The
  * archive does not tell its own, so keep header and archive of one build together. */
-#define MAHUNOPI_VERSION 2
+#define MAHUNOPI_VERSION 3
 
 /* The most vertices, faces and corners of a mesh. */
 #define MAHUNOPI_MAX_VERTICES 2048
@@ -41,7 +41,7 @@ extern "C" {
 #define MAHUNOPI_MAX_CORNERS 8192
 /* The fewest and the most sides of a face, and corners of a vertex. */
 #define MAHUNOPI_MIN_SIDES 3
-#define MAHUNOPI_MAX_SIDES 12
+#define MAHUNOPI_MAX_SIDES 16
 /* The numbers that building writes for a corner: 41 control points of x, y, z. */
 #define MAHUNOPI_NUMBERS_PER_CORNER 123
 /* The most bodies of a nesting table, and what stands for the Sun in it. */
@@ -73,7 +73,7 @@ enum mahunopi_refusal {
     MAHUNOPI_BAD_FILE_LENGTH = 3,
     /* no entries in a list or more than the limits, or a coordinate count that is no multiple of three (place 0) */
     MAHUNOPI_BAD_COUNTS = 4,
-    /* a side count is outside 3 to 12 (place: the face) */
+    /* a side count is outside 3 to 16 (place: the face) */
     MAHUNOPI_BAD_SIDE_COUNT = 5,
     /* the side counts do not sum to the corner count (place: the sum) */
     MAHUNOPI_BAD_SIDE_SUM = 6,
@@ -87,7 +87,7 @@ enum mahunopi_refusal {
     MAHUNOPI_EDGE_TWICE = 10,
     /* a leaving edge has no reverse among the leaving edges (place: the corner) */
     MAHUNOPI_EDGE_WITHOUT_REVERSE = 11,
-    /* a vertex is named by fewer than 3 or more than 12 corners (place: the vertex) */
+    /* a vertex is named by fewer than 3 or more than 16 corners (place: the vertex) */
     MAHUNOPI_BAD_CORNERS_OF_VERTEX = 12,
     /* a vertex has a corner not met when following links from its lowest corner, see above (place: the vertex) */
     MAHUNOPI_CORNER_NOT_MET = 13,

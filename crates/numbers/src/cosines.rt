@@ -1,13 +1,17 @@
 // The cosine table of 01, "Numbers used": row m holds C(m, 0) to C(m, m - 1), where C(m, k) is 2^30 cos(2πk / m) to the nearest.
-// A row of the array has sixteen places, so that a further row of up to sixteen numbers leaves the others as they are.
+// Each row of the array has as many places as the last, zeros after its numbers.
+use paper::LEAST_SIDES;
+use paper::MOST_SIDES;
 ghost use mathlib.Core.Path.{_≡_};
 ghost use Prim.Native.Nat.{_≤_, _<_};
 ghost use Rattle.paper.specs.Mesh.{mostSides};
 ghost use Rattle.paper.specs.Cosines.{cosine};
 ghost use Rattle.numbers.specs.Stored.{stored};
 
-// Rows 3 to 12.
-pub type Rows = [[i64; 16]; 10];
+// Rows 3 to 16.
+const COUNT: usize = MOST_SIDES + 1 - LEAST_SIDES;
+
+pub type Rows = [[i64; MOST_SIDES]; COUNT];
 
 const TABLE: Rows = [
     [
@@ -189,6 +193,78 @@ const TABLE: Rows = [
         0,
         0,
         0,
+    ],
+    [
+        1073741824,
+        950751168,
+        609954877,
+        129425275,
+        -380754098,
+        -803707296,
+        -1042540838,
+        -1042540838,
+        -803707296,
+        -380754098,
+        129425275,
+        609954877,
+        950751168,
+        0,
+        0,
+        0,
+    ],
+    [
+        1073741824,
+        967407956,
+        669467077,
+        238930034,
+        -238930034,
+        -669467077,
+        -967407956,
+        -1073741824,
+        -967407956,
+        -669467077,
+        -238930034,
+        238930034,
+        669467077,
+        967407956,
+        0,
+        0,
+    ],
+    [
+        1073741824,
+        980911966,
+        718473518,
+        331804471,
+        -112236583,
+        -536870912,
+        -868675383,
+        -1050277989,
+        -1050277989,
+        -868675383,
+        -536870912,
+        -112236583,
+        331804471,
+        718473518,
+        980911966,
+        0,
+    ],
+    [
+        1073741824,
+        992008094,
+        759250125,
+        410903207,
+        0,
+        -410903207,
+        -759250125,
+        -992008094,
+        -1073741824,
+        -992008094,
+        -759250125,
+        -410903207,
+        0,
+        410903207,
+        759250125,
+        992008094,
     ],
 ];
 

@@ -28,7 +28,7 @@ abbrev pub leastSides : ℕ
 leastSides = 3
 
 abbrev pub mostSides : ℕ
-mostSides = 12
+mostSides = 16
 
 abbrev pub mostVertices : ℕ
 mostVertices = 2048

@@ -3,7 +3,7 @@
 // The limits, for code; specs/Mesh.antt has the same numbers for the definitions.
 pub const LEAST_SIDES: usize = 3;
 
-pub const MOST_SIDES: usize = 12;
+pub const MOST_SIDES: usize = 16;
 
 pub const MOST_VERTICES: usize = 2048;
 

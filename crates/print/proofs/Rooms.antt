@@ -1,4 +1,4 @@
--- The lines of a file have room in 1,024 bytes; the line of m by the sum of its numbers.
+-- The lines of a file have room in the answer, 64 bytes for each; the line of m by the sum of its numbers.
 -- Assumes nothing.
 use mathlib.Core.Path.{_≡_, refl, sym, ap, _∙_}
 use mathlib.Core.Bool.{cond, true, false, _&&_}
@@ -22,6 +22,10 @@ use Rattle.print.specs.Text.{decimal, Put}
 use Rattle.print.specs.Lines.{ended, threeLine, refusedLine, countLine, countLines, meshLines, answerLines, summaryLines}
 use Rattle.print.proofs.Putting.{put-fits}
 use Rattle.print.proofs.Decimals.{decimal-short}
+
+-- the line of a file, and one for each m from 0 on
+abbrev answerRoom : ℕ
+answerRoom = 64 * (mostSides + 2)
 
 -- ---- the line of m
 pub no-line : (m v f : ℕ) → v + f ≡ 0 → [] ≡ countLine m v f
@@ -80,11 +84,11 @@ lines-short cornered sided (suc m) =
     let l = length-append (countLines cornered sided m) (countLine m (getD cornered m 0) (getD sided m 0)) in
     omega arith
 
-pub answer-short : (a : Answer) (n : Counts) → length (answerLines a n) ≤ 1024
+pub answer-short : (a : Answer) (n : Counts) → length (answerLines a n) ≤ answerRoom
 answer-short Done n =
-    let h = lines-short (n .cornered) (n .sided) 13 in
+    let h = lines-short (n .cornered) (n .sided) (mostSides + 1) in
     let k = three-short (n .vertices) (n .faces) (n .corners) in
-    let l = length-append (threeLine (n .vertices) (n .faces) (n .corners)) (countLines (n .cornered) (n .sided) 13) in
+    let l = length-append (threeLine (n .vertices) (n .faces) (n .corners)) (countLines (n .cornered) (n .sided) (mostSides + 1)) in
     omega arith
 answer-short (Refused k p) n =
     let h = ended-short k 32 in
@@ -93,7 +97,7 @@ answer-short (Refused k p) n =
     omega arith
 
 -- what is printed of a summary stands in the buffer as it is
-pub summary-put : (s : Summary) (a : Answer) {old new : List ℕ} {r : ℕ} → s .answer ≡ a → length old ≡ 1024
+pub summary-put : (s : Summary) (a : Answer) {old new : List ℕ} {r : ℕ} → s .answer ≡ a → length old ≡ answerRoom
     → Put old 0 (answerLines a (s .counts)) new r → Within r new × (take r new ≡ summaryLines s)
 summary-put s a {old} {new} {r} e l p =
     let h = p .inside (omega arith) in

@@ -14,8 +14,8 @@ use paper::Counts;
 use paper::NUMBERS;
 use paper::Summary;
 
-// Room for all that is printed of a file.
-pub const ANSWER: usize = 1024;
+// Room for all that is printed of a file: a line for it and one for each m, none of them longer than 63 bytes after the word.
+pub const ANSWER: usize = 64 * (NUMBERS + 1);
 
 // A number, and the byte that ends it.
 pub fn put_ended(lines: &mut [u8], at: usize, n: u64, last: u8) -> usize

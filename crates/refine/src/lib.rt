@@ -306,6 +306,10 @@ fn divide(t: i64, n: u8) -> i64
         10 => quotient(t, 10),
         11 => quotient(t, 11),
         12 => quotient(t, 12),
+        13 => quotient(t, 13),
+        14 => quotient(t, 14),
+        15 => quotient(t, 15),
+        16 => quotient(t, 16),
         _ => quotient(t, n),
     }
 }

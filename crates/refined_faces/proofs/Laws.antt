@@ -99,12 +99,12 @@ module _ (p : ℕ → ℤ) (m : ℕ) (r : PointRing p m) where
 
   more-fits : (f : ℕ → ℤ) (j B : ℕ) → j < m → B ≤ 2 ^ 57 → ((k : ℕ) → natAbs (f k) ≤ B) → SFits w64 (sum f j +ℤ f j)
   more-fits f j B l b h =
-      abs-fits w64 (sum f j +ℤ f j) (13 * B)
+      abs-fits w64 (sum f j +ℤ f j) ((mostSides + 1) * B)
       (let s = abs-add-le (sum f j) (f j) (j * B) B (sum-abs f j B (λ k q. h k)) (h j) in
       bound j B (natAbs (sum f j +ℤ f j)) (omega (arith, r .most)) s)
       (omega arith)
     where
-      bound : (j B z : ℕ) → j ≤ 12 → z ≤ j * B + B → z ≤ 13 * B
+      bound : (j B z : ℕ) → j ≤ mostSides → z ≤ j * B + B → z ≤ (mostSides + 1) * B
       bound j B z l h = le-trans h (omega (arith, mul-le-mul-right B l))
 
   pub turn : (j : ℕ) → j < m → Turn j
@@ -323,7 +323,7 @@ pub record Divisors (m : ℕ) : Type 0 where
 pub divisors : (m : ℕ) → leastSides ≤ m → m ≤ mostSides → Divisors m
 divisors m l h = let k = sizes m l h in record { count-is = toZ-pos w64 {n = m} (omega arith); count = k .1; weights-fit = k .0; weights = k .2 }
   where
-    sizes : (m : ℕ) → 3 ≤ m → m ≤ 12 → SFits w64 (pos (3221225472 * m)) × Divisor (pos m) × Divisor (pos (3221225472 * m))
+    sizes : (m : ℕ) → 3 ≤ m → m ≤ mostSides → SFits w64 (pos (3221225472 * m)) × Divisor (pos m) × Divisor (pos (3221225472 * m))
     sizes m l h = simp diff (omega arith)
 
 -- a division: what it asks, and what it gives

@@ -137,6 +137,10 @@ pub fn divide(s: Sums, m: usize) -> Face
         10 => quotients(s, 10),
         11 => quotients(s, 11),
         12 => quotients(s, 12),
+        13 => quotients(s, 13),
+        14 => quotients(s, 14),
+        15 => quotients(s, 15),
+        16 => quotients(s, 16),
         _ => quotients(s, m),
     }
 }

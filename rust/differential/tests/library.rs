@@ -5,11 +5,13 @@ use std::num::NonZeroUsize;
 use differential::{build, decode, each_case, link, lists, survey};
 use mahunopi::{build_all, MeshRef};
 use reference::conditions::{borders, BOUND};
-use reference::{encode, LENT_TOO_SHORT, NUMBERS_PER_CORNER};
+use reference::{encode, Refusal, LENT_TOO_SHORT, MOST, NUMBERS_PER_CORNER};
 use shapes::{damage, random_tables, Places, Random, Solid, Tables, DAMAGES};
 
 /// Spaces that every file fits in.
 const ENOUGH: [usize; 3] = [6_144, 4_096, 8_192];
+/// How many numbers m a survey counts, from 0 on.
+const NUMBERS: usize = MOST + 1;
 
 /// Links a mesh, builds it whole, and measures the borders from what the library wrote.
 fn whole(tables: &Tables, random: &mut Random) -> Option<(Vec<u16>, Vec<i32>, [i64; 4])> {
@@ -54,7 +56,7 @@ fn random_meshes_and_ranges() {
         let bytes = encode(lists(&tables));
         let read = decode(&bytes, bytes.len() as u64, ENOUGH, random).expect("the file of an accepted mesh");
         assert!(read == tables, "the file of a mesh reads otherwise");
-        survey(&bytes, bytes.len() as u64, [13, 13], random).expect("the file of an accepted mesh");
+        survey(&bytes, bytes.len() as u64, [NUMBERS; 2], random).expect("the file of an accepted mesh");
     });
     let ticks = largest.map(|miss| miss as f64 / (1u64 << 30) as f64);
     println!("accepted {accepted} meshes of {corners} corners; largest misses {ticks:.3?} of 13");
@@ -65,7 +67,7 @@ fn random_meshes_and_ranges() {
 fn families_with_all_kinds_of_coordinates() {
     let mut random = Random::new(2);
     let mut solids = Vec::new();
-    for n in 3..=12 {
+    for n in 3..=16 {
         for solid in [Solid::prism(n), Solid::antiprism(n), Solid::pyramid(n), Solid::bipyramid(n)] {
             solids.push(solid.dual());
             solids.push(solid.rectified());
@@ -76,7 +78,7 @@ fn families_with_all_kinds_of_coordinates() {
         solids.push(Solid::torus(3, n));
         solids.push(Solid::torus(n, n).dual());
     }
-    for n in 3..=6 {
+    for n in 3..=8 {
         solids.push(Solid::prism(n).truncated());
         solids.push(Solid::antiprism(n).truncated());
         solids.push(Solid::prism(n).stellated());
@@ -96,6 +98,8 @@ fn families_with_all_kinds_of_coordinates() {
 fn largest_meshes() {
     let mut random = Random::new(3);
     let prisms = (1..85).fold(Solid::prism(12), |all, _| all.with(Solid::prism(12)));
+    let rings = (1..64).fold(Solid::prism(16), |all, _| all.with(Solid::prism(16)));
+    let tips = (1..85).fold(Solid::bipyramid(16), |all, _| all.with(Solid::bipyramid(16)));
     let tetrahedra = (1..512).fold(Solid::tetrahedron(), |all, _| all.with(Solid::tetrahedron()));
     let irregular = Solid::torus(32, 40).roughened(&mut random, 3_000, 8_000);
     let meshes = [
@@ -104,6 +108,8 @@ fn largest_meshes() {
         (Solid::torus(16, 32).stellated(), 6_144),
         (tetrahedra, 6_144),
         (prisms, 6_120),
+        (rings, 6_144),
+        (tips, 8_160),
         (irregular, 0),
     ];
     for (number, (solid, corners)) in meshes.iter().enumerate() {
@@ -120,6 +126,60 @@ fn largest_meshes() {
             for (first, count) in [(0, 1), (end - 1, 1), (end / 2 - 32, 64), (1, end - 1), (0, end - 1)] {
                 range(&tables, &links, &output, first, count, &mut random);
             }
+        }
+    }
+}
+
+/// L5: faces and vertices of 13 to 16 pass, and their borders are measured; 17 is 5 for a face and 12 for a vertex.
+#[test]
+fn sixteen_sides() {
+    let mut random = Random::new(9);
+    for n in 13..=16 {
+        let mut largest = [0; 4];
+        let solids = [Solid::prism(n), Solid::antiprism(n), Solid::pyramid(n), Solid::bipyramid(n)];
+        for solid in solids.iter().chain(&solids.each_ref().map(|solid| solid.dual())) {
+            for round in 0..20 {
+                let places = Places::ALL[round % Places::ALL.len()];
+                let tables = Tables::relabelled(solid, places, &mut random);
+                let (_, _, misses) = whole(&tables, &mut random).unwrap_or_else(|| panic!("{n} is refused"));
+                for (all, miss) in largest.iter_mut().zip(misses) {
+                    *all = miss.max(*all);
+                }
+            }
+        }
+        let ticks = largest.map(|miss| miss as f64 / (1u64 << 30) as f64);
+        println!("{n} sides and corners: largest misses {ticks:.3?} of 13");
+    }
+    let mut refused = |solid: &Solid| {
+        let tables = Tables::of(solid);
+        link(&tables, tables.corners.len(), &mut random).expect_err("seventeen")
+    };
+    for solid in [Solid::prism(17), Solid::antiprism(17), Solid::pyramid(17), Solid::bipyramid(17).dual()] {
+        let face = solid.faces.iter().position(|face| face.len() == 17).expect("a face of 17");
+        assert_eq!(refused(&solid), Refusal { number: 5, place: face as u64 });
+    }
+    for solid in [Solid::bipyramid(17), Solid::prism(17).dual()] {
+        let corners = |point: usize| solid.faces.iter().filter(|face| face.contains(&point)).count();
+        let vertex = (0..solid.points.len()).find(|&point| corners(point) == 17).expect("a vertex of 17");
+        assert_eq!(refused(&solid), Refusal { number: 12, place: vertex as u64 });
+    }
+}
+
+/// L5: 4,096 faces of 16 sides are more than any corner list holds: 6 with the sum, unless that list is too long itself.
+#[test]
+fn the_largest_sum_of_side_counts() {
+    let mut random = Random::new(10);
+    for (corners, number, place) in [(1, 6, 65_536), (8_192, 6, 65_536), (8_193, 4, 0), (65_536, 4, 0)] {
+        let tables = Tables { coordinates: vec![0; 24], sides: vec![16; 4_096], corners: vec![0; corners] };
+        assert_eq!(link(&tables, corners, &mut random), Err(Refusal { number, place }));
+        let built = build(&tables, &vec![0; corners], 0, 1, NUMBERS_PER_CORNER, &mut random);
+        assert_eq!(built, Err(Refusal { number, place }));
+        if corners < 65_536 {
+            let bytes = encode(lists(&tables));
+            let read = decode(&bytes, bytes.len() as u64, ENOUGH, &mut random).expect_err("no mesh");
+            assert_eq!((read.number, read.place), (number, place));
+            let counted = survey(&bytes, bytes.len() as u64, [NUMBERS; 2], &mut random).expect_err("no mesh");
+            assert_eq!((counted.number, counted.place), (number, place));
         }
     }
 }
@@ -234,7 +294,7 @@ fn damaged_files() {
             5 => sound as u64,
             _ => held,
         };
-        let spaces_with = [13, 13].map(|room| *random.pick(&[room, room, room, room, 0, room - 1, room + 1, 40]));
+        let spaces_with = [NUMBERS; 2].map(|room| *random.pick(&[room, room, room, room, 0, room - 1, room + 1, 40]));
         let _ = survey(&bytes, length, spaces_with, random);
         let answer = decode(&bytes, length, spaces, random);
         seen[answer.map_or_else(|refusal| refusal.number as usize, |_| 0)] += 1;

@@ -41,7 +41,7 @@ pub const MAX_VERTICES: usize = 2_048;
 pub const MAX_FACES: usize = 4_096;
 pub const MAX_CORNERS: usize = 8_192;
 /// The most sides of a face, and corners of a vertex; the fewest are three.
-pub const MAX_SIDES: usize = 12;
+pub const MAX_SIDES: usize = 16;
 /// The numbers that building makes for a corner: 41 control points of x, y, z.
 pub const NUMBERS_PER_CORNER: usize = 123;
 /// The bytes of stack that a call may take.

@@ -40,14 +40,14 @@ faults! {
     BadVersion = 2, "the file's version is not 1", None;
     BadFileLength = 3, "the file's length is not 11 + 12 times vertices + faces + 2 times corners", None;
     BadCounts = 4, "no vertices or above 2,048, no faces or above 4,096, no corners or above 8,192, or a coordinate list whose length is no multiple of three", None;
-    BadSideCount = 5, "a side count is outside 3 to 12", Some("the face");
+    BadSideCount = 5, "a side count is outside 3 to 16", Some("the face");
     BadSideSum = 6, "the side counts do not sum to the corner count", Some("the sum");
     BadCoordinate = 7, "a coordinate is outside -65,536 to 65,536", Some("its position in the list");
     NoSuchVertex = 8, "a corner names a vertex not below the vertex count", Some("the corner");
     VertexTwiceInFace = 9, "a corner names the vertex of an earlier corner of its face", Some("the later corner");
     EdgeTwice = 10, "a leaving edge, with its direction, already left an earlier corner", Some("the later corner");
     EdgeWithoutReverse = 11, "a leaving edge has no reverse among the leaving edges", Some("the corner");
-    BadCornersOfVertex = 12, "a vertex is named by fewer than 3 or more than 12 corners", Some("the vertex");
+    BadCornersOfVertex = 12, "a vertex is named by fewer than 3 or more than 16 corners", Some("the vertex");
     CornerNotMet = 13, "a vertex has a corner not met when following links from its lowest corner until that corner comes back", Some("the vertex");
     BadLinkTableLength = 14, "the link table's length is not the corner count", Some("its length");
     BadLink = 15, "the link table differs from what linking writes", Some("the corner");
@@ -91,7 +91,7 @@ impl Fault {
 /// assert_eq!((refusal.fault, refusal.place), (Fault::BadCornersOfVertex, 0));
 /// assert_eq!(
 ///     refusal.to_string(),
-///     "refused by 12: a vertex is named by fewer than 3 or more than 12 corners (the vertex is 0)"
+///     "refused by 12: a vertex is named by fewer than 3 or more than 16 corners (the vertex is 0)"
 /// );
 /// ```
 #[derive(Clone, Copy, Debug, PartialEq, Eq)]

@@ -3,7 +3,7 @@
 
 use std::ptr::{null, null_mut};
 
-use mahunopi::{build, build_all, decode, link, raw, survey, survey_counted, Fault, Mesh, MeshRef, Refusal};
+use mahunopi::{build, build_all, decode, link, raw, survey, survey_counted, Fault, Mesh, MeshRef, Refusal, MAX_SIDES};
 
 const BEYOND: usize = 1 << 32;
 const UNTOUCHED: u64 = 0x1234_5678_9abc_def0;
@@ -232,11 +232,12 @@ fn counts_into_odd_lengths() {
         (number, place, totals)
     };
     // room for no m, for all but the last, for each, for more
-    for (first, second) in [(0, 0), (0, 13), (13, 0), (12, 13), (13, 12), (13, 13), (40, 14)] {
+    const ALL: usize = MAX_SIDES + 1;
+    for (first, second) in [(0, 0), (0, ALL), (ALL, 0), (ALL - 1, ALL), (ALL, ALL - 1), (ALL, ALL), (40, ALL + 1)] {
         let (mut vertices_with, mut faces_with) = (vec![7; first], vec![7; second]);
         let answer = survey_into(&mut vertices_with, &mut faces_with);
-        if first < 13 || second < 13 {
-            assert_eq!(answer, (255, 13, [UNTOUCHED; 3]));
+        if first < ALL || second < ALL {
+            assert_eq!(answer, (255, 17, [UNTOUCHED; 3]));
             assert!(vertices_with.iter().chain(&faces_with).all(|&entry| entry == 7));
         } else {
             assert_eq!(answer, (0, UNTOUCHED, [8, 6, 24]));
@@ -244,7 +245,7 @@ fn counts_into_odd_lengths() {
                 list.iter().enumerate().all(|(at, &n)| {
                     n == if at == m {
                         count
-                    } else if at < 13 {
+                    } else if at < ALL {
                         0
                     } else {
                         7

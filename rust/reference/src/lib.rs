@@ -1,4 +1,4 @@
-//! An independent implementation of document 01, of L1 and of L4, in plain Rust: the file, the check of a mesh, linking,
+//! An independent implementation of document 01, of L1, L4 and L5, in plain Rust: the file, the check of a mesh, linking,
 //! building, the four conditions across a side, a control point in floats, the listing of nested grids. It is written
 //! from the papers alone and shares nothing with the proved library, so that the two can be compared; nobody has
 //! proved it.
@@ -24,7 +24,7 @@ pub const MAX_FACES: usize = 4_096;
 pub const MAX_CORNERS: usize = 8_192;
 /// The fewest and the most sides of a face, and corners of a vertex.
 pub const FEWEST: usize = 3;
-pub const MOST: usize = 12;
+pub const MOST: usize = 16;
 /// The largest coordinate, in grid steps; the smallest is its negative.
 pub const LARGEST_COORDINATE: i32 = 65_536;
 

@@ -56,6 +56,10 @@ macro_rules! for_size {
             10 => $name::<10>($($argument),*),
             11 => $name::<11>($($argument),*),
             12 => $name::<12>($($argument),*),
+            13 => $name::<13>($($argument),*),
+            14 => $name::<14>($($argument),*),
+            15 => $name::<15>($($argument),*),
+            16 => $name::<16>($($argument),*),
             other => unreachable!("a face or a ring of {other}"),
         }
     };

@@ -74,11 +74,18 @@ fn limits() {
     assert_eq!(with(65_537), refusal(7, 10));
     assert_eq!(with(-65_537), refusal(7, 10));
 
-    for n in [12, 13] {
+    for n in [12, 13, 16, 17] {
         let tables = shapes::Tables::of(&shapes::Solid::prism(n));
         let lists = Lists { coordinates: &tables.coordinates, sides: &tables.sides, corners: &tables.corners };
-        assert_eq!(check(lists), if n == 12 { Ok(()) } else { refusal(5, 0) });
+        assert_eq!(check(lists), if n <= 16 { Ok(()) } else { refusal(5, 0) });
+        let tables = shapes::Tables::of(&shapes::Solid::bipyramid(n));
+        let lists = Lists { coordinates: &tables.coordinates, sides: &tables.sides, corners: &tables.corners };
+        let tip = tables.corners.iter().max().map_or(0, |&last| u64::from(last) - 1);
+        assert_eq!(check(lists), if n <= 16 { Ok(()) } else { refusal(12, tip) });
     }
+    let sides = [16; 4_096];
+    assert_eq!(check(Lists { sides: &sides, ..CUBE }), refusal(6, 65_536));
+    assert_eq!(check(Lists { sides: &sides, corners: &[0; 8_193], ..CUBE }), refusal(4, 0));
     for (vertices, number, place) in [(2_048, 12, 8), (2_049, 4, 0)] {
         let coordinates = vec![0; 3 * vertices];
         let lists = Lists { coordinates: &coordinates, ..CUBE };

@@ -18,7 +18,7 @@ fn literal(tables: &Tables) -> Result<Vec<usize>, Refusal> {
         || !(1..=4_096).contains(&sides.len())
         || !(1..=8_192).contains(&count);
     fault(4, bad_lengths.then_some(0))?;
-    fault(5, sides.iter().position(|s| !(3..=12).contains(s)))?;
+    fault(5, sides.iter().position(|s| !(3..=16).contains(s)))?;
     let starts = tables.starts();
     let sum = starts[sides.len()];
     fault(6, (sum != count).then_some(sum))?;
@@ -36,7 +36,7 @@ fn literal(tables: &Tables) -> Result<Vec<usize>, Refusal> {
     let reverse = |c: usize| leaving.iter().position(|&(a, b)| (b, a) == leaving[c]);
     fault(11, all().find(|&c| reverse(c).is_none()))?;
     let of = |v: usize| all().filter(move |&c| usize::from(vertex(c)) == v);
-    fault(12, (0..vertices).find(|&v| !(3..=12).contains(&of(v).count())))?;
+    fault(12, (0..vertices).find(|&v| !(3..=16).contains(&of(v).count())))?;
     let links: Vec<usize> = all().map(|c| next(reverse(c).unwrap())).collect();
     let met = |v: usize| {
         let lowest = of(v).next().unwrap();

@@ -12,7 +12,7 @@ pub fn damage(tables: &mut Tables, number: u32, random: &mut Random) {
         4 => lengths(tables, random),
         5 => {
             if let Some(face) = some(&tables.sides, random) {
-                tables.sides[face] = *random.pick(&[0, 1, 2, 13, 14, 255]);
+                tables.sides[face] = *random.pick(&[0, 1, 2, 17, 18, 255]);
             }
         }
         6 => sum(tables, random),
@@ -132,7 +132,7 @@ fn append(tables: &mut Tables, solid: &Solid) {
     tables.corners.extend(more.corners.iter().map(|v| v.wrapping_add(offset)));
 }
 
-/// A vertex without a corner, with two, or with thirteen and more.
+/// A vertex without a corner, with two, or with seventeen and more.
 fn rings(tables: &mut Tables, random: &mut Random) {
     match random.below(3) {
         0 => tables.coordinates.extend([4, 5, 6]),
@@ -144,7 +144,7 @@ fn rings(tables: &mut Tables, random: &mut Random) {
             let points = vec![[1, 2, 3]; n];
             append(tables, &Solid { points, faces });
         }
-        _ => append(tables, &Solid::bipyramid(13 + random.below(20))),
+        _ => append(tables, &Solid::bipyramid(17 + random.below(20))),
     }
 }
 

@@ -15,5 +15,5 @@ pub use tables::{random_tables, Places, Tables};
 const MAX_VERTICES: usize = 2_048;
 const MAX_FACES: usize = 4_096;
 const MAX_CORNERS: usize = 8_192;
-const MOST: usize = 12;
+const MOST: usize = 16;
 const LARGEST_COORDINATE: i32 = 65_536;

@@ -39,6 +39,18 @@ quotient-requires-10 c κs = search needs
 quotient-requires-11 : tie.Need-quotient-requires-11
 quotient-requires-11 c κs = search needs
 
+quotient-requires-12 : tie.Need-quotient-requires-12
+quotient-requires-12 c κs = search needs
+
+quotient-requires-13 : tie.Need-quotient-requires-13
+quotient-requires-13 c κs = search needs
+
+quotient-requires-14 : tie.Need-quotient-requires-14
+quotient-requires-14 c κs = search needs
+
+quotient-requires-15 : tie.Need-quotient-requires-15
+quotient-requires-15 c κs = search needs
+
 returns : tie.Need-returns
 returns c = arm _ _ _ _ (c .before .before .fits .t) (search needs) (c .before .match .keys1) (c .quotient .ensures)
 
@@ -70,7 +82,19 @@ returns-10 : tie.Need-returns-10
 returns-10 c = arm _ _ _ _ (c .before .before .fits .t) (search needs) (c .before .match .keys10) (c .quotient10 .ensures)
 
 returns-11 : tie.Need-returns-11
-returns-11 c = arm _ _ _ _ (c .before .before .fits .t) (search needs) refl (c .quotient11 .ensures)
+returns-11 c = arm _ _ _ _ (c .before .before .fits .t) (search needs) (c .before .match .keys11) (c .quotient11 .ensures)
+
+returns-12 : tie.Need-returns-12
+returns-12 c = arm _ _ _ _ (c .before .before .fits .t) (search needs) (c .before .match .keys12) (c .quotient12 .ensures)
+
+returns-13 : tie.Need-returns-13
+returns-13 c = arm _ _ _ _ (c .before .before .fits .t) (search needs) (c .before .match .keys13) (c .quotient13 .ensures)
+
+returns-14 : tie.Need-returns-14
+returns-14 c = arm _ _ _ _ (c .before .before .fits .t) (search needs) (c .before .match .keys14) (c .quotient14 .ensures)
+
+returns-15 : tie.Need-returns-15
+returns-15 c = arm _ _ _ _ (c .before .before .fits .t) (search needs) refl (c .quotient15 .ensures)
 
 pub divide-spec : {M : Type 1} → statement M
 divide-spec =
@@ -87,6 +111,10 @@ divide-spec =
     quotient-requires-9
     quotient-requires-10
     quotient-requires-11
+    quotient-requires-12
+    quotient-requires-13
+    quotient-requires-14
+    quotient-requires-15
     returns
     returns-2
     returns-3
@@ -97,4 +125,8 @@ divide-spec =
     returns-8
     returns-9
     returns-10
-    returns-11)
+    returns-11
+    returns-12
+    returns-13
+    returns-14
+    returns-15)

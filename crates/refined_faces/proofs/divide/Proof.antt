@@ -31,6 +31,18 @@ quotients-requires-8 c κs = search needs
 quotients-requires-9 : tie.Need-quotients-requires-9
 quotients-requires-9 c κs = search needs
 
+quotients-requires-10 : tie.Need-quotients-requires-10
+quotients-requires-10 c κs = search needs
+
+quotients-requires-11 : tie.Need-quotients-requires-11
+quotients-requires-11 c κs = search needs
+
+quotients-requires-12 : tie.Need-quotients-requires-12
+quotients-requires-12 c κs = search needs
+
+quotients-requires-13 : tie.Need-quotients-requires-13
+quotients-requires-13 c κs = search needs
+
 returns : tie.Need-returns
 returns c = rw (c .before .match .keys1) (c .quotients .ensures)
 
@@ -56,7 +68,19 @@ returns-8 : tie.Need-returns-8
 returns-8 c = rw (c .before .match .keys8) (c .quotients8 .ensures)
 
 returns-9 : tie.Need-returns-9
-returns-9 c = search needs
+returns-9 c = rw (c .before .match .keys9) (c .quotients9 .ensures)
+
+returns-10 : tie.Need-returns-10
+returns-10 c = rw (c .before .match .keys10) (c .quotients10 .ensures)
+
+returns-11 : tie.Need-returns-11
+returns-11 c = rw (c .before .match .keys11) (c .quotients11 .ensures)
+
+returns-12 : tie.Need-returns-12
+returns-12 c = rw (c .before .match .keys12) (c .quotients12 .ensures)
+
+returns-13 : tie.Need-returns-13
+returns-13 c = search needs
 
 pub divide-spec : {M : Type 1} → statement M
 divide-spec =
@@ -71,6 +95,10 @@ divide-spec =
     quotients-requires-7
     quotients-requires-8
     quotients-requires-9
+    quotients-requires-10
+    quotients-requires-11
+    quotients-requires-12
+    quotients-requires-13
     returns
     returns-2
     returns-3
@@ -79,4 +107,8 @@ divide-spec =
     returns-6
     returns-7
     returns-8
-    returns-9)
+    returns-9
+    returns-10
+    returns-11
+    returns-12
+    returns-13)

@@ -1,8 +1,9 @@
 -- After m turns the lines below m were put.
 -- Assumes nothing.
 use mathlib.Core.Path.{_≡_, refl, ap, _∙_}
-use Prim.Native.Nat.{_-_, _≤_}
+use Prim.Native.Nat.{_+_, _-_, _≤_}
 use lib.ListN.{length}
+use Rattle.paper.specs.Mesh.{mostSides}
 use Rattle.print.specs.Text.{Put}
 use Rattle.print.specs.Lines.{countLines}
 use Rattle.print.proofs.Putting.{put-none, put-then, put-same}
@@ -13,10 +14,11 @@ use Rattle.print.proofs.lines.put_counts.Statement.{statement}
 use Rattle.print.proofs.lines.put_counts.Tie as tie
 
 abbrev Inv-loop : tie.InvT-loop
-Inv-loop lines₀ from cornered sided at₀ m₀ lines at m = (m ≤ 13) × (length lines ≡ length lines₀) × Put lines₀ from (countLines cornered sided m) lines at
+Inv-loop lines₀ from cornered sided at₀ m₀ lines at m =
+    (m ≤ mostSides + 1) × (length lines ≡ length lines₀) × Put lines₀ from (countLines cornered sided m) lines at
 
 abbrev μ-loop : tie.MeasureT-loop
-μ-loop lines₀ from cornered sided at₀ m₀ lines at m = 13 - m
+μ-loop lines₀ from cornered sided at₀ m₀ lines at m = mostSides + 1 - m
 
 loop-holds : tie.Need-loop-holds Inv-loop μ-loop
 loop-holds c = (omega arith, refl, put-same (no-lines _ _) (put-none _ _))
@@ -60,7 +62,7 @@ returns : tie.Need-returns Inv-loop μ-loop
 returns c =
     let s = c .before .before .before in
     let l = c .before .loop in
-    let q : l .m ≡ 13 = omega arith in
+    let q : l .m ≡ mostSides + 1 = omega arith in
     put-same (ap (countLines (s .args .cornered .now) (s .args .sided .now)) q) (l .inv .2)
 
 pub put-counts-spec : {M : Type 1} → statement M

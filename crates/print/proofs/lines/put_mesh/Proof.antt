@@ -1,5 +1,7 @@
 -- The word, after it the line of the three counts, and then the lines of all m.
 -- Assumes nothing.
+use Prim.Native.Nat.{_+_}
+use Rattle.paper.specs.Mesh.{mostSides}
 use Rattle.print.specs.Lines.{threeLine, countLines, meshWord}
 use Rattle.print.proofs.Putting.{put-three}
 use borrow.Author.Needs.{needs}
@@ -25,7 +27,7 @@ returns : tie.Need-returns
 returns c =
     let s = c .before .before .before .before .before .before .before .before .before .before .before .before .before .before .before .before .before .before in
     let n = s .args .counts in
-    put-three meshWord (threeLine (n .vertices) (n .faces) (n .corners)) (countLines (n .cornered) (n .sided) 13)
+    put-three meshWord (threeLine (n .vertices) (n .faces) (n .corners)) (countLines (n .cornered) (n .sided) (mostSides + 1))
     (c .before .before .before .before .before .before .before .before .before .before .before .before .before .before .put-word .kept .0)
     (c .before .before .before .before .before .before .before .before .before .before .put-three .kept .0)
     (c .before .before .before .before .before .before .before .before .before .before .before .before .before .before .put-word .ensures)
