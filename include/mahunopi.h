@@ -4,15 +4,15 @@
  * The functions below are the proved library's C face (libmahunopi.a). A mesh is three lists: coordinates, side
  * counts and corners. mahunopi_survey counts what a .dms file holds, mahunopi_decode reads its lists, mahunopi_link
  * fills the link table of a mesh, mahunopi_build writes the control points of a range of corners, mahunopi_floats
- * gives one of these points as floats. mahunopi_nest lists a table of nested grids. Each is complete in itself: none
- * relies on an earlier call.
+ * gives one of these points as floats. mahunopi_irregular says whether a mesh is all squares. mahunopi_nest lists a
+ * table of nested grids. Each is complete in itself: none relies on an earlier call.
  *
  * Every function returns MAHUNOPI_DONE, or the number of a refusal (enum mahunopi_refusal). After a refusal *place
  * says where, and everything else that was lent keeps its contents; when done, *place keeps its contents.
  *
  * A list is a pointer and the number of its entries. The pointer may be null where that number is 0. The pointers to
- * single numbers (place, pairs, and the three counts of surveying and of decoding) and to the six floats must not be
- * null. What a function writes to must not overlap anything else that it is given.
+ * single numbers (place, pairs, the three counts of surveying and of decoding, and what mahunopi_irregular finds) and to
+ * the six floats must not be null. What a function writes to must not overlap anything else that it is given.
  *
  * Calls share no state: any number of them may run at the same time, on any threads, as long as none writes to what
  * another one is given. Nothing is allocated. Scratch lies on the stack, of which a call needs up to
@@ -51,9 +51,9 @@ extern "C" {
 #define MAHUNOPI_CALL_STACK 294912
 
 /*
- * What a function answers. A file is checked by 1 to 13, linking by 4 to 14, building by 4 to 17, a control point in
- * floats by 18 to 20, a nesting table by 21 to 23. Each number is tried over the whole input before the next, and the
- * place is the lowest that applies.
+ * What a function answers. A file is checked by 1 to 13, linking by 4 to 14, building by 4 to 17, the search for an
+ * irregular face or vertex by 4 to 13, a control point in floats by 18 to 20, a nesting table by 21 to 23. Each number
+ * is tried over the whole input before the next, and the place is the lowest that applies.
  *
  * From a corner the leaving edge runs to the vertex of the next corner of its face, cyclically, and the arriving edge
  * comes from the vertex of the previous one. The link of a corner is the corner of the same vertex whose arriving edge
@@ -244,6 +244,35 @@ uint32_t mahunopi_floats(
     float floats[6],
     /* receives 0 where the point is near and 1 where it is far; not null */
     uint32_t *pairs,
+    /* receives the place of a refusal; not null */
+    uint64_t *place);
+
+/* What mahunopi_irregular finds. */
+enum mahunopi_kind {
+    /* all faces have four sides and all vertices four corners */
+    MAHUNOPI_NO_IRREGULAR = 0,
+    MAHUNOPI_IRREGULAR_FACE = 1,
+    MAHUNOPI_IRREGULAR_VERTEX = 2
+};
+
+/*
+ * Is it all squares? Checks a mesh by 4 to 13 and finds the lowest face that has not four sides, else the lowest vertex
+ * that has not four corners, else none. The search stops at the first face found.
+ */
+uint32_t mahunopi_irregular(
+    /* the three lists, as for mahunopi_link */
+    const int32_t *coordinates,
+    size_t coordinate_count,
+    const uint8_t *sides,
+    size_t side_count,
+    const uint16_t *corners,
+    size_t corner_count,
+    /* receives one of enum mahunopi_kind; not null */
+    uint32_t *kind,
+    /* receives the number of the face or of the vertex, 0 where there is none; not null */
+    uint64_t *number,
+    /* receives how many side counts the search read, those of the checks apart: the face plus one, or all; not null */
+    uint64_t *sides_read,
     /* receives the place of a refusal; not null */
     uint64_t *place);
 

@@ -11,6 +11,7 @@ use Rattle.examples.proofs.Claim.{examples}
 use Rattle.floats.proofs.Theorems.{far-pairs, float-sums, one-answer}
 use Rattle.floats.proofs.Nets.{nets-pass}
 use Rattle.nesting.proofs.Theorems.{chains-decide, listing-ordered, one-listing}
+use Rattle.irregular.proofs.Theorems.{lines-agree}
 
 pub claims : Claims
 claims = record {
@@ -29,4 +30,5 @@ claims = record {
   chains-decide = chains-decide;
   listing-ordered = listing-ordered;
   one-listing = one-listing;
+  lines-agree = lines-agree;
 }

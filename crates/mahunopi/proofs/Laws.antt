@@ -16,14 +16,15 @@ use Rattle.mesh.proofs.Links.{values-length}
 use Rattle.mesh.proofs.Ranges.{none-left, none-right}
 use Rattle.mesh.proofs.Verdicts.{orElse-fault, orElse-sound, single-hit, single-miss}
 use Rattle.paper.specs.Mesh.{Mesh, meshOf, mostSides}
-use Rattle.paper.specs.Faults.{Verdict, sound, fault, stated, kept}
+use Rattle.paper.specs.Faults.{Verdict, sound, fault, verdict, stated, kept}
 use Rattle.paper.specs.Counts.{verticesWith, facesWith, forEach}
 use Rattle.paper.specs.File.{fileVerdict, fileMesh, begins, noRoom, FileSurveyed, DecodedTo}
 use Rattle.paper.specs.Calls.{Linked, nets, buildVerdict, Built}
 use Rattle.paper.specs.Floats.{pointVerdict, Pointed}
 use Rattle.paper.specs.Nesting.{listing, Nested}
 use Rattle.paper.specs.CFace.{States, LinkCall, BuildCall, Lengths, three, lentVerdict, DecodeCall, countsOf, surveyVerdict, SurveyCall, put}
-use Rattle.paper.specs.CFace.{FloatsCall, NestCall}
+use Rattle.paper.specs.Squares.{Stated, face, vertex, none, refused, squaresStated, Searched}
+use Rattle.paper.specs.CFace.{FloatsCall, NestCall, Finding, finding, findingOf, IrregularCall}
 use Rattle.paper.specs.declared.Answer.{Answer}
 use Rattle.paper.specs.declared.Answer.the-variants.{Done, Refused}
 use Rattle.paper.specs.declared.Counts.{Counts}
@@ -32,6 +33,9 @@ use Rattle.paper.specs.declared.Summary.{Summary}
 use Rattle.paper.specs.declared.Floats.{Floats}
 use Rattle.paper.specs.declared.FloatPoint.{FloatPoint}
 use Rattle.paper.specs.declared.FloatPoint.the-variants.{Near, Far, Refused as NoPoint}
+use Rattle.paper.specs.declared.Irregular.{Irregular}
+use Rattle.paper.specs.declared.Irregular.the-variants.{Face, Vertex, None, Refused as NoMesh}
+use Rattle.irregular.proofs.Laws.{verdictOf, verdict-is}
 use Rattle.floats.proofs.Theorems.{near-sound, far-sound, refused-fault}
 
 -- the verdict v that the answer r states
@@ -217,3 +221,29 @@ module _ (numbers : List ℤ) (point : ℕ) (r : FloatPoint) (c : Pointed number
         holds = refl;
         tells = refl;
       }
+
+-- ---- an irregular face or vertex
+module _ (M : Mesh) (r : Irregular) (c : Searched M r) (lent : Finding) (before : ℕ) where
+  stated-as : (s : Stated) → squaresStated r ≡ s → verdictOf s ≡ verdict M
+  stated-as s e = ap verdictOf (sym e) ∙ verdict-is M r c
+
+  irregular-found : (s : Stated) → squaresStated r ≡ s → verdictOf s ≡ sound → IrregularCall M lent before 0 before (findingOf s lent)
+  irregular-found s e v = record {
+    answers = subst (λ (w : Verdict). States w before 0 before) (sym v ∙ stated-as s e) (record { number = refl; place = refl });
+    tells = ap (λ (t : Stated). findingOf t lent) (sym e ∙ c .answers);
+  }
+
+  pub irregular-face : (f read : ℕ) → r ≡ Face f read → IrregularCall M lent before 0 before (finding 1 f read)
+  irregular-face f read e = irregular-found (face f read) (ap squaresStated e) refl
+
+  pub irregular-vertex : (u read : ℕ) → r ≡ Vertex u read → IrregularCall M lent before 0 before (finding 2 u read)
+  irregular-vertex u read e = irregular-found (vertex u read) (ap squaresStated e) refl
+
+  pub irregular-none : (read : ℕ) → r ≡ None read → IrregularCall M lent before 0 before (finding 0 0 read)
+  irregular-none read e = irregular-found (none read) (ap squaresStated e) refl
+
+  pub irregular-refused : (n at m q : ℕ) → r ≡ NoMesh n at → States (fault n at) before m q → IrregularCall M lent before m q lent
+  irregular-refused n at m q e s = record {
+    answers = subst (λ (w : Verdict). States w before m q) (stated-as (refused n at) (ap squaresStated e)) s;
+    tells = ap (λ (t : Stated). findingOf t lent) (sym (ap squaresStated e) ∙ c .answers);
+  }

@@ -8,8 +8,10 @@ ghost use lib.ListN.{length};
 ghost use Rattle.paper.specs.Mesh.{meshOf, mostSides};
 ghost use Rattle.paper.specs.File.{fileOf, begins};
 ghost use Rattle.paper.specs.CFace.{LinkCall, BuildCall, three, DecodeCall, countsOf, SurveyCall, FloatsCall, NestCall};
+ghost use Rattle.paper.specs.CFace.{finding, IrregularCall};
 use paper::Answer;
 use paper::FloatPoint;
+use paper::Irregular;
 use paper::NUMBERS;
 use telling::tell;
 
@@ -147,6 +149,43 @@ pub extern "C" fn mahunopi_nest(holders: &[u16], listing: &mut [u16], place: &mu
 {
     let a = nesting::nest(holders, listing);
     tell(a, place)
+}
+
+// The lowest face that has not four sides, else the lowest vertex that has not four corners, else none.
+#[no_mangle]
+pub extern "C" fn mahunopi_irregular(
+    coordinates: &[i32],
+    sides: &[u8],
+    corners: &[u16],
+    kind: &mut u32,
+    number: &mut u64,
+    read: &mut u64,
+    place: &mut u64,
+) -> u32
+    ensures { λ r. ⌜ IrregularCall (meshOf (now (coordinates .entry)) (now (sides .entry)) (now (corners .entry))) (finding (now (kind .entry)) (now (number .entry)) (now (read .entry))) (now (place .entry)) r (now (place .exit)) (finding (now (kind .exit)) (now (number .exit)) (now (read .exit))) ⌝ }
+{
+    let a = irregular::search(coordinates, sides, corners);
+    match a {
+        Irregular::Face(f, n) => {
+            *kind = 1;
+            *number = f as u64;
+            *read = n as u64;
+            0
+        }
+        Irregular::Vertex(u, n) => {
+            *kind = 2;
+            *number = u as u64;
+            *read = n as u64;
+            0
+        }
+        Irregular::None(n) => {
+            *kind = 0;
+            *number = 0;
+            *read = n as u64;
+            0
+        }
+        Irregular::Refused(k, at) => { tell(Answer::Refused(k, at), place) }
+    }
 }
 
 // Whether one of two lists has no room for every m.

@@ -11,12 +11,13 @@ use lib.IntN.{ℤ}
 use lib.Ieee.{Float}
 use Rattle.paper.specs.Mesh.{Mesh, meshOf, mostSides, vertexCount, faceCount, cornerCount}
 use Rattle.paper.specs.Links.{linkTable}
-use Rattle.paper.specs.Faults.{Verdict, sound, fault, _orElse_, single, linkVerdict, kept}
+use Rattle.paper.specs.Faults.{Verdict, sound, fault, _orElse_, single, verdict, linkVerdict, kept}
 use Rattle.paper.specs.Counts.{verticesWith, facesWith, forEach}
 use Rattle.paper.specs.File.{fileMesh, fileVerdict, begins, noRoom, decodeVerdict}
 use Rattle.paper.specs.Calls.{nets, buildVerdict}
 use Rattle.paper.specs.Floats.{pointVerdict, Pointed}
 use Rattle.paper.specs.Nesting.{nestingVerdict, listing}
+use Rattle.paper.specs.Squares.{Stated, face, vertex, none, refused, squares}
 use Rattle.paper.specs.declared.Counts.{Counts}
 use Rattle.paper.specs.declared.Floats.{Floats}
 use Rattle.paper.specs.declared.FloatPoint.{FloatPoint}
@@ -116,3 +117,23 @@ pub record FloatsCall (numbers : List ℤ) (point : ℕ) (old : List Float) (pai
 pub record NestCall (holders old : List ℕ) (before r after : ℕ) (out : List ℕ) : Type 0 where
   pub answers : States (nestingVerdict holders (length old)) before r after
   pub holds : out ≡ kept (nestingVerdict holders (length old)) (listing holders) old
+
+-- the search for an irregular face or vertex: what stands behind `kind`, `number` and `sides_read`
+pub record Finding : Type 0 where
+  pub kind : ℕ
+  pub number : ℕ
+  pub read : ℕ
+
+abbrev pub finding : ℕ → ℕ → ℕ → Finding
+finding kind number read = record { kind = kind; number = number; read = read }
+
+-- kind 0 is none, with the number 0, 1 a face, 2 a vertex; all three are left alone beside a refusal
+abbrev pub findingOf : Stated → Finding → Finding
+findingOf (face f read) old = finding 1 f read
+findingOf (vertex u read) old = finding 2 u read
+findingOf (none read) old = finding 0 0 read
+findingOf (refused number place) old = old
+
+pub record IrregularCall (M : Mesh) (lent : Finding) (before r after : ℕ) (told : Finding) : Type 0 where
+  pub answers : States (verdict M) before r after
+  pub tells : told ≡ findingOf (squares M) lent

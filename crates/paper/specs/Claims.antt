@@ -11,9 +11,11 @@ use Rattle.paper.specs.Links.{linkTable}
 use Rattle.paper.specs.Faults.{sound, Accepted}
 use Rattle.paper.specs.Cosines.{RowRules}
 use Rattle.paper.specs.Net.{Side}
+use Rattle.paper.specs.File.{fileMesh, FileSurveyed}
 use Rattle.paper.specs.Calls.{perCorner, nets, Built}
 use Rattle.paper.specs.Floats.{netVerdict, difference, first, second, axes, Pointed, sums, FarPair}
 use Rattle.paper.specs.Nesting.{tableVerdict, nestingVerdict, Nested, Ends, Ordered}
+use Rattle.paper.specs.Squares.{Searched, Agreed}
 use Rattle.paper.specs.CFace.{BuildCall}
 use Rattle.paper.specs.Borders.{Output, Wrote, outputOf, Borders, Smooth}
 use Rattle.paper.specs.Mirror.{Mirror}
@@ -21,6 +23,8 @@ use Rattle.paper.specs.Manifold.{Manifold}
 use Rattle.paper.specs.Examples.{AllGive, examples}
 use Rattle.paper.specs.declared.Answer.the-variants.{Done}
 use Rattle.paper.specs.declared.FloatPoint.{FloatPoint}
+use Rattle.paper.specs.declared.Irregular.{Irregular}
+use Rattle.paper.specs.declared.Summary.{Summary}
 
 -- ---- "Numbers used": the four rules of the cosine table, of every row
 abbrev pub TableRules : Type 0
@@ -93,6 +97,12 @@ ListingOrdered = (holders old out : List ℕ) → Nested holders old Done out �
 abbrev pub OneListing : Type 0
 OneListing = (holders old out other : List ℕ) → Nested holders old Done out → Ordered holders other → other ≡ out
 
+-- ---- L7: the search of a file's mesh agrees with the lines that `inspect` prints of the file, which are those of the counts
+abbrev pub LinesAgree : Type 0
+LinesAgree =
+    (file : List ℕ) (counted : ℕ) (s : Summary) (r : Irregular)
+    → FileSurveyed file counted s → s .answer ≡ Done → Searched (fileMesh file) r → Agreed (s .counts) r
+
 -- ---- all of them
 pub record Claims : Type 0 where
   pub rules : TableRules
@@ -110,3 +120,4 @@ pub record Claims : Type 0 where
   pub chains-decide : ChainsDecide
   pub listing-ordered : ListingOrdered
   pub one-listing : OneListing
+  pub lines-agree : LinesAgree

@@ -9,6 +9,7 @@
 --     Calls      linking and building as calls, 14 to 17
 --     Floats     L1: a control point as floats, 18 to 20
 --     Nesting    L4: the nested grids as a table, 21 to 23, the listing, the call
+--     Squares    L7: the lowest irregular face or vertex, the call, and the lines of `inspect`
 --     CFace      the C face
 --     Borders    "The four conditions across a side"
 --     Mirror     a mesh with one axis negated
@@ -30,6 +31,7 @@ pub mod Net
 pub mod Calls
 pub mod Floats
 pub mod Nesting
+pub mod Squares
 pub mod CFace
 pub mod Borders
 pub mod Mirror

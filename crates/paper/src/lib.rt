@@ -73,3 +73,12 @@ pub enum FloatPoint {
     Far(Floats, Floats),
     Refused(u8, usize),
 }
+
+// What `irregular::search` answers: the lowest face that has not four sides, else the lowest vertex that has not four corners, else none,
+// each with the number of side counts that the search read; or refused with 01's number and place.
+pub enum Irregular {
+    Face(usize, usize),
+    Vertex(usize, usize),
+    None(usize),
+    Refused(u8, usize),
+}

@@ -3,7 +3,7 @@
 //! when the library is done, the lengths after a refusal.
 
 use mahunopi::raw;
-use reference::{Counts, FloatPoint, Lengths, Lists, Refusal, LENT_TOO_SHORT, MOST};
+use reference::{Counts, FloatPoint, Irregular, Lengths, Lists, Refusal, LENT_TOO_SHORT, MOST};
 use shapes::{Random, Tables};
 
 /// What `place` and the lengths hold before a call.
@@ -216,6 +216,38 @@ pub fn floats(numbers: &[i32], point: usize, random: &mut Random) -> Result<Floa
     };
     assert_eq!(pairs, asked, "point {point} has other pairs");
     same("floats", &lent.map(f32::to_bits), &bits);
+    result
+}
+
+/// The search for an irregular face or vertex, with lent numbers of any contents; what is found, and the side counts read.
+pub fn irregular(tables: &Tables, random: &mut Random) -> Result<(Irregular, usize), Refusal> {
+    let lent = (random.bits() as u32, random.bits(), random.bits());
+    let (mut kind, mut number, mut read) = lent;
+    let mut place = UNTOUCHED;
+    // SAFETY: each pointer goes with the length of its own list
+    let refusal = unsafe {
+        raw::mahunopi_irregular(
+            tables.coordinates.as_ptr(),
+            tables.coordinates.len(),
+            tables.sides.as_ptr(),
+            tables.sides.len(),
+            tables.corners.as_ptr(),
+            tables.corners.len(),
+            &mut kind,
+            &mut number,
+            &mut read,
+            &mut place,
+        )
+    };
+    let result = reference::irregular(lists(tables));
+    assert_eq!(answer(refusal, place), result.map(|_| ()), "the search answers otherwise");
+    let asked = match result {
+        Ok((Irregular::None, read)) => (0, 0, read as u64),
+        Ok((Irregular::Face(face), read)) => (1, face as u64, read as u64),
+        Ok((Irregular::Vertex(vertex), read)) => (2, vertex as u64, read as u64),
+        Err(_) => lent,
+    };
+    assert_eq!((kind, number, read), asked, "the search finds something else");
     result
 }
 

@@ -1,4 +1,4 @@
-//! The programs `inspect` and `patches`, as `rt ci` leaves them in target/bin, against what the independent
+//! The programs `inspect`, `patches` and `squares`, as `rt ci` leaves them in target/bin, against what the independent
 //! implementation prints. MAHUNOPI_BIN names another directory that has them. A program whose crate is not in the
 //! repository is passed over.
 
@@ -8,7 +8,7 @@ use std::path::{Path, PathBuf};
 use std::process::{Command, Stdio};
 
 use differential::{each_case, lists};
-use reference::{encode, inspect, patches};
+use reference::{encode, inspect, patches, squares};
 use shapes::{damage, random_tables, Places, Random, Solid, Tables, DAMAGES};
 
 /// The program's executable, where the repository has its crate.
@@ -116,4 +116,21 @@ fn inspect_prints_counts_and_refusals() {
 #[test]
 fn patches_prints_every_control_point() {
     compare("patches", patches, 100, 13);
+}
+
+#[test]
+fn squares_prints_what_is_irregular() {
+    compare("squares", squares, 300, 14);
+    let path = match program("squares") {
+        Some(path) => path,
+        None => return,
+    };
+    let line = |solid: &Solid| of_file(&path, &encode(lists(&Tables::of(solid))));
+    assert_eq!(line(&Solid::torus(3, 4)), "none read 12\n");
+    assert_eq!(line(&Solid::torus(32, 64)), "none read 2048\n");
+    assert_eq!(line(&Solid::cube()), "vertex 0 read 6\n");
+    assert_eq!(line(&Solid::torus(3, 4).with(Solid::cube())), "vertex 12 read 18\n");
+    assert_eq!(line(&Solid::prism(3)), "face 0 read 1\n");
+    assert_eq!(line(&Solid::torus(3, 4).with(Solid::prism(5))), "face 12 read 13\n");
+    assert_eq!(of_file(&path, b"DMS"), "refused 1 0\n");
 }

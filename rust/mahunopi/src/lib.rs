@@ -3,9 +3,10 @@
 //! A [`Mesh`] is three lists; [`MeshRef`] borrows them. [`survey`] counts what a .dms file holds, [`decode`] reads the
 //! mesh from it, [`link`] makes the mesh's link table, and [`build`] makes the control points of a range of corners:
 //! 123 numbers for each, in ticks of 1/256 of a grid step, five rows of five b points and then four rows of four a
-//! points. [`build_all`] builds all corners on several threads. [`floats`] gives one of these points as floats. [`nest`]
-//! lists a table of nested grids. An input that is turned down gives a [`Refusal`]. The functions ending in `_into` fill
-//! what the caller lends them, which keeps its contents after a refusal.
+//! points. [`build_all`] builds all corners on several threads. [`floats`] gives one of these points as floats.
+//! [`irregular`] says whether a mesh is all squares. [`nest`] lists a table of nested grids. An input that is turned down
+//! gives a [`Refusal`]. The functions ending in `_into` fill what the caller lends them, which keeps its contents after a
+//! refusal.
 //!
 //! Calls share no state and may run at the same time on any threads. Each needs up to [`CALL_STACK`] bytes of its
 //! thread's stack.
@@ -22,6 +23,7 @@
 //! ```
 
 mod floats;
+mod irregular;
 mod mesh;
 mod nesting;
 pub mod raw;
@@ -31,6 +33,7 @@ use std::num::NonZeroUsize;
 use std::thread;
 
 pub use floats::{floats, FloatPoint};
+pub use irregular::{irregular, Irregular};
 pub use mesh::{Counts, Lengths, Mesh, MeshRef};
 pub use nesting::{nest, nest_into, MAX_BODIES, SUN};
 use refusal::answer;

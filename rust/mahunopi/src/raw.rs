@@ -68,6 +68,19 @@ extern "C" {
         pairs: *mut u32,
         place: *mut u64,
     ) -> u32;
+    /// The lowest irregular face, else vertex.
+    pub fn mahunopi_irregular(
+        coordinates: *const i32,
+        coordinate_count: usize,
+        sides: *const u8,
+        side_count: usize,
+        corners: *const u16,
+        corner_count: usize,
+        kind: *mut u32,
+        number: *mut u64,
+        sides_read: *mut u64,
+        place: *mut u64,
+    ) -> u32;
     /// Listing nested grids.
     pub fn mahunopi_nest(
         holders: *const u16,

@@ -6,8 +6,8 @@ use std::fmt;
 macro_rules! faults {
     ($($name:ident = $number:literal, $words:literal, $place:expr;)*) => {
         /// The faults that an input is turned down for, each with its number. A file is checked by 1 to 13, linking by
-        /// 4 to 14, building by 4 to 17, a control point in floats by 18 to 20, a nesting table by 21 to 23, each over
-        /// the whole input before the next.
+        /// 4 to 14, building by 4 to 17, the search for an irregular face or vertex by 4 to 13, a control point in
+        /// floats by 18 to 20, a nesting table by 21 to 23, each over the whole input before the next.
         #[derive(Clone, Copy, Debug, PartialEq, Eq, PartialOrd, Ord, Hash)]
         #[non_exhaustive]
         pub enum Fault {

@@ -35,6 +35,29 @@ fn link_with(coordinates: usize, sides: usize, corners: usize, links: usize) -> 
     (number, place)
 }
 
+/// The search of the cube with these lengths, where null stands for no entries: nothing but the place changes by a refusal.
+fn irregular_with(coordinates: usize, sides: usize, corners: usize) -> (u32, u64) {
+    let mesh = cube();
+    let (mut kind, mut found, mut read, mut place) = (7, UNTOUCHED, UNTOUCHED, UNTOUCHED);
+    let number = unsafe {
+        raw::mahunopi_irregular(
+            if coordinates == 0 { null() } else { mesh.coordinates.as_ptr() },
+            coordinates,
+            if sides == 0 { null() } else { mesh.sides.as_ptr() },
+            sides,
+            if corners == 0 { null() } else { mesh.corners.as_ptr() },
+            corners,
+            &mut kind,
+            &mut found,
+            &mut read,
+            &mut place,
+        )
+    };
+    let told = if number == 0 { (2, 0, 6) } else { (7, UNTOUCHED, UNTOUCHED) };
+    assert_eq!((kind, found, read), told);
+    (number, place)
+}
+
 /// Building of the cube with these lengths.
 fn build_with(links: usize, first: usize, count: usize, output: usize) -> (u32, u64) {
     let mesh = cube();
@@ -65,10 +88,14 @@ fn build_with(links: usize, first: usize, count: usize, output: usize) -> (u32, 
 #[test]
 fn lengths_beyond_32_bits() {
     assert_eq!(link_with(24, 6, 24, 24), (0, UNTOUCHED));
+    assert_eq!(irregular_with(24, 6, 24), (0, UNTOUCHED));
     for beyond in [BEYOND - 1, BEYOND, BEYOND + 24, 3 << 32, usize::MAX / 8] {
         assert_eq!(link_with(beyond, 6, 24, 24), (4, 0));
         assert_eq!(link_with(BEYOND + 24, 6, 24, beyond), (4, 0));
         assert_eq!(link_with(24, beyond, 24, 24), (4, 0));
+        assert_eq!(irregular_with(beyond, 6, 24), (4, 0));
+        assert_eq!(irregular_with(24, beyond, 24), (4, 0));
+        assert_eq!(irregular_with(24, 6, beyond), (4, 0));
         assert_eq!(link_with(24, 6, beyond, 24), (4, 0));
         assert_eq!(link_with(24, 6, 24, beyond), (14, beyond as u64));
         assert_eq!(build_with(beyond, 0, 1, 123), (14, beyond as u64));
@@ -101,6 +128,9 @@ fn ranges_beyond_every_width() {
 
 #[test]
 fn null_spaces() {
+    for (c, s, v) in [(0, 0, 0), (0, 6, 24), (24, 0, 24), (24, 6, 0)] {
+        assert_eq!(irregular_with(c, s, v), (4, 0));
+    }
     let mesh = cube();
     let mut place = UNTOUCHED;
     unsafe {

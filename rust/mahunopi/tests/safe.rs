@@ -4,8 +4,8 @@ use std::num::NonZeroUsize;
 use std::thread;
 
 use mahunopi::{
-    build, build_all, build_into, decode, link, link_into, survey, survey_counted, Fault, Mesh, MeshRef, Refusal,
-    CALL_STACK, MAX_SIDES, NUMBERS_PER_CORNER,
+    build, build_all, build_into, decode, irregular, link, link_into, survey, survey_counted, Fault, Irregular, Mesh,
+    MeshRef, Refusal, CALL_STACK, MAX_SIDES, NUMBERS_PER_CORNER,
 };
 
 const CUBE: &[u8] = include_bytes!("../../../meshes/cube.dms");
@@ -140,6 +140,28 @@ fn counts_of_files() {
     assert_eq!(survey(&CUBE[1..]), Err(Refusal::new(Fault::BadMark, 0)));
 }
 
+/// What is irregular, with the kinds that the header names, and as the program `squares` prints it.
+#[test]
+fn irregular_faces_and_vertices() {
+    let header = include_str!("../../../include/mahunopi.h");
+    for line in ["MAHUNOPI_NO_IRREGULAR = 0,", "MAHUNOPI_IRREGULAR_FACE = 1,", "MAHUNOPI_IRREGULAR_VERTEX = 2\n"] {
+        assert!(header.contains(line), "the header has no `{line}`");
+    }
+    let cube = decode(CUBE).unwrap();
+    assert_eq!(irregular(&cube), Ok(Irregular::Vertex { vertex: 0, sides_read: 6 }));
+    assert_eq!(irregular(cube.view()).unwrap().to_string(), "vertex 0 read 6");
+    assert_eq!(irregular(&torus(5, 7)).unwrap().to_string(), "none read 35");
+    // face 3 of a torus as two triangles
+    let mut cut = torus(5, 7);
+    let [a, b, c, d] = [12, 13, 14, 15].map(|corner| cut.corners[corner]);
+    cut.corners.splice(12..16, [a, b, c, a, c, d]);
+    cut.sides.splice(3..4, [3, 3]);
+    assert_eq!(irregular(&cut), Ok(Irregular::Face { face: 3, sides_read: 4 }));
+    assert_eq!(irregular(&cut).unwrap().to_string(), "face 3 read 4");
+    cut.sides[3] = 2;
+    assert_eq!(irregular(&cut), Err(Refusal::new(Fault::BadSideCount, 3)));
+}
+
 /// Each call on a largest mesh, on a thread with the stack that the header names.
 #[test]
 fn the_stack_that_a_call_needs() {
@@ -152,6 +174,7 @@ fn the_stack_that_a_call_needs() {
         build_into(&mesh, &links, 0, 8_192, &mut output).unwrap();
         assert!(decode(&bytes).unwrap() == mesh);
         assert_eq!(survey(&bytes).unwrap().corners, 8_192);
+        assert_eq!(irregular(&mesh), Ok(Irregular::None { sides_read: 2_048 }));
     };
     thread::Builder::new().stack_size(CALL_STACK).spawn(call).unwrap().join().unwrap();
 }

@@ -3,6 +3,7 @@
 use std::fmt::Write;
 
 use crate::check::{check_mesh, links_of};
+use crate::squares::{irregular, line};
 use crate::surface::{build, NUMBERS_PER_CORNER};
 use crate::{refuse, Lists, Refusal, MAX_CORNERS, MAX_FACES, MAX_VERTICES, MOST};
 
@@ -150,6 +151,13 @@ pub fn patches(bytes: &[u8]) -> String {
         }
     }
     text
+}
+
+/// What `squares` prints of a file.
+pub fn squares(bytes: &[u8]) -> String {
+    line(read(bytes, bytes.len() as u64).and_then(|held| {
+        irregular(Lists { coordinates: &held.coordinates, sides: &held.sides, corners: &held.corners })
+    }))
 }
 
 /// The file of three lists, whatever they hold; counts are cut to 16 bits.

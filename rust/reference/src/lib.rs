@@ -1,7 +1,7 @@
-//! An independent implementation of document 01, of L1, L4 and L5, in plain Rust: the file, the check of a mesh, linking,
-//! building, the four conditions across a side, a control point in floats, the listing of nested grids. It is written
-//! from the papers alone and shares nothing with the proved library, so that the two can be compared; nobody has
-//! proved it.
+//! An independent implementation of document 01, of L1, L4, L5 and L7, in plain Rust: the file, the check of a mesh, linking,
+//! building, the four conditions across a side, a control point in floats, the listing of nested grids, the search for
+//! an irregular face or vertex. It is written from the papers alone and shares nothing with the proved library, so that
+//! the two can be compared; nobody has proved it.
 
 mod check;
 pub mod conditions;
@@ -9,13 +9,15 @@ mod cosines;
 mod file;
 mod floats;
 mod nesting;
+mod squares;
 mod surface;
 
 pub use check::{check, link, links_of};
 pub use cosines::cosine;
-pub use file::{decode, encode, inspect, patches, summary, Counts, Lengths, LENT_TOO_SHORT};
+pub use file::{decode, encode, inspect, patches, squares, summary, Counts, Lengths, LENT_TOO_SHORT};
 pub use floats::{floats, FloatPoint};
 pub use nesting::{nest, nest_lines};
+pub use squares::{irregular, Irregular};
 pub use surface::{build, nets, round, Net, Point, NUMBERS_PER_CORNER};
 
 /// The most vertices, faces and corners that a mesh may have.

@@ -1,0 +1,71 @@
+-- `search_faces` meets its contract: what is found is the lowest, and as many side counts were read as faces looked at.
+-- Assumes nothing.
+use mathlib.Core.Path.{_≡_, sym, subst}
+use mathlib.Core.Logic.{⊎-elim}
+use Prim.Native.Nat.{ℕ, _+_, _-_, _<_, _≤_}
+use lib.ListN.{length}
+use Rattle.paper.specs.Squares.{irregularFace}
+use Rattle.irregular.proofs.Laws.{face-odd, face-square}
+use Rattle.irregular.proofs.Scanned.{Scanned, scan-start, scan-hit, scan-miss, scan-end, scan-all}
+use native.Mathlib.Omega.{arith}
+use borrow.Author.Needs.{needs}
+use Rattle.irregular.proofs.search_faces.Statement.{statement}
+use Rattle.irregular.proofs.search_faces.Tie as tie
+
+abbrev Inv-loop : tie.InvT-loop
+Inv-loop sides lowest₀ read₀ f₀ lowest read f = (read ≡ f) × Scanned (length sides) (irregularFace sides) lowest f
+
+abbrev μ-loop : tie.MeasureT-loop
+μ-loop sides lowest₀ read₀ f₀ lowest read f = length sides - f
+
+loop-holds : tie.Need-loop-holds Inv-loop μ-loop
+loop-holds c = (omega arith, scan-start _ _)
+
+shared-slice-read-n : tie.Need-shared-slice-read-n Inv-loop μ-loop
+shared-slice-read-n c = let l = c .before .before .loop in omega (arith, l .inv .1 .bounded)
+
+add-read : tie.Need-add-read Inv-loop μ-loop
+add-read c = search needs
+
+add-f : tie.Need-add-f Inv-loop μ-loop
+add-f c = search needs
+
+loop-less : tie.Need-loop-less Inv-loop μ-loop
+loop-less c = let l = c .before .before .before .loop in omega (arith, l .inv .1 .bounded)
+
+loop-again : tie.Need-loop-again Inv-loop μ-loop
+loop-again c =
+    let sides = c .before .before .before .before .args .sides .now in
+    let l = c .before .before .before .loop in
+    let scan : ℕ → Type 0 = λ k. Scanned (length sides) (irregularFace sides) k (l .f + 1) in
+    let further : l .f < l .lowest = omega arith in (
+      omega arith,
+      ⊎-elim
+          (λ w. subst scan (sym (w .1)) (scan-hit _ _ (l .lowest) (l .f) (l .inv .1) further (face-odd sides (l .f) (w .0 .taken))))
+          (λ w. subst scan (sym (w .1)) (scan-miss _ _ (l .lowest) (l .f) (l .inv .1) further (face-square sides (l .f) (w .0 .left))))
+          (c .if1 .came),
+    )
+
+returns : tie.Need-returns Inv-loop μ-loop
+returns c =
+    let l = c .before .loop in
+    let over : l .lowest ≤ l .f = omega arith in
+    record {
+      lowest-is = scan-end _ _ (l .lowest) (l .f) (l .inv .1) over;
+      read-to = λ h. omega (arith, l .inv .1 .stops h);
+      read-all = λ h. omega (arith, scan-all _ _ (l .lowest) (l .f) (l .inv .1) over h);
+    }
+
+pub search-faces-spec : {M : Type 1} → statement M
+search-faces-spec =
+    tie.close
+    (tie.spec
+    Inv-loop
+    μ-loop
+    loop-holds
+    shared-slice-read-n
+    add-read
+    add-f
+    loop-less
+    loop-again
+    returns)

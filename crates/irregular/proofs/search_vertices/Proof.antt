@@ -1,0 +1,71 @@
+-- `search_vertices` meets its contract: what is found is the lowest, by the counts of corners.
+-- Assumes nothing.
+use mathlib.Core.Path.{_≡_, sym, subst}
+use mathlib.Core.Logic.{⊎-elim}
+use Prim.Native.Nat.{ℕ, _+_, _-_, _<_}
+use Rattle.paper.specs.Squares.{irregularVertex}
+use Rattle.irregular.proofs.Laws.{vertex-odd, vertex-square}
+use Rattle.irregular.proofs.Scanned.{Scanned, scan-start, scan-hit, scan-miss, scan-end}
+use native.Mathlib.Omega.{arith}
+use borrow.Author.Needs.{needs}
+use Rattle.irregular.proofs.search_vertices.Statement.{statement}
+use Rattle.irregular.proofs.search_vertices.Tie as tie
+
+abbrev Inv-loop : tie.InvT-loop
+Inv-loop corners vertices count lowest₀ u₀ lowest u = Scanned count (irregularVertex corners) lowest u
+
+abbrev μ-loop : tie.MeasureT-loop
+μ-loop corners vertices count lowest₀ u₀ lowest u = count - u
+
+loop-holds : tie.Need-loop-holds Inv-loop μ-loop
+loop-holds c = scan-start _ _
+
+mul-n : tie.Need-mul-n Inv-loop μ-loop
+mul-n c = omega (arith, c .before .loop .inv .within, c .before .before .pre .0)
+
+add-n : tie.Need-add-n Inv-loop μ-loop
+add-n c = omega (arith, c .before .loop .inv .within, c .before .before .pre .0)
+
+mul-n-2 : tie.Need-mul-n-2 Inv-loop μ-loop
+mul-n-2 c = omega (arith, c .before .loop .inv .within, c .before .before .pre .0)
+
+shared-slice-read-n : tie.Need-shared-slice-read-n Inv-loop μ-loop
+shared-slice-read-n c = omega (arith, c .before .before .loop .inv .bounded)
+
+add-u : tie.Need-add-u Inv-loop μ-loop
+add-u c = search needs
+
+loop-less : tie.Need-loop-less Inv-loop μ-loop
+loop-less c = omega (arith, c .before .before .before .loop .inv .bounded)
+
+loop-again : tie.Need-loop-again Inv-loop μ-loop
+loop-again c =
+    let s = c .before .before .before .before in
+    let l = c .before .before .before .loop in
+    let corners = s .args .corners .now in
+    let count-is = s .pre .2 .count-is (l .u) in
+    let scan : ℕ → Type 0 = λ k. Scanned (s .args .count) (irregularVertex corners) k (l .u + 1) in
+    let further : l .u < l .lowest = omega arith in
+    ⊎-elim
+    (λ w. subst scan (sym (w .1)) (scan-hit _ _ (l .lowest) (l .u) (l .inv) further (vertex-odd corners (l .u) _ count-is (w .0 .taken))))
+    (λ w. subst scan (sym (w .1)) (scan-miss _ _ (l .lowest) (l .u) (l .inv) further (vertex-square corners (l .u) _ count-is (w .0 .left))))
+    (c .if1 .came)
+
+returns : tie.Need-returns Inv-loop μ-loop
+returns c = let l = c .before .loop in scan-end _ _ (l .lowest) (l .u) (l .inv) (omega arith)
+
+pub search-vertices-spec : {M : Type 1} → statement M
+search-vertices-spec =
+    tie.close
+    (tie.spec
+    Inv-loop
+    μ-loop
+    loop-holds
+    mul-n
+    add-n
+    mul-n-2
+    shared-slice-read-n
+    add-u
+    loop-less
+    loop-again
+    returns)

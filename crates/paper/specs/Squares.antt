@@ -1,0 +1,97 @@
+-- L7, is it all squares? The lowest face that has not four sides, else the lowest vertex that has not four corners, else none, with the
+-- side counts that the search reads; the call; and what the lines of `inspect` say of it.
+-- Assumes nothing.
+use mathlib.Core.Path.{_≡_}
+use mathlib.Core.Bool.{Bool, true, false, not, _&&_}
+use mathlib.Core.List.{List}
+use Prim.Native.Nat.{ℕ, _+_}
+use lib.Dec.{ltb, eqb}
+use lib.ListN.{getD}
+use Rattle.paper.specs.Scan.{firstBelow, someBelow}
+use Rattle.paper.specs.Mesh.{mostSides, Mesh, vertexCount, faceCount}
+use Rattle.paper.specs.Links.{valence}
+use Rattle.paper.specs.Faults.{Verdict, sound, fault, verdict}
+use Rattle.paper.specs.declared.Counts.{Counts}
+use Rattle.paper.specs.declared.Irregular.{Irregular}
+use Rattle.paper.specs.declared.Irregular.the-variants.{Face, Vertex, None, Refused}
+
+-- face f has not four sides; vertex u has not four corners
+unfoldable pub irregularFace : List ℕ → ℕ → Bool
+irregularFace sides f = not (eqb (getD sides f 0) 4)
+
+unfoldable pub irregularVertex : List ℕ → ℕ → Bool
+irregularVertex corners u = not (eqb (valence corners u) 4)
+
+-- ---- number and values of each case: a face or a vertex or none, with the side counts read; or number and place
+pub data Stated : Type 0 where
+  face : ℕ → ℕ → Stated
+  vertex : ℕ → ℕ → Stated
+  none : ℕ → Stated
+  refused : ℕ → ℕ → Stated
+
+abbrev pub squaresStated : Irregular → Stated
+squaresStated (Face f read) = face f read
+squaresStated (Vertex u read) = vertex u read
+squaresStated (None read) = none read
+squaresStated (Refused number place) = refused number place
+
+-- ---- the search
+abbrev pub pick : Bool → Stated → Stated → Stated
+pick true s t = s
+pick false s t = t
+
+abbrev pub lowestFace : Mesh → ℕ
+lowestFace M = firstBelow (faceCount M) (irregularFace (M .sides))
+
+abbrev pub lowestVertex : Mesh → ℕ
+lowestVertex M = firstBelow (vertexCount M) (irregularVertex (M .corners))
+
+-- the lowest such face, else the lowest such vertex, else none; the side counts read are the face plus one, or all of them
+unfoldable pub found : Mesh → Stated
+found M =
+    pick (someBelow (faceCount M) (irregularFace (M .sides))) (face (lowestFace M) (lowestFace M + 1))
+    (pick (someBelow (vertexCount M) (irregularVertex (M .corners))) (vertex (lowestVertex M) (faceCount M))
+    (none (faceCount M)))
+
+abbrev pub unless : Verdict → Stated → Stated
+unless sound s = s
+unless (fault number place) s = refused number place
+
+-- 4 to 13 first
+unfoldable pub squares : Mesh → Stated
+squares M = unless (verdict M) (found M)
+
+-- ---- a call on a mesh answers r
+pub record Searched (M : Mesh) (r : Irregular) : Type 0 where
+  pub answers : squaresStated r ≡ squares M
+
+-- ---- the lines of `inspect`, which are those of the counts
+-- line m is not 4's, and counts something
+abbrev pub otherLine : List ℕ → ℕ → Bool
+otherLine counted m = not (eqb m 4) && ltb 0 (getD counted m 0)
+
+-- such a line counts faces; vertices
+unfoldable pub countsFaces : Counts → Bool
+countsFaces lines = someBelow (mostSides + 1) (otherLine (lines .sided))
+
+unfoldable pub countsVertices : Counts → Bool
+countsVertices lines = someBelow (mostSides + 1) (otherLine (lines .cornered))
+
+abbrev pub isFace : Irregular → Bool
+isFace (Face f read) = true
+isFace (Vertex u read) = false
+isFace (None read) = false
+isFace (Refused number place) = false
+
+abbrev pub isVertex : Irregular → Bool
+isVertex (Face f read) = false
+isVertex (Vertex u read) = true
+isVertex (None read) = false
+isVertex (Refused number place) = false
+
+-- an answer agrees with the lines
+pub record Agreed (lines : Counts) (r : Irregular) : Type 0 where
+  -- a face exactly when a later line other than 4's counts faces
+  pub faces : isFace r ≡ countsFaces lines
+  -- else a vertex exactly when such a line counts vertices
+  pub vertices : countsFaces lines ≡ false → isVertex r ≡ countsVertices lines
