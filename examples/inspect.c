@@ -10,8 +10,8 @@
 
 #include "mahunopi.h"
 
-/* The longest file of an accepted mesh; of a longer one the bytes after these are only counted. */
-enum { ROOM = 11 + 12 * MAHUNOPI_MAX_VERTICES + MAHUNOPI_MAX_FACES + 2 * MAHUNOPI_MAX_CORNERS };
+/* The longest file of an accepted mesh, in version 2; of a longer one the bytes after these are only counted. */
+enum { ROOM = 11 + 12 * MAHUNOPI_MAX_VERTICES + MAHUNOPI_MAX_FACES + 4 * MAHUNOPI_MAX_CORNERS };
 
 enum { COUNTS = MAHUNOPI_MAX_SIDES + 1 };
 

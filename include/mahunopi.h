@@ -1,18 +1,18 @@
 /*
  * Mahunopi: smooth patches over a closed mesh, in whole numbers.
  *
- * The functions below are the proved library's C face (libmahunopi.a). A mesh is three lists: coordinates, side
- * counts and corners. mahunopi_survey counts what a .dms file holds, mahunopi_decode reads its lists, mahunopi_link
- * fills the link table of a mesh, mahunopi_build writes the control points of a range of corners, mahunopi_floats
- * gives one of these points as floats. mahunopi_irregular says whether a mesh is all squares. mahunopi_nest lists a
- * table of nested grids. Each is complete in itself: none relies on an earlier call.
+ * The functions below are the proved library's C face (libmahunopi.a). A mesh is four lists: coordinates, side
+ * counts, corners, and the sharpness of the corners. mahunopi_survey counts what a .dms file holds, mahunopi_decode
+ * reads its lists, mahunopi_link fills the link table of a mesh, mahunopi_build writes the control points of a range of
+ * corners, mahunopi_floats gives one of these points as floats. mahunopi_irregular says whether a mesh is all squares.
+ * mahunopi_nest lists a table of nested grids. Each is complete in itself: none relies on an earlier call.
  *
  * Every function returns MAHUNOPI_DONE, or the number of a refusal (enum mahunopi_refusal). After a refusal *place
  * says where, and everything else that was lent keeps its contents; when done, *place keeps its contents.
  *
  * A list is a pointer and the number of its entries. The pointer may be null where that number is 0. The pointers to
- * single numbers (place, pairs, the three counts of surveying and of decoding, and what mahunopi_irregular finds) and to
- * the six floats must not be null. What a function writes to must not overlap anything else that it is given.
+ * single numbers (place, pairs, the counts of surveying and of decoding, and what mahunopi_irregular finds) and to the
+ * six floats must not be null. What a function writes to must not overlap anything else that it is given.
  *
  * Calls share no state: any number of them may run at the same time, on any threads, as long as none writes to what
  * another one is given. Nothing is allocated. Scratch lies on the stack, of which a call needs up to
@@ -33,7 +33,7 @@ extern "C" {
 
 /* The version of this face: it rises with every change of a signature, a limit or a refusal's number or meaning. The
  * archive does not tell its own, so keep header and archive of one build together. */
-#define MAHUNOPI_VERSION 3
+#define MAHUNOPI_VERSION 4
 
 /* The most vertices, faces and corners of a mesh. */
 #define MAHUNOPI_MAX_VERTICES 2048
@@ -42,6 +42,9 @@ extern "C" {
 /* The fewest and the most sides of a face, and corners of a vertex. */
 #define MAHUNOPI_MIN_SIDES 3
 #define MAHUNOPI_MAX_SIDES 16
+/* The largest sharpness number, in sixteenths, and the one that a corner has where nothing else is said. */
+#define MAHUNOPI_MAX_SHARPNESS 16
+#define MAHUNOPI_PLAIN_SHARPNESS 8
 /* The numbers that building writes for a corner: 41 control points of x, y, z. */
 #define MAHUNOPI_NUMBERS_PER_CORNER 123
 /* The most bodies of a nesting table, and what stands for the Sun in it. */
@@ -52,8 +55,9 @@ extern "C" {
 
 /*
  * What a function answers. A file is checked by 1 to 13, linking by 4 to 14, building by 4 to 17, the search for an
- * irregular face or vertex by 4 to 13, a control point in floats by 18 to 20, a nesting table by 21 to 23. Each number
- * is tried over the whole input before the next, and the place is the lowest that applies.
+ * irregular face or vertex by 4 to 13, a control point in floats by 18 to 20, a nesting table by 21 to 23. 27 and 28
+ * are tried wherever 4 to 13 are, 27 after 4 and 28 after 8: the order is 4, 27, 5, 6, 7, 8, 28, 9 and so on. Each
+ * number is tried over the whole input before the next, and the place is the lowest that applies.
  *
  * From a corner the leaving edge runs to the vertex of the next corner of its face, cyclically, and the arriving edge
  * comes from the vertex of the previous one. The link of a corner is the corner of the same vertex whose arriving edge
@@ -62,14 +66,24 @@ extern "C" {
  * 13 in full: start at the lowest corner of a vertex and go from link to link until that corner comes back. This walks
  * once round the vertex, through the faces that hang together there by edges. A corner of the vertex that is not met
  * lies in other faces, which touch these in the vertex alone, as where two closed parts share one vertex.
+ *
+ * Each corner has two sharpness numbers of 0 to 16 sixteenths: u pulls the surface towards its leaving edge, v towards
+ * its arriving edge. With 8 and 8 a corner is as soft as before there was sharpness. With 0 and 0 its refined point
+ * lies amid its face, with 16 and 0 amid its leaving edge, with 0 and 16 amid its arriving edge, with 16 and 16 at its
+ * vertex.
+ *
+ * A .dms file has one of two versions. Version 1 has coordinates, side counts and corners, and reads as 8 and 8
+ * throughout; version 2 has two bytes more for each corner after these: u and v of corner 0, then of corner 1, and so
+ * on.
  */
 enum mahunopi_refusal {
     MAHUNOPI_DONE = 0,
     /* the file has fewer than 11 bytes or another mark than DMS (place 0) */
     MAHUNOPI_BAD_MARK = 1,
-    /* the file's version is not 1 (place 0) */
+    /* the file's version is neither 1 nor 2 (place 0) */
     MAHUNOPI_BAD_VERSION = 2,
-    /* the file's length is not 11 + 12 times vertices + faces + 2 times corners (place 0) */
+    /* the file's length is not 11 + 12 times vertices + faces + 2 times corners, plus twice the corners in version 2
+     * (place 0) */
     MAHUNOPI_BAD_FILE_LENGTH = 3,
     /* no entries in a list or more than the limits, or a coordinate count that is no multiple of three (place 0) */
     MAHUNOPI_BAD_COUNTS = 4,
@@ -111,6 +125,10 @@ enum mahunopi_refusal {
     MAHUNOPI_NO_SUCH_HOLDER = 22,
     /* a chain does not end at the Sun (place: the lowest such body) */
     MAHUNOPI_CHAIN_WITHOUT_SUN = 23,
+    /* after 4: the sharpness list is not twice as long as the corner list (place: its length) */
+    MAHUNOPI_BAD_SHARPNESS_LENGTH = 27,
+    /* after 8: a sharpness number is above 16 (place: its position in the sharpness list) */
+    MAHUNOPI_BAD_SHARPNESS = 28,
     /* surveying and decoding, after 1 to 13: a lent list is too short (place: the length that the first such needs) */
     MAHUNOPI_LENT_TOO_SHORT = 255
 };
@@ -131,6 +149,10 @@ uint32_t mahunopi_link(
     const uint16_t *corners,
     /* how many corners */
     size_t corner_count,
+    /* u and v of corner 0, then of corner 1, and so on, each 0 to 16 */
+    const uint8_t *sharpness,
+    /* how many numbers that are: has to be twice corner_count */
+    size_t sharpness_count,
     /* receives the link of each corner */
     uint16_t *links,
     /* how many entries it has: has to be corner_count */
@@ -144,13 +166,15 @@ uint32_t mahunopi_link(
  * points, each x, y, z.
  */
 uint32_t mahunopi_build(
-    /* the three lists, as for mahunopi_link */
+    /* the four lists, as for mahunopi_link */
     const int32_t *coordinates,
     size_t coordinate_count,
     const uint8_t *sides,
     size_t side_count,
     const uint16_t *corners,
     size_t corner_count,
+    const uint8_t *sharpness,
+    size_t sharpness_count,
     /* the link table that mahunopi_link fills for these lists */
     const uint16_t *links,
     /* how many entries it has: has to be corner_count */
@@ -167,9 +191,9 @@ uint32_t mahunopi_build(
     uint64_t *place);
 
 /*
- * Decoding: checks a .dms file by 1 to 13 and writes its three lists to the beginnings of three lent ones, whose
- * further entries keep their contents. Lists of 3 * MAHUNOPI_MAX_VERTICES, MAHUNOPI_MAX_FACES and MAHUNOPI_MAX_CORNERS
- * entries are long enough for every file.
+ * Decoding: checks a .dms file by 1 to 13 and writes its four lists to the beginnings of four lent ones, whose further
+ * entries keep their contents. Lists of 3 * MAHUNOPI_MAX_VERTICES, MAHUNOPI_MAX_FACES, MAHUNOPI_MAX_CORNERS and
+ * 2 * MAHUNOPI_MAX_CORNERS entries are long enough for every file.
  */
 uint32_t mahunopi_decode(
     /* the file's bytes, from its beginning; those after the first length bytes are not looked at */
@@ -190,12 +214,18 @@ uint32_t mahunopi_decode(
     uint16_t *corners,
     /* how many entries it takes */
     size_t corner_space,
+    /* receives the sharpness numbers: those of a file of version 2, 8 throughout for one of version 1 */
+    uint8_t *sharpness,
+    /* how many bytes it takes */
+    size_t sharpness_space,
     /* receives the number of coordinates written: three for each vertex; not null */
     uint64_t *coordinate_count,
     /* receives the number of side counts written: the faces; not null */
     uint64_t *side_count,
     /* receives the number of corners written; not null */
     uint64_t *corner_count,
+    /* receives the number of sharpness numbers written: two for each corner; not null */
+    uint64_t *sharpness_count,
     /* receives the place of a refusal; not null */
     uint64_t *place);
 
@@ -260,13 +290,15 @@ enum mahunopi_kind {
  * that has not four corners, else none. The search stops at the first face found.
  */
 uint32_t mahunopi_irregular(
-    /* the three lists, as for mahunopi_link */
+    /* the four lists, as for mahunopi_link */
     const int32_t *coordinates,
     size_t coordinate_count,
     const uint8_t *sides,
     size_t side_count,
     const uint16_t *corners,
     size_t corner_count,
+    const uint8_t *sharpness,
+    size_t sharpness_count,
     /* receives one of enum mahunopi_kind; not null */
     uint32_t *kind,
     /* receives the number of the face or of the vertex, 0 where there is none; not null */

@@ -1,4 +1,4 @@
--- A call of `mahunopi_build` that answers 0 is a call of building that is not refused: no fault of 4 to 17 has the number 0.
+-- A call of `mahunopi_build` that answers 0 is a call of building that is not refused: no fault of 4 to 17, nor 27 or 28, has the number 0.
 -- Assumes nothing.
 use mathlib.Core.Path.{_≡_, refl, sym, ap, _∙_}
 use mathlib.Core.Bool.{Bool, true, false}
@@ -41,8 +41,8 @@ unfolding buildVerdict linkVerdict verdict listFaults linkFaults
 built M links first count n =
     let l : (k : ℕ) → 0 < k → (m : ℕ) (f : ℕ → Bool) → Numbered (lowestOf k m f) = λ k h m f. lowest k m f h in
     let s : (k : ℕ) → 0 < k → (b : Bool) (p : ℕ) → Numbered (single k b p) = λ k h b p. one k b p h in
-    let lists = s 4 (omega arith) _ _ or l 5 (omega arith) _ _ or s 6 (omega arith) _ _ or l 7 (omega arith) _ _ or l 8 (omega arith) _ _
-    or l 9 (omega arith) _ _ in
+    let lists = s 4 (omega arith) _ _ or s 27 (omega arith) _ _ or l 5 (omega arith) _ _ or s 6 (omega arith) _ _ or l 7 (omega arith) _ _
+    or l 8 (omega arith) _ _ or l 28 (omega arith) _ _ or l 9 (omega arith) _ _ in
     let edges = l 10 (omega arith) _ _ or l 11 (omega arith) _ _ or l 12 (omega arith) _ _ or l 13 (omega arith) _ _ in
     ((lists or edges) or s 14 (omega arith) _ _) or l 15 (omega arith) _ _ or s 16 (omega arith) _ _ or s 17 (omega arith) _ _
 

@@ -1,6 +1,6 @@
 // Builds the cube of 01 and a tetrahedron, and prints what 01's checked examples print: points of the cube's corner 0, what building
 // refuses, and whether a mesh built in one call and built corner by corner, so that every border lies between two calls, gives the
-// same numbers.
+// same numbers. The cube is soft (8 and 8 throughout) and then crisp (16 and 16), and the tetrahedron has corners of all sorts.
 use paper::Answer;
 use print::output::say_up_to;
 use print::text::put_entry;
@@ -72,33 +72,92 @@ fn cube() {
     let coordinates = COORDINATES;
     let sides = SIDES;
     let corners = CORNERS;
+    let soft = [8u8; 48];
+    let crisp = [16u8; 48];
     let mut links = [0u16; 24];
-    link(b"cube, link", &coordinates, &sides, &corners, &mut links);
-    cube_points(&coordinates, &sides, &corners, &links);
-    refusals(&coordinates, &sides, &corners, &links);
+    link(
+        b"cube, link",
+        &coordinates,
+        &sides,
+        &corners,
+        &soft,
+        &mut links,
+    );
+    cube_points(
+        b"cube, build",
+        &coordinates,
+        &sides,
+        &corners,
+        &soft,
+        &links,
+    );
+    cube_points(
+        b"crisp cube, build",
+        &coordinates,
+        &sides,
+        &corners,
+        &crisp,
+        &links,
+    );
+    refusals(&coordinates, &sides, &corners, &soft, &links);
+    sharpness_refusals(&coordinates, &sides, &corners, &links);
 }
 
 // The cube built as a whole, and its corner 0.
-fn cube_points(coordinates: &[i32], sides: &[u8], corners: &[u16], links: &[u16]) {
+fn cube_points(
+    what: &[u8],
+    coordinates: &[i32],
+    sides: &[u8],
+    corners: &[u16],
+    sharpness: &[u8],
+    links: &[u16],
+) {
     let mut whole = [0i32; 2952];
     build(
-        b"cube, build",
+        what,
         coordinates,
         sides,
         corners,
+        sharpness,
         links,
         0,
         24,
         &mut whole,
     );
     points(&whole);
-    corner_by_corner(coordinates, sides, corners, links, &whole);
+    corner_by_corner(coordinates, sides, corners, sharpness, links, &whole);
 }
 
 fn tetrahedron() {
     let coordinates = [7i32, 1, 0, -5, 9, 2, -6, -8, 3, 1, 2, 11];
     let sides = [3u8, 3, 3, 3];
     let corners = [0u16, 1, 2, 0, 2, 3, 0, 3, 1, 1, 3, 2];
+    let sharpness = [
+        0u8,
+        16,
+        16,
+        0,
+        8,
+        8,
+        16,
+        16,
+        0,
+        0,
+        3,
+        13,
+        5,
+        9,
+        12,
+        1,
+        7,
+        15,
+        10,
+        2,
+        14,
+        4,
+        6,
+        11,
+    ];
     let mut links = [0u16; 12];
     let mut whole = [0i32; 1476];
     link(
@@ -106,6 +165,7 @@ fn tetrahedron() {
         &coordinates,
         &sides,
         &corners,
+        &sharpness,
         &mut links,
     );
     build(
@@ -113,12 +173,13 @@ fn tetrahedron() {
         &coordinates,
         &sides,
         &corners,
+        &sharpness,
         &links,
         0,
         12,
         &mut whole,
     );
-    corner_by_corner(&coordinates, &sides, &corners, &links, &whole);
+    corner_by_corner(&coordinates, &sides, &corners, &sharpness, &links, &whole);
 }
 
 // Points of corner 0 that 01 prints.
@@ -134,20 +195,58 @@ fn points(whole: &[i32; 2952]) {
 }
 
 // 14 to 17, also where the end of the range would wrap.
-fn refusals(coordinates: &[i32], sides: &[u8], corners: &[u16], links: &[u16]) {
+fn refusals(coordinates: &[i32], sides: &[u8], corners: &[u16], sharpness: &[u8], links: &[u16]) {
     let short = [0u16; 23];
     let other = [0u16; 24];
-    attempt(b"short table", coordinates, sides, corners, &short, 0, 1);
-    attempt(b"other links", coordinates, sides, corners, &other, 0, 1);
-    attempt(b"no count", coordinates, sides, corners, links, 9, 0);
-    attempt(b"past the end", coordinates, sides, corners, links, 24, 1);
+    let far = 18446744073709551615;
+    attempt(
+        b"short table",
+        coordinates,
+        sides,
+        corners,
+        sharpness,
+        &short,
+        0,
+        1,
+    );
+    attempt(
+        b"other links",
+        coordinates,
+        sides,
+        corners,
+        sharpness,
+        &other,
+        0,
+        1,
+    );
+    attempt(
+        b"no count",
+        coordinates,
+        sides,
+        corners,
+        sharpness,
+        links,
+        9,
+        0,
+    );
+    attempt(
+        b"past the end",
+        coordinates,
+        sides,
+        corners,
+        sharpness,
+        links,
+        24,
+        1,
+    );
     attempt(
         b"far past the end",
         coordinates,
         sides,
         corners,
+        sharpness,
         links,
-        18446744073709551615,
+        far,
         1,
     );
     attempt(
@@ -155,12 +254,58 @@ fn refusals(coordinates: &[i32], sides: &[u8], corners: &[u16], links: &[u16]) {
         coordinates,
         sides,
         corners,
+        sharpness,
         links,
         1,
-        18446744073709551615,
+        far,
     );
-    attempt(b"long range", coordinates, sides, corners, links, 0, 2);
-    attempt(b"last corner", coordinates, sides, corners, links, 23, 1);
+    attempt(
+        b"long range",
+        coordinates,
+        sides,
+        corners,
+        sharpness,
+        links,
+        0,
+        2,
+    );
+    attempt(
+        b"last corner",
+        coordinates,
+        sides,
+        corners,
+        sharpness,
+        links,
+        23,
+        1,
+    );
+}
+
+// 27 and 28.
+fn sharpness_refusals(coordinates: &[i32], sides: &[u8], corners: &[u16], links: &[u16]) {
+    let short = [8u8; 47];
+    let mut sharp = [8u8; 48];
+    attempt(
+        b"short sharpness",
+        coordinates,
+        sides,
+        corners,
+        &short,
+        links,
+        0,
+        1,
+    );
+    sharp[31] = 17;
+    attempt(
+        b"sharpness 17",
+        coordinates,
+        sides,
+        corners,
+        &sharp,
+        links,
+        0,
+        1,
+    );
 }
 
 // Building into room for one corner.
@@ -169,6 +314,7 @@ fn attempt(
     coordinates: &[i32],
     sides: &[u8],
     corners: &[u16],
+    sharpness: &[u8],
     links: &[u16],
     first: usize,
     count: usize,
@@ -179,6 +325,7 @@ fn attempt(
         coordinates,
         sides,
         corners,
+        sharpness,
         links,
         first,
         count,
@@ -187,8 +334,18 @@ fn attempt(
 }
 
 // A call of linking, and its line.
-fn link(what: &[u8], coordinates: &[i32], sides: &[u8], corners: &[u16], links: &mut [u16]) {
-    say(what, linking::link(coordinates, sides, corners, links));
+fn link(
+    what: &[u8],
+    coordinates: &[i32],
+    sides: &[u8],
+    corners: &[u16],
+    sharpness: &[u8],
+    links: &mut [u16],
+) {
+    say(
+        what,
+        linking::link(coordinates, sides, corners, sharpness, links),
+    );
 }
 
 // A call of building, and its line.
@@ -197,6 +354,7 @@ fn build(
     coordinates: &[i32],
     sides: &[u8],
     corners: &[u16],
+    sharpness: &[u8],
     links: &[u16],
     first: usize,
     count: usize,
@@ -204,7 +362,16 @@ fn build(
 ) {
     say(
         what,
-        building::build(coordinates, sides, corners, links, first, count, output),
+        building::build(
+            coordinates,
+            sides,
+            corners,
+            sharpness,
+            links,
+            first,
+            count,
+            output,
+        ),
     );
 }
 
@@ -213,13 +380,14 @@ fn corner_by_corner(
     coordinates: &[i32],
     sides: &[u8],
     corners: &[u16],
+    sharpness: &[u8],
     links: &[u16],
     whole: &[i32],
 ) {
     let mut c = 0;
     while c < 24 {
         if c < corners.len() {
-            if !agrees(coordinates, sides, corners, links, whole, c) {
+            if !agrees(coordinates, sides, corners, sharpness, links, whole, c) {
                 print::output::say(b"a corner built by itself differs\n");
             }
         }
@@ -232,6 +400,7 @@ fn agrees(
     coordinates: &[i32],
     sides: &[u8],
     corners: &[u16],
+    sharpness: &[u8],
     links: &[u16],
     whole: &[i32],
     c: usize,
@@ -239,7 +408,16 @@ fn agrees(
     requires { ⌜ c < 24 ⌝ }
 {
     let mut one = [0i32; 123];
-    building::build(coordinates, sides, corners, links, c, 1, &mut one);
+    building::build(
+        coordinates,
+        sides,
+        corners,
+        sharpness,
+        links,
+        c,
+        1,
+        &mut one,
+    );
     same(whole, 123 * c, &one)
 }
 

@@ -8,11 +8,11 @@ use Rattle.paper.specs.Mesh.{mostCorners, Mesh, cornerCount, faceCount}
 use Rattle.paper.specs.Faults.{Accepted}
 use Rattle.mesh.proofs.Accepted.{sound-of, few-corners}
 use Rattle.surface.specs.Points.{pointRow}
+use Rattle.refine.specs.Sources.{Small}
 use Rattle.refine.proofs.Laws.{small-zeros}
-use Rattle.building.specs.Answered.{PointRoom}
 
-pub point-room : (M : Mesh) (p : ℕ) → (cornerCount M ≤ mostCorners → cornerCount M ≤ p) → PointRoom M (replicate (pointRow * p) (pos 0))
-point-room M p a = (λ h. rw (length-replicate {A = ℤ} (pointRow * p) (pos 0)) (omega (arith, a h)), small-zeros (pointRow * p))
+pub point-room : (n p : ℕ) → n ≤ p → (pointRow * n ≤ length (replicate (pointRow * p) (pos 0))) × Small (replicate (pointRow * p) (pos 0))
+point-room n p h = (rw (length-replicate {A = ℤ} (pointRow * p) (pos 0)) (omega arith), small-zeros (pointRow * p))
 
 pub few : (M : Mesh) → Accepted M → cornerCount M ≤ mostCorners
 few M a = few-corners (length (M .coordinates)) (faceCount M) (cornerCount M) (sound-of M a .four)

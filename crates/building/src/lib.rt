@@ -5,17 +5,16 @@ use paper::MOST_CORNERS;
 use paper::MOST_VERTICES;
 use surface::POINT_ROW;
 use walk::ROW;
-ghost use Prim.Native.Nat.{_*_, _≤_};
+ghost use mathlib.Core.Path.{_≡_};
+ghost use Prim.Native.Nat.{_+_, _*_, _<_, _≤_};
 ghost use lib.ListN.{length};
 ghost use Rattle.paper.specs.Mesh.{meshOf};
 ghost use Rattle.paper.specs.Faults.{Accepted};
 ghost use Rattle.paper.specs.Refined.{cornersOf};
-ghost use Rattle.paper.specs.Calls.{Built};
-ghost use Rattle.surface.specs.Points.{pointRow};
+ghost use Rattle.paper.specs.Calls.{perCorner, nets, Built};
 ghost use Rattle.walk.specs.Table.{Tabled};
 ghost use Rattle.checks.specs.Checked.{RoomFor};
-ghost use Rattle.refine.specs.Sources.{Small};
-ghost use Rattle.building.specs.Answered.{PointRoom, Answered};
+ghost use Rattle.building.specs.Answered.{Answered};
 
 // What is asked for: `count` corners from `first` on.
 struct Range {
@@ -23,17 +22,18 @@ struct Range {
     count: usize,
 }
 
-// Checks 4 to 17, then the control points. Nothing is written to the output before the last check has passed.
+// Checks 4 to 17 with 27 and 28, then the control points. Nothing is written to the output before the last check has passed.
 pub fn build(
     coordinates: &[i32],
     sides: &[u8],
     corners: &[u16],
+    sharpness: &[u8],
     links: &[u16],
     first: usize,
     count: usize,
     out: &mut [i32],
 ) -> Answer
-    ensures { λ r. ⌜ Built (meshOf (now (coordinates .entry)) (now (sides .entry)) (now (corners .entry))) (now (links .entry)) first count (now (out .entry)) r (now (out .exit)) ⌝ }
+    ensures { λ r. ⌜ Built (meshOf (now (coordinates .entry)) (now (sides .entry)) (now (corners .entry)) (now (sharpness .entry))) (now (links .entry)) first count (now (out .entry)) r (now (out .exit)) ⌝ }
 {
     let range = Range {
         first: first,
@@ -42,31 +42,29 @@ pub fn build(
     if corners.len() <= SMALL_MESH && coordinates.len() / 3 <= SMALL_MESH {
         let mut table = [0u16; ROW * SMALL_MESH];
         let mut vertices = [0u16; ROW * SMALL_MESH];
-        let mut points = [0i32; POINT_ROW * SMALL_MESH];
         return build_over(
             coordinates,
             sides,
             corners,
+            sharpness,
             links,
             range,
             &mut table,
             &mut vertices,
-            &mut points,
             out,
         );
     }
     let mut table = [0u16; ROW * MOST_CORNERS];
     let mut vertices = [0u16; ROW * MOST_VERTICES];
-    let mut points = [0i32; POINT_ROW * MOST_CORNERS];
     build_over(
         coordinates,
         sides,
         corners,
+        sharpness,
         links,
         range,
         &mut table,
         &mut vertices,
-        &mut points,
         out,
     )
 }
@@ -76,18 +74,17 @@ fn build_over(
     coordinates: &[i32],
     sides: &[u8],
     corners: &[u16],
+    sharpness: &[u8],
     links: &[u16],
     range: Range,
     table: &mut [u16],
     vertices: &mut [u16],
-    points: &mut [i32],
     out: &mut [i32],
 ) -> Answer
-    requires tables { ⌜ RoomFor (meshOf (now coordinates) (now sides) (now corners)) (now table) (now vertices) ⌝ }
-    requires points { ⌜ PointRoom (meshOf (now coordinates) (now sides) (now corners)) (now points) ⌝ }
-    ensures { λ r. ⌜ Built (meshOf (now (coordinates .entry)) (now (sides .entry)) (now (corners .entry))) (now (links .entry)) (range .first) (range .count) (now (out .entry)) r (now (out .exit)) ⌝ }
+    requires { ⌜ RoomFor (meshOf (now coordinates) (now sides) (now corners) (now sharpness)) (now table) (now vertices) ⌝ }
+    ensures { λ r. ⌜ Built (meshOf (now (coordinates .entry)) (now (sides .entry)) (now (corners .entry)) (now (sharpness .entry))) (now (links .entry)) (range .first) (range .count) (now (out .entry)) r (now (out .exit)) ⌝ }
 {
-    let a = checks::check_within(coordinates, sides, corners, table, vertices);
+    let a = checks::check_within(coordinates, sides, corners, sharpness, table, vertices);
     if let Answer::Refused(k, p) = a {
         return Answer::Refused(k, p);
     }
@@ -95,10 +92,10 @@ fn build_over(
         coordinates,
         sides,
         corners,
+        sharpness,
         links,
         range,
         table,
-        points,
         out,
     )
 }
@@ -108,16 +105,15 @@ fn answer(
     coordinates: &[i32],
     sides: &[u8],
     corners: &[u16],
+    sharpness: &[u8],
     links: &[u16],
     range: Range,
     table: &[u16],
-    points: &mut [i32],
     out: &mut [i32],
 ) -> Answer
-    requires mesh { ⌜ Accepted (meshOf (now coordinates) (now sides) (now corners)) ⌝ }
-    requires table { ⌜ Tabled (cornersOf (meshOf (now coordinates) (now sides) (now corners))) (now table) ⌝ }
-    requires points { ⌜ (pointRow * length (now corners) ≤ length (now points)) × Small (now points) ⌝ }
-    ensures { λ r. ⌜ Answered (meshOf (now (coordinates .entry)) (now (sides .entry)) (now (corners .entry))) (now (links .entry)) (range .first) (range .count) (now (out .entry)) r (now (out .exit)) ⌝ }
+    requires mesh { ⌜ Accepted (meshOf (now coordinates) (now sides) (now corners) (now sharpness)) ⌝ }
+    requires table { ⌜ Tabled (cornersOf (meshOf (now coordinates) (now sides) (now corners) (now sharpness))) (now table) ⌝ }
+    ensures { λ r. ⌜ Answered (meshOf (now (coordinates .entry)) (now (sides .entry)) (now (corners .entry)) (now (sharpness .entry))) (now (links .entry)) (range .first) (range .count) (now (out .entry)) r (now (out .exit)) ⌝ }
 {
     let first = range.first;
     let count = range.count;
@@ -125,15 +121,50 @@ fn answer(
     if let Answer::Refused(k, p) = a {
         return Answer::Refused(k, p);
     }
-    writing::write_nets(
-        coordinates,
-        sides,
-        corners,
-        table,
-        first,
-        count,
-        points,
-        out,
-    );
+    write_range(coordinates, sides, corners, sharpness, table, range, out);
     Answer::Done
+}
+
+// The control points of a range, over a table of refined points of its own.
+fn write_range(
+    coordinates: &[i32],
+    sides: &[u8],
+    corners: &[u16],
+    sharpness: &[u8],
+    table: &[u16],
+    range: Range,
+    out: &mut [i32],
+)
+    requires mesh { ⌜ Accepted (meshOf (now coordinates) (now sides) (now corners) (now sharpness)) ⌝ }
+    requires table { ⌜ Tabled (cornersOf (meshOf (now coordinates) (now sides) (now corners) (now sharpness))) (now table) ⌝ }
+    requires range { ⌜ (0 < range .count) × (range .first + range .count ≤ length (now corners)) × (length (now out) ≡ perCorner * range .count) ⌝ }
+    ensures { λ _. ⌜ now (out .exit) ≡ nets (meshOf (now (coordinates .entry)) (now (sides .entry)) (now (corners .entry)) (now (sharpness .entry))) (range .first) (range .count) ⌝ }
+{
+    if corners.len() <= SMALL_MESH {
+        let mut points = [0i32; POINT_ROW * SMALL_MESH];
+        writing::write_nets(
+            coordinates,
+            sides,
+            corners,
+            sharpness,
+            table,
+            range.first,
+            range.count,
+            &mut points,
+            out,
+        );
+    } else {
+        let mut points = [0i32; POINT_ROW * MOST_CORNERS];
+        writing::write_nets(
+            coordinates,
+            sides,
+            corners,
+            sharpness,
+            table,
+            range.first,
+            range.count,
+            &mut points,
+            out,
+        );
+    }
 }

@@ -1,7 +1,7 @@
 -- What each passed check gives to the later ones: rooms, sums and names for filling the tables, unique edges with reverses for the links;
 -- and how the answers make up the verdict.
 -- Assumes nothing.
-use mathlib.Core.Path.{_≡_, _∙_, sym}
+use mathlib.Core.Path.{_≡_, ap, _∙_, sym}
 use mathlib.Core.Bool.{false}
 use mathlib.Core.List.{List}
 use Prim.Native.Nat.{ℕ, _*_, _≤_}
@@ -44,14 +44,18 @@ pub rowed : (M : Mesh) (vertices : List ℕ) → vertexCount M ≤ mostVertices 
 rowed M vertices l r e c h =
     omega (arith, r l, named-of (vertexCount M) (M .corners) c (lowest-sound 8 (cornerCount M) (fault8 (vertexCount M) (M .corners)) e c h))
 
+-- two checks, one after the other
+pub joined : {a b v w : Verdict} → a ≡ v → b ≡ w → a orElse b ≡ v orElse w
+joined {a = a} {w = w} e f = ap (λ (x : Verdict). a orElse x) f ∙ ap (λ (x : Verdict). x orElse w) e
+
 pub lists-refused : (M : Mesh) (table vertices : List ℕ) (k p : ℕ) → fault k p ≡ listFaults M → ListsChecked M (Refused k p) table vertices
 lists-refused M table vertices k p e = record { answers = e; ready = unsound k p }
 
--- after 4 to 9
+-- after 4 to 9 with 27 and 28
 pub listed : (M : Mesh) → listFaults M ≡ sound → Listed M
 unfolding listFaults
 listed M e4 =
-    let e5 = sound-right _ _ e4 in
+    let e5 = sound-right _ _ (sound-right _ _ e4) in
     let e6 = sound-right _ _ e5 in
     let e8 = sound-right _ _ (sound-right _ _ e6) in
     let b : fault4 (length (M .coordinates)) (faceCount M) (cornerCount M) ≡ false = single-sound _ _ _ (sound-left _ _ e4) in

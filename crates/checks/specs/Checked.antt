@@ -1,4 +1,4 @@
--- What the shared check of 4 to 13 asks and answers, and what its tables hold.
+-- What the shared check of 4 to 13 with 27 and 28 asks and answers, and what its tables hold.
 -- Assumes nothing.
 use mathlib.Core.Path.{_≡_}
 use mathlib.Core.List.{List}
@@ -24,7 +24,7 @@ pub record Checked (M : Mesh) (r : Answer) (table : List ℕ) : Type 0 where
   pub answers : stated r ≡ verdict M
   pub tabled : Accepted M → Tabled (cornersOf M) table
 
--- the checks 4 to 9
+-- the checks 4 to 9 with 27 and 28
 pub record ListsChecked (M : Mesh) (r : Answer) (table vertices : List ℕ) : Type 0 where
   pub answers : stated r ≡ listFaults M
   pub ready : stated r ≡ sound → Ready (M .corners) table vertices

@@ -1,4 +1,4 @@
-// The checks that the file, linking and building share: 4 to 13 of a mesh, then 14 to 17 of what is asked besides. Each number is tried
+// The checks that the file, linking and building share: 4 to 13 of a mesh with 27 and 28, then 14 to 17 of what is asked besides. Each number is tried
 // over the whole input before the next.
 use mesh::SMALL_MESH;
 use paper::Answer;
@@ -14,24 +14,38 @@ ghost use lib.Dec.{eqb, ltb};
 ghost use lib.ListN.{length};
 ghost use Rattle.paper.specs.Mesh.{mostCorners, Mesh, meshOf, cornerCount};
 ghost use Rattle.paper.specs.Links.{link};
-ghost use Rattle.paper.specs.Faults.{single, lowestOf, verdict, stated};
+ghost use Rattle.paper.specs.Faults.{_orElse_, single, lowestOf, verdict, stated};
 ghost use Rattle.paper.specs.Calls.{fault15, fault17};
 ghost use Rattle.walk.specs.Table.{rowLength, toLink, Column};
 ghost use Rattle.checks.specs.Checked.{RoomFor, Checked, ListsChecked};
 ghost use Rattle.checks.specs.Request.{requestFaults};
 
-// Checks 4 to 13, over tables of its own.
-pub fn check(coordinates: &[i32], sides: &[u8], corners: &[u16]) -> Answer
-    ensures { λ r. ⌜ stated r ≡ verdict (meshOf (now (coordinates .entry)) (now (sides .entry)) (now (corners .entry))) ⌝ }
+// Checks 4 to 13 with 27 and 28, over tables of its own.
+pub fn check(coordinates: &[i32], sides: &[u8], corners: &[u16], sharpness: &[u8]) -> Answer
+    ensures { λ r. ⌜ stated r ≡ verdict (meshOf (now (coordinates .entry)) (now (sides .entry)) (now (corners .entry)) (now (sharpness .entry))) ⌝ }
 {
     if corners.len() <= SMALL_MESH && coordinates.len() / 3 <= SMALL_MESH {
         let mut table = [0u16; ROW * SMALL_MESH];
         let mut vertices = [0u16; ROW * SMALL_MESH];
-        return check_within(coordinates, sides, corners, &mut table, &mut vertices);
+        return check_within(
+            coordinates,
+            sides,
+            corners,
+            sharpness,
+            &mut table,
+            &mut vertices,
+        );
     }
     let mut table = [0u16; ROW * MOST_CORNERS];
     let mut vertices = [0u16; ROW * MOST_VERTICES];
-    check_within(coordinates, sides, corners, &mut table, &mut vertices)
+    check_within(
+        coordinates,
+        sides,
+        corners,
+        sharpness,
+        &mut table,
+        &mut vertices,
+    )
 }
 
 // The same over lent tables: of an accepted mesh the first is then its table of corners. The second is scratch.
@@ -39,13 +53,14 @@ pub fn check_within(
     coordinates: &[i32],
     sides: &[u8],
     corners: &[u16],
+    sharpness: &[u8],
     table: &mut [u16],
     vertices: &mut [u16],
 ) -> Answer
-    requires { ⌜ RoomFor (meshOf (now coordinates) (now sides) (now corners)) (now table) (now vertices) ⌝ }
-    ensures { λ r. ⌜ Checked (meshOf (now (coordinates .entry)) (now (sides .entry)) (now (corners .entry))) r (now (table .exit)) ⌝ }
+    requires { ⌜ RoomFor (meshOf (now coordinates) (now sides) (now corners) (now sharpness)) (now table) (now vertices) ⌝ }
+    ensures { λ r. ⌜ Checked (meshOf (now (coordinates .entry)) (now (sides .entry)) (now (corners .entry)) (now (sharpness .entry))) r (now (table .exit)) ⌝ }
 {
-    let a = check_lists(coordinates, sides, corners, table, vertices);
+    let a = check_lists(coordinates, sides, corners, sharpness, table, vertices);
     if let Answer::Refused(k, p) = a {
         return Answer::Refused(k, p);
     }
@@ -58,19 +73,24 @@ pub fn check_within(
     vertex_checks::check_vertices(corners, count, table, vertices)
 }
 
-// Checks 4 to 9, of the lists themselves; the last of them leaves the chains of the vertices in the two tables.
+// Checks 4 to 9 with 27 and 28, of the lists themselves; the last of them leaves the chains of the vertices in the two tables.
 fn check_lists(
     coordinates: &[i32],
     sides: &[u8],
     corners: &[u16],
+    sharpness: &[u8],
     table: &mut [u16],
     vertices: &mut [u16],
 ) -> Answer
-    requires { ⌜ RoomFor (meshOf (now coordinates) (now sides) (now corners)) (now table) (now vertices) ⌝ }
-    ensures { λ r. ⌜ ListsChecked (meshOf (now (coordinates .entry)) (now (sides .entry)) (now (corners .entry))) r (now (table .exit)) (now (vertices .exit)) ⌝ }
+    requires { ⌜ RoomFor (meshOf (now coordinates) (now sides) (now corners) (now sharpness)) (now table) (now vertices) ⌝ }
+    ensures { λ r. ⌜ ListsChecked (meshOf (now (coordinates .entry)) (now (sides .entry)) (now (corners .entry)) (now (sharpness .entry))) r (now (table .exit)) (now (vertices .exit)) ⌝ }
 {
     let a4 = list_checks::check_lengths(coordinates.len(), sides.len(), corners.len());
     if let Answer::Refused(k, p) = a4 {
+        return Answer::Refused(k, p);
+    }
+    let a27 = list_checks::check_pairs(sharpness.len(), corners.len());
+    if let Answer::Refused(k, p) = a27 {
         return Answer::Refused(k, p);
     }
     let a5 = list_checks::check_sides(sides);
@@ -86,10 +106,22 @@ fn check_lists(
         return Answer::Refused(k, p);
     }
     let a8 = list_checks::check_names(coordinates.len() / 3, corners);
-    if let Answer::Refused(k, p) = a8 {
+    let a28 = list_checks::check_sharpness(sharpness);
+    let entries = first_of(a8, a28);
+    if let Answer::Refused(k, p) = entries {
         return Answer::Refused(k, p);
     }
     list_checks::check_faces(sides, corners, table, vertices)
+}
+
+// The first refusal of two checks.
+fn first_of(first: Answer, second: Answer) -> Answer
+    ensures { λ r. ⌜ stated r ≡ stated first orElse stated second ⌝ }
+{
+    if let Answer::Refused(k, p) = first {
+        return Answer::Refused(k, p);
+    }
+    second
 }
 
 // Checks 14 to 17; `table` is the mesh's table of corners, `room` is the output's length.

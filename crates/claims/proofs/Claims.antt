@@ -3,6 +3,7 @@
 use Rattle.paper.specs.Claims.{Claims}
 use Rattle.numbers.proofs.Rules.{rules}
 use Rattle.mesh.proofs.Theorems.{manifold}
+use Rattle.surface.proofs.Eights.{plain-points}
 use Rattle.borders.proofs.Ranges.{ranges, every-border}
 use Rattle.borders.proofs.Theorem.{demand3}
 use Rattle.borders.proofs.FromC.{from-c}
@@ -12,6 +13,8 @@ use Rattle.floats.proofs.Theorems.{far-pairs, float-sums, one-answer}
 use Rattle.floats.proofs.Nets.{nets-pass}
 use Rattle.nesting.proofs.Theorems.{chains-decide, listing-ordered, one-listing}
 use Rattle.irregular.proofs.Theorems.{lines-agree}
+use Rattle.dms.proofs.Theorems.{version-one}
+use Rattle.claims.proofs.Plain.{plain-passes}
 
 pub claims : Claims
 claims = record {
@@ -31,4 +34,7 @@ claims = record {
   listing-ordered = listing-ordered;
   one-listing = one-listing;
   lines-agree = lines-agree;
+  plain-passes = plain-passes;
+  version-one = version-one;
+  plain-points = plain-points;
 }

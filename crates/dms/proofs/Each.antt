@@ -1,24 +1,20 @@
 -- The tally of the corner list holds each vertex's corners; the tallies of those and of the side counts are the counts for each m.
 -- Assumes nothing.
-use mathlib.Core.Path.{_≡_, refl, ap, _∙_, sym}
+use mathlib.Core.Path.{_≡_, ap, _∙_, sym}
 use mathlib.Core.List.{List}
-use Prim.Native.Nat.{ℕ, zero, suc, _+_, _<_, _≤_}
+use Prim.Native.Nat.{ℕ, _+_, _<_, _≤_}
 use native.Mathlib.Omega.{arith}
 use lib.Dec.{eqb}
 use lib.ListN.{length, getD, take}
 use lib.Seq.{getD-take, length-take-le}
-use Rattle.paper.specs.Scan.{countBelow, valuesFrom}
+use Rattle.paper.specs.Scan.{countBelow}
 use Rattle.paper.specs.Mesh.{mostSides, mostVertices, Mesh, vertexCount}
 use Rattle.paper.specs.Links.{valence, names}
 use Rattle.paper.specs.Counts.{verticesWith, facesWith, forEach}
 use Rattle.mesh.proofs.Rings.{count-same}
 use Rattle.dms.specs.Tally.{stands, tallyTo, tallyOf}
+use Rattle.dms.proofs.Lists.{values-same}
 use Rattle.dms.proofs.Tallies.{tally-length, tally-at}
-
-values-same : (f g : ℕ → ℕ) (at n : ℕ) → ((k : ℕ) → f k ≡ g k) → valuesFrom f at n ≡ valuesFrom g at n
-unfolding valuesFrom
-values-same f g at zero h = refl
-values-same f g at (suc n) h = rw (h at, values-same f g (suc at) n h)
 
 -- the first v entries of a tally with room for them
 pub prefix-length : (values table : List ℕ) (size v : ℕ) → table ≡ tallyOf values size → v ≤ size → v ≡ length (take v table)

@@ -5,15 +5,35 @@ use mathlib.Core.Bool.{true, false, not}
 use mathlib.Core.List.{List}
 use Prim.Native.Nat.{ℕ, _*_, _<_, _≤_}
 use native.Mathlib.Omega.{arith}
-use lib.Dec.{ltb}
+use lib.Dec.{ltb, eqb}
 use lib.ListN.{length}
 use borrow.Author.Tests.{lt-ltb, le-ltb, eq-eqb, ne-eqb, ltb-false, eqb-true, not-false}
 use Rattle.paper.specs.Faults.{sound, fault, single, _orElse_, fault4}
-use Rattle.paper.specs.File.{headerLength, marked, known, verticesIn, facesIn, cornersIn, expectedLength, lengthVerdict, headerVerdict}
+use Rattle.paper.specs.File.{headerLength, marked, versionIn, known, sharp, verticesIn, facesIn, cornersIn, sharpnessBytes, expectedLength}
+use Rattle.paper.specs.File.{lengthVerdict, headerVerdict}
 use Rattle.mesh.proofs.Ranges.{none-left}
 use Rattle.mesh.proofs.Accepted.{few-vertices, few-faces, few-corners}
 use Rattle.mesh.proofs.Verdicts.{sound-left, sound-right, single-sound, single-hit, single-miss}
 use Rattle.dms.specs.Sized.{Sized}
+
+-- the version read, first or second
+module _ (file : List ℕ) (v : ℕ) (e : v ≡ versionIn file) where
+  pub first-version : v ≡ 1 → eqb v 1 ≡ known file
+  unfolding known
+  first-version q = rw (← e, eq-eqb v 1 q)
+
+  pub other-version : (v ≡ 1 → ⊥) → eqb v 2 ≡ known file
+  unfolding known
+  other-version q = rw (← e, ne-eqb v 1 q)
+
+-- the bytes of the sharpness list
+pub sharp-bytes : (file : List ℕ) → sharp file ≡ true → sharpnessBytes file ≡ 2 * cornersIn file
+unfolding sharpnessBytes
+sharp-bytes file e = rw e
+
+pub plain-bytes : (file : List ℕ) → sharp file ≡ false → sharpnessBytes file ≡ 0
+unfolding sharpnessBytes
+plain-bytes file e = rw e
 
 module _ (file : List ℕ) (counted : ℕ) where
   pub too-short : length file < headerLength → fault 1 0 ≡ lengthVerdict file counted

@@ -3,3 +3,4 @@ pub mod Lists
 pub mod Each
 pub mod Tallies
 pub mod Files
+pub mod Theorems

@@ -1,15 +1,19 @@
--- Numbers below zero by their bits; a list read into the beginning of a lent space, value by value; the lengths of a file's lists.
+-- Numbers below zero by their bits; a list read into the beginning of a lent space, value by value; the lengths of a file's lists;
+-- the sharpness list of either version.
 -- Assumes nothing.
 use mathlib.Core.Path.{_≡_, refl, ap, _∙_, sym}
+use mathlib.Core.Bool.{true, false}
 use mathlib.Core.List.{List, [], _∷_, _++_}
 use Prim.Native.Nat.{ℕ, zero, suc, _+_, _*_, _<_}
 use native.Mathlib.Numerals.{add-one}
 use native.Mathlib.Omega.{arith}
-use lib.ListN.{length, getD, take, drop, set}
+use lib.ListN.{length, getD, take, drop, set, replicate}
 use lib.Seq.{drop-cons, set-at, take-at, append-snoc}
 use lib.IntN.{ℤ, pos, negsuc, _-ℤ_}
 use Rattle.paper.specs.Scan.{valuesFrom}
-use Rattle.paper.specs.File.{begins, coordinateIn, sideIn, cornerIn, verticesIn, facesIn, cornersIn, sidesStart, cornersStart, fileMesh}
+use Rattle.paper.specs.Mesh.{plain}
+use Rattle.paper.specs.File.{begins, coordinateIn, sideIn, cornerIn, sharpnessIn, sharp, verticesIn, facesIn, cornersIn}
+use Rattle.paper.specs.File.{sidesStart, cornersStart, sharpnessStart, fileMesh}
 use Rattle.mesh.proofs.Links.{values-length}
 
 zero-add : (n : ℕ) → 0 + n ≡ n
@@ -26,6 +30,16 @@ values-snoc f at zero = rw (add-zero at)
     add-zero : (n : ℕ) → n + 0 ≡ n
     add-zero n = omega arith
 values-snoc f at (suc left) = ap (λ l. f at ∷ l) (values-snoc f (suc at) left ∙ ap (λ (k : ℕ). valuesFrom f (suc at) left ++ (f k ∷ [])) (omega arith))
+
+pub values-same : {A : Type 0} (f g : ℕ → A) (at n : ℕ) → ((k : ℕ) → f k ≡ g k) → valuesFrom f at n ≡ valuesFrom g at n
+unfolding valuesFrom
+values-same f g at zero h = refl
+values-same f g at (suc n) h = rw (h at, values-same f g (suc at) n h)
+
+pub values-all : {A : Type 0} (f : ℕ → A) (x : A) (at n : ℕ) → ((k : ℕ) → f k ≡ x) → valuesFrom f at n ≡ replicate n x
+unfolding valuesFrom
+values-all f x at zero h = refl
+values-all f x at (suc n) h = rw (h at, values-all f x (suc at) n h)
 
 -- one store of a fill from the front
 module _ {A : Type 0} (f : ℕ → A) (old : List A) where
@@ -65,6 +79,10 @@ module _ (file : List ℕ) where
   unfolding fileMesh
   file-corners = sym (values-length (cornerIn file (cornersStart file)) 0 (cornersIn file))
 
+  pub file-sharpness : 2 * cornersIn file ≡ length (fileMesh file .sharpness)
+  unfolding fileMesh
+  file-sharpness = sym (values-length (sharpnessIn file (sharpnessStart file)) 0 (2 * cornersIn file))
+
   -- the lists, as they are read, are those of the file's mesh
   pub coordinates-read : (n : ℕ) (old out : List ℤ) → n ≡ 3 * verticesIn file → out ≡ begins (valuesFrom (coordinateIn file) 0 n) old
       → out ≡ begins (fileMesh file .coordinates) old
@@ -80,3 +98,30 @@ module _ (file : List ℕ) where
       → out ≡ begins (fileMesh file .corners) old
   unfolding fileMesh
   corners-read start n old out p q e = rw (p, q) at e
+
+  pub sharpness-read : (old out : List ℕ) → out ≡ begins (valuesFrom (sharpnessIn file (sharpnessStart file)) 0 (2 * cornersIn file)) old
+      → out ≡ begins (fileMesh file .sharpness) old
+  unfolding fileMesh
+  sharpness-read old out e = e
+
+  -- in version 2 they are the bytes, else 8
+  sharp-values : sharp file ≡ true → (start n : ℕ) → valuesFrom (sharpnessIn file start) 0 n ≡ valuesFrom (sideIn file start) 0 n
+  unfolding sharpnessIn
+  sharp-values e start n = values-same (sharpnessIn file start) (sideIn file start) 0 n (λ k. rw e)
+
+  pub plain-values : sharp file ≡ false → (start n : ℕ) → valuesFrom (sharpnessIn file start) 0 n ≡ replicate n plain
+  unfolding sharpnessIn
+  plain-values e start n = values-all (sharpnessIn file start) plain 0 n (λ k. rw e)
+
+  pub bytes-read : (start n : ℕ) (old out : List ℕ) → sharp file ≡ true → start ≡ sharpnessStart file → n ≡ 2 * cornersIn file
+      → out ≡ begins (valuesFrom (sideIn file start) 0 n) old
+      → out ≡ begins (valuesFrom (sharpnessIn file (sharpnessStart file)) 0 (2 * cornersIn file)) old
+  bytes-read start n old out s p q e =
+      let h : out ≡ begins (valuesFrom (sideIn file (sharpnessStart file)) 0 (2 * cornersIn file)) old = rw (p, q) at e in
+      rw (sharp-values s (sharpnessStart file) (2 * cornersIn file)) h
+
+  pub plain-read : (n : ℕ) (old out : List ℕ) → sharp file ≡ false → n ≡ 2 * cornersIn file → out ≡ begins (replicate n plain) old
+      → out ≡ begins (valuesFrom (sharpnessIn file (sharpnessStart file)) 0 (2 * cornersIn file)) old
+  plain-read n old out s q e =
+      let h : out ≡ begins (replicate (2 * cornersIn file) plain) old = rw q at e in
+      rw (plain-values s (sharpnessStart file) (2 * cornersIn file)) h

@@ -1,14 +1,16 @@
-// The lists of a DMS file, read into lent spaces: coordinates in two's complement, side counts, and the corner list.
+// The lists of a DMS file, read into lent spaces: coordinates in two's complement, side counts, the corner list, and the sharpness list.
 ghost use mathlib.Core.Path.{_≡_};
 ghost use Prim.Native.Nat.{_+_, _*_, _<_, _≤_};
-ghost use lib.ListN.{length};
+ghost use lib.ListN.{length, replicate};
 ghost use lib.IntN.{negsuc};
 ghost use mir.Syntax.{w32};
 ghost use mir.Val.{toZ};
 ghost use Rattle.paper.specs.Scan.{valuesFrom};
-ghost use Rattle.paper.specs.File.{wordAt, signedAt, headerLength, coordinateIn, sideIn, cornerIn, begins};
+ghost use Rattle.paper.specs.Mesh.{meshOf, plain};
+ghost use Rattle.paper.specs.File.{wordAt, signedAt, headerLength, cornersIn, sharpnessStart, expectedLength, coordinateIn, sideIn, cornerIn, sharpnessIn, begins};
 ghost use Rattle.dms.specs.Sized.{Sized, Room, ListsRead};
 use crate::header;
+use paper::PLAIN;
 
 fn wider(half: u16) -> u32
     ensures { λ r. ⌜ (r ≡ half) × (r < 65536) ⌝ }
@@ -65,15 +67,15 @@ fn read_coordinates(file: &[u8], count: usize, out: &mut [i32])
     }
 }
 
-// The side counts, from the place where they start.
-fn read_sides(file: &[u8], start: usize, count: usize, out: &mut [u8])
+// Bytes, from the place where they start: the side counts, and the sharpness list of version 2.
+fn read_bytes(file: &[u8], start: usize, count: usize, out: &mut [u8])
     requires { ⌜ (start + count ≤ length (now file)) × (count ≤ length (now out)) ⌝ }
     ensures { λ _. ⌜ now (out .exit) ≡ begins (valuesFrom (sideIn (now (file .entry)) start) 0 count) (now (out .entry)) ⌝ }
 {
-    let mut f = 0;
-    while f < count {
-        out[f] = file[start + f];
-        f += 1;
+    let mut i = 0;
+    while i < count {
+        out[i] = file[start + i];
+        i += 1;
     }
 }
 
@@ -89,13 +91,44 @@ fn read_corners(file: &[u8], start: usize, count: usize, out: &mut [u16])
     }
 }
 
-// The three lists of a file whose header passes, into spaces that have room for them.
-pub fn read_lists(file: &[u8], coordinates: &mut [i32], sides: &mut [u8], corners: &mut [u16])
-    requires { ⌜ Sized (now file) × Room (now file) (length (now coordinates)) (length (now sides)) (length (now corners)) ⌝ }
-    ensures { λ _. ⌜ ListsRead (now (file .entry)) (now (coordinates .entry)) (now (sides .entry)) (now (corners .entry)) (now (coordinates .exit)) (now (sides .exit)) (now (corners .exit)) ⌝ }
+// 8 and 8 throughout.
+fn fill_plain(count: usize, out: &mut [u8])
+    requires { ⌜ count ≤ length (now out) ⌝ }
+    ensures { λ _. ⌜ now (out .exit) ≡ begins (replicate count plain) (now (out .entry)) ⌝ }
+{
+    let mut i = 0;
+    while i < count {
+        out[i] = PLAIN;
+        i += 1;
+    }
+}
+
+// The sharpness list: two bytes for each corner in version 2, 8 and 8 in version 1.
+fn read_sharpness(file: &[u8], out: &mut [u8])
+    requires { ⌜ (headerLength ≤ length (now file)) × (expectedLength (now file) ≤ length (now file)) × (2 * cornersIn (now file) ≤ length (now out)) ⌝ }
+    ensures { λ _. ⌜ now (out .exit) ≡ begins (valuesFrom (sharpnessIn (now (file .entry)) (sharpnessStart (now (file .entry)))) 0 (2 * cornersIn (now (file .entry)))) (now (out .entry)) ⌝ }
+{
+    let count = 2 * header::corner_count(file);
+    if header::is_sharp(file) {
+        read_bytes(file, header::sharpness_start(file), count, out);
+    } else {
+        fill_plain(count, out);
+    }
+}
+
+// The four lists of a file whose header passes, into spaces that have room for them.
+pub fn read_lists(
+    file: &[u8],
+    coordinates: &mut [i32],
+    sides: &mut [u8],
+    corners: &mut [u16],
+    sharpness: &mut [u8],
+)
+    requires { ⌜ Sized (now file) × Room (now file) (length (now coordinates)) (length (now sides)) (length (now corners)) (length (now sharpness)) ⌝ }
+    ensures { λ _. ⌜ ListsRead (now (file .entry)) (meshOf (now (coordinates .entry)) (now (sides .entry)) (now (corners .entry)) (now (sharpness .entry))) (meshOf (now (coordinates .exit)) (now (sides .exit)) (now (corners .exit)) (now (sharpness .exit))) ⌝ }
 {
     read_coordinates(file, 3 * header::vertex_count(file), coordinates);
-    read_sides(
+    read_bytes(
         file,
         header::sides_start(file),
         header::face_count(file),
@@ -107,4 +140,5 @@ pub fn read_lists(file: &[u8], coordinates: &mut [i32], sides: &mut [u8], corner
         header::corner_count(file),
         corners,
     );
+    read_sharpness(file, sharpness);
 }

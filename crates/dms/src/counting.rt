@@ -2,7 +2,8 @@
 // A tally says how often each number stands in a list. The corner list's tally holds the corners of each vertex; the tally of
 // those, and that of the side counts, are the numbers for each m.
 ghost use mathlib.Core.Path.{_≡_};
-ghost use Prim.Native.Nat.{_+_, _/_, _<_, _≤_};
+ghost use mathlib.Core.List.{List};
+ghost use Prim.Native.Nat.{ℕ, _+_, _/_, _<_, _≤_};
 ghost use lib.ListN.{length, getD, set, replicate};
 ghost use Rattle.paper.specs.Mesh.{mostVertices, mostFaces, mostCorners, meshOf};
 ghost use Rattle.paper.specs.Counts.{Counted};
@@ -49,7 +50,7 @@ fn tally_bytes(values: &[u8], table: &mut [u16])
 // The counts of a mesh within the limits.
 pub fn count(coordinates: &[i32], sides: &[u8], corners: &[u16]) -> Counts
     requires { ⌜ (length (now coordinates) / 3 ≤ mostVertices) × ((length (now sides) ≤ mostFaces) × (length (now corners) ≤ mostCorners)) ⌝ }
-    ensures { λ r. ⌜ Counted (meshOf (now (coordinates .entry)) (now (sides .entry)) (now (corners .entry))) r ⌝ }
+    ensures { λ r. ⌜ ((sharpness : List ℕ) → Counted (meshOf (now (coordinates .entry)) (now (sides .entry)) (now (corners .entry)) sharpness) r) ⌝ }
 {
     let vertices = coordinates.len() / 3;
     let mut valences = [0u16; MOST_VERTICES];

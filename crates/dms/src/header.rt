@@ -4,7 +4,7 @@ ghost use mathlib.Core.Path.{_≡_};
 ghost use Prim.Native.Nat.{_+_, _<_, _≤_};
 ghost use lib.ListN.{length};
 ghost use Rattle.paper.specs.Faults.{stated};
-ghost use Rattle.paper.specs.File.{halfAt, headerLength, marked, known, verticesIn, facesIn, cornersIn, sidesStart, cornersStart, expectedLength, countsVerdict, lengthVerdict, headerVerdict};
+ghost use Rattle.paper.specs.File.{halfAt, headerLength, marked, known, sharp, verticesIn, facesIn, cornersIn, sidesStart, cornersStart, sharpnessStart, sharpnessBytes, expectedLength, countsVerdict, lengthVerdict, headerVerdict};
 use paper::Answer;
 
 // The header's length.
@@ -45,7 +45,16 @@ fn has_version(file: &[u8]) -> bool
     requires { ⌜ headerLength ≤ length (now file) ⌝ }
     ensures { λ r. ⌜ r ≡ known (now (file .entry)) ⌝ }
 {
-    half(file, 3) == 1
+    let version = half(file, 3);
+    version == 1 || version == 2
+}
+
+// Whether it is the version that has a sharpness list.
+pub fn is_sharp(file: &[u8]) -> bool
+    requires { ⌜ headerLength ≤ length (now file) ⌝ }
+    ensures { λ r. ⌜ r ≡ sharp (now (file .entry)) ⌝ }
+{
+    half(file, 3) == 2
 }
 
 // The header's counts of vertices, faces and corners.
@@ -70,7 +79,7 @@ pub fn corner_count(file: &[u8]) -> usize
     half(file, 9) as usize
 }
 
-// Where the side counts start, where the corner list starts, and the length that 3 asks.
+// Where the side counts start, where the corner list starts, and where the sharpness list starts in version 2.
 pub fn sides_start(file: &[u8]) -> usize
     requires { ⌜ headerLength ≤ length (now file) ⌝ }
     ensures { λ r. ⌜ (r ≡ sidesStart (now (file .entry))) × (r < 786443) ⌝ }
@@ -85,11 +94,28 @@ pub fn corners_start(file: &[u8]) -> usize
     sides_start(file) + face_count(file)
 }
 
-pub fn expected_length(file: &[u8]) -> usize
+pub fn sharpness_start(file: &[u8]) -> usize
     requires { ⌜ headerLength ≤ length (now file) ⌝ }
-    ensures { λ r. ⌜ (r ≡ expectedLength (now (file .entry))) × (r < 983051) ⌝ }
+    ensures { λ r. ⌜ (r ≡ sharpnessStart (now (file .entry))) × (r < 983051) ⌝ }
 {
     corners_start(file) + 2 * corner_count(file)
+}
+
+// The bytes of the sharpness list, none in version 1.
+fn sharpness_bytes(file: &[u8]) -> usize
+    requires { ⌜ headerLength ≤ length (now file) ⌝ }
+    ensures { λ r. ⌜ (r ≡ sharpnessBytes (now (file .entry))) × (r < 131072) ⌝ }
+{
+    let count = 2 * corner_count(file);
+    if is_sharp(file) { count } else { 0 }
+}
+
+// The length that 3 asks.
+pub fn expected_length(file: &[u8]) -> usize
+    requires { ⌜ headerLength ≤ length (now file) ⌝ }
+    ensures { λ r. ⌜ (r ≡ expectedLength (now (file .entry))) × (r < 1114123) ⌝ }
+{
+    sharpness_start(file) + sharpness_bytes(file)
 }
 
 // Check 4, of the header's counts.

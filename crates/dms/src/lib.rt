@@ -1,5 +1,5 @@
 // The mesh file DMS as a whole: the bytes read, and the length counted, give its counts, or its lists, or why it is turned down.
-// A file is checked by 1 to 13 in local copies of its lists, before anything is written to a lent space.
+// A file is checked by 1 to 13 and 28 in local copies of its lists, before anything is written to a lent space.
 mod body;
 mod counting;
 pub mod header;
@@ -23,6 +23,9 @@ use paper::Summary;
 // The numbers of the longest coordinate list.
 const MOST_NUMBERS: usize = 3 * MOST_VERTICES;
 
+// The numbers of the longest sharpness list.
+const MOST_PAIRS: usize = 2 * MOST_CORNERS;
+
 // Our own number, outside 01's list: a lent space is shorter than its list.
 pub const NO_ROOM: u8 = 255;
 
@@ -41,11 +44,19 @@ pub fn decode(
     coordinates: &mut [i32],
     sides: &mut [u8],
     corners: &mut [u16],
+    sharpness: &mut [u8],
 ) -> Decoded
-    ensures { λ r. ⌜ DecodedTo (fileOf (now (bytes .entry)) counted) counted (now (coordinates .entry)) (now (sides .entry)) (now (corners .entry)) r (now (coordinates .exit)) (now (sides .exit)) (now (corners .exit)) ⌝ }
+    ensures { λ r. ⌜ DecodedTo (fileOf (now (bytes .entry)) counted) counted (meshOf (now (coordinates .entry)) (now (sides .entry)) (now (corners .entry)) (now (sharpness .entry))) r (meshOf (now (coordinates .exit)) (now (sides .exit)) (now (corners .exit)) (now (sharpness .exit))) ⌝ }
 {
     let held = least(bytes.len(), counted);
-    decode_file(&bytes[..held], counted, coordinates, sides, corners)
+    decode_file(
+        &bytes[..held],
+        counted,
+        coordinates,
+        sides,
+        corners,
+        sharpness,
+    )
 }
 
 // The lesser of two numbers.
@@ -70,13 +81,14 @@ fn none() -> Counts
 
 // A refusal of decoding.
 fn refused(number: u8, place: usize) -> Decoded
-    ensures { λ r. ⌜ (r .answer ≡ Answer.Refused number place) × (r .coordinates ≡ 0) × (r .sides ≡ 0) × (r .corners ≡ 0) ⌝ }
+    ensures { λ r. ⌜ (r .answer ≡ Answer.Refused number place) × (r .coordinates ≡ 0) × (r .sides ≡ 0) × (r .corners ≡ 0) × (r .sharpness ≡ 0) ⌝ }
 {
     Decoded {
         answer: Answer::Refused(number, place),
         coordinates: 0,
         sides: 0,
         corners: 0,
+        sharpness: 0,
     }
 }
 
@@ -94,7 +106,7 @@ fn survey_file(file: &[u8], counted: usize) -> Summary
     survey_lists(file)
 }
 
-// Checks 4 to 13 and the counts, of the lists of a file whose header passes.
+// Checks 4 to 13 with 27 and 28, and the counts, of the lists of a file whose header passes.
 fn survey_lists(file: &[u8]) -> Summary
     requires { ⌜ Sized (now file) ⌝ }
     ensures { λ r. ⌜ Surveyed (fileMesh (now (file .entry))) (verdict (fileMesh (now (file .entry)))) r ⌝ }
@@ -102,22 +114,35 @@ fn survey_lists(file: &[u8]) -> Summary
     let mut coordinates = [0i32; MOST_NUMBERS];
     let mut sides = [0u8; MOST_FACES];
     let mut corners = [0u16; MOST_CORNERS];
-    body::read_lists(file, &mut coordinates, &mut sides, &mut corners);
+    let mut sharpness = [0u8; MOST_PAIRS];
+    body::read_lists(
+        file,
+        &mut coordinates,
+        &mut sides,
+        &mut corners,
+        &mut sharpness,
+    );
     let numbers = 3 * header::vertex_count(file);
     let faces = header::face_count(file);
     let count = header::corner_count(file);
-    survey_mesh(&coordinates[..numbers], &sides[..faces], &corners[..count])
+    survey_mesh(
+        &coordinates[..numbers],
+        &sides[..faces],
+        &corners[..count],
+        &sharpness[..2 * count],
+    )
 }
 
-// Checks 4 to 13 and the counts, of a mesh's lists.
-pub fn survey_mesh(coordinates: &[i32], sides: &[u8], corners: &[u16]) -> Summary
-    ensures { λ r. ⌜ Surveyed (meshOf (now (coordinates .entry)) (now (sides .entry)) (now (corners .entry))) (verdict (meshOf (now (coordinates .entry)) (now (sides .entry)) (now (corners .entry)))) r ⌝ }
+// Checks 4 to 13 with 27 and 28, and the counts, of a mesh's lists.
+pub fn survey_mesh(coordinates: &[i32], sides: &[u8], corners: &[u16], sharpness: &[u8]) -> Summary
+    ensures { λ r. ⌜ Surveyed (meshOf (now (coordinates .entry)) (now (sides .entry)) (now (corners .entry)) (now (sharpness .entry))) (verdict (meshOf (now (coordinates .entry)) (now (sides .entry)) (now (corners .entry)) (now (sharpness .entry)))) r ⌝ }
 {
-    let answer = check_mesh(coordinates, sides, corners);
+    let nothing = none();
+    let answer = check_mesh(coordinates, sides, corners, sharpness);
     if let Answer::Refused(number, place) = answer {
         return Summary {
             answer: Answer::Refused(number, place),
-            counts: none(),
+            counts: nothing,
         };
     }
     let counts = counting::count(coordinates, sides, corners);
@@ -127,11 +152,11 @@ pub fn survey_mesh(coordinates: &[i32], sides: &[u8], corners: &[u16]) -> Summar
     }
 }
 
-// Checks 4 to 13, of a mesh's lists.
-fn check_mesh(coordinates: &[i32], sides: &[u8], corners: &[u16]) -> Answer
-    ensures { λ r. ⌜ stated r ≡ verdict (meshOf (now (coordinates .entry)) (now (sides .entry)) (now (corners .entry))) ⌝ }
+// Checks 4 to 13 with 27 and 28, of a mesh's lists.
+fn check_mesh(coordinates: &[i32], sides: &[u8], corners: &[u16], sharpness: &[u8]) -> Answer
+    ensures { λ r. ⌜ stated r ≡ verdict (meshOf (now (coordinates .entry)) (now (sides .entry)) (now (corners .entry)) (now (sharpness .entry))) ⌝ }
 {
-    checks::check(coordinates, sides, corners)
+    checks::check(coordinates, sides, corners, sharpness)
 }
 
 // The same as `decode`, of the file itself.
@@ -141,19 +166,28 @@ fn decode_file(
     coordinates: &mut [i32],
     sides: &mut [u8],
     corners: &mut [u16],
+    sharpness: &mut [u8],
 ) -> Decoded
-    ensures { λ r. ⌜ DecodedTo (now (file .entry)) counted (now (coordinates .entry)) (now (sides .entry)) (now (corners .entry)) r (now (coordinates .exit)) (now (sides .exit)) (now (corners .exit)) ⌝ }
+    ensures { λ r. ⌜ DecodedTo (now (file .entry)) counted (meshOf (now (coordinates .entry)) (now (sides .entry)) (now (corners .entry)) (now (sharpness .entry))) r (meshOf (now (coordinates .exit)) (now (sides .exit)) (now (corners .exit)) (now (sharpness .exit))) ⌝ }
 {
-    let answer = check_decode(file, counted, coordinates.len(), sides.len(), corners.len());
+    let answer = check_decode(
+        file,
+        counted,
+        coordinates.len(),
+        sides.len(),
+        corners.len(),
+        sharpness.len(),
+    );
     if let Answer::Refused(number, place) = answer {
         return refused(number, place);
     }
-    body::read_lists(file, coordinates, sides, corners);
+    body::read_lists(file, coordinates, sides, corners, sharpness);
     Decoded {
         answer: Answer::Done,
         coordinates: 3 * header::vertex_count(file),
         sides: header::face_count(file),
         corners: header::corner_count(file),
+        sharpness: 2 * header::corner_count(file),
     }
 }
 
@@ -164,21 +198,28 @@ fn check_decode(
     coordinates: usize,
     sides: usize,
     corners: usize,
+    sharpness: usize,
 ) -> Answer
-    ensures { λ r. ⌜ stated r ≡ decodeVerdict (now (file .entry)) counted coordinates sides corners ⌝ }
+    ensures { λ r. ⌜ stated r ≡ decodeVerdict (now (file .entry)) counted coordinates sides corners sharpness ⌝ }
 {
     let summary = survey_file(file, counted);
     let answer = summary.answer;
     if let Answer::Refused(number, place) = answer {
         return Answer::Refused(number, place);
     }
-    check_room(file, coordinates, sides, corners)
+    check_room(file, coordinates, sides, corners, sharpness)
 }
 
 // Whether spaces of these lengths have room for the lists.
-fn check_room(file: &[u8], coordinates: usize, sides: usize, corners: usize) -> Answer
+fn check_room(
+    file: &[u8],
+    coordinates: usize,
+    sides: usize,
+    corners: usize,
+    sharpness: usize,
+) -> Answer
     requires { ⌜ headerLength ≤ length (now file) ⌝ }
-    ensures { λ r. ⌜ stated r ≡ roomVerdict (now (file .entry)) coordinates sides corners ⌝ }
+    ensures { λ r. ⌜ stated r ≡ roomVerdict (now (file .entry)) coordinates sides corners sharpness ⌝ }
 {
     let numbers = 3 * header::vertex_count(file);
     if coordinates < numbers {
@@ -191,6 +232,9 @@ fn check_room(file: &[u8], coordinates: usize, sides: usize, corners: usize) -> 
     let count = header::corner_count(file);
     if corners < count {
         return Answer::Refused(NO_ROOM, count);
+    }
+    if sharpness < 2 * count {
+        return Answer::Refused(NO_ROOM, 2 * count);
     }
     Answer::Done
 }

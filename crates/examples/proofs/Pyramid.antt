@@ -7,12 +7,12 @@ use Prim.Native.Nat.{ℕ, _*_}
 use lib.Dec.{leb, T as Holds}
 use lib.IntN.{ℤ, pos, natAbs}
 use Rattle.paper.specs.Scan.{firstFrom, firstBelow, someBelow, countBelow, iterate, valuesFrom}
-use Rattle.paper.specs.Mesh.{Mesh, meshOf}
+use Rattle.paper.specs.Mesh.{Mesh, plainMesh}
 use Rattle.paper.specs.Corners.{sumOf, faceOf, startOf, firstOf, sidesOf, next, previous}
 use Rattle.paper.specs.Links.{leavesTo, arrivesFrom, linked, link, names, valence}
 use Rattle.paper.specs.Numbers.{floor, sumBy, round}
 use Rattle.paper.specs.Cosines.{unit, table, cosine}
-use Rattle.paper.specs.Refined.{ticks, faceSum, refinedPoint}
+use Rattle.paper.specs.Refined.{ticks, faceSum, uOf, vOf, refinedPoint}
 use Rattle.paper.specs.Face.{centre, weight, toward}
 use Rattle.paper.specs.Net.{side1, quad, H, T, X, Y, N, C, outer1, outer2, outer3, a0, a1, a2, a3, middle, bHead, bTail, aHead, aTail, b22}
 use Rattle.paper.specs.Net.{bGrid, aGrid, net}
@@ -23,7 +23,7 @@ use Rattle.integers.proofs.Below.{both}
 -- a pyramid over five sides, flat but for x
 pyramid : Mesh
 pyramid =
-    meshOf
+    plainMesh
     (pos 39 ∷ pos 0 ∷ pos 0 ∷ pos 73 ∷ pos 0 ∷ pos 0 ∷ pos 27 ∷ pos 0 ∷ pos 0
     ∷ pos 45 ∷ pos 0 ∷ pos 0 ∷ pos 12 ∷ pos 0 ∷ pos 0 ∷ pos 83 ∷ pos 0 ∷ pos 0 ∷ [])
     (5 ∷ 3 ∷ 3 ∷ 3 ∷ 3 ∷ 3 ∷ [])
@@ -41,5 +41,5 @@ bounded : Holds
     (both (within (missed second 1)) (both (within (missed third 2)) (within (missed fourth 3))))))
 unfolding pyramid missed within written floor sumBy round table cosine firstFrom firstBelow someBelow countBelow iterate valuesFrom sumOf faceOf startOf
     firstOf sidesOf next previous leavesTo arrivesFrom linked link names valence centre weight toward quad H T X Y N C outer1 outer2 outer3 a0 a1 a2 a3
-    middle bHead bTail aHead aTail b22 bGrid aGrid net ticks faceSum refinedPoint numberAt nets
+    middle bHead bTail aHead aTail b22 bGrid aGrid net ticks faceSum uOf vOf refinedPoint numberAt nets
 bounded = tt

@@ -1,4 +1,4 @@
-// L7, is it all squares? Checks 4 to 13; then the lowest face that has not four sides, else the lowest vertex that has not four corners,
+// L7, is it all squares? Checks 4 to 13 with 27 and 28; then the lowest face that has not four sides, else the lowest vertex that has not four corners,
 // else none. Each search stops at the first that it finds, and that of the faces counts the side counts that it reads.
 use columns::COUNT;
 use paper::Answer;
@@ -27,11 +27,11 @@ struct Faces {
     read: usize,
 }
 
-// Checks 4 to 13, then the search.
-pub fn search(coordinates: &[i32], sides: &[u8], corners: &[u16]) -> Irregular
-    ensures { λ r. ⌜ Searched (meshOf (now (coordinates .entry)) (now (sides .entry)) (now (corners .entry))) r ⌝ }
+// The checks, then the search.
+pub fn search(coordinates: &[i32], sides: &[u8], corners: &[u16], sharpness: &[u8]) -> Irregular
+    ensures { λ r. ⌜ Searched (meshOf (now (coordinates .entry)) (now (sides .entry)) (now (corners .entry)) (now (sharpness .entry))) r ⌝ }
 {
-    let answer = checks::check(coordinates, sides, corners);
+    let answer = checks::check(coordinates, sides, corners, sharpness);
     if let Answer::Refused(number, place) = answer {
         return Irregular::Refused(number, place);
     }

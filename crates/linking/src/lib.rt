@@ -13,9 +13,15 @@ ghost use Rattle.paper.specs.Calls.{Linked};
 ghost use Rattle.walk.specs.Table.{rowLength, toLink, entry};
 ghost use Rattle.checks.specs.Checked.{RoomFor};
 
-// Checks 4 to 14, then the link of every corner. Nothing is written to the lent table before the last check has passed.
-pub fn link(coordinates: &[i32], sides: &[u8], corners: &[u16], links: &mut [u16]) -> Answer
-    ensures { λ r. ⌜ Linked (meshOf (now (coordinates .entry)) (now (sides .entry)) (now (corners .entry))) (now (links .entry)) r (now (links .exit)) ⌝ }
+// Checks 4 to 14 with 27 and 28, then the link of every corner. Nothing is written to the lent table before the last check has passed.
+pub fn link(
+    coordinates: &[i32],
+    sides: &[u8],
+    corners: &[u16],
+    sharpness: &[u8],
+    links: &mut [u16],
+) -> Answer
+    ensures { λ r. ⌜ Linked (meshOf (now (coordinates .entry)) (now (sides .entry)) (now (corners .entry)) (now (sharpness .entry))) (now (links .entry)) r (now (links .exit)) ⌝ }
 {
     if corners.len() <= SMALL_MESH && coordinates.len() / 3 <= SMALL_MESH {
         let mut table = [0u16; ROW * SMALL_MESH];
@@ -24,6 +30,7 @@ pub fn link(coordinates: &[i32], sides: &[u8], corners: &[u16], links: &mut [u16
             coordinates,
             sides,
             corners,
+            sharpness,
             &mut table,
             &mut vertices,
             links,
@@ -35,6 +42,7 @@ pub fn link(coordinates: &[i32], sides: &[u8], corners: &[u16], links: &mut [u16
         coordinates,
         sides,
         corners,
+        sharpness,
         &mut table,
         &mut vertices,
         links,
@@ -46,14 +54,15 @@ fn link_over(
     coordinates: &[i32],
     sides: &[u8],
     corners: &[u16],
+    sharpness: &[u8],
     table: &mut [u16],
     vertices: &mut [u16],
     links: &mut [u16],
 ) -> Answer
-    requires { ⌜ RoomFor (meshOf (now coordinates) (now sides) (now corners)) (now table) (now vertices) ⌝ }
-    ensures { λ r. ⌜ Linked (meshOf (now (coordinates .entry)) (now (sides .entry)) (now (corners .entry))) (now (links .entry)) r (now (links .exit)) ⌝ }
+    requires { ⌜ RoomFor (meshOf (now coordinates) (now sides) (now corners) (now sharpness)) (now table) (now vertices) ⌝ }
+    ensures { λ r. ⌜ Linked (meshOf (now (coordinates .entry)) (now (sides .entry)) (now (corners .entry)) (now (sharpness .entry))) (now (links .entry)) r (now (links .exit)) ⌝ }
 {
-    let a = checks::check_within(coordinates, sides, corners, table, vertices);
+    let a = checks::check_within(coordinates, sides, corners, sharpness, table, vertices);
     if let Answer::Refused(k, p) = a {
         return Answer::Refused(k, p);
     }

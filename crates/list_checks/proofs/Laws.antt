@@ -13,13 +13,14 @@ use lib.Signed.{ltZ, mag}
 use mir.Syntax.{w32}
 use mir.Val.{toZ, ofZ}
 use mir.ValLaws.{toZ-ofZ}
-use borrow.Author.Tests.{ltb-true, ltb-false, eq-eqb, ne-eqb, le-leb, lt-leb}
+use borrow.Author.Tests.{ltb-true, ltb-false, lt-ltb, le-ltb, eq-eqb, ne-eqb, le-leb, lt-leb}
 use Rattle.paper.specs.Scan.{someBelow}
-use Rattle.paper.specs.Mesh.{mostVertices, mostFaces, mostCorners, mostCoordinate}
+use Rattle.paper.specs.Mesh.{mostVertices, mostFaces, mostCorners, mostCoordinate, mostSharpness, plain}
 use Rattle.paper.specs.Corners.{sumOf, startOf, firstOf}
 use Rattle.paper.specs.Links.{vertexOf, names}
-use Rattle.paper.specs.Faults.{sound, fault, single, lowestOf, outside, fault4, fault6, fault7, fault9, sameVertexFrom}
+use Rattle.paper.specs.Faults.{sound, fault, single, lowestOf, outside, fault4, fault27, fault6, fault7, fault28, fault9, sameVertexFrom}
 use Rattle.mesh.proofs.Ranges.{or-left, or-right, or-none}
+use Rattle.mesh.proofs.Accepted.{in-list}
 use Rattle.mesh.proofs.Scans.{ways, some-true, some-false, fails-step}
 use Rattle.mesh.proofs.Faces.{face-at}
 use Rattle.mesh.proofs.Verdicts.{single-hit, single-miss, lowest-hit}
@@ -49,6 +50,25 @@ module _ (n f c : ℕ) where
   pub lengths-fit : n % 3 ≡ 0 → outside 1 mostVertices (n / 3) ≡ false → outside 1 mostFaces f ≡ false → outside 1 mostCorners c ≡ false → fault4 n f c ≡ false
   unfolding fault4
   lengths-fit t u v w = or-none _ _ (ap not (eq-eqb (n % 3) 0 t)) (or-none _ _ u (or-none _ _ v w))
+
+-- the sharpness list: its length, and its numbers
+module _ (n corners : ℕ) where
+  pub pairs-differ : (n ≡ 2 * corners → ⊥) → fault 27 n ≡ single 27 (fault27 n corners) n
+  unfolding fault27
+  pairs-differ h = sym (single-hit 27 n (ap not (ne-eqb n (2 * corners) h)))
+
+  pub pairs-fit : n ≡ 2 * corners → sound ≡ single 27 (fault27 n corners) n
+  unfolding fault27
+  pairs-fit h = sym (single-miss 27 n (ap not (eq-eqb n (2 * corners) h)))
+
+module _ (sharpness : List ℕ) (i : ℕ) (h : i < length sharpness) where
+  pub too-sharp : mostSharpness < getD sharpness i 0 → fault28 sharpness i ≡ true
+  unfolding fault28
+  too-sharp l = rw (in-list sharpness i plain 0 h) (lt-ltb mostSharpness (getD sharpness i 0) l)
+
+  pub not-too-sharp : getD sharpness i 0 ≤ mostSharpness → fault28 sharpness i ≡ false
+  unfolding fault28
+  not-too-sharp l = rw (in-list sharpness i plain 0 h) (le-ltb mostSharpness (getD sharpness i 0) l)
 
 -- the sum
 module _ (sides : List ℕ) (count total : ℕ) (e : total ≡ sumOf sides) where

@@ -1,12 +1,14 @@
-// Checks 4 to 9, over the lists themselves: each answers its fault at the lowest place, or that there is none.
+// Checks 4 to 9 with 27 and 28, over the lists themselves: each answers its fault at the lowest place, or that there is none.
 use columns::LAST;
 use paper::Answer;
 use paper::LEAST_SIDES;
 use paper::MOST_COORDINATE;
 use paper::MOST_CORNERS;
 use paper::MOST_FACES;
+use paper::MOST_SHARPNESS;
 use paper::MOST_SIDES;
 use paper::MOST_VERTICES;
+use paper::SHARPNESS_PER_CORNER;
 use walk::ROW;
 use walk::VALENCE;
 ghost use mathlib.Core.Path.{_≡_};
@@ -14,7 +16,7 @@ ghost use Prim.Native.Nat.{_*_, _≤_};
 ghost use lib.ListN.{length};
 ghost use Rattle.paper.specs.Mesh.{mostFaces, mostCorners};
 ghost use Rattle.paper.specs.Corners.{sumOf};
-ghost use Rattle.paper.specs.Faults.{sound, single, lowestOf, fault4, fault5, fault6, fault7, fault8, fault9, stated};
+ghost use Rattle.paper.specs.Faults.{sound, single, lowestOf, fault4, fault27, fault5, fault6, fault7, fault8, fault28, fault9, stated};
 ghost use Rattle.walk.specs.Table.{rowLength, Blank};
 ghost use Rattle.columns.specs.Vertices.{Rowed};
 ghost use Rattle.columns.specs.Chain.{Ready};
@@ -35,6 +37,17 @@ pub fn check_lengths(coordinates: usize, faces: usize, corners: usize) -> Answer
     }
     if corners < 1 || MOST_CORNERS < corners {
         return Answer::Refused(4, 0);
+    }
+    Answer::Done
+}
+
+// Check 27, of the sharpness list's length: two numbers for each corner.
+pub fn check_pairs(sharpness: usize, corners: usize) -> Answer
+    requires { ⌜ corners ≤ mostCorners ⌝ }
+    ensures { λ r. ⌜ stated r ≡ single 27 (fault27 sharpness corners) sharpness ⌝ }
+{
+    if sharpness != SHARPNESS_PER_CORNER * corners {
+        return Answer::Refused(27, sharpness);
     }
     Answer::Done
 }
@@ -97,6 +110,21 @@ pub fn check_names(vertices: usize, corners: &[u16]) -> Answer
             return Answer::Refused(8, c);
         }
         c += 1;
+    }
+    Answer::Done
+}
+
+// Check 28, of the sharpness numbers.
+pub fn check_sharpness(sharpness: &[u8]) -> Answer
+    ensures { λ r. ⌜ stated r ≡ lowestOf 28 (length (now (sharpness .entry))) (fault28 (now (sharpness .entry))) ⌝ }
+{
+    let mut i = 0;
+    while i < sharpness.len() {
+        let s = sharpness[i];
+        if MOST_SHARPNESS < s {
+            return Answer::Refused(28, i);
+        }
+        i += 1;
     }
     Answer::Done
 }

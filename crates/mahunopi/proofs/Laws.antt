@@ -22,7 +22,7 @@ use Rattle.paper.specs.File.{fileVerdict, fileMesh, begins, noRoom, FileSurveye
 use Rattle.paper.specs.Calls.{Linked, nets, buildVerdict, Built}
 use Rattle.paper.specs.Floats.{pointVerdict, Pointed}
 use Rattle.paper.specs.Nesting.{listing, Nested}
-use Rattle.paper.specs.CFace.{States, LinkCall, BuildCall, Lengths, three, lentVerdict, DecodeCall, countsOf, surveyVerdict, SurveyCall, put}
+use Rattle.paper.specs.CFace.{States, LinkCall, BuildCall, Lengths, four, lentVerdict, DecodeCall, countsOf, surveyVerdict, SurveyCall, put}
 use Rattle.paper.specs.Squares.{Stated, face, vertex, none, refused, squaresStated, Searched}
 use Rattle.paper.specs.CFace.{FloatsCall, NestCall, Finding, finding, findingOf, IrregularCall}
 use Rattle.paper.specs.declared.Answer.{Answer}
@@ -74,24 +74,32 @@ kept-old : {A : Type 0} (v : Verdict) (n p : ℕ) (new old x : A) → v ≡ faul
 kept-old sound n p new old x e h = let z : _≡_ {A = ℕ} 0 1 = cc in absurd (omega arith)
 kept-old (fault k q) n p new old x e h = h
 
-module _ (file : List ℕ) (counted : ℕ) (cs : List ℤ) (sides corners : List ℕ) (r : Decoded) (cs' : List ℤ) (sides' corners' : List ℕ)
-    (lengths : Lengths) (before : ℕ)
-    (d : DecodedTo file counted cs sides corners r cs' sides' corners') where
+module _ (file : List ℕ) (counted : ℕ) (cs : List ℤ) (sides corners sharpness : List ℕ) (r : Decoded)
+    (cs' : List ℤ) (sides' corners' sharpness' : List ℕ) (lengths : Lengths) (before : ℕ)
+    (d : DecodedTo file counted (meshOf cs sides corners sharpness) r (meshOf cs' sides' corners' sharpness')) where
+  abbrev lent : Mesh
+  lent = meshOf cs sides corners sharpness
+
+  abbrev lists : Mesh
+  lists = meshOf cs' sides' corners' sharpness'
+
   -- what a lent space or a length holds, by what the answer states
   at : {A : Type 0} (x new old : A) (w : Verdict) → stated (r .answer) ≡ w → x ≡ kept (stated (r .answer)) new old → x ≡ kept w new old
   at x new old w e h = subst (λ (u : Verdict). x ≡ kept u new old) e h
 
   pub decode-done : r .answer ≡ Done
-      → DecodeCall file counted (meshOf cs sides corners) lengths before 0 before (meshOf cs' sides' corners') (three (r .coordinates) (r .sides) (r .corners))
+      → DecodeCall file counted lent lengths before 0 before lists (four (r .coordinates) (r .sides) (r .corners) (r .sharpness))
   decode-done e =
       let s : stated (r .answer) ≡ sound = ap stated e in
-      let v : lentVerdict file counted (meshOf cs sides corners) ≡ sound = sym (d .answers) ∙ s in
+      let v : lentVerdict file counted lent ≡ sound = sym (d .answers) ∙ s in
       let x = at cs' _ _ _ s (d .coordinates-hold) in
       let y = at sides' _ _ _ s (d .sides-hold) in
       let z = at corners' _ _ _ s (d .corners-hold) in
+      let w = at sharpness' _ _ _ s (d .sharpness-hold) in
       let k = at (r .coordinates) _ _ _ s (d .coordinates-length) in
       let l = at (r .sides) _ _ _ s (d .sides-length) in
       let m = at (r .corners) _ _ _ s (d .corners-length) in
+      let n = at (r .sharpness) _ _ _ s (d .sharpness-length) in
       record {
         answers = states-done _ (r .answer) before (d .answers) e;
         holds = kept-new _ _ _ _ v (cc);
@@ -99,13 +107,14 @@ module _ (file : List ℕ) (counted : ℕ) (cs : List ℤ) (sides corners : List
       }
 
   pub decode-refused : (n p m q : ℕ) → r .answer ≡ Refused n p → States (fault n p) before m q
-      → DecodeCall file counted (meshOf cs sides corners) lengths before m q (meshOf cs' sides' corners') lengths
+      → DecodeCall file counted lent lengths before m q lists lengths
   decode-refused n p m q e tells =
       let s : stated (r .answer) ≡ fault n p = ap stated e in
-      let v : lentVerdict file counted (meshOf cs sides corners) ≡ fault n p = sym (d .answers) ∙ s in
+      let v : lentVerdict file counted lent ≡ fault n p = sym (d .answers) ∙ s in
       let x = at cs' _ _ _ s (d .coordinates-hold) in
       let y = at sides' _ _ _ s (d .sides-hold) in
       let z = at corners' _ _ _ s (d .corners-hold) in
+      let w = at sharpness' _ _ _ s (d .sharpness-hold) in
       record {
         answers = subst (λ (w : Verdict). States w before m q) (sym v) tells;
         holds = kept-old _ n p _ _ _ v (cc);

@@ -7,7 +7,7 @@ ghost use lib.Dec.{ltb};
 ghost use lib.ListN.{length};
 ghost use Rattle.paper.specs.Mesh.{meshOf, mostSides};
 ghost use Rattle.paper.specs.File.{fileOf, begins};
-ghost use Rattle.paper.specs.CFace.{LinkCall, BuildCall, three, DecodeCall, countsOf, SurveyCall, FloatsCall, NestCall};
+ghost use Rattle.paper.specs.CFace.{LinkCall, BuildCall, four, DecodeCall, countsOf, SurveyCall, FloatsCall, NestCall};
 ghost use Rattle.paper.specs.CFace.{finding, IrregularCall};
 use paper::Answer;
 use paper::FloatPoint;
@@ -21,12 +21,13 @@ pub extern "C" fn mahunopi_link(
     coordinates: &[i32],
     sides: &[u8],
     corners: &[u16],
+    sharpness: &[u8],
     links: &mut [u16],
     place: &mut u64,
 ) -> u32
-    ensures { λ r. ⌜ LinkCall (meshOf (now (coordinates .entry)) (now (sides .entry)) (now (corners .entry))) (now (links .entry)) (now (place .entry)) r (now (place .exit)) (now (links .exit)) ⌝ }
+    ensures { λ r. ⌜ LinkCall (meshOf (now (coordinates .entry)) (now (sides .entry)) (now (corners .entry)) (now (sharpness .entry))) (now (links .entry)) (now (place .entry)) r (now (place .exit)) (now (links .exit)) ⌝ }
 {
-    let a = linking::link(coordinates, sides, corners, links);
+    let a = linking::link(coordinates, sides, corners, sharpness, links);
     tell(a, place)
 }
 
@@ -36,19 +37,29 @@ pub extern "C" fn mahunopi_build(
     coordinates: &[i32],
     sides: &[u8],
     corners: &[u16],
+    sharpness: &[u8],
     links: &[u16],
     first: usize,
     count: usize,
     output: &mut [i32],
     place: &mut u64,
 ) -> u32
-    ensures { λ r. ⌜ BuildCall (meshOf (now (coordinates .entry)) (now (sides .entry)) (now (corners .entry))) (now (links .entry)) first count (now (output .entry)) (now (place .entry)) r (now (place .exit)) (now (output .exit)) ⌝ }
+    ensures { λ r. ⌜ BuildCall (meshOf (now (coordinates .entry)) (now (sides .entry)) (now (corners .entry)) (now (sharpness .entry))) (now (links .entry)) first count (now (output .entry)) (now (place .entry)) r (now (place .exit)) (now (output .exit)) ⌝ }
 {
-    let a = building::build(coordinates, sides, corners, links, first, count, output);
+    let a = building::build(
+        coordinates,
+        sides,
+        corners,
+        sharpness,
+        links,
+        first,
+        count,
+        output,
+    );
     tell(a, place)
 }
 
-// Reading a file's lists into the beginnings of lent ones. The three lengths are left alone beside a refusal.
+// Reading a file's lists into the beginnings of lent ones. The four lengths are left alone beside a refusal.
 #[no_mangle]
 pub extern "C" fn mahunopi_decode(
     bytes: &[u8],
@@ -56,14 +67,23 @@ pub extern "C" fn mahunopi_decode(
     coordinates: &mut [i32],
     sides: &mut [u8],
     corners: &mut [u16],
+    sharpness: &mut [u8],
     numbers: &mut u64,
     faces: &mut u64,
     count: &mut u64,
+    sixteenths: &mut u64,
     place: &mut u64,
 ) -> u32
-    ensures { λ r. ⌜ DecodeCall (fileOf (now (bytes .entry)) length) length (meshOf (now (coordinates .entry)) (now (sides .entry)) (now (corners .entry))) (three (now (numbers .entry)) (now (faces .entry)) (now (count .entry))) (now (place .entry)) r (now (place .exit)) (meshOf (now (coordinates .exit)) (now (sides .exit)) (now (corners .exit))) (three (now (numbers .exit)) (now (faces .exit)) (now (count .exit))) ⌝ }
+    ensures { λ r. ⌜ DecodeCall (fileOf (now (bytes .entry)) length) length (meshOf (now (coordinates .entry)) (now (sides .entry)) (now (corners .entry)) (now (sharpness .entry))) (four (now (numbers .entry)) (now (faces .entry)) (now (count .entry)) (now (sixteenths .entry))) (now (place .entry)) r (now (place .exit)) (meshOf (now (coordinates .exit)) (now (sides .exit)) (now (corners .exit)) (now (sharpness .exit))) (four (now (numbers .exit)) (now (faces .exit)) (now (count .exit)) (now (sixteenths .exit))) ⌝ }
 {
-    let d = dms::decode(bytes, length as usize, coordinates, sides, corners);
+    let d = dms::decode(
+        bytes,
+        length as usize,
+        coordinates,
+        sides,
+        corners,
+        sharpness,
+    );
     let a = d.answer;
     if let Answer::Refused(number, at) = a {
         return tell(Answer::Refused(number, at), place);
@@ -71,6 +91,7 @@ pub extern "C" fn mahunopi_decode(
     *numbers = d.coordinates as u64;
     *faces = d.sides as u64;
     *count = d.corners as u64;
+    *sixteenths = d.sharpness as u64;
     0
 }
 
@@ -157,14 +178,15 @@ pub extern "C" fn mahunopi_irregular(
     coordinates: &[i32],
     sides: &[u8],
     corners: &[u16],
+    sharpness: &[u8],
     kind: &mut u32,
     number: &mut u64,
     read: &mut u64,
     place: &mut u64,
 ) -> u32
-    ensures { λ r. ⌜ IrregularCall (meshOf (now (coordinates .entry)) (now (sides .entry)) (now (corners .entry))) (finding (now (kind .entry)) (now (number .entry)) (now (read .entry))) (now (place .entry)) r (now (place .exit)) (finding (now (kind .exit)) (now (number .exit)) (now (read .exit))) ⌝ }
+    ensures { λ r. ⌜ IrregularCall (meshOf (now (coordinates .entry)) (now (sides .entry)) (now (corners .entry)) (now (sharpness .entry))) (finding (now (kind .entry)) (now (number .entry)) (now (read .entry))) (now (place .entry)) r (now (place .exit)) (finding (now (kind .exit)) (now (number .exit)) (now (read .exit))) ⌝ }
 {
-    let a = irregular::search(coordinates, sides, corners);
+    let a = irregular::search(coordinates, sides, corners, sharpness);
     match a {
         Irregular::Face(f, n) => {
             *kind = 1;

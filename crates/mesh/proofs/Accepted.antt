@@ -4,18 +4,18 @@
 use mathlib.Core.Path.{_≡_, refl, ap, _∙_, sym, subst}
 use mathlib.Core.Bool.{true, false, not, _||_}
 use mathlib.Core.Logic.{⊎-elim}
-use mathlib.Core.List.{List}
-use Prim.Native.Nat.{ℕ, zero, suc, _+_, _-_, _/_, _%_, _<_, _≤_}
+use mathlib.Core.List.{List, [], _∷_}
+use Prim.Native.Nat.{ℕ, zero, suc, _+_, _-_, _*_, _/_, _%_, _<_, _≤_}
 use native.Mathlib.Omega.{arith}
 use lib.Dec.{ltb, eqb}
-use lib.ListN.{length, getD}
+use lib.ListN.{length, getD, List·getD-eq-default}
 use borrow.Author.Tests.{eqb-true, eq-eqb, leb-false, ltb-true, ltb-false, not-false}
 use Rattle.paper.specs.Scan.{iterate}
-use Rattle.paper.specs.Mesh.{leastSides, mostSides, mostVertices, mostFaces, mostCorners, Mesh, vertexCount, faceCount, cornerCount}
+use Rattle.paper.specs.Mesh.{leastSides, mostSides, mostVertices, mostFaces, mostCorners, mostSharpness, plain, Mesh, vertexCount, faceCount, cornerCount}
 use Rattle.paper.specs.Corners.{sumOf, firstOf, sidesOf, next}
 use Rattle.paper.specs.Links.{vertexOf, link, names, valence, lowest}
 use Rattle.paper.specs.Faults.{outside, fault4, fault5, fault6, fault7, fault8, fault9, fault10, fault11, fault12, fault13, after, ringLength, met}
-use Rattle.paper.specs.Faults.{listFaults, linkFaults, verdict, Accepted}
+use Rattle.paper.specs.Faults.{fault27, fault28, listFaults, linkFaults, verdict, Accepted}
 use Rattle.paper.specs.Manifold.{Returns}
 use Rattle.mesh.specs.Closed.{Closed}
 use Rattle.mesh.proofs.Ranges.{none-left, none-right, at-least, at-most}
@@ -25,13 +25,15 @@ use Rattle.mesh.proofs.Links.{link-in, link-vertex, link-injective}
 use Rattle.mesh.proofs.Rings.{Turns, turn, all-met, iterate-zero, iterate-suc, iterate-swap, iterate-add}
 use Rattle.mesh.proofs.Verdicts.{sound-left, sound-right, single-sound, lowest-sound}
 
--- no fault of 4 to 13
+-- no fault of 4 to 13, nor 27 or 28
 pub record Sound (M : Mesh) : Type 0 where
   pub four : fault4 (length (M .coordinates)) (faceCount M) (cornerCount M) ≡ false
+  pub twenty-seven : fault27 (length (M .sharpness)) (cornerCount M) ≡ false
   pub five : (f : ℕ) → f < faceCount M → fault5 (M .sides) f ≡ false
   pub six : fault6 (M .sides) (cornerCount M) ≡ false
   pub seven : (i : ℕ) → i < length (M .coordinates) → fault7 (M .coordinates) i ≡ false
   pub eight : (c : ℕ) → c < cornerCount M → fault8 (vertexCount M) (M .corners) c ≡ false
+  pub twenty-eight : (i : ℕ) → i < length (M .sharpness) → fault28 (M .sharpness) i ≡ false
   pub nine : (c : ℕ) → c < cornerCount M → fault9 (M .sides) (M .corners) c ≡ false
   pub ten : (c : ℕ) → c < cornerCount M → fault10 (M .sides) (M .corners) c ≡ false
   pub eleven : (c : ℕ) → c < cornerCount M → fault11 (M .sides) (M .corners) c ≡ false
@@ -42,20 +44,24 @@ pub sound-of : (M : Mesh) → Accepted M → Sound M
 unfolding verdict listFaults linkFaults
 sound-of M e =
     let e4 = sound-left (listFaults M) (linkFaults M) e in
-    let e5 = sound-right _ _ e4 in
+    let e27 = sound-right _ _ e4 in
+    let e5 = sound-right _ _ e27 in
     let e6 = sound-right _ _ e5 in
     let e7 = sound-right _ _ e6 in
     let e8 = sound-right _ _ e7 in
+    let e28 = sound-right _ _ e8 in
     let e10 = sound-right (listFaults M) (linkFaults M) e in
     let e11 = sound-right _ _ e10 in
     let e12 = sound-right _ _ e11 in
     record {
       four = single-sound _ _ _ (sound-left _ _ e4);
+      twenty-seven = single-sound _ _ _ (sound-left _ _ e27);
       five = lowest-sound _ _ _ (sound-left _ _ e5);
       six = single-sound _ _ _ (sound-left _ _ e6);
       seven = lowest-sound _ _ _ (sound-left _ _ e7);
       eight = lowest-sound _ _ _ (sound-left _ _ e8);
-      nine = lowest-sound _ _ _ (sound-right _ _ e8);
+      twenty-eight = lowest-sound _ _ _ (sound-left _ _ e28);
+      nine = lowest-sound _ _ _ (sound-right _ _ e28);
       ten = lowest-sound _ _ _ (sound-left _ _ e10);
       eleven = lowest-sound _ _ _ (sound-left _ _ e11);
       twelve = lowest-sound _ _ _ (sound-left _ _ e12);
@@ -78,7 +84,7 @@ module _ (n f c : ℕ) (e : fault4 n f c ≡ false) where
   few-corners = at-most 1 mostCorners c
       (none-right (outside 1 mostFaces f) (outside 1 mostCorners c) (none-right (outside 1 mostVertices (n / 3)) _ after-thirds))
 
--- no fault of 5, 6, 8 and 12
+-- no fault of 5, 6, 8, 12, 27 and 28
 pub sides-within : (sides : List ℕ) (f : ℕ) → fault5 sides f ≡ false → (leastSides ≤ getD sides f 0) × (getD sides f 0 ≤ mostSides)
 unfolding fault5
 sides-within sides f e = (at-least leastSides mostSides (getD sides f 0) e, at-most leastSides mostSides (getD sides f 0) e)
@@ -94,6 +100,25 @@ named-of count corners c e = leb-false _ _ e
 pub valence-within : (corners : List ℕ) (u : ℕ) → fault12 corners u ≡ false → (leastSides ≤ valence corners u) × (valence corners u ≤ mostSides)
 unfolding fault12
 valence-within corners u e = (at-least leastSides mostSides (valence corners u) e, at-most leastSides mostSides (valence corners u) e)
+
+pub sharp-length : (n corners : ℕ) → fault27 n corners ≡ false → n ≡ 2 * corners
+unfolding fault27
+sharp-length n corners e = eqb-true _ _ (not-false _ e)
+
+-- within a list what stands for a number beyond it does not count
+pub in-list : {A : Type 0} (l : List A) (i : ℕ) (d e : A) → i < length l → getD l i d ≡ getD l i e
+in-list [] i d e h = absurd (omega arith)
+in-list (x ∷ l) zero d e h = refl
+in-list (x ∷ l) (suc i) d e h = in-list l i d e (omega arith)
+
+-- a number beyond the list is read as 8
+pub sharp-within : (M : Mesh) → Accepted M → (i : ℕ) → getD (M .sharpness) i plain ≤ mostSharpness
+unfolding fault28
+sharp-within M a i =
+    ⊎-elim
+    (λ l. ltb-false mostSharpness _ (sound-of M a .twenty-eight i (ltb-true i (length (M .sharpness)) l)))
+    (λ l. rw (List·getD-eq-default (M .sharpness) plain (ltb-false i (length (M .sharpness)) l)) (omega arith))
+    (ways (ltb i (length (M .sharpness))))
 
 pub closed-of : (M : Mesh) → Sound M → Closed (M .sides) (M .corners)
 closed-of M s = record { sums = sums-of (M .sides) (cornerCount M) (s .six); ten = s .ten; eleven = s .eleven }

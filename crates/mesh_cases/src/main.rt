@@ -1,5 +1,5 @@
 // Runs linking on the meshes of standard input and prints a line for each. An input line has a name, a colon, and then coordinates, side
-// counts, corner list and the link table's length, parted by slashes; `0*24` stands for twenty-four zeros.
+// counts, corner list, sharpness list and the link table's length, parted by slashes; `0*24` stands for twenty-four zeros.
 // An output line has the name and `done` with a sum over the link table, or `refused` with number and place; a table that a refusal did
 // not keep would show as `changed`.
 use libc::STDIN_FILENO;
@@ -9,7 +9,7 @@ use std::num::wrapping_add_u64;
 ghost use Prim.Native.Nat.{_≤_};
 
 // More entries than any list has.
-const ROOM: usize = 8200;
+const ROOM: usize = 16400;
 
 // What is read of a line so far.
 struct Line {
@@ -19,6 +19,7 @@ struct Line {
     coordinates: usize,
     faces: usize,
     corners: usize,
+    sharpness: usize,
     table: usize,
     // the number at hand: its value, whether it is one and is negative, and what it repeats
     value: usize,
@@ -33,6 +34,7 @@ fn main() {
     let mut coordinates = [0i32; ROOM];
     let mut sides = [0u8; ROOM];
     let mut corners = [0u16; ROOM];
+    let mut sharpness = [0u8; ROOM];
     let mut links = [0u16; ROOM];
     let n = io::read_full(STDIN_FILENO, &mut text);
     lines(
@@ -40,6 +42,7 @@ fn main() {
         &mut coordinates,
         &mut sides,
         &mut corners,
+        &mut sharpness,
         &mut links,
     );
 }
@@ -50,6 +53,7 @@ fn lines(
     coordinates: &mut [i32; ROOM],
     sides: &mut [u8; ROOM],
     corners: &mut [u16; ROOM],
+    sharpness: &mut [u8; ROOM],
     links: &mut [u16; ROOM],
 ) {
     let mut line = fresh(0);
@@ -57,12 +61,12 @@ fn lines(
     while i < text.len() {
         let b = text[i];
         if b == b'\n' {
-            line = put(line, coordinates, sides, corners);
-            run(text, line, coordinates, sides, corners, links);
+            line = put(line, coordinates, sides, corners, sharpness);
+            run(text, line, coordinates, sides, corners, sharpness, links);
             line = fresh(i + 1);
         } else {
             if b == b' ' {
-                line = put(line, coordinates, sides, corners);
+                line = put(line, coordinates, sides, corners, sharpness);
             } else {
                 line = read(line, i, b);
             }
@@ -80,6 +84,7 @@ fn fresh(start: usize) -> Line {
         coordinates: 0,
         faces: 0,
         corners: 0,
+        sharpness: 0,
         table: 0,
         value: 0,
         begun: false,
@@ -100,7 +105,7 @@ fn read(line: Line, i: usize, b: u8) -> Line {
         l.value = 0;
     }
     if b == b'/' {
-        if l.list < 4 {
+        if l.list < 5 {
             l.list += 1;
         }
     }
@@ -130,6 +135,7 @@ fn put(
     coordinates: &mut [i32; ROOM],
     sides: &mut [u8; ROOM],
     corners: &mut [u16; ROOM],
+    sharpness: &mut [u8; ROOM],
 ) -> Line {
     let mut l = line;
     if !l.begun || l.colon == 0 {
@@ -145,12 +151,15 @@ fn put(
         l.coordinates = put_coordinates(coordinates, l.coordinates, signed(value, l.minus), times);
     }
     if l.list == 1 {
-        l.faces = put_sides(sides, l.faces, value, times);
+        l.faces = put_bytes(sides, l.faces, value, times);
     }
     if l.list == 2 {
         l.corners = put_corners(corners, l.corners, value, times);
     }
     if l.list == 3 {
+        l.sharpness = put_bytes(sharpness, l.sharpness, value, times);
+    }
+    if l.list == 4 {
         l.table = value;
     }
     l.value = 0;
@@ -183,7 +192,7 @@ fn put_coordinates(list: &mut [i32; ROOM], at: usize, value: i32, times: usize) 
     to
 }
 
-fn put_sides(list: &mut [u8; ROOM], at: usize, value: usize, times: usize) -> usize {
+fn put_bytes(list: &mut [u8; ROOM], at: usize, value: usize, times: usize) -> usize {
     let mut to = at;
     let mut left = times;
     while left != 0 {
@@ -216,11 +225,12 @@ fn run(
     coordinates: &[i32; ROOM],
     sides: &[u8; ROOM],
     corners: &[u16; ROOM],
+    sharpness: &[u8; ROOM],
     links: &mut [u16; ROOM],
 ) {
     fill(links);
     let before = sum(links);
-    let a = call(coordinates, sides, corners, links, line);
+    let a = call(coordinates, sides, corners, sharpness, links, line);
     let after = sum(links);
     name(text, line.start, line.colon);
     match a {
@@ -246,17 +256,20 @@ fn call(
     coordinates: &[i32],
     sides: &[u8],
     corners: &[u16],
+    sharpness: &[u8],
     links: &mut [u16],
     line: Line,
 ) -> Answer {
     let n = least(line.coordinates, coordinates.len());
     let f = least(line.faces, sides.len());
     let c = least(line.corners, corners.len());
+    let s = least(line.sharpness, sharpness.len());
     let m = least(line.table, links.len());
     linking::link(
         &coordinates[..n],
         &sides[..f],
         &corners[..c],
+        &sharpness[..s],
         &mut links[..m],
     )
 }

@@ -15,7 +15,7 @@ use Rattle.paper.specs.Corners.{startOf, faceOf, sidesOf, next, previous}
 use Rattle.paper.specs.Links.{vertexOf, linkTable}
 use Rattle.paper.specs.Faults.{fault7, listFaults, linkFaults, verdict, linkVerdict}
 use Rattle.paper.specs.Numbers.{rounded}
-use Rattle.paper.specs.Refined.{cornersOf, ticksPerStep, ticks, faceSum, refinedPoint}
+use Rattle.paper.specs.Refined.{cornersOf, ticksPerStep, ticks, faceSum, uOf, vOf, refinedPoint}
 use Rattle.paper.specs.Calls.{perCorner, numberAt, nets, fault15, fault16, buildVerdict}
 use Rattle.paper.specs.Mirror.{negatedIf, negateAxis, mirrored}
 use Rattle.paper.specs.Claims.{Mirrors}
@@ -87,14 +87,19 @@ module _ (axis : ℕ) (M : Mesh) where
     face-turn f = sum-turn (negatedIf b) (turn b) _ _ (getD (M .sides) f 0) (λ j. ticks-turn (startOf (M .sides) f + j))
 
     refined-turn : (c : ℕ) → refinedPoint rounded M′ k c ≡ negatedIf b (refinedPoint rounded M k c)
-    unfolding refinedPoint
+    unfolding refinedPoint uOf vOf
     refined-turn c =
         let n = sidesOf (M .sides) c in
+        let u = uOf M c in
+        let v = vOf M c in
         let σ = negatedIf b in
         let t = turn b in
-        by σ t (8 * n)
-        (add σ t (mul σ t (pos 2) (face-turn (faceOf (M .sides) c)))
-        (mul σ t (pos n) (add σ t (add σ t (ticks-turn (previous (M .sides) c)) (mul σ t (pos 4) (ticks-turn c))) (ticks-turn (next (M .sides) c)))))
+        by σ t (512 * n)
+        (add σ t (mul σ t (pos (2 * (16 - u) * (16 - v))) (face-turn (faceOf (M .sides) c)))
+        (mul σ t (pos n)
+        (add σ t
+        (add σ t (mul σ t (pos ((16 - u) * v)) (ticks-turn (previous (M .sides) c))) (mul σ t (pos (16 * (u + v))) (ticks-turn c)))
+        (mul σ t (pos (u * (16 - v))) (ticks-turn (next (M .sides) c))))))
 
   number-turn : (first i : ℕ) → numberAt rounded M′ first i ≡ turned axis i (numberAt rounded M first i)
   unfolding numberAt

@@ -51,20 +51,24 @@ pub record Lengths : Type 0 where
   pub coordinates : ℕ
   pub sides : ℕ
   pub corners : ℕ
+  pub sharpness : ℕ
 
-abbrev pub three : ℕ → ℕ → ℕ → Lengths
-three coordinates sides corners = record { coordinates = coordinates; sides = sides; corners = corners }
+abbrev pub four : ℕ → ℕ → ℕ → ℕ → Lengths
+four coordinates sides corners sharpness = record { coordinates = coordinates; sides = sides; corners = corners; sharpness = sharpness }
 
 abbrev pub lengthsOf : Mesh → Lengths
-lengthsOf M = three (length (M .coordinates)) (length (M .sides)) (length (M .corners))
+lengthsOf M = four (length (M .coordinates)) (length (M .sides)) (length (M .corners)) (length (M .sharpness))
 
 -- the lists of M in the beginnings of lent ones
 abbrev pub into : Mesh → Mesh → Mesh
-into M lent = meshOf (begins (M .coordinates) (lent .coordinates)) (begins (M .sides) (lent .sides)) (begins (M .corners) (lent .corners))
+into M lent =
+    meshOf (begins (M .coordinates) (lent .coordinates)) (begins (M .sides) (lent .sides)) (begins (M .corners) (lent .corners))
+    (begins (M .sharpness) (lent .sharpness))
 
 -- decoding, with lent lists and lent lengths
 abbrev pub lentVerdict : List ℕ → ℕ → Mesh → Verdict
-lentVerdict file counted lent = decodeVerdict file counted (length (lent .coordinates)) (length (lent .sides)) (length (lent .corners))
+lentVerdict file counted lent =
+    decodeVerdict file counted (length (lent .coordinates)) (length (lent .sides)) (length (lent .corners)) (length (lent .sharpness))
 
 pub record DecodeCall (file : List ℕ) (counted : ℕ) (lent : Mesh) (lengths : Lengths) (before r after : ℕ) (lists : Mesh) (told : Lengths) : Type 0 where
   pub answers : States (lentVerdict file counted lent) before r after
@@ -80,7 +84,7 @@ abbrev pub countsInto : Mesh → Counts → Counts
 countsInto M lent =
     countsOf (vertexCount M) (faceCount M) (cornerCount M) (begins (forEach (verticesWith M)) (lent .cornered)) (begins (forEach (facesWith M)) (lent .sided))
 
--- surveying refuses as 1 to 13 do, and then where a lent list has no room for every m
+-- surveying refuses as 1 to 13 and 28 do, and then where a lent list has no room for every m
 unfoldable pub surveyVerdict : List ℕ → ℕ → Counts → Verdict
 surveyVerdict file counted lent =
     fileVerdict file counted

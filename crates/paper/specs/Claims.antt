@@ -1,17 +1,20 @@
 -- The theorems, as types. Crate claims has a value of `Claims`.
 -- Assumes nothing.
 use mathlib.Core.Path.{_≡_}
+use mathlib.Core.Bool.{false}
 use mathlib.Core.List.{List}
 use mathlib.Core.Logic.{_↔_}
 use Prim.Native.Nat.{ℕ, _+_, _*_, _≤_, _<_}
 use lib.ListN.{length, take, drop}
 use lib.IntN.{ℤ}
-use Rattle.paper.specs.Mesh.{Mesh, cornerCount, leastSides, mostSides}
+use Rattle.paper.specs.Mesh.{Mesh, cornerCount, leastSides, mostSides, plainList}
 use Rattle.paper.specs.Links.{linkTable}
-use Rattle.paper.specs.Faults.{sound, Accepted}
+use Rattle.paper.specs.Faults.{sound, Accepted, fault27, fault28}
+use Rattle.paper.specs.Numbers.{rounded}
 use Rattle.paper.specs.Cosines.{RowRules}
+use Rattle.paper.specs.Refined.{refinedOf, refinedOf01}
 use Rattle.paper.specs.Net.{Side}
-use Rattle.paper.specs.File.{fileMesh, FileSurveyed}
+use Rattle.paper.specs.File.{versionIn, fileMesh, FileSurveyed}
 use Rattle.paper.specs.Calls.{perCorner, nets, Built}
 use Rattle.paper.specs.Floats.{netVerdict, difference, first, second, axes, Pointed, sums, FarPair}
 use Rattle.paper.specs.Nesting.{tableVerdict, nestingVerdict, Nested, Ends, Ordered}
@@ -103,6 +106,22 @@ LinesAgree =
     (file : List ℕ) (counted : ℕ) (s : Summary) (r : Irregular)
     → FileSurveyed file counted s → s .answer ≡ Done → Searched (fileMesh file) r → Agreed (s .counts) r
 
+-- ---- L8: 8 and 8 throughout
+abbrev pub Plain : Mesh → Type 0
+Plain M = M .sharpness ≡ plainList (cornerCount M)
+
+-- has the refined points of document 01, so all that is computed from them is as it was
+abbrev pub PlainPoints : Type 0
+PlainPoints = (M : Mesh) → Plain M → (axis : ℕ) → refinedOf rounded M axis ≡ refinedOf01 rounded M axis
+
+-- and neither 27 nor 28
+abbrev pub PlainPasses : Type 0
+PlainPasses = (M : Mesh) → Plain M → (fault27 (length (M .sharpness)) (cornerCount M) ≡ false) × ((i : ℕ) → fault28 (M .sharpness) i ≡ false)
+
+-- so reads every file of version 1
+abbrev pub VersionOne : Type 0
+VersionOne = (file : List ℕ) → versionIn file ≡ 1 → Plain (fileMesh file)
+
 -- ---- all of them
 pub record Claims : Type 0 where
   pub rules : TableRules
@@ -121,3 +140,6 @@ pub record Claims : Type 0 where
   pub listing-ordered : ListingOrdered
   pub one-listing : OneListing
   pub lines-agree : LinesAgree
+  pub plain-points : PlainPoints
+  pub plain-passes : PlainPasses
+  pub version-one : VersionOne

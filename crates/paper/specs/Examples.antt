@@ -5,7 +5,7 @@ use mathlib.Core.List.{List, [], _∷_, _++_}
 use Prim.Native.Nat.{ℕ, _^_}
 use lib.ListN.{replicate, take, drop}
 use lib.IntN.{ℤ, pos, negsuc, negℤ}
-use Rattle.paper.specs.Mesh.{Mesh, meshOf}
+use Rattle.paper.specs.Mesh.{Mesh, plainMesh}
 use Rattle.paper.specs.Faults.{Verdict, sound, fault, verdict}
 use Rattle.paper.specs.Numbers.{round, rounded}
 use Rattle.paper.specs.Cosines.{cosine}
@@ -31,19 +31,19 @@ AllGive ((given gives printed) ∷ rows) = (given ≡ printed) × AllGive rows
 -- the cube of corners ±3, faces clockwise seen from outside; corner 0 is at (3,3,3) on z = 3 and leaves to (3,-3,3)
 abbrev pub cube : Mesh
 cube =
-    meshOf
+    plainMesh
     (pos 3 ∷ pos 3 ∷ pos 3 ∷ pos 3 ∷ negsuc 2 ∷ pos 3 ∷ negsuc 2 ∷ negsuc 2 ∷ pos 3 ∷ negsuc 2 ∷ pos 3 ∷ pos 3
     ∷ pos 3 ∷ pos 3 ∷ negsuc 2 ∷ pos 3 ∷ negsuc 2 ∷ negsuc 2 ∷ negsuc 2 ∷ negsuc 2 ∷ negsuc 2 ∷ negsuc 2 ∷ pos 3 ∷ negsuc 2 ∷ [])
     (replicate 6 4)
     (0 ∷ 1 ∷ 2 ∷ 3 ∷ 4 ∷ 7 ∷ 6 ∷ 5 ∷ 1 ∷ 0 ∷ 4 ∷ 5 ∷ 2 ∷ 1 ∷ 5 ∷ 6 ∷ 3 ∷ 2 ∷ 6 ∷ 7 ∷ 0 ∷ 3 ∷ 7 ∷ 4 ∷ [])
 
 abbrev pub twoTriangles : Mesh
-twoTriangles = meshOf (replicate 9 (pos 0)) (3 ∷ 3 ∷ []) (0 ∷ 1 ∷ 2 ∷ 0 ∷ 2 ∷ 1 ∷ [])
+twoTriangles = plainMesh (replicate 9 (pos 0)) (3 ∷ 3 ∷ []) (0 ∷ 1 ∷ 2 ∷ 0 ∷ 2 ∷ 1 ∷ [])
 
 -- they share vertex 0 only
 abbrev pub twoTetrahedra : Mesh
 twoTetrahedra =
-    meshOf (replicate 21 (pos 0)) (replicate 8 3)
+    plainMesh (replicate 21 (pos 0)) (replicate 8 3)
     (0 ∷ 1 ∷ 2 ∷ 0 ∷ 2 ∷ 3 ∷ 0 ∷ 3 ∷ 1 ∷ 1 ∷ 3 ∷ 2 ∷ 0 ∷ 4 ∷ 5 ∷ 0 ∷ 5 ∷ 6 ∷ 0 ∷ 6 ∷ 4 ∷ 4 ∷ 6 ∷ 5 ∷ [])
 
 -- a point: its three coordinates

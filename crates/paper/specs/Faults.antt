@@ -1,16 +1,17 @@
--- "Why a mesh is turned down": 4 to 13, each with its places, and the verdict that tries them in their order; 14; what an answer states, and what a lent
--- space holds after it.
+-- "Why a mesh is turned down": 4 to 13 with 27 and 28, each with its places, and the verdict that tries them in their order; 14; what an answer states,
+-- and what a lent space holds after it.
 -- Assumes nothing.
 use mathlib.Core.Path.{_≡_}
 use mathlib.Core.Bool.{Bool, true, false, not, _&&_, _||_}
 use mathlib.Core.List.{List}
-use Prim.Native.Nat.{ℕ, suc, _-_, _/_, _%_}
+use Prim.Native.Nat.{ℕ, suc, _-_, _*_, _/_, _%_}
 use lib.Dec.{ltb, leb, eqb}
 use lib.ListN.{length, getD}
 use lib.IntN.{ℤ, pos, negsuc}
 use lib.Signed.{ltZ}
 use Rattle.paper.specs.Scan.{firstBelow, someBelow, iterate}
-use Rattle.paper.specs.Mesh.{leastSides, mostSides, mostVertices, mostFaces, mostCorners, mostCoordinate, Mesh, vertexCount, faceCount, cornerCount}
+use Rattle.paper.specs.Mesh.{leastSides, mostSides, mostVertices, mostFaces, mostCorners, mostCoordinate, mostSharpness, plain, Mesh}
+use Rattle.paper.specs.Mesh.{vertexCount, faceCount, cornerCount}
 use Rattle.paper.specs.Corners.{sumOf, firstOf}
 use Rattle.paper.specs.Links.{vertexOf, sameEdge, reverseEdge, link, names, valence, lowest}
 use Rattle.paper.specs.declared.Answer.{Answer}
@@ -44,6 +45,10 @@ unfoldable pub fault4 : ℕ → ℕ → ℕ → Bool
 fault4 coordinates faces corners =
     not (eqb (coordinates % 3) 0) || (outside 1 mostVertices (coordinates / 3) || (outside 1 mostFaces faces || outside 1 mostCorners corners))
 
+-- 27: the sharpness list is not twice as long as the corner list
+unfoldable pub fault27 : ℕ → ℕ → Bool
+fault27 sharpness corners = not (eqb sharpness (2 * corners))
+
 -- 5: a face's side count
 unfoldable pub fault5 : List ℕ → ℕ → Bool
 fault5 sides f = outside leastSides mostSides (getD sides f 0)
@@ -59,6 +64,10 @@ fault7 coordinates i = ltZ (getD coordinates i (pos 0)) (negsuc (mostCoordinate 
 -- 8: a corner names no vertex below the count
 unfoldable pub fault8 : ℕ → List ℕ → ℕ → Bool
 fault8 count corners c = leb count (vertexOf corners c)
+
+-- 28: a sharpness number
+unfoldable pub fault28 : List ℕ → ℕ → Bool
+fault28 sharpness i = ltb mostSharpness (getD sharpness i plain)
 
 -- 9: a corner names the vertex of an earlier corner d of its face, whose first corner is `first`
 unfoldable pub sameVertexFrom : ℕ → List ℕ → ℕ → ℕ → Bool
@@ -93,14 +102,16 @@ met sides corners u c = someBelow (ringLength sides corners u) (λ j. eqb (after
 unfoldable pub fault13 : List ℕ → List ℕ → ℕ → Bool
 fault13 sides corners u = someBelow (length corners) (λ c. names corners u c && not (met sides corners u c))
 
--- each is tried over the whole input before the next: 4 to 9, of the lists themselves
+-- each is tried over the whole input before the next: 4 to 9, of the lists themselves, with 27 after 4 and 28 after 8
 unfoldable pub listFaults : Mesh → Verdict
 listFaults M =
     single 4 (fault4 (length (M .coordinates)) (faceCount M) (cornerCount M)) 0
+    orElse single 27 (fault27 (length (M .sharpness)) (cornerCount M)) (length (M .sharpness))
     orElse lowestOf 5 (faceCount M) (fault5 (M .sides))
     orElse single 6 (fault6 (M .sides) (cornerCount M)) (sumOf (M .sides))
     orElse lowestOf 7 (length (M .coordinates)) (fault7 (M .coordinates))
     orElse lowestOf 8 (cornerCount M) (fault8 (vertexCount M) (M .corners))
+    orElse lowestOf 28 (length (M .sharpness)) (fault28 (M .sharpness))
     orElse lowestOf 9 (cornerCount M) (fault9 (M .sides) (M .corners))
 
 -- then 10 to 13, of edges and vertices

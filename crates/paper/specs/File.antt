@@ -1,6 +1,6 @@
--- "The file": a header of mark, version and three counts, then the coordinates, the side counts and the corner list; all numbers
--- have their low byte first. What the functions over a file answer: `survey` its counts, `decode` its lists, or why the file is
--- turned down (1 to 13).
+-- "The file": a header of mark, version and three counts, then the coordinates, the side counts and the corner list, and in version 2 the sharpness list;
+-- all numbers have their low byte first. What the functions over a file answer: `survey` its counts, `decode` its lists, or why the file is turned down
+-- (1 to 13 and 28).
 -- Assumes nothing.
 use mathlib.Core.Path.{_≡_}
 use mathlib.Core.Bool.{Bool, not, _&&_, _||_}
@@ -11,8 +11,8 @@ use lib.ListN.{length, getD, drop, take, replicate}
 use lib.IntN.{ℤ}
 use mir.Syntax.{w32}
 use mir.Val.{toZ}
-use Rattle.paper.specs.Scan.{valuesFrom}
-use Rattle.paper.specs.Mesh.{Mesh, meshOf, mostSides}
+use Rattle.paper.specs.Scan.{pickN, valuesFrom}
+use Rattle.paper.specs.Mesh.{Mesh, meshOf, mostSides, plain}
 use Rattle.paper.specs.Faults.{Verdict, _orElse_, single, fault4, sound, fault, verdict, stated, kept}
 use Rattle.paper.specs.Counts.{Counted}
 use Rattle.paper.specs.declared.Counts.{Counts}
@@ -40,9 +40,15 @@ headerLength = 11
 unfoldable pub marked : List ℕ → Bool
 marked file = eqb (byteAt file 0) 68 && (eqb (byteAt file 1) 77 && eqb (byteAt file 2) 83)
 
--- the version that is read
+-- the versions that are read; the second has a sharpness list
+abbrev pub versionIn : List ℕ → ℕ
+versionIn file = halfAt file 3
+
 unfoldable pub known : List ℕ → Bool
-known file = eqb (halfAt file 3) 1
+known file = eqb (versionIn file) 1 || eqb (versionIn file) 2
+
+unfoldable pub sharp : List ℕ → Bool
+sharp file = eqb (versionIn file) 2
 
 abbrev pub verticesIn : List ℕ → ℕ
 verticesIn file = halfAt file 5
@@ -53,17 +59,24 @@ facesIn file = halfAt file 7
 abbrev pub cornersIn : List ℕ → ℕ
 cornersIn file = halfAt file 9
 
--- ---- where the lists start, and the length that 3 asks: 11 + 12 times vertices + faces + 2 times corners
+-- ---- where the lists start, and the length that 3 asks: 11 + 12 times vertices + faces + 2 times corners, and in version 2 another 2 times corners
 abbrev pub sidesStart : List ℕ → ℕ
 sidesStart file = headerLength + 12 * verticesIn file
 
 abbrev pub cornersStart : List ℕ → ℕ
 cornersStart file = sidesStart file + facesIn file
 
-abbrev pub expectedLength : List ℕ → ℕ
-expectedLength file = cornersStart file + 2 * cornersIn file
+abbrev pub sharpnessStart : List ℕ → ℕ
+sharpnessStart file = cornersStart file + 2 * cornersIn file
 
--- ---- the lists: x, y, z of each vertex in four bytes each, a byte for each face, two bytes for each corner
+unfoldable pub sharpnessBytes : List ℕ → ℕ
+sharpnessBytes file = pickN (sharp file) (2 * cornersIn file) 0
+
+abbrev pub expectedLength : List ℕ → ℕ
+expectedLength file = sharpnessStart file + sharpnessBytes file
+
+-- ---- the lists: x, y, z of each vertex in four bytes each, a byte for each face, two bytes for each corner; a byte for each sharpness number, and 8 for all
+-- of them in version 1
 abbrev pub coordinateIn : List ℕ → ℕ → ℤ
 coordinateIn file i = signedAt file (headerLength + 4 * i)
 
@@ -73,12 +86,16 @@ sideIn file start f = byteAt file (start + f)
 abbrev pub cornerIn : List ℕ → ℕ → ℕ → ℕ
 cornerIn file start c = halfAt file (start + 2 * c)
 
+unfoldable pub sharpnessIn : List ℕ → ℕ → ℕ → ℕ
+sharpnessIn file start i = pickN (sharp file) (byteAt file (start + i)) plain
+
 unfoldable pub fileMesh : List ℕ → Mesh
 fileMesh file =
     meshOf
     (valuesFrom (coordinateIn file) 0 (3 * verticesIn file))
     (valuesFrom (sideIn file (sidesStart file)) 0 (facesIn file))
     (valuesFrom (cornerIn file (cornersStart file)) 0 (cornersIn file))
+    (valuesFrom (sharpnessIn file (sharpnessStart file)) 0 (2 * cornersIn file))
 
 -- 4, of the lists that the counts announce
 abbrev pub countsVerdict : List ℕ → Verdict
@@ -100,7 +117,7 @@ headerVerdict file counted = lengthVerdict file counted orElse countsVerdict fil
 abbrev pub fileOf : List ℕ → ℕ → List ℕ
 fileOf bytes counted = take counted bytes
 
--- a file is checked by 1 to 13
+-- a file is checked by 1 to 13 and 28
 unfoldable pub fileVerdict : List ℕ → ℕ → Verdict
 fileVerdict file counted = headerVerdict file counted orElse verdict (fileMesh file)
 
@@ -121,27 +138,32 @@ FileSurveyed file counted r = Surveyed (fileMesh file) (fileVerdict file counted
 abbrev pub noRoom : ℕ
 noRoom = 255
 
-unfoldable pub roomVerdict : List ℕ → ℕ → ℕ → ℕ → Verdict
-roomVerdict file coordinates sides corners =
+unfoldable pub roomVerdict : List ℕ → ℕ → ℕ → ℕ → ℕ → Verdict
+roomVerdict file coordinates sides corners sharpness =
     single noRoom (ltb coordinates (3 * verticesIn file)) (3 * verticesIn file)
     orElse single noRoom (ltb sides (facesIn file)) (facesIn file)
     orElse single noRoom (ltb corners (cornersIn file)) (cornersIn file)
+    orElse single noRoom (ltb sharpness (2 * cornersIn file)) (2 * cornersIn file)
 
--- decoding refuses as 1 to 13 do, and then for room
-unfoldable pub decodeVerdict : List ℕ → ℕ → ℕ → ℕ → ℕ → Verdict
-decodeVerdict file counted coordinates sides corners = fileVerdict file counted orElse roomVerdict file coordinates sides corners
+-- decoding into spaces of these lengths refuses as 1 to 13 and 28 do, and then for room
+unfoldable pub decodeVerdict : List ℕ → ℕ → ℕ → ℕ → ℕ → ℕ → Verdict
+decodeVerdict file counted coordinates sides corners sharpness =
+    fileVerdict file counted orElse roomVerdict file coordinates sides corners sharpness
 
 -- a list in the beginning of a lent space, whose further entries keep their contents
 abbrev pub begins : {A : Type 0} → List A → List A → List A
 begins new old = new ++ drop (length new) old
 
--- the three lengths, 0 beside a refusal, and what the three lent spaces hold: the lists in their beginnings, or what they held
-pub record DecodedTo (file : List ℕ) (counted : ℕ) (coordinates : List ℤ) (sides corners : List ℕ) (r : Decoded)
-    (coordinates' : List ℤ) (sides' corners' : List ℕ) : Type 0 where
-  pub answers : stated (r .answer) ≡ decodeVerdict file counted (length coordinates) (length sides) (length corners)
+-- the four lengths, 0 beside a refusal, and what the four lent spaces hold: the lists in their beginnings, or what they held
+pub record DecodedTo (file : List ℕ) (counted : ℕ) (lent : Mesh) (r : Decoded) (left : Mesh) : Type 0 where
+  pub answers :
+      stated (r .answer)
+      ≡ decodeVerdict file counted (length (lent .coordinates)) (length (lent .sides)) (length (lent .corners)) (length (lent .sharpness))
   pub coordinates-length : r .coordinates ≡ kept (stated (r .answer)) (length (fileMesh file .coordinates)) 0
   pub sides-length : r .sides ≡ kept (stated (r .answer)) (length (fileMesh file .sides)) 0
   pub corners-length : r .corners ≡ kept (stated (r .answer)) (length (fileMesh file .corners)) 0
-  pub coordinates-hold : coordinates' ≡ kept (stated (r .answer)) (begins (fileMesh file .coordinates) coordinates) coordinates
-  pub sides-hold : sides' ≡ kept (stated (r .answer)) (begins (fileMesh file .sides) sides) sides
-  pub corners-hold : corners' ≡ kept (stated (r .answer)) (begins (fileMesh file .corners) corners) corners
+  pub sharpness-length : r .sharpness ≡ kept (stated (r .answer)) (length (fileMesh file .sharpness)) 0
+  pub coordinates-hold : left .coordinates ≡ kept (stated (r .answer)) (begins (fileMesh file .coordinates) (lent .coordinates)) (lent .coordinates)
+  pub sides-hold : left .sides ≡ kept (stated (r .answer)) (begins (fileMesh file .sides) (lent .sides)) (lent .sides)
+  pub corners-hold : left .corners ≡ kept (stated (r .answer)) (begins (fileMesh file .corners) (lent .corners)) (lent .corners)
+  pub sharpness-hold : left .sharpness ≡ kept (stated (r .answer)) (begins (fileMesh file .sharpness) (lent .sharpness)) (lent .sharpness)

@@ -2,10 +2,10 @@
 -- the theorems for the owner rest on, and nothing else (.ci/trusted).
 --     Scan       scans over numbers, used by all others
 --     Mesh, Corners, Links   "Mesh tables and links": lists and limits, next and previous corners, links
---     Faults     "Why a mesh is turned down", 4 to 14, and answers
---     Counts, File   "The file": what `inspect` counts; format, 1 to 3, `survey` and `decode`
+--     Faults     "Why a mesh is turned down", 4 to 14 with 27 and 28, and answers
+--     Counts, File   "The file": what `inspect` counts; format, versions 1 and 2, 1 to 3, `survey` and `decode`
 --     Numbers, Cosines   "Numbers used": rounding and the reading `rounded`; the cosine table
---     Refined, Face, Net   "From corner to 41 points"
+--     Refined, Face, Net   "From corner to 41 points", with L8's sharpness
 --     Calls      linking and building as calls, 14 to 17
 --     Floats     L1: a control point as floats, 18 to 20
 --     Nesting    L4: the nested grids as a table, 21 to 23, the listing, the call

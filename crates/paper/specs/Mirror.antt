@@ -23,7 +23,7 @@ unfoldable pub negateAxis : ℕ → List ℤ → List ℤ
 negateAxis axis l = valuesFrom (λ i. negatedIf (eqb (i % 3) axis) (getD l i (pos 0))) 0 (length l)
 
 abbrev pub mirrored : ℕ → Mesh → Mesh
-mirrored axis M = meshOf (negateAxis axis (M .coordinates)) (M .sides) (M .corners)
+mirrored axis M = meshOf (negateAxis axis (M .coordinates)) (M .sides) (M .corners) (M .sharpness)
 
 pub record Mirror (axis : ℕ) (M : Mesh) : Type 0 where
   -- the same fault of the lists or none, so the mirror is accepted exactly when the mesh is

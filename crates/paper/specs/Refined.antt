@@ -1,9 +1,10 @@
--- "Refined point": the corners of a mesh as the construction sees them, which are the same on every axis, and the refined points of one axis.
+-- "Refined point", with the sharpness numbers of L8: the corners of a mesh as the construction sees them, which are the same on every axis, and the refined
+-- points of one axis.
 -- Assumes nothing.
-use Prim.Native.Nat.{ℕ, _+_, _*_}
+use Prim.Native.Nat.{ℕ, _+_, _-_, _*_}
 use lib.ListN.{getD}
 use lib.IntN.{ℤ, pos, _+ℤ_, _*ℤ_}
-use Rattle.paper.specs.Mesh.{Mesh, cornerCount}
+use Rattle.paper.specs.Mesh.{Mesh, plain, cornerCount}
 use Rattle.paper.specs.Corners.{startOf, faceOf, sidesOf, next, previous}
 use Rattle.paper.specs.Links.{vertexOf, link, valence}
 use Rattle.paper.specs.Numbers.{Numbers, sum}
@@ -35,13 +36,34 @@ ticks M axis c = pos ticksPerStep *ℤ getD (M .coordinates) (3 * vertexOf (M .c
 unfoldable pub faceSum : Mesh → ℕ → ℕ → ℤ
 faceSum M axis f = sum (λ j. ticks M axis (startOf (M .sides) f + j)) (getD (M .sides) f 0)
 
--- V: the refined point of corner c, r((2Σ + n(P[i-1] + 4P[i] + P[i+1])) / 8n)
+-- u and v of a corner: u goes with the next vertex of the face, v with the previous one
+unfoldable pub uOf : Mesh → ℕ → ℕ
+uOf M c = getD (M .sharpness) (2 * c) plain
+
+unfoldable pub vOf : Mesh → ℕ → ℕ
+vOf M c = getD (M .sharpness) (2 * c + 1) plain
+
+-- V: the refined point of corner c, r((2(16-u)(16-v)Σ + n((16-u)v·P[i-1] + 16(u+v)P[i] + u(16-v)P[i+1])) / 512n);
+-- and that of 01, r((2Σ + n(P[i-1] + 4P[i] + P[i+1])) / 8n)
 module _ (S : Numbers) where
   infixl 7 _÷_
   open Numbers S using (Number, whole, _÷_)
 
   unfoldable pub refinedPoint : Mesh → ℕ → ℕ → Number
   refinedPoint M axis c =
+      let n = sidesOf (M .sides) c in
+      let u = uOf M c in
+      let v = vOf M c in
+      whole
+      (pos (2 * (16 - u) * (16 - v)) *ℤ faceSum M axis (faceOf (M .sides) c)
+      +ℤ pos n
+      *ℤ (pos ((16 - u) * v) *ℤ ticks M axis (previous (M .sides) c)
+      +ℤ pos (16 * (u + v)) *ℤ ticks M axis c
+      +ℤ pos (u * (16 - v)) *ℤ ticks M axis (next (M .sides) c)))
+      ÷ (512 * n)
+
+  unfoldable pub pointOf01 : Mesh → ℕ → ℕ → Number
+  pointOf01 M axis c =
       let n = sidesOf (M .sides) c in
       whole
       (pos 2 *ℤ faceSum M axis (faceOf (M .sides) c)
@@ -62,3 +84,7 @@ cornersOf M = record {
 -- the refined mesh on an axis: 0 for x, 1 for y, 2 for z
 abbrev pub refinedOf : (S : Numbers) → Mesh → ℕ → RefinedMesh S
 refinedOf S M axis = record { corners = cornersOf M; point = refinedPoint S M axis }
+
+-- that of 01
+abbrev pub refinedOf01 : (S : Numbers) → Mesh → ℕ → RefinedMesh S
+refinedOf01 S M axis = record { corners = cornersOf M; point = pointOf01 S M axis }

@@ -13,6 +13,13 @@ pub const MOST_CORNERS: usize = 8192;
 
 pub const MOST_COORDINATE: i32 = 65536;
 
+// A sharpness number is at most this, and where nothing else is said it is the second. Each corner has two.
+pub const MOST_SHARPNESS: u8 = 16;
+
+pub const PLAIN: u8 = 8;
+
+pub const SHARPNESS_PER_CORNER: usize = 2;
+
 // What stands for 1 in the cosine table.
 pub const UNIT: i64 = 1073741824;
 
@@ -51,12 +58,13 @@ pub struct Summary {
     pub counts: Counts,
 }
 
-// What `decode` answers: done or refused, and the lengths of the three lists, zero beside a refusal.
+// What `decode` answers: done or refused, and the lengths of the four lists, zero beside a refusal.
 pub struct Decoded {
     pub answer: Answer,
     pub coordinates: usize,
     pub sides: usize,
     pub corners: usize,
+    pub sharpness: usize,
 }
 
 // One point's three floats, which travel together.

@@ -27,6 +27,7 @@ struct Lengths {
     numbers: usize,
     faces: usize,
     corners: usize,
+    sharpness: usize,
 }
 
 fn main() {
@@ -42,22 +43,41 @@ fn print_input() {
     let mut coordinates = [0i32; 3 * MOST_VERTICES];
     let mut sides = [0u8; MOST_FACES];
     let mut corners = [0u16; MOST_CORNERS];
-    let mesh = read_mesh(&mut coordinates, &mut sides, &mut corners);
+    let mut sharpness = [0u8; 2 * MOST_CORNERS];
+    let mesh = read_mesh(&mut coordinates, &mut sides, &mut corners, &mut sharpness);
     let numbers = least(mesh.numbers, 3 * MOST_VERTICES);
     let faces = least(mesh.faces, MOST_FACES);
     let count = least(mesh.corners, MOST_CORNERS);
+    let pairs = least(mesh.sharpness, 2 * MOST_CORNERS);
     if mesh.ok {
-        print_mesh(&coordinates[..numbers], &sides[..faces], &corners[..count]);
+        print_mesh(
+            &coordinates[..numbers],
+            &sides[..faces],
+            &corners[..count],
+            &sharpness[..pairs],
+        );
     }
 }
 
 // Reads the file on standard input into the lent lists.
-fn read_mesh(coordinates: &mut [i32], sides: &mut [u8], corners: &mut [u16]) -> Lengths {
+fn read_mesh(
+    coordinates: &mut [i32],
+    sides: &mut [u8],
+    corners: &mut [u16],
+    sharpness: &mut [u8],
+) -> Lengths {
     let mut bytes = [0u8; BUFFER];
     let read = print::input::read_file(STDIN_FILENO, b"standard input", &mut bytes);
     let held = read.held;
     if read.ok {
-        return decode(&bytes[..held], read.counted, coordinates, sides, corners);
+        return decode(
+            &bytes[..held],
+            read.counted,
+            coordinates,
+            sides,
+            corners,
+            sharpness,
+        );
     }
     no_mesh()
 }
@@ -68,6 +88,7 @@ fn no_mesh() -> Lengths {
         numbers: 0,
         faces: 0,
         corners: 0,
+        sharpness: 0,
     }
 }
 
@@ -78,8 +99,9 @@ fn decode(
     coordinates: &mut [i32],
     sides: &mut [u8],
     corners: &mut [u16],
+    sharpness: &mut [u8],
 ) -> Lengths {
-    let d = dms::decode(bytes, counted, coordinates, sides, corners);
+    let d = dms::decode(bytes, counted, coordinates, sides, corners, sharpness);
     let answer = d.answer;
     if let Answer::Refused(number, place) = answer {
         say_refusal(number, place);
@@ -90,35 +112,48 @@ fn decode(
         numbers: d.coordinates,
         faces: d.sides,
         corners: d.corners,
+        sharpness: d.sharpness,
     }
 }
 
 // Prints all corners of a mesh, with room for its link table.
-fn print_mesh(coordinates: &[i32], sides: &[u8], corners: &[u16]) {
+fn print_mesh(coordinates: &[i32], sides: &[u8], corners: &[u16], sharpness: &[u8]) {
     let mut links = [0u16; MOST_CORNERS];
     let count = least(corners.len(), MOST_CORNERS);
-    print_linked(coordinates, sides, corners, &mut links[..count]);
+    print_linked(coordinates, sides, corners, sharpness, &mut links[..count]);
 }
 
 // Links the mesh and prints all its corners.
-fn print_linked(coordinates: &[i32], sides: &[u8], corners: &[u16], links: &mut [u16]) {
-    let answer = linking::link(coordinates, sides, corners, links);
+fn print_linked(
+    coordinates: &[i32],
+    sides: &[u8],
+    corners: &[u16],
+    sharpness: &[u8],
+    links: &mut [u16],
+) {
+    let answer = linking::link(coordinates, sides, corners, sharpness, links);
     if let Answer::Refused(number, place) = answer {
         say_refusal(number, place);
         return;
     }
-    print_ranges(coordinates, sides, corners, links);
+    print_ranges(coordinates, sides, corners, sharpness, links);
 }
 
 // Builds and prints one range of corners after the other, as long as writing goes well.
-fn print_ranges(coordinates: &[i32], sides: &[u8], corners: &[u16], links: &[u16]) {
+fn print_ranges(
+    coordinates: &[i32],
+    sides: &[u8],
+    corners: &[u16],
+    sharpness: &[u8],
+    links: &[u16],
+) {
     let mut first = 0;
     while first < MOST_CORNERS {
         if corners.len() <= first {
             return;
         }
         let count = least(corners.len() - first, RANGE);
-        if !print_range(coordinates, sides, corners, links, first, count) {
+        if !print_range(coordinates, sides, corners, sharpness, links, first, count) {
             return;
         }
         first += RANGE;
@@ -130,6 +165,7 @@ fn print_range(
     coordinates: &[i32],
     sides: &[u8],
     corners: &[u16],
+    sharpness: &[u8],
     links: &[u16],
     first: usize,
     count: usize,
@@ -141,6 +177,7 @@ fn print_range(
         coordinates,
         sides,
         corners,
+        sharpness,
         links,
         first,
         count,

@@ -8,7 +8,7 @@ ghost use Rattle.print.specs.Files.{Measured};
 use crate::output::TRIES;
 use crate::output::passing;
 
-// The buffer holds every file that 3 and 4 let pass, with room for two bytes more for each corner.
+// The buffer holds every file that 3 and 4 let pass.
 pub const BUFFER: usize = 61451;
 
 const SPILL: usize = 4096;

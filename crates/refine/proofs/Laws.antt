@@ -14,23 +14,23 @@ use lib.IntN.{ℤ, pos, natAbs, _+ℤ_, _*ℤ_}
 use mir.Syntax.{w64}
 use mir.Val.{SFits, toZ, ofZ}
 use mir.Facts.{toZ-ofZ, toZ-pos}
-use Rattle.paper.specs.Mesh.{mostSides, mostCorners, mostCoordinate, Mesh, meshOf, faceCount, cornerCount}
+use Rattle.paper.specs.Mesh.{mostSides, mostCorners, mostCoordinate, plain, Mesh, meshOf, plainMesh, faceCount, cornerCount}
 use Rattle.paper.specs.Corners.{sumOf, startOf, faceOf, sidesOf, next, previous}
 use Rattle.paper.specs.Links.{vertexOf}
 use Rattle.paper.specs.Numbers.{sum, round, rounded}
-use Rattle.paper.specs.Refined.{ticksPerStep, ticks, faceSum, refinedPoint}
-use Rattle.integers.proofs.Poly.{over, poly}
+use Rattle.paper.specs.Refined.{ticksPerStep, ticks, faceSum, uOf, vOf, refinedPoint}
 use Rattle.integers.proofs.Laws.{abs-mul-le, abs-add-le}
 use Rattle.integers.proofs.Sum.{sum-abs}
 use Rattle.integers.proofs.Machine.{abs-fits}
 use Rattle.mesh.proofs.Scans.{ways, compared}
 use Rattle.mesh.proofs.Faces.{face-at, start-zero, start-next, start-ends, start-all, next-below, previous-below}
-use Rattle.surface.proofs.Hull.{point-size}
-use Rattle.surface.specs.Points.{pointRow, pointAt}
+use Rattle.surface.proofs.Hull.{blend-size, mean-size, weights-sum}
+use Rattle.surface.specs.Points.{pointRow}
 use Rattle.wanted.specs.Tables.{Faces}
 use Rattle.refine.specs.Sources.{
   Placed,
   Refinable,
+  Face,
   Ticks,
   Within,
   Small,
@@ -38,7 +38,6 @@ use Rattle.refine.specs.Sources.{
   Holds,
   Pointed,
   Added,
-  AddedOn,
   sumRow,
   SumRoom,
   Summed,
@@ -47,6 +46,8 @@ use Rattle.refine.specs.Sources.{
   SumsOf,
   SumsAre,
 }
+use Rattle.refine.specs.Mean.{Pair, Weighted, Balanced, blend, mean}
+use Rattle.refine.specs.declared.Weights.{Weights}
 
 -- ---- ticks and their sums
 pub tick-size : (z : ℤ) → natAbs z ≤ mostCoordinate → natAbs (pos ticksPerStep *ℤ z) ≤ 2 ^ 24
@@ -59,69 +60,93 @@ module _ (coordinates : List ℤ) (corners : List ℕ) (p : Placed coordinates c
   pub coordinate-size : natAbs (getD coordinates (3 * vertexOf corners c + axis) (pos 0)) ≤ mostCoordinate
   coordinate-size = p .within (3 * vertexOf corners c + axis) tick-in
 
-  pub ticks-size : (sides : List ℕ) → natAbs (ticks (meshOf coordinates sides corners) axis c) ≤ 2 ^ 24
+  pub ticks-size : (sides sharpness : List ℕ) → natAbs (ticks (meshOf coordinates sides corners sharpness) axis c) ≤ 2 ^ 24
   unfolding ticks
-  ticks-size sides = tick-size (getD coordinates (3 * vertexOf corners c + axis) (pos 0)) coordinate-size
+  ticks-size sides sharpness = tick-size (getD coordinates (3 * vertexOf corners c + axis) (pos 0)) coordinate-size
 
 -- the sum of the vertices of n corners from `start` on
 module _ (coordinates : List ℤ) (corners : List ℕ) (p : Placed coordinates corners) (axis start : ℕ) (a : axis < 3) where
-  pub sum-size : (sides : List ℕ) (n : ℕ) → start + n ≤ length corners
-      → natAbs (sum (λ j. ticks (meshOf coordinates sides corners) axis (start + j)) n) ≤ n * 2 ^ 24
-  sum-size sides n h =
-      sum-abs (λ j. ticks (meshOf coordinates sides corners) axis (start + j)) n (2 ^ 24)
-      (λ j l. ticks-size coordinates corners p axis (start + j) a (omega arith) sides)
+  pub sum-size : (sides sharpness : List ℕ) (n : ℕ) → start + n ≤ length corners
+      → natAbs (sum (λ j. ticks (meshOf coordinates sides corners sharpness) axis (start + j)) n) ≤ n * 2 ^ 24
+  sum-size sides sharpness n h =
+      sum-abs (λ j. ticks (meshOf coordinates sides corners sharpness) axis (start + j)) n (2 ^ 24)
+      (λ j l. ticks-size coordinates corners p axis (start + j) a (omega arith) sides sharpness)
 
-  pub sum-most : (sides : List ℕ) (n : ℕ) → start + n ≤ length corners → n ≤ mostSides
-      → natAbs (sum (λ j. ticks (meshOf coordinates sides corners) axis (start + j)) n) ≤ 2 ^ 28
-  sum-most sides n h l = omega (arith, sum-size sides n h)
+  pub sum-most : (sides sharpness : List ℕ) (n : ℕ) → start + n ≤ length corners → n ≤ mostSides
+      → natAbs (sum (λ j. ticks (meshOf coordinates sides corners sharpness) axis (start + j)) n) ≤ 2 ^ 28
+  sum-most sides sharpness n h l = omega (arith, sum-size sides sharpness n h)
+
+-- ---- weights
+-- those of a pair within its limits sum to 512
+pub balanced : (sharpness : List ℕ) (c : ℕ) (w : Weights) → Pair sharpness c → Weighted sharpness c w → Balanced w
+balanced sharpness c w p h =
+    rw (h .face, h .before, h .here, h .after) (weights-sum (getD sharpness (2 * c) plain) (getD sharpness (2 * c + 1) plain) (p .u-most) (p .v-most))
 
 -- ---- the sizes on the way to a refined point
-abbrev pub around : ℤ → ℤ → ℤ → ℤ
-around before here after = before +ℤ pos 4 *ℤ here +ℤ after
+abbrev pub threefold : Weights → ℤ → ℤ → ℤ → ℤ
+threefold w before here after = pos (w .before) *ℤ before +ℤ pos (w .here) *ℤ here +ℤ pos (w .after) *ℤ after
 
-abbrev pub eightfold : ℤ → ℤ → ℤ → ℤ → ℕ → ℤ
-eightfold total before here after n = pos 2 *ℤ total +ℤ pos n *ℤ around before here after
-
-pub record Sizes (total before here after : ℤ) (n : ℕ) : Type 0 where
+pub record Sizes (w : Weights) (total before here after : ℤ) (n : ℕ) : Type 0 where
   pub read : toZ w64 n ≡ pos n
-  pub twice : SFits w64 (pos 2 *ℤ total)
-  pub fourfold : SFits w64 (pos 4 *ℤ here)
-  pub two : SFits w64 (before +ℤ pos 4 *ℤ here)
-  pub three : SFits w64 (around before here after)
-  pub product : SFits w64 (pos n *ℤ around before here after)
-  pub all : SFits w64 (eightfold total before here after n)
-  pub size : natAbs (eightfold total before here after n) ≤ 8 * n * 2 ^ 24
-  pub result : natAbs (round (eightfold total before here after n) (pos 8 *ℤ pos n)) ≤ 2 ^ 24
+  pub read-face : toZ w64 (w .face) ≡ pos (w .face)
+  pub read-before : toZ w64 (w .before) ≡ pos (w .before)
+  pub read-here : toZ w64 (w .here) ≡ pos (w .here)
+  pub read-after : toZ w64 (w .after) ≡ pos (w .after)
+  pub on-face : SFits w64 (pos (w .face) *ℤ total)
+  pub on-before : SFits w64 (pos (w .before) *ℤ before)
+  pub on-here : SFits w64 (pos (w .here) *ℤ here)
+  pub on-after : SFits w64 (pos (w .after) *ℤ after)
+  pub two : SFits w64 (pos (w .before) *ℤ before +ℤ pos (w .here) *ℤ here)
+  pub three : SFits w64 (threefold w before here after)
+  pub product : SFits w64 (pos n *ℤ threefold w before here after)
+  pub all : SFits w64 (blend w total before here after n)
+  pub size : natAbs (blend w total before here after n) ≤ n * (512 * 2 ^ 24)
+  pub result : natAbs (mean w total before here after n) ≤ 2 ^ 24
 
-near-sizes : (b h a : ℤ) → natAbs b ≤ 2 ^ 24 → natAbs h ≤ 2 ^ 24 → natAbs a ≤ 2 ^ 24
-    → SFits w64 (pos 4 *ℤ h) × SFits w64 (b +ℤ pos 4 *ℤ h) × SFits w64 (around b h a) × (natAbs (around b h a) ≤ 6 * 2 ^ 24)
-near-sizes = over 3 _ λ ρ. simp (poly, ρ) (omega arith)
+module _ (w : Weights) (b : Balanced w) (total before here after : ℤ) (n : ℕ) (t : Ticks total before here after n) where
+  pub sizes : Sizes w total before here after n
+  sizes =
+      let f = abs-mul-le (pos (w .face)) total 512 (n * 2 ^ 24) (omega arith) (t .face .total-size) in
+      let x = abs-mul-le (pos (w .before)) before 512 (2 ^ 24) (omega arith) (t .before-size) in
+      let y = abs-mul-le (pos (w .here)) here 512 (2 ^ 24) (omega arith) (t .here-size) in
+      let z = abs-mul-le (pos (w .after)) after 512 (2 ^ 24) (omega arith) (t .after-size) in
+      let xy = abs-add-le (pos (w .before) *ℤ before) (pos (w .here) *ℤ here) _ _ x y in
+      let xyz = abs-add-le (pos (w .before) *ℤ before +ℤ pos (w .here) *ℤ here) (pos (w .after) *ℤ after) _ _ xy z in
+      let p = abs-mul-le (pos n) (threefold w before here after) n _ (omega arith) xyz in
+      let e = blend-size n (w .face) (w .before) (w .here) (w .after) total before here after b (t .face .total-size) (t .before-size) (t .here-size)
+      (t .after-size) in
+      record {
+        read = toZ-pos w64 (omega (arith, t .face .most));
+        read-face = toZ-pos w64 (omega arith);
+        read-before = toZ-pos w64 (omega arith);
+        read-here = toZ-pos w64 (omega arith);
+        read-after = toZ-pos w64 (omega arith);
+        on-face = abs-fits w64 (pos (w .face) *ℤ total) (2 ^ 40) (le-trans f (omega (arith, t .face .most))) (lit< tt);
+        on-before = abs-fits w64 (pos (w .before) *ℤ before) (2 ^ 40) (le-trans x (omega arith)) (lit< tt);
+        on-here = abs-fits w64 (pos (w .here) *ℤ here) (2 ^ 40) (le-trans y (omega arith)) (lit< tt);
+        on-after = abs-fits w64 (pos (w .after) *ℤ after) (2 ^ 40) (le-trans z (omega arith)) (lit< tt);
+        two = abs-fits w64 (pos (w .before) *ℤ before +ℤ pos (w .here) *ℤ here) (2 ^ 40) (le-trans xy (omega arith)) (lit< tt);
+        three = abs-fits w64 (threefold w before here after) (2 ^ 40) (le-trans xyz (omega arith)) (lit< tt);
+        product = abs-fits w64 (pos n *ℤ threefold w before here after) (2 ^ 40) (le-trans p (omega (arith, t .face .most))) (lit< tt);
+        all = abs-fits w64 (blend w total before here after n) (2 ^ 40) (le-trans e (omega (arith, t .face .most))) (lit< tt);
+        size = e;
+        result = mean-size n (blend w total before here after n) (omega (arith, t .face .least)) e;
+      }
 
-pub sizes : (total before here after : ℤ) (n : ℕ) → Ticks total before here after n → Sizes total before here after n
-sizes total before here after n t =
-    let s = near-sizes before here after (t .before-size) (t .here-size) (t .after-size) in
-    let w = abs-mul-le (pos 2) total 2 (n * 2 ^ 24) (lit≤ tt) (t .total-size) in
-    let p = abs-mul-le (pos n) (around before here after) n (6 * 2 ^ 24) (omega arith) (s .3) in
-    let e : natAbs (eightfold total before here after n) ≤ 8 * n * 2 ^ 24 = le-trans (abs-add-le (pos 2 *ℤ total)
-    (pos n *ℤ around before here after) _ _ w p) (omega arith) in
-    record {
-      read = toZ-pos w64 (omega (arith, t .most));
-      twice = abs-fits w64 (pos 2 *ℤ total) (2 ^ 40) (le-trans w (omega (arith, t .most))) (lit< tt);
-      fourfold = s .0;
-      two = s .1;
-      three = s .2;
-      product = abs-fits w64 (pos n *ℤ around before here after) (2 ^ 40) (le-trans p (omega (arith, t .most))) (lit< tt);
-      all = abs-fits w64 (eightfold total before here after n) (2 ^ 40) (le-trans e (omega (arith, t .most))) (lit< tt);
-      size = e;
-      result = point-size n total before here after (omega (arith, t .least)) (t .total-size) (t .before-size) (t .here-size) (t .after-size);
-    }
+-- ---- a division by 512n: for n that is k, in the machine's numbers
+pub arm : (t r : ℤ) (n k : ℕ) → SFits w64 t → SFits w64 r → n ≡ k → r ≡ round (toZ w64 (ofZ w64 t)) (pos 512 *ℤ pos k)
+    → toZ w64 (ofZ w64 r) ≡ round t (pos 512 *ℤ pos n)
+arm t r n k ft fr e h = toZ-ofZ fr ∙ h ∙ ap (λ (z : ℤ). round z (pos (512 * k))) (toZ-ofZ ft) ∙ ap (λ (m : ℕ). round t (pos (512 * m))) (sym e)
 
--- ---- a division by 8n: for n that is k, in the machine's numbers
-pub arm : (t r : ℤ) (n k : ℕ) → SFits w64 t → SFits w64 r → n ≡ k → r ≡ round (toZ w64 (ofZ w64 t)) (pos 8 *ℤ pos k)
-    → toZ w64 (ofZ w64 r) ≡ round t (pos 8 *ℤ pos n)
-arm t r n k ft fr e h = toZ-ofZ fr ∙ h ∙ ap (λ (z : ℤ). round z (pos (8 * k))) (toZ-ofZ ft) ∙ ap (λ (m : ℕ). round t (pos (8 * m))) (sym e)
+-- ---- the corners of a mesh
+module _ (M : Mesh) (R : Refinable M) where
+  pub pair-of : (c : ℕ) → c < cornerCount M → Pair (M .sharpness) c
+  pair-of c h = record { long = omega (arith, R .sharp .pairs); u-most = R .sharp .sixteenths (2 * c); v-most = R .sharp .sixteenths (2 * c + 1) }
 
--- ---- the corners of face f of a mesh
+  tick-at : (axis c : ℕ) → axis < 3 → c < cornerCount M → natAbs (ticks M axis c) ≤ 2 ^ 24
+  tick-at axis c a h = ticks-size (M .coordinates) (M .corners) (R .placed) axis c a h (M .sides) (M .sharpness)
+
+-- of face f
 module _ (M : Mesh) (R : Refinable M) (f : ℕ) (l : f < faceCount M) where
   pub end-in : startOf (M .sides) f + getD (M .sides) f 0 ≤ cornerCount M
   end-in = omega (arith, start-ends (M .sides) f l, R .sums)
@@ -133,43 +158,49 @@ module _ (M : Mesh) (R : Refinable M) (f : ℕ) (l : f < faceCount M) where
 
   pub face-sum-size : (axis : ℕ) → axis < 3 → natAbs (faceSum M axis f) ≤ getD (M .sides) f 0 * 2 ^ 24
   unfolding faceSum
-  face-sum-size axis a = sum-size (M .coordinates) (M .corners) (R .placed) axis (startOf (M .sides) f) a (M .sides) (getD (M .sides) f 0) end-in
+  face-sum-size axis a = sum-size (M .coordinates) (M .corners) (R .placed) axis (startOf (M .sides) f) a (M .sides) (M .sharpness) (getD (M .sides) f 0) end-in
 
   pub face-sum-most : (axis : ℕ) → axis < 3 → natAbs (faceSum M axis f) ≤ 2 ^ 28
   face-sum-most axis a = le-trans (face-sum-size axis a) (omega (arith, R .faces .most f l))
 
-  refined-is : (axis c : ℕ) → faceOf (M .sides) c ≡ f
-      → refinedPoint rounded M axis c
-      ≡ round
-      (eightfold (faceSum M axis f) (ticks M axis (previous (M .sides) c)) (ticks M axis c) (ticks M axis (next (M .sides) c)) (getD (M .sides) f 0))
-      (pos 8 *ℤ pos (getD (M .sides) f 0))
-  unfolding refinedPoint sidesOf
-  refined-is axis c e = rw e
+  pub face-sizes : (axis : ℕ) → axis < 3 → (total : ℤ) → total ≡ faceSum M axis f → Face total (getD (M .sides) f 0)
+  face-sizes axis a total e = record { least = R .faces .least f l; most = R .faces .most f l; total-size = rw e (face-sum-size axis a) }
 
-  -- from the values that the code has of a corner: their sizes, and the refined point
-  module _ (start c p q axis : ℕ) (e : start ≡ startOf (M .sides) f) (a : start ≤ c) (b : c < start + getD (M .sides) f 0) (ep : p ≡ previous
-      (M .sides) c) (eq : q ≡ next (M .sides) c)
-      (ax : axis < 3) (T B H A : ℤ) (eT : T ≡ faceSum M axis f) (eB : B ≡ ticks M axis p) (eH : H
-      ≡ ticks M axis c) (eA : A ≡ ticks M axis q) where
+  -- ---- a corner of the face
+  module _ (c : ℕ) (a : startOf (M .sides) f ≤ c) (b : c < startOf (M .sides) (f + 1)) where
     inside : c < sumOf (M .sides)
-    inside = omega (arith, end-in, R .sums)
+    inside = omega (arith, start-next (M .sides) f l, end-in, R .sums)
 
-    size-at : (d : ℕ) → d < sumOf (M .sides) → natAbs (ticks M axis d) ≤ 2 ^ 24
-    size-at d h = ticks-size (M .coordinates) (M .corners) (R .placed) axis d ax (omega (arith, R .sums)) (M .sides)
+    pub here-in : c < cornerCount M
+    here-in = omega (arith, inside, R .sums)
 
-    pub point-sizes : Ticks T B H A (getD (M .sides) f 0)
-    point-sizes =
-        record {
-          least = R .faces .least f l;
-          most = R .faces .most f l;
-          total-size = rw eT (face-sum-size axis ax);
-          before-size = rw (eB, ep) (size-at (previous (M .sides) c) (previous-below (M .sides) c inside));
-          here-size = rw eH (size-at c inside);
-          after-size = rw (eA, eq) (size-at (next (M .sides) c) (next-below (M .sides) c inside));
-        }
+    pub before-in : (p : ℕ) → p ≡ previous (M .sides) c → p < cornerCount M
+    before-in p e = omega (arith, previous-below (M .sides) c inside, R .sums)
 
-    pub point-is : round (eightfold T B H A (getD (M .sides) f 0)) (pos 8 *ℤ pos (getD (M .sides) f 0)) ≡ refinedPoint rounded M axis c
-    point-is = rw (eT, eB, eH, eA, ep, eq) (sym (refined-is axis c (face-at (M .sides) f c (omega arith) (omega arith) l)))
+    pub after-in : (q : ℕ) → q ≡ next (M .sides) c → q < cornerCount M
+    after-in q e = omega (arith, next-below (M .sides) c inside, R .sums)
+
+    its-face : faceOf (M .sides) c ≡ f
+    its-face = face-at (M .sides) f c a (omega (arith, start-next (M .sides) f l)) l
+
+    mean-is : (axis : ℕ) (w : Weights) → Weighted (M .sharpness) c w → refinedPoint rounded M axis c ≡ mean w (faceSum M axis f) (ticks M axis
+        (previous (M .sides) c)) (ticks M axis c) (ticks M axis (next (M .sides) c)) (getD (M .sides) f 0)
+    unfolding refinedPoint sidesOf uOf vOf
+    mean-is axis w h = rw (h .face, h .before, h .here, h .after, its-face)
+
+    -- from the values that the code has of it: the refined point, and its size
+    pub point-is : (axis p q : ℕ) (w : Weights) (total r : ℤ) → axis < 3 → Weighted (M .sharpness) c w → p ≡ previous (M .sides) c → q ≡ next (M .sides) c
+        → total ≡ faceSum M axis f → r ≡ mean w total (ticks M axis p) (ticks M axis c) (ticks M axis q) (getD (M .sides) f 0)
+        → (r ≡ refinedPoint rounded M axis c) × (natAbs r ≤ 2 ^ 24)
+    point-is axis p q w total r x h ep eq et er =
+        let k = sizes w (balanced (M .sharpness) c w (pair-of M R c here-in) h) total (ticks M axis p) (ticks M axis c) (ticks M axis q) (getD (M .sides) f 0)
+        (record {
+          face = face-sizes axis x total et;
+          before-size = tick-at M R axis p x (before-in p ep);
+          here-size = tick-at M R axis c x here-in;
+          after-size = tick-at M R axis q x (after-in q eq);
+        }) in
+        (er ∙ rw (et, ep, eq) (sym (mean-is axis w h)), rw er (k .result))
 
 -- ---- tables: a new one
 pub small-zeros : {bound : ℕ} (n : ℕ) → Within bound (replicate n (pos 0))
@@ -217,50 +248,39 @@ module _ (width bound : ℕ) (value : ℕ → ℕ → ℤ) where
 pub added-none : (M : Mesh) (start end : ℕ) (points : List ℤ) → Small points → Added M 0 start end points points
 added-none M start end points = holds-none pointRow (2 ^ 24) (refinedPoint rounded M) _ points (λ axis c q. omega (arith, q .0))
 
-pub added-on-none : (M : Mesh) (k start : ℕ) (points : List ℤ) → Small points → AddedOn M k start start points points
-added-on-none M k start points = holds-none pointRow (2 ^ 24) (refinedPoint rounded M) _ points (λ axis c q. omega (arith, q .1, q .2))
+pub added-start : (M : Mesh) (k start : ℕ) (points : List ℤ) → Small points → Added M k start start points points
+added-start M k start points = holds-none pointRow (2 ^ 24) (refinedPoint rounded M) _ points (λ axis c q. omega (arith, q .1, q .2))
 
 -- no face yet
 pub pointed-none : (M : Mesh) (wanted : List ℕ) (points : List ℤ) → Small points → Pointed M wanted (startOf (M .sides) 0) points points
 pointed-none M wanted points = holds-none pointRow (2 ^ 24) (refinedPoint rounded M) _ points (λ axis c q. omega (arith, q .1, start-zero (M .sides)))
 
--- two corners, and two axes, have places of their own
-apart-corner : (axis k c end x d : ℕ) → (c < end) ⊎ (end < c) → axis ≡ k → x ≡ k → d ≡ end → pointRow * c + axis ≡ pointRow * d + x → ⊥
-apart-corner axis k c end x d o e f g q = ⊎-elim (λ m. omega arith) (λ m. omega arith) o
+-- one axis more of a corner, at its place
+pub added-axis : (M : Mesh) (k c at : ℕ) (old mid : List ℤ) (v : ℤ) → k < 3 → at ≡ pointRow * c + k → at < length mid
+    → (v ≡ refinedPoint rounded M k c) × (natAbs v ≤ 2 ^ 24) → Added M k c (c + 1) old mid → Added M (k + 1) c (c + 1) old (set mid at v)
+added-axis M k c at old mid v l q b e h =
+    rw q
+    (holds-more pointRow (2 ^ 24) (refinedPoint rounded M) _ _ _ old mid _
+    (λ axis d r. ⊎-elim
+    (λ (i : axis ≡ k). inl (i, omega (arith, r .1, r .2)))
+    (λ o. inr (
+      (⊎-elim (λ (m : axis < k). m) (λ (m : k < axis). absurd (omega (arith, r .0))) o, r .1, r .2),
+      λ x g p i. ⊎-elim (λ (m : axis < k). omega (arith, p .0, p .1)) (λ (m : k < axis). omega (arith, p .0, p .1, r .0)) o,
+    ))
+    (compared axis k))
+    (λ axis d p. (omega (arith, p .0), p .1, p .2)) (λ axis d p. (omega (arith, p .0), omega (arith, p .1), omega (arith, p .1)))
+    h (holds-one pointRow (2 ^ 24) (refinedPoint rounded M) k c mid v (omega arith) (e .0) (e .1) (h .small)))
 
-apart-axis : (axis k c x d : ℕ) → (axis < k) ⊎ (k < axis) → axis < 4 → k < 3 → x ≡ k → pointRow * c + axis ≡ pointRow * d + x → ⊥
-apart-axis axis k c x d o a b f q = ⊎-elim (λ m. omega arith) (λ m. omega arith) o
-
-module _ (M : Mesh) (k start : ℕ) (l : k < 3) where
-  -- one corner more on an axis
-  pub added-set : (end : ℕ) (old new : List ℤ) (v : ℤ) → AddedOn M k start end old new → start ≤ end → pointRow * end + k < length new
-      → v ≡ refinedPoint rounded M k end → natAbs v ≤ 2 ^ 24 → AddedOn M k start (end + 1) old (set new (pointRow * end + k) v)
-  added-set end old new v h a b e s =
-      holds-more pointRow (2 ^ 24) (refinedPoint rounded M) _ _ _ old new _
-      (λ axis c r. ⊎-elim
-      (λ (q : c ≡ end). inl (r .0, q))
-      (λ o. inr (
-        (r .0, r .1, ⊎-elim (λ (m : c < end). m) (λ (m : end < c). absurd (omega (arith, r .2))) o),
-        λ x d p q. apart-corner axis k c end x
-            d o (r .0) (p .0) (p .1) q,
-      ))
-      (compared c end))
-      (λ axis c p. (p .0, p .1, omega (arith, p .2))) (λ axis c p. (p .0, omega (arith, p .1), omega (arith, p .1)))
-      h (holds-one pointRow (2 ^ 24) (refinedPoint rounded M) k end new v b e s (h .small))
-
-  -- one axis more
-  pub added-axis : (end : ℕ) (old mid new : List ℤ) → Added M k start end old mid → AddedOn M k start end mid new → Added M (k + 1) start end old new
-  added-axis end old mid new =
-      holds-more pointRow (2 ^ 24) (refinedPoint rounded M) _ _ _ old mid new
-      (λ axis c r. ⊎-elim
-      (λ (q : axis ≡ k). inl (q, r .1, r .2))
-      (λ o. inr (
-        (⊎-elim (λ (m : axis < k). m) (λ (m : k < axis). absurd (omega (arith, r .0))) o, r .1, r .2),
-        λ x d p q. apart-axis axis k c x d o
-            (omega (arith, r .0)) l (p .0) q,
-      ))
-      (compared axis k))
-      (λ axis c p. (omega (arith, p .0), p .1, p .2)) (λ axis c p. (omega (arith, p .0), p .1, p .2))
+-- one corner more
+pub added-corner : (M : Mesh) (start c : ℕ) (old mid new : List ℤ) → start ≤ c → Added M 3 start c old mid → Added M 3 c (c + 1) mid new
+    → Added M 3 start (c + 1) old new
+added-corner M start c old mid new l =
+    holds-more pointRow (2 ^ 24) (refinedPoint rounded M) _ _ _ old mid new
+    (λ axis d r. ⊎-elim
+    (λ b. let m = ltb-true d c b in inr ((r .0, r .1, m), λ x g p q. omega (arith, r .0, p .0, p .1)))
+    (λ b. inl (r .0, ltb-false d c b, r .2))
+    (ways (ltb d c)))
+    (λ axis d p. (p .0, p .1, omega (arith, p .2))) (λ axis d p. (p .0, omega (arith, p .1), p .2))
 
 -- one face more: one that is wanted, and one that is not
 module _ (M : Mesh) (wanted : List ℕ) (f : ℕ) (l : f < faceCount M) where
@@ -364,3 +384,27 @@ module _ (M : Mesh) (wanted : List ℕ) (f : ℕ) where
 -- what the loop over corners takes from the table
 pub sums-of : (M : Mesh) (wanted : List ℕ) (old new : List ℤ) → SumRoom (M .sides) old → Summed M wanted (faceCount M) old new → SumsAre M wanted new
 sums-of M wanted old new r s = λ g l w. record { long = omega (arith, r .0, s .same); sums-are = λ axis a. s .entries-are axis g (a, l, w) }
+
+-- ---- sums do not depend on sharpness: they are formed for the mesh with 8 and 8 throughout
+abbrev pub softened : Mesh → Mesh
+softened M = plainMesh (M .coordinates) (M .sides) (M .corners)
+
+throughout : {A : Type 0} (n i : ℕ) (x : A) → getD (replicate n x) i x ≡ x
+throughout zero i x = refl
+throughout (suc n) zero x = refl
+throughout (suc n) (suc i) x = throughout n i x
+
+pub soft-refinable : (M : Mesh) → Refinable M → Refinable (softened M)
+soft-refinable M R = record {
+  faces = R .faces;
+  sums = R .sums;
+  placed = R .placed;
+  sharp = record {
+    pairs = omega (arith, length-replicate {A = ℕ} (2 * cornerCount M) plain);
+    sixteenths = λ i. rw (throughout (2 * cornerCount M) i plain) (lit≤ tt);
+  };
+}
+
+pub sums-soft : (M : Mesh) (wanted : List ℕ) (sums : List ℤ) → SumsAre (softened M) wanted sums → SumsAre M wanted sums
+unfolding faceSum ticks
+sums-soft M wanted sums h = λ f l w. record { long = h f l w .long; sums-are = λ axis a. h f l w .sums-are axis a }

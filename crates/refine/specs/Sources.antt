@@ -5,7 +5,7 @@ use mathlib.Core.List.{List}
 use Prim.Native.Nat.{ℕ, _+_, _*_, _^_, _<_, _≤_, _/_}
 use lib.ListN.{length, getD}
 use lib.IntN.{ℤ, pos, natAbs}
-use Rattle.paper.specs.Mesh.{leastSides, mostSides, mostCoordinate, Mesh, faceCount, cornerCount}
+use Rattle.paper.specs.Mesh.{leastSides, mostSides, mostCoordinate, mostSharpness, plain, Mesh, faceCount, cornerCount}
 use Rattle.paper.specs.Corners.{sumOf, faceOf}
 use Rattle.paper.specs.Numbers.{rounded}
 use Rattle.paper.specs.Refined.{faceSum, refinedPoint}
@@ -18,17 +18,26 @@ pub record Placed (coordinates : List ℤ) (corners : List ℕ) : Type 0 where
   pub named : Named corners (length coordinates / 3)
   pub within : (i : ℕ) → i < length coordinates → natAbs (getD coordinates i (pos 0)) ≤ mostCoordinate
 
+-- two sharpness numbers for each corner, within their limits
+pub record Sharp (sharpness : List ℕ) (corners : ℕ) : Type 0 where
+  pub pairs : 2 * corners ≤ length sharpness
+  pub sixteenths : (i : ℕ) → getD sharpness i plain ≤ mostSharpness
+
 -- what refined points are computed from
 pub record Refinable (M : Mesh) : Type 0 where
   pub faces : Faces (M .sides)
   pub sums : sumOf (M .sides) ≡ cornerCount M
   pub placed : Placed (M .coordinates) (M .corners)
+  pub sharp : Sharp (M .sharpness) (cornerCount M)
 
 -- the sizes of what one refined point is computed from: ticks within 2^24, and as many of them in the sum as the face has sides
-pub record Ticks (total before here after : ℤ) (n : ℕ) : Type 0 where
+pub record Face (total : ℤ) (n : ℕ) : Type 0 where
   pub least : leastSides ≤ n
   pub most : n ≤ mostSides
   pub total-size : natAbs total ≤ n * 2 ^ 24
+
+pub record Ticks (total before here after : ℤ) (n : ℕ) : Type 0 where
+  pub face : Face total n
   pub before-size : natAbs before ≤ 2 ^ 24
   pub here-size : natAbs here ≤ 2 ^ 24
   pub after-size : natAbs after ≤ 2 ^ 24
@@ -59,12 +68,9 @@ HoldsPoints M = Holds pointRow (2 ^ 24) (refinedPoint rounded M)
 abbrev pub Pointed : Mesh → List ℕ → ℕ → List ℤ → List ℤ → Type 0
 Pointed M wanted n = HoldsPoints M (λ axis c. (axis < 3) × (c < n) × (0 < getD wanted (faceOf (M .sides) c) 0))
 
--- those of the corners from `start` to before `end`: on the axes below k, and on one
+-- those of the corners from `start` to before `end`, on the axes below k
 abbrev pub Added : Mesh → ℕ → ℕ → ℕ → List ℤ → List ℤ → Type 0
 Added M k start end = HoldsPoints M (λ axis c. (axis < k) × (start ≤ c) × (c < end))
-
-abbrev pub AddedOn : Mesh → ℕ → ℕ → ℕ → List ℤ → List ℤ → Type 0
-AddedOn M k start end = HoldsPoints M (λ axis c. (axis ≡ k) × (start ≤ c) × (c < end))
 
 -- ---- the table of sums, with a row for each face
 abbrev pub sumRow : ℕ

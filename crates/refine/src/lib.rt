@@ -3,6 +3,7 @@
 use mesh::SMALL_MESH;
 use numbers::rounding::round_div;
 use paper::MOST_CORNERS;
+use paper::SHARPNESS_PER_CORNER;
 use paper::TICKS_PER_STEP;
 use surface::POINT_ROW;
 use walk::Walker;
@@ -10,33 +11,50 @@ ghost use mathlib.Core.Path.{_≡_};
 ghost use mathlib.Core.List.{List};
 ghost use Prim.Native.Nat.{ℕ, _+_, _*_, _^_, _≤_, _<_};
 ghost use lib.ListN.{length};
-ghost use lib.IntN.{pos, natAbs, _+ℤ_, _*ℤ_};
-ghost use Rattle.paper.specs.Mesh.{mostSides, meshOf};
+ghost use lib.IntN.{pos, natAbs, _*ℤ_};
+ghost use Rattle.paper.specs.Mesh.{mostSides, meshOf, plainMesh};
 ghost use Rattle.paper.specs.Corners.{sumOf, startOf};
 ghost use Rattle.paper.specs.Numbers.{sum, round};
 ghost use Rattle.paper.specs.Refined.{ticks, cornersOf};
 ghost use Rattle.surface.specs.Points.{pointRow};
 ghost use Rattle.walk.specs.Table.{Tabled};
-ghost use Rattle.refine.specs.Sources.{Placed, Refinable, Ticks, Small, Pointed, Added, AddedOn, SumRoom, Summed, SummedFace, SummedOn, SumsOf, SumsAre};
+ghost use Rattle.refine.specs.Sources.{Placed, Refinable, Face, Ticks, Small, Pointed, Added, SumRoom, Summed, SummedFace, SummedOn, SumsOf, SumsAre};
+ghost use Rattle.refine.specs.Mean.{Pair, Weighted, Balanced, mean, MeanOf};
 
 // The numbers in a row of the table of sums, which has a row for each face. A face has at least three corners, so there are no more sums than
 // corners.
 const SUM_ROW: usize = 3;
+
+// A corner with the previous and the next corner of its face.
+struct Around {
+    before: usize,
+    here: usize,
+    after: usize,
+}
+
+// What Σ and the vertices of the three corners are multiplied with; the four sum to 512.
+struct Weights {
+    face: u16,
+    before: u16,
+    here: u16,
+    after: u16,
+}
 
 // The refined points of the corners whose face has a nonzero entry in `wanted`.
 pub fn fill_points(
     coordinates: &[i32],
     sides: &[u8],
     corners: &[u16],
+    sharpness: &[u8],
     table: &[u16],
     wanted: &[u8],
     points: &mut [i32],
 )
-    requires mesh { ⌜ Refinable (meshOf (now coordinates) (now sides) (now corners)) ⌝ }
-    requires table { ⌜ Tabled (cornersOf (meshOf (now coordinates) (now sides) (now corners))) (now table) ⌝ }
+    requires mesh { ⌜ Refinable (meshOf (now coordinates) (now sides) (now corners) (now sharpness)) ⌝ }
+    requires table { ⌜ Tabled (cornersOf (meshOf (now coordinates) (now sides) (now corners) (now sharpness))) (now table) ⌝ }
     requires wanted { ⌜ length (now sides) ≤ length (now wanted) ⌝ }
     requires points { ⌜ (pointRow * length (now corners) ≤ length (now points)) × Small (now points) ⌝ }
-    ensures { λ _. ⌜ Pointed (meshOf (now (coordinates .entry)) (now (sides .entry)) (now (corners .entry))) (now (wanted .entry)) (length (now (corners .entry))) (now (points .entry)) (now (points .exit)) ⌝ }
+    ensures { λ _. ⌜ Pointed (meshOf (now (coordinates .entry)) (now (sides .entry)) (now (corners .entry)) (now (sharpness .entry))) (now (wanted .entry)) (length (now (corners .entry))) (now (points .entry)) (now (points .exit)) ⌝ }
 {
     if SUM_ROW * sides.len() <= SMALL_MESH {
         let mut sums = [0i32; SMALL_MESH];
@@ -44,6 +62,7 @@ pub fn fill_points(
             coordinates,
             sides,
             corners,
+            sharpness,
             table,
             wanted,
             &mut sums,
@@ -55,6 +74,7 @@ pub fn fill_points(
             coordinates,
             sides,
             corners,
+            sharpness,
             table,
             wanted,
             &mut sums,
@@ -68,28 +88,39 @@ fn fill_over(
     coordinates: &[i32],
     sides: &[u8],
     corners: &[u16],
+    sharpness: &[u8],
     table: &[u16],
     wanted: &[u8],
     sums: &mut [i32],
     points: &mut [i32],
 )
-    requires mesh { ⌜ Refinable (meshOf (now coordinates) (now sides) (now corners)) ⌝ }
-    requires table { ⌜ Tabled (cornersOf (meshOf (now coordinates) (now sides) (now corners))) (now table) ⌝ }
+    requires mesh { ⌜ Refinable (meshOf (now coordinates) (now sides) (now corners) (now sharpness)) ⌝ }
+    requires table { ⌜ Tabled (cornersOf (meshOf (now coordinates) (now sides) (now corners) (now sharpness))) (now table) ⌝ }
     requires wanted { ⌜ length (now sides) ≤ length (now wanted) ⌝ }
     requires sums { ⌜ SumRoom (now sides) (now sums) ⌝ }
     requires points { ⌜ (pointRow * length (now corners) ≤ length (now points)) × Small (now points) ⌝ }
-    ensures { λ _. ⌜ Pointed (meshOf (now (coordinates .entry)) (now (sides .entry)) (now (corners .entry))) (now (wanted .entry)) (length (now (corners .entry))) (now (points .entry)) (now (points .exit)) ⌝ }
+    ensures { λ _. ⌜ Pointed (meshOf (now (coordinates .entry)) (now (sides .entry)) (now (corners .entry)) (now (sharpness .entry))) (now (wanted .entry)) (length (now (corners .entry))) (now (points .entry)) (now (points .exit)) ⌝ }
 {
     fill_sums(coordinates, sides, corners, wanted, sums);
-    fill_faces(coordinates, sides, corners, table, wanted, sums, points);
+    fill_faces(
+        coordinates,
+        sides,
+        corners,
+        sharpness,
+        table,
+        wanted,
+        sums,
+        points,
+    );
 }
 
-// Σ of the faces that have a nonzero entry in `wanted`: a row for each, its sum on the three axes.
+// Σ of the faces that have a nonzero entry in `wanted`: a row for each, its sum on the three axes. Sums do not depend on sharpness, so they are
+// said of the mesh with 8 and 8 throughout.
 fn fill_sums(coordinates: &[i32], sides: &[u8], corners: &[u16], wanted: &[u8], sums: &mut [i32])
-    requires mesh { ⌜ Refinable (meshOf (now coordinates) (now sides) (now corners)) ⌝ }
+    requires mesh { ⌜ Refinable (plainMesh (now coordinates) (now sides) (now corners)) ⌝ }
     requires wanted { ⌜ length (now sides) ≤ length (now wanted) ⌝ }
     requires sums { ⌜ SumRoom (now sides) (now sums) ⌝ }
-    ensures { λ _. ⌜ Summed (meshOf (now (coordinates .entry)) (now (sides .entry)) (now (corners .entry))) (now (wanted .entry)) (length (now (sides .entry))) (now (sums .entry)) (now (sums .exit)) ⌝ }
+    ensures { λ _. ⌜ Summed (plainMesh (now (coordinates .entry)) (now (sides .entry)) (now (corners .entry))) (now (wanted .entry)) (length (now (sides .entry))) (now (sums .entry)) (now (sums .exit)) ⌝ }
 {
     let faces = sides.len();
     let mut start = 0;
@@ -112,10 +143,10 @@ fn sum_face(
     start: usize,
     sums: &mut [i32],
 )
-    requires mesh { ⌜ Refinable (meshOf (now coordinates) (now sides) (now corners)) ⌝ }
+    requires mesh { ⌜ Refinable (plainMesh (now coordinates) (now sides) (now corners)) ⌝ }
     requires face { ⌜ (f < length (now sides)) × (start ≡ startOf (now sides) f) ⌝ }
     requires sums { ⌜ SumRoom (now sides) (now sums) ⌝ }
-    ensures { λ _. ⌜ SummedFace (meshOf (now (coordinates .entry)) (now (sides .entry)) (now (corners .entry))) 3 f (now (sums .entry)) (now (sums .exit)) ⌝ }
+    ensures { λ _. ⌜ SummedFace (plainMesh (now (coordinates .entry)) (now (sides .entry)) (now (corners .entry))) 3 f (now (sums .entry)) (now (sums .exit)) ⌝ }
 {
     sum_axis(coordinates, sides, corners, 0, f, start, sums);
     sum_axis(coordinates, sides, corners, 1, f, start, sums);
@@ -132,10 +163,10 @@ fn sum_axis(
     start: usize,
     sums: &mut [i32],
 )
-    requires mesh { ⌜ Refinable (meshOf (now coordinates) (now sides) (now corners)) ⌝ }
+    requires mesh { ⌜ Refinable (plainMesh (now coordinates) (now sides) (now corners)) ⌝ }
     requires face { ⌜ (axis < 3) × (f < length (now sides)) × (start ≡ startOf (now sides) f) ⌝ }
     requires sums { ⌜ SumRoom (now sides) (now sums) ⌝ }
-    ensures { λ _. ⌜ SummedOn (meshOf (now (coordinates .entry)) (now (sides .entry)) (now (corners .entry))) axis f (now (sums .entry)) (now (sums .exit)) ⌝ }
+    ensures { λ _. ⌜ SummedOn (plainMesh (now (coordinates .entry)) (now (sides .entry)) (now (corners .entry))) axis f (now (sums .entry)) (now (sums .exit)) ⌝ }
 {
     let n = sides[f] as usize;
     sums[SUM_ROW * f + axis] = face_sum(coordinates, corners, axis, start, n);
@@ -145,7 +176,7 @@ fn sum_axis(
 fn face_sum(coordinates: &[i32], corners: &[u16], axis: usize, start: usize, n: usize) -> i32
     requires placed { ⌜ Placed (now coordinates) (now corners) ⌝ }
     requires face { ⌜ (axis < 3) × (start + n ≤ length (now corners)) × (n ≤ mostSides) ⌝ }
-    ensures { λ r. ⌜ ((sides : List ℕ) → r ≡ sum (λ j. ticks (meshOf (now (coordinates .entry)) sides (now (corners .entry))) axis (start + j)) n) ⌝ }
+    ensures { λ r. ⌜ ((sides sharpness : List ℕ) → r ≡ sum (λ j. ticks (meshOf (now (coordinates .entry)) sides (now (corners .entry)) sharpness) axis (start + j)) n) ⌝ }
 {
     let mut total: i64 = 0;
     let mut j = 0;
@@ -161,23 +192,34 @@ fn fill_faces(
     coordinates: &[i32],
     sides: &[u8],
     corners: &[u16],
+    sharpness: &[u8],
     table: &[u16],
     wanted: &[u8],
     sums: &[i32],
     points: &mut [i32],
 )
-    requires mesh { ⌜ Refinable (meshOf (now coordinates) (now sides) (now corners)) ⌝ }
-    requires table { ⌜ Tabled (cornersOf (meshOf (now coordinates) (now sides) (now corners))) (now table) ⌝ }
+    requires mesh { ⌜ Refinable (meshOf (now coordinates) (now sides) (now corners) (now sharpness)) ⌝ }
+    requires table { ⌜ Tabled (cornersOf (meshOf (now coordinates) (now sides) (now corners) (now sharpness))) (now table) ⌝ }
     requires wanted { ⌜ length (now sides) ≤ length (now wanted) ⌝ }
-    requires sums { ⌜ SumsAre (meshOf (now coordinates) (now sides) (now corners)) (now wanted) (now sums) ⌝ }
+    requires sums { ⌜ SumsAre (meshOf (now coordinates) (now sides) (now corners) (now sharpness)) (now wanted) (now sums) ⌝ }
     requires points { ⌜ (pointRow * length (now corners) ≤ length (now points)) × Small (now points) ⌝ }
-    ensures { λ _. ⌜ Pointed (meshOf (now (coordinates .entry)) (now (sides .entry)) (now (corners .entry))) (now (wanted .entry)) (length (now (corners .entry))) (now (points .entry)) (now (points .exit)) ⌝ }
+    ensures { λ _. ⌜ Pointed (meshOf (now (coordinates .entry)) (now (sides .entry)) (now (corners .entry)) (now (sharpness .entry))) (now (wanted .entry)) (length (now (corners .entry))) (now (points .entry)) (now (points .exit)) ⌝ }
 {
     let mut start = 0;
     let mut f = 0;
     while f < sides.len() {
         if wanted[f] != 0 {
-            fill_face(coordinates, sides, corners, table, sums, f, start, points);
+            fill_face(
+                coordinates,
+                sides,
+                corners,
+                sharpness,
+                table,
+                sums,
+                f,
+                start,
+                points,
+            );
         }
         start += sides[f] as usize;
         f += 1;
@@ -189,111 +231,135 @@ fn fill_face(
     coordinates: &[i32],
     sides: &[u8],
     corners: &[u16],
+    sharpness: &[u8],
     table: &[u16],
     sums: &[i32],
     f: usize,
     start: usize,
     points: &mut [i32],
 )
-    requires mesh { ⌜ Refinable (meshOf (now coordinates) (now sides) (now corners)) ⌝ }
-    requires table { ⌜ Tabled (cornersOf (meshOf (now coordinates) (now sides) (now corners))) (now table) ⌝ }
+    requires mesh { ⌜ Refinable (meshOf (now coordinates) (now sides) (now corners) (now sharpness)) ⌝ }
+    requires table { ⌜ Tabled (cornersOf (meshOf (now coordinates) (now sides) (now corners) (now sharpness))) (now table) ⌝ }
     requires face { ⌜ (f < length (now sides)) × (start ≡ startOf (now sides) f) ⌝ }
-    requires sums { ⌜ SumsOf (meshOf (now coordinates) (now sides) (now corners)) f (now sums) ⌝ }
+    requires sums { ⌜ SumsOf (meshOf (now coordinates) (now sides) (now corners) (now sharpness)) f (now sums) ⌝ }
     requires points { ⌜ (pointRow * length (now corners) ≤ length (now points)) × Small (now points) ⌝ }
-    ensures { λ _. ⌜ Added (meshOf (now (coordinates .entry)) (now (sides .entry)) (now (corners .entry))) 3 start (startOf (now (sides .entry)) (f + 1)) (now (points .entry)) (now (points .exit)) ⌝ }
+    ensures { λ _. ⌜ Added (meshOf (now (coordinates .entry)) (now (sides .entry)) (now (corners .entry)) (now (sharpness .entry))) 3 start (startOf (now (sides .entry)) (f + 1)) (now (points .entry)) (now (points .exit)) ⌝ }
 {
-    fill_axis(
-        coordinates,
-        sides,
-        corners,
-        table,
-        sums,
-        0,
-        f,
-        start,
-        points,
-    );
-    fill_axis(
-        coordinates,
-        sides,
-        corners,
-        table,
-        sums,
-        1,
-        f,
-        start,
-        points,
-    );
-    fill_axis(
-        coordinates,
-        sides,
-        corners,
-        table,
-        sums,
-        2,
-        f,
-        start,
-        points,
-    );
+    let end = start + sides[f] as usize;
+    let mut c = start;
+    while c < end {
+        fill_corner(
+            coordinates,
+            sides,
+            corners,
+            sharpness,
+            table,
+            sums,
+            f,
+            c,
+            points,
+        );
+        c += 1;
+    }
 }
 
-// The same on one axis.
-fn fill_axis(
+// The refined point of one corner, of face f, on the three axes.
+fn fill_corner(
     coordinates: &[i32],
     sides: &[u8],
     corners: &[u16],
+    sharpness: &[u8],
     table: &[u16],
     sums: &[i32],
-    axis: usize,
     f: usize,
-    start: usize,
+    c: usize,
     points: &mut [i32],
 )
-    requires mesh { ⌜ Refinable (meshOf (now coordinates) (now sides) (now corners)) ⌝ }
-    requires table { ⌜ Tabled (cornersOf (meshOf (now coordinates) (now sides) (now corners))) (now table) ⌝ }
-    requires face { ⌜ (axis < 3) × (f < length (now sides)) × (start ≡ startOf (now sides) f) ⌝ }
-    requires sums { ⌜ SumsOf (meshOf (now coordinates) (now sides) (now corners)) f (now sums) ⌝ }
+    requires mesh { ⌜ Refinable (meshOf (now coordinates) (now sides) (now corners) (now sharpness)) ⌝ }
+    requires table { ⌜ Tabled (cornersOf (meshOf (now coordinates) (now sides) (now corners) (now sharpness))) (now table) ⌝ }
+    requires corner { ⌜ (f < length (now sides)) × (startOf (now sides) f ≤ c) × (c < startOf (now sides) (f + 1)) ⌝ }
+    requires sums { ⌜ SumsOf (meshOf (now coordinates) (now sides) (now corners) (now sharpness)) f (now sums) ⌝ }
     requires points { ⌜ (pointRow * length (now corners) ≤ length (now points)) × Small (now points) ⌝ }
-    ensures { λ _. ⌜ AddedOn (meshOf (now (coordinates .entry)) (now (sides .entry)) (now (corners .entry))) axis start (startOf (now (sides .entry)) (f + 1)) (now (points .entry)) (now (points .exit)) ⌝ }
+    ensures { λ _. ⌜ Added (meshOf (now (coordinates .entry)) (now (sides .entry)) (now (corners .entry)) (now (sharpness .entry))) 3 c (c + 1) (now (points .entry)) (now (points .exit)) ⌝ }
 {
     let n = sides[f];
-    let end = start + n as usize;
-    let total = sums[SUM_ROW * f + axis] as i64;
-    let mut c = start;
-    while c < end {
-        let at = Walker { corner: c };
-        let p = at.previous(table);
-        let q = at.next(table);
-        let before = tick(coordinates, corners, axis, p.corner);
-        let here = tick(coordinates, corners, axis, c);
-        let after = tick(coordinates, corners, axis, q.corner);
-        points[POINT_ROW * c + axis] = refined(total, before, here, after, n);
-        c += 1;
+    let at = Walker { corner: c };
+    let p = at.previous(table);
+    let q = at.next(table);
+    let w = weigh(sharpness, c);
+    let around = Around {
+        before: p.corner,
+        here: c,
+        after: q.corner,
+    };
+    let x = sums[SUM_ROW * f];
+    points[POINT_ROW * c] = on_axis(coordinates, corners, 0, around, w, x, n);
+    let y = sums[SUM_ROW * f + 1];
+    points[POINT_ROW * c + 1] = on_axis(coordinates, corners, 1, around, w, y, n);
+    let z = sums[SUM_ROW * f + 2];
+    points[POINT_ROW * c + 2] = on_axis(coordinates, corners, 2, around, w, z, n);
+}
+
+// The weights of a corner, by its sharpness.
+fn weigh(sharpness: &[u8], c: usize) -> Weights
+    requires { ⌜ Pair (now sharpness) c ⌝ }
+    ensures { λ r. ⌜ Weighted (now (sharpness .entry)) c r ⌝ }
+{
+    let u = sharpness[SHARPNESS_PER_CORNER * c] as u16;
+    let v = sharpness[SHARPNESS_PER_CORNER * c + 1] as u16;
+    let to_u = 16 - u;
+    let to_v = 16 - v;
+    Weights {
+        face: 2 * to_u * to_v,
+        before: to_u * v,
+        here: 16 * (u + v),
+        after: u * to_v,
     }
+}
+
+// V on one axis, with Σ.
+fn on_axis(
+    coordinates: &[i32],
+    corners: &[u16],
+    axis: usize,
+    around: Around,
+    w: Weights,
+    total: i32,
+    n: u8,
+) -> i32
+    requires placed { ⌜ Placed (now coordinates) (now corners) ⌝ }
+    requires corners { ⌜ (axis < 3) × (around .before < length (now corners)) × (around .here < length (now corners)) × (around .after < length (now corners)) ⌝ }
+    requires face { ⌜ Face total n × Balanced w ⌝ }
+    ensures { λ r. ⌜ MeanOf (now (coordinates .entry)) (now (corners .entry)) axis around w total n r ⌝ }
+{
+    let before = tick(coordinates, corners, axis, around.before);
+    let here = tick(coordinates, corners, axis, around.here);
+    let after = tick(coordinates, corners, axis, around.after);
+    refined(w, total as i64, before, here, after, n)
 }
 
 // P: the vertex of a corner on an axis, in ticks.
 fn tick(coordinates: &[i32], corners: &[u16], axis: usize, c: usize) -> i64
     requires placed { ⌜ Placed (now coordinates) (now corners) ⌝ }
     requires corner { ⌜ (axis < 3) × (c < length (now corners)) ⌝ }
-    ensures { λ r. ⌜ ((sides : List ℕ) → r ≡ ticks (meshOf (now (coordinates .entry)) sides (now (corners .entry))) axis c) ⌝ }
+    ensures { λ r. ⌜ ((sides sharpness : List ℕ) → r ≡ ticks (meshOf (now (coordinates .entry)) sides (now (corners .entry)) sharpness) axis c) ⌝ }
 {
     let v = corners[c] as usize;
     TICKS_PER_STEP * coordinates[3 * v + axis] as i64
 }
 
-// r(t / 8n).
+// r(t / 512n).
 fn quotient(t: i64, n: u8) -> i64
     requires { ⌜ (1 ≤ n) × (natAbs t ≤ 2 ^ 60) ⌝ }
-    ensures { λ r. ⌜ r ≡ round t (pos 8 *ℤ pos n) ⌝ }
+    ensures { λ r. ⌜ r ≡ round t (pos 512 *ℤ pos n) ⌝ }
 {
-    round_div(t, 8 * n as i64)
+    round_div(t, 512 * n as i64)
 }
 
 // The same, with the side counts of a mesh written out, so that the compiler sees their divisors.
 fn divide(t: i64, n: u8) -> i64
     requires { ⌜ (1 ≤ n) × (natAbs t ≤ 2 ^ 60) ⌝ }
-    ensures { λ r. ⌜ r ≡ round t (pos 8 *ℤ pos n) ⌝ }
+    ensures { λ r. ⌜ r ≡ round t (pos 512 *ℤ pos n) ⌝ }
 {
     match n {
         3 => quotient(t, 3),
@@ -314,11 +380,13 @@ fn divide(t: i64, n: u8) -> i64
     }
 }
 
-// V from Σ, the vertices of the previous corner, of the corner and of the next, and the sides of the face.
-fn refined(total: i64, before: i64, here: i64, after: i64, n: u8) -> i32
-    requires { ⌜ Ticks total before here after n ⌝ }
-    ensures { λ r. ⌜ r ≡ round (pos 2 *ℤ total +ℤ pos n *ℤ (before +ℤ pos 4 *ℤ here +ℤ after)) (pos 8 *ℤ pos n) ⌝ }
+// V from Σ, the vertices of the previous corner, of the corner and of the next, with their weights, and the sides of the face.
+fn refined(w: Weights, total: i64, before: i64, here: i64, after: i64, n: u8) -> i32
+    requires { ⌜ Ticks total before here after n × Balanced w ⌝ }
+    ensures { λ r. ⌜ r ≡ mean w total before here after n ⌝ }
 {
-    let t = 2 * total + n as i64 * (before + 4 * here + after);
+    let sum = w.face as i64 * total;
+    let three = w.before as i64 * before + w.here as i64 * here + w.after as i64 * after;
+    let t = sum + n as i64 * three;
     divide(t, n) as i32
 }

@@ -36,7 +36,15 @@ fn print_file(bytes: &[u8], counted: usize) {
     let mut coordinates = [0i32; 3 * MOST_VERTICES];
     let mut sides = [0u8; MOST_FACES];
     let mut corners = [0u16; MOST_CORNERS];
-    let d = dms::decode(bytes, counted, &mut coordinates, &mut sides, &mut corners);
+    let mut sharpness = [0u8; 2 * MOST_CORNERS];
+    let d = dms::decode(
+        bytes,
+        counted,
+        &mut coordinates,
+        &mut sides,
+        &mut corners,
+        &mut sharpness,
+    );
     let answer = d.answer;
     if let Answer::Refused(number, place) = answer {
         say_refusal(number, place);
@@ -45,12 +53,18 @@ fn print_file(bytes: &[u8], counted: usize) {
     let numbers = least(d.coordinates, 3 * MOST_VERTICES);
     let faces = least(d.sides, MOST_FACES);
     let count = least(d.corners, MOST_CORNERS);
-    print_mesh(&coordinates[..numbers], &sides[..faces], &corners[..count]);
+    let pairs = least(d.sharpness, 2 * MOST_CORNERS);
+    print_mesh(
+        &coordinates[..numbers],
+        &sides[..faces],
+        &corners[..count],
+        &sharpness[..pairs],
+    );
 }
 
 // The answer for a mesh.
-fn print_mesh(coordinates: &[i32], sides: &[u8], corners: &[u16]) {
-    let found = irregular::search(coordinates, sides, corners);
+fn print_mesh(coordinates: &[i32], sides: &[u8], corners: &[u16], sharpness: &[u8]) {
+    let found = irregular::search(coordinates, sides, corners, sharpness);
     match found {
         Irregular::Face(face, read) => print_found(b"face ", face, read),
         Irregular::Vertex(vertex, read) => print_found(b"vertex ", vertex, read),

@@ -1,10 +1,11 @@
 -- The refined point of a corner is a rounded mean of vertices, so it stays within their size: 2^24 ticks.
 -- The corners of an accepted mesh then have all laws of `Sound`: the absence of faults gives them (mesh: `manifold`).
 -- Assumes nothing.
-use mathlib.Core.Path.{_≡_, refl}
+use mathlib.Core.Path.{_≡_, refl, ap}
 use mathlib.Core.Bool.{Bool, true, false, _||_, true≢false}
 use mathlib.Core.Logic.{⊎-elim}
 use Prim.Native.Nat.{ℕ, _+_, _-_, _*_, _^_, _<_, _≤_}
+use native.Mathlib.Nat.{le-trans}
 use native.Mathlib.Omega.{arith}
 use borrow.Author.Tests.{ltb-true, ltb-false}
 use lib.Dec.{ltb}
@@ -13,22 +14,21 @@ use lib.IntN.{ℤ, pos, negsuc, _+ℤ_, _*ℤ_, natAbs}
 use lib.Signed.{ltZ, _<ℤ_}
 use Rattle.integers.proofs.Diff.{as-diff, diff}
 use Rattle.integers.proofs.Poly.{over, poly}
-use Rattle.integers.proofs.Laws.{nonneg, abs-mul-le}
+use Rattle.integers.proofs.Laws.{abs-mul-le, abs-add-le}
 use Rattle.integers.proofs.Sum.{sum-abs}
 use Rattle.paper.specs.Mesh.{mostCoordinate, Mesh}
 use Rattle.paper.specs.Corners.{startOf, faceOf, sidesOf, next, previous}
 use Rattle.paper.specs.Links.{vertexOf}
 use Rattle.paper.specs.Faults.{fault7, Accepted}
 use Rattle.paper.specs.Numbers.{round, rounded}
-use Rattle.paper.specs.Refined.{ticks, faceSum, refinedPoint, cornersOf, refinedOf}
+use Rattle.paper.specs.Refined.{ticks, faceSum, uOf, vOf, refinedPoint, cornersOf, refinedOf}
 use Rattle.numbers.specs.Near.{Near}
 use Rattle.numbers.proofs.Nearest.{round-near}
 use Rattle.mesh.proofs.Scans.{ways}
-use Rattle.mesh.proofs.Accepted.{sound-of}
+use Rattle.mesh.proofs.Accepted.{sound-of, sharp-within}
 use Rattle.mesh.proofs.Theorems.{manifold}
 use Rattle.surface.specs.Sound.{Sound, Small}
-use Rattle.surface.proofs.Within.{Within, within-times, within-cancel, abs-within, positive}
-use Rattle.surface.proofs.Sizes.{halve}
+use Rattle.surface.proofs.Within.{Within, within-cancel, abs-within, positive}
 
 -- ---- a vertex in ticks
 within-limits : (z : ℤ) → ltZ z (negsuc (mostCoordinate - 1)) || ltZ (pos mostCoordinate) z ≡ false → natAbs z ≤ mostCoordinate
@@ -54,36 +54,53 @@ ticks-size M a axis c =
     let i : ℕ = 3 * vertexOf (M .corners) c + axis in
     abs-mul-le (pos 256) (getD (M .coordinates) i (pos 0)) 256 mostCoordinate (omega arith) (coordinate-size M a i)
 
--- ---- the refined point, from the sum s of n vertices and three of them
-six : (a b c : ℤ) → natAbs a ≤ 2 ^ 24 → natAbs b ≤ 2 ^ 24 → natAbs c ≤ 2 ^ 24 → Within (a +ℤ pos 4 *ℤ b +ℤ c) (pos (6 * 2 ^ 24))
-six = over 3 _ λ ρ. simp (poly, ρ) (omega arith)
+-- ---- the refined point, from the sum s of n vertices and three of them, with weights that sum to 512
+pub blend-size : (n a b c d : ℕ) (s x y z : ℤ) → a + b + c + d ≡ 512 → natAbs s ≤ n * 2 ^ 24 → natAbs x ≤ 2 ^ 24 → natAbs y ≤ 2 ^ 24 → natAbs z ≤ 2 ^ 24
+    → natAbs (pos a *ℤ s +ℤ pos n *ℤ (pos b *ℤ x +ℤ pos c *ℤ y +ℤ pos d *ℤ z)) ≤ n * (512 * 2 ^ 24)
+blend-size n a b c d s x y z h hs hx hy hz =
+    let t = abs-mul-le (pos a) s a (n * 2 ^ 24) (omega arith) hs in
+    let l = abs-mul-le (pos b) x b (2 ^ 24) (omega arith) hx in
+    let m = abs-mul-le (pos c) y c (2 ^ 24) (omega arith) hy in
+    let r = abs-mul-le (pos d) z d (2 ^ 24) (omega arith) hz in
+    let lm = abs-add-le (pos b *ℤ x) (pos c *ℤ y) _ _ l m in
+    let three = abs-add-le (pos b *ℤ x +ℤ pos c *ℤ y) (pos d *ℤ z) _ _ lm r in
+    let w = abs-mul-le (pos n) (pos b *ℤ x +ℤ pos c *ℤ y +ℤ pos d *ℤ z) n _ (omega arith) three in
+    le-trans (abs-add-le (pos a *ℤ s) (pos n *ℤ (pos b *ℤ x +ℤ pos c *ℤ y +ℤ pos d *ℤ z)) _ _ t w)
+    (omega (arith, ap (λ (k : ℕ). n * k) h))
 
-eighths : (M s a b c Q : ℤ) → Within s (M *ℤ pos (2 ^ 24)) → Within (M *ℤ (a +ℤ pos 4 *ℤ b +ℤ c)) (M *ℤ pos (6 * 2 ^ 24))
-    → Near (pos 2 *ℤ s +ℤ M *ℤ (a +ℤ pos 4 *ℤ b +ℤ c)) (pos 8 *ℤ M) Q → Within (M *ℤ (pos 2 *ℤ Q)) (M *ℤ pos (2 * 2 ^ 24 + 1))
-eighths = over 6 _ λ ρ. simp (poly, ρ) (omega arith)
+parts : (M P Q : ℤ) → Within P (M *ℤ pos (512 * 2 ^ 24)) → Near P (pos 512 *ℤ M) Q → Within (M *ℤ (pos 1024 *ℤ Q)) (M *ℤ pos (1024 * 2 ^ 24 + 512))
+parts = over 3 _ λ ρ. simp (poly, ρ) (omega arith)
 
-some : (m : ℕ) → 0 < m → pos 0 <ℤ (pos 8 *ℤ pos m)
+whole : (Q : ℤ) → Within (pos 1024 *ℤ Q) (pos (1024 * 2 ^ 24 + 512)) → natAbs Q ≤ 2 ^ 24
+whole = over 1 _ λ ρ. simp (poly, ρ) (omega arith)
+
+some : (m : ℕ) → 0 < m → pos 0 <ℤ (pos 512 *ℤ pos m)
 some m h = simp diff (omega arith)
 
-pub point-size : (n : ℕ) (s x y z : ℤ) → 0 < n → natAbs s ≤ n * 2 ^ 24 → natAbs x ≤ 2 ^ 24 → natAbs y ≤ 2 ^ 24 → natAbs z ≤ 2 ^ 24
-    → natAbs (round (pos 2 *ℤ s +ℤ pos n *ℤ (x +ℤ pos 4 *ℤ y +ℤ z)) (pos 8 *ℤ pos n)) ≤ 2 ^ 24
-point-size n s x y z h hs hx hy hz =
-    let q : ℤ = round (pos 2 *ℤ s +ℤ pos n *ℤ (x +ℤ pos 4 *ℤ y +ℤ z)) (pos 8 *ℤ pos n) in
-    halve q (within-cancel (pos n) (pos 2 *ℤ q) (pos (2 * 2 ^ 24 + 1)) (positive n h)
-    (eighths (pos n) s x y z q
-    (abs-within s n (2 ^ 24) hs)
-    (within-times (pos n) (x +ℤ pos 4 *ℤ y +ℤ z) (pos (6 * 2 ^ 24)) (nonneg n) (six x y z hx hy hz))
-    (round-near _ _ (some n h))))
+pub mean-size : (n : ℕ) (t : ℤ) → 0 < n → natAbs t ≤ n * (512 * 2 ^ 24) → natAbs (round t (pos 512 *ℤ pos n)) ≤ 2 ^ 24
+mean-size n t h l =
+    let q : ℤ = round t (pos 512 *ℤ pos n) in
+    whole q (within-cancel (pos n) (pos 1024 *ℤ q) (pos (1024 * 2 ^ 24 + 512)) (positive n h)
+    (parts (pos n) t q (abs-within t n (512 * 2 ^ 24) l) (round-near _ _ (some n h))))
+
+-- the weights of u and v
+pub weights-sum : (u v : ℕ) → u ≤ 16 → v ≤ 16 → 2 * (16 - u) * (16 - v) + (16 - u) * v + 16 * (u + v) + u * (16 - v) ≡ 512
+weights-sum u v hu hv =
+    parted (16 - u) u (16 - v) v (omega arith) (omega arith)
+  where
+    parted : (a u b v : ℕ) → a + u ≡ 16 → b + v ≡ 16 → 2 * a * b + a * v + 16 * (u + v) + u * b ≡ 512
+    parted a u b v ha hb = omega (arith, ap (λ (k : ℕ). a * k) hb, ap (λ (k : ℕ). k * b) ha, ha, hb)
 
 pub refined-size : (M : Mesh) → Accepted M → (axis c : ℕ) → 0 < sidesOf (M .sides) c → natAbs (refinedPoint rounded M axis c) ≤ 2 ^ 24
-unfolding refinedPoint faceSum sidesOf
+unfolding refinedPoint faceSum sidesOf uOf vOf
 refined-size M a axis c here =
     let start : ℕ = startOf (M .sides) (faceOf (M .sides) c) in
-    let before : ℤ = ticks M axis (previous (M .sides) c) in
-    let after : ℤ = ticks M axis (next (M .sides) c) in
-    point-size (sidesOf (M .sides) c) (faceSum M axis (faceOf (M .sides) c)) before (ticks M axis c) after here
-    (sum-abs (λ j. ticks M axis (start + j)) (sidesOf (M .sides) c) (2 ^ 24) (λ j l. ticks-size M a axis (start + j)))
-    (ticks-size M a axis (previous (M .sides) c)) (ticks-size M a axis c) (ticks-size M a axis (next (M .sides) c))
+    let n : ℕ = sidesOf (M .sides) c in
+    mean-size n _ here
+    (blend-size n _ _ _ _ (faceSum M axis (faceOf (M .sides) c)) (ticks M axis (previous (M .sides) c)) (ticks M axis c) (ticks M axis (next (M .sides) c))
+    (weights-sum (uOf M c) (vOf M c) (sharp-within M a (2 * c)) (sharp-within M a (2 * c + 1)))
+    (sum-abs (λ j. ticks M axis (start + j)) n (2 ^ 24) (λ j l. ticks-size M a axis (start + j)))
+    (ticks-size M a axis (previous (M .sides) c)) (ticks-size M a axis c) (ticks-size M a axis (next (M .sides) c)))
 
 -- ---- the laws of an accepted mesh, and the size of its refined points on any axis
 pub corners-sound : (M : Mesh) → Accepted M → Sound (cornersOf M)

@@ -7,6 +7,7 @@
 --     Plain       what each formula gives for numbers of a net's sizes
 --     Sizes       every value, every sum before a division and every written number
 --     Hull        the refined point's size; the corners of an accepted mesh have the laws of `Sound`
+--     Eights      with 8 and 8 throughout the refined points are those of 01
 --     Agree       corners that agree have the same nets
 --     Call        what a call of building that is not refused tells
 --     Near        the rings of a corner lie in the faces at its vertex
@@ -18,6 +19,7 @@ pub mod Roundings
 pub mod Plain
 pub mod Sizes
 pub mod Hull
+pub mod Eights
 pub mod Agree
 pub mod Near
 pub mod Call

@@ -22,22 +22,31 @@ pub fn write_nets(
     coordinates: &[i32],
     sides: &[u8],
     corners: &[u16],
+    sharpness: &[u8],
     table: &[u16],
     first: usize,
     count: usize,
     points: &mut [i32],
     out: &mut [i32],
 )
-    requires mesh { ⌜ Accepted (meshOf (now coordinates) (now sides) (now corners)) ⌝ }
-    requires table { ⌜ Tabled (cornersOf (meshOf (now coordinates) (now sides) (now corners))) (now table) ⌝ }
+    requires mesh { ⌜ Accepted (meshOf (now coordinates) (now sides) (now corners) (now sharpness)) ⌝ }
+    requires table { ⌜ Tabled (cornersOf (meshOf (now coordinates) (now sides) (now corners) (now sharpness))) (now table) ⌝ }
     requires range { ⌜ (0 < count) × (first + count ≤ length (now corners)) × (length (now out) ≡ perCorner * count) ⌝ }
     requires points { ⌜ (pointRow * length (now corners) ≤ length (now points)) × Small (now points) ⌝ }
-    ensures { λ _. ⌜ now (out .exit) ≡ nets (meshOf (now (coordinates .entry)) (now (sides .entry)) (now (corners .entry))) first count ⌝ }
+    ensures { λ _. ⌜ now (out .exit) ≡ nets (meshOf (now (coordinates .entry)) (now (sides .entry)) (now (corners .entry)) (now (sharpness .entry))) first count ⌝ }
 {
     let mut marked = [0u8; MOST_VERTICES];
     let mut wanted = [0u8; MOST_FACES];
     wanted::fill_wanted(sides, corners, first, count, &mut marked, &mut wanted);
-    refine::fill_points(coordinates, sides, corners, table, &wanted, points);
+    refine::fill_points(
+        coordinates,
+        sides,
+        corners,
+        sharpness,
+        table,
+        &wanted,
+        points,
+    );
     write_corners(points, table, corners.len(), first, count, out);
 }
 

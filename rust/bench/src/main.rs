@@ -2,14 +2,15 @@
 //!
 //!     cargo run --release --offline -p bench [SECONDS]
 //!
-//! Linking and building are given in nanoseconds per corner, a range of 64 corners in microseconds per call. Each figure
-//! is the least of many passes, with turns of three between the two; SECONDS (1 by default) is what one figure may take.
+//! Linking and building are given in nanoseconds per corner, a range of 64 corners in microseconds per call, with
+//! sharpness 8 and 8 throughout and at random. Each figure is the least of many passes, with turns of three between the
+//! two; SECONDS (1 by default) is what one figure may take.
 
 use std::time::{Duration, Instant};
 
 use mahunopi::{Mesh, NUMBERS_PER_CORNER};
 use reference::Lists;
-use shapes::{Places, Random, Solid, Tables};
+use shapes::{Places, Random, Sharpness, Solid, Tables};
 
 /// The corners of a range, where a mesh has as many.
 const RANGE: usize = 64;
@@ -95,9 +96,14 @@ struct Figures {
 }
 
 fn measure(name: &str, tables: Tables, budget: Duration) -> Figures {
-    let Tables { coordinates, sides, corners } = tables;
-    let mesh = Mesh::new(coordinates, sides, corners);
-    let lists = Lists { coordinates: &mesh.coordinates, sides: &mesh.sides, corners: &mesh.corners };
+    let Tables { coordinates, sides, corners, sharpness } = tables;
+    let mesh = Mesh::new(coordinates, sides, corners).with_sharpness(sharpness);
+    let lists = Lists {
+        coordinates: &mesh.coordinates,
+        sides: &mesh.sides,
+        corners: &mesh.corners,
+        sharpness: &mesh.sharpness,
+    };
     let count = mesh.corners.len();
     let accepted = "an accepted mesh";
 
@@ -133,31 +139,37 @@ fn main() {
     let prisms = (1..85).fold(Solid::prism(12), |all, _| all.with(Solid::prism(12)));
     let irregular = Solid::torus(20, 30).roughened(&mut random, 20_000, 8_000);
     use Numbers::{Drawn, Random as Shuffled};
+    use Sharpness::{Plain, Random as Sharp};
     let meshes = [
-        ("cube", Solid::cube(), Shuffled),
-        ("85 twelve-sided prisms", prisms, Shuffled),
-        ("mixed irregular mesh", irregular, Shuffled),
-        ("torus", Solid::torus(16, 16), Shuffled),
-        ("torus", Solid::torus(16, 32), Shuffled),
-        ("torus", Solid::torus(32, 32), Shuffled),
-        ("torus", Solid::torus(32, 64), Shuffled),
-        ("torus", Solid::torus(16, 16), Drawn),
-        ("torus", Solid::torus(32, 64), Drawn),
+        ("cube", Solid::cube(), Shuffled, Plain),
+        ("85 twelve-sided prisms", prisms.clone(), Shuffled, Plain),
+        ("mixed irregular mesh", irregular.clone(), Shuffled, Plain),
+        ("torus", Solid::torus(16, 16), Shuffled, Plain),
+        ("torus", Solid::torus(16, 32), Shuffled, Plain),
+        ("torus", Solid::torus(32, 32), Shuffled, Plain),
+        ("torus", Solid::torus(32, 64), Shuffled, Plain),
+        ("torus", Solid::torus(16, 16), Drawn, Plain),
+        ("torus", Solid::torus(32, 64), Drawn, Plain),
+        ("85 twelve-sided prisms", prisms, Shuffled, Sharp),
+        ("mixed irregular mesh", irregular, Shuffled, Sharp),
+        ("torus", Solid::torus(32, 64), Shuffled, Sharp),
     ];
     println!(
-        "| mesh | numbers | corners | linking, ns per corner | plain | ratio | building, ns per corner | plain | ratio \
+        "| mesh | numbers | sharpness | corners | linking, ns per corner | plain | ratio | building, ns per corner | plain | ratio \
               | range of {RANGE}, µs | plain | ratio | range over linking |"
     );
-    println!("|---|---|---|---|---|---|---|---|---|---|---|---|---|");
+    println!("|---|---|---|---|---|---|---|---|---|---|---|---|---|---|");
     let mut figures = Vec::new();
-    for (name, solid, numbers) in &meshes {
-        let found = measure(name, numbers.tables(solid), budget);
+    for (name, solid, numbers, sharpness) in &meshes {
+        let tables = numbers.tables(solid).sharpened(*sharpness, &mut Random::new(11));
+        let found = measure(name, tables, budget);
         let each = 1e9 / found.corners as f64;
         let Figures { link, build, range, .. } = found;
         println!(
-            "| {} | {} | {} | {:.1} | {:.1} | {:.2} | {:.0} | {:.0} | {:.2} | {:.1} | {:.1} | {:.2} | {:.2} |",
+            "| {} | {} | {} | {} | {:.1} | {:.1} | {:.2} | {:.0} | {:.0} | {:.2} | {:.1} | {:.1} | {:.2} | {:.2} |",
             name,
             numbers.word(),
+            if *sharpness == Plain { "8 and 8" } else { "random" },
             found.corners,
             each * link.library,
             each * link.reference,

@@ -2,7 +2,7 @@
 //! space, and demands the same answer and the same contents afterwards. What is left alone is checked too: the place
 //! when the library is done, the lengths after a refusal.
 
-use mahunopi::raw;
+use mahunopi::{raw, MeshRef};
 use reference::{Counts, FloatPoint, Irregular, Lengths, Lists, Refusal, LENT_TOO_SHORT, MOST};
 use shapes::{Random, Tables};
 
@@ -10,7 +10,26 @@ use shapes::{Random, Tables};
 const UNTOUCHED: u64 = 0xfeed_0000_0000_beef;
 
 pub fn lists(tables: &Tables) -> Lists<'_> {
-    Lists { coordinates: &tables.coordinates, sides: &tables.sides, corners: &tables.corners }
+    Lists {
+        coordinates: &tables.coordinates,
+        sides: &tables.sides,
+        corners: &tables.corners,
+        sharpness: &tables.sharpness,
+    }
+}
+
+/// The same lists for the wrapper.
+pub fn mesh(tables: &Tables) -> MeshRef<'_> {
+    MeshRef::new(&tables.coordinates, &tables.sides, &tables.corners).with_sharpness(&tables.sharpness)
+}
+
+/// A version that a file of these lists may have: 1 only where all sharpness is 8, and then once in two.
+pub fn version(tables: &Tables, random: &mut Random) -> usize {
+    if tables.is_plain() && random.once_in(2) {
+        1
+    } else {
+        2
+    }
 }
 
 /// The library's answer; fails where it is done and the place is not left alone.
@@ -43,6 +62,8 @@ pub fn link(tables: &Tables, length: usize, random: &mut Random) -> Result<Vec<u
             tables.sides.len(),
             tables.corners.as_ptr(),
             tables.corners.len(),
+            tables.sharpness.as_ptr(),
+            tables.sharpness.len(),
             links.as_mut_ptr(),
             links.len(),
             &mut place,
@@ -75,6 +96,8 @@ pub fn build(
             tables.sides.len(),
             tables.corners.as_ptr(),
             tables.corners.len(),
+            tables.sharpness.as_ptr(),
+            tables.sharpness.len(),
             links.as_ptr(),
             links.len(),
             first,
@@ -91,16 +114,17 @@ pub fn build(
 }
 
 /// Reading the bytes as a file of `length` bytes into lent lists with `spaces` entries.
-pub fn decode(bytes: &[u8], length: u64, spaces: [usize; 3], random: &mut Random) -> Result<Tables, Refusal> {
+pub fn decode(bytes: &[u8], length: u64, spaces: [usize; 4], random: &mut Random) -> Result<Tables, Refusal> {
     let mut read = Tables {
         coordinates: (0..spaces[0]).map(|_| random.bits() as i32).collect(),
         sides: (0..spaces[1]).map(|_| random.bits() as u8).collect(),
         corners: (0..spaces[2]).map(|_| random.bits() as u16).collect(),
+        sharpness: (0..spaces[3]).map(|_| random.bits() as u8).collect(),
     };
     let mut expected = read.clone();
     let mut place = UNTOUCHED;
-    let mut lengths = [UNTOUCHED; 3];
-    let [coordinate_count, side_count, corner_count] = &mut lengths;
+    let mut lengths = [UNTOUCHED; 4];
+    let [coordinate_count, side_count, corner_count, sharpness_count] = &mut lengths;
     // SAFETY: each pointer goes with the length of its own list
     let number = unsafe {
         raw::mahunopi_decode(
@@ -113,27 +137,34 @@ pub fn decode(bytes: &[u8], length: u64, spaces: [usize; 3], random: &mut Random
             read.sides.len(),
             read.corners.as_mut_ptr(),
             read.corners.len(),
+            read.sharpness.as_mut_ptr(),
+            read.sharpness.len(),
             coordinate_count,
             side_count,
             corner_count,
+            sharpness_count,
             &mut place,
         )
     };
-    let result =
-        reference::decode(bytes, length, &mut expected.coordinates, &mut expected.sides, &mut expected.corners);
+    let Tables { coordinates, sides, corners, sharpness } = &mut expected;
+    let result = reference::decode(bytes, length, coordinates, sides, corners, sharpness);
     check_file_answer(bytes, length, number, place, &result);
     same("coordinates", &read.coordinates, &expected.coordinates);
     same("sides", &read.sides, &expected.sides);
     same("corners", &read.corners, &expected.corners);
+    same("sharpness", &read.sharpness, &expected.sharpness);
     let asked = match result {
-        Ok(Lengths { coordinates, sides, corners }) => [coordinates, sides, corners].map(|length| length as u64),
-        Err(_) => [UNTOUCHED; 3],
+        Ok(Lengths { coordinates, sides, corners, sharpness }) => {
+            [coordinates, sides, corners, sharpness].map(|length| length as u64)
+        }
+        Err(_) => [UNTOUCHED; 4],
     };
     assert_eq!(lengths, asked, "decoding gives other lengths");
-    let Lengths { coordinates, sides, corners } = result?;
+    let Lengths { coordinates, sides, corners, sharpness } = result?;
     read.coordinates.truncate(coordinates);
     read.sides.truncate(sides);
     read.corners.truncate(corners);
+    read.sharpness.truncate(sharpness);
     Ok(read)
 }
 
@@ -233,6 +264,8 @@ pub fn irregular(tables: &Tables, random: &mut Random) -> Result<(Irregular, usi
             tables.sides.len(),
             tables.corners.as_ptr(),
             tables.corners.len(),
+            tables.sharpness.as_ptr(),
+            tables.sharpness.len(),
             &mut kind,
             &mut number,
             &mut read,

@@ -2,14 +2,14 @@
 
 use std::num::NonZeroUsize;
 
-use differential::{build, decode, each_case, link, lists, survey};
-use mahunopi::{build_all, MeshRef};
+use differential::{build, decode, each_case, link, lists, mesh, survey, version};
+use mahunopi::build_all;
 use reference::conditions::{borders, BOUND};
 use reference::{encode, Refusal, LENT_TOO_SHORT, MOST, NUMBERS_PER_CORNER};
-use shapes::{damage, random_tables, Places, Random, Solid, Tables, DAMAGES};
+use shapes::{damage, random_tables, Places, Random, Sharpness, Solid, Tables, DAMAGES};
 
 /// Spaces that every file fits in.
-const ENOUGH: [usize; 3] = [6_144, 4_096, 8_192];
+const ENOUGH: [usize; 4] = [6_144, 4_096, 8_192, 16_384];
 /// How many numbers m a survey counts, from 0 on.
 const NUMBERS: usize = MOST + 1;
 
@@ -53,7 +53,7 @@ fn random_meshes_and_ranges() {
             range(&tables, &links, &output, first, count, random);
             range(&tables, &links, &output, first, 1, random);
         }
-        let bytes = encode(lists(&tables));
+        let bytes = encode(lists(&tables), version(&tables, random));
         let read = decode(&bytes, bytes.len() as u64, ENOUGH, random).expect("the file of an accepted mesh");
         assert!(read == tables, "the file of a mesh reads otherwise");
         survey(&bytes, bytes.len() as u64, [NUMBERS; 2], random).expect("the file of an accepted mesh");
@@ -86,9 +86,13 @@ fn families_with_all_kinds_of_coordinates() {
     }
     for (number, solid) in solids.iter().enumerate() {
         assert!(whole(&Tables::of(solid), &mut random).is_some(), "solid {number} is refused");
-        for places in Places::ALL {
+        for (at, places) in Places::ALL.into_iter().enumerate() {
             let tables = Tables::relabelled(solid, places, &mut random);
             assert!(whole(&tables, &mut random).is_some(), "solid {number} is refused with {places:?}");
+            // another kind of sharpness with each solid, so that every pair of kinds occurs
+            let sharpness = Sharpness::ALL[(number + at) % Sharpness::ALL.len()];
+            let tables = tables.sharpened(sharpness, &mut random);
+            assert!(whole(&tables, &mut random).is_some(), "solid {number} is refused with {places:?}, {sharpness:?}");
         }
     }
 }
@@ -113,14 +117,14 @@ fn largest_meshes() {
         (irregular, 0),
     ];
     for (number, (solid, corners)) in meshes.iter().enumerate() {
-        for places in [Places::Anywhere, Places::Extreme] {
-            let tables = Tables::relabelled(solid, places, &mut random);
+        let kinds = [(Places::Anywhere, Sharpness::Plain), (Places::Extreme, Sharpness::Random)];
+        for (places, sharpness) in kinds {
+            let tables = Tables::relabelled(solid, places, &mut random).sharpened(sharpness, &mut random);
             assert!(*corners == 0 || tables.corners.len() == *corners);
             let (links, output, _) = whole(&tables, &mut random).unwrap_or_else(|| panic!("mesh {number} is refused"));
             let end = links.len();
-            let mesh = MeshRef::new(&tables.coordinates, &tables.sides, &tables.corners);
             for threads in 1..=5 {
-                let together = build_all(mesh, &links, NonZeroUsize::new(threads)).expect("an accepted mesh");
+                let together = build_all(mesh(&tables), &links, NonZeroUsize::new(threads)).expect("an accepted mesh");
                 assert!(together == output, "mesh {number} differs on {threads} threads");
             }
             for (first, count) in [(0, 1), (end - 1, 1), (end / 2 - 32, 64), (1, end - 1), (0, end - 1)] {
@@ -140,7 +144,8 @@ fn sixteen_sides() {
         for solid in solids.iter().chain(&solids.each_ref().map(|solid| solid.dual())) {
             for round in 0..20 {
                 let places = Places::ALL[round % Places::ALL.len()];
-                let tables = Tables::relabelled(solid, places, &mut random);
+                let sharpness = Sharpness::ALL[round / 2 % Sharpness::ALL.len()];
+                let tables = Tables::relabelled(solid, places, &mut random).sharpened(sharpness, &mut random);
                 let (_, _, misses) = whole(&tables, &mut random).unwrap_or_else(|| panic!("{n} is refused"));
                 for (all, miss) in largest.iter_mut().zip(misses) {
                     *all = miss.max(*all);
@@ -170,12 +175,12 @@ fn sixteen_sides() {
 fn the_largest_sum_of_side_counts() {
     let mut random = Random::new(10);
     for (corners, number, place) in [(1, 6, 65_536), (8_192, 6, 65_536), (8_193, 4, 0), (65_536, 4, 0)] {
-        let tables = Tables { coordinates: vec![0; 24], sides: vec![16; 4_096], corners: vec![0; corners] };
+        let tables = Tables::plain(vec![0; 24], vec![16; 4_096], vec![0; corners]);
         assert_eq!(link(&tables, corners, &mut random), Err(Refusal { number, place }));
         let built = build(&tables, &vec![0; corners], 0, 1, NUMBERS_PER_CORNER, &mut random);
         assert_eq!(built, Err(Refusal { number, place }));
         if corners < 65_536 {
-            let bytes = encode(lists(&tables));
+            let bytes = encode(lists(&tables), 1);
             let read = decode(&bytes, bytes.len() as u64, ENOUGH, &mut random).expect_err("no mesh");
             assert_eq!((read.number, read.place), (number, place));
             let counted = survey(&bytes, bytes.len() as u64, [NUMBERS; 2], &mut random).expect_err("no mesh");
@@ -184,16 +189,16 @@ fn the_largest_sum_of_side_counts() {
     }
 }
 
-/// Each fault of 4 to 13 alone, and mixed with others.
+/// Each fault of 4 to 13, 27 and 28 alone, and mixed with others.
 #[test]
 fn damaged_meshes() {
-    let mut seen = [0; 18];
+    let mut seen = [0; 29];
     each_case(3_000, 4, |case, random| {
         let mut tables = random_tables(random);
         let sound_corners = tables.corners.len();
-        damage(&mut tables, DAMAGES.start() + (case % DAMAGES.count() as u64) as u32, random);
+        damage(&mut tables, DAMAGES[case as usize % DAMAGES.len()], random);
         if random.once_in(3) {
-            damage(&mut tables, DAMAGES.start() + random.below(DAMAGES.count()) as u32, random);
+            damage(&mut tables, *random.pick(&DAMAGES), random);
         }
         let corners = tables.corners.len();
         let length = *random.pick(&[corners, corners, sound_corners, corners + 1, 0]);
@@ -204,11 +209,12 @@ fn damaged_meshes() {
         let links: Vec<u16> = (0..length).map(|_| random.bits() as u16).collect();
         let outputs = 123 * random.below(4);
         let _ = build(&tables, &links, random.below(corners + 2), random.below(4), outputs, random);
-        let bytes = encode(lists(&tables));
+        let bytes = encode(lists(&tables), version(&tables, random));
         let _ = decode(&bytes, bytes.len() as u64, ENOUGH, random);
     });
-    println!("refused by linking, 4 to 14: {:?}", &seen[4..15]);
-    assert!(std::env::var_os("MAHUNOPI_CASE").is_some() || seen[4..15].iter().all(|&n| n > 0), "{seen:?}");
+    let numbers = || DAMAGES.into_iter().chain([14]).map(|number| seen[number as usize]);
+    println!("refused by linking, {DAMAGES:?} and 14: {:?}", numbers().collect::<Vec<_>>());
+    assert!(std::env::var_os("MAHUNOPI_CASE").is_some() || numbers().all(|n| n > 0), "{seen:?}");
 }
 
 /// 14 to 17: wrong lengths, links and ranges of sound meshes.
@@ -261,12 +267,12 @@ fn damaged_files() {
     each_case(3_000, 6, |_, random| {
         let mut tables = random_tables(random);
         if random.once_in(4) {
-            damage(&mut tables, DAMAGES.start() + random.below(DAMAGES.count()) as u32, random);
+            damage(&mut tables, *random.pick(&DAMAGES), random);
         }
-        let mut bytes = encode(lists(&tables));
+        let mut bytes = encode(lists(&tables), version(&tables, random));
         let mut spaces = ENOUGH;
         let sound = bytes.len();
-        match random.below(9) {
+        match random.below(10) {
             0 => bytes.truncate(random.below(14)),
             1 => bytes[random.below(5)] ^= 1 << random.below(8),
             2 => bytes[5 + random.below(6)] ^= 1 << random.below(8),
@@ -279,8 +285,17 @@ fn damaged_files() {
             }
             6 | 7 => {
                 // the lengths of the lists, or one entry more or less
-                let asked = [tables.coordinates.len(), tables.sides.len(), tables.corners.len()];
+                let corners = tables.corners.len();
+                let asked = [tables.coordinates.len(), tables.sides.len(), corners, 2 * corners];
                 spaces = asked.map(|asked| *random.pick(&[asked, asked, asked, asked + 1, asked.saturating_sub(1), 0]));
+            }
+            // the other version, with its own length or that of the first
+            8 => {
+                let other = 3 - bytes[3];
+                bytes[3] = other;
+                if random.once_in(2) {
+                    bytes = encode(lists(&tables), usize::from(other));
+                }
             }
             _ => {}
         }
@@ -299,8 +314,10 @@ fn damaged_files() {
         let answer = decode(&bytes, length, spaces, random);
         seen[answer.map_or_else(|refusal| refusal.number as usize, |_| 0)] += 1;
     });
-    println!("read {}, refused by 1 to 13: {:?}, too short {}", seen[0], &seen[1..14], seen[LENT_TOO_SHORT as usize]);
-    assert!(std::env::var_os("MAHUNOPI_CASE").is_some() || seen[..14].iter().all(|&n| n > 0), "{:?}", &seen[..14]);
+    let [sharpness, short] = [28, LENT_TOO_SHORT].map(|number| seen[number as usize]);
+    println!("read {}, refused by 1 to 13: {:?}, by 28: {sharpness}, too short {short}", seen[0], &seen[1..14]);
+    let all = seen[..14].iter().all(|&n| n > 0) && sharpness > 0 && short > 0;
+    assert!(std::env::var_os("MAHUNOPI_CASE").is_some() || all, "{:?}, {sharpness}, {short}", &seen[..14]);
 }
 
 /// Files whose counts ask for more bytes than any buffer: with the length that 3 asks they are 4.
@@ -309,13 +326,16 @@ fn files_beyond_every_limit() {
     let mut random = Random::new(7);
     for counts in [[65_535u16; 3], [2_049, 1, 1], [1, 4_097, 1], [1, 1, 8_193], [0, 1, 1], [1, 0, 1], [1, 1, 0], [0; 3]]
     {
-        let mut bytes = b"DMS\x01\x00".to_vec();
-        bytes.extend(counts.iter().flat_map(|count| count.to_le_bytes()));
-        let [vertices, faces, corners] = counts.map(u64::from);
-        let asked = 11 + 12 * vertices + faces + 2 * corners;
-        for (length, number) in [(asked, 4), (asked + 1, 3), (asked.max(12) - 1, if asked == 11 { 4 } else { 3 })] {
-            let refusal = decode(&bytes, length, ENOUGH, &mut random).expect_err("counts beyond the limits");
-            assert_eq!((refusal.number, refusal.place), (number, 0), "{counts:?}, length {length}");
+        for (version, per_corner) in [(1, 2), (2, 4)] {
+            let mut bytes = b"DMS".to_vec();
+            bytes.extend([version, 0]);
+            bytes.extend(counts.iter().flat_map(|count| count.to_le_bytes()));
+            let [vertices, faces, corners] = counts.map(u64::from);
+            let asked = 11 + 12 * vertices + faces + per_corner * corners;
+            for (length, number) in [(asked, 4), (asked + 1, 3), (asked.max(12) - 1, if asked == 11 { 4 } else { 3 })] {
+                let refusal = decode(&bytes, length, ENOUGH, &mut random).expect_err("counts beyond the limits");
+                assert_eq!((refusal.number, refusal.place), (number, 0), "{counts:?}, {version}, length {length}");
+            }
         }
     }
 }
@@ -340,5 +360,5 @@ fn sample_meshes() {
             Err(_) => refused += 1,
         }
     }
-    assert_eq!((accepted, refused), (5, 1));
+    assert_eq!((accepted, refused), (6, 1));
 }

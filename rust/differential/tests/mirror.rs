@@ -50,7 +50,7 @@ fn damaged_meshes_and_their_mirrors() {
     let mut refused = 0;
     each_case(1_500, 10, |case, random| {
         let mut tables = random_tables(random);
-        damage(&mut tables, DAMAGES.start() + (case % DAMAGES.count() as u64) as u32, random);
+        damage(&mut tables, DAMAGES[case as usize % DAMAGES.len()], random);
         let axis = random.below(3);
         let mirror = mirrored(&tables, axis);
         let links = link(&tables, tables.corners.len(), random);

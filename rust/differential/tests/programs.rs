@@ -7,9 +7,9 @@ use std::io::Write;
 use std::path::{Path, PathBuf};
 use std::process::{Command, Stdio};
 
-use differential::{each_case, lists};
+use differential::{each_case, lists, version};
 use reference::{encode, inspect, patches, squares};
-use shapes::{damage, random_tables, Places, Random, Solid, Tables, DAMAGES};
+use shapes::{damage, random_tables, Places, Random, Sharpness, Solid, Tables, DAMAGES};
 
 /// The program's executable, where the repository has its crate.
 fn program(name: &str) -> Option<PathBuf> {
@@ -58,14 +58,16 @@ fn of_pieces(program: &Path, bytes: &[u8], piece: usize) -> String {
 fn random_file(random: &mut Random) -> Vec<u8> {
     let mut tables = random_tables(random);
     if random.once_in(2) {
-        damage(&mut tables, DAMAGES.start() + random.below(DAMAGES.count()) as u32, random);
+        damage(&mut tables, *random.pick(&DAMAGES), random);
     }
-    let mut bytes = encode(lists(&tables));
-    match random.below(8) {
+    let mut bytes = encode(lists(&tables), version(&tables, random));
+    match random.below(9) {
         0 => bytes.truncate(random.below(14)),
         1 => bytes.truncate(random.below(bytes.len())),
         2 => bytes.extend([0; 3]),
         3 => bytes[random.below(11)] ^= 1 << random.below(8),
+        // the other version, with the length of the first
+        4 => bytes[3] = 3 - bytes[3],
         _ => {}
     }
     bytes
@@ -75,15 +77,20 @@ fn random_file(random: &mut Random) -> Vec<u8> {
 fn large_files() -> Vec<Vec<u8>> {
     let mut random = Random::new(11);
     let torus = Tables::relabelled(&Solid::torus(32, 64), Places::Extreme, &mut random);
-    let mut files = vec![encode(lists(&torus)), Vec::new()];
-    let mut longer = files[0].clone();
-    longer.push(0);
-    files.push(longer);
-    for more in [-1, 0, 1, 5_000_000] {
-        let mut bytes = b"DMS\x01\x00\xff\xff\xff\xff\xff\xff".to_vec();
-        let asked = 11 + (12 + 1 + 2) * 65_535;
-        bytes.resize((asked + more) as usize, 7);
-        files.push(bytes);
+    let sharp = torus.clone().sharpened(Sharpness::Random, &mut random);
+    let mut files = vec![encode(lists(&torus), 1), encode(lists(&sharp), 2), Vec::new()];
+    for whole in 0..2 {
+        let mut longer = files[whole].clone();
+        longer.push(0);
+        files.push(longer);
+    }
+    for (version, each) in [(1, 12 + 1 + 2), (2, 12 + 1 + 2 + 2)] {
+        for more in [-65_535 * 2, -1, 0, 1, 65_535 * 2, 5_000_000] {
+            let mut bytes = b"DMS\x01\x00\xff\xff\xff\xff\xff\xff".to_vec();
+            bytes[3] = version;
+            bytes.resize((11 + each * 65_535 + more) as usize, 7);
+            files.push(bytes);
+        }
     }
     files
 }
@@ -125,7 +132,7 @@ fn squares_prints_what_is_irregular() {
         Some(path) => path,
         None => return,
     };
-    let line = |solid: &Solid| of_file(&path, &encode(lists(&Tables::of(solid))));
+    let line = |solid: &Solid| of_file(&path, &encode(lists(&Tables::of(solid)), 1));
     assert_eq!(line(&Solid::torus(3, 4)), "none read 12\n");
     assert_eq!(line(&Solid::torus(32, 64)), "none read 2048\n");
     assert_eq!(line(&Solid::cube()), "vertex 0 read 6\n");

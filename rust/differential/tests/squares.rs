@@ -1,15 +1,13 @@
 //! Is it all squares? The proved library against the independent implementation, and against the lines of `inspect`.
 
-use differential::{each_case, irregular, lists, survey};
-use mahunopi::MeshRef;
+use differential::{each_case, irregular, lists, mesh, survey, version};
 use reference::{encode, Irregular, Refusal, MOST};
 use shapes::{damage, random_tables, Places, Random, Solid, Tables, DAMAGES};
 
 /// What is found agrees with the lines that `inspect` prints of the mesh's file, and the wrapper finds the same.
 fn search(tables: &Tables, random: &mut Random) -> Result<(Irregular, usize), Refusal> {
     let result = irregular(tables, random);
-    let mesh = MeshRef::new(&tables.coordinates, &tables.sides, &tables.corners);
-    match (result, mahunopi::irregular(mesh)) {
+    match (result, mahunopi::irregular(mesh(tables))) {
         (Err(refusal), Err(wrapped)) => {
             assert_eq!((wrapped.number(), wrapped.place), (refusal.number, refusal.place));
         }
@@ -20,7 +18,7 @@ fn search(tables: &Tables, random: &mut Random) -> Result<(Irregular, usize), Re
                 Irregular::None => mahunopi::Irregular::None { sides_read: read },
             };
             assert_eq!(wrapped, asked);
-            let bytes = encode(lists(tables));
+            let bytes = encode(lists(tables), version(tables, random));
             let counts =
                 survey(&bytes, bytes.len() as u64, [MOST + 1; 2], random).expect("the file of an accepted mesh");
             let others = || counts.by_number.iter().enumerate().filter(|&(m, _)| m != 4);
@@ -156,22 +154,23 @@ fn random_meshes() {
     assert!(std::env::var_os("MAHUNOPI_CASE").is_some() || counts.iter().all(|&count| count > 0));
 }
 
-/// Each fault of 4 to 13, alone and mixed with others: nothing but the place is written.
+/// Each fault of 4 to 13, 27 and 28, alone and mixed with others: nothing but the place is written.
 #[test]
 fn every_refusal() {
-    let mut seen = [0; 14];
+    let mut seen = [0; 29];
     each_case(3_000, 76, |case, random| {
         let mut tables = random_tables(random);
-        damage(&mut tables, DAMAGES.start() + (case % DAMAGES.count() as u64) as u32, random);
+        damage(&mut tables, DAMAGES[case as usize % DAMAGES.len()], random);
         if random.once_in(3) {
-            damage(&mut tables, DAMAGES.start() + random.below(DAMAGES.count()) as u32, random);
+            damage(&mut tables, *random.pick(&DAMAGES), random);
         }
         if let Err(refusal) = search(&tables, random) {
             seen[refusal.number as usize] += 1;
         }
     });
-    println!("refused by 4 to 13: {:?}", &seen[4..]);
-    assert!(std::env::var_os("MAHUNOPI_CASE").is_some() || seen[4..].iter().all(|&n| n > 0), "{seen:?}");
-    let empty = Tables { coordinates: vec![], sides: vec![], corners: vec![] };
+    let refused = DAMAGES.map(|number| seen[number as usize]);
+    println!("refused by {DAMAGES:?}: {refused:?}");
+    assert!(std::env::var_os("MAHUNOPI_CASE").is_some() || refused.iter().all(|&n| n > 0), "{seen:?}");
+    let empty = Tables::plain(vec![], vec![], vec![]);
     assert_eq!(search(&empty, &mut Random::new(77)), Err(Refusal { number: 4, place: 0 }));
 }

@@ -27,7 +27,8 @@ impl fmt::Display for Irregular {
     }
 }
 
-/// The lowest face that has not four sides, else the lowest vertex that has not four corners, else none: faults 4 to 13.
+/// The lowest face that has not four sides, else the lowest vertex that has not four corners, else none: faults 4 to
+/// 13, 27 and 28.
 ///
 /// ```
 /// use mahunopi::{decode, irregular, Irregular};
@@ -53,6 +54,8 @@ pub fn irregular<'a>(mesh: impl Into<MeshRef<'a>>) -> Result<Irregular, Refusal>
             mesh.sides.len(),
             mesh.corners.as_ptr(),
             mesh.corners.len(),
+            mesh.sharpness.as_ptr(),
+            mesh.sharpness.len(),
             &mut kind,
             &mut found,
             &mut read,

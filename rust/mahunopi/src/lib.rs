@@ -1,6 +1,6 @@
 //! Smooth patches over a closed mesh, in whole numbers: the proved library, called from safe Rust.
 //!
-//! A [`Mesh`] is three lists; [`MeshRef`] borrows them. [`survey`] counts what a .dms file holds, [`decode`] reads the
+//! A [`Mesh`] is four lists; [`MeshRef`] borrows them. [`survey`] counts what a .dms file holds, [`decode`] reads the
 //! mesh from it, [`link`] makes the mesh's link table, and [`build`] makes the control points of a range of corners:
 //! 123 numbers for each, in ticks of 1/256 of a grid step, five rows of five b points and then four rows of four a
 //! points. [`build_all`] builds all corners on several threads. [`floats`] gives one of these points as floats.
@@ -45,6 +45,9 @@ pub const MAX_FACES: usize = 4_096;
 pub const MAX_CORNERS: usize = 8_192;
 /// The most sides of a face, and corners of a vertex; the fewest are three.
 pub const MAX_SIDES: usize = 16;
+/// The largest sharpness number, in sixteenths, and the one that a corner has where nothing else is said.
+pub const MAX_SHARPNESS: u8 = 16;
+pub const PLAIN_SHARPNESS: u8 = 8;
 /// The numbers that building makes for a corner: 41 control points of x, y, z.
 pub const NUMBERS_PER_CORNER: usize = 123;
 /// The bytes of stack that a call may take.
@@ -53,7 +56,7 @@ pub const CALL_STACK: usize = 288 * 1024;
 /// over the whole mesh.
 const LEAST_RANGE: usize = 2_048;
 
-/// Fills the lent link table, which has an entry for each corner: faults 4 to 14.
+/// Fills the lent link table, which has an entry for each corner: faults 4 to 14, 27 and 28.
 pub fn link_into<'a>(mesh: impl Into<MeshRef<'a>>, links: &mut [u16]) -> Result<(), Refusal> {
     let mesh = mesh.into();
     let mut place = 0;
@@ -66,6 +69,8 @@ pub fn link_into<'a>(mesh: impl Into<MeshRef<'a>>, links: &mut [u16]) -> Result<
             mesh.sides.len(),
             mesh.corners.as_ptr(),
             mesh.corners.len(),
+            mesh.sharpness.as_ptr(),
+            mesh.sharpness.len(),
             links.as_mut_ptr(),
             links.len(),
             &mut place,
@@ -74,7 +79,7 @@ pub fn link_into<'a>(mesh: impl Into<MeshRef<'a>>, links: &mut [u16]) -> Result<
     answer(number, place)
 }
 
-/// The link table of a mesh: faults 4 to 13.
+/// The link table of a mesh: faults 4 to 13, 27 and 28.
 pub fn link<'a>(mesh: impl Into<MeshRef<'a>>) -> Result<Vec<u16>, Refusal> {
     let mesh = mesh.into();
     // a mesh of more corners is refused before its table is looked at
@@ -84,7 +89,7 @@ pub fn link<'a>(mesh: impl Into<MeshRef<'a>>) -> Result<Vec<u16>, Refusal> {
 }
 
 /// Writes the control points of `count` corners from `first` on to the lent output, which has 123 numbers for each:
-/// faults 4 to 17.
+/// faults 4 to 17, 27 and 28.
 pub fn build_into<'a>(
     mesh: impl Into<MeshRef<'a>>,
     links: &[u16],
@@ -103,6 +108,8 @@ pub fn build_into<'a>(
             mesh.sides.len(),
             mesh.corners.as_ptr(),
             mesh.corners.len(),
+            mesh.sharpness.as_ptr(),
+            mesh.sharpness.len(),
             links.as_ptr(),
             links.len(),
             first,
@@ -115,7 +122,7 @@ pub fn build_into<'a>(
     answer(number, place)
 }
 
-/// The control points of `count` corners from `first` on: faults 4 to 16.
+/// The control points of `count` corners from `first` on: faults 4 to 16, 27 and 28.
 ///
 /// ```
 /// # use mahunopi::{build, Fault, Mesh};
@@ -131,7 +138,8 @@ pub fn build<'a>(mesh: impl Into<MeshRef<'a>>, links: &[u16], first: usize, coun
 }
 
 /// The control points of all corners, built in ranges on at most `threads` threads, or on as many as the machine
-/// offers where none is named: the same answer and the same numbers as [`build`] of all corners. Faults 4 to 15.
+/// offers where none is named: the same answer and the same numbers as [`build`] of all corners. Faults 4 to 15,
+/// 27 and 28.
 ///
 /// ```
 /// use mahunopi::{build, build_all, decode, link};
@@ -165,23 +173,24 @@ pub fn build_all<'a>(
                 thread::Builder::new().stack_size(2 * CALL_STACK).spawn_scoped(scope, call).expect("a thread")
             })
             .collect();
-        // what 4 to 15 refuse is the same in every range
+        // what 4 to 15, 27 and 28 refuse is the same in every range
         workers.into_iter().try_for_each(|worker| worker.join().expect("a call does not panic"))
     })?;
     Ok(output)
 }
 
-/// Reads a .dms file into the beginnings of three lent lists: faults 1 to 13, then [`Fault::LentTooShort`]. The file
-/// has `length` bytes, of which `bytes` holds the first ones.
+/// Reads a .dms file into the beginnings of four lent lists: faults 1 to 13 and 28, then [`Fault::LentTooShort`]. The
+/// file has `length` bytes, of which `bytes` holds the first ones.
 pub fn decode_into(
     bytes: &[u8],
     length: u64,
     coordinates: &mut [i32],
     sides: &mut [u8],
     corners: &mut [u16],
+    sharpness: &mut [u8],
 ) -> Result<Lengths, Refusal> {
-    let mut lengths = [0; 3];
-    let [coordinate_count, side_count, corner_count] = &mut lengths;
+    let mut lengths = [0; 4];
+    let [coordinate_count, side_count, corner_count, sharpness_count] = &mut lengths;
     let mut place = 0;
     // SAFETY: each pointer goes with the length of its own slice, and the lent slices and numbers overlap nothing
     let number = unsafe {
@@ -195,18 +204,21 @@ pub fn decode_into(
             sides.len(),
             corners.as_mut_ptr(),
             corners.len(),
+            sharpness.as_mut_ptr(),
+            sharpness.len(),
             coordinate_count,
             side_count,
             corner_count,
+            sharpness_count,
             &mut place,
         )
     };
     answer(number, place)?;
-    let [coordinates, sides, corners] = lengths.map(|length| length as usize);
-    Ok(Lengths { coordinates, sides, corners })
+    let [coordinates, sides, corners, sharpness] = lengths.map(|length| length as usize);
+    Ok(Lengths { coordinates, sides, corners, sharpness })
 }
 
-/// The mesh of a .dms file: faults 1 to 13.
+/// The mesh of a .dms file: faults 1 to 13 and 28. A file of version 1 has sharpness 8 and 8 throughout.
 ///
 /// ```
 /// # use mahunopi::{decode, Fault};
@@ -217,20 +229,27 @@ pub fn decode_into(
 /// file.extend([0u16, 1, 2, 0, 2, 3, 0, 3, 1, 1, 3, 2].iter().flat_map(|v| v.to_le_bytes()));
 /// let mesh = decode(&file)?;
 /// assert_eq!(mesh.sides, [3; 4]);
+/// assert_eq!(mesh.sharpness, [8; 24]);
 /// assert_eq!(decode(&file[1..]).unwrap_err().fault, Fault::BadMark);
+/// // the same in version 2, with u = 16 and v = 0 at every corner
+/// file[3] = 2;
+/// file.extend([16, 0].repeat(12));
+/// assert_eq!(decode(&file)?.sharpness, [16, 0].repeat(12));
 /// # Ok::<(), mahunopi::Refusal>(())
 /// ```
 pub fn decode(bytes: &[u8]) -> Result<Mesh, Refusal> {
     let mut mesh = Mesh::new(vec![0; 3 * MAX_VERTICES], vec![0; MAX_FACES], vec![0; MAX_CORNERS]);
-    let lengths = decode_into(bytes, bytes.len() as u64, &mut mesh.coordinates, &mut mesh.sides, &mut mesh.corners)?;
+    let Mesh { coordinates, sides, corners, sharpness } = &mut mesh;
+    let lengths = decode_into(bytes, bytes.len() as u64, coordinates, sides, corners, sharpness)?;
     mesh.coordinates.truncate(lengths.coordinates);
     mesh.sides.truncate(lengths.sides);
     mesh.corners.truncate(lengths.corners);
+    mesh.sharpness.truncate(lengths.sharpness);
     Ok(mesh)
 }
 
-/// The counts of a .dms file of `length` bytes, of which `bytes` holds the first ones: faults 1 to 13. Of a file that is
-/// longer than that of any mesh the bytes beyond need only be counted.
+/// The counts of a .dms file of `length` bytes, of which `bytes` holds the first ones: faults 1 to 13 and 28. Of a file
+/// that is longer than that of any mesh the bytes beyond need only be counted.
 pub fn survey_counted(bytes: &[u8], length: u64) -> Result<Counts, Refusal> {
     let mut totals = [0; 3];
     let [vertices, faces, corners] = &mut totals;
@@ -258,7 +277,7 @@ pub fn survey_counted(bytes: &[u8], length: u64) -> Result<Counts, Refusal> {
     Ok(Counts { vertices, faces, corners, vertices_with, faces_with })
 }
 
-/// The counts of a .dms file: faults 1 to 13.
+/// The counts of a .dms file: faults 1 to 13 and 28.
 ///
 /// ```
 /// use mahunopi::survey;

@@ -1,10 +1,13 @@
-//! A mesh as three lists, owned or borrowed, and what is counted of one.
+//! A mesh as four lists, owned or borrowed, and what is counted of one.
 
 use std::fmt;
 
-use crate::MAX_SIDES;
+use crate::{MAX_CORNERS, MAX_SIDES, PLAIN_SHARPNESS};
 
-/// A mesh: its three lists, which hold whatever they hold until a call checks them.
+/// 8 and 8 for every corner that a mesh may have.
+static PLAIN: [u8; 2 * MAX_CORNERS] = [PLAIN_SHARPNESS; 2 * MAX_CORNERS];
+
+/// A mesh: its four lists, which hold whatever they hold until a call checks them.
 ///
 /// ```
 /// use mahunopi::{link, Mesh};
@@ -12,6 +15,7 @@ use crate::MAX_SIDES;
 /// // a tetrahedron whose vertices all lie at the origin
 /// let mesh = Mesh::new(vec![0; 12], vec![3; 4], vec![0, 1, 2, 0, 2, 3, 0, 3, 1, 1, 3, 2]);
 /// assert_eq!(link(&mesh)?[0], 6); // corner 0 leaves to vertex 1, corner 6 arrives from there
+/// assert_eq!(mesh.sharpness, [8; 24]); // as soft as without sharpness
 /// # Ok::<(), mahunopi::Refusal>(())
 /// ```
 #[derive(Clone, Debug, Default, PartialEq, Eq)]
@@ -23,16 +27,38 @@ pub struct Mesh {
     pub sides: Vec<u8>,
     /// The vertex numbers of face 0 in order, then of face 1, and so on; a position in this list is a corner.
     pub corners: Vec<u16>,
+    /// u and v of corner 0, then of corner 1, and so on, each 0 to 16: u pulls towards the leaving edge, v towards the
+    /// arriving one.
+    pub sharpness: Vec<u8>,
 }
 
 impl Mesh {
+    /// The mesh of three lists, with sharpness 8 and 8 throughout.
     pub fn new(coordinates: Vec<i32>, sides: Vec<u8>, corners: Vec<u16>) -> Mesh {
-        Mesh { coordinates, sides, corners }
+        let sharpness = vec![PLAIN_SHARPNESS; 2 * corners.len()];
+        Mesh { coordinates, sides, corners, sharpness }
+    }
+
+    /// The mesh with this sharpness: u and v of corner 0, then of corner 1, and so on.
+    ///
+    /// ```
+    /// # use mahunopi::{link, Fault, Mesh};
+    /// let mesh = Mesh::new(vec![0; 12], vec![3; 4], vec![0, 1, 2, 0, 2, 3, 0, 3, 1, 1, 3, 2]);
+    /// assert!(link(&mesh.clone().with_sharpness(vec![16; 24])).is_ok());
+    /// assert_eq!(link(&mesh.with_sharpness(vec![16; 23])).unwrap_err().fault, Fault::BadSharpnessLength);
+    /// ```
+    pub fn with_sharpness(self, sharpness: Vec<u8>) -> Mesh {
+        Mesh { sharpness, ..self }
     }
 
     /// The mesh, borrowed.
     pub fn view(&self) -> MeshRef<'_> {
-        MeshRef::new(&self.coordinates, &self.sides, &self.corners)
+        MeshRef {
+            coordinates: &self.coordinates,
+            sides: &self.sides,
+            corners: &self.corners,
+            sharpness: &self.sharpness,
+        }
     }
 }
 
@@ -46,16 +72,32 @@ pub struct MeshRef<'a> {
     pub sides: &'a [u8],
     /// The vertex numbers of face 0 in order, then of face 1, and so on; a position in this list is a corner.
     pub corners: &'a [u16],
+    /// u and v of corner 0, then of corner 1, and so on, each 0 to 16: u pulls towards the leaving edge, v towards the
+    /// arriving one.
+    pub sharpness: &'a [u8],
 }
 
 impl<'a> MeshRef<'a> {
+    /// The mesh of three lists, with sharpness 8 and 8 throughout.
     pub fn new(coordinates: &'a [i32], sides: &'a [u8], corners: &'a [u16]) -> MeshRef<'a> {
-        MeshRef { coordinates, sides, corners }
+        // a mesh of more corners is refused before its sharpness is looked at
+        let sharpness = &PLAIN[..2 * corners.len().min(MAX_CORNERS)];
+        MeshRef { coordinates, sides, corners, sharpness }
+    }
+
+    /// The mesh with this sharpness: u and v of corner 0, then of corner 1, and so on.
+    pub fn with_sharpness(self, sharpness: &'a [u8]) -> MeshRef<'a> {
+        MeshRef { sharpness, ..self }
     }
 
     /// A copy of the lists.
     pub fn to_mesh(self) -> Mesh {
-        Mesh::new(self.coordinates.to_vec(), self.sides.to_vec(), self.corners.to_vec())
+        Mesh {
+            coordinates: self.coordinates.to_vec(),
+            sides: self.sides.to_vec(),
+            corners: self.corners.to_vec(),
+            sharpness: self.sharpness.to_vec(),
+        }
     }
 }
 
@@ -65,13 +107,14 @@ impl<'a> From<&'a Mesh> for MeshRef<'a> {
     }
 }
 
-/// The lengths of the three lists that [`decode_into`](crate::decode_into) wrote.
+/// The lengths of the four lists that [`decode_into`](crate::decode_into) wrote.
 #[derive(Clone, Copy, Debug, PartialEq, Eq)]
 #[non_exhaustive]
 pub struct Lengths {
     pub coordinates: usize,
     pub sides: usize,
     pub corners: usize,
+    pub sharpness: usize,
 }
 
 /// What [`survey`](crate::survey) counts of a file's mesh. It displays as the lines that the program `inspect` prints.

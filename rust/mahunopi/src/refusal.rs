@@ -7,7 +7,8 @@ macro_rules! faults {
     ($($name:ident = $number:literal, $words:literal, $place:expr;)*) => {
         /// The faults that an input is turned down for, each with its number. A file is checked by 1 to 13, linking by
         /// 4 to 14, building by 4 to 17, the search for an irregular face or vertex by 4 to 13, a control point in
-        /// floats by 18 to 20, a nesting table by 21 to 23, each over the whole input before the next.
+        /// floats by 18 to 20, a nesting table by 21 to 23, each over the whole input before the next. 27 is tried after
+        /// 4, and 28 after 8, wherever these are.
         #[derive(Clone, Copy, Debug, PartialEq, Eq, PartialOrd, Ord, Hash)]
         #[non_exhaustive]
         pub enum Fault {
@@ -37,8 +38,8 @@ macro_rules! faults {
 
 faults! {
     BadMark = 1, "the file has fewer than 11 bytes or another mark than DMS", None;
-    BadVersion = 2, "the file's version is not 1", None;
-    BadFileLength = 3, "the file's length is not 11 + 12 times vertices + faces + 2 times corners", None;
+    BadVersion = 2, "the file's version is neither 1 nor 2", None;
+    BadFileLength = 3, "the file's length is not 11 + 12 times vertices + faces + 2 times corners, plus twice the corners in version 2", None;
     BadCounts = 4, "no vertices or above 2,048, no faces or above 4,096, no corners or above 8,192, or a coordinate list whose length is no multiple of three", None;
     BadSideCount = 5, "a side count is outside 3 to 16", Some("the face");
     BadSideSum = 6, "the side counts do not sum to the corner count", Some("the sum");
@@ -59,6 +60,8 @@ faults! {
     BadBodyCount = 21, "there are no bodies, above 256, or the listing's length differs from the bodies'", None;
     NoSuchHolder = 22, "a number is neither below the body count nor 65,535", Some("the body");
     ChainWithoutSun = 23, "a chain does not end at the Sun", Some("the lowest such body");
+    BadSharpnessLength = 27, "the sharpness list is not twice as long as the corner list", Some("its length");
+    BadSharpness = 28, "a sharpness number is above 16", Some("its position in the sharpness list");
     LentTooShort = 255, "a lent list is too short for what the file holds", Some("the length it needs");
 }
 

@@ -3,7 +3,9 @@
 
 use std::ptr::{null, null_mut};
 
-use mahunopi::{build, build_all, decode, link, raw, survey, survey_counted, Fault, Mesh, MeshRef, Refusal, MAX_SIDES};
+use mahunopi::{
+    build, build_all, decode, decode_into, link, raw, survey, survey_counted, Fault, Mesh, MeshRef, Refusal, MAX_SIDES,
+};
 
 const BEYOND: usize = 1 << 32;
 const UNTOUCHED: u64 = 0x1234_5678_9abc_def0;
@@ -14,7 +16,7 @@ fn cube() -> Mesh {
 
 /// Linking of the cube with these lengths in the place of its own. Every list has its own entries only: a length that
 /// names more has to be refused before they are looked at.
-fn link_with(coordinates: usize, sides: usize, corners: usize, links: usize) -> (u32, u64) {
+fn link_with(coordinates: usize, sides: usize, corners: usize, sharpness: usize, links: usize) -> (u32, u64) {
     let mesh = cube();
     let mut table = [7; 24];
     let mut place = UNTOUCHED;
@@ -26,6 +28,8 @@ fn link_with(coordinates: usize, sides: usize, corners: usize, links: usize) -> 
             sides,
             mesh.corners.as_ptr(),
             corners,
+            mesh.sharpness.as_ptr(),
+            sharpness,
             table.as_mut_ptr(),
             links,
             &mut place,
@@ -36,7 +40,7 @@ fn link_with(coordinates: usize, sides: usize, corners: usize, links: usize) -> 
 }
 
 /// The search of the cube with these lengths, where null stands for no entries: nothing but the place changes by a refusal.
-fn irregular_with(coordinates: usize, sides: usize, corners: usize) -> (u32, u64) {
+fn irregular_with(coordinates: usize, sides: usize, corners: usize, sharpness: usize) -> (u32, u64) {
     let mesh = cube();
     let (mut kind, mut found, mut read, mut place) = (7, UNTOUCHED, UNTOUCHED, UNTOUCHED);
     let number = unsafe {
@@ -47,6 +51,8 @@ fn irregular_with(coordinates: usize, sides: usize, corners: usize) -> (u32, u64
             sides,
             if corners == 0 { null() } else { mesh.corners.as_ptr() },
             corners,
+            if sharpness == 0 { null() } else { mesh.sharpness.as_ptr() },
+            sharpness,
             &mut kind,
             &mut found,
             &mut read,
@@ -72,6 +78,8 @@ fn build_with(links: usize, first: usize, count: usize, output: usize) -> (u32, 
             6,
             mesh.corners.as_ptr(),
             24,
+            mesh.sharpness.as_ptr(),
+            48,
             table.as_ptr(),
             links,
             first,
@@ -87,21 +95,24 @@ fn build_with(links: usize, first: usize, count: usize, output: usize) -> (u32, 
 
 #[test]
 fn lengths_beyond_32_bits() {
-    assert_eq!(link_with(24, 6, 24, 24), (0, UNTOUCHED));
-    assert_eq!(irregular_with(24, 6, 24), (0, UNTOUCHED));
-    for beyond in [BEYOND - 1, BEYOND, BEYOND + 24, 3 << 32, usize::MAX / 8] {
-        assert_eq!(link_with(beyond, 6, 24, 24), (4, 0));
-        assert_eq!(link_with(BEYOND + 24, 6, 24, beyond), (4, 0));
-        assert_eq!(link_with(24, beyond, 24, 24), (4, 0));
-        assert_eq!(irregular_with(beyond, 6, 24), (4, 0));
-        assert_eq!(irregular_with(24, beyond, 24), (4, 0));
-        assert_eq!(irregular_with(24, 6, beyond), (4, 0));
-        assert_eq!(link_with(24, 6, beyond, 24), (4, 0));
-        assert_eq!(link_with(24, 6, 24, beyond), (14, beyond as u64));
+    assert_eq!(link_with(24, 6, 24, 48, 24), (0, UNTOUCHED));
+    assert_eq!(irregular_with(24, 6, 24, 48), (0, UNTOUCHED));
+    for beyond in [BEYOND - 1, BEYOND, BEYOND + 24, BEYOND + 48, 3 << 32, usize::MAX / 8] {
+        assert_eq!(link_with(beyond, 6, 24, 48, 24), (4, 0));
+        assert_eq!(link_with(BEYOND + 24, 6, 24, 48, beyond), (4, 0));
+        assert_eq!(link_with(24, beyond, 24, 48, 24), (4, 0));
+        assert_eq!(irregular_with(beyond, 6, 24, 48), (4, 0));
+        assert_eq!(irregular_with(24, beyond, 24, 48), (4, 0));
+        assert_eq!(irregular_with(24, 6, beyond, 48), (4, 0));
+        assert_eq!(irregular_with(24, 6, 24, beyond), (27, beyond as u64));
+        assert_eq!(link_with(24, 6, beyond, 48, 24), (4, 0));
+        assert_eq!(link_with(24, 6, beyond, beyond, 24), (4, 0));
+        assert_eq!(link_with(24, 6, 24, beyond, beyond), (27, beyond as u64));
+        assert_eq!(link_with(24, 6, 24, 48, beyond), (14, beyond as u64));
         assert_eq!(build_with(beyond, 0, 1, 123), (14, beyond as u64));
         assert_eq!(build_with(24, 0, 1, beyond), (17, beyond as u64));
     }
-    assert_eq!(link_with(24, BEYOND + 6, 24, 24), (4, 0));
+    assert_eq!(link_with(24, BEYOND + 6, 24, 48, 24), (4, 0));
 }
 
 #[test]
@@ -129,17 +140,25 @@ fn ranges_beyond_every_width() {
 #[test]
 fn null_spaces() {
     for (c, s, v) in [(0, 0, 0), (0, 6, 24), (24, 0, 24), (24, 6, 0)] {
-        assert_eq!(irregular_with(c, s, v), (4, 0));
+        assert_eq!(irregular_with(c, s, v, 48), (4, 0));
+        assert_eq!(irregular_with(c, s, v, 0), (4, 0));
     }
+    assert_eq!(irregular_with(24, 6, 24, 0), (27, 0));
     let mesh = cube();
     let mut place = UNTOUCHED;
     unsafe {
-        let nothing = raw::mahunopi_link(null(), 0, null(), 0, null(), 0, null_mut(), 0, &mut place);
+        let nothing = raw::mahunopi_link(null(), 0, null(), 0, null(), 0, null(), 0, null_mut(), 0, &mut place);
         assert_eq!((nothing, place), (4, 0));
         place = UNTOUCHED;
         let (coordinates, sides, corners) = (mesh.coordinates.as_ptr(), mesh.sides.as_ptr(), mesh.corners.as_ptr());
-        let no_table = raw::mahunopi_link(coordinates, 24, sides, 6, corners, 24, null_mut(), 0, &mut place);
+        let sharpness = mesh.sharpness.as_ptr();
+        let no_table =
+            raw::mahunopi_link(coordinates, 24, sides, 6, corners, 24, sharpness, 48, null_mut(), 0, &mut place);
         assert_eq!((no_table, place), (14, 0));
+        place = UNTOUCHED;
+        let no_sharpness =
+            raw::mahunopi_link(coordinates, 24, sides, 6, corners, 24, null(), 0, null_mut(), 0, &mut place);
+        assert_eq!((no_sharpness, place), (27, 0));
         for (c, s, v) in [(0, 6, 24), (24, 0, 24), (24, 6, 0)] {
             place = UNTOUCHED;
             let number = raw::mahunopi_link(
@@ -149,6 +168,8 @@ fn null_spaces() {
                 s,
                 if v == 0 { null() } else { corners },
                 v,
+                null(),
+                0,
                 null_mut(),
                 0,
                 &mut place,
@@ -156,7 +177,8 @@ fn null_spaces() {
             assert_eq!((number, place), (4, 0));
         }
         place = UNTOUCHED;
-        let nothing = raw::mahunopi_build(null(), 0, null(), 0, null(), 0, null(), 0, 0, 0, null_mut(), 0, &mut place);
+        let nothing =
+            raw::mahunopi_build(null(), 0, null(), 0, null(), 0, null(), 0, null(), 0, 0, 0, null_mut(), 0, &mut place);
         assert_eq!((nothing, place), (4, 0));
         let links = link(&mesh).unwrap();
         place = UNTOUCHED;
@@ -167,6 +189,8 @@ fn null_spaces() {
             6,
             corners,
             24,
+            sharpness,
+            48,
             links.as_ptr(),
             24,
             3,
@@ -180,10 +204,10 @@ fn null_spaces() {
 }
 
 /// The answer of reading `bytes` as a file of `length` bytes into no space at all.
-fn decode_nowhere(bytes: &[u8], length: u64) -> (u32, u64, [u64; 3]) {
+fn decode_nowhere(bytes: &[u8], length: u64) -> (u32, u64, [u64; 4]) {
     let mut place = UNTOUCHED;
-    let mut lengths = [UNTOUCHED; 3];
-    let [coordinates, sides, corners] = &mut lengths;
+    let mut lengths = [UNTOUCHED; 4];
+    let [coordinates, sides, corners, sharpness] = &mut lengths;
     let number = unsafe {
         raw::mahunopi_decode(
             if bytes.is_empty() { null() } else { bytes.as_ptr() },
@@ -195,9 +219,12 @@ fn decode_nowhere(bytes: &[u8], length: u64) -> (u32, u64, [u64; 3]) {
             0,
             null_mut(),
             0,
+            null_mut(),
+            0,
             coordinates,
             sides,
             corners,
+            sharpness,
             &mut place,
         )
     };
@@ -206,7 +233,7 @@ fn decode_nowhere(bytes: &[u8], length: u64) -> (u32, u64, [u64; 3]) {
 
 #[test]
 fn files_of_odd_lengths() {
-    let kept = [UNTOUCHED; 3];
+    let kept = [UNTOUCHED; 4];
     let mesh = cube();
     let mut file = b"DMS\x01\x00\x08\x00\x06\x00\x18\x00".to_vec();
     file.extend(mesh.coordinates.iter().flat_map(|c| c.to_le_bytes()));
@@ -234,6 +261,36 @@ fn files_of_odd_lengths() {
     file.extend([1, 2, 3]);
     assert_eq!(decode_nowhere(&file, length), (255, 24, kept));
     assert_eq!(decode_nowhere(&file, length + 3), (3, 0, kept));
+    // version 2: the length of version 1 and a wrapped one are 3, and no sharpness is held
+    file.truncate(length as usize);
+    file[3] = 2;
+    for far in [length, length + 47, length + 49, (1 << 32) + length + 48, u64::MAX] {
+        assert_eq!(decode_nowhere(&file, far), (3, 0, kept));
+    }
+    assert_eq!(decode_nowhere(&file, length + 48), (3, 0, kept));
+    file.extend([17; 48]);
+    assert_eq!(decode_nowhere(&file, length + 48), (28, 0, kept));
+}
+
+/// Only the fourth lent list is too short.
+#[test]
+fn no_room_for_sharpness() {
+    let file = include_bytes!("../../../meshes/cube.dms");
+    for space in [0, 47, 48, 49] {
+        let (mut coordinates, mut sides, mut corners) = ([7; 24], [7; 6], [7; 24]);
+        let mut sharpness = vec![7; space];
+        let length = file.len() as u64;
+        let answer = decode_into(file, length, &mut coordinates, &mut sides, &mut corners, &mut sharpness);
+        if space < 48 {
+            assert_eq!(answer, Err(Refusal::new(Fault::LentTooShort, 48)));
+            assert_eq!((coordinates, sides, corners), ([7; 24], [7; 6], [7; 24]));
+            assert!(sharpness.iter().all(|&entry| entry == 7));
+        } else {
+            let lengths = answer.unwrap();
+            assert_eq!((lengths.coordinates, lengths.sides, lengths.corners, lengths.sharpness), (24, 6, 24, 48));
+            assert!(sharpness[..48].iter().all(|&entry| entry == 8) && sharpness[48..].iter().all(|&entry| entry == 7));
+        }
+    }
 }
 
 #[test]

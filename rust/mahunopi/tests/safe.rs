@@ -22,21 +22,23 @@ fn torus(p: usize, q: usize) -> Mesh {
     Mesh::new(coordinates, vec![4; p * q], corners)
 }
 
+/// The file of a mesh in version 2.
 fn file_of(mesh: &Mesh) -> Vec<u8> {
     let mut bytes = b"DMS".to_vec();
-    for count in [1, mesh.coordinates.len() / 3, mesh.sides.len(), mesh.corners.len()] {
+    for count in [2, mesh.coordinates.len() / 3, mesh.sides.len(), mesh.corners.len()] {
         bytes.extend((count as u16).to_le_bytes());
     }
     bytes.extend(mesh.coordinates.iter().flat_map(|c| c.to_le_bytes()));
     bytes.extend(&mesh.sides);
     bytes.extend(mesh.corners.iter().flat_map(|v| v.to_le_bytes()));
+    bytes.extend(&mesh.sharpness);
     bytes
 }
 
 #[test]
 fn every_fault_has_a_number_and_one_line_of_words() {
     let numbers: Vec<u32> = Fault::ALL.iter().map(|fault| fault.number()).collect();
-    assert_eq!(numbers, (1..=23).chain([255]).collect::<Vec<u32>>());
+    assert_eq!(numbers, (1..=23).chain([27, 28, 255]).collect::<Vec<u32>>());
     for &fault in Fault::ALL {
         assert_eq!(Fault::of_number(fault.number()), Some(fault));
         assert!(!fault.words().is_empty() && !fault.words().contains('\n'));
@@ -45,7 +47,7 @@ fn every_fault_has_a_number_and_one_line_of_words() {
         assert_eq!(line.ends_with("is 5)"), fault.place().is_some(), "{line}");
         assert_eq!(fault.place().is_some(), ![1, 2, 3, 4, 21].contains(&fault.number()), "{line}");
     }
-    for number in [0, 24, 254, 256, u32::MAX] {
+    for number in [0, 24, 26, 29, 254, 256, u32::MAX] {
         assert_eq!(Fault::of_number(number), None);
     }
 }
@@ -70,6 +72,8 @@ fn the_header_has_the_same_names() {
         ("MAX_FACES", mahunopi::MAX_FACES),
         ("MAX_CORNERS", mahunopi::MAX_CORNERS),
         ("MAX_SIDES", MAX_SIDES),
+        ("MAX_SHARPNESS", usize::from(mahunopi::MAX_SHARPNESS)),
+        ("PLAIN_SHARPNESS", usize::from(mahunopi::PLAIN_SHARPNESS)),
         ("NUMBERS_PER_CORNER", NUMBERS_PER_CORNER),
         ("MAX_BODIES", mahunopi::MAX_BODIES),
         ("SUN", usize::from(mahunopi::SUN)),
@@ -97,6 +101,67 @@ fn a_borrowed_mesh_is_the_owned_one() {
     assert_eq!(Ok(output), build(&mesh, &links, 7, 1));
 }
 
+/// Three lists have sharpness 8 and 8, and other sharpness gives other points; the link table does not depend on it.
+#[test]
+fn sharpness_of_a_mesh() {
+    let mesh = decode(CUBE).unwrap();
+    assert_eq!(mesh.sharpness, [8; 48]);
+    let again = Mesh::new(mesh.coordinates.clone(), mesh.sides.clone(), mesh.corners.clone());
+    assert_eq!(again, mesh);
+    let links = link(&mesh).unwrap();
+    let soft = build(&mesh, &links, 0, 24).unwrap();
+    let numbers: Vec<u8> = (0..48).map(|i| 7 * i % 17).collect();
+    let sharp = mesh.clone().with_sharpness(numbers.clone());
+    assert_eq!(mesh.view().with_sharpness(&numbers), sharp.view());
+    assert_eq!(mesh.view().with_sharpness(&numbers).to_mesh(), sharp);
+    assert_eq!(link(&sharp).unwrap(), links);
+    assert_ne!(build(&sharp, &links, 0, 24).unwrap(), soft);
+    assert_eq!(build(sharp.view(), &links, 0, 24), build(&sharp, &links, 0, 24));
+    assert_eq!(build_all(&sharp, &links, None), build(&sharp, &links, 0, 24));
+    // 16 and 16 throughout: the ends E0 and E2 of corner 0 are the vertex and the middle of the face, in ticks
+    let crisp = build(&mesh.clone().with_sharpness(vec![16; 48]), &links, 0, 1).unwrap();
+    assert_eq!((&crisp[..3], &crisp[72..75]), (&[768, 768, 768][..], &[0, 0, 768][..]));
+    assert_eq!(decode(&file_of(&sharp)).unwrap(), sharp);
+    assert_eq!(irregular(&sharp), irregular(&mesh));
+
+    let refused = |sharpness: Vec<u8>| link(&mesh.clone().with_sharpness(sharpness)).unwrap_err();
+    assert_eq!(refused(vec![8; 47]), Refusal::new(Fault::BadSharpnessLength, 47));
+    assert_eq!(refused(vec![]), Refusal::new(Fault::BadSharpnessLength, 0));
+    let mut beyond = numbers;
+    beyond[5] = 17;
+    assert_eq!(refused(beyond), Refusal::new(Fault::BadSharpness, 5));
+    assert_eq!(
+        refused(vec![17; 48]).to_string(),
+        "refused by 28: a sharpness number is above 16 (its position in the sharpness list is 0)"
+    );
+}
+
+/// The file in both versions.
+#[test]
+fn versions_of_a_file() {
+    let mesh = decode(CUBE).unwrap();
+    let mut file = file_of(&mesh);
+    assert_eq!(file.len(), CUBE.len() + 48);
+    assert_eq!(decode(&file), Ok(mesh.clone()));
+    assert_eq!(survey(&file), survey(CUBE));
+    // a version 1 file that carries the bytes, and a version 2 file without them
+    let [mut carrying, mut lacking] = [file.clone(), CUBE.to_vec()];
+    carrying[3] = 1;
+    lacking[3] = 2;
+    for bytes in [&carrying, &lacking, &file[..file.len() - 1].to_vec()] {
+        assert_eq!(decode(bytes), Err(Refusal::new(Fault::BadFileLength, 0)));
+        assert_eq!(survey(bytes), Err(Refusal::new(Fault::BadFileLength, 0)));
+    }
+    for version in [0, 3, 255] {
+        file[3] = version;
+        assert_eq!(decode(&file), Err(Refusal::new(Fault::BadVersion, 0)));
+    }
+    file[3] = 2;
+    file[CUBE.len() + 31] = 17;
+    assert_eq!(decode(&file), Err(Refusal::new(Fault::BadSharpness, 31)));
+    assert_eq!(survey(&file), Err(Refusal::new(Fault::BadSharpness, 31)));
+}
+
 #[test]
 fn threads_build_the_same_numbers() {
     for (p, q) in [(3, 4), (11, 12), (16, 32), (23, 29), (32, 64)] {
@@ -120,8 +185,12 @@ fn threads_answer_the_same_refusal() {
     assert_eq!(build_all(&mesh, &wrong, many), Err(Refusal::new(Fault::BadLink, 7_000)));
     assert_eq!(build_all(&mesh, &links[1..], many), Err(Refusal::new(Fault::BadLinkTableLength, 8_191)));
     let mut beyond = mesh.clone();
+    beyond.sharpness[16_000] = 17;
+    assert_eq!(build_all(&beyond, &links, many), Err(Refusal::new(Fault::BadSharpness, 16_000)));
     beyond.coordinates[100] = 65_537;
     assert_eq!(build_all(&beyond, &links, many), Err(Refusal::new(Fault::BadCoordinate, 100)));
+    beyond.sharpness.pop();
+    assert_eq!(build_all(&beyond, &links, many), Err(Refusal::new(Fault::BadSharpnessLength, 16_383)));
     beyond.corners.push(0);
     assert_eq!(build_all(&beyond, &links, many), Err(Refusal::new(Fault::BadCounts, 0)));
 }
@@ -156,6 +225,7 @@ fn irregular_faces_and_vertices() {
     let [a, b, c, d] = [12, 13, 14, 15].map(|corner| cut.corners[corner]);
     cut.corners.splice(12..16, [a, b, c, a, c, d]);
     cut.sides.splice(3..4, [3, 3]);
+    let mut cut = Mesh::new(cut.coordinates, cut.sides, cut.corners);
     assert_eq!(irregular(&cut), Ok(Irregular::Face { face: 3, sides_read: 4 }));
     assert_eq!(irregular(&cut).unwrap().to_string(), "face 3 read 4");
     cut.sides[3] = 2;

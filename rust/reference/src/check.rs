@@ -1,7 +1,7 @@
-//! The faults 4 to 14 of a mesh, and its link table. Every step is linear in the corners: they are sorted by vertex
+//! The faults 4 to 14 of a mesh, with 27 and 28, and its link table. Every step is linear in the corners: they are sorted by vertex
 //! once, and the edges of one vertex meet in a table with an entry for each vertex.
 
-use crate::{refuse, Lists, Refusal, FEWEST, LARGEST_COORDINATE, MAX_CORNERS, MAX_FACES, MAX_VERTICES, MOST};
+use crate::{refuse, Lists, Refusal, FEWEST, LARGEST_COORDINATE, MAX_CORNERS, MAX_FACES, MAX_VERTICES, MOST, SHARPEST};
 
 /// Where the corners of a face begin and end, and the neighbours of a corner in its face.
 pub(crate) struct Order {
@@ -41,9 +41,9 @@ fn find<T>(list: &[T], wrong: impl Fn(&T) -> bool) -> Option<usize> {
     any.then(|| list.iter().position(wrong)).flatten()
 }
 
-/// The faults 4 to 8, which need no table.
+/// The faults 4, 27, 5 to 8 and 28, which need no table.
 fn check_lists(lists: Lists) -> Result<(), Refusal> {
-    let Lists { coordinates, sides, corners } = lists;
+    let Lists { coordinates, sides, corners, sharpness } = lists;
     let vertices = coordinates.len() / 3;
     let out_of = |count: usize, most: usize| count == 0 || count > most;
     if coordinates.len() % 3 != 0
@@ -52,6 +52,9 @@ fn check_lists(lists: Lists) -> Result<(), Refusal> {
         || out_of(corners.len(), MAX_CORNERS)
     {
         return refuse(4, 0);
+    }
+    if sharpness.len() != 2 * corners.len() {
+        return refuse(27, sharpness.len());
     }
     if let Some(face) = find(sides, |&s| usize::from(s) < FEWEST || usize::from(s) > MOST) {
         return refuse(5, face);
@@ -67,10 +70,13 @@ fn check_lists(lists: Lists) -> Result<(), Refusal> {
     if let Some(corner) = find(corners, |&v| usize::from(v) >= vertices) {
         return refuse(8, corner);
     }
+    if let Some(position) = find(sharpness, |&s| s > SHARPEST) {
+        return refuse(28, position);
+    }
     Ok(())
 }
 
-/// The faults 4 to 13; the order of the corners and the links of a mesh that has none.
+/// The faults 4 to 13, 27 and 28; the order of the corners and the links of a mesh that has none.
 pub(crate) fn check_mesh(lists: Lists) -> Result<(Order, Vec<u16>), Refusal> {
     check_lists(lists)?;
     let corners = lists.corners;
@@ -162,7 +168,7 @@ pub(crate) fn check_mesh(lists: Lists) -> Result<(Order, Vec<u16>), Refusal> {
     Ok((order, links))
 }
 
-/// The first fault of 4 to 13.
+/// The first fault of 4 to 13, 27 and 28.
 pub fn check(lists: Lists) -> Result<(), Refusal> {
     check_mesh(lists).map(|_| ())
 }

@@ -1,32 +1,40 @@
-//! The file of 01: reading it into lent lists, writing it, and the lines that the programs print of it.
+//! The file of 01, in L8's two versions: reading it into lent lists, writing it, and the lines that the programs print of it.
 
 use std::fmt::Write;
 
 use crate::check::{check_mesh, links_of};
 use crate::squares::{irregular, line};
 use crate::surface::{build, NUMBERS_PER_CORNER};
-use crate::{refuse, Lists, Refusal, MAX_CORNERS, MAX_FACES, MAX_VERTICES, MOST};
+use crate::{refuse, Lists, Refusal, MAX_CORNERS, MAX_FACES, MAX_VERTICES, MOST, PLAIN};
 
 const HEADER: usize = 11;
 /// The refusal of a lent list that is too short for the file; 01 has no number for it.
 pub const LENT_TOO_SHORT: u32 = 255;
 
-/// The lengths of the three lists that a file holds.
+/// The lengths of the four lists that a file holds.
 #[derive(Clone, Copy, Debug, PartialEq, Eq)]
 pub struct Lengths {
     pub coordinates: usize,
     pub sides: usize,
     pub corners: usize,
+    pub sharpness: usize,
 }
 
-/// The three lists that a file holds.
+/// The four lists that a file holds.
 struct Held {
     coordinates: Vec<i32>,
     sides: Vec<u8>,
     corners: Vec<u16>,
+    sharpness: Vec<u8>,
 }
 
-/// The lists of a file without a fault of 1 to 13. The file is the first `length` of the bytes; a file of which
+impl Held {
+    fn lists(&self) -> Lists<'_> {
+        Lists { coordinates: &self.coordinates, sides: &self.sides, corners: &self.corners, sharpness: &self.sharpness }
+    }
+}
+
+/// The lists of a file without a fault of 1 to 13 and 28. The file is the first `length` of the bytes; a file of which
 /// not all bytes are held is turned down as one of another length (3), after 4.
 fn read(bytes: &[u8], length: u64) -> Result<Held, Refusal> {
     let held = bytes.len().min(usize::try_from(length).unwrap_or(usize::MAX));
@@ -35,11 +43,13 @@ fn read(bytes: &[u8], length: u64) -> Result<Held, Refusal> {
         return refuse(1, 0);
     }
     let short = |at: usize| u16::from_le_bytes([bytes[at], bytes[at + 1]]);
-    if short(3) != 1 {
-        return refuse(2, 0);
-    }
+    let per_corner = match short(3) {
+        1 => 2,
+        2 => 2 + 2,
+        _ => return refuse(2, 0),
+    };
     let [vertices, faces, corners] = [5, 7, 9].map(|at| usize::from(short(at)));
-    let asked = HEADER + 12 * vertices + faces + 2 * corners;
+    let asked = HEADER + 12 * vertices + faces + per_corner * corners;
     if length != asked as u64 {
         return refuse(3, 0);
     }
@@ -51,28 +61,37 @@ fn read(bytes: &[u8], length: u64) -> Result<Held, Refusal> {
         return refuse(3, 0);
     }
     let (coordinates, rest) = bytes[HEADER..].split_at(12 * vertices);
-    let (sides, corners) = rest.split_at(faces);
-    let lists = Held {
+    let (sides, rest) = rest.split_at(faces);
+    let (numbers, sharpness) = rest.split_at(2 * corners);
+    let held = Held {
         coordinates: coordinates.chunks_exact(4).map(|b| i32::from_le_bytes([b[0], b[1], b[2], b[3]])).collect(),
         sides: sides.to_vec(),
-        corners: corners.chunks_exact(2).map(|b| u16::from_le_bytes([b[0], b[1]])).collect(),
+        corners: numbers.chunks_exact(2).map(|b| u16::from_le_bytes([b[0], b[1]])).collect(),
+        sharpness: if per_corner == 2 { vec![PLAIN; 2 * corners] } else { sharpness.to_vec() },
     };
-    check_mesh(Lists { coordinates: &lists.coordinates, sides: &lists.sides, corners: &lists.corners })?;
-    Ok(lists)
+    check_mesh(held.lists())?;
+    Ok(held)
 }
 
-/// Reads a file into the beginnings of three lent lists, or leaves them as they are and says why.
+/// Reads a file into the beginnings of four lent lists, or leaves them as they are and says why.
 pub fn decode(
     bytes: &[u8],
     length: u64,
     coordinates: &mut [i32],
     sides: &mut [u8],
     corners: &mut [u16],
+    sharpness: &mut [u8],
 ) -> Result<Lengths, Refusal> {
     let held = read(bytes, length)?;
-    let lengths = Lengths { coordinates: held.coordinates.len(), sides: held.sides.len(), corners: held.corners.len() };
-    let lent = [coordinates.len(), sides.len(), corners.len()];
-    for (lent, asked) in lent.into_iter().zip([lengths.coordinates, lengths.sides, lengths.corners]) {
+    let lengths = Lengths {
+        coordinates: held.coordinates.len(),
+        sides: held.sides.len(),
+        corners: held.corners.len(),
+        sharpness: held.sharpness.len(),
+    };
+    let lent = [coordinates.len(), sides.len(), corners.len(), sharpness.len()];
+    let asked = [lengths.coordinates, lengths.sides, lengths.corners, lengths.sharpness];
+    for (lent, asked) in lent.into_iter().zip(asked) {
         if lent < asked {
             return refuse(LENT_TOO_SHORT, asked);
         }
@@ -80,6 +99,7 @@ pub fn decode(
     coordinates[..lengths.coordinates].copy_from_slice(&held.coordinates);
     sides[..lengths.sides].copy_from_slice(&held.sides);
     corners[..lengths.corners].copy_from_slice(&held.corners);
+    sharpness[..lengths.sharpness].copy_from_slice(&held.sharpness);
     Ok(lengths)
 }
 
@@ -94,7 +114,7 @@ pub struct Counts {
 
 /// The counts of a file, or its refusal.
 pub fn summary(bytes: &[u8], length: u64) -> Result<Counts, Refusal> {
-    let Held { coordinates, sides, corners } = read(bytes, length)?;
+    let Held { coordinates, sides, corners, .. } = read(bytes, length)?;
     let mut by_number = [(0, 0); MOST + 1];
     let mut named = vec![0; coordinates.len() / 3];
     for &vertex in &corners {
@@ -138,7 +158,7 @@ pub fn patches(bytes: &[u8]) -> String {
         Ok(held) => held,
         Err(refusal) => return refused(refusal),
     };
-    let lists = Lists { coordinates: &held.coordinates, sides: &held.sides, corners: &held.corners };
+    let lists = held.lists();
     let count = held.corners.len();
     let mut output = vec![0; NUMBERS_PER_CORNER * count];
     let built = links_of(lists).and_then(|links| build(lists, &links, 0, count, &mut output));
@@ -155,18 +175,19 @@ pub fn patches(bytes: &[u8]) -> String {
 
 /// What `squares` prints of a file.
 pub fn squares(bytes: &[u8]) -> String {
-    line(read(bytes, bytes.len() as u64).and_then(|held| {
-        irregular(Lists { coordinates: &held.coordinates, sides: &held.sides, corners: &held.corners })
-    }))
+    line(read(bytes, bytes.len() as u64).and_then(|held| irregular(held.lists())))
 }
 
-/// The file of three lists, whatever they hold; counts are cut to 16 bits.
-pub fn encode(lists: Lists) -> Vec<u8> {
+/// The file of the lists in a version, whatever they hold; counts are cut to 16 bits. Only version 2 has the sharpness.
+pub fn encode(lists: Lists, version: usize) -> Vec<u8> {
     let mut bytes = b"DMS".to_vec();
-    let counts = [1, lists.coordinates.len() / 3, lists.sides.len(), lists.corners.len()];
+    let counts = [version, lists.coordinates.len() / 3, lists.sides.len(), lists.corners.len()];
     bytes.extend(counts.into_iter().flat_map(|count| (count as u16).to_le_bytes()));
     bytes.extend(lists.coordinates.iter().flat_map(|c| c.to_le_bytes()));
     bytes.extend(lists.sides);
     bytes.extend(lists.corners.iter().flat_map(|v| v.to_le_bytes()));
+    if version == 2 {
+        bytes.extend(lists.sharpness);
+    }
     bytes
 }

@@ -1,7 +1,7 @@
-//! An independent implementation of document 01, of L1, L4, L5 and L7, in plain Rust: the file, the check of a mesh, linking,
-//! building, the four conditions across a side, a control point in floats, the listing of nested grids, the search for
-//! an irregular face or vertex. It is written from the papers alone and shares nothing with the proved library, so that
-//! the two can be compared; nobody has proved it.
+//! An independent implementation of document 01, of L1, L4, L5, L7 and L8, in plain Rust: the file, the check of a mesh,
+//! linking, building, the four conditions across a side, a control point in floats, the listing of nested grids, the
+//! search for an irregular face or vertex. It is written from the papers alone and shares nothing with the proved
+//! library, so that the two can be compared; nobody has proved it.
 
 mod check;
 pub mod conditions;
@@ -29,13 +29,18 @@ pub const FEWEST: usize = 3;
 pub const MOST: usize = 16;
 /// The largest coordinate, in grid steps; the smallest is its negative.
 pub const LARGEST_COORDINATE: i32 = 65_536;
+/// The largest sharpness number, in sixteenths, and what files without sharpness have throughout.
+pub const SHARPEST: u8 = 16;
+pub const PLAIN: u8 = 8;
 
-/// The three lists of a mesh: coordinates, side counts, vertex numbers of the corners.
+/// The four lists of a mesh: coordinates, side counts, vertex numbers of the corners, and their sharpness: u and v of
+/// corner 0, then of corner 1, and so on.
 #[derive(Clone, Copy, Debug)]
 pub struct Lists<'a> {
     pub coordinates: &'a [i32],
     pub sides: &'a [u8],
     pub corners: &'a [u16],
+    pub sharpness: &'a [u8],
 }
 
 /// Why an input is turned down: the number in 01's list, and the place.

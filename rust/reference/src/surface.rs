@@ -1,4 +1,5 @@
-//! Building: from a corner to the 41 control points of its quad-net, each step as 01 states it.
+//! Building: from a corner to the 41 control points of its quad-net, each step as 01 states it, the refined point as L8
+//! does.
 
 use crate::check::{check_mesh, Order};
 use crate::cosines::{cosine, ONE};
@@ -65,17 +66,22 @@ macro_rules! for_size {
     };
 }
 
-/// The refined points of a face with N vertices, given in ticks.
-fn refine<const N: usize>(vertices: &[Point], refined: &mut [Point]) {
+/// The refined points of a face with N vertices, given in ticks, and the sharpness of their corners: u pulls towards the
+/// leaving edge, v towards the arriving one.
+fn refine<const N: usize>(vertices: &[Point], sharpness: &[u8], refined: &mut [Point]) {
     let vertices: &[Point; N] = vertices.try_into().expect("N vertices");
     let refined: &mut [Point; N] = refined.try_into().expect("N points");
     let n = N as i64;
     let sum = |axis: usize| vertices.iter().map(|p| p[axis]).sum::<i64>();
     let sum = [sum(0), sum(1), sum(2)];
-    for (i, point) in refined.iter_mut().enumerate() {
+    for (i, (point, pair)) in refined.iter_mut().zip(sharpness.chunks_exact(2)).enumerate() {
         let before = vertices[(i + N - 1) % N];
         let after = vertices[(i + 1) % N];
-        *point = each(8 * n, |x| 2 * sum[x] + n * (before[x] + 4 * vertices[i][x] + after[x]));
+        let [u, v] = [pair[0], pair[1]].map(i64::from);
+        let [to_face, to_before, own, to_after] = [2 * (16 - u) * (16 - v), (16 - u) * v, 16 * (u + v), u * (16 - v)];
+        *point = each(512 * n, |x| {
+            to_face * sum[x] + n * (to_before * before[x] + own * vertices[i][x] + to_after * after[x])
+        });
     }
 }
 
@@ -164,7 +170,8 @@ impl<'a> Surface<'a> {
         }
         let n = face.len();
         self.known[face.clone()].fill(true);
-        for_size!(n, refine(&vertices[..n], &mut self.refined[face]));
+        let sharpness = &self.lists.sharpness[2 * face.start..2 * face.end];
+        for_size!(n, refine(&vertices[..n], sharpness, &mut self.refined[face]));
     }
 
     /// The refined face through `first` and the corners that `step` leads to, and its number of sides.

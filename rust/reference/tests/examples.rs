@@ -1,4 +1,4 @@
-//! The checked examples of 01.
+//! The checked examples of 01, with 8 and 8 throughout.
 
 use reference::{
     build, check, conditions, cosine, decode, encode, inspect, link, links_of, nets, patches, round, Lists, Refusal,
@@ -7,7 +7,16 @@ use reference::{
 /// The cube of corners ±3: on z = 3 the corner at (3, 3, 3) leaves to (3, -3, 3).
 const COORDINATES: [i32; 24] = [3, 3, 3, 3, -3, 3, -3, -3, 3, -3, 3, 3, 3, 3, -3, 3, -3, -3, -3, -3, -3, -3, 3, -3];
 const CORNERS: [u16; 24] = [0, 1, 2, 3, 4, 7, 6, 5, 1, 0, 4, 5, 2, 1, 5, 6, 3, 2, 6, 7, 0, 3, 7, 4];
-const CUBE: Lists = Lists { coordinates: &COORDINATES, sides: &[4; 6], corners: &CORNERS };
+const CUBE: Lists = Lists { coordinates: &COORDINATES, sides: &[4; 6], corners: &CORNERS, sharpness: &[8; 48] };
+
+fn lists(tables: &shapes::Tables) -> Lists<'_> {
+    Lists {
+        coordinates: &tables.coordinates,
+        sides: &tables.sides,
+        corners: &tables.corners,
+        sharpness: &tables.sharpness,
+    }
+}
 
 fn refusal(number: u32, place: u64) -> Result<(), Refusal> {
     Err(Refusal { number, place })
@@ -52,12 +61,13 @@ fn rounding_and_row_six() {
 
 #[test]
 fn refused_meshes() {
-    let flat = Lists { coordinates: &[0; 9], sides: &[3, 3], corners: &[0, 1, 2, 0, 2, 1] };
+    let flat = Lists { coordinates: &[0; 9], sides: &[3, 3], corners: &[0, 1, 2, 0, 2, 1], sharpness: &[8; 12] };
     assert_eq!(check(flat), refusal(12, 0));
     let touching = Lists {
         coordinates: &[0; 21],
         sides: &[3; 8],
         corners: &[0, 1, 2, 0, 2, 3, 0, 3, 1, 1, 3, 2, 0, 4, 5, 0, 5, 6, 0, 6, 4, 4, 6, 5],
+        sharpness: &[8; 48],
     };
     assert_eq!(check(touching), refusal(13, 0));
 }
@@ -76,12 +86,10 @@ fn limits() {
 
     for n in [12, 13, 16, 17] {
         let tables = shapes::Tables::of(&shapes::Solid::prism(n));
-        let lists = Lists { coordinates: &tables.coordinates, sides: &tables.sides, corners: &tables.corners };
-        assert_eq!(check(lists), if n <= 16 { Ok(()) } else { refusal(5, 0) });
+        assert_eq!(check(lists(&tables)), if n <= 16 { Ok(()) } else { refusal(5, 0) });
         let tables = shapes::Tables::of(&shapes::Solid::bipyramid(n));
-        let lists = Lists { coordinates: &tables.coordinates, sides: &tables.sides, corners: &tables.corners };
         let tip = tables.corners.iter().max().map_or(0, |&last| u64::from(last) - 1);
-        assert_eq!(check(lists), if n <= 16 { Ok(()) } else { refusal(12, tip) });
+        assert_eq!(check(lists(&tables)), if n <= 16 { Ok(()) } else { refusal(12, tip) });
     }
     let sides = [16; 4_096];
     assert_eq!(check(Lists { sides: &sides, ..CUBE }), refusal(6, 65_536));
@@ -95,18 +103,19 @@ fn limits() {
 
 #[test]
 fn the_file() {
-    let bytes = encode(CUBE);
+    let bytes = encode(CUBE, 1);
     assert_eq!(bytes.len(), 11 + 12 * 8 + 6 + 2 * 24);
     let length = bytes.len() as u64;
     assert_eq!(inspect(&bytes), "mesh 8 6 24\n3 8 0\n4 0 6\n");
     assert!(patches(&bytes).starts_with("corner 0\n512 512 512\n544 448 544\n"));
     assert_eq!(patches(&bytes).lines().count(), 24 * (1 + 41));
     assert_eq!(inspect(&bytes[1..]), "refused 1 0\n");
-    let (mut coordinates, mut sides, mut corners) = ([9; 25], [9; 7], [9; 25]);
-    decode(&bytes, length, &mut coordinates, &mut sides, &mut corners).unwrap();
+    let (mut coordinates, mut sides, mut corners, mut sharpness) = ([9; 25], [9; 7], [9; 25], [9; 49]);
+    decode(&bytes, length, &mut coordinates, &mut sides, &mut corners, &mut sharpness).unwrap();
     assert_eq!(coordinates[..24], COORDINATES);
     assert_eq!(corners[..24], CORNERS);
-    assert_eq!((coordinates[24], sides[6], corners[24]), (9, 9, 9));
+    assert_eq!(sharpness[..48], [8; 48]);
+    assert_eq!((coordinates[24], sides[6], corners[24], sharpness[48]), (9, 9, 9, 9));
 }
 
 #[test]

@@ -1,12 +1,12 @@
-//! The fast check against a literal one, which tries each number of 01 over the whole input by plain search, on random
-//! meshes and damaged ones.
+//! The fast check against a literal one, which tries each number of 01 and L8 over the whole input by plain search, on
+//! random meshes and damaged ones.
 
 use reference::{check, links_of, Lists, Refusal};
 use shapes::{damage, random_tables, Random, Tables, DAMAGES};
 
-/// The lowest place of the first fault of 4 to 13, or the links.
+/// The lowest place of the first fault of 4 to 13, 27 and 28, or the links.
 fn literal(tables: &Tables) -> Result<Vec<usize>, Refusal> {
-    let Tables { coordinates, sides, corners } = tables;
+    let Tables { coordinates, sides, corners, sharpness } = tables;
     let count = corners.len();
     let vertices = coordinates.len() / 3;
     let fault = |number: u32, place: Option<usize>| match place {
@@ -18,12 +18,14 @@ fn literal(tables: &Tables) -> Result<Vec<usize>, Refusal> {
         || !(1..=4_096).contains(&sides.len())
         || !(1..=8_192).contains(&count);
     fault(4, bad_lengths.then_some(0))?;
+    fault(27, (sharpness.len() != 2 * count).then_some(sharpness.len()))?;
     fault(5, sides.iter().position(|s| !(3..=16).contains(s)))?;
     let starts = tables.starts();
     let sum = starts[sides.len()];
     fault(6, (sum != count).then_some(sum))?;
     fault(7, coordinates.iter().position(|c| !(-65_536..=65_536).contains(c)))?;
     fault(8, corners.iter().position(|&v| usize::from(v) >= vertices))?;
+    fault(28, sharpness.iter().position(|&s| s > 16))?;
 
     let face_of = |c: usize| starts.partition_point(|&start| start <= c) - 1;
     let next = |c: usize| if c + 1 == starts[face_of(c) + 1] { starts[face_of(c)] } else { c + 1 };
@@ -51,20 +53,25 @@ fn literal(tables: &Tables) -> Result<Vec<usize>, Refusal> {
 }
 
 fn lists(tables: &Tables) -> Lists<'_> {
-    Lists { coordinates: &tables.coordinates, sides: &tables.sides, corners: &tables.corners }
+    Lists {
+        coordinates: &tables.coordinates,
+        sides: &tables.sides,
+        corners: &tables.corners,
+        sharpness: &tables.sharpness,
+    }
 }
 
 #[test]
 fn the_fast_check_is_the_literal_one() {
     let mut random = Random::new(1);
-    let mut seen = [0; 14];
+    let mut seen = [0; 29];
     for case in 0..3_000 {
         let mut tables = random_tables(&mut random);
         if tables.corners.len() > 300 && case % 50 != 0 {
             continue;
         }
         for _ in 0..random.below(3) {
-            let number = DAMAGES.start() + random.below(DAMAGES.count()) as u32;
+            let number = *random.pick(&DAMAGES);
             damage(&mut tables, number, &mut random);
         }
         let expected = literal(&tables);
@@ -80,6 +87,7 @@ fn the_fast_check_is_the_literal_one() {
             }
         }
     }
-    println!("accepted {}, refused by 4 to 13: {:?}", seen[0], &seen[4..]);
-    assert!(seen[0] > 100 && seen[4..].iter().all(|&n| n >= 5), "{seen:?}");
+    let refused = DAMAGES.map(|number| seen[number as usize]);
+    println!("accepted {}, refused by {DAMAGES:?}: {refused:?}", seen[0]);
+    assert!(seen[0] > 100 && refused.iter().all(|&n| n >= 5), "{seen:?}");
 }

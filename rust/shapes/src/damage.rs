@@ -1,13 +1,22 @@
-//! Ways to damage the lists of a mesh, each aimed at one of 01's faults 4 to 13. Where a mesh does not lend itself to
+//! Ways to damage the lists of a mesh, each aimed at one of the faults 4 to 13, 27 and 28. Where a mesh does not lend itself to
 //! the aim the lists stay as they are or show another fault: the answer is compared either way.
 
-use crate::{Random, Solid, Tables, LARGEST_COORDINATE, MAX_CORNERS, MAX_FACES, MAX_VERTICES};
+use crate::{Random, Solid, Tables, LARGEST_COORDINATE, MAX_CORNERS, MAX_FACES, MAX_VERTICES, PLAIN, SHARPEST};
 
-/// The faults that `damage` aims at.
-pub const DAMAGES: std::ops::RangeInclusive<u32> = 4..=13;
+/// The faults that `damage` aims at, in the order that they are tried in.
+pub const DAMAGES: [u32; 12] = [4, 27, 5, 6, 7, 8, 28, 9, 10, 11, 12, 13];
 
-/// Damages the lists, aiming at the fault `number`.
+/// Damages the lists, aiming at the fault `number`. Corners that come or go have their sharpness come or go with them,
+/// unless that is the aim.
 pub fn damage(tables: &mut Tables, number: u32, random: &mut Random) {
+    let paired = tables.sharpness.len() == 2 * tables.corners.len();
+    damage_lists(tables, number, random);
+    if paired && number != 27 {
+        tables.sharpness.resize(2 * tables.corners.len(), PLAIN);
+    }
+}
+
+fn damage_lists(tables: &mut Tables, number: u32, random: &mut Random) {
     match number {
         4 => lengths(tables, random),
         5 => {
@@ -26,6 +35,12 @@ pub fn damage(tables: &mut Tables, number: u32, random: &mut Random) {
             if let Some(corner) = some(&tables.corners, random) {
                 let vertices = tables.vertices() as u16;
                 tables.corners[corner] = *random.pick(&[vertices, vertices.saturating_add(1), u16::MAX]);
+            }
+        }
+        27 => pairs(tables, random),
+        28 => {
+            if let Some(position) = some(&tables.sharpness, random) {
+                tables.sharpness[position] = *random.pick(&[SHARPEST + 1, SHARPEST + 2, 128, 255]);
             }
         }
         9 => repeat(tables, random),
@@ -63,6 +78,14 @@ fn lengths(tables: &mut Tables, random: &mut Random) {
         7 => tables.sides.resize(MAX_FACES + random.below(2), 3),
         _ => tables.corners.resize(MAX_CORNERS + random.below(2), 0),
     }
+}
+
+/// A sharpness list that is not twice as long as the corner list.
+fn pairs(tables: &mut Tables, random: &mut Random) {
+    let corners = tables.corners.len();
+    let length =
+        *random.pick(&[0, corners, (2 * corners).saturating_sub(1), 2 * corners + 1, 2 * corners + 2, 3 * corners]);
+    tables.sharpness.resize(length, PLAIN);
 }
 
 fn sum(tables: &mut Tables, random: &mut Random) {

@@ -9,11 +9,13 @@ mod tables;
 pub use damage::{damage, pinch, DAMAGES};
 pub use random::Random;
 pub use solid::Solid;
-pub use tables::{random_tables, Places, Tables};
+pub use tables::{random_tables, Places, Sharpness, Tables};
 
-/// The limits of 01.
+/// The limits of 01 and L8.
 const MAX_VERTICES: usize = 2_048;
 const MAX_FACES: usize = 4_096;
 const MAX_CORNERS: usize = 8_192;
 const MOST: usize = 16;
 const LARGEST_COORDINATE: i32 = 65_536;
+const SHARPEST: u8 = 16;
+const PLAIN: u8 = 8;

@@ -1,13 +1,59 @@
-//! The three lists of 01, made from solids: coordinates of many kinds, numbers and orders at random.
+//! The lists of 01 and L8, made from solids: coordinates and sharpness of many kinds, numbers and orders at random.
 
-use crate::{Random, Solid, LARGEST_COORDINATE, MAX_CORNERS, MAX_FACES, MAX_VERTICES, MOST};
+use crate::{Random, Solid, LARGEST_COORDINATE, MAX_CORNERS, MAX_FACES, MAX_VERTICES, MOST, PLAIN, SHARPEST};
 
-/// Coordinates, side counts and vertex numbers of the corners.
+/// Coordinates, side counts, vertex numbers of the corners, and u and v of each corner.
 #[derive(Clone, Debug, PartialEq, Eq)]
 pub struct Tables {
     pub coordinates: Vec<i32>,
     pub sides: Vec<u8>,
     pub corners: Vec<u16>,
+    pub sharpness: Vec<u8>,
+}
+
+/// How sharp the corners of a mesh are.
+#[derive(Clone, Copy, Debug, PartialEq, Eq)]
+pub enum Sharpness {
+    /// 8 and 8 throughout.
+    Plain,
+    /// 0 and 0 throughout.
+    Blunt,
+    /// 16 and 16 throughout.
+    Sharp,
+    /// 16 and 16 at one corner, else 8 and 8.
+    OneCorner,
+    /// Anything from 0 to 16.
+    Random,
+    /// 0 or 16.
+    Ends,
+}
+
+impl Sharpness {
+    pub const ALL: [Sharpness; 6] = [
+        Sharpness::Plain,
+        Sharpness::Blunt,
+        Sharpness::Sharp,
+        Sharpness::OneCorner,
+        Sharpness::Random,
+        Sharpness::Ends,
+    ];
+
+    fn of(self, corners: usize, random: &mut Random) -> Vec<u8> {
+        let mut numbers: Vec<u8> = (0..2 * corners)
+            .map(|_| match self {
+                Sharpness::Plain | Sharpness::OneCorner => PLAIN,
+                Sharpness::Blunt => 0,
+                Sharpness::Sharp => SHARPEST,
+                Sharpness::Random => random.below(usize::from(SHARPEST) + 1) as u8,
+                Sharpness::Ends => *random.pick(&[0, SHARPEST]),
+            })
+            .collect();
+        if self == Sharpness::OneCorner && corners > 0 {
+            let corner = random.below(corners);
+            numbers[2 * corner..2 * corner + 2].fill(SHARPEST);
+        }
+        numbers
+    }
 }
 
 /// Where the points of a mesh go.
@@ -52,17 +98,34 @@ impl Places {
 }
 
 impl Tables {
-    /// The lists of a solid as it stands.
+    /// Three lists, with 8 and 8 throughout.
+    pub fn plain(coordinates: Vec<i32>, sides: Vec<u8>, corners: Vec<u16>) -> Tables {
+        let sharpness = vec![PLAIN; 2 * corners.len()];
+        Tables { coordinates, sides, corners, sharpness }
+    }
+
+    /// The lists of a solid as it stands, with 8 and 8 throughout.
     pub fn of(solid: &Solid) -> Tables {
-        Tables {
-            coordinates: solid.points.iter().flatten().copied().collect(),
-            sides: solid.faces.iter().map(|face| face.len() as u8).collect(),
-            corners: solid.faces.iter().flatten().map(|&point| point as u16).collect(),
-        }
+        Tables::plain(
+            solid.points.iter().flatten().copied().collect(),
+            solid.faces.iter().map(|face| face.len() as u8).collect(),
+            solid.faces.iter().flatten().map(|&point| point as u16).collect(),
+        )
+    }
+
+    /// The same mesh with other sharpness.
+    pub fn sharpened(mut self, sharpness: Sharpness, random: &mut Random) -> Tables {
+        self.sharpness = sharpness.of(self.corners.len(), random);
+        self
+    }
+
+    /// Whether every number is 8, as in a file of version 1.
+    pub fn is_plain(&self) -> bool {
+        self.sharpness.iter().all(|&number| number == PLAIN)
     }
 
     /// The lists of a solid with its points at other places, other vertex numbers, the faces in another order, each
-    /// begun at another corner, and sometimes all of them turned over.
+    /// begun at another corner, and sometimes all of them turned over; with 8 and 8 throughout.
     pub fn relabelled(solid: &Solid, places: Places, random: &mut Random) -> Tables {
         let mut numbers: Vec<usize> = (0..solid.points.len()).collect();
         random.shuffle(&mut numbers);
@@ -146,7 +209,7 @@ fn part(random: &mut Random) -> Solid {
     solid
 }
 
-/// A mesh of one to four parts, relabelled, with coordinates of any kind. 01 accepts nearly all of them; small tori
+/// A mesh of one to four parts, relabelled, with coordinates and sharpness of any kind. 01 accepts nearly all of them; small tori
 /// have operators that make an edge or a vertex meet itself.
 pub fn random_tables(random: &mut Random) -> Tables {
     let mut solid = part(random);
@@ -154,5 +217,6 @@ pub fn random_tables(random: &mut Random) -> Tables {
         solid = solid.with(part(random));
     }
     let places = *random.pick(&Places::ALL);
-    Tables::relabelled(&solid, places, random)
+    let sharpness = *random.pick(&Sharpness::ALL);
+    Tables::relabelled(&solid, places, random).sharpened(sharpness, random)
 }

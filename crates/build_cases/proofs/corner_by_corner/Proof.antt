@@ -6,10 +6,10 @@ use Rattle.build_cases.proofs.corner_by_corner.Statement.{statement}
 use Rattle.build_cases.proofs.corner_by_corner.Tie as tie
 
 abbrev Inv-loop : tie.InvT-loop
-Inv-loop coordinates sides corners links whole c₀ t7 t8 c = c ≤ 24
+Inv-loop coordinates sides corners sharpness links whole c₀ t8 t9 c = c ≤ 24
 
 abbrev μ-loop : tie.MeasureT-loop
-μ-loop coordinates sides corners links whole c₀ t7 t8 c = 24 - c
+μ-loop coordinates sides corners sharpness links whole c₀ t8 t9 c = 24 - c
 
 loop-holds : tie.Need-loop-holds Inv-loop μ-loop
 loop-holds c = search needs

@@ -14,53 +14,50 @@ use Rattle.building.proofs.answer.Statement.{statement}
 use Rattle.building.proofs.answer.Tie as tie
 
 abbrev mesh : tie.Start → Mesh
-mesh s = meshOf (now (s .args .coordinates)) (now (s .args .sides)) (now (s .args .corners))
+mesh s = meshOf (now (s .args .coordinates)) (now (s .args .sides)) (now (s .args .corners)) (now (s .args .sharpness))
 
 -- past the checks
 module _ (t : tie.After-enum-told) where
   abbrev start : tie.Start
-  start = t .before .before .before .before .before .before .before
+  start = t .before .before .before .before .before .before .before .before
 
   accepts : requestFaults (mesh start) (now (start .args .links)) (start .args .range .first) (start .args .range .count) (length (now
       (start .args .out))) ≡ sound
   accepts = passed (t .before .before .check-request .result) (t .before .before .check-request .ensures (mesh start) refl
-      (start .pre .1 .0 .links)) (t .enum-told .given .1)
+      (start .pre .1 .links)) (t .enum-told .given .1)
 
   grants : Granted (mesh start) (start .args .range .first) (start .args .range .count) (length (now (start .args .out)))
   grants = granted (mesh start) (now (start .args .links)) (start .args .range .first) (start .args .range .count) (length (now (start .args .out))) accepts
 
 check-request-requires : tie.Need-check-request-requires
-check-request-requires c κs = let s = c .before .before .before .before in (few (mesh s) (s .pre .0), s .pre .1 .0 .long)
+check-request-requires c κs = let s = c .before .before .before .before .before in (few (mesh s) (s .pre .0), s .pre .1 .long)
 
 enum-known-a : tie.Need-enum-known-a
 enum-known-a c = search needs
 
 returns : tie.Need-returns
 returns c =
-    let s = c .before .before .before .before .before .before .before .before in
+    let s = c .before .before .before .before .before .before .before .before .before in
     record {
       answers = ap stated (sym (c .before .a .given .1)) ∙ c .before .before .before .check-request .ensures (mesh s) refl
-          (s .pre .1 .0 .links);
+          (s .pre .1 .links);
       holds = refl;
     }
 
 enum-told : tie.Need-enum-told
 enum-told c = search needs
 
-write-nets-requires : tie.Need-write-nets-requires
-write-nets-requires c κs =
-    let s = c .before .before .before .before .before .before .before .before .before in
-    let g = grants (c .before .before) in
-    (s .pre .0, (s .pre .1 .0, ((g .some, g .within, g .room), s .pre .1 .1)))
+write-range-requires : tie.Need-write-range-requires
+write-range-requires c κs =
+    let t = c .before in
+    let g = grants t in
+    (start t .pre .0, (start t .pre .1, (g .some, g .within, g .room)))
 
 same-length : tie.Need-same-length
 same-length c = search needs
 
-same-length-2 : tie.Need-same-length-2
-same-length-2 c = search needs
-
 returns-2 : tie.Need-returns-2
-returns-2 c = record { answers = sym (accepts (c .before .before .before .before .before)); holds = c .before .before .write-nets .ensures }
+returns-2 c = record { answers = sym (accepts (c .before .before .before)); holds = c .before .write-range .ensures }
 
 pub answer-spec : {M : Type 1} → statement M
 answer-spec =
@@ -70,7 +67,6 @@ answer-spec =
     enum-known-a
     returns
     enum-told
-    write-nets-requires
+    write-range-requires
     same-length
-    same-length-2
     returns-2)

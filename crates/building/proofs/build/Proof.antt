@@ -6,12 +6,11 @@ use denote.Ref.{now}
 use Rattle.paper.specs.Mesh.{Mesh, meshOf, mostVertices, mostCorners}
 use Rattle.mesh.specs.Tables.{smallMesh}
 use Rattle.checks.proofs.Laws.{room}
-use Rattle.building.proofs.Laws.{point-room}
 use Rattle.building.proofs.build.Statement.{statement}
 use Rattle.building.proofs.build.Tie as tie
 
 abbrev mesh : tie.Start → Mesh
-mesh s = meshOf (now (s .args .coordinates)) (now (s .args .sides)) (now (s .args .corners))
+mesh s = meshOf (now (s .args .coordinates)) (now (s .args .sides)) (now (s .args .corners)) (now (s .args .sharpness))
 
 slice-aggregate-build-over : tie.Need-slice-aggregate-build-over
 slice-aggregate-build-over c = search needs
@@ -19,13 +18,10 @@ slice-aggregate-build-over c = search needs
 slice-aggregate-build-over-2 : tie.Need-slice-aggregate-build-over-2
 slice-aggregate-build-over-2 c = search needs
 
-slice-aggregate-build-over-3 : tie.Need-slice-aggregate-build-over-3
-slice-aggregate-build-over-3 c = search needs
-
 build-over-requires : tie.Need-build-over-requires
 build-over-requires c κs =
     let s = c .before .before .before .before .before .before .before .before .before in
-    (room (mesh s) smallMesh smallMesh (λ h. search needs) (λ h. search needs), point-room (mesh s) smallMesh (λ h. search needs))
+    room (mesh s) smallMesh smallMesh (λ h. search needs) (λ h. search needs)
 
 same-length : tie.Need-same-length
 same-length c = search needs
@@ -33,19 +29,16 @@ same-length c = search needs
 returns : tie.Need-returns
 returns c = search needs
 
+slice-aggregate-build-over-3 : tie.Need-slice-aggregate-build-over-3
+slice-aggregate-build-over-3 c = search needs
+
 slice-aggregate-build-over-4 : tie.Need-slice-aggregate-build-over-4
 slice-aggregate-build-over-4 c = search needs
-
-slice-aggregate-build-over-5 : tie.Need-slice-aggregate-build-over-5
-slice-aggregate-build-over-5 c = search needs
-
-slice-aggregate-build-over-6 : tie.Need-slice-aggregate-build-over-6
-slice-aggregate-build-over-6 c = search needs
 
 build-over-requires-2 : tie.Need-build-over-requires-2
 build-over-requires-2 c κs =
     let s = c .before .before .before .before .before .before .before .before in
-    (room (mesh s) mostCorners mostVertices (λ h. h) (λ h. h), point-room (mesh s) mostCorners (λ h. h))
+    room (mesh s) mostCorners mostVertices (λ h. h) (λ h. h)
 
 same-length-2 : tie.Need-same-length-2
 same-length-2 c = search needs
@@ -59,13 +52,11 @@ build-spec =
     (tie.spec
     slice-aggregate-build-over
     slice-aggregate-build-over-2
-    slice-aggregate-build-over-3
     build-over-requires
     same-length
     returns
+    slice-aggregate-build-over-3
     slice-aggregate-build-over-4
-    slice-aggregate-build-over-5
-    slice-aggregate-build-over-6
     build-over-requires-2
     same-length-2
     returns-2)

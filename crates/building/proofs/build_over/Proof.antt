@@ -9,16 +9,17 @@ use Rattle.paper.specs.Mesh.{Mesh, meshOf}
 use Rattle.paper.specs.Faults.{Accepted}
 use Rattle.mesh.proofs.Verdicts.{passed, stop, past}
 use Rattle.checks.proofs.Requests.{verdict-is}
-use Rattle.building.proofs.Laws.{few}
 use Rattle.building.proofs.build_over.Statement.{statement}
 use Rattle.building.proofs.build_over.Tie as tie
 
 abbrev mesh : tie.Start → Mesh
-mesh s = meshOf (now (s .args .coordinates)) (now (s .args .sides)) (now (s .args .corners))
+mesh s = meshOf (now (s .args .coordinates)) (now (s .args .sides)) (now (s .args .corners)) (now (s .args .sharpness))
 
 -- past the check of the mesh
-accepts : (t : tie.After-enum-told) → Accepted (mesh (t .before .before .before .before .before .before .before .before .before .before .before
-    .before .before .before))
+abbrev start : tie.After-enum-told → tie.Start
+start t = t .before .before .before .before .before .before .before .before .before .before .before .before .before .before .before
+
+accepts : (t : tie.After-enum-told) → Accepted (mesh (start t))
 accepts t =
     let a = t .before .before .before .before .before .before .check-within in
     passed (a .result) (a .ensures .answers) (t .enum-told .given .1)
@@ -37,7 +38,7 @@ same-length-2 c = search needs
 
 returns : tie.Need-returns
 returns c =
-    let s = c .before .before .before .before .before .before .before .before .before .before .before .before .before .before .before in
+    let s = c .before .before .before .before .before .before .before .before .before .before .before .before .before .before .before .before in
     let a = c .before .before .before .before .before .before .before .check-within in
     record {
       answers =
@@ -51,10 +52,9 @@ enum-told c = search needs
 
 answer-requires : tie.Need-answer-requires
 answer-requires c κs =
-    let s = c .before .before .before .before .before .before .before .before .before .before .before .before .before .before .before .before .before in
-    let t = c .before .before .before in
+    let t = c .before .before in
     let a = t .before .before .before .before .before .before .check-within in
-    (accepts t, (a .ensures .tabled (accepts t), (s .pre .1 .0 (few (mesh s) (accepts t)), s .pre .1 .1)))
+    (accepts t, a .ensures .tabled (accepts t))
 
 same-length-3 : tie.Need-same-length-3
 same-length-3 c = search needs
@@ -65,17 +65,14 @@ same-length-4 c = search needs
 same-length-5 : tie.Need-same-length-5
 same-length-5 c = search needs
 
-same-length-6 : tie.Need-same-length-6
-same-length-6 c = search needs
-
 returns-2 : tie.Need-returns-2
 returns-2 c =
-    let s = c .before .before .before .before .before .before .before .before .before .before .before .before .before .before .before .before .before
-    .before .before .before in
-    let r = c .before .before .answer in
+    let t = c .before .before .before .before in
+    let s = start t in
+    let r = c .before .answer in
     record {
       answers =
-          past (accepts (c .before .before .before .before .before .before)) _ (r .ensures .answers)
+          past (accepts t) _ (r .ensures .answers)
           ∙ sym (verdict-is (mesh s) (now (s .args .links)) (s .args .range .first) (s .args .range .count) (length (now (s .args .out))));
       holds = r .ensures .holds;
     }
@@ -94,5 +91,4 @@ build-over-spec =
     same-length-3
     same-length-4
     same-length-5
-    same-length-6
     returns-2)

@@ -1,12 +1,16 @@
 -- The check over tables of its own meets its contract: a small mesh fits the short ones, and every mesh that is not too large the long ones.
 -- Assumes nothing.
 use denote.Ref.{now}
-use Rattle.paper.specs.Mesh.{meshOf, mostVertices, mostCorners}
+use Rattle.paper.specs.Mesh.{Mesh, meshOf, mostVertices, mostCorners}
 use Rattle.mesh.specs.Tables.{smallMesh}
 use Rattle.checks.proofs.Laws.{room}
 use borrow.Author.Needs.{needs}
 use Rattle.checks.proofs.check.Statement.{statement}
 use Rattle.checks.proofs.check.Tie as tie
+
+-- the mesh of a call
+abbrev mesh : tie.Start → Mesh
+mesh s = meshOf (now (s .args .coordinates)) (now (s .args .sides)) (now (s .args .corners)) (now (s .args .sharpness))
 
 slice-aggregate-check-within : tie.Need-slice-aggregate-check-within
 slice-aggregate-check-within c = search needs
@@ -16,8 +20,8 @@ slice-aggregate-check-within-2 c = search needs
 
 check-within-requires : tie.Need-check-within-requires
 check-within-requires c κs =
-    let s = c .before .before .before .before .before .before in
-    room (meshOf (now (s .args .coordinates)) (now (s .args .sides)) (now (s .args .corners))) smallMesh smallMesh (λ h. search needs) (λ h. search needs)
+    let s = c .before .before .before .before .before .before .before in
+    room (mesh s) smallMesh smallMesh (λ h. search needs) (λ h. search needs)
 
 returns : tie.Need-returns
 returns c = search needs
@@ -30,8 +34,8 @@ slice-aggregate-check-within-4 c = search needs
 
 check-within-requires-2 : tie.Need-check-within-requires-2
 check-within-requires-2 c κs =
-    let s = c .before .before .before .before .before in
-    room (meshOf (now (s .args .coordinates)) (now (s .args .sides)) (now (s .args .corners))) mostCorners mostVertices (λ h. h) (λ h. h)
+    let s = c .before .before .before .before .before .before in
+    room (mesh s) mostCorners mostVertices (λ h. h) (λ h. h)
 
 returns-2 : tie.Need-returns-2
 returns-2 c = search needs

@@ -21,10 +21,10 @@ use Rattle.checks.proofs.check_within.Tie as tie
 -- after checks 4 to 9
 module _ (t : tie.After-enum-told) where
   abbrev start : tie.Start
-  start = t .before .before .before .before .before .before .before .before .before .before .before .before .before
+  start = t .before .before .before .before .before .before .before .before .before .before .before .before .before .before
 
   abbrev mesh : Mesh
-  mesh = meshOf (now (start .args .coordinates)) (now (start .args .sides)) (now (start .args .corners))
+  mesh = meshOf (now (start .args .coordinates)) (now (start .args .sides)) (now (start .args .corners)) (now (start .args .sharpness))
 
   lists-sound : listFaults mesh ≡ sound
   lists-sound =
@@ -34,15 +34,15 @@ module _ (t : tie.After-enum-told) where
   lists : Listed mesh
   lists = listed mesh lists-sound
 
-  ready : Ready (mesh .corners) (t .before .before .before .before .before .before .check-lists .last .1 .1 .1 .0)
-      (t .before .before .before .before .before .before .check-lists .last .1 .1 .1 .1 .0)
+  ready : Ready (mesh .corners) (t .before .before .before .before .before .before .check-lists .last .1 .1 .1 .1 .0)
+      (t .before .before .before .before .before .before .check-lists .last .1 .1 .1 .1 .1 .0)
   ready = t .before .before .before .before .before .before .check-lists .ensures .ready (ap stated (t .enum-told .given .1))
 
-  long-table : rowLength * cornerCount mesh ≤ length (t .before .before .before .before .before .before .check-lists .last .1 .1 .1 .0)
-  long-table = omega (arith, start .pre .corners-fit (lists .small), t .before .before .before .before .before .before .check-lists .kept .1 .1 .1 .0)
+  long-table : rowLength * cornerCount mesh ≤ length (t .before .before .before .before .before .before .check-lists .last .1 .1 .1 .1 .0)
+  long-table = omega (arith, start .pre .corners-fit (lists .small), t .before .before .before .before .before .before .check-lists .kept .1 .1 .1 .1 .0)
 
-  long-vertices : rowLength * vertexCount mesh ≤ length (t .before .before .before .before .before .before .check-lists .last .1 .1 .1 .1 .0)
-  long-vertices = omega (arith, start .pre .vertices-fit (lists .few), t .before .before .before .before .before .before .check-lists .kept .1 .1 .1 .1 .0)
+  long-vertices : rowLength * vertexCount mesh ≤ length (t .before .before .before .before .before .before .check-lists .last .1 .1 .1 .1 .1 .0)
+  long-vertices = omega (arith, start .pre .vertices-fit (lists .few), t .before .before .before .before .before .before .check-lists .kept .1 .1 .1 .1 .1 .0)
 
 -- after the columns of the faces
 module _ (t : tie.After-fill-faces) where
@@ -85,9 +85,9 @@ same-length-2 c = search needs
 returns : tie.Need-returns
 returns c =
     let a = c .before .before .before .before .before .before .before .check-lists in
-    let s = c .before .before .before .before .before .before .before .before .before .before .before .before .before .before in
+    let s = c .before .before .before .before .before .before .before .before .before .before .before .before .before .before .before in
     let k = c .before .a .given in
-    let M = meshOf (now (s .args .coordinates)) (now (s .args .sides)) (now (s .args .corners)) in
+    let M = meshOf (now (s .args .coordinates)) (now (s .args .sides)) (now (s .args .corners)) (now (s .args .sharpness)) in
     stopped-lists M _ (k .0 .0) (k .0 .1 .0) (sym (ap stated (k .1)) ∙ a .ensures .answers)
 
 enum-told : tie.Need-enum-told

@@ -4,7 +4,7 @@ use mathlib.Core.Path.{ap}
 use Prim.Native.Nat.{ℕ, _*_}
 use native.Mathlib.Omega.{arith}
 use borrow.Author.Needs.{needs}
-use Rattle.dms.proofs.Files.{no-coordinates, no-sides, no-corners, all-room}
+use Rattle.dms.proofs.Files.{no-coordinates, no-sides, no-corners, no-sharpness, all-room}
 use Rattle.dms.proofs.check_room.Statement.{statement}
 use Rattle.dms.proofs.check_room.Tie as tie
 
@@ -17,7 +17,7 @@ mul-numbers c = search needs
 returns : tie.Need-returns
 returns c =
     let s = c .before .before .before in
-    no-coordinates (s .args .file .now) (s .args .coordinates) (s .args .sides) (s .args .corners) _
+    no-coordinates (s .args .file .now) (s .args .coordinates) (s .args .sides) (s .args .corners) (s .args .sharpness) _
     (ap (λ (n : ℕ). 3 * n) (c .before .vertex-count .ensures .0)) (c .if1 .taken)
 
 face-count-requires : tie.Need-face-count-requires
@@ -26,7 +26,7 @@ face-count-requires c κs = search needs
 returns-2 : tie.Need-returns-2
 returns-2 c =
     let s = c .before .before .before .before .before in
-    no-sides (s .args .file .now) (s .args .coordinates) (s .args .sides) (s .args .corners)
+    no-sides (s .args .file .now) (s .args .coordinates) (s .args .sides) (s .args .corners) (s .args .sharpness)
     (omega (arith, c .before .before .before .vertex-count .ensures .0)) _ (c .before .face-count .ensures .0) (c .if2 .taken)
 
 corner-count-requires : tie.Need-corner-count-requires
@@ -35,16 +35,32 @@ corner-count-requires c κs = search needs
 returns-3 : tie.Need-returns-3
 returns-3 c =
     let s = c .before .before .before .before .before .before .before in
-    no-corners (s .args .file .now) (s .args .coordinates) (s .args .sides) (s .args .corners)
+    no-corners (s .args .file .now) (s .args .coordinates) (s .args .sides) (s .args .corners) (s .args .sharpness)
     (omega (arith, c .before .before .before .before .before .vertex-count .ensures .0)) (omega (arith, c .before .before .before .face-count .ensures .0)) _
     (c .before .corner-count .ensures .0) (c .if3 .taken)
 
+mul-if4 : tie.Need-mul-if4
+mul-if4 c = search needs
+
+mul-t11 : tie.Need-mul-t11
+mul-t11 c = search needs
+
 returns-4 : tie.Need-returns-4
 returns-4 c =
-    let s = c .before .before .before .before .before .before .before in
-    all-room (s .args .file .now) (s .args .coordinates) (s .args .sides) (s .args .corners)
-    (omega (arith, c .before .before .before .before .before .vertex-count .ensures .0)) (omega (arith, c .before .before .before .face-count .ensures .0))
-    (omega (arith, c .before .corner-count .ensures .0))
+    let s = c .before .before .before .before .before .before .before .before in
+    let count = c .before .before .corner-count .ensures .0 in
+    no-sharpness (s .args .file .now) (s .args .coordinates) (s .args .sides) (s .args .corners) (s .args .sharpness)
+    (omega (arith, c .before .before .before .before .before .before .vertex-count .ensures .0))
+    (omega (arith, c .before .before .before .before .face-count .ensures .0)) (omega (arith, count)) _
+    (ap (λ (n : ℕ). 2 * n) count) (c .if4 .taken)
+
+returns-5 : tie.Need-returns-5
+returns-5 c =
+    let s = c .before .before .before .before .before .before .before .before in
+    let count = c .before .before .corner-count .ensures .0 in
+    all-room (s .args .file .now) (s .args .coordinates) (s .args .sides) (s .args .corners) (s .args .sharpness)
+    (omega (arith, c .before .before .before .before .before .before .vertex-count .ensures .0))
+    (omega (arith, c .before .before .before .before .face-count .ensures .0)) (omega (arith, count)) (omega (arith, count))
 
 pub check-room-spec : {M : Type 1} → statement M
 check-room-spec =
@@ -57,4 +73,7 @@ check-room-spec =
     returns-2
     corner-count-requires
     returns-3
-    returns-4)
+    mul-if4
+    mul-t11
+    returns-4
+    returns-5)

@@ -11,7 +11,7 @@ least-requires : tie.Need-least-requires
 least-requires c κs = search needs
 
 slice-aggregate-decode-file : tie.Need-slice-aggregate-decode-file
-slice-aggregate-decode-file c = sym (length-take-le _ (c .before .before .before .before .before .args .bytes .now) (c .before .least .ensures .0))
+slice-aggregate-decode-file c = sym (length-take-le _ (c .before .before .before .before .before .before .args .bytes .now) (c .before .least .ensures .0))
 
 decode-file-requires : tie.Need-decode-file-requires
 decode-file-requires c κs = search needs
@@ -25,12 +25,15 @@ same-length-2 c = search needs
 same-length-3 : tie.Need-same-length-3
 same-length-3 c = search needs
 
+same-length-4 : tie.Need-same-length-4
+same-length-4 c = search needs
+
 returns : tie.Need-returns
 returns c =
-    let s = c .before .before .before .before .before .before .before .before .before .before .before .before .before .before in
-    let l = c .before .before .before .before .before .before .before .before .before .before .least in
-    decode-held _ _ _ _ _ _ _ _ _ _ (held-bytes (s .args .bytes .now) _ (s .args .counted) (l .ensures .1 .0) (l .ensures .1 .1))
-    (c .before .before .before .before .before .decode-file .ensures)
+    let s = c .before .before .before .before .before .before .before .before .before .before .before .before .before .before .before .before .before .before in
+    let l = c .before .before .before .before .before .before .before .before .before .before .before .before .before .least in
+    decode-held _ _ _ _ _ _ (held-bytes (s .args .bytes .now) _ (s .args .counted) (l .ensures .1 .0) (l .ensures .1 .1))
+    (c .before .before .before .before .before .before .before .decode-file .ensures)
 
 pub decode-spec : {M : Type 1} → statement M
 decode-spec =
@@ -42,4 +45,5 @@ decode-spec =
     same-length
     same-length-2
     same-length-3
+    same-length-4
     returns)

@@ -20,35 +20,42 @@ refused-requires c κs = search needs
 
 returns : tie.Need-returns
 returns c =
-    let r = c .refused .ensures in
-    refused-decode _ _ _ _ _ _ _ _ (r .0) (r .1) (r .2) (r .3)
-    (sym (ap stated (c .before .before .answer .given .1)) ∙ c .before .before .before .before .check-decode .ensures)
+    let t = c .before .before in
+    refused-decode _ _ _ _ _ _ (c .refused .ensures) (sym (ap stated (t .answer .given .1)) ∙ t .before .before .check-decode .ensures)
 
 enum-told : tie.Need-enum-told
 enum-told c = search needs
 
 read-lists-requires : tie.Need-read-lists-requires
 read-lists-requires c κs =
-    let e = passed _ (c .before .before .before .before .before .check-decode .ensures) (c .before .before .before .enum-told .given .1) in
-    (decode-sized _ _ _ _ _ e, decode-room _ _ _ _ _ e)
+    let e = passed _ (c .before .before .before .before .before .before .check-decode .ensures) (c .before .before .before .before .enum-told .given .1) in
+    (decode-sized _ _ _ _ _ _ e, decode-room _ _ _ _ _ _ e)
 
 vertex-count-requires : tie.Need-vertex-count-requires
-vertex-count-requires c κs = decode-sized _ _ _ _ _
-    (passed _ (c .before .before .before .before .before .before .before .before .before .before .before .check-decode .ensures)
-    (c .before .before .before .before .before .before .before .before .before .enum-told .given .1)) .header
+vertex-count-requires c κs =
+    let t = c .before .before .before .before .before .before .before .before .before .before .before .before in
+    decode-sized _ _ _ _ _ _ (passed _ (t .before .before .check-decode .ensures) (t .enum-told .given .1)) .header
 
-mul-t10 : tie.Need-mul-t10
-mul-t10 c = search needs
+mul-t11 : tie.Need-mul-t11
+mul-t11 c = search needs
 
 face-count-requires : tie.Need-face-count-requires
-face-count-requires c κs = decode-sized _ _ _ _ _
-    (passed _ (c .before .before .before .before .before .before .before .before .before .before .before .before .check-decode .ensures)
-    (c .before .before .before .before .before .before .before .before .before .before .enum-told .given .1)) .header
+face-count-requires c κs =
+    let t = c .before .before .before .before .before .before .before .before .before .before .before .before .before in
+    decode-sized _ _ _ _ _ _ (passed _ (t .before .before .check-decode .ensures) (t .enum-told .given .1)) .header
 
 corner-count-requires : tie.Need-corner-count-requires
-corner-count-requires c κs = decode-sized _ _ _ _ _
-    (passed _ (c .before .before .before .before .before .before .before .before .before .before .before .before .before .check-decode .ensures)
-    (c .before .before .before .before .before .before .before .before .before .before .before .enum-told .given .1)) .header
+corner-count-requires c κs =
+    let t = c .before .before .before .before .before .before .before .before .before .before .before .before .before .before in
+    decode-sized _ _ _ _ _ _ (passed _ (t .before .before .check-decode .ensures) (t .enum-told .given .1)) .header
+
+corner-count-requires-2 : tie.Need-corner-count-requires-2
+corner-count-requires-2 c κs =
+    let t = c .before .before .before .before .before .before .before .before .before .before .before .before .before .before .before in
+    decode-sized _ _ _ _ _ _ (passed _ (t .before .before .check-decode .ensures) (t .enum-told .given .1)) .header
+
+mul-t25 : tie.Need-mul-t25
+mul-t25 c = search needs
 
 same-length : tie.Need-same-length
 same-length c = search needs
@@ -59,13 +66,16 @@ same-length-2 c = search needs
 same-length-3 : tie.Need-same-length-3
 same-length-3 c = search needs
 
+same-length-4 : tie.Need-same-length-4
+same-length-4 c = search needs
+
 returns-2 : tie.Need-returns-2
 returns-2 c =
-    let t = c .before .before .before .before .before .before .before .before .before .before .before .before in
-    done-decode _ _ _ _ _ _ _ _ _ _ _ (ap (λ (n : ℕ). 3 * n) (c .before .before .vertex-count .ensures .0)) (c .before .face-count .ensures .0)
-    (c .corner-count .ensures .0)
+    let t = c .before .before .before .before .before .before .before .before .before .before .before .before .before .before .before .before in
+    done-decode _ _ _ _ _ _ _ _ (ap (λ (n : ℕ). 3 * n) (c .before .before .before .vertex-count .ensures .0)) (c .before .before .face-count .ensures .0)
+    (c .before .corner-count .ensures .0) (ap (λ (n : ℕ). 2 * n) (c .corner-count2 .ensures .0))
     (sym (ap stated (t .enum-told .given .1)) ∙ t .before .before .check-decode .ensures)
-    (c .before .before .before .before .before .before .before .before .read-lists .ensures)
+    (c .before .before .before .before .before .before .before .before .before .before .before .read-lists .ensures)
 
 pub decode-file-spec : {M : Type 1} → statement M
 decode-file-spec =
@@ -78,10 +88,13 @@ decode-file-spec =
     enum-told
     read-lists-requires
     vertex-count-requires
-    mul-t10
+    mul-t11
     face-count-requires
     corner-count-requires
+    corner-count-requires-2
+    mul-t25
     same-length
     same-length-2
     same-length-3
+    same-length-4
     returns-2)

@@ -6,7 +6,7 @@ use borrow.Author.Needs.{needs}
 use Rattle.paper.specs.Mesh.{Mesh}
 use Rattle.paper.specs.Faults.{verdict}
 use Rattle.paper.specs.File.{fileMesh, Surveyed}
-use Rattle.dms.proofs.Lists.{read-length, file-coordinates, file-faces, file-corners}
+use Rattle.dms.proofs.Lists.{read-length, file-coordinates, file-faces, file-corners, file-sharpness}
 use Rattle.dms.proofs.Files.{mesh-read}
 use Rattle.dms.proofs.survey_lists.Statement.{statement}
 use Rattle.dms.proofs.survey_lists.Tie as tie
@@ -19,6 +19,9 @@ slice-aggregate-read-lists-2 c = search needs
 
 slice-aggregate-read-lists-3 : tie.Need-slice-aggregate-read-lists-3
 slice-aggregate-read-lists-3 c = search needs
+
+slice-aggregate-read-lists-4 : tie.Need-slice-aggregate-read-lists-4
+slice-aggregate-read-lists-4 c = search needs
 
 read-lists-requires : tie.Need-read-lists-requires
 read-lists-requires c κs = search needs
@@ -40,39 +43,54 @@ array-share-prefix-coordinates c = search needs
 
 slice-aggregate-survey-mesh : tie.Need-slice-aggregate-survey-mesh
 slice-aggregate-survey-mesh c =
-    let file = c .before .before .before .before .before .before .before .before .before .before .before .before .args .file .now in
+    let k = c .before .before .before .before .before .before .before .before in
+    let file = k .before .before .before .before .before .before .args .file .now in
     read-length _ (fileMesh file .coordinates) _ _ (ap (λ (n : ℕ). 3 * n) (c .before .before .before .vertex-count .ensures .0) ∙ file-coordinates file)
-    (c .before .before .before .before .before .before .before .read-lists .ensures .coordinates-hold)
+    (k .read-lists .ensures .coordinates-hold)
 
 array-share-prefix-sides : tie.Need-array-share-prefix-sides
 array-share-prefix-sides c = search needs
 
 slice-aggregate-survey-mesh-2 : tie.Need-slice-aggregate-survey-mesh-2
 slice-aggregate-survey-mesh-2 c =
-    let file = c .before .before .before .before .before .before .before .before .before .before .before .before .before .args .file .now in
-    read-length _ (fileMesh file .sides) _ _ (c .before .before .before .face-count .ensures .0 ∙ file-faces file)
-    (c .before .before .before .before .before .before .before .before .read-lists .ensures .sides-hold)
+    let k = c .before .before .before .before .before .before .before .before .before in
+    let file = k .before .before .before .before .before .before .args .file .now in
+    read-length _ (fileMesh file .sides) _ _ (c .before .before .before .face-count .ensures .0 ∙ file-faces file) (k .read-lists .ensures .sides-hold)
 
 array-share-prefix-corners : tie.Need-array-share-prefix-corners
 array-share-prefix-corners c = search needs
 
 slice-aggregate-survey-mesh-3 : tie.Need-slice-aggregate-survey-mesh-3
 slice-aggregate-survey-mesh-3 c =
-    let file = c .before .before .before .before .before .before .before .before .before .before .before .before .before .before .args .file .now in
-    read-length _ (fileMesh file .corners) _ _ (c .before .before .before .corner-count .ensures .0 ∙ file-corners file)
-    (c .before .before .before .before .before .before .before .before .before .read-lists .ensures .corners-hold)
+    let k = c .before .before .before .before .before .before .before .before .before .before in
+    let file = k .before .before .before .before .before .before .args .file .now in
+    read-length _ (fileMesh file .corners) _ _ (c .before .before .before .corner-count .ensures .0 ∙ file-corners file) (k .read-lists .ensures .corners-hold)
+
+mul-sharpness : tie.Need-mul-sharpness
+mul-sharpness c = search needs
+
+array-share-prefix-sharpness : tie.Need-array-share-prefix-sharpness
+array-share-prefix-sharpness c = search needs
+
+slice-aggregate-survey-mesh-4 : tie.Need-slice-aggregate-survey-mesh-4
+slice-aggregate-survey-mesh-4 c =
+    let k = c .before .before .before .before .before .before .before .before .before .before .before in
+    let file = k .before .before .before .before .before .before .args .file .now in
+    read-length _ (fileMesh file .sharpness) _ _ (ap (λ (n : ℕ). 2 * n) (c .before .before .before .before .corner-count .ensures .0) ∙ file-sharpness file)
+    (k .read-lists .ensures .sharpness-hold)
 
 survey-mesh-requires : tie.Need-survey-mesh-requires
 survey-mesh-requires c κs = search needs
 
 returns : tie.Need-returns
 returns c =
-    let s = c .before .before .before .before .before .before .before .before .before .before .before .before .before .before .before in
-    let counts = c .before .before .before .before in
+    let t = c .before .before .before .before .before in
+    let k = c .before .before .before .before .before .before .before .before .before .before .before .before in
+    let count = t .corner-count .ensures .0 in
     let read =
-    mesh-read (s .args .file .now) _ _ _ _ _ _ _ _ _ (ap (λ (n : ℕ). 3 * n) (counts .before .before .vertex-count .ensures .0))
-    (counts .before .face-count .ensures .0) (counts .corner-count .ensures .0)
-    (c .before .before .before .before .before .before .before .before .before .before .read-lists .ensures)
+    mesh-read (k .before .before .before .before .before .before .args .file .now) _ _ _ _ _ _
+    (ap (λ (n : ℕ). 3 * n) (t .before .before .vertex-count .ensures .0)) (t .before .face-count .ensures .0) count
+    (ap (λ (n : ℕ). 2 * n) count) (k .read-lists .ensures)
     in
     subst (λ (M : Mesh). Surveyed M (verdict M) (c .survey-mesh .result)) read (c .survey-mesh .ensures)
 
@@ -83,6 +101,7 @@ survey-lists-spec =
     slice-aggregate-read-lists
     slice-aggregate-read-lists-2
     slice-aggregate-read-lists-3
+    slice-aggregate-read-lists-4
     read-lists-requires
     vertex-count-requires
     mul-numbers
@@ -94,5 +113,8 @@ survey-lists-spec =
     slice-aggregate-survey-mesh-2
     array-share-prefix-corners
     slice-aggregate-survey-mesh-3
+    mul-sharpness
+    array-share-prefix-sharpness
+    slice-aggregate-survey-mesh-4
     survey-mesh-requires
     returns)

@@ -9,21 +9,21 @@ use Rattle.dms.proofs.Files.{refused-survey, done-survey, limits}
 use Rattle.dms.proofs.survey_mesh.Statement.{statement}
 use Rattle.dms.proofs.survey_mesh.Tie as tie
 
+none-requires : tie.Need-none-requires
+none-requires c κs = search needs
+
 check-mesh-requires : tie.Need-check-mesh-requires
 check-mesh-requires c κs = search needs
 
 enum-known-answer : tie.Need-enum-known-answer
 enum-known-answer c = search needs
 
-none-requires : tie.Need-none-requires
-none-requires c κs = search needs
-
 returns : tie.Need-returns
 returns c =
-    let s = c .before .before .before .before .before .before .before in
-    let M = meshOf (s .args .coordinates .now) (s .args .sides .now) (s .args .corners .now) in
-    refused-survey M (verdict M) _ _ _ (sym (ap stated (c .before .before .answer .given .1)) ∙ c .before .before .before .before .check-mesh .ensures)
-    (c .none .ensures)
+    let s = c .before .before .before .before .before .before .before .before in
+    let M = meshOf (s .args .coordinates .now) (s .args .sides .now) (s .args .corners .now) (s .args .sharpness .now) in
+    refused-survey M (verdict M) _ _ _ (sym (ap stated (c .before .answer .given .1)) ∙ c .before .before .before .check-mesh .ensures)
+    (c .before .before .before .before .none .ensures)
 
 enum-told : tie.Need-enum-told
 enum-told c = search needs
@@ -33,17 +33,18 @@ count-requires c κs = limits _ (passed _ (c .before .before .check-mesh .ensure
 
 returns-2 : tie.Need-returns-2
 returns-2 c =
-    let s = c .before .before .before .before .before .before in
-    let M = meshOf (s .args .coordinates .now) (s .args .sides .now) (s .args .corners .now) in
-    done-survey M (verdict M) _ (sym (ap stated (c .before .enum-told .given .1)) ∙ c .before .before .before .check-mesh .ensures) (c .count .ensures)
+    let s = c .before .before .before .before .before .before .before .before in
+    let M = meshOf (s .args .coordinates .now) (s .args .sides .now) (s .args .corners .now) (s .args .sharpness .now) in
+    done-survey M (verdict M) _ (sym (ap stated (c .before .enum-told .given .1)) ∙ c .before .before .before .check-mesh .ensures)
+    (c .count .ensures (M .sharpness))
 
 pub survey-mesh-spec : {M : Type 1} → statement M
 survey-mesh-spec =
     tie.close
     (tie.spec
+    none-requires
     check-mesh-requires
     enum-known-answer
-    none-requires
     returns
     enum-told
     count-requires

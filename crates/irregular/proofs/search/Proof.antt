@@ -16,10 +16,10 @@ enum-known-answer c = search needs
 
 returns : tie.Need-returns
 returns c =
-    let s = c .before .before .before .before .before .before in
+    let s = c .before .before .before .before .before .before .before in
     let a = c .before .before .before .check in
     let r = c .before .answer .given in
-    search-refused (meshOf (s .args .coordinates .now) (s .args .sides .now) (s .args .corners .now)) (a .result) (r .0 .0) (r .0 .1 .0) (a .ensures) (r .1)
+    search-refused (meshOf (s .args .coordinates .now) (s .args .sides .now) (s .args .corners .now) (s .args .sharpness .now)) (a .result) (r .0 .0) (r .0 .1 .0) (a .ensures) (r .1)
 
 enum-told : tie.Need-enum-told
 enum-told c = search needs
@@ -31,23 +31,23 @@ returns-2 : tie.Need-returns-2
 returns-2 c =
     let k = c .before in
     let t = k .before in
-    let s = t .before .before .before .before .before in
-    let M = meshOf (s .args .coordinates .now) (s .args .sides .now) (s .args .corners .now) in
+    let s = t .before .before .before .before .before .before in
+    let M = meshOf (s .args .coordinates .now) (s .args .sides .now) (s .args .corners .now) (s .args .sharpness .now) in
     search-face M (passed _ (t .before .before .check .ensures) (t .enum-told .given .1)) _ _ (k .search-faces .ensures) (omega arith)
 
 search-corners-requires : tie.Need-search-corners-requires
 search-corners-requires c κs =
     let t = c .before .before in
-    let s = t .before .before .before .before .before in
-    let M = meshOf (s .args .coordinates .now) (s .args .sides .now) (s .args .corners .now) in
+    let s = t .before .before .before .before .before .before in
+    let M = meshOf (s .args .coordinates .now) (s .args .sides .now) (s .args .corners .now) (s .args .sharpness .now) in
     few-enough M (passed _ (t .before .before .check .ensures) (t .enum-told .given .1))
 
 returns-3 : tie.Need-returns-3
 returns-3 c =
     let k = c .before .before .before in
     let t = k .before in
-    let s = t .before .before .before .before .before in
-    let M = meshOf (s .args .coordinates .now) (s .args .sides .now) (s .args .corners .now) in
+    let s = t .before .before .before .before .before .before in
+    let M = meshOf (s .args .coordinates .now) (s .args .sides .now) (s .args .corners .now) (s .args .sharpness .now) in
     search-vertex M (passed _ (t .before .before .check .ensures) (t .enum-told .given .1)) _ _ (k .search-faces .ensures) (omega arith)
     _ (c .before .search-corners .ensures) (omega arith)
 
@@ -55,8 +55,8 @@ returns-4 : tie.Need-returns-4
 returns-4 c =
     let k = c .before .before .before in
     let t = k .before in
-    let s = t .before .before .before .before .before in
-    let M = meshOf (s .args .coordinates .now) (s .args .sides .now) (s .args .corners .now) in
+    let s = t .before .before .before .before .before .before in
+    let M = meshOf (s .args .coordinates .now) (s .args .sides .now) (s .args .corners .now) (s .args .sharpness .now) in
     search-none M (passed _ (t .before .before .check .ensures) (t .enum-told .given .1)) _ _ (k .search-faces .ensures) (omega arith)
     _ (c .before .search-corners .ensures) (omega arith)
 

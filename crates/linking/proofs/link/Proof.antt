@@ -1,12 +1,16 @@
 -- Linking over tables of its own meets its contract: a small mesh fits the short ones, and every mesh that is not too large the long ones.
 -- Assumes nothing.
 use denote.Ref.{now}
-use Rattle.paper.specs.Mesh.{meshOf, mostVertices, mostCorners}
+use Rattle.paper.specs.Mesh.{Mesh, meshOf, mostVertices, mostCorners}
 use Rattle.mesh.specs.Tables.{smallMesh}
 use Rattle.checks.proofs.Laws.{room}
 use borrow.Author.Needs.{needs}
 use Rattle.linking.proofs.link.Statement.{statement}
 use Rattle.linking.proofs.link.Tie as tie
+
+-- the mesh of a call
+abbrev mesh : tie.Start → Mesh
+mesh s = meshOf (now (s .args .coordinates)) (now (s .args .sides)) (now (s .args .corners)) (now (s .args .sharpness))
 
 slice-aggregate-link-over : tie.Need-slice-aggregate-link-over
 slice-aggregate-link-over c = search needs
@@ -16,8 +20,8 @@ slice-aggregate-link-over-2 c = search needs
 
 link-over-requires : tie.Need-link-over-requires
 link-over-requires c κs =
-    let s = c .before .before .before .before .before .before .before .before in
-    room (meshOf (now (s .args .coordinates)) (now (s .args .sides)) (now (s .args .corners))) smallMesh smallMesh (λ h. search needs) (λ h. search needs)
+    let s = c .before .before .before .before .before .before .before .before .before in
+    room (mesh s) smallMesh smallMesh (λ h. search needs) (λ h. search needs)
 
 same-length : tie.Need-same-length
 same-length c = search needs
@@ -33,8 +37,8 @@ slice-aggregate-link-over-4 c = search needs
 
 link-over-requires-2 : tie.Need-link-over-requires-2
 link-over-requires-2 c κs =
-    let s = c .before .before .before .before .before .before .before in
-    room (meshOf (now (s .args .coordinates)) (now (s .args .sides)) (now (s .args .corners))) mostCorners mostVertices (λ h. h) (λ h. h)
+    let s = c .before .before .before .before .before .before .before .before in
+    room (mesh s) mostCorners mostVertices (λ h. h) (λ h. h)
 
 same-length-2 : tie.Need-same-length-2
 same-length-2 c = search needs

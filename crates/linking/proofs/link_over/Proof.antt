@@ -16,13 +16,13 @@ use borrow.Author.Needs.{needs}
 use Rattle.linking.proofs.link_over.Statement.{statement}
 use Rattle.linking.proofs.link_over.Tie as tie
 
--- after checks 4 to 13
+-- after checks 4 to 13 with 27 and 28
 module _ (t : tie.After-enum-told) where
   abbrev start : tie.Start
-  start = t .before .before .before .before .before .before .before .before .before .before .before .before .before .before
+  start = t .before .before .before .before .before .before .before .before .before .before .before .before .before .before .before
 
   abbrev mesh : Mesh
-  mesh = meshOf (now (start .args .coordinates)) (now (start .args .sides)) (now (start .args .corners))
+  mesh = meshOf (now (start .args .coordinates)) (now (start .args .sides)) (now (start .args .corners)) (now (start .args .sharpness))
 
   accepted : verdict mesh ≡ sound
   accepted =
@@ -50,9 +50,9 @@ same-length-2 c = search needs
 returns : tie.Need-returns
 returns c =
     let a = c .before .before .before .before .before .before .before .check-within in
-    let s = c .before .before .before .before .before .before .before .before .before .before .before .before .before .before .before in
+    let s = c .before .before .before .before .before .before .before .before .before .before .before .before .before .before .before .before in
     let k = c .before .a .given in
-    let M = meshOf (now (s .args .coordinates)) (now (s .args .sides)) (now (s .args .corners)) in
+    let M = meshOf (now (s .args .coordinates)) (now (s .args .sides)) (now (s .args .corners)) (now (s .args .sharpness)) in
     link-refused M (now (s .args .links)) (k .0 .0) (k .0 .1 .0) (sym (ap stated (k .1)) ∙ a .ensures .answers)
 
 enum-told : tie.Need-enum-told
@@ -84,7 +84,7 @@ copy-requires c κs =
     let M = mesh t in
     let few = few-corners (length (M .coordinates)) (length (M .sides)) (cornerCount M) (sound-of M (accepted t) .four) in
     let l = length-of (length (now (start t .args .links))) (cornerCount M) (fourteen t14) in
-    (omega (arith, l, few), omega (arith, l, start t .pre .corners-fit few, a .kept .1 .1 .1 .0))
+    (omega (arith, l, few), omega (arith, l, start t .pre .corners-fit few, a .kept .1 .1 .1 .1 .0))
 
 same-length-5 : tie.Need-same-length-5
 same-length-5 c = search needs

@@ -23,17 +23,17 @@ same-length-2 c = search needs
 same-length-3 : tie.Need-same-length-3
 same-length-3 c = search needs
 
+same-length-4 : tie.Need-same-length-4
+same-length-4 c = search needs
+
 returns : tie.Need-returns
 returns c =
     let a = c .before .before .before .a .given in
-    let d = c .before .before .before .before .before .before .before .before .before .before .decode .ensures in
-    decode-refused _ _ _ _ _ _ _ _ _ _ _ d (a .0 .0) (a .0 .1 .0) _ _ (a .1) (c .tell .ensures)
+    let d = c .before .before .before .before .before .before .before .before .before .before .before .before .decode .ensures in
+    decode-refused _ _ _ _ _ _ _ _ _ _ _ _ _ d (a .0 .0) (a .0 .1 .0) _ _ (a .1) (c .tell .ensures)
 
 enum-told : tie.Need-enum-told
 enum-told c = search needs
-
-same-length-4 : tie.Need-same-length-4
-same-length-4 c = search needs
 
 same-length-5 : tie.Need-same-length-5
 same-length-5 c = search needs
@@ -41,10 +41,16 @@ same-length-5 c = search needs
 same-length-6 : tie.Need-same-length-6
 same-length-6 c = search needs
 
+same-length-7 : tie.Need-same-length-7
+same-length-7 c = search needs
+
+same-length-8 : tie.Need-same-length-8
+same-length-8 c = search needs
+
 returns-2 : tie.Need-returns-2
 returns-2 c =
-    let d = c .before .before .before .before .before .before .before .decode .ensures in
-    decode-done _ _ _ _ _ _ _ _ _ _ _ d (c .enum-told .given .1)
+    let d = c .before .before .before .before .before .before .before .before .before .decode .ensures in
+    decode-done _ _ _ _ _ _ _ _ _ _ _ _ _ d (c .enum-told .given .1)
 
 pub mahunopi-decode-spec : {M : Type 1} → statement M
 mahunopi-decode-spec =
@@ -56,9 +62,11 @@ mahunopi-decode-spec =
     same-length
     same-length-2
     same-length-3
+    same-length-4
     returns
     enum-told
-    same-length-4
     same-length-5
     same-length-6
+    same-length-7
+    same-length-8
     returns-2)

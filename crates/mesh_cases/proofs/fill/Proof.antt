@@ -6,10 +6,10 @@ use Rattle.mesh_cases.proofs.fill.Statement.{statement}
 use Rattle.mesh_cases.proofs.fill.Tie as tie
 
 abbrev Inv-loop : tie.InvT-loop
-Inv-loop links₀ i₀ links i = i ≤ 8200
+Inv-loop links₀ i₀ links i = i ≤ 16400
 
 abbrev μ-loop : tie.MeasureT-loop
-μ-loop links₀ i₀ links i = 8200 - i
+μ-loop links₀ i₀ links i = 16400 - i
 
 loop-holds : tie.Need-loop-holds Inv-loop μ-loop
 loop-holds c = search needs

@@ -7,11 +7,11 @@ use Rattle.mesh_cases.proofs.lines.Statement.{statement}
 use Rattle.mesh_cases.proofs.lines.Tie as tie
 
 abbrev Inv-loop : tie.InvT-loop
-Inv-loop text coordinates₀ sides₀ corners₀ links₀ line₀ i₀ coordinates sides corners links line i =
+Inv-loop text coordinates₀ sides₀ corners₀ sharpness₀ links₀ line₀ i₀ coordinates sides corners sharpness links line i =
     i ≤ length text
 
 abbrev μ-loop : tie.MeasureT-loop
-μ-loop text coordinates₀ sides₀ corners₀ links₀ line₀ i₀ coordinates sides corners links line i = length text - i
+μ-loop text coordinates₀ sides₀ corners₀ sharpness₀ links₀ line₀ i₀ coordinates sides corners sharpness links line i = length text - i
 
 fresh-requires : tie.Need-fresh-requires Inv-loop μ-loop
 fresh-requires c κs = search needs

@@ -6,10 +6,10 @@ use Rattle.mesh_cases.proofs.sum.Statement.{statement}
 use Rattle.mesh_cases.proofs.sum.Tie as tie
 
 abbrev Inv-loop : tie.InvT-loop
-Inv-loop table entries₀ total₀ i₀ entries total i = i ≤ 8200
+Inv-loop table entries₀ total₀ i₀ entries total i = i ≤ 16400
 
 abbrev μ-loop : tie.MeasureT-loop
-μ-loop table entries₀ total₀ i₀ entries total i = 8200 - i
+μ-loop table entries₀ total₀ i₀ entries total i = 16400 - i
 
 loop-holds : tie.Need-loop-holds Inv-loop μ-loop
 loop-holds c = search needs

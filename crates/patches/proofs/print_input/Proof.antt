@@ -15,6 +15,9 @@ slice-aggregate-read-mesh-2 c = search needs
 slice-aggregate-read-mesh-3 : tie.Need-slice-aggregate-read-mesh-3
 slice-aggregate-read-mesh-3 c = search needs
 
+slice-aggregate-read-mesh-4 : tie.Need-slice-aggregate-read-mesh-4
+slice-aggregate-read-mesh-4 c = search needs
+
 read-mesh-requires : tie.Need-read-mesh-requires
 read-mesh-requires c κs = search needs
 
@@ -29,6 +32,12 @@ least-requires-2 c κs = search needs
 
 least-requires-3 : tie.Need-least-requires-3
 least-requires-3 c κs = search needs
+
+mul-least-2 : tie.Need-mul-least-2
+mul-least-2 c = search needs
+
+least-requires-4 : tie.Need-least-requires-4
+least-requires-4 c κs = search needs
 
 array-share-prefix-coordinates : tie.Need-array-share-prefix-coordinates
 array-share-prefix-coordinates c = search needs
@@ -48,6 +57,12 @@ array-share-prefix-corners c = search needs
 slice-aggregate-print-mesh-3 : tie.Need-slice-aggregate-print-mesh-3
 slice-aggregate-print-mesh-3 c = sym (length-take-le _ _ (search needs))
 
+array-share-prefix-sharpness : tie.Need-array-share-prefix-sharpness
+array-share-prefix-sharpness c = search needs
+
+slice-aggregate-print-mesh-4 : tie.Need-slice-aggregate-print-mesh-4
+slice-aggregate-print-mesh-4 c = sym (length-take-le _ _ (search needs))
+
 print-mesh-requires : tie.Need-print-mesh-requires
 print-mesh-requires c κs = search needs
 
@@ -64,17 +79,22 @@ print-input-spec =
     slice-aggregate-read-mesh
     slice-aggregate-read-mesh-2
     slice-aggregate-read-mesh-3
+    slice-aggregate-read-mesh-4
     read-mesh-requires
     mul-least
     least-requires
     least-requires-2
     least-requires-3
+    mul-least-2
+    least-requires-4
     array-share-prefix-coordinates
     slice-aggregate-print-mesh
     array-share-prefix-sides
     slice-aggregate-print-mesh-2
     array-share-prefix-corners
     slice-aggregate-print-mesh-3
+    array-share-prefix-sharpness
+    slice-aggregate-print-mesh-4
     print-mesh-requires
     returns
     returns-2)

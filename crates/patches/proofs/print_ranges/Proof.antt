@@ -6,10 +6,10 @@ use Rattle.patches.proofs.print_ranges.Statement.{statement}
 use Rattle.patches.proofs.print_ranges.Tie as tie
 
 abbrev Inv-loop : tie.InvT-loop
-Inv-loop coordinates sides corners links first₀ first = Unit {0}
+Inv-loop coordinates sides corners sharpness links first₀ first = Unit {0}
 
 abbrev μ-loop : tie.MeasureT-loop
-μ-loop coordinates sides corners links first₀ first = 8192 - first
+μ-loop coordinates sides corners sharpness links first₀ first = 8192 - first
 
 loop-holds : tie.Need-loop-holds Inv-loop μ-loop
 loop-holds c = search needs

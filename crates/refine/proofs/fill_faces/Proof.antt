@@ -16,26 +16,26 @@ use Rattle.refine.proofs.fill_faces.Statement.{statement}
 use Rattle.refine.proofs.fill_faces.Tie as tie
 
 abbrev Inv-loop : tie.InvT-loop
-Inv-loop coordinates sides corners table wanted sums points₀ start₀ f₀ points start f =
-    (f ≤ length sides) × (start ≡ startOf sides f) × Pointed (meshOf coordinates sides corners) wanted (startOf sides f) points₀ points
+Inv-loop coordinates sides corners sharpness table wanted sums points₀ start₀ f₀ points start f =
+    (f ≤ length sides) × (start ≡ startOf sides f) × Pointed (meshOf coordinates sides corners sharpness) wanted (startOf sides f) points₀ points
 
 abbrev μ-loop : tie.MeasureT-loop
-μ-loop coordinates sides corners table wanted sums points₀ start₀ f₀ points start f = length sides - f
+μ-loop coordinates sides corners sharpness table wanted sums points₀ start₀ f₀ points start f = length sides - f
 
 abbrev mesh : tie.Start Inv-loop μ-loop → Mesh
-mesh s = meshOf (now (s .args .coordinates)) (now (s .args .sides)) (now (s .args .corners))
+mesh s = meshOf (now (s .args .coordinates)) (now (s .args .sides)) (now (s .args .corners)) (now (s .args .sharpness))
 
 loop-holds : tie.Need-loop-holds Inv-loop μ-loop
 loop-holds c =
-    let s = c .before .before .before .before in
+    let s = c .before .before .before .before .before in
     (search needs, sym (start-zero _), pointed-none (mesh s) (now (s .args .wanted)) _ (s .pre .1 .1 .1 .1 .1))
 
 shared-slice-read-if1 : tie.Need-shared-slice-read-if1 Inv-loop μ-loop
-shared-slice-read-if1 c = let s = c .before .before .before .before .before .before .before in omega (arith, s .pre .1 .1 .0)
+shared-slice-read-if1 c = let s = c .before .before .before .before .before .before .before .before in omega (arith, s .pre .1 .1 .0)
 
 fill-face-requires : tie.Need-fill-face-requires Inv-loop μ-loop
 fill-face-requires c κs =
-    let s = c .before .before .before .before .before .before .before .before .before in
+    let s = c .before .before .before .before .before .before .before .before .before .before in
     let l = c .before .before .before .before .loop in
     let i = l .inv in
     let sums = s .pre .1 .1 .1 .0 (l .f) (search needs) (search needs) in
@@ -46,13 +46,13 @@ shared-slice-read-start c = search needs
 
 cast-start : tie.Need-cast-start Inv-loop μ-loop
 cast-start c =
-    let s = c .before .before .before .before .before .before .before .before .before in
+    let s = c .before .before .before .before .before .before .before .before .before .before in
     let l = c .before .before .before .before .loop in
     omega (arith, s .pre .0 .faces .most (l .f) (search needs))
 
 add-start : tie.Need-add-start Inv-loop μ-loop
 add-start c =
-    let s = c .before .before .before .before .before .before .before .before .before in
+    let s = c .before .before .before .before .before .before .before .before .before .before in
     let l = c .before .before .before .before .loop in
     omega (arith, l .inv .1, s .pre .0 .faces .few, start-ends (now (s .args .sides)) (l .f) (search needs))
 
@@ -64,7 +64,7 @@ loop-less c = search needs
 
 loop-again : tie.Need-loop-again Inv-loop μ-loop
 loop-again c =
-    let s = c .before .before .before .before .before .before .before .before .before in
+    let s = c .before .before .before .before .before .before .before .before .before .before in
     let l = c .before .before .before .before .loop in
     let h : l .f < length (now (s .args .sides)) = search needs in (
       omega arith,
@@ -81,7 +81,7 @@ same-length c = c .before .loop .inv .2 .same
 
 returns : tie.Need-returns Inv-loop μ-loop
 returns c =
-    let s = c .before .before .before .before .before .before in
+    let s = c .before .before .before .before .before .before .before in
     let l = c .before .loop in
     let e : startOf (now (s .args .sides)) (l .f) ≡ length (now (s .args .corners)) = start-all (now (s .args .sides)) (l .f) (c .loop-test .left)
     ∙ s .pre .0 .sums in

@@ -4,27 +4,29 @@ use native.Mathlib.Omega.{arith}
 use borrow.Author.Needs.{needs}
 use denote.Ref.{now}
 use Rattle.paper.specs.Mesh.{Mesh, meshOf}
-use Rattle.refine.proofs.Laws.{sums-of}
+use Rattle.refine.proofs.Laws.{softened, soft-refinable, sums-of, sums-soft}
 use Rattle.refine.proofs.fill_over.Statement.{statement}
 use Rattle.refine.proofs.fill_over.Tie as tie
 
 abbrev mesh : tie.Start → Mesh
-mesh s = meshOf (now (s .args .coordinates)) (now (s .args .sides)) (now (s .args .corners))
+mesh s = meshOf (now (s .args .coordinates)) (now (s .args .sides)) (now (s .args .corners)) (now (s .args .sharpness))
 
 fill-sums-requires : tie.Need-fill-sums-requires
-fill-sums-requires c κs = search needs
+fill-sums-requires c κs =
+    let s = c .before .before .before .before .before .before in
+    (soft-refinable (mesh s) (s .pre .0), (s .pre .1 .1 .0, s .pre .1 .1 .1 .0))
 
 fill-faces-requires : tie.Need-fill-faces-requires
 fill-faces-requires c κs =
-    let s = c .before .before .before .before .before .before .before .before .before in
-    let room = s .pre .1 .1 .1 .0 in (
+    let s = c .before .before .before .before .before .before .before .before .before .before in
+    let sums = sums-of (softened (mesh s)) (now (s .args .wanted)) _ _ (s .pre .1 .1 .1 .0) (c .before .before .before .fill-sums .ensures) in (
       s .pre .0,
       (
         s .pre .1 .0,
         (
           s .pre .1 .1 .0,
           (
-            sums-of (mesh s) (now (s .args .wanted)) _ _ room (c .before .before .before .fill-sums .ensures),
+            sums-soft (mesh s) (now (s .args .wanted)) _ sums,
             s .pre .1 .1 .1 .1,
           ),
         ),

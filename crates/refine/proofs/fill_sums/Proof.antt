@@ -9,7 +9,7 @@ use borrow.Author.Needs.{needs}
 use lib.IntN.{ℤ}
 use lib.ListN.{length}
 use denote.Ref.{now}
-use Rattle.paper.specs.Mesh.{Mesh, meshOf}
+use Rattle.paper.specs.Mesh.{Mesh, plainMesh}
 use Rattle.paper.specs.Corners.{startOf}
 use Rattle.mesh.proofs.Faces.{start-zero, start-next, start-ends}
 use Rattle.refine.specs.Sources.{Summed}
@@ -19,13 +19,13 @@ use Rattle.refine.proofs.fill_sums.Tie as tie
 
 abbrev Inv-loop : tie.InvT-loop
 Inv-loop coordinates sides corners wanted sums₀ faces start₀ f₀ sums start f =
-    (f ≤ length sides) × (start ≡ startOf sides f) × Summed (meshOf coordinates sides corners) wanted f sums₀ sums
+    (f ≤ length sides) × (start ≡ startOf sides f) × Summed (plainMesh coordinates sides corners) wanted f sums₀ sums
 
 abbrev μ-loop : tie.MeasureT-loop
 μ-loop coordinates sides corners wanted sums₀ faces start₀ f₀ sums start f = length sides - f
 
 abbrev mesh : tie.Start Inv-loop μ-loop → Mesh
-mesh s = meshOf (now (s .args .coordinates)) (now (s .args .sides)) (now (s .args .corners))
+mesh s = plainMesh (now (s .args .coordinates)) (now (s .args .sides)) (now (s .args .corners))
 
 loop-holds : tie.Need-loop-holds Inv-loop μ-loop
 loop-holds c =

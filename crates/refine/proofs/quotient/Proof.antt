@@ -1,4 +1,4 @@
--- `refine::quotient` meets its contract: eight times a byte is a divisor that the rounding takes.
+-- `refine::quotient` meets its contract: 512 times a byte is a divisor that the rounding takes.
 -- Assumes nothing.
 use mathlib.Core.Path.{_≡_, refl}
 use Prim.Native.Nat.{ℕ, _*_, _^_, _≤_}
@@ -18,32 +18,32 @@ module _ (n : ℕ) (f : Fits w8 n) where
   read : toZ w64 n ≡ pos n
   read = toZ-pos w64 (omega arith)
 
-  eight : SFits w64 (pos (8 * n))
-  eight = record { sfits = omega arith }
+  divisor : SFits w64 (pos (512 * n))
+  divisor = record { sfits = omega arith }
 
-  few : pos (8 * n) ≤ℤ pos (2 ^ 36)
+  few : pos (512 * n) ≤ℤ pos (2 ^ 36)
   few = simp diff (omega arith)
 
-some : (n : ℕ) → 1 ≤ n → pos 0 <ℤ pos (8 * n)
+some : (n : ℕ) → 1 ≤ n → pos 0 <ℤ pos (512 * n)
 some n h = simp diff (omega arith)
 
 cast-round-div : tie.Need-cast-round-div
 cast-round-div c = search needs
 
 mul-round-div : tie.Need-mul-round-div
-mul-round-div c = rw (read (c .args .n) (c .fits .n)) (eight (c .args .n) (c .fits .n))
+mul-round-div c = rw (read (c .args .n) (c .fits .n)) (divisor (c .args .n) (c .fits .n))
 
 round-div-requires : tie.Need-round-div-requires
 round-div-requires c κs =
     let s = c in
-    rw (read (s .args .n) (s .fits .n), toZ-ofZ (eight (s .args .n) (s .fits .n)), toZ-ofZ (s .fits .t))
+    rw (read (s .args .n) (s .fits .n), toZ-ofZ (divisor (s .args .n) (s .fits .n)), toZ-ofZ (s .fits .t))
     (some (s .args .n) (s .pre .0), (few (s .args .n) (s .fits .n), s .pre .1))
 
 returns : tie.Need-returns
 returns c =
     let s = c .before in
     arm (s .args .t) (c .round-div .result) (s .args .n) (s .args .n) (s .fits .t) (search needs) refl
-    (rw (read (s .args .n) (s .fits .n), toZ-ofZ (eight (s .args .n) (s .fits .n))) at (c .round-div .ensures))
+    (rw (read (s .args .n) (s .fits .n), toZ-ofZ (divisor (s .args .n) (s .fits .n))) at (c .round-div .ensures))
 
 pub quotient-spec : {M : Type 1} → statement M
 quotient-spec = tie.close (tie.spec cast-round-div mul-round-div round-div-requires returns)

@@ -4,34 +4,42 @@ use mathlib.Core.Path.{_≡_, _∙_}
 use Prim.Native.Nat.{_*_, _^_, _<_, _≤_}
 use native.Mathlib.Nat.{le-trans}
 use lib.Dec.{lit<}
-use lib.IntN.{pos, natAbs, _*ℤ_}
+use lib.IntN.{natAbs}
 use mir.Syntax.{w32, w64}
 use mir.Val.{SFits, toZ, ofZ}
 use mir.Facts.{toZ-ofZ}
 use Rattle.integers.proofs.Machine.{abs-fits}
-use Rattle.paper.specs.Numbers.{round}
-use Rattle.refine.proofs.Laws.{Sizes, sizes, eightfold}
+use Rattle.refine.specs.Mean.{mean}
+use Rattle.refine.proofs.Laws.{Sizes, sizes}
 use native.Mathlib.Omega.{arith}
 use borrow.Author.Needs.{needs}
 use Rattle.refine.proofs.refined.Statement.{statement}
 use Rattle.refine.proofs.refined.Tie as tie
 
-facts : (s : tie.Start) → Sizes (s .args .total) (s .args .before) (s .args .here) (s .args .after) (s .args .n)
-facts s = sizes (s .args .total) (s .args .before) (s .args .here) (s .args .after) (s .args .n) (s .pre)
+facts : (s : tie.Start) → Sizes (s .args .w) (s .args .total) (s .args .before) (s .args .here) (s .args .after) (s .args .n)
+facts s = sizes (s .args .w) (s .pre .1) (s .args .total) (s .args .before) (s .args .here) (s .args .after) (s .args .n) (s .pre .0)
 
 -- what `divide` answered
 module _ (c : tie.After-divide) where
-  answer : c .divide .result ≡ round (eightfold (c .before .args .total) (c .before .args .before) (c .before .args .here) (c .before .args .after)
-      (c .before .args .n)) (pos 8 *ℤ pos (c .before .args .n))
-  answer = let s = c .before in let k = facts s in simp (
+  abbrev start : tie.Start
+  start = c .before .before .before .before .before
+
+  answer : c .divide .result ≡ mean (start .args .w) (start .args .total) (start .args .before) (start .args .here) (start .args .after) (start .args .n)
+  answer = let s = start in let k = facts s in simp (
     toZ-ofZ,
     s .fits .total,
     s .fits .before,
     s .fits .here,
     s .fits .after,
     k .read,
-    k .twice,
-    k .fourfold,
+    k .read-face,
+    k .read-before,
+    k .read-here,
+    k .read-after,
+    k .on-face,
+    k .on-before,
+    k .on-here,
+    k .on-after,
     k .two,
     k .three,
     k .product,
@@ -39,7 +47,7 @@ module _ (c : tie.After-divide) where
   ) at (c .divide .ensures)
 
   size : natAbs (c .divide .result) ≤ 2 ^ 24
-  size = rw answer (facts (c .before) .result)
+  size = rw answer (facts start .result)
 
   wide : SFits w64 (c .divide .result)
   wide = abs-fits w64 (c .divide .result) (2 ^ 24) size (lit< tt)
@@ -47,61 +55,80 @@ module _ (c : tie.After-divide) where
   narrow : SFits w32 (c .divide .result)
   narrow = abs-fits w32 (c .divide .result) (2 ^ 24) size (lit< tt)
 
-mul-t : tie.Need-mul-t
-mul-t c = search (needs, facts c)
+cast-sum : tie.Need-cast-sum
+cast-sum c = search needs
+
+mul-sum : tie.Need-mul-sum
+mul-sum c = let s = c .before in let k = facts s in simp (toZ-ofZ, s .fits .total, k .read-face) (k .on-face)
+
+cast-three : tie.Need-cast-three
+cast-three c = search needs
+
+mul-three : tie.Need-mul-three
+mul-three c = let s = c .before .before in let k = facts s in simp (toZ-ofZ, s .fits .before, k .read-before) (k .on-before)
+
+cast-three-2 : tie.Need-cast-three-2
+cast-three-2 c = search needs
+
+mul-three-2 : tie.Need-mul-three-2
+mul-three-2 c = let s = c .before .before .before in let k = facts s in simp (toZ-ofZ, s .fits .here, k .read-here) (k .on-here)
+
+add-three : tie.Need-add-three
+add-three c =
+    let s = c .before .before .before in
+    let k = facts s in
+    simp (toZ-ofZ, s .fits .before, s .fits .here, k .read-before, k .read-here, k .on-before, k .on-here) (k .two)
+
+cast-three-3 : tie.Need-cast-three-3
+cast-three-3 c = search needs
+
+mul-three-3 : tie.Need-mul-three-3
+mul-three-3 c = let s = c .before .before .before .before in let k = facts s in simp (toZ-ofZ, s .fits .after, k .read-after) (k .on-after)
+
+add-three-2 : tie.Need-add-three-2
+add-three-2 c =
+    let s = c .before .before .before .before in
+    let k = facts s in
+    simp (
+      toZ-ofZ,
+      s .fits .before,
+      s .fits .here,
+      s .fits .after,
+      k .read-before,
+      k .read-here,
+      k .read-after,
+      k .on-before,
+      k .on-here,
+      k .on-after,
+      k .two,
+    ) (k .three)
 
 cast-t : tie.Need-cast-t
 cast-t c = search needs
 
-mul-t-2 : tie.Need-mul-t-2
-mul-t-2 c = search (needs, facts c)
-
-add-t : tie.Need-add-t
-add-t c = search (needs, facts c)
-
-add-t-2 : tie.Need-add-t-2
-add-t-2 c =
-    let s = c in
+mul-t : tie.Need-mul-t
+mul-t c =
+    let s = c .before .before .before .before in
     let k = facts s in
     simp (
       toZ-ofZ,
-      s .fits .total,
       s .fits .before,
       s .fits .here,
       s .fits .after,
       k .read,
-      k .twice,
-      k .fourfold,
+      k .read-before,
+      k .read-here,
+      k .read-after,
+      k .on-before,
+      k .on-here,
+      k .on-after,
       k .two,
       k .three,
-      k .product,
-      k
-          .all,
-    ) (k .three)
-
-mul-t-3 : tie.Need-mul-t-3
-mul-t-3 c =
-    let s = c in
-    let k = facts s in
-    simp (
-      toZ-ofZ,
-      s .fits .total,
-      s .fits .before,
-      s .fits .here,
-      s .fits .after,
-      k .read,
-      k .twice,
-      k .fourfold,
-      k .two,
-      k .three,
-      k .product,
-      k
-          .all,
     ) (k .product)
 
-add-t-3 : tie.Need-add-t-3
-add-t-3 c =
-    let s = c in
+add-t : tie.Need-add-t
+add-t c =
+    let s = c .before .before .before .before in
     let k = facts s in
     simp (
       toZ-ofZ,
@@ -110,18 +137,22 @@ add-t-3 c =
       s .fits .here,
       s .fits .after,
       k .read,
-      k .twice,
-      k .fourfold,
+      k .read-face,
+      k .read-before,
+      k .read-here,
+      k .read-after,
+      k .on-face,
+      k .on-before,
+      k .on-here,
+      k .on-after,
       k .two,
       k .three,
       k .product,
-      k
-          .all,
     ) (k .all)
 
 divide-requires : tie.Need-divide-requires
 divide-requires c κs =
-    let s = c in
+    let s = c .before .before .before .before in
     let k = facts s in
     simp (
       toZ-ofZ,
@@ -130,14 +161,19 @@ divide-requires c κs =
       s .fits .here,
       s .fits .after,
       k .read,
-      k .twice,
-      k .fourfold,
+      k .read-face,
+      k .read-before,
+      k .read-here,
+      k .read-after,
+      k .on-face,
+      k .on-before,
+      k .on-here,
+      k .on-after,
       k .two,
       k .three,
       k .product,
-      k
-          .all,
-    ) (omega (arith, s .pre .least), le-trans (k .size) (omega (arith, s .pre .most)))
+      k .all,
+    ) (omega (arith, s .pre .0 .face .least), le-trans (k .size) (omega (arith, s .pre .0 .face .most)))
 
 cast-result : tie.Need-cast-result
 cast-result c = simp (toZ-ofZ, wide c) (narrow c)
@@ -149,13 +185,19 @@ pub refined-spec : {M : Type 1} → statement M
 refined-spec =
     tie.close
     (tie.spec
-    mul-t
+    cast-sum
+    mul-sum
+    cast-three
+    mul-three
+    cast-three-2
+    mul-three-2
+    add-three
+    cast-three-3
+    mul-three-3
+    add-three-2
     cast-t
-    mul-t-2
+    mul-t
     add-t
-    add-t-2
-    mul-t-3
-    add-t-3
     divide-requires
     cast-result
     returns)

@@ -7,13 +7,13 @@ use denote.Ref.{now}
 use mir.Syntax.{w32}
 use mir.Val.{SFits}
 use mir.Facts.{toZ-ofZ}
-use Rattle.paper.specs.Mesh.{Mesh, meshOf}
+use Rattle.paper.specs.Mesh.{Mesh, plainMesh}
 use Rattle.refine.proofs.Laws.{end-in, face-sum-is, summed-set}
 use Rattle.refine.proofs.sum_axis.Statement.{statement}
 use Rattle.refine.proofs.sum_axis.Tie as tie
 
 abbrev mesh : tie.Start → Mesh
-mesh s = meshOf (now (s .args .coordinates)) (now (s .args .sides)) (now (s .args .corners))
+mesh s = plainMesh (now (s .args .coordinates)) (now (s .args .sides)) (now (s .args .corners))
 
 shared-slice-read-n : tie.Need-shared-slice-read-n
 shared-slice-read-n c = search needs
@@ -47,8 +47,9 @@ returns c =
     let s = c .before .before .before .before in
     let f = s .pre .1 .0 in
     let fits : SFits w32 (c .face-sum .result) = search needs in
+    let e = face-sum-is (mesh s) (s .pre .0) (s .args .f) (f .1) (s .args .axis) (s .args .start) (f .2) in
     summed-set (mesh s) (s .pre .0) (s .args .f) (f .1) (s .args .axis) (f .0) _ _ (s .pre .1 .1)
-    (toZ-ofZ fits ∙ c .face-sum .ensures (now (s .args .sides)) ∙ face-sum-is (mesh s) (s .pre .0) (s .args .f) (f .1) (s .args .axis) (s .args .start) (f .2))
+    (toZ-ofZ fits ∙ c .face-sum .ensures (now (s .args .sides)) (mesh s .sharpness) ∙ e)
 
 pub sum-axis-spec : {M : Type 1} → statement M
 sum-axis-spec =

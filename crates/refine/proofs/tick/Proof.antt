@@ -60,7 +60,7 @@ mul-result-3 c = let k = facts (c .before .before) in simp (toZ-ofZ, k .0, k .1)
 
 returns : tie.Need-returns
 unfolding ticks
-returns c = let k = facts (c .before .before) in λ sides. simp (toZ-ofZ, k .0, k .1, k .2)
+returns c = let k = facts (c .before .before) in λ sides sharpness. simp (toZ-ofZ, k .0, k .1, k .2)
 
 pub tick-spec : {M : Type 1} → statement M
 tick-spec =

@@ -15,6 +15,9 @@ slice-aggregate-decode-2 c = search needs
 slice-aggregate-decode-3 : tie.Need-slice-aggregate-decode-3
 slice-aggregate-decode-3 c = search needs
 
+slice-aggregate-decode-4 : tie.Need-slice-aggregate-decode-4
+slice-aggregate-decode-4 c = search needs
+
 decode-requires : tie.Need-decode-requires
 decode-requires c κs = search needs
 
@@ -42,6 +45,12 @@ least-requires-2 c κs = search needs
 least-requires-3 : tie.Need-least-requires-3
 least-requires-3 c κs = search needs
 
+mul-least-2 : tie.Need-mul-least-2
+mul-least-2 c = search needs
+
+least-requires-4 : tie.Need-least-requires-4
+least-requires-4 c κs = search needs
+
 array-share-prefix-coordinates : tie.Need-array-share-prefix-coordinates
 array-share-prefix-coordinates c = search needs
 
@@ -60,6 +69,12 @@ array-share-prefix-corners c = search needs
 slice-aggregate-print-mesh-3 : tie.Need-slice-aggregate-print-mesh-3
 slice-aggregate-print-mesh-3 c = sym (length-take-le _ _ (search needs))
 
+array-share-prefix-sharpness : tie.Need-array-share-prefix-sharpness
+array-share-prefix-sharpness c = search needs
+
+slice-aggregate-print-mesh-4 : tie.Need-slice-aggregate-print-mesh-4
+slice-aggregate-print-mesh-4 c = sym (length-take-le _ _ (search needs))
+
 print-mesh-requires : tie.Need-print-mesh-requires
 print-mesh-requires c κs = search needs
 
@@ -73,6 +88,7 @@ print-file-spec =
     slice-aggregate-decode
     slice-aggregate-decode-2
     slice-aggregate-decode-3
+    slice-aggregate-decode-4
     decode-requires
     enum-known-answer
     say-refusal-requires
@@ -82,11 +98,15 @@ print-file-spec =
     least-requires
     least-requires-2
     least-requires-3
+    mul-least-2
+    least-requires-4
     array-share-prefix-coordinates
     slice-aggregate-print-mesh
     array-share-prefix-sides
     slice-aggregate-print-mesh-2
     array-share-prefix-corners
     slice-aggregate-print-mesh-3
+    array-share-prefix-sharpness
+    slice-aggregate-print-mesh-4
     print-mesh-requires
     returns-2)

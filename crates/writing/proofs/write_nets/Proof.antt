@@ -13,7 +13,7 @@ use Rattle.writing.proofs.write_nets.Statement.{statement}
 use Rattle.writing.proofs.write_nets.Tie as tie
 
 abbrev mesh : tie.Start → Mesh
-mesh s = meshOf (now (s .args .coordinates)) (now (s .args .sides)) (now (s .args .corners))
+mesh s = meshOf (now (s .args .coordinates)) (now (s .args .sides)) (now (s .args .corners)) (now (s .args .sharpness))
 
 slice-aggregate-fill-wanted : tie.Need-slice-aggregate-fill-wanted
 slice-aggregate-fill-wanted c = search needs
@@ -23,7 +23,7 @@ slice-aggregate-fill-wanted-2 c = search needs
 
 fill-wanted-requires : tie.Need-fill-wanted-requires
 fill-wanted-requires c κs =
-    let s = c .before .before .before .before .before in
+    let s = c .before .before .before .before .before .before in
     let M = mesh s in (
       (faces-of M (s .pre .0), omega (arith, refinable-of M (s .pre .0) .sums), faces-in M (s .pre .0)),
       (
@@ -41,13 +41,13 @@ slice-aggregate-fill-points c = search needs
 
 fill-points-requires : tie.Need-fill-points-requires
 fill-points-requires c κs =
-    let s = c .before .before .before .before .before .before .before .before .before .before in
+    let s = c .before .before .before .before .before .before .before .before .before .before .before in
     let w = c .before .before .before .before .fill-wanted in
     (refinable-of (mesh s) (s .pre .0), (s .pre .1 .0, (omega (arith, faces-in (mesh s) (s .pre .0), w .kept .1 .1 .1 .1 .1 .0), s .pre .1 .1 .1)))
 
 write-corners-requires : tie.Need-write-corners-requires
 write-corners-requires c κs =
-    let s = c .before .before .before .before .before .before .before .before .before .before .before .before .before .before in
+    let s = c .before .before .before .before .before .before .before .before .before .before .before .before .before .before .before in
     let p = c .before .before .before .fill-points in
     let w = c .before .before .before .before .before .before .before .before .fill-wanted in
     let range = s .pre .1 .1 .0 in (
@@ -64,7 +64,7 @@ same-length-2 c = search needs
 
 returns : tie.Need-returns
 returns c =
-    let s = c .before .before .before .before .before .before .before .before .before .before .before .before .before .before .before .before in
+    let s = c .before .before .before .before .before .before .before .before .before .before .before .before .before .before .before .before .before in
     let n = c .before .write-corners in
     let p = c .before .before .before .before .before .fill-points in
     let w = c .before .before .before .before .before .before .before .before .before .before .fill-wanted in

@@ -3,7 +3,7 @@
 use mathlib.Core.Path.{ap}
 use Prim.Native.Nat.{ℕ, _*_}
 use borrow.Author.Needs.{needs}
-use Rattle.dms.proofs.Lists.{coordinates-read, sides-read, corners-read}
+use Rattle.dms.proofs.Lists.{coordinates-read, sides-read, corners-read, sharpness-read}
 use Rattle.dms.proofs.body.read_lists.Statement.{statement}
 use Rattle.dms.proofs.body.read_lists.Tie as tie
 
@@ -22,8 +22,8 @@ sides-start-requires c κs = search needs
 face-count-requires : tie.Need-face-count-requires
 face-count-requires c κs = search needs
 
-read-sides-requires : tie.Need-read-sides-requires
-read-sides-requires c κs = search needs
+read-bytes-requires : tie.Need-read-bytes-requires
+read-bytes-requires c κs = search needs
 
 corners-start-requires : tie.Need-corners-start-requires
 corners-start-requires c κs = search needs
@@ -34,6 +34,9 @@ corner-count-requires c κs = search needs
 read-corners-requires : tie.Need-read-corners-requires
 read-corners-requires c κs = search needs
 
+read-sharpness-requires : tie.Need-read-sharpness-requires
+read-sharpness-requires c κs = search needs
+
 same-length : tie.Need-same-length
 same-length c = search needs
 
@@ -43,22 +46,22 @@ same-length-2 c = search needs
 same-length-3 : tie.Need-same-length-3
 same-length-3 c = search needs
 
+same-length-4 : tie.Need-same-length-4
+same-length-4 c = search needs
+
 returns : tie.Need-returns
 returns c =
-    let s = c .before .before .before .before .before .before .before .before .before .before .before .before .before .before .before .before .before .before
-    .before in
-    let file = s .args .file .now in
+    let k = c .before .before .before .before .before .before in
+    let s = k .before .before .before .before .before .before in
+    let x = s .before .before .before .before .before in
+    let file = x .before .before .before .before .before .before .before .args .file .now in
     record {
-      coordinates-hold = coordinates-read file _ _ _
-          (ap (λ (n : ℕ). 3 * n)
-          (c .before .before .before .before .before .before .before .before .before .before .before .before .before .before .before .vertex-count .ensures
-          .0)) (c .before .before .before .before .before .before .before .before .before .before .before .before .before .read-coordinates .ensures);
-      sides-hold = sides-read file _ _ _ _
-          (c .before .before .before .before .before .before .before .before .before .before .before .sides-start .ensures .0)
-          (c .before .before .before .before .before .before .before .before .before .before .face-count .ensures .0)
-          (c .before .before .before .before .before .before .before .before .read-sides .ensures);
-      corners-hold = corners-read file _ _ _ _ (c .before .before .before .before .before .corners-start .ensures .0)
-          (c .before .before .before .before .corner-count .ensures .0) (c .before .before .read-corners .ensures);
+      coordinates-hold = coordinates-read file _ _ _ (ap (λ (n : ℕ). 3 * n) (x .before .before .vertex-count .ensures .0)) (x .read-coordinates .ensures);
+      sides-hold = sides-read file _ _ _ _ (s .before .before .before .sides-start .ensures .0) (s .before .before .face-count .ensures .0)
+          (s .read-bytes .ensures);
+      corners-hold = corners-read file _ _ _ _ (k .before .before .before .corners-start .ensures .0) (k .before .before .corner-count .ensures .0)
+          (k .read-corners .ensures);
+      sharpness-hold = sharpness-read file _ _ (c .before .before .read-sharpness .ensures);
     }
 
 pub read-lists-spec : {M : Type 1} → statement M
@@ -70,11 +73,13 @@ read-lists-spec =
     read-coordinates-requires
     sides-start-requires
     face-count-requires
-    read-sides-requires
+    read-bytes-requires
     corners-start-requires
     corner-count-requires
     read-corners-requires
+    read-sharpness-requires
     same-length
     same-length-2
     same-length-3
+    same-length-4
     returns)

@@ -41,8 +41,9 @@ tally-bytes-requires c κs = search needs
 
 returns : tie.Need-returns
 returns c =
+    λ sharpness.
     let s = c .before .before .before .before .before .before .before .before .before .before .before .before in
-    let M = meshOf (s .args .coordinates .now) (s .args .sides .now) (s .args .corners .now) in
+    let M = meshOf (s .args .coordinates .now) (s .args .sides .now) (s .args .corners .now) sharpness in
     record {
       vertices = refl;
       faces = refl;

@@ -1,10 +1,7 @@
--- The test of the number read is the test of the file's.
+-- The number read is the first version, or the second test decides.
 -- Assumes nothing.
-use mathlib.Core.Path.{ap}
-use Prim.Native.Nat.{ℕ}
-use lib.Dec.{eqb}
 use borrow.Author.Needs.{needs}
-use Rattle.paper.specs.File.{known}
+use Rattle.dms.proofs.Headers.{first-version, other-version}
 use Rattle.dms.proofs.header.has_version.Statement.{statement}
 use Rattle.dms.proofs.header.has_version.Tie as tie
 
@@ -12,8 +9,10 @@ half-requires : tie.Need-half-requires
 half-requires c κs = search needs
 
 returns : tie.Need-returns
-unfolding known
-returns c = ap (λ (n : ℕ). eqb n 1) (c .half .ensures .0)
+returns c = first-version (c .before .before .before .args .file .now) _ (c .before .half .ensures .0) (c .if1 .taken)
+
+returns-2 : tie.Need-returns-2
+returns-2 c = other-version (c .before .before .before .args .file .now) _ (c .before .half .ensures .0) (c .if1 .left)
 
 pub has-version-spec : {M : Type 1} → statement M
-has-version-spec = tie.close (tie.spec half-requires returns)
+has-version-spec = tie.close (tie.spec half-requires returns returns-2)

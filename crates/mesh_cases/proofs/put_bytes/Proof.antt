@@ -1,9 +1,9 @@
--- `put_sides` is safe and ends: what is left of its loop falls.
+-- `put_bytes` is safe and ends: what is left of its loop falls.
 -- Assumes nothing.
 use Prim.Native.Nat.{_≤_, _-_}
 use borrow.Author.Needs.{needs}
-use Rattle.mesh_cases.proofs.put_sides.Statement.{statement}
-use Rattle.mesh_cases.proofs.put_sides.Tie as tie
+use Rattle.mesh_cases.proofs.put_bytes.Statement.{statement}
+use Rattle.mesh_cases.proofs.put_bytes.Tie as tie
 
 abbrev Inv-loop : tie.InvT-loop
 Inv-loop list₀ at value times to₀ left₀ list to left = left ≤ times
@@ -35,8 +35,8 @@ loop-again c = search needs
 returns : tie.Need-returns Inv-loop μ-loop
 returns c = search needs
 
-pub put-sides-spec : {M : Type 1} → statement M
-put-sides-spec =
+pub put-bytes-spec : {M : Type 1} → statement M
+put-bytes-spec =
     tie.close
     (tie.spec
     Inv-loop
