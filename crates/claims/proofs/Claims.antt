@@ -2,11 +2,13 @@
 -- Assumes nothing.
 use Rattle.paper.specs.Claims.{Claims}
 use Rattle.numbers.proofs.Rules.{rules}
+use Rattle.numbers.proofs.Fractions.{no-rounding}
 use Rattle.mesh.proofs.Theorems.{manifold}
 use Rattle.surface.proofs.Eights.{plain-points}
 use Rattle.borders.proofs.Ranges.{ranges, every-border}
 use Rattle.borders.proofs.Theorem.{demand3}
 use Rattle.borders.proofs.FromC.{from-c}
+use Rattle.accuracy.proofs.Theorem.{accuracy}
 use Rattle.mirror.proofs.Theorem.{mirrors}
 use Rattle.examples.proofs.Claim.{examples}
 use Rattle.floats.proofs.Theorems.{far-pairs, float-sums, one-answer}
@@ -37,4 +39,6 @@ claims = record {
   plain-passes = plain-passes;
   version-one = version-one;
   plain-points = plain-points;
+  no-rounding = no-rounding;
+  accuracy = accuracy;
 }

@@ -6,11 +6,11 @@ use mathlib.Core.List.{List}
 use mathlib.Core.Logic.{_↔_}
 use Prim.Native.Nat.{ℕ, _+_, _*_, _≤_, _<_}
 use lib.ListN.{length, take, drop}
-use lib.IntN.{ℤ}
+use lib.IntN.{ℤ, pos}
 use Rattle.paper.specs.Mesh.{Mesh, cornerCount, leastSides, mostSides, plainList}
 use Rattle.paper.specs.Links.{linkTable}
 use Rattle.paper.specs.Faults.{sound, Accepted, fault27, fault28}
-use Rattle.paper.specs.Numbers.{rounded}
+use Rattle.paper.specs.Numbers.{rounded, Fraction, exact}
 use Rattle.paper.specs.Cosines.{RowRules}
 use Rattle.paper.specs.Refined.{refinedOf, refinedOf01}
 use Rattle.paper.specs.Net.{Side}
@@ -22,6 +22,7 @@ use Rattle.paper.specs.Squares.{Searched, Agreed}
 use Rattle.paper.specs.CFace.{BuildCall}
 use Rattle.paper.specs.Borders.{Output, Wrote, outputOf, Borders, Smooth}
 use Rattle.paper.specs.Mirror.{Mirror}
+use Rattle.paper.specs.Accuracy.{Same, Accurate}
 use Rattle.paper.specs.Manifold.{Manifold}
 use Rattle.paper.specs.Examples.{AllGive, examples}
 use Rattle.paper.specs.declared.Answer.the-variants.{Done}
@@ -122,6 +123,14 @@ PlainPasses = (M : Mesh) → Plain M → (fault27 (length (M .sharpness)) (corne
 abbrev pub VersionOne : Type 0
 VersionOne = (file : List ℕ) → versionIn file ≡ 1 → Plain (fileMesh file)
 
+-- ---- L10: no division of the exact reading rounds, since a quotient, times its divisor, is what was divided
+abbrev pub NoRounding : Type 0
+NoRounding = (q : Fraction) (d : ℕ) → 0 < d → Same (exact ._·_ (pos d) (exact ._÷_ q d)) q
+
+-- every coordinate of every control point that a call leaves is within 5 ticks of the true surface
+abbrev pub Accuracy : Type 0
+Accuracy = (M : Mesh) (O : Output) → Wrote M O → Accurate M O
+
 -- ---- all of them
 pub record Claims : Type 0 where
   pub rules : TableRules
@@ -143,3 +152,5 @@ pub record Claims : Type 0 where
   pub plain-points : PlainPoints
   pub plain-passes : PlainPasses
   pub version-one : VersionOne
+  pub no-rounding : NoRounding
+  pub accuracy : Accuracy

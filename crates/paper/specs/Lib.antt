@@ -4,7 +4,7 @@
 --     Mesh, Corners, Links   "Mesh tables and links": lists and limits, next and previous corners, links
 --     Faults     "Why a mesh is turned down", 4 to 14 with 27 and 28, and answers
 --     Counts, File   "The file": what `inspect` counts; format, versions 1 and 2, 1 to 3, `survey` and `decode`
---     Numbers, Cosines   "Numbers used": rounding and the reading `rounded`; the cosine table
+--     Numbers, Cosines   "Numbers used": rounding, the readings `rounded` and `exact`; the cosine table
 --     Refined, Face, Net   "From corner to 41 points", with L8's sharpness
 --     Calls      linking and building as calls, 14 to 17
 --     Floats     L1: a control point as floats, 18 to 20
@@ -13,6 +13,7 @@
 --     CFace      the C face
 --     Borders    "The four conditions across a side"
 --     Mirror     a mesh with one axis negated
+--     Accuracy   L10: the true surface, and how far off a point may be
 --     Manifold   what an accepted mesh is
 --     Examples   "Checked examples"
 --     Claims     the theorems
@@ -35,6 +36,7 @@ pub mod Squares
 pub mod CFace
 pub mod Borders
 pub mod Mirror
+pub mod Accuracy
 pub mod Manifold
 pub mod Examples
 pub mod Claims

@@ -1,7 +1,8 @@
 -- Rounding ("Numbers used"), and the numbers that the construction is carried out in. The construction is said once, over a structure of
--- numbers; its reading `rounded`, whole numbers of ticks where every division rounds, is what building writes.
+-- numbers, and has two readings: `rounded`, whole numbers of ticks where every division rounds, is what building writes; `exact`, fractions of
+-- a tick where none does, is the true surface (L10).
 -- Assumes nothing.
-use Prim.Native.Nat.{_/_, ℕ, zero, suc}
+use Prim.Native.Nat.{_/_, ℕ, zero, suc, _*_}
 use lib.IntN.{ℤ, pos, negsuc, negℤ, natAbs, _+ℤ_, _-ℤ_, _*ℤ_}
 
 -- the largest whole number that is not above z / d, for d > 0
@@ -44,4 +45,22 @@ rounded = record {
   _⊖_ = _-ℤ_;
   _·_ = _*ℤ_;
   _÷_ = λ z d. round z (pos d);
+}
+
+-- ---- no division rounds: fractions, not reduced
+pub record Fraction : Type 0 where
+  pub top : ℤ
+  pub bottom : ℕ
+
+abbrev pub fraction : ℤ → ℕ → Fraction
+fraction top bottom = record { top = top; bottom = bottom }
+
+abbrev pub exact : Numbers
+exact = record {
+  Number = Fraction;
+  whole = λ z. fraction z 1;
+  _⊕_ = λ x y. fraction (x .top *ℤ pos (y .bottom) +ℤ y .top *ℤ pos (x .bottom)) (x .bottom * y .bottom);
+  _⊖_ = λ x y. fraction (x .top *ℤ pos (y .bottom) -ℤ y .top *ℤ pos (x .bottom)) (x .bottom * y .bottom);
+  _·_ = λ w x. fraction (w *ℤ x .top) (x .bottom);
+  _÷_ = λ x d. fraction (x .top) (x .bottom * d);
 }

@@ -1,16 +1,18 @@
-//! An independent implementation of document 01, of L1, L4, L5, L7 and L8, in plain Rust: the file, the check of a mesh,
-//! linking, building, the four conditions across a side, a control point in floats, the listing of nested grids, the
-//! search for an irregular face or vertex. It is written from the papers alone and shares nothing with the proved
-//! library, so that the two can be compared; nobody has proved it.
+//! An independent implementation of document 01, of L1, L4, L5, L7, L8 and L10, in plain Rust: the file, the check of a
+//! mesh, linking, building, the four conditions across a side, a control point in floats, the listing of nested grids,
+//! the search for an irregular face or vertex, the construction without rounding. It is written from the papers alone
+//! and shares nothing with the proved library, so that the two can be compared; nobody has proved it.
 
 mod check;
 pub mod conditions;
 mod cosines;
+pub mod exact;
 mod file;
 mod floats;
 mod nesting;
 mod squares;
 mod surface;
+mod wide;
 
 pub use check::{check, link, links_of};
 pub use cosines::cosine;

@@ -9,7 +9,7 @@ use crate::{refuse, Lists, Refusal, MOST};
 pub type Point = [i64; 3];
 
 /// A tick is 1/256 of a grid step.
-const TICKS: i64 = 256;
+pub(crate) const TICKS: i64 = 256;
 /// 25 b points and 16 a points of three numbers each.
 pub const NUMBERS_PER_CORNER: usize = 3 * (25 + 16);
 
