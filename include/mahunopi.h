@@ -5,7 +5,8 @@
  * counts, corners, and the sharpness of the corners. mahunopi_survey counts what a .dms file holds, mahunopi_decode
  * reads its lists, mahunopi_link fills the link table of a mesh, mahunopi_build writes the control points of a range of
  * corners, mahunopi_floats gives one of these points as floats. mahunopi_irregular says whether a mesh is all squares.
- * mahunopi_nest lists a table of nested grids. Each is complete in itself: none relies on an earlier call.
+ * mahunopi_nest lists a table of nested grids. mahunopi_archive rearranges a coordinate list for the archive, and
+ * mahunopi_restore undoes it. Each is complete in itself: none relies on an earlier call.
  *
  * Every function returns MAHUNOPI_DONE, or the number of a refusal (enum mahunopi_refusal). After a refusal *place
  * says where, and everything else that was lent keeps its contents; when done, *place keeps its contents.
@@ -55,7 +56,8 @@ extern "C" {
 
 /*
  * What a function answers. A file is checked by 1 to 13, linking by 4 to 14, building by 4 to 17, the search for an
- * irregular face or vertex by 4 to 13, a control point in floats by 18 to 20, a nesting table by 21 to 23. 27 and 28
+ * irregular face or vertex by 4 to 13, a control point in floats by 18 to 20, a nesting table by 21 to 23, lists for the
+ * archive by 30 and 31. 27 and 28
  * are tried wherever 4 to 13 are, 27 after 4 and 28 after 8: the order is 4, 27, 5, 6, 7, 8, 28, 9 and so on. Each
  * number is tried over the whole input before the next, and the place is the lowest that applies.
  *
@@ -129,6 +131,10 @@ enum mahunopi_refusal {
     MAHUNOPI_BAD_SHARPNESS_LENGTH = 27,
     /* after 8: a sharpness number is above 16 (place: its position in the sharpness list) */
     MAHUNOPI_BAD_SHARPNESS = 28,
+    /* the number list's length is no multiple of three (place: its length) */
+    MAHUNOPI_BAD_NUMBER_COUNT = 30,
+    /* the byte list is not four times as long as the number list (place: its length) */
+    MAHUNOPI_BAD_BYTE_COUNT = 31,
     /* surveying and decoding, after 1 to 13: a lent list is too short (place: the length that the first such needs) */
     MAHUNOPI_LENT_TOO_SHORT = 255
 };
@@ -321,6 +327,38 @@ uint32_t mahunopi_nest(
     uint16_t *listing,
     /* how many entries it has: has to be body_count */
     size_t listing_count,
+    /* receives the place of a refusal; not null */
+    uint64_t *place);
+
+/*
+ * Archiving: checks two lengths by 30 and 31, takes each number's difference from the same axis of the vertex before,
+ * wrapping in 32 bits, the first vertex as it is, and writes the lowest bytes of all differences, then all second bytes,
+ * all third, all highest. Lists may be far longer than those of a mesh, and empty.
+ */
+uint32_t mahunopi_archive(
+    /* x, y, z of vertex 0, then of vertex 1, and so on: any 32-bit numbers */
+    const int32_t *numbers,
+    /* how many numbers: a multiple of three */
+    size_t number_count,
+    /* receives the bytes */
+    uint8_t *bytes,
+    /* how many bytes: has to be 4 times number_count */
+    size_t byte_count,
+    /* receives the place of a refusal; not null */
+    uint64_t *place);
+
+/*
+ * Restoring: checks the same two lengths by 30 and 31, and writes the numbers of which mahunopi_archive makes these bytes.
+ */
+uint32_t mahunopi_restore(
+    /* the bytes, as mahunopi_archive writes them: any bytes */
+    const uint8_t *bytes,
+    /* how many bytes: has to be 4 times number_count */
+    size_t byte_count,
+    /* receives the numbers */
+    int32_t *numbers,
+    /* how many numbers: a multiple of three */
+    size_t number_count,
     /* receives the place of a refusal; not null */
     uint64_t *place);
 

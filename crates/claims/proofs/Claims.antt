@@ -17,6 +17,7 @@ use Rattle.nesting.proofs.Theorems.{chains-decide, listing-ordered, one-listing
 use Rattle.irregular.proofs.Theorems.{lines-agree}
 use Rattle.dms.proofs.Theorems.{version-one}
 use Rattle.claims.proofs.Plain.{plain-passes}
+use Rattle.rearrange.proofs.Theorems.{numbers-return, bytes-return}
 
 pub claims : Claims
 claims = record {
@@ -41,4 +42,6 @@ claims = record {
   plain-points = plain-points;
   no-rounding = no-rounding;
   accuracy = accuracy;
+  numbers-return = numbers-return;
+  bytes-return = bytes-return;
 }

@@ -37,7 +37,7 @@ fn below_zero(n: u32) -> i32
 }
 
 // The number whose 32 bits, in two's complement, are these.
-fn signed(bits: u32) -> i32
+pub fn signed(bits: u32) -> i32
     ensures { λ r. ⌜ r ≡ toZ w32 bits ⌝ }
 {
     if bits < 2147483648 {
@@ -48,7 +48,7 @@ fn signed(bits: u32) -> i32
 }
 
 // The coordinate at a place.
-fn coordinate(file: &[u8], at: usize) -> i32
+pub fn coordinate(file: &[u8], at: usize) -> i32
     requires { ⌜ at + 3 < length (now file) ⌝ }
     ensures { λ r. ⌜ r ≡ signedAt (now (file .entry)) at ⌝ }
 {

@@ -25,6 +25,8 @@ use Rattle.paper.specs.Nesting.{listing, Nested}
 use Rattle.paper.specs.CFace.{States, LinkCall, BuildCall, Lengths, four, lentVerdict, DecodeCall, countsOf, surveyVerdict, SurveyCall, put}
 use Rattle.paper.specs.Squares.{Stated, face, vertex, none, refused, squaresStated, Searched}
 use Rattle.paper.specs.CFace.{FloatsCall, NestCall, Finding, finding, findingOf, IrregularCall}
+use Rattle.paper.specs.Archive.{archived, restored, Archived, Restored}
+use Rattle.paper.specs.CFace.{ArchiveCall, RestoreCall}
 use Rattle.paper.specs.declared.Answer.{Answer}
 use Rattle.paper.specs.declared.Answer.the-variants.{Done, Refused}
 use Rattle.paper.specs.declared.Counts.{Counts}
@@ -63,6 +65,20 @@ pub nest-call : (holders old : List ℕ) (r : Answer) (out : List ℕ) (before n
 nest-call holders old r out before n after k s = record {
   answers = told _ r before n after (k .answers) s;
   holds = subst (λ (v : Verdict). out ≡ kept v (listing holders) old) (k .answers) (k .holds);
+}
+
+pub archive-call : (numbers : List ℤ) (old : List ℕ) (r : Answer) (out : List ℕ) (before n after : ℕ) → Archived numbers old r out
+    → States (stated r) before n after → ArchiveCall numbers old before n after out
+archive-call numbers old r out before n after k s = record {
+  answers = told _ r before n after (k .answers) s;
+  holds = subst (λ (v : Verdict). out ≡ kept v (archived numbers) old) (k .answers) (k .holds);
+}
+
+pub restore-call : (bytes : List ℕ) (old : List ℤ) (r : Answer) (out : List ℤ) (before n after : ℕ) → Restored bytes old r out
+    → States (stated r) before n after → RestoreCall bytes old before n after out
+restore-call bytes old r out before n after k s = record {
+  answers = told _ r before n after (k .answers) s;
+  holds = subst (λ (v : Verdict). out ≡ kept v (restored bytes (length old)) old) (k .answers) (k .holds);
 }
 
 -- ---- decoding

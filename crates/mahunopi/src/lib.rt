@@ -8,7 +8,7 @@ ghost use lib.ListN.{length};
 ghost use Rattle.paper.specs.Mesh.{meshOf, mostSides};
 ghost use Rattle.paper.specs.File.{fileOf, begins};
 ghost use Rattle.paper.specs.CFace.{LinkCall, BuildCall, four, DecodeCall, countsOf, SurveyCall, FloatsCall, NestCall};
-ghost use Rattle.paper.specs.CFace.{finding, IrregularCall};
+ghost use Rattle.paper.specs.CFace.{finding, IrregularCall, ArchiveCall, RestoreCall};
 use paper::Answer;
 use paper::FloatPoint;
 use paper::Irregular;
@@ -208,6 +208,24 @@ pub extern "C" fn mahunopi_irregular(
         }
         Irregular::Refused(k, at) => { tell(Answer::Refused(k, at), place) }
     }
+}
+
+// Coordinates rearranged for the archive.
+#[no_mangle]
+pub extern "C" fn mahunopi_archive(numbers: &[i32], bytes: &mut [u8], place: &mut u64) -> u32
+    ensures { λ r. ⌜ ArchiveCall (now (numbers .entry)) (now (bytes .entry)) (now (place .entry)) r (now (place .exit)) (now (bytes .exit)) ⌝ }
+{
+    let a = rearrange::archive(numbers, bytes);
+    tell(a, place)
+}
+
+// And back.
+#[no_mangle]
+pub extern "C" fn mahunopi_restore(bytes: &[u8], numbers: &mut [i32], place: &mut u64) -> u32
+    ensures { λ r. ⌜ RestoreCall (now (bytes .entry)) (now (numbers .entry)) (now (place .entry)) r (now (place .exit)) (now (numbers .exit)) ⌝ }
+{
+    let a = rearrange::restore(bytes, numbers);
+    tell(a, place)
 }
 
 // Whether one of two lists has no room for every m.

@@ -18,6 +18,7 @@ use Rattle.paper.specs.Calls.{nets, buildVerdict}
 use Rattle.paper.specs.Floats.{pointVerdict, Pointed}
 use Rattle.paper.specs.Nesting.{nestingVerdict, listing}
 use Rattle.paper.specs.Squares.{Stated, face, vertex, none, refused, squares}
+use Rattle.paper.specs.Archive.{archiveVerdict, archived, restored}
 use Rattle.paper.specs.declared.Counts.{Counts}
 use Rattle.paper.specs.declared.Floats.{Floats}
 use Rattle.paper.specs.declared.FloatPoint.{FloatPoint}
@@ -141,3 +142,11 @@ findingOf (refused number place) old = old
 pub record IrregularCall (M : Mesh) (lent : Finding) (before r after : ℕ) (told : Finding) : Type 0 where
   pub answers : States (verdict M) before r after
   pub tells : told ≡ findingOf (squares M) lent
+
+pub record ArchiveCall (numbers : List ℤ) (old : List ℕ) (before r after : ℕ) (out : List ℕ) : Type 0 where
+  pub answers : States (archiveVerdict (length numbers) (length old)) before r after
+  pub holds : out ≡ kept (archiveVerdict (length numbers) (length old)) (archived numbers) old
+
+pub record RestoreCall (bytes : List ℕ) (old : List ℤ) (before r after : ℕ) (out : List ℤ) : Type 0 where
+  pub answers : States (archiveVerdict (length old) (length bytes)) before r after
+  pub holds : out ≡ kept (archiveVerdict (length old) (length bytes)) (restored bytes (length old)) old

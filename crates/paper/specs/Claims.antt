@@ -4,7 +4,7 @@ use mathlib.Core.Path.{_≡_}
 use mathlib.Core.Bool.{false}
 use mathlib.Core.List.{List}
 use mathlib.Core.Logic.{_↔_}
-use Prim.Native.Nat.{ℕ, _+_, _*_, _≤_, _<_}
+use Prim.Native.Nat.{ℕ, _+_, _*_, _%_, _≤_, _<_}
 use lib.ListN.{length, take, drop}
 use lib.IntN.{ℤ, pos}
 use Rattle.paper.specs.Mesh.{Mesh, cornerCount, leastSides, mostSides, plainList}
@@ -19,12 +19,14 @@ use Rattle.paper.specs.Calls.{perCorner, nets, Built}
 use Rattle.paper.specs.Floats.{netVerdict, difference, first, second, axes, Pointed, sums, FarPair}
 use Rattle.paper.specs.Nesting.{tableVerdict, nestingVerdict, Nested, Ends, Ordered}
 use Rattle.paper.specs.Squares.{Searched, Agreed}
+use Rattle.paper.specs.Archive.{Archived, Restored, All32Bit, AllBytes}
 use Rattle.paper.specs.CFace.{BuildCall}
 use Rattle.paper.specs.Borders.{Output, Wrote, outputOf, Borders, Smooth}
 use Rattle.paper.specs.Mirror.{Mirror}
 use Rattle.paper.specs.Accuracy.{Same, Accurate}
 use Rattle.paper.specs.Manifold.{Manifold}
 use Rattle.paper.specs.Examples.{AllGive, examples}
+use Rattle.paper.specs.declared.Answer.{Answer}
 use Rattle.paper.specs.declared.Answer.the-variants.{Done}
 use Rattle.paper.specs.declared.FloatPoint.{FloatPoint}
 use Rattle.paper.specs.declared.Irregular.{Irregular}
@@ -131,6 +133,21 @@ NoRounding = (q : Fraction) (d : ℕ) → 0 < d → Same (exact ._·_ (pos d) (e
 abbrev pub Accuracy : Type 0
 Accuracy = (M : Mesh) (O : Output) → Wrote M O → Accurate M O
 
+-- ---- L11: every list of 32-bit numbers whose length is a multiple of three comes back, with lent lists of the right lengths:
+-- archiving it is done, restoring what that leaves is done, and leaves the list
+abbrev pub NumbersReturn : Type 0
+NumbersReturn =
+    (numbers lent back : List ℤ) (old bytes : List ℕ) (a r : Answer) → All32Bit numbers → length numbers % 3 ≡ 0
+    → length old ≡ 4 * length numbers → length lent ≡ length numbers → Archived numbers old a bytes → Restored bytes lent r back
+    → (a ≡ Done) × (r ≡ Done) × (back ≡ numbers)
+
+-- and so does every list of bytes that is four times as long as such a list
+abbrev pub BytesReturn : Type 0
+BytesReturn =
+    (bytes old back : List ℕ) (lent numbers : List ℤ) (a r : Answer) → AllBytes bytes → length lent % 3 ≡ 0
+    → length bytes ≡ 4 * length lent → length old ≡ length bytes → Restored bytes lent r numbers → Archived numbers old a back
+    → (r ≡ Done) × (a ≡ Done) × (back ≡ bytes)
+
 -- ---- all of them
 pub record Claims : Type 0 where
   pub rules : TableRules
@@ -154,3 +171,5 @@ pub record Claims : Type 0 where
   pub version-one : VersionOne
   pub no-rounding : NoRounding
   pub accuracy : Accuracy
+  pub numbers-return : NumbersReturn
+  pub bytes-return : BytesReturn

@@ -10,6 +10,7 @@
 --     Floats     L1: a control point as floats, 18 to 20
 --     Nesting    L4: the nested grids as a table, 21 to 23, the listing, the call
 --     Squares    L7: the lowest irregular face or vertex, the call, and the lines of `inspect`
+--     Archive    L11: coordinates rearranged for the archive and back, 30 and 31, the two calls
 --     CFace      the C face
 --     Borders    "The four conditions across a side"
 --     Mirror     a mesh with one axis negated
@@ -33,6 +34,7 @@ pub mod Calls
 pub mod Floats
 pub mod Nesting
 pub mod Squares
+pub mod Archive
 pub mod CFace
 pub mod Borders
 pub mod Mirror

@@ -21,9 +21,9 @@ pub struct Input {
 }
 
 // Whether reading went well, and a number of bytes.
-struct Got {
-    ok: bool,
-    count: usize,
+pub struct Got {
+    pub ok: bool,
+    pub count: usize,
 }
 
 // Reads the file on a descriptor. Where reading fails for good, a line on standard error says so.
@@ -45,6 +45,17 @@ pub fn read_file(fd: i32, name: &[u8], buffer: &mut [u8]) -> Input
         held: held,
         counted: whole.count,
     }
+}
+
+// Reads what a descriptor gives into the buffer, until that is full. Where reading fails for good, a line on standard error says so.
+pub fn read_up_to(fd: i32, name: &[u8], buffer: &mut [u8]) -> Got
+    ensures { λ r. ⌜ Counts (r .count) (now (buffer .exit)) ⌝ }
+{
+    let got = fill(fd, buffer);
+    if !got.ok {
+        os::fail(name);
+    }
+    got
 }
 
 // Reads until the buffer is full or the file ends.

@@ -44,3 +44,10 @@ pub fn say_refusal(number: u8, place: usize) -> bool {
     let end = lines::put_refusal(&mut line, 0, number, place);
     output::say_up_to(&line, end)
 }
+
+// Writes the line of a refusal to standard error, for programs whose output is no text.
+pub fn complain_refusal(number: u8, place: usize) {
+    let mut line = [0u8; 64];
+    let end = lines::put_refusal(&mut line, 0, number, place);
+    output::complain_up_to(&line, end);
+}

@@ -35,6 +35,13 @@ pub fn complain(bytes: &[u8]) {
     write(libc::STDERR_FILENO, bytes);
 }
 
+// The same, of the buffer's beginning up to a place.
+pub fn complain_up_to(buffer: &[u8], end: usize) {
+    if end <= buffer.len() {
+        complain(&buffer[..end]);
+    }
+}
+
 // Writes all of the bytes, or as far as writing goes.
 fn write(fd: i32, bytes: &[u8]) -> bool {
     let mut done = 0;

@@ -3,7 +3,7 @@
 //!     cargo run --release --offline -p bench [SECONDS]
 //!
 //! Linking and building are given in nanoseconds per corner, a range of 64 corners in microseconds per call, with
-//! sharpness 8 and 8 throughout and at random. Each figure is the least of many passes, with turns of three between the
+//! sharpness 8 and 8 throughout and at random; archiving and restoring in nanoseconds per number. Each figure is the least of many passes, with turns of three between the
 //! two; SECONDS (1 by default) is what one figure may take.
 
 use std::time::{Duration, Instant};
@@ -132,6 +132,59 @@ fn measure(name: &str, tables: Tables, budget: Duration) -> Figures {
     Figures { corners: count, link, build: build(0, count), range: build((count - range) / 2, range) }
 }
 
+/// The bytes of the numbers, plane by plane, with no difference taken: what the rearranging alone costs.
+fn planes(numbers: &[i32], bytes: &mut [u8]) {
+    let count = numbers.len();
+    let (lower, upper) = bytes.split_at_mut(2 * count);
+    let ((lowest, second), (third, highest)) = (lower.split_at_mut(count), upper.split_at_mut(count));
+    for i in 0..count {
+        [lowest[i], second[i], third[i], highest[i]] = numbers[i].to_le_bytes();
+    }
+}
+
+/// Archiving and restoring lists of all 32-bit numbers, beside the reference and beside planes without differences.
+fn measure_archive(budget: Duration) {
+    println!();
+    println!(
+        "| numbers | archiving, ns per number | plain | ratio | planes alone | restoring, ns per number | plain | ratio |"
+    );
+    println!("|---|---|---|---|---|---|---|---|");
+    let mut random = Random::new(11);
+    let accepted = "a list of vertices";
+    for count in [24, 288, 6_144, 60_000, 600_000] {
+        let numbers: Vec<i32> = (0..count).map(|_| random.bits() as i32).collect();
+        let mut bytes = [vec![0; 4 * count], vec![0; 4 * count]];
+        let [library, plain] = &mut bytes;
+        let archive = least(
+            budget,
+            || mahunopi::archive_into(&numbers, library).expect(accepted),
+            || reference::archive(&numbers, plain).expect(accepted),
+        );
+        assert!(library == plain, "the archived bytes differ");
+        let archived = library.clone();
+        let alone = least(budget, || planes(&numbers, library), || planes(&numbers, plain)).reference;
+        let mut lists = [vec![0; count], vec![0; count]];
+        let [library, plain] = &mut lists;
+        let restore = least(
+            budget,
+            || mahunopi::restore_into(&archived, library).expect(accepted),
+            || reference::restore(&archived, plain).expect(accepted),
+        );
+        assert!(*library == numbers && *plain == numbers, "the numbers do not come back");
+        let each = 1e9 / count as f64;
+        println!(
+            "| {count} | {:.2} | {:.2} | {:.2} | {:.2} | {:.2} | {:.2} | {:.2} |",
+            each * archive.library,
+            each * archive.reference,
+            archive.ratio(),
+            each * alone,
+            each * restore.library,
+            each * restore.reference,
+            restore.ratio(),
+        );
+    }
+}
+
 fn main() {
     let seconds = std::env::args().nth(1).map_or(1.0, |text| text.parse().expect("a number of seconds"));
     let budget = Duration::from_secs_f64(seconds);
@@ -198,4 +251,5 @@ fn main() {
         line("linking", growth(|f| f.link.library), growth(|f| f.link.reference));
         line("building", growth(|f| f.build.library), growth(|f| f.build.reference));
     }
+    measure_archive(budget);
 }

@@ -41,7 +41,8 @@ fn answer(number: u32, place: u64) -> Result<(), Refusal> {
     Err(Refusal { number, place })
 }
 
-fn same<T: PartialEq + std::fmt::Debug>(what: &str, library: &[T], reference: &[T]) {
+/// The first entry that differs ends the test.
+pub fn same<T: PartialEq + std::fmt::Debug>(what: &str, library: &[T], reference: &[T]) {
     if let Some(at) = library.iter().zip(reference).position(|(a, b)| a != b) {
         let (a, b) = (&library[at], &reference[at]);
         panic!("{what}[{at}] is {a:?} after the library's call, {b:?} after the reference's");

@@ -4,7 +4,8 @@
 //! mesh from it, [`link`] makes the mesh's link table, and [`build`] makes the control points of a range of corners:
 //! 123 numbers for each, in ticks of 1/256 of a grid step, five rows of five b points and then four rows of four a
 //! points. [`build_all`] builds all corners on several threads. [`floats`] gives one of these points as floats.
-//! [`irregular`] says whether a mesh is all squares. [`nest`] lists a table of nested grids. An input that is turned down
+//! [`irregular`] says whether a mesh is all squares. [`nest`] lists a table of nested grids. [`archive`]
+//! rearranges a coordinate list for the archive, and [`restore`] undoes it. An input that is turned down
 //! gives a [`Refusal`]. The functions ending in `_into` fill what the caller lends them, which keeps its contents after a
 //! refusal.
 //!
@@ -22,6 +23,7 @@
 //! # Ok::<(), Box<dyn std::error::Error>>(())
 //! ```
 
+mod archive;
 mod floats;
 mod irregular;
 mod mesh;
@@ -32,6 +34,7 @@ mod refusal;
 use std::num::NonZeroUsize;
 use std::thread;
 
+pub use archive::{archive, archive_into, restore, restore_into};
 pub use floats::{floats, FloatPoint};
 pub use irregular::{irregular, Irregular};
 pub use mesh::{Counts, Lengths, Mesh, MeshRef};

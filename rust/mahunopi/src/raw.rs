@@ -98,4 +98,20 @@ extern "C" {
         listing_count: usize,
         place: *mut u64,
     ) -> u32;
+    /// Coordinates rearranged for the archive.
+    pub fn mahunopi_archive(
+        numbers: *const i32,
+        number_count: usize,
+        bytes: *mut u8,
+        byte_count: usize,
+        place: *mut u64,
+    ) -> u32;
+    /// And back.
+    pub fn mahunopi_restore(
+        bytes: *const u8,
+        byte_count: usize,
+        numbers: *mut i32,
+        number_count: usize,
+        place: *mut u64,
+    ) -> u32;
 }

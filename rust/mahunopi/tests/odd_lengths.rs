@@ -366,3 +366,38 @@ fn safe_functions_on_odd_lengths() {
     assert_eq!(link(many), Err(refusal(4, 0)));
     assert_eq!(build(many, &links, 0, 8_193), Err(refusal(4, 0)));
 }
+
+/// Lists for the archive: empty ones with null pointers pass; lengths beyond 32 bits are refused before anything is
+/// looked at, also where four times the length is the other one in 32 bits.
+#[test]
+fn lengths_for_the_archive() {
+    let mut place = UNTOUCHED;
+    assert_eq!(unsafe { raw::mahunopi_archive(null(), 0, null_mut(), 0, &mut place) }, 0);
+    assert_eq!(unsafe { raw::mahunopi_restore(null(), 0, null_mut(), 0, &mut place) }, 0);
+    assert_eq!(place, UNTOUCHED);
+    let lengths = [
+        (BEYOND, 0, 30, BEYOND),
+        (BEYOND, 4 * BEYOND, 30, BEYOND),
+        (3 * BEYOND, 0, 31, 0),
+        (3 * BEYOND, 12, 31, 12),
+        (3 + 3 * BEYOND, 12, 31, 12),
+        (3, 12 + BEYOND, 31, 12 + BEYOND),
+        (3, 12 + 4 * BEYOND, 31, 12 + 4 * BEYOND),
+        (3 << 60, 0, 31, 0),
+        (0, 1 << 62, 31, 1 << 62),
+    ];
+    for (number_count, byte_count, refusal, at) in lengths {
+        let mut numbers = [7; 3];
+        let mut bytes = [7; 12];
+        let mut places = [UNTOUCHED; 2];
+        let [there, back] = &mut places;
+        let answers = unsafe {
+            [
+                raw::mahunopi_archive(numbers.as_ptr(), number_count, bytes.as_mut_ptr(), byte_count, there),
+                raw::mahunopi_restore(bytes.as_ptr(), byte_count, numbers.as_mut_ptr(), number_count, back),
+            ]
+        };
+        assert_eq!((answers, places), ([refusal; 2], [at as u64; 2]));
+        assert_eq!((numbers, bytes), ([7; 3], [7; 12]));
+    }
+}

@@ -1,8 +1,10 @@
-//! An independent implementation of document 01, of L1, L4, L5, L7, L8 and L10, in plain Rust: the file, the check of a
+//! An independent implementation of document 01, of L1, L4, L5, L7, L8, L10 and L11, in plain Rust: the file, the check of a
 //! mesh, linking, building, the four conditions across a side, a control point in floats, the listing of nested grids,
-//! the search for an irregular face or vertex, the construction without rounding. It is written from the papers alone
+//! the search for an irregular face or vertex, the construction without rounding,
+//! coordinates rearranged for the archive. It is written from the papers alone
 //! and shares nothing with the proved library, so that the two can be compared; nobody has proved it.
 
+mod archive;
 mod check;
 pub mod conditions;
 mod cosines;
@@ -14,6 +16,7 @@ mod squares;
 mod surface;
 mod wide;
 
+pub use archive::{archive, archive_stream, restore, restore_stream, MOST_BYTES};
 pub use check::{check, link, links_of};
 pub use cosines::cosine;
 pub use file::{decode, encode, inspect, patches, squares, summary, Counts, Lengths, LENT_TOO_SHORT};

@@ -1,0 +1,7 @@
+pub mod Words
+pub mod Lengths
+pub mod Planes
+pub mod Sums
+pub mod Lists
+pub mod Theorems
+pub mod Examples

@@ -1,0 +1,55 @@
+-- `restore` meets its contract: 30 and 31 refuse and nothing was written, or the numbers are restored.
+-- Assumes nothing.
+use mathlib.Core.Path.{sym, ap, _∙_}
+use denote.Ref.{now}
+use Rattle.paper.specs.Faults.{stated}
+use Rattle.mesh.proofs.Verdicts.{passed}
+use Rattle.rearrange.proofs.Lengths.{thirds, four-times, restore-refused, restore-done}
+use borrow.Author.Needs.{needs}
+use Rattle.rearrange.proofs.restore.Statement.{statement}
+use Rattle.rearrange.proofs.restore.Tie as tie
+
+check-lengths-requires : tie.Need-check-lengths-requires
+check-lengths-requires c κs = search needs
+
+enum-known-a : tie.Need-enum-known-a
+enum-known-a c = search needs
+
+returns : tie.Need-returns
+returns c =
+    let s = c .before .before .before .before .before in
+    let a = c .before .before .before .check-lengths in
+    let r = c .before .a .given in
+    restore-refused (now (s .args .bytes)) (now (s .args .numbers)) (r .0 .0) (r .0 .1 .0) (ap stated (sym (r .1)) ∙ a .ensures)
+
+enum-told : tie.Need-enum-told
+enum-told c = search needs
+
+fill-numbers-requires : tie.Need-fill-numbers-requires
+fill-numbers-requires c κs =
+    let t = c .before in
+    let e = passed (t .before .before .check-lengths .result) (t .before .before .check-lengths .ensures) (t .enum-told .given .1) in
+    (thirds _ _ e, four-times _ _ e)
+
+same-length : tie.Need-same-length
+same-length c = search needs
+
+returns-2 : tie.Need-returns-2
+returns-2 c =
+    let f = c .before in
+    let t = f .before .before in
+    let s = t .before .before .before .before in
+    let e = passed (t .before .before .check-lengths .result) (t .before .before .check-lengths .ensures) (t .enum-told .given .1) in
+    restore-done (now (s .args .bytes)) (now (s .args .numbers)) _ e (f .fill-numbers .ensures)
+
+pub restore-spec : {M : Type 1} → statement M
+restore-spec =
+    tie.close
+    (tie.spec
+    check-lengths-requires
+    enum-known-a
+    returns
+    enum-told
+    fill-numbers-requires
+    same-length
+    returns-2)

@@ -1,0 +1,52 @@
+// Restores a coordinate list from the archive: the bytes on standard input, as `archive` writes them, become four-byte numbers, low byte
+// first, on standard output. Every number has a byte in each quarter of the input, so the whole of it is held, and there is a longest
+// list. What is turned down gets a line on standard error and nothing on standard output.
+use libc::STDIN_FILENO;
+use paper::Answer;
+use rearrange::four_bytes;
+use rearrange::four_bytes::BYTES;
+use rearrange::four_bytes::NUMBERS;
+ghost use Prim.Native.Nat.{_≤_};
+
+fn main() {
+    if 1 < os::arg_count() {
+        print::output::complain(b"usage: restore < FILE > FILE\n");
+        return;
+    }
+    let mut bytes = four_bytes::byte_room();
+    let got = print::input::read_up_to(STDIN_FILENO, b"standard input", &mut bytes);
+    let held = got.count;
+    if BYTES < held {
+        print::output::complain(b"standard input: more than 1572864 bytes\n");
+        return;
+    }
+    if got.ok {
+        restore_bytes(&mut bytes[..held]);
+    }
+}
+
+// Lends a number list, with a number for each four bytes.
+fn restore_bytes(bytes: &mut [u8]) {
+    let mut numbers = four_bytes::number_room();
+    let n = least(bytes.len() / 4, NUMBERS);
+    restore_numbers(bytes, &mut numbers[..n]);
+}
+
+// Restores the numbers, and writes their bytes in the place of the archive's.
+fn restore_numbers(bytes: &mut [u8], numbers: &mut [i32]) {
+    let answer = rearrange::restore(bytes, numbers);
+    match answer {
+        Answer::Refused(number, place) => print::complain_refusal(number, place),
+        Answer::Done => {
+            four_bytes::write_numbers(numbers, bytes);
+            print::output::say(bytes);
+        }
+    }
+}
+
+// The lesser of two numbers.
+fn least(a: usize, b: usize) -> usize
+    ensures { λ r. ⌜ (r ≤ a) × (r ≤ b) ⌝ }
+{
+    if a < b { a } else { b }
+}
