@@ -3,17 +3,18 @@
  *
  * The functions below are the proved library's C face (libmahunopi.a). A mesh is four lists: coordinates, side
  * counts, corners, and the sharpness of the corners. mahunopi_survey counts what a .dms file holds, mahunopi_decode
- * reads its lists, mahunopi_link fills the link table of a mesh, mahunopi_build writes the control points of a range of
- * corners, mahunopi_floats gives one of these points as floats. mahunopi_irregular says whether a mesh is all squares.
- * mahunopi_nest lists a table of nested grids. mahunopi_archive rearranges a coordinate list for the archive, and
- * mahunopi_restore undoes it. Each is complete in itself: none relies on an earlier call.
+ * reads its lists, mahunopi_off reads those of an OFF text, mahunopi_link fills the link table of a mesh, mahunopi_build
+ * writes the control points of a range of corners, mahunopi_floats gives one of these points as floats.
+ * mahunopi_irregular says whether a mesh is all squares. mahunopi_nest lists a table of nested grids. mahunopi_archive
+ * rearranges a coordinate list for the archive, and mahunopi_restore undoes it. Each is complete in itself: none relies
+ * on an earlier call.
  *
  * Every function returns MAHUNOPI_DONE, or the number of a refusal (enum mahunopi_refusal). After a refusal *place
  * says where, and everything else that was lent keeps its contents; when done, *place keeps its contents.
  *
  * A list is a pointer and the number of its entries. The pointer may be null where that number is 0. The pointers to
- * single numbers (place, pairs, the counts of surveying and of decoding, and what mahunopi_irregular finds) and to the
- * six floats must not be null. What a function writes to must not overlap anything else that it is given.
+ * single numbers (place, pairs, the counts of surveying, of decoding and of OFF, and what mahunopi_irregular finds) and
+ * to the six floats must not be null. What a function writes to must not overlap anything else that it is given.
  *
  * Calls share no state: any number of them may run at the same time, on any threads, as long as none writes to what
  * another one is given. Nothing is allocated. Scratch lies on the stack, of which a call needs up to
@@ -56,8 +57,8 @@ extern "C" {
 
 /*
  * What a function answers. A file is checked by 1 to 13, linking by 4 to 14, building by 4 to 17, the search for an
- * irregular face or vertex by 4 to 13, a control point in floats by 18 to 20, a nesting table by 21 to 23, lists for the
- * archive by 30 and 31. 27 and 28
+ * irregular face or vertex by 4 to 13, a control point in floats by 18 to 20, a nesting table by 21 to 23, an OFF text
+ * by 24 to 26 and then 4 to 13, lists for the archive by 30 and 31. 27 and 28
  * are tried wherever 4 to 13 are, 27 after 4 and 28 after 8: the order is 4, 27, 5, 6, 7, 8, 28, 9 and so on. Each
  * number is tried over the whole input before the next, and the place is the lowest that applies.
  *
@@ -127,6 +128,13 @@ enum mahunopi_refusal {
     MAHUNOPI_NO_SUCH_HOLDER = 22,
     /* a chain does not end at the Sun (place: the lowest such body) */
     MAHUNOPI_CHAIN_WITHOUT_SUN = 23,
+    /* a lent list is shorter than every mesh may need, or the text's first word is missing or not OFF (place 0) */
+    MAHUNOPI_BAD_OFF_START = 24,
+    /* a needed word of the text is missing or no such number (place: the word's number from 0, for a missing word the
+     * number of words that there are) */
+    MAHUNOPI_BAD_WORD = 25,
+    /* a word stands after the last face (place: the word's number) */
+    MAHUNOPI_WORD_TOO_MANY = 26,
     /* after 4: the sharpness list is not twice as long as the corner list (place: its length) */
     MAHUNOPI_BAD_SHARPNESS_LENGTH = 27,
     /* after 8: a sharpness number is above 16 (place: its position in the sharpness list) */
@@ -359,6 +367,47 @@ uint32_t mahunopi_restore(
     int32_t *numbers,
     /* how many numbers: a multiple of three */
     size_t number_count,
+    /* receives the place of a refusal; not null */
+    uint64_t *place);
+
+/*
+ * Reading OFF: checks a plain-text OFF model by 24 to 26 and then 4 to 13 and writes its lists, in the text's order,
+ * to the beginnings of lent ones, whose further entries keep their contents. The sharpness is 8 and 8 throughout.
+ *
+ * Words are parted by spaces, tabs, carriage returns and line feeds, and # anywhere starts a comment that runs to the
+ * next line feed. The words are OFF; the counts of vertices, faces and edges, each 0 to 65,535; three coordinates for
+ * each vertex; for each face its side count, 0 to 255, and as many vertex numbers, 0 to 65,535. Every number is decimal
+ * and whole, of one to nine digits with an optional minus (-0 is 0). The edge count is not used. Colours are not taken.
+ */
+uint32_t mahunopi_off(
+    /* the text */
+    const uint8_t *text,
+    /* how many bytes it has */
+    size_t text_count,
+    /* receives the coordinates */
+    int32_t *coordinates,
+    /* how many numbers it takes: at least 3 * MAHUNOPI_MAX_VERTICES */
+    size_t coordinate_space,
+    /* receives the side counts */
+    uint8_t *sides,
+    /* how many bytes it takes: at least MAHUNOPI_MAX_FACES */
+    size_t side_space,
+    /* receives the corners */
+    uint16_t *corners,
+    /* how many entries it takes: at least MAHUNOPI_MAX_CORNERS */
+    size_t corner_space,
+    /* receives the sharpness */
+    uint8_t *sharpness,
+    /* how many bytes it takes: at least 2 * MAHUNOPI_MAX_CORNERS */
+    size_t sharpness_space,
+    /* receives the number of coordinates written: three for each vertex; not null */
+    uint64_t *coordinate_count,
+    /* receives the number of side counts written: the faces; not null */
+    uint64_t *side_count,
+    /* receives the number of corners written; not null */
+    uint64_t *corner_count,
+    /* receives the number of sharpness numbers written: two for each corner; not null */
+    uint64_t *sharpness_count,
     /* receives the place of a refusal; not null */
     uint64_t *place);
 

@@ -18,6 +18,7 @@ use Rattle.irregular.proofs.Theorems.{lines-agree}
 use Rattle.dms.proofs.Theorems.{version-one}
 use Rattle.claims.proofs.Plain.{plain-passes}
 use Rattle.rearrange.proofs.Theorems.{numbers-return, bytes-return}
+use Rattle.off_examples.proofs.Theorems.{no-six, missing-word, whole-text}
 
 pub claims : Claims
 claims = record {
@@ -44,4 +45,7 @@ claims = record {
   accuracy = accuracy;
   numbers-return = numbers-return;
   bytes-return = bytes-return;
+  no-six = no-six;
+  missing-word = missing-word;
+  whole-text = whole-text;
 }

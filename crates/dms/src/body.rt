@@ -92,7 +92,7 @@ fn read_corners(file: &[u8], start: usize, count: usize, out: &mut [u16])
 }
 
 // 8 and 8 throughout.
-fn fill_plain(count: usize, out: &mut [u8])
+pub fn fill_plain(count: usize, out: &mut [u8])
     requires { ⌜ count ≤ length (now out) ⌝ }
     ensures { λ _. ⌜ now (out .exit) ≡ begins (replicate count plain) (now (out .entry)) ⌝ }
 {

@@ -1,3 +1,4 @@
+pub mod Rows
 pub mod Claim
 pub mod Pyramid
 pub mod Distance

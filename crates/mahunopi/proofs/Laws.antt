@@ -15,18 +15,19 @@ use borrow.Author.Tests.{ltb-false}
 use Rattle.mesh.proofs.Links.{values-length}
 use Rattle.mesh.proofs.Ranges.{none-left, none-right}
 use Rattle.mesh.proofs.Verdicts.{orElse-fault, orElse-sound, single-hit, single-miss}
-use Rattle.paper.specs.Mesh.{Mesh, meshOf, mostSides}
+use Rattle.paper.specs.Mesh.{Mesh, meshOf, Lengths, four, lengthsOf, mostSides}
 use Rattle.paper.specs.Faults.{Verdict, sound, fault, verdict, stated, kept}
 use Rattle.paper.specs.Counts.{verticesWith, facesWith, forEach}
 use Rattle.paper.specs.File.{fileVerdict, fileMesh, begins, noRoom, FileSurveyed, DecodedTo}
 use Rattle.paper.specs.Calls.{Linked, nets, buildVerdict, Built}
 use Rattle.paper.specs.Floats.{pointVerdict, Pointed}
 use Rattle.paper.specs.Nesting.{listing, Nested}
-use Rattle.paper.specs.CFace.{States, LinkCall, BuildCall, Lengths, four, lentVerdict, DecodeCall, countsOf, surveyVerdict, SurveyCall, put}
+use Rattle.paper.specs.CFace.{States, LinkCall, BuildCall, lentVerdict, DecodeCall, countsOf, surveyVerdict, SurveyCall, put}
 use Rattle.paper.specs.Squares.{Stated, face, vertex, none, refused, squaresStated, Searched}
 use Rattle.paper.specs.CFace.{FloatsCall, NestCall, Finding, finding, findingOf, IrregularCall}
 use Rattle.paper.specs.Archive.{archived, restored, Archived, Restored}
-use Rattle.paper.specs.CFace.{ArchiveCall, RestoreCall}
+use Rattle.paper.specs.CFace.{ArchiveCall, RestoreCall, OffCall}
+use Rattle.paper.specs.Off.{offVerdict, OffRead}
 use Rattle.paper.specs.declared.Answer.{Answer}
 use Rattle.paper.specs.declared.Answer.the-variants.{Done, Refused}
 use Rattle.paper.specs.declared.Counts.{Counts}
@@ -134,6 +135,36 @@ module _ (file : List ℕ) (counted : ℕ) (cs : List ℤ) (sides corners sharpn
       record {
         answers = subst (λ (w : Verdict). States w before m q) (sym v) tells;
         holds = kept-old _ n p _ _ _ v (cc);
+        tells = kept-old _ n p _ _ _ v refl;
+      }
+
+-- ---- reading OFF
+module _ (text : List ℕ) (lent : Mesh) (r : Decoded) (lists : Mesh) (lengths : Lengths) (before : ℕ) (d : OffRead text lent r lists) where
+  told-at : {A : Type 0} (x new old : A) (w : Verdict) → stated (r .answer) ≡ w → x ≡ kept (stated (r .answer)) new old → x ≡ kept w new old
+  told-at x new old w e h = subst (λ (u : Verdict). x ≡ kept u new old) e h
+
+  pub off-done : r .answer ≡ Done → OffCall text lent lengths before 0 before lists (four (r .coordinates) (r .sides) (r .corners) (r .sharpness))
+  off-done e =
+      let s : stated (r .answer) ≡ sound = ap stated e in
+      let v : offVerdict text (lengthsOf lent) ≡ sound = sym (d .answers) ∙ s in
+      let x = told-at lists _ _ _ s (d .holds) in
+      let k = told-at (r .coordinates) _ _ _ s (d .coordinates-length) in
+      let l = told-at (r .sides) _ _ _ s (d .sides-length) in
+      let m = told-at (r .corners) _ _ _ s (d .corners-length) in
+      let n = told-at (r .sharpness) _ _ _ s (d .sharpness-length) in
+      record {
+        answers = states-done _ (r .answer) before (d .answers) e;
+        holds = kept-new _ _ _ _ v x;
+        tells = kept-new _ _ _ _ v (cc);
+      }
+
+  pub off-refused : (n p m q : ℕ) → r .answer ≡ Refused n p → States (fault n p) before m q → OffCall text lent lengths before m q lists lengths
+  off-refused n p m q e tells =
+      let s : stated (r .answer) ≡ fault n p = ap stated e in
+      let v : offVerdict text (lengthsOf lent) ≡ fault n p = sym (d .answers) ∙ s in
+      record {
+        answers = subst (λ (w : Verdict). States w before m q) (sym v) tells;
+        holds = kept-old _ n p _ _ _ v (told-at lists _ _ _ s (d .holds));
         tells = kept-old _ n p _ _ _ v refl;
       }
 

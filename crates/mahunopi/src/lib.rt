@@ -5,10 +5,10 @@ ghost use mathlib.Core.Bool.{_||_};
 ghost use Prim.Native.Nat.{_+_, _≤_};
 ghost use lib.Dec.{ltb};
 ghost use lib.ListN.{length};
-ghost use Rattle.paper.specs.Mesh.{meshOf, mostSides};
+ghost use Rattle.paper.specs.Mesh.{meshOf, four, mostSides};
 ghost use Rattle.paper.specs.File.{fileOf, begins};
-ghost use Rattle.paper.specs.CFace.{LinkCall, BuildCall, four, DecodeCall, countsOf, SurveyCall, FloatsCall, NestCall};
-ghost use Rattle.paper.specs.CFace.{finding, IrregularCall, ArchiveCall, RestoreCall};
+ghost use Rattle.paper.specs.CFace.{LinkCall, BuildCall, DecodeCall, countsOf, SurveyCall, FloatsCall, NestCall};
+ghost use Rattle.paper.specs.CFace.{finding, IrregularCall, ArchiveCall, RestoreCall, OffCall};
 use paper::Answer;
 use paper::FloatPoint;
 use paper::Irregular;
@@ -226,6 +226,34 @@ pub extern "C" fn mahunopi_restore(bytes: &[u8], numbers: &mut [i32], place: &mu
 {
     let a = rearrange::restore(bytes, numbers);
     tell(a, place)
+}
+
+// Reading an OFF text's lists into the beginnings of lent ones. The four lengths are left alone beside a refusal.
+#[no_mangle]
+pub extern "C" fn mahunopi_off(
+    text: &[u8],
+    coordinates: &mut [i32],
+    sides: &mut [u8],
+    corners: &mut [u16],
+    sharpness: &mut [u8],
+    numbers: &mut u64,
+    faces: &mut u64,
+    count: &mut u64,
+    sixteenths: &mut u64,
+    place: &mut u64,
+) -> u32
+    ensures { λ r. ⌜ OffCall (now (text .entry)) (meshOf (now (coordinates .entry)) (now (sides .entry)) (now (corners .entry)) (now (sharpness .entry))) (four (now (numbers .entry)) (now (faces .entry)) (now (count .entry)) (now (sixteenths .entry))) (now (place .entry)) r (now (place .exit)) (meshOf (now (coordinates .exit)) (now (sides .exit)) (now (corners .exit)) (now (sharpness .exit))) (four (now (numbers .exit)) (now (faces .exit)) (now (count .exit)) (now (sixteenths .exit))) ⌝ }
+{
+    let d = off::read(text, coordinates, sides, corners, sharpness);
+    let a = d.answer;
+    if let Answer::Refused(number, at) = a {
+        return tell(Answer::Refused(number, at), place);
+    }
+    *numbers = d.coordinates as u64;
+    *faces = d.sides as u64;
+    *count = d.corners as u64;
+    *sixteenths = d.sharpness as u64;
+    0
 }
 
 // Whether one of two lists has no room for every m.

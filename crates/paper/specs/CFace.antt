@@ -9,16 +9,17 @@ use lib.Dec.{ltb}
 use lib.ListN.{length, set}
 use lib.IntN.{ℤ}
 use lib.Ieee.{Float}
-use Rattle.paper.specs.Mesh.{Mesh, meshOf, mostSides, vertexCount, faceCount, cornerCount}
+use Rattle.paper.specs.Mesh.{Mesh, Lengths, lengthsOf, mostSides, vertexCount, faceCount, cornerCount}
 use Rattle.paper.specs.Links.{linkTable}
 use Rattle.paper.specs.Faults.{Verdict, sound, fault, _orElse_, single, verdict, linkVerdict, kept}
 use Rattle.paper.specs.Counts.{verticesWith, facesWith, forEach}
-use Rattle.paper.specs.File.{fileMesh, fileVerdict, begins, noRoom, decodeVerdict}
+use Rattle.paper.specs.File.{fileMesh, fileVerdict, begins, into, noRoom, decodeVerdict}
 use Rattle.paper.specs.Calls.{nets, buildVerdict}
 use Rattle.paper.specs.Floats.{pointVerdict, Pointed}
 use Rattle.paper.specs.Nesting.{nestingVerdict, listing}
 use Rattle.paper.specs.Squares.{Stated, face, vertex, none, refused, squares}
 use Rattle.paper.specs.Archive.{archiveVerdict, archived, restored}
+use Rattle.paper.specs.Off.{offVerdict, textMesh}
 use Rattle.paper.specs.declared.Counts.{Counts}
 use Rattle.paper.specs.declared.Floats.{Floats}
 use Rattle.paper.specs.declared.FloatPoint.{FloatPoint}
@@ -46,25 +47,6 @@ pub record LinkCall (M : Mesh) (old : List ℕ) (before r after : ℕ) (links : 
 pub record BuildCall (M : Mesh) (links : List ℕ) (first count : ℕ) (old : List ℤ) (before r after : ℕ) (out : List ℤ) : Type 0 where
   pub answers : States (buildVerdict M links first count (length old)) before r after
   pub holds : out ≡ kept (buildVerdict M links first count (length old)) (nets M first count) old
-
--- the lengths of a mesh's lists
-pub record Lengths : Type 0 where
-  pub coordinates : ℕ
-  pub sides : ℕ
-  pub corners : ℕ
-  pub sharpness : ℕ
-
-abbrev pub four : ℕ → ℕ → ℕ → ℕ → Lengths
-four coordinates sides corners sharpness = record { coordinates = coordinates; sides = sides; corners = corners; sharpness = sharpness }
-
-abbrev pub lengthsOf : Mesh → Lengths
-lengthsOf M = four (length (M .coordinates)) (length (M .sides)) (length (M .corners)) (length (M .sharpness))
-
--- the lists of M in the beginnings of lent ones
-abbrev pub into : Mesh → Mesh → Mesh
-into M lent =
-    meshOf (begins (M .coordinates) (lent .coordinates)) (begins (M .sides) (lent .sides)) (begins (M .corners) (lent .corners))
-    (begins (M .sharpness) (lent .sharpness))
 
 -- decoding, with lent lists and lent lengths
 abbrev pub lentVerdict : List ℕ → ℕ → Mesh → Verdict
@@ -150,3 +132,9 @@ pub record ArchiveCall (numbers : List ℤ) (old : List ℕ) (before r after : �
 pub record RestoreCall (bytes : List ℕ) (old : List ℤ) (before r after : ℕ) (out : List ℤ) : Type 0 where
   pub answers : States (archiveVerdict (length old) (length bytes)) before r after
   pub holds : out ≡ kept (archiveVerdict (length old) (length bytes)) (restored bytes (length old)) old
+
+-- reading OFF, with lent lists and lent lengths
+pub record OffCall (text : List ℕ) (lent : Mesh) (lengths : Lengths) (before r after : ℕ) (lists : Mesh) (told : Lengths) : Type 0 where
+  pub answers : States (offVerdict text (lengthsOf lent)) before r after
+  pub holds : lists ≡ kept (offVerdict text (lengthsOf lent)) (into (textMesh text) lent) lent
+  pub tells : told ≡ kept (offVerdict text (lengthsOf lent)) (lengthsOf (textMesh text)) lengths

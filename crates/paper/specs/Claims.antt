@@ -9,7 +9,7 @@ use lib.ListN.{length, take, drop}
 use lib.IntN.{ℤ, pos}
 use Rattle.paper.specs.Mesh.{Mesh, cornerCount, leastSides, mostSides, plainList}
 use Rattle.paper.specs.Links.{linkTable}
-use Rattle.paper.specs.Faults.{sound, Accepted, fault27, fault28}
+use Rattle.paper.specs.Faults.{sound, fault, Accepted, fault27, fault28, stated}
 use Rattle.paper.specs.Numbers.{rounded, Fraction, exact}
 use Rattle.paper.specs.Cosines.{RowRules}
 use Rattle.paper.specs.Refined.{refinedOf, refinedOf01}
@@ -20,6 +20,7 @@ use Rattle.paper.specs.Floats.{netVerdict, difference, first, second, ax
 use Rattle.paper.specs.Nesting.{tableVerdict, nestingVerdict, Nested, Ends, Ordered}
 use Rattle.paper.specs.Squares.{Searched, Agreed}
 use Rattle.paper.specs.Archive.{Archived, Restored, All32Bit, AllBytes}
+use Rattle.paper.specs.Off.{wordsOf, end, OffRead}
 use Rattle.paper.specs.CFace.{BuildCall}
 use Rattle.paper.specs.Borders.{Output, Wrote, outputOf, Borders, Smooth}
 use Rattle.paper.specs.Mirror.{Mirror}
@@ -28,6 +29,7 @@ use Rattle.paper.specs.Manifold.{Manifold}
 use Rattle.paper.specs.Examples.{AllGive, examples}
 use Rattle.paper.specs.declared.Answer.{Answer}
 use Rattle.paper.specs.declared.Answer.the-variants.{Done}
+use Rattle.paper.specs.declared.Decoded.{Decoded}
 use Rattle.paper.specs.declared.FloatPoint.{FloatPoint}
 use Rattle.paper.specs.declared.Irregular.{Irregular}
 use Rattle.paper.specs.declared.Summary.{Summary}
@@ -148,6 +150,21 @@ BytesReturn =
     → length bytes ≡ 4 * length lent → length old ≡ length bytes → Restored bytes lent r numbers → Archived numbers old a back
     → (r ≡ Done) × (a ≡ Done) × (back ≡ bytes)
 
+-- ---- L6: 6 is never answered, as the side counts of a text sum to its corners
+abbrev pub NoSix : Type 0
+NoSix = (text : List ℕ) (lent : Mesh) (r : Decoded) (lists : Mesh) (p : ℕ) → OffRead text lent r lists → stated (r .answer) ≡ fault 6 p → ⊥
+
+-- the place of 25 is the number of a word after the first; for a missing word it is the number of words that there are
+abbrev pub MissingWord : Type 0
+MissingWord =
+    (text : List ℕ) (lent : Mesh) (r : Decoded) (lists : Mesh) (p : ℕ) → OffRead text lent r lists → stated (r .answer) ≡ fault 25 p
+    → (0 < p) × (p ≤ length (wordsOf text))
+
+-- an accepted text has the needed words and no others
+abbrev pub WholeText : Type 0
+WholeText =
+    (text : List ℕ) (lent : Mesh) (r : Decoded) (lists : Mesh) → OffRead text lent r lists → r .answer ≡ Done → end (wordsOf text) ≡ length (wordsOf text)
+
 -- ---- all of them
 pub record Claims : Type 0 where
   pub rules : TableRules
@@ -173,3 +190,6 @@ pub record Claims : Type 0 where
   pub accuracy : Accuracy
   pub numbers-return : NumbersReturn
   pub bytes-return : BytesReturn
+  pub no-six : NoSix
+  pub missing-word : MissingWord
+  pub whole-text : WholeText

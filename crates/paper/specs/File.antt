@@ -154,6 +154,12 @@ decodeVerdict file counted coordinates sides corners sharpness =
 abbrev pub begins : {A : Type 0} → List A → List A → List A
 begins new old = new ++ drop (length new) old
 
+-- the lists of M in the beginnings of lent ones
+abbrev pub into : Mesh → Mesh → Mesh
+into M lent =
+    meshOf (begins (M .coordinates) (lent .coordinates)) (begins (M .sides) (lent .sides)) (begins (M .corners) (lent .corners))
+    (begins (M .sharpness) (lent .sharpness))
+
 -- the four lengths, 0 beside a refusal, and what the four lent spaces hold: the lists in their beginnings, or what they held
 pub record DecodedTo (file : List ℕ) (counted : ℕ) (lent : Mesh) (r : Decoded) (left : Mesh) : Type 0 where
   pub answers :

@@ -11,6 +11,7 @@
 --     Nesting    L4: the nested grids as a table, 21 to 23, the listing, the call
 --     Squares    L7: the lowest irregular face or vertex, the call, and the lines of `inspect`
 --     Archive    L11: coordinates rearranged for the archive and back, 30 and 31, the two calls
+--     Off        L6: reading OFF texts, 24 to 26, the call
 --     CFace      the C face
 --     Borders    "The four conditions across a side"
 --     Mirror     a mesh with one axis negated
@@ -35,6 +36,7 @@ pub mod Floats
 pub mod Nesting
 pub mod Squares
 pub mod Archive
+pub mod Off
 pub mod CFace
 pub mod Borders
 pub mod Mirror

@@ -25,6 +25,19 @@ faceCount M = length (M .sides)
 abbrev pub cornerCount : Mesh → ℕ
 cornerCount M = length (M .corners)
 
+-- the lengths of a mesh's lists
+pub record Lengths : Type 0 where
+  pub coordinates : ℕ
+  pub sides : ℕ
+  pub corners : ℕ
+  pub sharpness : ℕ
+
+abbrev pub four : ℕ → ℕ → ℕ → ℕ → Lengths
+four coordinates sides corners sharpness = record { coordinates = coordinates; sides = sides; corners = corners; sharpness = sharpness }
+
+abbrev pub lengthsOf : Mesh → Lengths
+lengthsOf M = four (length (M .coordinates)) (length (M .sides)) (length (M .corners)) (length (M .sharpness))
+
 -- sides of a face, and corners of a vertex
 abbrev pub leastSides : ℕ
 leastSides = 3

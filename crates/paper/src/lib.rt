@@ -58,7 +58,7 @@ pub struct Summary {
     pub counts: Counts,
 }
 
-// What `decode` answers: done or refused, and the lengths of the four lists, zero beside a refusal.
+// What `dms::decode` and `off::read` answer: done or refused, and the lengths of the four lists, zero beside a refusal.
 pub struct Decoded {
     pub answer: Answer,
     pub coordinates: usize,

@@ -38,7 +38,7 @@ pub fn put_number(buffer: &mut [u8], at: usize, n: u64) -> usize
 }
 
 // The size of a number, without its sign.
-fn size(z: i32) -> u64
+pub fn size(z: i32) -> u64
     ensures { λ r. ⌜ r ≡ natAbs z ⌝ }
 {
     let wide = z as i64;

@@ -1,11 +1,11 @@
 //! Smooth patches over a closed mesh, in whole numbers: the proved library, called from safe Rust.
 //!
 //! A [`Mesh`] is four lists; [`MeshRef`] borrows them. [`survey`] counts what a .dms file holds, [`decode`] reads the
-//! mesh from it, [`link`] makes the mesh's link table, and [`build`] makes the control points of a range of corners:
-//! 123 numbers for each, in ticks of 1/256 of a grid step, five rows of five b points and then four rows of four a
-//! points. [`build_all`] builds all corners on several threads. [`floats`] gives one of these points as floats.
-//! [`irregular`] says whether a mesh is all squares. [`nest`] lists a table of nested grids. [`archive`]
-//! rearranges a coordinate list for the archive, and [`restore`] undoes it. An input that is turned down
+//! mesh from it, [`off`] the mesh of an OFF text, [`link`] makes the mesh's link table, and [`build`] makes the control
+//! points of a range of corners: 123 numbers for each, in ticks of 1/256 of a grid step, five rows of five b points and
+//! then four rows of four a points. [`build_all`] builds all corners on several threads. [`floats`] gives one of these
+//! points as floats. [`irregular`] says whether a mesh is all squares. [`nest`] lists a table of nested grids.
+//! [`archive`] rearranges a coordinate list for the archive, and [`restore`] undoes it. An input that is turned down
 //! gives a [`Refusal`]. The functions ending in `_into` fill what the caller lends them, which keeps its contents after a
 //! refusal.
 //!
@@ -28,6 +28,7 @@ mod floats;
 mod irregular;
 mod mesh;
 mod nesting;
+mod off;
 pub mod raw;
 mod refusal;
 
@@ -39,6 +40,7 @@ pub use floats::{floats, FloatPoint};
 pub use irregular::{irregular, Irregular};
 pub use mesh::{Counts, Lengths, Mesh, MeshRef};
 pub use nesting::{nest, nest_into, MAX_BODIES, SUN};
+pub use off::{off, off_into};
 use refusal::answer;
 pub use refusal::{Fault, Refusal};
 

@@ -107,7 +107,7 @@ impl<'a> From<&'a Mesh> for MeshRef<'a> {
     }
 }
 
-/// The lengths of the four lists that [`decode_into`](crate::decode_into) wrote.
+/// The lengths of the four lists that [`decode_into`](crate::decode_into) or [`off_into`](crate::off_into) wrote.
 #[derive(Clone, Copy, Debug, PartialEq, Eq)]
 #[non_exhaustive]
 pub struct Lengths {

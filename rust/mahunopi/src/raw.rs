@@ -114,4 +114,22 @@ extern "C" {
         number_count: usize,
         place: *mut u64,
     ) -> u32;
+    /// Reading the lists of an OFF text.
+    pub fn mahunopi_off(
+        text: *const u8,
+        text_count: usize,
+        coordinates: *mut i32,
+        coordinate_space: usize,
+        sides: *mut u8,
+        side_space: usize,
+        corners: *mut u16,
+        corner_space: usize,
+        sharpness: *mut u8,
+        sharpness_space: usize,
+        coordinate_count: *mut u64,
+        side_count: *mut u64,
+        corner_count: *mut u64,
+        sharpness_count: *mut u64,
+        place: *mut u64,
+    ) -> u32;
 }

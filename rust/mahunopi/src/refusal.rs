@@ -7,9 +7,9 @@ macro_rules! faults {
     ($($name:ident = $number:literal, $words:literal, $place:expr;)*) => {
         /// The faults that an input is turned down for, each with its number. A file is checked by 1 to 13, linking by
         /// 4 to 14, building by 4 to 17, the search for an irregular face or vertex by 4 to 13, a control point in
-        /// floats by 18 to 20, a nesting table by 21 to 23, lists for the archive by 30 and 31, each over the
-        /// whole input before the next. 27 is tried after
-        /// 4, and 28 after 8, wherever these are.
+        /// floats by 18 to 20, a nesting table by 21 to 23, an OFF text by 24 to 26 and then 4 to 13, lists for the
+        /// archive by 30 and 31, each over the whole input before the next. 27 is tried after 4, and 28 after 8,
+        /// wherever these are.
         #[derive(Clone, Copy, Debug, PartialEq, Eq, PartialOrd, Ord, Hash)]
         #[non_exhaustive]
         pub enum Fault {
@@ -61,6 +61,9 @@ faults! {
     BadBodyCount = 21, "there are no bodies, above 256, or the listing's length differs from the bodies'", None;
     NoSuchHolder = 22, "a number is neither below the body count nor 65,535", Some("the body");
     ChainWithoutSun = 23, "a chain does not end at the Sun", Some("the lowest such body");
+    BadOffStart = 24, "a lent list is too short, or the first word is missing or not OFF", None;
+    BadWord = 25, "a needed word is missing, is no decimal whole number of at most nine digits, or is out of its range", Some("the word's number");
+    WordTooMany = 26, "a word stands after the last face", Some("the word's number");
     BadSharpnessLength = 27, "the sharpness list is not twice as long as the corner list", Some("its length");
     BadSharpness = 28, "a sharpness number is above 16", Some("its position in the sharpness list");
     BadNumberCount = 30, "the number list's length is no multiple of three", Some("its length");

@@ -401,3 +401,59 @@ fn lengths_for_the_archive() {
         assert_eq!((numbers, bytes), ([7; 3], [7; 12]));
     }
 }
+
+/// An empty text and lists without entries may be null pointers.
+#[test]
+fn texts_from_nowhere() {
+    let mut place = 7;
+    let mut lengths = [8; 4];
+    let [a, b, c, d] = &mut lengths;
+    let lent = || Mesh::new(vec![5; 6_144], vec![6; 4_096], vec![7; 8_192]).with_sharpness(vec![9; 16_384]);
+    let mut mesh = lent();
+    // SAFETY: a list of no entries may be anywhere
+    let (nothing, no_text) = unsafe {
+        let nothing = raw::mahunopi_off(
+            null(),
+            0,
+            null_mut(),
+            0,
+            null_mut(),
+            0,
+            null_mut(),
+            0,
+            null_mut(),
+            0,
+            a,
+            b,
+            c,
+            d,
+            &mut place,
+        );
+        let (coordinates, sides, corners, sharpness) = (
+            mesh.coordinates.as_mut_ptr(),
+            mesh.sides.as_mut_ptr(),
+            mesh.corners.as_mut_ptr(),
+            mesh.sharpness.as_mut_ptr(),
+        );
+        let no_text = raw::mahunopi_off(
+            null(),
+            0,
+            coordinates,
+            6_144,
+            sides,
+            4_096,
+            corners,
+            8_192,
+            sharpness,
+            16_384,
+            a,
+            b,
+            c,
+            d,
+            &mut place,
+        );
+        (nothing, no_text)
+    };
+    assert_eq!((nothing, no_text, place, lengths), (24, 24, 0, [8; 4]));
+    assert_eq!(mesh, lent());
+}

@@ -1,0 +1,96 @@
+-- The lengths are cut to the lists, so each part lies in its list.
+-- Assumes nothing.
+use mathlib.Core.Path.{sym}
+use lib.Seq.{length-take-le}
+use borrow.Author.Needs.{needs}
+use Rattle.off2dms.proofs.convert.Statement.{statement}
+use Rattle.off2dms.proofs.convert.Tie as tie
+
+slice-aggregate-read : tie.Need-slice-aggregate-read
+slice-aggregate-read c = search needs
+
+slice-aggregate-read-2 : tie.Need-slice-aggregate-read-2
+slice-aggregate-read-2 c = search needs
+
+slice-aggregate-read-3 : tie.Need-slice-aggregate-read-3
+slice-aggregate-read-3 c = search needs
+
+slice-aggregate-read-4 : tie.Need-slice-aggregate-read-4
+slice-aggregate-read-4 c = search needs
+
+read-requires : tie.Need-read-requires
+read-requires c κs = search needs
+
+mul-least : tie.Need-mul-least
+mul-least c = search needs
+
+least-requires : tie.Need-least-requires
+least-requires c κs = search needs
+
+least-requires-2 : tie.Need-least-requires-2
+least-requires-2 c κs = search needs
+
+least-requires-3 : tie.Need-least-requires-3
+least-requires-3 c κs = search needs
+
+enum-known-answer : tie.Need-enum-known-answer
+enum-known-answer c = search needs
+
+complain-refusal-requires : tie.Need-complain-refusal-requires
+complain-refusal-requires c κs = search needs
+
+enum-told : tie.Need-enum-told
+enum-told c = search needs
+
+array-share-prefix-coordinates : tie.Need-array-share-prefix-coordinates
+array-share-prefix-coordinates c = search needs
+
+slice-aggregate-write-file : tie.Need-slice-aggregate-write-file
+slice-aggregate-write-file c = sym (length-take-le _ _ (search needs))
+
+array-share-prefix-sides : tie.Need-array-share-prefix-sides
+array-share-prefix-sides c = search needs
+
+slice-aggregate-write-file-2 : tie.Need-slice-aggregate-write-file-2
+slice-aggregate-write-file-2 c = sym (length-take-le _ _ (search needs))
+
+array-share-prefix-corners : tie.Need-array-share-prefix-corners
+array-share-prefix-corners c = search needs
+
+slice-aggregate-write-file-3 : tie.Need-slice-aggregate-write-file-3
+slice-aggregate-write-file-3 c = sym (length-take-le _ _ (search needs))
+
+write-file-requires : tie.Need-write-file-requires
+write-file-requires c κs = search needs
+
+returns : tie.Need-returns
+returns c = search needs
+
+returns-2 : tie.Need-returns-2
+returns-2 c = search needs
+
+pub convert-spec : {M : Type 1} → statement M
+convert-spec =
+    tie.close
+    (tie.spec
+    slice-aggregate-read
+    slice-aggregate-read-2
+    slice-aggregate-read-3
+    slice-aggregate-read-4
+    read-requires
+    mul-least
+    least-requires
+    least-requires-2
+    least-requires-3
+    enum-known-answer
+    complain-refusal-requires
+    enum-told
+    array-share-prefix-coordinates
+    slice-aggregate-write-file
+    array-share-prefix-sides
+    slice-aggregate-write-file-2
+    array-share-prefix-corners
+    slice-aggregate-write-file-3
+    write-file-requires
+    returns
+    returns-2)

@@ -1,0 +1,4 @@
+pub mod Bad
+pub mod Naturals
+pub mod Rows
+pub mod Facing

@@ -1,0 +1,103 @@
+//! L6, reading OFF files: checks 24 to 26, then those of a mesh, and the lists; what the program `off2dms` does with a
+//! text. The words are made first, all of them, and then taken one after the other.
+
+use crate::check::check_mesh;
+use crate::{encode, refuse, Lists, Refusal, MAX_CORNERS, MAX_FACES, MAX_VERTICES, PLAIN};
+
+/// The lists of an OFF text.
+#[derive(Clone, Debug, Default, PartialEq, Eq)]
+pub struct OffLists {
+    pub coordinates: Vec<i32>,
+    pub sides: Vec<u8>,
+    pub corners: Vec<u16>,
+    pub sharpness: Vec<u8>,
+}
+
+impl OffLists {
+    pub fn lists(&self) -> Lists<'_> {
+        Lists { coordinates: &self.coordinates, sides: &self.sides, corners: &self.corners, sharpness: &self.sharpness }
+    }
+}
+
+/// The words of a text: of every line what stands before its first #, parted at separators.
+fn words(text: &[u8]) -> Vec<&[u8]> {
+    text.split(|&byte| byte == b'\n')
+        .map(|line| line.split(|&byte| byte == b'#').next().expect("a first part"))
+        .flat_map(|line| line.split(|byte| b" \t\r".contains(byte)))
+        .filter(|word| !word.is_empty())
+        .collect()
+}
+
+/// The number that a word is: one to nine digits after an optional minus.
+fn number(word: &[u8]) -> Option<i32> {
+    let digits = word.strip_prefix(b"-").unwrap_or(word);
+    if digits.is_empty() || digits.len() > 9 || !digits.iter().all(u8::is_ascii_digit) {
+        return None;
+    }
+    std::str::from_utf8(word).expect("a minus and digits").parse().ok()
+}
+
+/// The words that are still to be taken, with the number of the next.
+struct Taker<'a> {
+    words: std::vec::IntoIter<&'a [u8]>,
+    next: usize,
+}
+
+impl Taker<'_> {
+    /// The next word as a number that serves.
+    fn take(&mut self, serves: impl Fn(i32) -> bool) -> Result<i32, Refusal> {
+        match self.words.next().and_then(number).filter(|&value| serves(value)) {
+            Some(value) => {
+                self.next += 1;
+                Ok(value)
+            }
+            None => refuse(25, self.next),
+        }
+    }
+
+    fn natural(&mut self, most: i32) -> Result<usize, Refusal> {
+        Ok(self.take(|value| (0..=most).contains(&value))? as usize)
+    }
+}
+
+/// The lists of a text, for lent lists of these lengths.
+pub fn off(text: &[u8], spaces: [usize; 4]) -> Result<OffLists, Refusal> {
+    let mut words = words(text).into_iter();
+    let least = [3 * MAX_VERTICES, MAX_FACES, MAX_CORNERS, 2 * MAX_CORNERS];
+    let short = spaces.iter().zip(least).any(|(&space, least)| space < least);
+    if short || words.next() != Some(b"OFF") {
+        return refuse(24, 0);
+    }
+    let mut taker = Taker { words, next: 1 };
+    let vertices = taker.natural(65_535)?;
+    let faces = taker.natural(65_535)?;
+    taker.natural(65_535)?;
+    let mut read = OffLists::default();
+    for _ in 0..3 * vertices {
+        read.coordinates.push(taker.take(|_| true)?);
+    }
+    for _ in 0..faces {
+        let sides = taker.natural(255)?;
+        read.sides.push(sides as u8);
+        for _ in 0..sides {
+            read.corners.push(taker.natural(65_535)? as u16);
+        }
+    }
+    if taker.words.next().is_some() {
+        return refuse(26, taker.next);
+    }
+    read.sharpness = vec![PLAIN; 2 * read.corners.len()];
+    check_mesh(read.lists())?;
+    Ok(read)
+}
+
+/// What `off2dms` writes of a text: the file on standard output, or a line on standard error.
+pub fn off2dms(text: &[u8]) -> Result<Vec<u8>, String> {
+    if text.len() > 1 << 20 {
+        return Err("standard input: longer than 1048576 bytes\n".to_string());
+    }
+    match off(text, [3 * MAX_VERTICES, MAX_FACES, MAX_CORNERS, 2 * MAX_CORNERS]) {
+        Ok(read) => Ok(encode(read.lists(), 1)),
+        Err(Refusal { number, place }) => Err(format!("refused {number} {place}\n")),
+    }
+}
