@@ -5,9 +5,10 @@
  * counts, corners, and the sharpness of the corners. mahunopi_survey counts what a .dms file holds, mahunopi_decode
  * reads its lists, mahunopi_off reads those of an OFF text, mahunopi_link fills the link table of a mesh, mahunopi_build
  * writes the control points of a range of corners, mahunopi_floats gives one of these points as floats.
- * mahunopi_irregular says whether a mesh is all squares. mahunopi_nest lists a table of nested grids. mahunopi_archive
- * rearranges a coordinate list for the archive, and mahunopi_restore undoes it. Each is complete in itself: none relies
- * on an earlier call.
+ * mahunopi_irregular says whether a mesh is all squares. mahunopi_preview builds with one vertex
+ * moved, mahunopi_touched marks the corners that a vertex can change. mahunopi_nest lists a table of nested grids.
+ * mahunopi_archive rearranges a coordinate list for the archive, and mahunopi_restore undoes it. Each is complete in
+ * itself: none relies on an earlier call.
  *
  * Every function returns MAHUNOPI_DONE, or the number of a refusal (enum mahunopi_refusal). After a refusal *place
  * says where, and everything else that was lent keeps its contents; when done, *place keeps its contents.
@@ -53,12 +54,12 @@ extern "C" {
 #define MAHUNOPI_MAX_BODIES 256
 #define MAHUNOPI_SUN 65535
 /* The bytes of stack that a call may take. */
-#define MAHUNOPI_CALL_STACK 294912
+#define MAHUNOPI_CALL_STACK 327680
 
 /*
  * What a function answers. A file is checked by 1 to 13, linking by 4 to 14, building by 4 to 17, the search for an
  * irregular face or vertex by 4 to 13, a control point in floats by 18 to 20, a nesting table by 21 to 23, an OFF text
- * by 24 to 26 and then 4 to 13, lists for the archive by 30 and 31. 27 and 28
+ * by 24 to 26 and then 4 to 13, a preview by 29 and then 4 to 17, the marks of a vertex by 29 and then 4 to 13, lists for the archive by 30 and 31. 27 and 28
  * are tried wherever 4 to 13 are, 27 after 4 and 28 after 8: the order is 4, 27, 5, 6, 7, 8, 28, 9 and so on. Each
  * number is tried over the whole input before the next, and the place is the lowest that applies.
  *
@@ -139,11 +140,14 @@ enum mahunopi_refusal {
     MAHUNOPI_BAD_SHARPNESS_LENGTH = 27,
     /* after 8: a sharpness number is above 16 (place: its position in the sharpness list) */
     MAHUNOPI_BAD_SHARPNESS = 28,
+    /* the vertex is not below a third of the coordinate list's length, rounded down (place: the vertex) */
+    MAHUNOPI_NO_VERTEX_TO_MOVE = 29,
     /* the number list's length is no multiple of three (place: its length) */
     MAHUNOPI_BAD_NUMBER_COUNT = 30,
     /* the byte list is not four times as long as the number list (place: its length) */
     MAHUNOPI_BAD_BYTE_COUNT = 31,
-    /* surveying and decoding, after 1 to 13: a lent list is too short (place: the length that the first such needs) */
+    /* surveying and decoding, after 1 to 13: a lent list is too short (place: the length that the first such needs);
+     * mahunopi_touched, after 29 and 4 to 13: there is not a mark for each corner (place: the corner count) */
     MAHUNOPI_LENT_TOO_SHORT = 255
 };
 
@@ -319,6 +323,59 @@ uint32_t mahunopi_irregular(
     uint64_t *number,
     /* receives how many side counts the search read, those of the checks apart: the face plus one, or all; not null */
     uint64_t *sides_read,
+    /* receives the place of a refusal; not null */
+    uint64_t *place);
+
+/*
+ * Trying a vertex before moving it: checks the vertex by 29, then answers and writes what mahunopi_build would on a copy
+ * of the lists in which that vertex has the coordinates x, y, z. The coordinate list keeps its numbers.
+ */
+uint32_t mahunopi_preview(
+    /* lists, link table and range, as for mahunopi_build */
+    const int32_t *coordinates,
+    size_t coordinate_count,
+    const uint8_t *sides,
+    size_t side_count,
+    const uint16_t *corners,
+    size_t corner_count,
+    const uint8_t *sharpness,
+    size_t sharpness_count,
+    const uint16_t *links,
+    size_t link_count,
+    size_t first,
+    size_t count,
+    /* the vertex to move, below coordinate_count / 3 */
+    size_t vertex,
+    /* the coordinates that it is to have, in grid steps */
+    int32_t x,
+    int32_t y,
+    int32_t z,
+    /* receives the control points, as for mahunopi_build */
+    int32_t *output,
+    size_t output_count,
+    /* receives the place of a refusal; not null */
+    uint64_t *place);
+
+/*
+ * For dragging: marks the corners whose control points a vertex can change, those at the vertices of the faces that have
+ * it. All other corners have the same numbers wherever it is moved to, so a drag needs to build the marked ones only.
+ */
+uint32_t mahunopi_touched(
+    /* the four lists, as for mahunopi_link */
+    const int32_t *coordinates,
+    size_t coordinate_count,
+    const uint8_t *sides,
+    size_t side_count,
+    const uint16_t *corners,
+    size_t corner_count,
+    const uint8_t *sharpness,
+    size_t sharpness_count,
+    /* the vertex, below coordinate_count / 3 */
+    size_t vertex,
+    /* receives 1 for each corner that the vertex can change, and 0 for each other one */
+    uint8_t *marks,
+    /* how many entries it has: has to be corner_count */
+    size_t mark_count,
     /* receives the place of a refusal; not null */
     uint64_t *place);
 

@@ -19,6 +19,8 @@ use Rattle.dms.proofs.Theorems.{version-one}
 use Rattle.claims.proofs.Plain.{plain-passes}
 use Rattle.rearrange.proofs.Theorems.{numbers-return, bytes-return}
 use Rattle.off_examples.proofs.Theorems.{no-six, missing-word, whole-text}
+use Rattle.preview.proofs.Theorems.{as-building, previews-build, previews-from-c}
+use Rattle.touching.proofs.Untouched.{untouched}
 
 pub claims : Claims
 claims = record {
@@ -48,4 +50,8 @@ claims = record {
   no-six = no-six;
   missing-word = missing-word;
   whole-text = whole-text;
+  as-building = as-building;
+  previews-build = previews-build;
+  previews-from-c = previews-from-c;
+  untouched = untouched;
 }

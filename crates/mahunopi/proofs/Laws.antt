@@ -24,10 +24,11 @@ use Rattle.paper.specs.Floats.{pointVerdict, Pointed}
 use Rattle.paper.specs.Nesting.{listing, Nested}
 use Rattle.paper.specs.CFace.{States, LinkCall, BuildCall, lentVerdict, DecodeCall, countsOf, surveyVerdict, SurveyCall, put}
 use Rattle.paper.specs.Squares.{Stated, face, vertex, none, refused, squaresStated, Searched}
-use Rattle.paper.specs.CFace.{FloatsCall, NestCall, Finding, finding, findingOf, IrregularCall}
 use Rattle.paper.specs.Archive.{archived, restored, Archived, Restored}
 use Rattle.paper.specs.CFace.{ArchiveCall, RestoreCall, OffCall}
 use Rattle.paper.specs.Off.{offVerdict, OffRead}
+use Rattle.paper.specs.Preview.{moveOf, moved, Previewed, touchMarks, Touched}
+use Rattle.paper.specs.CFace.{FloatsCall, NestCall, Finding, finding, findingOf, IrregularCall, PreviewCall, TouchedCall}
 use Rattle.paper.specs.declared.Answer.{Answer}
 use Rattle.paper.specs.declared.Answer.the-variants.{Done, Refused}
 use Rattle.paper.specs.declared.Counts.{Counts}
@@ -80,6 +81,24 @@ pub restore-call : (bytes : List ℕ) (old : List ℤ) (r : Answer) (out : List 
 restore-call bytes old r out before n after k s = record {
   answers = told _ r before n after (k .answers) s;
   holds = subst (λ (v : Verdict). out ≡ kept v (restored bytes (length old)) old) (k .answers) (k .holds);
+}
+
+-- the coordinates as they come from C
+pub preview-call : (M : Mesh) (u : ℕ) (x y z x′ y′ z′ : ℤ) → x′ ≡ x → y′ ≡ y → z′ ≡ z → (links : List ℕ) (first count : ℕ) (old : List ℤ) (r : Answer)
+    (out : List ℤ) (before n after : ℕ) → Previewed M (moveOf u x′ y′ z′) links first count old r out → States (stated r) before n after
+    → PreviewCall M (moveOf u x y z) links first count old before n after out
+preview-call M u x y z x′ y′ z′ ex ey ez links first count old r out before n after p s =
+    let q : Previewed M (moveOf u x y z) links first count old r out = rw (ex, ey, ez) at p in
+    record {
+      answers = told _ r before n after (q .answers) s;
+      holds = subst (λ (v : Verdict). out ≡ kept v (nets (moved M (moveOf u x y z)) first count) old) (q .answers) (q .holds);
+    }
+
+pub touched-call : (M : Mesh) (u : ℕ) (old : List ℕ) (r : Answer) (out : List ℕ) (before n after : ℕ)
+    → Touched M u old r out → States (stated r) before n after → TouchedCall M u old before n after out
+touched-call M u old r out before n after t s = record {
+  answers = told _ r before n after (t .answers) s;
+  holds = subst (λ (v : Verdict). out ≡ kept v (touchMarks (M .sides) (M .corners) u) old) (t .answers) (t .holds);
 }
 
 -- ---- decoding

@@ -9,9 +9,12 @@ ghost use Rattle.paper.specs.Mesh.{meshOf, four, mostSides};
 ghost use Rattle.paper.specs.File.{fileOf, begins};
 ghost use Rattle.paper.specs.CFace.{LinkCall, BuildCall, DecodeCall, countsOf, SurveyCall, FloatsCall, NestCall};
 ghost use Rattle.paper.specs.CFace.{finding, IrregularCall, ArchiveCall, RestoreCall, OffCall};
+ghost use Rattle.paper.specs.Preview.{moveOf};
+ghost use Rattle.paper.specs.CFace.{PreviewCall, TouchedCall};
 use paper::Answer;
 use paper::FloatPoint;
 use paper::Irregular;
+use paper::Move;
 use paper::NUMBERS;
 use telling::tell;
 
@@ -254,6 +257,62 @@ pub extern "C" fn mahunopi_off(
     *count = d.corners as u64;
     *sixteenths = d.sharpness as u64;
     0
+}
+
+// Trying a vertex before moving it: what building answers and writes with the vertex moved.
+#[no_mangle]
+pub extern "C" fn mahunopi_preview(
+    coordinates: &[i32],
+    sides: &[u8],
+    corners: &[u16],
+    sharpness: &[u8],
+    links: &[u16],
+    first: usize,
+    count: usize,
+    vertex: usize,
+    x: i32,
+    y: i32,
+    z: i32,
+    output: &mut [i32],
+    place: &mut u64,
+) -> u32
+    ensures { λ r. ⌜ PreviewCall (meshOf (now (coordinates .entry)) (now (sides .entry)) (now (corners .entry)) (now (sharpness .entry))) (moveOf vertex x y z) (now (links .entry)) first count (now (output .entry)) (now (place .entry)) r (now (place .exit)) (now (output .exit)) ⌝ }
+{
+    let to = Move {
+        vertex: vertex,
+        x: x,
+        y: y,
+        z: z,
+    };
+    let a = preview::preview(
+        coordinates,
+        sides,
+        corners,
+        sharpness,
+        links,
+        to,
+        first,
+        count,
+        output,
+    );
+    tell(a, place)
+}
+
+// The corners that a vertex can change: 1 in the mark of each, 0 in the others.
+#[no_mangle]
+pub extern "C" fn mahunopi_touched(
+    coordinates: &[i32],
+    sides: &[u8],
+    corners: &[u16],
+    sharpness: &[u8],
+    vertex: usize,
+    marks: &mut [u8],
+    place: &mut u64,
+) -> u32
+    ensures { λ r. ⌜ TouchedCall (meshOf (now (coordinates .entry)) (now (sides .entry)) (now (corners .entry)) (now (sharpness .entry))) vertex (now (marks .entry)) (now (place .entry)) r (now (place .exit)) (now (marks .exit)) ⌝ }
+{
+    let a = touching::touched(coordinates, sides, corners, sharpness, vertex, marks);
+    tell(a, place)
 }
 
 // Whether one of two lists has no room for every m.

@@ -20,10 +20,12 @@ use Rattle.paper.specs.Nesting.{nestingVerdict, listing}
 use Rattle.paper.specs.Squares.{Stated, face, vertex, none, refused, squares}
 use Rattle.paper.specs.Archive.{archiveVerdict, archived, restored}
 use Rattle.paper.specs.Off.{offVerdict, textMesh}
+use Rattle.paper.specs.Preview.{moved, previewVerdict, touchMarks, touchedVerdict}
 use Rattle.paper.specs.declared.Counts.{Counts}
 use Rattle.paper.specs.declared.Floats.{Floats}
 use Rattle.paper.specs.declared.FloatPoint.{FloatPoint}
 use Rattle.paper.specs.declared.FloatPoint.the-variants.{Near, Far, Refused}
+use Rattle.paper.specs.declared.Move.{Move}
 
 -- 0 is done, any other number is the refusal's
 abbrev pub numberOf : Verdict → ℕ
@@ -138,3 +140,12 @@ pub record OffCall (text : List ℕ) (lent : Mesh) (lengths : Lengths) (before r
   pub answers : States (offVerdict text (lengthsOf lent)) before r after
   pub holds : lists ≡ kept (offVerdict text (lengthsOf lent)) (into (textMesh text) lent) lent
   pub tells : told ≡ kept (offVerdict text (lengthsOf lent)) (lengthsOf (textMesh text)) lengths
+
+-- trying a vertex before moving it, and the corners that it can change
+pub record PreviewCall (M : Mesh) (m : Move) (links : List ℕ) (first count : ℕ) (old : List ℤ) (before r after : ℕ) (out : List ℤ) : Type 0 where
+  pub answers : States (previewVerdict M m links first count (length old)) before r after
+  pub holds : out ≡ kept (previewVerdict M m links first count (length old)) (nets (moved M m) first count) old
+
+pub record TouchedCall (M : Mesh) (u : ℕ) (old : List ℕ) (before r after : ℕ) (out : List ℕ) : Type 0 where
+  pub answers : States (touchedVerdict M u (length old)) before r after
+  pub holds : out ≡ kept (touchedVerdict M u (length old)) (touchMarks (M .sides) (M .corners) u) old

@@ -5,15 +5,15 @@ use mathlib.Core.Bool.{false}
 use mathlib.Core.List.{List}
 use mathlib.Core.Logic.{_↔_}
 use Prim.Native.Nat.{ℕ, _+_, _*_, _%_, _≤_, _<_}
-use lib.ListN.{length, take, drop}
+use lib.ListN.{length, getD, take, drop}
 use lib.IntN.{ℤ, pos}
-use Rattle.paper.specs.Mesh.{Mesh, cornerCount, leastSides, mostSides, plainList}
+use Rattle.paper.specs.Mesh.{Mesh, vertexCount, cornerCount, leastSides, mostSides, plainList}
 use Rattle.paper.specs.Links.{linkTable}
 use Rattle.paper.specs.Faults.{sound, fault, Accepted, fault27, fault28, stated}
 use Rattle.paper.specs.Numbers.{rounded, Fraction, exact}
 use Rattle.paper.specs.Cosines.{RowRules}
 use Rattle.paper.specs.Refined.{refinedOf, refinedOf01}
-use Rattle.paper.specs.Net.{Side}
+use Rattle.paper.specs.Net.{Side, netPoints}
 use Rattle.paper.specs.File.{versionIn, fileMesh, FileSurveyed}
 use Rattle.paper.specs.Calls.{perCorner, nets, Built}
 use Rattle.paper.specs.Floats.{netVerdict, difference, first, second, axes, Pointed, sums, FarPair}
@@ -21,8 +21,9 @@ use Rattle.paper.specs.Nesting.{tableVerdict, nestingVerdict, Nested, En
 use Rattle.paper.specs.Squares.{Searched, Agreed}
 use Rattle.paper.specs.Archive.{Archived, Restored, All32Bit, AllBytes}
 use Rattle.paper.specs.Off.{wordsOf, end, OffRead}
-use Rattle.paper.specs.CFace.{BuildCall}
-use Rattle.paper.specs.Borders.{Output, Wrote, outputOf, Borders, Smooth}
+use Rattle.paper.specs.Preview.{moved, Previewed, Touched}
+use Rattle.paper.specs.CFace.{BuildCall, PreviewCall}
+use Rattle.paper.specs.Borders.{Output, outputAt, Wrote, outputOf, Holds, written, Borders, Smooth}
 use Rattle.paper.specs.Mirror.{Mirror}
 use Rattle.paper.specs.Accuracy.{Same, Accurate}
 use Rattle.paper.specs.Manifold.{Manifold}
@@ -32,6 +33,7 @@ use Rattle.paper.specs.declared.Answer.the-variants.{Done}
 use Rattle.paper.specs.declared.Decoded.{Decoded}
 use Rattle.paper.specs.declared.FloatPoint.{FloatPoint}
 use Rattle.paper.specs.declared.Irregular.{Irregular}
+use Rattle.paper.specs.declared.Move.{Move}
 use Rattle.paper.specs.declared.Summary.{Summary}
 
 -- ---- "Numbers used": the four rules of the cosine table, of every row
@@ -165,6 +167,33 @@ abbrev pub WholeText : Type 0
 WholeText =
     (text : List ℕ) (lent : Mesh) (r : Decoded) (lists : Mesh) → OffRead text lent r lists → r .answer ≡ Done → end (wordsOf text) ≡ length (wordsOf text)
 
+-- ---- L9: where the vertex is one, a preview answers and writes what building does on the moved lists
+abbrev pub AsBuilding : Type 0
+AsBuilding =
+    (M : Mesh) (m : Move) (links : List ℕ) (first count : ℕ) (old : List ℤ) (r : Answer) (out : List ℤ)
+    → m .vertex < vertexCount M → Previewed M m links first count old r out → Built (moved M m) links first count old r out
+
+-- one that is not refused is a call of building on the moved lists that is not refused: what is said of calls holds of it
+abbrev pub PreviewsBuild : Type 0
+PreviewsBuild =
+    (M : Mesh) (m : Move) (links : List ℕ) (first count : ℕ) (old out : List ℤ)
+    → Previewed M m links first count old Done out → Built (moved M m) links first count old Done out
+
+-- and so is a call of `mahunopi_preview` that answers 0
+abbrev pub PreviewsFromC : Type 0
+PreviewsFromC =
+    (M : Mesh) (m : Move) (links : List ℕ) (first count : ℕ) (old : List ℤ) (before after : ℕ) (out : List ℤ)
+    → PreviewCall M m links first count old before 0 after out → Built (moved M m) links first count old Done out
+
+-- a corner whose mark is 0 has the same numbers before and after the move, in whatever two calls have it in their ranges
+abbrev pub Untouched : Type 0
+Untouched =
+    (M : Mesh) (m : Move) (lent marks links links′ : List ℕ) (first count first′ count′ : ℕ) (old old′ out out′ : List ℤ)
+    → Touched M (m .vertex) lent Done marks
+    → Built M links first count old Done out → Built (moved M m) links′ first′ count′ old′ Done out′
+    → (c : ℕ) → Holds (outputAt out first count) c → Holds (outputAt out′ first′ count′) c → getD marks c 0 ≡ 0
+    → (axis k : ℕ) → axis < 3 → k < netPoints → written (outputAt out′ first′ count′) axis c k ≡ written (outputAt out first count) axis c k
+
 -- ---- all of them
 pub record Claims : Type 0 where
   pub rules : TableRules
@@ -193,3 +222,7 @@ pub record Claims : Type 0 where
   pub no-six : NoSix
   pub missing-word : MissingWord
   pub whole-text : WholeText
+  pub as-building : AsBuilding
+  pub previews-build : PreviewsBuild
+  pub previews-from-c : PreviewsFromC
+  pub untouched : Untouched

@@ -12,6 +12,7 @@
 --     Squares    L7: the lowest irregular face or vertex, the call, and the lines of `inspect`
 --     Archive    L11: coordinates rearranged for the archive and back, 30 and 31, the two calls
 --     Off        L6: reading OFF texts, 24 to 26, the call
+--     Preview    L9: a vertex moved, 29, the preview; the corners that a vertex can change
 --     CFace      the C face
 --     Borders    "The four conditions across a side"
 --     Mirror     a mesh with one axis negated
@@ -37,6 +38,7 @@ pub mod Nesting
 pub mod Squares
 pub mod Archive
 pub mod Off
+pub mod Preview
 pub mod CFace
 pub mod Borders
 pub mod Mirror

@@ -90,3 +90,11 @@ pub enum Irregular {
     None(usize),
     Refused(u8, usize),
 }
+
+// A vertex, and the three coordinates that it is to have.
+pub struct Move {
+    pub vertex: usize,
+    pub x: i32,
+    pub y: i32,
+    pub z: i32,
+}

@@ -5,6 +5,8 @@
 //! Linking and building are given in nanoseconds per corner, a range of 64 corners in microseconds per call, with
 //! sharpness 8 and 8 throughout and at random; archiving and restoring in nanoseconds per number. Each figure is the least of many passes, with turns of three between the
 //! two; SECONDS (1 by default) is what one figure may take.
+//! The last table but one has the preview of a moved vertex beside building the same range, and a drag: the corners that
+//! the vertex touches, by ranges, beside building the whole mesh.
 
 use std::time::{Duration, Instant};
 
@@ -185,6 +187,60 @@ fn measure_archive(budget: Duration) {
     }
 }
 
+/// The preview beside building, of the whole and of a range, and a drag beside the whole: a line of the last table.
+fn drag(name: &str, word: &str, tables: Tables, budget: Duration) {
+    let Tables { coordinates, sides, corners, sharpness } = tables;
+    let mesh = Mesh::new(coordinates, sides, corners).with_sharpness(sharpness);
+    let count = mesh.corners.len();
+    let accepted = "an accepted mesh";
+    let links = mahunopi::link(&mesh).expect(accepted);
+    let vertex = mesh.coordinates.len() / 6;
+    let to = [1, 2, 3];
+    let beside = |first: usize, count: usize| {
+        let mut outputs = [vec![0; NUMBERS_PER_CORNER * count], vec![0; NUMBERS_PER_CORNER * count]];
+        let [tried, built] = &mut outputs;
+        least(
+            budget,
+            || mahunopi::preview_into(&mesh, &links, first, count, vertex, to, tried).expect(accepted),
+            || mahunopi::build_into(&mesh, &links, first, count, built).expect(accepted),
+        )
+    };
+    let range = RANGE.min(count);
+    let (whole, part) = (beside(0, count), beside((count - range) / 2, range));
+
+    // a drag: the marks are made once, the ranges previewed at every step
+    let corners = mahunopi::touched(&mesh, vertex).expect(accepted);
+    let ranges = mahunopi::ranges(&corners, count / 12);
+    let rebuilt: usize = ranges.iter().map(|range| range.len()).sum();
+    let mut points = mahunopi::build(&mesh, &links, 0, count).expect(accepted);
+    let mut built = points.clone();
+    let mut marks = vec![0; count];
+    let step = least(
+        budget,
+        || {
+            for range in &ranges {
+                let part = &mut points[NUMBERS_PER_CORNER * range.start..NUMBERS_PER_CORNER * range.end];
+                mahunopi::preview_into(&mesh, &links, range.start, range.len(), vertex, to, part).expect(accepted);
+            }
+        },
+        || mahunopi::build_into(&mesh, &links, 0, count, &mut built).expect(accepted),
+    );
+    let touch = least(budget, || mahunopi::touched_into(&mesh, vertex, &mut marks).expect(accepted), || ());
+    let tried = mahunopi::preview(&mesh, &links, 0, count, vertex, to).expect(accepted);
+    assert!(tried == points, "{name}: a drag by ranges leaves other control points");
+    println!(
+        "| {name} | {word} | {count} | {:.3} | {:.3} | {} | {} | {rebuilt} | {:.1} | {:.1} | {:.2} | {:.1} |",
+        whole.ratio(),
+        part.ratio(),
+        corners.len(),
+        ranges.len(),
+        1e6 * step.library,
+        1e6 * step.reference,
+        step.ratio(),
+        1e6 * touch.library,
+    );
+}
+
 fn main() {
     let seconds = std::env::args().nth(1).map_or(1.0, |text| text.parse().expect("a number of seconds"));
     let budget = Duration::from_secs_f64(seconds);
@@ -250,6 +306,16 @@ fn main() {
         };
         line("linking", growth(|f| f.link.library), growth(|f| f.link.reference));
         line("building", growth(|f| f.build.library), growth(|f| f.build.reference));
+    }
+    println!();
+    println!(
+        "| mesh | numbers | sharpness | corners | preview over building | of a range of {RANGE} | touched corners | ranges | rebuilt \
+              | a step of a drag, µs | building all, µs | ratio | marking, µs |"
+    );
+    println!("|---|---|---|---|---|---|---|---|---|---|---|---|---|");
+    for (name, solid, numbers, sharpness) in &meshes {
+        let word = format!("{} | {}", numbers.word(), if *sharpness == Plain { "8 and 8" } else { "random" });
+        drag(name, &word, numbers.tables(solid).sharpened(*sharpness, &mut Random::new(11)), budget);
     }
     measure_archive(budget);
 }

@@ -285,6 +285,81 @@ pub fn irregular(tables: &Tables, random: &mut Random) -> Result<(Irregular, usi
     result
 }
 
+/// Building with a vertex moved, into a lent output of `length` numbers; the control points where both are done.
+#[allow(clippy::too_many_arguments)]
+pub fn preview(
+    tables: &Tables,
+    links: &[u16],
+    first: usize,
+    count: usize,
+    vertex: usize,
+    to: [i32; 3],
+    length: usize,
+    random: &mut Random,
+) -> Result<Vec<i32>, Refusal> {
+    let mut output: Vec<i32> = (0..length).map(|_| random.bits() as i32).collect();
+    let mut expected = output.clone();
+    let before = tables.clone();
+    let mut place = UNTOUCHED;
+    // SAFETY: each pointer goes with the length of its own list
+    let number = unsafe {
+        raw::mahunopi_preview(
+            tables.coordinates.as_ptr(),
+            tables.coordinates.len(),
+            tables.sides.as_ptr(),
+            tables.sides.len(),
+            tables.corners.as_ptr(),
+            tables.corners.len(),
+            tables.sharpness.as_ptr(),
+            tables.sharpness.len(),
+            links.as_ptr(),
+            links.len(),
+            first,
+            count,
+            vertex,
+            to[0],
+            to[1],
+            to[2],
+            output.as_mut_ptr(),
+            output.len(),
+            &mut place,
+        )
+    };
+    let result = reference::preview(lists(tables), links, first, count, vertex, to, &mut expected);
+    assert_eq!(answer(number, place), result, "the preview answers otherwise");
+    same("output", &output, &expected);
+    assert!(*tables == before, "the preview changes a list");
+    result.map(|()| output)
+}
+
+/// The corners that a vertex can change, with a lent list of `length` marks of any contents; the marks where both are done.
+pub fn touched(tables: &Tables, vertex: usize, length: usize, random: &mut Random) -> Result<Vec<u8>, Refusal> {
+    let mut marks: Vec<u8> = (0..length).map(|_| random.bits() as u8).collect();
+    let mut expected = marks.clone();
+    let mut place = UNTOUCHED;
+    // SAFETY: each pointer goes with the length of its own list
+    let number = unsafe {
+        raw::mahunopi_touched(
+            tables.coordinates.as_ptr(),
+            tables.coordinates.len(),
+            tables.sides.as_ptr(),
+            tables.sides.len(),
+            tables.corners.as_ptr(),
+            tables.corners.len(),
+            tables.sharpness.as_ptr(),
+            tables.sharpness.len(),
+            vertex,
+            marks.as_mut_ptr(),
+            marks.len(),
+            &mut place,
+        )
+    };
+    let result = reference::touched(lists(tables), vertex, &mut expected);
+    assert_eq!(answer(number, place), result, "what is touched is answered otherwise");
+    same("marks", &marks, &expected);
+    result.map(|()| marks)
+}
+
 /// Runs a check for each case number, and says which one failed. MAHUNOPI_CASES in the environment multiplies the
 /// number of cases; MAHUNOPI_CASE runs one alone.
 pub fn each_case(cases: u64, seed: u64, mut check: impl FnMut(u64, &mut Random)) {

@@ -4,7 +4,8 @@
 //! mesh from it, [`off`] the mesh of an OFF text, [`link`] makes the mesh's link table, and [`build`] makes the control
 //! points of a range of corners: 123 numbers for each, in ticks of 1/256 of a grid step, five rows of five b points and
 //! then four rows of four a points. [`build_all`] builds all corners on several threads. [`floats`] gives one of these
-//! points as floats. [`irregular`] says whether a mesh is all squares. [`nest`] lists a table of nested grids.
+//! points as floats. [`irregular`] says whether a mesh is all squares. [`preview`] builds with one vertex moved, and
+//! [`touched`] names the corners that a vertex can change. [`nest`] lists a table of nested grids.
 //! [`archive`] rearranges a coordinate list for the archive, and [`restore`] undoes it. An input that is turned down
 //! gives a [`Refusal`]. The functions ending in `_into` fill what the caller lends them, which keeps its contents after a
 //! refusal.
@@ -29,6 +30,7 @@ mod irregular;
 mod mesh;
 mod nesting;
 mod off;
+mod preview;
 pub mod raw;
 mod refusal;
 
@@ -41,6 +43,7 @@ pub use irregular::{irregular, Irregular};
 pub use mesh::{Counts, Lengths, Mesh, MeshRef};
 pub use nesting::{nest, nest_into, MAX_BODIES, SUN};
 pub use off::{off, off_into};
+pub use preview::{preview, preview_into, ranges, touched, touched_into};
 use refusal::answer;
 pub use refusal::{Fault, Refusal};
 
@@ -56,7 +59,7 @@ pub const PLAIN_SHARPNESS: u8 = 8;
 /// The numbers that building makes for a corner: 41 control points of x, y, z.
 pub const NUMBERS_PER_CORNER: usize = 123;
 /// The bytes of stack that a call may take.
-pub const CALL_STACK: usize = 288 * 1024;
+pub const CALL_STACK: usize = 320 * 1024;
 /// The fewest corners that [`build_all`] gives a thread: a thread has to be started, and every range repeats the checks
 /// over the whole mesh.
 const LEAST_RANGE: usize = 2_048;

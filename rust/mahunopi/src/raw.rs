@@ -90,6 +90,43 @@ extern "C" {
         sides_read: *mut u64,
         place: *mut u64,
     ) -> u32;
+    /// Building with one vertex moved.
+    pub fn mahunopi_preview(
+        coordinates: *const i32,
+        coordinate_count: usize,
+        sides: *const u8,
+        side_count: usize,
+        corners: *const u16,
+        corner_count: usize,
+        sharpness: *const u8,
+        sharpness_count: usize,
+        links: *const u16,
+        link_count: usize,
+        first: usize,
+        count: usize,
+        vertex: usize,
+        x: i32,
+        y: i32,
+        z: i32,
+        output: *mut i32,
+        output_count: usize,
+        place: *mut u64,
+    ) -> u32;
+    /// The corners that a vertex can change.
+    pub fn mahunopi_touched(
+        coordinates: *const i32,
+        coordinate_count: usize,
+        sides: *const u8,
+        side_count: usize,
+        corners: *const u16,
+        corner_count: usize,
+        sharpness: *const u8,
+        sharpness_count: usize,
+        vertex: usize,
+        marks: *mut u8,
+        mark_count: usize,
+        place: *mut u64,
+    ) -> u32;
     /// Listing nested grids.
     pub fn mahunopi_nest(
         holders: *const u16,

@@ -4,8 +4,9 @@ use std::num::NonZeroUsize;
 use std::thread;
 
 use mahunopi::{
-    build, build_all, build_into, decode, irregular, link, link_into, off, survey, survey_counted, Fault, Irregular,
-    Mesh, MeshRef, Refusal, CALL_STACK, MAX_SIDES, NUMBERS_PER_CORNER,
+    build, build_all, build_into, decode, irregular, link, link_into, off, preview, preview_into, ranges, survey,
+    survey_counted, touched, touched_into, Fault, Irregular, Mesh, MeshRef, Refusal, CALL_STACK, MAX_SIDES,
+    NUMBERS_PER_CORNER,
 };
 
 const CUBE: &[u8] = include_bytes!("../../../meshes/cube.dms");
@@ -45,7 +46,7 @@ fn text_of(mesh: &Mesh) -> String {
 #[test]
 fn every_fault_has_a_number_and_one_line_of_words() {
     let numbers: Vec<u32> = Fault::ALL.iter().map(|fault| fault.number()).collect();
-    assert_eq!(numbers, (1..=28).chain([30, 31, 255]).collect::<Vec<u32>>());
+    assert_eq!(numbers, (1..=31).chain([255]).collect::<Vec<u32>>());
     for &fault in Fault::ALL {
         assert_eq!(Fault::of_number(fault.number()), Some(fault));
         assert!(!fault.words().is_empty() && !fault.words().contains('\n'));
@@ -54,7 +55,7 @@ fn every_fault_has_a_number_and_one_line_of_words() {
         assert_eq!(line.ends_with("is 5)"), fault.place().is_some(), "{line}");
         assert_eq!(fault.place().is_some(), ![1, 2, 3, 4, 21, 24].contains(&fault.number()), "{line}");
     }
-    for number in [0, 29, 32, 254, 256, u32::MAX] {
+    for number in [0, 32, 254, 256, u32::MAX] {
         assert_eq!(Fault::of_number(number), None);
     }
 }
@@ -254,6 +255,8 @@ fn the_stack_that_a_call_needs() {
         assert!(off(text.as_bytes()).unwrap() == mesh);
         assert_eq!(survey(&bytes).unwrap().corners, 8_192);
         assert_eq!(irregular(&mesh), Ok(Irregular::None { sides_read: 2_048 }));
+        preview_into(&mesh, &links, 0, 8_192, 2_047, [1, 2, 3], &mut output).unwrap();
+        assert_eq!(touched(&mesh, 2_047).unwrap().len(), 36);
     };
     thread::Builder::new().stack_size(CALL_STACK).spawn(call).unwrap().join().unwrap();
 }
@@ -275,4 +278,44 @@ fn calls_run_at_the_same_time() {
             });
         }
     });
+}
+
+/// A drag: what the preview of the touched corners' ranges writes over the old points is what building writes after the
+/// move, and the corners between are as they were.
+#[test]
+fn a_drag_by_ranges() {
+    let mut mesh = torus(20, 30);
+    let links = link(&mesh).unwrap();
+    let mut points = build(&mesh, &links, 0, 2_400).unwrap();
+    for (vertex, gap) in [(0, 0), (29, 0), (317, 3), (599, 200), (0, 2_400)] {
+        let to = [vertex as i32, -7, 40];
+        let corners = touched(&mesh, vertex).unwrap();
+        assert_eq!(corners.len(), 36);
+        let mut rebuilt = 0;
+        for range in ranges(&corners, gap) {
+            rebuilt += range.len();
+            let part = &mut points[NUMBERS_PER_CORNER * range.start..NUMBERS_PER_CORNER * range.end];
+            preview_into(&mesh, &links, range.start, range.len(), vertex, to, part).unwrap();
+        }
+        assert!(gap > 0 || rebuilt == 36, "{rebuilt} corners are rebuilt");
+        assert_eq!(preview(&mesh, &links, 0, 2_400, vertex, to).unwrap(), points);
+        mesh.coordinates[3 * vertex..3 * vertex + 3].copy_from_slice(&to);
+        assert_eq!(build(&mesh, &links, 0, 2_400).unwrap(), points);
+    }
+    assert_eq!(ranges(&[], 5), []);
+}
+
+#[test]
+fn marks_of_another_length() {
+    let mesh = decode(CUBE).unwrap();
+    for length in [0, 23, 25, 8_192] {
+        let mut marks = vec![9; length];
+        assert_eq!(touched_into(&mesh, 7, &mut marks), Err(Refusal::new(Fault::LentTooShort, 24)));
+        assert!(marks.iter().all(|&mark| mark == 9));
+    }
+    for vertex in [8, 9, usize::MAX / 3, usize::MAX] {
+        let refusal = Refusal::new(Fault::NoVertexToMove, vertex as u64);
+        assert_eq!(touched(&mesh, vertex), Err(refusal));
+        assert_eq!(preview(&mesh, &[], 0, 0, vertex, [0; 3]), Err(refusal));
+    }
 }

@@ -1,6 +1,6 @@
-//! An independent implementation of document 01, of L1, L4, L5, L6, L7, L8, L10 and L11, in plain Rust: the file, the check
+//! An independent implementation of document 01, of L1 and L4 to L11, in plain Rust: the file, the check
 //! of a mesh, linking, building, the four conditions across a side, a control point in floats, the listing of nested
-//! grids, OFF texts, the search for an irregular face or vertex, the construction without rounding, coordinates
+//! grids, OFF texts, the search for an irregular face or vertex, the preview of a moved vertex, the construction without rounding, coordinates
 //! rearranged for the archive. It is written from the papers alone and shares nothing with the proved library, so that
 //! the two can be compared; nobody has proved it.
 
@@ -13,6 +13,7 @@ mod file;
 mod floats;
 mod nesting;
 mod off;
+mod preview;
 mod squares;
 mod surface;
 mod wide;
@@ -24,6 +25,7 @@ pub use file::{decode, encode, inspect, patches, squares, summary, Counts, Lengt
 pub use floats::{floats, FloatPoint};
 pub use nesting::{nest, nest_lines};
 pub use off::{off, off2dms, OffLists};
+pub use preview::{preview, touched};
 pub use squares::{irregular, Irregular};
 pub use surface::{build, nets, round, Net, Point, NUMBERS_PER_CORNER};
 

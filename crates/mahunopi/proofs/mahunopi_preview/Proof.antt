@@ -1,0 +1,30 @@
+-- `mahunopi::mahunopi_preview` meets its contract: it tells what `preview::preview` answers.
+-- Assumes nothing.
+use mathlib.Core.Path.{_≡_}
+use mir.Syntax.{w32}
+use mir.Val.{toZ, ofZ}
+use borrow.Author.Needs.{needs}
+use Rattle.mahunopi.proofs.Laws.{preview-call}
+use Rattle.mahunopi.proofs.mahunopi_preview.Statement.{statement}
+use Rattle.mahunopi.proofs.mahunopi_preview.Tie as tie
+
+preview-requires : tie.Need-preview-requires
+preview-requires c κs = search needs
+
+tell-requires : tie.Need-tell-requires
+tell-requires c κs = search needs
+
+same-length : tie.Need-same-length
+same-length c = search needs
+
+returns : tie.Need-returns
+returns c =
+    let s = c .before .before .before .before .before .before .before .before .before in
+    let x : toZ w32 (ofZ w32 (s .args .x)) ≡ s .args .x = search needs in
+    let y : toZ w32 (ofZ w32 (s .args .y)) ≡ s .args .y = search needs in
+    let z : toZ w32 (ofZ w32 (s .args .z)) ≡ s .args .z = search needs in
+    preview-call _ (s .args .vertex) (s .args .x) (s .args .y) (s .args .z) _ _ _ x y z _ _ _ _ _ _ _ _ _ (c .before .before .before .preview .ensures)
+    (c .tell .ensures)
+
+pub mahunopi-preview-spec : {M : Type 1} → statement M
+mahunopi-preview-spec = tie.close (tie.spec preview-requires tell-requires same-length returns)

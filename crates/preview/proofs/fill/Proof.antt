@@ -1,0 +1,76 @@
+-- After i turns the first i values stand in the lent list and the others are as they were.
+-- Assumes nothing.
+use mathlib.Core.Path.{_≡_, refl}
+use Prim.Native.Nat.{_≤_, _-_}
+use native.Mathlib.Omega.{arith}
+use lib.ListN.{length, getD, length-set}
+use lib.IntN.{pos}
+use mir.Syntax.{w32}
+use mir.ValLaws.{toZ-ofZ}
+use borrow.Author.Needs.{needs}
+use Rattle.preview.proofs.Laws.{Filled, filled-none, filled-step, filled-all}
+use Rattle.preview.proofs.fill.Statement.{statement}
+use Rattle.preview.proofs.fill.Tie as tie
+
+abbrev Inv-loop : tie.InvT-loop
+Inv-loop values lent₀ i₀ lent i = (i ≤ length values) × (length lent ≡ length lent₀) × Filled values lent₀ i lent
+
+abbrev μ-loop : tie.MeasureT-loop
+μ-loop values lent₀ i₀ lent i = length values - i
+
+loop-holds : tie.Need-loop-holds Inv-loop μ-loop
+loop-holds c = (omega arith, refl, filled-none (c .args .values .now) (c .args .lent .now))
+
+mul-lent : tie.Need-mul-lent Inv-loop μ-loop
+mul-lent c = search needs
+
+shared-slice-copy-out-lent : tie.Need-shared-slice-copy-out-lent Inv-loop μ-loop
+shared-slice-copy-out-lent c = search needs
+
+mul-t8 : tie.Need-mul-t8 Inv-loop μ-loop
+mul-t8 c = search needs
+
+slice-set-from-lent : tie.Need-slice-set-from-lent Inv-loop μ-loop
+slice-set-from-lent c = search needs
+
+add-i : tie.Need-add-i Inv-loop μ-loop
+add-i c = search needs
+
+loop-less : tie.Need-loop-less Inv-loop μ-loop
+loop-less c = search needs
+
+loop-again : tie.Need-loop-again Inv-loop μ-loop
+loop-again c =
+    let s = c .before .before .before in
+    let l = c .before .before .loop in (
+      search needs,
+      rw length-set (l .inv .1),
+      rw (toZ-ofZ w32 (getD (s .args .values .now) (l .i) (pos 0)) (record { sfits = c .lent .given }))
+          (filled-step (s .args .values .now) (s .args .lent .now) (l .i) (l .lent) (pos 0) (omega arith) (omega arith) (l .inv .2)),
+    )
+
+same-length : tie.Need-same-length Inv-loop μ-loop
+same-length c = search needs
+
+returns : tie.Need-returns Inv-loop μ-loop
+returns c =
+    let s = c .before .before in
+    let l = c .before .loop in
+    filled-all (s .args .values .now) (s .args .lent .now) (l .i) (l .lent) (omega arith) (l .inv .2)
+
+pub fill-spec : {M : Type 1} → statement M
+fill-spec =
+    tie.close
+    (tie.spec
+    Inv-loop
+    μ-loop
+    loop-holds
+    mul-lent
+    shared-slice-copy-out-lent
+    mul-t8
+    slice-set-from-lent
+    add-i
+    loop-less
+    loop-again
+    same-length
+    returns)

@@ -1,0 +1,75 @@
+-- `has_vertex` meets its contract: what is found is whether the vertex is among the corners looked at.
+-- Assumes nothing.
+use mathlib.Core.Path.{_≡_, sym, subst, _∙_}
+use mathlib.Core.Bool.{Bool}
+use mathlib.Core.Logic.{⊎-elim}
+use Prim.Native.Nat.{_+_, _-_, _≤_}
+use denote.Ref.{now}
+use Rattle.touching.specs.Near.{among}
+use Rattle.touching.proofs.Laws.{found-none, found-here, found-not}
+use native.Mathlib.Omega.{arith}
+use borrow.Author.Needs.{needs}
+use Rattle.touching.proofs.has_vertex.Statement.{statement}
+use Rattle.touching.proofs.has_vertex.Tie as tie
+
+abbrev Inv-loop : tie.InvT-loop
+Inv-loop corners vertex start n found₀ j₀ found j = (j ≤ n) × (found ≡ among corners start j vertex)
+
+abbrev μ-loop : tie.MeasureT-loop
+μ-loop corners vertex start n found₀ j₀ found j = n - j
+
+loop-holds : tie.Need-loop-holds Inv-loop μ-loop
+loop-holds c = (omega arith, found-none _ _ _)
+
+add-u : tie.Need-add-u Inv-loop μ-loop
+add-u c = search needs
+
+mul-u : tie.Need-mul-u Inv-loop μ-loop
+mul-u c = search needs
+
+shared-slice-read-u : tie.Need-shared-slice-read-u Inv-loop μ-loop
+shared-slice-read-u c = search needs
+
+cast-u : tie.Need-cast-u Inv-loop μ-loop
+cast-u c = let l = c .before .before .loop in omega (arith, c .shared-slice-known .given (c .before .before .before .args .start + l .j))
+
+add-j : tie.Need-add-j Inv-loop μ-loop
+add-j c = search needs
+
+loop-less : tie.Need-loop-less Inv-loop μ-loop
+loop-less c = search needs
+
+loop-again : tie.Need-loop-again Inv-loop μ-loop
+loop-again c =
+    let s = c .before .before .before .before in
+    let l = c .before .before .before .loop in
+    let corners = now (s .args .corners) in (
+      omega arith,
+      ⊎-elim
+          (λ w. w .1 ∙ found-here corners (s .args .start) (l .j) (s .args .vertex) (w .0 .taken))
+          (λ w. w .1 ∙ found-not corners (s .args .start) (l .j) (s .args .vertex) (w .0 .left) (l .found) (l .inv .1))
+          (c .if1 .came),
+    )
+
+returns : tie.Need-returns Inv-loop μ-loop
+returns c =
+    let s = c .before .before in
+    let l = c .before .loop in
+    let e : l .j ≡ s .args .n = omega (arith, l .inv .0) in
+    rw (← e) (l .inv .1)
+
+pub has-vertex-spec : {M : Type 1} → statement M
+has-vertex-spec =
+    tie.close
+    (tie.spec
+    Inv-loop
+    μ-loop
+    loop-holds
+    add-u
+    mul-u
+    shared-slice-read-u
+    cast-u
+    add-j
+    loop-less
+    loop-again
+    returns)

@@ -1,0 +1,83 @@
+-- `mark_all` meets its contract: the vertices of the first j corners are marked.
+-- Assumes nothing.
+use mathlib.Core.Path.{_≡_, refl}
+use Prim.Native.Nat.{_+_, _-_, _≤_}
+use lib.ListN.{length, length-set}
+use denote.Ref.{now}
+use Rattle.touching.specs.Near.{AllMarked}
+use Rattle.touching.proofs.Laws.{all-none, all-step}
+use native.Mathlib.Omega.{arith}
+use borrow.Author.Needs.{needs}
+use Rattle.touching.proofs.mark_all.Statement.{statement}
+use Rattle.touching.proofs.mark_all.Tie as tie
+
+abbrev Inv-loop : tie.InvT-loop
+Inv-loop corners start n near₀ j₀ near j = (j ≤ n) × (length near ≡ length near₀) × AllMarked corners start j near₀ near
+
+abbrev μ-loop : tie.MeasureT-loop
+μ-loop corners start n near₀ j₀ near j = n - j
+
+loop-holds : tie.Need-loop-holds Inv-loop μ-loop
+loop-holds c = (omega arith, refl, all-none (now (c .args .corners)) (c .args .start) (now (c .args .near)))
+
+add-u : tie.Need-add-u Inv-loop μ-loop
+add-u c = search needs
+
+mul-u : tie.Need-mul-u Inv-loop μ-loop
+mul-u c = search needs
+
+shared-slice-read-u : tie.Need-shared-slice-read-u Inv-loop μ-loop
+shared-slice-read-u c = search needs
+
+cast-u : tie.Need-cast-u Inv-loop μ-loop
+cast-u c = let l = c .before .before .loop in omega (arith, c .shared-slice-known .given (c .before .before .before .args .start + l .j))
+
+slice-write-near : tie.Need-slice-write-near Inv-loop μ-loop
+slice-write-near c =
+    let s = c .before .before .before in
+    let l = c .before .before .loop in
+    omega (arith, l .inv .1, s .pre .1 (s .args .start + l .j) (omega (arith, s .pre .0)))
+
+add-j : tie.Need-add-j Inv-loop μ-loop
+add-j c = search needs
+
+loop-less : tie.Need-loop-less Inv-loop μ-loop
+loop-less c = search needs
+
+loop-again : tie.Need-loop-again Inv-loop μ-loop
+loop-again c =
+    let s = c .before .before .before in
+    let l = c .before .before .loop in (
+      omega arith,
+      simp length-set (l .inv .1),
+      all-step (now (s .args .corners)) (s .args .start) (l .j) (now (s .args .near)) (l .near) (l .inv .1)
+          (omega (arith, l .inv .1, s .pre .1 (s .args .start + l .j) (omega (arith, s .pre .0)))) (l .inv .2),
+    )
+
+same-length : tie.Need-same-length Inv-loop μ-loop
+same-length c = search needs
+
+returns : tie.Need-returns Inv-loop μ-loop
+returns c =
+    let s = c .before .before in
+    let l = c .before .loop in
+    let e : l .j ≡ s .args .n = omega (arith, l .inv .0) in
+    rw (← e) (l .inv .2)
+
+pub mark-all-spec : {M : Type 1} → statement M
+mark-all-spec =
+    tie.close
+    (tie.spec
+    Inv-loop
+    μ-loop
+    loop-holds
+    add-u
+    mul-u
+    shared-slice-read-u
+    cast-u
+    slice-write-near
+    add-j
+    loop-less
+    loop-again
+    same-length
+    returns)

@@ -1,0 +1,96 @@
+-- `mark_vertices` meets its contract: the vertices of the first f faces that have this one are marked.
+-- Assumes nothing.
+use mathlib.Core.Path.{_≡_, refl, sym, _∙_}
+use Prim.Native.Nat.{_+_, _-_, _<_, _≤_}
+use lib.ListN.{length, getD}
+use denote.Ref.{now}
+use Rattle.paper.specs.Corners.{startOf}
+use Rattle.mesh.proofs.Faces.{start-zero, start-next, start-ends}
+use Rattle.touching.specs.Near.{NearMarked}
+use Rattle.touching.proofs.Laws.{near-none, near-step}
+use native.Mathlib.Omega.{arith}
+use borrow.Author.Needs.{needs}
+use Rattle.touching.proofs.mark_vertices.Statement.{statement}
+use Rattle.touching.proofs.mark_vertices.Tie as tie
+
+abbrev Inv-loop : tie.InvT-loop
+Inv-loop sides corners vertex near₀ start₀ f₀ near start f =
+    (f ≤ length sides) × (start ≡ startOf sides f) × (length near ≡ length near₀) × NearMarked sides corners vertex f near
+
+abbrev μ-loop : tie.MeasureT-loop
+μ-loop sides corners vertex near₀ start₀ f₀ near start f = length sides - f
+
+loop-holds : tie.Need-loop-holds Inv-loop μ-loop
+loop-holds c =
+    let s = c .before .before .before in
+    (omega arith, sym (start-zero _), refl, near-none (now (s .args .sides)) (now (s .args .corners)) (s .args .vertex) (now (s .args .near)) (s .pre .1 .1))
+
+shared-slice-read-n : tie.Need-shared-slice-read-n Inv-loop μ-loop
+shared-slice-read-n c = search needs
+
+cast-n : tie.Need-cast-n Inv-loop μ-loop
+cast-n c =
+    let s = c .before .before .before .before .before .before in
+    omega (arith, s .pre .0 .0 .most (c .before .before .loop .f) (search needs))
+
+mark-face-requires : tie.Need-mark-face-requires Inv-loop μ-loop
+mark-face-requires c κs =
+    let s = c .before .before .before .before .before .before .before in
+    let l = c .before .before .before .loop in (
+      omega (arith, l .inv .1, start-ends (now (s .args .sides)) (l .f) (search needs), s .pre .0 .1),
+      λ d h. omega (arith, s .pre .1 .0 d h, l .inv .2),
+    )
+
+add-start : tie.Need-add-start Inv-loop μ-loop
+add-start c =
+    let s = c .before .before .before .before .before .before .before .before .before .before in
+    let l = c .before .before .before .before .before .before .loop in
+    omega (arith, l .inv .1, s .pre .0 .0 .few, start-ends (now (s .args .sides)) (l .f) (search needs))
+
+add-f : tie.Need-add-f Inv-loop μ-loop
+add-f c = search needs
+
+loop-less : tie.Need-loop-less Inv-loop μ-loop
+loop-less c = search needs
+
+loop-again : tie.Need-loop-again Inv-loop μ-loop
+loop-again c =
+    let s = c .before .before .before .before .before .before .before .before .before .before in
+    let l = c .before .before .before .before .before .before .loop in
+    let k = c .before .before .mark-face in
+    let sides = now (s .args .sides) in
+    let h : l .f < length sides = search needs in
+    let kept : length (k .last .1 .1 .1 .1 .0) ≡ length (l .near) = k .kept .1 .1 .1 .1 .0 in (
+      omega arith,
+      omega (arith, start-next sides (l .f) h, l .inv .1),
+      kept ∙ l .inv .2,
+      near-step sides (now (s .args .corners)) (s .args .vertex) (l .f) (l .near) (k .last .1 .1 .1 .1 .0) kept (l .inv .3)
+          (rw (← l .inv .1) (k .ensures)),
+    )
+
+same-length : tie.Need-same-length Inv-loop μ-loop
+same-length c = search needs
+
+returns : tie.Need-returns Inv-loop μ-loop
+returns c =
+    let s = c .before .before .before .before .before in
+    let l = c .before .loop in
+    let e : l .f ≡ length (now (s .args .sides)) = omega (arith, l .inv .0) in
+    rw (← e) (l .inv .3)
+
+pub mark-vertices-spec : {M : Type 1} → statement M
+mark-vertices-spec =
+    tie.close
+    (tie.spec
+    Inv-loop
+    μ-loop
+    loop-holds
+    shared-slice-read-n
+    cast-n
+    mark-face-requires
+    add-start
+    add-f
+    loop-less
+    loop-again
+    same-length
+    returns)
