@@ -1,14 +1,14 @@
 /*
  * Mahunopi: smooth patches over a closed mesh, in whole numbers.
  *
- * The functions below are the proved library's C face (libmahunopi.a). A mesh is four lists: coordinates, side
- * counts, corners, and the sharpness of the corners. mahunopi_survey counts what a .dms file holds, mahunopi_decode
- * reads its lists, mahunopi_off reads those of an OFF text, mahunopi_link fills the link table of a mesh, mahunopi_build
- * writes the control points of a range of corners, mahunopi_floats gives one of these points as floats.
- * mahunopi_irregular says whether a mesh is all squares. mahunopi_preview builds with one vertex
- * moved, mahunopi_touched marks the corners that a vertex can change. mahunopi_nest lists a table of nested grids.
- * mahunopi_archive rearranges a coordinate list for the archive, and mahunopi_restore undoes it. Each is complete in
- * itself: none relies on an earlier call.
+ * The functions below are the proved library's C face (libmahunopi.a). A mesh is four lists: coordinates, side counts,
+ * corners, and the sharpness of the corners. mahunopi_survey counts what a .dms file holds, mahunopi_decode reads its
+ * lists, mahunopi_off reads those of an OFF text, mahunopi_link fills the link table of a mesh, mahunopi_build writes
+ * the control points of a range of corners, mahunopi_floats gives one of these points as floats, mahunopi_sample and
+ * mahunopi_sample_triangle points of the surface. mahunopi_irregular says whether a mesh is all squares.
+ * mahunopi_preview builds with one vertex moved, mahunopi_touched marks the corners that a vertex can change.
+ * mahunopi_nest lists a table of nested grids. mahunopi_archive rearranges a coordinate list for the archive, and
+ * mahunopi_restore undoes it. Each is complete in itself: none relies on an earlier call.
  *
  * Every function returns MAHUNOPI_DONE, or the number of a refusal (enum mahunopi_refusal). After a refusal *place
  * says where, and everything else that was lent keeps its contents; when done, *place keeps its contents.
@@ -59,9 +59,10 @@ extern "C" {
 /*
  * What a function answers. A file is checked by 1 to 13, linking by 4 to 14, building by 4 to 17, the search for an
  * irregular face or vertex by 4 to 13, a control point in floats by 18 to 20, a nesting table by 21 to 23, an OFF text
- * by 24 to 26 and then 4 to 13, a preview by 29 and then 4 to 17, the marks of a vertex by 29 and then 4 to 13, lists for the archive by 30 and 31. 27 and 28
- * are tried wherever 4 to 13 are, 27 after 4 and 28 after 8: the order is 4, 27, 5, 6, 7, 8, 28, 9 and so on. Each
- * number is tried over the whole input before the next, and the place is the lowest that applies.
+ * by 24 to 26 and then 4 to 13, a preview by 29 and then 4 to 17, the marks of a vertex by 29 and then 4 to 13, lists
+ * for the archive by 30 and 31. 27 and 28 are tried wherever 4 to 13 are, 27 after 4 and 28 after 8: the order is 4,
+ * 27, 5, 6, 7, 8, 28, 9 and so on. Each number is tried over the whole input before the next, and the place is the
+ * lowest that applies.
  *
  * From a corner the leaving edge runs to the vertex of the next corner of its face, cyclically, and the arriving edge
  * comes from the vertex of the previous one. The link of a corner is the corner of the same vertex whose arriving edge
@@ -146,6 +147,10 @@ enum mahunopi_refusal {
     MAHUNOPI_BAD_NUMBER_COUNT = 30,
     /* the byte list is not four times as long as the number list (place: its length) */
     MAHUNOPI_BAD_BYTE_COUNT = 31,
+    /* the side is above 3 (place: the side) */
+    MAHUNOPI_NO_SUCH_SIDE = 32,
+    /* the number of parts is outside 1 to 16, or the weights do not sum to it (place: the number of parts) */
+    MAHUNOPI_BAD_WEIGHTS = 33,
     /* surveying and decoding, after 1 to 13: a lent list is too short (place: the length that the first such needs);
      * mahunopi_touched, after 29 and 4 to 13: there is not a mark for each corner (place: the corner count) */
     MAHUNOPI_LENT_TOO_SHORT = 255
@@ -292,6 +297,53 @@ uint32_t mahunopi_floats(
     float floats[6],
     /* receives 0 where the point is near and 1 where it is far; not null */
     uint32_t *pairs,
+    /* receives the place of a refusal; not null */
+    uint64_t *place);
+
+/* The most parts that the side of a triangle is cut into. */
+#define MAHUNOPI_MAX_PARTS 16
+
+/*
+ * One sample of a patch: checks by 18 and 19, then 32 and 33, and writes the point at weights i/n, j/n, k/n of one of a
+ * quad-net's four triangles, in ticks: the first weight belongs to the side's head, the second to its tail, the third to
+ * the quad-net's centre. It is the quartic Bernstein sum of the triangle's 15 control points, rounded once.
+ */
+uint32_t mahunopi_sample(
+    /* the numbers of a corner, as mahunopi_build writes them */
+    const int32_t *numbers,
+    /* how many numbers that are: has to be 123 */
+    size_t number_count,
+    /* the side, 0 to 3 */
+    size_t side,
+    /* the weights, which sum to n */
+    size_t i,
+    size_t j,
+    size_t k,
+    /* the number of parts, 1 to MAHUNOPI_MAX_PARTS */
+    size_t n,
+    /* receives x, y, z */
+    int32_t point[3],
+    /* receives the place of a refusal; not null */
+    uint64_t *place);
+
+/*
+ * All samples of a triangle: checks by 18, 19, 32 and 33 and writes the (n + 1)(n + 2)/2 samples, x, y, z of each, to
+ * the beginning of a lent list: in rows from the side inwards, each from the head, so that the sample of weights i, j, k
+ * is number k(2n + 3 - k)/2 + j. A list that is too short is 255 (place: the length it needs).
+ */
+uint32_t mahunopi_sample_triangle(
+    /* the numbers of a corner, as mahunopi_build writes them */
+    const int32_t *numbers,
+    /* how many numbers that are: has to be 123 */
+    size_t number_count,
+    /* the side, 0 to 3 */
+    size_t side,
+    /* the number of parts, 1 to MAHUNOPI_MAX_PARTS */
+    size_t n,
+    /* receives the points */
+    int32_t *points,
+    /* how many numbers it has room for: at least 3(n + 1)(n + 2)/2 */
+    size_t points_space,
     /* receives the place of a refusal; not null */
     uint64_t *place);
 

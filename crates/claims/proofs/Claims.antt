@@ -21,6 +21,7 @@ use Rattle.rearrange.proofs.Theorems.{numbers-return, bytes-return}
 use Rattle.off_examples.proofs.Theorems.{no-six, missing-word, whole-text}
 use Rattle.preview.proofs.Theorems.{as-building, previews-build, previews-from-c}
 use Rattle.touching.proofs.Untouched.{untouched}
+use Rattle.sampling.proofs.Theorems.{samples-close, rays-agree, sample-ends, samples-between, triangles-sample}
 
 pub claims : Claims
 claims = record {
@@ -54,4 +55,9 @@ claims = record {
   previews-build = previews-build;
   previews-from-c = previews-from-c;
   untouched = untouched;
+  samples-close = samples-close;
+  rays-agree = rays-agree;
+  sample-ends = sample-ends;
+  samples-between = samples-between;
+  triangles-sample = triangles-sample;
 }

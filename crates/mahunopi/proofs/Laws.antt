@@ -29,6 +29,8 @@ use Rattle.paper.specs.CFace.{ArchiveCall, RestoreCall, OffCall}
 use Rattle.paper.specs.Off.{offVerdict, OffRead}
 use Rattle.paper.specs.Preview.{moveOf, moved, Previewed, touchMarks, Touched}
 use Rattle.paper.specs.CFace.{FloatsCall, NestCall, Finding, finding, findingOf, IrregularCall, PreviewCall, TouchedCall}
+use Rattle.paper.specs.Sampling.{Weights, samplePoint, sideAt, Sampled, triangleSamples, TriangleSampled}
+use Rattle.paper.specs.CFace.{SampleCall, TriangleCall}
 use Rattle.paper.specs.declared.Answer.{Answer}
 use Rattle.paper.specs.declared.Answer.the-variants.{Done, Refused}
 use Rattle.paper.specs.declared.Counts.{Counts}
@@ -99,6 +101,20 @@ pub touched-call : (M : Mesh) (u : ℕ) (old : List ℕ) (r : Answer) (out : Lis
 touched-call M u old r out before n after t s = record {
   answers = told _ r before n after (t .answers) s;
   holds = subst (λ (v : Verdict). out ≡ kept v (touchMarks (M .sides) (M .corners) u) old) (t .answers) (t .holds);
+}
+
+pub sample-call : (numbers : List ℤ) (side : ℕ) (w : Weights) (old : List ℤ) (r : Answer) (out : List ℤ) (before n after : ℕ)
+    → Sampled numbers side w old r out → States (stated r) before n after → SampleCall numbers side w old before n after out
+sample-call numbers side w old r out before n after k s = record {
+  answers = told _ r before n after (k .answers) s;
+  holds = subst (λ (v : Verdict). out ≡ kept v (samplePoint numbers (sideAt side) w) old) (k .answers) (k .holds);
+}
+
+pub triangle-call : (numbers : List ℤ) (side N : ℕ) (old : List ℤ) (r : Answer) (out : List ℤ) (before n after : ℕ)
+    → TriangleSampled numbers side N old r out → States (stated r) before n after → TriangleCall numbers side N old before n after out
+triangle-call numbers side N old r out before n after k s = record {
+  answers = told _ r before n after (k .answers) s;
+  holds = subst (λ (v : Verdict). out ≡ kept v (begins (triangleSamples numbers (sideAt side) N) old) old) (k .answers) (k .holds);
 }
 
 -- ---- decoding

@@ -11,6 +11,8 @@ ghost use Rattle.paper.specs.CFace.{LinkCall, BuildCall, DecodeCall, countsOf, 
 ghost use Rattle.paper.specs.CFace.{finding, IrregularCall, ArchiveCall, RestoreCall, OffCall};
 ghost use Rattle.paper.specs.Preview.{moveOf};
 ghost use Rattle.paper.specs.CFace.{PreviewCall, TouchedCall};
+ghost use Rattle.paper.specs.Sampling.{weights};
+ghost use Rattle.paper.specs.CFace.{SampleCall, TriangleCall};
 use paper::Answer;
 use paper::FloatPoint;
 use paper::Irregular;
@@ -312,6 +314,39 @@ pub extern "C" fn mahunopi_touched(
     ensures { λ r. ⌜ TouchedCall (meshOf (now (coordinates .entry)) (now (sides .entry)) (now (corners .entry)) (now (sharpness .entry))) vertex (now (marks .entry)) (now (place .entry)) r (now (place .exit)) (now (marks .exit)) ⌝ }
 {
     let a = touching::touched(coordinates, sides, corners, sharpness, vertex, marks);
+    tell(a, place)
+}
+
+// One sample of a triangle.
+#[no_mangle]
+pub extern "C" fn mahunopi_sample(
+    numbers: &[i32],
+    side: usize,
+    i: usize,
+    j: usize,
+    k: usize,
+    n: usize,
+    point: &mut [i32; 3],
+    place: &mut u64,
+) -> u32
+    ensures { λ r. ⌜ SampleCall (now (numbers .entry)) side (weights i j k n) (now (point .entry)) (now (place .entry)) r (now (place .exit)) (now (point .exit)) ⌝ }
+{
+    let a = sampling::sample(numbers, side, i, j, k, n, point);
+    tell(a, place)
+}
+
+// All samples of a triangle, into the beginning of a lent list.
+#[no_mangle]
+pub extern "C" fn mahunopi_sample_triangle(
+    numbers: &[i32],
+    side: usize,
+    n: usize,
+    points: &mut [i32],
+    place: &mut u64,
+) -> u32
+    ensures { λ r. ⌜ TriangleCall (now (numbers .entry)) side n (now (points .entry)) (now (place .entry)) r (now (place .exit)) (now (points .exit)) ⌝ }
+{
+    let a = sampling::sample_triangle(numbers, side, n, points);
     tell(a, place)
 }
 

@@ -21,6 +21,7 @@ use Rattle.paper.specs.Squares.{Stated, face, vertex, none, refused, squ
 use Rattle.paper.specs.Archive.{archiveVerdict, archived, restored}
 use Rattle.paper.specs.Off.{offVerdict, textMesh}
 use Rattle.paper.specs.Preview.{moved, previewVerdict, touchMarks, touchedVerdict}
+use Rattle.paper.specs.Sampling.{Weights, samplePoint, sampleVerdict, sideAt, triangleSamples, triangleVerdict}
 use Rattle.paper.specs.declared.Counts.{Counts}
 use Rattle.paper.specs.declared.Floats.{Floats}
 use Rattle.paper.specs.declared.FloatPoint.{FloatPoint}
@@ -149,3 +150,12 @@ pub record PreviewCall (M : Mesh) (m : Move) (links : List ℕ) (first count : �
 pub record TouchedCall (M : Mesh) (u : ℕ) (old : List ℕ) (before r after : ℕ) (out : List ℕ) : Type 0 where
   pub answers : States (touchedVerdict M u (length old)) before r after
   pub holds : out ≡ kept (touchedVerdict M u (length old)) (touchMarks (M .sides) (M .corners) u) old
+
+-- one sample of a triangle, and all of them
+pub record SampleCall (numbers : List ℤ) (side : ℕ) (w : Weights) (old : List ℤ) (before r after : ℕ) (out : List ℤ) : Type 0 where
+  pub answers : States (sampleVerdict numbers side w) before r after
+  pub holds : out ≡ kept (sampleVerdict numbers side w) (samplePoint numbers (sideAt side) w) old
+
+pub record TriangleCall (numbers : List ℤ) (side N : ℕ) (old : List ℤ) (before r after : ℕ) (out : List ℤ) : Type 0 where
+  pub answers : States (triangleVerdict numbers side N (length old)) before r after
+  pub holds : out ≡ kept (triangleVerdict numbers side N (length old)) (begins (triangleSamples numbers (sideAt side) N) old) old

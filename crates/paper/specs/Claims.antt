@@ -13,7 +13,7 @@ use Rattle.paper.specs.Faults.{sound, fault, Accepted, fault27, fault28,
 use Rattle.paper.specs.Numbers.{rounded, Fraction, exact}
 use Rattle.paper.specs.Cosines.{RowRules}
 use Rattle.paper.specs.Refined.{refinedOf, refinedOf01}
-use Rattle.paper.specs.Net.{Side, netPoints}
+use Rattle.paper.specs.Net.{Side, across, atHead, atTail, netPoints}
 use Rattle.paper.specs.File.{versionIn, fileMesh, FileSurveyed}
 use Rattle.paper.specs.Calls.{perCorner, nets, Built}
 use Rattle.paper.specs.Floats.{netVerdict, difference, first, second, axes, Pointed, sums, FarPair}
@@ -23,7 +23,8 @@ use Rattle.paper.specs.Archive.{Archived, Restored, All32Bit, AllBytes}
 use Rattle.paper.specs.Off.{wordsOf, end, OffRead}
 use Rattle.paper.specs.Preview.{moved, Previewed, Touched}
 use Rattle.paper.specs.CFace.{BuildCall, PreviewCall}
-use Rattle.paper.specs.Borders.{Output, outputAt, Wrote, outputOf, Holds, written, Borders, Smooth}
+use Rattle.paper.specs.Borders.{Output, outputAt, Wrote, outputOf, Holds, written, beside, Borders, Smooth}
+use Rattle.paper.specs.Sampling.{Weights, weights, onAxis, Sampled, TriangleSampled, sideNumber, netIn, Alike, controlPoint, Leaves, Between, rowStart}
 use Rattle.paper.specs.Mirror.{Mirror}
 use Rattle.paper.specs.Accuracy.{Same, Accurate}
 use Rattle.paper.specs.Manifold.{Manifold}
@@ -194,6 +195,38 @@ Untouched =
     → (c : ℕ) → Holds (outputAt out first count) c → Holds (outputAt out′ first′ count′) c → getD marks c 0 ≡ 0
     → (axis k : ℕ) → axis < 3 → k < netPoints → written (outputAt out′ first′ count′) axis c k ≡ written (outputAt out first count) axis c k
 
+-- ---- L12: samples with k = 0 and the same i and j on a common side are the same numbers in both quad-nets, of any two calls of building on a mesh
+abbrev pub SamplesClose : Type 0
+SamplesClose =
+    (M : Mesh) (A B : Output) → Wrote M A → Wrote M B → (c : ℕ) (s : Side) → Holds A c → Holds B (beside M c s)
+    → (i j N : ℕ) → Alike (netIn A c) s (netIn B (beside M c s)) (across s) (weights i j 0 N)
+
+-- two triangles of one quad-net agree on the ray that they share, from their head or from their tail to the centre
+abbrev pub RaysAgree : Type 0
+RaysAgree =
+    (numbers : List ℤ) (s : Side) (i j k N : ℕ)
+    → Alike numbers s numbers (atHead s) (weights i 0 k N) × Alike numbers s numbers (atTail s) (weights 0 j k N)
+
+-- at i = N, j = N and k = N the sample is head, tail and centre
+abbrev pub SampleEnds : Type 0
+SampleEnds =
+    (numbers : List ℤ) (s : Side) (N : ℕ)
+    → Leaves numbers s (weights N 0 0 N) (controlPoint numbers s 0 0) × Leaves numbers s (weights 0 N 0 N) (controlPoint numbers s 0 4)
+    × Leaves numbers s (weights 0 0 N N) (controlPoint numbers s 4 0)
+
+-- each number of a sample lies between the least and the largest of its triangle's 15 coordinates
+abbrev pub SamplesBetween : Type 0
+SamplesBetween =
+    (numbers : List ℤ) (s : Side) (w : Weights) (old out : List ℤ) → Sampled numbers (sideNumber s) w old Done out
+    → (axis : ℕ) → axis < 3 → Between (onAxis numbers axis) s (getD out axis (pos 0))
+
+-- the call for a triangle leaves the single samples: that of i, j, k is the one at place j of row k
+abbrev pub TrianglesSample : Type 0
+TrianglesSample =
+    (numbers : List ℤ) (side N : ℕ) (old out : List ℤ) → TriangleSampled numbers side N old Done out
+    → (i j k : ℕ) → i + j + k ≡ N → (old′ point : List ℤ) (r : Answer) → Sampled numbers side (weights i j k N) old′ r point
+    → (r ≡ Done) × (point ≡ take 3 (drop (3 * (rowStart N k + j)) out))
+
 -- ---- all of them
 pub record Claims : Type 0 where
   pub rules : TableRules
@@ -226,3 +259,8 @@ pub record Claims : Type 0 where
   pub previews-build : PreviewsBuild
   pub previews-from-c : PreviewsFromC
   pub untouched : Untouched
+  pub samples-close : SamplesClose
+  pub rays-agree : RaysAgree
+  pub sample-ends : SampleEnds
+  pub samples-between : SamplesBetween
+  pub triangles-sample : TrianglesSample

@@ -13,8 +13,9 @@
 --     Archive    L11: coordinates rearranged for the archive and back, 30 and 31, the two calls
 --     Off        L6: reading OFF texts, 24 to 26, the call
 --     Preview    L9: a vertex moved, 29, the preview; the corners that a vertex can change
---     CFace      the C face
 --     Borders    "The four conditions across a side"
+--     Sampling   L12: samples of a patch, 32 and 33, the calls
+--     CFace      the C face
 --     Mirror     a mesh with one axis negated
 --     Accuracy   L10: the true surface, and how far off a point may be
 --     Manifold   what an accepted mesh is
@@ -39,8 +40,9 @@ pub mod Squares
 pub mod Archive
 pub mod Off
 pub mod Preview
-pub mod CFace
 pub mod Borders
+pub mod Sampling
+pub mod CFace
 pub mod Mirror
 pub mod Accuracy
 pub mod Manifold

@@ -34,6 +34,9 @@ pub const MOST_BODIES: usize = 256;
 
 pub const SUN: u16 = 65535;
 
+// The most parts of a side of a triangle that is sampled.
+pub const MOST_PARTS: usize = 16;
+
 // What a check, linking and building answer: done, or refused with 01's number and place.
 pub enum Answer {
     Done,

@@ -360,6 +360,56 @@ pub fn touched(tables: &Tables, vertex: usize, length: usize, random: &mut Rando
     result.map(|()| marks)
 }
 
+/// One sample, into a lent point of any contents.
+pub fn sample(
+    numbers: &[i32],
+    side: usize,
+    weights: [usize; 3],
+    parts: usize,
+    random: &mut Random,
+) -> Result<[i32; 3], Refusal> {
+    let [i, j, k] = weights;
+    let mut point = [0; 3].map(|_: i32| random.bits() as i32);
+    let lent = point;
+    let mut place = UNTOUCHED;
+    // SAFETY: the pointer goes with the length of its list
+    let number =
+        unsafe { raw::mahunopi_sample(numbers.as_ptr(), numbers.len(), side, i, j, k, parts, &mut point, &mut place) };
+    let result = reference::sample(numbers, side, weights, parts);
+    assert_eq!(answer(number, place), result.map(|_| ()), "the sample {weights:?} of {parts} is answered otherwise");
+    assert_eq!(point, result.unwrap_or(lent), "the sample {weights:?} of {parts} on side {side} is another");
+    result
+}
+
+/// All samples of a triangle, into a lent list of `length` numbers.
+pub fn sample_triangle(
+    numbers: &[i32],
+    side: usize,
+    parts: usize,
+    length: usize,
+    random: &mut Random,
+) -> Result<Vec<i32>, Refusal> {
+    let mut points: Vec<i32> = (0..length).map(|_| random.bits() as i32).collect();
+    let mut expected = points.clone();
+    let mut place = UNTOUCHED;
+    // SAFETY: each pointer goes with the length of its own list
+    let number = unsafe {
+        raw::mahunopi_sample_triangle(
+            numbers.as_ptr(),
+            numbers.len(),
+            side,
+            parts,
+            points.as_mut_ptr(),
+            points.len(),
+            &mut place,
+        )
+    };
+    let result = reference::sample_triangle(numbers, side, parts, &mut expected);
+    assert_eq!(answer(number, place), result, "a triangle of {parts} parts is answered otherwise");
+    same("points", &points, &expected);
+    result.map(|()| points)
+}
+
 /// Runs a check for each case number, and says which one failed. MAHUNOPI_CASES in the environment multiplies the
 /// number of cases; MAHUNOPI_CASE runs one alone.
 pub fn each_case(cases: u64, seed: u64, mut check: impl FnMut(u64, &mut Random)) {

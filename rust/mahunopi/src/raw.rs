@@ -127,6 +127,28 @@ extern "C" {
         mark_count: usize,
         place: *mut u64,
     ) -> u32;
+    /// One sample of a triangle.
+    pub fn mahunopi_sample(
+        numbers: *const i32,
+        number_count: usize,
+        side: usize,
+        i: usize,
+        j: usize,
+        k: usize,
+        n: usize,
+        point: *mut [i32; 3],
+        place: *mut u64,
+    ) -> u32;
+    /// All samples of a triangle.
+    pub fn mahunopi_sample_triangle(
+        numbers: *const i32,
+        number_count: usize,
+        side: usize,
+        n: usize,
+        points: *mut i32,
+        point_count: usize,
+        place: *mut u64,
+    ) -> u32;
     /// Listing nested grids.
     pub fn mahunopi_nest(
         holders: *const u16,

@@ -7,7 +7,8 @@ macro_rules! faults {
     ($($name:ident = $number:literal, $words:literal, $place:expr;)*) => {
         /// The faults that an input is turned down for, each with its number. A file is checked by 1 to 13, linking by
         /// 4 to 14, building by 4 to 17, the search for an irregular face or vertex by 4 to 13, a control point in
-        /// floats by 18 to 20, a nesting table by 21 to 23, an OFF text by 24 to 26 and then 4 to 13, lists for the
+        /// floats by 18 to 20, a nesting table by 21 to 23, a sample by
+        /// 18, 19, 32 and 33, an OFF text by 24 to 26 and then 4 to 13, lists for the
         /// archive by 30 and 31, each over the whole input before the next. A preview is checked by 29 and
         /// then as building, the marks of a vertex by 29 and then 4 to 13. 27 is tried after 4, and 28 after 8,
         /// wherever these are.
@@ -70,7 +71,9 @@ faults! {
     NoVertexToMove = 29, "the vertex is not below a third of the coordinate list's length", Some("the vertex");
     BadNumberCount = 30, "the number list's length is no multiple of three", Some("its length");
     BadByteCount = 31, "the byte list is not four times as long as the number list", Some("its length");
-    LentTooShort = 255, "a lent list is too short for what the file holds, or has not a mark for each corner", Some("the length it needs");
+    NoSuchSide = 32, "the side is above 3", Some("the side");
+    BadWeights = 33, "the number of parts is outside 1 to 16, or the weights do not sum to it", Some("the number of parts");
+    LentTooShort = 255, "a lent list is too short for what it is to hold, or has not a mark for each corner", Some("the length it needs");
 }
 
 impl Fault {

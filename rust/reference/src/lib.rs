@@ -1,7 +1,7 @@
-//! An independent implementation of document 01, of L1 and L4 to L11, in plain Rust: the file, the check
+//! An independent implementation of document 01, of L1 and L4 to L12, in plain Rust: the file, the check
 //! of a mesh, linking, building, the four conditions across a side, a control point in floats, the listing of nested
 //! grids, OFF texts, the search for an irregular face or vertex, the preview of a moved vertex, the construction without rounding, coordinates
-//! rearranged for the archive. It is written from the papers alone and shares nothing with the proved library, so that
+//! rearranged for the archive, samples of a patch. It is written from the papers alone and shares nothing with the proved library, so that
 //! the two can be compared; nobody has proved it.
 
 mod archive;
@@ -14,6 +14,7 @@ mod floats;
 mod nesting;
 mod off;
 mod preview;
+mod sampling;
 mod squares;
 mod surface;
 mod wide;
@@ -26,6 +27,7 @@ pub use floats::{floats, FloatPoint};
 pub use nesting::{nest, nest_lines};
 pub use off::{off, off2dms, OffLists};
 pub use preview::{preview, touched};
+pub use sampling::{sample, sample_triangle, small_triangles};
 pub use squares::{irregular, Irregular};
 pub use surface::{build, nets, round, Net, Point, NUMBERS_PER_CORNER};
 

@@ -1,0 +1,72 @@
+-- `sampling::put_triangle` meets its contract: three axes make the list of samples.
+-- Assumes nothing.
+use mathlib.Core.Path.{_≡_, sym, subst}
+use mathlib.Core.List.{List}
+use Prim.Native.Nat.{ℕ, _+_, _*_, _≤_}
+use lib.IntN.{ℤ}
+use native.Mathlib.Omega.{arith}
+use borrow.Author.Needs.{needs}
+use lib.Dec.{lit<}
+use lib.ListN.{length}
+use denote.Ref.{now}
+use Rattle.bernstein.specs.declared.Rows.{Rows}
+use Rattle.sampling.specs.Grid.{before, Sampleable, RowsPut}
+use Rattle.sampling.proofs.Laws.{points-sampleable}
+use Rattle.sampling.proofs.Lists.{count-is, triangle-put}
+use Rattle.sampling.proofs.put_triangle.Statement.{statement}
+use Rattle.sampling.proofs.put_triangle.Tie as tie
+
+moved : {p q : Rows} {n axis rows : ℕ} {old new : List ℤ} → p ≡ q → RowsPut p n axis rows old new → RowsPut q n axis rows old new
+moved {p} {q} {n} {axis} {rows} {old} {new} e r = subst (λ (x : Rows). RowsPut x n axis rows old new) e r
+
+control-points-requires : tie.Need-control-points-requires
+control-points-requires c κs = search needs
+
+put-axis-requires : tie.Need-put-axis-requires
+put-axis-requires c κs =
+    let s = c .before .before in (
+      subst (λ (p : Rows). Sampleable p (s .args .n)) (sym (c .before .control-points .ensures))
+          (points-sampleable (now (s .args .numbers)) (s .pre .0 .0) (s .args .side) 0 (lit< tt) (s .args .n) (s .pre .1 .0) (s .pre .1 .1)),
+      lit< tt,
+      omega (arith, count-is (s .args .n), s .pre .1 .2),
+    )
+
+control-points-requires-2 : tie.Need-control-points-requires-2
+control-points-requires-2 c κs = search needs
+
+put-axis-requires-2 : tie.Need-put-axis-requires-2
+put-axis-requires-2 c κs =
+    let s = c .before .before .before .before .before .before in (
+      subst (λ (p : Rows). Sampleable p (s .args .n)) (sym (c .before .control-points2 .ensures))
+          (points-sampleable (now (s .args .numbers)) (s .pre .0 .0) (s .args .side) 1 (lit< tt) (s .args .n) (s .pre .1 .0) (s .pre .1 .1)),
+      lit< tt,
+      omega (arith, count-is (s .args .n), s .pre .1 .2, c .before .before .before .put-axis .ensures .same),
+    )
+
+control-points-requires-3 : tie.Need-control-points-requires-3
+control-points-requires-3 c κs = search needs
+
+put-axis-requires-3 : tie.Need-put-axis-requires-3
+put-axis-requires-3 c κs =
+    let s = c .before .before .before .before .before .before .before .before .before .before in (
+      subst (λ (p : Rows). Sampleable p (s .args .n)) (sym (c .before .control-points3 .ensures))
+          (points-sampleable (now (s .args .numbers)) (s .pre .0 .0) (s .args .side) 2 (lit< tt) (s .args .n) (s .pre .1 .0) (s .pre .1 .1)),
+      lit< tt,
+      omega (arith, count-is (s .args .n), s .pre .1 .2, c .before .before .before .put-axis2 .ensures .same, c .before .before .before .before .before .before .before .put-axis .ensures .same),
+    )
+
+same-length : tie.Need-same-length
+same-length c = search needs
+
+returns : tie.Need-returns
+returns c =
+    let s = c .before .before .before .before .before .before .before .before .before .before .before .before in
+    let n = s .args .n in
+    triangle-put (now (s .args .numbers)) (s .pre .0 .0) (s .args .side) n (s .pre .1 .0) (s .pre .1 .1) (now (s .args .points)) _ _ _
+    (moved (c .before .before .before .before .before .before .before .before .before .before .before .control-points .ensures) (c .before .before .before .before .before .before .before .before .before .put-axis .ensures))
+    (moved (c .before .before .before .before .before .before .before .control-points2 .ensures) (c .before .before .before .before .before .put-axis2 .ensures))
+    (moved (c .before .before .before .control-points3 .ensures) (c .before .put-axis3 .ensures))
+    (s .pre .1 .2)
+
+pub put-triangle-spec : {M : Type 1} → statement M
+put-triangle-spec = tie.close (tie.spec control-points-requires put-axis-requires control-points-requires-2 put-axis-requires-2 control-points-requires-3 put-axis-requires-3 same-length returns)

@@ -1,0 +1,72 @@
+-- `sampling::sample` meets its contract: the refusal and the point as it was, or the sample.
+-- Assumes nothing.
+use mathlib.Core.Path.{_≡_, _∙_}
+use borrow.Author.Needs.{needs}
+use native.Mathlib.Omega.{arith}
+use lib.Dec.{lit<}
+use denote.Ref.{now}
+use mir.Facts.{toZ-ofZ}
+use Rattle.paper.specs.Faults.{sound}
+use Rattle.paper.specs.Sampling.{weights, sampleVerdict, sideAt}
+use Rattle.mesh.proofs.Verdicts.{passed}
+use Rattle.sampling.proofs.Laws.{net-passed, side-passed, some-parts, few-parts, parts-sum, sample-refused, sample-done, point-is}
+use Rattle.sampling.proofs.sample.Statement.{statement}
+use Rattle.sampling.proofs.sample.Tie as tie
+
+-- after the checks
+module _ (t : tie.After-enum-told) where
+  abbrev s : tie.Start
+  s = t .before .before .before
+
+  is-sound : sampleVerdict (now (s .args .numbers)) (s .args .side) (weights (s .args .i) (s .args .j) (s .args .k) (s .args .n)) ≡ sound
+  is-sound = passed (t .before .before .check .result) (t .before .before .check .ensures) (t .enum-told .given .1)
+
+check-requires : tie.Need-check-requires
+check-requires c κs = search needs
+
+enum-known-a : tie.Need-enum-known-a
+enum-known-a c = search needs
+
+returns : tie.Need-returns
+returns c =
+    let a = c .before .a .given in
+    let k = c .before .before .before .check in
+    let s = c .before .before .before .before in
+    sample-refused (now (s .args .numbers)) (s .args .side) (weights (s .args .i) (s .args .j) (s .args .k) (s .args .n)) (now (s .args .point))
+    (k .result) (k .ensures) (a .0 .0) (a .0 .1 .0) (a .1)
+
+enum-told : tie.Need-enum-told
+enum-told c = search needs
+
+sample-on-requires : tie.Need-sample-on-requires
+sample-on-requires t κs =
+    ((net-passed (now (s t .args .numbers)) (s t .args .side) (s t .args .i) (s t .args .j) (s t .args .k) (s t .args .n) (is-sound t), side-passed (now (s t .args .numbers)) (s t .args .side) (s t .args .i) (s t .args .j) (s t .args .k) (s t .args .n) (is-sound t), lit< tt), (some-parts (now (s t .args .numbers)) (s t .args .side) (s t .args .i) (s t .args .j) (s t .args .k) (s t .args .n) (is-sound t), few-parts (now (s t .args .numbers)) (s t .args .side) (s t .args .i) (s t .args .j) (s t .args .k) (s t .args .n) (is-sound t), omega (arith, parts-sum (now (s t .args .numbers)) (s t .args .side) (s t .args .i) (s t .args .j) (s t .args .k) (s t .args .n) (is-sound t))))
+
+sample-on-requires-2 : tie.Need-sample-on-requires-2
+sample-on-requires-2 c κs =
+    let t = c .before in
+    ((net-passed (now (s t .args .numbers)) (s t .args .side) (s t .args .i) (s t .args .j) (s t .args .k) (s t .args .n) (is-sound t), side-passed (now (s t .args .numbers)) (s t .args .side) (s t .args .i) (s t .args .j) (s t .args .k) (s t .args .n) (is-sound t), lit< tt), (some-parts (now (s t .args .numbers)) (s t .args .side) (s t .args .i) (s t .args .j) (s t .args .k) (s t .args .n) (is-sound t), few-parts (now (s t .args .numbers)) (s t .args .side) (s t .args .i) (s t .args .j) (s t .args .k) (s t .args .n) (is-sound t), omega (arith, parts-sum (now (s t .args .numbers)) (s t .args .side) (s t .args .i) (s t .args .j) (s t .args .k) (s t .args .n) (is-sound t))))
+
+sample-on-requires-3 : tie.Need-sample-on-requires-3
+sample-on-requires-3 c κs =
+    let t = c .before .before in
+    ((net-passed (now (s t .args .numbers)) (s t .args .side) (s t .args .i) (s t .args .j) (s t .args .k) (s t .args .n) (is-sound t), side-passed (now (s t .args .numbers)) (s t .args .side) (s t .args .i) (s t .args .j) (s t .args .k) (s t .args .n) (is-sound t), lit< tt), (some-parts (now (s t .args .numbers)) (s t .args .side) (s t .args .i) (s t .args .j) (s t .args .k) (s t .args .n) (is-sound t), few-parts (now (s t .args .numbers)) (s t .args .side) (s t .args .i) (s t .args .j) (s t .args .k) (s t .args .n) (is-sound t), omega (arith, parts-sum (now (s t .args .numbers)) (s t .args .side) (s t .args .i) (s t .args .j) (s t .args .k) (s t .args .n) (is-sound t))))
+
+put-point-requires : tie.Need-put-point-requires
+put-point-requires c κs = search needs
+
+returns-2 : tie.Need-returns-2
+returns-2 c =
+    let t = c .before .before .before .before .before in
+    let u = s t in
+    let w = weights (u .args .i) (u .args .j) (u .args .k) (u .args .n) in
+    let q = parts-sum (now (s t .args .numbers)) (s t .args .side) (s t .args .i) (s t .args .j) (s t .args .k) (s t .args .n) (is-sound t) in
+    sample-done (now (u .args .numbers)) (u .args .side) w (now (u .args .point)) _ (is-sound t)
+    (c .put-point .ensures
+    ∙ point-is (now (u .args .numbers)) (sideAt (u .args .side)) w _ _ _
+    (toZ-ofZ (search needs) ∙ c .before .before .before .before .sample-on .ensures (u .args .i) q)
+    (toZ-ofZ (search needs) ∙ c .before .before .before .sample-on2 .ensures (u .args .i) q)
+    (toZ-ofZ (search needs) ∙ c .before .before .sample-on3 .ensures (u .args .i) q))
+
+pub sample-spec : {M : Type 1} → statement M
+sample-spec = tie.close (tie.spec check-requires enum-known-a returns enum-told sample-on-requires sample-on-requires-2 sample-on-requires-3 put-point-requires returns-2)

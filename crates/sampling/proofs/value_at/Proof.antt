@@ -1,0 +1,65 @@
+-- `sampling::value_at` meets its contract: after x turns the state is that at x.
+-- Assumes nothing.
+use mathlib.Core.Path.{_≡_, sym, ap, _∙_, subst}
+use Prim.Native.Nat.{ℕ, _+_, _-_, _*_, _^_, _≤_}
+use native.Mathlib.Omega.{arith}
+use borrow.Author.Needs.{needs}
+use lib.Dec.{lit≤}
+use lib.IntN.{ℤ, natAbs}
+use Rattle.bernstein.specs.declared.Five.{Five}
+use Rattle.bernstein.specs.Sums.{Sized, stateOf, valueOf, stepOf}
+use Rattle.bernstein.proofs.Laws.{state-size, tapered-size, sized-bits}
+use Rattle.bernstein.proofs.Identity.{state-step}
+use Rattle.sampling.proofs.value_at.Statement.{statement}
+use Rattle.sampling.proofs.value_at.Tie as tie
+
+abbrev Inv-loop : tie.InvT-loop
+Inv-loop j g₀ x₀ g x = (x ≤ j) × ((e : Five) → g₀ ≡ stateOf e 0 → g ≡ stateOf e x)
+
+abbrev μ-loop : tie.MeasureT-loop
+μ-loop j g₀ x₀ g x = j - x
+
+module _ (t : tie.At-loop Inv-loop μ-loop) where
+  abbrev p : tie.Start Inv-loop μ-loop
+  p = t .before .before
+
+  is : t .loop .g ≡ stateOf (p .args .e) (t .loop .x)
+  is = t .loop .inv .1 _ (t .before .ahead .ensures)
+
+  sized : Sized (2 ^ 60) (t .loop .g)
+  sized =
+      subst (λ (g : Five). Sized (2 ^ 60) g) (sym is)
+      (state-size (p .args .e) (t .loop .x) (5 * 2 ^ 34) (omega (arith, t .loop .inv .0, p .pre .1)) (p .pre .0) (lit≤ tt))
+
+ahead-requires : tie.Need-ahead-requires Inv-loop μ-loop
+ahead-requires c κs = tapered-size (c .args .e) (5 * 2 ^ 34) (c .pre .0) (lit≤ tt)
+
+loop-holds : tie.Need-loop-holds Inv-loop μ-loop
+loop-holds c = (omega arith, λ e h. h)
+
+step-requires : tie.Need-step-requires Inv-loop μ-loop
+step-requires c κs = sized (c .before)
+
+add-x : tie.Need-add-x Inv-loop μ-loop
+add-x c = search needs
+
+loop-less : tie.Need-loop-less Inv-loop μ-loop
+loop-less c = search needs
+
+loop-again : tie.Need-loop-again Inv-loop μ-loop
+loop-again c =
+    let l = c .before .before .loop in
+    (omega arith, λ e h. c .step .ensures ∙ ap stepOf (l .inv .1 e h) ∙ state-step e (l .x))
+
+value-same : (e : Five) (g : Five) (x j : ℕ) → g ≡ stateOf e x → x ≡ j → g .a ≡ valueOf e j
+unfolding stateOf
+value-same e g x j h q = ap (λ (f : Five). f .a) h ∙ ap (valueOf e) q
+
+returns : tie.Need-returns Inv-loop μ-loop
+returns c =
+    let t = c .before .before in
+    sized-bits (t .loop .g .a) (2 ^ 60) (sized t .0) (lit≤ tt)
+    ∙ value-same (t .before .before .args .e) (t .loop .g) (t .loop .x) (t .before .before .args .j) (is t) (omega (arith, t .loop .inv .0))
+
+pub value-at-spec : {M : Type 1} → statement M
+value-at-spec = tie.close (tie.spec Inv-loop μ-loop ahead-requires loop-holds step-requires add-x loop-less loop-again returns)

@@ -1,0 +1,57 @@
+-- Where a triangle's control points stand among the 41, and where its samples stand in a list.
+-- Assumes nothing.
+use mathlib.Core.Path.{_≡_}
+use mathlib.Core.List.{List}
+use Prim.Native.Nat.{ℕ, zero, suc, _+_, _-_, _*_, _^_, _≤_, _<_}
+use lib.ListN.{length, getD}
+use lib.IntN.{ℤ, pos, natAbs}
+use Rattle.paper.specs.Numbers.{round}
+use Rattle.bernstein.specs.declared.Five.{Five}
+use Rattle.bernstein.specs.declared.Rows.{Rows}
+use Rattle.bernstein.specs.Sums.{AllSized, Tapered, valueOf, quarticSum}
+
+-- ---- the b points and the a points of a side's triangle, by the rows inwards and along the row from the head
+abbrev pub bPlace : ℕ → ℕ → ℕ → ℕ
+bPlace zero inward along = 6 * inward + along
+bPlace (suc zero) inward along = 24 - 6 * inward - 5 * along
+bPlace (suc (suc zero)) inward along = 24 - 6 * inward - along
+bPlace (suc (suc (suc n))) inward along = 6 * inward + 5 * along
+
+abbrev pub aPlace : ℕ → ℕ → ℕ → ℕ
+aPlace zero inward along = 25 + 5 * inward + along
+aPlace (suc zero) inward along = 40 - 5 * inward - 4 * along
+aPlace (suc (suc zero)) inward along = 40 - 5 * inward - along
+aPlace (suc (suc (suc n))) inward along = 25 + 5 * inward + 4 * along
+
+-- ---- control points that can be sampled in n parts: no sum of theirs is too large
+pub record Sampleable (p : Rows) (n : ℕ) : Type 0 where
+  pub sized : AllSized (2 ^ 27) p
+  pub some : 1 ≤ n
+  pub few : n ≤ 16
+  pub small : (i j k : ℕ) → i + j + k ≡ n → natAbs (quarticSum p (pos i) (pos j) (pos k)) ≤ 2 ^ 27 * n ^ 4
+
+-- a row of them
+pub record RowSampleable (e : Five) (n count : ℕ) : Type 0 where
+  pub tapers : Tapered (5 * 2 ^ 34) e
+  pub some : 1 ≤ n
+  pub few : n ≤ 16
+  pub short : count ≤ 17
+  pub small : (j : ℕ) → j < count → natAbs (valueOf e j) ≤ 2 ^ 27 * n ^ 4
+
+-- ---- every third number from `from` on, `count` of them, is a value of e over n^4; the others are as before
+pub record RowPut (e : Five) (n count from : ℕ) (old new : List ℤ) : Type 0 where
+  pub same : length new ≡ length old
+  pub values : (j : ℕ) → j < count → getD new (from + 3 * j) (pos 0) ≡ round (valueOf e j) (pos (n ^ 4))
+  pub others : (t : ℕ) → ((j : ℕ) → j < count → t ≡ from + 3 * j → ⊥) → getD new t (pos 0) ≡ getD old t (pos 0)
+
+-- the samples before row k of a triangle in n parts
+unfoldable pub before : ℕ → ℕ → ℕ
+before n zero = 0
+before n (suc k) = before n k + (n - k + 1)
+
+-- the first `rows` rows of samples on an axis are written; the other numbers are as before
+pub record RowsPut (p : Rows) (n axis rows : ℕ) (old new : List ℤ) : Type 0 where
+  pub same : length new ≡ length old
+  pub values : (k j : ℕ) → k < rows → k + j ≤ n
+      → getD new (3 * (before n k + j) + axis) (pos 0) ≡ round (quarticSum p (pos (n - k - j)) (pos j) (pos k)) (pos (n ^ 4))
+  pub others : (t : ℕ) → ((u : ℕ) → u < before n rows → t ≡ 3 * u + axis → ⊥) → getD new t (pos 0) ≡ getD old t (pos 0)

@@ -1,0 +1,310 @@
+// L12: the point of one of a quad-net's four triangles at weights i/n, j/n, k/n. Checks 18, 19, 32 and 33, then one sample, or all samples of the
+// triangle into a lent list. Nothing is written before the last check has passed.
+use bernstein::Five;
+use bernstein::Rows;
+use paper::Answer;
+use paper::MOST_PARTS;
+ghost use mathlib.Core.Path.{_≡_};
+ghost use Prim.Native.Nat.{ℕ, _+_, _*_, _^_, _≤_, _<_};
+ghost use lib.ListN.{length};
+ghost use lib.IntN.{pos, natAbs};
+ghost use mathlib.Core.Bool.{not};
+ghost use Rattle.paper.specs.Numbers.{round};
+ghost use Rattle.paper.specs.Faults.{sound, stated};
+ghost use Rattle.paper.specs.File.{begins};
+ghost use Rattle.paper.specs.Floats.{netVerdict, axes};
+ghost use Rattle.paper.specs.Sampling.{weights, onAxis, control, sampleAt, fault33, sampleVerdict, sideAt, Sampled, sampleCount, triangleSamples, TriangleSampled};
+ghost use Rattle.bernstein.specs.Sums.{AllSized, Tapered, rowsOf, polynomialOf, rowOf, valueOf, quarticSum};
+ghost use Rattle.sampling.specs.Grid.{bPlace, aPlace, before, Sampleable, RowSampleable, RowPut, RowsPut};
+
+// Our own number for a lent list that is too short.
+const NO_ROOM: u8 = 255;
+
+// One sample.
+pub fn sample(
+    numbers: &[i32],
+    side: usize,
+    i: usize,
+    j: usize,
+    k: usize,
+    n: usize,
+    point: &mut [i32; 3],
+) -> Answer
+    ensures { λ r. ⌜ Sampled (now (numbers .entry)) side (weights i j k n) (now (point .entry)) r (now (point .exit)) ⌝ }
+{
+    let a = check(numbers, side, i, j, k, n);
+    if let Answer::Refused(number, place) = a {
+        return Answer::Refused(number, place);
+    }
+    let x = sample_on(numbers, side, 0, j, k, n);
+    let y = sample_on(numbers, side, 1, j, k, n);
+    let z = sample_on(numbers, side, 2, j, k, n);
+    put_point(point, x, y, z);
+    Answer::Done
+}
+
+// x, y and z.
+fn put_point(point: &mut [i32], x: i32, y: i32, z: i32)
+    requires { ⌜ length (now point) ≡ 3 ⌝ }
+    ensures { λ _. ⌜ now (point .exit) ≡ axes x y z ⌝ }
+{
+    point[0] = x;
+    point[1] = y;
+    point[2] = z;
+}
+
+// All samples of a triangle, in rows from the side inwards and each row from the head, into the beginning of a lent list.
+pub fn sample_triangle(numbers: &[i32], side: usize, n: usize, points: &mut [i32]) -> Answer
+    ensures { λ r. ⌜ TriangleSampled (now (numbers .entry)) side n (now (points .entry)) r (now (points .exit)) ⌝ }
+{
+    let a = check(numbers, side, n, 0, 0, n);
+    if let Answer::Refused(number, place) = a {
+        return Answer::Refused(number, place);
+    }
+    let needed = 3 * ((n + 1) * (n + 2) / 2);
+    if points.len() < needed {
+        return Answer::Refused(NO_ROOM, needed);
+    }
+    put_triangle(numbers, side, n, points);
+    Answer::Done
+}
+
+// All its samples, axis by axis.
+fn put_triangle(numbers: &[i32], side: usize, n: usize, points: &mut [i32])
+    requires net { ⌜ (netVerdict (now numbers) ≡ sound) × (side ≤ 3) ⌝ }
+    requires parts { ⌜ (1 ≤ n) × (n ≤ 16) × (3 * sampleCount n ≤ length (now points)) ⌝ }
+    ensures { λ _. ⌜ now (points .exit) ≡ begins (triangleSamples (now (numbers .entry)) (sideAt side) n) (now (points .entry)) ⌝ }
+{
+    put_axis(control_points(numbers, side, 0), n, points, 0);
+    put_axis(control_points(numbers, side, 1), n, points, 1);
+    put_axis(control_points(numbers, side, 2), n, points, 2);
+}
+
+// Checks 18, 19, 32 and 33. The first two are those of a control point in floats, of which point 0 always passes the third.
+fn check(numbers: &[i32], side: usize, i: usize, j: usize, k: usize, n: usize) -> Answer
+    ensures { λ r. ⌜ stated r ≡ sampleVerdict (now (numbers .entry)) side (weights i j k n) ⌝ }
+{
+    let a = floats::check(numbers, 0);
+    if let Answer::Refused(number, place) = a {
+        return Answer::Refused(number, place);
+    }
+    if 3 < side {
+        return Answer::Refused(32, side);
+    }
+    if !is_whole(i, j, k, n) {
+        return Answer::Refused(33, n);
+    }
+    Answer::Done
+}
+
+// Whether n is from 1 to 16 and the three weights make it. No sum is formed that could wrap.
+fn is_whole(i: usize, j: usize, k: usize, n: usize) -> bool
+    ensures { λ r. ⌜ not r ≡ fault33 (weights i j k n) ⌝ }
+{
+    if n < 1 || MOST_PARTS < n {
+        return false;
+    }
+    if n < i {
+        return false;
+    }
+    if n - i < j {
+        return false;
+    }
+    n - i - j == k
+}
+
+// The sample on one axis; the first weight is what is left.
+fn sample_on(numbers: &[i32], side: usize, axis: usize, j: usize, k: usize, n: usize) -> i32
+    requires net { ⌜ (netVerdict (now numbers) ≡ sound) × (side ≤ 3) × (axis < 3) ⌝ }
+    requires parts { ⌜ (1 ≤ n) × (n ≤ 16) × (j + k ≤ n) ⌝ }
+    ensures { λ r. ⌜ ((i : ℕ) → i + j + k ≡ n → r ≡ sampleAt (now (numbers .entry)) (sideAt side) (weights i j k n) axis) ⌝ }
+{
+    let p = control_points(numbers, side, axis);
+    let e = row_at(p, k, n);
+    let v = value_at(e, j);
+    bernstein::rounded(v, n)
+}
+
+// The polynomial of row k.
+fn row_at(p: Rows, k: usize, n: usize) -> Five
+    requires { ⌜ AllSized (2 ^ 27) p × (k ≤ 16) × (n ≤ 16) ⌝ }
+    ensures { λ r. ⌜ r ≡ rowOf (polynomialOf p (pos n)) k ⌝ }
+{
+    let mut s = bernstein::start(p, n);
+    let mut x = 0;
+    while x < k {
+        s = bernstein::next(s);
+        x += 1;
+    }
+    bernstein::row(s)
+}
+
+// Its value at j.
+fn value_at(e: Five, j: usize) -> i64
+    requires { ⌜ Tapered (5 * 2 ^ 34) e × (j ≤ 16) ⌝ }
+    ensures { λ r. ⌜ r ≡ valueOf e j ⌝ }
+{
+    let mut g = bernstein::ahead(e);
+    let mut x = 0;
+    while x < j {
+        g = bernstein::step(g);
+        x += 1;
+    }
+    g.a
+}
+
+// The samples of all rows on one axis, every third number of the list.
+fn put_axis(p: Rows, n: usize, points: &mut [i32], axis: usize)
+    requires { ⌜ Sampleable p n × (axis < 3) × (3 * before n (n + 1) ≤ length (now points)) ⌝ }
+    ensures { λ _. ⌜ RowsPut p n axis (n + 1) (now (points .entry)) (now (points .exit)) ⌝ }
+{
+    let mut s = bernstein::start(p, n);
+    let mut at = axis;
+    let mut k = 0;
+    while k <= n {
+        let count = n - k + 1;
+        let e = bernstein::row(s);
+        put_row(e, n, count, points, at);
+        at += 3 * count;
+        s = bernstein::next(s);
+        k += 1;
+    }
+}
+
+// The samples of one row, from value to value by differences.
+fn put_row(e: Five, n: usize, count: usize, points: &mut [i32], from: usize)
+    requires { ⌜ RowSampleable e n count × (from + 3 * count ≤ length (now points) + 2) ⌝ }
+    ensures { λ _. ⌜ RowPut e n count from (now (points .entry)) (now (points .exit)) ⌝ }
+{
+    let mut g = bernstein::ahead(e);
+    let mut j = 0;
+    while j < count {
+        let v = bernstein::rounded(g.a, n);
+        points[from + 3 * j] = v;
+        g = bernstein::step(g);
+        j += 1;
+    }
+}
+
+// The 15 control points of a side's triangle on an axis, in rows from the side inwards and each row from the head.
+fn control_points(numbers: &[i32], side: usize, axis: usize) -> Rows
+    requires { ⌜ (netVerdict (now numbers) ≡ sound) × (side ≤ 3) × (axis < 3) ⌝ }
+    ensures { λ r. ⌜ r ≡ rowsOf (control (onAxis (now (numbers .entry)) axis) (sideAt side)) ⌝ }
+{
+    let r0 = outer_row(numbers, side, axis);
+    let r1 = a_row(numbers, side, axis);
+    let r2 = inner_row(numbers, side, axis);
+    let r3 = Five {
+        a: a_point(numbers, side, axis, 1, 0),
+        b: a_point(numbers, side, axis, 1, 1),
+        c: 0,
+        d: 0,
+        e: 0,
+    };
+    let r4 = Five {
+        a: b_point(numbers, side, axis, 2, 0),
+        b: 0,
+        c: 0,
+        d: 0,
+        e: 0,
+    };
+    Rows {
+        r0: r0,
+        r1: r1,
+        r2: r2,
+        r3: r3,
+        r4: r4,
+    }
+}
+
+// The five outer b points of the side.
+fn outer_row(numbers: &[i32], side: usize, axis: usize) -> Five
+    requires { ⌜ (netVerdict (now numbers) ≡ sound) × (side ≤ 3) × (axis < 3) ⌝ }
+    ensures { λ r. ⌜ r ≡ rowsOf (control (onAxis (now (numbers .entry)) axis) (sideAt side)) .r0 ⌝ }
+{
+    Five {
+        a: b_point(numbers, side, axis, 0, 0),
+        b: b_point(numbers, side, axis, 0, 1),
+        c: b_point(numbers, side, axis, 0, 2),
+        d: b_point(numbers, side, axis, 0, 3),
+        e: b_point(numbers, side, axis, 0, 4),
+    }
+}
+
+// Its four a points.
+fn a_row(numbers: &[i32], side: usize, axis: usize) -> Five
+    requires { ⌜ (netVerdict (now numbers) ≡ sound) × (side ≤ 3) × (axis < 3) ⌝ }
+    ensures { λ r. ⌜ r ≡ rowsOf (control (onAxis (now (numbers .entry)) axis) (sideAt side)) .r1 ⌝ }
+{
+    Five {
+        a: a_point(numbers, side, axis, 0, 0),
+        b: a_point(numbers, side, axis, 0, 1),
+        c: a_point(numbers, side, axis, 0, 2),
+        d: a_point(numbers, side, axis, 0, 3),
+        e: 0,
+    }
+}
+
+// Three b points of the next row.
+fn inner_row(numbers: &[i32], side: usize, axis: usize) -> Five
+    requires { ⌜ (netVerdict (now numbers) ≡ sound) × (side ≤ 3) × (axis < 3) ⌝ }
+    ensures { λ r. ⌜ r ≡ rowsOf (control (onAxis (now (numbers .entry)) axis) (sideAt side)) .r2 ⌝ }
+{
+    Five {
+        a: b_point(numbers, side, axis, 1, 0),
+        b: b_point(numbers, side, axis, 1, 1),
+        c: b_point(numbers, side, axis, 1, 2),
+        d: 0,
+        e: 0,
+    }
+}
+
+// A b point of the triangle, by the row inwards and the place along it from the head.
+fn b_point(numbers: &[i32], side: usize, axis: usize, inward: usize, along: usize) -> i64
+    requires { ⌜ (netVerdict (now numbers) ≡ sound) × (axis < 3) × (side ≤ 3) × (2 * inward + along ≤ 4) ⌝ }
+    ensures { λ r. ⌜ (r ≡ onAxis (now (numbers .entry)) axis (bPlace side inward along)) × (natAbs r ≤ 2 ^ 27) ⌝ }
+{
+    number(numbers, b_place(side, inward, along), axis)
+}
+
+// An a point likewise.
+fn a_point(numbers: &[i32], side: usize, axis: usize, inward: usize, along: usize) -> i64
+    requires { ⌜ (netVerdict (now numbers) ≡ sound) × (axis < 3) × (side ≤ 3) × (2 * inward + along ≤ 3) ⌝ }
+    ensures { λ r. ⌜ (r ≡ onAxis (now (numbers .entry)) axis (aPlace side inward along)) × (natAbs r ≤ 2 ^ 27) ⌝ }
+{
+    number(numbers, a_place(side, inward, along), axis)
+}
+
+// A point's number on an axis.
+fn number(numbers: &[i32], point: usize, axis: usize) -> i64
+    requires { ⌜ (netVerdict (now numbers) ≡ sound) × (axis < 3) × (point ≤ 40) ⌝ }
+    ensures { λ r. ⌜ (r ≡ onAxis (now (numbers .entry)) axis point) × (natAbs r ≤ 2 ^ 27) ⌝ }
+{
+    let z = numbers[3 * point + axis];
+    z as i64
+}
+
+// Which of the 41 points that is. Sides 1 and 2 have their head at the end of the b rows, sides 1 and 3 run across the rows.
+fn b_place(side: usize, inward: usize, along: usize) -> usize
+    requires { ⌜ (side ≤ 3) × (2 * inward + along ≤ 4) ⌝ }
+    ensures { λ r. ⌜ (r ≡ bPlace side inward along) × (r ≤ 24) ⌝ }
+{
+    match side {
+        0 => 6 * inward + along,
+        1 => 24 - 6 * inward - 5 * along,
+        2 => 24 - 6 * inward - along,
+        _ => 6 * inward + 5 * along,
+    }
+}
+
+fn a_place(side: usize, inward: usize, along: usize) -> usize
+    requires { ⌜ (side ≤ 3) × (2 * inward + along ≤ 3) ⌝ }
+    ensures { λ r. ⌜ (r ≡ aPlace side inward along) × (r ≤ 40) ⌝ }
+{
+    match side {
+        0 => 25 + 5 * inward + along,
+        1 => 40 - 5 * inward - 4 * along,
+        2 => 40 - 5 * inward - along,
+        _ => 25 + 5 * inward + 4 * along,
+    }
+}
