@@ -16,7 +16,7 @@ use lib.Ieee.Back.{round-whole, whole-unique}
 use lib.Ieee.Exact.{HasValue, round-exact}
 use lib.Ieee.Fits.{ofInt-fits, fits-widens, down-pos, and-i}
 use Rattle.paper.specs.Numbers.{floor}
-use Rattle.paper.specs.Floats.{first, second, readBack, FarPair}
+use Rattle.paper.specs.Floats.{farFirst, farSecond, readBack, FarPair}
 use Rattle.integers.proofs.Diff.{diff}
 use Rattle.integers.proofs.Poly.{over, poly}
 use Rattle.integers.proofs.Floor.{floor-is}
@@ -76,7 +76,7 @@ back (pos n) v h = back-plus (ofInt binary32 (pos n)) n v h
 back (negsuc n) v h = back-minus (ofInt binary32 (negsuc n)) n v h
 
 pub float-of : (z : ℤ) → Carried binary32 z → natAbs z < 2 ^ 31 → FloatOf z (ofInt binary32 z)
-float-of z v h = record { reads = back z v h; plain = sym (ap (ofInt binary32) (back z v h)) }
+float-of z v h = record { reads = back z v h; whole = sym (ap (ofInt binary32) (back z v h)) }
 
 -- ---- the f64 of a number that an f32 carries is the f32: a cast between them loses nothing
 one-float : (z : ℤ) → Carried binary32 z → Carried binary64 z → ofInt binary64 z ≡ ofInt binary32 z
@@ -108,8 +108,8 @@ unfolding floor
 quotient-size (pos a) h = omega (arith, div-add-mod a 4096)
 quotient-size (negsuc a) h = omega (arith, div-add-mod a 4096)
 
-pub first-carried : (d : ℤ) → natAbs d ≤ 2 ^ 28 → Carried binary32 (first d)
-unfolding first
+pub first-carried : (d : ℤ) → natAbs d ≤ 2 ^ 28 → Carried binary32 (farFirst d)
+unfolding farFirst
 first-carried d h = multiple-carried (floor d (pos 4096)) (omega (arith, quotient-size d h))
 
 small : (z : ℤ) → pos 0 ≤ℤ z → z <ℤ pos 4096 → (n : ℕ) × (z ≡ pos n) × (n ≤ 4095)
@@ -125,18 +125,18 @@ below = over 2 _ λ ρ. simp (poly, ρ) (omega arith)
 adds : (h d : ℤ) → h +ℤ (d -ℤ h) ≡ d
 adds = over 2 _ λ ρ. simp poly (omega arith)
 
-pub far-pair : (d : ℤ) → FarPair d (first d) (second d)
-unfolding first second
+pub far-pair : (d : ℤ) → FarPair d (farFirst d) (farSecond d)
+unfolding farFirst farSecond
 far-pair d =
     let h = pos 4096 *ℤ floor d (pos 4096) in
     let f = floor-is d (pos 4096) (simp diff (omega arith)) in
     record { multiple = (floor d (pos 4096), refl); rest = small (d -ℤ h) (from h d (f .0)) (below h d (f .1)); sum = adds h d }
 
-pub second-size : (d : ℤ) → natAbs (second d) ≤ 4095
+pub second-size : (d : ℤ) → natAbs (farSecond d) ≤ 4095
 second-size d = let r = far-pair d .rest in subst (λ (z : ℤ). natAbs z ≤ 4095) (sym (r .1)) (r .2)
 
 first-from : (d h l : ℤ) → h +ℤ l ≡ d → natAbs d ≤ 2 ^ 28 → natAbs l ≤ 4095 → natAbs h ≤ 2 ^ 28 + 4095
 first-from = over 3 _ λ ρ. simp (poly, ρ) (omega arith)
 
-pub first-size : (d : ℤ) → natAbs d ≤ 2 ^ 28 → natAbs (first d) ≤ 2 ^ 28 + 4095
-first-size d h = first-from d (first d) (second d) (far-pair d .sum) h (second-size d)
+pub first-size : (d : ℤ) → natAbs d ≤ 2 ^ 28 → natAbs (farFirst d) ≤ 2 ^ 28 + 4095
+first-size d h = first-from d (farFirst d) (farSecond d) (far-pair d .sum) h (second-size d)

@@ -17,7 +17,7 @@ use mir.ValLaws.{toZ-ofZ, toZ-pos}
 use borrow.Author.Tests.{leb-true, ltb-true, ltb-false, eqb-true, not-false, le-leb, lt-leb}
 use Rattle.paper.specs.Numbers.{floor}
 use Rattle.paper.specs.Faults.{Verdict, sound, fault, _orElse_, single, lowestOf, stated}
-use Rattle.paper.specs.Floats.{within, fault18, fault19, fault20, netVerdict, pointVerdict, difference, isNear, first, second}
+use Rattle.paper.specs.Floats.{within, fault18, fault19, fault20, netVerdict, pointVerdict, difference, isNear, farFirst, farSecond}
 use Rattle.paper.specs.Floats.{axes, parts, near, far, unless, split, pointOf, readBack, Pointed}
 use Rattle.paper.specs.declared.Floats.{Floats}
 use Rattle.paper.specs.declared.Answer.{Answer}
@@ -177,8 +177,8 @@ module _ (a b : ℤ) (ha : natAbs a ≤ 2 ^ 27) (hb : natAbs b ≤ 2 ^ 27) where
   less-size = rw less-is (apart a b ha hb)
 
 -- ---- the parts of a difference
-shift-floor : (z : ℤ) → shrZ z 4096 *ℤ pos 4096 ≡ first z
-unfolding floor first
+shift-floor : (z : ℤ) → shrZ z 4096 *ℤ pos 4096 ≡ farFirst z
+unfolding floor farFirst
 shift-floor (pos a) = mul-comm (pos (a / 4096)) (pos 4096)
 shift-floor (negsuc a) = mul-comm (negsuc (a / 4096)) (pos 4096)
 
@@ -198,13 +198,13 @@ module _ (d : ℤ) (h : natAbs d ≤ 2 ^ 28) where
   q-bits : toZ w32 (ofZ w32 (shrZ (toZ w32 (ofZ w32 d)) 4096)) ≡ shrZ d 4096
   q-bits = rw d-bits (toZ-ofZ w32 (shrZ d 4096) (abs-fits w32 (shrZ d 4096) (2 ^ 28) (shift-size d h) (lit< tt)))
 
-  first-fits : SFits w32 (first d)
-  first-fits = abs-fits w32 (first d) (2 ^ 28 + 4095) (first-size d h) (lit< tt)
+  first-fits : SFits w32 (farFirst d)
+  first-fits = abs-fits w32 (farFirst d) (2 ^ 28 + 4095) (first-size d h) (lit< tt)
 
   pub multiple-fits : SFits w32 (toZ w32 (ofZ w32 (shrZ (toZ w32 (ofZ w32 d)) 4096)) *ℤ pos 4096)
   multiple-fits = rw (q-bits, shift-floor d) first-fits
 
-  pub multiple-is : toZ w32 (ofZ w32 (toZ w32 (ofZ w32 (shrZ (toZ w32 (ofZ w32 d)) 4096)) *ℤ pos 4096)) ≡ first d
+  pub multiple-is : toZ w32 (ofZ w32 (toZ w32 (ofZ w32 (shrZ (toZ w32 (ofZ w32 d)) 4096)) *ℤ pos 4096)) ≡ farFirst d
   multiple-is = toZ-ofZ w32 _ multiple-fits ∙ rw (q-bits, shift-floor d)
 
   -- near: the difference itself
@@ -215,33 +215,33 @@ module _ (d : ℤ) (h : natAbs d ≤ 2 ^ 28) where
   near-first b k e = rw (e, d-bits) (float-of d (whole-carried binary32 d (k e)) (omega arith))
 
   -- far: its multiple of 4,096, and what is left
-  module _ (m : ℤ) (e : m ≡ first (toZ w32 (ofZ w32 d))) where
-    m-is : m ≡ first d
-    m-is = e ∙ ap first d-bits
+  module _ (m : ℤ) (e : m ≡ farFirst (toZ w32 (ofZ w32 d))) where
+    m-is : m ≡ farFirst d
+    m-is = e ∙ ap farFirst d-bits
 
-    multiple-bits : toZ w32 (ofZ w32 m) ≡ first d
-    multiple-bits = rw m-is (toZ-ofZ w32 (first d) first-fits)
+    multiple-bits : toZ w32 (ofZ w32 m) ≡ farFirst d
+    multiple-bits = rw m-is (toZ-ofZ w32 (farFirst d) first-fits)
 
     pub multiple-narrows : T (fits binary32 (ofInt binary64 (toZ w32 (ofZ w32 m))) && not (isNan (ofInt binary64 (toZ w32 (ofZ w32 m)))))
-    multiple-narrows = rw multiple-bits (narrows (first d) (first-carried d h) (omega (arith, first-size d h)))
+    multiple-narrows = rw multiple-bits (narrows (farFirst d) (first-carried d h) (omega (arith, first-size d h)))
 
     pub far-first : (b : Bool) → b ≡ false → FloatOf (firstPart b d) (ofInt binary64 (toZ w32 (ofZ w32 m)))
-    far-first b f = rw (f, multiple-bits) (narrow-float-of (first d) (first-carried d h) (omega (arith, first-size d h)))
+    far-first b f = rw (f, multiple-bits) (narrow-float-of (farFirst d) (first-carried d h) (omega (arith, first-size d h)))
 
     pub rest-fits : SFits w32 (toZ w32 (ofZ w32 d) -ℤ toZ w32 (ofZ w32 m))
-    unfolding second
-    rest-fits = rw (d-bits, multiple-bits) (abs-fits w32 (second d) 4095 (second-size d) (lit< tt))
+    unfolding farSecond
+    rest-fits = rw (d-bits, multiple-bits) (abs-fits w32 (farSecond d) 4095 (second-size d) (lit< tt))
 
-    rest-is : toZ w32 (ofZ w32 (toZ w32 (ofZ w32 d) -ℤ toZ w32 (ofZ w32 m))) ≡ second d
-    unfolding second
+    rest-is : toZ w32 (ofZ w32 (toZ w32 (ofZ w32 d) -ℤ toZ w32 (ofZ w32 m))) ≡ farSecond d
+    unfolding farSecond
     rest-is = toZ-ofZ w32 _ rest-fits ∙ rw (d-bits, multiple-bits)
 
     pub rest-in : T (inFloat binary32 (toZ w32 (ofZ w32 (toZ w32 (ofZ w32 d) -ℤ toZ w32 (ofZ w32 m)))))
-    rest-in = rw rest-is (in-float (second d) (omega (arith, second-size d)))
+    rest-in = rw rest-is (in-float (farSecond d) (omega (arith, second-size d)))
 
-    pub rest-float : FloatOf (second d) (ofInt binary32 (toZ w32 (ofZ w32 (toZ w32 (ofZ w32 d) -ℤ toZ w32 (ofZ w32 m)))))
+    pub rest-float : FloatOf (farSecond d) (ofInt binary32 (toZ w32 (ofZ w32 (toZ w32 (ofZ w32 d) -ℤ toZ w32 (ofZ w32 m)))))
     rest-float =
-        rw rest-is (float-of (second d) (whole-carried binary32 (second d) (omega (arith, second-size d))) (omega (arith, second-size d)))
+        rw rest-is (float-of (farSecond d) (whole-carried binary32 (farSecond d) (omega (arith, second-size d))) (omega (arith, second-size d)))
 
 -- ---- the two cases
 axes-same : (x y z x' y' z' : ℤ) → x ≡ x' → y ≡ y' → z ≡ z' → axes x y z ≡ axes x' y' z'
@@ -256,19 +256,19 @@ module _ (x y z : ℤ) (t : Bool) (e : t ≡ isNear x y z) (p : Floats)
             ap near (axes-same _ _ _ x y z (fx .reads ∙ ap (λ (b : Bool). firstPart b x) h) (fy .reads ∙ ap (λ (b : Bool). firstPart b y) h)
             (fz .reads ∙ ap (λ (b : Bool). firstPart b z) h))
             ∙ ap (λ (b : Bool). parts b x y z) (sym h ∙ e);
-        plain = (fx .plain, fy .plain, fz .plain);
+        whole = (fx .whole, fy .whole, fz .whole);
       }
 
-  split-far : (q : Floats) → FloatOf (second x) (q .x) → FloatOf (second y) (q .y) → FloatOf (second z) (q .z) → t ≡ false → SplitTo x y z (Far p q)
+  split-far : (q : Floats) → FloatOf (farSecond x) (q .x) → FloatOf (farSecond y) (q .y) → FloatOf (farSecond z) (q .z) → t ≡ false → SplitTo x y z (Far p q)
   split-far q gx gy gz h =
       record {
         answers =
             ap (λ (l : List ℤ). far l (axes (readBack (q .x)) (readBack (q .y)) (readBack (q .z))))
-            (axes-same _ _ _ (first x) (first y) (first z) (fx .reads ∙ ap (λ (b : Bool). firstPart b x) h)
+            (axes-same _ _ _ (farFirst x) (farFirst y) (farFirst z) (fx .reads ∙ ap (λ (b : Bool). firstPart b x) h)
             (fy .reads ∙ ap (λ (b : Bool). firstPart b y) h) (fz .reads ∙ ap (λ (b : Bool). firstPart b z) h))
-            ∙ ap (λ (l : List ℤ). far (axes (first x) (first y) (first z)) l) (axes-same _ _ _ _ _ _ (gx .reads) (gy .reads) (gz .reads))
+            ∙ ap (λ (l : List ℤ). far (axes (farFirst x) (farFirst y) (farFirst z)) l) (axes-same _ _ _ _ _ _ (gx .reads) (gy .reads) (gz .reads))
             ∙ ap (λ (b : Bool). parts b x y z) (sym h ∙ e);
-        plain = ((fx .plain, fy .plain, fz .plain), (gx .plain, gy .plain, gz .plain));
+        whole = ((fx .whole, fy .whole, fz .whole), (gx .whole, gy .whole, gz .whole));
       }
 
 -- of differences by their bits
@@ -286,7 +286,7 @@ module _ (x y z : ℤ) (hx : natAbs x ≤ 2 ^ 28) (hy : natAbs y ≤ 2 ^ 28) (hz
   pub near-split : t ≡ true → SplitTo x y z (Near p)
   near-split h = split-near x y z t plain-test p (plain-first x hx _ fx) (plain-first y hy _ fy) (plain-first z hz _ fz) h
 
-  pub far-split : (q : Floats) → FloatOf (second (bits x)) (q .x) → FloatOf (second (bits y)) (q .y) → FloatOf (second (bits z)) (q .z)
+  pub far-split : (q : Floats) → FloatOf (farSecond (bits x)) (q .x) → FloatOf (farSecond (bits y)) (q .y) → FloatOf (farSecond (bits z)) (q .z)
       → t ≡ false → SplitTo x y z (Far p q)
   far-split q gx gy gz h =
       split-far x y z t plain-test p (plain-first x hx _ fx) (plain-first y hy _ fy) (plain-first z hz _ fz) q
@@ -305,7 +305,7 @@ module _ (numbers : List ℤ) (point : ℕ) (a : Answer) (e : stated a ≡ point
       let v : pointVerdict numbers point ≡ fault k p = sym e ∙ ap stated q in
       record {
         answers = sym (ap (λ (w : Verdict). unless w (split (difference numbers point 0) (difference numbers point 1) (difference numbers point 2))) v);
-        plain = tt;
+        whole = tt;
       }
 
   pub point-split : a ≡ Done → (x y z : ℤ) → natAbs x ≤ 2 ^ 28 → natAbs y ≤ 2 ^ 28 → natAbs z ≤ 2 ^ 28
@@ -320,5 +320,5 @@ module _ (numbers : List ℤ) (point : ℕ) (a : Answer) (e : stated a ≡ point
         answers =
             u .answers
             ∙ sym (ap (λ (w : Verdict). unless w (split (difference numbers point 0) (difference numbers point 1) (difference numbers point 2))) v);
-        plain = u .plain;
+        whole = u .whole;
       }

@@ -11,8 +11,8 @@ use lib.ListN.{getD}
 use lib.IntN.{ℤ, pos, _+ℤ_}
 use lib.Ieee.{Float, binary32, ofInt}
 use Rattle.paper.specs.Faults.{Verdict, sound, fault}
-use Rattle.paper.specs.Floats.{fault20, netVerdict, pointVerdict, difference, isNear, Stated, near, far, refused, axes, parts, unless, split, pointOf}
-use Rattle.paper.specs.Floats.{readBack, Plain, axesBack, AxesPlain, pointStated, AllPlain, Pointed, sums}
+use Rattle.paper.specs.Floats.{fault20, netVerdict, pointVerdict, difference, isNear, PointCase, near, far, refused, axes, parts, unless, split, pointOf}
+use Rattle.paper.specs.Floats.{readBack, WholeFloat, axesBack, AxesWhole, pointStated, AllWhole, Pointed, sums}
 use Rattle.paper.specs.Claims.{FarPairs, FloatSums, OneAnswer}
 use Rattle.paper.specs.declared.Floats.{Floats}
 use Rattle.paper.specs.declared.FloatPoint.{FloatPoint}
@@ -29,7 +29,7 @@ added [] l = []
 added (a ∷ h) [] = []
 added (a ∷ h) (b ∷ l) = (a +ℤ b) ∷ added h l
 
-total : Stated → List ℤ
+total : PointCase → List ℤ
 total (near l) = l
 total (far h l) = added h l
 total (refused number place) = []
@@ -59,10 +59,10 @@ float-sums numbers point r c e l =
     ∙ total-parts (isNear x y z) x y z
 
 -- ---- one answer
-plain-same : (x y : Float) → Plain x → Plain y → readBack x ≡ readBack y → x ≡ y
+plain-same : (x y : Float) → WholeFloat x → WholeFloat y → readBack x ≡ readBack y → x ≡ y
 plain-same x y p q e = p ∙ ap (ofInt binary32) e ∙ sym q
 
-floats-same : (p q : Floats) → AxesPlain p → AxesPlain q → axesBack p ≡ axesBack q → p ≡ q
+floats-same : (p q : Floats) → AxesWhole p → AxesWhole q → axesBack p ≡ axesBack q → p ≡ q
 floats-same p q a b e =
     ap {B = Floats} (λ (v : Float). record { x = v; y = p .y; z = p .z })
     (plain-same (p .x) (q .x) (a .0) (b .0) (ap (λ (l : List ℤ). getD l 0 (pos 0)) e))
@@ -72,32 +72,32 @@ floats-same p q a b e =
     (plain-same (p .z) (q .z) (a .2) (b .2) (ap (λ (l : List ℤ). getD l 2 (pos 0)) e))
 
 -- what tells one case from another, and its values
-case : Stated → ℕ
+case : PointCase → ℕ
 case (near l) = 0
 case (far l m) = 1
 case (refused n p) = 2
 
-firsts : Stated → List ℤ
+firsts : PointCase → List ℤ
 firsts (near l) = l
 firsts (far l m) = l
 firsts (refused n p) = []
 
-seconds : Stated → List ℤ
+seconds : PointCase → List ℤ
 seconds (near l) = []
 seconds (far l m) = m
 seconds (refused n p) = []
 
-number : Stated → ℕ
+number : PointCase → ℕ
 number (near l) = 0
 number (far l m) = 0
 number (refused n p) = n
 
-place : Stated → ℕ
+place : PointCase → ℕ
 place (near l) = 0
 place (far l m) = 0
 place (refused n p) = p
 
-same-answer : (r s : FloatPoint) → AllPlain r → AllPlain s → pointStated r ≡ pointStated s → r ≡ s
+same-answer : (r s : FloatPoint) → AllWhole r → AllWhole s → pointStated r ≡ pointStated s → r ≡ s
 unfolding case firsts seconds number place
 same-answer (Near p) (Near q) a b e = ap Near (floats-same p q a b (ap firsts e))
 same-answer (Near p) (Far q q') a b e = let z : _≡_ {A = ℕ} 0 1 = ap case e in absurd (omega arith)
@@ -111,7 +111,7 @@ same-answer (Refused n m) (Far q q') a b e = let z : _≡_ {A = ℕ} 2 1 = ap ca
 same-answer (Refused n m) (Refused k l) a b e = ap (λ (i : ℕ). Refused i m) (ap number e) ∙ ap (λ (i : ℕ). Refused k i) (ap place e)
 
 pub one-answer : OneAnswer
-one-answer numbers point r s a b = same-answer r s (a .plain) (b .plain) (a .answers ∙ sym (b .answers))
+one-answer numbers point r s a b = same-answer r s (a .whole) (b .whole) (a .answers ∙ sym (b .answers))
 
 -- ---- what an answer tells of the checks
 split-case : (b : Bool) (x y z : ℤ) → case (parts b x y z) < 2
@@ -119,12 +119,12 @@ unfolding case
 split-case true x y z = omega arith
 split-case false x y z = omega arith
 
-unless-sound : (v : Verdict) (s t : Stated) → t ≡ unless v s → case t < 2 → v ≡ sound
+unless-sound : (v : Verdict) (s t : PointCase) → t ≡ unless v s → case t < 2 → v ≡ sound
 unfolding case
 unless-sound sound s t e l = refl
 unless-sound (fault n p) s t e l = let k : case t ≡ 2 = ap case e in absurd (omega arith)
 
-unless-fault : (v : Verdict) (s : Stated) → case s < 2 → (n p : ℕ) → refused n p ≡ unless v s → v ≡ fault n p
+unless-fault : (v : Verdict) (s : PointCase) → case s < 2 → (n p : ℕ) → refused n p ≡ unless v s → v ≡ fault n p
 unfolding case number place
 unless-fault sound s l n p e = let k : 2 ≡ case s = ap case e in absurd (omega arith)
 unless-fault (fault k q) s l n p e = sym (ap (λ (i : ℕ). fault i p) (ap number e) ∙ ap (λ (i : ℕ). fault k i) (ap place e))

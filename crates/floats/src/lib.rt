@@ -10,7 +10,7 @@ ghost use Prim.Native.Nat.{_≤_, _<_, _^_};
 ghost use lib.ListN.{length};
 ghost use lib.IntN.{natAbs};
 ghost use Rattle.paper.specs.Faults.{sound, stated, single, lowestOf};
-ghost use Rattle.paper.specs.Floats.{within, fault19, pointVerdict, difference, isNear, first, second, Pointed};
+ghost use Rattle.paper.specs.Floats.{within, fault19, pointVerdict, difference, isNear, farFirst, farSecond, Pointed};
 ghost use Rattle.floats.specs.Exact.{FloatOf, firstPart, SplitTo};
 
 // The largest number of a list, and the largest difference of a near point; the smallest are their negatives.
@@ -150,7 +150,7 @@ fn first(near: bool, d: i32) -> f32
 // The second float of a far difference: what is left, 0 to 4,095.
 fn second(d: i32) -> f32
     requires { ⌜ natAbs d ≤ 2 ^ 28 ⌝ }
-    ensures { λ r. ⌜ FloatOf (second d) r ⌝ }
+    ensures { λ r. ⌜ FloatOf (farSecond d) r ⌝ }
 {
     (d - multiple(d)) as f32
 }
@@ -158,7 +158,7 @@ fn second(d: i32) -> f32
 // The largest multiple of 4,096 that is not above d. A shift of a signed number rounds down.
 fn multiple(d: i32) -> i32
     requires { ⌜ natAbs d ≤ 2 ^ 28 ⌝ }
-    ensures { λ r. ⌜ r ≡ first d ⌝ }
+    ensures { λ r. ⌜ r ≡ farFirst d ⌝ }
 {
     (d >> UNIT_BITS) * UNIT
 }

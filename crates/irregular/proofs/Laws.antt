@@ -20,8 +20,9 @@ use Rattle.columns.specs.Vertices.{countHere}
 use Rattle.columns.specs.Filled.{Countable}
 use Rattle.paper.specs.declared.Irregular.{Irregular}
 use Rattle.paper.specs.declared.Irregular.the-variants.{Face, Vertex, None, Refused}
-use Rattle.paper.specs.Squares.{irregularFace, irregularVertex, Stated, face, vertex, none, refused, squaresStated, pick, lowestFace}
-use Rattle.paper.specs.Squares.{lowestVertex, found, unless, squares, Searched}
+use Rattle.paper.specs.Squares.{irregularFace, irregularVertex, SearchCase, faceFound, vertexFound}
+use Rattle.paper.specs.Squares.{noneFound, searchRefused, squaresStated, pickCase, lowestFace}
+use Rattle.paper.specs.Squares.{lowestVertex, found, searchUnless, squares, Searched}
 use Rattle.irregular.specs.Found.{Named, FacesSearched}
 
 -- ---- the tests, as the code makes them
@@ -60,13 +61,13 @@ module _ (M : Mesh) (accepted : Accepted M) where
       (few-vertices _ _ _ (s .four), few-corners _ _ _ (s .four), λ c h. named-of (vertexCount M) (M .corners) c (s .eight c h))
 
 -- ---- what the checks say, of what is answered: nothing where the search has an answer
-abbrev pub verdictOf : Stated → Verdict
-verdictOf (face f read) = sound
-verdictOf (vertex u read) = sound
-verdictOf (none read) = sound
-verdictOf (refused number place) = fault number place
+abbrev pub verdictOf : SearchCase → Verdict
+verdictOf (faceFound f read) = sound
+verdictOf (vertexFound u read) = sound
+verdictOf (noneFound read) = sound
+verdictOf (searchRefused number place) = fault number place
 
-picked-sound : (a b : Bool) (f i u j k : ℕ) → verdictOf (pick a (face f i) (pick b (vertex u j) (none k))) ≡ sound
+picked-sound : (a b : Bool) (f i u j k : ℕ) → verdictOf (pickCase a (faceFound f i) (pickCase b (vertexFound u j) (noneFound k))) ≡ sound
 picked-sound true b f i u j k = refl
 picked-sound false true f i u j k = refl
 picked-sound false false f i u j k = refl
@@ -77,7 +78,7 @@ found-sound M =
     picked-sound (someBelow (faceCount M) (irregularFace (M .sides))) (someBelow (vertexCount M) (irregularVertex (M .corners)))
     (lowestFace M) (lowestFace M + 1) (lowestVertex M) (faceCount M) (faceCount M)
 
-after-checks : (v : Verdict) (s : Stated) → verdictOf s ≡ sound → verdictOf (unless v s) ≡ v
+after-checks : (v : Verdict) (s : SearchCase) → verdictOf s ≡ sound → verdictOf (searchUnless v s) ≡ v
 after-checks sound s e = e
 after-checks (fault number place) s e = refl
 
@@ -88,13 +89,13 @@ verdict-is M r c = ap verdictOf (c .answers) ∙ after-checks (verdict M) (found
 -- ---- refused
 pub search-refused : (M : Mesh) (a : Answer) (k p : ℕ) → stated a ≡ verdict M → a ≡ Fault k p → Searched M (Refused k p)
 unfolding squares
-search-refused M a k p e q = record { answers = sym (ap (λ (v : Verdict). unless v (found M)) (sym e ∙ ap stated q)) }
+search-refused M a k p e q = record { answers = sym (ap (λ (v : Verdict). searchUnless v (found M)) (sym e ∙ ap stated q)) }
 
 -- ---- an accepted mesh: a face; a vertex, where there is no face; neither
 module _ (M : Mesh) (accepted : Accepted M) (f read : ℕ) (s : FacesSearched (M .sides) f read) where
   is-found : squares M ≡ found M
   unfolding squares
-  is-found = ap (λ (v : Verdict). unless v (found M)) accepted
+  is-found = ap (λ (v : Verdict). searchUnless v (found M)) accepted
 
   some-face : f < faceCount M → someBelow (faceCount M) (irregularFace (M .sides)) ≡ true
   unfolding someBelow

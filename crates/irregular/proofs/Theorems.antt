@@ -25,8 +25,9 @@ use Rattle.mesh.proofs.Verdicts.{sound-right}
 use Rattle.mesh.proofs.Accepted.{sound-of, sides-within, valence-within}
 use Rattle.paper.specs.declared.Irregular.{Irregular}
 use Rattle.paper.specs.declared.Irregular.the-variants.{Face, Vertex, None, Refused}
-use Rattle.paper.specs.Squares.{irregularFace, irregularVertex, Stated, face, vertex, none as nothing, refused, squaresStated, pick, lowestFace}
-use Rattle.paper.specs.Squares.{lowestVertex, found, unless, squares, Searched, otherLine, countsFaces, countsVertices, isFace, isVertex, Agreed}
+use Rattle.paper.specs.Squares.{irregularFace, irregularVertex, SearchCase, faceFound, vertexFound}
+use Rattle.paper.specs.Squares.{noneFound, searchRefused, squaresStated, pickCase, lowestFace}
+use Rattle.paper.specs.Squares.{lowestVertex, found, searchUnless, squares, Searched, otherLine, countsFaces, countsVertices, isFace, isVertex, Agreed}
 
 and-none : (a : Bool) → a && false ≡ false
 and-none true = refl
@@ -85,17 +86,17 @@ module _ (n : ℕ) (v : ℕ → ℕ) (most : (j : ℕ) → j < n → v j ≤ mos
   same-lines = ⊎-elim (λ e. e ∙ sym (some-line e)) (λ e. e ∙ sym (no-line e)) (ways (someBelow n odd))
 
 -- ---- what is answered, by what it states
-foundFace : Stated → Bool
-foundFace (face f read) = true
-foundFace (vertex u read) = false
-foundFace (nothing read) = false
-foundFace (refused number place) = false
+foundFace : SearchCase → Bool
+foundFace (faceFound f read) = true
+foundFace (vertexFound u read) = false
+foundFace (noneFound read) = false
+foundFace (searchRefused number place) = false
 
-foundVertex : Stated → Bool
-foundVertex (face f read) = false
-foundVertex (vertex u read) = true
-foundVertex (nothing read) = false
-foundVertex (refused number place) = false
+foundVertex : SearchCase → Bool
+foundVertex (faceFound f read) = false
+foundVertex (vertexFound u read) = true
+foundVertex (noneFound read) = false
+foundVertex (searchRefused number place) = false
 
 face-stated : (r : Irregular) → isFace r ≡ foundFace (squaresStated r)
 unfolding foundFace
@@ -113,13 +114,13 @@ vertex-stated (Refused number place) = refl
 
 -- of a search by two tests
 module _ (f u i j k : ℕ) where
-  face-found : (a b : Bool) → foundFace (pick a (face f i) (pick b (vertex u j) (nothing k))) ≡ a
+  face-found : (a b : Bool) → foundFace (pickCase a (faceFound f i) (pickCase b (vertexFound u j) (noneFound k))) ≡ a
   unfolding foundFace
   face-found true b = refl
   face-found false true = refl
   face-found false false = refl
 
-  vertex-found : (a b : Bool) → a ≡ false → foundVertex (pick a (face f i) (pick b (vertex u j) (nothing k))) ≡ b
+  vertex-found : (a b : Bool) → a ≡ false → foundVertex (pickCase a (faceFound f i) (pickCase b (vertexFound u j) (noneFound k))) ≡ b
   unfolding foundVertex
   vertex-found true b e = absurd (clash refl e)
   vertex-found false true e = refl
@@ -135,7 +136,7 @@ module _ (M : Mesh) (lines : Counts) (r : Irregular) (accepted : Accepted M) (co
 
   answered : squaresStated r ≡ found M
   unfolding squares
-  answered = call .answers ∙ ap (λ (v : Verdict). unless v (found M)) accepted
+  answered = call .answers ∙ ap (λ (v : Verdict). searchUnless v (found M)) accepted
 
   face-is : isFace r ≡ faces
   unfolding found

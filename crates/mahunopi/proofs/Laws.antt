@@ -23,7 +23,7 @@ use Rattle.paper.specs.Calls.{Linked, nets, buildVerdict, Built}
 use Rattle.paper.specs.Floats.{pointVerdict, Pointed}
 use Rattle.paper.specs.Nesting.{listing, Nested}
 use Rattle.paper.specs.CFace.{States, LinkCall, BuildCall, lentVerdict, DecodeCall, countsOf, surveyVerdict, SurveyCall, put}
-use Rattle.paper.specs.Squares.{Stated, face, vertex, none, refused, squaresStated, Searched}
+use Rattle.paper.specs.Squares.{SearchCase, faceFound, vertexFound, noneFound, searchRefused, squaresStated, Searched}
 use Rattle.paper.specs.Archive.{archived, restored, Archived, Restored}
 use Rattle.paper.specs.CFace.{ArchiveCall, RestoreCall, OffCall}
 use Rattle.paper.specs.Off.{offVerdict, OffRead}
@@ -315,26 +315,26 @@ module _ (numbers : List ℤ) (point : ℕ) (r : FloatPoint) (c : Pointed number
 
 -- ---- an irregular face or vertex
 module _ (M : Mesh) (r : Irregular) (c : Searched M r) (lent : Finding) (before : ℕ) where
-  stated-as : (s : Stated) → squaresStated r ≡ s → verdictOf s ≡ verdict M
+  stated-as : (s : SearchCase) → squaresStated r ≡ s → verdictOf s ≡ verdict M
   stated-as s e = ap verdictOf (sym e) ∙ verdict-is M r c
 
-  irregular-found : (s : Stated) → squaresStated r ≡ s → verdictOf s ≡ sound → IrregularCall M lent before 0 before (findingOf s lent)
+  irregular-found : (s : SearchCase) → squaresStated r ≡ s → verdictOf s ≡ sound → IrregularCall M lent before 0 before (findingOf s lent)
   irregular-found s e v = record {
     answers = subst (λ (w : Verdict). States w before 0 before) (sym v ∙ stated-as s e) (record { number = refl; place = refl });
-    tells = ap (λ (t : Stated). findingOf t lent) (sym e ∙ c .answers);
+    tells = ap (λ (t : SearchCase). findingOf t lent) (sym e ∙ c .answers);
   }
 
   pub irregular-face : (f read : ℕ) → r ≡ Face f read → IrregularCall M lent before 0 before (finding 1 f read)
-  irregular-face f read e = irregular-found (face f read) (ap squaresStated e) refl
+  irregular-face f read e = irregular-found (faceFound f read) (ap squaresStated e) refl
 
   pub irregular-vertex : (u read : ℕ) → r ≡ Vertex u read → IrregularCall M lent before 0 before (finding 2 u read)
-  irregular-vertex u read e = irregular-found (vertex u read) (ap squaresStated e) refl
+  irregular-vertex u read e = irregular-found (vertexFound u read) (ap squaresStated e) refl
 
   pub irregular-none : (read : ℕ) → r ≡ None read → IrregularCall M lent before 0 before (finding 0 0 read)
-  irregular-none read e = irregular-found (none read) (ap squaresStated e) refl
+  irregular-none read e = irregular-found (noneFound read) (ap squaresStated e) refl
 
   pub irregular-refused : (n at m q : ℕ) → r ≡ NoMesh n at → States (fault n at) before m q → IrregularCall M lent before m q lent
   irregular-refused n at m q e s = record {
-    answers = subst (λ (w : Verdict). States w before m q) (stated-as (refused n at) (ap squaresStated e)) s;
-    tells = ap (λ (t : Stated). findingOf t lent) (sym (ap squaresStated e) ∙ c .answers);
+    answers = subst (λ (w : Verdict). States w before m q) (stated-as (searchRefused n at) (ap squaresStated e)) s;
+    tells = ap (λ (t : SearchCase). findingOf t lent) (sym (ap squaresStated e) ∙ c .answers);
   }

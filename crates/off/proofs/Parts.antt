@@ -21,7 +21,7 @@ use Rattle.paper.specs.File.{begins}
 use Rattle.paper.specs.declared.Answer.{Answer}
 use Rattle.paper.specs.declared.Answer.the-variants.{Done, Refused}
 use Rattle.paper.specs.declared.Decoded.{Decoded}
-use Rattle.paper.specs.Off.{wordsOf, wordAt, count, coordinate, valueAt, vertices, faces, facesStart, faceAfter, end, badFrom}
+use Rattle.paper.specs.Off.{wordsOf, nthWord, listCount, coordinate, valueAt, vertices, faces, facesStart, faceAfter, wordsEnd, badFrom}
 use Rattle.paper.specs.Off.{neededVerdict, sidesFrom, wordsMesh, isOff, short, fault24, fault26, wordsVerdict, offVerdict, textMesh, OffRead}
 use Rattle.off_lists.specs.Reading.{HeaderRead, ListRead, FacesRead}
 use Rattle.off_lists.specs.declared.Progress.{Progress}
@@ -65,7 +65,7 @@ module _ (text : List ℕ) (h : Header) (eh : HeaderRead text h) (coordinates : 
         (subst (λ (n : ℕ). ListRead text coordinate (valueAt (wordsOf text) coordinate) n (3 * h .vertices) 0 old coordinates x)
         (eh .read .next-is good .number) ex)
 
-    counts-sound : badFrom (wordsOf text) count 1 3 ≡ sound
+    counts-sound : badFrom (wordsOf text) listCount 1 3 ≡ sound
     counts-sound = eh .read .answers ∙ single-miss 25 _ (ap not good)
 
     pub vertices-refused : x .ok ≡ false → (r : Decoded) → r .answer ≡ Refused 25 (x .next .word) → WordsRead text r coordinates sides corners
@@ -96,8 +96,8 @@ module _ (text : List ℕ) (h : Header) (eh : HeaderRead text h) (coordinates : 
         needed-sound =
             orElse-sound _ counts-sound ∙ orElse-sound _ coordinates-sound ∙ faces-read .read .answers ∙ single-miss 25 _ (ap not whole)
 
-        end-is : f .next .word ≡ end (wordsOf text)
-        unfolding end
+        end-is : f .next .word ≡ wordsEnd (wordsOf text)
+        unfolding wordsEnd
         end-is = faces-read .read .next-is whole .number
 
         pub more-refused : ltb (f .next .word) (length (wordsOf text)) ≡ true → (r : Decoded) → r .answer ≡ Refused 26 (f .next .word)
@@ -322,11 +322,11 @@ module _ (text : List ℕ) (lent : Mesh) where
   unfolding fault24
   too-short e = or-left (short (lengthsOf lent)) _ e
 
-  pub no-mark : isOff (wordAt (wordsOf text) 0) ≡ false → fault24 (wordsOf text) (lengthsOf lent) ≡ true
+  pub no-mark : isOff (nthWord (wordsOf text) 0) ≡ false → fault24 (wordsOf text) (lengthsOf lent) ≡ true
   unfolding fault24
   no-mark e = or-right (short (lengthsOf lent)) _ (ap not e)
 
-  pub marked : short (lengthsOf lent) ≡ false → isOff (wordAt (wordsOf text) 0) ≡ true → fault24 (wordsOf text) (lengthsOf lent) ≡ false
+  pub marked : short (lengthsOf lent) ≡ false → isOff (nthWord (wordsOf text) 0) ≡ true → fault24 (wordsOf text) (lengthsOf lent) ≡ false
   unfolding fault24
   marked e o = or-none (short (lengthsOf lent)) _ e (ap not o)
 

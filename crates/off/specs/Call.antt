@@ -10,7 +10,7 @@ use Rattle.paper.specs.Faults.{Verdict, _orElse_, single, verdict, stated, kept
 use Rattle.paper.specs.File.{into}
 use Rattle.paper.specs.declared.Answer.the-variants.{Done}
 use Rattle.paper.specs.declared.Decoded.{Decoded}
-use Rattle.paper.specs.Off.{wordsOf, end, neededVerdict, wordsMesh, fault26}
+use Rattle.paper.specs.Off.{wordsOf, wordsEnd, neededVerdict, wordsMesh, fault26}
 
 -- ---- three lists of M have these lengths, and stand in the beginnings of own ones where these have room; the fourth is 8 and 8 throughout
 pub record Lists (M : Mesh) (r : Decoded) (coordinates : List ℤ) (sides corners : List ℕ) : Type 0 where
@@ -30,7 +30,7 @@ pub record Room (coordinates : List ℤ) (sides corners : List ℕ) : Type 0 whe
 
 -- 25 and 26
 unfoldable pub readVerdict : List (List ℕ) → Verdict
-readVerdict words = neededVerdict words orElse single 26 (fault26 words) (end words)
+readVerdict words = neededVerdict words orElse single 26 (fault26 words) (wordsEnd words)
 
 pub record WordsRead (text : List ℕ) (r : Decoded) (coordinates : List ℤ) (sides corners : List ℕ) : Type 0 where
   pub answers : stated (r .answer) ≡ readVerdict (wordsOf text)

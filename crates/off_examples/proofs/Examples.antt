@@ -16,7 +16,7 @@ use Rattle.paper.specs.Links.{leavesTo, arrivesFrom, linked, link, sameEdge, re
 use Rattle.paper.specs.Faults.{Verdict, sound, fault, _orElse_, single, lowestOf, fault4, fault27}
 use Rattle.paper.specs.Faults.{fault5, fault6, fault7, fault8, fault28, sameVertexFrom, fault9, fault10}
 use Rattle.paper.specs.Faults.{fault11, fault12, after, ringLength, met, fault13, listFaults, linkFaults, verdict}
-use Rattle.paper.specs.Off.{separates, comments, uncommented, piecesOf, wordsOf, isNumber, decimal, numberOf, bad, valueAt, naturalAt, endFrom, end}
+use Rattle.paper.specs.Off.{separates, comments, uncommented, piecesOf, wordsOf, isNumber, decimal, valueOf, bad, valueAt, naturalAt, endFrom, wordsEnd}
 use Rattle.paper.specs.Off.{badFrom, badFaces, neededVerdict, sidesFrom, cornersFrom, wordsMesh}
 use Rattle.paper.specs.Off.{isOff, short, fault24, fault26, wordsVerdict, offVerdict}
 use Rattle.paper.specs.Off.{textMesh}
@@ -50,7 +50,7 @@ flat [] = []
 flat (word ∷ words) = nats word ++ (neg 1 ∷ flat words)
 
 abbrev number : String → List ℤ
-number s = cond (isNumber (bytes s)) (numberOf (bytes s) ∷ []) []
+number s = cond (isNumber (bytes s)) (valueOf (bytes s) ∷ []) []
 
 abbrev listsOf : Mesh → List ℤ
 listsOf M = nats (lengthsIn M) ++ (M .coordinates ++ (nats (M .sides) ++ (nats (M .corners) ++ nats (M .sharpness))))
@@ -176,6 +176,6 @@ off-examples : AllGive offTable
 unfolding offTable all-same same firstFrom firstBelow someBelow countBelow iterate sumOf faceOf startOf firstOf sidesOf next previous
     leavesTo arrivesFrom linked link valuesFrom sameEdge reverseEdge names valence lowest _orElse_ single lowestOf fault4 fault27 fault5
     fault6 fault7 fault8 fault28 sameVertexFrom fault9 fault10 fault11 fault12 after ringLength met fault13 listFaults linkFaults verdict
-    separates comments uncommented piecesOf wordsOf isNumber decimal numberOf bad valueAt naturalAt endFrom end badFrom badFaces
+    separates comments uncommented piecesOf wordsOf isNumber decimal valueOf bad valueAt naturalAt endFrom wordsEnd badFrom badFaces
     neededVerdict sidesFrom cornersFrom wordsMesh isOff short fault24 fault26 wordsVerdict offVerdict textMesh
 off-examples = agree offTable tt

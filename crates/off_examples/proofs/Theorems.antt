@@ -16,9 +16,9 @@ use Rattle.paper.specs.Scan.{valuesFrom}
 use Rattle.paper.specs.Mesh.{Mesh, Lengths, lengthsOf, cornerCount}
 use Rattle.paper.specs.Corners.{sumOf}
 use Rattle.paper.specs.Faults.{Verdict, sound, fault, _orElse_, single, lowestOf, fault6, listFaults, linkFaults, verdict, stated}
-use Rattle.paper.specs.Off.{wordsOf, Kind, count, coordinate, sideCount, vertexNumber}
+use Rattle.paper.specs.Off.{wordsOf, Kind, listCount, coordinate, sideCount, vertexNumber}
 use Rattle.paper.specs.Off.{bad, naturalAt, vertices, faces, facesStart, sidesAt, faceAfter}
-use Rattle.paper.specs.Off.{endFrom, end, badFrom, badFaces, neededVerdict, sidesFrom, cornersFrom, wordsMesh, isOff, short, fault24, fault26}
+use Rattle.paper.specs.Off.{endFrom, wordsEnd, badFrom, badFaces, neededVerdict, sidesFrom, cornersFrom, wordsMesh, isOff, short, fault24, fault26}
 use Rattle.paper.specs.Off.{wordsVerdict, offVerdict}
 use Rattle.paper.specs.Claims.{NoSix, MissingWord, WholeText}
 
@@ -122,10 +122,10 @@ module _ (words : List (List ℕ)) where
       after words _ _ (p + 1) (faceAfter words p) _ (omega arith) (read-some vertexNumber (p + 1) (sidesAt words p) m) λ o.
       read-faces (faceAfter words p) left o
 
-  read-all : 0 < length words → Reads words (neededVerdict words) 1 (end words)
-  unfolding neededVerdict end
+  read-all : 0 < length words → Reads words (neededVerdict words) 1 (wordsEnd words)
+  unfolding neededVerdict wordsEnd
   read-all h =
-      after words _ _ 1 4 _ (omega arith) (read-some count 1 3 h) λ m.
+      after words _ _ 1 4 _ (omega arith) (read-some listCount 1 3 h) λ m.
       after words _ _ 4 (facesStart words) _ (omega arith) (read-some coordinate 4 (3 * vertices words) m) λ o.
       read-faces (facesStart words) (faces words) o
 
@@ -167,6 +167,6 @@ whole-text text lent r lists c e =
     let v = sym (c .answers) ∙ ap stated e in
     let later = sound-right _ _ v in
     let some = some-word (wordsOf text) (lengthsOf lent) (sound-left _ _ v) in
-    let enough : end (wordsOf text) ≤ length (wordsOf text) = read-all (wordsOf text) some .all (sound-left _ _ later) in
-    let none : length (wordsOf text) ≤ end (wordsOf text) = ltb-false _ _ (single-sound 26 _ _ (sound-left _ _ (sound-right _ _ later))) in
+    let enough : wordsEnd (wordsOf text) ≤ length (wordsOf text) = read-all (wordsOf text) some .all (sound-left _ _ later) in
+    let none : length (wordsOf text) ≤ wordsEnd (wordsOf text) = ltb-false _ _ (single-sound 26 _ _ (sound-left _ _ (sound-right _ _ later))) in
     omega arith

@@ -17,7 +17,7 @@ use Rattle.mesh.proofs.Scans.{ways, clash}
 use Rattle.mesh.proofs.Ranges.{or-right}
 use Rattle.mesh.proofs.Verdicts.{single-hit, single-miss, orElse-fault, orElse-sound}
 use Rattle.paper.specs.Faults.{sound, fault}
-use Rattle.paper.specs.Off.{isNumber, numberOf, Kind, upTo, allowed, bad, valueAt, naturalAt, badFrom}
+use Rattle.paper.specs.Off.{isNumber, valueOf, Kind, upTo, allowed, bad, valueAt, naturalAt, badFrom}
 
 module _ (words : List (List ℕ)) (n : ℕ) where
   there : isNumber (getD words n []) ≡ true → leb (length words) n ≡ false
@@ -33,19 +33,19 @@ module _ (words : List (List ℕ)) (n : ℕ) where
     unfolding bad
     no-number e = or-right (leb (length words) n) _ (rw e)
 
-    pub serves : isNumber (getD words n []) ≡ true → allowed kind (numberOf (getD words n [])) ≡ true → bad words kind n ≡ false
+    pub serves : isNumber (getD words n []) ≡ true → allowed kind (valueOf (getD words n [])) ≡ true → bad words kind n ≡ false
     unfolding bad
     serves e f = rw (there e, e, f)
 
-    pub not-allowed : isNumber (getD words n []) ≡ true → allowed kind (numberOf (getD words n [])) ≡ false → bad words kind n ≡ true
+    pub not-allowed : isNumber (getD words n []) ≡ true → allowed kind (valueOf (getD words n [])) ≡ false → bad words kind n ≡ true
     unfolding bad
     not-allowed e f = or-right (leb (length words) n) _ (rw (e, f))
 
-    pub value-is : bad words kind n ≡ false → valueAt words kind n ≡ numberOf (getD words n [])
+    pub value-is : bad words kind n ≡ false → valueAt words kind n ≡ valueOf (getD words n [])
     unfolding valueAt
     value-is e = rw e
 
-    pub natural-is : bad words kind n ≡ false → naturalAt words kind n ≡ natAbs (numberOf (getD words n []))
+    pub natural-is : bad words kind n ≡ false → naturalAt words kind n ≡ natAbs (valueOf (getD words n []))
     unfolding naturalAt
     natural-is e = ap natAbs (value-is e)
 

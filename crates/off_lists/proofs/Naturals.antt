@@ -12,7 +12,7 @@ use borrow.Author.Tests.{not-true, not-false}
 use Rattle.mesh.proofs.Scans.{clash}
 use Rattle.mesh.proofs.Verdicts.{single-hit, single-miss}
 use Rattle.paper.specs.Faults.{fault}
-use Rattle.paper.specs.Off.{wordsOf, isNumber, numberOf, upTo, count, allowed, bad, vertices, faces, badFrom}
+use Rattle.paper.specs.Off.{wordsOf, isNumber, valueOf, upTo, listCount, allowed, bad, vertices, faces, badFrom}
 use Rattle.off_words.specs.Cursor.{Before, NumberRead}
 use Rattle.off_words.specs.declared.Cursor.{Cursor}
 use Rattle.off_words.specs.declared.Number.{Number}
@@ -40,7 +40,7 @@ module _ (text : List ℕ) (n most : ℕ) (m : Number) (e : NumberRead text n m)
   natural-none f r o v = none r o v (no-number (wordsOf text) n (upTo most) (sym (e .ok) ∙ f))
 
   module _ (t : m .ok ≡ true) (z : ℤ) (q : z ≡ m .value) where
-    here : z ≡ numberOf (getD (wordsOf text) n [])
+    here : z ≡ valueOf (getD (wordsOf text) n [])
     here = q ∙ e .value t
 
     is : isNumber (getD (wordsOf text) n []) ≡ true
@@ -74,7 +74,7 @@ module _ (text : List ℕ) (n most : ℕ) (r : Natural) (e : NaturalRead text n 
 -- ---- the three counts
 module _ (text : List ℕ) where
   stops : (r : Header) (c : Cursor) (n : ℕ) → r .ok ≡ false → r .next ≡ c → r .vertices ≡ 0 → r .faces ≡ 0 → Before text n c
-      → badFrom (wordsOf text) count 1 3 ≡ fault 25 n → HeaderRead text r
+      → badFrom (wordsOf text) listCount 1 3 ≡ fault 25 n → HeaderRead text r
   stops r c n o q v f b e =
       record {
         read = record {
@@ -89,25 +89,25 @@ module _ (text : List ℕ) where
 
   module _ (c : Cursor) (b : Before text 1 c) (v : Natural) (e : NaturalRead text 1 65535 v) where
     pub header-first : v .ok ≡ false → (r : Header) → r .ok ≡ false → r .next ≡ c → r .vertices ≡ 0 → r .faces ≡ 0 → HeaderRead text r
-    header-first o r p q x y = stops r c 1 p q x y b (first-bad (wordsOf text) count 1 (natural-bad text 1 65535 v e o))
+    header-first o r p q x y = stops r c 1 p q x y b (first-bad (wordsOf text) listCount 1 (natural-bad text 1 65535 v e o))
 
     module _ (good : v .ok ≡ true) (f : Natural) (g : NaturalRead text 2 65535 f) where
       pub header-second : f .ok ≡ false → (r : Header) → r .ok ≡ false → r .next ≡ v .next → r .vertices ≡ 0 → r .faces ≡ 0 → HeaderRead text r
       header-second o r p q x y =
           stops r (v .next) 2 p q x y (e .next good)
-          (second-bad (wordsOf text) count 1 (natural-good text 1 65535 v e good) (natural-bad text 2 65535 f g o))
+          (second-bad (wordsOf text) listCount 1 (natural-good text 1 65535 v e good) (natural-bad text 2 65535 f g o))
 
       module _ (fine : f .ok ≡ true) (k : Natural) (h : NaturalRead text 3 65535 k) where
         pub header-third : k .ok ≡ false → (r : Header) → r .ok ≡ false → r .next ≡ f .next → r .vertices ≡ 0 → r .faces ≡ 0 → HeaderRead text r
         header-third o r p q x y =
             stops r (f .next) 3 p q x y (g .next fine)
-            (third-bad (wordsOf text) count 1 (natural-good text 1 65535 v e good) (natural-good text 2 65535 f g fine) (natural-bad text 3 65535 k h o))
+            (third-bad (wordsOf text) listCount 1 (natural-good text 1 65535 v e good) (natural-good text 2 65535 f g fine) (natural-bad text 3 65535 k h o))
 
         pub header-read : k .ok ≡ true → HeaderRead text (record { ok = true; next = k .next; vertices = v .value; faces = f .value })
         header-read o =
             record {
               read = record {
-                answers = none-bad (wordsOf text) count 1 (natural-good text 1 65535 v e good) (natural-good text 2 65535 f g fine)
+                answers = none-bad (wordsOf text) listCount 1 (natural-good text 1 65535 v e good) (natural-good text 2 65535 f g fine)
                     (natural-good text 3 65535 k h o)
                     ∙ sym (single-miss 25 _ refl);
                 next-is = λ z. h .next o;

@@ -13,7 +13,7 @@ use Rattle.mesh.proofs.Verdicts.{single-hit, single-miss}
 use Rattle.mesh.proofs.Scans.{clash}
 use Rattle.paper.specs.Scan.{valuesFrom}
 use Rattle.paper.specs.Faults.{fault}
-use Rattle.paper.specs.Off.{Kind, coordinate, vertexNumber, wordsOf, isNumber, numberOf, bad, valueAt, naturalAt, badFrom}
+use Rattle.paper.specs.Off.{Kind, coordinate, vertexNumber, wordsOf, isNumber, valueOf, bad, valueAt, naturalAt, badFrom}
 use Rattle.off_words.specs.Cursor.{Before, NumberRead}
 use Rattle.off_words.specs.declared.Number.{Number}
 use Rattle.off_words.specs.declared.Cursor.{Cursor}
@@ -110,7 +110,7 @@ module _ (text : List ℕ) where
     coordinate-good o = serves (wordsOf text) p coordinate (ap (λ (k : ℕ). isNumber (getD (wordsOf text) k [])) (sym (b .number)) ∙ sym (e .ok) ∙ o) refl
 
     coordinate-is : m .ok ≡ true → m .value ≡ valueAt (wordsOf text) coordinate p
-    coordinate-is o = e .value o ∙ ap (λ (k : ℕ). numberOf (getD (wordsOf text) k [])) (b .number) ∙ sym (value-is (wordsOf text) p coordinate
+    coordinate-is o = e .value o ∙ ap (λ (k : ℕ). valueOf (getD (wordsOf text) k [])) (b .number) ∙ sym (value-is (wordsOf text) p coordinate
         (coordinate-good o))
 
     coordinate-next : m .ok ≡ true → Before text (p + 1) (m .next)

@@ -7,7 +7,7 @@ use Prim.Native.Nat.{ℕ, _+_, _≤_}
 use lib.ListN.{length, take}
 use Rattle.paper.specs.Scan.{valuesFrom}
 use Rattle.paper.specs.Faults.{Verdict, _orElse_, single}
-use Rattle.paper.specs.Off.{Kind, upTo, count, sideCount, vertexNumber, wordsOf, bad, naturalAt, vertices, faces, sidesAt, faceAfter}
+use Rattle.paper.specs.Off.{Kind, upTo, listCount, sideCount, vertexNumber, wordsOf, bad, naturalAt, vertices, faces, sidesAt, faceAfter}
 use Rattle.paper.specs.Off.{endFrom, badFrom, badFaces, sidesFrom, cornersFrom}
 use Rattle.off_words.specs.Cursor.{Before}
 use Rattle.off_words.specs.declared.Cursor.{Cursor}
@@ -31,7 +31,7 @@ pub record Read (text : List ℕ) (v : Verdict) (n : ℕ) (ok : Bool) (next : Cu
 
 -- the three counts
 pub record HeaderRead (text : List ℕ) (r : Header) : Type 0 where
-  pub read : Read text (badFrom (wordsOf text) count 1 3) 4 (r .ok) (r .next)
+  pub read : Read text (badFrom (wordsOf text) listCount 1 3) 4 (r .ok) (r .next)
   pub vertices-are : r .ok ≡ true → r .vertices ≡ vertices (wordsOf text)
   pub faces-are : r .ok ≡ true → r .faces ≡ faces (wordsOf text)
   pub vertices-within : r .vertices ≤ 65535

@@ -17,7 +17,7 @@ use Rattle.paper.specs.Faults.{outside}
 use Rattle.mesh.proofs.Scans.{and-left, and-right}
 use Rattle.mesh.proofs.Ranges.{or-left, or-right, or-none, none-left, none-right}
 use Rattle.off_words.specs.Cursor.{Start}
-use Rattle.paper.specs.Off.{digitsOf, allDigits, isNumber, decimal, numberOf}
+use Rattle.paper.specs.Off.{digitsOf, allDigits, isNumber, decimal, valueOf}
 
 -- ---- a number within two others, or not
 module _ (low high n : ℕ) where
@@ -144,12 +144,12 @@ module _ (word : List ℕ) (from : ℕ) (s : Start word from) where
         let o = not-true (outside 1 9 (length (digitsOf word))) (and-right (allDigits (digitsOf word)) _ e) in
         omega (arith, ltb-false 9 (length (digitsOf word)) (none-right (ltb (length (digitsOf word)) 1) _ o), count-is)
 
-  pub negative-is : eqb from 1 ≡ true → (n : ℕ) → n ≡ decimal 0 (drop from word) → negℤ (pos n) ≡ numberOf word
-  unfolding numberOf
+  pub negative-is : eqb from 1 ≡ true → (n : ℕ) → n ≡ decimal 0 (drop from word) → negℤ (pos n) ≡ valueOf word
+  unfolding valueOf
   negative-is e n q = rw (← s .minus, e, q, s .digits)
 
-  pub positive-is : eqb from 1 ≡ false → (n : ℕ) → n ≡ decimal 0 (drop from word) → pos n ≡ numberOf word
-  unfolding numberOf
+  pub positive-is : eqb from 1 ≡ false → (n : ℕ) → n ≡ decimal 0 (drop from word) → pos n ≡ valueOf word
+  unfolding valueOf
   positive-is e n q = rw (← s .minus, e, q, s .digits)
 
 -- ---- a number taken from zero

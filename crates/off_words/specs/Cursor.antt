@@ -6,7 +6,7 @@ use mathlib.Core.List.{List, []}
 use Prim.Native.Nat.{ℕ, _+_, _<_, _≤_}
 use lib.Dec.{eqb}
 use lib.ListN.{length, getD, drop}
-use Rattle.paper.specs.Off.{separates, uncommented, piecesOf, filled, wordsOf, isMinus, digitsOf, isNumber, numberOf, isOff}
+use Rattle.paper.specs.Off.{separates, uncommented, piecesOf, filled, wordsOf, isMinus, digitsOf, isNumber, valueOf, isOff}
 use Rattle.off_words.specs.declared.Cursor.{Cursor}
 use Rattle.off_words.specs.declared.Number.{Number}
 use Rattle.off_words.specs.declared.Mark.{Mark}
@@ -48,7 +48,7 @@ pub record Start (word : List ℕ) (r : ℕ) : Type 0 where
 -- word n as a number: whether it is there and is one, which, and a cursor before the next word; else the cursor stays before word n
 pub record NumberRead (text : List ℕ) (n : ℕ) (r : Number) : Type 0 where
   pub ok : r .ok ≡ isNumber (getD (wordsOf text) n [])
-  pub value : r .ok ≡ true → r .value ≡ numberOf (getD (wordsOf text) n [])
+  pub value : r .ok ≡ true → r .value ≡ valueOf (getD (wordsOf text) n [])
   pub next : r .ok ≡ true → Before text (n + 1) (r .next)
 
 -- the first word: whether it is OFF, and then a cursor before the next

@@ -5,7 +5,7 @@ ghost use Prim.Native.Nat.{_+_, _-_, _*_, _<_, _≤_};
 ghost use lib.IntN.{pos, negℤ};
 ghost use lib.ListN.{length, drop};
 ghost use Rattle.paper.specs.Faults.{outside};
-ghost use Rattle.paper.specs.Off.{allDigits, isNumber, decimal as Off·decimal, numberOf};
+ghost use Rattle.paper.specs.Off.{allDigits, isNumber, decimal as Off·decimal, valueOf};
 ghost use Rattle.off_words.specs.Cursor.{Start};
 
 // The most digits of a number.
@@ -100,7 +100,7 @@ fn decimal(word: &[u8], from: usize) -> u32
 // The number that the word is.
 pub fn value(word: &[u8]) -> i32
     requires { ⌜ isNumber (now word) ≡ true ⌝ }
-    ensures { λ r. ⌜ r ≡ numberOf (now (word .entry)) ⌝ }
+    ensures { λ r. ⌜ r ≡ valueOf (now (word .entry)) ⌝ }
 {
     let from = digits_start(word);
     let size = decimal(word, from);

@@ -17,7 +17,7 @@ use Rattle.paper.specs.File.{fileMesh, fileVerdict, begins, into, noRoom
 use Rattle.paper.specs.Calls.{nets, buildVerdict}
 use Rattle.paper.specs.Floats.{pointVerdict, Pointed}
 use Rattle.paper.specs.Nesting.{nestingVerdict, listing}
-use Rattle.paper.specs.Squares.{Stated, face, vertex, none, refused, squares}
+use Rattle.paper.specs.Squares.{SearchCase, faceFound, vertexFound, noneFound, searchRefused, squares}
 use Rattle.paper.specs.Archive.{archiveVerdict, archived, restored}
 use Rattle.paper.specs.Off.{offVerdict, textMesh}
 use Rattle.paper.specs.Preview.{moved, previewVerdict, touchMarks, touchedVerdict}
@@ -118,11 +118,11 @@ abbrev pub finding : ℕ → ℕ → ℕ → Finding
 finding kind number read = record { kind = kind; number = number; read = read }
 
 -- kind 0 is none, with the number 0, 1 a face, 2 a vertex; all three are left alone beside a refusal
-abbrev pub findingOf : Stated → Finding → Finding
-findingOf (face f read) old = finding 1 f read
-findingOf (vertex u read) old = finding 2 u read
-findingOf (none read) old = finding 0 0 read
-findingOf (refused number place) old = old
+abbrev pub findingOf : SearchCase → Finding → Finding
+findingOf (faceFound f read) old = finding 1 f read
+findingOf (vertexFound u read) old = finding 2 u read
+findingOf (noneFound read) old = finding 0 0 read
+findingOf (searchRefused number place) old = old
 
 pub record IrregularCall (M : Mesh) (lent : Finding) (before r after : ℕ) (told : Finding) : Type 0 where
   pub answers : States (verdict M) before r after

@@ -16,11 +16,11 @@ use Rattle.paper.specs.Refined.{refinedOf, refinedOf01}
 use Rattle.paper.specs.Net.{Side, across, atHead, atTail, netPoints}
 use Rattle.paper.specs.File.{versionIn, fileMesh, FileSurveyed}
 use Rattle.paper.specs.Calls.{perCorner, nets, Built}
-use Rattle.paper.specs.Floats.{netVerdict, difference, first, second, axes, Pointed, sums, FarPair}
+use Rattle.paper.specs.Floats.{netVerdict, difference, farFirst, farSecond, axes, Pointed, sums, FarPair}
 use Rattle.paper.specs.Nesting.{tableVerdict, nestingVerdict, Nested, Ends, Ordered}
 use Rattle.paper.specs.Squares.{Searched, Agreed}
 use Rattle.paper.specs.Archive.{Archived, Restored, All32Bit, AllBytes}
-use Rattle.paper.specs.Off.{wordsOf, end, OffRead}
+use Rattle.paper.specs.Off.{wordsOf, wordsEnd, OffRead}
 use Rattle.paper.specs.Preview.{moved, Previewed, Touched}
 use Rattle.paper.specs.CFace.{BuildCall, PreviewCall}
 use Rattle.paper.specs.Borders.{Output, outputAt, Wrote, outputOf, Holds, written, beside, Borders, Smooth}
@@ -77,7 +77,7 @@ ExamplesAgree = AllGive examples
 
 -- ---- L1: a far pair is what 02 says of it
 abbrev pub FarPairs : Type 0
-FarPairs = (d : ℤ) → FarPair d (first d) (second d)
+FarPairs = (d : ℤ) → FarPair d (farFirst d) (farSecond d)
 
 -- for every list that passes 18 and 19 and every point, the whole-number sum of what comes back is the difference, near or far
 abbrev pub FloatSums : Type 0
@@ -166,7 +166,7 @@ MissingWord =
 -- an accepted text has the needed words and no others
 abbrev pub WholeText : Type 0
 WholeText =
-    (text : List ℕ) (lent : Mesh) (r : Decoded) (lists : Mesh) → OffRead text lent r lists → r .answer ≡ Done → end (wordsOf text) ≡ length (wordsOf text)
+    (text : List ℕ) (lent : Mesh) (r : Decoded) (lists : Mesh) → OffRead text lent r lists → r .answer ≡ Done → wordsEnd (wordsOf text) ≡ length (wordsOf text)
 
 -- ---- L9: where the vertex is one, a preview answers and writes what building does on the moved lists
 abbrev pub AsBuilding : Type 0

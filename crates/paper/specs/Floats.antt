@@ -50,34 +50,34 @@ unfoldable pub isNear : ℤ → ℤ → ℤ → Bool
 isNear x y z = within (2 ^ 24) x && (within (2 ^ 24) y && within (2 ^ 24) z)
 
 -- far: the pair of a difference, a multiple of 4,096 and what is left
-unfoldable pub first : ℤ → ℤ
-first d = pos 4096 *ℤ floor d (pos 4096)
+unfoldable pub farFirst : ℤ → ℤ
+farFirst d = pos 4096 *ℤ floor d (pos 4096)
 
-unfoldable pub second : ℤ → ℤ
-second d = d -ℤ first d
+unfoldable pub farSecond : ℤ → ℤ
+farSecond d = d -ℤ farFirst d
 
 -- ---- number and values of each case: near with three, far with three first and three second ones, or number and place
-pub data Stated : Type 0 where
-  near : List ℤ → Stated
-  far : List ℤ → List ℤ → Stated
-  refused : ℕ → ℕ → Stated
+pub data PointCase : Type 0 where
+  near : List ℤ → PointCase
+  far : List ℤ → List ℤ → PointCase
+  refused : ℕ → ℕ → PointCase
 
 abbrev pub axes : ℤ → ℤ → ℤ → List ℤ
 axes x y z = x ∷ y ∷ z ∷ []
 
-abbrev pub parts : Bool → ℤ → ℤ → ℤ → Stated
+abbrev pub parts : Bool → ℤ → ℤ → ℤ → PointCase
 parts true x y z = near (axes x y z)
-parts false x y z = far (axes (first x) (first y) (first z)) (axes (second x) (second y) (second z))
+parts false x y z = far (axes (farFirst x) (farFirst y) (farFirst z)) (axes (farSecond x) (farSecond y) (farSecond z))
 
-abbrev pub unless : Verdict → Stated → Stated
+abbrev pub unless : Verdict → PointCase → PointCase
 unless sound s = s
 unless (fault number place) s = refused number place
 
-abbrev pub split : ℤ → ℤ → ℤ → Stated
+abbrev pub split : ℤ → ℤ → ℤ → PointCase
 split x y z = parts (isNear x y z) x y z
 
 -- what 02 asks of a list and a point number
-unfoldable pub pointOf : List ℤ → ℕ → Stated
+unfoldable pub pointOf : List ℤ → ℕ → PointCase
 pointOf numbers point =
     unless (pointVerdict numbers point) (split (difference numbers point 0) (difference numbers point 1) (difference numbers point 2))
 
@@ -87,32 +87,32 @@ abbrev pub readBack : Float → ℤ
 readBack x = toSigned 31 x
 
 -- the float is the one of its whole number: reading back cuts nothing off, and a zero is plus zero
-abbrev pub Plain : Float → Type 0
-Plain x = x ≡ ofInt binary32 (readBack x)
+abbrev pub WholeFloat : Float → Type 0
+WholeFloat x = x ≡ ofInt binary32 (readBack x)
 
 abbrev pub axesBack : Floats → List ℤ
 axesBack p = axes (readBack (p .x)) (readBack (p .y)) (readBack (p .z))
 
-abbrev pub AxesPlain : Floats → Type 0
-AxesPlain p = Plain (p .x) × Plain (p .y) × Plain (p .z)
+abbrev pub AxesWhole : Floats → Type 0
+AxesWhole p = WholeFloat (p .x) × WholeFloat (p .y) × WholeFloat (p .z)
 
 -- the number and values that each case of an answer stands for
-abbrev pub pointStated : FloatPoint → Stated
+abbrev pub pointStated : FloatPoint → PointCase
 pointStated (Near p) = near (axesBack p)
 pointStated (Far p q) = far (axesBack p) (axesBack q)
 pointStated (Refused number place) = refused number place
 
-abbrev pub AllPlain : FloatPoint → Type 0
-AllPlain (Near p) = AxesPlain p
-AllPlain (Far p q) = AxesPlain p × AxesPlain q
-AllPlain (Refused number place) = Unit {0}
+abbrev pub AllWhole : FloatPoint → Type 0
+AllWhole (Near p) = AxesWhole p
+AllWhole (Far p q) = AxesWhole p × AxesWhole q
+AllWhole (Refused number place) = Unit {0}
 
 -- ---- a call on a list and a point number answers r
 pub record Pointed (numbers : List ℤ) (point : ℕ) (r : FloatPoint) : Type 0 where
   -- the case and its whole numbers, or the fault of 18, 19 or 20
   pub answers : pointStated r ≡ pointOf numbers point
   -- each float is a whole number, and a zero is plus zero
-  pub plain : AllPlain r
+  pub whole : AllWhole r
 
 -- ---- what the theorems say
 -- the whole-number sum of what comes back, on each axis; nothing comes back beside a refusal

@@ -70,8 +70,8 @@ decimal n [] = n
 decimal n (b ∷ digits) = decimal (10 * n + (b - 48)) digits
 
 -- -0 is 0
-unfoldable pub numberOf : List ℕ → ℤ
-numberOf word = cond (isMinus word) (negℤ (pos (decimal 0 (digitsOf word)))) (pos (decimal 0 (digitsOf word)))
+unfoldable pub valueOf : List ℕ → ℤ
+valueOf word = cond (isMinus word) (negℤ (pos (decimal 0 (digitsOf word)))) (pos (decimal 0 (digitsOf word)))
 
 -- ---- what a needed word has to be: any number, or one from 0 to a largest
 pub data Kind : Type 0 where
@@ -81,8 +81,8 @@ pub data Kind : Type 0 where
 abbrev pub coordinate : Kind
 coordinate = any
 
-abbrev pub count : Kind
-count = upTo 65535
+abbrev pub listCount : Kind
+listCount = upTo 65535
 
 abbrev pub sideCount : Kind
 sideCount = upTo 255
@@ -97,25 +97,25 @@ allowed (upTo most) z = leZ (pos 0) z && leZ z (pos most)
 -- ---- the words by their numbers. Word 0 is OFF; 1, 2 and 3 are the counts of vertices, faces and edges
 module _ (words : List (List ℕ)) where
   -- word p
-  abbrev pub wordAt : ℕ → List ℕ
-  wordAt p = getD words p []
+  abbrev pub nthWord : ℕ → List ℕ
+  nthWord p = getD words p []
 
   -- word p is missing, or it is no number of this kind
   unfoldable pub bad : Kind → ℕ → Bool
-  bad kind p = leb (length words) p || not (isNumber (wordAt p) && allowed kind (numberOf (wordAt p)))
+  bad kind p = leb (length words) p || not (isNumber (nthWord p) && allowed kind (valueOf (nthWord p)))
 
   -- the number that word p is; 0 where it is bad, which no list of an accepted text has
   unfoldable pub valueAt : Kind → ℕ → ℤ
-  valueAt kind p = cond (bad kind p) (pos 0) (numberOf (wordAt p))
+  valueAt kind p = cond (bad kind p) (pos 0) (valueOf (nthWord p))
 
   unfoldable pub naturalAt : Kind → ℕ → ℕ
   naturalAt kind p = natAbs (valueAt kind p)
 
   abbrev pub vertices : ℕ
-  vertices = naturalAt count 1
+  vertices = naturalAt listCount 1
 
   abbrev pub faces : ℕ
-  faces = naturalAt count 2
+  faces = naturalAt listCount 2
 
   -- the vertices' words are 4 and on, and the faces' words these and on
   abbrev pub facesStart : ℕ
@@ -133,8 +133,8 @@ module _ (words : List (List ℕ)) where
   endFrom p zero = p
   endFrom p (suc left) = endFrom (faceAfter p) left
 
-  unfoldable pub end : ℕ
-  end = endFrom facesStart faces
+  unfoldable pub wordsEnd : ℕ
+  wordsEnd = endFrom facesStart faces
 
   -- ---- 25, of so many words of a kind from p on: the lowest bad one
   unfoldable pub badFrom : Kind → ℕ → ℕ → Verdict
@@ -148,7 +148,7 @@ module _ (words : List (List ℕ)) where
 
   -- the needed words in their order: three counts, the vertices, the faces
   unfoldable pub neededVerdict : Verdict
-  neededVerdict = badFrom count 1 3 orElse badFrom coordinate 4 (3 * vertices) orElse badFaces facesStart faces
+  neededVerdict = badFrom listCount 1 3 orElse badFrom coordinate 4 (3 * vertices) orElse badFaces facesStart faces
 
   -- ---- the lists, in the file's order
   unfoldable pub sidesFrom : ℕ → ℕ → List ℕ
@@ -174,18 +174,18 @@ short lent =
     || (ltb (lent .sides) mostFaces || (ltb (lent .corners) mostCorners || ltb (lent .sharpness) (2 * mostCorners)))
 
 unfoldable pub fault24 : List (List ℕ) → Lengths → Bool
-fault24 words lent = short lent || not (isOff (wordAt words 0))
+fault24 words lent = short lent || not (isOff (nthWord words 0))
 
 -- 26: a word stands after the last face
 unfoldable pub fault26 : List (List ℕ) → Bool
-fault26 words = ltb (end words) (length words)
+fault26 words = ltb (wordsEnd words) (length words)
 
 -- 24, 25, 26, then 4 to 13 of the lists; the lent lists have these lengths
 unfoldable pub wordsVerdict : List (List ℕ) → Lengths → Verdict
 wordsVerdict words lent =
     single 24 (fault24 words lent) 0
     orElse neededVerdict words
-    orElse single 26 (fault26 words) (end words)
+    orElse single 26 (fault26 words) (wordsEnd words)
     orElse verdict (wordsMesh words)
 
 unfoldable pub offVerdict : List ℕ → Lengths → Verdict

@@ -23,22 +23,22 @@ unfoldable pub irregularVertex : List ℕ → ℕ → Bool
 irregularVertex corners u = not (eqb (valence corners u) 4)
 
 -- ---- number and values of each case: a face or a vertex or none, with the side counts read; or number and place
-pub data Stated : Type 0 where
-  face : ℕ → ℕ → Stated
-  vertex : ℕ → ℕ → Stated
-  none : ℕ → Stated
-  refused : ℕ → ℕ → Stated
+pub data SearchCase : Type 0 where
+  faceFound : ℕ → ℕ → SearchCase
+  vertexFound : ℕ → ℕ → SearchCase
+  noneFound : ℕ → SearchCase
+  searchRefused : ℕ → ℕ → SearchCase
 
-abbrev pub squaresStated : Irregular → Stated
-squaresStated (Face f read) = face f read
-squaresStated (Vertex u read) = vertex u read
-squaresStated (None read) = none read
-squaresStated (Refused number place) = refused number place
+abbrev pub squaresStated : Irregular → SearchCase
+squaresStated (Face f read) = faceFound f read
+squaresStated (Vertex u read) = vertexFound u read
+squaresStated (None read) = noneFound read
+squaresStated (Refused number place) = searchRefused number place
 
 -- ---- the search
-abbrev pub pick : Bool → Stated → Stated → Stated
-pick true s t = s
-pick false s t = t
+abbrev pub pickCase : Bool → SearchCase → SearchCase → SearchCase
+pickCase true s t = s
+pickCase false s t = t
 
 abbrev pub lowestFace : Mesh → ℕ
 lowestFace M = firstBelow (faceCount M) (irregularFace (M .sides))
@@ -47,19 +47,19 @@ abbrev pub lowestVertex : Mesh → ℕ
 lowestVertex M = firstBelow (vertexCount M) (irregularVertex (M .corners))
 
 -- the lowest such face, else the lowest such vertex, else none; the side counts read are the face plus one, or all of them
-unfoldable pub found : Mesh → Stated
+unfoldable pub found : Mesh → SearchCase
 found M =
-    pick (someBelow (faceCount M) (irregularFace (M .sides))) (face (lowestFace M) (lowestFace M + 1))
-    (pick (someBelow (vertexCount M) (irregularVertex (M .corners))) (vertex (lowestVertex M) (faceCount M))
-    (none (faceCount M)))
+    pickCase (someBelow (faceCount M) (irregularFace (M .sides))) (faceFound (lowestFace M) (lowestFace M + 1))
+    (pickCase (someBelow (vertexCount M) (irregularVertex (M .corners))) (vertexFound (lowestVertex M) (faceCount M))
+    (noneFound (faceCount M)))
 
-abbrev pub unless : Verdict → Stated → Stated
-unless sound s = s
-unless (fault number place) s = refused number place
+abbrev pub searchUnless : Verdict → SearchCase → SearchCase
+searchUnless sound s = s
+searchUnless (fault number place) s = searchRefused number place
 
 -- 4 to 13 first
-unfoldable pub squares : Mesh → Stated
-squares M = unless (verdict M) (found M)
+unfoldable pub squares : Mesh → SearchCase
+squares M = searchUnless (verdict M) (found M)
 
 -- ---- a call on a mesh answers r
 pub record Searched (M : Mesh) (r : Irregular) : Type 0 where

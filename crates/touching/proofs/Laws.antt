@@ -73,12 +73,14 @@ module _ (corners : List ℕ) (start n u : ℕ) where
   pub found-here : vertexOf corners (start + n) ≡ u → true ≡ among corners start (n + 1) u
   unfolding names
   found-here e =
-      sym (among-step corners start n u ∙ ap (λ (b : Bool). among corners start n u || b) (eq-eqb (vertexOf corners (start + n)) u e) ∙ or-some (among corners start n u))
+      sym (among-step corners start n u ∙ ap (λ (b : Bool). among corners start n u || b) (eq-eqb (vertexOf corners (start + n)) u e)
+      ∙ or-some (among corners start n u))
 
   pub found-not : (vertexOf corners (start + n) ≡ u → ⊥) → (r : Bool) → r ≡ among corners start n u → r ≡ among corners start (n + 1) u
   unfolding names
   found-not e r q =
-      q ∙ sym (among-step corners start n u ∙ ap (λ (b : Bool). among corners start n u || b) (ne-eqb (vertexOf corners (start + n)) u e) ∙ or-none (among corners start n u))
+      q ∙ sym (among-step corners start n u ∙ ap (λ (b : Bool). among corners start n u || b) (ne-eqb (vertexOf corners (start + n)) u e)
+      ∙ or-none (among corners start n u))
 
 -- ---- one mark more
 mark-set : (near : List ℕ) (u w : ℕ) → u < length near → getD (set near u 1) w 0 ≡ pickN (eqb u w) 1 (getD near w 0)

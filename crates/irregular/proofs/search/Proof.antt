@@ -19,7 +19,8 @@ returns c =
     let s = c .before .before .before .before .before .before .before in
     let a = c .before .before .before .check in
     let r = c .before .answer .given in
-    search-refused (meshOf (s .args .coordinates .now) (s .args .sides .now) (s .args .corners .now) (s .args .sharpness .now)) (a .result) (r .0 .0) (r .0 .1 .0) (a .ensures) (r .1)
+    search-refused (meshOf (s .args .coordinates .now) (s .args .sides .now) (s .args .corners .now) (s .args .sharpness .now))
+    (a .result) (r .0 .0) (r .0 .1 .0) (a .ensures) (r .1)
 
 enum-told : tie.Need-enum-told
 enum-told c = search needs

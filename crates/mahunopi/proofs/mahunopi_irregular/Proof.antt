@@ -30,28 +30,32 @@ returns c =
     let k = c .before .before .before in
     let s = k .before .before .before .before in
     let a = c .before .a .given in
-    irregular-face _ (k .search .result) (k .search .ensures) (finding (now (s .args .kind)) (now (s .args .number)) (now (s .args .read))) (now (s .args .place)) (a .0 .0) (a .0 .1 .0) (a .1)
+    irregular-face _ (k .search .result) (k .search .ensures) (finding (now (s .args .kind)) (now (s .args .number)) (now (s .args .read)))
+    (now (s .args .place)) (a .0 .0) (a .0 .1 .0) (a .1)
 
 returns-2 : tie.Need-returns-2
 returns-2 c =
     let k = c .before .before .before in
     let s = k .before .before .before .before in
     let a = c .before .a2 .given in
-    irregular-vertex _ (k .search .result) (k .search .ensures) (finding (now (s .args .kind)) (now (s .args .number)) (now (s .args .read))) (now (s .args .place)) (a .0 .0) (a .0 .1 .0) (a .1)
+    irregular-vertex _ (k .search .result) (k .search .ensures) (finding (now (s .args .kind)) (now (s .args .number)) (now (s .args .read)))
+    (now (s .args .place)) (a .0 .0) (a .0 .1 .0) (a .1)
 
 returns-3 : tie.Need-returns-3
 returns-3 c =
     let k = c .before .before .before in
     let s = k .before .before .before .before in
     let a = c .before .a3 .given in
-    irregular-none _ (k .search .result) (k .search .ensures) (finding (now (s .args .kind)) (now (s .args .number)) (now (s .args .read))) (now (s .args .place)) (a .0 .0) (a .1)
+    irregular-none _ (k .search .result) (k .search .ensures) (finding (now (s .args .kind)) (now (s .args .number)) (now (s .args .read)))
+    (now (s .args .place)) (a .0 .0) (a .1)
 
 returns-4 : tie.Need-returns-4
 returns-4 c =
     let k = c .before .before .before .before .before in
     let s = k .before .before .before .before in
     let a = c .before .before .before .a4 .given in
-    irregular-refused _ (k .search .result) (k .search .ensures) (finding (now (s .args .kind)) (now (s .args .number)) (now (s .args .read))) (now (s .args .place)) (a .0 .0) (a .0 .1 .0) _ _ (a .1) (c .tell .ensures)
+    irregular-refused _ (k .search .result) (k .search .ensures) (finding (now (s .args .kind)) (now (s .args .number)) (now (s .args .read)))
+    (now (s .args .place)) (a .0 .0) (a .0 .1 .0) _ _ (a .1) (c .tell .ensures)
 
 pub mahunopi-irregular-spec : {M : Type 1} → statement M
 mahunopi-irregular-spec =

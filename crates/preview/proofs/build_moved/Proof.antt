@@ -37,7 +37,8 @@ returns c =
     let s = c .before .before .before .before .before .before .before .before .before .before .before in
     let k = c .before .before .before .before .before .copy-moved in
     subst
-    (λ (l : List ℤ). Built (meshOf l (now (s .args .sides)) (now (s .args .corners)) (now (s .args .sharpness))) (now (s .args .links)) (s .args .range .first) (s .args .range .count)
+    (λ (l : List ℤ). Built (meshOf l (now (s .args .sides)) (now (s .args .corners)) (now (s .args .sharpness))) (now (s .args .links))
+    (s .args .range .first) (s .args .range .count)
     (now (s .args .out)) (c .before .build .result) (c .before .build .last .1 .1 .1 .1 .1 .1 .1 .0))
     (moved-back (now (s .args .coordinates)) (s .args .to) (now (s .args .copy)) (k .last .1 .1 .0) (k .ensures)) (c .before .build .ensures)
 

@@ -40,7 +40,8 @@ returns : tie.Need-returns
 returns c =
     let f : SFits w64 (c .sign .result) = search needs in
     rw (toZ-ofZ (c .before .fits .n), toZ-ofZ (c .before .fits .half), toZ-ofZ f, toZ-ofZ (both c .0), toZ-ofZ (both c .1))
-    (sum (c .before .args .n) (c .before .args .half) (c .sign .result) (sign (c .before .args .n)) (simp (toZ-ofZ, c .before .fits .n, c .before .fits .half) at (c .sign .ensures .0)))
+    (sum (c .before .args .n) (c .before .args .half) (c .sign .result) (sign (c .before .args .n))
+    (simp (toZ-ofZ, c .before .fits .n, c .before .fits .half) at (c .sign .ensures .0)))
 
 pub raised-spec : {M : Type 1} → statement M
 raised-spec = tie.close (tie.spec add-result sign-requires add-result-2 returns)

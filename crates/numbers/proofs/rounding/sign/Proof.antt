@@ -8,7 +8,8 @@ use Rattle.numbers.proofs.rounding.sign.Tie as tie
 
 returns : tie.Need-returns
 returns c =
-    rw (toZ-ofZ (c .fits .n), shift-sign (c .args .n) (c .fits .n), toZ-ofZ (sign-size (c .args .n))) (refl, sign-bounds (c .args .n) .0, sign-bounds (c .args .n) .1)
+    rw (toZ-ofZ (c .fits .n), shift-sign (c .args .n) (c .fits .n), toZ-ofZ (sign-size (c .args .n)))
+    (refl, sign-bounds (c .args .n) .0, sign-bounds (c .args .n) .1)
 
 pub sign-spec : {M : Type 1} → statement M
 sign-spec = tie.close (tie.spec returns)

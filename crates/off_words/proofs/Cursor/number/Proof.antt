@@ -5,7 +5,7 @@ use mir.Syntax.{w32}
 use mir.ValLaws.{toZ-ofZ}
 use borrow.Author.Tests.{not-true, not-false}
 use Rattle.mesh.proofs.Scans.{clash}
-use Rattle.paper.specs.Off.{isNumber, numberOf}
+use Rattle.paper.specs.Off.{isNumber, valueOf}
 use Rattle.off_words.proofs.Cursors.{word-here, number-there, room, before-next}
 use borrow.Author.Needs.{needs}
 use Rattle.off_words.proofs.Cursor.number.Statement.{statement}
@@ -69,7 +69,7 @@ returns-2 c =
     let v = c .before .value in
     record {
       ok = sym (ap isNumber w ∙ there);
-      value = λ z. toZ-ofZ w32 (v .result) (record { sfits = v .ok }) ∙ v .ensures ∙ ap numberOf (sym w);
+      value = λ z. toZ-ofZ w32 (v .result) (record { sfits = v .ok }) ∙ v .ensures ∙ ap valueOf (sym w);
       next = λ z. before-next _ _ (t .result) (e .result) (t .ensures) (e .ensures) (number-there _ there) _ (c .moved .ensures .0) (c .moved .ensures .1);
     }
 
