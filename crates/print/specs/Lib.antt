@@ -1,3 +1,2 @@
-pub mod Text
 pub mod Lines
 pub mod Files

@@ -1,9 +1,9 @@
-// What the programs print, and how they read and write: text and lines in a lent buffer, with the bytes that they then hold stated; a
-// file read from a descriptor; and what `inspect` does with it.
+// What the programs print: lines in a lent buffer, with the bytes that they then hold stated; and what `inspect` does with a file. The
+// programs find text, reading and writing here too, though each is a crate of its own.
 pub mod input;
 pub mod lines;
-pub mod output;
 pub mod text;
+pub use streams::output;
 
 ghost use lib.ListN.{take};
 ghost use Rattle.io.specs.Counts.{Counts};

@@ -4,7 +4,7 @@ ghost use lib.ListN.{take};
 ghost use Prim.Native.Nat.{_+_};
 ghost use Rattle.io.specs.Counts.{Counts as Within};
 ghost use Rattle.paper.specs.Mesh.{mostSides};
-ghost use Rattle.print.specs.Text.{Put};
+ghost use Rattle.text_buffer.specs.Text.{Put};
 ghost use Rattle.print.specs.Lines.{ended, threeLine, refusedLine, countLine, countLines, meshLines, summaryLines};
 use crate::text::put_byte;
 use crate::text::put_number;

@@ -1,0 +1,69 @@
+-- Each turn reads at least a byte; the bytes held lie in the buffer.
+-- Assumes nothing.
+use mathlib.Core.Path.{_≡_, refl, sym, subst, _∙_}
+use Prim.Native.Nat.{ℕ, _-_, _≤_}
+use lib.ListN.{length}
+use lib.Seq.{length-take-le}
+use borrow.Author.Needs.{needs}
+use native.Mathlib.Omega.{arith}
+use Rattle.streams.proofs.input.fill.Statement.{statement}
+use Rattle.streams.proofs.input.fill.Tie as tie
+
+abbrev Inv-loop : tie.InvT-loop
+Inv-loop fd buffer₀ done₀ ok₀ buffer done ok = (done ≤ length buffer) × (length buffer ≡ length buffer₀)
+
+abbrev μ-loop : tie.MeasureT-loop
+μ-loop fd buffer₀ done₀ ok₀ buffer done ok = length buffer - done
+
+loop-holds : tie.Need-loop-holds Inv-loop μ-loop
+loop-holds c = (omega arith, refl)
+
+read-at-requires : tie.Need-read-at-requires Inv-loop μ-loop
+read-at-requires c κs = search needs
+
+add-done : tie.Need-add-done Inv-loop μ-loop
+add-done c = search needs
+
+loop-less : tie.Need-loop-less Inv-loop μ-loop
+loop-less c =
+    let k = c .before .before .before .read-at .kept .1 .0 in
+    let e = c .before .before .before .read-at .ensures in
+    omega arith
+
+loop-again : tie.Need-loop-again Inv-loop μ-loop
+loop-again c =
+    let k = c .before .before .before .read-at .kept .1 .0 in
+    let e = c .before .before .before .read-at .ensures in
+    (omega arith, k ∙ c .before .before .before .before .before .before .loop .inv .1)
+
+same-length : tie.Need-same-length Inv-loop μ-loop
+same-length c = c .before .loop .inv .1
+
+returns : tie.Need-returns Inv-loop μ-loop
+returns c = let h = c .before .loop .inv .0 in (h, sym (length-take-le _ _ h))
+
+same-length-2 : tie.Need-same-length-2 Inv-loop μ-loop
+same-length-2 c = c .before .before .before .read-at .kept .1 .0 ∙ c .before .before .before .before .before .before .loop .inv .1
+
+returns-2 : tie.Need-returns-2 Inv-loop μ-loop
+returns-2 c =
+    let l = c .before .before .before .before .before .before .loop in
+    let h : l .done ≤ length (c .before .before .before .read-at .last .1 .0) = subst (λ (n : ℕ). l .done ≤ n)
+    (sym (c .before .before .before .read-at .kept .1 .0)) (l .inv .0) in
+    (h, sym (length-take-le (l .done) (c .before .before .before .read-at .last .1 .0) h))
+
+pub fill-spec : {M : Type 1} → statement M
+fill-spec =
+    tie.close
+    (tie.spec
+    Inv-loop
+    μ-loop
+    loop-holds
+    read-at-requires
+    add-done
+    loop-less
+    loop-again
+    same-length
+    returns
+    same-length-2
+    returns-2)

@@ -1,0 +1,3 @@
+// Descriptors: bytes read into a lent buffer, and bytes written as a whole.
+pub mod input;
+pub mod output;
