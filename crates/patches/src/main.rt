@@ -1,12 +1,12 @@
 // Prints the control points of every corner of the mesh file on standard input, in ticks: a line `corner N`, then 41 lines of
 // x, y, z, the b points row by row and then the a points; or why the file is turned down, as `inspect` does.
-use libc::STDIN_FILENO;
+use mesh_input::MOST_NUMBERS;
+use mesh_input::MOST_PAIRS;
+use mesh_input::read_mesh;
 use paper::Answer;
 use paper::MOST_CORNERS;
 use paper::MOST_FACES;
-use paper::MOST_VERTICES;
 use paper::NUMBERS_PER_CORNER;
-use print::input::BUFFER;
 use print::output::say_up_to;
 use print::say_refusal;
 use print::text::put_entry;
@@ -21,15 +21,6 @@ const NUMBERS: usize = NUMBERS_PER_CORNER * RANGE;
 // Room for a corner's 42 lines.
 const LINES: usize = 2048;
 
-// The lengths of a mesh's lists, if there is a mesh.
-struct Lengths {
-    ok: bool,
-    numbers: usize,
-    faces: usize,
-    corners: usize,
-    sharpness: usize,
-}
-
 fn main() {
     if 1 < os::arg_count() {
         print::output::complain(b"usage: patches < FILE\n");
@@ -40,15 +31,21 @@ fn main() {
 
 // Reads the mesh, and prints its corners.
 fn print_input() {
-    let mut coordinates = [0i32; 3 * MOST_VERTICES];
+    let mut coordinates = [0i32; MOST_NUMBERS];
     let mut sides = [0u8; MOST_FACES];
     let mut corners = [0u16; MOST_CORNERS];
-    let mut sharpness = [0u8; 2 * MOST_CORNERS];
-    let mesh = read_mesh(&mut coordinates, &mut sides, &mut corners, &mut sharpness);
-    let numbers = least(mesh.numbers, 3 * MOST_VERTICES);
-    let faces = least(mesh.faces, MOST_FACES);
-    let count = least(mesh.corners, MOST_CORNERS);
-    let pairs = least(mesh.sharpness, 2 * MOST_CORNERS);
+    let mut sharpness = [0u8; MOST_PAIRS];
+    let mesh = read_mesh(
+        &mut coordinates,
+        &mut sides,
+        &mut corners,
+        &mut sharpness,
+        false,
+    );
+    let numbers = mesh.numbers;
+    let faces = mesh.faces;
+    let count = mesh.corners;
+    let pairs = mesh.pairs;
     if mesh.ok {
         print_mesh(
             &coordinates[..numbers],
@@ -56,63 +53,6 @@ fn print_input() {
             &corners[..count],
             &sharpness[..pairs],
         );
-    }
-}
-
-// Reads the file on standard input into the lent lists.
-fn read_mesh(
-    coordinates: &mut [i32],
-    sides: &mut [u8],
-    corners: &mut [u16],
-    sharpness: &mut [u8],
-) -> Lengths {
-    let mut bytes = [0u8; BUFFER];
-    let read = print::input::read_file(STDIN_FILENO, b"standard input", &mut bytes);
-    let held = read.held;
-    if read.ok {
-        return decode(
-            &bytes[..held],
-            read.counted,
-            coordinates,
-            sides,
-            corners,
-            sharpness,
-        );
-    }
-    no_mesh()
-}
-
-fn no_mesh() -> Lengths {
-    Lengths {
-        ok: false,
-        numbers: 0,
-        faces: 0,
-        corners: 0,
-        sharpness: 0,
-    }
-}
-
-// The lists of the file, or the line that says why it is turned down.
-fn decode(
-    bytes: &[u8],
-    counted: usize,
-    coordinates: &mut [i32],
-    sides: &mut [u8],
-    corners: &mut [u16],
-    sharpness: &mut [u8],
-) -> Lengths {
-    let d = dms::decode(bytes, counted, coordinates, sides, corners, sharpness);
-    let answer = d.answer;
-    if let Answer::Refused(number, place) = answer {
-        say_refusal(number, place);
-        return no_mesh();
-    }
-    Lengths {
-        ok: true,
-        numbers: d.coordinates,
-        faces: d.sides,
-        corners: d.corners,
-        sharpness: d.sharpness,
     }
 }
 
