@@ -58,69 +58,18 @@ fn convert(text: &[u8]) {
     let n = least(d.coordinates, 3 * MOST_VERTICES);
     let f = least(d.sides, MOST_FACES);
     let k = least(d.corners, MOST_CORNERS);
+    let p = least(d.sharpness, 2 * MOST_CORNERS);
     match answer {
         Answer::Refused(number, place) => print::complain_refusal(number, place),
-        Answer::Done => write_file(&coordinates[..n], &sides[..f], &corners[..k]),
+        Answer::Done => {
+            dms_output::say_file(
+                &coordinates[..n],
+                &sides[..f],
+                &corners[..k],
+                &sharpness[..p],
+            );
+        }
     }
-}
-
-// The bytes of version 1, which reads as 8 and 8 throughout: mark, version, three counts, then the lists, each number with its low byte first.
-fn write_file(coordinates: &[i32], sides: &[u8], corners: &[u16]) {
-    let mut file = [0u8; print::input::BUFFER];
-    let mark = print::text::put_word(&mut file, 0, b"DMS\x01\x00");
-    let vertices = put_half(&mut file, mark, coordinates.len() / 3);
-    let faces = put_half(&mut file, vertices, sides.len());
-    let header = put_half(&mut file, faces, corners.len());
-    let numbers = put_coordinates(&mut file, header, coordinates);
-    let counts = print::text::put_word(&mut file, numbers, sides);
-    let end = put_corners(&mut file, counts, corners);
-    print::output::say_up_to(&file, end);
-}
-
-// The low 16 bits of a number.
-fn put_half(file: &mut [u8], at: usize, n: usize) -> usize {
-    let low = print::text::put_byte(file, at, (n % 256) as u8);
-    print::text::put_byte(file, low, (n / 256 % 256) as u8)
-}
-
-// The 32 bits of a number, in two's complement.
-fn put_coordinate(file: &mut [u8], at: usize, z: i32) -> usize {
-    let n = bits(z);
-    let low = put_half(file, at, n % 65536);
-    put_half(file, low, n / 65536 % 65536)
-}
-
-// The number that has the same 32 bits without a sign.
-fn bits(z: i32) -> usize {
-    let n = print::text::size(z) as usize;
-    if z < 0 {
-        return 4294967296 - n;
-    }
-    n
-}
-
-fn put_coordinates(file: &mut [u8], from: usize, coordinates: &[i32]) -> usize {
-    let mut at = from;
-    let mut i = 0;
-    while i < coordinates.len() {
-        at = put_coordinate(file, at, coordinates[i]);
-        i += 1;
-    }
-    at
-}
-
-fn put_corners(file: &mut [u8], from: usize, corners: &[u16]) -> usize {
-    let mut at = from;
-    let mut i = 0;
-    while i < corners.len() {
-        at = put_half(file, at, wide(corners[i]));
-        i += 1;
-    }
-    at
-}
-
-fn wide(x: u16) -> usize {
-    x as usize
 }
 
 // The lesser of two numbers.

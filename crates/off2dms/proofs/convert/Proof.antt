@@ -33,6 +33,12 @@ least-requires-2 c κs = search needs
 least-requires-3 : tie.Need-least-requires-3
 least-requires-3 c κs = search needs
 
+mul-least-2 : tie.Need-mul-least-2
+mul-least-2 c = search needs
+
+least-requires-4 : tie.Need-least-requires-4
+least-requires-4 c κs = search needs
+
 enum-known-answer : tie.Need-enum-known-answer
 enum-known-answer c = search needs
 
@@ -45,23 +51,29 @@ enum-told c = search needs
 array-share-prefix-coordinates : tie.Need-array-share-prefix-coordinates
 array-share-prefix-coordinates c = search needs
 
-slice-aggregate-write-file : tie.Need-slice-aggregate-write-file
-slice-aggregate-write-file c = sym (length-take-le _ _ (search needs))
+slice-aggregate-say-file : tie.Need-slice-aggregate-say-file
+slice-aggregate-say-file c = sym (length-take-le _ _ (search needs))
 
 array-share-prefix-sides : tie.Need-array-share-prefix-sides
 array-share-prefix-sides c = search needs
 
-slice-aggregate-write-file-2 : tie.Need-slice-aggregate-write-file-2
-slice-aggregate-write-file-2 c = sym (length-take-le _ _ (search needs))
+slice-aggregate-say-file-2 : tie.Need-slice-aggregate-say-file-2
+slice-aggregate-say-file-2 c = sym (length-take-le _ _ (search needs))
 
 array-share-prefix-corners : tie.Need-array-share-prefix-corners
 array-share-prefix-corners c = search needs
 
-slice-aggregate-write-file-3 : tie.Need-slice-aggregate-write-file-3
-slice-aggregate-write-file-3 c = sym (length-take-le _ _ (search needs))
+slice-aggregate-say-file-3 : tie.Need-slice-aggregate-say-file-3
+slice-aggregate-say-file-3 c = sym (length-take-le _ _ (search needs))
 
-write-file-requires : tie.Need-write-file-requires
-write-file-requires c κs = search needs
+array-share-prefix-sharpness : tie.Need-array-share-prefix-sharpness
+array-share-prefix-sharpness c = search needs
+
+slice-aggregate-say-file-4 : tie.Need-slice-aggregate-say-file-4
+slice-aggregate-say-file-4 c = sym (length-take-le _ _ (search needs))
+
+say-file-requires : tie.Need-say-file-requires
+say-file-requires c κs = search needs
 
 returns : tie.Need-returns
 returns c = search needs
@@ -82,15 +94,19 @@ convert-spec =
     least-requires
     least-requires-2
     least-requires-3
+    mul-least-2
+    least-requires-4
     enum-known-answer
     complain-refusal-requires
     enum-told
     array-share-prefix-coordinates
-    slice-aggregate-write-file
+    slice-aggregate-say-file
     array-share-prefix-sides
-    slice-aggregate-write-file-2
+    slice-aggregate-say-file-2
     array-share-prefix-corners
-    slice-aggregate-write-file-3
-    write-file-requires
+    slice-aggregate-say-file-3
+    array-share-prefix-sharpness
+    slice-aggregate-say-file-4
+    say-file-requires
     returns
     returns-2)

@@ -1,0 +1,40 @@
+-- The low half of the bits, and after it the high one.
+-- Assumes nothing.
+use mathlib.Core.Path.{_≡_, ap, _∙_}
+use mathlib.Core.List.{_++_}
+use Prim.Native.Nat.{ℕ, _/_}
+use mir.Syntax.{w32}
+use mir.Val.{ofZ}
+use mir.ValLaws.{toZ-ofZ}
+use Rattle.dms_output.specs.Bytes.{halfBytes}
+use Rattle.text_buffer.proofs.Putting.{put-then, put-same}
+use borrow.Author.Needs.{needs}
+use Rattle.dms_output.proofs.put_coordinate.Statement.{statement}
+use Rattle.dms_output.proofs.put_coordinate.Tie as tie
+
+bits-requires : tie.Need-bits-requires
+bits-requires c κs = search needs
+
+cast-n : tie.Need-cast-n
+cast-n c = search needs
+
+put-half-requires : tie.Need-put-half-requires
+put-half-requires c κs = search needs
+
+put-half-requires-2 : tie.Need-put-half-requires-2
+put-half-requires-2 c κs = search needs
+
+same-length : tie.Need-same-length
+same-length c = search needs
+
+returns : tie.Need-returns
+returns c = 
+    let s = c .before .before .before .before .before .before .before .before .before .before .args in
+    let e : c .before .before .before .before .before .before .before .before .bits .result ≡ ofZ w32 (s .z) = c .before .before .before .before .before .before .before .before .bits .ensures ∙ ap (ofZ w32) (toZ-ofZ w32 (s .z) (c .before .before .before .before .before .before .before .before .before .before .fits .z)) in
+    put-same (ap (λ (n : ℕ). halfBytes n ++ halfBytes (n / 65536)) e)
+    (put-then (c .before .before .before .before .before .before .put-half .kept .0) (c .before .before .before .before .before .before .put-half .ensures) (c .before .before .put-half2 .ensures))
+
+pub put-coordinate-spec : {M : Type 1} → statement M
+put-coordinate-spec =
+    tie.close
+    (tie.spec bits-requires cast-n put-half-requires put-half-requires-2 same-length returns)

@@ -1,0 +1,78 @@
+-- After c turns the first c corners were put.
+-- Assumes nothing.
+use mathlib.Core.Path.{_≡_, refl, ap, _∙_}
+use Prim.Native.Nat.{ℕ, _+_, _-_, _≤_}
+use lib.ListN.{length}
+use native.Mathlib.Omega.{arith}
+use Rattle.text_buffer.specs.Text.{Put}
+use Rattle.text_buffer.proofs.Putting.{put-none, put-then, put-same}
+use Rattle.dms_output.specs.Bytes.{cornerBytes}
+use Rattle.dms_output.proofs.Steps.{no-corners, next-corner}
+use borrow.Author.Needs.{needs}
+use Rattle.dms_output.proofs.put_corners.Statement.{statement}
+use Rattle.dms_output.proofs.put_corners.Tie as tie
+
+abbrev Inv-loop : tie.InvT-loop
+Inv-loop file₀ from corners at₀ c₀ file at c = 
+    (c ≤ length corners) × (length file ≡ length file₀) × Put file₀ from (cornerBytes corners c) file at
+
+abbrev μ-loop : tie.MeasureT-loop
+μ-loop file₀ from corners at₀ c₀ file at c = length corners - c
+
+loop-holds : tie.Need-loop-holds Inv-loop μ-loop
+loop-holds c = (omega arith, refl, put-same (no-corners _) (put-none _ _))
+
+mul-put-half : tie.Need-mul-put-half Inv-loop μ-loop
+mul-put-half c = search needs
+
+shared-slice-read-put-half : tie.Need-shared-slice-read-put-half Inv-loop μ-loop
+shared-slice-read-put-half c = search needs
+
+cast-put-half : tie.Need-cast-put-half Inv-loop μ-loop
+cast-put-half c = omega (arith, c .shared-slice-known2 .given (c .before .before .before .loop .c))
+
+put-half-requires : tie.Need-put-half-requires Inv-loop μ-loop
+put-half-requires c κs = search needs
+
+add-c : tie.Need-add-c Inv-loop μ-loop
+add-c c = search needs
+
+loop-less : tie.Need-loop-less Inv-loop μ-loop
+loop-less c = search needs
+
+loop-again : tie.Need-loop-again Inv-loop μ-loop
+loop-again c = 
+    let list = c .before .before .before .before .before .before .before .before .before .args .corners .now in
+    let l = c .before .before .before .before .before .before .loop in
+    let p = c .before .before .put-half in (
+      omega arith,
+      p .kept .0 ∙ l .inv .1,
+      put-same (next-corner list (l .c)) (put-then (l .inv .1) (l .inv .2) (p .ensures)),
+    )
+
+same-length : tie.Need-same-length Inv-loop μ-loop
+same-length c = c .before .loop .inv .1
+
+returns : tie.Need-returns Inv-loop μ-loop
+returns c = 
+    let l = c .before .loop in
+    let list = c .before .before .before .before .args .corners .now in
+    let q : l .c ≡ length list = omega arith in
+    put-same (ap (cornerBytes list) q) (l .inv .2)
+
+pub put-corners-spec : {M : Type 1} → statement M
+put-corners-spec =
+    tie.close
+    (tie.spec
+    Inv-loop
+    μ-loop
+    loop-holds
+    mul-put-half
+    shared-slice-read-put-half
+    cast-put-half
+    put-half-requires
+    add-c
+    loop-less
+    loop-again
+    same-length
+    returns)
