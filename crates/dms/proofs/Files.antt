@@ -10,20 +10,18 @@ use lib.ListN.{length, take}
 use lib.Seq.{take-all}
 use lib.IntN.{ℤ}
 use borrow.Author.Tests.{lt-ltb, le-ltb, ltb-true, ltb-false}
-use Rattle.paper.specs.Mesh.{mostVertices, mostFaces, mostCorners, Mesh, meshOf, vertexCount, faceCount, cornerCount}
-use Rattle.paper.specs.Faults.{Verdict, sound, fault, single, _orElse_, Accepted}
-use Rattle.paper.specs.Counts.{Counted}
-use Rattle.paper.specs.File.{verticesIn, facesIn, cornersIn, fileMesh, fileVerdict, noCounts, noRoom, Surveyed, roomVerdict, decodeVerdict, DecodedTo}
+use Rattle.paper.specs.Mesh.{Mesh, meshOf}
+use Rattle.paper.specs.Faults.{Verdict, sound, fault, single, _orElse_}
+use Rattle.paper.specs.File.{verticesIn, facesIn, cornersIn, fileMesh, fileVerdict, noRoom, Surveyed, roomVerdict, decodeVerdict, DecodedTo}
 use Rattle.paper.specs.declared.Answer.the-variants.{Done, Refused}
-use Rattle.paper.specs.declared.Counts.{Counts}
 use Rattle.paper.specs.declared.Summary.{Summary}
 use Rattle.paper.specs.declared.Decoded.{Decoded}
 use Rattle.mesh.proofs.Scans.{ways}
-use Rattle.mesh.proofs.Accepted.{sound-of, few-vertices, few-faces, few-corners}
 use Rattle.mesh.proofs.Verdicts.{orElse-sound, sound-left, sound-right, single-sound}
-use Rattle.dms.specs.Sized.{Sized, Room, ListsRead}
-use Rattle.dms.proofs.Lists.{read-back, file-coordinates, file-faces, file-corners, file-sharpness}
-use Rattle.dms.proofs.Headers.{header-sized}
+use Rattle.dms_header.specs.Sized.{Sized}
+use Rattle.dms_lists.specs.Room.{Room, ListsRead}
+use Rattle.dms_lists.proofs.Lists.{read-back, file-coordinates, file-faces, file-corners, file-sharpness}
+use Rattle.dms_header.proofs.Headers.{header-sized}
 
 -- ---- the bytes of the file
 pub held-bytes : (bytes : List ℕ) (held counted : ℕ) → (held < counted → held ≡ length bytes) → held ≤ counted → take held bytes ≡ take counted bytes
@@ -35,23 +33,8 @@ held-bytes bytes held counted all le =
     (ways (ltb held counted))
 
 -- ---- surveying
-module _ (M : Mesh) (v : Verdict) (counts : Counts) where
-  pub refused-survey : (k p : ℕ) → fault k p ≡ v → counts ≡ noCounts → Surveyed M v (record { answer = Refused k p; counts = counts })
-  refused-survey k p e q =
-      record { answers = e; counts = λ s. let z : _≡_ {A = ℕ} 0 1 = cc in absurd (omega arith); none = λ j r s. q }
-
-  pub done-survey : sound ≡ v → Counted M counts → Surveyed M v (record { answer = Done; counts = counts })
-  done-survey e h =
-      record { answers = e; counts = λ s. h; none = λ k p s. let z : _≡_ {A = ℕ} 0 1 = cc in absurd (omega arith) }
-
 pub later-survey : (M : Mesh) {w : Verdict} (v : Verdict) (r : Summary) → w ≡ sound → Surveyed M v r → Surveyed M (w orElse v) r
 later-survey M v r e s = subst (λ (x : Verdict). Surveyed M x r) (sym (orElse-sound v e)) s
-
--- an accepted mesh is within the limits
-pub limits : (M : Mesh) → Accepted M → (vertexCount M ≤ mostVertices) × ((faceCount M ≤ mostFaces) × (cornerCount M ≤ mostCorners))
-limits M e =
-    let four = sound-of M e .four in
-    (few-vertices _ _ _ four, (few-faces _ _ _ four, few-corners _ _ _ four))
 
 -- the lists that were read make the file's mesh
 pub mesh-read : (file : List ℕ) (n f k p : ℕ) (lent left : Mesh) → n ≡ 3 * verticesIn file → f ≡ facesIn file → k ≡ cornersIn file → p ≡ 2 * cornersIn file

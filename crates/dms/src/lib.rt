@@ -1,24 +1,23 @@
 // The mesh file DMS as a whole: the bytes read, and the length counted, give its counts, or its lists, or why it is turned down.
 // A file is checked by 1 to 13 and 28 in local copies of its lists, before anything is written to a lent space.
 pub mod body;
-mod counting;
 pub mod header;
+pub use surveying::survey_mesh;
 
 ghost use mathlib.Core.Path.{_≡_};
 ghost use Prim.Native.Nat.{_<_, _≤_};
 ghost use lib.ListN.{length};
 ghost use Rattle.paper.specs.Mesh.{meshOf};
 ghost use Rattle.paper.specs.Faults.{verdict, stated};
-ghost use Rattle.paper.specs.File.{headerLength, fileMesh, fileOf, noCounts, Surveyed, FileSurveyed, roomVerdict, decodeVerdict, DecodedTo};
-ghost use Rattle.dms.specs.Sized.{Sized};
+ghost use Rattle.paper.specs.File.{headerLength, fileMesh, fileOf, Surveyed, FileSurveyed, roomVerdict, decodeVerdict, DecodedTo};
+ghost use Rattle.dms_header.specs.Sized.{Sized};
 use paper::Answer;
-use paper::Counts;
 use paper::Decoded;
 use paper::MOST_CORNERS;
 use paper::MOST_FACES;
 use paper::MOST_VERTICES;
-use paper::NUMBERS;
 use paper::Summary;
+use surveying::none;
 
 // The numbers of the longest coordinate list.
 const MOST_NUMBERS: usize = 3 * MOST_VERTICES;
@@ -64,19 +63,6 @@ fn least(a: usize, b: usize) -> usize
     ensures { λ r. ⌜ (r ≤ a) × ((r < b → r ≡ a) × (r ≤ b)) ⌝ }
 {
     if a < b { a } else { b }
-}
-
-// The counts beside a refusal.
-fn none() -> Counts
-    ensures { λ r. ⌜ r ≡ noCounts ⌝ }
-{
-    Counts {
-        vertices: 0,
-        faces: 0,
-        corners: 0,
-        cornered: [0u16; NUMBERS],
-        sided: [0u16; NUMBERS],
-    }
 }
 
 // A refusal of decoding.
@@ -131,32 +117,6 @@ fn survey_lists(file: &[u8]) -> Summary
         &corners[..count],
         &sharpness[..2 * count],
     )
-}
-
-// Checks 4 to 13 with 27 and 28, and the counts, of a mesh's lists.
-pub fn survey_mesh(coordinates: &[i32], sides: &[u8], corners: &[u16], sharpness: &[u8]) -> Summary
-    ensures { λ r. ⌜ Surveyed (meshOf (now (coordinates .entry)) (now (sides .entry)) (now (corners .entry)) (now (sharpness .entry))) (verdict (meshOf (now (coordinates .entry)) (now (sides .entry)) (now (corners .entry)) (now (sharpness .entry)))) r ⌝ }
-{
-    let nothing = none();
-    let answer = check_mesh(coordinates, sides, corners, sharpness);
-    if let Answer::Refused(number, place) = answer {
-        return Summary {
-            answer: Answer::Refused(number, place),
-            counts: nothing,
-        };
-    }
-    let counts = counting::count(coordinates, sides, corners);
-    Summary {
-        answer: Answer::Done,
-        counts: counts,
-    }
-}
-
-// Checks 4 to 13 with 27 and 28, of a mesh's lists.
-fn check_mesh(coordinates: &[i32], sides: &[u8], corners: &[u16], sharpness: &[u8]) -> Answer
-    ensures { λ r. ⌜ stated r ≡ verdict (meshOf (now (coordinates .entry)) (now (sides .entry)) (now (corners .entry)) (now (sharpness .entry))) ⌝ }
-{
-    checks::check(coordinates, sides, corners, sharpness)
 }
 
 // The same as `decode`, of the file itself.
