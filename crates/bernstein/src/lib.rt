@@ -5,7 +5,8 @@ ghost use mathlib.Core.Path.{_≡_};
 ghost use Prim.Native.Nat.{_*_, _^_, _≤_};
 ghost use lib.IntN.{pos, natAbs};
 ghost use Rattle.paper.specs.Numbers.{round};
-ghost use Rattle.bernstein.specs.Sums.{Sized, AllSized, differencesOf, slopesOf, columnsOf, weightedOf, scaledOf, weightsOf, polynomialOf, stateOf, statesOf, stepOf, stepsOf, firstsOf};
+ghost use Rattle.bernstein.specs.Sums.{Sized, AllSized, differencesOf, slopesOf, columnsOf, weightedOf, scaledOf, weightsOf, polynomialOf};
+ghost use Rattle.bernstein.specs.Sums.{stateOf, statesOf, stepOf, stepsOf, firstsOf};
 
 // Five numbers: a row of control points with zeros after them; the coefficients of a polynomial, by rising powers; or its value and its first to
 // fourth difference at a place.

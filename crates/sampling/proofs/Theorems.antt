@@ -302,7 +302,8 @@ module _ (numbers : List ℤ) (s : Side) (n : ℕ) where
       below-or-last k r (omega arith)
       (λ o. split-more (firstRows numbers s n r) _ (3 * (before n k + j)) (rowSamples numbers s n r (n - r + 1)) (in-rows k j r o l))
       (λ e. subst
-      (λ (x : ℕ). Split (firstRows numbers s n r ++ rowSamples numbers s n r (n - r + 1)) (samplePoint numbers s (weights (n - x - j) j x n)) (3 * (before n x + j)))
+      (λ (x : ℕ). Split (firstRows numbers s n r ++ rowSamples numbers s n r (n - r + 1)) (samplePoint numbers s (weights (n - x - j) j x n))
+      (3 * (before n x + j)))
       (sym e)
       (subst (λ (x : ℕ). Split (firstRows numbers s n r ++ rowSamples numbers s n r (n - r + 1)) (samplePoint numbers s (weights (n - r - j) j r n)) x)
       (let f : 3 * before n r + 3 * j ≡ 3 * (before n r + j) = omega arith in f)

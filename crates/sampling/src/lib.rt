@@ -13,7 +13,8 @@ ghost use Rattle.paper.specs.Numbers.{round};
 ghost use Rattle.paper.specs.Faults.{sound, stated};
 ghost use Rattle.paper.specs.File.{begins};
 ghost use Rattle.paper.specs.Floats.{netVerdict, axes};
-ghost use Rattle.paper.specs.Sampling.{weights, onAxis, control, sampleAt, fault33, sampleVerdict, sideAt, Sampled, sampleCount, triangleSamples, TriangleSampled};
+ghost use Rattle.paper.specs.Sampling.{weights, onAxis, control, sampleAt, fault33, sampleVerdict, sideAt, Sampled, sampleCount, triangleSamples};
+ghost use Rattle.paper.specs.Sampling.{TriangleSampled};
 ghost use Rattle.bernstein.specs.Sums.{AllSized, Tapered, rowsOf, polynomialOf, rowOf, valueOf, quarticSum};
 ghost use Rattle.sampling.specs.Grid.{bPlace, aPlace, before, Sampleable, RowSampleable, RowPut, RowsPut};
 

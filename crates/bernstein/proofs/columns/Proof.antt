@@ -11,7 +11,8 @@ use Rattle.bernstein.proofs.columns.Tie as tie
 returns : tie.Need-returns
 unfolding columnsOf
 returns c =
-    let s = c .before .before .before .before .before .before .before .before .before .before .before .before .before .before .before .before .before .before .before .before in
+    let t = c .before .before .before .before .before .before .before .before .before .before in
+    let s = t .before .before .before .before .before .before .before .before .before .before in
     let k0 = fits (s .args .d .r0) (2 ^ 31) (s .pre .0) (lit≤ tt) in
     let k1 = fits (s .args .d .r1) (2 ^ 31) (s .pre .1) (lit≤ tt) in
     let k2 = fits (s .args .d .r2) (2 ^ 31) (s .pre .2) (lit≤ tt) in

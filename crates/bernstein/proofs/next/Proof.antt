@@ -22,7 +22,14 @@ step-requires-5 c κs = search needs
 
 returns : tie.Need-returns
 unfolding stepsOf
-returns c = cc (c .before .before .before .before .step .ensures, c .before .before .before .step2 .ensures, c .before .before .step3 .ensures, c .before .step4 .ensures, c .step5 .ensures)
+returns c =
+    cc (
+      c .before .before .before .before .step .ensures,
+      c .before .before .before .step2 .ensures,
+      c .before .before .step3 .ensures,
+      c .before .step4 .ensures,
+      c .step5 .ensures,
+    )
 
 pub next-spec : {M : Type 1} → statement M
 next-spec = tie.close (tie.spec step-requires step-requires-2 step-requires-3 step-requires-4 step-requires-5 returns)

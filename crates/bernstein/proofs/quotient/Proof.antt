@@ -132,4 +132,8 @@ returns-16 c =
     arm _ _ _ _ 16 (s .fits .s) (search needs) (is-last n 16 h16 (s .pre .1)) refl (c .round-shift4 .ensures)
 
 pub quotient-spec : {M : Type 1} → statement M
-quotient-spec = tie.close (tie.spec round-div-requires round-shift-requires round-div-requires-2 round-shift-requires-2 round-div-requires-3 round-div-requires-4 round-div-requires-5 round-shift-requires-3 round-div-requires-6 round-div-requires-7 round-div-requires-8 round-div-requires-9 round-div-requires-10 round-div-requires-11 round-div-requires-12 round-shift-requires-4 returns returns-2 returns-3 returns-4 returns-5 returns-6 returns-7 returns-8 returns-9 returns-10 returns-11 returns-12 returns-13 returns-14 returns-15 returns-16)
+quotient-spec =
+    tie.close (tie.spec round-div-requires round-shift-requires round-div-requires-2 round-shift-requires-2 round-div-requires-3 round-div-requires-4
+    round-div-requires-5 round-shift-requires-3 round-div-requires-6 round-div-requires-7 round-div-requires-8 round-div-requires-9 round-div-requires-10
+    round-div-requires-11 round-div-requires-12 round-shift-requires-4 returns returns-2 returns-3 returns-4 returns-5 returns-6 returns-7 returns-8
+    returns-9 returns-10 returns-11 returns-12 returns-13 returns-14 returns-15 returns-16)

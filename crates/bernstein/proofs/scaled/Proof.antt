@@ -22,7 +22,14 @@ weighted-requires-5 c κs = search needs
 
 returns : tie.Need-returns
 unfolding scaledOf
-returns c = cc (c .before .before .before .before .weighted .ensures, c .before .before .before .weighted2 .ensures, c .before .before .weighted3 .ensures, c .before .weighted4 .ensures, c .weighted5 .ensures)
+returns c =
+    cc (
+      c .before .before .before .before .weighted .ensures,
+      c .before .before .before .weighted2 .ensures,
+      c .before .before .weighted3 .ensures,
+      c .before .weighted4 .ensures,
+      c .weighted5 .ensures,
+    )
 
 pub scaled-spec : {M : Type 1} → statement M
 scaled-spec = tie.close (tie.spec weighted-requires weighted-requires-2 weighted-requires-3 weighted-requires-4 weighted-requires-5 returns)

@@ -22,7 +22,14 @@ differences-requires-5 c κs = search needs
 
 returns : tie.Need-returns
 unfolding slopesOf
-returns c = cc (c .before .before .before .before .differences .ensures, c .before .before .before .differences2 .ensures, c .before .before .differences3 .ensures, c .before .differences4 .ensures, c .differences5 .ensures)
+returns c =
+    cc (
+      c .before .before .before .before .differences .ensures,
+      c .before .before .before .differences2 .ensures,
+      c .before .before .differences3 .ensures,
+      c .before .differences4 .ensures,
+      c .differences5 .ensures,
+    )
 
 pub slopes-spec : {M : Type 1} → statement M
 slopes-spec = tie.close (tie.spec differences-requires differences-requires-2 differences-requires-3 differences-requires-4 differences-requires-5 returns)

@@ -34,11 +34,13 @@ ahead-requires-4 : tie.Need-ahead-requires-4
 ahead-requires-4 c κs = tapered-size (c .before .before .before .polynomial .result .r3) (2 ^ 22) (tapers (c .before .before .before) .t3) (lit≤ tt)
 
 ahead-requires-5 : tie.Need-ahead-requires-5
-ahead-requires-5 c κs = tapered-size (c .before .before .before .before .polynomial .result .r4) (2 ^ 18) (tapers (c .before .before .before .before) .t4) (lit≤ tt)
+ahead-requires-5 c κs =
+    tapered-size (c .before .before .before .before .polynomial .result .r4) (2 ^ 18) (tapers (c .before .before .before .before) .t4) (lit≤ tt)
 
 returns : tie.Need-returns
 returns c =
-    states-are (c .before .before .before .before .before .polynomial .result) 0 _ _ _ _ _ (c .before .before .before .before .ahead .ensures) (c .before .before .before .ahead2 .ensures) (c .before .before .ahead3 .ensures) (c .before .ahead4 .ensures) (c .ahead5 .ensures)
+    states-are (c .before .before .before .before .before .polynomial .result) 0 _ _ _ _ _ (c .before .before .before .before .ahead .ensures)
+    (c .before .before .before .ahead2 .ensures) (c .before .before .ahead3 .ensures) (c .before .ahead4 .ensures) (c .ahead5 .ensures)
     ∙ ap (λ (r : Rows). statesOf r 0) (c .before .before .before .before .before .polynomial .ensures)
 
 pub start-spec : {M : Type 1} → statement M

@@ -32,11 +32,15 @@ add-t4 : tie.Need-add-t4
 add-t4 c = let k = facts (c .before .before .before .before .before .before) in simp (toZ-ofZ, k .0, k .1, k .2, k .3, k .4, k .5, k .6, k .7, k .8) (k .7)
 
 add-t5 : tie.Need-add-t5
-add-t5 c = let k = facts (c .before .before .before .before .before .before .before .before) in simp (toZ-ofZ, k .0, k .1, k .2, k .3, k .4, k .5, k .6, k .7, k .8) (k .8)
+add-t5 c =
+    let k = facts (c .before .before .before .before .before .before .before .before) in
+    simp (toZ-ofZ, k .0, k .1, k .2, k .3, k .4, k .5, k .6, k .7, k .8) (k .8)
 
 returns : tie.Need-returns
 unfolding stepOf
-returns c = let k = facts (c .before .before .before .before .before .before .before .before .before) in simp (toZ-ofZ, k .0, k .1, k .2, k .3, k .4, k .5, k .6, k .7, k .8)
+returns c =
+    let k = facts (c .before .before .before .before .before .before .before .before .before) in
+    simp (toZ-ofZ, k .0, k .1, k .2, k .3, k .4, k .5, k .6, k .7, k .8)
 
 pub step-spec : {M : Type 1} → statement M
 step-spec = tie.close (tie.spec add-t2 add-t3 add-t4 add-t5 returns)

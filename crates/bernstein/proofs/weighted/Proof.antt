@@ -66,7 +66,8 @@ mul-t6 c =
 
 mul-t7 : tie.Need-mul-t7
 mul-t7 c =
-    let s = c .before .before .before .before .before .before .before .before .before .before .before .before .before .before .before .before .before .before .before .before in
+    let t = c .before .before .before .before .before .before .before .before .before .before in
+    let s = t .before .before .before .before .before .before .before .before .before .before in
     let k = fits (s .args .v) (2 ^ 35) (s .pre .0) (lit≤ tt) in
     let m = fits (s .args .w) (2 ^ 16) (s .pre .1) (lit≤ tt) in
     let p = products s in
@@ -75,7 +76,8 @@ mul-t7 c =
 returns : tie.Need-returns
 unfolding weightedOf
 returns c =
-    let s = c .before .before .before .before .before .before .before .before .before .before .before .before .before .before .before .before .before .before .before .before in
+    let t = c .before .before .before .before .before .before .before .before .before .before in
+    let s = t .before .before .before .before .before .before .before .before .before .before in
     let k = fits (s .args .v) (2 ^ 35) (s .pre .0) (lit≤ tt) in
     let m = fits (s .args .w) (2 ^ 16) (s .pre .1) (lit≤ tt) in
     let p = products s in

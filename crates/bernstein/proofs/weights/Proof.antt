@@ -19,12 +19,22 @@ module _ (n : ℕ) (l : n ≤ 16) where
   plain = toZ-pos w64 n (omega arith)
 
   abbrev Fine : Type 0
-  Fine = SFits w64 (pos (n * n)) × SFits w64 (pos (n * n * n)) × SFits w64 (pos (n * n * n * n)) × SFits w64 (pos (4 * (n * n * n))) × SFits w64 (pos (6 * (n * n))) × SFits w64 (pos (4 * n)) × SFits w64 (pos (12 * (n * n))) × SFits w64 (pos (12 * n))
+  Fine =
+      SFits w64 (pos (n * n)) × SFits w64 (pos (n * n * n)) × SFits w64 (pos (n * n * n * n)) × SFits w64 (pos (4 * (n * n * n)))
+      × SFits w64 (pos (6 * (n * n))) × SFits w64 (pos (4 * n)) × SFits w64 (pos (12 * (n * n))) × SFits w64 (pos (12 * n))
 
   fine : Fine
   fine =
-      let k = powers n l in
-      (size-fits _ (omega (arith, k .0, k .1, k .2)), size-fits _ (omega (arith, k .0, k .1, k .2)), size-fits _ (omega (arith, k .0, k .1, k .2)), size-fits _ (omega (arith, k .0, k .1, k .2)), size-fits _ (omega (arith, k .0, k .1, k .2)), size-fits _ (omega (arith, k .0, k .1, k .2)), size-fits _ (omega (arith, k .0, k .1, k .2)), size-fits _ (omega (arith, k .0, k .1, k .2)))
+      let k = powers n l in (
+        size-fits _ (omega (arith, k .0, k .1, k .2)),
+        size-fits _ (omega (arith, k .0, k .1, k .2)),
+        size-fits _ (omega (arith, k .0, k .1, k .2)),
+        size-fits _ (omega (arith, k .0, k .1, k .2)),
+        size-fits _ (omega (arith, k .0, k .1, k .2)),
+        size-fits _ (omega (arith, k .0, k .1, k .2)),
+        size-fits _ (omega (arith, k .0, k .1, k .2)),
+        size-fits _ (omega (arith, k .0, k .1, k .2)),
+      )
 
 mul-m2 : tie.Need-mul-m2
 mul-m2 c =

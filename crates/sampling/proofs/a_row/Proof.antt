@@ -26,9 +26,12 @@ returns : tie.Need-returns
 returns c =
     let s = c .before .before .before .before in
     five-same
-    (by-bits (c .before .before .before .a-point .result) _ (c .before .before .before .a-point .ensures) ∙ sym (a-place (onAxis (now (s .args .numbers)) (s .args .axis)) (s .args .side) 0 (lit≤ tt)))
-    (by-bits (c .before .before .a-point2 .result) _ (c .before .before .a-point2 .ensures) ∙ sym (a-place (onAxis (now (s .args .numbers)) (s .args .axis)) (s .args .side) 1 (lit≤ tt)))
-    (by-bits (c .before .a-point3 .result) _ (c .before .a-point3 .ensures) ∙ sym (a-place (onAxis (now (s .args .numbers)) (s .args .axis)) (s .args .side) 2 (lit≤ tt)))
+    (by-bits (c .before .before .before .a-point .result) _ (c .before .before .before .a-point .ensures)
+    ∙ sym (a-place (onAxis (now (s .args .numbers)) (s .args .axis)) (s .args .side) 0 (lit≤ tt)))
+    (by-bits (c .before .before .a-point2 .result) _ (c .before .before .a-point2 .ensures)
+    ∙ sym (a-place (onAxis (now (s .args .numbers)) (s .args .axis)) (s .args .side) 1 (lit≤ tt)))
+    (by-bits (c .before .a-point3 .result) _ (c .before .a-point3 .ensures)
+    ∙ sym (a-place (onAxis (now (s .args .numbers)) (s .args .axis)) (s .args .side) 2 (lit≤ tt)))
     (by-bits (c .a-point4 .result) _ (c .a-point4 .ensures) ∙ sym (a-place (onAxis (now (s .args .numbers)) (s .args .axis)) (s .args .side) 3 (lit≤ tt)))
     refl
 

@@ -23,8 +23,10 @@ returns : tie.Need-returns
 returns c =
     let s = c .before .before .before in
     five-same
-    (by-bits (c .before .before .b-point .result) _ (c .before .before .b-point .ensures) ∙ sym (inner-place (onAxis (now (s .args .numbers)) (s .args .axis)) (s .args .side) 0 (lit≤ tt)))
-    (by-bits (c .before .b-point2 .result) _ (c .before .b-point2 .ensures) ∙ sym (inner-place (onAxis (now (s .args .numbers)) (s .args .axis)) (s .args .side) 1 (lit≤ tt)))
+    (by-bits (c .before .before .b-point .result) _ (c .before .before .b-point .ensures)
+    ∙ sym (inner-place (onAxis (now (s .args .numbers)) (s .args .axis)) (s .args .side) 0 (lit≤ tt)))
+    (by-bits (c .before .b-point2 .result) _ (c .before .b-point2 .ensures)
+    ∙ sym (inner-place (onAxis (now (s .args .numbers)) (s .args .axis)) (s .args .side) 1 (lit≤ tt)))
     (by-bits (c .b-point3 .result) _ (c .b-point3 .ensures) ∙ sym (inner-place (onAxis (now (s .args .numbers)) (s .args .axis)) (s .args .side) 2 (lit≤ tt)))
     refl
     refl

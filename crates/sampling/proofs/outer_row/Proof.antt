@@ -29,10 +29,14 @@ returns : tie.Need-returns
 returns c =
     let s = c .before .before .before .before .before in
     five-same
-    (by-bits (c .before .before .before .before .b-point .result) _ (c .before .before .before .before .b-point .ensures) ∙ sym (outer-place (onAxis (now (s .args .numbers)) (s .args .axis)) (s .args .side) 0 (lit≤ tt)))
-    (by-bits (c .before .before .before .b-point2 .result) _ (c .before .before .before .b-point2 .ensures) ∙ sym (outer-place (onAxis (now (s .args .numbers)) (s .args .axis)) (s .args .side) 1 (lit≤ tt)))
-    (by-bits (c .before .before .b-point3 .result) _ (c .before .before .b-point3 .ensures) ∙ sym (outer-place (onAxis (now (s .args .numbers)) (s .args .axis)) (s .args .side) 2 (lit≤ tt)))
-    (by-bits (c .before .b-point4 .result) _ (c .before .b-point4 .ensures) ∙ sym (outer-place (onAxis (now (s .args .numbers)) (s .args .axis)) (s .args .side) 3 (lit≤ tt)))
+    (by-bits (c .before .before .before .before .b-point .result) _ (c .before .before .before .before .b-point .ensures)
+    ∙ sym (outer-place (onAxis (now (s .args .numbers)) (s .args .axis)) (s .args .side) 0 (lit≤ tt)))
+    (by-bits (c .before .before .before .b-point2 .result) _ (c .before .before .before .b-point2 .ensures)
+    ∙ sym (outer-place (onAxis (now (s .args .numbers)) (s .args .axis)) (s .args .side) 1 (lit≤ tt)))
+    (by-bits (c .before .before .b-point3 .result) _ (c .before .before .b-point3 .ensures)
+    ∙ sym (outer-place (onAxis (now (s .args .numbers)) (s .args .axis)) (s .args .side) 2 (lit≤ tt)))
+    (by-bits (c .before .b-point4 .result) _ (c .before .b-point4 .ensures)
+    ∙ sym (outer-place (onAxis (now (s .args .numbers)) (s .args .axis)) (s .args .side) 3 (lit≤ tt)))
     (by-bits (c .b-point5 .result) _ (c .b-point5 .ensures) ∙ sym (outer-place (onAxis (now (s .args .numbers)) (s .args .axis)) (s .args .side) 4 (lit≤ tt)))
 
 pub outer-row-spec : {M : Type 1} → statement M

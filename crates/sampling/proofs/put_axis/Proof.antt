@@ -131,4 +131,6 @@ returns a =
     (l .inv .2 (s .args .p) (a .before .before .start .ensures) .1)
 
 pub put-axis-spec : {M : Type 1} → statement M
-put-axis-spec = tie.close (tie.spec Inv-loop μ-loop start-requires loop-holds add-count row-requires put-row-requires mul-at add-at next-requires add-k loop-less loop-again same-length returns)
+put-axis-spec =
+    tie.close (tie.spec Inv-loop μ-loop start-requires loop-holds add-count row-requires put-row-requires mul-at add-at next-requires add-k loop-less
+    loop-again same-length returns)

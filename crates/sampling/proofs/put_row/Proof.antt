@@ -121,4 +121,6 @@ returns c =
     (l .inv .1 (s .args .e) (c .before .before .ahead .ensures) .1)
 
 pub put-row-spec : {M : Type 1} → statement M
-put-row-spec = tie.close (tie.spec Inv-loop μ-loop ahead-requires loop-holds rounded-requires mul-v add-v mul-v-2 slice-set-from-v step-requires add-j loop-less loop-again same-length returns)
+put-row-spec =
+    tie.close (tie.spec Inv-loop μ-loop ahead-requires loop-holds rounded-requires mul-v add-v mul-v-2 slice-set-from-v step-requires add-j loop-less
+    loop-again same-length returns)

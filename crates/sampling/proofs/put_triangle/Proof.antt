@@ -52,7 +52,13 @@ put-axis-requires-3 c κs =
       subst (λ (p : Rows). Sampleable p (s .args .n)) (sym (c .before .control-points3 .ensures))
           (points-sampleable (now (s .args .numbers)) (s .pre .0 .0) (s .args .side) 2 (lit< tt) (s .args .n) (s .pre .1 .0) (s .pre .1 .1)),
       lit< tt,
-      omega (arith, count-is (s .args .n), s .pre .1 .2, c .before .before .before .put-axis2 .ensures .same, c .before .before .before .before .before .before .before .put-axis .ensures .same),
+      omega (
+        arith,
+        count-is (s .args .n),
+        s .pre .1 .2,
+        c .before .before .before .put-axis2 .ensures .same,
+        c .before .before .before .before .before .before .before .put-axis .ensures .same,
+      ),
     )
 
 same-length : tie.Need-same-length
@@ -63,10 +69,14 @@ returns c =
     let s = c .before .before .before .before .before .before .before .before .before .before .before .before in
     let n = s .args .n in
     triangle-put (now (s .args .numbers)) (s .pre .0 .0) (s .args .side) n (s .pre .1 .0) (s .pre .1 .1) (now (s .args .points)) _ _ _
-    (moved (c .before .before .before .before .before .before .before .before .before .before .before .control-points .ensures) (c .before .before .before .before .before .before .before .before .before .put-axis .ensures))
-    (moved (c .before .before .before .before .before .before .before .control-points2 .ensures) (c .before .before .before .before .before .put-axis2 .ensures))
+    (moved (c .before .before .before .before .before .before .before .before .before .before .before .control-points .ensures)
+    (c .before .before .before .before .before .before .before .before .before .put-axis .ensures))
+    (moved (c .before .before .before .before .before .before .before .control-points2 .ensures)
+    (c .before .before .before .before .before .put-axis2 .ensures))
     (moved (c .before .before .before .control-points3 .ensures) (c .before .put-axis3 .ensures))
     (s .pre .1 .2)
 
 pub put-triangle-spec : {M : Type 1} → statement M
-put-triangle-spec = tie.close (tie.spec control-points-requires put-axis-requires control-points-requires-2 put-axis-requires-2 control-points-requires-3 put-axis-requires-3 same-length returns)
+put-triangle-spec =
+    tie.close (tie.spec control-points-requires put-axis-requires control-points-requires-2 put-axis-requires-2 control-points-requires-3
+    put-axis-requires-3 same-length returns)

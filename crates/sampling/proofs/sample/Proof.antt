@@ -2,11 +2,13 @@
 -- Assumes nothing.
 use mathlib.Core.Path.{_≡_, _∙_}
 use borrow.Author.Needs.{needs}
+use Prim.Native.Nat.{_+_, _≤_}
 use native.Mathlib.Omega.{arith}
 use lib.Dec.{lit<}
 use denote.Ref.{now}
 use mir.Facts.{toZ-ofZ}
 use Rattle.paper.specs.Faults.{sound}
+use Rattle.paper.specs.Floats.{netVerdict}
 use Rattle.paper.specs.Sampling.{weights, sampleVerdict, sideAt}
 use Rattle.mesh.proofs.Verdicts.{passed}
 use Rattle.sampling.proofs.Laws.{net-passed, side-passed, some-parts, few-parts, parts-sum, sample-refused, sample-done, point-is}
@@ -20,6 +22,21 @@ module _ (t : tie.After-enum-told) where
 
   is-sound : sampleVerdict (now (s .args .numbers)) (s .args .side) (weights (s .args .i) (s .args .j) (s .args .k) (s .args .n)) ≡ sound
   is-sound = passed (t .before .before .check .result) (t .before .before .check .ensures) (t .enum-told .given .1)
+
+  net : netVerdict (now (s .args .numbers)) ≡ sound
+  net = net-passed (now (s .args .numbers)) (s .args .side) (s .args .i) (s .args .j) (s .args .k) (s .args .n) is-sound
+
+  low : s .args .side ≤ 3
+  low = side-passed (now (s .args .numbers)) (s .args .side) (s .args .i) (s .args .j) (s .args .k) (s .args .n) is-sound
+
+  some : 1 ≤ s .args .n
+  some = some-parts (now (s .args .numbers)) (s .args .side) (s .args .i) (s .args .j) (s .args .k) (s .args .n) is-sound
+
+  few : s .args .n ≤ 16
+  few = few-parts (now (s .args .numbers)) (s .args .side) (s .args .i) (s .args .j) (s .args .k) (s .args .n) is-sound
+
+  sums : s .args .i + s .args .j + s .args .k ≡ s .args .n
+  sums = parts-sum (now (s .args .numbers)) (s .args .side) (s .args .i) (s .args .j) (s .args .k) (s .args .n) is-sound
 
 check-requires : tie.Need-check-requires
 check-requires c κs = search needs
@@ -40,17 +57,17 @@ enum-told c = search needs
 
 sample-on-requires : tie.Need-sample-on-requires
 sample-on-requires t κs =
-    ((net-passed (now (s t .args .numbers)) (s t .args .side) (s t .args .i) (s t .args .j) (s t .args .k) (s t .args .n) (is-sound t), side-passed (now (s t .args .numbers)) (s t .args .side) (s t .args .i) (s t .args .j) (s t .args .k) (s t .args .n) (is-sound t), lit< tt), (some-parts (now (s t .args .numbers)) (s t .args .side) (s t .args .i) (s t .args .j) (s t .args .k) (s t .args .n) (is-sound t), few-parts (now (s t .args .numbers)) (s t .args .side) (s t .args .i) (s t .args .j) (s t .args .k) (s t .args .n) (is-sound t), omega (arith, parts-sum (now (s t .args .numbers)) (s t .args .side) (s t .args .i) (s t .args .j) (s t .args .k) (s t .args .n) (is-sound t))))
+    ((net t, low t, lit< tt), (some t, few t, omega (arith, sums t)))
 
 sample-on-requires-2 : tie.Need-sample-on-requires-2
 sample-on-requires-2 c κs =
     let t = c .before in
-    ((net-passed (now (s t .args .numbers)) (s t .args .side) (s t .args .i) (s t .args .j) (s t .args .k) (s t .args .n) (is-sound t), side-passed (now (s t .args .numbers)) (s t .args .side) (s t .args .i) (s t .args .j) (s t .args .k) (s t .args .n) (is-sound t), lit< tt), (some-parts (now (s t .args .numbers)) (s t .args .side) (s t .args .i) (s t .args .j) (s t .args .k) (s t .args .n) (is-sound t), few-parts (now (s t .args .numbers)) (s t .args .side) (s t .args .i) (s t .args .j) (s t .args .k) (s t .args .n) (is-sound t), omega (arith, parts-sum (now (s t .args .numbers)) (s t .args .side) (s t .args .i) (s t .args .j) (s t .args .k) (s t .args .n) (is-sound t))))
+    ((net t, low t, lit< tt), (some t, few t, omega (arith, sums t)))
 
 sample-on-requires-3 : tie.Need-sample-on-requires-3
 sample-on-requires-3 c κs =
     let t = c .before .before in
-    ((net-passed (now (s t .args .numbers)) (s t .args .side) (s t .args .i) (s t .args .j) (s t .args .k) (s t .args .n) (is-sound t), side-passed (now (s t .args .numbers)) (s t .args .side) (s t .args .i) (s t .args .j) (s t .args .k) (s t .args .n) (is-sound t), lit< tt), (some-parts (now (s t .args .numbers)) (s t .args .side) (s t .args .i) (s t .args .j) (s t .args .k) (s t .args .n) (is-sound t), few-parts (now (s t .args .numbers)) (s t .args .side) (s t .args .i) (s t .args .j) (s t .args .k) (s t .args .n) (is-sound t), omega (arith, parts-sum (now (s t .args .numbers)) (s t .args .side) (s t .args .i) (s t .args .j) (s t .args .k) (s t .args .n) (is-sound t))))
+    ((net t, low t, lit< tt), (some t, few t, omega (arith, sums t)))
 
 put-point-requires : tie.Need-put-point-requires
 put-point-requires c κs = search needs
@@ -60,7 +77,7 @@ returns-2 c =
     let t = c .before .before .before .before .before in
     let u = s t in
     let w = weights (u .args .i) (u .args .j) (u .args .k) (u .args .n) in
-    let q = parts-sum (now (s t .args .numbers)) (s t .args .side) (s t .args .i) (s t .args .j) (s t .args .k) (s t .args .n) (is-sound t) in
+    let q = sums t in
     sample-done (now (u .args .numbers)) (u .args .side) w (now (u .args .point)) _ (is-sound t)
     (c .put-point .ensures
     ∙ point-is (now (u .args .numbers)) (sideAt (u .args .side)) w _ _ _
@@ -69,4 +86,6 @@ returns-2 c =
     (toZ-ofZ (search needs) ∙ c .before .before .sample-on3 .ensures (u .args .i) q))
 
 pub sample-spec : {M : Type 1} → statement M
-sample-spec = tie.close (tie.spec check-requires enum-known-a returns enum-told sample-on-requires sample-on-requires-2 sample-on-requires-3 put-point-requires returns-2)
+sample-spec =
+    tie.close (tie.spec check-requires enum-known-a returns enum-told sample-on-requires sample-on-requires-2 sample-on-requires-3 put-point-requires
+    returns-2)

@@ -60,8 +60,15 @@ returns-2 c =
 put-triangle-requires : tie.Need-put-triangle-requires
 put-triangle-requires c κs =
     let t = c .before .before in (
-      (net-passed (now (s t .args .numbers)) (s t .args .side) (s t .args .n) 0 0 (s t .args .n) (is-sound t), side-passed (now (s t .args .numbers)) (s t .args .side) (s t .args .n) 0 0 (s t .args .n) (is-sound t)),
-      (some-parts (now (s t .args .numbers)) (s t .args .side) (s t .args .n) 0 0 (s t .args .n) (is-sound t), few t, omega (arith, needed-is (s t .args .n), c .before .if1 .left)),
+      (
+        net-passed (now (s t .args .numbers)) (s t .args .side) (s t .args .n) 0 0 (s t .args .n) (is-sound t),
+        side-passed (now (s t .args .numbers)) (s t .args .side) (s t .args .n) 0 0 (s t .args .n) (is-sound t),
+      ),
+      (
+        some-parts (now (s t .args .numbers)) (s t .args .side) (s t .args .n) 0 0 (s t .args .n) (is-sound t),
+        few t,
+        omega (arith, needed-is (s t .args .n), c .before .if1 .left),
+      ),
     )
 
 same-length : tie.Need-same-length
@@ -74,4 +81,6 @@ returns-3 c =
     (omega (arith, needed-is (s t .args .n), c .before .before .before .if1 .left)) (c .before .put-triangle .ensures)
 
 pub sample-triangle-spec : {M : Type 1} → statement M
-sample-triangle-spec = tie.close (tie.spec check-requires enum-known-a returns enum-told add-needed add-needed-2 mul-needed mul-needed-2 returns-2 put-triangle-requires same-length returns-3)
+sample-triangle-spec =
+    tie.close (tie.spec check-requires enum-known-a returns enum-told add-needed add-needed-2 mul-needed mul-needed-2 returns-2 put-triangle-requires
+    same-length returns-3)

@@ -9,7 +9,8 @@ use Rattle.tessellate.proofs.print_points.Statement.{statement}
 use Rattle.tessellate.proofs.print_points.Tie as tie
 
 abbrev Inv-loop : tie.InvT-loop
-Inv-loop coordinates sides corners sharpness links n table points₀ done₀ first₀ points done first = (first ≤ mostCorners + 64) × (length points ≡ length points₀)
+Inv-loop coordinates sides corners sharpness links n table points₀ done₀ first₀ points done first =
+    (first ≤ mostCorners + 64) × (length points ≡ length points₀)
 
 abbrev μ-loop : tie.MeasureT-loop
 μ-loop coordinates sides corners sharpness links n table points₀ done₀ first₀ points done first = mostCorners + 64 - first
