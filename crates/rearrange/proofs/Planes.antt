@@ -17,7 +17,7 @@ use mir.ValLaws.{toZ-ofZ}
 use Rattle.mesh.proofs.Scans.{ways, compared}
 use Rattle.mesh.proofs.Links.{values-length, values-at}
 use Rattle.paper.specs.Archive.{bitsAt, delta, byteOf, plane, archived}
-use Rattle.rearrange.specs.Planes.{Planed, spread, deltaAt}
+use Rattle.rearrange.specs.Planes.{Planed, pair, spread, deltaAt}
 use Rattle.rearrange.proofs.Words.{third, rest}
 
 module _ (numbers : List ℤ) where
@@ -135,6 +135,24 @@ module _ (numbers : List ℤ) where
       → (x + (2 ^ 32 - y)) % 2 ^ 32 ≡ (ofZ w32 (getD numbers i (pos 0)) + (2 ^ 32 - ofZ w32 (getD numbers (i - 3) (pos 0)))) % 2 ^ 32
   delta-of i e f = rw (e, f)
 
+-- ---- two stores: each byte at its place, and every other place as it was
+module _ (l : List ℕ) (a b x y : ℕ) (apart : a ≢ b) (first : a < length l) (last : b < length l) where
+  pub pair-length : length (pair l a b x y) ≡ length l
+  unfolding pair
+  pair-length = length-set (set l a x) b y ∙ length-set l a x
+
+  pub pair-first : getD (pair l a b x y) a 0 ≡ x
+  unfolding pair
+  pair-first = getD-set-other (set l a x) b a y 0 apart ∙ getD-set-same l a x 0 first
+
+  pub pair-second : getD (pair l a b x y) b 0 ≡ y
+  unfolding pair
+  pair-second = getD-set-same (set l a x) b y 0 (omega (arith, length-set l a x))
+
+  pub pair-kept : (j : ℕ) → j ≢ a → j ≢ b → getD (pair l a b x y) j 0 ≡ getD l j 0
+  unfolding pair
+  pair-kept j ha hb = getD-set-other (set l a x) b j y 0 hb ∙ getD-set-other l a j x 0 ha
+
 -- ---- four stores
 module _ (l : List ℕ) (a b c d x y z w : ℕ) where
   abbrev four : List ℕ
@@ -197,7 +215,7 @@ module _ (l : List ℕ) (m i d : ℕ) (h : 0 < m) (room : 3 * m + i < length l) 
   unfolding spread
   spread-kept j = untouched l i (m + i) (2 * m + i) (3 * m + i) _ _ _ _ j
 
--- ---- the planes of the differences below i, and one more
+-- ---- the planes of the differences so far, and one more in two of them
 module _ (numbers : List ℤ) where
   -- one plane, whose byte of position j stands at `place j`
   plane-step : (k : ℕ) (place : ℕ → ℕ) (old out : List ℕ) (i : ℕ) → ((j : ℕ) → j < i → getD old (place j) 0 ≡ byteOf numbers k j)
@@ -207,7 +225,7 @@ module _ (numbers : List ℤ) where
       ⊎-elim (λ e. subst (λ (x : ℕ). getD out (place x) 0 ≡ byteOf numbers k x) (sym e) new)
       (λ o. ⊎-elim (λ l. same j l ∙ held j l) (λ l. absurd (omega arith)) o) (compared j i)
 
-  pub planed-none : (bytes : List ℕ) → length bytes ≡ 4 * length numbers → Planed numbers 0 bytes
+  pub planed-none : (bytes : List ℕ) → length bytes ≡ 4 * length numbers → Planed numbers 0 0 bytes
   planed-none bytes e = record {
     long = e;
     lowest = λ j h. absurd (omega arith);
@@ -216,32 +234,57 @@ module _ (numbers : List ℤ) where
     highest = λ j h. absurd (omega arith);
   }
 
-  pub planed-step : (i d : ℕ) (bytes : List ℕ) → i < length numbers → Planed numbers i bytes → d ≡ deltaAt numbers i
-      → Planed numbers (i + 1) (spread bytes (length numbers) i d)
-  planed-step i d bytes h p e =
-      let m = length numbers in
-      let t : 0 < m = omega arith in
-      let g : 3 * m + i < length bytes = omega (arith, p .long) in
-      let out = spread bytes m i d in
-      let byte : (k : ℕ) → d / 256 ^ k % 256 ≡ byteOf numbers k i = λ k. ap (λ (x : ℕ). x / 256 ^ k % 256) e in
-      record {
-        long = spread-length bytes m i d t g ∙ p .long;
-        lowest = plane-step 0 (λ j. j) bytes out i (p .lowest)
-            (λ j l. spread-kept bytes m i d t g j (λ q. omega arith) (λ q. omega arith) (λ q. omega arith) (λ q. omega arith))
-            (put-lowest bytes m i d t g ∙ ap (λ (x : ℕ). x % 256) (sym (div-one d)) ∙ byte 0);
-        second = plane-step 1 (λ j. m + j) bytes out i (p .second)
-            (λ j l. spread-kept bytes m i d t g (m + j) (λ q. omega arith) (λ q. omega arith) (λ q. omega arith) (λ q. omega arith))
-            (put-second bytes m i d t g ∙ byte 1);
-        third = plane-step 2 (λ j. 2 * m + j) bytes out i (p .third)
-            (λ j l. spread-kept bytes m i d t g (2 * m + j) (λ q. omega arith) (λ q. omega arith) (λ q. omega arith) (λ q. omega arith))
-            (put-third bytes m i d t g ∙ byte 2);
-        highest = plane-step 3 (λ j. 3 * m + j) bytes out i (p .highest)
-            (λ j l. spread-kept bytes m i d t g (3 * m + j) (λ q. omega arith) (λ q. omega arith) (λ q. omega arith) (λ q. omega arith))
-            (put-highest bytes m i d t g ∙ byte 3);
-      }
+  module _ (i d : ℕ) (bytes : List ℕ) (h : i < length numbers) (e : d ≡ deltaAt numbers i) where
+    abbrev m : ℕ
+    m = length numbers
 
-  pub planed-all : (i : ℕ) (bytes : List ℕ) → i ≡ length numbers → Planed numbers i bytes → bytes ≡ archived numbers
-  planed-all i bytes q p =
+    byte : (k : ℕ) → d / 256 ^ k % 256 ≡ byteOf numbers k i
+    byte k = ap (λ (x : ℕ). x / 256 ^ k % 256) e
+
+    pub lower-step : Planed numbers i 0 bytes → Planed numbers (i + 1) 0 (pair bytes i (m + i) (d % 256) (d / 256 % 256))
+    lower-step p =
+        let apart : i ≢ m + i = λ q. omega arith in
+        let a : i < length bytes = omega (arith, p .long) in
+        let b : m + i < length bytes = omega (arith, p .long) in
+        let x = d % 256 in
+        let y = d / 256 % 256 in
+        let out = pair bytes i (m + i) x y in
+        record {
+          long = pair-length bytes i (m + i) x y apart a b ∙ p .long;
+          lowest = plane-step 0 (λ j. j) bytes out i (p .lowest)
+              (λ j l. pair-kept bytes i (m + i) x y apart a b j (λ q. omega arith) (λ q. omega arith))
+              (pair-first bytes i (m + i) x y apart a b ∙ ap (λ (z : ℕ). z % 256) (sym (div-one d)) ∙ byte 0);
+          second = plane-step 1 (λ j. m + j) bytes out i (p .second)
+              (λ j l. pair-kept bytes i (m + i) x y apart a b (m + j) (λ q. omega arith) (λ q. omega arith))
+              (pair-second bytes i (m + i) x y apart a b ∙ byte 1);
+          third = λ j l. absurd (omega arith);
+          highest = λ j l. absurd (omega arith);
+        }
+
+    pub upper-step : Planed numbers m i bytes → Planed numbers m (i + 1) (pair bytes (2 * m + i) (3 * m + i) (d / 65536 % 256) (d / 16777216 % 256))
+    upper-step p =
+        let apart : 2 * m + i ≢ 3 * m + i = λ q. omega arith in
+        let a : 2 * m + i < length bytes = omega (arith, p .long) in
+        let b : 3 * m + i < length bytes = omega (arith, p .long) in
+        let x = d / 65536 % 256 in
+        let y = d / 16777216 % 256 in
+        let out = pair bytes (2 * m + i) (3 * m + i) x y in
+        let kept = pair-kept bytes (2 * m + i) (3 * m + i) x y apart a b in
+        record {
+          long = pair-length bytes (2 * m + i) (3 * m + i) x y apart a b ∙ p .long;
+          lowest = λ j l. kept j (λ q. omega arith) (λ q. omega arith) ∙ p .lowest j l;
+          second = λ j l. kept (m + j) (λ q. omega arith) (λ q. omega arith) ∙ p .second j l;
+          third = plane-step 2 (λ j. 2 * m + j) bytes out i (p .third) (λ j l. kept (2 * m + j) (λ q. omega arith) (λ q. omega arith))
+              (pair-first bytes (2 * m + i) (3 * m + i) x y apart a b ∙ byte 2);
+          highest = plane-step 3 (λ j. 3 * m + j) bytes out i (p .highest) (λ j l. kept (3 * m + j) (λ q. omega arith) (λ q. omega arith))
+              (pair-second bytes (2 * m + i) (3 * m + i) x y apart a b ∙ byte 3);
+        }
+
+  pub lower-all : (i : ℕ) (bytes : List ℕ) → i ≡ length numbers → Planed numbers i 0 bytes → Planed numbers (length numbers) 0 bytes
+  lower-all i bytes q p = subst (λ (x : ℕ). Planed numbers x 0 bytes) q p
+
+  pub planed-all : (i k : ℕ) (bytes : List ℕ) → i ≡ length numbers → k ≡ length numbers → Planed numbers i k bytes → bytes ≡ archived numbers
+  planed-all i k bytes q r p =
       same-planes (length numbers) bytes (archived numbers) (p .long) (archived-length numbers)
       (λ j h. p .lowest j (omega arith) ∙ sym (first-plane numbers j h))
       (λ j h. p .second j (omega arith) ∙ sym (second-plane numbers j h))

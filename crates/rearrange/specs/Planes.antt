@@ -10,13 +10,17 @@ use mir.Syntax.{w32}
 use mir.Val.{toZ}
 use Rattle.paper.specs.Archive.{delta, byteOf, storedAt, sumAt}
 
--- the four planes hold the bytes of the differences below i
-pub record Planed (numbers : List ℤ) (i : ℕ) (bytes : List ℕ) : Type 0 where
+-- the lower two planes hold the bytes of the differences below i, the upper two those below k
+pub record Planed (numbers : List ℤ) (i k : ℕ) (bytes : List ℕ) : Type 0 where
   pub long : length bytes ≡ 4 * length numbers
   pub lowest : (j : ℕ) → j < i → getD bytes j 0 ≡ byteOf numbers 0 j
   pub second : (j : ℕ) → j < i → getD bytes (length numbers + j) 0 ≡ byteOf numbers 1 j
-  pub third : (j : ℕ) → j < i → getD bytes (2 * length numbers + j) 0 ≡ byteOf numbers 2 j
-  pub highest : (j : ℕ) → j < i → getD bytes (3 * length numbers + j) 0 ≡ byteOf numbers 3 j
+  pub third : (j : ℕ) → j < k → getD bytes (2 * length numbers + j) 0 ≡ byteOf numbers 2 j
+  pub highest : (j : ℕ) → j < k → getD bytes (3 * length numbers + j) 0 ≡ byteOf numbers 3 j
+
+-- two bytes, each at its place
+unfoldable pub pair : List ℕ → ℕ → ℕ → ℕ → ℕ → List ℕ
+pair bytes a b x y = set (set bytes a x) b y
 
 -- the bytes of d at position i of four planes of n bytes each
 unfoldable pub spread : List ℕ → ℕ → ℕ → ℕ → List ℕ

@@ -10,7 +10,7 @@ ghost use mir.Syntax.{w32};
 ghost use mir.Val.{ofZ};
 ghost use Rattle.paper.specs.Faults.{stated};
 ghost use Rattle.paper.specs.Archive.{archiveVerdict, archived, storedAt, restored, Archived, Restored};
-ghost use Rattle.rearrange.specs.Planes.{spread, deltaAt, Turned};
+ghost use Rattle.rearrange.specs.Planes.{Planed, pair, spread, deltaAt, Turned};
 
 // The bytes of the differences, plane by plane. Nothing is written before both checks have passed.
 pub fn archive(numbers: &[i32], bytes: &mut [u8]) -> Answer
@@ -52,15 +52,40 @@ fn check_lengths(numbers: usize, bytes: usize) -> Answer
     Answer::Done
 }
 
-// Puts the bytes of every difference into the four planes, each as long as the number list.
+// Puts the bytes of every difference into the four planes, each as long as the number list: two planes at a time, since with four places that
+// it cannot tell apart the compiler writes short lists byte by byte.
 fn fill_planes(numbers: &[i32], bytes: &mut [u8])
     requires { ⌜ length (now bytes) ≡ 4 * length (now numbers) ⌝ }
+    ensures { λ _. ⌜ now (bytes .exit) ≡ archived (now (numbers .entry)) ⌝ }
+{
+    fill_lower(numbers, bytes);
+    fill_upper(numbers, bytes);
+}
+
+// The planes of the lowest and second bytes.
+fn fill_lower(numbers: &[i32], bytes: &mut [u8])
+    requires { ⌜ length (now bytes) ≡ 4 * length (now numbers) ⌝ }
+    ensures { λ _. ⌜ Planed (now (numbers .entry)) (length (now (numbers .entry))) 0 (now (bytes .exit)) ⌝ }
+{
+    let n = numbers.len();
+    let mut i = 0;
+    while i < n {
+        let d = delta_at(numbers, i);
+        put_two(bytes, i, n + i, d, d / 256);
+        i += 1;
+    }
+}
+
+// Those of the third and highest ones, after the others.
+fn fill_upper(numbers: &[i32], bytes: &mut [u8])
+    requires { ⌜ Planed (now numbers) (length (now numbers)) 0 (now bytes) ⌝ }
     ensures { λ _. ⌜ now (bytes .exit) ≡ archived (now (numbers .entry)) ⌝ }
 {
     let n = numbers.len();
     let mut i = 0;
     while i < n {
-        put(bytes, n, i, delta_at(numbers, i));
+        let d = delta_at(numbers, i);
+        put_two(bytes, 2 * n + i, 3 * n + i, d / 65536, d / 16777216);
         i += 1;
     }
 }
@@ -85,6 +110,15 @@ fn difference(a: u32, b: u32) -> u32
     } else {
         a + (u32::MAX - b) + 1
     }
+}
+
+// The lowest bytes of two numbers, each at its place.
+fn put_two(bytes: &mut [u8], a: usize, b: usize, x: u32, y: u32)
+    requires { ⌜ (a < length (now bytes)) × (b < length (now bytes)) ⌝ }
+    ensures { λ _. ⌜ now (bytes .exit) ≡ pair (now (bytes .entry)) a b (x % 256) (y % 256) ⌝ }
+{
+    bytes[a] = (x % 256) as u8;
+    bytes[b] = (y % 256) as u8;
 }
 
 // The four bytes of a number, the lowest at i and each n places after the one before.

@@ -54,7 +54,7 @@ returns-2 c =
     let b = c .before in
     let a = b .before .before in
     let x = a .bits2 .ensures ∙ read-bits l i (record { sfits = a .before .bits-arg2 .given }) in
-    let y = b .bits3 .ensures ∙ read-bits l (i - 3) (record { sfits = b .before .bits-arg3 .given }) in
+    let y = b .bits3 .ensures ∙ read-bits l _ (record { sfits = b .before .bits-arg3 .given }) in
     c .difference .ensures ∙ delta-of l i x y ∙ sym (delta-later l i (omega arith))
 
 pub delta-at-spec : {M : Type 1} → statement M

@@ -1,17 +1,17 @@
--- After i turns the four planes hold the bytes of the first i differences.
+-- After i turns the lower two planes hold the bytes of the first i differences.
 -- Assumes nothing.
 use Prim.Native.Nat.{_≤_, _-_, _+_}
+use mathlib.Core.Path.{subst, sym}
+use native.Mathlib.Omega.{arith}
 use lib.ListN.{length}
 use denote.Ref.{now}
 use Rattle.rearrange.specs.Planes.{Planed}
-use Rattle.rearrange.proofs.Planes.{planed-none, planed-step, planed-all}
-use mathlib.Core.Path.{subst, sym}
-use native.Mathlib.Omega.{arith}
-use Rattle.rearrange.proofs.fill_planes.Statement.{statement}
-use Rattle.rearrange.proofs.fill_planes.Tie as tie
+use Rattle.rearrange.proofs.Planes.{planed-none, lower-step, lower-all}
+use Rattle.rearrange.proofs.fill_lower.Statement.{statement}
+use Rattle.rearrange.proofs.fill_lower.Tie as tie
 
 abbrev Inv-loop : tie.InvT-loop
-Inv-loop numbers bytes₀ n i₀ bytes i = (i ≤ length numbers) × Planed numbers i bytes
+Inv-loop numbers bytes₀ n i₀ bytes i = (i ≤ length numbers) × Planed numbers i 0 bytes
 
 abbrev μ-loop : tie.MeasureT-loop
 μ-loop numbers bytes₀ n i₀ bytes i = length numbers - i
@@ -22,8 +22,13 @@ loop-holds c = let s = c .before in (omega arith, planed-none (now (s .args .num
 delta-at-requires : tie.Need-delta-at-requires Inv-loop μ-loop
 delta-at-requires c κs = omega arith
 
-put-requires : tie.Need-put-requires Inv-loop μ-loop
-put-requires c κs = omega (arith, c .before .before .before .loop .inv .1 .long)
+add-put-two : tie.Need-add-put-two Inv-loop μ-loop
+add-put-two c = omega (arith, c .before .before .before .loop .inv .1 .long)
+
+put-two-requires : tie.Need-put-two-requires Inv-loop μ-loop
+put-two-requires c κs =
+    let p = c .before .before .before .loop .inv .1 in
+    (omega (arith, p .long), omega (arith, p .long))
 
 add-i : tie.Need-add-i Inv-loop μ-loop
 add-i c = omega arith
@@ -35,10 +40,10 @@ loop-again : tie.Need-loop-again Inv-loop μ-loop
 loop-again c =
     let l = c .before .before .before .before .before .before .loop in
     let s = c .before .before .before .before .before .before .before .before in
-    let d = c .before .before .before .delta-at in (
+    let d = c .before .before .before .before .delta-at in (
       omega arith,
-      subst (Planed (now (s .args .numbers)) (l .i + 1)) (sym (c .before .before .put .ensures))
-          (planed-step (now (s .args .numbers)) (l .i) (d .result) (l .bytes) (omega arith) (l .inv .1) (d .ensures)),
+      subst (Planed (now (s .args .numbers)) (l .i + 1) 0) (sym (c .before .before .put-two .ensures))
+          (lower-step (now (s .args .numbers)) (l .i) (d .result) (l .bytes) (omega arith) (d .ensures) (l .inv .1)),
     )
 
 same-length : tie.Need-same-length Inv-loop μ-loop
@@ -48,17 +53,18 @@ returns : tie.Need-returns Inv-loop μ-loop
 returns c =
     let s = c .before .before .before in
     let l = c .before .loop in
-    planed-all (now (s .args .numbers)) (l .i) (l .bytes) (omega arith) (l .inv .1)
+    lower-all (now (s .args .numbers)) (l .i) (l .bytes) (omega arith) (l .inv .1)
 
-pub fill-planes-spec : {M : Type 1} → statement M
-fill-planes-spec =
+pub fill-lower-spec : {M : Type 1} → statement M
+fill-lower-spec =
     tie.close
     (tie.spec
     Inv-loop
     μ-loop
     loop-holds
     delta-at-requires
-    put-requires
+    add-put-two
+    put-two-requires
     add-i
     loop-less
     loop-again
