@@ -1,12 +1,17 @@
 //! Times of the proved library beside the independent implementation in plain Rust, in one run:
 //!
-//!     cargo run --release --offline -p bench [SECONDS]
+//!     cargo run --release --offline -p bench [SECONDS [TABLE..]]
 //!
-//! Linking and building are given in nanoseconds per corner, a range of 64 corners in microseconds per call, with
-//! sharpness 8 and 8 throughout and at random; archiving and restoring in nanoseconds per number. Each figure is the least of many passes, with turns of three between the
-//! two; SECONDS (1 by default) is what one figure may take.
-//! The last table but one has the preview of a moved vertex beside building the same range, and a drag: the corners that
-//! the vertex touches, by ranges, beside building the whole mesh.
+//! Each figure is the least of many passes, with turns of three between the two; SECONDS (1 by default) is what one figure
+//! may take. The tables, all by default:
+//! - `meshes`: linking and building in nanoseconds per corner, a range of 64 corners in microseconds per call, with sharpness
+//!   8 and 8 throughout and at random;
+//! - `drags`: the preview of a moved vertex beside building the same range, and a drag: the corners that the vertex touches,
+//!   by ranges, beside building the whole mesh;
+//! - `archive`: archiving and restoring, in nanoseconds per number;
+//! - `samples`: samples of a patch, in nanoseconds per sample.
+
+mod samples;
 
 use std::time::{Duration, Instant};
 
@@ -89,6 +94,17 @@ impl Numbers {
     }
 }
 
+/// A mesh by name, with how it is numbered and sharpened.
+type Named = (&'static str, Solid, Numbers, Sharpness);
+
+fn sharpness_word(sharpness: Sharpness) -> &'static str {
+    if sharpness == Sharpness::Plain {
+        "8 and 8"
+    } else {
+        "random"
+    }
+}
+
 /// The figures of a mesh.
 struct Figures {
     corners: usize,
@@ -153,7 +169,7 @@ fn measure_archive(budget: Duration) {
     println!("|---|---|---|---|---|---|---|---|");
     let mut random = Random::new(11);
     let accepted = "a list of vertices";
-    for count in [24, 288, 6_144, 60_000, 600_000] {
+    for count in [3, 12, 24, 36, 48, 96, 288, 6_144, 60_000, 600_000] {
         let numbers: Vec<i32> = (0..count).map(|_| random.bits() as i32).collect();
         let mut bytes = [vec![0; 4 * count], vec![0; 4 * count]];
         let [library, plain] = &mut bytes;
@@ -244,6 +260,8 @@ fn drag(name: &str, word: &str, tables: Tables, budget: Duration) {
 fn main() {
     let seconds = std::env::args().nth(1).map_or(1.0, |text| text.parse().expect("a number of seconds"));
     let budget = Duration::from_secs_f64(seconds);
+    let tables: Vec<String> = std::env::args().skip(2).collect();
+    let wanted = |table: &str| tables.is_empty() || tables.iter().any(|name| name == table);
     let mut random = Random::new(10);
     let prisms = (1..85).fold(Solid::prism(12), |all, _| all.with(Solid::prism(12)));
     let irregular = Solid::torus(20, 30).roughened(&mut random, 20_000, 8_000);
@@ -263,13 +281,29 @@ fn main() {
         ("mixed irregular mesh", irregular, Shuffled, Sharp),
         ("torus", Solid::torus(32, 64), Shuffled, Sharp),
     ];
+    if wanted("meshes") {
+        measure_meshes(&meshes, budget);
+    }
+    if wanted("drags") {
+        measure_drags(&meshes, budget);
+    }
+    if wanted("archive") {
+        measure_archive(budget);
+    }
+    if wanted("samples") {
+        samples::measure(budget);
+    }
+}
+
+/// Linking, building and a range of each mesh, and how they grow.
+fn measure_meshes(meshes: &[Named], budget: Duration) {
     println!(
         "| mesh | numbers | sharpness | corners | linking, ns per corner | plain | ratio | building, ns per corner | plain | ratio \
               | range of {RANGE}, µs | plain | ratio | range over linking |"
     );
     println!("|---|---|---|---|---|---|---|---|---|---|---|---|---|---|");
     let mut figures = Vec::new();
-    for (name, solid, numbers, sharpness) in &meshes {
+    for (name, solid, numbers, sharpness) in meshes {
         let tables = numbers.tables(solid).sharpened(*sharpness, &mut Random::new(11));
         let found = measure(name, tables, budget);
         let each = 1e9 / found.corners as f64;
@@ -278,7 +312,7 @@ fn main() {
             "| {} | {} | {} | {} | {:.1} | {:.1} | {:.2} | {:.0} | {:.0} | {:.2} | {:.1} | {:.1} | {:.2} | {:.2} |",
             name,
             numbers.word(),
-            if *sharpness == Plain { "8 and 8" } else { "random" },
+            sharpness_word(*sharpness),
             found.corners,
             each * link.library,
             each * link.reference,
@@ -297,7 +331,7 @@ fn main() {
     println!();
     println!("| growth per corner from 1024 to 8192 corners | numbers | library | plain |");
     println!("|---|---|---|---|");
-    for (small, large, numbers) in [(3, 6, Shuffled), (7, 8, Drawn)] {
+    for (small, large, numbers) in [(3, 6, Numbers::Random), (7, 8, Numbers::Drawn)] {
         let [small, large] = [&figures[small], &figures[large]];
         let growth =
             |time: fn(&Figures) -> f64| time(large) / time(small) * small.corners as f64 / large.corners as f64;
@@ -307,15 +341,18 @@ fn main() {
         line("linking", growth(|f| f.link.library), growth(|f| f.link.reference));
         line("building", growth(|f| f.build.library), growth(|f| f.build.reference));
     }
+}
+
+/// Previews and drags on each mesh.
+fn measure_drags(meshes: &[Named], budget: Duration) {
     println!();
     println!(
         "| mesh | numbers | sharpness | corners | preview over building | of a range of {RANGE} | touched corners | ranges | rebuilt \
               | a step of a drag, µs | building all, µs | ratio | marking, µs |"
     );
     println!("|---|---|---|---|---|---|---|---|---|---|---|---|---|");
-    for (name, solid, numbers, sharpness) in &meshes {
-        let word = format!("{} | {}", numbers.word(), if *sharpness == Plain { "8 and 8" } else { "random" });
+    for (name, solid, numbers, sharpness) in meshes {
+        let word = format!("{} | {}", numbers.word(), sharpness_word(*sharpness));
         drag(name, &word, numbers.tables(solid).sharpened(*sharpness, &mut Random::new(11)), budget);
     }
-    measure_archive(budget);
 }
