@@ -1,4 +1,4 @@
--- Each list is lent in full, and the part that is printed is as long as the mesh's list.
+-- The lengths are within the lists, so each part lies in its list.
 -- Assumes nothing.
 use mathlib.Core.Path.{sym}
 use lib.Seq.{length-take-le}
@@ -20,24 +20,6 @@ slice-aggregate-read-mesh-4 c = search needs
 
 read-mesh-requires : tie.Need-read-mesh-requires
 read-mesh-requires c κs = search needs
-
-mul-least : tie.Need-mul-least
-mul-least c = search needs
-
-least-requires : tie.Need-least-requires
-least-requires c κs = search needs
-
-least-requires-2 : tie.Need-least-requires-2
-least-requires-2 c κs = search needs
-
-least-requires-3 : tie.Need-least-requires-3
-least-requires-3 c κs = search needs
-
-mul-least-2 : tie.Need-mul-least-2
-mul-least-2 c = search needs
-
-least-requires-4 : tie.Need-least-requires-4
-least-requires-4 c κs = search needs
 
 array-share-prefix-coordinates : tie.Need-array-share-prefix-coordinates
 array-share-prefix-coordinates c = search needs
@@ -81,12 +63,6 @@ print-input-spec =
     slice-aggregate-read-mesh-3
     slice-aggregate-read-mesh-4
     read-mesh-requires
-    mul-least
-    least-requires
-    least-requires-2
-    least-requires-3
-    mul-least-2
-    least-requires-4
     array-share-prefix-coordinates
     slice-aggregate-print-mesh
     array-share-prefix-sides
