@@ -2,12 +2,12 @@
 //!
 //!     cargo run --release --offline -p bench [SECONDS [TABLE..]]
 //!
-//! Each figure is the least of many passes, with turns of three between the two; SECONDS (1 by default) is what one figure
-//! may take. The tables, all by default:
-//! - `meshes`: linking and building in nanoseconds per corner, a range of 64 corners in microseconds per call, with sharpness
-//!   8 and 8 throughout and at random;
-//! - `drags`: the preview of a moved vertex beside building the same range, and a drag: the corners that the vertex touches,
-//!   by ranges, beside building the whole mesh;
+//! Each figure is the least of many passes, with turns of three between the two; SECONDS (1 by default) is what one
+//! figure may take. The tables, all by default:
+//! - `meshes`: linking and building in nanoseconds per corner, a range of 64 corners in microseconds per call, with
+//!   sharpness 8 and 8 throughout and at random;
+//! - `drags`: the preview of a moved vertex beside building the same range, and a drag: the corners that the vertex
+//!   touches, by ranges, beside building the whole mesh;
 //! - `archive`: archiving and restoring, in nanoseconds per number;
 //! - `samples`: samples of a patch, in nanoseconds per sample.
 

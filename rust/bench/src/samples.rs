@@ -1,4 +1,5 @@
-//! Samples of a patch (L12): a call for each sample and one for all of a triangle, beside the independent implementation and beside each other.
+//! Samples of a patch (L12): a call for each sample and one for all of a triangle, beside the independent implementation
+//! and beside each other.
 
 use std::time::Duration;
 
@@ -6,6 +7,9 @@ use mahunopi::{Mesh, NUMBERS_PER_CORNER};
 use shapes::{Random, Sharpness, Solid, Tables};
 
 use crate::least;
+
+/// One sample of a side's triangle of a quad-net, at three weights.
+type Sampler<'a> = &'a dyn Fn(&[i32], usize, [usize; 3]) -> [i32; 3];
 
 /// All weights in `parts` parts, in the order of a triangle's samples.
 fn weights(parts: usize) -> Vec<[usize; 3]> {
@@ -34,7 +38,7 @@ pub fn measure(budget: Duration) {
         let length = 3 * all.len();
         let lists = || vec![0; length * triangles.len()];
         let (mut singles, mut plain) = (lists(), lists());
-        let one_by_one = |list: &mut [i32], sample: &dyn Fn(&[i32], usize, [usize; 3]) -> [i32; 3]| {
+        let one_by_one = |list: &mut [i32], sample: Sampler| {
             let mut points = list.chunks_mut(3);
             for &(net, side) in &triangles {
                 for &weights in &all {
