@@ -30,8 +30,8 @@ use Rattle.surface.proofs.Agree.{net-same, sound-same}
 use Rattle.walk.specs.Table.{Tabled, tabled}
 use Rattle.wanted.specs.Tables.{Near, Wanted}
 use Rattle.wanted.proofs.Accepted.{vertex-in}
-use Rattle.refine.specs.Sources.{Pointed}
-use Rattle.refine.proofs.Accepted.{refinable-of}
+use Rattle.face_sums.specs.Sources.{Pointed}
+use Rattle.face_sums.proofs.Accepted.{refinable-of}
 use Rattle.net_sides.specs.Drawn.{drawn, Drawn}
 use Rattle.net.specs.Put.{Put}
 use Rattle.writing.specs.Written.{NetsWritten}

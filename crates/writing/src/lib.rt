@@ -13,7 +13,7 @@ ghost use Rattle.paper.specs.Refined.{cornersOf};
 ghost use Rattle.paper.specs.Calls.{nets, perCorner};
 ghost use Rattle.surface.specs.Points.{pointRow};
 ghost use Rattle.walk.specs.Table.{Tabled};
-ghost use Rattle.refine.specs.Sources.{Small};
+ghost use Rattle.face_sums.specs.Sources.{Small};
 ghost use Rattle.net_sides.specs.Drawn.{drawn, Drawn};
 ghost use Rattle.writing.specs.Written.{NetsWritten};
 

@@ -10,8 +10,9 @@ use Rattle.paper.specs.Mesh.{mostCorners, Mesh, meshOf}
 use Rattle.paper.specs.Corners.{startOf}
 use Rattle.mesh.proofs.Faces.{start-next}
 use Rattle.surface.specs.Points.{pointRow}
-use Rattle.refine.specs.Sources.{Added}
-use Rattle.refine.proofs.Laws.{end-in, added-start, added-corner}
+use Rattle.face_sums.specs.Sources.{Added}
+use Rattle.face_sums.proofs.Laws.{end-in}
+use Rattle.refine.proofs.Laws.{added-start, added-corner}
 use Rattle.refine.proofs.fill_face.Statement.{statement}
 use Rattle.refine.proofs.fill_face.Tie as tie
 

@@ -10,7 +10,7 @@ use denote.Ref.{now}
 use Rattle.paper.specs.Mesh.{Mesh, meshOf}
 use Rattle.paper.specs.Corners.{startOf}
 use Rattle.mesh.proofs.Faces.{start-zero, start-next, start-ends, start-all}
-use Rattle.refine.specs.Sources.{Pointed}
+use Rattle.face_sums.specs.Sources.{Pointed}
 use Rattle.refine.proofs.Laws.{pointed-none, pointed-added, pointed-passed}
 use Rattle.refine.proofs.fill_faces.Statement.{statement}
 use Rattle.refine.proofs.fill_faces.Tie as tie

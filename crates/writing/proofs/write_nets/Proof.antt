@@ -7,7 +7,7 @@ use borrow.Author.Needs.{needs}
 use denote.Ref.{now}
 use Rattle.paper.specs.Mesh.{Mesh, meshOf, mostVertices}
 use Rattle.wanted.proofs.Accepted.{faces-of}
-use Rattle.refine.proofs.Accepted.{refinable-of}
+use Rattle.face_sums.proofs.Accepted.{refinable-of}
 use Rattle.writing.proofs.Laws.{zeros, named-in, faces-in, drawn-of, drawn-written}
 use Rattle.writing.proofs.write_nets.Statement.{statement}
 use Rattle.writing.proofs.write_nets.Tie as tie
