@@ -408,17 +408,33 @@ fn agrees(
     requires { ⌜ c < 24 ⌝ }
 {
     let mut one = [0i32; 123];
-    building::build(
+    agrees_over(
         coordinates,
         sides,
         corners,
         sharpness,
         links,
+        whole,
         c,
-        1,
         &mut one,
-    );
-    same(whole, 123 * c, &one)
+    )
+}
+
+// The same over a lent array, whose zeros no proof has to count.
+fn agrees_over(
+    coordinates: &[i32],
+    sides: &[u8],
+    corners: &[u16],
+    sharpness: &[u8],
+    links: &[u16],
+    whole: &[i32],
+    c: usize,
+    one: &mut [i32; 123],
+) -> bool
+    requires { ⌜ c < 24 ⌝ }
+{
+    building::build(coordinates, sides, corners, sharpness, links, c, 1, one);
+    same(whole, 123 * c, one)
 }
 
 // Whether the numbers of `whole` from a place on are these.

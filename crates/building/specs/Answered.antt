@@ -9,7 +9,7 @@ use Rattle.paper.specs.Mesh.{Mesh}
 use Rattle.paper.specs.Faults.{stated, kept}
 use Rattle.paper.specs.Calls.{nets}
 use Rattle.paper.specs.declared.Answer.{Answer}
-use Rattle.checks.specs.Request.{requestFaults}
+use Rattle.request_checks.specs.Request.{requestFaults}
 
 -- a call on an accepted mesh, as `Built` has it of any
 pub record Answered (M : Mesh) (links : List ℕ) (first count : ℕ) (old : List ℤ) (r : Answer) (out : List ℤ) : Type 0 where

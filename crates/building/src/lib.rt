@@ -117,7 +117,7 @@ fn answer(
 {
     let first = range.first;
     let count = range.count;
-    let a = checks::check_request(corners.len(), table, links, first, count, out.len());
+    let a = request_checks::check_request(corners.len(), table, links, first, count, out.len());
     if let Answer::Refused(k, p) = a {
         return Answer::Refused(k, p);
     }

@@ -6,7 +6,7 @@ use mathlib.Core.List.{List, []}
 use Prim.Native.Nat.{ℕ, _+_, _<_, _≤_}
 use lib.Dec.{eqb}
 use lib.ListN.{length, getD, drop}
-use Rattle.paper.specs.Off.{separates, uncommented, piecesOf, filled, wordsOf, isMinus, digitsOf, isNumber, valueOf, isOff}
+use Rattle.paper.specs.Off.{separates, uncommented, piecesOf, filled, wordsOf, isNumber, valueOf, isOff}
 use Rattle.off_words.specs.declared.Cursor.{Cursor}
 use Rattle.off_words.specs.declared.Number.{Number}
 use Rattle.off_words.specs.declared.Mark.{Mark}
@@ -37,13 +37,6 @@ pub record Run (text : List ℕ) (from to : ℕ) : Type 0 where
   pub inside : to ≤ length text
   pub whole : (j : ℕ) → from ≤ j → j < to → ends (getD text j 0) ≡ false
   pub stops : to < length text → ends (getD text to 0) ≡ true
-
--- the digits of a word begin at r: after the minus, if there is one
-pub record Start (word : List ℕ) (r : ℕ) : Type 0 where
-  pub few : r ≤ 1
-  pub inside : r ≤ length word
-  pub digits : drop r word ≡ digitsOf word
-  pub minus : eqb r 1 ≡ isMinus word
 
 -- word n as a number: whether it is there and is one, which, and a cursor before the next word; else the cursor stays before word n
 pub record NumberRead (text : List ℕ) (n : ℕ) (r : Number) : Type 0 where

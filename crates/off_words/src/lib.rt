@@ -1,7 +1,5 @@
 // The words of an OFF text, one after the other: a cursor goes by value, and each step answers where it then stands. Words are parted by
 // separators and comments; a word's bytes are looked at once for its end, and once more, at most ten of them, for its number.
-mod digits;
-
 ghost use mathlib.Core.Path.{_≡_};
 ghost use mathlib.Core.Bool.{true};
 ghost use Prim.Native.Nat.{ℕ, _+_, _<_, _≤_};
@@ -191,7 +189,7 @@ impl Cursor {
         let first = self.to_word(text);
         let at = first.at;
         let end = word_end(text, at);
-        let ok = digits::is_number(&text[at..end]);
+        let ok = off_digits::is_number(&text[at..end]);
         if !ok {
             return Number {
                 ok: false,
@@ -199,7 +197,7 @@ impl Cursor {
                 next: first,
             };
         }
-        let value = digits::value(&text[at..end]);
+        let value = off_digits::value(&text[at..end]);
         Number {
             ok: true,
             value: value,

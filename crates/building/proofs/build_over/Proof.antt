@@ -8,7 +8,7 @@ use denote.Ref.{now}
 use Rattle.paper.specs.Mesh.{Mesh, meshOf}
 use Rattle.paper.specs.Faults.{Accepted}
 use Rattle.mesh.proofs.Verdicts.{passed, stop, past}
-use Rattle.checks.proofs.Requests.{verdict-is}
+use Rattle.request_checks.proofs.Requests.{verdict-is}
 use Rattle.building.proofs.build_over.Statement.{statement}
 use Rattle.building.proofs.build_over.Tie as tie
 

@@ -6,7 +6,7 @@ use lib.IntN.{pos}
 use mir.Syntax.{w32}
 use mir.ValLaws.{toZ-ofZ}
 use lib.ListN.{length, length-set}
-use Rattle.off.proofs.Parts.{Filled, filled-none, filled-step, filled-all}
+use Rattle.off_checks.proofs.Parts.{Filled, filled-none, filled-step, filled-all}
 use native.Mathlib.Omega.{arith}
 use borrow.Author.Needs.{needs}
 use Rattle.off.proofs.copy_coordinates.Statement.{statement}

@@ -3,7 +3,7 @@
 use mathlib.Core.Path.{_≡_, refl}
 use Prim.Native.Nat.{_≤_, _-_}
 use lib.ListN.{length, getD, length-set}
-use Rattle.off.proofs.Parts.{Filled, filled-none, filled-step, filled-all}
+use Rattle.off_checks.proofs.Parts.{Filled, filled-none, filled-step, filled-all}
 use native.Mathlib.Omega.{arith}
 use borrow.Author.Needs.{needs}
 use Rattle.off.proofs.copy_sides.Statement.{statement}
