@@ -11,14 +11,14 @@ ghost use lib.ListN.{length};
 
 fn main() {
     if 1 < os::arg_count() {
-        print::output::complain(b"usage: archive < FILE > FILE\n");
+        streams::output::complain(b"usage: archive < FILE > FILE\n");
         return;
     }
     let mut bytes = four_bytes::byte_room();
-    let got = print::input::read_up_to(STDIN_FILENO, b"standard input", &mut bytes);
+    let got = streams::input::read_up_to(STDIN_FILENO, b"standard input", &mut bytes);
     let held = got.count;
     if BYTES < held {
-        print::output::complain(b"standard input: more than 1572864 bytes\n");
+        streams::output::complain(b"standard input: more than 1572864 bytes\n");
         return;
     }
     if got.ok {
@@ -42,7 +42,7 @@ fn archive_numbers(bytes: &mut [u8], numbers: &mut [i32])
     match answer {
         Answer::Refused(number, place) => print::complain_refusal(number, place),
         Answer::Done => {
-            print::output::say(bytes);
+            streams::output::say(bytes);
         }
     }
 }

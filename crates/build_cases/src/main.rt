@@ -2,9 +2,9 @@
 // refuses, and whether a mesh built in one call and built corner by corner, so that every border lies between two calls, gives the
 // same numbers. The cube is soft (8 and 8 throughout) and then crisp (16 and 16), and the tetrahedron has corners of all sorts.
 use paper::Answer;
-use print::output::say_up_to;
-use print::text::put_entry;
-use print::text::put_word;
+use streams::output::say_up_to;
+use text_buffer::put_entry;
+use text_buffer::put_word;
 ghost use Prim.Native.Nat.{_*_, _≤_, _<_};
 
 const COORDINATES: [i32; 24] = [
@@ -388,12 +388,12 @@ fn corner_by_corner(
     while c < 24 {
         if c < corners.len() {
             if !agrees(coordinates, sides, corners, sharpness, links, whole, c) {
-                print::output::say(b"a corner built by itself differs\n");
+                streams::output::say(b"a corner built by itself differs\n");
             }
         }
         c += 1;
     }
-    print::output::say(b"compared corner by corner\n");
+    streams::output::say(b"compared corner by corner\n");
 }
 
 fn agrees(

@@ -2,8 +2,8 @@
 // A file is checked by 1 to 13 and 28 in local copies of its lists, before anything is written to a lent space.
 pub mod body;
 pub mod header;
-pub use surveying::survey_mesh;
 
+pub use surveying::survey_mesh;
 ghost use mathlib.Core.Path.{_≡_};
 ghost use Prim.Native.Nat.{_<_, _≤_};
 ghost use lib.ListN.{length};

@@ -22,7 +22,7 @@ pub plain-whole : (list : List ℕ) (i : ℕ) → length list ≤ i → PlainTo 
 plain-whole list i h p =
     record {
       says = λ _. ext-getD 0 list (replicate (length list) plain) (sym (length-replicate (length list) plain)) λ j l.
-        p j (omega arith) ∙ sym (getD-replicate (length list) j plain 0 l);
+          p j (omega arith) ∙ sym (getD-replicate (length list) j plain 0 l);
       said = λ _. refl;
     }
 

@@ -14,7 +14,13 @@ ghost use Rattle.face_sums.specs.Sources.{Placed, Refinable, SumRoom, Su
 pub const SUM_ROW: usize = 3;
 
 // said of the mesh with 8 and 8 throughout.
-pub fn fill_sums(coordinates: &[i32], sides: &[u8], corners: &[u16], wanted: &[u8], sums: &mut [i32])
+pub fn fill_sums(
+    coordinates: &[i32],
+    sides: &[u8],
+    corners: &[u16],
+    wanted: &[u8],
+    sums: &mut [i32],
+)
     requires mesh { ⌜ Refinable (plainMesh (now coordinates) (now sides) (now corners)) ⌝ }
     requires wanted { ⌜ length (now sides) ≤ length (now wanted) ⌝ }
     requires sums { ⌜ SumRoom (now sides) (now sums) ⌝ }

@@ -7,8 +7,8 @@ fn show(i: usize) {
         os::fail(&path[..n]);
         return;
     }
-    print::output::say(&path[..n]);
-    print::output::say(b": ");
+    streams::output::say(&path[..n]);
+    streams::output::say(b": ");
     print::inspect(fd, &path[..n]);
     libc::close(fd);
 }

@@ -1,7 +1,7 @@
 // Prints what the mesh file on standard input says: its counts, or why it is turned down.
 fn main() {
     if 1 < os::arg_count() {
-        print::output::complain(b"usage: inspect < FILE\n");
+        streams::output::complain(b"usage: inspect < FILE\n");
         return;
     }
     print::inspect(libc::STDIN_FILENO, b"standard input");

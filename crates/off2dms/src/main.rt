@@ -5,7 +5,7 @@ use paper::Answer;
 use paper::MOST_CORNERS;
 use paper::MOST_FACES;
 use paper::MOST_VERTICES;
-use print::output::complain;
+use streams::output::complain;
 ghost use Prim.Native.Nat.{_≤_};
 
 // The longest text. The buffer has a byte more, which a longer text fills.
@@ -29,7 +29,7 @@ fn run(text: &mut [u8; BUFFER]) {
 
 // Reads the text into the buffer, and writes the file.
 fn read_and_convert(text: &mut [u8]) {
-    let read = print::input::read_up_to(STDIN_FILENO, b"standard input", text);
+    let read = streams::input::read_up_to(STDIN_FILENO, b"standard input", text);
     let held = read.count;
     if !read.ok {
         return;

@@ -7,9 +7,9 @@ use paper::Answer;
 use paper::MOST_CORNERS;
 use paper::MOST_FACES;
 use paper::NUMBERS_PER_CORNER;
-use print::output::say_up_to;
 use print::say_refusal;
-use print::text::put_entry;
+use streams::output::say_up_to;
+use text_buffer::put_entry;
 ghost use Prim.Native.Nat.{_≤_, _<_};
 ghost use Rattle.paper.specs.Mesh.{mostCorners};
 
@@ -23,7 +23,7 @@ const LINES: usize = 2048;
 
 fn main() {
     if 1 < os::arg_count() {
-        print::output::complain(b"usage: patches < FILE\n");
+        streams::output::complain(b"usage: patches < FILE\n");
         return;
     }
     print_input();
@@ -148,7 +148,7 @@ fn print_corner(output: &[i32; NUMBERS], place: usize, corner: usize) -> bool
     requires { ⌜ place < 64 ⌝ }
 {
     let mut lines = [0u8; LINES];
-    let word = print::text::put_word(&mut lines, 0, b"corner ");
+    let word = text_buffer::put_word(&mut lines, 0, b"corner ");
     let first = print::lines::put_ended(&mut lines, word, corner as u64, b'\n');
     let end = put_points(&mut lines, first, output, place);
     say_up_to(&lines, end)

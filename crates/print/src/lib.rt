@@ -3,8 +3,8 @@
 pub mod input;
 pub mod lines;
 pub mod text;
-pub use streams::output;
 
+pub use streams::output;
 ghost use lib.ListN.{take};
 ghost use Rattle.io.specs.Counts.{Counts};
 ghost use Rattle.paper.specs.File.{fileOf};

@@ -10,14 +10,14 @@ ghost use Prim.Native.Nat.{_≤_};
 
 fn main() {
     if 1 < os::arg_count() {
-        print::output::complain(b"usage: restore < FILE > FILE\n");
+        streams::output::complain(b"usage: restore < FILE > FILE\n");
         return;
     }
     let mut bytes = four_bytes::byte_room();
-    let got = print::input::read_up_to(STDIN_FILENO, b"standard input", &mut bytes);
+    let got = streams::input::read_up_to(STDIN_FILENO, b"standard input", &mut bytes);
     let held = got.count;
     if BYTES < held {
-        print::output::complain(b"standard input: more than 1572864 bytes\n");
+        streams::output::complain(b"standard input: more than 1572864 bytes\n");
         return;
     }
     if got.ok {
@@ -39,7 +39,7 @@ fn restore_numbers(bytes: &mut [u8], numbers: &mut [i32]) {
         Answer::Refused(number, place) => print::complain_refusal(number, place),
         Answer::Done => {
             four_bytes::write_numbers(numbers, bytes);
-            print::output::say(bytes);
+            streams::output::say(bytes);
         }
     }
 }

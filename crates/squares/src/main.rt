@@ -7,13 +7,13 @@ use paper::Irregular;
 use paper::MOST_CORNERS;
 use paper::MOST_FACES;
 use print::lines::put_ended;
-use print::output::say_up_to;
 use print::say_refusal;
-use print::text::put_word;
+use streams::output::say_up_to;
+use text_buffer::put_word;
 
 fn main() {
     if 1 < os::arg_count() {
-        print::output::complain(b"usage: squares < FILE\n");
+        streams::output::complain(b"usage: squares < FILE\n");
         return;
     }
     print_input();

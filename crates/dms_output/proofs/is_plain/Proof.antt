@@ -31,7 +31,9 @@ loop-less : tie.Need-loop-less Inv-loop μ-loop
 loop-less c = search needs
 
 loop-again : tie.Need-loop-again Inv-loop μ-loop
-loop-again c = (omega arith, plain-step (c .before .before .before .before .args .sharpness .now) (c .before .before .before .loop .i) (c .before .before .before .loop .inv .1) (omega arith))
+loop-again c =
+    let l = c .before .before .before .loop in
+    (omega arith, plain-step (c .before .before .before .before .args .sharpness .now) (l .i) (l .inv .1) (omega arith))
 
 returns-2 : tie.Need-returns-2 Inv-loop μ-loop
 returns-2 c = plain-whole (c .before .before .args .sharpness .now) (c .before .loop .i) (omega arith) (c .before .loop .inv .1)

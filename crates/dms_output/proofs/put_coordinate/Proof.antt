@@ -28,7 +28,7 @@ same-length : tie.Need-same-length
 same-length c = search needs
 
 returns : tie.Need-returns
-returns c = 
+returns c =
     let s = c .before .before .before .before .before .before .before .before .before .before .args in
     let e : c .before .before .before .before .before .before .before .before .bits .result ≡ ofZ w32 (s .z) = c .before .before .before .before .before .before .before .before .bits .ensures ∙ ap (ofZ w32) (toZ-ofZ w32 (s .z) (c .before .before .before .before .before .before .before .before .before .before .fits .z)) in
     put-same (ap (λ (n : ℕ). halfBytes n ++ halfBytes (n / 65536)) e)

@@ -16,7 +16,7 @@ use Rattle.dms_output.proofs.put_coordinates.Statement.{statement}
 use Rattle.dms_output.proofs.put_coordinates.Tie as tie
 
 abbrev Inv-loop : tie.InvT-loop
-Inv-loop file₀ from coordinates at₀ i₀ file at i = 
+Inv-loop file₀ from coordinates at₀ i₀ file at i =
     (i ≤ length coordinates) × (length file ≡ length file₀) × Put file₀ from (coordinateBytes coordinates i) file at
 
 abbrev μ-loop : tie.MeasureT-loop
@@ -42,13 +42,13 @@ loop-less : tie.Need-loop-less Inv-loop μ-loop
 loop-less c = search needs
 
 loop-again : tie.Need-loop-again Inv-loop μ-loop
-loop-again c = 
+loop-again c =
     let list = c .before .before .before .before .before .before .before .before .args .coordinates .now in
     let l = c .before .before .before .before .before .before .loop in
     let p = c .before .before .put-coordinate in (
       omega arith,
       p .kept .0 ∙ l .inv .1,
-      put-same (next-coordinate list (l .i)) (put-then (l .inv .1) (l .inv .2) 
+      put-same (next-coordinate list (l .i)) (put-then (l .inv .1) (l .inv .2)
           (put-same (ap wordBytes (toZ-ofZ w32 (getD list (l .i) (pos 0)) (record { sfits = c .before .before .before .put-coordinate-arg2 .given })))
           (p .ensures))),
     )
@@ -57,7 +57,7 @@ same-length : tie.Need-same-length Inv-loop μ-loop
 same-length c = c .before .loop .inv .1
 
 returns : tie.Need-returns Inv-loop μ-loop
-returns c = 
+returns c =
     let l = c .before .loop in
     let list = c .before .before .before .args .coordinates .now in
     let q : l .i ≡ length list = omega arith in

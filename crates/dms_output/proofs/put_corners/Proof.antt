@@ -13,7 +13,7 @@ use Rattle.dms_output.proofs.put_corners.Statement.{statement}
 use Rattle.dms_output.proofs.put_corners.Tie as tie
 
 abbrev Inv-loop : tie.InvT-loop
-Inv-loop file₀ from corners at₀ c₀ file at c = 
+Inv-loop file₀ from corners at₀ c₀ file at c =
     (c ≤ length corners) × (length file ≡ length file₀) × Put file₀ from (cornerBytes corners c) file at
 
 abbrev μ-loop : tie.MeasureT-loop
@@ -41,7 +41,7 @@ loop-less : tie.Need-loop-less Inv-loop μ-loop
 loop-less c = search needs
 
 loop-again : tie.Need-loop-again Inv-loop μ-loop
-loop-again c = 
+loop-again c =
     let list = c .before .before .before .before .before .before .before .before .before .args .corners .now in
     let l = c .before .before .before .before .before .before .loop in
     let p = c .before .before .put-half in (
@@ -54,7 +54,7 @@ same-length : tie.Need-same-length Inv-loop μ-loop
 same-length c = c .before .loop .inv .1
 
 returns : tie.Need-returns Inv-loop μ-loop
-returns c = 
+returns c =
     let l = c .before .loop in
     let list = c .before .before .before .before .args .corners .now in
     let q : l .c ≡ length list = omega arith in

@@ -20,7 +20,7 @@ same-length c = search needs
 
 returns : tie.Need-returns
 unfolding fileBytes
-returns c = 
+returns c =
     let a = c .before .before .before .before .before .before .before .before .before .before .before .before .before .args in
     let M = meshOf (a .coordinates .now) (a .sides .now) (a .corners .now) (a .sharpness .now) in
     let p = c .before .before .before .before .before .before .put-lists in
@@ -34,7 +34,7 @@ same-length-2 c = search needs
 
 returns-2 : tie.Need-returns-2
 unfolding fileBytes
-returns-2 c = 
+returns-2 c =
     let a = c .before .before .before .before .before .before .before .before .before .args in
     let M = meshOf (a .coordinates .now) (a .sides .now) (a .corners .now) (a .sharpness .now) in
     put-same (ap (λ (b : Bool). fileBytes b M) (sym (c .before .before .before .before .if1 .left))) (c .before .before .put-lists2 .ensures)

@@ -27,7 +27,7 @@ same-length : tie.Need-same-length
 same-length c = search needs
 
 returns : tie.Need-returns
-returns c = 
+returns c =
     put-then (c .before .before .before .before .before .before .before .before .before .before .before .before .before .before .before .before .before .before .put-word .kept .0) (c .before .before .before .before .before .before .before .before .before .before .before .before .before .before .before .before .before .before .put-word .ensures)
     (put-then (c .before .before .before .before .before .before .before .before .before .before .before .before .before .before .put-half .kept .0) (c .before .before .before .before .before .before .before .before .before .before .before .before .before .before .put-half .ensures)
     (put-then (c .before .before .before .before .before .before .before .before .before .before .put-half2 .kept .0) (c .before .before .before .before .before .before .before .before .before .before .put-half2 .ensures)

@@ -21,7 +21,7 @@ same-length : tie.Need-same-length
 same-length c = search needs
 
 returns : tie.Need-returns
-returns c = 
+returns c =
     put-then (c .before .before .before .before .before .before .before .before .before .before .before .before .before .before .put-header .kept .0) (c .before .before .before .before .before .before .before .before .before .before .before .before .before .before .put-header .ensures)
     (put-then (c .before .before .before .before .before .before .before .before .before .before .put-coordinates .kept .0) (c .before .before .before .before .before .before .before .before .before .before .put-coordinates .ensures)
     (put-then (c .before .before .before .before .before .before .put-word .kept .0) (c .before .before .before .before .before .before .put-word .ensures)
