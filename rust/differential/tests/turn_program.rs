@@ -1,12 +1,12 @@
 //! The program `turn` against the independent implementation: a .dms file on standard input, the turned file on standard
 //! output, the turned faces on standard error, one number a line; of a refused file `refused N P` on standard error and
-//! nothing on standard output. To run before the program is part of the gate:
-//!
-//!     cargo test --release --offline -p differential --test turn_program -- --ignored
+//! nothing on standard output. And `off2dms as-drawn` before it, for bought OFF models.
+
+use std::path::Path;
 
 use differential::program::{find, run, Written};
 use differential::{each_case, lists, version};
-use reference::{encode, inspect, turn_file};
+use reference::{encode, inspect, off2dms, off2dms_as_drawn, turn_file};
 use shapes::{
     damage, jumble, random_faces, random_tables, Random, Sharpness, Solid, Tables, DAMAGES, DAMAGES_OF_EDGES,
 };
@@ -60,7 +60,6 @@ fn random_file(random: &mut Random) -> Vec<u8> {
 }
 
 #[test]
-#[ignore = "until the program turn is there"]
 fn files_of_all_kinds() {
     let mut turned = 0;
     each_case(300, 144, |_, random| {
@@ -74,7 +73,6 @@ fn files_of_all_kinds() {
 
 /// What the program writes is read again: nothing is left to turn, and `inspect` takes a turned mesh.
 #[test]
-#[ignore = "until the program turn is there"]
 fn a_pipeline() {
     let mut random = Random::new(145);
     for solid in [Solid::cube(), Solid::prism(16), Solid::torus(8, 12), Solid::torus(32, 64)] {
@@ -92,7 +90,6 @@ fn a_pipeline() {
 
 /// Files beyond the limits, and of the largest models.
 #[test]
-#[ignore = "until the program turn is there"]
 fn large_files() {
     let bottle = Tables::of(&Solid::klein_bottle(32, 64));
     for number in [1, 2] {
@@ -107,4 +104,96 @@ fn large_files() {
             compare(&bytes, 65_536);
         }
     }
+}
+
+/// The words of a model as a text, those of a face in a line.
+fn text_of(model: &Tables) -> Vec<u8> {
+    let mut text = format!("OFF\n{} {} 0 # edges\n", model.vertices(), model.sides.len());
+    for vertex in model.coordinates.chunks(3) {
+        text += &vertex.iter().map(|number| format!("{number} ")).collect::<String>();
+        text.push('\n');
+    }
+    let mut corners = model.corners.iter();
+    for &sides in &model.sides {
+        text += &sides.to_string();
+        corners.by_ref().take(sides.into()).for_each(|corner| text += &format!(" {corner}"));
+        text.push('\n');
+    }
+    text.into_bytes()
+}
+
+/// What `off2dms as-drawn` writes, and then what `turn` makes of it, where there is a file.
+fn drawn(text: &[u8]) -> Option<Written> {
+    let written = run(&find("off2dms"), &["as-drawn"], text, 65_536);
+    match off2dms_as_drawn(text) {
+        Ok(file) => {
+            assert!(written.output == file && written.said.is_empty(), "another file, or {:?}", written.said);
+            Some(compare(&written.output, 65_536))
+        }
+        Err(line) => {
+            assert!(written.output.is_empty() && written.said == line, "{:?}, not {line:?}", written.said);
+            None
+        }
+    }
+}
+
+/// OFF texts of models of all kinds: what is not in the words and the counts is left to `turn`.
+#[test]
+fn texts_as_drawn() {
+    for text in [
+        "",
+        "OFF",
+        "OFF 0 0 0",
+        "OFF 0 0 0 1",
+        "OFF 1 1 0 0 0 0 0",
+        "OFF 1 1 0 5 -6 7 3 0 65535 0",
+        "OFF 1 1 0 0 0 0 256",
+    ] {
+        drawn(text.as_bytes());
+    }
+    let mut longest = text_of(&Tables::of(&Solid::cube()));
+    for length in [1 << 20, (1 << 20) + 1] {
+        longest.resize(length, b' ');
+        drawn(&longest);
+    }
+    let mut turned = 0;
+    each_case(150, 146, |_, random| {
+        let mut tables = random_tables(random);
+        for face in random_faces(tables.sides.len(), random) {
+            tables.turn_face(face);
+        }
+        if random.once_in(3) {
+            damage(&mut tables, *random.pick(&DAMAGES), random);
+        }
+        if let Some(written) = drawn(&text_of(&tables)) {
+            turned += usize::from(!written.output.is_empty() && !written.said.is_empty());
+        }
+    });
+    assert!(std::env::var_os("MAHUNOPI_CASE").is_some() || turned > 0);
+}
+
+/// The sample: `off2dms` refuses it, and the pipeline makes the prism's file of it.
+#[test]
+fn the_sample_becomes_the_prism() {
+    let meshes = Path::new(env!("CARGO_MANIFEST_DIR")).join("../../meshes");
+    let text = std::fs::read(meshes.join("drawn-wrong.off")).expect("the sample");
+    assert_eq!(off2dms(&text), Err("refused 10 25\n".to_string()));
+    assert_eq!(run(&find("off2dms"), &[], &text, 65_536).said, "refused 10 25\n");
+    let written = drawn(&text).expect("a file");
+    assert!(written.output == std::fs::read(meshes.join("prism.dms")).expect("the prism"));
+    assert_eq!(written.said, "1\n4\n5\n9\n13\n");
+}
+
+/// Other arguments get the usage line.
+#[test]
+fn usage() {
+    let said = |name: &str, arguments: &[&str]| {
+        let written = run(&find(name), arguments, b"", 1);
+        assert!(written.output.is_empty());
+        written.said
+    };
+    for arguments in [&["as-drawN"][..], &["as-draw"], &["as-drawn-x"], &[""], &["as-drawn", "as-drawn"]] {
+        assert_eq!(said("off2dms", arguments), "usage: off2dms [as-drawn] < TEXT > FILE\n");
+    }
+    assert_eq!(said("turn", &["as-drawn"]), "usage: turn < FILE > FILE\n");
 }

@@ -26,7 +26,7 @@ pub use cosines::cosine;
 pub use file::{decode, encode, inspect, patches, squares, summary, Counts, Lengths, LENT_TOO_SHORT};
 pub use floats::{floats, FloatPoint};
 pub use nesting::{nest, nest_lines};
-pub use off::{off, off2dms, OffLists};
+pub use off::{off, off2dms, off2dms_as_drawn, OffLists};
 pub use preview::{preview, touched};
 pub use sampling::{sample, sample_triangle, small_triangles};
 pub use squares::{irregular, Irregular};
