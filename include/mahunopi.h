@@ -7,15 +7,17 @@
  * the control points of a range of corners, mahunopi_floats gives one of these points as floats, mahunopi_sample and
  * mahunopi_sample_triangle points of the surface. mahunopi_irregular says whether a mesh is all squares.
  * mahunopi_preview builds with one vertex moved, mahunopi_touched marks the corners that a vertex can change.
- * mahunopi_nest lists a table of nested grids. mahunopi_archive rearranges a coordinate list for the archive, and
- * mahunopi_restore undoes it. Each is complete in itself: none relies on an earlier call.
+ * mahunopi_turn turns faces that are drawn the wrong way round. mahunopi_nest lists a table of nested grids.
+ * mahunopi_archive rearranges a coordinate list for the archive, and mahunopi_restore undoes it. Each is complete in
+ * itself: none relies on an earlier call.
  *
  * Every function returns MAHUNOPI_DONE, or the number of a refusal (enum mahunopi_refusal). After a refusal *place
  * says where, and everything else that was lent keeps its contents; when done, *place keeps its contents.
  *
  * A list is a pointer and the number of its entries. The pointer may be null where that number is 0. The pointers to
- * single numbers (place, pairs, the counts of surveying, of decoding and of OFF, and what mahunopi_irregular finds) and
- * to the six floats must not be null. What a function writes to must not overlap anything else that it is given.
+ * single numbers (place, pairs, the counts of surveying, of decoding, of OFF and of turning, and what
+ * mahunopi_irregular finds) and to the six floats must not be null. What a function writes to must not overlap anything
+ * else that it is given.
  *
  * Calls share no state: any number of them may run at the same time, on any threads, as long as none writes to what
  * another one is given. Nothing is allocated. Scratch lies on the stack, of which a call needs up to
@@ -60,9 +62,9 @@ extern "C" {
  * What a function answers. A file is checked by 1 to 13, linking by 4 to 14, building by 4 to 17, the search for an
  * irregular face or vertex by 4 to 13, a control point in floats by 18 to 20, a nesting table by 21 to 23, an OFF text
  * by 24 to 26 and then 4 to 13, a preview by 29 and then 4 to 17, the marks of a vertex by 29 and then 4 to 13, lists
- * for the archive by 30 and 31. 27 and 28 are tried wherever 4 to 13 are, 27 after 4 and 28 after 8: the order is 4,
- * 27, 5, 6, 7, 8, 28, 9 and so on. Each number is tried over the whole input before the next, and the place is the
- * lowest that applies.
+ * for the archive by 30 and 31, a model whose faces are to be turned by 36, then 4 to 9, then 34 and 35. 27 and 28 are
+ * tried wherever 4 to 9 are, 27 after 4 and 28 after 8: the order is 4, 27, 5, 6, 7, 8, 28, 9 and so on. Each number is
+ * tried over the whole input before the next, and the place is the lowest that applies.
  *
  * From a corner the leaving edge runs to the vertex of the next corner of its face, cyclically, and the arriving edge
  * comes from the vertex of the previous one. The link of a corner is the corner of the same vertex whose arriving edge
@@ -151,6 +153,12 @@ enum mahunopi_refusal {
     MAHUNOPI_NO_SUCH_SIDE = 32,
     /* the number of parts is outside 1 to 16, or the weights do not sum to it (place: the number of parts) */
     MAHUNOPI_BAD_WEIGHTS = 33,
+    /* an edge, its direction ignored, is not in exactly two faces (place: the lowest corner that it leaves) */
+    MAHUNOPI_EDGE_NOT_IN_TWO_FACES = 34,
+    /* no choice of turns makes the model pass 10 and 11 (place: the lowest face of the lowest part that has none) */
+    MAHUNOPI_NO_CHOICE_OF_TURNS = 35,
+    /* before everything else: the listing's length is not the face count (place: its length) */
+    MAHUNOPI_BAD_LISTING_LENGTH = 36,
     /* surveying and decoding, after 1 to 13: a lent list is too short (place: the length that the first such needs);
      * mahunopi_touched, after 29 and 4 to 13: there is not a mark for each corner (place: the corner count) */
     MAHUNOPI_LENT_TOO_SHORT = 255
@@ -428,6 +436,36 @@ uint32_t mahunopi_touched(
     uint8_t *marks,
     /* how many entries it has: has to be corner_count */
     size_t mark_count,
+    /* receives the place of a refusal; not null */
+    uint64_t *place);
+
+/*
+ * Faces drawn the wrong way round: checks by 36, then 4 to 9, then 34 and 35, and turns faces so that the model passes
+ * 10 and 11. Faces are connected through shared edges, and the lowest face of each connected part is kept, so there is
+ * one such choice. A face is turned by reversing its corner order after the first corner; each corner's u and v go with
+ * it and change places, those of the first corner too. The turned model stands in the lent corners and sharpness. It is
+ * not checked by 12 and 13: linking may still refuse it.
+ */
+uint32_t mahunopi_turn(
+    /* coordinates and side counts, as for mahunopi_link */
+    const int32_t *coordinates,
+    size_t coordinate_count,
+    const uint8_t *sides,
+    size_t side_count,
+    /* the vertex numbers of face 0 in order, then of face 1, and so on; receives those of the turned model */
+    uint16_t *corners,
+    /* how many corners */
+    size_t corner_count,
+    /* u and v of corner 0, then of corner 1, and so on, each 0 to 16; receives those of the turned model */
+    uint8_t *sharpness,
+    /* how many numbers that are: has to be twice corner_count */
+    size_t sharpness_count,
+    /* its beginning receives the numbers of the turned faces in rising order; further entries keep their contents */
+    uint16_t *listing,
+    /* how many entries it has: has to be side_count */
+    size_t listing_count,
+    /* receives how many faces are turned; not null */
+    uint64_t *turned,
     /* receives the place of a refusal; not null */
     uint64_t *place);
 

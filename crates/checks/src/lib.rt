@@ -65,7 +65,7 @@ pub fn check_within(
 }
 
 // Checks 4 to 9 with 27 and 28, of the lists themselves; the last of them leaves the chains of the vertices in the two tables.
-fn check_lists(
+pub fn check_lists(
     coordinates: &[i32],
     sides: &[u8],
     corners: &[u16],

@@ -22,6 +22,8 @@ use Rattle.off_examples.proofs.Theorems.{no-six, missing-word, whole-text}
 use Rattle.preview.proofs.Theorems.{as-building, previews-build, previews-from-c}
 use Rattle.touching.proofs.Untouched.{untouched}
 use Rattle.sampling.proofs.Theorems.{samples-close, rays-agree, sample-ends, samples-between, triangles-sample}
+use Rattle.turn_laws.proofs.Theorems.{turned-passes, turns-decide, one-choice, turned-twice, turned-back, nothing-turned, none-farther}
+use Rattle.turn_laws.proofs.Listing.{listing-rises}
 
 pub claims : Claims
 claims = record {
@@ -60,4 +62,12 @@ claims = record {
   sample-ends = sample-ends;
   samples-between = samples-between;
   triangles-sample = triangles-sample;
+  turned-passes = turned-passes;
+  turns-decide = turns-decide;
+  one-choice = one-choice;
+  listing-rises = listing-rises;
+  turned-twice = turned-twice;
+  turned-back = turned-back;
+  nothing-turned = nothing-turned;
+  none-farther = none-farther;
 }

@@ -18,15 +18,15 @@ use Rattle.columns.specs.Chain.{lastBelow, EarliersTo, LastsTo, Chain, C
 
 -- the highest number that passes
 module _ (f : ℕ → Bool) where
-  last-hit : (n : ℕ) → f n ≡ true → lastBelow (suc n) f ≡ suc n
+  pub last-hit : (n : ℕ) → f n ≡ true → lastBelow (suc n) f ≡ suc n
   unfolding lastBelow
   last-hit n e = rw e
 
-  last-miss : (n : ℕ) → f n ≡ false → lastBelow (suc n) f ≡ lastBelow n f
+  pub last-miss : (n : ℕ) → f n ≡ false → lastBelow (suc n) f ≡ lastBelow n f
   unfolding lastBelow
   last-miss n e = rw e
 
-  last-zero : lastBelow 0 f ≡ 0
+  pub last-zero : lastBelow 0 f ≡ 0
   unfolding lastBelow
   last-zero = refl
 

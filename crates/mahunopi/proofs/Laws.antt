@@ -31,6 +31,8 @@ use Rattle.paper.specs.Preview.{moveOf, moved, Previewed, touchMarks, Touched}
 use Rattle.paper.specs.CFace.{FloatsCall, NestCall, Finding, finding, findingOf, IrregularCall, PreviewCall, TouchedCall}
 use Rattle.paper.specs.Sampling.{Weights, samplePoint, sideAt, Sampled, triangleSamples, TriangleSampled}
 use Rattle.paper.specs.CFace.{SampleCall, TriangleCall}
+use Rattle.paper.specs.Turning.{turnVerdict, TurnedTo}
+use Rattle.paper.specs.CFace.{TurnCall}
 use Rattle.paper.specs.declared.Answer.{Answer}
 use Rattle.paper.specs.declared.Answer.the-variants.{Done, Refused}
 use Rattle.paper.specs.declared.Counts.{Counts}
@@ -40,6 +42,7 @@ use Rattle.paper.specs.declared.Floats.{Floats}
 use Rattle.paper.specs.declared.FloatPoint.{FloatPoint}
 use Rattle.paper.specs.declared.FloatPoint.the-variants.{Near, Far, Refused as NoPoint}
 use Rattle.paper.specs.declared.Irregular.{Irregular}
+use Rattle.paper.specs.declared.Turned.{Turned}
 use Rattle.paper.specs.declared.Irregular.the-variants.{Face, Vertex, None, Refused as NoMesh}
 use Rattle.irregular.proofs.Laws.{verdictOf, verdict-is}
 use Rattle.floats.proofs.Theorems.{near-sound, far-sound, refused-fault}
@@ -200,6 +203,33 @@ module _ (text : List ℕ) (lent : Mesh) (r : Decoded) (lists : Mesh) (lengths :
       record {
         answers = subst (λ (w : Verdict). States w before m q) (sym v) tells;
         holds = kept-old _ n p _ _ _ v (told-at lists _ _ _ s (d .holds));
+        tells = kept-old _ n p _ _ _ v refl;
+      }
+
+-- ---- turning faces
+module _ (M : Mesh) (old : List ℕ) (r : Turned) (lists : Mesh) (out : List ℕ) (count before : ℕ) (t : TurnedTo M old r lists out) where
+  turned-at : {A : Type 0} (x new old : A) (w : Verdict) → stated (r .answer) ≡ w → x ≡ kept (stated (r .answer)) new old → x ≡ kept w new old
+  turned-at x new old w e h = subst (λ (u : Verdict). x ≡ kept u new old) e h
+
+  pub turn-done : r .answer ≡ Done → TurnCall M old count before 0 before lists out (r .turned)
+  turn-done e =
+      let s : stated (r .answer) ≡ sound = ap stated e in
+      let v : turnVerdict M (length old) ≡ sound = sym (t .answers) ∙ s in
+      record {
+        answers = states-done _ (r .answer) before (t .answers) e;
+        holds = kept-new _ _ _ _ v (turned-at lists _ _ _ s (t .holds));
+        listing-holds = kept-new _ _ _ _ v (turned-at out _ _ _ s (t .listing-holds));
+        tells = kept-new _ _ _ _ v (turned-at (r .turned) _ _ _ s (t .counts));
+      }
+
+  pub turn-refused : (n p m q : ℕ) → r .answer ≡ Refused n p → States (fault n p) before m q → TurnCall M old count before m q lists out count
+  turn-refused n p m q e tells =
+      let s : stated (r .answer) ≡ fault n p = ap stated e in
+      let v : turnVerdict M (length old) ≡ fault n p = sym (t .answers) ∙ s in
+      record {
+        answers = subst (λ (w : Verdict). States w before m q) (sym v) tells;
+        holds = kept-old _ n p _ _ _ v (turned-at lists _ _ _ s (t .holds));
+        listing-holds = kept-old _ n p _ _ _ v (turned-at out _ _ _ s (t .listing-holds));
         tells = kept-old _ n p _ _ _ v refl;
       }
 

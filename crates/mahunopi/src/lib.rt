@@ -12,7 +12,7 @@ ghost use Rattle.paper.specs.CFace.{finding, IrregularCall, ArchiveCall, Restor
 ghost use Rattle.paper.specs.Preview.{moveOf};
 ghost use Rattle.paper.specs.CFace.{PreviewCall, TouchedCall};
 ghost use Rattle.paper.specs.Sampling.{weights};
-ghost use Rattle.paper.specs.CFace.{SampleCall, TriangleCall};
+ghost use Rattle.paper.specs.CFace.{SampleCall, TriangleCall, TurnCall};
 use paper::Answer;
 use paper::FloatPoint;
 use paper::Irregular;
@@ -348,6 +348,28 @@ pub extern "C" fn mahunopi_sample_triangle(
 {
     let a = sampling::sample_triangle(numbers, side, n, points);
     tell(a, place)
+}
+
+// Turning faces that are drawn the wrong way round.
+#[no_mangle]
+pub extern "C" fn mahunopi_turn(
+    coordinates: &[i32],
+    sides: &[u8],
+    corners: &mut [u16],
+    sharpness: &mut [u8],
+    listing: &mut [u16],
+    turned: &mut u64,
+    place: &mut u64,
+) -> u32
+    ensures { λ r. ⌜ TurnCall (meshOf (now (coordinates .entry)) (now (sides .entry)) (now (corners .entry)) (now (sharpness .entry))) (now (listing .entry)) (now (turned .entry)) (now (place .entry)) r (now (place .exit)) (meshOf (now (coordinates .entry)) (now (sides .entry)) (now (corners .exit)) (now (sharpness .exit))) (now (listing .exit)) (now (turned .exit)) ⌝ }
+{
+    let t = turning::turn(coordinates, sides, corners, sharpness, listing);
+    let a = t.answer;
+    if let Answer::Refused(number, at) = a {
+        return tell(Answer::Refused(number, at), place);
+    }
+    *turned = t.turned as u64;
+    0
 }
 
 // Whether one of two lists has no room for every m.

@@ -40,7 +40,7 @@ pub fn read_checked(
 }
 
 // Checks 25 and 26, with the lists in own ones as far as these reach. The fourth length is told with the fourth list, after the last check.
-fn read_words(
+pub fn read_words(
     text: &[u8],
     c: Cursor,
     coordinates: &mut [i32],

@@ -21,6 +21,7 @@ use Rattle.paper.specs.Squares.{SearchCase, faceFound, vertexFound, none
 use Rattle.paper.specs.Archive.{archiveVerdict, archived, restored}
 use Rattle.paper.specs.Off.{offVerdict, textMesh}
 use Rattle.paper.specs.Preview.{moved, previewVerdict, touchMarks, touchedVerdict}
+use Rattle.paper.specs.Turning.{turnedMesh, turnsOf, turnedFaces, turnVerdict}
 use Rattle.paper.specs.Sampling.{Weights, samplePoint, sampleVerdict, sideAt, triangleSamples, triangleVerdict}
 use Rattle.paper.specs.declared.Counts.{Counts}
 use Rattle.paper.specs.declared.Floats.{Floats}
@@ -159,3 +160,10 @@ pub record SampleCall (numbers : List ℤ) (side : ℕ) (w : Weights) (old : Lis
 pub record TriangleCall (numbers : List ℤ) (side N : ℕ) (old : List ℤ) (before r after : ℕ) (out : List ℤ) : Type 0 where
   pub answers : States (triangleVerdict numbers side N (length old)) before r after
   pub holds : out ≡ kept (triangleVerdict numbers side N (length old)) (begins (triangleSamples numbers (sideAt side) N) old) old
+
+-- turning faces, with the lent corner list and sharpness list, a lent listing and a lent count
+pub record TurnCall (M : Mesh) (old : List ℕ) (count before r after : ℕ) (lists : Mesh) (out : List ℕ) (told : ℕ) : Type 0 where
+  pub answers : States (turnVerdict M (length old)) before r after
+  pub holds : lists ≡ kept (turnVerdict M (length old)) (turnedMesh M (turnsOf M)) M
+  pub listing-holds : out ≡ kept (turnVerdict M (length old)) (begins (turnedFaces M) old) old
+  pub tells : told ≡ kept (turnVerdict M (length old)) (length (turnedFaces M)) count

@@ -1,15 +1,15 @@
 -- The theorems, as types. Crate claims has a value of `Claims`.
 -- Assumes nothing.
 use mathlib.Core.Path.{_≡_}
-use mathlib.Core.Bool.{false}
+use mathlib.Core.Bool.{Bool, true, false}
 use mathlib.Core.List.{List}
 use mathlib.Core.Logic.{_↔_}
 use Prim.Native.Nat.{ℕ, _+_, _*_, _%_, _≤_, _<_}
 use lib.ListN.{length, getD, take, drop}
 use lib.IntN.{ℤ, pos}
-use Rattle.paper.specs.Mesh.{Mesh, vertexCount, cornerCount, leastSides, mostSides, plainList}
+use Rattle.paper.specs.Mesh.{Mesh, vertexCount, faceCount, cornerCount, leastSides, mostSides, plainList}
 use Rattle.paper.specs.Links.{linkTable}
-use Rattle.paper.specs.Faults.{sound, fault, Accepted, fault27, fault28, stated}
+use Rattle.paper.specs.Faults.{sound, fault, listFaults, Accepted, fault27, fault28, stated}
 use Rattle.paper.specs.Numbers.{rounded, Fraction, exact}
 use Rattle.paper.specs.Cosines.{RowRules}
 use Rattle.paper.specs.Refined.{refinedOf, refinedOf01}
@@ -17,11 +17,12 @@ use Rattle.paper.specs.Net.{Side, across, atHead, atTail, netPoints}
 use Rattle.paper.specs.File.{versionIn, fileMesh, FileSurveyed}
 use Rattle.paper.specs.Calls.{perCorner, nets, Built}
 use Rattle.paper.specs.Floats.{netVerdict, difference, farFirst, farSecond, axes, Pointed, sums, FarPair}
-use Rattle.paper.specs.Nesting.{tableVerdict, nestingVerdict, Nested, Ends, Ordered}
+use Rattle.paper.specs.Nesting.{tableVerdict, nestingVerdict, listed, Nested, Ends, Ordered}
 use Rattle.paper.specs.Squares.{Searched, Agreed}
 use Rattle.paper.specs.Archive.{Archived, Restored, All32Bit, AllBytes}
 use Rattle.paper.specs.Off.{wordsOf, wordsEnd, OffRead}
 use Rattle.paper.specs.Preview.{moved, Previewed, Touched}
+use Rattle.paper.specs.Turning.{turnedMesh, edgeFaults, inSteps, connected, keepsLowest, turnsOf, TurnedTo}
 use Rattle.paper.specs.CFace.{BuildCall, PreviewCall}
 use Rattle.paper.specs.Borders.{Output, outputAt, Wrote, outputOf, Holds, written, beside, Borders, Smooth}
 use Rattle.paper.specs.Sampling.{Weights, weights, onAxis, Sampled, TriangleSampled, sideNumber, netIn, Alike, controlPoint, Leaves, Between, rowStart}
@@ -36,6 +37,7 @@ use Rattle.paper.specs.declared.FloatPoint.{FloatPoint}
 use Rattle.paper.specs.declared.Irregular.{Irregular}
 use Rattle.paper.specs.declared.Move.{Move}
 use Rattle.paper.specs.declared.Summary.{Summary}
+use Rattle.paper.specs.declared.Turned.{Turned}
 
 -- ---- "Numbers used": the four rules of the cosine table, of every row
 abbrev pub TableRules : Type 0
@@ -227,6 +229,51 @@ TrianglesSample =
     → (i j k : ℕ) → i + j + k ≡ N → (old′ point : List ℤ) (r : Answer) → Sampled numbers side (weights i j k N) old′ r point
     → (r ≡ Done) × (point ≡ take 3 (drop (3 * (rowStart N k + j)) out))
 
+-- ---- L13: the model that a call leaves passes 10 and 11
+abbrev pub TurnedPasses : Type 0
+TurnedPasses = (M lists : Mesh) (old out : List ℕ) (r : Turned) → TurnedTo M old r lists out → r .answer ≡ Done → edgeFaults lists ≡ sound
+
+-- a model that passes 36, 4 to 9, 27 and 28 is refused exactly when no choice of turns passes 10 and 11
+abbrev pub TurnsDecide : Type 0
+TurnsDecide =
+    (M lists : Mesh) (old out : List ℕ) (r : Turned) → TurnedTo M old r lists out → length old ≡ faceCount M → listFaults M ≡ sound
+    → (r .answer ≡ Done → ⊥) ↔ ((t : ℕ → Bool) → edgeFaults (turnedMesh M t) ≡ sound → ⊥)
+
+-- of all choices that pass, the one made is the only one that turns no part's lowest face
+abbrev pub OneChoice : Type 0
+OneChoice =
+    (M lists : Mesh) (old out : List ℕ) (r : Turned) → TurnedTo M old r lists out → r .answer ≡ Done
+    → (keepsLowest (M .sides) (M .corners) (turnsOf M) ≡ true)
+    × ((t : ℕ → Bool) → edgeFaults (turnedMesh M t) ≡ sound → keepsLowest (M .sides) (M .corners) t ≡ true
+    → (f : ℕ) → f < faceCount M → t f ≡ turnsOf M f)
+
+-- the turned faces stand at the beginning of the listing, each higher than the one before; and no others
+abbrev pub ListingRises : Type 0
+ListingRises =
+    (M lists : Mesh) (old out : List ℕ) (r : Turned) → TurnedTo M old r lists out → r .answer ≡ Done
+    → ((i j : ℕ) → i < j → j < r .turned → getD out i 0 < getD out j 0)
+    × ((f : ℕ) → f < faceCount M → listed (take (r .turned) out) f ≡ turnsOf M f)
+
+-- turning the same faces again gives the model back, whichever they are; and so for a call
+abbrev pub TurnedTwice : Type 0
+TurnedTwice = (M : Mesh) → listFaults M ≡ sound → (t : ℕ → Bool) → turnedMesh (turnedMesh M t) t ≡ M
+
+abbrev pub TurnedBack : Type 0
+TurnedBack =
+    (M lists : Mesh) (old out : List ℕ) (r : Turned) → TurnedTo M old r lists out → r .answer ≡ Done → turnedMesh lists (turnsOf M) ≡ M
+
+-- a model that already passes 10 and 11 is returned as it was, with nothing turned
+abbrev pub NothingTurned : Type 0
+NothingTurned =
+    (M lists : Mesh) (old out : List ℕ) (r : Turned) → TurnedTo M old r lists out → length old ≡ faceCount M → listFaults M ≡ sound
+    → edgeFaults M ≡ sound → (r .answer ≡ Done) × (r .turned ≡ 0) × (lists ≡ M) × (out ≡ old)
+
+-- no face is farther from another than as many steps over shared edges as there are faces
+abbrev pub NoneFarther : Type 0
+NoneFarther =
+    (M : Mesh) (k f g : ℕ) → g < faceCount M
+    → inSteps (M .sides) (M .corners) k f g ≡ true → connected (M .sides) (M .corners) f g ≡ true
+
 -- ---- all of them
 pub record Claims : Type 0 where
   pub rules : TableRules
@@ -264,3 +311,11 @@ pub record Claims : Type 0 where
   pub sample-ends : SampleEnds
   pub samples-between : SamplesBetween
   pub triangles-sample : TrianglesSample
+  pub turned-passes : TurnedPasses
+  pub turns-decide : TurnsDecide
+  pub one-choice : OneChoice
+  pub listing-rises : ListingRises
+  pub turned-twice : TurnedTwice
+  pub turned-back : TurnedBack
+  pub nothing-turned : NothingTurned
+  pub none-farther : NoneFarther

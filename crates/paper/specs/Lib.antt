@@ -13,6 +13,7 @@
 --     Archive    L11: coordinates rearranged for the archive and back, 30 and 31, the two calls
 --     Off        L6: reading OFF texts, 24 to 26, the call
 --     Preview    L9: a vertex moved, 29, the preview; the corners that a vertex can change
+--     Turning    L13: turning faces, connected parts, 34 to 36, the call
 --     Borders    "The four conditions across a side"
 --     Sampling   L12: samples of a patch, 32 and 33, the calls
 --     CFace      the C face
@@ -40,6 +41,7 @@ pub mod Squares
 pub mod Archive
 pub mod Off
 pub mod Preview
+pub mod Turning
 pub mod Borders
 pub mod Sampling
 pub mod CFace

@@ -101,3 +101,9 @@ pub struct Move {
     pub y: i32,
     pub z: i32,
 }
+
+// What `turning::turn` answers: done or refused, and how many faces were turned, 0 beside a refusal.
+pub struct Turned {
+    pub answer: Answer,
+    pub turned: usize,
+}

@@ -9,9 +9,11 @@
 //! - `drags`: the preview of a moved vertex beside building the same range, and a drag: the corners that the vertex
 //!   touches, by ranges, beside building the whole mesh;
 //! - `archive`: archiving and restoring, in nanoseconds per number;
-//! - `samples`: samples of a patch, in nanoseconds per sample.
+//! - `samples`: samples of a patch, in nanoseconds per sample;
+//! - `turning`: turning faces beside linking the same mesh.
 
 mod samples;
+mod turning;
 
 use std::time::{Duration, Instant};
 
@@ -292,6 +294,18 @@ fn main() {
     }
     if wanted("samples") {
         samples::measure(budget);
+    }
+    if wanted("turning") {
+        measure_turning(&meshes, budget);
+    }
+}
+
+/// Turning the faces of each mesh.
+fn measure_turning(meshes: &[Named], budget: Duration) {
+    println!("{}", turning::HEADING);
+    for (name, solid, numbers, sharpness) in meshes {
+        let word = format!("{} | {}", numbers.word(), sharpness_word(*sharpness));
+        turning::line(name, &word, numbers.tables(solid).sharpened(*sharpness, &mut Random::new(11)), budget);
     }
 }
 

@@ -2,9 +2,14 @@
 //! space, and demands the same answer and the same contents afterwards. What is left alone is checked too: the place
 //! when the library is done, the lengths after a refusal.
 
+pub mod program;
+mod turning;
+
 use mahunopi::{raw, MeshRef};
 use reference::{Counts, FloatPoint, Irregular, Lengths, Lists, Refusal, LENT_TOO_SHORT, MOST};
 use shapes::{Random, Tables};
+
+pub use turning::turn;
 
 /// What `place` and the lengths hold before a call.
 const UNTOUCHED: u64 = 0xfeed_0000_0000_beef;

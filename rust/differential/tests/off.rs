@@ -404,7 +404,8 @@ fn sample_texts_are_the_sample_files() {
     let mut samples = 0;
     for entry in std::fs::read_dir(&meshes).expect("the samples") {
         let text = entry.expect("a sample").path();
-        if text.extension().map_or(true, |extension| extension != "off") {
+        // drawn-wrong.off has no file: it is no mesh before its faces are turned (turn_program.rs)
+        if text.extension().map_or(true, |extension| extension != "off") || text.ends_with("drawn-wrong.off") {
             continue;
         }
         samples += 1;

@@ -5,7 +5,7 @@
 //! points of a range of corners: 123 numbers for each, in ticks of 1/256 of a grid step, five rows of five b points and
 //! then four rows of four a points. [`build_all`] builds all corners on several threads. [`floats`] gives one of these
 //! points as floats, [`sample`] a point of the surface, [`sample_triangle`] all of a triangle. [`irregular`] says whether a mesh is all squares. [`preview`] builds with one vertex moved, and
-//! [`touched`] names the corners that a vertex can change. [`nest`] lists a table of nested grids.
+//! [`touched`] names the corners that a vertex can change. [`turn`] turns faces that are drawn the wrong way round. [`nest`] lists a table of nested grids.
 //! [`archive`] rearranges a coordinate list for the archive, and [`restore`] undoes it. An input that is turned down
 //! gives a [`Refusal`]. The functions ending in `_into` fill what the caller lends them, which keeps its contents after a
 //! refusal.
@@ -34,6 +34,7 @@ mod preview;
 pub mod raw;
 mod refusal;
 mod sampling;
+mod turning;
 
 use std::num::NonZeroUsize;
 use std::thread;
@@ -48,6 +49,7 @@ pub use preview::{preview, preview_into, ranges, touched, touched_into};
 use refusal::answer;
 pub use refusal::{Fault, Refusal};
 pub use sampling::{sample, sample_count, sample_triangle, sample_triangle_into, MAX_PARTS};
+pub use turning::{turn, turn_in_place, turn_into, Turned};
 
 /// The most vertices, faces and corners of a mesh.
 pub const MAX_VERTICES: usize = 2_048;

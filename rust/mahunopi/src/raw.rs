@@ -173,6 +173,21 @@ extern "C" {
         number_count: usize,
         place: *mut u64,
     ) -> u32;
+    /// Turning faces that are drawn the wrong way round.
+    pub fn mahunopi_turn(
+        coordinates: *const i32,
+        coordinate_count: usize,
+        sides: *const u8,
+        side_count: usize,
+        corners: *mut u16,
+        corner_count: usize,
+        sharpness: *mut u8,
+        sharpness_count: usize,
+        listing: *mut u16,
+        listing_count: usize,
+        turned: *mut u64,
+        place: *mut u64,
+    ) -> u32;
     /// Reading the lists of an OFF text.
     pub fn mahunopi_off(
         text: *const u8,

@@ -10,8 +10,8 @@ macro_rules! faults {
         /// floats by 18 to 20, a nesting table by 21 to 23, a sample by
         /// 18, 19, 32 and 33, an OFF text by 24 to 26 and then 4 to 13, lists for the
         /// archive by 30 and 31, each over the whole input before the next. A preview is checked by 29 and
-        /// then as building, the marks of a vertex by 29 and then 4 to 13. 27 is tried after 4, and 28 after 8,
-        /// wherever these are.
+        /// then as building, the marks of a vertex by 29 and then 4 to 13, a model whose faces are to be turned by 36,
+        /// then 4 to 9, then 34 and 35. 27 is tried after 4, and 28 after 8, wherever these are.
         #[derive(Clone, Copy, Debug, PartialEq, Eq, PartialOrd, Ord, Hash)]
         #[non_exhaustive]
         pub enum Fault {
@@ -73,6 +73,9 @@ faults! {
     BadByteCount = 31, "the byte list is not four times as long as the number list", Some("its length");
     NoSuchSide = 32, "the side is above 3", Some("the side");
     BadWeights = 33, "the number of parts is outside 1 to 16, or the weights do not sum to it", Some("the number of parts");
+    EdgeNotInTwoFaces = 34, "an edge, its direction ignored, is not in exactly two faces", Some("the lowest corner it leaves");
+    NoChoiceOfTurns = 35, "no choice of turns makes the model pass 10 and 11", Some("the lowest face of the lowest part that has none");
+    BadListingLength = 36, "the listing's length is not the face count", Some("its length");
     LentTooShort = 255, "a lent list is too short for what it is to hold, or has not a mark for each corner", Some("the length it needs");
 }
 

@@ -46,7 +46,7 @@ fn text_of(mesh: &Mesh) -> String {
 #[test]
 fn every_fault_has_a_number_and_one_line_of_words() {
     let numbers: Vec<u32> = Fault::ALL.iter().map(|fault| fault.number()).collect();
-    assert_eq!(numbers, (1..=33).chain([255]).collect::<Vec<u32>>());
+    assert_eq!(numbers, (1..=36).chain([255]).collect::<Vec<u32>>());
     for &fault in Fault::ALL {
         assert_eq!(Fault::of_number(fault.number()), Some(fault));
         assert!(!fault.words().is_empty() && !fault.words().contains('\n'));
@@ -55,7 +55,7 @@ fn every_fault_has_a_number_and_one_line_of_words() {
         assert_eq!(line.ends_with("is 5)"), fault.place().is_some(), "{line}");
         assert_eq!(fault.place().is_some(), ![1, 2, 3, 4, 21, 24].contains(&fault.number()), "{line}");
     }
-    for number in [0, 34, 254, 256, u32::MAX] {
+    for number in [0, 37, 254, 256, u32::MAX] {
         assert_eq!(Fault::of_number(number), None);
     }
 }

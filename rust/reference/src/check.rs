@@ -76,18 +76,17 @@ fn check_lists(lists: Lists) -> Result<(), Refusal> {
     Ok(())
 }
 
-/// The faults 4 to 13, 27 and 28; the order of the corners and the links of a mesh that has none.
-pub(crate) fn check_mesh(lists: Lists) -> Result<(Order, Vec<u16>), Refusal> {
-    check_lists(lists)?;
-    let corners = lists.corners;
-    let vertices = lists.coordinates.len() / 3;
-    const NEVER: u16 = u16::MAX;
+/// What no face, corner or vertex has for a number.
+const NEVER: u16 = u16::MAX;
 
+/// The faults 4 to 9, 27 and 28, which look at no face but each by itself.
+pub(crate) fn check_faces(lists: Lists) -> Result<(), Refusal> {
+    check_lists(lists)?;
     // 9: the face that last named each vertex
-    let mut named_by = vec![NEVER; vertices];
+    let mut named_by = vec![NEVER; lists.coordinates.len() / 3];
     let mut corner = 0;
     for (face, &side_count) in lists.sides.iter().enumerate() {
-        for &vertex in &corners[corner..corner + usize::from(side_count)] {
+        for &vertex in &lists.corners[corner..corner + usize::from(side_count)] {
             let last = &mut named_by[usize::from(vertex)];
             if *last == face as u16 {
                 return refuse(9, corner);
@@ -96,6 +95,14 @@ pub(crate) fn check_mesh(lists: Lists) -> Result<(Order, Vec<u16>), Refusal> {
             corner += 1;
         }
     }
+    Ok(())
+}
+
+/// The faults 4 to 13, 27 and 28; the order of the corners and the links of a mesh that has none.
+pub(crate) fn check_mesh(lists: Lists) -> Result<(Order, Vec<u16>), Refusal> {
+    check_faces(lists)?;
+    let corners = lists.corners;
+    let vertices = lists.coordinates.len() / 3;
 
     // the corners sorted by vertex, those of a vertex in rising order: vertex v has sorted[start[v]..start[v + 1]]
     let mut start = vec![0u16; vertices + 1];

@@ -20,30 +20,32 @@ pub struct Lengths {
     pub sharpness: usize,
 }
 
-/// The four lists that a file holds.
-struct Held {
-    coordinates: Vec<i32>,
-    sides: Vec<u8>,
-    corners: Vec<u16>,
-    sharpness: Vec<u8>,
+/// The four lists that a file holds, and its version.
+pub(crate) struct Held {
+    pub(crate) coordinates: Vec<i32>,
+    pub(crate) sides: Vec<u8>,
+    pub(crate) corners: Vec<u16>,
+    pub(crate) sharpness: Vec<u8>,
+    pub(crate) version: usize,
 }
 
 impl Held {
-    fn lists(&self) -> Lists<'_> {
+    pub(crate) fn lists(&self) -> Lists<'_> {
         Lists { coordinates: &self.coordinates, sides: &self.sides, corners: &self.corners, sharpness: &self.sharpness }
     }
 }
 
-/// The lists of a file without a fault of 1 to 13 and 28. The file is the first `length` of the bytes; a file of which
-/// not all bytes are held is turned down as one of another length (3), after 4.
-fn read(bytes: &[u8], length: u64) -> Result<Held, Refusal> {
+/// The lists of a file without a fault of 1 to 4. The file is the first `length` of the bytes; a file of which not all
+/// bytes are held is turned down as one of another length (3), after 4.
+pub(crate) fn held(bytes: &[u8], length: u64) -> Result<Held, Refusal> {
     let held = bytes.len().min(usize::try_from(length).unwrap_or(usize::MAX));
     let bytes = &bytes[..held];
     if held < HEADER || !bytes.starts_with(b"DMS") {
         return refuse(1, 0);
     }
     let short = |at: usize| u16::from_le_bytes([bytes[at], bytes[at + 1]]);
-    let per_corner = match short(3) {
+    let version = usize::from(short(3));
+    let per_corner = match version {
         1 => 2,
         2 => 2 + 2,
         _ => return refuse(2, 0),
@@ -63,12 +65,18 @@ fn read(bytes: &[u8], length: u64) -> Result<Held, Refusal> {
     let (coordinates, rest) = bytes[HEADER..].split_at(12 * vertices);
     let (sides, rest) = rest.split_at(faces);
     let (numbers, sharpness) = rest.split_at(2 * corners);
-    let held = Held {
+    Ok(Held {
         coordinates: coordinates.chunks_exact(4).map(|b| i32::from_le_bytes([b[0], b[1], b[2], b[3]])).collect(),
         sides: sides.to_vec(),
         corners: numbers.chunks_exact(2).map(|b| u16::from_le_bytes([b[0], b[1]])).collect(),
-        sharpness: if per_corner == 2 { vec![PLAIN; 2 * corners] } else { sharpness.to_vec() },
-    };
+        sharpness: if version == 1 { vec![PLAIN; 2 * corners] } else { sharpness.to_vec() },
+        version,
+    })
+}
+
+/// The lists of a file without a fault of 1 to 13 and 28.
+fn read(bytes: &[u8], length: u64) -> Result<Held, Refusal> {
+    let held = held(bytes, length)?;
     check_mesh(held.lists())?;
     Ok(held)
 }

@@ -1,7 +1,7 @@
-//! An independent implementation of document 01, of L1 and L4 to L12, in plain Rust: the file, the check
+//! An independent implementation of document 01, of L1 and L4 to L13, in plain Rust: the file, the check
 //! of a mesh, linking, building, the four conditions across a side, a control point in floats, the listing of nested
 //! grids, OFF texts, the search for an irregular face or vertex, the preview of a moved vertex, the construction without rounding, coordinates
-//! rearranged for the archive, samples of a patch. It is written from the papers alone and shares nothing with the proved library, so that
+//! rearranged for the archive, samples of a patch, turning of faces. It is written from the papers alone and shares nothing with the proved library, so that
 //! the two can be compared; nobody has proved it.
 
 mod archive;
@@ -17,6 +17,7 @@ mod preview;
 mod sampling;
 mod squares;
 mod surface;
+mod turning;
 mod wide;
 
 pub use archive::{archive, archive_stream, restore, restore_stream, MOST_BYTES};
@@ -25,11 +26,12 @@ pub use cosines::cosine;
 pub use file::{decode, encode, inspect, patches, squares, summary, Counts, Lengths, LENT_TOO_SHORT};
 pub use floats::{floats, FloatPoint};
 pub use nesting::{nest, nest_lines};
-pub use off::{off, off2dms, OffLists};
+pub use off::{off, off2dms, off2dms_as_drawn, OffLists};
 pub use preview::{preview, touched};
 pub use sampling::{sample, sample_triangle, small_triangles};
 pub use squares::{irregular, Irregular};
 pub use surface::{build, nets, round, Net, Point, NUMBERS_PER_CORNER};
+pub use turning::{turn, turn_file};
 
 /// The most vertices, faces and corners that a mesh may have.
 pub const MAX_VERTICES: usize = 2_048;

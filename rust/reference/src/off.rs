@@ -60,12 +60,23 @@ impl Taker<'_> {
     }
 }
 
+/// The least lengths of lent lists.
+const SPACES: [usize; 4] = [3 * MAX_VERTICES, MAX_FACES, MAX_CORNERS, 2 * MAX_CORNERS];
+
 /// The lists of a text, for lent lists of these lengths.
 pub fn off(text: &[u8], spaces: [usize; 4]) -> Result<OffLists, Refusal> {
+    if spaces.iter().zip(SPACES).any(|(&space, least)| space < least) {
+        return refuse(24, 0);
+    }
+    let read = drawn(text)?;
+    check_mesh(read.lists())?;
+    Ok(read)
+}
+
+/// The lists as the words say them: checks 24 to 26 of the text alone.
+fn drawn(text: &[u8]) -> Result<OffLists, Refusal> {
     let mut words = words(text).into_iter();
-    let least = [3 * MAX_VERTICES, MAX_FACES, MAX_CORNERS, 2 * MAX_CORNERS];
-    let short = spaces.iter().zip(least).any(|(&space, least)| space < least);
-    if short || words.next() != Some(b"OFF") {
+    if words.next() != Some(b"OFF") {
         return refuse(24, 0);
     }
     let mut taker = Taker { words, next: 1 };
@@ -87,17 +98,36 @@ pub fn off(text: &[u8], spaces: [usize; 4]) -> Result<OffLists, Refusal> {
         return refuse(26, taker.next);
     }
     read.sharpness = vec![PLAIN; 2 * read.corners.len()];
-    check_mesh(read.lists())?;
     Ok(read)
+}
+
+/// The lists as drawn, with check 4 of their lengths.
+fn counted(text: &[u8]) -> Result<OffLists, Refusal> {
+    let read = drawn(text)?;
+    let lengths = [read.coordinates.len(), read.sides.len(), read.corners.len()];
+    if lengths.iter().zip(SPACES).any(|(&length, most)| length == 0 || length > most) {
+        return refuse(4, 0);
+    }
+    Ok(read)
+}
+
+/// The file of a text, or the line that says why there is none.
+fn file_of(text: &[u8], read: impl Fn(&[u8]) -> Result<OffLists, Refusal>) -> Result<Vec<u8>, String> {
+    if text.len() > 1 << 20 {
+        return Err("standard input: longer than 1048576 bytes\n".to_string());
+    }
+    match read(text) {
+        Ok(read) => Ok(encode(read.lists(), 1)),
+        Err(Refusal { number, place }) => Err(format!("refused {number} {place}\n")),
+    }
 }
 
 /// What `off2dms` writes of a text: the file on standard output, or a line on standard error.
 pub fn off2dms(text: &[u8]) -> Result<Vec<u8>, String> {
-    if text.len() > 1 << 20 {
-        return Err("standard input: longer than 1048576 bytes\n".to_string());
-    }
-    match off(text, [3 * MAX_VERTICES, MAX_FACES, MAX_CORNERS, 2 * MAX_CORNERS]) {
-        Ok(read) => Ok(encode(read.lists(), 1)),
-        Err(Refusal { number, place }) => Err(format!("refused {number} {place}\n")),
-    }
+    file_of(text, |text| off(text, SPACES))
+}
+
+/// The same of `off2dms as-drawn`.
+pub fn off2dms_as_drawn(text: &[u8]) -> Result<Vec<u8>, String> {
+    file_of(text, counted)
 }

@@ -2,14 +2,17 @@
 //! to damage their lists. Everything comes from a seed, so that a failing case can be made again.
 
 mod damage;
+mod one_sided;
 mod random;
 mod solid;
 mod tables;
+mod turning;
 
 pub use damage::{damage, pinch, DAMAGES};
 pub use random::Random;
 pub use solid::Solid;
 pub use tables::{random_tables, Places, Sharpness, Tables};
+pub use turning::{jumble, random_faces, DAMAGES_OF_EDGES};
 
 /// The limits of 01 and L8.
 const MAX_VERTICES: usize = 2_048;

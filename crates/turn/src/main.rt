@@ -1,0 +1,168 @@
+// Turns the faces of the mesh file on standard input that are drawn the wrong way round: the turned file, of the version that the input has, goes to
+// standard output, and the turned faces to standard error, one number a line. A file that is turned down gets the line `refused`, with number and
+// place, on standard error, and nothing on standard output.
+use file_input::BUFFER;
+use file_input::read_file;
+use libc::STDIN_FILENO;
+use paper::Answer;
+use paper::MOST_CORNERS;
+use paper::MOST_FACES;
+use paper::MOST_VERTICES;
+use print::complain_refusal;
+use print::lines::put_ended;
+use streams::output::complain;
+use streams::output::complain_up_to;
+use streams::output::say_up_to;
+ghost use Prim.Native.Nat.{_≤_};
+ghost use lib.ListN.{length};
+ghost use Rattle.dms_header.specs.Sized.{Sized};
+
+// The numbers of the longest coordinate list and of the longest sharpness list.
+const MOST_NUMBERS: usize = 3 * MOST_VERTICES;
+
+const MOST_PAIRS: usize = 2 * MOST_CORNERS;
+
+// Room for a line for each face, its number of at most four digits.
+const LINES: usize = 5 * MOST_FACES;
+
+fn main() {
+    if 1 < os::arg_count() {
+        complain(b"usage: turn < FILE > FILE\n");
+        return;
+    }
+    turn_input();
+}
+
+// Reads the file.
+fn turn_input() {
+    let mut bytes = [0u8; BUFFER];
+    let read = read_file(STDIN_FILENO, b"standard input", &mut bytes);
+    let held = read.held;
+    if read.ok {
+        turn_file(&bytes[..held], read.counted);
+    }
+}
+
+// Checks what the header says: 1 to 3, and 4.
+fn turn_file(file: &[u8], counted: usize) {
+    let header = dms_header::check_header(file, counted);
+    if let Answer::Refused(number, place) = header {
+        complain_refusal(number, place);
+        return;
+    }
+    turn_lists(file);
+}
+
+// Reads the lists of a file whose header passes.
+fn turn_lists(file: &[u8])
+    requires { ⌜ Sized (now file) ⌝ }
+{
+    let mut coordinates = [0i32; MOST_NUMBERS];
+    let mut sides = [0u8; MOST_FACES];
+    let mut corners = [0u16; MOST_CORNERS];
+    let mut sharpness = [0u8; MOST_PAIRS];
+    dms_lists::read_lists(
+        file,
+        &mut coordinates,
+        &mut sides,
+        &mut corners,
+        &mut sharpness,
+    );
+    let sharp = dms_header::is_sharp(file);
+    let numbers = least(3 * dms_header::vertex_count(file), MOST_NUMBERS);
+    let faces = least(dms_header::face_count(file), MOST_FACES);
+    let count = least(dms_header::corner_count(file), MOST_CORNERS);
+    let pairs = 2 * count;
+    turn_mesh(
+        sharp,
+        &coordinates[..numbers],
+        &sides[..faces],
+        &mut corners[..count],
+        &mut sharpness[..pairs],
+    );
+}
+
+// Lends a listing with an entry for each face.
+fn turn_mesh(
+    sharp: bool,
+    coordinates: &[i32],
+    sides: &[u8],
+    corners: &mut [u16],
+    sharpness: &mut [u8],
+) {
+    let mut listing = [0u16; MOST_FACES];
+    let faces = least(sides.len(), MOST_FACES);
+    turn_faces(
+        sharp,
+        coordinates,
+        sides,
+        corners,
+        sharpness,
+        &mut listing[..faces],
+    );
+}
+
+// Turns the faces, and writes the file and the listing when every check has passed.
+fn turn_faces(
+    sharp: bool,
+    coordinates: &[i32],
+    sides: &[u8],
+    corners: &mut [u16],
+    sharpness: &mut [u8],
+    listing: &mut [u16],
+) {
+    let t = turning::turn(coordinates, sides, corners, sharpness, listing);
+    let answer = t.answer;
+    if let Answer::Refused(number, place) = answer {
+        complain_refusal(number, place);
+        return;
+    }
+    if say_turned(sharp, coordinates, sides, corners, sharpness) {
+        complain_listing(listing, t.turned);
+    }
+}
+
+// Writes the file to standard output, and answers whether it was written.
+fn say_turned(
+    sharp: bool,
+    coordinates: &[i32],
+    sides: &[u8],
+    corners: &[u16],
+    sharpness: &[u8],
+) -> bool {
+    let mut file = [0u8; BUFFER];
+    let end = dms_output::put_file(&mut file, sharp, coordinates, sides, corners, sharpness);
+    say_up_to(&file, end)
+}
+
+// Writes the beginning of the listing to standard error, one number a line.
+fn complain_listing(listing: &[u16], turned: usize) {
+    let mut lines = [0u8; LINES];
+    let count = least(turned, listing.len());
+    let end = put_listing(&mut lines, listing, count);
+    complain_up_to(&lines, end);
+}
+
+// The lines of so many entries.
+fn put_listing(lines: &mut [u8], listing: &[u16], count: usize) -> usize
+    requires { ⌜ count ≤ length (now listing) ⌝ }
+{
+    let mut at = 0;
+    let mut i = 0;
+    while i < count {
+        at = put_ended(lines, at, wide(listing[i]), b'\n');
+        i += 1;
+    }
+    at
+}
+
+fn wide(n: u16) -> u64 {
+    n as u64
+}
+
+// The lesser of two numbers.
+fn least(a: usize, b: usize) -> usize
+    ensures { λ r. ⌜ (r ≤ a) × (r ≤ b) ⌝ }
+{
+    if a < b { a } else { b }
+}

@@ -1,0 +1,11 @@
+pub mod Stores
+pub mod Choices
+pub mod Parts
+pub mod Pairs
+pub mod Edges
+pub mod Turned
+pub mod Steps
+pub mod Models
+pub mod Listing
+pub mod Theorem
+pub mod Theorems
