@@ -1,6 +1,6 @@
 -- What the numbers of single corners hold, the rows that are read from them, and the misses of a corner.
 -- Assumes nothing.
-use mathlib.Core.Path.{_≡_, refl, ap, _∙_, sym, subst}
+use mathlib.Core.Path.{_≡_, refl, ap, _∙_, subst}
 use mathlib.Core.List.{List}
 use Prim.Native.Nat.{ℕ, zero, suc, _+_, _*_, _<_, max}
 use native.Mathlib.Numerals.{add-one}
@@ -14,14 +14,11 @@ use Rattle.paper.specs.Refined.{RefinedMesh}
 use Rattle.paper.specs.Net.{Side, side0, side1, neighbour, across, net, netPoints, outerRow, aRow}
 use Rattle.paper.specs.Calls.{perCorner}
 use Rattle.paper.specs.Report.{conditions, condition, largestBelow}
-use Rattle.surface.specs.Sizes.{WrittenSize}
 use Rattle.surface.proofs.Sizes.{net-size}
 use Rattle.net_sides.specs.Drawn.{drawn, Drawn}
 use Rattle.net_sides.specs.Values.{IsSide}
 use Rattle.net_sides.specs.declared.SideValues.{SideValues}
 use Rattle.writing.specs.Written.{NetsWritten}
-use Rattle.misses.specs.Four.{inMisses}
-use Rattle.misses.specs.declared.Misses.{Misses}
 use Rattle.border_misses.specs.Held.{pointIn, Held, HeldAll, fourOf, netPoint, netMiss, cornerMiss}
 
 -- ---- one corner's numbers

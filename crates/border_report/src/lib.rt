@@ -10,7 +10,7 @@ use paper::Reported;
 use surface::POINT_ROW;
 use walk::ROW;
 ghost use mathlib.Core.Path.{_≡_};
-ghost use Prim.Native.Nat.{_+_, _*_, _<_, _≤_};
+ghost use Prim.Native.Nat.{_*_, _<_, _≤_};
 ghost use lib.ListN.{length};
 ghost use Rattle.paper.specs.Mesh.{meshOf, mostCorners};
 ghost use Rattle.paper.specs.Faults.{sound, verdict};

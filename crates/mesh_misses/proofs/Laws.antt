@@ -2,7 +2,7 @@
 -- Assumes nothing.
 use mathlib.Core.Path.{_≡_, refl, sym, ap, _∙_}
 use mathlib.Core.List.{List}
-use Prim.Native.Nat.{ℕ, zero, suc, _+_, _*_, _<_, _≤_, max}
+use Prim.Native.Nat.{ℕ, zero, suc, _*_, _<_, _≤_, max}
 use native.Mathlib.Omega.{arith}
 use lib.ListN.{length, getD, replicate, length-replicate}
 use lib.IntN.{ℤ, pos, natAbs}
@@ -12,9 +12,9 @@ use Rattle.paper.specs.Links.{linkTable}
 use Rattle.paper.specs.Faults.{Accepted}
 use Rattle.paper.specs.Numbers.{rounded}
 use Rattle.paper.specs.Refined.{Corners, RefinedMesh, cornersOf, refinedPoint, refinedOf}
-use Rattle.paper.specs.Net.{End, Side, side0, side1, neighbour, across, ring, H, T, X, Y, C, net, netPoints, outerRow, aRow}
+use Rattle.paper.specs.Net.{End, Side, side0, side1, neighbour, across, ring, H, T, X, Y, C, aRow}
 use Rattle.paper.specs.Calls.{perCorner, numberAt, nets}
-use Rattle.paper.specs.Borders.{Output, outputOf, Wrote, Holds, written, beside}
+use Rattle.paper.specs.Borders.{Output, outputOf, Wrote, written, beside}
 use Rattle.paper.specs.Report.{conditions, condition, missOn, missAt, largestBelow, largestMiss}
 use Rattle.mesh.proofs.Accepted.{sound-of, few-faces}
 use Rattle.mesh.proofs.Faces.{held}

@@ -1,8 +1,7 @@
 -- Four numbers by the place of their condition.
 -- Assumes nothing.
-use Prim.Native.Nat.{ℕ, zero, suc, _<_}
+use Prim.Native.Nat.{ℕ, zero, suc}
 use lib.IntN.{ℤ}
-use Rattle.paper.specs.Report.{conditions}
 use Rattle.surface.specs.Sizes.{WrittenSize}
 use Rattle.misses.specs.declared.Row.{Row}
 use Rattle.misses.specs.declared.Misses.{Misses}

@@ -4,14 +4,14 @@ use mathlib.Core.Path.{_≡_, refl, sym, ap, _∙_}
 use mathlib.Core.Bool.{not}
 use Prim.Native.Nat.{ℕ, zero, suc, _*_, _<_, _≤_, max}
 use native.Mathlib.Omega.{arith}
-use lib.IntN.{ℤ, natAbs, _+ℤ_}
+use lib.IntN.{ℤ, natAbs}
 use Rattle.integers.proofs.Laws.{add-comm}
 use Rattle.paper.specs.Mesh.{Mesh, cornerCount}
 use Rattle.paper.specs.Faults.{Accepted}
 use Rattle.paper.specs.Numbers.{rounded}
 use Rattle.paper.specs.Cosines.{unit}
 use Rattle.paper.specs.Refined.{RefinedMesh, cornersOf, refinedOf}
-use Rattle.paper.specs.Net.{Side, side0, side1, side2, side3, across, H, T, X, Y, C, outerRow, aRow}
+use Rattle.paper.specs.Net.{Side, side0, side1, side2, side3, across, H, T, X, Y, C, aRow}
 use Rattle.paper.specs.Borders.{Output, outputOf, written, beside, mostMiss}
 use Rattle.surface.proofs.Rings.{neighbour-in}
 use Rattle.surface.proofs.Border.{Border, border}

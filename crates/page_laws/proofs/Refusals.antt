@@ -6,11 +6,11 @@ use mathlib.Core.List.{List}
 use mathlib.Core.Logic.{⊎-elim}
 use Prim.Native.Nat.{ℕ, _+_, _-_, _*_, _<_}
 use native.Mathlib.Omega.{arith}
-use borrow.Author.Tests.{eq-eqb, ne-eqb, eqb-true}
+use borrow.Author.Tests.{eq-eqb, ne-eqb}
 use lib.Dec.{eqb, eqb→eq, lit<}
 use lib.ListN.{length, getD, set, length-set}
 use lib.Seq.{getD-set-same, getD-set-other}
-use Rattle.paper.specs.Scan.{pickN, valuesFrom, someBelow, firstBelow}
+use Rattle.paper.specs.Scan.{pickN, someBelow, firstBelow}
 use Rattle.paper.specs.Mesh.{Mesh, cornerCount}
 use Rattle.paper.specs.Faults.{Verdict, sound, fault, _orElse_, single, lowestOf, fault27, listFaults, linkFaults, verdict}
 use Rattle.paper.specs.File.{fileMesh, lengthVerdict, headerVerdict, fileVerdict}
@@ -19,9 +19,9 @@ use Rattle.mesh.proofs.Scans.{compared}
 use Rattle.mesh.proofs.Verdicts.{single-miss}
 use Rattle.dms_lists.proofs.Lists.{file-corners, file-sharpness}
 use Rattle.paper.specs.declared.Page.{Page}
-use Rattle.paper.specs.Report.{pageWith, lineNumbers, lines, added, mostMeshes, Offered, meshIn, verdictIn, zeroPage, run, Line, oneMore}
+use Rattle.paper.specs.Report.{pageWith, lineNumbers, lines, added, meshIn, zeroPage, run, Line, oneMore}
 use Rattle.paper.specs.Claims.{RefusedAdds}
-use Rattle.page_laws.proofs.Runs.{value-at, values-of, Within, zero-within, after-file}
+use Rattle.page_laws.proofs.Runs.{values-of, zero-within, after-file}
 
 -- ---- the numbers of the checks
 pub record HasLine (number : ℕ) : Type 0 where

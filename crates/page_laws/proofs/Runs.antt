@@ -3,18 +3,18 @@
 -- of its parts.
 -- Assumes nothing.
 use mathlib.Core.Path.{_≡_, refl, sym, ap, _∙_, subst}
-use mathlib.Core.Bool.{Bool, true, false, _||_}
+use mathlib.Core.Bool.{Bool, true, false}
 use mathlib.Core.List.{List, [], _∷_, _++_}
-use Prim.Native.Nat.{ℕ, zero, suc, _+_, _*_, _^_, _<_, _≤_, max}
+use Prim.Native.Nat.{ℕ, zero, suc, _+_, _*_, _<_, _≤_, max}
 use native.Mathlib.Omega.{arith}
 use borrow.Author.Tests.{le-ltb, lt-leb}
-use lib.Dec.{ltb, leb, eqb}
-use lib.ListN.{length, getD, replicate, set, length-append}
+use lib.Dec.{eqb}
+use lib.ListN.{length, getD, replicate, length-append}
 use lib.Seq.{ext-getD}
 use Rattle.paper.specs.Scan.{pickN, valuesFrom}
 use Rattle.paper.specs.Mesh.{Mesh, cornerCount, mostCorners}
 use Rattle.paper.specs.Cosines.{unit}
-use Rattle.paper.specs.Faults.{Verdict, sound, fault, _orElse_, single, Accepted, stated}
+use Rattle.paper.specs.Faults.{Verdict, sound, fault, Accepted, stated}
 use Rattle.paper.specs.Borders.{mostMiss}
 use Rattle.paper.specs.File.{fileVerdict}
 use Rattle.paper.specs.declared.Answer.{Answer}
@@ -23,10 +23,9 @@ use Rattle.mesh.proofs.Links.{values-length, values-at}
 use Rattle.mesh.proofs.Verdicts.{orElse-sound, single-miss, sound-right, unsound}
 use Rattle.surveying.proofs.Surveys.{limits}
 use Rattle.paper.specs.declared.Page.{Page}
-use Rattle.paper.specs.declared.Reported.{Reported}
-use Rattle.paper.specs.Report.{pageWith, lineNumbers, lines, conditions, numbersOn, zeroPage, borderCount, largestMiss, added, mostMeshes, mostOnPage}
+use Rattle.paper.specs.Report.{pageWith, lineNumbers, lines, conditions, zeroPage, borderCount, largestMiss, added, mostMeshes, mostOnPage}
 use Rattle.paper.specs.Report.{someAbove, fault38, pageVerdict, Offered, meshIn, verdictIn, pageAfter, run, ifAccepted, total, largest, isUnder}
-use Rattle.paper.specs.Report.{refusedUnder, pageOf, Reordered, same, swapped, then, merged, mergeVerdict, MergedTo}
+use Rattle.paper.specs.Report.{refusedUnder, pageOf, Reordered, same, swapped, then, merged, mergeVerdict}
 use Rattle.paper.specs.Claims.{RunsPass, RunsSum, MissesWithin, OrderFree, PartsMerge}
 use Rattle.pages.proofs.Lists.{page-same}
 use Rattle.page_laws.proofs.Once.{largest-miss-within}

@@ -1,21 +1,15 @@
 -- A page's lists: filled line by line, the numbers of the lines, and four misses.
 -- Assumes nothing.
-use mathlib.Core.Path.{_≡_, refl, sym, ap, _∙_}
-use mathlib.Core.List.{List, [], _∷_, _++_}
-use Prim.Native.Nat.{ℕ, zero, suc, _+_, _<_, max}
-use native.Mathlib.Omega.{arith}
+use mathlib.Core.Path.{_≡_, refl}
+use mathlib.Core.List.{List, [], _∷_}
+use Prim.Native.Nat.{ℕ, _+_, _<_, max}
 use lib.Dec.{eqb, eqb→eq}
-use lib.ListN.{length, getD, drop, replicate}
+use lib.ListN.{getD, replicate}
 use Rattle.integers.proofs.Below.{below-at}
 use Rattle.paper.specs.Scan.{valuesFrom}
-use Rattle.paper.specs.File.{begins}
 use Rattle.paper.specs.Report.{pageWith, lineNumbers, lines, conditions}
 use Rattle.misses.specs.Four.{inMisses}
 use Rattle.dms_lists.proofs.Lists.{Filled, filled-all}
-
-append-none : (l : List ℕ) → l ++ [] ≡ l
-append-none [] = refl
-append-none (n ∷ l) = ap (λ (k : List ℕ). n ∷ k) (append-none l)
 
 -- all lines of a new list
 pub all-lines : (f : ℕ → ℕ) (l : ℕ) (new : List ℕ) → l ≡ lines → Filled f (replicate lines 0) l new → new ≡ valuesFrom f 0 lines

@@ -8,7 +8,6 @@ use paper::MOST_ON_PAGE;
 use paper::Page;
 use paper::Reported;
 ghost use mathlib.Core.Path.{_≡_};
-ghost use mathlib.Core.Bool.{_||_};
 ghost use Prim.Native.Nat.{ℕ, _+_, _*_, _<_, _≤_, max};
 ghost use lib.Dec.{eqb};
 ghost use lib.ListN.{getD};

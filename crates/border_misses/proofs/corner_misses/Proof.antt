@@ -4,7 +4,6 @@ use lib.Dec.{lit<}
 use denote.Ref.{now}
 use Rattle.net_sides.specs.Drawn.{drawn}
 use Rattle.border_misses.proofs.Laws.{corner-is}
-use native.Mathlib.Omega.{arith}
 use borrow.Author.Needs.{needs}
 use Rattle.border_misses.proofs.corner_misses.Statement.{statement}
 use Rattle.border_misses.proofs.corner_misses.Tie as tie

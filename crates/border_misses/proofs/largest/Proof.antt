@@ -1,7 +1,7 @@
 -- `border_misses::largest` meets its contract: so far the largest over the corners below c; and where `held` names a corner, its numbers stand in `here`,
 -- so that they are not made again.
 -- Assumes nothing.
-use Prim.Native.Nat.{ℕ, zero, suc, _+_, _-_, _<_, _≤_}
+use Prim.Native.Nat.{ℕ, zero, suc, _-_, _<_, _≤_}
 use mathlib.Core.Path.{_≡_, refl, sym, ap, subst, _∙_}
 use mathlib.Core.Logic.{⊎-elim}
 use denote.Ref.{now}

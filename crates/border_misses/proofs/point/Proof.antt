@@ -1,12 +1,10 @@
 -- `border_misses::point` meets its contract: what is read is the number of the point on the axis, and a written point fits.
 -- Assumes nothing.
-use mathlib.Core.Path.{_≡_, _∙_}
+use mathlib.Core.Path.{_∙_}
 use mir.Syntax.{w32, w64}
 use mir.Val.{SFits}
 use mir.Facts.{toZ-ofZ}
-use Rattle.surface.specs.Sizes.{WrittenSize}
 use Rattle.border_misses.specs.Held.{pointIn}
-use native.Mathlib.Omega.{arith}
 use borrow.Author.Needs.{needs}
 use Rattle.border_misses.proofs.point.Statement.{statement}
 use Rattle.border_misses.proofs.point.Tie as tie

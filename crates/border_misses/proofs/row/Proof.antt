@@ -1,6 +1,6 @@
 -- `border_misses::row` meets its contract, point by point.
 -- Assumes nothing.
-use mathlib.Core.Path.{_≡_, ap, _∙_}
+use mathlib.Core.Path.{_≡_}
 use Prim.Native.Nat.{ℕ, zero, suc, _^_}
 use lib.Dec.{lit<}
 use lib.IntN.{ℤ}

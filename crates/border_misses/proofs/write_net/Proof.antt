@@ -2,7 +2,6 @@
 -- Assumes nothing.
 use denote.Ref.{now}
 use Rattle.border_misses.proofs.Laws.{held-of}
-use native.Mathlib.Omega.{arith}
 use borrow.Author.Needs.{needs}
 use Rattle.border_misses.proofs.write_net.Statement.{statement}
 use Rattle.border_misses.proofs.write_net.Tie as tie

@@ -1,9 +1,8 @@
 -- `border_report::check_mesh` meets its contract: the table of vertices has a row for each.
 -- Assumes nothing.
-use denote.Ref.{now}
-use lib.ListN.{replicate, length-replicate}
+use lib.ListN.{length-replicate}
 use Prim.Native.Nat.{ℕ, _*_}
-use Rattle.paper.specs.Mesh.{Mesh, meshOf, mostVertices}
+use Rattle.paper.specs.Mesh.{mostVertices}
 use Rattle.walk.specs.Table.{rowLength}
 use Rattle.walk.proofs.Table.{blank}
 use native.Mathlib.Omega.{arith}

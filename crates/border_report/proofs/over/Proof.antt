@@ -1,8 +1,7 @@
 -- `border_report::over` meets its contract: the checks refuse, or their table serves the misses.
 -- Assumes nothing.
-use mathlib.Core.Path.{_≡_, sym, ap, _∙_}
+use mathlib.Core.Path.{sym, ap, _∙_}
 use denote.Ref.{now}
-use lib.ListN.{length}
 use Rattle.paper.specs.Mesh.{Mesh, meshOf}
 use Rattle.paper.specs.Faults.{verdict, stated, Accepted}
 use Rattle.mesh.proofs.Verdicts.{passed}

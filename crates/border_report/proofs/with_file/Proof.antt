@@ -1,9 +1,9 @@
 -- `border_report::with_file` meets its contract: a header that is refused decides; one that passes leaves it to the lists.
 -- Assumes nothing.
-use mathlib.Core.Path.{_≡_, sym, ap, _∙_}
+use mathlib.Core.Path.{sym, ap, _∙_}
 use denote.Ref.{now}
-use Rattle.paper.specs.Faults.{_orElse_, verdict}
-use Rattle.paper.specs.File.{fileMesh, fileVerdict, headerVerdict}
+use Rattle.paper.specs.Faults.{verdict}
+use Rattle.paper.specs.File.{fileMesh, fileVerdict}
 use Rattle.paper.specs.Report.{added}
 use Rattle.mesh.proofs.Verdicts.{passed, stop, orElse-sound}
 use Rattle.dms_header.proofs.Headers.{header-sized}

@@ -10,7 +10,6 @@ use mir.Val.{SFits}
 use mir.Facts.{toZ-ofZ}
 use Rattle.integers.proofs.Poly.{over, poly}
 use Rattle.paper.specs.Borders.{one}
-use Rattle.surface.specs.Sizes.{ValueSize}
 use Rattle.misses.proofs.first_miss.Statement.{statement}
 use Rattle.misses.proofs.first_miss.Tie as tie
 

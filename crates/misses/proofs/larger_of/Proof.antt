@@ -1,6 +1,6 @@
 -- `misses::larger_of` meets its contract, condition by condition.
 -- Assumes nothing.
-use Prim.Native.Nat.{ℕ, zero, suc}
+use Prim.Native.Nat.{zero, suc}
 use borrow.Author.Needs.{needs}
 use Rattle.misses.proofs.larger_of.Statement.{statement}
 use Rattle.misses.proofs.larger_of.Tie as tie

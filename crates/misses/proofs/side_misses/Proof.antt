@@ -1,6 +1,6 @@
 -- `misses::side_misses` meets its contract: each condition has its own function, over the values of the side and the points at its place of the rows.
 -- Assumes nothing.
-use mathlib.Core.Path.{_≡_, ap, _∙_}
+use mathlib.Core.Path.{_≡_, _∙_}
 use Prim.Native.Nat.{ℕ, zero, suc, _^_, _≤_}
 use native.Mathlib.Omega.{arith}
 use borrow.Author.Needs.{needs}
@@ -12,11 +12,9 @@ use mir.Facts.{toZ-ofZ}
 use Rattle.integers.proofs.Machine.{abs-fits}
 use Rattle.integers.proofs.Poly.{over, poly}
 use Rattle.paper.specs.Borders.{one, first, second, third, fourth}
-use Rattle.surface.specs.Sizes.{ValueSize, WrittenSize, CosineSize}
+use Rattle.surface.specs.Sizes.{WrittenSize, CosineSize}
 use Rattle.net_sides.specs.Values.{Sized}
 use Rattle.net_sides.specs.declared.SideValues.{SideValues}
-use Rattle.misses.specs.declared.Row.{Row}
-use Rattle.misses.specs.Four.{SmallRow}
 use Rattle.misses.proofs.side_misses.Statement.{statement}
 use Rattle.misses.proofs.side_misses.Tie as tie
 

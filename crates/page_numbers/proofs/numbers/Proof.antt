@@ -1,7 +1,6 @@
 -- `page_numbers::numbers` meets its contract: the numbers before `i` are written.
 -- Assumes nothing.
-use Prim.Native.Nat.{ℕ, _+_, _-_, _≤_}
-use mathlib.Core.Path.{_≡_, refl}
+use Prim.Native.Nat.{_-_, _≤_}
 use lib.ListN.{getD, replicate}
 use Rattle.dms_lists.proofs.Lists.{Filled, filled-none, filled-step}
 use Rattle.paper.specs.Report.{numbersOn}

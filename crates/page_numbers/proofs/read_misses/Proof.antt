@@ -1,7 +1,7 @@
 -- `page_numbers::read_misses` meets its contract: the misses before `j` are read.
 -- Assumes nothing.
-use Prim.Native.Nat.{ℕ, _+_, _-_, _≤_}
-use mathlib.Core.Path.{_≡_, refl}
+use Prim.Native.Nat.{_+_, _-_, _≤_}
+use mathlib.Core.Path.{refl}
 use lib.ListN.{getD, replicate}
 use Rattle.dms_lists.proofs.Lists.{Filled, filled-none, filled-step}
 use Rattle.paper.specs.Report.{lines, conditions}

@@ -1,9 +1,9 @@
 -- `pages::number_of` meets its contract, line by line.
 -- Assumes nothing.
-use mathlib.Core.Path.{_≡_, refl, sym, _∙_, ap}
-use Prim.Native.Nat.{ℕ, _<_, _≤_}
+use mathlib.Core.Path.{_≡_, sym, ap}
+use Prim.Native.Nat.{ℕ}
 use lib.ListN.{getD}
-use Rattle.paper.specs.Report.{lineNumbers, lines}
+use Rattle.paper.specs.Report.{lineNumbers}
 use Rattle.pages.proofs.Lists.{number-at}
 use native.Mathlib.Omega.{arith}
 use borrow.Author.Needs.{needs}

@@ -6,7 +6,6 @@ use Prim.Native.Nat.{ℕ, _+_}
 use Rattle.paper.specs.Report.{pageWith, added}
 use Rattle.pages.proofs.Checks.{page-small}
 use native.Mathlib.Omega.{arith}
-use borrow.Author.Needs.{needs}
 use Rattle.pages.proofs.refuse.Statement.{statement}
 use Rattle.pages.proofs.refuse.Tie as tie
 

@@ -1,8 +1,8 @@
 -- `pages::sum_pages` meets its contract: sums of numbers within 2^40 fit.
 -- Assumes nothing.
-use mathlib.Core.Path.{_≡_, refl, _∙_}
-use Prim.Native.Nat.{ℕ, _+_}
-use Rattle.paper.specs.Report.{pageWith, merged}
+use mathlib.Core.Path.{refl, _∙_}
+use Prim.Native.Nat.{_+_}
+use Rattle.paper.specs.Report.{merged}
 use Rattle.pages.proofs.Checks.{both-small}
 use Rattle.pages.proofs.Lists.{four-of, page-same}
 use native.Mathlib.Omega.{arith}

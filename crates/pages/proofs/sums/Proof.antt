@@ -1,7 +1,7 @@
 -- `pages::sums` meets its contract: the lines before `l` hold their sums.
 -- Assumes nothing.
-use Prim.Native.Nat.{ℕ, _+_, _-_, _≤_}
-use mathlib.Core.Path.{_≡_, refl, ap, _∙_}
+use Prim.Native.Nat.{_+_, _-_, _≤_}
+use mathlib.Core.Path.{refl}
 use lib.ListN.{getD, replicate}
 use Rattle.paper.specs.Report.{lines}
 use Rattle.dms_lists.proofs.Lists.{Filled, filled-none, filled-step}

@@ -1,12 +1,9 @@
 -- `pages::under` meets its contract: a line has one number.
 -- Assumes nothing.
 use mathlib.Core.Path.{_≡_, sym, _∙_}
-use Prim.Native.Nat.{ℕ, _≤_}
 use native.Mathlib.Omega.{arith}
 use borrow.Author.Tests.{eq-eqb, ne-eqb}
-use lib.Dec.{eqb}
 use lib.ListN.{getD}
-use Rattle.paper.specs.Scan.{pickN}
 use Rattle.paper.specs.Report.{lineNumbers}
 use borrow.Author.Needs.{needs}
 use Rattle.pages.proofs.under.Statement.{statement}
