@@ -8,16 +8,17 @@
  * mahunopi_sample_triangle points of the surface. mahunopi_irregular says whether a mesh is all squares.
  * mahunopi_preview builds with one vertex moved, mahunopi_touched marks the corners that a vertex can change.
  * mahunopi_turn turns faces that are drawn the wrong way round. mahunopi_nest lists a table of nested grids.
- * mahunopi_archive rearranges a coordinate list for the archive, and mahunopi_restore undoes it. Each is complete in
- * itself: none relies on an earlier call.
+ * mahunopi_archive rearranges a coordinate list for the archive, and mahunopi_restore undoes it. mahunopi_report adds
+ * a .dms file to the page of a border report, and mahunopi_merge makes one page of two. Each is complete in itself:
+ * none relies on an earlier call.
  *
  * Every function returns MAHUNOPI_DONE, or the number of a refusal (enum mahunopi_refusal). After a refusal *place
  * says where, and everything else that was lent keeps its contents; when done, *place keeps its contents.
  *
  * A list is a pointer and the number of its entries. The pointer may be null where that number is 0. The pointers to
  * single numbers (place, pairs, the counts of surveying, of decoding, of OFF and of turning, and what
- * mahunopi_irregular finds) and to the six floats must not be null. What a function writes to must not overlap anything
- * else that it is given.
+ * mahunopi_irregular finds), to the six floats, to a sample's point and to a page must not be null. What a function
+ * writes to must not overlap anything else that it is given.
  *
  * Calls share no state: any number of them may run at the same time, on any threads, as long as none writes to what
  * another one is given. Nothing is allocated. Scratch lies on the stack, of which a call needs up to
@@ -62,9 +63,10 @@ extern "C" {
  * What a function answers. A file is checked by 1 to 13, linking by 4 to 14, building by 4 to 17, the search for an
  * irregular face or vertex by 4 to 13, a control point in floats by 18 to 20, a nesting table by 21 to 23, an OFF text
  * by 24 to 26 and then 4 to 13, a preview by 29 and then 4 to 17, the marks of a vertex by 29 and then 4 to 13, lists
- * for the archive by 30 and 31, a model whose faces are to be turned by 36, then 4 to 9, then 34 and 35. 27 and 28 are
- * tried wherever 4 to 9 are, 27 after 4 and 28 after 8: the order is 4, 27, 5, 6, 7, 8, 28, 9 and so on. Each number is
- * tried over the whole input before the next, and the place is the lowest that applies.
+ * for the archive by 30 and 31, a model whose faces are to be turned by 36, then 4 to 9, then 34 and 35, a page of the
+ * border report by 37 and 38. 27 and 28 are tried wherever 4 to 9 are, 27 after 4 and 28 after 8: the order is 4, 27,
+ * 5, 6, 7, 8, 28, 9 and so on. Each number is tried over the whole input before the next, and the place is the lowest
+ * that applies.
  *
  * From a corner the leaving edge runs to the vertex of the next corner of its face, cyclically, and the arriving edge
  * comes from the vertex of the previous one. The link of a corner is the corner of the same vertex whose arriving edge
@@ -159,6 +161,10 @@ enum mahunopi_refusal {
     MAHUNOPI_NO_CHOICE_OF_TURNS = 35,
     /* before everything else: the listing's length is not the face count (place: its length) */
     MAHUNOPI_BAD_LISTING_LENGTH = 36,
+    /* a page counts 4,096 meshes or more; two pages to be merged count more than 4,096 (place 4,096) */
+    MAHUNOPI_PAGE_FULL = 37,
+    /* a number on a page is above 2^40 (place 0) */
+    MAHUNOPI_PAGE_NUMBER = 38,
     /* surveying and decoding, after 1 to 13: a lent list is too short (place: the length that the first such needs);
      * mahunopi_touched, after 29 and 4 to 13: there is not a mark for each corner (place: the corner count) */
     MAHUNOPI_LENT_TOO_SHORT = 255
@@ -555,6 +561,43 @@ uint32_t mahunopi_off(
     uint64_t *corner_count,
     /* receives the number of sharpness numbers written: two for each corner; not null */
     uint64_t *sharpness_count,
+    /* receives the place of a refusal; not null */
+    uint64_t *place);
+
+/* The numbers of a page of the border report, and the most meshes that it counts. */
+#define MAHUNOPI_PAGE_NUMBERS 21
+#define MAHUNOPI_MAX_PAGE_MESHES 4096
+
+/*
+ * The border report: checks a page by 37 and 38 and adds one .dms file to it. A page is 21 numbers in this order: meshes
+ * offered, corners built, borders met, refusals under 1 to 13, refusals under 28, and for each of the four conditions
+ * across a border the largest miss in any coordinate, its sign dropped, as a whole number over 2^30 of a tick (at most
+ * 13 * 2^30). A report starts with a page of zeros.
+ *
+ * An accepted mesh adds one to the meshes, its corners and its borders, two for each corner, and raises the misses to
+ * those of its borders, each of which counts once. A file that is refused by 1 to 13 or 28 adds one to the meshes and
+ * one under its number, and nothing else: the call is done all the same, and answers MAHUNOPI_DONE.
+ */
+uint32_t mahunopi_report(
+    /* the file, as for mahunopi_decode */
+    const uint8_t *bytes,
+    size_t byte_count,
+    uint64_t length,
+    /* the page; receives the next one */
+    uint64_t page[MAHUNOPI_PAGE_NUMBERS],
+    /* receives the place of a refusal; not null */
+    uint64_t *place);
+
+/*
+ * Two pages as one: checks by 37 and 38 and puts into the second the sums of the counts and the larger of each two
+ * misses. The page of a run of files is the merge of the pages of its parts, so a report may be divided among threads
+ * or machines.
+ */
+uint32_t mahunopi_merge(
+    /* a page */
+    const uint64_t other[MAHUNOPI_PAGE_NUMBERS],
+    /* another one; receives the two as one */
+    uint64_t page[MAHUNOPI_PAGE_NUMBERS],
     /* receives the place of a refusal; not null */
     uint64_t *place);
 

@@ -68,13 +68,13 @@ module _ (K : RefinedMesh rounded) (c : ℕ) where
 
 -- ---- rows look at the 41 points only
 module _ (p q : ℕ → ℤ) (same : (k : ℕ) → k < 41 → p k ≡ q k) where
-  same-outer : (s : Side) (j : ℕ) → j < 5 → outerRow p s j ≡ outerRow q s j
+  pub same-outer : (s : Side) (j : ℕ) → j < 5 → outerRow p s j ≡ outerRow q s j
   same-outer side0 j l = same (5 * 0 + j) (omega arith)
   same-outer side1 j l = same (5 * (4 - j) + 4) (omega arith)
   same-outer side2 j l = same (5 * 4 + (4 - j)) (omega arith)
   same-outer side3 j l = same (5 * j + 0) (omega arith)
 
-  same-a : (s : Side) (j : ℕ) → j < 4 → aRow p s j ≡ aRow q s j
+  pub same-a : (s : Side) (j : ℕ) → j < 4 → aRow p s j ≡ aRow q s j
   same-a side0 j l = same (25 + 4 * 0 + j) (omega arith)
   same-a side1 j l = same (25 + 4 * (3 - j) + 3) (omega arith)
   same-a side2 j l = same (25 + 4 * 3 + (3 - j)) (omega arith)

@@ -24,6 +24,9 @@ use Rattle.touching.proofs.Untouched.{untouched}
 use Rattle.sampling.proofs.Theorems.{samples-close, rays-agree, sample-ends, samples-between, triangles-sample}
 use Rattle.turn_laws.proofs.Theorems.{turned-passes, turns-decide, one-choice, turned-twice, turned-back, nothing-turned, none-farther}
 use Rattle.turn_laws.proofs.Listing.{listing-rises}
+use Rattle.page_laws.proofs.Once.{borders-once}
+use Rattle.page_laws.proofs.Runs.{runs-pass, runs-sum, misses-within, order-free, parts-merge}
+use Rattle.page_laws.proofs.Refusals.{refused-adds}
 
 pub claims : Claims
 claims = record {
@@ -70,4 +73,11 @@ claims = record {
   turned-back = turned-back;
   nothing-turned = nothing-turned;
   none-farther = none-farther;
+  runs-pass = runs-pass;
+  runs-sum = runs-sum;
+  refused-adds = refused-adds;
+  misses-within = misses-within;
+  order-free = order-free;
+  parts-merge = parts-merge;
+  borders-once = borders-once;
 }

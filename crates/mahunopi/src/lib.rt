@@ -13,6 +13,8 @@ ghost use Rattle.paper.specs.Preview.{moveOf};
 ghost use Rattle.paper.specs.CFace.{PreviewCall, TouchedCall};
 ghost use Rattle.paper.specs.Sampling.{weights};
 ghost use Rattle.paper.specs.CFace.{SampleCall, TriangleCall, TurnCall};
+ghost use Rattle.paper.specs.Report.{offered};
+ghost use Rattle.paper.specs.CFace.{ReportCall, MergeCall};
 use paper::Answer;
 use paper::FloatPoint;
 use paper::Irregular;
@@ -369,6 +371,44 @@ pub extern "C" fn mahunopi_turn(
         return tell(Answer::Refused(number, at), place);
     }
     *turned = t.turned as u64;
+    0
+}
+
+// One file more on the page of a border report, which is left alone beside a refusal.
+#[no_mangle]
+pub extern "C" fn mahunopi_report(
+    bytes: &[u8],
+    length: u64,
+    page: &mut [u64; 21],
+    place: &mut u64,
+) -> u32
+    ensures { λ r. ⌜ ReportCall (offered (now (bytes .entry)) length) (now (page .entry)) (now (place .entry)) r (now (place .exit)) (now (page .exit)) ⌝ }
+{
+    let before = page_numbers::read(page);
+    let reported = border_report::report(bytes, length as usize, before);
+    let a = reported.answer;
+    if let Answer::Refused(number, at) = a {
+        return tell(Answer::Refused(number, at), place);
+    }
+    let after = reported.page;
+    *page = page_numbers::numbers(after);
+    0
+}
+
+// Two pages as one, in the second, which is left alone beside a refusal.
+#[no_mangle]
+pub extern "C" fn mahunopi_merge(other: &[u64; 21], page: &mut [u64; 21], place: &mut u64) -> u32
+    ensures { λ r. ⌜ MergeCall (now (other .entry)) (now (page .entry)) (now (place .entry)) r (now (place .exit)) (now (page .exit)) ⌝ }
+{
+    let before = page_numbers::read(page);
+    let more = page_numbers::read(other);
+    let reported = border_report::merge(before, more);
+    let a = reported.answer;
+    if let Answer::Refused(number, at) = a {
+        return tell(Answer::Refused(number, at), place);
+    }
+    let after = reported.page;
+    *page = page_numbers::numbers(after);
     0
 }
 

@@ -6,10 +6,11 @@ use mathlib.Core.Bool.{_||_}
 use mathlib.Core.List.{List}
 use Prim.Native.Nat.{ℕ, _+_}
 use lib.Dec.{ltb}
-use lib.ListN.{length, set}
+use lib.ListN.{length, getD, set}
 use lib.IntN.{ℤ}
 use lib.Ieee.{Float}
 use Rattle.paper.specs.Mesh.{Mesh, Lengths, lengthsOf, mostSides, vertexCount, faceCount, cornerCount}
+use Rattle.paper.specs.Scan.{valuesFrom}
 use Rattle.paper.specs.Links.{linkTable}
 use Rattle.paper.specs.Faults.{Verdict, sound, fault, _orElse_, single, verdict, linkVerdict, kept}
 use Rattle.paper.specs.Counts.{verticesWith, facesWith, forEach}
@@ -23,11 +24,13 @@ use Rattle.paper.specs.Off.{offVerdict, textMesh}
 use Rattle.paper.specs.Preview.{moved, previewVerdict, touchMarks, touchedVerdict}
 use Rattle.paper.specs.Turning.{turnedMesh, turnsOf, turnedFaces, turnVerdict}
 use Rattle.paper.specs.Sampling.{Weights, samplePoint, sampleVerdict, sideAt, triangleSamples, triangleVerdict}
+use Rattle.paper.specs.Report.{pageWith, lines, conditions, numbersOn, added, pageVerdict, Offered, meshIn, verdictIn, merged, mergeVerdict}
 use Rattle.paper.specs.declared.Counts.{Counts}
 use Rattle.paper.specs.declared.Floats.{Floats}
 use Rattle.paper.specs.declared.FloatPoint.{FloatPoint}
 use Rattle.paper.specs.declared.FloatPoint.the-variants.{Near, Far, Refused}
 use Rattle.paper.specs.declared.Move.{Move}
+use Rattle.paper.specs.declared.Page.{Page}
 
 -- 0 is done, any other number is the refusal's
 abbrev pub numberOf : Verdict → ℕ
@@ -167,3 +170,17 @@ pub record TurnCall (M : Mesh) (old : List ℕ) (count before r after : ℕ) (li
   pub holds : lists ≡ kept (turnVerdict M (length old)) (turnedMesh M (turnsOf M)) M
   pub listing-holds : out ≡ kept (turnVerdict M (length old)) (begins (turnedFaces M) old) old
   pub tells : told ≡ kept (turnVerdict M (length old)) (length (turnedFaces M)) count
+
+-- a page behind `page`, as its 21 numbers in their order: meshes, corners, borders, refusals 1 to 13, refusals 28, the four misses
+abbrev pub pageIn : List ℕ → Page
+pageIn numbers =
+    pageWith (getD numbers 0 0) (getD numbers 1 0) (getD numbers 2 0) (valuesFrom (λ l. getD numbers (3 + l) 0) 0 lines)
+    (valuesFrom (λ j. getD numbers (3 + lines + j) 0) 0 conditions)
+
+pub record ReportCall (F : Offered) (old : List ℕ) (before r after : ℕ) (page : List ℕ) : Type 0 where
+  pub answers : States (pageVerdict (pageIn old)) before r after
+  pub holds : page ≡ kept (pageVerdict (pageIn old)) (numbersOn (added (pageIn old) (meshIn F) (verdictIn F))) old
+
+pub record MergeCall (other old : List ℕ) (before r after : ℕ) (page : List ℕ) : Type 0 where
+  pub answers : States (mergeVerdict (pageIn old) (pageIn other)) before r after
+  pub holds : page ≡ kept (mergeVerdict (pageIn old) (pageIn other)) (numbersOn (merged (pageIn old) (pageIn other))) old

@@ -2,7 +2,7 @@
 -- Assumes nothing.
 use mathlib.Core.Path.{_≡_}
 use mathlib.Core.Bool.{Bool, true, false}
-use mathlib.Core.List.{List}
+use mathlib.Core.List.{List, _++_}
 use mathlib.Core.Logic.{_↔_}
 use Prim.Native.Nat.{ℕ, _+_, _*_, _%_, _≤_, _<_}
 use lib.ListN.{length, getD, take, drop}
@@ -11,7 +11,7 @@ use Rattle.paper.specs.Mesh.{Mesh, vertexCount, faceCount, cornerCount, 
 use Rattle.paper.specs.Links.{linkTable}
 use Rattle.paper.specs.Faults.{sound, fault, listFaults, Accepted, fault27, fault28, stated}
 use Rattle.paper.specs.Numbers.{rounded, Fraction, exact}
-use Rattle.paper.specs.Cosines.{RowRules}
+use Rattle.paper.specs.Cosines.{unit, RowRules}
 use Rattle.paper.specs.Refined.{refinedOf, refinedOf01}
 use Rattle.paper.specs.Net.{Side, across, atHead, atTail, netPoints}
 use Rattle.paper.specs.File.{versionIn, fileMesh, FileSurveyed}
@@ -24,8 +24,9 @@ use Rattle.paper.specs.Off.{wordsOf, wordsEnd, OffRead}
 use Rattle.paper.specs.Preview.{moved, Previewed, Touched}
 use Rattle.paper.specs.Turning.{turnedMesh, edgeFaults, inSteps, connected, keepsLowest, turnsOf, TurnedTo}
 use Rattle.paper.specs.CFace.{BuildCall, PreviewCall}
-use Rattle.paper.specs.Borders.{Output, outputAt, Wrote, outputOf, Holds, written, beside, Borders, Smooth}
+use Rattle.paper.specs.Borders.{Output, outputAt, Wrote, outputOf, Holds, written, mostMiss, beside, Borders, Smooth}
 use Rattle.paper.specs.Sampling.{Weights, weights, onAxis, Sampled, TriangleSampled, sideNumber, netIn, Alike, controlPoint, Leaves, Between, rowStart}
+use Rattle.paper.specs.Report.{Once, Offered, verdictIn, zeroPage, mostMeshes, conditions, pageVerdict, run, pageOf, AddsOne, Reordered, MergedTo}
 use Rattle.paper.specs.Mirror.{Mirror}
 use Rattle.paper.specs.Accuracy.{Same, Accurate}
 use Rattle.paper.specs.Manifold.{Manifold}
@@ -36,6 +37,7 @@ use Rattle.paper.specs.declared.Decoded.{Decoded}
 use Rattle.paper.specs.declared.FloatPoint.{FloatPoint}
 use Rattle.paper.specs.declared.Irregular.{Irregular}
 use Rattle.paper.specs.declared.Move.{Move}
+use Rattle.paper.specs.declared.Reported.{Reported}
 use Rattle.paper.specs.declared.Summary.{Summary}
 use Rattle.paper.specs.declared.Turned.{Turned}
 
@@ -274,6 +276,38 @@ NoneFarther =
     (M : Mesh) (k f g : ℕ) → g < faceCount M
     → inSteps (M .sides) (M .corners) k f g ≡ true → connected (M .sides) (M .corners) f g ≡ true
 
+-- ---- L14: in a run of at most 4,096 files from the all-zero page no call is refused
+abbrev pub RunsPass : Type 0
+RunsPass = (files : List Offered) → length files < mostMeshes → pageVerdict (run zeroPage files) ≡ sound
+
+-- and it leaves the sums over the accepted meshes, the maxima over their borders, and the refusals
+abbrev pub RunsSum : Type 0
+RunsSum = (files : List Offered) → length files ≤ mostMeshes → run zeroPage files ≡ pageOf files
+
+-- a refused mesh adds one to the meshes and one under its number, nothing else
+abbrev pub RefusedAdds : Type 0
+RefusedAdds =
+    (files : List Offered) (F : Offered) (k p : ℕ) → length files < mostMeshes → verdictIn F ≡ fault k p → AddsOne (run zeroPage files) F k
+
+-- no miss is larger than 13 ticks
+abbrev pub MissesWithin : Type 0
+MissesWithin =
+    (files : List Offered) → length files ≤ mostMeshes → (j : ℕ) → j < conditions → getD (run zeroPage files .misses) j 0 ≤ mostMiss * unit
+
+-- the order of the files does not matter
+abbrev pub OrderFree : Type 0
+OrderFree = (files others : List Offered) → Reordered files others → length files ≤ mostMeshes → run zeroPage files ≡ run zeroPage others
+
+-- a call that merges the pages of two parts is done and leaves the page of the whole run
+abbrev pub PartsMerge : Type 0
+PartsMerge =
+    (files more : List Offered) (r : Reported) → length files + length more ≤ mostMeshes → MergedTo (run zeroPage files) (run zeroPage more) r
+    → (r .answer ≡ Done) × (r .page ≡ run zeroPage (files ++ more))
+
+-- each border counts once
+abbrev pub BordersOnce : Type 0
+BordersOnce = (M : Mesh) → Accepted M → (c : ℕ) → c < cornerCount M → (s : Side) → Once M c s
+
 -- ---- all of them
 pub record Claims : Type 0 where
   pub rules : TableRules
@@ -319,3 +353,10 @@ pub record Claims : Type 0 where
   pub turned-back : TurnedBack
   pub nothing-turned : NothingTurned
   pub none-farther : NoneFarther
+  pub runs-pass : RunsPass
+  pub runs-sum : RunsSum
+  pub refused-adds : RefusedAdds
+  pub misses-within : MissesWithin
+  pub order-free : OrderFree
+  pub parts-merge : PartsMerge
+  pub borders-once : BordersOnce

@@ -16,6 +16,7 @@
 --     Turning    L13: turning faces, connected parts, 34 to 36, the call
 --     Borders    "The four conditions across a side"
 --     Sampling   L12: samples of a patch, 32 and 33, the calls
+--     Report     L14: the yearly border report, 37 and 38, the calls, runs of files
 --     CFace      the C face
 --     Mirror     a mesh with one axis negated
 --     Accuracy   L10: the true surface, and how far off a point may be
@@ -44,6 +45,7 @@ pub mod Preview
 pub mod Turning
 pub mod Borders
 pub mod Sampling
+pub mod Report
 pub mod CFace
 pub mod Mirror
 pub mod Accuracy

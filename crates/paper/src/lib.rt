@@ -107,3 +107,28 @@ pub struct Turned {
     pub answer: Answer,
     pub turned: usize,
 }
+
+// The most meshes that a page counts, and the most that a number on it may be.
+pub const MOST_MESHES: u64 = 4096;
+
+pub const MOST_ON_PAGE: u64 = 1099511627776;
+
+// How many lines a page has for refusals, under 1 to 13 and 28, and how many for misses, one for each condition.
+pub const LINES: usize = 14;
+
+pub const CONDITIONS: usize = 4;
+
+// A page of the border report (L14): meshes offered, corners built, borders met; refusals under 1 to 13 and 28; the largest misses over 2^30.
+pub struct Page {
+    pub meshes: u64,
+    pub corners: u64,
+    pub borders: u64,
+    pub refusals: [u64; LINES],
+    pub misses: [u64; CONDITIONS],
+}
+
+// What `border_report::report` and `border_report::merge` answer: done or refused, and the next page, or the page as it was.
+pub struct Reported {
+    pub answer: Answer,
+    pub page: Page,
+}

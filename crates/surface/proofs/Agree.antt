@@ -61,7 +61,7 @@ module _ (K L : Corners) (same : Agree K L) (ok : Sound K) (c : ℕ) (here : c <
   place-same side2 = ap (λ (m : ℕ). m - 1) (same .sides c here)
   place-same side3 = ap (λ (m : ℕ). m - 1) (same .valence c here)
 
-  neighbour-same : (s : Side) → neighbour K c s ≡ neighbour L c s
+  pub neighbour-same : (s : Side) → neighbour K c s ≡ neighbour L c s
   neighbour-same side0 = same .link c here
   neighbour-same side1 = same .next c here
   neighbour-same side2 = same .previous c here
@@ -85,26 +85,26 @@ module _ (K L : RefinedMesh rounded) (same : Agree (K .corners) (L .corners)) (o
   beside side2 = near arriving 0
   beside side3 = near arriving 2
 
-  H-same : (s : Side) → H K c s ≡ H L c s
+  pub H-same : (s : Side) → H K c s ≡ H L c s
   unfolding H
   H-same s = centre-equal (points K c (head s)) (points L c (head s)) _ _ (size-same (K .corners) (L .corners) same ok c here (head s)) (points-same (head s))
 
-  T-same : (s : Side) → T K c s ≡ T L c s
+  pub T-same : (s : Side) → T K c s ≡ T L c s
   unfolding T
   T-same s = centre-equal (points K c (tail s)) (points L c (tail s)) _ _ (size-same (K .corners) (L .corners) same ok c here (tail s)) (points-same (tail s))
 
-  X-same : (s : Side) → X K c s ≡ X L c s
+  pub X-same : (s : Side) → X K c s ≡ X L c s
   unfolding X
   X-same s =
       toward-equal (points K c (head s)) (points L c (head s)) _ _ _ _ (size-same (K .corners) (L .corners) same ok c here (head s))
       (place-same (K .corners) (L .corners) same ok c here s) (points-same (head s))
 
-  Y-same : (s : Side) → Y K c s ≡ Y L c s
+  pub Y-same : (s : Side) → Y K c s ≡ Y L c s
   unfolding Y
   Y-same s = toward-equal (points K c (tail s)) (points L c (tail s)) _ _ _ _ (size-same (K .corners) (L .corners) same ok c here (tail s)) refl
       (points-same (tail s))
 
-  C-same : (s : Side) → C K c s ≡ C L c s
+  pub C-same : (s : Side) → C K c s ≡ C L c s
   unfolding C
   C-same s = ap (λ (m : ℕ). cosine m 1) (size-same (K .corners) (L .corners) same ok c here (head s))
 

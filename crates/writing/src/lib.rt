@@ -51,7 +51,7 @@ pub fn write_nets(
 }
 
 // The numbers of each corner of the range, on its three axes. The tables are those of n corners.
-fn write_corners(
+pub fn write_corners(
     points: &[i32],
     table: &[u16],
     n: usize,

@@ -10,8 +10,10 @@
 //!   touches, by ranges, beside building the whole mesh;
 //! - `archive`: archiving and restoring, in nanoseconds per number;
 //! - `samples`: samples of a patch, in nanoseconds per sample;
-//! - `turning`: turning faces beside linking the same mesh.
+//! - `turning`: turning faces beside linking the same mesh;
+//! - `report`: the border report beside building all corners.
 
+mod report;
 mod samples;
 mod turning;
 
@@ -298,6 +300,26 @@ fn main() {
     if wanted("turning") {
         measure_turning(&meshes, budget);
     }
+    if wanted("report") {
+        measure_report(&meshes, budget);
+    }
+}
+
+/// The report of each mesh, and of the smallest one: what a call costs whatever the mesh counts most there.
+fn measure_report(meshes: &[Named], budget: Duration) {
+    println!("{}", report::HEADING);
+    let mut largest = 0.0f64;
+    let smallest = ("tetrahedron", Solid::tetrahedron(), Numbers::Random, Sharpness::Plain);
+    for (name, solid, numbers, sharpness) in std::iter::once(&smallest).chain(meshes) {
+        let word = format!("{} | {}", numbers.word(), sharpness_word(*sharpness));
+        let tables = numbers.tables(solid).sharpened(*sharpness, &mut Random::new(11));
+        largest = largest.max(report::line(name, &word, tables, budget));
+    }
+    let kept = if largest <= report::LIMIT { "kept" } else { "NOT kept" };
+    println!(
+        "\nThe report takes at most {largest:.2} times as long as building; its limit of {} is {kept}.",
+        report::LIMIT
+    );
 }
 
 /// Turning the faces of each mesh.

@@ -3,12 +3,14 @@
 //! when the library is done, the lengths after a refusal.
 
 pub mod program;
+mod report;
 mod turning;
 
 use mahunopi::{raw, MeshRef};
 use reference::{Counts, FloatPoint, Irregular, Lengths, Lists, Refusal, LENT_TOO_SHORT, MOST};
 use shapes::{Random, Tables};
 
+pub use report::{merge, report};
 pub use turning::turn;
 
 /// What `place` and the lengths hold before a call.

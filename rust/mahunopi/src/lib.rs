@@ -4,11 +4,12 @@
 //! mesh from it, [`off`] the mesh of an OFF text, [`link`] makes the mesh's link table, and [`build`] makes the control
 //! points of a range of corners: 123 numbers for each, in ticks of 1/256 of a grid step, five rows of five b points and
 //! then four rows of four a points. [`build_all`] builds all corners on several threads. [`floats`] gives one of these
-//! points as floats, [`sample`] a point of the surface, [`sample_triangle`] all of a triangle. [`irregular`] says whether a mesh is all squares. [`preview`] builds with one vertex moved, and
-//! [`touched`] names the corners that a vertex can change. [`turn`] turns faces that are drawn the wrong way round. [`nest`] lists a table of nested grids.
-//! [`archive`] rearranges a coordinate list for the archive, and [`restore`] undoes it. An input that is turned down
-//! gives a [`Refusal`]. The functions ending in `_into` fill what the caller lends them, which keeps its contents after a
-//! refusal.
+//! points as floats, [`sample`] a point of the surface, [`sample_triangle`] all of a triangle. [`irregular`] says whether
+//! a mesh is all squares. [`preview`] builds with one vertex moved, and [`touched`] names the corners that a vertex can
+//! change. [`turn`] turns faces that are drawn the wrong way round. A [`Page`] reports on the borders of a run of files.
+//! [`nest`] lists a table of nested grids. [`archive`] rearranges a coordinate list for the archive, and [`restore`]
+//! undoes it. An input that is turned down gives a [`Refusal`]. The functions ending in `_into` fill what the caller
+//! lends them, which keeps its contents after a refusal.
 //!
 //! Calls share no state and may run at the same time on any threads. Each needs up to [`CALL_STACK`] bytes of its
 //! thread's stack.
@@ -33,6 +34,7 @@ mod off;
 mod preview;
 pub mod raw;
 mod refusal;
+mod report;
 mod sampling;
 mod turning;
 
@@ -48,6 +50,7 @@ pub use off::{off, off_into};
 pub use preview::{preview, preview_into, ranges, touched, touched_into};
 use refusal::answer;
 pub use refusal::{Fault, Refusal};
+pub use report::{Page, MAX_PAGE_MESHES, PAGE_NUMBERS};
 pub use sampling::{sample, sample_count, sample_triangle, sample_triangle_into, MAX_PARTS};
 pub use turning::{turn, turn_in_place, turn_into, Turned};
 

@@ -188,6 +188,16 @@ extern "C" {
         turned: *mut u64,
         place: *mut u64,
     ) -> u32;
+    /// The next page of the border report.
+    pub fn mahunopi_report(
+        bytes: *const u8,
+        byte_count: usize,
+        length: u64,
+        page: *mut [u64; 21],
+        place: *mut u64,
+    ) -> u32;
+    /// Two pages as one.
+    pub fn mahunopi_merge(other: *const [u64; 21], page: *mut [u64; 21], place: *mut u64) -> u32;
     /// Reading the lists of an OFF text.
     pub fn mahunopi_off(
         text: *const u8,

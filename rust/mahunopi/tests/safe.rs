@@ -46,16 +46,16 @@ fn text_of(mesh: &Mesh) -> String {
 #[test]
 fn every_fault_has_a_number_and_one_line_of_words() {
     let numbers: Vec<u32> = Fault::ALL.iter().map(|fault| fault.number()).collect();
-    assert_eq!(numbers, (1..=36).chain([255]).collect::<Vec<u32>>());
+    assert_eq!(numbers, (1..=38).chain([255]).collect::<Vec<u32>>());
     for &fault in Fault::ALL {
         assert_eq!(Fault::of_number(fault.number()), Some(fault));
         assert!(!fault.words().is_empty() && !fault.words().contains('\n'));
         let line = Refusal::new(fault, 5).to_string();
         assert!(line.starts_with(&format!("refused by {}: {}", fault.number(), fault.words())) && !line.contains('\n'));
         assert_eq!(line.ends_with("is 5)"), fault.place().is_some(), "{line}");
-        assert_eq!(fault.place().is_some(), ![1, 2, 3, 4, 21, 24].contains(&fault.number()), "{line}");
+        assert_eq!(fault.place().is_some(), ![1, 2, 3, 4, 21, 24, 38].contains(&fault.number()), "{line}");
     }
-    for number in [0, 37, 254, 256, u32::MAX] {
+    for number in [0, 39, 254, 256, u32::MAX] {
         assert_eq!(Fault::of_number(number), None);
     }
 }
@@ -85,6 +85,8 @@ fn the_header_has_the_same_names() {
         ("NUMBERS_PER_CORNER", NUMBERS_PER_CORNER),
         ("MAX_BODIES", mahunopi::MAX_BODIES),
         ("SUN", usize::from(mahunopi::SUN)),
+        ("PAGE_NUMBERS", mahunopi::PAGE_NUMBERS),
+        ("MAX_PAGE_MESHES", mahunopi::MAX_PAGE_MESHES as usize),
         ("CALL_STACK", CALL_STACK),
     ];
     for (name, limit) in limits {

@@ -1,7 +1,7 @@
 //! The four conditions across a side, measured in whole numbers over 2^30 from the numbers that building wrote.
 
 use crate::cosines::ONE;
-use crate::surface::{nets, row_of, Point, NEIGHBOURS_SIDE};
+use crate::surface::{nets, place, Net, Point, NEIGHBOURS_SIDE};
 use crate::{Lists, Refusal, NUMBERS_PER_CORNER};
 
 /// What 01 allows, over 2^30.
@@ -18,31 +18,43 @@ pub struct Borders {
     pub largest: [i64; 4],
 }
 
-/// The b and a points that building wrote for a corner.
-fn grids(numbers: &[i32]) -> ([[Point; 5]; 5], [[Point; 4]; 4]) {
-    let point = |number: usize| [0, 1, 2].map(|axis| i64::from(numbers[3 * number + axis]));
-    (
-        std::array::from_fn(|i| std::array::from_fn(|j| point(5 * i + j))),
-        std::array::from_fn(|i| std::array::from_fn(|j| point(25 + 4 * i + j))),
-    )
+/// The outer b points, or the a points, along a side from its head, among the numbers that building wrote for a corner;
+/// `first` is the number of the first point of their grid, which has LENGTH rows.
+fn row<const LENGTH: usize>(numbers: &[i32], first: usize, side: usize) -> [Point; LENGTH] {
+    std::array::from_fn(|along| {
+        let (row, column) = place(side, along, 0, LENGTH - 1);
+        let at = 3 * (first + LENGTH * row + column);
+        [0, 1, 2].map(|axis| i64::from(numbers[at + axis]))
+    })
+}
+
+fn outer_of(numbers: &[i32], side: usize) -> [Point; 5] {
+    row(numbers, 0, side)
+}
+
+fn inner_of(numbers: &[i32], side: usize) -> [Point; 4] {
+    row(numbers, 25, side)
 }
 
 /// The borders of an accepted mesh; `output` holds the control points of all its corners.
 pub fn borders(lists: Lists, output: &[i32]) -> Result<Borders, Refusal> {
-    let nets = nets(lists)?;
+    Ok(measure(&nets(lists)?, output))
+}
+
+/// The borders of all quad-nets of a mesh.
+pub(crate) fn measure(nets: &[Net], output: &[i32]) -> Borders {
     assert_eq!(output.len(), NUMBERS_PER_CORNER * nets.len());
     let numbers = |corner: usize| &output[NUMBERS_PER_CORNER * corner..][..NUMBERS_PER_CORNER];
     let mut found = Borders::default();
     for (corner, net) in nets.iter().enumerate() {
-        let (b, a) = grids(numbers(corner));
         // a border's other side is 3 or 2 of the neighbour
         for side in [0, 1] {
-            let (other_b, other_a) = grids(numbers(net.neighbour_corner[side]));
+            let [own, others] = [corner, net.neighbour_corner[side]].map(numbers);
             let other_side = NEIGHBOURS_SIDE[side];
-            let outer = row_of(&b, side);
-            let [row, other_row] = [row_of(&a, side), row_of(&other_a, other_side)];
+            let outer = outer_of(own, side);
+            let [row, other_row] = [inner_of(own, side), inner_of(others, other_side)];
             found.met += 1;
-            found.split += usize::from(outer != row_of(&other_b, other_side));
+            found.split += usize::from(outer != outer_of(others, other_side));
             for axis in 0..3 {
                 let [h, t, x, y] = [net.head, net.tail, net.x, net.y].map(|points| points[side][axis]);
                 let c = net.cosine[side];
@@ -59,5 +71,5 @@ pub fn borders(lists: Lists, output: &[i32]) -> Result<Borders, Refusal> {
             }
         }
     }
-    Ok(found)
+    found
 }

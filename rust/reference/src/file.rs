@@ -75,7 +75,7 @@ pub(crate) fn held(bytes: &[u8], length: u64) -> Result<Held, Refusal> {
 }
 
 /// The lists of a file without a fault of 1 to 13 and 28.
-fn read(bytes: &[u8], length: u64) -> Result<Held, Refusal> {
+pub(crate) fn read(bytes: &[u8], length: u64) -> Result<Held, Refusal> {
     let held = held(bytes, length)?;
     check_mesh(held.lists())?;
     Ok(held)

@@ -226,21 +226,13 @@ impl<'a> Surface<'a> {
 /// Row and column of the point that stands `along` steps from a side's head and `inwards` steps from the side, in a grid
 /// whose last row and column are `last`: 4 for b, 3 for a.
 #[inline(always)]
-const fn place(side: usize, along: usize, inwards: usize, last: usize) -> (usize, usize) {
+pub(crate) const fn place(side: usize, along: usize, inwards: usize, last: usize) -> (usize, usize) {
     match side {
         0 => (inwards, along),
         1 => (last - along, last - inwards),
         2 => (last - inwards, last - along),
         _ => (along, inwards),
     }
-}
-
-/// The row of b points or of a points along a side, from its head.
-pub fn row_of<const LENGTH: usize>(grid: &[[Point; LENGTH]; LENGTH], side: usize) -> [Point; LENGTH] {
-    std::array::from_fn(|along| {
-        let (row, column) = place(side, along, 0, LENGTH - 1);
-        grid[row][column]
-    })
 }
 
 /// The b points and the a points of a quad-net.
@@ -318,16 +310,22 @@ pub fn build(lists: Lists, links: &[u16], first: usize, count: usize, output: &m
     }
     let mut surface = Surface::new(lists, order, table);
     for (corner, written) in (first..).zip(output.chunks_exact_mut(NUMBERS_PER_CORNER)) {
-        let (b, a) = control_points(&surface.net(corner));
-        let points = b.iter().flatten().chain(a.iter().flatten());
-        for (numbers, point) in written.chunks_exact_mut(3).zip(points) {
-            for (number, &value) in numbers.iter_mut().zip(point) {
-                // no control point reaches 2^25
-                *number = value as i32;
-            }
-        }
+        write(&surface.net(corner), written);
     }
     Ok(())
+}
+
+/// The 123 numbers of a quad-net.
+#[inline(always)]
+fn write(net: &Net, written: &mut [i32]) {
+    let (b, a) = control_points(net);
+    let points = b.iter().flatten().chain(a.iter().flatten());
+    for (numbers, point) in written.chunks_exact_mut(3).zip(points) {
+        for (number, &value) in numbers.iter_mut().zip(point) {
+            // no control point reaches 2^25
+            *number = value as i32;
+        }
+    }
 }
 
 /// The quad-nets of all corners of an accepted mesh, before their control points.
@@ -335,4 +333,14 @@ pub fn nets(lists: Lists) -> Result<Vec<Net>, Refusal> {
     let (order, links) = check_mesh(lists)?;
     let mut surface = Surface::new(lists, order, links);
     Ok((0..lists.corners.len()).map(|corner| surface.net(corner)).collect())
+}
+
+/// The quad-nets of all corners of an accepted mesh, and what building writes for them.
+pub(crate) fn nets_and_output(lists: Lists) -> Result<(Vec<Net>, Vec<i32>), Refusal> {
+    let nets = nets(lists)?;
+    let mut output = vec![0; NUMBERS_PER_CORNER * nets.len()];
+    for (net, written) in nets.iter().zip(output.chunks_exact_mut(NUMBERS_PER_CORNER)) {
+        write(net, written);
+    }
+    Ok((nets, output))
 }

@@ -1,0 +1,144 @@
+// L14: the largest misses across the borders of a mesh. Each border counts once: sides 0 and 1 of each corner. The output for all corners is too
+// large for the stack, so that the quad-nets are made one by one: for a corner its own, that of its link and that of the next corner. Going round a
+// face, the next corner's is then the corner's own.
+use misses::Misses;
+use misses::Row;
+use numbers::cosines;
+use paper::NUMBERS_PER_CORNER;
+use walk::Walker;
+ghost use mathlib.Core.Path.{_≡_};
+ghost use Prim.Native.Nat.{ℕ, _+_, _*_, _<_, max};
+ghost use Rattle.paper.specs.Net.{side0, side1, netPoints};
+ghost use Rattle.paper.specs.Report.{conditions, largestBelow};
+ghost use Rattle.numbers.specs.Stored.{stored};
+ghost use Rattle.surface.specs.Sizes.{WrittenSize};
+ghost use Rattle.walk.specs.Table.{toNext, toLink, entry};
+ghost use Rattle.net_sides.specs.Drawn.{drawn, Drawn};
+ghost use Rattle.misses.specs.Four.{inMisses, inRow, SmallRow};
+ghost use Rattle.border_misses.specs.Held.{pointIn, SmallOn, Held, HeldAll, netMiss, cornerMiss, fourOf};
+
+// The largest miss of each condition over all borders of n corners.
+pub fn largest(points: &[i32], table: &[u16], n: usize) -> Misses
+    requires { ⌜ Drawn n (now table) (now points) ⌝ }
+    ensures { λ r. ⌜ ((j : ℕ) → j < conditions → inMisses r j ≡ largestBelow n (cornerMiss (drawn n (now (table .entry)) (now (points .entry))) j)) ⌝ }
+{
+    let rows = cosines::rows();
+    let mut here = [0i32; NUMBERS_PER_CORNER];
+    let mut linked = [0i32; NUMBERS_PER_CORNER];
+    let mut next = [0i32; NUMBERS_PER_CORNER];
+    let mut held = n;
+    let mut most = Misses {
+        first: 0,
+        second: 0,
+        third: 0,
+        fourth: 0,
+    };
+    let mut c = 0;
+    while c < n {
+        if held != c {
+            write_net(points, table, n, c, &mut here);
+        }
+        let at = Walker { corner: c };
+        let l = at.linked(table);
+        let q = at.next(table);
+        write_net(points, table, n, l.corner, &mut linked);
+        write_net(points, table, n, q.corner, &mut next);
+        let m = corner_misses(points, table, &rows, n, c, &here, &linked, &next);
+        most = misses::larger_of(most, m);
+        here = next;
+        held = q.corner;
+        c += 1;
+    }
+    most
+}
+
+// The numbers of one corner.
+fn write_net(points: &[i32], table: &[u16], n: usize, c: usize, out: &mut [i32; 123])
+    requires { ⌜ Drawn n (now table) (now points) × (c < n) ⌝ }
+    ensures { λ _. ⌜ HeldAll (drawn n (now (table .entry)) (now (points .entry))) c (now (out .exit)) ⌝ }
+{
+    writing::write_corners(points, table, n, c, 1, out);
+}
+
+// The largest misses of sides 0 and 1 of a corner, from its numbers, those of its link and those of the next corner.
+fn corner_misses(
+    points: &[i32],
+    table: &[u16],
+    rows: &cosines::Rows,
+    n: usize,
+    c: usize,
+    here: &[i32; 123],
+    linked: &[i32; 123],
+    next: &[i32; 123],
+) -> Misses
+    requires mesh { ⌜ Drawn n (now table) (now points) × (c < n) × (now rows ≡ stored) ⌝ }
+    requires here { ⌜ HeldAll (drawn n (now table) (now points)) c (now here) ⌝ }
+    requires linked { ⌜ HeldAll (drawn n (now table) (now points)) (entry (now table) toLink c) (now linked) ⌝ }
+    requires next { ⌜ HeldAll (drawn n (now table) (now points)) (entry (now table) toNext c) (now next) ⌝ }
+    ensures { λ r. ⌜ ((j : ℕ) → j < conditions → inMisses r j ≡ cornerMiss (drawn n (now (table .entry)) (now (points .entry))) j c) ⌝ }
+{
+    let x = axis_misses(points, table, rows, n, c, 0, here, linked, next);
+    let y = axis_misses(points, table, rows, n, c, 1, here, linked, next);
+    let z = axis_misses(points, table, rows, n, c, 2, here, linked, next);
+    misses::larger_of(misses::larger_of(x, y), z)
+}
+
+// The same on one axis.
+fn axis_misses(
+    points: &[i32],
+    table: &[u16],
+    rows: &cosines::Rows,
+    n: usize,
+    c: usize,
+    axis: usize,
+    here: &[i32; 123],
+    linked: &[i32; 123],
+    next: &[i32; 123],
+) -> Misses
+    requires mesh { ⌜ Drawn n (now table) (now points) × (c < n) × (axis < 3) × (now rows ≡ stored) ⌝ }
+    requires here { ⌜ Held (drawn n (now table) (now points) axis) c axis (now here) ⌝ }
+    requires linked { ⌜ Held (drawn n (now table) (now points) axis) (entry (now table) toLink c) axis (now linked) ⌝ }
+    requires next { ⌜ Held (drawn n (now table) (now points) axis) (entry (now table) toNext c) axis (now next) ⌝ }
+    ensures { λ r. ⌜ ((j : ℕ) → j < conditions → inMisses r j ≡ max (netMiss (drawn n (now (table .entry)) (now (points .entry)) axis) j c side0) (netMiss (drawn n (now (table .entry)) (now (points .entry)) axis) j c side1)) ⌝ }
+{
+    let sides = net_sides::net_sides(points, table, rows, n, c, axis);
+    let side0 = sides.side0;
+    let outer0 = row(here, axis, 0, 1, 2, 3);
+    let own0 = row(here, axis, 25, 26, 27, 28);
+    let other0 = row(linked, axis, 25, 29, 33, 37);
+    let across_link = misses::side_misses(side0, outer0, own0, other0);
+    let side1 = sides.side1;
+    let outer1 = row(here, axis, 24, 19, 14, 9);
+    let own1 = row(here, axis, 40, 36, 32, 28);
+    let other1 = row(next, axis, 40, 39, 38, 37);
+    let across_next = misses::side_misses(side1, outer1, own1, other1);
+    misses::larger_of(across_link, across_next)
+}
+
+// Four points of a corner's numbers, on an axis.
+fn row(net: &[i32; 123], axis: usize, p: usize, q: usize, r: usize, s: usize) -> Row
+    requires net { ⌜ SmallOn (now net) axis × (axis < 3) ⌝ }
+    requires places { ⌜ (p < netPoints) × (q < netPoints) × (r < netPoints) × (s < netPoints) ⌝ }
+    ensures { λ t. ⌜ ((j : ℕ) → inRow t j ≡ fourOf (pointIn (now (net .entry)) axis) p q r s j) × SmallRow t ⌝ }
+{
+    Row {
+        p0: point(net, axis, p),
+        p1: point(net, axis, q),
+        p2: point(net, axis, r),
+        p3: point(net, axis, s),
+    }
+}
+
+// One of them.
+fn point(net: &[i32; 123], axis: usize, k: usize) -> i64
+    requires { ⌜ SmallOn (now net) axis × (axis < 3) × (k < netPoints) ⌝ }
+    ensures { λ r. ⌜ (r ≡ pointIn (now (net .entry)) axis k) × WrittenSize r ⌝ }
+{
+    wide(net[3 * k + axis])
+}
+
+fn wide(z: i32) -> i64
+    ensures { λ r. ⌜ r ≡ z ⌝ }
+{
+    z as i64
+}

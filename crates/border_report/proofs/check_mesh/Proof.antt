@@ -1,0 +1,33 @@
+-- `border_report::check_mesh` meets its contract: the table of vertices has a row for each.
+-- Assumes nothing.
+use lib.ListN.{length-replicate}
+use Prim.Native.Nat.{ℕ, _*_}
+use Rattle.paper.specs.Mesh.{mostVertices}
+use Rattle.walk.specs.Table.{rowLength}
+use Rattle.walk.proofs.Table.{blank}
+use native.Mathlib.Omega.{arith}
+use borrow.Author.Needs.{needs}
+use Rattle.border_report.proofs.check_mesh.Statement.{statement}
+use Rattle.border_report.proofs.check_mesh.Tie as tie
+
+slice-aggregate-check-within : tie.Need-slice-aggregate-check-within
+slice-aggregate-check-within c = search needs
+
+check-within-requires : tie.Need-check-within-requires
+check-within-requires c κs =
+    let s = c .before .before .before .before .before .before in
+    record {
+      corners-fit = s .pre;
+      vertices-fit = λ h. rw (length-replicate {A = ℕ} (rowLength * mostVertices) 0) (omega arith);
+      blank = blank (rowLength * mostVertices);
+    }
+
+same-length : tie.Need-same-length
+same-length c = search needs
+
+returns : tie.Need-returns
+returns c = search needs
+
+pub check-mesh-spec : {M : Type 1} → statement M
+check-mesh-spec =
+    tie.close (tie.spec slice-aggregate-check-within check-within-requires same-length returns)

@@ -1,0 +1,85 @@
+-- `border_report::over` meets its contract: the checks refuse, or their table serves the misses.
+-- Assumes nothing.
+use mathlib.Core.Path.{sym, ap, _∙_}
+use denote.Ref.{now}
+use Rattle.paper.specs.Mesh.{Mesh, meshOf}
+use Rattle.paper.specs.Faults.{verdict, stated, Accepted}
+use Rattle.mesh.proofs.Verdicts.{passed}
+use Rattle.surveying.proofs.Surveys.{limits}
+use Rattle.border_report.proofs.Laws.{refused-added, accepted-added}
+use borrow.Author.Needs.{needs}
+use Rattle.border_report.proofs.over.Statement.{statement}
+use Rattle.border_report.proofs.over.Tie as tie
+
+abbrev mesh : tie.Start → Mesh
+mesh s = meshOf (now (s .args .coordinates)) (now (s .args .sides)) (now (s .args .corners)) (now (s .args .sharpness))
+
+-- past the checks
+abbrev start : tie.After-enum-told → tie.Start
+start t = t .before .before .before .before .before .before .before .before .before .before
+
+accepts : (t : tie.After-enum-told) → Accepted (mesh (start t))
+accepts t = let a = t .before .before .before .before .check-mesh in passed (a .result) (a .ensures .answers) (t .enum-told .given .1)
+
+check-mesh-requires : tie.Need-check-mesh-requires
+check-mesh-requires c κs = search needs
+
+enum-known-a : tie.Need-enum-known-a
+enum-known-a c = search needs
+
+refuse-requires : tie.Need-refuse-requires
+refuse-requires c κs = search needs
+
+same-length : tie.Need-same-length
+same-length c = search needs
+
+returns : tie.Need-returns
+returns c =
+    let s = c .before .before .before .before .before .before .before .before .before .before .before .before in
+    let a = c .before .before .a .given in
+    refused-added (s .args .page) (mesh s) (verdict (mesh s)) (c .refuse .result) _ (a .0 .1 .0) (c .refuse .ensures)
+    (sym (ap stated (a .1)) ∙ c .before .before .before .before .before .before .check-mesh .ensures .answers)
+
+enum-told : tie.Need-enum-told
+enum-told c = search needs
+
+largest-requires : tie.Need-largest-requires
+largest-requires c κs =
+    let t = c .before .before in
+    let s = start t in
+    let few = limits (mesh s) (accepts t) .1 .1 in
+    (accepts t, (t .before .before .before .before .check-mesh .ensures .tabled (accepts t), (s .pre .1 .1 .0 few, s .pre .1 .1 .1)))
+
+accept-requires : tie.Need-accept-requires
+accept-requires c κs =
+    let t = c .before .before .before .before in
+    (start t .pre .0, limits (mesh (start t)) (accepts t) .1 .1)
+
+same-length-2 : tie.Need-same-length-2
+same-length-2 c = search needs
+
+same-length-3 : tie.Need-same-length-3
+same-length-3 c = search needs
+
+returns-2 : tie.Need-returns-2
+returns-2 c =
+    let t = c .before .before .before .before .before in
+    let s = start t in
+    accepted-added (s .args .page) (mesh s) (verdict (mesh s)) (c .accept .result) (c .before .before .largest .result) (accepts t) (c .accept .ensures)
+    (c .before .before .largest .ensures)
+
+pub over-spec : {M : Type 1} → statement M
+over-spec =
+    tie.close
+    (tie.spec
+    check-mesh-requires
+    enum-known-a
+    refuse-requires
+    same-length
+    returns
+    enum-told
+    largest-requires
+    accept-requires
+    same-length-2
+    same-length-3
+    returns-2)

@@ -1,0 +1,63 @@
+-- `border_report::report` meets its contract: 37 and 38 refuse and the page is as it was, or the file is added.
+-- Assumes nothing.
+use mathlib.Core.Path.{sym, ap, _∙_}
+use mathlib.Core.List.{List}
+use Prim.Native.Nat.{ℕ}
+use lib.Seq.{length-take-le}
+use Rattle.paper.specs.Faults.{stated}
+use Rattle.paper.specs.File.{fileMesh, fileVerdict}
+use Rattle.paper.specs.Report.{added, offered}
+use Rattle.mesh.proofs.Verdicts.{passed}
+use Rattle.dms.proofs.Files.{held-bytes}
+use Rattle.border_report.proofs.Laws.{refused-report, done-report}
+use borrow.Author.Needs.{needs}
+use Rattle.border_report.proofs.report.Statement.{statement}
+use Rattle.border_report.proofs.report.Tie as tie
+
+check-requires : tie.Need-check-requires
+check-requires c κs = search needs
+
+enum-known-a : tie.Need-enum-known-a
+enum-known-a c = search needs
+
+returns : tie.Need-returns
+returns c =
+    let s = c .before .before .before .before .before in
+    refused-report (s .args .page) (offered (s .args .bytes .now) (s .args .counted)) _ _
+    (sym (ap stated (c .before .a .given .1)) ∙ c .before .before .before .check .ensures)
+
+enum-told : tie.Need-enum-told
+enum-told c = search needs
+
+least-requires : tie.Need-least-requires
+least-requires c κs = search needs
+
+slice-aggregate-with-file : tie.Need-slice-aggregate-with-file
+slice-aggregate-with-file c = sym (length-take-le _ (c .before .before .before .before .before .before .args .bytes .now) (c .before .least .ensures .0))
+
+with-file-requires : tie.Need-with-file-requires
+with-file-requires c κs = passed _ (c .before .before .before .before .check .ensures) (c .before .before .enum-told .given .1)
+
+returns-2 : tie.Need-returns-2
+returns-2 c =
+    let s = c .before .before .before .before .before .before .before in
+    let l = c .before .before .least in
+    let P = s .args .page in
+    let k = s .args .counted in
+    done-report P (offered (s .args .bytes .now) k) (c .with-file .result) (passed _ (c .before .before .before .before .before .check .ensures) (c
+    .before .before .before .enum-told .given .1))
+    (c .with-file .ensures
+    ∙ ap (λ (file : List ℕ). added P (fileMesh file) (fileVerdict file k)) (held-bytes (s .args .bytes .now) _ k (l .ensures .1 .0) (l .ensures .1 .1)))
+
+pub report-spec : {M : Type 1} → statement M
+report-spec =
+    tie.close
+    (tie.spec
+    check-requires
+    enum-known-a
+    returns
+    enum-told
+    least-requires
+    slice-aggregate-with-file
+    with-file-requires
+    returns-2)

@@ -1,0 +1,62 @@
+-- `border_report::with_file` meets its contract: a header that is refused decides; one that passes leaves it to the lists.
+-- Assumes nothing.
+use mathlib.Core.Path.{sym, ap, _∙_}
+use denote.Ref.{now}
+use Rattle.paper.specs.Faults.{verdict}
+use Rattle.paper.specs.File.{fileMesh, fileVerdict}
+use Rattle.paper.specs.Report.{added}
+use Rattle.mesh.proofs.Verdicts.{passed, stop, orElse-sound}
+use Rattle.dms_header.proofs.Headers.{header-sized}
+use Rattle.border_report.proofs.Laws.{refused-added}
+use borrow.Author.Needs.{needs}
+use Rattle.border_report.proofs.with_file.Statement.{statement}
+use Rattle.border_report.proofs.with_file.Tie as tie
+
+check-header-requires : tie.Need-check-header-requires
+check-header-requires c κs = search needs
+
+enum-known-header : tie.Need-enum-known-header
+enum-known-header c = search needs
+
+refuse-requires : tie.Need-refuse-requires
+refuse-requires c κs = search needs
+
+returns : tie.Need-returns
+unfolding fileVerdict
+returns c =
+    let s = c .before .before .before .before .before .before in
+    let M = fileMesh (now (s .args .file)) in
+    let a = c .before .before .header .given in
+    refused-added (s .args .page) M _ (c .refuse .result) _ (a .0 .1 .0) (c .refuse .ensures)
+    (stop _ (c .before .before .before .before .check-header .ensures) _ _ (a .1) (verdict M))
+
+enum-told : tie.Need-enum-told
+enum-told c = search needs
+
+with-lists-requires : tie.Need-with-lists-requires
+with-lists-requires c κs =
+    let s = c .before .before .before .before in (
+      header-sized (now (s .args .file)) (s .args .counted) (passed _ (c .before .before .check-header .ensures) (c .enum-told .given .1)),
+      s .pre,
+    )
+
+returns-2 : tie.Need-returns-2
+unfolding fileVerdict
+returns-2 c =
+    let s = c .before .before .before .before .before in
+    let M = fileMesh (now (s .args .file)) in
+    c .with-lists .ensures
+    ∙ ap (added (s .args .page) M)
+    (sym (orElse-sound (verdict M) (passed _ (c .before .before .before .check-header .ensures) (c .before .enum-told .given .1))))
+
+pub with-file-spec : {M : Type 1} → statement M
+with-file-spec =
+    tie.close
+    (tie.spec
+    check-header-requires
+    enum-known-header
+    refuse-requires
+    returns
+    enum-told
+    with-lists-requires
+    returns-2)

@@ -1,0 +1,176 @@
+// L14, the yearly border report: a call takes a page with one file and returns the next page. The file is checked as behind `inspect`, in local copies of
+// its lists; of an accepted mesh the misses are taken over a table of its corners and one of its refined points.
+use mesh::SMALL_MESH;
+use paper::Answer;
+use paper::MOST_CORNERS;
+use paper::MOST_FACES;
+use paper::MOST_VERTICES;
+use paper::Page;
+use paper::Reported;
+use surface::POINT_ROW;
+use walk::ROW;
+ghost use mathlib.Core.Path.{_≡_};
+ghost use Prim.Native.Nat.{_*_, _<_, _≤_};
+ghost use lib.ListN.{length};
+ghost use Rattle.paper.specs.Mesh.{meshOf, mostCorners};
+ghost use Rattle.paper.specs.Faults.{sound, verdict};
+ghost use Rattle.paper.specs.File.{fileMesh, fileVerdict};
+ghost use Rattle.paper.specs.Report.{added, pageVerdict, offered, ReportedTo, MergedTo};
+ghost use Rattle.surface.specs.Points.{pointRow};
+ghost use Rattle.walk.specs.Table.{rowLength};
+ghost use Rattle.face_sums.specs.Sources.{Small};
+ghost use Rattle.dms_header.specs.Sized.{Sized};
+ghost use Rattle.checks.specs.Checked.{Checked};
+
+// The numbers of the longest coordinate list and of the longest sharpness list.
+const MOST_NUMBERS: usize = 3 * MOST_VERTICES;
+
+const MOST_PAIRS: usize = 2 * MOST_CORNERS;
+
+// The page after one file more, from the bytes read and the length counted, or the page as it was.
+pub fn report(bytes: &[u8], counted: usize, page: Page) -> Reported
+    ensures { λ r. ⌜ ReportedTo page (offered (now (bytes .entry)) counted) r ⌝ }
+{
+    let a = pages::check(page);
+    if let Answer::Refused(k, p) = a {
+        return Reported {
+            answer: Answer::Refused(k, p),
+            page: page,
+        };
+    }
+    let held = least(bytes.len(), counted);
+    let next = with_file(&bytes[..held], counted, page);
+    Reported {
+        answer: Answer::Done,
+        page: next,
+    }
+}
+
+// Two pages as one.
+pub fn merge(page: Page, other: Page) -> Reported
+    ensures { λ r. ⌜ MergedTo page other r ⌝ }
+{
+    pages::merge(page, other)
+}
+
+// The lesser of two numbers.
+fn least(a: usize, b: usize) -> usize
+    ensures { λ r. ⌜ (r ≤ a) × ((r < b → r ≡ a) × (r ≤ b)) ⌝ }
+{
+    if a < b { a } else { b }
+}
+
+// The page after the file itself: its header is checked first.
+fn with_file(file: &[u8], counted: usize, page: Page) -> Page
+    requires { ⌜ pageVerdict page ≡ sound ⌝ }
+    ensures { λ r. ⌜ r ≡ added page (fileMesh (now (file .entry))) (fileVerdict (now (file .entry)) counted) ⌝ }
+{
+    let header = dms_header::check_header(file, counted);
+    if let Answer::Refused(number, place) = header {
+        return pages::refuse(page, number);
+    }
+    with_lists(file, page)
+}
+
+// The same of a file whose header passes, with copies of its lists.
+fn with_lists(file: &[u8], page: Page) -> Page
+    requires { ⌜ Sized (now file) × (pageVerdict page ≡ sound) ⌝ }
+    ensures { λ r. ⌜ r ≡ added page (fileMesh (now (file .entry))) (verdict (fileMesh (now (file .entry)))) ⌝ }
+{
+    let mut coordinates = [0i32; MOST_NUMBERS];
+    let mut sides = [0u8; MOST_FACES];
+    let mut corners = [0u16; MOST_CORNERS];
+    let mut sharpness = [0u8; MOST_PAIRS];
+    dms_lists::read_lists(
+        file,
+        &mut coordinates,
+        &mut sides,
+        &mut corners,
+        &mut sharpness,
+    );
+    let numbers = 3 * dms_header::vertex_count(file);
+    let faces = dms_header::face_count(file);
+    let count = dms_header::corner_count(file);
+    with_mesh(
+        &coordinates[..numbers],
+        &sides[..faces],
+        &corners[..count],
+        &sharpness[..2 * count],
+        page,
+    )
+}
+
+// The same of the lists of a mesh, with tables of its own.
+fn with_mesh(
+    coordinates: &[i32],
+    sides: &[u8],
+    corners: &[u16],
+    sharpness: &[u8],
+    page: Page,
+) -> Page
+    requires { ⌜ pageVerdict page ≡ sound ⌝ }
+    ensures { λ r. ⌜ r ≡ added page (meshOf (now (coordinates .entry)) (now (sides .entry)) (now (corners .entry)) (now (sharpness .entry))) (verdict (meshOf (now (coordinates .entry)) (now (sides .entry)) (now (corners .entry)) (now (sharpness .entry)))) ⌝ }
+{
+    if corners.len() <= SMALL_MESH {
+        let mut table = [0u16; ROW * SMALL_MESH];
+        let mut points = [0i32; POINT_ROW * SMALL_MESH];
+        return over(
+            coordinates,
+            sides,
+            corners,
+            sharpness,
+            page,
+            &mut table,
+            &mut points,
+        );
+    }
+    let mut table = [0u16; ROW * MOST_CORNERS];
+    let mut points = [0i32; POINT_ROW * MOST_CORNERS];
+    over(
+        coordinates,
+        sides,
+        corners,
+        sharpness,
+        page,
+        &mut table,
+        &mut points,
+    )
+}
+
+// The same over lent tables. A refused mesh adds one under its number; an accepted one its corners, its borders and its misses.
+fn over(
+    coordinates: &[i32],
+    sides: &[u8],
+    corners: &[u16],
+    sharpness: &[u8],
+    page: Page,
+    table: &mut [u16],
+    points: &mut [i32],
+) -> Page
+    requires page { ⌜ pageVerdict page ≡ sound ⌝ }
+    requires table { ⌜ (length (now corners) ≤ mostCorners → rowLength * length (now corners) ≤ length (now table)) ⌝ }
+    requires points { ⌜ (length (now corners) ≤ mostCorners → pointRow * length (now corners) ≤ length (now points)) × Small (now points) ⌝ }
+    ensures { λ r. ⌜ r ≡ added page (meshOf (now (coordinates .entry)) (now (sides .entry)) (now (corners .entry)) (now (sharpness .entry))) (verdict (meshOf (now (coordinates .entry)) (now (sides .entry)) (now (corners .entry)) (now (sharpness .entry)))) ⌝ }
+{
+    let a = check_mesh(coordinates, sides, corners, sharpness, table);
+    if let Answer::Refused(number, place) = a {
+        return pages::refuse(page, number);
+    }
+    let largest = mesh_misses::largest(coordinates, sides, corners, sharpness, table, points);
+    pages::accept(page, corners.len(), largest)
+}
+
+// Checks 4 to 13 with 27 and 28, which fill the table of corners.
+fn check_mesh(
+    coordinates: &[i32],
+    sides: &[u8],
+    corners: &[u16],
+    sharpness: &[u8],
+    table: &mut [u16],
+) -> Answer
+    requires { ⌜ (length (now corners) ≤ mostCorners → rowLength * length (now corners) ≤ length (now table)) ⌝ }
+    ensures { λ r. ⌜ Checked (meshOf (now (coordinates .entry)) (now (sides .entry)) (now (corners .entry)) (now (sharpness .entry))) r (now (table .exit)) ⌝ }
+{
+    let mut vertices = [0u16; ROW * MOST_VERTICES];
+    checks::check_within(coordinates, sides, corners, sharpness, table, &mut vertices)
+}

@@ -1,0 +1,71 @@
+-- `mahunopi::mahunopi_merge` meets its contract: it tells what `border_report::merge` answers, and leaves the numbers of the two pages as one.
+-- Assumes nothing.
+use mathlib.Core.Path.{subst}
+use denote.Ref.{now}
+use Rattle.paper.specs.Report.{MergedTo}
+use Rattle.paper.specs.CFace.{pageIn}
+use Rattle.paper.specs.declared.Page.{Page}
+use Rattle.page_numbers.proofs.Calls.{merge-refused, merge-done}
+use borrow.Author.Needs.{needs}
+use Rattle.mahunopi.proofs.mahunopi_merge.Statement.{statement}
+use Rattle.mahunopi.proofs.mahunopi_merge.Tie as tie
+
+read-requires : tie.Need-read-requires
+read-requires c κs = search needs
+
+read-requires-2 : tie.Need-read-requires-2
+read-requires-2 c κs = search needs
+
+merge-requires : tie.Need-merge-requires
+merge-requires c κs = search needs
+
+enum-known-a : tie.Need-enum-known-a
+enum-known-a c = search needs
+
+tell-requires : tie.Need-tell-requires
+tell-requires c κs = search needs
+
+returns : tie.Need-returns
+returns c =
+    let s = c .before .before .before .before .before .before .before .before .before in
+    let r = c .before .before .before .before .before .merge in
+    let a = c .before .before .before .a .given in
+    let old = now (s .args .page) in
+    let other = now (s .args .other) in
+    let first = subst (λ (P : Page). MergedTo P (c .before .before .before .before .before .before .read2 .result) (r .result)) (c .before .before
+    .before .before .before .before .before .read .ensures) (r .ensures) in
+    merge-refused other old (r .result) (now (s .args .place))
+    (subst (λ (Q : Page). MergedTo (pageIn old) Q (r .result)) (c .before .before .before .before .before .before .read2 .ensures) first) (a .0 .0)
+    (a .0 .1 .0) _ _ (a .1) (c .tell .ensures)
+
+enum-told : tie.Need-enum-told
+enum-told c = search needs
+
+numbers-requires : tie.Need-numbers-requires
+numbers-requires c κs = search needs
+
+returns-2 : tie.Need-returns-2
+returns-2 c =
+    let s = c .before .before .before .before .before .before .before .before in
+    let r = c .before .before .before .before .merge in
+    let old = now (s .args .page) in
+    let other = now (s .args .other) in
+    let first = subst (λ (P : Page). MergedTo P (c .before .before .before .before .before .read2 .result) (r .result)) (c .before .before .before
+    .before .before .before .read .ensures) (r .ensures) in
+    merge-done other old (r .result) (now (s .args .place)) (subst (λ (Q : Page). MergedTo (pageIn old) Q (r .result)) (c .before .before .before
+    .before .before .read2 .ensures) first)
+    (c .numbers .result) (c .before .before .enum-told .given .1) (c .numbers .ensures)
+
+pub mahunopi-merge-spec : {M : Type 1} → statement M
+mahunopi-merge-spec =
+    tie.close
+    (tie.spec
+    read-requires
+    read-requires-2
+    merge-requires
+    enum-known-a
+    tell-requires
+    returns
+    enum-told
+    numbers-requires
+    returns-2)

@@ -1,0 +1,72 @@
+-- After i turns the first i numbers were put.
+-- Assumes nothing.
+use mathlib.Core.Path.{_≡_, refl, ap, _∙_}
+use Prim.Native.Nat.{_≤_, _-_}
+use lib.ListN.{length}
+use native.Mathlib.Omega.{arith}
+use Rattle.text_buffer.specs.Text.{Put}
+use Rattle.text_buffer.proofs.Putting.{put-none, put-then, put-same}
+use Rattle.page_text.specs.Lines.{textsBelow, spacedNumber}
+use Rattle.page_text.proofs.Joins.{join-none, join-next}
+use borrow.Author.Needs.{needs}
+use Rattle.page_text.proofs.put_all.Statement.{statement}
+use Rattle.page_text.proofs.put_all.Tie as tie
+
+abbrev Inv-loop : tie.InvT-loop
+Inv-loop lines₀ from numbers at₀ i₀ lines at i = (i ≤ 21) × (length lines ≡ length lines₀) × Put lines₀ from (textsBelow (spacedNumber numbers) i) lines at
+
+abbrev μ-loop : tie.MeasureT-loop
+μ-loop lines₀ from numbers at₀ i₀ lines at i = 21 - i
+
+loop-holds : tie.Need-loop-holds Inv-loop μ-loop
+loop-holds c = (omega arith, refl, put-same (join-none _) (put-none _ _))
+
+mul-put-spaced : tie.Need-mul-put-spaced Inv-loop μ-loop
+mul-put-spaced c = search needs
+
+element-copy-out-put-spaced : tie.Need-element-copy-out-put-spaced Inv-loop μ-loop
+element-copy-out-put-spaced c = search needs
+
+put-spaced-requires : tie.Need-put-spaced-requires Inv-loop μ-loop
+put-spaced-requires c κs = search needs
+
+add-i : tie.Need-add-i Inv-loop μ-loop
+add-i c = search needs
+
+loop-less : tie.Need-loop-less Inv-loop μ-loop
+loop-less c = search needs
+
+loop-again : tie.Need-loop-again Inv-loop μ-loop
+loop-again c =
+    let numbers = c .before .before .before .before .before .before .before .before .args .numbers .now in
+    let l = c .before .before .before .before .before .before .loop in
+    let p = c .before .before .put-spaced in (
+      omega arith,
+      p .kept .0 ∙ l .inv .1,
+      put-same (join-next (spacedNumber numbers) (l .i)) (put-then (l .inv .1) (l .inv .2) (p .ensures)),
+    )
+
+same-length : tie.Need-same-length Inv-loop μ-loop
+same-length c = c .before .loop .inv .1
+
+returns : tie.Need-returns Inv-loop μ-loop
+returns c =
+    let l = c .before .loop in
+    let q : l .i ≡ 21 = omega arith in
+    put-same (ap (textsBelow (spacedNumber (c .before .before .before .args .numbers .now))) q) (l .inv .2)
+
+pub put-all-spec : {M : Type 1} → statement M
+put-all-spec =
+    tie.close
+    (tie.spec
+    Inv-loop
+    μ-loop
+    loop-holds
+    mul-put-spaced
+    element-copy-out-put-spaced
+    put-spaced-requires
+    add-i
+    loop-less
+    loop-again
+    same-length
+    returns)

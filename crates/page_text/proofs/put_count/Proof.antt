@@ -1,0 +1,33 @@
+-- The word, the number and the line feed.
+-- Assumes nothing.
+use mathlib.Core.List.{[], _∷_}
+use Rattle.text_buffer.specs.Text.{decimal}
+use Rattle.page_text.specs.Lines.{feed}
+use Rattle.text_buffer.proofs.Putting.{put-three}
+use borrow.Author.Needs.{needs}
+use Rattle.page_text.proofs.put_count.Statement.{statement}
+use Rattle.page_text.proofs.put_count.Tie as tie
+
+put-word-requires : tie.Need-put-word-requires
+put-word-requires c κs = search needs
+
+put-number-requires : tie.Need-put-number-requires
+put-number-requires c κs = search needs
+
+put-byte-requires : tie.Need-put-byte-requires
+put-byte-requires c κs = search needs
+
+same-length : tie.Need-same-length
+same-length c = search needs
+
+returns : tie.Need-returns
+returns c =
+    let s = c .before .before .before .before .before .before .before .before .before .before .before .before .before .before .args in
+    let w = c .before .before .before .before .before .before .before .before .before .before .put-word in
+    let p = c .before .before .before .before .before .before .put-number in
+    put-three (s .word .now) (decimal (s .n)) (feed ∷ []) (w .kept .0) (p .kept .0) (w .ensures) (p .ensures) (c .before .before .put-byte .ensures)
+
+pub put-count-spec : {M : Type 1} → statement M
+put-count-spec =
+    tie.close
+    (tie.spec put-word-requires put-number-requires put-byte-requires same-length returns)

@@ -1,0 +1,80 @@
+-- After j turns the lines of the first j conditions were put.
+-- Assumes nothing.
+use mathlib.Core.Path.{_≡_, refl, ap, _∙_}
+use Prim.Native.Nat.{_≤_, _-_}
+use lib.ListN.{length}
+use native.Mathlib.Omega.{arith}
+use Rattle.text_buffer.specs.Text.{Put}
+use Rattle.text_buffer.proofs.Putting.{put-none, put-then, put-same}
+use Rattle.page_text.specs.Lines.{textsBelow, conditionLine}
+use Rattle.page_text.proofs.Joins.{join-none, join-next}
+use borrow.Author.Needs.{needs}
+use Rattle.page_text.proofs.put_misses.Statement.{statement}
+use Rattle.page_text.proofs.put_misses.Tie as tie
+
+abbrev Inv-loop : tie.InvT-loop
+Inv-loop lines₀ from numbers at₀ j₀ lines at j = (j ≤ 4) × (length lines ≡ length lines₀) × Put lines₀ from (textsBelow (conditionLine numbers) j) lines at
+
+abbrev μ-loop : tie.MeasureT-loop
+μ-loop lines₀ from numbers at₀ j₀ lines at j = 4 - j
+
+loop-holds : tie.Need-loop-holds Inv-loop μ-loop
+loop-holds c = (omega arith, refl, put-same (join-none _) (put-none _ _))
+
+add-put-miss : tie.Need-add-put-miss Inv-loop μ-loop
+add-put-miss c = search needs
+
+add-put-miss-2 : tie.Need-add-put-miss-2 Inv-loop μ-loop
+add-put-miss-2 c = search needs
+
+mul-put-miss : tie.Need-mul-put-miss Inv-loop μ-loop
+mul-put-miss c = search needs
+
+element-copy-out-put-miss : tie.Need-element-copy-out-put-miss Inv-loop μ-loop
+element-copy-out-put-miss c = search needs
+
+put-miss-requires : tie.Need-put-miss-requires Inv-loop μ-loop
+put-miss-requires c κs = search needs
+
+add-j : tie.Need-add-j Inv-loop μ-loop
+add-j c = search needs
+
+loop-less : tie.Need-loop-less Inv-loop μ-loop
+loop-less c = search needs
+
+loop-again : tie.Need-loop-again Inv-loop μ-loop
+loop-again c =
+    let numbers = c .before .before .before .before .before .before .before .before .args .numbers .now in
+    let l = c .before .before .before .before .before .before .loop in
+    let p = c .before .before .put-miss in (
+      omega arith,
+      p .kept .0 ∙ l .inv .1,
+      put-same (join-next (conditionLine numbers) (l .j)) (put-then (l .inv .1) (l .inv .2) (p .ensures)),
+    )
+
+same-length : tie.Need-same-length Inv-loop μ-loop
+same-length c = c .before .loop .inv .1
+
+returns : tie.Need-returns Inv-loop μ-loop
+returns c =
+    let l = c .before .loop in
+    let q : l .j ≡ 4 = omega arith in
+    put-same (ap (textsBelow (conditionLine (c .before .before .before .args .numbers .now))) q) (l .inv .2)
+
+pub put-misses-spec : {M : Type 1} → statement M
+put-misses-spec =
+    tie.close
+    (tie.spec
+    Inv-loop
+    μ-loop
+    loop-holds
+    add-put-miss
+    add-put-miss-2
+    mul-put-miss
+    element-copy-out-put-miss
+    put-miss-requires
+    add-j
+    loop-less
+    loop-again
+    same-length
+    returns)

@@ -1,0 +1,104 @@
+-- The lines, one after the other.
+-- Assumes nothing.
+use mathlib.Core.List.{_++_}
+use lib.ListN.{getD}
+use Rattle.page_text.specs.Lines.{meshesWord, cornersWord, bordersWord}
+use Rattle.page_text.specs.Lines.{textsBelow, namedLine, refusedByLine, refusalsLine, conditionLine, pageLine, pageLines}
+use Rattle.text_buffer.proofs.Putting.{put-three}
+use borrow.Author.Needs.{needs}
+use Rattle.page_text.proofs.put_page.Statement.{statement}
+use Rattle.page_text.proofs.put_page.Tie as tie
+
+slice-aggregate-put-count : tie.Need-slice-aggregate-put-count
+slice-aggregate-put-count c = search needs
+
+element-copy-out-put-count : tie.Need-element-copy-out-put-count
+element-copy-out-put-count c = search needs
+
+put-count-requires : tie.Need-put-count-requires
+put-count-requires c κs = search needs
+
+slice-aggregate-put-count-2 : tie.Need-slice-aggregate-put-count-2
+slice-aggregate-put-count-2 c = search needs
+
+element-copy-out-put-count-2 : tie.Need-element-copy-out-put-count-2
+element-copy-out-put-count-2 c = search needs
+
+put-count-requires-2 : tie.Need-put-count-requires-2
+put-count-requires-2 c κs = search needs
+
+slice-aggregate-put-count-3 : tie.Need-slice-aggregate-put-count-3
+slice-aggregate-put-count-3 c = search needs
+
+element-copy-out-put-count-3 : tie.Need-element-copy-out-put-count-3
+element-copy-out-put-count-3 c = search needs
+
+put-count-requires-3 : tie.Need-put-count-requires-3
+put-count-requires-3 c κs = search needs
+
+put-refusals-requires : tie.Need-put-refusals-requires
+put-refusals-requires c κs = search needs
+
+element-copy-out-put-refused : tie.Need-element-copy-out-put-refused
+element-copy-out-put-refused c = search needs
+
+put-refused-requires : tie.Need-put-refused-requires
+put-refused-requires c κs = search needs
+
+put-misses-requires : tie.Need-put-misses-requires
+put-misses-requires c κs = search needs
+
+put-numbers-requires : tie.Need-put-numbers-requires
+put-numbers-requires c κs = search needs
+
+same-length : tie.Need-same-length
+same-length c = search needs
+
+returns : tie.Need-returns
+unfolding pageLines
+returns c =
+    let at1 = c .before .before .before .before .before .before in
+    let misses = at1 .put-misses in
+    let at2 = at1 .before .before .before .before in
+    let last = at2 .put-refused in
+    let at3 = at2 .before .before .before .before .before in
+    let refusals = at3 .put-refusals in
+    let at4 = at3 .before .before .before .before in
+    let borders = at4 .put-count3 in
+    let at5 = at4 .before .before .before .before .before .before in
+    let corners = at5 .put-count2 in
+    let at6 = at5 .before .before .before .before .before .before in
+    let meshes = at6 .put-count in
+    let at7 = at6 .before .before .before .before .before in
+    let numbers = at7 .args .numbers .now in
+    let refused-text = textsBelow (refusalsLine numbers) 13 in
+    let last-text = refusedByLine 28 (getD numbers 16 0) in
+    let misses-text = textsBelow (conditionLine numbers) 4 in
+    let tail = put-three last-text misses-text (pageLine numbers) (last .kept .0) (misses .kept .0) (last .ensures) (misses .ensures)
+    (c .before .before .put-numbers .ensures) in
+    let middle = put-three (namedLine bordersWord (getD numbers 2 0)) refused-text (last-text ++ (misses-text ++ pageLine numbers)) (borders .kept .0)
+    (refusals .kept .0) (borders .ensures) (refusals .ensures) tail in
+    put-three (namedLine meshesWord (getD numbers 0 0)) (namedLine cornersWord (getD numbers 1 0))
+    (namedLine bordersWord (getD numbers 2 0) ++ (refused-text ++ (last-text ++ (misses-text ++ pageLine numbers)))) (meshes .kept .0) (corners .kept .0)
+    (meshes .ensures) (corners .ensures) middle
+
+pub put-page-spec : {M : Type 1} → statement M
+put-page-spec =
+    tie.close
+    (tie.spec
+    slice-aggregate-put-count
+    element-copy-out-put-count
+    put-count-requires
+    slice-aggregate-put-count-2
+    element-copy-out-put-count-2
+    put-count-requires-2
+    slice-aggregate-put-count-3
+    element-copy-out-put-count-3
+    put-count-requires-3
+    put-refusals-requires
+    element-copy-out-put-refused
+    put-refused-requires
+    put-misses-requires
+    put-numbers-requires
+    same-length
+    returns)

@@ -1,0 +1,80 @@
+-- After l turns the lines of the first l numbers were put.
+-- Assumes nothing.
+use mathlib.Core.Path.{_≡_, refl, ap, _∙_}
+use Prim.Native.Nat.{_≤_, _-_}
+use lib.ListN.{length}
+use native.Mathlib.Omega.{arith}
+use Rattle.text_buffer.specs.Text.{Put}
+use Rattle.text_buffer.proofs.Putting.{put-none, put-then, put-same}
+use Rattle.page_text.specs.Lines.{textsBelow, refusalsLine}
+use Rattle.page_text.proofs.Joins.{join-none, join-next}
+use borrow.Author.Needs.{needs}
+use Rattle.page_text.proofs.put_refusals.Statement.{statement}
+use Rattle.page_text.proofs.put_refusals.Tie as tie
+
+abbrev Inv-loop : tie.InvT-loop
+Inv-loop lines₀ from numbers at₀ l₀ lines at l = (l ≤ 13) × (length lines ≡ length lines₀) × Put lines₀ from (textsBelow (refusalsLine numbers) l) lines at
+
+abbrev μ-loop : tie.MeasureT-loop
+μ-loop lines₀ from numbers at₀ l₀ lines at l = 13 - l
+
+loop-holds : tie.Need-loop-holds Inv-loop μ-loop
+loop-holds c = (omega arith, refl, put-same (join-none _) (put-none _ _))
+
+add-put-refused : tie.Need-add-put-refused Inv-loop μ-loop
+add-put-refused c = search needs
+
+add-put-refused-2 : tie.Need-add-put-refused-2 Inv-loop μ-loop
+add-put-refused-2 c = search needs
+
+mul-put-refused : tie.Need-mul-put-refused Inv-loop μ-loop
+mul-put-refused c = search needs
+
+element-copy-out-put-refused : tie.Need-element-copy-out-put-refused Inv-loop μ-loop
+element-copy-out-put-refused c = search needs
+
+put-refused-requires : tie.Need-put-refused-requires Inv-loop μ-loop
+put-refused-requires c κs = search needs
+
+add-l : tie.Need-add-l Inv-loop μ-loop
+add-l c = search needs
+
+loop-less : tie.Need-loop-less Inv-loop μ-loop
+loop-less c = search needs
+
+loop-again : tie.Need-loop-again Inv-loop μ-loop
+loop-again c =
+    let numbers = c .before .before .before .before .before .before .before .before .args .numbers .now in
+    let l = c .before .before .before .before .before .before .loop in
+    let p = c .before .before .put-refused in (
+      omega arith,
+      p .kept .0 ∙ l .inv .1,
+      put-same (join-next (refusalsLine numbers) (l .l)) (put-then (l .inv .1) (l .inv .2) (p .ensures)),
+    )
+
+same-length : tie.Need-same-length Inv-loop μ-loop
+same-length c = c .before .loop .inv .1
+
+returns : tie.Need-returns Inv-loop μ-loop
+returns c =
+    let l = c .before .loop in
+    let q : l .l ≡ 13 = omega arith in
+    put-same (ap (textsBelow (refusalsLine (c .before .before .before .args .numbers .now))) q) (l .inv .2)
+
+pub put-refusals-spec : {M : Type 1} → statement M
+put-refusals-spec =
+    tie.close
+    (tie.spec
+    Inv-loop
+    μ-loop
+    loop-holds
+    add-put-refused
+    add-put-refused-2
+    mul-put-refused
+    element-copy-out-put-refused
+    put-refused-requires
+    add-l
+    loop-less
+    loop-again
+    same-length
+    returns)

@@ -1,0 +1,46 @@
+-- The word, the number, and a colon with the count.
+-- Assumes nothing.
+use Rattle.text_buffer.specs.Text.{decimal}
+use Rattle.page_text.specs.Lines.{refusedWord, colon, namedLine}
+use Rattle.text_buffer.proofs.Putting.{put-three}
+use borrow.Author.Needs.{needs}
+use Rattle.page_text.proofs.put_refused.Statement.{statement}
+use Rattle.page_text.proofs.put_refused.Tie as tie
+
+slice-aggregate-put-word : tie.Need-slice-aggregate-put-word
+slice-aggregate-put-word c = search needs
+
+put-word-requires : tie.Need-put-word-requires
+put-word-requires c κs = search needs
+
+put-number-requires : tie.Need-put-number-requires
+put-number-requires c κs = search needs
+
+slice-aggregate-put-count : tie.Need-slice-aggregate-put-count
+slice-aggregate-put-count c = search needs
+
+put-count-requires : tie.Need-put-count-requires
+put-count-requires c κs = search needs
+
+same-length : tie.Need-same-length
+same-length c = search needs
+
+returns : tie.Need-returns
+returns c =
+    let s = c .before .before .before .before .before .before .before .before .before .before .before .before .before .before .before .args in
+    let w = c .before .before .before .before .before .before .before .before .before .before .before .put-word in
+    let p = c .before .before .before .before .before .before .before .put-number in
+    put-three refusedWord (decimal (s .number)) (namedLine colon (s .n))
+    (w .kept .0) (p .kept .0) (w .ensures) (p .ensures) (c .before .before .put-count .ensures)
+
+pub put-refused-spec : {M : Type 1} → statement M
+put-refused-spec =
+    tie.close
+    (tie.spec
+    slice-aggregate-put-word
+    put-word-requires
+    put-number-requires
+    slice-aggregate-put-count
+    put-count-requires
+    same-length
+    returns)

@@ -1,0 +1,64 @@
+-- The whole ticks, the point and three digits.
+-- Assumes nothing.
+use mathlib.Core.Path.{ap}
+use mathlib.Core.List.{[], _∷_, _++_}
+use Prim.Native.Nat.{_/_, _%_}
+use Rattle.text_buffer.specs.Text.{decimal}
+use Rattle.page_text.specs.Lines.{digit, inTicks}
+use Rattle.text_buffer.proofs.Putting.{put-three, put-same}
+use borrow.Author.Needs.{needs}
+use Rattle.page_text.proofs.put_ticks.Statement.{statement}
+use Rattle.page_text.proofs.put_ticks.Tie as tie
+
+thousandths-requires : tie.Need-thousandths-requires
+thousandths-requires c κs = search needs
+
+put-number-requires : tie.Need-put-number-requires
+put-number-requires c κs = search needs
+
+put-byte-requires : tie.Need-put-byte-requires
+put-byte-requires c κs = search needs
+
+put-digit-requires : tie.Need-put-digit-requires
+put-digit-requires c κs = search needs
+
+put-digit-requires-2 : tie.Need-put-digit-requires-2
+put-digit-requires-2 c κs = search needs
+
+put-digit-requires-3 : tie.Need-put-digit-requires-3
+put-digit-requires-3 c κs = search needs
+
+same-length : tie.Need-same-length
+same-length c = search needs
+
+returns : tie.Need-returns
+returns c =
+    let at1 = c .before .before .before .before .before .before in
+    let e = at1 .put-digit2 in
+    let at2 = at1 .before .before .before .before in
+    let d = at2 .put-digit in
+    let at3 = at2 .before .before .before .before in
+    let p = at3 .put-byte in
+    let at4 = at3 .before .before .before .before in
+    let w = at4 .put-number in
+    let at5 = at4 .before .before in
+    let h = at5 .thousandths in
+    let n = h .result in
+    let tail = put-three (digit (n / 100 % 10)) (digit (n / 10 % 10)) (digit (n % 10)) (d .kept .0) (e .kept .0) (d .ensures) (e .ensures)
+    (c .before .before .put-digit3 .ensures) in
+    put-same (ap inTicks (h .ensures))
+    (put-three (decimal (n / 1000)) (46 ∷ []) (digit (n / 100 % 10) ++ (digit (n / 10 % 10) ++ digit (n % 10))) (w .kept .0) (p .kept .0) (w .ensures)
+    (p .ensures) tail)
+
+pub put-ticks-spec : {M : Type 1} → statement M
+put-ticks-spec =
+    tie.close
+    (tie.spec
+    thousandths-requires
+    put-number-requires
+    put-byte-requires
+    put-digit-requires
+    put-digit-requires-2
+    put-digit-requires-3
+    same-length
+    returns)
