@@ -132,8 +132,21 @@ excess h m = plain h (pos m)
     plain : (h m : ℤ) → pos (2 ^ 32) ≤ℤ (pos 2 *ℤ h *ℤ m) → pos 0 ≤ℤ (pos 2 *ℤ h *ℤ m -ℤ pos (2 ^ 32))
     plain = over 2 _ λ ρ. simp (poly, ρ) (omega arith)
 
-le-lt : (a b c : ℤ) → a ≤ℤ b → b <ℤ c → a <ℤ c
-le-lt = over 3 _ λ ρ. simp poly (omega arith)
+-- the quotient with its lift, times the divisor and one divisor more
+top : (n h s q : ℤ) → (negsuc 0 ≤ℤ s) × (s ≤ℤ pos 0) → IsFloor (n +ℤ h +ℤ s) (pos 2 *ℤ h) q
+    → (pos 2 *ℤ h *ℤ (q +ℤ pos lift +ℤ pos 1)) ≤ℤ (n +ℤ pos 2 *ℤ h *ℤ pos lift +ℤ pos 3 *ℤ h)
+top = over 4 _ λ ρ. simp (poly, ρ) (omega arith)
+
+-- x is the excess, u the quotient: x (u + 1) is below m, since d times it is below d m
+exact : (d x m u y : ℤ) → pos 0 <ℤ d → (x *ℤ (d *ℤ (u +ℤ pos 1))) ≤ℤ (x *ℤ y) → (x *ℤ y) <ℤ (d *ℤ m) → (x *ℤ (u +ℤ pos 1)) <ℤ m
+exact d x m u y p a b = next _ m (step-le d (x *ℤ (u +ℤ pos 1) +ℤ pos 1) m p (times d x m u y a b))
+  where
+    times : (d x m u y : ℤ) → (x *ℤ (d *ℤ (u +ℤ pos 1))) ≤ℤ (x *ℤ y) → (x *ℤ y) <ℤ (d *ℤ m)
+        → (d *ℤ (x *ℤ (u +ℤ pos 1) +ℤ pos 1)) <ℤ (d *ℤ m +ℤ d)
+    times = over 5 _ λ ρ. simp (poly, ρ) (omega arith)
+
+    next : (a b : ℤ) → (a +ℤ pos 1) ≤ℤ b → a <ℤ b
+    next = over 2 _ λ ρ. simp (poly, ρ) (omega arith)
 
 back : (z d q l : ℤ) → d *ℤ (q +ℤ l) +ℤ (z -ℤ d *ℤ q) ≡ z +ℤ d *ℤ l
 back = over 4 _ λ ρ. simp poly (omega arith)
@@ -145,7 +158,7 @@ of-naturals : (t m : ℕ) → floor (pos t *ℤ pos m) (pos (2 ^ 32)) ≡ pos (t
 unfolding floor
 of-naturals t m = refl
 
-pub fraction-is : (n h : ℤ) (t m : ℕ) → Lifted n h × Fraction h m → pos t ≡ n +ℤ h +ℤ sign n +ℤ pos 2 *ℤ h *ℤ pos lift
+pub fraction-is : (n h : ℤ) (t m : ℕ) → Lifted n h × Fraction n h m → pos t ≡ n +ℤ h +ℤ sign n +ℤ pos 2 *ℤ h *ℤ pos lift
     → (pos (t * m / 2 ^ 32) ≤ℤ pos (2 * lift)) × (pos (t * m / 2 ^ 32) -ℤ pos lift ≡ round n (pos 2 *ℤ h))
 fraction-is n h t m ok e =
     let d = pos 2 *ℤ h in
@@ -158,7 +171,8 @@ fraction-is n h t m ok e =
     let r = rest z d q f in
     let x = excess h m (ok .1 .0) in
     let i = product-floor d (pos m) (q +ℤ pos lift) (z -ℤ d *ℤ q) (mul-le (pos m) _ _ (nonneg m) (r .1))
-    (le-lt _ _ _ (mul-le (d *ℤ pos m -ℤ pos (2 ^ 32)) _ _ x (k .1)) (ok .1 .1)) (mul-le (d *ℤ pos m -ℤ pos (2 ^ 32)) _ _ x (k .0))
+    (exact d (d *ℤ pos m -ℤ pos (2 ^ 32)) (pos m) (q +ℤ pos lift) (n +ℤ d *ℤ pos lift +ℤ pos 3 *ℤ h) (p .1)
+    (mul-le (d *ℤ pos m -ℤ pos (2 ^ 32)) _ _ x (top n h (sign n) q (sign-bounds n) f)) (ok .1 .1)) (mul-le (d *ℤ pos m -ℤ pos (2 ^ 32)) _ _ x (k .0))
     (mul-le (pos m) _ _ (nonneg m) (r .0)) in
     let g = floor-unique _ (pos (2 ^ 32)) (q +ℤ pos lift) (ltZ-yes tt) i in
     let s = ap (λ (y : ℤ). floor (y *ℤ pos m) (pos (2 ^ 32))) (back z d q (pos lift) ∙ sym e) in

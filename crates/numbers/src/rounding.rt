@@ -74,11 +74,11 @@ fn small_sign(n: i32) -> i32
 }
 
 // n and half its divisor, one less below zero.
-fn small_raised(n: i32, half: i32) -> i32
-    requires { ⌜ (natAbs n ≤ 2 ^ 30) × (natAbs half ≤ 2 ^ 5) ⌝ }
-    ensures { λ r. ⌜ r ≡ n +ℤ half +ℤ sign n ⌝ }
+fn small_raised(n: i32, h: i32) -> i32
+    requires { ⌜ (natAbs n ≤ 2 ^ 30) × (natAbs h ≤ 2 ^ 5) ⌝ }
+    ensures { λ r. ⌜ r ≡ n +ℤ h +ℤ sign n ⌝ }
 {
-    n + half + small_sign(n)
+    n + h + small_sign(n)
 }
 
 // r(n / 2^k) in 32 bits.
@@ -109,7 +109,7 @@ fn upper(t: u32, m: u32) -> u32
 
 // r(n / 2h) by a product without sign: m is a little more than 2^32 / 2h.
 pub fn small_product(n: i32, h: i32, m: u32) -> i32
-    requires { ⌜ Lifted n h × Fraction h m ⌝ }
+    requires { ⌜ Lifted n h × Fraction n h m ⌝ }
     ensures { λ r. ⌜ r ≡ round n (pos 2 *ℤ h) ⌝ }
 {
     upper(lift_dividend(n, h), m) as i32 - LIFT

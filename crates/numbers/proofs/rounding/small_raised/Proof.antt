@@ -22,11 +22,11 @@ sum : (n h s t : ℤ) → s ≡ t → n +ℤ h +ℤ s ≡ n +ℤ h +ℤ t
 sum = over 4 _ λ ρ. simp (poly, ρ) (omega arith)
 
 module _ (c : tie.After-small-sign) where
-  both : SFits w32 (c .before .args .n +ℤ c .before .args .half) × SFits w32 (c .before .args .n +ℤ c .before .args .half +ℤ c .small-sign .result)
-  both = fits (c .before .args .n) (c .before .args .half) (c .small-sign .result) (c .before .pre) (c .small-sign .ensures .1, c .small-sign .ensures .2)
+  both : SFits w32 (c .before .args .n +ℤ c .before .args .h) × SFits w32 (c .before .args .n +ℤ c .before .args .h +ℤ c .small-sign .result)
+  both = fits (c .before .args .n) (c .before .args .h) (c .small-sign .result) (c .before .pre) (c .small-sign .ensures .1, c .small-sign .ensures .2)
 
 add-result : tie.Need-add-result
-add-result c = rw (toZ-ofZ (c .fits .n), toZ-ofZ (c .fits .half)) (fits (c .args .n) (c .args .half) (sign (c .args .n)) (c .pre) (sign-bounds (c .args .n)) .0)
+add-result c = rw (toZ-ofZ (c .fits .n), toZ-ofZ (c .fits .h)) (fits (c .args .n) (c .args .h) (sign (c .args .n)) (c .pre) (sign-bounds (c .args .n)) .0)
 
 sign-requires : tie.Need-small-sign-requires
 sign-requires c κs = search needs
@@ -34,13 +34,13 @@ sign-requires c κs = search needs
 add-result-2 : tie.Need-add-result-2
 add-result-2 c =
     let f : SFits w32 (c .small-sign .result) = search needs in
-    rw (toZ-ofZ (c .before .fits .n), toZ-ofZ (c .before .fits .half), toZ-ofZ f, toZ-ofZ (both c .0)) (both c .1)
+    rw (toZ-ofZ (c .before .fits .n), toZ-ofZ (c .before .fits .h), toZ-ofZ f, toZ-ofZ (both c .0)) (both c .1)
 
 returns : tie.Need-returns
 returns c =
     let f : SFits w32 (c .small-sign .result) = search needs in
-    rw (toZ-ofZ (c .before .fits .n), toZ-ofZ (c .before .fits .half), toZ-ofZ f, toZ-ofZ (both c .0), toZ-ofZ (both c .1))
-    (sum (c .before .args .n) (c .before .args .half) (c .small-sign .result) (sign (c .before .args .n)) (simp (toZ-ofZ, c .before .fits .n, c .before .fits .half) at (c .small-sign .ensures .0)))
+    rw (toZ-ofZ (c .before .fits .n), toZ-ofZ (c .before .fits .h), toZ-ofZ f, toZ-ofZ (both c .0), toZ-ofZ (both c .1))
+    (sum (c .before .args .n) (c .before .args .h) (c .small-sign .result) (sign (c .before .args .n)) (simp (toZ-ofZ, c .before .fits .n, c .before .fits .h) at (c .small-sign .ensures .0)))
 
 pub small-raised-spec : {M : Type 1} → statement M
 small-raised-spec = tie.close (tie.spec add-result sign-requires add-result-2 returns)
