@@ -22,7 +22,11 @@ pub fn toward(a: i64, b: i64, c: i64, d: i64) -> i64
     requires { ⌜ RefinedSize a × RefinedSize b × RefinedSize c × RefinedSize d ⌝ }
     ensures { λ r. ⌜ (r ≡ round (pos 5 *ℤ a +ℤ pos 5 *ℤ b +ℤ c +ℤ d) (pos 12)) × RefinedSize r ⌝ }
 {
-    rounding::small_product(5 * (a as i32 + b as i32) + c as i32 + d as i32, 6, 357913942) as i64
+    rounding::small_product(
+        5 * (a as i32 + b as i32) + c as i32 + d as i32,
+        6,
+        357913942,
+    ) as i64
 }
 
 // The centre of a three-sided refined face.
@@ -62,7 +66,11 @@ pub fn inner(x: i64, y: i64, v: i64, w: i64) -> i64
     requires { ⌜ FaceSize x × FaceSize y × RefinedSize v × RefinedSize w ⌝ }
     ensures { λ r. ⌜ (r ≡ round (pos 3 *ℤ x +ℤ pos 3 *ℤ y +ℤ v -ℤ w) (pos 6)) × ValueSize r ⌝ }
 {
-    rounding::small_product(3 * (x as i32 + y as i32) + v as i32 - w as i32, 3, 715827883) as i64
+    rounding::small_product(
+        3 * (x as i32 + y as i32) + v as i32 - w as i32,
+        3,
+        715827883,
+    ) as i64
 }
 
 // The second point of an a row; s is X of the other side at the head.

@@ -213,7 +213,8 @@ module _ (count : ℕ) (table : List ℕ) (points : List ℤ) (c : ℕ) (t : Dra
               table toNext c j) e cyc) 0 (sym (row-is 0 (lit< tt))) (sym (row-is 1 (lit< tt))) (sym (row-is 9 (lit< tt))) (sym (row-is 10 (lit< tt)))))
           go (inr f) =
               rw (r .other f)
-              (face-of _ n 0 (n - 1) (rowsFace a2 a 14) _ (of-face 14 a la4 (lit≤ tt)) (of-face 15 a la4 (lit≤ tt)) (of-face 16 a la4 (lit≤ tt)) (v2 .face f a la))
+              (face-of _ n 0 (n - 1) (rowsFace a2 a 14) _ (of-face 14 a la4 (lit≤ tt)) (of-face 15 a la4 (lit≤ tt)) (of-face 16 a la4 (lit≤ tt)) (v2
+              .face f a la))
 
       pub lane-four : (v w : ℤ) (r : NetSides) → v ≡ cosine m 1 → w ≡ cosine n 1 → LaneMade a3 a m n v w r → FourSides (drawn count table points a) c r
       unfolding H T C

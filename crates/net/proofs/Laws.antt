@@ -81,7 +81,8 @@ rows-append [] h = refl
 rows-append (r ∷ g) h = ap (λ (l : List ℤ). r ++ l) (rows-append g h) ∙ sym (append-assoc r (rows g) (rows h))
 
 rows-more : (g : List (List ℤ)) (i : ℕ) → i < length g → rows (take (i + 1) g) ≡ rows (take i g) ++ getD g i []
-rows-more g i l = rw (add-one, take-suc g i [] l) (rows-append (take i g) (getD g i [] ∷ []) ∙ ap (λ (l : List ℤ). rows (take i g) ++ l) (empty (getD g i [])))
+rows-more g i l = rw (add-one, take-suc g i [] l) (rows-append (take i g) (getD g i [] ∷ []) ∙ ap (λ (l : List ℤ). rows (take i g) ++ l) (empty (getD g
+    i [])))
   where
     empty : (l : List ℤ) → l ++ [] ≡ l
     empty [] = refl

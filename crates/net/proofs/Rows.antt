@@ -76,7 +76,8 @@ module _ (near : List ℤ) (i : ℕ) (x y z : ℤ) (room : 4 * i + 4 ≤ length 
       ∙ there two (4 * i + 2) z (pointRow * i + 2) (omega arith) (rw (length-set (set near (4 * i) x) (4 * i + 1) y, length-set near (4 * i) x) (omega arith))
   place (suc (suc (suc zero))) h =
       there three (4 * i + 3) (pos 0) (pointRow * i + 3) (omega arith)
-      (rw (length-set (set (set near (4 * i) x) (4 * i + 1) y) (4 * i + 2) z, length-set (set near (4 * i) x) (4 * i + 1) y, length-set near (4 * i) x) (omega arith))
+      (rw (length-set (set (set near (4 * i) x) (4 * i + 1) y) (4 * i + 2) z, length-set (set near (4 * i) x) (4 * i + 1) y, length-set near (4 * i) x)
+      (omega arith))
   place (suc (suc (suc (suc k)))) h = absurd (omega arith)
 
   pub row-taken : RowTaken x y z i near (filled near i x y z)

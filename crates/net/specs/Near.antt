@@ -7,7 +7,7 @@ use lib.ListN.{length, getD}
 use lib.IntN.{ℤ, pos}
 use Rattle.paper.specs.Refined.{Corners}
 use Rattle.surface.specs.Points.{pointRow, pointAt}
-use Rattle.surface.specs.Sizes.{RefinedSize}
+use Rattle.surface.specs.Sizes.{RefinedSize, FaceSize}
 use Rattle.refined_faces.specs.declared.Face.{Face}
 use Rattle.refined_faces.specs.Ring.{IsFace}
 use Rattle.net_sides.specs.declared.Edge.{Edge}
@@ -56,6 +56,11 @@ pub record RingTaken (p : ℕ → ℕ → ℤ) (m i : ℕ) (old new : List ℤ) 
   pub sized : (m ≡ 4 → ⊥) → (k : ℕ) → k < 4 → FaceSized (rowsFace new k i)
   pub below : (j k : ℕ) → k < 4 → j < i → pointAt new k j ≡ pointAt old k j
   pub above : (j k : ℕ) → k < 4 → i + 2 < j → pointAt new k j ≡ pointAt old k j
+
+-- the table has small points for the corners of the rows
+abbrev pub Readable : List ℤ → List ℕ → Type 0
+Readable points corners =
+    (i a : ℕ) → i < 11 → a < 3 → (pointRow * getD corners i 0 + a < length points) × FaceSize (pointAt points a (getD corners i 0))
 
 -- the first n rows have the points of the first n corners
 pub record PointsTaken (points : List ℤ) (corners : List ℕ) (n : ℕ) (old new : List ℤ) : Type 0 where

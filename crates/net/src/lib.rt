@@ -9,7 +9,6 @@ ghost use Prim.Native.Nat.{ℕ, _+_, _*_, _≤_, _<_};
 ghost use lib.ListN.{length, getD};
 ghost use lib.IntN.{pos};
 ghost use Rattle.surface.specs.Sizes.{FaceSize, CosineSize, WrittenSize};
-ghost use Rattle.surface.specs.Points.{pointRow, pointAt};
 ghost use Rattle.surface.specs.Sound.{Sound};
 ghost use Rattle.paper.specs.Net.{rows};
 ghost use Rattle.paper.specs.Calls.{perCorner};
@@ -19,7 +18,7 @@ ghost use Rattle.refined_faces.specs.Ring.{around, Ring};
 ghost use Rattle.net_sides.specs.Drawn.{drawn, Drawn};
 ghost use Rattle.net_sides.specs.Values.{FaceSized};
 ghost use Rattle.net_rows.specs.Rows.{Square};
-ghost use Rattle.net.specs.Near.{near, lane, RowTaken, FaceTaken, RingTaken, PointsTaken, LaneReady, rowsFace, edgeFace, LaneMade};
+ghost use Rattle.net.specs.Near.{near, lane, RowTaken, FaceTaken, RingTaken, Readable, PointsTaken, LaneReady, rowsFace, edgeFace, LaneMade};
 ghost use Rattle.net.specs.Put.{Placed, FourSized, LaneLaid, Filled, PointPut, Copied, Put};
 
 // The rows that a net is made from: the refined points of the corner and of ten around it, then centre and face points of its vertex's and of
@@ -58,7 +57,14 @@ fn take_face(f: Face, g: Face, h: Face, near: &mut [i32], i: usize)
 }
 
 // The face of the vertex of c, of m corners, where these are not four.
-fn take_vertex(points: &[i32], table: &[u16], rows: &cosines::Rows, c: usize, m: usize, near: &mut [i32])
+fn take_vertex(
+    points: &[i32],
+    table: &[u16],
+    rows: &cosines::Rows,
+    c: usize,
+    m: usize,
+    near: &mut [i32],
+)
     requires ring { ⌜ ((a : ℕ) → a < 3 → Ring (now points) a (now table) toLink c m) ⌝ }
     requires room { ⌜ (now rows ≡ stored) × (56 ≤ length (now near)) ⌝ }
     ensures { λ _. ⌜ RingTaken (λ a. around (now (points .entry)) a (now (table .entry)) toLink c) m 11 (now (near .entry)) (now (near .exit)) ⌝ }
@@ -72,7 +78,14 @@ fn take_vertex(points: &[i32], table: &[u16], rows: &cosines::Rows, c: usize, m:
 }
 
 // The same of the face of c, of m sides.
-fn take_mesh_face(points: &[i32], table: &[u16], rows: &cosines::Rows, c: usize, m: usize, near: &mut [i32])
+fn take_mesh_face(
+    points: &[i32],
+    table: &[u16],
+    rows: &cosines::Rows,
+    c: usize,
+    m: usize,
+    near: &mut [i32],
+)
     requires ring { ⌜ ((a : ℕ) → a < 3 → Ring (now points) a (now table) toNext c m) ⌝ }
     requires room { ⌜ (now rows ≡ stored) × (68 ≤ length (now near)) ⌝ }
     ensures { λ _. ⌜ RingTaken (λ a. around (now (points .entry)) a (now (table .entry)) toNext c) m 14 (now (near .entry)) (now (near .exit)) ⌝ }
@@ -119,7 +132,7 @@ fn corners_near(table: &[u16], count: usize, c: usize) -> [usize; AROUND]
 
 // The refined points of these corners, row by row.
 fn take_points(points: &[i32], corners: [usize; AROUND], near: &mut [i32])
-    requires { ⌜ ((i a : ℕ) → i < 11 → a < 3 → (pointRow * getD corners i 0 + a < length (now points)) × FaceSize (pointAt (now points) a (getD corners i 0))) × (44 ≤ length (now near)) ⌝ }
+    requires { ⌜ Readable (now points) corners × (44 ≤ length (now near)) ⌝ }
     ensures { λ _. ⌜ PointsTaken (now (points .entry)) corners 11 (now (near .entry)) (now (near .exit)) ⌝ }
 {
     let mut i: usize = 0;
@@ -137,11 +150,7 @@ fn take_points(points: &[i32], corners: [usize; AROUND], near: &mut [i32])
 fn choose(m: usize, f: i64, g: i64) -> i64
     ensures { λ r. ⌜ (m ≡ 4 → r ≡ f) × ((m ≡ 4 → ⊥) → r ≡ g) ⌝ }
 {
-    if m == 4 {
-        f
-    } else {
-        g
-    }
+    if m == 4 { f } else { g }
 }
 
 // The face of a ring of m in lane k: that of four corners, or what the rows from i on hold.

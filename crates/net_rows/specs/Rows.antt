@@ -66,6 +66,12 @@ pub record Ends (K : RefinedMesh rounded) (c : ℕ) (e0 e1 e2 e3 : ℤ) : Type 0
   pub end2 : e2 ≡ H K c side2
   pub end3 : e3 ≡ T K c side3
 
+pub record EndsSized (e0 e1 e2 e3 : ℤ) : Type 0 where
+  pub end0 : WrittenSize e0
+  pub end1 : WrittenSize e1
+  pub end2 : WrittenSize e2
+  pub end3 : WrittenSize e3
+
 -- the five rows of five b points of whichever net has these ends and rows, and this grid of a points
 pub record IsBGrid (e0 e1 e2 e3 : ℤ) (r0 r1 r2 r3 : RowValues) (a g : List (List ℤ)) : Type 0 where
   pub grid : (K : RefinedMesh rounded) (c : ℕ) → Ends K c e0 e1 e2 e3 → AllRows K c r0 r1 r2 r3 → a ≡ aGrid K c → g ≡ bGrid K c

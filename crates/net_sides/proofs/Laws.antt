@@ -157,8 +157,15 @@ module _ (h t p q v w k : ℤ) (z : SideSized h t p q v w k) where
 
   pub made-plain : (r : SideValues) → Made (plain h) (plain t) (plain p) (plain q) (plain v) (plain w) (plain k) r → Made h t p q v w k r
   made-plain r m =
-      rw (← corner-plain h h refl (z .head) .0, ← corner-plain t t refl (z .tail) .0, ← point-plain p p refl (z .x) .0, ← point-plain q q refl (z .y) .0,
-        ← corner-plain v v refl (z .here) .0, ← corner-plain w w refl (z .there) .0, ← row-plain k k refl (z .cosine) .0) m
+      rw (
+        ← corner-plain h h refl (z .head) .0,
+        ← corner-plain t t refl (z .tail) .0,
+        ← point-plain p p refl (z .x) .0,
+        ← point-plain q q refl (z .y) .0,
+        ← corner-plain v v refl (z .here) .0,
+        ← corner-plain w w refl (z .there) .0,
+        ← row-plain k k refl (z .cosine) .0,
+      ) m
 
 module _ (K : RefinedMesh rounded) (ok : Sound (K .corners)) (small : Small K) (c : ℕ) (here : c < K .corners .count) (s : Side) (h t p q v w k : ℤ)
     (e : Parts K c s h t p q v w k) where

@@ -101,8 +101,9 @@ eighth-is c d b u v eu ev =
     shift-floor (m +ℤ pos 4 +ℤ tie (p % 2 ^ 30) m) (2 ^ 3)
     ∙ eighth-floor m (p % 2 ^ 30) (mod-lt p (lit< tt))
     ∙ ap (λ (n : ℤ). round n (pos (8 * 2 ^ 30))) (
-      ap (λ (z : ℤ). pos (2 ^ 30) *ℤ (pos (p / 2 ^ 30) -ℤ z -ℤ d +ℤ b) +ℤ pos (p % 2 ^ 30)) eu
-      ∙ lifted (pos (2 ^ 30)) c d b (pos (p / 2 ^ 30)) (pos (p % 2 ^ 30)) (parts p ∙ ap (λ (z : ℤ). z *ℤ pos v) eu ∙ ap (λ (z : ℤ). (c +ℤ pos (2 ^ 30)) *ℤ z) ev)
+    ap (λ (z : ℤ). pos (2 ^ 30) *ℤ (pos (p / 2 ^ 30) -ℤ z -ℤ d +ℤ b) +ℤ pos (p % 2 ^ 30)) eu
+    ∙ lifted (pos (2 ^ 30)) c d b (pos (p / 2 ^ 30)) (pos (p % 2 ^ 30)) (parts p ∙ ap (λ (z : ℤ). z *ℤ pos v) eu ∙ ap (λ (z : ℤ). (c +ℤ pos (2 ^ 30))
+    *ℤ z) ev)
     )
 
 -- ---- a fraction by a product

@@ -72,8 +72,8 @@ written-step K first k old new w x a j p h hj hp =
     ⊎-elim
     (λ (q : j ≡ k). rw q (x .points-are a p h hp))
     (λ o.
-        let l : j < k = ⊎-elim (λ (l : j < k). l) (λ (l : k < j). absurd (omega arith)) o in
-        x .before (perCorner * j + 3 * p + a) (omega arith) ∙ w a j p h l hp)
+    let l : j < k = ⊎-elim (λ (l : j < k). l) (λ (l : k < j). absurd (omega arith)) o in
+    x .before (perCorner * j + 3 * p + a) (omega arith) ∙ w a j p h l hp)
     (compared j k)
 
 -- ---- new tables of zeros, for the vertices and for the faces
@@ -92,7 +92,12 @@ module _ (M : Mesh) (accepted : Accepted M) where
       )
 
   pub faces-in : faceCount M ≤ length {A = ℕ} (replicate mostFaces 0)
-  faces-in = omega (arith, length-replicate {A = ℕ} mostFaces 0, few-faces (length (M .coordinates)) (faceCount M) (cornerCount M) (sound-of M accepted .four))
+  faces-in = omega (
+    arith,
+    length-replicate {A = ℕ} mostFaces 0,
+    few-faces (length (M .coordinates)) (faceCount M) (cornerCount M) (sound-of M accepted
+        .four),
+  )
 
 -- ---- the tables draw the mesh, as far as the nets of the range look
 module _ (M : Mesh) (accepted : Accepted M) (table wanted : List ℕ) (old points : List ℤ) (first count : ℕ) (t : Tabled (cornersOf M) table)

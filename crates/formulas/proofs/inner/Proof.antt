@@ -66,7 +66,22 @@ sub-small-product : tie.Need-sub-small-product
 sub-small-product c = let k = facts c in simp (toZ-ofZ, c .fits .x, c .fits .y, c .fits .v, c .fits .w, k .0, k .1, k .2, k .3, k .4, k .5, k .6) (k .7)
 
 small-product-requires : tie.Need-small-product-requires
-small-product-requires c κs = let k = facts c in simp (toZ-ofZ, c .fits .x, c .fits .y, c .fits .v, c .fits .w, k .0, k .1, k .2, k .3, k .4, k .5, k .6, k .7) ((leZ-yes tt, leZ-yes tt, k .8, k .9), (leZ-yes tt, k .10))
+small-product-requires c κs = let k = facts c in simp (
+  toZ-ofZ,
+  c .fits .x,
+  c .fits .y,
+  c .fits .v,
+  c .fits .w,
+  k .0,
+  k .1,
+  k .2,
+  k .3,
+  k .4,
+  k .5,
+  k
+      .6,
+  k .7,
+) ((leZ-yes tt, leZ-yes tt, k .8, k .9), (leZ-yes tt, k .10))
 
 cast-result : tie.Need-cast-result
 cast-result c = let f : SFits w32 (c .small-product .result) = search needs in rw (toZ-ofZ f) (wide _ f)
@@ -76,8 +91,10 @@ returns c =
     let s = c .before in
     let k = facts s in
     let q = c .small-product .result in
-    small-is (pos 3 *ℤ s .args .x +ℤ pos 3 *ℤ s .args .y +ℤ s .args .v -ℤ s .args .w) (pos 6) q ValueSize tt (inner-value (s .args .x) (s .args .y) (s .args .v) (s .args .w) q (s .pre)) (search needs)
-    ((simp (toZ-ofZ, s .fits .x, s .fits .y, s .fits .v, s .fits .w, k .0, k .1, k .2, k .3, k .4, k .5, k .6, k .7) at (c .small-product .ensures)) ∙ same (s .args .x) (s .args .y) (s .args .v) (s .args .w))
+    small-is (pos 3 *ℤ s .args .x +ℤ pos 3 *ℤ s .args .y +ℤ s .args .v -ℤ s .args .w) (pos 6) q ValueSize tt (inner-value (s .args .x) (s .args .y) (s
+    .args .v) (s .args .w) q (s .pre)) (search needs)
+    ((simp (toZ-ofZ, s .fits .x, s .fits .y, s .fits .v, s .fits .w, k .0, k .1, k .2, k .3, k .4, k .5, k .6, k .7) at (c .small-product .ensures)) ∙
+    same (s .args .x) (s .args .y) (s .args .v) (s .args .w))
 
 pub inner-spec : {M : Type 1} → statement M
 inner-spec =

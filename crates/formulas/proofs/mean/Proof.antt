@@ -53,7 +53,8 @@ add-small-shift-3 : tie.Need-add-small-shift-3
 add-small-shift-3 c = let k = facts c in simp (toZ-ofZ, c .fits .a, c .fits .b, c .fits .c, c .fits .d, k .0, k .1, k .2, k .3, k .4, k .5) (k .6)
 
 small-shift-requires : tie.Need-small-shift-requires
-small-shift-requires c κs = let k = facts c in simp (toZ-ofZ, c .fits .a, c .fits .b, c .fits .c, c .fits .d, k .0, k .1, k .2, k .3, k .4, k .5, k .6) (lit≤ tt, lit≤ tt, k .7)
+small-shift-requires c κs = let k = facts c in simp (toZ-ofZ, c .fits .a, c .fits .b, c .fits .c, c .fits .d, k .0, k .1, k .2, k .3, k .4, k .5, k .6)
+    (lit≤ tt, lit≤ tt, k .7)
 
 cast-result : tie.Need-cast-result
 cast-result c = let f : SFits w32 (c .small-shift .result) = search needs in rw (toZ-ofZ f) (wide _ f)
@@ -63,7 +64,8 @@ returns c =
     let s = c .before in
     let k = facts s in
     let q = c .small-shift .result in
-    small-is (s .args .a +ℤ s .args .b +ℤ s .args .c +ℤ s .args .d) (pos 4) q RefinedSize tt (mean-refined (s .args .a) (s .args .b) (s .args .c) (s .args .d) q (s .pre)) (search needs)
+    small-is (s .args .a +ℤ s .args .b +ℤ s .args .c +ℤ s .args .d) (pos 4) q RefinedSize tt (mean-refined (s .args .a) (s .args .b) (s .args .c) (s
+    .args .d) q (s .pre)) (search needs)
     (simp (toZ-ofZ, s .fits .a, s .fits .b, s .fits .c, s .fits .d, k .0, k .1, k .2, k .3, k .4, k .5, k .6) at (c .small-shift .ensures))
 
 pub mean-spec : {M : Type 1} → statement M

@@ -59,34 +59,215 @@ cast-turned-3 : tie.Need-cast-turned-3
 cast-turned-3 c = let k = facts c in simp (toZ-ofZ, c .fits .c, c .fits .h, c .fits .x, c .fits .y, c .fits .s, c .fits .n, k .0, k .1, k .2, k .3) (k .4)
 
 mul-turned-2 : tie.Need-mul-turned-2
-mul-turned-2 c = let k = facts c in simp (toZ-ofZ, c .fits .c, c .fits .h, c .fits .x, c .fits .y, c .fits .s, c .fits .n, k .0, k .1, k .2, k .3, k .4) (k .5)
+mul-turned-2 c = let k = facts c in simp (
+  toZ-ofZ,
+  c .fits .c,
+  c .fits .h,
+  c .fits .x,
+  c .fits .y,
+  c .fits .s,
+  c .fits .n,
+  k .0,
+  k .1,
+  k .2,
+  k .3,
+  k
+      .4,
+) (k .5)
 
 add-turned : tie.Need-add-turned
-add-turned c = let k = facts c in simp (toZ-ofZ, c .fits .c, c .fits .h, c .fits .x, c .fits .y, c .fits .s, c .fits .n, k .0, k .1, k .2, k .3, k .4, k .5) (k .6)
+add-turned c = let k = facts c in simp (
+  toZ-ofZ,
+  c .fits .c,
+  c .fits .h,
+  c .fits .x,
+  c .fits .y,
+  c .fits .s,
+  c .fits .n,
+  k .0,
+  k .1,
+  k .2,
+  k .3,
+  k .4,
+  k .5,
+) (k .6)
 
 cast-plain : tie.Need-cast-plain
-cast-plain c = let k = facts c in simp (toZ-ofZ, c .fits .c, c .fits .h, c .fits .x, c .fits .y, c .fits .s, c .fits .n, k .0, k .1, k .2, k .3, k .4, k .5, k .6) (k .7)
+cast-plain c = let k = facts c in simp (
+  toZ-ofZ,
+  c .fits .c,
+  c .fits .h,
+  c .fits .x,
+  c .fits .y,
+  c .fits .s,
+  c .fits .n,
+  k .0,
+  k .1,
+  k .2,
+  k .3,
+  k .4,
+  k .5,
+  k .6,
+) (k .7)
 
 mul-plain : tie.Need-mul-plain
-mul-plain c = let k = facts c in simp (toZ-ofZ, c .fits .c, c .fits .h, c .fits .x, c .fits .y, c .fits .s, c .fits .n, k .0, k .1, k .2, k .3, k .4, k .5, k .6, k .7) (k .8)
+mul-plain c = let k = facts c in simp (
+  toZ-ofZ,
+  c .fits .c,
+  c .fits .h,
+  c .fits .x,
+  c .fits .y,
+  c .fits .s,
+  c .fits .n,
+  k .0,
+  k .1,
+  k .2,
+  k .3,
+  k .4,
+  k
+      .5,
+  k .6,
+  k .7,
+) (k .8)
 
 cast-plain-2 : tie.Need-cast-plain-2
-cast-plain-2 c = let k = facts c in simp (toZ-ofZ, c .fits .c, c .fits .h, c .fits .x, c .fits .y, c .fits .s, c .fits .n, k .0, k .1, k .2, k .3, k .4, k .5, k .6, k .7, k .8) (k .9)
+cast-plain-2 c = let k = facts c in simp (
+  toZ-ofZ,
+  c .fits .c,
+  c .fits .h,
+  c .fits .x,
+  c .fits .y,
+  c .fits .s,
+  c .fits .n,
+  k .0,
+  k .1,
+  k .2,
+  k .3,
+  k
+      .4,
+  k .5,
+  k .6,
+  k .7,
+  k .8,
+) (k .9)
 
 add-plain : tie.Need-add-plain
-add-plain c = let k = facts c in simp (toZ-ofZ, c .fits .c, c .fits .h, c .fits .x, c .fits .y, c .fits .s, c .fits .n, k .0, k .1, k .2, k .3, k .4, k .5, k .6, k .7, k .8, k .9) (k .10)
+add-plain c = let k = facts c in simp (
+  toZ-ofZ,
+  c .fits .c,
+  c .fits .h,
+  c .fits .x,
+  c .fits .y,
+  c .fits .s,
+  c .fits .n,
+  k .0,
+  k .1,
+  k .2,
+  k .3,
+  k .4,
+  k
+      .5,
+  k .6,
+  k .7,
+  k .8,
+  k .9,
+) (k .10)
 
 cast-plain-3 : tie.Need-cast-plain-3
-cast-plain-3 c = let k = facts c in simp (toZ-ofZ, c .fits .c, c .fits .h, c .fits .x, c .fits .y, c .fits .s, c .fits .n, k .0, k .1, k .2, k .3, k .4, k .5, k .6, k .7, k .8, k .9, k .10) (k .11)
+cast-plain-3 c = let k = facts c in simp (
+  toZ-ofZ,
+  c .fits .c,
+  c .fits .h,
+  c .fits .x,
+  c .fits .y,
+  c .fits .s,
+  c .fits .n,
+  k .0,
+  k .1,
+  k .2,
+  k .3,
+  k
+      .4,
+  k .5,
+  k .6,
+  k .7,
+  k .8,
+  k .9,
+  k .10,
+) (k .11)
 
 mul-plain-2 : tie.Need-mul-plain-2
-mul-plain-2 c = let k = facts c in simp (toZ-ofZ, c .fits .c, c .fits .h, c .fits .x, c .fits .y, c .fits .s, c .fits .n, k .0, k .1, k .2, k .3, k .4, k .5, k .6, k .7, k .8, k .9, k .10, k .11) (k .12)
+mul-plain-2 c = let k = facts c in simp (
+  toZ-ofZ,
+  c .fits .c,
+  c .fits .h,
+  c .fits .x,
+  c .fits .y,
+  c .fits .s,
+  c .fits .n,
+  k .0,
+  k .1,
+  k .2,
+  k .3,
+  k .4,
+  k .5,
+  k .6,
+  k .7,
+  k .8,
+  k .9,
+  k .10,
+  k .11,
+) (k .12)
 
 add-plain-2 : tie.Need-add-plain-2
-add-plain-2 c = let k = facts c in simp (toZ-ofZ, c .fits .c, c .fits .h, c .fits .x, c .fits .y, c .fits .s, c .fits .n, k .0, k .1, k .2, k .3, k .4, k .5, k .6, k .7, k .8, k .9, k .10, k .11, k .12) (k .13)
+add-plain-2 c = let k = facts c in simp (
+  toZ-ofZ,
+  c .fits .c,
+  c .fits .h,
+  c .fits .x,
+  c .fits .y,
+  c .fits .s,
+  c .fits .n,
+  k .0,
+  k .1,
+  k .2,
+  k .3,
+  k .4,
+  k .5,
+  k .6,
+  k .7,
+  k .8,
+  k .9,
+  k .10,
+  k .11,
+  k .12,
+) (k .13)
 
 small-eighth-requires : tie.Need-small-eighth-requires
-small-eighth-requires c κs = let k = facts c in simp (toZ-ofZ, c .fits .c, c .fits .h, c .fits .x, c .fits .y, c .fits .s, c .fits .n, k .0, k .1, k .2, k .3, k .4, k .5, k .6, k .7, k .8, k .9, k .10, k .11, k .12, k .13) (c .pre .0, k .14, k .15)
+small-eighth-requires c κs = let k = facts c in simp (
+  toZ-ofZ,
+  c .fits .c,
+  c .fits .h,
+  c .fits .x,
+  c .fits .y,
+  c .fits .s,
+  c .fits .n,
+  k .0,
+  k .1,
+  k
+      .2,
+  k .3,
+  k .4,
+  k .5,
+  k .6,
+  k .7,
+  k .8,
+  k .9,
+  k .10,
+  k .11,
+  k .12,
+  k .13,
+) (c .pre .0, k .14, k .15)
 
 cast-result : tie.Need-cast-result
 cast-result c = let f : SFits w32 (c .small-eighth .result) = search needs in rw (toZ-ofZ f) (wide _ f)
@@ -96,8 +277,33 @@ returns c =
     let s = c .before in
     let k = facts s in
     let q = c .small-eighth .result in
-    small-is (s .args .c *ℤ s .args .h +ℤ pos 3 *ℤ (pos unit -ℤ s .args .c) *ℤ s .args .x +ℤ pos 2 *ℤ s .args .c *ℤ s .args .y +ℤ pos unit *ℤ s .args .s +ℤ pos (4 * unit) *ℤ s .args .n) (pos (8 * unit)) q WrittenSize tt (second-written (s .args .c) (s .args .h) (s .args .x) (s .args .y) (s .args .s) (s .args .n) q (s .pre)) (search needs)
-    ((simp (toZ-ofZ, s .fits .c, s .fits .h, s .fits .x, s .fits .y, s .fits .s, s .fits .n, k .0, k .1, k .2, k .3, k .4, k .5, k .6, k .7, k .8, k .9, k .10, k .11, k .12, k .13) at (c .small-eighth .ensures)) ∙ same (s .args .c) (s .args .h) (s .args .x) (s .args .y) (s .args .s) (s .args .n))
+    small-is (s .args .c *ℤ s .args .h +ℤ pos 3 *ℤ (pos unit -ℤ s .args .c) *ℤ s .args .x +ℤ pos 2 *ℤ s .args .c *ℤ s .args .y +ℤ pos unit *ℤ s .args
+    .s +ℤ pos (4 * unit) *ℤ s .args .n) (pos (8 * unit)) q WrittenSize tt (second-written (s .args .c) (s .args .h) (s .args .x) (s .args .y) (s
+    .args .s) (s .args .n) q (s .pre)) (search needs)
+    ((simp (
+      toZ-ofZ,
+      s .fits .c,
+      s .fits .h,
+      s .fits .x,
+      s .fits .y,
+      s .fits .s,
+      s .fits .n,
+      k .0,
+      k .1,
+      k .2,
+      k .3,
+      k .4,
+      k .5,
+      k .6,
+      k .7,
+      k .8,
+      k
+          .9,
+      k .10,
+      k .11,
+      k .12,
+      k .13,
+    ) at (c .small-eighth .ensures)) ∙ same (s .args .c) (s .args .h) (s .args .x) (s .args .y) (s .args .s) (s .args .n))
 
 pub second-spec : {M : Type 1} → statement M
 second-spec =

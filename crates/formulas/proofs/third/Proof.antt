@@ -64,16 +64,80 @@ add-plain : tie.Need-add-plain
 add-plain c = let k = facts c in simp (toZ-ofZ, c .fits .c, c .fits .t, c .fits .y, c .fits .s, c .fits .n, k .0, k .1, k .2, k .3, k .4, k .5) (k .6)
 
 cast-plain-3 : tie.Need-cast-plain-3
-cast-plain-3 c = let k = facts c in simp (toZ-ofZ, c .fits .c, c .fits .t, c .fits .y, c .fits .s, c .fits .n, k .0, k .1, k .2, k .3, k .4, k .5, k .6) (k .7)
+cast-plain-3 c = let k = facts c in simp (
+  toZ-ofZ,
+  c .fits .c,
+  c .fits .t,
+  c .fits .y,
+  c .fits .s,
+  c .fits .n,
+  k .0,
+  k .1,
+  k .2,
+  k .3,
+  k .4,
+  k .5,
+  k
+      .6,
+) (k .7)
 
 mul-plain-2 : tie.Need-mul-plain-2
-mul-plain-2 c = let k = facts c in simp (toZ-ofZ, c .fits .c, c .fits .t, c .fits .y, c .fits .s, c .fits .n, k .0, k .1, k .2, k .3, k .4, k .5, k .6, k .7) (k .8)
+mul-plain-2 c = let k = facts c in simp (
+  toZ-ofZ,
+  c .fits .c,
+  c .fits .t,
+  c .fits .y,
+  c .fits .s,
+  c .fits .n,
+  k .0,
+  k .1,
+  k .2,
+  k .3,
+  k .4,
+  k .5,
+  k .6,
+  k .7,
+) (k .8)
 
 add-plain-2 : tie.Need-add-plain-2
-add-plain-2 c = let k = facts c in simp (toZ-ofZ, c .fits .c, c .fits .t, c .fits .y, c .fits .s, c .fits .n, k .0, k .1, k .2, k .3, k .4, k .5, k .6, k .7, k .8) (k .9)
+add-plain-2 c = let k = facts c in simp (
+  toZ-ofZ,
+  c .fits .c,
+  c .fits .t,
+  c .fits .y,
+  c .fits .s,
+  c .fits .n,
+  k .0,
+  k .1,
+  k .2,
+  k .3,
+  k .4,
+  k .5,
+  k .6,
+  k .7,
+  k .8,
+) (k .9)
 
 small-eighth-requires : tie.Need-small-eighth-requires
-small-eighth-requires c κs = let k = facts c in simp (toZ-ofZ, c .fits .c, c .fits .t, c .fits .y, c .fits .s, c .fits .n, k .0, k .1, k .2, k .3, k .4, k .5, k .6, k .7, k .8, k .9) (c .pre .0, k .10, k .11)
+small-eighth-requires c κs = let k = facts c in simp (
+  toZ-ofZ,
+  c .fits .c,
+  c .fits .t,
+  c .fits .y,
+  c .fits .s,
+  c .fits .n,
+  k .0,
+  k .1,
+  k .2,
+  k .3,
+  k
+      .4,
+  k .5,
+  k .6,
+  k .7,
+  k .8,
+  k .9,
+) (c .pre .0, k .10, k .11)
 
 cast-result : tie.Need-cast-result
 cast-result c = let f : SFits w32 (c .small-eighth .result) = search needs in rw (toZ-ofZ f) (wide _ f)
@@ -83,8 +147,10 @@ returns c =
     let s = c .before in
     let k = facts s in
     let q = c .small-eighth .result in
-    small-is ((pos (3 * unit) -ℤ s .args .c) *ℤ s .args .y +ℤ s .args .c *ℤ s .args .t +ℤ pos (4 * unit) *ℤ s .args .n +ℤ pos unit *ℤ s .args .s) (pos (8 * unit)) q WrittenSize tt (third-written (s .args .c) (s .args .t) (s .args .y) (s .args .s) (s .args .n) q (s .pre)) (search needs)
-    ((simp (toZ-ofZ, s .fits .c, s .fits .t, s .fits .y, s .fits .s, s .fits .n, k .0, k .1, k .2, k .3, k .4, k .5, k .6, k .7, k .8, k .9) at (c .small-eighth .ensures)) ∙ same (s .args .c) (s .args .t) (s .args .y) (s .args .s) (s .args .n))
+    small-is ((pos (3 * unit) -ℤ s .args .c) *ℤ s .args .y +ℤ s .args .c *ℤ s .args .t +ℤ pos (4 * unit) *ℤ s .args .n +ℤ pos unit *ℤ s .args .s) (pos
+    (8 * unit)) q WrittenSize tt (third-written (s .args .c) (s .args .t) (s .args .y) (s .args .s) (s .args .n) q (s .pre)) (search needs)
+    ((simp (toZ-ofZ, s .fits .c, s .fits .t, s .fits .y, s .fits .s, s .fits .n, k .0, k .1, k .2, k .3, k .4, k .5, k .6, k .7, k .8, k .9) at (c
+    .small-eighth .ensures)) ∙ same (s .args .c) (s .args .t) (s .args .y) (s .args .s) (s .args .n))
 
 pub third-spec : {M : Type 1} → statement M
 third-spec =

@@ -66,7 +66,22 @@ add-small-product-3 : tie.Need-add-small-product-3
 add-small-product-3 c = let k = facts c in simp (toZ-ofZ, c .fits .a, c .fits .b, c .fits .c, c .fits .d, k .0, k .1, k .2, k .3, k .4, k .5, k .6) (k .7)
 
 small-product-requires : tie.Need-small-product-requires
-small-product-requires c κs = let k = facts c in simp (toZ-ofZ, c .fits .a, c .fits .b, c .fits .c, c .fits .d, k .0, k .1, k .2, k .3, k .4, k .5, k .6, k .7) ((leZ-yes tt, leZ-yes tt, k .8, k .9), (leZ-yes tt, k .10))
+small-product-requires c κs = let k = facts c in simp (
+  toZ-ofZ,
+  c .fits .a,
+  c .fits .b,
+  c .fits .c,
+  c .fits .d,
+  k .0,
+  k .1,
+  k .2,
+  k .3,
+  k .4,
+  k .5,
+  k
+      .6,
+  k .7,
+) ((leZ-yes tt, leZ-yes tt, k .8, k .9), (leZ-yes tt, k .10))
 
 cast-result : tie.Need-cast-result
 cast-result c = let f : SFits w32 (c .small-product .result) = search needs in rw (toZ-ofZ f) (wide _ f)
@@ -76,8 +91,10 @@ returns c =
     let s = c .before in
     let k = facts s in
     let q = c .small-product .result in
-    small-is (pos 5 *ℤ s .args .a +ℤ pos 5 *ℤ s .args .b +ℤ s .args .c +ℤ s .args .d) (pos 12) q RefinedSize tt (toward-refined (s .args .a) (s .args .b) (s .args .c) (s .args .d) q (s .pre)) (search needs)
-    ((simp (toZ-ofZ, s .fits .a, s .fits .b, s .fits .c, s .fits .d, k .0, k .1, k .2, k .3, k .4, k .5, k .6, k .7) at (c .small-product .ensures)) ∙ same (s .args .a) (s .args .b) (s .args .c) (s .args .d))
+    small-is (pos 5 *ℤ s .args .a +ℤ pos 5 *ℤ s .args .b +ℤ s .args .c +ℤ s .args .d) (pos 12) q RefinedSize tt (toward-refined (s .args .a) (s .args
+    .b) (s .args .c) (s .args .d) q (s .pre)) (search needs)
+    ((simp (toZ-ofZ, s .fits .a, s .fits .b, s .fits .c, s .fits .d, k .0, k .1, k .2, k .3, k .4, k .5, k .6, k .7) at (c .small-product .ensures)) ∙
+    same (s .args .a) (s .args .b) (s .args .c) (s .args .d))
 
 pub toward-spec : {M : Type 1} → statement M
 toward-spec =

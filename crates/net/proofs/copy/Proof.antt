@@ -97,7 +97,8 @@ returns c =
     let fy : SFits w32 (getD (s .args .lanes .now) 161 (pos 0)) = search needs in
     let fz : SFits w32 (getD (s .args .lanes .now) 162 (pos 0)) = search needs in
     copied-more (s .args .lanes .now) (s .args .at) 0 40 3 (s .args .at + 120) (s .args .out .now) (l .out) _ _ _ _ refl (omega arith) (lit≤ tt)
-    (subst (λ (i : ℕ). Copied (s .args .lanes .now) (s .args .at) 0 (8 * i) (s .args .out .now) (l .out)) e (l .inv .1)) (toZ-ofZ fx) (toZ-ofZ fy) (toZ-ofZ fz)
+    (subst (λ (i : ℕ). Copied (s .args .lanes .now) (s .args .at) 0 (8 * i) (s .args .out .now) (l .out)) e (l .inv .1)) (toZ-ofZ fx) (toZ-ofZ fy)
+    (toZ-ofZ fz)
     (c .before .put-three .ensures)
 
 pub copy-spec : {M : Type 1} → statement M

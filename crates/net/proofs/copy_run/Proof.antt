@@ -35,7 +35,11 @@ below : (l : tie.In-loop Inv-loop μ-loop) → l .before .before .args .point + 
 below l = omega (arith, l .before .before .pre .0, l .loop-test .taken)
 
 loop-holds : tie.Need-loop-holds Inv-loop μ-loop
-loop-holds c = (search needs, subst (λ (n : ℕ). Copied (c .args .lanes .now) (c .args .at) (c .args .point) n (c .args .out .now) (c .args .out .now)) (zero-more (c .args .point)) (copied-none _ _ _ _))
+loop-holds c = (
+  search needs,
+  subst (λ (n : ℕ). Copied (c .args .lanes .now) (c .args .at) (c .args .point) n (c .args .out .now) (c .args .out .now))
+      (zero-more (c .args .point)) (copied-none _ _ _ _),
+)
 
 -- src/lib.rt:273:17
 add-p : tie.Need-add-p Inv-loop μ-loop
@@ -119,7 +123,8 @@ loop-again c =
     let fy : SFits w32 (getD (s .args .lanes .now) (4 * n + 1) (pos 0)) = search needs in
     let fz : SFits w32 (getD (s .args .lanes .now) (4 * n + 2) (pos 0)) = search needs in (
       omega (arith, l .loop-test .taken),
-      subst (λ (i : ℕ). Copied (s .args .lanes .now) (s .args .at) (s .args .point) i (s .args .out .now) (c .before .put-four .last .1 .1 .1 .1 .0)) (one-more (s .args .point) (l .before .loop .j))
+      subst (λ (i : ℕ). Copied (s .args .lanes .now) (s .args .at) (s .args .point) i (s .args .out .now) (c .before .put-four .last .1 .1 .1 .1 .0))
+          (one-more (s .args .point) (l .before .loop .j))
           (copied-more (s .args .lanes .now) (s .args .at) (s .args .point) n 4 (s .args .at + 3 * n) (s .args .out .now) (l .before .loop .out) _ _ _ _ refl
           (omega arith) (omega (arith, below l)) (l .before .loop .inv .1) (toZ-ofZ fx) (toZ-ofZ fy) (toZ-ofZ fz) (c .before .put-four .ensures)),
     )

@@ -49,7 +49,8 @@ loop-again : tie.Need-loop-again Inv-loop μ-loop
 loop-again c =
     let l = c .before .before .before .before in (
       omega (arith, l .loop-test .taken),
-      filled-more _ _ _ _ _ _ _ _ _ (l .loop-test .taken) (l .before .loop .inv .1) (c .before .before .before .lane-sides .ensures) (c .before .put-lane .ensures),
+      filled-more _ _ _ _ _ _ _ _ _ (l .loop-test .taken) (l .before .loop .inv .1) (c .before .before .before .lane-sides .ensures) (c .before
+          .put-lane .ensures),
     )
 
 -- src/lib.rt:235:1
@@ -62,7 +63,8 @@ returns c =
     let s = c .before .before in
     let l = c .before .loop in
     let e : l .k ≡ 4 = omega arith in
-    rw (toZ-ofZ (s .fits .v), toZ-ofZ (s .fits .w)) at (subst (λ (k : ℕ). Filled (s .args .near .now) (s .args .m) (s .args .n) (toZ w64 (ofZ w64 (s .args .v)))
+    rw (toZ-ofZ (s .fits .v), toZ-ofZ (s .fits .w)) at (subst (λ (k : ℕ). Filled (s .args .near .now) (s .args .m) (s .args .n) (toZ w64 (ofZ w64 (s
+    .args .v)))
     (toZ w64 (ofZ w64 (s .args .w))) k (l .lanes)) e (l .inv .1))
 
 pub fill-lanes-spec : {M : Type 1} → statement M

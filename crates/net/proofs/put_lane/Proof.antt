@@ -30,7 +30,7 @@ a-grid-requires : tie.Need-a-grid-requires
 a-grid-requires c κs = search needs
 
 b-grid-requires : tie.Need-b-grid-requires
-b-grid-requires c κs = 
+b-grid-requires c κs =
     let s = c .before .before .before .before .before .before .before .before .before .before .before .before .before in
     let a = c .before .before .before .before in
     let r = a .before in
@@ -43,31 +43,39 @@ b-grid-requires c κs =
       },
       w 1 2 (lit< tt) (lit< tt),
       w 2 1 (lit< tt) (lit< tt),
-      value-written (s .args .n .side0 .head) (s .pre .0 .side0 .head),
-      value-written (s .args .n .side0 .tail) (s .pre .0 .side0 .tail),
-      value-written (s .args .n .side2 .head) (s .pre .0 .side2 .head),
-      value-written (s .args .n .side3 .tail) (s .pre .0 .side3 .tail),
+      record {
+        end0 = value-written (s .args .n .side0 .head) (s .pre .0 .side0 .head);
+        end1 = value-written (s .args .n .side0 .tail) (s .pre .0 .side0 .tail);
+        end2 = value-written (s .args .n .side2 .head) (s .pre .0 .side2 .head);
+        end3 = value-written (s .args .n .side3 .tail) (s .pre .0 .side3 .tail);
+      },
     )
 
 put-b-requires : tie.Need-put-b-requires
-put-b-requires c κs = 
+put-b-requires c κs =
     let s = c .before .before .before .before .before .before .before .before .before .before .before .before .before .before .before in
     (omega (arith, s .pre .1, s .pre .2), c .before .b-grid .ensures .square)
 
 add-put-a : tie.Need-add-put-a
-add-put-a c = let s = c .before .before .before .before .before .before .before .before .before .before .before .before .before .before .before .before .before .before in record { fits = omega (arith, s .pre .1) }
+add-put-a c = let s = c .before .before .before .before .before .before .before .before .before .before .before .before .before .before .before .before
+    .before .before in record { fits = omega (arith, s .pre .1) }
 
 put-a-requires : tie.Need-put-a-requires
-put-a-requires c κs = 
-    let s = c .before .before .before .before .before .before .before .before .before .before .before .before .before .before .before .before .before .before in
-    (omega (arith, s .pre .1, s .pre .2, c .before .before .put-b .ensures .same), c .before .before .before .before .before .before .before .before .before .a-grid .ensures .square)
+put-a-requires c κs =
+    let s = c .before .before .before .before .before .before .before .before .before .before .before .before .before .before .before .before .before
+    .before in (
+      omega (arith, s .pre .1, s .pre .2, c .before .before .put-b .ensures .same),
+      c .before .before .before .before .before .before .before .before
+          .before .a-grid .ensures .square,
+    )
 
 same-length : tie.Need-same-length
 same-length c = search needs
 
 returns : tie.Need-returns
-returns c = 
-    let s = c .before .before .before .before .before .before .before .before .before .before .before .before .before .before .before .before .before .before .before .before in
+returns c =
+    let s = c .before .before .before .before .before .before .before .before .before .before .before .before .before .before .before .before .before
+    .before .before .before in
     let b = c .before .before .before .before in
     let g = b .before .before in
     let a = c .before .before .before .before .before .before .before .before .before .before .before in

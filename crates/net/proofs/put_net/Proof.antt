@@ -25,16 +25,20 @@ module _ (a : tie.After-take-points) where
   abbrev start : tie.Start
   start = a .before .before .before .before .before .before .before .before .before .before .before .before
 
-  valence-is : a .before .before .before .before .before .before .before .before .before .before .valence .result ≡ tabled (start .args .count) (start .args .table .now) .valence (start .args .c)
+  valence-is : a .before .before .before .before .before .before .before .before .before .before .valence .result ≡ tabled (start .args .count) (start
+      .args .table .now) .valence (start .args .c)
   valence-is = a .before .before .before .before .before .before .before .before .before .before .valence .ensures .read
 
-  sides-is : a .before .before .before .before .before .before .before .before .before .sides .result ≡ tabled (start .args .count) (start .args .table .now) .sides (start .args .c)
+  sides-is : a .before .before .before .before .before .before .before .before .before .sides .result ≡ tabled (start .args .count) (start .args .table
+      .now) .sides (start .args .c)
   sides-is = a .before .before .before .before .before .before .before .before .before .sides .ensures .read
 
-  vertex-bounds : (leastSides ≤ a .before .before .before .before .before .before .before .before .before .before .valence .result) × (a .before .before .before .before .before .before .before .before .before .before .valence .result ≤ mostSides)
+  vertex-bounds : (leastSides ≤ a .before .before .before .before .before .before .before .before .before .before .valence .result) × (a .before
+      .before .before .before .before .before .before .before .before .before .valence .result ≤ mostSides)
   vertex-bounds = rw valence-is (start .pre .0 .0 .sound .valence-least _ (start .pre .0 .1), start .pre .0 .0 .sound .valence-most _ (start .pre .0 .1))
 
-  face-bounds : (leastSides ≤ a .before .before .before .before .before .before .before .before .before .sides .result) × (a .before .before .before .before .before .before .before .before .before .sides .result ≤ mostSides)
+  face-bounds : (leastSides ≤ a .before .before .before .before .before .before .before .before .before .sides .result) × (a .before .before .before
+      .before .before .before .before .before .before .sides .result ≤ mostSides)
   face-bounds = rw sides-is (start .pre .0 .0 .sound .sides-least _ (start .pre .0 .1), start .pre .0 .0 .sound .sides-most _ (start .pre .0 .1))
 
   taken : PointsTaken (start .args .points .now) (near (tabled (start .args .count) (start .args .table .now)) (start .args .c)) 11
@@ -68,7 +72,13 @@ take-points-requires : tie.Need-take-points-requires
 take-points-requires c κs =
     let s = c .before .before .before .before .before .before .before .before .before .before .before in (
       rw (c .before .corners-near .ensures) (near-fine (s .args .count) (s .args .table .now) (s .args .points .now) (s .args .c) (s .pre .0)),
-      omega (arith, s .pre .1 .0 .0, c .before .before .before .take-mesh-face .ensures .same, c .before .before .before .before .before .before .take-vertex .ensures .same),
+      omega (
+        arith,
+        s .pre .1 .0 .0,
+        c .before .before .before .take-mesh-face .ensures .same,
+        c .before .before .before .before .before .before
+            .take-vertex .ensures .same,
+      ),
     )
 
 cosine-requires : tie.Need-cosine-requires
@@ -84,7 +94,8 @@ fill-lanes-requires c κs =
     let v = cosine-plain _ 1 (vertex-bounds a .0) (vertex-bounds a .1) _ (c .before .before .before .cosine .ensures) in
     let w = cosine-plain _ 1 (face-bounds a .0) (face-bounds a .1) _ (c .before .before .cosine2 .ensures) in (
       ready (s .args .count) (s .args .table .now) (s .args .points .now) (s .args .c) (s .pre .0) _ _ (valence-is a) (sides-is a) (s .args .near .now) _ _ _
-          (s .pre .1 .0 .0) (a .before .before .before .before .before .before .before .take-vertex .ensures) (a .before .before .before .before .take-mesh-face .ensures) (taken a),
+          (s .pre .1 .0 .0) (a .before .before .before .before .before .before .before .take-vertex .ensures) (a .before .before .before .before
+          .take-mesh-face .ensures) (taken a),
       rw v (cosine-fine (s .args .count) (s .args .table .now) (s .args .points .now) (s .args .c) (s .pre .0) _ (valence-is a)),
       rw w (cosine-fine-2 (s .args .count) (s .args .table .now) (s .args .points .now) (s .args .c) (s .pre .0) _ (sides-is a)),
       s .pre .1 .0 .1,
@@ -113,7 +124,8 @@ returns c =
     let v = cosine-plain _ 1 (vertex-bounds a .0) (vertex-bounds a .1) _ (f .before .before .before .before .cosine .ensures) in
     let w = cosine-plain _ 1 (face-bounds a .0) (face-bounds a .1) _ (f .before .before .before .cosine2 .ensures) in
     net-put (s .args .count) (s .args .table .now) (s .args .points .now) (s .args .c) (s .pre .0) _ _ (valence-is a) (sides-is a) (s .args .near .now) _ _ _
-    (s .pre .1 .0 .0) (a .before .before .before .before .before .before .before .take-vertex .ensures) (a .before .before .before .before .take-mesh-face .ensures) (taken a) _ _ _ (s .args .at) (s .args .out .now) _ v w
+    (s .pre .1 .0 .0) (a .before .before .before .before .before .before .before .take-vertex .ensures) (a .before .before .before .before
+    .take-mesh-face .ensures) (taken a) _ _ _ (s .args .at) (s .args .out .now) _ v w
     (f .fill-lanes .ensures) (c .before .copy .ensures)
 
 pub put-net-spec : {M : Type 1} → statement M

@@ -49,7 +49,8 @@ same-length c = search needs
 -- src/lib.rt:248:1
 returns : tie.Need-returns
 returns c =
-    rw (toZ-ofZ (c .fits .x), toZ-ofZ (c .fits .y), toZ-ofZ (c .fits .z)) (three-put (c .args .x) (c .args .y) (c .args .z) (c .args .to) (c .args .out .now) (c .pre))
+    rw (toZ-ofZ (c .fits .x), toZ-ofZ (c .fits .y), toZ-ofZ (c .fits .z)) (three-put (c .args .x) (c .args .y) (c .args .z) (c .args .to) (c .args .out
+    .now) (c .pre))
 
 pub put-three-spec : {M : Type 1} → statement M
 put-three-spec =

@@ -61,4 +61,5 @@ returns c =
     )
 
 pub ring-face-spec : {M : Type 1} → statement M
-ring-face-spec = tie.close (tie.spec point-requires add-point point-requires-2 add-point-2 point-requires-3 choose-requires choose-requires-2 choose-requires-3 returns)
+ring-face-spec = tie.close (tie.spec point-requires add-point point-requires-2 add-point-2 point-requires-3 choose-requires choose-requires-2
+    choose-requires-3 returns)

@@ -23,8 +23,13 @@ mesh-face-requires-3 c κs = let s = c .before .before .before .before in (s .pr
 take-face-requires : tie.Need-take-face-requires
 take-face-requires c κs =
     let v = c .before in
-    let s = v .before .before .before .before .before in
-    (sized-of _ _ _ _ _ (v .before .before .mesh-face .ensures), sized-of _ _ _ _ _ (v .before .mesh-face2 .ensures), sized-of _ _ _ _ _ (v .mesh-face3 .ensures), s .pre .1 .1)
+    let s = v .before .before .before .before .before in (
+      sized-of _ _ _ _ _ (v .before .before .mesh-face .ensures),
+      sized-of _ _ _ _ _ (v .before .mesh-face2 .ensures),
+      sized-of _ _ _ _ _ (v .mesh-face3
+          .ensures),
+      s .pre .1 .1,
+    )
 
 same-length : tie.Need-same-length
 same-length c = search needs
@@ -33,7 +38,8 @@ returns : tie.Need-returns
 returns c =
     let v = c .before .before .before in
     let s = v .before .before .before .before .before in
-    ring-taken (λ (a : ℕ). around (s .args .points .now) a (s .args .table .now) toNext (s .args .c)) (s .args .m) 14 _ _ _ (v .before .before .mesh-face .ensures)
+    ring-taken (λ (a : ℕ). around (s .args .points .now) a (s .args .table .now) toNext (s .args .c)) (s .args .m) 14 _ _ _ (v .before .before
+    .mesh-face .ensures)
     (v .before .mesh-face2 .ensures) (v .mesh-face3 .ensures) (s .args .near .now) _ (c .before .take-face .ensures)
 
 returns-2 : tie.Need-returns-2

@@ -97,7 +97,8 @@ returns : tie.Need-returns Inv-loop μ-loop
 returns c =
     let l = c .before .loop in
     let e : l .i ≡ 11 = omega arith in
-    subst (λ (n : ℕ). PointsTaken (c .before .before .args .points .now) (c .before .before .args .t2) n (c .before .before .args .near .now) (l .near)) e (l .inv .1)
+    subst (λ (n : ℕ). PointsTaken (c .before .before .args .points .now) (c .before .before .args .t2) n (c .before .before .args .near .now) (l
+    .near)) e (l .inv .1)
 
 pub take-points-spec : {M : Type 1} → statement M
 take-points-spec =

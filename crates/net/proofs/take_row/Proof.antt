@@ -57,7 +57,7 @@ same-length : tie.Need-same-length
 same-length c = search needs
 
 returns : tie.Need-returns
-returns c = 
+returns c =
     rw (face-number (c .args .x) (c .pre .0) .1, face-number (c .args .y) (c .pre .1) .1, face-number (c .args .z) (c .pre .2) .1)
     (row-taken (c .args .near .now) (c .args .i) (c .args .x) (c .args .y) (c .args .z) (c .pre .3))
 

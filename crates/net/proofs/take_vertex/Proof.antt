@@ -23,8 +23,13 @@ vertex-face-requires-3 c κs = let s = c .before .before .before .before in (s .
 take-face-requires : tie.Need-take-face-requires
 take-face-requires c κs =
     let v = c .before in
-    let s = v .before .before .before .before .before in
-    (sized-of _ _ _ _ _ (v .before .before .vertex-face .ensures), sized-of _ _ _ _ _ (v .before .vertex-face2 .ensures), sized-of _ _ _ _ _ (v .vertex-face3 .ensures), s .pre .1 .1)
+    let s = v .before .before .before .before .before in (
+      sized-of _ _ _ _ _ (v .before .before .vertex-face .ensures),
+      sized-of _ _ _ _ _ (v .before .vertex-face2 .ensures),
+      sized-of _ _ _ _ _ (v
+          .vertex-face3 .ensures),
+      s .pre .1 .1,
+    )
 
 same-length : tie.Need-same-length
 same-length c = search needs
@@ -33,7 +38,8 @@ returns : tie.Need-returns
 returns c =
     let v = c .before .before .before in
     let s = v .before .before .before .before .before in
-    ring-taken (λ (a : ℕ). around (s .args .points .now) a (s .args .table .now) toLink (s .args .c)) (s .args .m) 11 _ _ _ (v .before .before .vertex-face .ensures)
+    ring-taken (λ (a : ℕ). around (s .args .points .now) a (s .args .table .now) toLink (s .args .c)) (s .args .m) 11 _ _ _ (v .before .before
+    .vertex-face .ensures)
     (v .before .vertex-face2 .ensures) (v .vertex-face3 .ensures) (s .args .near .now) _ (c .before .take-face .ensures)
 
 returns-2 : tie.Need-returns-2

@@ -5,7 +5,8 @@ use Rattle.net_sides.proofs.sides_of.Statement.{statement}
 use Rattle.net_sides.proofs.sides_of.Tie as tie
 
 -- the sizes of each side
-sized0 : (s : tie.Start) → SideSized (s .args .vertex .centre) (s .args .leaving .centre) (s .args .vertex .ahead) (s .args .leaving .behind) (s .args .leaving .here) (s .args .leaving .before) (s .args .k)
+sized0 : (s : tie.Start) → SideSized (s .args .vertex .centre) (s .args .leaving .centre) (s .args .vertex .ahead) (s .args .leaving .behind) (s .args
+    .leaving .here) (s .args .leaving .before) (s .args .k)
 sized0 s = record {
   head = s .pre .0 .centre;
   tail = s .pre .2 .centre;
@@ -16,7 +17,8 @@ sized0 s = record {
   cosine = s .pre .4;
 }
 
-sized1 : (s : tie.Start) → SideSized (s .args .face .centre) (s .args .leaving .centre) (s .args .face .ahead) (s .args .leaving .ahead) (s .args .leaving .here) (s .args .leaving .after) (s .args .l)
+sized1 : (s : tie.Start) → SideSized (s .args .face .centre) (s .args .leaving .centre) (s .args .face .ahead) (s .args .leaving .ahead) (s .args
+    .leaving .here) (s .args .leaving .after) (s .args .l)
 sized1 s = record {
   head = s .pre .1 .centre;
   tail = s .pre .2 .centre;
@@ -27,7 +29,8 @@ sized1 s = record {
   cosine = s .pre .5;
 }
 
-sized2 : (s : tie.Start) → SideSized (s .args .face .centre) (s .args .arriving .centre) (s .args .face .behind) (s .args .arriving .behind) (s .args .arriving .here) (s .args .arriving .before) (s .args .l)
+sized2 : (s : tie.Start) → SideSized (s .args .face .centre) (s .args .arriving .centre) (s .args .face .behind) (s .args .arriving .behind) (s .args
+    .arriving .here) (s .args .arriving .before) (s .args .l)
 sized2 s = record {
   head = s .pre .1 .centre;
   tail = s .pre .3 .centre;
@@ -38,7 +41,8 @@ sized2 s = record {
   cosine = s .pre .5;
 }
 
-sized3 : (s : tie.Start) → SideSized (s .args .vertex .centre) (s .args .arriving .centre) (s .args .vertex .behind) (s .args .arriving .ahead) (s .args .arriving .here) (s .args .arriving .after) (s .args .k)
+sized3 : (s : tie.Start) → SideSized (s .args .vertex .centre) (s .args .arriving .centre) (s .args .vertex .behind) (s .args .arriving .ahead) (s
+    .args .arriving .here) (s .args .arriving .after) (s .args .k)
 sized3 s = record {
   head = s .pre .0 .centre;
   tail = s .pre .3 .centre;
@@ -73,9 +77,11 @@ returns c =
     .before .before .before .before .before .before .before .before .before .before .before .before .before .before .before .before .before
     .before .before .before .before .before .before .before .before .before .before .before in
     record {
-      side0 = made-plain _ _ _ _ _ _ _ (sized0 s) _ (c .before .before .before .before .before .before .before .before .before .before .before .before .before .before .before .before .before
-    .before .before .before .before .side .ensures);
-      side1 = made-plain _ _ _ _ _ _ _ (sized1 s) _ (c .before .before .before .before .before .before .before .before .before .before .before .before .before .before .side2 .ensures);
+      side0 = made-plain _ _ _ _ _ _ _ (sized0 s) _ (c .before .before .before .before .before .before .before .before .before .before .before .before
+          .before .before .before .before .before
+          .before .before .before .before .side .ensures);
+      side1 = made-plain _ _ _ _ _ _ _ (sized1 s) _ (c .before .before .before .before .before .before .before .before .before .before .before .before
+          .before .before .side2 .ensures);
       side2 = made-plain _ _ _ _ _ _ _ (sized2 s) _ (c .before .before .before .before .before .before .before .side3 .ensures);
       side3 = made-plain _ _ _ _ _ _ _ (sized3 s) _ (c .side4 .ensures);
     }

@@ -61,8 +61,17 @@ put-net-requires : tie.Need-put-net-requires Inv-loop μ-loop
 put-net-requires c κs =
     let s = c .before .before .before .before .before .before .before .before in
     let l = c .before .before .before .before .before .loop in
-    let h : l .k < s .args .count = search needs in
-    ((s .pre .0, omega (arith, s .pre .1 .1)), ((l .inv .3, l .inv .4), (omega (arith, l .inv .1), c .before .before .before .before .before .before .rows .ensures)))
+    let h : l .k < s .args .count = search needs in (
+      (s .pre .0, omega (arith, s .pre .1 .1)),
+      (
+        (l .inv .3, l .inv .4),
+        (
+          omega (arith, l .inv .1),
+          c .before .before .before .before .before .before
+              .rows .ensures,
+        ),
+      ),
+    )
 
 -- src/lib.rt:74:9
 add-k : tie.Need-add-k Inv-loop μ-loop

@@ -40,7 +40,12 @@ returns : tie.Need-returns
 returns c =
     let f : SFits w32 (c .small-sign .result) = search needs in
     rw (toZ-ofZ (c .before .fits .n), toZ-ofZ (c .before .fits .h), toZ-ofZ f, toZ-ofZ (both c .0), toZ-ofZ (both c .1))
-    (sum (c .before .args .n) (c .before .args .h) (c .small-sign .result) (sign (c .before .args .n)) (simp (toZ-ofZ, c .before .fits .n, c .before .fits .h) at (c .small-sign .ensures .0)))
+    (sum (c .before .args .n) (c .before .args .h) (c .small-sign .result) (sign (c .before .args .n)) (simp (
+      toZ-ofZ,
+      c .before .fits .n,
+      c .before
+          .fits .h,
+    ) at (c .small-sign .ensures .0)))
 
 pub small-raised-spec : {M : Type 1} → statement M
 small-raised-spec = tie.close (tie.spec add-result sign-requires add-result-2 returns)

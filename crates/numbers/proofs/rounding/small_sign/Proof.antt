@@ -8,7 +8,12 @@ use Rattle.numbers.proofs.rounding.small_sign.Tie as tie
 
 returns : tie.Need-returns
 returns c =
-    rw (toZ-ofZ (c .fits .n), shift-small (c .args .n) (c .fits .n), toZ-ofZ (sign-small (c .args .n))) (refl, sign-bounds (c .args .n) .0, sign-bounds (c .args .n) .1)
+    rw (toZ-ofZ (c .fits .n), shift-small (c .args .n) (c .fits .n), toZ-ofZ (sign-small (c .args .n))) (
+      refl,
+      sign-bounds (c .args .n) .0,
+      sign-bounds
+          (c .args .n) .1,
+    )
 
 pub small-sign-spec : {M : Type 1} → statement M
 small-sign-spec = tie.close (tie.spec returns)

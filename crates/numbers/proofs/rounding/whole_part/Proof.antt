@@ -17,7 +17,8 @@ module _ (c : tie.Start) where
   sizes : (c .args .p / 2 ^ 30 - c .args .u / 2 < 2 ^ 31) × (c .args .u - c .args .u / 2 < 2 ^ 31)
   sizes = whole-size (c .args .p) (c .args .u) (c .pre .0) (c .pre .2) (c .pre .3)
 
-  fine : (natAbs (pos (c .args .p / 2 ^ 30) -ℤ pos (c .args .u)) ≤ 2 ^ 30) × (natAbs (pos (c .args .p / 2 ^ 30) -ℤ pos (c .args .u) -ℤ c .args .d) ≤ 2 ^ 30 + 2 ^ 29)
+  fine : (natAbs (pos (c .args .p / 2 ^ 30) -ℤ pos (c .args .u)) ≤ 2 ^ 30) × (natAbs (pos (c .args .p / 2 ^ 30) -ℤ pos (c .args .u) -ℤ c .args .d) ≤ 2
+      ^ 30 + 2 ^ 29)
   fine = whole-fits (c .args .p) (c .args .u) (c .args .d) (c .pre .0) (c .pre .2) (c .pre .3) (c .pre .1)
 
   first : SFits w32 (pos (c .args .p / 2 ^ 30) -ℤ pos (c .args .u))
@@ -50,8 +51,14 @@ sub-result-3 c =
 
 returns : tie.Need-returns
 returns c =
-    rw (toZ-pos w32 (sizes c .0), toZ-pos w32 (sizes c .1), whole-is (c .args .p) (c .args .u) (c .pre .2), toZ-ofZ (first c), toZ-ofZ (c .fits .d),
-      toZ-ofZ (last c)) (refl, fine c .1)
+    rw (
+      toZ-pos w32 (sizes c .0),
+      toZ-pos w32 (sizes c .1),
+      whole-is (c .args .p) (c .args .u) (c .pre .2),
+      toZ-ofZ (first c),
+      toZ-ofZ (c .fits .d),
+      toZ-ofZ (last c),
+    ) (refl, fine c .1)
 
 pub whole-part-spec : {M : Type 1} → statement M
 whole-part-spec = tie.close (tie.spec cast-q sub-q cast-result sub-result cast-result-2 sub-result-2 sub-result-3 returns)
