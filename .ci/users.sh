@@ -54,6 +54,14 @@ samples() {
     done
 }
 
+# Building works on four numbers at once: its 20 products in a lane are 40 steps `pmuludq`, which nothing else in the library has. A change of text
+# that loses them makes building slower than it was before and is seen here, with no clock.
+vectors() {
+    found=$(objdump -d "$library/libmahunopi.a" | grep -c pmuludq)
+    echo "pmuludq: $found, expected 40 or more"
+    [ "$found" -ge 40 ]
+}
+
 # Every test that cargo runs counts as one; what does not compile counts as one that fails.
 rust_tests() {
     cargo test --manifest-path rust/Cargo.toml --workspace --release --offline --locked --no-fail-fast \
@@ -89,6 +97,7 @@ check 'example cube in C11 prints what it should' cube gcc -std=c11
 check 'example cube in C++17 prints what it should' cube g++ -std=c++17 -x c++
 check 'example inspect in C11 prints what it should' inspect gcc -std=c11
 check 'example inspect in C++17 prints what it should' inspect g++ -std=c++17 -x c++
+check 'building is compiled to vectors' vectors
 check 'sample meshes are what make-dms makes of their texts' samples
 rust_tests
 echo "users: $passed passed, $failed failed"

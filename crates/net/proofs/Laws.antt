@@ -1,4 +1,4 @@
--- Numbers placed in threes: one more, row after row, and the whole net.
+-- Numbers placed in fours: one more, row after row, and the whole net.
 -- Assumes nothing.
 use mathlib.Core.Path.{_≡_, refl, sym, ap, _∙_, subst}
 use mathlib.Core.Bool.{Bool, true, false, not}
@@ -19,7 +19,7 @@ use Rattle.surface.specs.Sizes.{WrittenSize}
 use Rattle.refined_faces.proofs.Laws.{plain}
 use Rattle.paper.specs.Numbers.{rounded}
 use Rattle.paper.specs.Refined.{RefinedMesh}
-use Rattle.paper.specs.Net.{side0, side1, side2, side3, net, rows, bGrid, aGrid}
+use Rattle.paper.specs.Net.{side0, side1, side2, side3, net, netPoints, rows, bGrid, aGrid}
 use Rattle.surface.specs.Sound.{Sound, Small}
 use Rattle.surface.proofs.Sizes.{net-size}
 use Rattle.net_sides.specs.declared.NetSides.{NetSides}
@@ -27,7 +27,9 @@ use Rattle.net_sides.specs.Values.{FourSides}
 use Rattle.net_rows.specs.declared.RowValues.{RowValues}
 use Rattle.net_rows.specs.Rows.{RowsOf, AllRows, AllSized, IsAGrid, IsBGrid}
 use Rattle.net_rows.proofs.Laws.{value-is}
-use Rattle.net.specs.Put.{Square, Placed, Put}
+use Rattle.net_rows.specs.Rows.{Square}
+use Rattle.net.specs.Near.{LaneMade}
+use Rattle.net.specs.Put.{Placed, FourSized, LaneLaid, LaneFilled, Filled}
 
 pub placed-none : (old : List ℤ) (from : ℕ) → Placed old old from []
 placed-none old from = record { same = refl; points-are = λ p h. absurd (omega arith); others = λ i n. refl }
@@ -39,11 +41,11 @@ placed-one old from v h = record {
   others = λ i n. getD-set-other old from i v (pos 0) (λ e. n 0 (omega arith) (e ∙ sym (none from)));
 }
   where
-    none : (from : ℕ) → from + 3 * 0 ≡ from
+    none : (from : ℕ) → from + 4 * 0 ≡ from
     none from = omega arith
 
 -- two runs, the second where the first ends
-pub placed-append : (old mid new : List ℤ) (from at : ℕ) (xs ys : List ℤ) → at ≡ from + 3 * length xs → Placed old mid from xs → Placed mid new at ys
+pub placed-append : (old mid new : List ℤ) (from at : ℕ) (xs ys : List ℤ) → at ≡ from + 4 * length xs → Placed old mid from xs → Placed mid new at ys
     → Placed old new from (xs ++ ys)
 placed-append old mid new from at xs ys e p q = record {
   same = q .same ∙ p .same;
@@ -54,24 +56,24 @@ placed-append old mid new from at xs ys e p q = record {
 }
   where
     which : (k : ℕ) → k < length xs + length ys → (b : Bool) → (T b → k < length xs) → (T (not b) → length xs ≤ k)
-        → getD new (from + 3 * k) (pos 0) ≡ getD (xs ++ ys) k (pos 0)
+        → getD new (from + 4 * k) (pos 0) ≡ getD (xs ++ ys) k (pos 0)
     which k h true f g =
         let l : k < length xs = f tt in
-        q .others (from + 3 * k) (λ j m w. omega arith) ∙ p .points-are k l ∙ sym (List·getD-append xs ys (pos 0) k l)
+        q .others (from + 4 * k) (λ j m w. omega arith) ∙ p .points-are k l ∙ sym (List·getD-append xs ys (pos 0) k l)
     which k h false f g =
         let l : length xs ≤ k = g tt in
         let d : k ≡ length xs + (k - length xs) = omega arith in
-        let w : from + 3 * k ≡ at + 3 * (k - length xs) = omega arith in
+        let w : from + 4 * k ≡ at + 4 * (k - length xs) = omega arith in
         ap (λ (i : ℕ). getD new i (pos 0)) w ∙ q .points-are (k - length xs) (omega arith) ∙ sym (getD-append-add xs ys (k - length xs) (pos 0))
         ∙ ap (λ (i : ℕ). getD (xs ++ ys) i (pos 0)) (sym d)
 
 -- ---- a row, number by number
-pub row-step : (old mid : List ℤ) (from at j : ℕ) (row : List ℤ) → j < length row → at ≡ from + 3 * j → at < length mid → Placed old mid from (take j row)
+pub row-step : (old mid : List ℤ) (from at j : ℕ) (row : List ℤ) → j < length row → at ≡ from + 4 * j → at < length mid → Placed old mid from (take j row)
     → Placed old (set mid at (getD row j (pos 0))) from (take (j + 1) row)
 row-step old mid from at j row l e h p =
     rw (add-one, take-suc row j (pos 0) l)
     (placed-append old mid _ from at (take j row) (getD row j (pos 0) ∷ [])
-    (e ∙ ap (λ (n : ℕ). from + 3 * n) (sym (length-take-le j row (omega arith)))) p (placed-one mid at (getD row j (pos 0)) h))
+    (e ∙ ap (λ (n : ℕ). from + 4 * n) (sym (length-take-le j row (omega arith)))) p (placed-one mid at (getD row j (pos 0)) h))
 
 -- ---- a grid, row by row; its rows have n numbers each
 rows-append : (g h : List (List ℤ)) → rows (g ++ h) ≡ rows g ++ rows h
@@ -79,7 +81,8 @@ rows-append [] h = refl
 rows-append (r ∷ g) h = ap (λ (l : List ℤ). r ++ l) (rows-append g h) ∙ sym (append-assoc r (rows g) (rows h))
 
 rows-more : (g : List (List ℤ)) (i : ℕ) → i < length g → rows (take (i + 1) g) ≡ rows (take i g) ++ getD g i []
-rows-more g i l = rw (add-one, take-suc g i [] l) (rows-append (take i g) (getD g i [] ∷ []) ∙ ap (λ (l : List ℤ). rows (take i g) ++ l) (empty (getD g i [])))
+rows-more g i l = rw (add-one, take-suc g i [] l) (rows-append (take i g) (getD g i [] ∷ []) ∙ ap (λ (l : List ℤ). rows (take i g) ++ l) (empty (getD g
+    i [])))
   where
     empty : (l : List ℤ) → l ++ [] ≡ l
     empty [] = refl
@@ -89,11 +92,11 @@ rows-more g i l = rw (add-one, take-suc g i [] l) (rows-append (take i g) (getD 
 abbrev pub Rowed : List ℤ → List ℤ → ℕ → List (List ℤ) → ℕ → ℕ → Type 0
 Rowed old new from g n i = (length (rows (take i g)) ≡ n * i) × Placed old new from (rows (take i g))
 
-pub grid-step : (old mid new : List ℤ) (from at : ℕ) (g : List (List ℤ)) (n i : ℕ) → i < length g → length (getD g i []) ≡ n → at ≡ from + 3 * (n * i)
+pub grid-step : (old mid new : List ℤ) (from at : ℕ) (g : List (List ℤ)) (n i : ℕ) → i < length g → length (getD g i []) ≡ n → at ≡ from + 4 * (n * i)
     → Rowed old mid from g n i → Placed mid new at (getD g i []) → Rowed old new from g n (i + 1)
 grid-step old mid new from at g n i l r e p q = (
   rw (rows-more g i l) (length-append (rows (take i g)) (getD g i []) ∙ more (p .0) r),
-  rw (rows-more g i l) (placed-append old mid new from at (rows (take i g)) (getD g i []) (e ∙ ap (λ (k : ℕ). from + 3 * k) (sym (p .0))) (p .1) q),
+  rw (rows-more g i l) (placed-append old mid new from at (rows (take i g)) (getD g i []) (e ∙ ap (λ (k : ℕ). from + 4 * k) (sym (p .0))) (p .1) q),
 )
   where
     more : {a b : ℕ} → a ≡ n * i → b ≡ n → a + b ≡ n * (i + 1)
@@ -103,9 +106,9 @@ grid-step old mid new from at g n i l r e p q = (
 pub grid-start : (old : List ℤ) (from n : ℕ) (g : List (List ℤ)) → Rowed old old from g n 0
 grid-start old from n g = (omega arith, placed-none old from)
 
-pub grid-row : (old out : List ℤ) (from at : ℕ) (g : List (List ℤ)) (n i : ℕ) → Square n g → i < n → at ≡ from + 3 * (n * i)
-    → from + 3 * (n * n) ≤ length old + 2 → Rowed old out from g n i
-    → (at + 3 * length (getD g i []) ≤ length out + 2) × ((j : ℕ) → j < length (getD g i []) → WrittenSize (getD (getD g i []) j (pos 0)))
+pub grid-row : (old out : List ℤ) (from at : ℕ) (g : List (List ℤ)) (n i : ℕ) → Square n g → i < n → at ≡ from + 4 * (n * i)
+    → from + 4 * (n * n) ≤ length old + 3 → Rowed old out from g n i
+    → (at + 4 * length (getD g i []) ≤ length out + 3) × ((j : ℕ) → j < length (getD g i []) → WrittenSize (getD (getD g i []) j (pos 0)))
 grid-row old out from at g n i q l e room p =
     let h : i + 1 ≤ n = omega arith in
     let m = mul-le-mul-left n h in
@@ -134,21 +137,6 @@ rows-at (r ∷ g) n h (suc i) j l m =
   where
     next : (s n i j : ℕ) → s ≡ n → n * suc i + j ≡ s + (n * i + j)
     next s n i j e = omega arith
-
--- ---- the net: its b grid, then its a grid
-pub put-is : (K : RefinedMesh rounded) (c axis at : ℕ) (old mid new : List ℤ) → Placed old mid (at + axis) (rows (bGrid K c)) → Placed mid new
-    (at + axis + 75) (rows (aGrid K c))
-    → Put K c axis at old new
-unfolding net bGrid aGrid
-put-is K c axis at old mid new p q =
-    let r : Placed old new (at + axis) (net K c) = placed-append old mid new (at + axis) (at + axis + 75) (rows (bGrid K c)) (rows (aGrid K c)) refl p q in
-    record {
-      points-are = λ k h. ap (λ (i : ℕ). getD new i (pos 0)) (turned k) ∙ r .points-are k h;
-      others = λ i n. r .others i (λ k h e. n k h (e ∙ sym (turned k)));
-    }
-  where
-    turned : (k : ℕ) → at + 3 * k + axis ≡ at + axis + 3 * k
-    turned k = omega arith
 
 -- ---- a number that is written, in 32 bits
 pub number : (z : ℤ) → WrittenSize z → SFits w32 (plain z) × (toZ w32 (ofZ w32 (plain z)) ≡ z)
@@ -192,40 +180,48 @@ module _ (K : RefinedMesh rounded) (c : ℕ) (n : NetSides) (f : FourSides K c n
       })
       all-rows (a-is a ha)
 
--- ---- their shape and the sizes of their numbers
-b-long : (K : RefinedMesh rounded) (c i : ℕ) → i < 5 → length (getD (bGrid K c) i []) ≡ 5
-unfolding bGrid
-b-long K c zero h = refl
-b-long K c (suc zero) h = refl
-b-long K c (suc (suc zero)) h = refl
-b-long K c (suc (suc (suc zero))) h = refl
-b-long K c (suc (suc (suc (suc zero)))) h = refl
-b-long K c (suc (suc (suc (suc (suc i))))) h = absurd (omega arith)
+-- ---- the net in a lane: its b grid, then its a grid
+pub lane-laid : (K : RefinedMesh rounded) (c k : ℕ) (old mid new : List ℤ) → Placed old mid k (rows (bGrid K c)) → Placed mid new (k + 100) (rows (aGrid K c))
+    → (p : ℕ) → p < netPoints → getD new (k + 4 * p) (pos 0) ≡ getD (net K c) p (pos 0)
+unfolding net bGrid aGrid
+lane-laid K c k old mid new p q i h =
+    let r : Placed old new k (net K c) = placed-append old mid new k (k + 100) (rows (bGrid K c)) (rows (aGrid K c)) refl p q in
+    r .points-are i h
 
-a-long : (K : RefinedMesh rounded) (c i : ℕ) → i < 4 → length (getD (aGrid K c) i []) ≡ 4
-unfolding aGrid
-a-long K c zero h = refl
-a-long K c (suc zero) h = refl
-a-long K c (suc (suc zero)) h = refl
-a-long K c (suc (suc (suc zero))) h = refl
-a-long K c (suc (suc (suc (suc i)))) h = absurd (omega arith)
+pub other-lanes : (k : ℕ) (old mid new : List ℤ) (xs ys : List ℤ) → k < 4 → Placed old mid k xs → Placed mid new (k + 100) ys
+    → (j p : ℕ) → j < 4 → (j ≡ k → ⊥) → getD new (j + 4 * p) (pos 0) ≡ getD old (j + 4 * p) (pos 0)
+other-lanes k old mid new xs ys l p q j i m n =
+    q .others (j + 4 * i) (λ u h e. n (omega arith)) ∙ p .others (j + 4 * i) (λ u h e. n (omega arith))
 
-module _ (K : RefinedMesh rounded) (ok : Sound (K .corners)) (small : Small K) (c : ℕ) (here : c < K .corners .count) where
-  b-written : (i j : ℕ) → i < 5 → j < 5 → WrittenSize (getD (getD (bGrid K c) i []) j (pos 0))
-  unfolding net bGrid
-  b-written i j l m =
-      rw (← rows-at (bGrid K c) 5 (λ i h. b-long K c i h) i j l m, ← List·getD-append (rows (bGrid K c)) (rows (aGrid K c)) (pos 0) (5 * i + j) (omega arith))
-      (net-size K ok small c here (5 * i + j))
+-- ---- the lanes, one after the other
+pub sized-four : (near : List ℤ) (k m n : ℕ) (v w : ℤ) (r : NetSides) → LaneMade near k m n v w r → FourSized r
+sized-four near k m n v w r l = record {
+  side0 = l .made .side0 .sized;
+  side1 = l .made .side1 .sized;
+  side2 = l .made .side2 .sized;
+  side3 = l .made .side3 .sized;
+}
 
-  a-written : (i j : ℕ) → i < 4 → j < 4 → WrittenSize (getD (getD (aGrid K c) i []) j (pos 0))
-  unfolding net bGrid aGrid
-  a-written i j l m =
-      rw (← rows-at (aGrid K c) 4 (λ i h. a-long K c i h) i j l m, ← getD-append-add (rows (bGrid K c)) (rows (aGrid K c)) (4 * i + j) (pos 0))
-      (net-size K ok small c here (25 + (4 * i + j)))
+pub filled-none : (near : List ℤ) (a b : ℕ) (v w : ℤ) (lanes : List ℤ) → length lanes ≡ 164 → Filled near a b v w 0 lanes
+filled-none near a b v w lanes e = record { long = e; each = λ k h. absurd (omega arith) }
 
-  -- of lists that are these grids
-  pub b-fine : (b : List (List ℤ)) → b ≡ bGrid K c → Square 5 b
-  b-fine b e = rw e (record { long = b-long K c; written = b-written })
-
-  pub a-fine : (a : List (List ℤ)) → a ≡ aGrid K c → Square 4 a
-  a-fine a e = rw e (record { long = a-long K c; written = a-written })
+pub filled-more : (near : List ℤ) (a b : ℕ) (v w : ℤ) (n : ℕ) (old new : List ℤ) (r : NetSides) → n < 4 → Filled near a b v w n old
+    → LaneMade near n a b v w r → LaneLaid r n old new → Filled near a b v w (n + 1) new
+filled-more near a b v w n old new r l f m d = record {
+  long = d .same ∙ f .long;
+  each = λ k h. which k h (ltb k n) (λ u. ltb→lt k n u) (λ u. nltb→le k n u);
+}
+  where
+    which : (k : ℕ) → k < n + 1 → (t : Bool) → (T t → k < n) → (T (not t) → n ≤ k) → LaneFilled near a b v w k new
+    which k h true y z =
+        let i = y tt in
+        let e = f .each k i in
+        record {
+          sides = e .sides;
+          made = e .made;
+          laid = λ K c g p u. d .others k p (omega arith) (λ q. omega arith) ∙ e .laid K c g p u;
+        }
+    which k h false y z =
+        let i = z tt in
+        let e : n ≡ k = omega arith in
+        subst (λ (k : ℕ). LaneFilled near a b v w k new) e (record { sides = r; made = m; laid = d .laid })

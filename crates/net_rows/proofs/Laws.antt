@@ -1,11 +1,11 @@
 -- What the calls of the formulas give is what the definitions of rows and grids have, number by number.
 -- Assumes nothing.
-use mathlib.Core.Path.{_≡_, ap, _∙_}
+use mathlib.Core.Path.{_≡_, refl, ap, _∙_}
 use mathlib.Core.List.{List, [], _∷_}
-use Prim.Native.Nat.{_*_, _-_, _^_}
+use Prim.Native.Nat.{ℕ, zero, suc, _*_, _-_, _^_, _<_}
 use native.Mathlib.Omega.{arith}
 use lib.Dec.{lit<}
-use lib.ListN.{getD}
+use lib.ListN.{length, getD}
 use lib.IntN.{ℤ, pos, _+ℤ_, _-ℤ_, _*ℤ_}
 use mir.Syntax.{w64}
 use mir.Val.{SFits}
@@ -21,7 +21,7 @@ use Rattle.refined_faces.proofs.Laws.{plain}
 use Rattle.net_sides.specs.declared.SideValues.{SideValues}
 use Rattle.net_sides.specs.Values.{Sized}
 use Rattle.net_rows.specs.declared.RowValues.{RowValues}
-use Rattle.net_rows.specs.Rows.{RowsOf, AllSized, IsAGrid, IsBGrid}
+use Rattle.net_rows.specs.Rows.{RowsOf, AllSized, Square, IsAGrid, IsBGrid}
 
 -- ---- the machine's number of a value is the value
 value-fits : (z : ℤ) → ValueSize z → SFits w64 z
@@ -103,6 +103,43 @@ module _ (f g l o : SideValues) (z : Sized f × Sized g × Sized l × Sized o) (
       };
     }
 
+-- ---- the shape of a grid, and the sizes of its numbers: what holds of each of four, and of each of five
+each-of-four : {A : Type 0} (P : A → Type 0) (z a b c d : A) → P a → P b → P c → P d → (i : ℕ) → i < 4 → P (getD (a ∷ b ∷ c ∷ d ∷ []) i z)
+each-of-four P z a b c d pa pb pc pd zero h = pa
+each-of-four P z a b c d pa pb pc pd (suc zero) h = pb
+each-of-four P z a b c d pa pb pc pd (suc (suc zero)) h = pc
+each-of-four P z a b c d pa pb pc pd (suc (suc (suc zero))) h = pd
+each-of-four P z a b c d pa pb pc pd (suc (suc (suc (suc i)))) h = absurd (omega arith)
+
+each-of-five : {A : Type 0} (P : A → Type 0) (z a b c d e : A) → P a → P b → P c → P d → P e → (i : ℕ) → i < 5
+    → P (getD (a ∷ b ∷ c ∷ d ∷ e ∷ []) i z)
+each-of-five P z a b c d e pa pb pc pd pe zero h = pa
+each-of-five P z a b c d e pa pb pc pd pe (suc zero) h = pb
+each-of-five P z a b c d e pa pb pc pd pe (suc (suc zero)) h = pc
+each-of-five P z a b c d e pa pb pc pd pe (suc (suc (suc zero))) h = pd
+each-of-five P z a b c d e pa pb pc pd pe (suc (suc (suc (suc zero)))) h = pe
+each-of-five P z a b c d e pa pb pc pd pe (suc (suc (suc (suc (suc i))))) h = absurd (omega arith)
+
+-- a row of n numbers that can be written
+abbrev Line : ℕ → List ℤ → Type 0
+Line n r = (length r ≡ n) × ((j : ℕ) → j < n → WrittenSize (getD r j (pos 0)))
+
+four-line : (a b c d : ℤ) → WrittenSize a → WrittenSize b → WrittenSize c → WrittenSize d → Line 4 (a ∷ b ∷ c ∷ d ∷ [])
+four-line a b c d ha hb hc hd = (refl, each-of-four WrittenSize (pos 0) a b c d ha hb hc hd)
+
+five-line : (a b c d e : ℤ) → WrittenSize a → WrittenSize b → WrittenSize c → WrittenSize d → WrittenSize e → Line 5 (a ∷ b ∷ c ∷ d ∷ e ∷ [])
+five-line a b c d e ha hb hc hd he = (refl, each-of-five WrittenSize (pos 0) a b c d e ha hb hc hd he)
+
+four-lines : (r s t u : List ℤ) → Line 4 r → Line 4 s → Line 4 t → Line 4 u → Square 4 (r ∷ s ∷ t ∷ u ∷ [])
+four-lines r s t u hr hs ht hu =
+    let each = each-of-four (Line 4) [] r s t u hr hs ht hu in
+    record { long = λ i h. each i h .0; written = λ i j h k. each i h .1 j k }
+
+five-lines : (r s t u v : List ℤ) → Line 5 r → Line 5 s → Line 5 t → Line 5 u → Line 5 v → Square 5 (r ∷ s ∷ t ∷ u ∷ v ∷ [])
+five-lines r s t u v hr hs ht hu hv =
+    let each = each-of-five (Line 5) [] r s t u v hr hs ht hu hv in
+    record { long = λ i h. each i h .0; written = λ i j h k. each i h .1 j k }
+
 -- ---- the grids
 abbrev pub Half : ℤ → ℤ → ℤ → Type 0
 Half p q r = Rounds (plain p +ℤ plain q) (pos 2) r
@@ -150,9 +187,20 @@ module _ (r0 r1 r2 r3 : RowValues) (z : AllSized r0 r1 r2 r3) (h00 h03 h30 h33 h
           written-is (r3 .a1) _ (z3 .a1) (i3 .a1),
           written-is (r3 .a2) _ (z3 .a2) (i3 .a2),
         );
+    square =
+        let z0 = z .rows0 in
+        let z1 = z .rows1 in
+        let z2 = z .rows2 in
+        let z3 = z .rows3 in
+        four-lines _ _ _ _
+        (four-line _ _ _ _ (written h00 (e00 .1)) (written (r0 .a1) (z0 .a1)) (written (r0 .a2) (z0 .a2)) (written h03 (e03 .1)))
+        (four-line _ _ _ _ (written (r3 .a1) (z3 .a1)) (written h11 (e11 .1)) (written h12 (e12 .1)) (written (r1 .a2) (z1 .a2)))
+        (four-line _ _ _ _ (written (r3 .a2) (z3 .a2)) (written h21 (e21 .1)) (written h22 (e22 .1)) (written (r1 .a1) (z1 .a1)))
+        (four-line _ _ _ _ (written h30 (e30 .1)) (written (r2 .a2) (z2 .a2)) (written (r2 .a1) (z2 .a1)) (written h33 (e33 .1)));
   }
 
 module _ (c0 c1 c2 c3 : ℤ) (f0 : SFits w64 c0) (f1 : SFits w64 c1) (f2 : SFits w64 c2) (f3 : SFits w64 c3)
+    (w0 : WrittenSize c0) (w1 : WrittenSize c1) (w2 : WrittenSize c2) (w3 : WrittenSize c3)
     (r0 r1 r2 r3 : RowValues) (z : AllSized r0 r1 r2 r3) (a : List (List ℤ))
     (za : WrittenSize (getD (getD a 1 []) 2 (pos 0))) (zb : WrittenSize (getD (getD a 2 []) 1 (pos 0))) (h11 h13 h31 h33 h22 : ℤ)
     (e11 : Half (r3 .a1) (r0 .a1) h11) (e13 : Half (r0 .a2) (r1 .a2) h13) (e31 : Half (r3 .a2) (r2 .a2) h31) (e33 : Half (r2 .a1) (r1 .a1) h33)
@@ -208,4 +256,20 @@ module _ (c0 c1 c2 c3 : ℤ) (f0 : SFits w64 c0) (f1 : SFits w64 c1) (f2 : SFits
           written-is (r3 .outer3) _ (z3 .outer3) (i3 .outer3),
           written-is (r3 .middle) _ (z3 .middle) (i3 .middle),
         );
+    square =
+        let z0 = z .rows0 in
+        let z1 = z .rows1 in
+        let z2 = z .rows2 in
+        let z3 = z .rows3 in
+        five-lines _ _ _ _ _
+        (five-line _ _ _ _ _ (written c0 w0) (written (r0 .outer1) (z0 .outer1)) (written (r0 .outer2) (z0 .outer2)) (written (r0 .outer3) (z0 .outer3))
+        (written c1 w1))
+        (five-line _ _ _ _ _ (written (r3 .outer1) (z3 .outer1)) (written h11 (e11 .1)) (written (r0 .middle) (z0 .middle)) (written h13 (e13 .1))
+        (written (r1 .outer3) (z1 .outer3)))
+        (five-line _ _ _ _ _ (written (r3 .outer2) (z3 .outer2)) (written (r3 .middle) (z3 .middle)) (written h22 (e22 .1))
+        (written (r1 .middle) (z1 .middle)) (written (r1 .outer2) (z1 .outer2)))
+        (five-line _ _ _ _ _ (written (r3 .outer3) (z3 .outer3)) (written h31 (e31 .1)) (written (r2 .middle) (z2 .middle)) (written h33 (e33 .1))
+        (written (r1 .outer1) (z1 .outer1)))
+        (five-line _ _ _ _ _ (written c3 w3) (written (r2 .outer3) (z2 .outer3)) (written (r2 .outer2) (z2 .outer2)) (written (r2 .outer1) (z2 .outer1))
+        (written c2 w2));
   }

@@ -1,9 +1,10 @@
 -- The rows of a side and the two grids, as the code has them, against the definitions.
 -- Assumes nothing.
 use mathlib.Core.Path.{_≡_}
-use mathlib.Core.List.{List}
-use Prim.Native.Nat.{ℕ}
-use lib.IntN.{ℤ}
+use mathlib.Core.List.{List, []}
+use Prim.Native.Nat.{ℕ, _<_}
+use lib.ListN.{length, getD}
+use lib.IntN.{ℤ, pos}
 use Rattle.surface.specs.Sizes.{WrittenSize}
 use Rattle.paper.specs.Numbers.{rounded}
 use Rattle.paper.specs.Refined.{RefinedMesh}
@@ -48,9 +49,15 @@ pub record AllSized (r0 r1 r2 r3 : RowValues) : Type 0 where
   pub rows2 : RowsSized r2
   pub rows3 : RowsSized r3
 
+-- a grid of n rows of n numbers that can be written
+pub record Square (n : ℕ) (g : List (List ℤ)) : Type 0 where
+  pub long : (i : ℕ) → i < n → length (getD g i []) ≡ n
+  pub written : (i j : ℕ) → i < n → j < n → WrittenSize (getD (getD g i []) j (pos 0))
+
 -- the four rows of four a points of whichever net has these rows
 pub record IsAGrid (r0 r1 r2 r3 : RowValues) (g : List (List ℤ)) : Type 0 where
   pub grid : (K : RefinedMesh rounded) (c : ℕ) → AllRows K c r0 r1 r2 r3 → g ≡ aGrid K c
+  pub square : Square 4 g
 
 -- the ends, corner by corner of the grid
 pub record Ends (K : RefinedMesh rounded) (c : ℕ) (e0 e1 e2 e3 : ℤ) : Type 0 where
@@ -59,6 +66,13 @@ pub record Ends (K : RefinedMesh rounded) (c : ℕ) (e0 e1 e2 e3 : ℤ) : Type 0
   pub end2 : e2 ≡ H K c side2
   pub end3 : e3 ≡ T K c side3
 
+pub record EndsSized (e0 e1 e2 e3 : ℤ) : Type 0 where
+  pub end0 : WrittenSize e0
+  pub end1 : WrittenSize e1
+  pub end2 : WrittenSize e2
+  pub end3 : WrittenSize e3
+
 -- the five rows of five b points of whichever net has these ends and rows, and this grid of a points
 pub record IsBGrid (e0 e1 e2 e3 : ℤ) (r0 r1 r2 r3 : RowValues) (a g : List (List ℤ)) : Type 0 where
   pub grid : (K : RefinedMesh rounded) (c : ℕ) → Ends K c e0 e1 e2 e3 → AllRows K c r0 r1 r2 r3 → a ≡ aGrid K c → g ≡ bGrid K c
+  pub square : Square 5 g

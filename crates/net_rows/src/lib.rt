@@ -5,7 +5,7 @@ ghost use lib.ListN.{getD};
 ghost use lib.IntN.{pos};
 ghost use Rattle.surface.specs.Sizes.{WrittenSize};
 ghost use Rattle.net_sides.specs.Values.{Sized};
-ghost use Rattle.net_rows.specs.Rows.{RowsOf, AllSized, IsAGrid, IsBGrid};
+ghost use Rattle.net_rows.specs.Rows.{RowsOf, AllSized, EndsSized, IsAGrid, IsBGrid};
 
 // What the grids take of a side: the points of its outer row between the ends, of its a row, and the middle of the next row.
 pub struct RowValues {
@@ -81,7 +81,7 @@ pub fn b_grid(
     r3: RowValues,
     a: [[i64; 4]; 4],
 ) -> [[i64; 5]; 5]
-    requires { ⌜ AllSized r0 r1 r2 r3 × WrittenSize (getD (getD a 1 []) 2 (pos 0)) × WrittenSize (getD (getD a 2 []) 1 (pos 0)) ⌝ }
+    requires { ⌜ AllSized r0 r1 r2 r3 × WrittenSize (getD (getD a 1 []) 2 (pos 0)) × WrittenSize (getD (getD a 2 []) 1 (pos 0)) × EndsSized e0 e1 e2 e3 ⌝ }
     ensures { λ g. ⌜ IsBGrid e0 e1 e2 e3 r0 r1 r2 r3 a g ⌝ }
 {
     let b11 = formulas::half(r3.a1, r0.a1);

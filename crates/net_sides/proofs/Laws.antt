@@ -132,6 +132,41 @@ row-plain z y e h = let f = ap plain e ∙ toZ-ofZ (fits y h) in (f, rw f h)
     fits : (y : ℤ) → CosineSize y → SFits w64 y
     fits = over 1 _ λ ρ. simp (poly, ρ) (omega arith)
 
+-- the numbers that a side is made from, in the machine and plain
+pub record SideSized (h t p q v w k : ℤ) : Type 0 where
+  pub head : RefinedSize h
+  pub tail : RefinedSize t
+  pub x : FaceSize p
+  pub y : FaceSize q
+  pub here : RefinedSize v
+  pub there : RefinedSize w
+  pub cosine : CosineSize k
+
+module _ (h t p q v w k : ℤ) (z : SideSized h t p q v w k) where
+  pub plain-sizes : RefinedSize (plain h) × RefinedSize (plain t) × FaceSize (plain p) × FaceSize (plain q) × RefinedSize (plain v) × RefinedSize
+      (plain w) × CosineSize (plain k)
+  plain-sizes = (
+    corner-plain h h refl (z .head) .1,
+    corner-plain t t refl (z .tail) .1,
+    point-plain p p refl (z .x) .1,
+    point-plain q q refl (z .y) .1,
+    corner-plain v v refl (z .here) .1,
+    corner-plain w w refl (z .there) .1,
+    row-plain k k refl (z .cosine) .1,
+  )
+
+  pub made-plain : (r : SideValues) → Made (plain h) (plain t) (plain p) (plain q) (plain v) (plain w) (plain k) r → Made h t p q v w k r
+  made-plain r m =
+      rw (
+        ← corner-plain h h refl (z .head) .0,
+        ← corner-plain t t refl (z .tail) .0,
+        ← point-plain p p refl (z .x) .0,
+        ← point-plain q q refl (z .y) .0,
+        ← corner-plain v v refl (z .here) .0,
+        ← corner-plain w w refl (z .there) .0,
+        ← row-plain k k refl (z .cosine) .0,
+      ) m
+
 module _ (K : RefinedMesh rounded) (ok : Sound (K .corners)) (small : Small K) (c : ℕ) (here : c < K .corners .count) (s : Side) (h t p q v w k : ℤ)
     (e : Parts K c s h t p q v w k) where
   head′ : (plain h ≡ H K c s) × RefinedSize (plain h)

@@ -6,8 +6,9 @@ use lib.IntN.{ℤ, pos, _+ℤ_, _-ℤ_, _*ℤ_}
 use Rattle.paper.specs.Numbers.{round, rounded}
 use Rattle.paper.specs.Refined.{RefinedMesh}
 use Rattle.paper.specs.Net.{Side, side0, side1, side2, side3, H, T, X, Y, N, C}
-use Rattle.surface.specs.Sizes.{ValueSize, CosineSize}
+use Rattle.surface.specs.Sizes.{RefinedSize, FaceSize, ValueSize, CosineSize}
 use Rattle.refined_faces.specs.Ring.{IsEdgeFace}
+use Rattle.refined_faces.specs.declared.Face.{Face}
 use Rattle.net_sides.specs.declared.Edge.{Edge}
 use Rattle.net_sides.specs.declared.SideValues.{SideValues}
 use Rattle.net_sides.specs.declared.NetSides.{NetSides}
@@ -53,6 +54,27 @@ pub record Made (h t p q v w k : ℤ) (r : SideValues) : Type 0 where
   pub inner : r .inner ≡ round (pos 3 *ℤ p +ℤ pos 3 *ℤ q +ℤ v -ℤ w) (pos 6)
   pub cosine : r .cosine ≡ k
   pub sized : Sized r
+
+-- the numbers of a face, and of an edge, that sides are made from
+pub record FaceSized (f : Face) : Type 0 where
+  pub centre : RefinedSize (f .centre)
+  pub ahead : FaceSize (f .ahead)
+  pub behind : FaceSize (f .behind)
+
+pub record EdgeSized (e : Edge) : Type 0 where
+  pub centre : RefinedSize (e .centre)
+  pub ahead : FaceSize (e .ahead)
+  pub behind : FaceSize (e .behind)
+  pub here : RefinedSize (e .here)
+  pub after : RefinedSize (e .after)
+  pub before : RefinedSize (e .before)
+
+-- four sides made from the faces v of the vertex and f of the mesh face, e of the leaving and g of the arriving edge
+pub record MadeFour (v f : Face) (e g : Edge) (k l : ℤ) (r : NetSides) : Type 0 where
+  pub side0 : Made (v .centre) (e .centre) (v .ahead) (e .behind) (e .here) (e .before) k (r .side0)
+  pub side1 : Made (f .centre) (e .centre) (f .ahead) (e .ahead) (e .here) (e .after) l (r .side1)
+  pub side2 : Made (f .centre) (g .centre) (f .behind) (g .behind) (g .here) (g .before) l (r .side2)
+  pub side3 : Made (v .centre) (g .centre) (v .behind) (g .ahead) (g .here) (g .after) k (r .side3)
 
 -- all four
 pub record FourSides (K : RefinedMesh rounded) (c : ℕ) (r : NetSides) : Type 0 where

@@ -11,7 +11,7 @@ ghost use Rattle.surface.specs.Points.{pointAt};
 ghost use Rattle.walk.specs.Table.{toNext, toLink};
 ghost use Rattle.refined_faces.specs.Ring.{around, Ring, IsFace};
 ghost use Rattle.net_sides.specs.Drawn.{drawn, Drawn, Readable};
-ghost use Rattle.net_sides.specs.Values.{Through, IsLeaving, IsArriving, Made, FourSides};
+ghost use Rattle.net_sides.specs.Values.{Through, IsLeaving, IsArriving, Made, FaceSized, EdgeSized, MadeFour, FourSides};
 
 // The refined face of an edge at a corner, with the refined points of the corner and of its neighbours in that face.
 pub struct Edge {
@@ -41,7 +41,7 @@ pub struct NetSides {
 }
 
 // The face through four corners in turn.
-fn edge_through(
+pub fn edge_through(
     points: &[i32],
     axis: usize,
     here: usize,
@@ -106,9 +106,65 @@ fn side(head: i64, tail: i64, x: i64, y: i64, v: i64, w: i64, cosine: i64) -> Si
     }
 }
 
+// The four sides from the faces of the vertex and of the mesh face, those of the leaving and of the arriving edge, and C of the two rings.
+pub fn sides_of(
+    vertex: refined_faces::Face,
+    face: refined_faces::Face,
+    leaving: Edge,
+    arriving: Edge,
+    k: i64,
+    l: i64,
+) -> NetSides
+    requires { ⌜ FaceSized vertex × FaceSized face × EdgeSized leaving × EdgeSized arriving × CosineSize k × CosineSize l ⌝ }
+    ensures { λ r. ⌜ MadeFour vertex face leaving arriving k l r ⌝ }
+{
+    let side0 = side(
+        vertex.centre,
+        leaving.centre,
+        vertex.ahead,
+        leaving.behind,
+        leaving.here,
+        leaving.before,
+        k,
+    );
+    let side1 = side(
+        face.centre,
+        leaving.centre,
+        face.ahead,
+        leaving.ahead,
+        leaving.here,
+        leaving.after,
+        l,
+    );
+    let side2 = side(
+        face.centre,
+        arriving.centre,
+        face.behind,
+        arriving.behind,
+        arriving.here,
+        arriving.before,
+        l,
+    );
+    let side3 = side(
+        vertex.centre,
+        arriving.centre,
+        vertex.behind,
+        arriving.ahead,
+        arriving.here,
+        arriving.after,
+        k,
+    );
+    NetSides {
+        side0: side0,
+        side1: side1,
+        side2: side2,
+        side3: side3,
+    }
+}
+
 // The refined face of the vertex of c, whose ring the links go round. It stands beside that of the face, with the same body: a function
 // that is called once is put in line, and then only a ring of five and more costs a call.
-fn vertex_face(
+pub fn vertex_face(
     points: &[i32],
     table: &[u16],
     rows: &cosines::Rows,
@@ -131,7 +187,7 @@ fn vertex_face(
 }
 
 // The refined face of the face of c, whose ring the next corners go round.
-fn mesh_face(
+pub fn mesh_face(
     points: &[i32],
     table: &[u16],
     rows: &cosines::Rows,

@@ -1,3 +1,4 @@
 pub mod Nearest
 pub mod Rules
 pub mod Fractions
+pub mod Small

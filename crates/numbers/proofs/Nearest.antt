@@ -3,13 +3,14 @@
 -- computes: below zero the dividend is taken one lower, which only ties notice.
 -- Assumes nothing.
 use mathlib.Core.Path.{_≡_, refl, sym, ap, _∙_}
-use Prim.Native.Nat.{ℕ, zero, suc, _+_, _*_, _/_, _^_, _≤_}
-use native.Mathlib.Nat.{le-trans, div-le-self, div-eq-of-lt}
+use Prim.Native.Nat.{ℕ, zero, suc, _+_, _-_, _*_, _/_, _^_, _<_, _≤_}
+use native.Mathlib.Nat.{le-trans, div-le-self, div-eq-of-lt, pow-suc}
 use native.Mathlib.Omega.{arith}
 use lib.Dec.{T, lit<}
 use lib.IntN.{ℤ, pos, negsuc, negℤ, negℤ-negℤ, natAbs, _+ℤ_, _*ℤ_}
+use lib.Pow.{pow-pos}
 use lib.Signed.{_≤ℤ_, _<ℤ_, ltZ, ltZ-yes, shrZ}
-use mir.Syntax.{w64}
+use mir.Syntax.{w32, w64}
 use mir.Val.{SFits}
 use Rattle.paper.specs.Numbers.{floor, round}
 use Rattle.integers.proofs.Diff.{diff}
@@ -74,6 +75,10 @@ pub sign-size : (n : ℤ) → SFits w64 (sign n)
 sign-size (pos a) = record { sfits = lit< tt }
 sign-size (negsuc a) = record { sfits = lit< tt }
 
+pub sign-small : (n : ℤ) → SFits w32 (sign n)
+sign-small (pos a) = record { sfits = lit< tt }
+sign-small (negsuc a) = record { sfits = lit< tt }
+
 pub sign-double : (n : ℤ) → sign (pos 2 *ℤ n) ≡ sign n
 sign-double (pos a) = refl
 sign-double (negsuc a) = ap sign (below a)
@@ -84,6 +89,10 @@ sign-double (negsuc a) = ap sign (below a)
 pub shift-sign : (n : ℤ) → SFits w64 n → shrZ n 9223372036854775808 ≡ sign n
 shift-sign (pos a) h = ap pos (div-eq-of-lt (omega (arith, h .sfits)))
 shift-sign (negsuc a) h = ap negsuc (div-eq-of-lt (omega (arith, h .sfits)))
+
+pub shift-small : (n : ℤ) → SFits w32 n → shrZ n 2147483648 ≡ sign n
+shift-small (pos a) h = ap pos (div-eq-of-lt (omega (arith, h .sfits)))
+shift-small (negsuc a) h = ap negsuc (div-eq-of-lt (omega (arith, h .sfits)))
 
 -- a shift rounds down, and makes no number larger
 pub shift-floor : (z : ℤ) (m : ℕ) → shrZ z m ≡ floor z (pos m)
@@ -107,6 +116,34 @@ round-floor (pos a) d h = ap (λ (z : ℤ). floor z (pos 2 *ℤ d)) (same (pos 2
 round-floor (negsuc a) d h =
     floor-unique (pos 2 *ℤ negsuc a +ℤ d +ℤ negsuc 0) (pos 2 *ℤ d) (negℤ (up (pos (suc a)) d)) (double-pos d h)
     (lower (pos (suc a)) d (up (pos (suc a)) d) (floor-is _ _ (double-pos d h)))
+
+-- the same of an even divisor: half of it is added, and the sign
+both : (e n s q : ℤ) → (negsuc 0 ≤ℤ s) × (s ≤ℤ pos 0) → IsFloor (n +ℤ e +ℤ s) (pos 2 *ℤ e) q
+    → IsFloor (pos 2 *ℤ n +ℤ pos 2 *ℤ e +ℤ s) (pos 2 *ℤ (pos 2 *ℤ e)) q
+both = over 4 _ λ ρ. simp (poly, ρ) (omega arith)
+
+above : (m : ℕ) → 0 < m → pos 0 <ℤ pos m
+above m h = simp diff (omega arith)
+
+pub round-half : (n : ℤ) (m : ℕ) → 0 < m → floor (n +ℤ pos m +ℤ sign n) (pos 2 *ℤ pos m) ≡ round n (pos 2 *ℤ pos m)
+round-half n m h =
+    let d = double-pos (pos m) (above m h) in
+    let q = floor (n +ℤ pos m +ℤ sign n) (pos 2 *ℤ pos m) in
+    floor-unique (pos 2 *ℤ n +ℤ pos 2 *ℤ pos m +ℤ sign n) (pos 2 *ℤ (pos 2 *ℤ pos m)) q (double-pos (pos 2 *ℤ pos m) d)
+    (both (pos m) n (sign n) q (sign-bounds n) (floor-is (n +ℤ pos m +ℤ sign n) (pos 2 *ℤ pos m) d))
+    ∙ sym (round-floor n (pos 2 *ℤ pos m) d)
+
+-- and by a shift
+power : (k : ℕ) → 1 ≤ k → pos 2 *ℤ pos (2 ^ (k - 1)) ≡ pos (2 ^ k)
+power zero h = absurd (omega arith)
+power (suc j) h = ap pos (let e = pow-suc 2 j in let p : 2 ^ (suc j - 1) ≡ 2 ^ j = ap (λ (i : ℕ). 2 ^ i) (omega arith) in omega arith)
+
+pub round-by-shift : (n : ℤ) (k : ℕ) → 1 ≤ k → shrZ (n +ℤ pos (2 ^ (k - 1)) +ℤ sign n) (2 ^ k) ≡ round n (pos (2 ^ k))
+round-by-shift n k h =
+    shift-floor (n +ℤ pos (2 ^ (k - 1)) +ℤ sign n) (2 ^ k)
+    ∙ ap (floor (n +ℤ pos (2 ^ (k - 1)) +ℤ sign n)) (sym (power k h))
+    ∙ round-half n (2 ^ (k - 1)) (pow-pos (k - 1))
+    ∙ ap (round n) (power k h)
 
 -- ---- k n / k d is n / d
 up-scale : (k n d : ℤ) → pos 0 <ℤ k → pos 0 <ℤ d → up (k *ℤ n) (k *ℤ d) ≡ up n d

@@ -2,13 +2,14 @@
 // `round_shift` where the divisor is a power of two, or `round_product` where the sum is small, and cites the laws of `round`, so that another
 // rounding is another definition, here alone. The sign, -1 below zero and else 0, turns halves below zero down, and no branch is needed.
 ghost use mathlib.Core.Path.{_≡_};
-ghost use Prim.Native.Nat.{_^_, _≤_};
-ghost use lib.IntN.{pos, negsuc, natAbs, _+ℤ_, _-ℤ_, _*ℤ_};
+ghost use Prim.Native.Nat.{_+_, _*_, _/_, _%_, _^_, _≤_};
+ghost use lib.IntN.{pos, negsuc, negℤ, natAbs, _+ℤ_, _-ℤ_, _*ℤ_};
 ghost use lib.Signed.{_≤ℤ_, _<ℤ_};
 ghost use Rattle.paper.specs.Numbers.{round};
-ghost use Rattle.numbers.specs.Sign.{sign};
+ghost use Rattle.numbers.specs.Sign.{sign, tie};
 ghost use Rattle.numbers.specs.Lift.{Lifts};
 ghost use Rattle.numbers.specs.Product.{Scales};
+ghost use Rattle.numbers.specs.Small.{lift, Lifted, Fraction};
 
 // The sign of n: a shift copies it down.
 fn sign(n: i64) -> i64
@@ -63,4 +64,103 @@ pub fn round_product(n: i64, h: i64, m: i64) -> i64
     ensures { λ r. ⌜ r ≡ round n (pos 2 *ℤ h) ⌝ }
 {
     (n * m + 1073741824) >> 31
+}
+
+// The sign of a number of 32 bits. What follows keeps to 32 bits, so that four numbers are worked on at once where they stand side by side.
+fn small_sign(n: i32) -> i32
+    ensures { λ r. ⌜ (r ≡ sign n) × (negsuc 0 ≤ℤ r) × (r ≤ℤ pos 0) ⌝ }
+{
+    n >> 31
+}
+
+// n and half its divisor, one less below zero.
+fn small_raised(n: i32, h: i32) -> i32
+    requires { ⌜ (natAbs n ≤ 2 ^ 30) × (natAbs h ≤ 2 ^ 5) ⌝ }
+    ensures { λ r. ⌜ r ≡ n +ℤ h +ℤ sign n ⌝ }
+{
+    n + h + small_sign(n)
+}
+
+// r(n / 2^k) in 32 bits.
+pub fn small_shift(n: i32, k: u32) -> i32
+    requires { ⌜ (1 ≤ k) × (k ≤ 4) × (natAbs n ≤ 2 ^ 30) ⌝ }
+    ensures { λ r. ⌜ r ≡ round n (pos (2 ^ k)) ⌝ }
+{
+    small_raised(n, 1 << (k - 1)) >> k
+}
+
+// What lifts every dividend of `small_product` above zero, in divisors.
+const LIFT: i32 = 25165824;
+
+// n / 2h before it is rounded down, lifted above zero.
+fn lift_dividend(n: i32, h: i32) -> u32
+    requires { ⌜ Lifted n h ⌝ }
+    ensures { λ r. ⌜ pos r ≡ n +ℤ h +ℤ sign n +ℤ pos 2 *ℤ h *ℤ pos lift ⌝ }
+{
+    (small_raised(n, h) + 2 * h * LIFT) as u32
+}
+
+// The upper half of a product.
+fn upper(t: u32, m: u32) -> u32
+    ensures { λ r. ⌜ r ≡ t * m / 2 ^ 32 ⌝ }
+{
+    ((t as u64 * m as u64) >> 32) as u32
+}
+
+// r(n / 2h) by a product without sign: m is a little more than 2^32 / 2h.
+pub fn small_product(n: i32, h: i32, m: u32) -> i32
+    requires { ⌜ Lifted n h × Fraction n h m ⌝ }
+    ensures { λ r. ⌜ r ≡ round n (pos 2 *ℤ h) ⌝ }
+{
+    upper(lift_dividend(n, h), m) as i32 - LIFT
+}
+
+// c + 2^30 of a cosine of the table.
+fn lift_cosine(c: i64) -> u32
+    requires { ⌜ (negℤ (pos (2 ^ 29)) ≤ℤ c) × (c ≤ℤ pos (2 ^ 30)) ⌝ }
+    ensures { λ r. ⌜ (pos r ≡ c +ℤ pos (2 ^ 30)) × (r ≤ 2 ^ 31) ⌝ }
+{
+    (c + 1073741824) as u32
+}
+
+// d + 2^30 of what it is multiplied by.
+fn lift_factor(d: i32) -> u32
+    requires { ⌜ natAbs d ≤ 2 ^ 28 ⌝ }
+    ensures { λ r. ⌜ (pos r ≡ d +ℤ pos (2 ^ 30)) × (3 * 2 ^ 28 ≤ r) × (r ≤ 5 * 2 ^ 28) ⌝ }
+{
+    (d + 1073741824) as u32
+}
+
+// p / 2^30 - u - d, where p is u times about 2^30. Half of u is taken off before the sign comes in, so that it fits.
+fn whole_part(u: u32, d: i32, p: u64) -> i32
+    requires { ⌜ (u ≤ 2 ^ 31) × (natAbs d ≤ 2 ^ 28) × (2 ^ 29 * u ≤ p) × (p ≤ 5 * 2 ^ 28 * u) ⌝ }
+    ensures { λ r. ⌜ (r ≡ pos (p / 2 ^ 30) -ℤ pos u -ℤ d) × (natAbs r ≤ 2 ^ 30 + 2 ^ 29) ⌝ }
+{
+    let e = u / 2;
+    let q = (p >> 30) as u32 - e;
+    q as i32 - (u - e) as i32 - d
+}
+
+// What is added to m for the tie, where the rest of p / 2^30 was left out.
+fn tie(p: u64, m: i32) -> i32
+    ensures { λ r. ⌜ (r ≡ tie (p % 2 ^ 30) m) × (negsuc 0 ≤ℤ r) × (r ≤ℤ pos 0) ⌝ }
+{
+    if p % 1073741824 == 0 {
+        small_sign(m)
+    } else {
+        0
+    }
+}
+
+// r((2^30 b + c d) / 2^33), where c is a cosine of the table, by a product without sign: (c + 2^30)(d + 2^30) is c d and a multiple of 2^30. A tie
+// leaves no rest there.
+pub fn small_eighth(c: i64, d: i32, b: i32) -> i32
+    requires { ⌜ ((negℤ (pos (2 ^ 29)) ≤ℤ c) × (c ≤ℤ pos (2 ^ 30))) × (natAbs d ≤ 2 ^ 28) × (natAbs b ≤ 2 ^ 28) ⌝ }
+    ensures { λ r. ⌜ r ≡ round (pos (2 ^ 30) *ℤ b +ℤ c *ℤ d) (pos (8 * 2 ^ 30)) ⌝ }
+{
+    let u = lift_cosine(c);
+    let v = lift_factor(d);
+    let p = u as u64 * v as u64;
+    let m = whole_part(u, d, p) + b;
+    (m + 4 + tie(p, m)) >> 3
 }

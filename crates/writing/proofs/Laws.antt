@@ -60,36 +60,21 @@ written-all M first count out l w =
     (w (i % 3) (i / perCorner) (i % perCorner / 3) (axis-in i) (corner-of i count b) (point-of i))
     ∙ sym (values-at (numberAt rounded M first) (pos 0) 0 (perCorner * count) i b ∙ ap (numberAt rounded M first) (let q : 0 + i ≡ i = omega arith in q)))
 
--- one corner more, axis after axis
+-- one corner more
 pub written-none : (K : ℕ → RefinedMesh rounded) (first : ℕ) (out : List ℤ) → NetsWritten K first 0 out
 unfolding NetsWritten
 written-none K first out a j p h l = absurd (omega arith)
 
-module _ (K : ℕ → RefinedMesh rounded) (first k : ℕ) (old xs ys zs : List ℤ) (w : NetsWritten K first k old) (x : Put (K 0) (first + k) 0
-    (perCorner * k) old xs)
-    (y : Put (K 1) (first + k) 1 (perCorner * k) xs ys) (z : Put (K 2) (first + k) 2 (perCorner * k) ys zs) where
-  -- earlier corners are kept by all three
-  earlier : (a j p : ℕ) → a < 3 → j < k → p < netPoints → getD zs (perCorner * j + 3 * p + a) (pos 0) ≡ getD (net (K a) (first + j)) p (pos 0)
-  unfolding NetsWritten
-  earlier a j p h l hp =
-      let i = perCorner * j + 3 * p + a in
-      z .others i (λ q hq e. omega arith) ∙ y .others i (λ q hq e. omega arith) ∙ x .others i (λ q hq e. omega arith) ∙ w a j p h l hp
-
-  here : (a p : ℕ) → a < 3 → p < netPoints → getD zs (perCorner * k + 3 * p + a) (pos 0) ≡ getD (net (K a) (first + k)) p (pos 0)
-  here zero p h hp =
-      let i = perCorner * k + 3 * p + 0 in
-      z .others i (λ q hq e. omega arith) ∙ y .others i (λ q hq e. omega arith) ∙ x .points-are p hp
-  here (suc zero) p h hp = z .others (perCorner * k + 3 * p + 1) (λ q hq e. omega arith) ∙ y .points-are p hp
-  here (suc (suc zero)) p h hp = z .points-are p hp
-  here (suc (suc (suc a))) p h hp = absurd (omega arith)
-
-  pub written-step : NetsWritten K first (k + 1) zs
-  unfolding NetsWritten
-  written-step a j p h hj hp =
-      ⊎-elim
-      (λ (q : j ≡ k). rw q (here a p h hp))
-      (λ o. earlier a j p h (⊎-elim (λ (l : j < k). l) (λ (l : k < j). absurd (omega arith)) o) hp)
-      (compared j k)
+pub written-step : (K : ℕ → RefinedMesh rounded) (first k : ℕ) (old new : List ℤ) → NetsWritten K first k old
+    → Put K (first + k) (perCorner * k) old new → NetsWritten K first (k + 1) new
+unfolding NetsWritten
+written-step K first k old new w x a j p h hj hp =
+    ⊎-elim
+    (λ (q : j ≡ k). rw q (x .points-are a p h hp))
+    (λ o.
+    let l : j < k = ⊎-elim (λ (l : j < k). l) (λ (l : k < j). absurd (omega arith)) o in
+    x .before (perCorner * j + 3 * p + a) (omega arith) ∙ w a j p h l hp)
+    (compared j k)
 
 -- ---- new tables of zeros, for the vertices and for the faces
 pub zeros : (n : ℕ) → replicate {A = ℕ} n 0 ≡ replicate {A = ℕ} (length {A = ℕ} (replicate n 0)) 0
@@ -107,7 +92,12 @@ module _ (M : Mesh) (accepted : Accepted M) where
       )
 
   pub faces-in : faceCount M ≤ length {A = ℕ} (replicate mostFaces 0)
-  faces-in = omega (arith, length-replicate {A = ℕ} mostFaces 0, few-faces (length (M .coordinates)) (faceCount M) (cornerCount M) (sound-of M accepted .four))
+  faces-in = omega (
+    arith,
+    length-replicate {A = ℕ} mostFaces 0,
+    few-faces (length (M .coordinates)) (faceCount M) (cornerCount M) (sound-of M accepted
+        .four),
+  )
 
 -- ---- the tables draw the mesh, as far as the nets of the range look
 module _ (M : Mesh) (accepted : Accepted M) (table wanted : List ℕ) (old points : List ℤ) (first count : ℕ) (t : Tabled (cornersOf M) table)

@@ -50,7 +50,7 @@ pub fn write_nets(
     write_corners(points, table, corners.len(), first, count, out);
 }
 
-// The numbers of each corner of the range, on its three axes. The tables are those of n corners.
+// The numbers of each corner of the range. The tables are those of n corners.
 pub fn write_corners(
     points: &[i32],
     table: &[u16],
@@ -64,13 +64,13 @@ pub fn write_corners(
     ensures { λ _. ⌜ NetsWritten (drawn n (now (table .entry)) (now (points .entry))) first count (now (out .exit)) ⌝ }
 {
     let rows = cosines::rows();
+    let mut near = [0i32; net::NEAR];
+    let mut lanes = [0i32; net::LANES];
     let mut k = 0;
     while k < count {
         let c = first + k;
         let at = NUMBERS_PER_CORNER * k;
-        net::put_net(points, table, &rows, n, c, 0, out, at);
-        net::put_net(points, table, &rows, n, c, 1, out, at);
-        net::put_net(points, table, &rows, n, c, 2, out, at);
+        net::put_net(points, table, &rows, n, c, &mut near, &mut lanes, out, at);
         k += 1;
     }
 }

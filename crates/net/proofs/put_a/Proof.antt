@@ -51,7 +51,7 @@ loop-again c =
     let s = a .before in
     let l = c .before .before .before .before .before .loop-test .taken in (
       omega arith,
-      grid-step (s .args .out .now) (a .loop .out) _ (s .args .from) (s .args .from + 12 * a .loop .i) (s .args .t1) 4 (a .loop .i)
+      grid-step (s .args .out .now) (a .loop .out) _ (s .args .from) (s .args .from + 16 * a .loop .i) (s .args .t1) 4 (a .loop .i)
           (omega (arith, s .good .0 .1 .0 .1)) (s .pre .1 .long (a .loop .i) l) (omega arith) (a .loop .inv .1) (c .before .put-row .ensures),
     )
 

@@ -1,126 +1,148 @@
--- `net::put_net` meets its contract: the sides, rows and grids are the definitions', and the two grids are placed one after the other.
+-- `net::put_net` meets its contract: the rows hold what the net is made from, each lane makes the net of its axis, and the points are copied.
 -- Assumes nothing.
-use mathlib.Core.Path.{_≡_, subst}
+use mathlib.Core.Path.{_≡_, _∙_, sym, subst}
 use mathlib.Core.List.{List}
-use Prim.Native.Nat.{_+_}
+use Prim.Native.Nat.{ℕ, _+_, _*_, _≤_, _<_}
 use native.Mathlib.Omega.{arith}
 use borrow.Author.Needs.{needs}
 use lib.Dec.{lit<}
+use lib.ListN.{length, getD}
 use lib.IntN.{ℤ}
-use Rattle.paper.specs.Numbers.{rounded}
-use Rattle.paper.specs.Refined.{RefinedMesh}
-use Rattle.paper.specs.Net.{rows, bGrid, aGrid}
-use Rattle.net_sides.specs.Drawn.{drawn}
-use Rattle.net.specs.Put.{Placed}
-use Rattle.net.proofs.Laws.{all-sized, a-is, b-is, a-fine, b-fine, put-is}
+use Rattle.paper.specs.Mesh.{leastSides, mostSides}
+use Rattle.paper.specs.Cosines.{cosine}
+use Rattle.surface.specs.Points.{pointRow, pointAt}
+use Rattle.surface.specs.Sizes.{FaceSize}
+use Rattle.walk.specs.Table.{tabled}
+use Rattle.refined_faces.proofs.Laws.{plain, cosine-plain}
+use Rattle.net_sides.proofs.Laws.{vertex-ring, face-ring}
+use Rattle.net.specs.Near.{PointsTaken, near}
+use Rattle.net.proofs.Lanes.{near-fine, cosine-fine, cosine-fine-2, ready, net-put}
 use Rattle.net.proofs.put_net.Statement.{statement}
 use Rattle.net.proofs.put_net.Tie as tie
 
--- the mesh that the tables hold
-abbrev mesh : tie.Start → RefinedMesh rounded
-mesh s = drawn (s .args .count) (s .args .table .now) (s .args .points .now) (s .args .axis)
+-- once the rows are filled: where the function began, the two counts, and what the rows hold
+module _ (a : tie.After-take-points) where
+  abbrev start : tie.Start
+  start = a .before .before .before .before .before .before .before .before .before .before .before .before
 
--- where the function began, from each of the two grids
-abbrev start : tie.After-a-grid → tie.Start
-start a = a .before .before .before .before .before .before .before .before .before .before .before
+  valence-is : a .before .before .before .before .before .before .before .before .before .before .valence .result ≡ tabled (start .args .count) (start
+      .args .table .now) .valence (start .args .c)
+  valence-is = a .before .before .before .before .before .before .before .before .before .before .valence .ensures .read
 
-abbrev first : tie.After-b-grid → tie.After-a-grid
-first b = b .before .before .before .before .before
+  sides-is : a .before .before .before .before .before .before .before .before .before .sides .result ≡ tabled (start .args .count) (start .args .table
+      .now) .sides (start .args .c)
+  sides-is = a .before .before .before .before .before .before .before .before .before .sides .ensures .read
 
--- the two grids
-a-grid : (a : tie.After-a-grid) → a .a-grid .result ≡ aGrid (mesh (start a)) (start a .args .c)
-a-grid a =
-    a-is _ _ _ (a .before .before .before .before .before .before .before .before .before .net-sides .ensures) _ _ _ _
-    (a .before .before .before .before .side-rows .ensures) (a .before .before .before .side-rows2 .ensures) (a .before .before .side-rows3 .ensures)
-    (a .before .side-rows4 .ensures) _ (a .a-grid .ensures)
+  vertex-bounds : (leastSides ≤ a .before .before .before .before .before .before .before .before .before .before .valence .result) × (a .before
+      .before .before .before .before .before .before .before .before .before .valence .result ≤ mostSides)
+  vertex-bounds = rw valence-is (start .pre .0 .0 .sound .valence-least _ (start .pre .0 .1), start .pre .0 .0 .sound .valence-most _ (start .pre .0 .1))
 
-b-grid : (b : tie.After-b-grid) → b .b-grid .result ≡ bGrid (mesh (start (first b))) (start (first b) .args .c)
-b-grid b =
-    let a = first b in
-    b-is _ _ _ (a .before .before .before .before .before .before .before .before .before .net-sides .ensures) _ _ _ _
-    (a .before .before .before .before .side-rows .ensures) (a .before .before .before .side-rows2 .ensures) (a .before .before .side-rows3 .ensures)
-    (a .before .side-rows4 .ensures) _ _ (a .a-grid .ensures) (b .b-grid .ensures)
+  face-bounds : (leastSides ≤ a .before .before .before .before .before .before .before .before .before .sides .result) × (a .before .before .before
+      .before .before .before .before .before .before .sides .result ≤ mostSides)
+  face-bounds = rw sides-is (start .pre .0 .0 .sound .sides-least _ (start .pre .0 .1), start .pre .0 .0 .sound .sides-most _ (start .pre .0 .1))
 
-add-from : tie.Need-add-from
-add-from c = let s = c .before in omega (arith, s .pre .0 .2, s .pre .1)
+  taken : PointsTaken (start .args .points .now) (near (tabled (start .args .count) (start .args .table .now)) (start .args .c)) 11
+      (a .before .before .before .before .take-mesh-face .last .1 .1 .1 .1 .1 .0) (a .take-points .last .1 .1 .0)
+  taken = rw (a .before .before .corners-near .ensures) at (a .take-points .ensures)
 
-net-sides-requires : tie.Need-net-sides-requires
-net-sides-requires c κs = search needs
+valence-requires : tie.Need-valence-requires
+valence-requires c κs = search needs
 
-side-rows-requires : tie.Need-side-rows-requires
-side-rows-requires c κs = search needs
+sides-requires : tie.Need-sides-requires
+sides-requires c κs = search needs
 
-side-rows-requires-2 : tie.Need-side-rows-requires-2
-side-rows-requires-2 c κs = search needs
+take-vertex-requires : tie.Need-take-vertex-requires
+take-vertex-requires c κs =
+    let s = c .before .before .before .before in (
+      λ a l. vertex-ring _ _ _ _ a (s .pre .0 .0, s .pre .0 .1, l) _ (c .before .before .valence .ensures .read),
+      (s .pre .1 .1 .1, omega (arith, s .pre .1 .0 .0)),
+    )
 
-side-rows-requires-3 : tie.Need-side-rows-requires-3
-side-rows-requires-3 c κs = search needs
+take-mesh-face-requires : tie.Need-take-mesh-face-requires
+take-mesh-face-requires c κs =
+    let s = c .before .before .before .before .before .before .before in (
+      λ a l. face-ring _ _ _ _ a (s .pre .0 .0, s .pre .0 .1, l) _ (c .before .before .before .before .sides .ensures .read),
+      (s .pre .1 .1 .1, omega (arith, s .pre .1 .0 .0, c .before .before .take-vertex .ensures .same)),
+    )
 
-side-rows-requires-4 : tie.Need-side-rows-requires-4
-side-rows-requires-4 c κs = search needs
+corners-near-requires : tie.Need-corners-near-requires
+corners-near-requires c κs = search needs
 
-a-grid-requires : tie.Need-a-grid-requires
-a-grid-requires c κs = search needs
+take-points-requires : tie.Need-take-points-requires
+take-points-requires c κs =
+    let s = c .before .before .before .before .before .before .before .before .before .before .before in (
+      rw (c .before .corners-near .ensures) (near-fine (s .args .count) (s .args .table .now) (s .args .points .now) (s .args .c) (s .pre .0)),
+      omega (
+        arith,
+        s .pre .1 .0 .0,
+        c .before .before .before .take-mesh-face .ensures .same,
+        c .before .before .before .before .before .before
+            .take-vertex .ensures .same,
+      ),
+    )
 
-b-grid-requires : tie.Need-b-grid-requires
-b-grid-requires c κs =
-    let a = c .before .before .before .before in
+cosine-requires : tie.Need-cosine-requires
+cosine-requires c κs = let v = vertex-bounds (c .before) in (start (c .before) .pre .1 .1 .1, v .0, v .1, omega (arith, v .0))
+
+cosine-requires-2 : tie.Need-cosine-requires-2
+cosine-requires-2 c κs = let v = face-bounds (c .before .before) in (start (c .before .before) .pre .1 .1 .1, v .0, v .1, omega (arith, v .0))
+
+fill-lanes-requires : tie.Need-fill-lanes-requires
+fill-lanes-requires c κs =
+    let a = c .before .before .before .before .before in
     let s = start a in
-    let w = a-fine (mesh s) (s .pre .0 .0 .sound) (s .pre .0 .0 .small (s .args .axis) (s .pre .0 .2)) (s .args .c) (s .pre .0 .1) _ (a-grid a) .written in
-    let z = all-sized (mesh s) (s .args .c) _ (a .before .before .before .before .before .before .before .before .before .net-sides .ensures) _ _ _ _
-    (a .before .before .before .before .side-rows .ensures) (a .before .before .before .side-rows2 .ensures) (a .before .before .side-rows3 .ensures)
-    (a .before .side-rows4 .ensures) in
-    (z, w 1 2 (lit< tt) (lit< tt), w 2 1 (lit< tt) (lit< tt))
+    let v = cosine-plain _ 1 (vertex-bounds a .0) (vertex-bounds a .1) _ (c .before .before .before .cosine .ensures) in
+    let w = cosine-plain _ 1 (face-bounds a .0) (face-bounds a .1) _ (c .before .before .cosine2 .ensures) in (
+      ready (s .args .count) (s .args .table .now) (s .args .points .now) (s .args .c) (s .pre .0) _ _ (valence-is a) (sides-is a) (s .args .near .now) _ _ _
+          (s .pre .1 .0 .0) (a .before .before .before .before .before .before .before .take-vertex .ensures) (a .before .before .before .before
+          .take-mesh-face .ensures) (taken a),
+      rw v (cosine-fine (s .args .count) (s .args .table .now) (s .args .points .now) (s .args .c) (s .pre .0) _ (valence-is a)),
+      rw w (cosine-fine-2 (s .args .count) (s .args .table .now) (s .args .points .now) (s .args .c) (s .pre .0) _ (sides-is a)),
+      s .pre .1 .0 .1,
+    )
 
-put-b-requires : tie.Need-put-b-requires
-put-b-requires c κs =
-    let s = start (first (c .before)) in
-    let w = b-fine (mesh s) (s .pre .0 .0 .sound) (s .pre .0 .0 .small (s .args .axis) (s .pre .0 .2)) (s .args .c) (s .pre .0 .1) _ (b-grid (c .before)) in
-    (omega (arith, s .pre .0 .2, s .pre .1), w)
-
-add-put-a : tie.Need-add-put-a
-add-put-a c =
-    let s = start (first (c .before .before .before .before)) in
-    omega (arith, s .pre .0 .2, s .pre .1, s .good .1 .1 .1 .1 .1 .1 .0)
-
-put-a-requires : tie.Need-put-a-requires
-put-a-requires c κs =
-    let a = first (c .before .before .before .before) in
-    let s = start a in
-    let w = a-fine (mesh s) (s .pre .0 .0 .sound) (s .pre .0 .0 .small (s .args .axis) (s .pre .0 .2)) (s .args .c) (s .pre .0 .1) _ (a-grid a) in
-    (omega (arith, s .pre .0 .2, s .pre .1, c .before .before .put-b .ensures .same), w)
+copy-requires : tie.Need-copy-requires
+copy-requires c κs =
+    let f = c .before .before .before in
+    let s = start (f .before .before .before .before .before .before) in
+    (f .fill-lanes .ensures .long, s .pre .1 .1 .0)
 
 same-length : tie.Need-same-length
 same-length c = search needs
 
+same-length-2 : tie.Need-same-length-2
+same-length-2 c = search needs
+
+same-length-3 : tie.Need-same-length-3
+same-length-3 c = search needs
+
 returns : tie.Need-returns
 returns c =
-    let second = c .before .before .before .before .before .before in
-    let s = start (first second) in
-    let b = c .before .before .before .before .put-b in
-    let a = c .before .put-a in
-    let old = s .args .out .now in
-    let mid = b .last .1 .0 in
-    let new = a .last .1 .0 in
-    let from = s .args .at + s .args .axis in
-    put-is (mesh s) (s .args .c) (s .args .axis) (s .args .at) old _ _
-    (subst (λ (g : List (List ℤ)). Placed old mid from (rows g)) (b-grid second) (b .ensures))
-    (subst (λ (g : List (List ℤ)). Placed mid new (from + 75) (rows g)) (a-grid (first second)) (a .ensures))
+    let f = c .before .before .before .before .before in
+    let a = f .before .before .before .before .before .before in
+    let s = start a in
+    let v = cosine-plain _ 1 (vertex-bounds a .0) (vertex-bounds a .1) _ (f .before .before .before .before .cosine .ensures) in
+    let w = cosine-plain _ 1 (face-bounds a .0) (face-bounds a .1) _ (f .before .before .before .cosine2 .ensures) in
+    net-put (s .args .count) (s .args .table .now) (s .args .points .now) (s .args .c) (s .pre .0) _ _ (valence-is a) (sides-is a) (s .args .near .now) _ _ _
+    (s .pre .1 .0 .0) (a .before .before .before .before .before .before .before .take-vertex .ensures) (a .before .before .before .before
+    .take-mesh-face .ensures) (taken a) _ _ _ (s .args .at) (s .args .out .now) _ v w
+    (f .fill-lanes .ensures) (c .before .copy .ensures)
 
 pub put-net-spec : {M : Type 1} → statement M
 put-net-spec =
     tie.close
     (tie.spec
-    add-from
-    net-sides-requires
-    side-rows-requires
-    side-rows-requires-2
-    side-rows-requires-3
-    side-rows-requires-4
-    a-grid-requires
-    b-grid-requires
-    put-b-requires
-    add-put-a
-    put-a-requires
+    valence-requires
+    sides-requires
+    take-vertex-requires
+    take-mesh-face-requires
+    corners-near-requires
+    take-points-requires
+    cosine-requires
+    cosine-requires-2
+    fill-lanes-requires
+    copy-requires
     same-length
+    same-length-2
+    same-length-3
     returns)

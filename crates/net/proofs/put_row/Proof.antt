@@ -20,7 +20,7 @@ abbrev μ-loop : tie.MeasureT-loop
 μ-loop row out₀ from j₀ out j = length row - j
 
 -- the place of number j
-room : (c : tie.After-v Inv-loop μ-loop) → c .before .before .before .args .from + 3 * c .before .before .loop .j < length (c .before .before .loop .out)
+room : (c : tie.After-v Inv-loop μ-loop) → c .before .before .before .args .from + 4 * c .before .before .loop .j < length (c .before .before .loop .out)
 room c = omega (arith, c .before .before .before .pre .0, c .before .before .loop .inv .1 .same, c .before .loop-test .taken)
 
 loop-holds : tie.Need-loop-holds Inv-loop μ-loop
@@ -60,7 +60,7 @@ loop-again c =
     let l = c .before .before .loop in
     let n = number (getD (s .args .row .now) (l .j) (pos 0)) (s .pre .1 _ (c .before .loop-test .taken)) in (
       omega arith,
-      rw (n .1) (row-step (s .args .out .now) (l .out) (s .args .from) (s .args .from + 3 * l .j) (l .j) (s .args .row .now)
+      rw (n .1) (row-step (s .args .out .now) (l .out) (s .args .from) (s .args .from + 4 * l .j) (l .j) (s .args .row .now)
           (c .before .loop-test .taken) refl (room c) (l .inv .1)),
     )
 

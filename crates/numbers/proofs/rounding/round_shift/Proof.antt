@@ -1,54 +1,24 @@
 -- `rounding::round_shift` meets its contract. A shift is the floor by its power of two; with n' one below n where n is below zero it is the floor of
 -- n' / 2^k + 1/2.
 -- Assumes nothing.
-use mathlib.Core.Path.{_≡_, sym, ap, _∙_}
-use Prim.Native.Nat.{ℕ, zero, suc, _-_, _*_, _^_, _%_, _≤_, _<_}
-use native.Mathlib.Nat.{pow-suc, one-mul, mod-eq-of-lt}
+use mathlib.Core.Path.{_≡_, ap, _∙_}
+use Prim.Native.Nat.{ℕ, _-_, _*_, _^_, _%_, _≤_}
+use native.Mathlib.Nat.{one-mul, mod-eq-of-lt}
 use native.Mathlib.Omega.{arith}
 use borrow.Author.Needs.{needs}
 use lib.Dec.{lit<}
-use lib.IntN.{ℤ, pos, negsuc, natAbs, _+ℤ_, _*ℤ_}
-use lib.Pow.{pow-pos, pow-mono}
-use lib.Signed.{_≤ℤ_, _<ℤ_, shrZ}
+use lib.IntN.{ℤ, pos, negsuc, natAbs, _+ℤ_}
+use lib.Pow.{pow-mono}
+use lib.Signed.{_≤ℤ_, shrZ}
 use mir.Syntax.{w64}
 use mir.Val.{SFits, toZ}
 use mir.Facts.{toZ-ofZ, toZ-pos}
-use Rattle.paper.specs.Numbers.{floor, round}
-use Rattle.integers.proofs.Diff.{diff}
 use Rattle.integers.proofs.Poly.{over, poly}
-use Rattle.integers.proofs.Floor.{IsFloor, floor-is, floor-unique, double-pos}
 use Rattle.integers.proofs.Machine.{abs-fits}
 use Rattle.numbers.specs.Sign.{sign}
-use Rattle.numbers.proofs.Nearest.{sign-bounds, sign-size, shift-sign, shift-floor, shift-size, round-floor}
+use Rattle.numbers.proofs.Nearest.{sign-bounds, shift-size, round-by-shift}
 use Rattle.numbers.proofs.rounding.round_shift.Statement.{statement}
 use Rattle.numbers.proofs.rounding.round_shift.Tie as tie
-
-above : (m : ℕ) → 0 < m → pos 0 <ℤ pos m
-above m h = simp diff (omega arith)
-
--- e is half the divisor, s the sign
-both : (e n s q : ℤ) → (negsuc 0 ≤ℤ s) × (s ≤ℤ pos 0) → IsFloor (n +ℤ e +ℤ s) (pos 2 *ℤ e) q
-    → IsFloor (pos 2 *ℤ n +ℤ pos 2 *ℤ e +ℤ s) (pos 2 *ℤ (pos 2 *ℤ e)) q
-both = over 4 _ λ ρ. simp (poly, ρ) (omega arith)
-
-halved : (n : ℤ) (m : ℕ) → 0 < m → floor (n +ℤ pos m +ℤ sign n) (pos 2 *ℤ pos m) ≡ round n (pos 2 *ℤ pos m)
-halved n m h =
-    let d = double-pos (pos m) (above m h) in
-    let q = floor (n +ℤ pos m +ℤ sign n) (pos 2 *ℤ pos m) in
-    floor-unique (pos 2 *ℤ n +ℤ pos 2 *ℤ pos m +ℤ sign n) (pos 2 *ℤ (pos 2 *ℤ pos m)) q (double-pos (pos 2 *ℤ pos m) d)
-    (both (pos m) n (sign n) q (sign-bounds n) (floor-is (n +ℤ pos m +ℤ sign n) (pos 2 *ℤ pos m) d))
-    ∙ sym (round-floor n (pos 2 *ℤ pos m) d)
-
-power : (k : ℕ) → 1 ≤ k → pos 2 *ℤ pos (2 ^ (k - 1)) ≡ pos (2 ^ k)
-power zero h = absurd (omega arith)
-power (suc j) h = ap pos (let e = pow-suc 2 j in let p : 2 ^ (suc j - 1) ≡ 2 ^ j = ap (λ (i : ℕ). 2 ^ i) (omega arith) in omega arith)
-
-value : (n : ℤ) (k : ℕ) → 1 ≤ k → shrZ (n +ℤ pos (2 ^ (k - 1)) +ℤ sign n) (2 ^ k) ≡ round n (pos (2 ^ k))
-value n k h =
-    shift-floor (n +ℤ pos (2 ^ (k - 1)) +ℤ sign n) (2 ^ k)
-    ∙ ap (floor (n +ℤ pos (2 ^ (k - 1)) +ℤ sign n)) (sym (power k h))
-    ∙ halved n (2 ^ (k - 1)) (pow-pos (k - 1))
-    ∙ ap (round n) (power k h)
 
 -- the half that is added
 at-most : (k : ℕ) → k ≤ 36 → 2 ^ (k - 1) ≤ 2 ^ 35
@@ -104,7 +74,7 @@ returns c =
     let k = at-call (c .before) in
     let f : SFits w64 (c .raised .result) = search needs in
     let e = simp (toZ-ofZ, c .before .fits .n, half-is (c .before .args .k) (c .before .pre .1)) at (c .raised .ensures) in
-    rw (toZ-ofZ f, e, toZ-ofZ (k .last)) (value (c .before .args .n) (c .before .args .k) (c .before .pre .0))
+    rw (toZ-ofZ f, e, toZ-ofZ (k .last)) (round-by-shift (c .before .args .n) (c .before .args .k) (c .before .pre .0))
 
 pub round-shift-spec : {M : Type 1} → statement M
 round-shift-spec = tie.close (tie.spec sub-raised cast-raised shl-raised raised-requires cast-result shr-result returns)

@@ -1,0 +1,254 @@
+-- The four sides that a lane makes: their sizes in every lane, and in the lane of an axis that they are the sides of the corner's quad-net.
+-- Assumes nothing.
+use mathlib.Core.Path.{_≡_, refl, sym, ap, _∙_, subst}
+use mathlib.Core.Logic.{_⊎_, inl, inr}
+use mathlib.Core.List.{List, [], _∷_}
+use Prim.Native.Nat.{ℕ, zero, suc, _+_, _-_, _*_, _%_, _^_, _≤_, _<_}
+use native.Mathlib.Nat.{add-mod-right}
+use native.Mathlib.Omega.{arith}
+use lib.Dec.{lit<, lit≤}
+use lib.ListN.{length, getD}
+use lib.IntN.{ℤ, pos}
+use Rattle.paper.specs.Scan.{iterate}
+use Rattle.paper.specs.Numbers.{rounded}
+use Rattle.paper.specs.Cosines.{cosine}
+use Rattle.paper.specs.Refined.{RefinedMesh}
+use Rattle.paper.specs.Net.{side0, side1, side2, side3, H, T, X, Y, N, C, neighbour, Side}
+use Rattle.surface.specs.Points.{pointRow, pointAt}
+use Rattle.surface.specs.Sizes.{RefinedSize, FaceSize, CosineSize}
+use Rattle.surface.proofs.Sizes.{C-cosine}
+use Rattle.walk.specs.Table.{toNext, toLink, tabled, entry}
+use Rattle.refined_faces.specs.declared.Face.{Face}
+use Rattle.refined_faces.specs.Ring.{around, Ring, IsFace, IsEdgeFace}
+use Rattle.refined_faces.proofs.Laws.{point-ring}
+use Rattle.net_sides.specs.Drawn.{drawn, Drawn}
+use Rattle.net_sides.specs.declared.Edge.{Edge}
+use Rattle.net_sides.specs.declared.NetSides.{NetSides}
+use Rattle.net_sides.specs.declared.SideValues.{SideValues}
+use Rattle.net_sides.specs.Values.{Through, IsLeaving, IsArriving, IsSide, Sized, Made, FaceSized, EdgeSized, FourSides}
+use Rattle.net_sides.proofs.Laws.{Parts, vertex-ring, face-ring, vertex-is, face-is, leaving-is, arriving-is}
+use Rattle.net.specs.Near.{near, lane, rowsFace, edgeFace, RingTaken, PointsTaken, LaneReady, RingMade, LaneMade}
+use Rattle.net.specs.Put.{Filled, Copied, Put}
+use Rattle.net.proofs.Rows.{as-face, lane-sized, face-of}
+
+pub four-or : (m : ℕ) → (m ≡ 4) ⊎ (m ≡ 4 → ⊥)
+four-or zero = inr (λ e. omega arith)
+four-or (suc zero) = inr (λ e. omega arith)
+four-or (suc (suc zero)) = inr (λ e. omega arith)
+four-or (suc (suc (suc zero))) = inr (λ e. omega arith)
+four-or (suc (suc (suc (suc zero)))) = inl refl
+four-or (suc (suc (suc (suc (suc m))))) = inr (λ e. omega arith)
+
+-- ---- sizes
+-- a ring of four with these points
+turning : ℤ → ℤ → ℤ → ℤ → ℕ → ℤ
+turning a b c d j = getD (a ∷ b ∷ c ∷ d ∷ []) (j % 4) (pos 0)
+
+turns : (a b c d : ℤ) (j : ℕ) → turning a b c d (j + 4) ≡ turning a b c d j
+unfolding turning
+turns a b c d j = rw add-mod-right refl
+
+edge-face-sized : (a b c d : ℤ) (f : Face) → IsEdgeFace a b c d f → FaceSized f
+unfolding turning
+edge-face-sized a b c d f h =
+    let i = h .faces (turning a b c d) (turns a b c d) 0 refl refl refl refl in
+    record { centre = i .centre-size; ahead = i .ahead-size; behind = i .behind-size }
+
+pub through-sized : (p : ℕ → ℤ) (a b c d : ℕ) (e : Edge) → Through p a b c d e → RefinedSize (p a) → RefinedSize (p b) → RefinedSize (p d) → EdgeSized e
+through-sized p a b c d e t ha hb hd =
+    let f = edge-face-sized _ _ _ _ _ (t .face) in
+    record {
+      centre = f .centre;
+      ahead = f .ahead;
+      behind = f .behind;
+      here = rw (t .here) ha;
+      after = rw (t .after) hb;
+      before = rw (t .before) hd;
+    }
+
+pub ring-sized : (p : ℕ → ℤ) (a b c d m : ℕ) (e : Edge) (f g : Face) → Through p a b c d e → (m ≡ 4 → f ≡ edgeFace e) → ((m ≡ 4 → ⊥) → f ≡ g)
+    → ((m ≡ 4 → ⊥) → FaceSized g) → FaceSized f
+ring-sized p a b c d m e f g t h k z = go (four-or m)
+  where
+    go : (m ≡ 4) ⊎ (m ≡ 4 → ⊥) → FaceSized f
+    go (inl y) = rw (h y) (edge-face-sized _ _ _ _ _ (t .face))
+    go (inr n) = rw (k n) (z n)
+
+-- ---- a side from its parts, in plain numbers
+made-exact : (K : RefinedMesh rounded) (c : ℕ) (s : Side) (h t p q v w k : ℤ) (r : SideValues) → Parts K c s h t p q v w k → Made h t p q v w k r
+    → IsSide K c s r × Sized r
+unfolding N
+made-exact K c s h t p q v w k r e m = (
+  record {
+    head = m .head ∙ e .head;
+    tail = m .tail ∙ e .tail;
+    x = m .x ∙ e .x;
+    y = m .y ∙ e .y;
+    inner = m .inner ∙ cc (e .x, e .y, e .here, e .there);
+    cosine = m .cosine ∙ e .cosine;
+  },
+  m .sized,
+)
+
+-- ---- the same face by other names of its corners
+through-move : (p q : ℕ → ℤ) (a b c d a′ b′ c′ d′ : ℕ) (e : Edge) → p a ≡ q a′ → p b ≡ q b′ → p c ≡ q c′ → p d ≡ q d′ → Through p a b c d e
+    → Through q a′ b′ c′ d′ e
+through-move p q a b c d a′ b′ c′ d′ e ea eb ec ed t = record {
+  face = rw (← ea, ← eb, ← ec, ← ed) (t .face);
+  here = t .here ∙ ea;
+  after = t .after ∙ eb;
+  before = t .before ∙ ed;
+}
+
+-- ---- at a corner of a mesh that the tables draw
+module _ (count : ℕ) (table : List ℕ) (points : List ℤ) (c : ℕ) (t : Drawn count table points × (c < count)) where
+  abbrev around-c : List ℕ
+  around-c = near (tabled count table) c
+
+  near-in : (i : ℕ) → i < 11 → getD around-c i 0 < count
+  near-in zero h = t .1
+  near-in (suc zero) h = t .0 .sound .next-in c (t .1)
+  near-in (suc (suc zero)) h = t .0 .sound .previous-in _ (t .0 .sound .link-in c (t .1))
+  near-in (suc (suc (suc zero))) h = t .0 .sound .link-in c (t .1)
+  near-in (suc (suc (suc (suc zero)))) h = t .0 .sound .previous-in _ (t .0 .sound .link-in _ (t .0 .sound .previous-in c (t .1)))
+  near-in (suc (suc (suc (suc (suc zero))))) h = t .0 .sound .link-in _ (t .0 .sound .previous-in c (t .1))
+  near-in (suc (suc (suc (suc (suc (suc zero)))))) h = t .0 .sound .previous-in c (t .1)
+  near-in (suc (suc (suc (suc (suc (suc (suc zero))))))) h = t .0 .sound .link-in _ (t .0 .sound .link-in c (t .1))
+  near-in (suc (suc (suc (suc (suc (suc (suc (suc zero)))))))) h =
+      t .0 .sound .link-in _ (t .0 .sound .link-in _ (t .0 .sound .link-in c (t .1)))
+  near-in (suc (suc (suc (suc (suc (suc (suc (suc (suc zero))))))))) h = t .0 .sound .next-in _ (t .0 .sound .next-in c (t .1))
+  near-in (suc (suc (suc (suc (suc (suc (suc (suc (suc (suc zero)))))))))) h =
+      t .0 .sound .next-in _ (t .0 .sound .next-in _ (t .0 .sound .next-in c (t .1)))
+  near-in (suc (suc (suc (suc (suc (suc (suc (suc (suc (suc (suc i))))))))))) h = absurd (omega arith)
+
+  near-size : (i a : ℕ) → i < 11 → a < 3 → RefinedSize (pointAt points a (getD around-c i 0))
+  near-size i a h l = t .0 .small a l (getD around-c i 0) (near-in i h)
+
+  pub near-fine : (i a : ℕ) → i < 11 → a < 3
+      → (pointRow * getD around-c i 0 + a < length points) × FaceSize (pointAt points a (getD around-c i 0))
+  near-fine i a h l = (omega (arith, near-in i h, t .0 .points-long), as-face (pointAt points a (getD around-c i 0)) (near-size i a h l))
+
+  pub cosine-fine : (m : ℕ) → m ≡ tabled count table .valence c → CosineSize (cosine m 1)
+  unfolding C
+  cosine-fine m e = rw e (C-cosine (drawn count table points 0) (t .0 .sound) (t .0 .small 0 (lit< tt)) c (t .1) side0)
+
+  pub cosine-fine-2 : (n : ℕ) → n ≡ tabled count table .sides c → CosineSize (cosine n 1)
+  unfolding C
+  cosine-fine-2 n e = rw e (C-cosine (drawn count table points 0) (t .0 .sound) (t .0 .small 0 (lit< tt)) c (t .1) side1)
+
+  module _ (m n : ℕ) (em : m ≡ tabled count table .valence c) (en : n ≡ tabled count table .sides c) (a0 a1 a2 a3 : List ℤ) (e0 : length a0 ≡ 68)
+      (v1 : RingTaken (λ (a : ℕ). around points a table toLink c) m 11 a0 a1) (v2 : RingTaken (λ (a : ℕ). around points a table toNext c) n 14 a1 a2)
+      (v3 : PointsTaken points around-c 11 a2 a3) where
+    of-vertex : (j k : ℕ) → k < 4 → 11 ≤ j → j < 14 → pointAt a3 k j ≡ pointAt a1 k j
+    of-vertex j k l f g = v3 .above j k l f ∙ v2 .below j k l g
+
+    of-face : (j k : ℕ) → k < 4 → 14 ≤ j → pointAt a3 k j ≡ pointAt a2 k j
+    of-face j k l f = v3 .above j k l (omega arith)
+
+    pub ready : (k : ℕ) → k < 4 → LaneReady a3 k m n
+    ready k l = record {
+      long = v3 .same ∙ v2 .same ∙ v1 .same ∙ e0;
+      lane = l;
+      points = λ i h. rw (v3 .rows i k h l)
+          (lane-sized RefinedSize (lit≤ tt) _ _ _ (near-size i 0 h (lit< tt)) (near-size i 1 h (lit< tt)) (near-size i 2 h (lit< tt)) k);
+      vertex = λ f.
+          let z = v1 .sized f k l in
+          record {
+            centre = rw (of-vertex 11 k l (lit≤ tt) (lit< tt)) (z .centre);
+            ahead = rw (of-vertex 12 k l (lit≤ tt) (lit< tt)) (z .ahead);
+            behind = rw (of-vertex 13 k l (lit≤ tt) (lit< tt)) (z .behind);
+          };
+      face = λ f.
+          let z = v2 .sized f k l in
+          record {
+            centre = rw (of-face 14 k l (lit≤ tt)) (z .centre);
+            ahead = rw (of-face 15 k l (lit≤ tt)) (z .ahead);
+            behind = rw (of-face 16 k l (lit≤ tt)) (z .behind);
+          };
+    }
+
+    -- in the lane of an axis
+    module _ (a : ℕ) (la : a < 3) where
+      la4 : a < 4
+      la4 = omega arith
+
+      axis : Drawn count table points × (c < count) × (a < 3)
+      axis = (t .0, t .1, la)
+
+      lane-is : (x : ℕ → ℤ) (b : ℕ) → b < 3 → lane (x 0) (x 1) (x 2) b ≡ x b
+      lane-is x zero h = refl
+      lane-is x (suc zero) h = refl
+      lane-is x (suc (suc zero)) h = refl
+      lane-is x (suc (suc (suc b))) h = absurd (omega arith)
+
+      row-is : (i : ℕ) → i < 11 → pointAt a3 a i ≡ pointAt points a (getD around-c i 0)
+      row-is i h = v3 .rows i a h la4 ∙ lane-is (λ b. pointAt points b (getD around-c i 0)) a la
+
+      vertex-face : (f : Face) → RingMade a3 a m 3 7 11 8 f → IsFace (around points a table toLink c) m 0 (m - 1) f
+      unfolding around iterate
+      vertex-face f r = go (four-or m)
+        where
+          go : (m ≡ 4) ⊎ (m ≡ 4 → ⊥) → IsFace (around points a table toLink c) m 0 (m - 1) f
+          go (inl e) =
+              let cyc = point-ring _ _ _ _ _ _ (vertex-ring count table points c a axis m em) .cyclic in
+              rw (r .of-four e)
+              (subst (λ (m : ℕ). IsFace (around points a table toLink c) m 0 (m - 1) (edgeFace (r .four))) (sym e)
+              (r .through .face .faces (around points a table toLink c) (subst (λ (m : ℕ). (j : ℕ) → around points a table toLink c (j + m) ≡ around points a
+              table toLink c j) e cyc) 0 (sym (row-is 0 (lit< tt))) (sym (row-is 3 (lit< tt))) (sym (row-is 7 (lit< tt))) (sym (row-is 8 (lit< tt)))))
+          go (inr f) =
+              rw (r .other f)
+              (face-of _ m 0 (m - 1) (rowsFace a1 a 11) _ (of-vertex 11 a la4 (lit≤ tt) (lit< tt)) (of-vertex 12 a la4 (lit≤ tt) (lit< tt))
+              (of-vertex 13 a la4 (lit≤ tt) (lit< tt)) (v1 .face f a la))
+
+      mesh-face : (f : Face) → RingMade a3 a n 1 9 14 10 f → IsFace (around points a table toNext c) n 0 (n - 1) f
+      unfolding around iterate
+      mesh-face f r = go (four-or n)
+        where
+          go : (n ≡ 4) ⊎ (n ≡ 4 → ⊥) → IsFace (around points a table toNext c) n 0 (n - 1) f
+          go (inl e) =
+              let cyc = point-ring _ _ _ _ _ _ (face-ring count table points c a axis n en) .cyclic in
+              rw (r .of-four e)
+              (subst (λ (n : ℕ). IsFace (around points a table toNext c) n 0 (n - 1) (edgeFace (r .four))) (sym e)
+              (r .through .face .faces (around points a table toNext c) (subst (λ (n : ℕ). (j : ℕ) → around points a table toNext c (j + n) ≡ around points a
+              table toNext c j) e cyc) 0 (sym (row-is 0 (lit< tt))) (sym (row-is 1 (lit< tt))) (sym (row-is 9 (lit< tt))) (sym (row-is 10 (lit< tt)))))
+          go (inr f) =
+              rw (r .other f)
+              (face-of _ n 0 (n - 1) (rowsFace a2 a 14) _ (of-face 14 a la4 (lit≤ tt)) (of-face 15 a la4 (lit≤ tt)) (of-face 16 a la4 (lit≤ tt)) (v2
+              .face f a la))
+
+      pub lane-four : (v w : ℤ) (r : NetSides) → v ≡ cosine m 1 → w ≡ cosine n 1 → LaneMade a3 a m n v w r → FourSides (drawn count table points a) c r
+      unfolding H T C
+      lane-four v w r ev ew l =
+          let K = drawn count table points a in
+          let p = pointAt points a in
+          let e : IsLeaving K c (l .leaving) = through-move (pointAt a3 a) p 0 1 2 3 _ _ _ _ (l .leaving) (row-is 0 (lit< tt)) (row-is 1 (lit< tt))
+          (row-is 2 (lit< tt)) (row-is 3 (lit< tt)) (l .is-leaving) in
+          let g : IsArriving K c (l .arriving) = through-move (pointAt a3 a) p 0 4 5 6 _ _ _ _ (l .arriving) (row-is 0 (lit< tt)) (row-is 4 (lit< tt))
+          (row-is 5 (lit< tt)) (row-is 6 (lit< tt)) (l .is-arriving) in
+          let le = leaving-is count table points c a axis (l .leaving) e in
+          let ar = arriving-is count table points c a axis (l .arriving) g in
+          let vx = vertex-is count table points c a axis m (l .vertex) em (vertex-face (l .vertex) (l .is-vertex)) in
+          let fx = face-is count table points c a axis n (l .face) en (mesh-face (l .face) (l .is-face)) in
+          let cv = ev ∙ ap (λ (m : ℕ). cosine m 1) em in
+          let cw = ew ∙ ap (λ (n : ℕ). cosine n 1) en in
+          record {
+            side0 = made-exact K c side0 _ _ _ _ _ _ _ _
+                (record { head = vx .0; tail = le .0; x = vx .1; y = le .1; here = e .here; there = e .before; cosine = cv }) (l .made .side0);
+            side1 = made-exact K c side1 _ _ _ _ _ _ _ _
+                (record { head = fx .0; tail = le .0; x = fx .1; y = le .2; here = e .here; there = e .after; cosine = cw }) (l .made .side1);
+            side2 = made-exact K c side2 _ _ _ _ _ _ _ _
+                (record { head = fx .0; tail = ar .0; x = fx .2; y = ar .1; here = g .here; there = g .before; cosine = cw }) (l .made .side2);
+            side3 = made-exact K c side3 _ _ _ _ _ _ _ _
+                (record { head = vx .0; tail = ar .0; x = vx .2; y = ar .2; here = g .here; there = g .after; cosine = cv }) (l .made .side3);
+          }
+
+    pub net-put : (v w : ℤ) (lanes : List ℤ) (at : ℕ) (old new : List ℤ) → v ≡ cosine m 1 → w ≡ cosine n 1 → Filled a3 m n v w 4 lanes
+        → Copied lanes at 0 41 old new → Put (drawn count table points) c at old new
+    net-put v w lanes at old new ev ew f d = record {
+      same = d .same;
+      points-are = λ a p la lp.
+          let k = f .each a (omega arith) in
+          d .points-are p a (omega arith) lp la ∙ k .laid (drawn count table points a) c (lane-four a la v w (k .sides) ev ew (k .made)) p lp;
+      before = λ i h. d .before i (omega arith);
+      after = d .after;
+    }

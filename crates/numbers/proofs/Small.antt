@@ -1,0 +1,187 @@
+-- The rounding in 32 bits. A dividend that is lifted above zero has no sign, and its quotient is a product's upper half (`fraction-is`); of c d / 2^30 the
+-- whole part alone is rounded, and a tie shows in the rest (`eighth-is`).
+-- Assumes nothing.
+use mathlib.Core.Path.{_≡_, refl, sym, ap, _∙_}
+use mathlib.Core.Bool.{Bool, true, false, cond}
+use Prim.Native.Nat.{ℕ, zero, suc, _+_, _-_, _*_, _/_, _%_, _^_, _<_, _≤_}
+use native.Mathlib.Nat.{div-add-mod, mod-lt, mul-le-mul, le-trans}
+use native.Mathlib.Omega.{arith}
+use lib.Dec.{T, lit<}
+use lib.IntN.{ℤ, pos, negsuc, negℤ, natAbs, _+ℤ_, _-ℤ_, _*ℤ_}
+use lib.Signed.{_≤ℤ_, _<ℤ_, ltZ-yes, nonNeg, shrZ}
+use Rattle.paper.specs.Numbers.{floor, round}
+use Rattle.integers.proofs.Diff.{diff}
+use Rattle.integers.proofs.Poly.{over, poly}
+use Rattle.integers.proofs.Laws.{mul-le, nonneg}
+use Rattle.integers.proofs.Floor.{IsFloor, floor-is, floor-unique, step-le, pos-of}
+use Rattle.numbers.specs.Sign.{sign, tie}
+use Rattle.numbers.specs.Small.{lift, Lifted, Fraction}
+use Rattle.numbers.proofs.Nearest.{sign-bounds, shift-floor, round-floor, round-half}
+
+-- ---- a number that is not below zero, without its sign
+pub unsigned : (z : ℤ) → pos 0 ≤ℤ z → T (nonNeg z) × (pos (natAbs z) ≡ z)
+unsigned (pos a) h = (tt, refl)
+unsigned (negsuc a) h = absurd (h .le)
+
+pub at-least : (z : ℤ) (k : ℕ) → pos k ≤ℤ z → k ≤ natAbs z
+at-least (pos a) k h = let l = simp diff at h in omega arith
+at-least (negsuc a) k h = absurd (h .le)
+
+-- ---- p / 2^30 less u, by halves of u
+pub whole-size : (p u : ℕ) → u ≤ 2 ^ 31 → 2 ^ 29 * u ≤ p → p ≤ 5 * 2 ^ 28 * u → (p / 2 ^ 30 - u / 2 < 2 ^ 31) × (u - u / 2 < 2 ^ 31)
+whole-size p u h l k = (omega arith, omega arith)
+
+pub whole-is : (p u : ℕ) → 2 ^ 29 * u ≤ p → pos (p / 2 ^ 30 - u / 2) -ℤ pos (u - u / 2) ≡ pos (p / 2 ^ 30) -ℤ pos u
+whole-is p u l = simp diff (omega arith)
+
+pub whole-fits : (p u : ℕ) (d : ℤ) → u ≤ 2 ^ 31 → 2 ^ 29 * u ≤ p → p ≤ 5 * 2 ^ 28 * u → natAbs d ≤ 2 ^ 28
+    → (natAbs (pos (p / 2 ^ 30) -ℤ pos u) ≤ 2 ^ 30) × (natAbs (pos (p / 2 ^ 30) -ℤ pos u -ℤ d) ≤ 2 ^ 30 + 2 ^ 29)
+whole-fits p u d h l k m = let f = within p u h l k in (f, less (pos (p / 2 ^ 30) -ℤ pos u) d f m)
+  where
+    within : (p u : ℕ) → u ≤ 2 ^ 31 → 2 ^ 29 * u ≤ p → p ≤ 5 * 2 ^ 28 * u → natAbs (pos (p / 2 ^ 30) -ℤ pos u) ≤ 2 ^ 30
+    within p u h l k = simp diff (omega arith)
+
+    less : (a d : ℤ) → natAbs a ≤ 2 ^ 30 → natAbs d ≤ 2 ^ 28 → natAbs (a -ℤ d) ≤ 2 ^ 30 + 2 ^ 29
+    less = over 2 _ λ ρ. simp (poly, ρ) (omega arith)
+
+-- ---- the tie of an eighth
+abbrev unit : ℤ
+unit = pos (2 ^ 30)
+
+-- n is 2^30 m and a rest r; s is the sign of n, t what is added to m
+tied : (m s q : ℤ) → (negsuc 0 ≤ℤ s) × (s ≤ℤ pos 0) → IsFloor (m +ℤ pos 4 +ℤ s) (pos 8) q
+    → IsFloor (pos 2 *ℤ (unit *ℤ m +ℤ pos 0) +ℤ pos (8 * 2 ^ 30) +ℤ s) (pos 2 *ℤ pos (8 * 2 ^ 30)) q
+tied = over 3 _ λ ρ. simp (poly, ρ) (omega arith)
+
+untied : (m r s q : ℤ) → (negsuc 0 ≤ℤ s) × (s ≤ℤ pos 0) → (pos 0 <ℤ r) × (r <ℤ unit) → IsFloor (m +ℤ pos 4 +ℤ pos 0) (pos 8) q
+    → IsFloor (pos 2 *ℤ (unit *ℤ m +ℤ r) +ℤ pos (8 * 2 ^ 30) +ℤ s) (pos 2 *ℤ pos (8 * 2 ^ 30)) q
+untied = over 4 _ λ ρ. simp (poly, ρ) (omega arith)
+
+eighth-floor : (m : ℤ) (r : ℕ) → r < 2 ^ 30
+    → floor (m +ℤ pos 4 +ℤ tie r m) (pos 8) ≡ round (unit *ℤ m +ℤ pos r) (pos (8 * 2 ^ 30))
+eighth-floor m zero h =
+    floor-unique (pos 2 *ℤ (unit *ℤ m +ℤ pos 0) +ℤ pos (8 * 2 ^ 30) +ℤ sign m) (pos 2 *ℤ pos (8 * 2 ^ 30)) _ (ltZ-yes tt)
+    (tied m (sign m) (floor (m +ℤ pos 4 +ℤ sign m) (pos 8)) (sign-bounds m) (floor-is (m +ℤ pos 4 +ℤ sign m) (pos 8) (ltZ-yes tt)))
+    ∙ ap (λ (s : ℤ). floor (pos 2 *ℤ (unit *ℤ m +ℤ pos 0) +ℤ pos (8 * 2 ^ 30) +ℤ s) (pos 2 *ℤ pos (8 * 2 ^ 30))) (same m)
+    ∙ sym (round-floor (unit *ℤ m +ℤ pos 0) (pos (8 * 2 ^ 30)) (ltZ-yes tt))
+  where
+    same : (m : ℤ) → sign m ≡ sign (unit *ℤ m +ℤ pos 0)
+    same (pos a) = refl
+    same (negsuc a) = sym (ap sign (below a))
+      where
+        below : (a : ℕ) → unit *ℤ negsuc a +ℤ pos 0 ≡ negsuc (2 ^ 30 * a + (2 ^ 30 - 1))
+        below a = simp diff (omega arith)
+eighth-floor m (suc r) h =
+    let n = unit *ℤ m +ℤ pos (suc r) in
+    floor-unique (pos 2 *ℤ n +ℤ pos (8 * 2 ^ 30) +ℤ sign n) (pos 2 *ℤ pos (8 * 2 ^ 30)) _ (ltZ-yes tt)
+    (untied m (pos (suc r)) (sign n) (floor (m +ℤ pos 4 +ℤ pos 0) (pos 8)) (sign-bounds n) (some r, less r h)
+    (floor-is (m +ℤ pos 4 +ℤ pos 0) (pos 8) (ltZ-yes tt)))
+    ∙ sym (round-floor n (pos (8 * 2 ^ 30)) (ltZ-yes tt))
+  where
+    some : (r : ℕ) → pos 0 <ℤ pos (suc r)
+    some r = simp diff (omega arith)
+
+    less : (r : ℕ) → suc r < 2 ^ 30 → pos (suc r) <ℤ unit
+    less r h = simp diff (omega arith)
+
+-- x and r are what the product of c and d, both lifted by a, comes to, by a
+lifted : (a c d b x r : ℤ) → a *ℤ x +ℤ r ≡ (c +ℤ a) *ℤ (d +ℤ a) → a *ℤ (x -ℤ (c +ℤ a) -ℤ d +ℤ b) +ℤ r ≡ a *ℤ b +ℤ c *ℤ d
+lifted = over 6 _ λ ρ. simp poly (omega arith)
+
+parts : (p : ℕ) → unit *ℤ pos (p / 2 ^ 30) +ℤ pos (p % 2 ^ 30) ≡ pos p
+parts p = let e = div-add-mod p (2 ^ 30) in simp diff (omega arith)
+
+pub eighth-is : (c d b : ℤ) (u v : ℕ) → pos u ≡ c +ℤ pos (2 ^ 30) → pos v ≡ d +ℤ pos (2 ^ 30)
+    → let p = u * v in
+    let m = pos (p / 2 ^ 30) -ℤ pos u -ℤ d +ℤ b in
+    shrZ (m +ℤ pos 4 +ℤ tie (p % 2 ^ 30) m) (2 ^ 3) ≡ round (pos (2 ^ 30) *ℤ b +ℤ c *ℤ d) (pos (8 * 2 ^ 30))
+eighth-is c d b u v eu ev =
+    let p = u * v in
+    let m = pos (p / 2 ^ 30) -ℤ pos u -ℤ d +ℤ b in
+    shift-floor (m +ℤ pos 4 +ℤ tie (p % 2 ^ 30) m) (2 ^ 3)
+    ∙ eighth-floor m (p % 2 ^ 30) (mod-lt p (lit< tt))
+    ∙ ap (λ (n : ℤ). round n (pos (8 * 2 ^ 30))) (
+    ap (λ (z : ℤ). pos (2 ^ 30) *ℤ (pos (p / 2 ^ 30) -ℤ z -ℤ d +ℤ b) +ℤ pos (p % 2 ^ 30)) eu
+    ∙ lifted (pos (2 ^ 30)) c d b (pos (p / 2 ^ 30)) (pos (p % 2 ^ 30)) (parts p ∙ ap (λ (z : ℤ). z *ℤ pos v) eu ∙ ap (λ (z : ℤ). (c +ℤ pos (2 ^ 30))
+    *ℤ z) ev)
+    )
+
+-- ---- a fraction by a product
+-- t is d q and a rest r; m is a little more than 2^32 / d
+product-floor : (d m q r : ℤ) → (m *ℤ (r +ℤ pos 1)) ≤ℤ (m *ℤ d) → ((d *ℤ m -ℤ pos (2 ^ 32)) *ℤ (q +ℤ pos 1)) <ℤ m
+    → ((d *ℤ m -ℤ pos (2 ^ 32)) *ℤ pos 0) ≤ℤ ((d *ℤ m -ℤ pos (2 ^ 32)) *ℤ q) → (m *ℤ pos 0) ≤ℤ (m *ℤ r)
+    → IsFloor ((d *ℤ q +ℤ r) *ℤ m) (pos (2 ^ 32)) q
+product-floor = over 4 _ λ ρ. simp (poly, ρ) (omega arith)
+
+-- q is the quotient without the lift
+bounds : (n h s q : ℤ) → Lifted n h → (negsuc 0 ≤ℤ s) × (s ≤ℤ pos 0) → IsFloor (n +ℤ h +ℤ s) (pos 2 *ℤ h) q
+    → ((pos 2 *ℤ h *ℤ negℤ (pos lift)) <ℤ (pos 2 *ℤ h *ℤ q +ℤ pos 2 *ℤ h)) × ((pos 2 *ℤ h *ℤ q) <ℤ (pos 2 *ℤ h *ℤ pos lift +ℤ pos 2 *ℤ h))
+bounds = over 4 _ λ ρ. simp (poly, ρ) (omega arith)
+
+above : (n h : ℤ) → Lifted n h → (pos 0 <ℤ h) × (pos 0 <ℤ (pos 2 *ℤ h))
+above = over 2 _ λ ρ. simp (poly, ρ) (omega arith)
+
+rest : (z d q : ℤ) → IsFloor z d q → (pos 0 ≤ℤ (z -ℤ d *ℤ q)) × ((z -ℤ d *ℤ q +ℤ pos 1) ≤ℤ d)
+rest = over 3 _ λ ρ. simp (poly, ρ) (omega arith)
+
+quotient : (q : ℤ) → negℤ (pos lift) ≤ℤ q → q ≤ℤ pos lift → (pos 0 ≤ℤ (q +ℤ pos lift)) × ((q +ℤ pos lift +ℤ pos 1) ≤ℤ pos (2 * lift + 1))
+quotient = over 1 _ λ ρ. simp (poly, ρ) (omega arith)
+
+excess : (h : ℤ) (m : ℕ) → pos (2 ^ 32) ≤ℤ (pos 2 *ℤ h *ℤ pos m) → pos 0 ≤ℤ (pos 2 *ℤ h *ℤ pos m -ℤ pos (2 ^ 32))
+excess h m = plain h (pos m)
+  where
+    plain : (h m : ℤ) → pos (2 ^ 32) ≤ℤ (pos 2 *ℤ h *ℤ m) → pos 0 ≤ℤ (pos 2 *ℤ h *ℤ m -ℤ pos (2 ^ 32))
+    plain = over 2 _ λ ρ. simp (poly, ρ) (omega arith)
+
+-- the quotient with its lift, times the divisor and one divisor more
+top : (n h s q : ℤ) → (negsuc 0 ≤ℤ s) × (s ≤ℤ pos 0) → IsFloor (n +ℤ h +ℤ s) (pos 2 *ℤ h) q
+    → (pos 2 *ℤ h *ℤ (q +ℤ pos lift +ℤ pos 1)) ≤ℤ (n +ℤ pos 2 *ℤ h *ℤ pos lift +ℤ pos 3 *ℤ h)
+top = over 4 _ λ ρ. simp (poly, ρ) (omega arith)
+
+-- x is the excess, u the quotient: x (u + 1) is below m, since d times it is below d m
+exact : (d x m u y : ℤ) → pos 0 <ℤ d → (x *ℤ (d *ℤ (u +ℤ pos 1))) ≤ℤ (x *ℤ y) → (x *ℤ y) <ℤ (d *ℤ m) → (x *ℤ (u +ℤ pos 1)) <ℤ m
+exact d x m u y p a b = next _ m (step-le d (x *ℤ (u +ℤ pos 1) +ℤ pos 1) m p (times d x m u y a b))
+  where
+    times : (d x m u y : ℤ) → (x *ℤ (d *ℤ (u +ℤ pos 1))) ≤ℤ (x *ℤ y) → (x *ℤ y) <ℤ (d *ℤ m)
+        → (d *ℤ (x *ℤ (u +ℤ pos 1) +ℤ pos 1)) <ℤ (d *ℤ m +ℤ d)
+    times = over 5 _ λ ρ. simp (poly, ρ) (omega arith)
+
+    next : (a b : ℤ) → (a +ℤ pos 1) ≤ℤ b → a <ℤ b
+    next = over 2 _ λ ρ. simp (poly, ρ) (omega arith)
+
+back : (z d q l : ℤ) → d *ℤ (q +ℤ l) +ℤ (z -ℤ d *ℤ q) ≡ z +ℤ d *ℤ l
+back = over 4 _ λ ρ. simp poly (omega arith)
+
+less : (q l : ℤ) → q +ℤ l -ℤ l ≡ q
+less = over 2 _ λ ρ. simp poly (omega arith)
+
+of-naturals : (t m : ℕ) → floor (pos t *ℤ pos m) (pos (2 ^ 32)) ≡ pos (t * m / 2 ^ 32)
+unfolding floor
+of-naturals t m = refl
+
+pub fraction-is : (n h : ℤ) (t m : ℕ) → Lifted n h × Fraction n h m → pos t ≡ n +ℤ h +ℤ sign n +ℤ pos 2 *ℤ h *ℤ pos lift
+    → (pos (t * m / 2 ^ 32) ≤ℤ pos (2 * lift)) × (pos (t * m / 2 ^ 32) -ℤ pos lift ≡ round n (pos 2 *ℤ h))
+fraction-is n h t m ok e =
+    let d = pos 2 *ℤ h in
+    let z = n +ℤ h +ℤ sign n in
+    let p = above n h (ok .0) in
+    let q = floor z d in
+    let f = floor-is z d (p .1) in
+    let b = bounds n h (sign n) q (ok .0) (sign-bounds n) f in
+    let k = quotient q (step-le d (negℤ (pos lift)) q (p .1) (b .0)) (step-le d q (pos lift) (p .1) (b .1)) in
+    let r = rest z d q f in
+    let x = excess h m (ok .1 .0) in
+    let i = product-floor d (pos m) (q +ℤ pos lift) (z -ℤ d *ℤ q) (mul-le (pos m) _ _ (nonneg m) (r .1))
+    (exact d (d *ℤ pos m -ℤ pos (2 ^ 32)) (pos m) (q +ℤ pos lift) (n +ℤ d *ℤ pos lift +ℤ pos 3 *ℤ h) (p .1)
+    (mul-le (d *ℤ pos m -ℤ pos (2 ^ 32)) _ _ x (top n h (sign n) q (sign-bounds n) f)) (ok .1 .1)) (mul-le (d *ℤ pos m -ℤ pos (2 ^ 32)) _ _ x (k .0))
+    (mul-le (pos m) _ _ (nonneg m) (r .0)) in
+    let g = floor-unique _ (pos (2 ^ 32)) (q +ℤ pos lift) (ltZ-yes tt) i in
+    let s = ap (λ (y : ℤ). floor (y *ℤ pos m) (pos (2 ^ 32))) (back z d q (pos lift) ∙ sym e) in
+    let w = sym (g ∙ s ∙ of-naturals t m) in
+    (rw w (lower q (k .1)), ap (λ (y : ℤ). y -ℤ pos lift) w ∙ less q (pos lift) ∙ halved n h (p .0))
+  where
+    lower : (q : ℤ) → (q +ℤ pos lift +ℤ pos 1) ≤ℤ pos (2 * lift + 1) → (q +ℤ pos lift) ≤ℤ pos (2 * lift)
+    lower = over 1 _ λ ρ. simp (poly, ρ) (omega arith)
+
+    halved : (n h : ℤ) → pos 0 <ℤ h → floor (n +ℤ h +ℤ sign n) (pos 2 *ℤ h) ≡ round n (pos 2 *ℤ h)
+    halved n h l = pos-of h l λ j e k. rw e (round-half n j k)

@@ -1,0 +1,80 @@
+-- `rounding::small_shift` meets its contract. A shift is the floor by its power of two; with n' one below n where n is below zero it is the floor of
+-- n' / 2^k + 1/2.
+-- Assumes nothing.
+use mathlib.Core.Path.{_≡_, ap, _∙_}
+use Prim.Native.Nat.{ℕ, _-_, _*_, _^_, _%_, _+_, _≤_}
+use native.Mathlib.Nat.{one-mul, mod-eq-of-lt}
+use native.Mathlib.Omega.{arith}
+use borrow.Author.Needs.{needs}
+use lib.Dec.{lit<}
+use lib.IntN.{ℤ, pos, negsuc, natAbs, _+ℤ_}
+use lib.Pow.{pow-mono}
+use lib.Signed.{_≤ℤ_, shrZ}
+use mir.Syntax.{w32}
+use mir.Val.{SFits, toZ}
+use mir.Facts.{toZ-ofZ, toZ-pos}
+use Rattle.integers.proofs.Poly.{over, poly}
+use Rattle.integers.proofs.Machine.{abs-fits}
+use Rattle.numbers.specs.Sign.{sign}
+use Rattle.numbers.proofs.Nearest.{sign-bounds, shift-size, round-by-shift}
+use Rattle.numbers.proofs.rounding.small_shift.Statement.{statement}
+use Rattle.numbers.proofs.rounding.small_shift.Tie as tie
+
+-- the half that is added
+at-most : (k : ℕ) → k ≤ 4 → 2 ^ (k - 1) ≤ 2 ^ 3
+at-most k h = pow-mono {i = k - 1} {j = 3} (omega arith)
+
+half-is : (k : ℕ) → k ≤ 4 → toZ w32 ((1 * 2 ^ (k - 1)) % 4294967296) ≡ pos (2 ^ (k - 1))
+half-is k h =
+    ap (toZ w32) (ap (λ (i : ℕ). i % 4294967296) (one-mul (2 ^ (k - 1))) ∙ mod-eq-of-lt (omega (arith, at-most k h)))
+    ∙ toZ-pos w32 (omega (arith, at-most k h))
+
+sum-size : (n s e : ℤ) → (negsuc 0 ≤ℤ s) × (s ≤ℤ pos 0) → natAbs n ≤ 2 ^ 30 → natAbs e ≤ 2 ^ 3
+    → natAbs (n +ℤ e +ℤ s) ≤ 2 ^ 30 + 2 ^ 5
+sum-size = over 3 _ λ ρ. simp (poly, ρ) (omega arith)
+
+-- the sizes on the way
+pub record Sizes (n : ℤ) (k : ℕ) : Type 0 where
+  pub sum : SFits w32 (n +ℤ pos (2 ^ (k - 1)) +ℤ sign n)
+  pub last : SFits w32 (shrZ (n +ℤ pos (2 ^ (k - 1)) +ℤ sign n) (2 ^ k))
+
+sizes : (n : ℤ) (k : ℕ) → k ≤ 4 → natAbs n ≤ 2 ^ 30 → Sizes n k
+sizes n k l h =
+    let z = n +ℤ pos (2 ^ (k - 1)) +ℤ sign n in
+    let f = sum-size n (sign n) (pos (2 ^ (k - 1))) (sign-bounds n) h (at-most k l) in
+    record {
+      sum = abs-fits w32 _ (2 ^ 30 + 2 ^ 5) f (lit< tt);
+      last = abs-fits w32 _ (2 ^ 30 + 2 ^ 5) (shift-size z (2 ^ k) (2 ^ 30 + 2 ^ 5) f) (lit< tt);
+    }
+
+at-call : (c : tie.Start) → Sizes (c .args .n) (c .args .k)
+at-call c = sizes (c .args .n) (c .args .k) (c .pre .1) (c .pre .2)
+
+sub-raised : tie.Need-sub-small-raised
+sub-raised c = search needs
+
+cast-raised : tie.Need-cast-small-raised
+cast-raised c = search needs
+
+shl-raised : tie.Need-shl-small-raised
+shl-raised c = search needs
+
+raised-requires : tie.Need-small-raised-requires
+raised-requires c κs =
+    rw (toZ-ofZ (c .fits .n), half-is (c .args .k) (c .pre .1)) (omega (arith, c .pre .2), omega (arith, at-most (c .args .k) (c .pre .1)))
+
+cast-result : tie.Need-cast-result
+cast-result c = search needs
+
+shr-result : tie.Need-shr-result
+shr-result c = search needs
+
+returns : tie.Need-returns
+returns c =
+    let k = at-call (c .before) in
+    let f : SFits w32 (c .small-raised .result) = search needs in
+    let e = simp (toZ-ofZ, c .before .fits .n, half-is (c .before .args .k) (c .before .pre .1)) at (c .small-raised .ensures) in
+    rw (toZ-ofZ f, e, toZ-ofZ (k .last)) (round-by-shift (c .before .args .n) (c .before .args .k) (c .before .pre .0))
+
+pub small-shift-spec : {M : Type 1} → statement M
+small-shift-spec = tie.close (tie.spec sub-raised cast-raised shl-raised raised-requires cast-result shr-result returns)
