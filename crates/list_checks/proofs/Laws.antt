@@ -1,6 +1,6 @@
 -- What each test of the code says of the fault at its place.
 -- Assumes nothing.
-use mathlib.Core.Path.{_≡_, ap, _∙_, sym}
+use mathlib.Core.Path.{_≡_, ap, _∙_, sym, subst}
 use mathlib.Core.Bool.{true, false, not}
 use mathlib.Core.Logic.{⊎-elim}
 use mathlib.Core.List.{List}
@@ -21,7 +21,7 @@ use Rattle.paper.specs.Links.{vertexOf, names}
 use Rattle.paper.specs.Faults.{sound, fault, single, lowestOf, outside, fault4, fault27, fault6, fault7, fault28, fault9, sameVertexFrom}
 use Rattle.mesh.proofs.Ranges.{or-left, or-right, or-none}
 use Rattle.mesh.proofs.Accepted.{in-list}
-use Rattle.mesh.proofs.Scans.{ways, some-true, some-false, fails-step}
+use Rattle.mesh.proofs.Scans.{compared, ways, some-true, some-false, fails-step}
 use Rattle.mesh.proofs.Faces.{face-at}
 use Rattle.mesh.proofs.Verdicts.{single-hit, single-miss, lowest-hit}
 use Rattle.walk.specs.Table.{rowLength, valenceHere, entry, Blank}
@@ -154,3 +154,12 @@ module _ (sides corners table vertices : List ℕ) (f c start : ℕ) (l : f < le
         chains = chains-step corners table vertices c (p .chains) ht hv;
         faultless = fails-step (fault9 sides corners) c (p .faultless) (in-face ∙ unrepeated start corners c _ met q);
       }
+
+-- none of the list up to i is above a number that bounds those before it, and the one there
+pub all-below-step :
+    (list : List ℕ) (i m r : ℕ) → ((j : ℕ) → j < i → getD list j 0 ≤ m) → m ≤ r → getD list i 0 ≤ r → (j : ℕ) → j < i + 1 → getD list j 0 ≤ r
+all-below-step list i m r before grown here j h =
+    ⊎-elim
+    (λ (q : j ≡ i). subst (λ (k : ℕ). getD list k 0 ≤ r) (sym q) here)
+    (λ o. let l : j < i = ⊎-elim (λ (z : j < i). z) (λ (z : i < j). absurd (omega arith)) o in omega (arith, before j l))
+    (compared j i)

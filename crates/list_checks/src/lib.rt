@@ -12,8 +12,8 @@ use paper::SHARPNESS_PER_CORNER;
 use walk::ROW;
 use walk::VALENCE;
 ghost use mathlib.Core.Path.{_≡_};
-ghost use Prim.Native.Nat.{_*_, _≤_};
-ghost use lib.ListN.{length};
+ghost use Prim.Native.Nat.{ℕ, _*_, _≤_, _<_};
+ghost use lib.ListN.{length, getD};
 ghost use Rattle.paper.specs.Mesh.{mostFaces, mostCorners};
 ghost use Rattle.paper.specs.Corners.{sumOf};
 ghost use Rattle.paper.specs.Faults.{sound, single, lowestOf, fault4, fault27, fault5, fault6, fault7, fault8, fault28, fault9, stated};
@@ -99,8 +99,39 @@ pub fn check_coordinates(coordinates: &[i32]) -> Answer
     Answer::Done
 }
 
-// Check 8: each corner names a vertex.
+// Check 8: each corner names a vertex. Nearly every list passes: it is gone over without an early end first, several numbers at a time.
 pub fn check_names(vertices: usize, corners: &[u16]) -> Answer
+    ensures { λ r. ⌜ stated r ≡ lowestOf 8 (length (now (corners .entry))) (fault8 vertices (now (corners .entry))) ⌝ }
+{
+    let highest = highest_name(corners) as usize;
+    if highest < vertices {
+        return Answer::Done;
+    }
+    find_name(vertices, corners)
+}
+
+// A vertex that none of the corners is above.
+fn highest_name(corners: &[u16]) -> u16
+    ensures { λ r. ⌜ ((j : ℕ) → j < length (now (corners .entry)) → getD (now (corners .entry)) j 0 ≤ r) ⌝ }
+{
+    let mut most: u16 = 0;
+    let mut c = 0;
+    while c < corners.len() {
+        most = greater_name(most, corners[c]);
+        c += 1;
+    }
+    most
+}
+
+// The greater of two vertices.
+fn greater_name(a: u16, b: u16) -> u16
+    ensures { λ r. ⌜ (a ≤ r) × (b ≤ r) ⌝ }
+{
+    if a < b { b } else { a }
+}
+
+// The lowest corner at fault.
+fn find_name(vertices: usize, corners: &[u16]) -> Answer
     ensures { λ r. ⌜ stated r ≡ lowestOf 8 (length (now (corners .entry))) (fault8 vertices (now (corners .entry))) ⌝ }
 {
     let mut c = 0;
@@ -114,8 +145,38 @@ pub fn check_names(vertices: usize, corners: &[u16]) -> Answer
     Answer::Done
 }
 
-// Check 28, of the sharpness numbers.
+// Check 28, of the sharpness numbers. Nearly every list passes: it is gone over without an early end first, sixteen bytes at a time.
 pub fn check_sharpness(sharpness: &[u8]) -> Answer
+    ensures { λ r. ⌜ stated r ≡ lowestOf 28 (length (now (sharpness .entry))) (fault28 (now (sharpness .entry))) ⌝ }
+{
+    if highest(sharpness) <= MOST_SHARPNESS {
+        return Answer::Done;
+    }
+    find_sharpness(sharpness)
+}
+
+// A number that none of the list is above.
+fn highest(list: &[u8]) -> u8
+    ensures { λ r. ⌜ ((j : ℕ) → j < length (now (list .entry)) → getD (now (list .entry)) j 0 ≤ r) ⌝ }
+{
+    let mut most: u8 = 0;
+    let mut i = 0;
+    while i < list.len() {
+        most = greater(most, list[i]);
+        i += 1;
+    }
+    most
+}
+
+// The greater of two numbers.
+fn greater(a: u8, b: u8) -> u8
+    ensures { λ r. ⌜ (a ≤ r) × (b ≤ r) ⌝ }
+{
+    if a < b { b } else { a }
+}
+
+// The lowest number at fault.
+fn find_sharpness(sharpness: &[u8]) -> Answer
     ensures { λ r. ⌜ stated r ≡ lowestOf 28 (length (now (sharpness .entry))) (fault28 (now (sharpness .entry))) ⌝ }
 {
     let mut i = 0;

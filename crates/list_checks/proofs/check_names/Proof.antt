@@ -1,73 +1,34 @@
--- Check 8 meets its contract: no corner before `c` is at fault.
+-- Check 8 meets its contract: where the highest vertex that is named passes, no corner is at fault.
 -- Assumes nothing.
-use mathlib.Core.Path.{_≡_, sym}
-use mathlib.Core.Bool.{false}
-use Prim.Native.Nat.{ℕ, _≤_, _<_, _-_}
+use mathlib.Core.Path.{sym}
 use lib.ListN.{length, getD}
 use denote.Ref.{now}
-use borrow.Author.Tests.{le-leb, lt-leb}
+use borrow.Author.Tests.{lt-leb}
 use Rattle.paper.specs.Faults.{fault8}
-use Rattle.mesh.proofs.Scans.{fails-step}
-use Rattle.mesh.proofs.Verdicts.{lowest-hit, lowest-none}
+use Rattle.mesh.proofs.Verdicts.{lowest-none}
 use native.Mathlib.Omega.{arith}
 use borrow.Author.Needs.{needs}
 use Rattle.list_checks.proofs.check_names.Statement.{statement}
 use Rattle.list_checks.proofs.check_names.Tie as tie
 
-abbrev Inv-loop : tie.InvT-loop
-Inv-loop vertices corners c₀ c = (c ≤ length corners) × ((j : ℕ) → j < c → fault8 vertices corners j ≡ false)
+highest-name-requires : tie.Need-highest-name-requires
+highest-name-requires c κs = search needs
 
-abbrev μ-loop : tie.MeasureT-loop
-μ-loop vertices corners c₀ c = length corners - c
+cast-highest : tie.Need-cast-highest
+cast-highest c = search needs
 
-loop-holds : tie.Need-loop-holds Inv-loop μ-loop
-loop-holds c = (omega arith, λ j h. absurd (omega arith))
-
-mul-u : tie.Need-mul-u Inv-loop μ-loop
-mul-u c = search needs
-
-shared-slice-read-u : tie.Need-shared-slice-read-u Inv-loop μ-loop
-shared-slice-read-u c = search needs
-
-cast-u : tie.Need-cast-u Inv-loop μ-loop
-cast-u c = omega (arith, c .shared-slice-known .given (c .before .before .loop .c))
-
-returns : tie.Need-returns Inv-loop μ-loop
+returns : tie.Need-returns
 unfolding fault8
-returns c = let s = c .before .before .before .before in let l = c .before .before .before .loop in
+returns c = let s = c .before .before .before in
     let xs = now (s .args .corners) in
-    sym (lowest-hit 8 (length xs) (fault8 (s .args .vertices) xs) (l .c) (search needs) (le-leb (s .args .vertices) (getD xs (l .c) 0) (c .if1 .taken))
-    (l .inv .1))
+    sym (lowest-none 8 (length xs) (fault8 (s .args .vertices) xs)
+    (λ j h. lt-leb (s .args .vertices) (getD xs j 0) (omega (arith, c .before .highest-name .ensures j h, c .if1 .taken))))
 
-add-c : tie.Need-add-c Inv-loop μ-loop
-add-c c = search needs
+find-name-requires : tie.Need-find-name-requires
+find-name-requires c κs = search needs
 
-loop-less : tie.Need-loop-less Inv-loop μ-loop
-loop-less c = search needs
-
-loop-again : tie.Need-loop-again Inv-loop μ-loop
-unfolding fault8
-loop-again c = let s = c .before .before .before .before in let l = c .before .before .before .loop in
-    let xs = now (s .args .corners) in
-    (search needs, fails-step (fault8 (s .args .vertices) xs) (l .c) (l .inv .1) (lt-leb (s .args .vertices) (getD xs (l .c) 0) (c .if1 .left)))
-
-returns-2 : tie.Need-returns-2 Inv-loop μ-loop
-returns-2 c =
-    let l = c .before .loop in
-    sym (lowest-none 8 _ (fault8 (c .before .before .args .vertices) (now (c .before .before .args .corners))) (λ j h. l .inv .1 j (omega arith)))
+returns-2 : tie.Need-returns-2
+returns-2 c = search needs
 
 pub check-names-spec : {M : Type 1} → statement M
-check-names-spec =
-    tie.close
-    (tie.spec
-    Inv-loop
-    μ-loop
-    loop-holds
-    mul-u
-    shared-slice-read-u
-    cast-u
-    returns
-    add-c
-    loop-less
-    loop-again
-    returns-2)
+check-names-spec = tie.close (tie.spec highest-name-requires cast-highest returns find-name-requires returns-2)

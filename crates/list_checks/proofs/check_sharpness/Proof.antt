@@ -1,60 +1,29 @@
--- Check 28 meets its contract: no number before `i` is at fault.
+-- Check 28 meets its contract: a list whose highest number passes has no number at fault.
 -- Assumes nothing.
-use mathlib.Core.Path.{_≡_, sym}
-use mathlib.Core.Bool.{false}
-use Prim.Native.Nat.{ℕ, _≤_, _<_, _-_}
+use mathlib.Core.Path.{sym}
 use lib.ListN.{length}
 use denote.Ref.{now}
 use Rattle.paper.specs.Faults.{fault28}
-use Rattle.mesh.proofs.Scans.{fails-step}
-use Rattle.mesh.proofs.Verdicts.{lowest-hit, lowest-none}
+use Rattle.mesh.proofs.Verdicts.{lowest-none}
 use native.Mathlib.Omega.{arith}
 use borrow.Author.Needs.{needs}
-use Rattle.list_checks.proofs.Laws.{too-sharp, not-too-sharp}
+use Rattle.list_checks.proofs.Laws.{not-too-sharp}
 use Rattle.list_checks.proofs.check_sharpness.Statement.{statement}
 use Rattle.list_checks.proofs.check_sharpness.Tie as tie
 
-abbrev Inv-loop : tie.InvT-loop
-Inv-loop sharpness i₀ i = (i ≤ length sharpness) × ((j : ℕ) → j < i → fault28 sharpness j ≡ false)
+highest-requires : tie.Need-highest-requires
+highest-requires c κs = search needs
 
-abbrev μ-loop : tie.MeasureT-loop
-μ-loop sharpness i₀ i = length sharpness - i
-
-loop-holds : tie.Need-loop-holds Inv-loop μ-loop
-loop-holds c = (omega arith, λ j h. absurd (omega arith))
-
-shared-slice-read-s : tie.Need-shared-slice-read-s Inv-loop μ-loop
-shared-slice-read-s c = search needs
-
-returns : tie.Need-returns Inv-loop μ-loop
-returns c = let s = c .before .before .before .before in let l = c .before .before .before .loop in
+returns : tie.Need-returns
+returns c = let s = c .before .before .before in
     let xs = now (s .args .sharpness) in
-    sym (lowest-hit 28 (length xs) (fault28 xs) (l .i) (search needs) (too-sharp xs (l .i) (search needs) (c .if1 .taken)) (l .inv .1))
+    sym (lowest-none 28 (length xs) (fault28 xs) (λ j h. not-too-sharp xs j h (omega (arith, c .before .highest .ensures j h, c .if1 .taken))))
 
-add-i : tie.Need-add-i Inv-loop μ-loop
-add-i c = search needs
+find-sharpness-requires : tie.Need-find-sharpness-requires
+find-sharpness-requires c κs = search needs
 
-loop-less : tie.Need-loop-less Inv-loop μ-loop
-loop-less c = search needs
-
-loop-again : tie.Need-loop-again Inv-loop μ-loop
-loop-again c = let s = c .before .before .before .before in let l = c .before .before .before .loop in
-    let xs = now (s .args .sharpness) in
-    (search needs, fails-step (fault28 xs) (l .i) (l .inv .1) (not-too-sharp xs (l .i) (search needs) (c .if1 .left)))
-
-returns-2 : tie.Need-returns-2 Inv-loop μ-loop
-returns-2 c = let l = c .before .loop in sym (lowest-none 28 _ (fault28 (now (c .before .before .args .sharpness))) (λ j h. l .inv .1 j (omega arith)))
+returns-2 : tie.Need-returns-2
+returns-2 c = search needs
 
 pub check-sharpness-spec : {M : Type 1} → statement M
-check-sharpness-spec =
-    tie.close
-    (tie.spec
-    Inv-loop
-    μ-loop
-    loop-holds
-    shared-slice-read-s
-    returns
-    add-i
-    loop-less
-    loop-again
-    returns-2)
+check-sharpness-spec = tie.close (tie.spec highest-requires returns find-sharpness-requires returns-2)

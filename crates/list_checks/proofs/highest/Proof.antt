@@ -1,0 +1,52 @@
+-- No number before `i` is above the greatest met.
+-- Assumes nothing.
+use Prim.Native.Nat.{ℕ, _≤_, _<_, _-_}
+use lib.ListN.{length, getD}
+use denote.Ref.{now}
+use native.Mathlib.Omega.{arith}
+use borrow.Author.Needs.{needs}
+use Rattle.list_checks.proofs.Laws.{all-below-step}
+use Rattle.list_checks.proofs.highest.Statement.{statement}
+use Rattle.list_checks.proofs.highest.Tie as tie
+
+abbrev Inv-loop : tie.InvT-loop
+Inv-loop list most₀ i₀ most i = (i ≤ length list) × ((j : ℕ) → j < i → getD list j 0 ≤ most)
+
+abbrev μ-loop : tie.MeasureT-loop
+μ-loop list most₀ i₀ most i = length list - i
+
+loop-holds : tie.Need-loop-holds Inv-loop μ-loop
+loop-holds c = (omega arith, λ j h. absurd (omega arith))
+
+shared-slice-read-greater : tie.Need-shared-slice-read-greater Inv-loop μ-loop
+shared-slice-read-greater c = search needs
+
+greater-requires : tie.Need-greater-requires Inv-loop μ-loop
+greater-requires c κs = search needs
+
+add-i : tie.Need-add-i Inv-loop μ-loop
+add-i c = search needs
+
+loop-less : tie.Need-loop-less Inv-loop μ-loop
+loop-less c = search needs
+
+loop-again : tie.Need-loop-again Inv-loop μ-loop
+loop-again c = let s = c .before .before .before .before .before in let l = c .before .before .before .loop in
+    (search needs, all-below-step (now (s .args .list)) (l .i) (l .most) (c .greater .result) (l .inv .1) (c .greater .ensures .0) (c .greater .ensures .1))
+
+returns : tie.Need-returns Inv-loop μ-loop
+returns c = let l = c .before .loop in λ j h. l .inv .1 j (omega arith)
+
+pub highest-spec : {M : Type 1} → statement M
+highest-spec =
+    tie.close
+    (tie.spec
+    Inv-loop
+    μ-loop
+    loop-holds
+    shared-slice-read-greater
+    greater-requires
+    add-i
+    loop-less
+    loop-again
+    returns)
