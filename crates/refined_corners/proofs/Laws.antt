@@ -24,20 +24,20 @@ use Rattle.surface.proofs.Hull.{blend-size, mean-size, weights-sum}
 use Rattle.surface.specs.Points.{pointRow}
 use Rattle.face_sums.specs.Sources.{Refinable, Ticks, Small, Added}
 use Rattle.refined_corners.specs.Mean.{Pair, Weighted, Balanced, blend, mean}
-use Rattle.refined_corners.specs.declared.Weights.{Weights}
+use Rattle.refined_corners.specs.declared.CornerWeights.{CornerWeights}
 use Rattle.face_sums.proofs.Laws.{tick-at, end-in, face-sizes, holds-none, holds-one, holds-more}
 
 -- ---- weights
 -- those of a pair within its limits sum to 512
-pub balanced : (sharpness : List ℕ) (c : ℕ) (w : Weights) → Pair sharpness c → Weighted sharpness c w → Balanced w
+pub balanced : (sharpness : List ℕ) (c : ℕ) (w : CornerWeights) → Pair sharpness c → Weighted sharpness c w → Balanced w
 balanced sharpness c w p h =
     rw (h .face, h .before, h .here, h .after) (weights-sum (getD sharpness (2 * c) plain) (getD sharpness (2 * c + 1) plain) (p .u-most) (p .v-most))
 
 -- ---- the sizes on the way to a refined point
-abbrev pub threefold : Weights → ℤ → ℤ → ℤ → ℤ
+abbrev pub threefold : CornerWeights → ℤ → ℤ → ℤ → ℤ
 threefold w before here after = pos (w .before) *ℤ before +ℤ pos (w .here) *ℤ here +ℤ pos (w .after) *ℤ after
 
-pub record Sizes (w : Weights) (total before here after : ℤ) (n : ℕ) : Type 0 where
+pub record Sizes (w : CornerWeights) (total before here after : ℤ) (n : ℕ) : Type 0 where
   pub read : toZ w64 n ≡ pos n
   pub read-face : toZ w64 (w .face) ≡ pos (w .face)
   pub read-before : toZ w64 (w .before) ≡ pos (w .before)
@@ -54,7 +54,7 @@ pub record Sizes (w : Weights) (total before here after : ℤ) (n : ℕ) : Type 
   pub size : natAbs (blend w total before here after n) ≤ n * (512 * 2 ^ 24)
   pub result : natAbs (mean w total before here after n) ≤ 2 ^ 24
 
-module _ (w : Weights) (b : Balanced w) (total before here after : ℤ) (n : ℕ) (t : Ticks total before here after n) where
+module _ (w : CornerWeights) (b : Balanced w) (total before here after : ℤ) (n : ℕ) (t : Ticks total before here after n) where
   pub sizes : Sizes w total before here after n
   sizes =
       let f = abs-mul-le (pos (w .face)) total 512 (n * 2 ^ 24) (omega arith) (t .face .total-size) in
@@ -111,13 +111,13 @@ module _ (M : Mesh) (R : Refinable M) (f : ℕ) (l : f < faceCount M) (c : ℕ) 
   its-face : faceOf (M .sides) c ≡ f
   its-face = face-at (M .sides) f c a (omega (arith, start-next (M .sides) f l)) l
 
-  mean-is : (axis : ℕ) (w : Weights) → Weighted (M .sharpness) c w → refinedPoint rounded M axis c ≡ mean w (faceSum M axis f) (ticks M axis
+  mean-is : (axis : ℕ) (w : CornerWeights) → Weighted (M .sharpness) c w → refinedPoint rounded M axis c ≡ mean w (faceSum M axis f) (ticks M axis
       (previous (M .sides) c)) (ticks M axis c) (ticks M axis (next (M .sides) c)) (getD (M .sides) f 0)
   unfolding refinedPoint sidesOf uOf vOf
   mean-is axis w h = rw (h .face, h .before, h .here, h .after, its-face)
 
   -- from the values that the code has of it: the refined point, and its size
-  pub point-is : (axis p q : ℕ) (w : Weights) (total r : ℤ) → axis < 3 → Weighted (M .sharpness) c w → p ≡ previous (M .sides) c → q ≡ next (M .sides) c
+  pub point-is : (axis p q : ℕ) (w : CornerWeights) (total r : ℤ) → axis < 3 → Weighted (M .sharpness) c w → p ≡ previous (M .sides) c → q ≡ next (M .sides) c
       → total ≡ faceSum M axis f → r ≡ mean w total (ticks M axis p) (ticks M axis c) (ticks M axis q) (getD (M .sides) f 0)
       → (r ≡ refinedPoint rounded M axis c) × (natAbs r ≤ 2 ^ 24)
   point-is axis p q w total r x h ep eq et er =

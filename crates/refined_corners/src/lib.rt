@@ -26,7 +26,7 @@ struct Around {
 }
 
 // What Σ and the vertices of the three corners are multiplied with; the four sum to 512.
-struct Weights {
+struct CornerWeights {
     face: u16,
     before: u16,
     here: u16,
@@ -71,7 +71,7 @@ pub fn fill_corner(
 }
 
 // The weights of a corner, by its sharpness.
-fn weigh(sharpness: &[u8], c: usize) -> Weights
+fn weigh(sharpness: &[u8], c: usize) -> CornerWeights
     requires { ⌜ Pair (now sharpness) c ⌝ }
     ensures { λ r. ⌜ Weighted (now (sharpness .entry)) c r ⌝ }
 {
@@ -79,7 +79,7 @@ fn weigh(sharpness: &[u8], c: usize) -> Weights
     let v = sharpness[SHARPNESS_PER_CORNER * c + 1] as u16;
     let to_u = 16 - u;
     let to_v = 16 - v;
-    Weights {
+    CornerWeights {
         face: 2 * to_u * to_v,
         before: to_u * v,
         here: 16 * (u + v),
@@ -93,7 +93,7 @@ fn on_axis(
     corners: &[u16],
     axis: usize,
     around: Around,
-    w: Weights,
+    w: CornerWeights,
     total: i32,
     n: u8,
 ) -> i32
@@ -141,7 +141,7 @@ fn divide(t: i64, n: u8) -> i64
 }
 
 // V from Σ, the vertices of the previous corner, of the corner and of the next, with their weights, and the sides of the face.
-fn refined(w: Weights, total: i64, before: i64, here: i64, after: i64, n: u8) -> i32
+fn refined(w: CornerWeights, total: i64, before: i64, here: i64, after: i64, n: u8) -> i32
     requires { ⌜ Ticks total before here after n × Balanced w ⌝ }
     ensures { λ r. ⌜ r ≡ mean w total before here after n ⌝ }
 {
