@@ -1,3 +1,2 @@
 pub mod Files
 pub mod Theorems
-pub mod Lists

@@ -1,8 +1,5 @@
 // The mesh file DMS as a whole: the bytes read, and the length counted, give its counts, or its lists, or why it is turned down.
 // A file is checked by 1 to 13 and 28 in local copies of its lists, before anything is written to a lent space.
-pub mod body;
-pub mod header;
-
 pub use surveying::survey_mesh;
 ghost use mathlib.Core.Path.{_≡_};
 ghost use Prim.Native.Nat.{_<_, _≤_};
@@ -82,7 +79,7 @@ fn refused(number: u8, place: usize) -> Decoded
 fn survey_file(file: &[u8], counted: usize) -> Summary
     ensures { λ r. ⌜ FileSurveyed (now (file .entry)) counted r ⌝ }
 {
-    let header = header::check_header(file, counted);
+    let header = dms_header::check_header(file, counted);
     if let Answer::Refused(number, place) = header {
         return Summary {
             answer: Answer::Refused(number, place),
@@ -101,16 +98,16 @@ fn survey_lists(file: &[u8]) -> Summary
     let mut sides = [0u8; MOST_FACES];
     let mut corners = [0u16; MOST_CORNERS];
     let mut sharpness = [0u8; MOST_PAIRS];
-    body::read_lists(
+    dms_lists::read_lists(
         file,
         &mut coordinates,
         &mut sides,
         &mut corners,
         &mut sharpness,
     );
-    let numbers = 3 * header::vertex_count(file);
-    let faces = header::face_count(file);
-    let count = header::corner_count(file);
+    let numbers = 3 * dms_header::vertex_count(file);
+    let faces = dms_header::face_count(file);
+    let count = dms_header::corner_count(file);
     survey_mesh(
         &coordinates[..numbers],
         &sides[..faces],
@@ -141,13 +138,13 @@ fn decode_file(
     if let Answer::Refused(number, place) = answer {
         return refused(number, place);
     }
-    body::read_lists(file, coordinates, sides, corners, sharpness);
+    dms_lists::read_lists(file, coordinates, sides, corners, sharpness);
     Decoded {
         answer: Answer::Done,
-        coordinates: 3 * header::vertex_count(file),
-        sides: header::face_count(file),
-        corners: header::corner_count(file),
-        sharpness: 2 * header::corner_count(file),
+        coordinates: 3 * dms_header::vertex_count(file),
+        sides: dms_header::face_count(file),
+        corners: dms_header::corner_count(file),
+        sharpness: 2 * dms_header::corner_count(file),
     }
 }
 
@@ -181,15 +178,15 @@ fn check_room(
     requires { ⌜ headerLength ≤ length (now file) ⌝ }
     ensures { λ r. ⌜ stated r ≡ roomVerdict (now (file .entry)) coordinates sides corners sharpness ⌝ }
 {
-    let numbers = 3 * header::vertex_count(file);
+    let numbers = 3 * dms_header::vertex_count(file);
     if coordinates < numbers {
         return Answer::Refused(NO_ROOM, numbers);
     }
-    let faces = header::face_count(file);
+    let faces = dms_header::face_count(file);
     if sides < faces {
         return Answer::Refused(NO_ROOM, faces);
     }
-    let count = header::corner_count(file);
+    let count = dms_header::corner_count(file);
     if corners < count {
         return Answer::Refused(NO_ROOM, count);
     }

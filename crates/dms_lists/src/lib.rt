@@ -4,7 +4,7 @@ ghost use Prim.Native.Nat.{_+_, _*_, _<_, _≤_};
 ghost use lib.ListN.{length, replicate};
 ghost use lib.IntN.{negsuc};
 ghost use mir.Syntax.{w32};
-ghost use mir.Val.{toZ};
+ghost use mir.Val.{toZ, ofZ};
 ghost use Rattle.paper.specs.Scan.{valuesFrom};
 ghost use Rattle.paper.specs.Mesh.{meshOf, plain};
 ghost use Rattle.paper.specs.File.{wordAt, signedAt, headerLength, cornersIn, sharpnessStart, expectedLength, coordinateIn, sideIn, cornerIn, sharpnessIn, begins};
@@ -46,6 +46,17 @@ pub fn signed(bits: u32) -> i32
         bits as i32
     } else {
         below_zero(4294967295 - bits)
+    }
+}
+
+// The 32 bits of a number, in two's complement.
+pub fn bits(z: i32) -> u32
+    ensures { λ r. ⌜ r ≡ ofZ w32 z ⌝ }
+{
+    if z < 0 {
+        4294967295 - (-1 - z) as u32
+    } else {
+        z as u32
     }
 }
 

@@ -7,6 +7,7 @@ ghost use mir.Val.{ofZ};
 ghost use Rattle.paper.specs.Mesh.{meshOf};
 ghost use Rattle.text_buffer.specs.Text.{Put};
 ghost use Rattle.dms_output.specs.Bytes.{halfBytes, wordBytes, coordinateBytes, cornerBytes, headerBytes, listBytes, fileBytes, Plain};
+use dms_lists::bits;
 use paper::PLAIN;
 use streams::output::say_up_to;
 use text_buffer::put_byte;
@@ -100,17 +101,6 @@ fn put_half(file: &mut [u8], at: usize, n: usize) -> usize
 {
     let low = put_byte(file, at, (n % 256) as u8);
     put_byte(file, low, (n / 256 % 256) as u8)
-}
-
-// The 32 bits of a number, in two's complement.
-fn bits(z: i32) -> u32
-    ensures { λ r. ⌜ r ≡ ofZ w32 z ⌝ }
-{
-    if z < 0 {
-        4294967295 - (-1 - z) as u32
-    } else {
-        z as u32
-    }
 }
 
 // A coordinate.

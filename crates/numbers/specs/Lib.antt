@@ -1,6 +1,5 @@
 pub mod Lift
 pub mod Near
-pub mod Product
 pub mod Sign
 pub mod Small
 pub mod Stored

@@ -1,5 +1,5 @@
 // The rounding r of every stage: a quotient to the nearest whole number, halves away from zero. Every other crate calls `round_div`,
-// `round_shift` where the divisor is a power of two, or `round_product` where the sum is small, and cites the laws of `round`, so that another
+// `round_shift` where the divisor is a power of two, or one of 32 bits where the sum is small, and cites the laws of `round`, so that another
 // rounding is another definition, here alone. The sign, -1 below zero and else 0, turns halves below zero down, and no branch is needed.
 ghost use mathlib.Core.Path.{_≡_};
 ghost use Prim.Native.Nat.{_+_, _*_, _/_, _%_, _^_, _≤_};
@@ -8,7 +8,6 @@ ghost use lib.Signed.{_≤ℤ_, _<ℤ_};
 ghost use Rattle.paper.specs.Numbers.{round};
 ghost use Rattle.numbers.specs.Sign.{sign, tie};
 ghost use Rattle.numbers.specs.Lift.{Lifts};
-ghost use Rattle.numbers.specs.Product.{Scales};
 ghost use Rattle.numbers.specs.Small.{lift, Lifted, Fraction};
 
 // The sign of n: a shift copies it down.
@@ -55,15 +54,6 @@ pub fn round_shift(n: i64, k: u32) -> i64
     ensures { λ r. ⌜ r ≡ round n (pos (2 ^ k)) ⌝ }
 {
     raised(n, 1 << (k - 1)) >> k
-}
-
-// r(n / 2h) of a small n, by a product: m is a little more than 2^30 / h, so the product lies a little further from zero than n / 2h, and halves go
-// away from zero by themselves. With an m that the compiler sees this is a third of the division's steps.
-pub fn round_product(n: i64, h: i64, m: i64) -> i64
-    requires { ⌜ Scales n h m ⌝ }
-    ensures { λ r. ⌜ r ≡ round n (pos 2 *ℤ h) ⌝ }
-{
-    (n * m + 1073741824) >> 31
 }
 
 // The sign of a number of 32 bits. What follows keeps to 32 bits, so that four numbers are worked on at once where they stand side by side.

@@ -1,16 +1,14 @@
-// What the programs print: lines in a lent buffer, with the bytes that they then hold stated; and what `inspect` does with a file. The
-// programs find text, reading and writing here too, though each is a crate of its own.
-pub mod input;
+// What the programs print: lines in a lent buffer, with the bytes that they then hold stated; and what `inspect` does with a file.
 pub mod lines;
-pub mod text;
 
-pub use streams::output;
 ghost use lib.ListN.{take};
 ghost use Rattle.io.specs.Counts.{Counts};
 ghost use Rattle.paper.specs.File.{fileOf};
 ghost use Rattle.print.specs.Files.{Reported};
-use input::BUFFER;
+use file_input::BUFFER;
+use file_input::read_file;
 use lines::ANSWER;
+use streams::output;
 
 // The lines that say what `dms::survey` answers, of the bytes read and the length counted.
 pub fn report(bytes: &[u8], counted: usize, lines: &mut [u8; ANSWER]) -> usize
@@ -24,7 +22,7 @@ pub fn report(bytes: &[u8], counted: usize, lines: &mut [u8; ANSWER]) -> usize
 // Reads the file on a descriptor and prints its lines, or on standard error why it could not be read.
 pub fn inspect(fd: i32, name: &[u8]) {
     let mut buffer = [0u8; BUFFER];
-    let read = input::read_file(fd, name, &mut buffer);
+    let read = read_file(fd, name, &mut buffer);
     let held = read.held;
     if read.ok {
         print_report(&buffer[..held], read.counted);

@@ -6,13 +6,13 @@ ghost use Rattle.io.specs.Counts.{Counts as Within};
 ghost use Rattle.paper.specs.Mesh.{mostSides};
 ghost use Rattle.text_buffer.specs.Text.{Put};
 ghost use Rattle.print.specs.Lines.{ended, threeLine, refusedLine, countLine, countLines, meshLines, summaryLines};
-use crate::text::put_byte;
-use crate::text::put_number;
-use crate::text::put_word;
 use paper::Answer;
 use paper::Counts;
 use paper::NUMBERS;
 use paper::Summary;
+use text_buffer::put_byte;
+use text_buffer::put_number;
+use text_buffer::put_word;
 
 // Room for all that is printed of a file: a line for it and one for each m, none of them longer than 63 bytes after the word.
 pub const ANSWER: usize = 64 * (NUMBERS + 1);

@@ -31,7 +31,7 @@ pub fn read_numbers(bytes: &[u8], numbers: &mut [i32])
 {
     let mut i = 0;
     while i < numbers.len() {
-        numbers[i] = dms::body::coordinate(bytes, 4 * i);
+        numbers[i] = dms_lists::coordinate(bytes, 4 * i);
         i += 1;
     }
 }
@@ -43,7 +43,7 @@ pub fn write_numbers(numbers: &[i32], bytes: &mut [u8])
 {
     let mut i = 0;
     while i < numbers.len() {
-        crate::put(bytes, 1, 4 * i, crate::bits(numbers[i]));
+        crate::put(bytes, 1, 4 * i, dms_lists::bits(numbers[i]));
         i += 1;
     }
 }

@@ -2,6 +2,7 @@
 // have any length: no length is multiplied before it is known to be a quarter of the other.
 pub mod four_bytes;
 
+use dms_lists::bits;
 use paper::Answer;
 ghost use mathlib.Core.Path.{_≡_};
 ghost use Prim.Native.Nat.{_+_, _-_, _*_, _%_, _^_, _<_};
@@ -157,7 +158,7 @@ fn restore_at(bytes: &[u8], n: usize, numbers: &mut [i32], i: usize, before: u32
 {
     let d = stored(bytes, n, i);
     let sum = std::num::wrapping_add_u32(before, d);
-    numbers[i] = dms::body::signed(sum);
+    numbers[i] = dms_lists::signed(sum);
     return sum;
 }
 
@@ -177,15 +178,4 @@ fn wide(byte: u8) -> u32
     ensures { λ r. ⌜ (r ≡ byte) × (r < 256) ⌝ }
 {
     byte as u32
-}
-
-// The 32 bits of a number, in two's complement.
-fn bits(z: i32) -> u32
-    ensures { λ r. ⌜ r ≡ ofZ w32 z ⌝ }
-{
-    if z < 0 {
-        4294967295 - (-1 - z) as u32
-    } else {
-        z as u32
-    }
 }

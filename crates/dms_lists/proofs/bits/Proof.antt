@@ -2,9 +2,9 @@
 -- Assumes nothing.
 use native.Mathlib.Omega.{arith}
 use mir.Facts.{toZ-ofZ}
-use Rattle.dms_output.proofs.Words.{below, plain}
-use Rattle.dms_output.proofs.bits.Statement.{statement}
-use Rattle.dms_output.proofs.bits.Tie as tie
+use Rattle.dms_lists.proofs.Words.{below, plain}
+use Rattle.dms_lists.proofs.bits.Statement.{statement}
+use Rattle.dms_lists.proofs.bits.Tie as tie
 
 sub-result : tie.Need-sub-result
 sub-result c =
