@@ -36,13 +36,13 @@ pub fn largest(points: &[i32], table: &[u16], n: usize) -> Misses
     let mut c = 0;
     while c < n {
         if held != c {
-            write_net(points, table, n, c, &mut here);
+            write_net(points, table, &rows, n, c, &mut here);
         }
         let at = Walker { corner: c };
         let l = at.linked(table);
         let q = at.next(table);
-        write_net(points, table, n, l.corner, &mut linked);
-        write_net(points, table, n, q.corner, &mut next);
+        write_net(points, table, &rows, n, l.corner, &mut linked);
+        write_net(points, table, &rows, n, q.corner, &mut next);
         let m = corner_misses(points, table, &rows, n, c, &here, &linked, &next);
         most = misses::larger_of(most, m);
         here = next;
@@ -53,11 +53,18 @@ pub fn largest(points: &[i32], table: &[u16], n: usize) -> Misses
 }
 
 // The numbers of one corner.
-fn write_net(points: &[i32], table: &[u16], n: usize, c: usize, out: &mut [i32; 123])
-    requires { ⌜ Drawn n (now table) (now points) × (c < n) ⌝ }
+fn write_net(
+    points: &[i32],
+    table: &[u16],
+    rows: &cosines::Rows,
+    n: usize,
+    c: usize,
+    out: &mut [i32; 123],
+)
+    requires { ⌜ Drawn n (now table) (now points) × (c < n) × (now rows ≡ stored) ⌝ }
     ensures { λ _. ⌜ HeldAll (drawn n (now (table .entry)) (now (points .entry))) c (now (out .exit)) ⌝ }
 {
-    writing::write_corners(points, table, n, c, 1, out);
+    writing::write_corners(points, table, rows, n, c, 1, out);
 }
 
 // The largest misses of sides 0 and 1 of a corner, from its numbers, those of its link and those of the next corner.

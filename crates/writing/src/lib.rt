@@ -11,6 +11,7 @@ ghost use Rattle.paper.specs.Mesh.{meshOf};
 ghost use Rattle.paper.specs.Faults.{Accepted};
 ghost use Rattle.paper.specs.Refined.{cornersOf};
 ghost use Rattle.paper.specs.Calls.{nets, perCorner};
+ghost use Rattle.numbers.specs.Stored.{stored};
 ghost use Rattle.surface.specs.Points.{pointRow};
 ghost use Rattle.walk.specs.Table.{Tabled};
 ghost use Rattle.face_sums.specs.Sources.{Small};
@@ -47,13 +48,15 @@ pub fn write_nets(
         &wanted,
         points,
     );
-    write_corners(points, table, corners.len(), first, count, out);
+    let rows = cosines::rows();
+    write_corners(points, table, &rows, corners.len(), first, count, out);
 }
 
 // The numbers of each corner of the range. The tables are those of n corners.
 pub fn write_corners(
     points: &[i32],
     table: &[u16],
+    rows: &cosines::Rows,
     n: usize,
     first: usize,
     count: usize,
@@ -61,16 +64,16 @@ pub fn write_corners(
 )
     requires mesh { ⌜ Drawn n (now table) (now points) ⌝ }
     requires range { ⌜ (0 < count) × (first + count ≤ n) × (length (now out) ≡ perCorner * count) ⌝ }
+    requires rows { ⌜ now rows ≡ stored ⌝ }
     ensures { λ _. ⌜ NetsWritten (drawn n (now (table .entry)) (now (points .entry))) first count (now (out .exit)) ⌝ }
 {
-    let rows = cosines::rows();
     let mut near = [0i32; net::NEAR];
     let mut lanes = [0i32; net::LANES];
     let mut k = 0;
     while k < count {
         let c = first + k;
         let at = NUMBERS_PER_CORNER * k;
-        net::put_net(points, table, &rows, n, c, &mut near, &mut lanes, out, at);
+        net::put_net(points, table, rows, n, c, &mut near, &mut lanes, out, at);
         k += 1;
     }
 }

@@ -39,7 +39,7 @@ loop-holds c =
     (omega arith, λ l. absurd (omega arith), λ j few. nothing j ∙ sym (none-so-far _ j))
 
 write-net-requires : tie.Need-write-net-requires Inv-loop μ-loop
-write-net-requires c κs = let s = c .before .before .before .before .before .before in (s .pre, search needs)
+write-net-requires c κs = let s = c .before .before .before .before .before .before .before in (s .pre, search needs, c .before .before .before .before .before .rows .ensures)
 
 linked-requires : tie.Need-linked-requires Inv-loop μ-loop
 linked-requires c κs = omega (arith, c .before .before .before .before .before .pre .table-long, c .before .loop-test .taken)
@@ -49,26 +49,22 @@ next-requires c κs = omega (arith, c .before .before .before .before .before .b
 
 write-net-requires-2 : tie.Need-write-net-requires-2 Inv-loop μ-loop
 write-net-requires-2 c κs =
-    let s = c .before .before .before .before .before .before .before .before in
-    let l = c .before .before .before .before .before .loop in (
+    let s = c .before .before .before .before .before .before .before .before .before in
+    let l = c .before .before .before .before .before .before .loop in (
       s .pre,
-      subst (λ (d : ℕ). d < s .args .n) (sym (c .before .before .linked .ensures .read)) (s .pre .sound .link-in (l .c) (omega (
-        arith,
-        c
-            .before .before .before .before .loop-test .taken,
-      ))),
+      subst (λ (d : ℕ). d < s .args .n) (sym (c .before .before .before .linked .ensures .read))
+          (s .pre .sound .link-in (l .c) (omega (arith, c .before .before .before .before .before .loop-test .taken))),
+      c .before .before .before .before .before .before .before .rows .ensures,
     )
 
 write-net-requires-3 : tie.Need-write-net-requires-3 Inv-loop μ-loop
 write-net-requires-3 c κs =
-    let s = c .before .before .before .before .before .before .before .before .before .before in
-    let l = c .before .before .before .before .before .before .before .loop in (
+    let s = c .before .before .before .before .before .before .before .before .before .before .before .before in
+    let l = c .before .before .before .before .before .before .before .before .before .loop in (
       s .pre,
-      subst (λ (d : ℕ). d < s .args .n) (sym (c .before .before .before .next .ensures .read)) (s .pre .sound .next-in (l .c) (omega (
-        arith,
-        c
-            .before .before .before .before .before .before .loop-test .taken,
-      ))),
+      subst (λ (d : ℕ). d < s .args .n) (sym (c .before .before .before .before .before .next .ensures .read))
+          (s .pre .sound .next-in (l .c) (omega (arith, c .before .before .before .before .before .before .before .before .loop-test .taken))),
+      c .before .before .before .before .before .before .before .before .before .before .rows .ensures,
     )
 
 -- the corner's numbers stand in `here`, whether they were held or are made now
@@ -82,7 +78,7 @@ module _ (f : tie.Joined1 Inv-loop μ-loop) where
   here-held : HeldAll mesh (f .before .before .loop .c) (f .if1 .here)
   here-held =
       ⊎-elim
-      (λ w. subst (HeldAll mesh (f .before .before .loop .c)) (sym (w .3)) (w .2 .ensures))
+      (λ w. subst (HeldAll mesh (f .before .before .loop .c)) (sym (w .4)) (w .3 .ensures))
       (λ w.
       let l = f .before .before .loop in
       let e : f .before .before .loop .held ≡ f .before .before .loop .c = w .0 .left in
@@ -91,23 +87,16 @@ module _ (f : tie.Joined1 Inv-loop μ-loop) where
 
 corner-misses-requires : tie.Need-corner-misses-requires Inv-loop μ-loop
 corner-misses-requires c κs =
-    let f = c .before .before .before .before .before .before .before .before .before .before in
-    let s = c .before .before .before .before .before .before .before .before .before .before .before .before .before .before .before in
-    let l = c .before .before .before .before .before .before .write-net2 in
+    let f = c .before .before .before .before .before .before .before .before .before .before .before .before in
+    let s = f .before .before .before .before .before in
+    let l = c .before .before .before .before .before .before .before .write-net2 in
     let q = c .before .before .before .before .write-net3 in (
-      (
-        s .pre,
-        omega (arith, f .before .loop-test .taken),
-        c .before .before .before .before .before .before .before .before .before .before .before
-            .before .before .rows .ensures,
-      ),
+      (s .pre, omega (arith, f .before .loop-test .taken), f .before .before .before .rows .ensures),
       (
         here-held f,
         (
-          subst (λ (d : ℕ). HeldAll (mesh f) d (l .last .1 .1 .1 .1 .0)) (c .before .before .before .before .before .before .before .before .before
-              .linked .ensures .read) (l .ensures),
-          subst (λ (d : ℕ). HeldAll (mesh f) d (q .last .1 .1 .1 .1 .0)) (c .before .before .before .before .before .before .before .before .next
-              .ensures .read) (q .ensures),
+          subst (λ (d : ℕ). HeldAll (mesh f) d (l .last .1 .1 .1 .1 .1 .0)) (c .before .before .before .before .before .before .before .before .before .before .before .linked .ensures .read) (l .ensures),
+          subst (λ (d : ℕ). HeldAll (mesh f) d (q .last .1 .1 .1 .1 .1 .0)) (c .before .before .before .before .before .before .before .before .before .before .next .ensures .read) (q .ensures),
         ),
       ),
     )
@@ -116,19 +105,16 @@ larger-of-requires : tie.Need-larger-of-requires Inv-loop μ-loop
 larger-of-requires c κs = search needs
 
 add-c : tie.Need-add-c Inv-loop μ-loop
-add-c c = omega (
-  arith,
-  c .before .before .before .before .before .before .before .before .before .before .before .before .before .loop-test .taken,
-  c .before .before .before .before .before .before .before .before .before .before .before .before .before .before .before .before .before .fits .n,
-)
+add-c c = let d = c .before .before .before .before .before .before .before .before .before .before .before .before .before .before .before in omega (arith, d .loop-test .taken, d .before .before .before .before .fits .n)
 
 loop-less : tie.Need-loop-less Inv-loop μ-loop
-loop-less c = omega (arith, c .before .before .before .before .before .before .before .before .before .before .before .before .before .loop-test .taken)
+loop-less c = let d = c .before .before .before .before .before .before .before .before .before .before .before .before .before .before .before in omega (arith, d .loop-test .taken)
 
 loop-again : tie.Need-loop-again Inv-loop μ-loop
 loop-again c =
-    let l = c .before .before .before .before .before .before .before .before .before .before .before .before .before .before .loop in (
-      omega (arith, c .before .before .before .before .before .before .before .before .before .before .before .before .before .loop-test .taken),
+    let d = c .before .before .before .before .before .before .before .before .before .before .before .before .before .before .before in
+    let l = d .before .loop in (
+      omega (arith, d .loop-test .taken),
       λ h. c .before .before .before .before .before .before .write-net3 .ensures,
       λ j few. one-more _ j (l .c) _ _ _ (c .larger-of .ensures j) (l .inv .2 j few) (c .before .corner-misses .ensures j few),
     )

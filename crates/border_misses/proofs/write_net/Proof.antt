@@ -1,5 +1,7 @@
 -- `border_misses::write_net` meets its contract: the numbers of a range of one corner.
 -- Assumes nothing.
+use Prim.Native.Nat.{_+_, _≤_}
+use native.Mathlib.Omega.{arith}
 use denote.Ref.{now}
 use Rattle.border_misses.proofs.Laws.{held-of}
 use borrow.Author.Needs.{needs}
@@ -7,7 +9,10 @@ use Rattle.border_misses.proofs.write_net.Statement.{statement}
 use Rattle.border_misses.proofs.write_net.Tie as tie
 
 write-corners-requires : tie.Need-write-corners-requires
-write-corners-requires c κs = search needs
+write-corners-requires c κs =
+    let s = c .before .before in
+    let range : s .args .c + 1 ≤ s .args .n = omega (arith, s .pre .1) in
+    (s .pre .0, ((omega arith, range, search needs), s .pre .2))
 
 returns : tie.Need-returns
 returns c =

@@ -16,97 +16,77 @@ use Rattle.writing.proofs.Laws.{written-none, written-step}
 use borrow.Author.Needs.{needs}
 use Rattle.writing.proofs.write_corners.Statement.{statement}
 use Rattle.writing.proofs.write_corners.Tie as tie
-use Rattle.writing.proofs.write_corners.Reads as reads
-use Rattle.writing.proofs.write_corners.Lts as lts
-use Rattle.net.proofs.put_net.Reads as put-net-reads
-use Rattle.numbers.proofs.cosines.rows.Reads as rows-reads
 
 abbrev Inv-loop : tie.InvT-loop
-Inv-loop points table n first count out₀ rows near₀ lanes₀ k₀ out near lanes k =
+Inv-loop points table rows n first count out₀ near₀ lanes₀ k₀ out near lanes k =
     (k ≤ count) × (length out ≡ perCorner * count) × NetsWritten (drawn n table points) first k out × (length near ≡ 68) × (length lanes ≡ 164)
 
 abbrev μ-loop : tie.MeasureT-loop
-μ-loop points table n first count out₀ rows near₀ lanes₀ k₀ out near lanes k = count - k
+μ-loop points table rows n first count out₀ near₀ lanes₀ k₀ out near lanes k = count - k
 
--- src/lib.rt:66:16
 -- the mesh that the tables draw, on each axis
 abbrev mesh : tie.Start Inv-loop μ-loop → ℕ → RefinedMesh rounded
 mesh s = drawn (s .args .n) (now (s .args .table)) (now (s .args .points))
 
-rows-requires : tie.Need-rows-requires Inv-loop μ-loop
-rows-requires c κs = search needs
-
--- src/lib.rt:70:5
 loop-holds : tie.Need-loop-holds Inv-loop μ-loop
-loop-holds c = let s = c .before .before in (search needs, s .pre .1 .2, written-none (mesh s) _ _, refl, refl)
+loop-holds c = let s = c .before in (search needs, s .pre .1 .0 .2, written-none (mesh s) _ _, refl, refl)
 
--- src/lib.rt:71:17
 add-c : tie.Need-add-c Inv-loop μ-loop
 add-c c = search needs
 
--- src/lib.rt:72:18
 mul-at : tie.Need-mul-at Inv-loop μ-loop
 mul-at c = search needs
 
--- src/lib.rt:73:50
 slice-aggregate-put-net : tie.Need-slice-aggregate-put-net Inv-loop μ-loop
-slice-aggregate-put-net c = sym (c .before .before .before .loop .inv .3)
+slice-aggregate-put-net c = sym (c .before .before .loop .inv .3)
 
--- src/lib.rt:73:61
 slice-aggregate-put-net-2 : tie.Need-slice-aggregate-put-net-2 Inv-loop μ-loop
-slice-aggregate-put-net-2 c = sym (c .before .before .before .before .loop .inv .4)
+slice-aggregate-put-net-2 c = sym (c .before .before .before .loop .inv .4)
 
--- src/lib.rt:73:9
 put-net-requires : tie.Need-put-net-requires Inv-loop μ-loop
 put-net-requires c κs =
-    let s = c .before .before .before .before .before .before .before .before in
-    let l = c .before .before .before .before .before .loop in
+    let s = c .before .before .before .before .before .before in
+    let l = c .before .before .before .before .loop in
     let h : l .k < s .args .count = search needs in (
-      (s .pre .0, omega (arith, s .pre .1 .1)),
+      (s .pre .0, omega (arith, s .pre .1 .0 .1)),
       (
         (l .inv .3, l .inv .4),
         (
           omega (arith, l .inv .1),
-          c .before .before .before .before .before .before
-              .rows .ensures,
+          s .pre .1 .1,
         ),
       ),
     )
 
--- src/lib.rt:74:9
 add-k : tie.Need-add-k Inv-loop μ-loop
 add-k c =
-    let in-loop = c .before .before .before .before .before .before .before .before in
-    let s = in-loop .before .before .before .before in
-    let f : Fits w64 (in-loop .before .loop .k + 1) = omega (arith, in-loop .loop-test .taken, s .fits .count, s .pre .1 .0) in
+    let in-loop = c .before .before .before .before .before .before .before in
+    let s = in-loop .before .before .before in
+    let f : Fits w64 (in-loop .before .loop .k + 1) = omega (arith, in-loop .loop-test .taken, s .fits .count, s .pre .1 .0 .0) in
     f
 
--- src/lib.rt:70:5
 loop-less : tie.Need-loop-less Inv-loop μ-loop
 loop-less c = search needs
 
--- src/lib.rt:70:5
 loop-again : tie.Need-loop-again Inv-loop μ-loop
 loop-again c =
-    let in-loop = c .before .before .before .before .before .before .before .before in
-    let s = in-loop .before .before .before .before in
+    let in-loop = c .before .before .before .before .before .before .before in
+    let s = in-loop .before .before .before in
     let l = in-loop .before .loop in
     let p = c .before .before .before .put-net in (
-      omega (arith, in-loop .loop-test .taken, s .pre .1 .0),
+      omega (arith, in-loop .loop-test .taken, s .pre .1 .0 .0),
       p .ensures .same ∙ l .inv .1,
       written-step (mesh s) (s .args .first) (l .k) (l .out) _ (l .inv .2) (p .ensures),
       p .kept .1 .1 .1 .1 .1 .0 ∙ l .inv .3,
       p .kept .1 .1 .1 .1 .1 .1 .0 ∙ l .inv .4,
     )
 
--- src/lib.rt:54:1
 same-length : tie.Need-same-length Inv-loop μ-loop
 same-length c = search needs
 
--- src/lib.rt:54:1
 returns : tie.Need-returns Inv-loop μ-loop
 returns c =
-    let s = c .before .before .before .before in
+    let s = c .before .before .before in
     let l = c .before .loop in
     subst (λ (k : ℕ). NetsWritten (mesh s) (s .args .first) k (l .out)) (let q : l .k ≡ s .args .count = omega arith in q) (l .inv .2)
 
@@ -116,7 +96,6 @@ write-corners-spec =
     (tie.spec
     Inv-loop
     μ-loop
-    rows-requires
     loop-holds
     add-c
     mul-at

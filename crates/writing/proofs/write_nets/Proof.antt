@@ -45,15 +45,18 @@ fill-points-requires c κs =
     let w = c .before .before .before .before .fill-wanted in
     (refinable-of (mesh s) (s .pre .0), (s .pre .1 .0, (omega (arith, faces-in (mesh s) (s .pre .0), w .kept .1 .1 .1 .1 .1 .0), s .pre .1 .1 .1)))
 
+rows-requires : tie.Need-rows-requires
+rows-requires c κs = search needs
+
 write-corners-requires : tie.Need-write-corners-requires
 write-corners-requires c κs =
-    let s = c .before .before .before .before .before .before .before .before .before .before .before .before .before .before .before in
-    let p = c .before .before .before .fill-points in
-    let w = c .before .before .before .before .before .before .before .before .fill-wanted in
+    let s = c .before .before .before .before .before .before .before .before .before .before .before .before .before .before .before .before .before in
+    let p = c .before .before .before .before .before .fill-points in
+    let w = c .before .before .before .before .before .before .before .before .before .before .fill-wanted in
     let range = s .pre .1 .1 .0 in (
       drawn-of (mesh s) (s .pre .0) (now (s .args .table)) (w .last .1 .1 .1 .1 .1 .0) (now (s .args .points)) _ (s .args .first) (s .args .count)
           (s .pre .1 .0) (w .ensures .0) (s .pre .1 .1 .1 .0) (p .ensures),
-      (range .0, range .1, range .2),
+      ((range .0, range .1, range .2), c .before .before .before .rows .ensures),
     )
 
 same-length : tie.Need-same-length
@@ -64,14 +67,14 @@ same-length-2 c = search needs
 
 returns : tie.Need-returns
 returns c =
-    let s = c .before .before .before .before .before .before .before .before .before .before .before .before .before .before .before .before .before in
+    let s = c .before .before .before .before .before .before .before .before .before .before .before .before .before .before .before .before .before .before .before in
     let n = c .before .write-corners in
-    let p = c .before .before .before .before .before .fill-points in
-    let w = c .before .before .before .before .before .before .before .before .before .before .fill-wanted in
+    let p = c .before .before .before .before .before .before .before .fill-points in
+    let w = c .before .before .before .before .before .before .before .before .before .before .before .before .fill-wanted in
     let range = s .pre .1 .1 .0 in
     drawn-written (mesh s) (s .pre .0) (now (s .args .table)) (w .last .1 .1 .1 .1 .1 .0) (now (s .args .points)) _ (s .args .first)
     (s .args .count) (s .pre .1 .0) (w .ensures .0) (s .pre .1 .1 .1 .0) (p .ensures) _ (range .1)
-    (n .kept .1 .1 .1 .1 .1 .0 ∙ range .2) (n .ensures)
+    (n .kept .1 .1 .1 .1 .1 .1 .0 ∙ range .2) (n .ensures)
 
 pub write-nets-spec : {M : Type 1} → statement M
 write-nets-spec =
@@ -82,6 +85,7 @@ write-nets-spec =
     fill-wanted-requires
     slice-aggregate-fill-points
     fill-points-requires
+    rows-requires
     write-corners-requires
     same-length
     same-length-2
