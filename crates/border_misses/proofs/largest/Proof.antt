@@ -39,7 +39,8 @@ loop-holds c =
     (omega arith, λ l. absurd (omega arith), λ j few. nothing j ∙ sym (none-so-far _ j))
 
 write-net-requires : tie.Need-write-net-requires Inv-loop μ-loop
-write-net-requires c κs = let s = c .before .before .before .before .before .before .before in (s .pre, search needs, c .before .before .before .before .before .rows .ensures)
+write-net-requires c κs = let s = c .before .before .before .before .before .before .before in
+    (s .pre, search needs, c .before .before .before .before .before .rows .ensures)
 
 linked-requires : tie.Need-linked-requires Inv-loop μ-loop
 linked-requires c κs = omega (arith, c .before .before .before .before .before .pre .table-long, c .before .loop-test .taken)
@@ -95,8 +96,10 @@ corner-misses-requires c κs =
       (
         here-held f,
         (
-          subst (λ (d : ℕ). HeldAll (mesh f) d (l .last .1 .1 .1 .1 .1 .0)) (c .before .before .before .before .before .before .before .before .before .before .before .linked .ensures .read) (l .ensures),
-          subst (λ (d : ℕ). HeldAll (mesh f) d (q .last .1 .1 .1 .1 .1 .0)) (c .before .before .before .before .before .before .before .before .before .before .next .ensures .read) (q .ensures),
+          subst (λ (d : ℕ). HeldAll (mesh f) d (l .last .1 .1 .1 .1 .1 .0))
+              (c .before .before .before .before .before .before .before .before .before .before .before .linked .ensures .read) (l .ensures),
+          subst (λ (d : ℕ). HeldAll (mesh f) d (q .last .1 .1 .1 .1 .1 .0))
+              (c .before .before .before .before .before .before .before .before .before .before .next .ensures .read) (q .ensures),
         ),
       ),
     )
@@ -105,10 +108,12 @@ larger-of-requires : tie.Need-larger-of-requires Inv-loop μ-loop
 larger-of-requires c κs = search needs
 
 add-c : tie.Need-add-c Inv-loop μ-loop
-add-c c = let d = c .before .before .before .before .before .before .before .before .before .before .before .before .before .before .before in omega (arith, d .loop-test .taken, d .before .before .before .before .fits .n)
+add-c c = let d = c .before .before .before .before .before .before .before .before .before .before .before .before .before .before .before in
+    omega (arith, d .loop-test .taken, d .before .before .before .before .fits .n)
 
 loop-less : tie.Need-loop-less Inv-loop μ-loop
-loop-less c = let d = c .before .before .before .before .before .before .before .before .before .before .before .before .before .before .before in omega (arith, d .loop-test .taken)
+loop-less c = let d = c .before .before .before .before .before .before .before .before .before .before .before .before .before .before .before
+    in omega (arith, d .loop-test .taken)
 
 loop-again : tie.Need-loop-again Inv-loop μ-loop
 loop-again c =

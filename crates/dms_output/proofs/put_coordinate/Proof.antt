@@ -30,9 +30,12 @@ same-length c = search needs
 returns : tie.Need-returns
 returns c =
     let s = c .before .before .before .before .before .before .before .before .before .before .args in
-    let e : c .before .before .before .before .before .before .before .before .bits .result ≡ ofZ w32 (s .z) = c .before .before .before .before .before .before .before .before .bits .ensures ∙ ap (ofZ w32) (toZ-ofZ w32 (s .z) (c .before .before .before .before .before .before .before .before .before .before .fits .z)) in
+    let e : c .before .before .before .before .before .before .before .before .bits .result ≡ ofZ w32
+    (s .z) = c .before .before .before .before .before .before .before .before .bits .ensures ∙ ap (ofZ w32)
+    (toZ-ofZ w32 (s .z) (c .before .before .before .before .before .before .before .before .before .before .fits .z)) in
     put-same (ap (λ (n : ℕ). halfBytes n ++ halfBytes (n / 65536)) e)
-    (put-then (c .before .before .before .before .before .before .put-half .kept .0) (c .before .before .before .before .before .before .put-half .ensures) (c .before .before .put-half2 .ensures))
+    (put-then (c .before .before .before .before .before .before .put-half .kept .0)
+    (c .before .before .before .before .before .before .put-half .ensures) (c .before .before .put-half2 .ensures))
 
 pub put-coordinate-spec : {M : Type 1} → statement M
 put-coordinate-spec =

@@ -24,7 +24,8 @@ returns c =
     let a = c .before .before .before .before .before .before .before .before .before .before .before .before .before .args in
     let M = meshOf (a .coordinates .now) (a .sides .now) (a .corners .now) (a .sharpness .now) in
     let p = c .before .before .before .before .before .before .put-lists in
-    put-same (ap (λ (b : Bool). fileBytes b M) (sym (c .before .before .before .before .before .before .before .before .if1 .taken))) (put-then (p .kept .0) (p .ensures) (c .before .before .put-word .ensures))
+    put-same (ap (λ (b : Bool). fileBytes b M) (sym (c .before .before .before .before .before .before .before .before .if1 .taken)))
+    (put-then (p .kept .0) (p .ensures) (c .before .before .put-word .ensures))
 
 put-lists-requires-2 : tie.Need-put-lists-requires-2
 put-lists-requires-2 c κs = search needs

@@ -28,9 +28,13 @@ same-length c = search needs
 
 returns : tie.Need-returns
 returns c =
-    put-then (c .before .before .before .before .before .before .before .before .before .before .before .before .before .before .before .before .before .before .put-word .kept .0) (c .before .before .before .before .before .before .before .before .before .before .before .before .before .before .before .before .before .before .put-word .ensures)
-    (put-then (c .before .before .before .before .before .before .before .before .before .before .before .before .before .before .put-half .kept .0) (c .before .before .before .before .before .before .before .before .before .before .before .before .before .before .put-half .ensures)
-    (put-then (c .before .before .before .before .before .before .before .before .before .before .put-half2 .kept .0) (c .before .before .before .before .before .before .before .before .before .before .put-half2 .ensures)
+    put-then (c .before .before .before .before .before .before .before .before .before .before .before .before .before .before .before .before
+    .before .before .put-word .kept .0) (c .before .before .before .before .before .before .before .before .before .before .before .before
+    .before .before .before .before .before .before .put-word .ensures)
+    (put-then (c .before .before .before .before .before .before .before .before .before .before .before .before .before .before .put-half .kept
+    .0) (c .before .before .before .before .before .before .before .before .before .before .before .before .before .before .put-half .ensures)
+    (put-then (c .before .before .before .before .before .before .before .before .before .before .put-half2 .kept .0)
+    (c .before .before .before .before .before .before .before .before .before .before .put-half2 .ensures)
     (put-then (c .before .before .before .before .before .before .put-half3 .kept .0) (c .before .before .before .before .before .before .put-half3 .ensures)
     (c .before .before .put-half4 .ensures))))
 

@@ -22,8 +22,10 @@ same-length c = search needs
 
 returns : tie.Need-returns
 returns c =
-    put-then (c .before .before .before .before .before .before .before .before .before .before .before .before .before .before .put-header .kept .0) (c .before .before .before .before .before .before .before .before .before .before .before .before .before .before .put-header .ensures)
-    (put-then (c .before .before .before .before .before .before .before .before .before .before .put-coordinates .kept .0) (c .before .before .before .before .before .before .before .before .before .before .put-coordinates .ensures)
+    put-then (c .before .before .before .before .before .before .before .before .before .before .before .before .before .before .put-header .kept
+    .0) (c .before .before .before .before .before .before .before .before .before .before .before .before .before .before .put-header .ensures)
+    (put-then (c .before .before .before .before .before .before .before .before .before .before .put-coordinates .kept .0)
+    (c .before .before .before .before .before .before .before .before .before .before .put-coordinates .ensures)
     (put-then (c .before .before .before .before .before .before .put-word .kept .0) (c .before .before .before .before .before .before .put-word .ensures)
     (c .before .before .put-corners .ensures)))
 

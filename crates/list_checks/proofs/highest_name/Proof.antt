@@ -34,8 +34,11 @@ loop-less : tie.Need-loop-less Inv-loop μ-loop
 loop-less c = search needs
 
 loop-again : tie.Need-loop-again Inv-loop μ-loop
-loop-again c = let s = c .before .before .before .before .before in let l = c .before .before .before .loop in
-    (search needs, all-below-step (now (s .args .corners)) (l .c) (l .most) (c .greater-name .result) (l .inv .1) (c .greater-name .ensures .0) (c .greater-name .ensures .1))
+loop-again c = let s = c .before .before .before .before .before in let l = c .before .before .before .loop in (
+  search needs,
+  all-below-step (now (s .args .corners)) (l .c) (l .most) (c .greater-name .result) (l .inv .1) (c .greater-name .ensures .0)
+      (c .greater-name .ensures .1),
+)
 
 returns : tie.Need-returns Inv-loop μ-loop
 returns c = let l = c .before .loop in λ j h. l .inv .1 j (omega arith)

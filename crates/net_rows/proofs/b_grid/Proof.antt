@@ -52,7 +52,8 @@ returns c =
     let s = c .before .before .before .before .before .before .before .before .before .before .before .before .before .before .before .before .before
     .before .before .before .before .before .before .before .before in
     let k = s .fits in
-    b-grid-is (s .args .e0) (s .args .e1) (s .args .e2) (s .args .e3) (k .e0) (k .e1) (k .e2) (k .e3) (s .pre .3 .end0) (s .pre .3 .end1) (s .pre .3 .end2) (s .pre .3 .end3)
+    b-grid-is (s .args .e0) (s .args .e1) (s .args .e2) (s .args .e3) (k .e0) (k .e1) (k .e2) (k .e3) (s .pre .3 .end0) (s .pre .3 .end1)
+    (s .pre .3 .end2) (s .pre .3 .end3)
     (s .args .r0) (s .args .r1) (s .args .r2) (s .args .r3)
     (s .pre .0) (s .args .t9) (s .pre .1) (s .pre .2) _ _ _ _ _ (c .before .before .before .before .before .before .before .before .before .before
     .before .before .before .before .before .before .before .before .before .before .before .before .half .ensures)

@@ -67,7 +67,8 @@ same-length-2 c = search needs
 
 returns : tie.Need-returns
 returns c =
-    let s = c .before .before .before .before .before .before .before .before .before .before .before .before .before .before .before .before .before .before .before in
+    let s = c .before .before .before .before .before .before .before .before .before .before .before .before .before .before .before .before
+    .before .before .before in
     let n = c .before .write-corners in
     let p = c .before .before .before .before .before .before .before .fill-points in
     let w = c .before .before .before .before .before .before .before .before .before .before .before .before .fill-wanted in
