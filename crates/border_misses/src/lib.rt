@@ -1,7 +1,7 @@
 // L14: the largest misses across the borders of a mesh. Each border counts once: sides 0 and 1 of each corner. The output for all corners is too
 // large for the stack, so that the quad-nets are made one by one: for a corner its own, that of its link and that of the next corner. Going round a
 // face, the next corner's is then the corner's own.
-use misses::Misses;
+use four_misses::Misses;
 use misses::Row;
 use numbers::cosines;
 use paper::NUMBERS_PER_CORNER;
@@ -14,7 +14,8 @@ ghost use Rattle.numbers.specs.Stored.{stored};
 ghost use Rattle.surface.specs.Sizes.{WrittenSize};
 ghost use Rattle.walk.specs.Table.{toNext, toLink, entry};
 ghost use Rattle.net_sides.specs.Drawn.{drawn, Drawn};
-ghost use Rattle.misses.specs.Four.{inMisses, inRow, SmallRow};
+ghost use Rattle.four_misses.specs.Four.{inMisses};
+ghost use Rattle.misses.specs.Row.{inRow, SmallRow};
 ghost use Rattle.border_misses.specs.Held.{pointIn, SmallOn, Held, HeldAll, netMiss, cornerMiss, fourOf};
 
 // The largest miss of each condition over all borders of n corners.
@@ -44,7 +45,7 @@ pub fn largest(points: &[i32], table: &[u16], n: usize) -> Misses
         write_net(points, table, &rows, n, l.corner, &mut linked);
         write_net(points, table, &rows, n, q.corner, &mut next);
         let m = corner_misses(points, table, &rows, n, c, &here, &linked, &next);
-        most = misses::larger_of(most, m);
+        most = four_misses::larger_of(most, m);
         here = next;
         held = q.corner;
         c += 1;
@@ -87,7 +88,7 @@ fn corner_misses(
     let x = axis_misses(points, table, rows, n, c, 0, here, linked, next);
     let y = axis_misses(points, table, rows, n, c, 1, here, linked, next);
     let z = axis_misses(points, table, rows, n, c, 2, here, linked, next);
-    misses::larger_of(misses::larger_of(x, y), z)
+    four_misses::larger_of(four_misses::larger_of(x, y), z)
 }
 
 // The same on one axis.
@@ -119,7 +120,7 @@ fn axis_misses(
     let own1 = row(here, axis, 40, 36, 32, 28);
     let other1 = row(next, axis, 40, 39, 38, 37);
     let across_next = misses::side_misses(side1, outer1, own1, other1);
-    misses::larger_of(across_link, across_next)
+    four_misses::larger_of(across_link, across_next)
 }
 
 // Four points of a corner's numbers, on an axis.

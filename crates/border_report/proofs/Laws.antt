@@ -13,8 +13,8 @@ use Rattle.paper.specs.declared.Answer.the-variants.{Done, Refused}
 use Rattle.paper.specs.declared.Page.{Page}
 use Rattle.surface.specs.Points.{pointRow}
 use Rattle.walk.specs.Table.{rowLength}
-use Rattle.misses.specs.Four.{inMisses}
-use Rattle.misses.specs.declared.Misses.{Misses}
+use Rattle.four_misses.specs.Four.{inMisses}
+use Rattle.four_misses.specs.declared.Misses.{Misses}
 use Rattle.page_laws.proofs.Runs.{values-equal}
 
 -- a mesh whose checks give a fault, and an accepted one

@@ -1,62 +1,24 @@
--- Numbers below zero by their bits; a list read into the beginning of a lent space, value by value; the lengths of a file's lists;
+-- Numbers below zero by their bits; the lengths of a file's lists;
 -- the sharpness list of either version.
 -- Assumes nothing.
 use mathlib.Core.Path.{_≡_, refl, ap, _∙_, sym}
 use mathlib.Core.Bool.{true, false}
-use mathlib.Core.List.{List, [], _∷_, _++_}
-use Prim.Native.Nat.{ℕ, zero, suc, _+_, _*_, _<_}
-use native.Mathlib.Numerals.{add-one}
+use mathlib.Core.List.{List}
+use Prim.Native.Nat.{ℕ, zero, suc, _*_}
 use native.Mathlib.Omega.{arith}
-use lib.ListN.{length, getD, take, drop, set, replicate}
-use lib.Seq.{drop-cons, set-at, take-at, append-snoc}
+use lib.ListN.{length, take, drop, replicate}
+use lib.Seq.{take-at}
 use lib.IntN.{ℤ, pos, negsuc, _-ℤ_}
 use Rattle.paper.specs.Scan.{valuesFrom}
 use Rattle.paper.specs.Mesh.{plain}
 use Rattle.paper.specs.File.{begins, coordinateIn, sideIn, cornerIn, sharpnessIn, sharp, verticesIn, facesIn, cornersIn}
 use Rattle.paper.specs.File.{sidesStart, cornersStart, sharpnessStart, fileMesh}
 use Rattle.mesh.proofs.Links.{values-length}
-
-zero-add : (n : ℕ) → 0 + n ≡ n
-zero-add n = omega arith
+use Rattle.fills.proofs.Fills.{values-same, values-all}
 
 pub minus-from-one : (n : ℕ) → negsuc 0 -ℤ pos n ≡ negsuc n
 minus-from-one zero = refl
-minus-from-one (suc n) = ap (λ (k : ℕ). negsuc (suc k)) (zero-add n)
-
-values-snoc : {A : Type 0} (f : ℕ → A) (at left : ℕ) → valuesFrom f at (suc left) ≡ valuesFrom f at left ++ (f (at + left) ∷ [])
-unfolding valuesFrom
-values-snoc f at zero = rw (add-zero at)
-  where
-    add-zero : (n : ℕ) → n + 0 ≡ n
-    add-zero n = omega arith
-values-snoc f at (suc left) = ap (λ l. f at ∷ l) (values-snoc f (suc at) left ∙ ap (λ (k : ℕ). valuesFrom f (suc at) left ++ (f k ∷ [])) (omega arith))
-
-pub values-same : {A : Type 0} (f g : ℕ → A) (at n : ℕ) → ((k : ℕ) → f k ≡ g k) → valuesFrom f at n ≡ valuesFrom g at n
-unfolding valuesFrom
-values-same f g at zero h = refl
-values-same f g at (suc n) h = rw (h at, values-same f g (suc at) n h)
-
-pub values-all : {A : Type 0} (f : ℕ → A) (x : A) (at n : ℕ) → ((k : ℕ) → f k ≡ x) → valuesFrom f at n ≡ replicate n x
-unfolding valuesFrom
-values-all f x at zero h = refl
-values-all f x at (suc n) h = rw (h at, values-all f x (suc at) n h)
-
--- one store of a fill from the front
-module _ {A : Type 0} (f : ℕ → A) (old : List A) where
-  abbrev pub Filled : ℕ → List A → Type 0
-  Filled i out = out ≡ valuesFrom f 0 i ++ drop i old
-
-  pub filled-none : Filled 0 old
-  unfolding valuesFrom
-  filled-none = refl
-
-  pub filled-step : (i : ℕ) (out : List A) (x d : A) → i < length old → Filled i out → x ≡ f i → Filled (i + 1) (set out i x)
-  filled-step i out x d h e q =
-      rw (e, q, add-one, drop-cons old i d h, values-snoc f 0 i, zero-add i, append-snoc)
-      (set-at (valuesFrom f 0 i) (getD old i d) (drop (suc i) old) (f i) i (values-length f 0 i))
-
-  pub filled-all : (i n : ℕ) (out : List A) → i ≡ n → Filled i out → out ≡ begins (valuesFrom f 0 n) old
-  filled-all i n out q e = rw (values-length f 0 n, ← q) e
+minus-from-one (suc n) = ap (λ (k : ℕ). negsuc (suc k)) (omega arith)
 
 -- what was read is found again in the beginning of the space
 module _ {A : Type 0} (n : ℕ) (new old out : List A) (q : n ≡ length new) (e : out ≡ begins new old) where

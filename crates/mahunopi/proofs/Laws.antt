@@ -234,22 +234,6 @@ module _ (M : Mesh) (old : List ℕ) (r : Turned) (lists : Mesh) (out : List ℕ
       }
 
 -- ---- surveying
-module _ (values old : List ℕ) where
-  -- the first i values stand in the lent list
-  abbrev pub Filled : ℕ → List ℕ → Type 0
-  Filled i lent = lent ≡ take i values ++ drop i old
-
-  pub filled-none : Filled 0 old
-  filled-none = refl
-
-  pub filled-step : (i : ℕ) (lent : List ℕ) (d : ℕ) → i < length values → i < length old → Filled i lent → Filled (i + 1) (set lent i (getD values i d))
-  filled-step i lent d h k e =
-      rw (e, add-one, drop-cons old i d k, take-suc values i d h, append-snoc)
-      (set-at (take i values) (getD old i d) (drop (suc i) old) (getD values i d) i (length-take-le i values (omega arith)))
-
-  pub filled-all : (i : ℕ) (lent : List ℕ) → i ≡ length values → Filled i lent → lent ≡ begins values old
-  filled-all i lent q e = rw (q, take-length values) at e
-
 -- both lent lists have room for a list with a number for each m
 module _ (l : List ℕ) (a b : ℕ) (e : length l ≡ mostSides + 1) (t : (ltb a (mostSides + 1) || ltb b (mostSides + 1)) ≡ false) where
   pub fits-first : length l ≤ a

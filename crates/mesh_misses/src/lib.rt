@@ -1,6 +1,6 @@
 // L14: the largest misses of an accepted mesh, over the table of its corners. All refined points are computed first, as building does where it is asked
 // for all corners.
-use misses::Misses;
+use four_misses::Misses;
 use paper::MOST_FACES;
 ghost use mathlib.Core.Path.{_≡_};
 ghost use Prim.Native.Nat.{ℕ, _*_, _<_, _≤_};
@@ -12,7 +12,7 @@ ghost use Rattle.paper.specs.Report.{conditions, largestMiss};
 ghost use Rattle.surface.specs.Points.{pointRow};
 ghost use Rattle.walk.specs.Table.{Tabled};
 ghost use Rattle.face_sums.specs.Sources.{Small};
-ghost use Rattle.misses.specs.Four.{inMisses};
+ghost use Rattle.four_misses.specs.Four.{inMisses};
 
 // The refined points are put into `points`.
 pub fn largest(

@@ -1,15 +1,17 @@
 // L14: by how much the four conditions across a side are missed, on one axis, from the side's values and the points of three rows: the outer row and
 // the a row of the side, and the a row of the neighbour's side. Each miss is a whole number over 2^30, its sign dropped.
+use four_misses::Misses;
 use net_sides::SideValues;
 use paper::UNIT;
 ghost use mathlib.Core.Path.{_≡_};
-ghost use Prim.Native.Nat.{ℕ, _^_, _≤_, _<_, max};
+ghost use Prim.Native.Nat.{ℕ, _^_, _≤_, _<_};
 ghost use lib.IntN.{pos, natAbs, _+ℤ_, _-ℤ_, _*ℤ_};
 ghost use Rattle.paper.specs.Borders.{one};
 ghost use Rattle.paper.specs.Report.{conditions, condition};
 ghost use Rattle.surface.specs.Sizes.{ValueSize, WrittenSize, CosineSize};
 ghost use Rattle.net_sides.specs.Values.{Sized};
-ghost use Rattle.misses.specs.Four.{inRow, inMisses, SmallRow};
+ghost use Rattle.four_misses.specs.Four.{inMisses};
+ghost use Rattle.misses.specs.Row.{inRow, SmallRow};
 
 // Two, three and four, where the cosine table has UNIT for 1.
 const TWO: i64 = 2 * UNIT;
@@ -24,14 +26,6 @@ pub struct Row {
     pub p1: i64,
     pub p2: i64,
     pub p3: i64,
-}
-
-// A number for each of the four conditions.
-pub struct Misses {
-    pub first: u64,
-    pub second: u64,
-    pub third: u64,
-    pub fourth: u64,
 }
 
 // The misses of one side on one axis.
@@ -49,25 +43,6 @@ pub fn side_misses(side: SideValues, outer: Row, own: Row, other: Row) -> Misses
         third: third_miss(side.cosine, side.tail, side.x, side.y, b2),
         fourth: fourth_miss(side.tail, side.y, b3),
     }
-}
-
-// The larger of each two.
-pub fn larger_of(a: Misses, b: Misses) -> Misses
-    ensures { λ r. ⌜ ((j : ℕ) → inMisses r j ≡ max (inMisses a j) (inMisses b j)) ⌝ }
-{
-    Misses {
-        first: larger(a.first, b.first),
-        second: larger(a.second, b.second),
-        third: larger(a.third, b.third),
-        fourth: larger(a.fourth, b.fourth),
-    }
-}
-
-// The larger of two numbers.
-fn larger(a: u64, b: u64) -> u64
-    ensures { λ r. ⌜ r ≡ max a b ⌝ }
-{
-    if a < b { b } else { a }
 }
 
 // 4(a + â - 2b), times 2^30.

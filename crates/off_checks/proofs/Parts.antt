@@ -242,23 +242,6 @@ taken n list h = sym (length-take-le n list h)
 pub taken-fits : {A B : Type 0} (n : ℕ) (list : List A) (lent : List B) → n ≤ length list → n ≤ length lent → length (take n list) ≤ length lent
 taken-fits n list lent h k = omega (arith, taken n list h)
 
-module _ {A : Type 0} (values old : List A) where
-  -- the first i values stand in the lent list
-  abbrev pub Filled : ℕ → List A → Type 0
-  Filled i lent = lent ≡ take i values ++ drop i old
-
-  pub filled-none : Filled 0 old
-  filled-none = refl
-
-  pub filled-step : (i : ℕ) (lent : List A) (x d : A) → i < length values → i < length old → x ≡ getD values i d → Filled i lent
-      → Filled (i + 1) (set lent i x)
-  filled-step i lent x d h k q e =
-      rw (e, q, add-one, drop-cons old i d k, take-suc values i d h, append-snoc)
-      (set-at (take i values) (getD old i d) (drop (suc i) old) (getD values i d) i (length-take-le i values (omega arith)))
-
-  pub filled-all : (i : ℕ) (lent : List A) → i ≡ length values → Filled i lent → lent ≡ begins values old
-  filled-all i lent q e = rw (q, take-length values) at e
-
 -- ---- what the lent lists hold
 module _ (text : List ℕ) (lent : Mesh) where
   module _ (coordinates : List ℤ) (sides corners : List ℕ) (d : Decoded) (c : Checked text d coordinates sides corners) where

@@ -9,6 +9,7 @@ use native.Mathlib.Omega.{arith}
 use lib.IntN.{ℤ}
 use lib.ListN.{getD, take, set, length-set}
 use lib.Seq.{take-suc-set}
+use Rattle.fills.proofs.Fills.{values-snoc}
 use Rattle.mesh.proofs.Verdicts.{single-hit, single-miss}
 use Rattle.mesh.proofs.Scans.{clash}
 use Rattle.paper.specs.Scan.{valuesFrom}
@@ -21,14 +22,6 @@ use Rattle.off_lists.specs.Reading.{Stored, ListRead, NaturalRead}
 use Rattle.off_lists.specs.declared.Natural.{Natural}
 use Rattle.off_lists.proofs.Bad.{no-number, serves, value-is, left-stop, left-step, left-none}
 use Rattle.off_lists.proofs.Naturals.{natural-good, natural-bad, natural-at}
-
-values-snoc : {A : Type 0} (f : ℕ → A) (at left : ℕ) → valuesFrom f at (suc left) ≡ valuesFrom f at left ++ (f (at + left) ∷ [])
-unfolding valuesFrom
-values-snoc f at zero = rw (add-zero at)
-  where
-    add-zero : (n : ℕ) → n + 0 ≡ n
-    add-zero n = omega arith
-values-snoc f at (suc left) = ap (λ l. f at ∷ l) (values-snoc f (suc at) left ∙ ap (λ (k : ℕ). valuesFrom f (suc at) left ++ (f k ∷ [])) (omega arith))
 
 module _ {A : Type 0} (f : ℕ → A) (p at : ℕ) (old : List A) where
   pub stored-none : Stored f p 0 at old old

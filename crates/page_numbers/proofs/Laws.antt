@@ -9,7 +9,7 @@ use lib.Seq.{getD-append-add}
 use Rattle.paper.specs.Scan.{valuesFrom}
 use Rattle.paper.specs.Report.{lines, conditions, numbersOn}
 use Rattle.paper.specs.declared.Page.{Page}
-use Rattle.dms_lists.proofs.Lists.{Filled, filled-all}
+use Rattle.fills.proofs.Fills.{Filled, filled-all}
 use Rattle.page_laws.proofs.Runs.{values-of}
 
 -- ---- the whole of a new list

@@ -8,8 +8,8 @@ use lib.ListN.{getD, replicate}
 use Rattle.integers.proofs.Below.{below-at}
 use Rattle.paper.specs.Scan.{valuesFrom}
 use Rattle.paper.specs.Report.{pageWith, lineNumbers, lines, conditions}
-use Rattle.misses.specs.Four.{inMisses}
-use Rattle.dms_lists.proofs.Lists.{Filled, filled-all}
+use Rattle.four_misses.specs.Four.{inMisses}
+use Rattle.fills.proofs.Fills.{Filled, filled-all}
 
 -- all lines of a new list
 pub all-lines : (f : ℕ → ℕ) (l : ℕ) (new : List ℕ) → l ≡ lines → Filled f (replicate lines 0) l new → new ≡ valuesFrom f 0 lines

@@ -1,5 +1,5 @@
 // Pages of the border report (L14): checks 37 and 38, what a file adds to a page, and two pages as one. Nothing here knows a mesh or a file.
-use misses::Misses;
+use four_misses::Misses;
 use paper::Answer;
 use paper::CONDITIONS;
 use paper::LINES;
@@ -15,7 +15,7 @@ ghost use Rattle.paper.specs.Scan.{pickN, valuesFrom};
 ghost use Rattle.paper.specs.Mesh.{Mesh, mostCorners};
 ghost use Rattle.paper.specs.Faults.{sound, fault, stated};
 ghost use Rattle.paper.specs.Report.{pageWith, lineNumbers, lines, conditions, added, mostOnPage, someAbove, fault38, pageVerdict, merged, mergeVerdict, MergedTo};
-ghost use Rattle.misses.specs.Four.{inMisses};
+ghost use Rattle.four_misses.specs.Four.{inMisses};
 
 // The numbers of the two checks, and the place of 37.
 const MANY_MESHES: u8 = 37;
@@ -235,7 +235,7 @@ fn larger_misses(old: [u64; CONDITIONS], largest: Misses) -> [u64; CONDITIONS]
         third: old[2],
         fourth: old[3],
     };
-    let m = misses::larger_of(before, largest);
+    let m = four_misses::larger_of(before, largest);
     let mut new = [0u64; CONDITIONS];
     new[0] = m.first;
     new[1] = m.second;

@@ -23,23 +23,6 @@ use Rattle.mesh.proofs.Verdicts.{orElse-fault, orElse-sound, single-hit, single
 use Rattle.paper.specs.declared.Move.{Move}
 use Rattle.paper.specs.Preview.{movedList, moved, fault29, previewVerdict, Previewed}
 
--- ---- copying
-module _ (values old : List ℤ) where
-  -- the first i values stand in the lent list
-  abbrev pub Filled : ℕ → List ℤ → Type 0
-  Filled i lent = lent ≡ take i values ++ drop i old
-
-  pub filled-none : Filled 0 old
-  filled-none = refl
-
-  pub filled-step : (i : ℕ) (lent : List ℤ) (d : ℤ) → i < length values → i < length old → Filled i lent → Filled (i + 1) (set lent i (getD values i d))
-  filled-step i lent d h k e =
-      rw (e, add-one, drop-cons old i d k, take-suc values i d h, append-snoc)
-      (set-at (take i values) (getD old i d) (drop (suc i) old) (getD values i d) i (length-take-le i values (omega arith)))
-
-  pub filled-all : (i : ℕ) (lent : List ℤ) → i ≡ length values → Filled i lent → lent ≡ begins values old
-  filled-all i lent q e = rw (q, take-length values) at e
-
 -- ---- the moved list
 pub moved-length : (l : List ℤ) (m : Move) → length (movedList l m) ≡ length l
 unfolding movedList

@@ -12,7 +12,7 @@ use lib.IntN.{ℤ, pos}
 use mir.Syntax.{w32}
 use mir.Val.{toZ}
 use Rattle.paper.specs.Scan.{valuesFrom}
-use Rattle.dms_lists.proofs.Lists.{Filled, filled-step}
+use Rattle.fills.proofs.Fills.{Filled, filled-step}
 use Rattle.paper.specs.Archive.{storedAt, sumAt, restoredAt, restored}
 use Rattle.rearrange.specs.Planes.{before, Turned}
 use Rattle.rearrange.proofs.Words.{third, rest}

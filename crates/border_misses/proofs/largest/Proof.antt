@@ -8,7 +8,7 @@ use denote.Ref.{now}
 use Rattle.paper.specs.Numbers.{rounded}
 use Rattle.paper.specs.Refined.{RefinedMesh}
 use Rattle.paper.specs.Report.{conditions, largestBelow}
-use Rattle.misses.specs.Four.{inMisses}
+use Rattle.four_misses.specs.Four.{inMisses}
 use Rattle.net_sides.specs.Drawn.{drawn}
 use Rattle.border_misses.specs.Held.{HeldAll, cornerMiss}
 use Rattle.border_misses.proofs.Laws.{none-so-far, one-more}

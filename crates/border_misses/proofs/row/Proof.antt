@@ -9,7 +9,7 @@ use mir.Val.{toZ, ofZ}
 use mir.Facts.{toZ-ofZ}
 use Rattle.integers.proofs.Machine.{abs-fits}
 use Rattle.surface.specs.Sizes.{WrittenSize}
-use Rattle.misses.specs.Four.{inRow}
+use Rattle.misses.specs.Row.{inRow}
 use Rattle.border_misses.specs.Held.{pointIn, fourOf}
 use native.Mathlib.Omega.{arith}
 use borrow.Author.Needs.{needs}

@@ -6,7 +6,7 @@ use native.Mathlib.Omega.{arith}
 use lib.ListN.{length, length-set}
 use borrow.Author.Needs.{needs}
 use Rattle.paper.specs.Mesh.{plain}
-use Rattle.dms_lists.proofs.Lists.{values-all, Filled, filled-none, filled-step, filled-all}
+use Rattle.fills.proofs.Fills.{values-all, Filled, filled-none, filled-step, filled-all}
 use Rattle.dms_lists.proofs.fill_plain.Statement.{statement}
 use Rattle.dms_lists.proofs.fill_plain.Tie as tie
 

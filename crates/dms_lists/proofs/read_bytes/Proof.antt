@@ -6,7 +6,7 @@ use native.Mathlib.Omega.{arith}
 use lib.ListN.{length, length-set}
 use borrow.Author.Needs.{needs}
 use Rattle.paper.specs.File.{sideIn}
-use Rattle.dms_lists.proofs.Lists.{Filled, filled-none, filled-step, filled-all}
+use Rattle.fills.proofs.Fills.{Filled, filled-none, filled-step, filled-all}
 use Rattle.dms_lists.proofs.read_bytes.Statement.{statement}
 use Rattle.dms_lists.proofs.read_bytes.Tie as tie
 

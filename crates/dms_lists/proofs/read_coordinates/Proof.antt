@@ -9,7 +9,7 @@ use mir.Syntax.{w32}
 use mir.ValLaws.{toZ-ofZ}
 use borrow.Author.Needs.{needs}
 use Rattle.paper.specs.File.{coordinateIn}
-use Rattle.dms_lists.proofs.Lists.{Filled, filled-none, filled-step, filled-all}
+use Rattle.fills.proofs.Fills.{Filled, filled-none, filled-step, filled-all}
 use Rattle.dms_lists.proofs.read_coordinates.Statement.{statement}
 use Rattle.dms_lists.proofs.read_coordinates.Tie as tie
 

@@ -6,7 +6,7 @@ use native.Mathlib.Omega.{arith}
 use lib.ListN.{length, length-set}
 use borrow.Author.Needs.{needs}
 use Rattle.paper.specs.File.{cornerIn}
-use Rattle.dms_lists.proofs.Lists.{Filled, filled-none, filled-step, filled-all}
+use Rattle.fills.proofs.Fills.{Filled, filled-none, filled-step, filled-all}
 use Rattle.dms_lists.proofs.read_corners.Statement.{statement}
 use Rattle.dms_lists.proofs.read_corners.Tie as tie
 

@@ -2,7 +2,7 @@
 -- Assumes nothing.
 use Prim.Native.Nat.{_-_, _≤_}
 use lib.ListN.{getD, replicate}
-use Rattle.dms_lists.proofs.Lists.{Filled, filled-none, filled-step}
+use Rattle.fills.proofs.Fills.{Filled, filled-none, filled-step}
 use Rattle.paper.specs.Report.{numbersOn}
 use Rattle.page_numbers.proofs.Laws.{page-numbers}
 use native.Mathlib.Omega.{arith}

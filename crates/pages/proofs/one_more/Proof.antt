@@ -4,7 +4,7 @@ use Prim.Native.Nat.{ℕ, _+_, _-_, _≤_}
 use mathlib.Core.Path.{ap}
 use lib.ListN.{getD, replicate}
 use Rattle.paper.specs.Report.{lines}
-use Rattle.dms_lists.proofs.Lists.{Filled, filled-none, filled-step}
+use Rattle.fills.proofs.Fills.{Filled, filled-none, filled-step}
 use Rattle.pages.proofs.Lists.{all-lines}
 use lib.Dec.{eqb}
 use Rattle.paper.specs.Scan.{pickN}

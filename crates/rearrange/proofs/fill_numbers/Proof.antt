@@ -5,7 +5,7 @@ use Prim.Native.Nat.{ℕ, _+_, _-_, _*_, _/_, _%_, _≤_}
 use native.Mathlib.Nat.{div-add-mod}
 use lib.ListN.{length}
 use denote.Ref.{now}
-use Rattle.dms_lists.proofs.Lists.{Filled, filled-none}
+use Rattle.fills.proofs.Fills.{Filled, filled-none}
 use Rattle.paper.specs.Archive.{restoredAt}
 use Rattle.rearrange.specs.Planes.{before}
 use Rattle.rearrange.proofs.Sums.{before-first, turned-next, turned-fills, turned-length, restored-all}

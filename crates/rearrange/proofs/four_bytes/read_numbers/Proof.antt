@@ -7,7 +7,7 @@ use lib.ListN.{length, length-set}
 use denote.Ref.{now}
 use mir.Syntax.{w32}
 use mir.ValLaws.{toZ-ofZ}
-use Rattle.dms_lists.proofs.Lists.{Filled, filled-none, filled-step}
+use Rattle.fills.proofs.Fills.{Filled, filled-none, filled-step}
 use Rattle.rearrange.specs.Words.{numberIn}
 use Rattle.rearrange.proofs.Sums.{filled-whole}
 use native.Mathlib.Omega.{arith}

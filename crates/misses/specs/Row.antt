@@ -1,22 +1,15 @@
--- Four numbers by the place of their condition.
+-- Four points of a row by the place of their condition.
 -- Assumes nothing.
 use Prim.Native.Nat.{ℕ, zero, suc}
 use lib.IntN.{ℤ}
 use Rattle.surface.specs.Sizes.{WrittenSize}
 use Rattle.misses.specs.declared.Row.{Row}
-use Rattle.misses.specs.declared.Misses.{Misses}
 
 abbrev pub inRow : Row → ℕ → ℤ
 inRow r zero = r .p0
 inRow r (suc zero) = r .p1
 inRow r (suc (suc zero)) = r .p2
 inRow r (suc (suc (suc j))) = r .p3
-
-abbrev pub inMisses : Misses → ℕ → ℕ
-inMisses m zero = m .first
-inMisses m (suc zero) = m .second
-inMisses m (suc (suc zero)) = m .third
-inMisses m (suc (suc (suc j))) = m .fourth
 
 -- points no larger than those that are written
 pub record SmallRow (r : Row) : Type 0 where

@@ -1,9 +1,9 @@
--- `misses::larger_of` meets its contract, condition by condition.
+-- `four_misses::larger_of` meets its contract, condition by condition.
 -- Assumes nothing.
 use Prim.Native.Nat.{zero, suc}
 use borrow.Author.Needs.{needs}
-use Rattle.misses.proofs.larger_of.Statement.{statement}
-use Rattle.misses.proofs.larger_of.Tie as tie
+use Rattle.four_misses.proofs.larger_of.Statement.{statement}
+use Rattle.four_misses.proofs.larger_of.Tie as tie
 
 larger-requires : tie.Need-larger-requires
 larger-requires c κs = search needs
