@@ -2,13 +2,11 @@
 -- Assumes nothing.
 use mathlib.Core.Path.{_≡_, refl, sym, ap, _∙_, subst}
 use mathlib.Core.Bool.{true, false, _||_}
-use mathlib.Core.List.{List, _∷_, _++_}
-use Prim.Native.Nat.{ℕ, suc, _+_, _<_, _≤_}
-use native.Mathlib.Numerals.{add-one}
+use mathlib.Core.List.{List}
+use Prim.Native.Nat.{ℕ, _+_, _≤_}
 use native.Mathlib.Omega.{arith}
 use lib.Dec.{ltb}
-use lib.ListN.{length, getD, take, drop, set}
-use lib.Seq.{length-take-le, take-suc, take-length, drop-cons, append-snoc, set-at}
+use lib.ListN.{length}
 use lib.IntN.{ℤ}
 use lib.Ieee.{Float}
 use borrow.Author.Tests.{ltb-false}
@@ -19,7 +17,7 @@ use Rattle.paper.specs.Mesh.{Mesh, meshOf, Lengths, four, lengthsOf, mostSides}
 use Rattle.paper.specs.Faults.{Verdict, sound, fault, verdict, stated, kept}
 use Rattle.paper.specs.Counts.{verticesWith, facesWith, forEach}
 use Rattle.paper.specs.File.{fileVerdict, fileMesh, begins, noRoom, FileSurveyed, DecodedTo}
-use Rattle.paper.specs.Calls.{Linked, nets, buildVerdict, Built}
+use Rattle.paper.specs.Calls.{Linked, nets, Built}
 use Rattle.paper.specs.Floats.{pointVerdict, Pointed}
 use Rattle.paper.specs.Nesting.{listing, Nested}
 use Rattle.paper.specs.CFace.{States, LinkCall, BuildCall, lentVerdict, DecodeCall, countsOf, surveyVerdict, SurveyCall, put}
@@ -273,20 +271,21 @@ module _ (file : List ℕ) (counted : ℕ) (lent : Counts) (before : ℕ) where
       survey-no-room m q t s = refuses noRoom (mostSides + 1) m q (orElse-sound _ passes ∙ single-hit noRoom (mostSides + 1) t) s
 
       pub survey-done : (ltb (length (lent .cornered)) (mostSides + 1) || ltb (length (lent .sided)) (mostSides + 1)) ≡ false
-          → (cornered sided : List ℕ) → cornered ≡ begins (r .counts .cornered) (lent .cornered) → sided ≡ begins (r .counts .sided) (lent .sided)
-          → SurveyCall file counted lent before 0 before (countsOf (r .counts .vertices) (r .counts .faces) (r .counts .corners) cornered sided)
+          → (told : Counts) → told ≡ countsOf (r .counts .vertices) (r .counts .faces) (r .counts .corners) (begins (r .counts .cornered) (lent .cornered))
+              (begins (r .counts .sided) (lent .sided))
+          → SurveyCall file counted lent before 0 before told
       unfolding surveyVerdict
-      survey-done t cornered sided x y =
+      survey-done t told e =
           let v : surveyVerdict file counted lent ≡ sound = orElse-sound _ passes ∙ single-miss noRoom (mostSides + 1) t in
           let k = s .counts passes in
           let vertices = k .vertices in
           let faces = k .faces in
           let corners = k .corners in
-          let by-corners = x ∙ ap (λ (l : List ℕ). begins l (lent .cornered)) (k .cornered) in
-          let by-sides = y ∙ ap (λ (l : List ℕ). begins l (lent .sided)) (k .sided) in
+          let by-corners = ap (λ (l : List ℕ). begins l (lent .cornered)) (k .cornered) in
+          let by-sides = ap (λ (l : List ℕ). begins l (lent .sided)) (k .sided) in
           record {
             answers = subst (λ (w : Verdict). States w before 0 before) (sym v) (record { number = refl; place = refl });
-            tells = kept-new _ _ _ _ v (cc);
+            tells = kept-new _ _ _ _ v (e ∙ cc);
           }
 
 -- ---- floats

@@ -2,11 +2,11 @@
 // wraps one of Rattle's and says the same: 0 for done, else 01's number, with the place behind `place`.
 ghost use mathlib.Core.Path.{_≡_};
 ghost use mathlib.Core.Bool.{_||_};
-ghost use Prim.Native.Nat.{_+_, _≤_};
+ghost use Prim.Native.Nat.{_+_};
 ghost use lib.Dec.{ltb};
 ghost use lib.ListN.{length};
 ghost use Rattle.paper.specs.Mesh.{meshOf, four, mostSides};
-ghost use Rattle.paper.specs.File.{fileOf, begins};
+ghost use Rattle.paper.specs.File.{fileOf};
 ghost use Rattle.paper.specs.CFace.{LinkCall, BuildCall, DecodeCall, countsOf, SurveyCall, FloatsCall, NestCall};
 ghost use Rattle.paper.specs.CFace.{finding, IrregularCall, ArchiveCall, RestoreCall, OffCall};
 ghost use Rattle.paper.specs.Preview.{moveOf};
@@ -21,6 +21,7 @@ use paper::Irregular;
 use paper::Move;
 use paper::NUMBERS;
 use telling::tell;
+use telling::tell_counts;
 
 // Linking.
 #[no_mangle]
@@ -126,13 +127,7 @@ pub extern "C" fn mahunopi_survey(
         return tell(Answer::Refused(dms::NO_ROOM, NUMBERS), place);
     }
     let counts = s.counts;
-    *vertices = counts.vertices as u64;
-    *faces = counts.faces as u64;
-    *corners = counts.corners as u64;
-    let by_corners = counts.cornered;
-    fill(&by_corners, cornered);
-    let by_sides = counts.sided;
-    fill(&by_sides, sided);
+    tell_counts(counts, vertices, faces, corners, cornered, sided);
     0
 }
 
@@ -420,17 +415,5 @@ fn too_short(cornered: usize, sided: usize) -> bool
         true
     } else {
         sided < NUMBERS
-    }
-}
-
-// Copies a list into the beginning of a lent one.
-fn fill(values: &[u16], lent: &mut [u16])
-    requires { ⌜ length (now values) ≤ length (now lent) ⌝ }
-    ensures { λ _. ⌜ now (lent .exit) ≡ begins (now (values .entry)) (now (lent .entry)) ⌝ }
-{
-    let mut i = 0;
-    while i < values.len() {
-        lent[i] = values[i];
-        i += 1;
     }
 }

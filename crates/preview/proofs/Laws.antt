@@ -3,16 +3,15 @@
 use mathlib.Core.Path.{_≡_, refl, sym, ap, _∙_}
 use mathlib.Core.Bool.{Bool, true, false, not, _||_, true≢false}
 use mathlib.Core.Logic.{⊎-elim}
-use mathlib.Core.List.{List, _∷_, _++_}
-use Prim.Native.Nat.{ℕ, suc, _+_, _*_, _/_, _%_, _<_, _≤_}
-use native.Mathlib.Numerals.{add-one}
+use mathlib.Core.List.{List, _++_}
+use Prim.Native.Nat.{ℕ, _+_, _*_, _/_, _%_, _<_, _≤_}
 use native.Mathlib.Omega.{arith}
 use lib.Dec.{eqb, ltb}
-use lib.ListN.{length, getD, take, drop, set, length-set}
-use lib.Seq.{length-take-le, take-suc, take-length, take-at, drop-cons, append-snoc, set-at, set-append-left}
+use lib.ListN.{length, take, drop, set, length-set}
+use lib.Seq.{take-at, set-append-left}
 use lib.IntN.{ℤ}
 use borrow.Author.Tests.{eqb-true, lt-ltb, le-leb, lt-leb}
-use Rattle.paper.specs.Mesh.{mostVertices, Mesh, vertexCount, faceCount, cornerCount}
+use Rattle.paper.specs.Mesh.{mostVertices, Mesh, vertexCount}
 use Rattle.paper.specs.Faults.{fault, outside, fault4, listFaults, verdict, linkVerdict}
 use Rattle.paper.specs.File.{begins}
 use Rattle.paper.specs.Calls.{buildVerdict, Built}

@@ -37,27 +37,15 @@ returns-2 c =
     survey-no-room _ _ _ _ _ (t .before .before .before .before .survey .ensures) (t .before .before .enum-told .given .1) _ _
     (sym (t .before .too-short .ensures) ∙ t .if1 .taken) (c .tell2 .ensures)
 
-slice-aggregate-fill : tie.Need-slice-aggregate-fill
-slice-aggregate-fill c = search needs
-
-fill-requires : tie.Need-fill-requires
-fill-requires c κs =
-    let s = c .before .before .before .before in
+tell-counts-requires : tie.Need-tell-counts-requires
+tell-counts-requires c κs =
+    let s = c .before .before .before .before .before .before in
     let room = sym (s .before .too-short .ensures) ∙ s .if1 .left in
     let f = s .before .before .before .before .survey in
-    fits-first (f .result .counts .cornered) _ (length (s .before .before .before .before .before .before .before .before .args .sided .now))
-    (numbered _ _ _ (f .ensures) (s .before .before .enum-told .given .1) .0) room
-
-slice-aggregate-fill-2 : tie.Need-slice-aggregate-fill-2
-slice-aggregate-fill-2 c = search needs
-
-fill-requires-2 : tie.Need-fill-requires-2
-fill-requires-2 c κs =
-    let s = c .before .before .before .before .before .before .before .before .before .before in
-    let room = sym (s .before .too-short .ensures) ∙ s .if1 .left in
-    let f = s .before .before .before .before .survey in
-    fits-second (f .result .counts .sided) (length (s .before .before .before .before .before .before .before .before .args .cornered .now)) _
-    (numbered _ _ _ (f .ensures) (s .before .before .enum-told .given .1) .1) room
+    let a = s .before .before .before .before .before .before .before .before .args in
+    let n = numbered _ _ _ (f .ensures) (s .before .before .enum-told .given .1) in
+    (fits-first (f .result .counts .cornered) (length (a .cornered .now)) (length (a .sided .now)) (n .0) room,
+    fits-second (f .result .counts .sided) (length (a .cornered .now)) (length (a .sided .now)) (n .1) room)
 
 same-length : tie.Need-same-length
 same-length c = search needs
@@ -67,10 +55,9 @@ same-length-2 c = search needs
 
 returns-3 : tie.Need-returns-3
 returns-3 c =
-    let s = c .before .before .before .before .before .before .before .before .before .before .before .before .before in
+    let s = c .before .before .before .before .before .before .before .before .before .before .before in
     survey-done _ _ _ _ _ (s .before .before .before .before .survey .ensures) (s .before .before .enum-told .given .1)
-    (sym (s .before .too-short .ensures) ∙ s .if1 .left) _ _
-    (c .before .before .before .before .before .before .before .before .fill .ensures) (c .before .before .fill2 .ensures)
+    (sym (s .before .too-short .ensures) ∙ s .if1 .left) _ (c .before .before .before .before .tell-counts .ensures)
 
 pub mahunopi-survey-spec : {M : Type 1} → statement M
 mahunopi-survey-spec =
@@ -84,10 +71,7 @@ mahunopi-survey-spec =
     too-short-requires
     tell-requires-2
     returns-2
-    slice-aggregate-fill
-    fill-requires
-    slice-aggregate-fill-2
-    fill-requires-2
+    tell-counts-requires
     same-length
     same-length-2
     returns-3)

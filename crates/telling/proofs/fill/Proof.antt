@@ -6,8 +6,8 @@ use native.Mathlib.Omega.{arith}
 use lib.ListN.{length, getD, length-set}
 use borrow.Author.Needs.{needs}
 use Rattle.fills.proofs.Copies.{Copied, copied-none, copied-step, copied-all}
-use Rattle.mahunopi.proofs.fill.Statement.{statement}
-use Rattle.mahunopi.proofs.fill.Tie as tie
+use Rattle.telling.proofs.fill.Statement.{statement}
+use Rattle.telling.proofs.fill.Tie as tie
 
 abbrev Inv-loop : tie.InvT-loop
 Inv-loop values lent₀ i₀ lent i = (i ≤ length values) × (length lent ≡ length lent₀) × Copied values lent₀ i lent
