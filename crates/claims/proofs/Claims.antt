@@ -12,7 +12,7 @@ use Rattle.accuracy.proofs.Theorem.{accuracy}
 use Rattle.mirror.proofs.Theorem.{mirrors}
 use Rattle.examples.proofs.Claim.{examples}
 use Rattle.floats.proofs.Theorems.{far-pairs, float-sums, one-answer}
-use Rattle.floats.proofs.Nets.{nets-pass}
+use Rattle.float_nets.proofs.Nets.{nets-pass}
 use Rattle.nesting.proofs.Theorems.{chains-decide, listing-ordered, one-listing}
 use Rattle.irregular.proofs.Theorems.{lines-agree}
 use Rattle.dms.proofs.Theorems.{version-one}

@@ -2,8 +2,6 @@
 --     Exact      which whole numbers a float carries, and that it reads back as what it carries
 --     Laws       the checks, the differences and the two cases, as the code meets them
 --     Theorems   what the owner is told of an answer
---     Nets       every net that building writes passes 18 and 19
 pub mod Exact
 pub mod Laws
 pub mod Theorems
-pub mod Nets

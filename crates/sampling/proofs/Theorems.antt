@@ -31,7 +31,7 @@ use Rattle.integers.proofs.Diff.{diff}
 use Rattle.mesh.proofs.Ranges.{inside, or-none}
 use Rattle.mesh.proofs.Scans.{compared}
 use Rattle.mesh.proofs.Verdicts.{orElse-sound, single-miss, sound-left}
-use Rattle.floats.proofs.Nets.{nets-pass}
+use Rattle.float_nets.proofs.Nets.{nets-pass}
 use Rattle.borders.proofs.Theorem.{demand3}
 use Rattle.bernstein.specs.declared.Rows.{Rows}
 use Rattle.bernstein.specs.Sums.{five, quartic, quarticSum, rowsOf}
