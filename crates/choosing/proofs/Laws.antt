@@ -15,7 +15,8 @@ use Rattle.mesh.proofs.Faces.{start-all, next-below}
 use Rattle.mesh.proofs.Verdicts.{lowest-sound, orElse-fault, orElse-sound, unsound}
 use Rattle.partners.specs.Keys.{KeysTo, Keyable, PartnersOver}
 use Rattle.face_starts.specs.Starts.{Started}
-use Rattle.spreading.specs.Spread.{Spreadable, SpreadOver}
+use Rattle.visiting.specs.Visit.{Spreadable}
+use Rattle.spreading.specs.Spread.{SpreadOver}
 use Rattle.choosing.specs.Choice.{Sized, Nexted, Chosen}
 
 -- next corners are corners

@@ -7,8 +7,9 @@ use lib.ListN.{length, getD, length-set}
 use denote.Ref.{now}
 use native.Mathlib.Omega.{arith}
 use borrow.Author.Needs.{needs}
-use Rattle.spreading.specs.Spread.{Visited}
-use Rattle.spreading.proofs.Laws.{Rounding, rounding-none, rounding-step, rounding-clash, rounding-all, tail-below, tail-most}
+use Rattle.visiting.specs.Visit.{Visited}
+use Rattle.spreading.proofs.Laws.{Rounding, rounding-none, rounding-step, rounding-clash, rounding-all, tail-most}
+use Rattle.visiting.proofs.Laws.{tail-below}
 use Rattle.spreading.proofs.round.Statement.{statement}
 use Rattle.spreading.proofs.round.Tie as tie
 

@@ -7,11 +7,11 @@ use denote.Ref.{now}
 use native.Mathlib.Omega.{arith}
 use borrow.Author.Needs.{needs}
 use Rattle.paper.specs.Corners.{startOf}
-use Rattle.spreading.specs.Spread.{Visiting}
-use Rattle.spreading.proofs.Laws.{turn-new, turn-old, turn-clash, corner-at, start-is, visiting-none, visiting-all}
-use Rattle.spreading.proofs.Laws.{tail-below}
-use Rattle.spreading.proofs.visit.Statement.{statement}
-use Rattle.spreading.proofs.visit.Tie as tie
+use Rattle.visiting.specs.Visit.{Visiting}
+use Rattle.visiting.proofs.Laws.{turn-new, turn-old, turn-clash, corner-at, start-is, visiting-none, visiting-all}
+use Rattle.visiting.proofs.Laws.{tail-below}
+use Rattle.visiting.proofs.visit.Statement.{statement}
+use Rattle.visiting.proofs.visit.Tie as tie
 
 abbrev Inv-loop : tie.InvT-loop
 Inv-loop sides corners partners faces starts f states₀ queue₀ tail state c₀ end next₀ states queue c next =

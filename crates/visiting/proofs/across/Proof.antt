@@ -1,7 +1,7 @@
 -- `across` meets its contract: it goes by the test. Assumes nothing.
 use borrow.Author.Needs.{needs}
-use Rattle.spreading.proofs.across.Statement.{statement}
-use Rattle.spreading.proofs.across.Tie as tie
+use Rattle.visiting.proofs.across.Statement.{statement}
+use Rattle.visiting.proofs.across.Tie as tie
 
 sub-result : tie.Need-sub-result
 sub-result c = search needs
