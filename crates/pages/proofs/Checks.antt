@@ -10,7 +10,7 @@ use borrow.Author.Tests.{lt-ltb, le-ltb, le-leb, lt-leb, ltb-false, leb-false}
 use lib.Dec.{ltb}
 use lib.ListN.{length, getD, drop}
 use lib.Seq.{drop-cons, drop-length}
-use Rattle.paper.specs.Faults.{sound, fault, single}
+use Rattle.paper.specs.Faults.{sound, fault, _orElse_, single}
 use Rattle.paper.specs.Report.{mostMeshes, mostOnPage, someAbove, fault38, pageVerdict, merged, mergeVerdict, MergedTo}
 use Rattle.paper.specs.declared.Answer.the-variants.{Done, Refused}
 use Rattle.paper.specs.declared.Page.{Page}
