@@ -1,4 +1,4 @@
--- The checks, the control points of a side, and one sample.
+-- The checks, the sizes of a side's control points, and one sample.
 -- Assumes nothing.
 use mathlib.Core.Path.{_≡_, refl, sym, ap, _∙_, subst}
 use mathlib.Core.Bool.{Bool, true, false, not, _||_}
@@ -7,16 +7,16 @@ use Prim.Native.Nat.{ℕ, zero, suc, _+_, _-_, _*_, _/_, _^_, _≤_, _<_}
 use native.Mathlib.Nat.{mul-le-mul}
 use native.Mathlib.Omega.{arith}
 use borrow.Author.Tests.{ltb-false, lt-ltb, le-ltb, eqb-true, eqb-false, eq-eqb, ne-eqb, not-false}
-use lib.Dec.{ltb, eqb, lit<, lit≤}
-use lib.ListN.{length, getD, set}
+use lib.Dec.{ltb, eqb, lit≤}
+use lib.ListN.{length, set}
 use lib.IntN.{ℤ, pos, negℤ, natAbs}
 use lib.Signed.{_≤ℤ_}
-use mir.Syntax.{w32, w64}
+use mir.Syntax.{w32}
 use mir.Val.{SFits, toZ, ofZ}
 use mir.ValLaws.{toZ-ofZ}
-use Rattle.paper.specs.Faults.{Verdict, sound, fault, _orElse_, single, outside, stated, kept}
+use Rattle.paper.specs.Faults.{Verdict, sound, fault, _orElse_, single, outside, stated}
 use Rattle.paper.specs.Numbers.{round}
-use Rattle.paper.specs.Net.{Side, side0, side1, side2, side3}
+use Rattle.paper.specs.Net.{Side}
 use Rattle.paper.specs.File.{noRoom, begins}
 use Rattle.paper.specs.Floats.{netVerdict, fault20, pointVerdict, axes}
 use Rattle.paper.specs.declared.Answer.{Answer}
@@ -24,18 +24,17 @@ use Rattle.paper.specs.declared.Answer.the-variants.{Done, Refused}
 use Rattle.paper.specs.Sampling.{control, Weights, weights, onAxis, bernsteinSum, sampleAt, samplePoint, fault32, mostParts, fault33, sampleVerdict, sideAt}
 use Rattle.paper.specs.Sampling.{Sampled, sampleCount, triangleSamples, triangleVerdict, TriangleSampled}
 use Rattle.integers.proofs.Diff.{as-diff, diff}
-use Rattle.integers.proofs.Machine.{abs-fits}
-use Rattle.mesh.proofs.Ranges.{or-left, or-right, or-none, none-left, none-right, outside-low, outside-high, inside, at-least, at-most}
-use Rattle.mesh.proofs.Scans.{ways}
+use Rattle.mesh.proofs.Ranges.{or-left, or-right, none-left, none-right, inside, at-least, at-most}
 use Rattle.mesh.proofs.Verdicts.{sound-left, sound-right, single-sound, single-miss, single-hit, orElse-fault, orElse-sound, stop, past}
-use Rattle.floats.proofs.Laws.{is-long, number-le}
 use Rattle.bernstein.specs.declared.Five.{Five}
 use Rattle.bernstein.specs.declared.Rows.{Rows}
 use Rattle.bernstein.specs.Sums.{AllSized, Tapered, AllTapered, rowsOf, polynomialOf, rowOf, valueOf, quarticSum}
 use Rattle.bernstein.proofs.Laws.{bits, sized-bits, polynomial-tapers, row-tapers, value-size}
 use Rattle.bernstein.proofs.Identity.{polynomial-sum}
 use Rattle.bernstein.proofs.Sum.{bernstein-is, sum-size}
-use Rattle.sampling.specs.Grid.{bPlace, aPlace, Sampleable}
+use Rattle.triangle_points.specs.Places.{bPlace, aPlace}
+use Rattle.triangle_points.proofs.Laws.{outer-place, a-place, inner-place, inner-a-place, number-size}
+use Rattle.sampling.specs.Grid.{Sampleable}
 use Rattle.sampling.proofs.Lists.{row-value}
 
 -- ---- 33, test by test
@@ -112,55 +111,6 @@ module _ (numbers : List ℤ) (side i j k n : ℕ) (e : sampleVerdict numbers si
 
   pub parts-sum : i + j + k ≡ n
   parts-sum = eqb-true (i + j + k) n (not-false (eqb (i + j + k) n) (none-right (outside 1 mostParts n) (not (eqb (i + j + k) n)) no-fault33))
-
--- ---- the control points of a side by their places
-module _ (p : ℕ → ℤ) where
-  pub outer-place : (side q : ℕ) → q ≤ 4 → control p (sideAt side) 0 q ≡ p (bPlace side 0 q)
-  outer-place zero q h = ap p (omega arith)
-  outer-place (suc zero) q h = ap p (omega arith)
-  outer-place (suc (suc zero)) q h = ap p (omega arith)
-  outer-place (suc (suc (suc n))) q h = ap p (omega arith)
-
-  pub a-place : (side q : ℕ) → q ≤ 3 → control p (sideAt side) 1 q ≡ p (aPlace side 0 q)
-  a-place zero q h = ap p (omega arith)
-  a-place (suc zero) q h = ap p (omega arith)
-  a-place (suc (suc zero)) q h = ap p (omega arith)
-  a-place (suc (suc (suc n))) q h = ap p (omega arith)
-
-  pub inner-place : (side q : ℕ) → q ≤ 2 → control p (sideAt side) 2 q ≡ p (bPlace side 1 q)
-  inner-place zero q h = ap p (omega arith)
-  inner-place (suc zero) q h = ap p (omega arith)
-  inner-place (suc (suc zero)) q h = ap p (omega arith)
-  inner-place (suc (suc (suc n))) q h = ap p (omega arith)
-
-  pub inner-a-place : (side q : ℕ) → q ≤ 1 → control p (sideAt side) 3 q ≡ p (aPlace side 1 q)
-  inner-a-place zero q h = ap p (omega arith)
-  inner-a-place (suc zero) q h = ap p (omega arith)
-  inner-a-place (suc (suc zero)) q h = ap p (omega arith)
-  inner-a-place (suc (suc (suc n))) q h = ap p (omega arith)
-
-  pub centre-place : (side : ℕ) → control p (sideAt side) 4 0 ≡ p (bPlace side 2 0)
-  centre-place zero = refl
-  centre-place (suc zero) = refl
-  centre-place (suc (suc zero)) = refl
-  centre-place (suc (suc (suc n))) = refl
-
--- a number by its bits, of 32 and of 64
-module _ (numbers : List ℤ) (e : netVerdict numbers ≡ sound) (point axis : ℕ) (h : axis < 3) (l : point ≤ 40) where
-  pub number-size : natAbs (onAxis numbers axis point) ≤ 2 ^ 27
-  number-size = number-le numbers e (3 * point + axis) (omega arith)
-
-  narrow : toZ w32 (ofZ w32 (onAxis numbers axis point)) ≡ onAxis numbers axis point
-  narrow = toZ-ofZ w32 _ (abs-fits w32 _ (2 ^ 27) number-size (lit< tt))
-
-  pub number-fits : SFits w64 (toZ w32 (ofZ w32 (onAxis numbers axis point)))
-  number-fits = rw narrow (abs-fits w64 _ (2 ^ 27) number-size (lit< tt))
-
-  pub number-is : toZ w64 (ofZ w64 (toZ w32 (ofZ w32 (onAxis numbers axis point)))) ≡ onAxis numbers axis point
-  number-is = toZ-ofZ w64 _ number-fits ∙ narrow
-
-pub by-bits : (r z : ℤ) → (r ≡ z) × (natAbs r ≤ 2 ^ 27) → toZ w64 (ofZ w64 r) ≡ z
-by-bits r z h = sized-bits r (2 ^ 27) (h .1) (lit≤ tt) ∙ h .0
 
 -- ---- the control points are within ±2^27, and so are their sums over n^4
 module _ (numbers : List ℤ) (e : netVerdict numbers ≡ sound) (side axis : ℕ) (h : axis < 3) where

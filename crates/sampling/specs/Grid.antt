@@ -1,4 +1,4 @@
--- Where a triangle's control points stand among the 41, and where its samples stand in a list.
+-- Control points that can be sampled, and where the samples of a triangle stand in a list.
 -- Assumes nothing.
 use mathlib.Core.Path.{_≡_}
 use mathlib.Core.List.{List}
@@ -9,19 +9,6 @@ use Rattle.paper.specs.Numbers.{round}
 use Rattle.bernstein.specs.declared.Five.{Five}
 use Rattle.bernstein.specs.declared.Rows.{Rows}
 use Rattle.bernstein.specs.Sums.{AllSized, Tapered, valueOf, quarticSum}
-
--- ---- the b points and the a points of a side's triangle, by the rows inwards and along the row from the head
-abbrev pub bPlace : ℕ → ℕ → ℕ → ℕ
-bPlace zero inward along = 6 * inward + along
-bPlace (suc zero) inward along = 24 - 6 * inward - 5 * along
-bPlace (suc (suc zero)) inward along = 24 - 6 * inward - along
-bPlace (suc (suc (suc n))) inward along = 6 * inward + 5 * along
-
-abbrev pub aPlace : ℕ → ℕ → ℕ → ℕ
-aPlace zero inward along = 25 + 5 * inward + along
-aPlace (suc zero) inward along = 40 - 5 * inward - 4 * along
-aPlace (suc (suc zero)) inward along = 40 - 5 * inward - along
-aPlace (suc (suc (suc n))) inward along = 25 + 5 * inward + 4 * along
 
 -- ---- control points that can be sampled in n parts: no sum of theirs is too large
 pub record Sampleable (p : Rows) (n : ℕ) : Type 0 where

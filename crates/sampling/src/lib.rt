@@ -4,19 +4,19 @@ use bernstein::Five;
 use bernstein::Rows;
 use paper::Answer;
 use paper::MOST_PARTS;
+use triangle_points::control_points;
 ghost use mathlib.Core.Path.{_≡_};
 ghost use Prim.Native.Nat.{ℕ, _+_, _*_, _^_, _≤_, _<_};
 ghost use lib.ListN.{length};
-ghost use lib.IntN.{pos, natAbs};
+ghost use lib.IntN.{pos};
 ghost use mathlib.Core.Bool.{not};
-ghost use Rattle.paper.specs.Numbers.{round};
 ghost use Rattle.paper.specs.Faults.{sound, stated};
 ghost use Rattle.paper.specs.File.{begins};
 ghost use Rattle.paper.specs.Floats.{netVerdict, axes};
-ghost use Rattle.paper.specs.Sampling.{weights, onAxis, control, sampleAt, fault33, sampleVerdict, sideAt, Sampled, sampleCount, triangleSamples};
+ghost use Rattle.paper.specs.Sampling.{weights, sampleAt, fault33, sampleVerdict, sideAt, Sampled, sampleCount, triangleSamples};
 ghost use Rattle.paper.specs.Sampling.{TriangleSampled};
-ghost use Rattle.bernstein.specs.Sums.{AllSized, Tapered, rowsOf, polynomialOf, rowOf, valueOf, quarticSum};
-ghost use Rattle.sampling.specs.Grid.{bPlace, aPlace, before, Sampleable, RowSampleable, RowPut, RowsPut};
+ghost use Rattle.bernstein.specs.Sums.{AllSized, Tapered, polynomialOf, rowOf, valueOf};
+ghost use Rattle.sampling.specs.Grid.{before, Sampleable, RowSampleable, RowPut, RowsPut};
 
 // Our own number for a lent list that is too short.
 const NO_ROOM: u8 = 255;
@@ -184,128 +184,5 @@ fn put_row(e: Five, n: usize, count: usize, points: &mut [i32], from: usize)
         points[from + 3 * j] = v;
         g = bernstein::step(g);
         j += 1;
-    }
-}
-
-// The 15 control points of a side's triangle on an axis, in rows from the side inwards and each row from the head.
-fn control_points(numbers: &[i32], side: usize, axis: usize) -> Rows
-    requires { ⌜ (netVerdict (now numbers) ≡ sound) × (side ≤ 3) × (axis < 3) ⌝ }
-    ensures { λ r. ⌜ r ≡ rowsOf (control (onAxis (now (numbers .entry)) axis) (sideAt side)) ⌝ }
-{
-    let r0 = outer_row(numbers, side, axis);
-    let r1 = a_row(numbers, side, axis);
-    let r2 = inner_row(numbers, side, axis);
-    let r3 = Five {
-        a: a_point(numbers, side, axis, 1, 0),
-        b: a_point(numbers, side, axis, 1, 1),
-        c: 0,
-        d: 0,
-        e: 0,
-    };
-    let r4 = Five {
-        a: b_point(numbers, side, axis, 2, 0),
-        b: 0,
-        c: 0,
-        d: 0,
-        e: 0,
-    };
-    Rows {
-        r0: r0,
-        r1: r1,
-        r2: r2,
-        r3: r3,
-        r4: r4,
-    }
-}
-
-// The five outer b points of the side.
-fn outer_row(numbers: &[i32], side: usize, axis: usize) -> Five
-    requires { ⌜ (netVerdict (now numbers) ≡ sound) × (side ≤ 3) × (axis < 3) ⌝ }
-    ensures { λ r. ⌜ r ≡ rowsOf (control (onAxis (now (numbers .entry)) axis) (sideAt side)) .r0 ⌝ }
-{
-    Five {
-        a: b_point(numbers, side, axis, 0, 0),
-        b: b_point(numbers, side, axis, 0, 1),
-        c: b_point(numbers, side, axis, 0, 2),
-        d: b_point(numbers, side, axis, 0, 3),
-        e: b_point(numbers, side, axis, 0, 4),
-    }
-}
-
-// Its four a points.
-fn a_row(numbers: &[i32], side: usize, axis: usize) -> Five
-    requires { ⌜ (netVerdict (now numbers) ≡ sound) × (side ≤ 3) × (axis < 3) ⌝ }
-    ensures { λ r. ⌜ r ≡ rowsOf (control (onAxis (now (numbers .entry)) axis) (sideAt side)) .r1 ⌝ }
-{
-    Five {
-        a: a_point(numbers, side, axis, 0, 0),
-        b: a_point(numbers, side, axis, 0, 1),
-        c: a_point(numbers, side, axis, 0, 2),
-        d: a_point(numbers, side, axis, 0, 3),
-        e: 0,
-    }
-}
-
-// Three b points of the next row.
-fn inner_row(numbers: &[i32], side: usize, axis: usize) -> Five
-    requires { ⌜ (netVerdict (now numbers) ≡ sound) × (side ≤ 3) × (axis < 3) ⌝ }
-    ensures { λ r. ⌜ r ≡ rowsOf (control (onAxis (now (numbers .entry)) axis) (sideAt side)) .r2 ⌝ }
-{
-    Five {
-        a: b_point(numbers, side, axis, 1, 0),
-        b: b_point(numbers, side, axis, 1, 1),
-        c: b_point(numbers, side, axis, 1, 2),
-        d: 0,
-        e: 0,
-    }
-}
-
-// A b point of the triangle, by the row inwards and the place along it from the head.
-fn b_point(numbers: &[i32], side: usize, axis: usize, inward: usize, along: usize) -> i64
-    requires { ⌜ (netVerdict (now numbers) ≡ sound) × (axis < 3) × (side ≤ 3) × (2 * inward + along ≤ 4) ⌝ }
-    ensures { λ r. ⌜ (r ≡ onAxis (now (numbers .entry)) axis (bPlace side inward along)) × (natAbs r ≤ 2 ^ 27) ⌝ }
-{
-    number(numbers, b_place(side, inward, along), axis)
-}
-
-// An a point likewise.
-fn a_point(numbers: &[i32], side: usize, axis: usize, inward: usize, along: usize) -> i64
-    requires { ⌜ (netVerdict (now numbers) ≡ sound) × (axis < 3) × (side ≤ 3) × (2 * inward + along ≤ 3) ⌝ }
-    ensures { λ r. ⌜ (r ≡ onAxis (now (numbers .entry)) axis (aPlace side inward along)) × (natAbs r ≤ 2 ^ 27) ⌝ }
-{
-    number(numbers, a_place(side, inward, along), axis)
-}
-
-// A point's number on an axis.
-fn number(numbers: &[i32], point: usize, axis: usize) -> i64
-    requires { ⌜ (netVerdict (now numbers) ≡ sound) × (axis < 3) × (point ≤ 40) ⌝ }
-    ensures { λ r. ⌜ (r ≡ onAxis (now (numbers .entry)) axis point) × (natAbs r ≤ 2 ^ 27) ⌝ }
-{
-    let z = numbers[3 * point + axis];
-    z as i64
-}
-
-// Which of the 41 points that is. Sides 1 and 2 have their head at the end of the b rows, sides 1 and 3 run across the rows.
-fn b_place(side: usize, inward: usize, along: usize) -> usize
-    requires { ⌜ (side ≤ 3) × (2 * inward + along ≤ 4) ⌝ }
-    ensures { λ r. ⌜ (r ≡ bPlace side inward along) × (r ≤ 24) ⌝ }
-{
-    match side {
-        0 => 6 * inward + along,
-        1 => 24 - 6 * inward - 5 * along,
-        2 => 24 - 6 * inward - along,
-        _ => 6 * inward + 5 * along,
-    }
-}
-
-fn a_place(side: usize, inward: usize, along: usize) -> usize
-    requires { ⌜ (side ≤ 3) × (2 * inward + along ≤ 3) ⌝ }
-    ensures { λ r. ⌜ (r ≡ aPlace side inward along) × (r ≤ 40) ⌝ }
-{
-    match side {
-        0 => 25 + 5 * inward + along,
-        1 => 40 - 5 * inward - 4 * along,
-        2 => 40 - 5 * inward - along,
-        _ => 25 + 5 * inward + 4 * along,
     }
 }

@@ -1,7 +1,6 @@
 -- Checks 18, 19, 32 and 33 meet their contract: each stops the chain with its fault or is passed.
 -- Assumes nothing.
 use mathlib.Core.Path.{_≡_, sym, ap, _∙_}
-use mathlib.Core.Bool.{true, false}
 use borrow.Author.Needs.{needs}
 use denote.Ref.{now}
 use Rattle.paper.specs.Faults.{sound, stated}

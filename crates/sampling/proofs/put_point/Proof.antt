@@ -1,6 +1,5 @@
 -- `sampling::put_point` meets its contract: the three places of the point are set.
 -- Assumes nothing.
-use mathlib.Core.Path.{_∙_}
 use borrow.Author.Needs.{needs}
 use mir.Facts.{toZ-ofZ}
 use denote.Ref.{now}

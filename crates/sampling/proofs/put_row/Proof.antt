@@ -4,14 +4,13 @@ use mathlib.Core.Path.{_≡_, sym, ap, _∙_, subst}
 use Prim.Native.Nat.{ℕ, _+_, _-_, _*_, _^_, _≤_, _<_}
 use native.Mathlib.Omega.{arith}
 use borrow.Author.Needs.{needs}
-use lib.Dec.{lit<, lit≤}
+use lib.Dec.{lit≤}
 use lib.ListN.{length}
 use lib.IntN.{ℤ, pos, natAbs}
-use mir.Syntax.{w32, w64}
+use mir.Syntax.{w32}
 use mir.Val.{toZ, ofZ}
 use mir.Facts.{toZ-ofZ}
 use Rattle.paper.specs.Numbers.{round}
-use Rattle.integers.proofs.Machine.{abs-fits}
 use Rattle.bernstein.specs.declared.Five.{Five}
 use Rattle.bernstein.specs.Sums.{Sized, stateOf, valueOf, stepOf}
 use Rattle.bernstein.proofs.Laws.{bits, state-size, tapered-size, sized-bits}

@@ -1,11 +1,10 @@
 -- `sampling::value_at` meets its contract: after x turns the state is that at x.
 -- Assumes nothing.
 use mathlib.Core.Path.{_≡_, sym, ap, _∙_, subst}
-use Prim.Native.Nat.{ℕ, _+_, _-_, _*_, _^_, _≤_}
+use Prim.Native.Nat.{ℕ, _-_, _*_, _^_, _≤_}
 use native.Mathlib.Omega.{arith}
 use borrow.Author.Needs.{needs}
 use lib.Dec.{lit≤}
-use lib.IntN.{ℤ, natAbs}
 use Rattle.bernstein.specs.declared.Five.{Five}
 use Rattle.bernstein.specs.Sums.{Sized, stateOf, valueOf, stepOf}
 use Rattle.bernstein.proofs.Laws.{state-size, tapered-size, sized-bits}

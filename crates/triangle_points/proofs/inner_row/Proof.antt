@@ -1,4 +1,4 @@
--- `sampling::inner_row` meets its contract, point by point.
+-- `triangle_points::inner_row` meets its contract, point by point.
 -- Assumes nothing.
 use mathlib.Core.Path.{_≡_, refl, sym, _∙_}
 use borrow.Author.Needs.{needs}
@@ -6,9 +6,9 @@ use lib.Dec.{lit≤}
 use denote.Ref.{now}
 use Rattle.paper.specs.Sampling.{onAxis}
 use Rattle.bernstein.proofs.Identity.{five-same}
-use Rattle.sampling.proofs.Laws.{by-bits, inner-place}
-use Rattle.sampling.proofs.inner_row.Statement.{statement}
-use Rattle.sampling.proofs.inner_row.Tie as tie
+use Rattle.triangle_points.proofs.Laws.{by-bits, inner-place}
+use Rattle.triangle_points.proofs.inner_row.Statement.{statement}
+use Rattle.triangle_points.proofs.inner_row.Tie as tie
 
 b-point-requires : tie.Need-b-point-requires
 b-point-requires c κs = search needs

@@ -1,4 +1,4 @@
--- `sampling::a_point` meets its contract.
+-- `triangle_points::b_point` meets its contract.
 -- Assumes nothing.
 use mathlib.Core.Path.{_≡_, ap, _∙_}
 use Prim.Native.Nat.{ℕ}
@@ -7,11 +7,11 @@ use lib.Dec.{lit≤}
 use denote.Ref.{now}
 use Rattle.paper.specs.Sampling.{onAxis}
 use Rattle.bernstein.proofs.Laws.{sized-bits}
-use Rattle.sampling.proofs.a_point.Statement.{statement}
-use Rattle.sampling.proofs.a_point.Tie as tie
+use Rattle.triangle_points.proofs.b_point.Statement.{statement}
+use Rattle.triangle_points.proofs.b_point.Tie as tie
 
-a-place-requires : tie.Need-a-place-requires
-a-place-requires c κs = search needs
+b-place-requires : tie.Need-b-place-requires
+b-place-requires c κs = search needs
 
 number-requires : tie.Need-number-requires
 number-requires c κs = search needs
@@ -20,9 +20,9 @@ returns : tie.Need-returns
 returns c =
     let s = c .before .before in
     let b = sized-bits (c .number .result) _ (c .number .ensures .1) (lit≤ tt) in (
-      b ∙ c .number .ensures .0 ∙ ap (λ (t : ℕ). onAxis (now (s .args .numbers)) (s .args .axis) t) (c .before .a-place .ensures .0),
+      b ∙ c .number .ensures .0 ∙ ap (λ (t : ℕ). onAxis (now (s .args .numbers)) (s .args .axis) t) (c .before .b-place .ensures .0),
       rw b (c .number .ensures .1),
     )
 
-pub a-point-spec : {M : Type 1} → statement M
-a-point-spec = tie.close (tie.spec a-place-requires number-requires returns)
+pub b-point-spec : {M : Type 1} → statement M
+b-point-spec = tie.close (tie.spec b-place-requires number-requires returns)

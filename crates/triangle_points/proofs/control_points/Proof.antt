@@ -1,4 +1,4 @@
--- `sampling::control_points` meets its contract, row by row.
+-- `triangle_points::control_points` meets its contract, row by row.
 -- Assumes nothing.
 use mathlib.Core.Path.{_≡_, refl, sym, _∙_}
 use borrow.Author.Needs.{needs}
@@ -8,9 +8,9 @@ use Rattle.paper.specs.Sampling.{onAxis, control, sideAt}
 use Rattle.bernstein.specs.declared.Five.{Five}
 use Rattle.bernstein.specs.declared.Rows.{Rows}
 use Rattle.bernstein.proofs.Identity.{five-same}
-use Rattle.sampling.proofs.Laws.{by-bits, inner-a-place, centre-place}
-use Rattle.sampling.proofs.control_points.Statement.{statement}
-use Rattle.sampling.proofs.control_points.Tie as tie
+use Rattle.triangle_points.proofs.Laws.{by-bits, inner-a-place, centre-place}
+use Rattle.triangle_points.proofs.control_points.Statement.{statement}
+use Rattle.triangle_points.proofs.control_points.Tie as tie
 
 outer-row-requires : tie.Need-outer-row-requires
 outer-row-requires c κs = search needs

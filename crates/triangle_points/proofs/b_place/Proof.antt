@@ -1,11 +1,11 @@
--- `sampling::b_place` meets its contract, side by side.
+-- `triangle_points::b_place` meets its contract, side by side.
 -- Assumes nothing.
 use mathlib.Core.Path.{refl}
 use native.Mathlib.Omega.{arith}
 use borrow.Author.Needs.{needs}
 use Rattle.bernstein.proofs.Laws.{above, is-last}
-use Rattle.sampling.proofs.b_place.Statement.{statement}
-use Rattle.sampling.proofs.b_place.Tie as tie
+use Rattle.triangle_points.proofs.b_place.Statement.{statement}
+use Rattle.triangle_points.proofs.b_place.Tie as tie
 
 mul-result : tie.Need-mul-result
 mul-result c = search needs

@@ -1,12 +1,12 @@
--- `sampling::number` meets its contract: 18 keeps the place within the list, 19 the number within ±2^27.
+-- `triangle_points::number` meets its contract: 18 keeps the place within the list, 19 the number within ±2^27.
 -- Assumes nothing.
 use native.Mathlib.Omega.{arith}
 use borrow.Author.Needs.{needs}
 use denote.Ref.{now}
 use Rattle.floats.proofs.Laws.{is-long}
-use Rattle.sampling.proofs.Laws.{number-fits, number-is, number-size}
-use Rattle.sampling.proofs.number.Statement.{statement}
-use Rattle.sampling.proofs.number.Tie as tie
+use Rattle.triangle_points.proofs.Laws.{number-fits, number-is, number-size}
+use Rattle.triangle_points.proofs.number.Statement.{statement}
+use Rattle.triangle_points.proofs.number.Tie as tie
 
 mul-z : tie.Need-mul-z
 mul-z c = search needs
