@@ -1,0 +1,118 @@
+// The planes of a coordinate list's differences (L11). Four differences are taken before their bytes are stored, plane by plane: the compiler
+// then works on all four at once and has not to see that numbers and planes lie apart, which costs short lists more than the work.
+use differences::delta_at;
+use dms_lists::bits;
+ghost use mathlib.Core.Path.{_≡_};
+ghost use Prim.Native.Nat.{_+_, _-_, _*_, _%_, _<_, _≤_};
+ghost use lib.ListN.{length};
+ghost use Rattle.paper.specs.Archive.{archived};
+ghost use Rattle.archiving.specs.Planes.{Planed, row, spread};
+
+// Puts the bytes of every difference into the four planes, each as long as the number list. For one vertex the compiler knows all places.
+pub fn fill_planes(numbers: &[i32], bytes: &mut [u8])
+    requires { ⌜ (length (now numbers) % 3 ≡ 0) × (length (now bytes) ≡ 4 * length (now numbers)) ⌝ }
+    ensures { λ _. ⌜ now (bytes .exit) ≡ archived (now (numbers .entry)) ⌝ }
+{
+    let n = numbers.len();
+    if n == 0 {
+        return;
+    }
+    if n == 3 {
+        put_first(numbers, bytes, 3);
+        return;
+    }
+    put_first(numbers, bytes, n);
+    fill_fours(numbers, bytes);
+    fill_rest(numbers, bytes);
+}
+
+// The first vertex, whose numbers are kept.
+fn put_first(numbers: &[i32], bytes: &mut [u8], n: usize)
+    requires { ⌜ (3 ≤ n) × (n ≡ length (now numbers)) × (length (now bytes) ≡ 4 * length (now numbers)) ⌝ }
+    ensures { λ _. ⌜ Planed (now (numbers .entry)) 3 (now (bytes .exit)) ⌝ }
+{
+    put(bytes, n, 0, bits(numbers[0]));
+    put(bytes, n, 1, bits(numbers[1]));
+    put(bytes, n, 2, bits(numbers[2]));
+}
+
+// Then four numbers at a time, as far as there are four.
+fn fill_fours(numbers: &[i32], bytes: &mut [u8])
+    requires { ⌜ (3 ≤ length (now numbers)) × Planed (now numbers) 3 (now bytes) ⌝ }
+    ensures { λ _. ⌜ Planed (now (numbers .entry)) (length (now (numbers .entry)) - (length (now (numbers .entry)) - 3) % 4) (now (bytes .exit)) ⌝ }
+{
+    let n = numbers.len();
+    let mut i = 3;
+    while i + 4 <= n {
+        put_four(numbers, bytes, i);
+        i += 4;
+    }
+}
+
+// And the rest, counted as a remainder by four, so that the compiler sees how few turns there are.
+fn fill_rest(numbers: &[i32], bytes: &mut [u8])
+    requires { ⌜ (3 ≤ length (now numbers)) × Planed (now numbers) (length (now numbers) - (length (now numbers) - 3) % 4) (now bytes) ⌝ }
+    ensures { λ _. ⌜ now (bytes .exit) ≡ archived (now (numbers .entry)) ⌝ }
+{
+    let n = numbers.len();
+    let rest = (n - 3) % 4;
+    let mut k = 0;
+    while k < rest {
+        put_next(numbers, bytes, n - rest + k);
+        k += 1;
+    }
+}
+
+// The number at a position after the first vertex.
+fn put_next(numbers: &[i32], bytes: &mut [u8], i: usize)
+    requires { ⌜ (3 ≤ i) × (i < length (now numbers)) × Planed (now numbers) i (now bytes) ⌝ }
+    ensures { λ _. ⌜ Planed (now (numbers .entry)) (i + 1) (now (bytes .exit)) ⌝ }
+{
+    let n = numbers.len();
+    put(bytes, n, i, delta_at(numbers, i));
+}
+
+// The four numbers from a position on.
+fn put_four(numbers: &[i32], bytes: &mut [u8], i: usize)
+    requires { ⌜ (3 ≤ i) × (i + 4 ≤ length (now numbers)) × Planed (now numbers) i (now bytes) ⌝ }
+    ensures { λ _. ⌜ Planed (now (numbers .entry)) (i + 4) (now (bytes .exit)) ⌝ }
+{
+    let n = numbers.len();
+    let a = delta_at(numbers, i);
+    let b = delta_at(numbers, i + 1);
+    let c = delta_at(numbers, i + 2);
+    let d = delta_at(numbers, i + 3);
+    put_row(bytes, i, a, b, c, d);
+    put_row(bytes, n + i, a / 256, b / 256, c / 256, d / 256);
+    put_row(bytes, 2 * n + i, a / 65536, b / 65536, c / 65536, d / 65536);
+    put_row(
+        bytes,
+        3 * n + i,
+        a / 16777216,
+        b / 16777216,
+        c / 16777216,
+        d / 16777216,
+    );
+}
+
+// The lowest bytes of four numbers, from a place on.
+pub fn put_row(bytes: &mut [u8], at: usize, a: u32, b: u32, c: u32, d: u32)
+    requires { ⌜ at + 3 < length (now bytes) ⌝ }
+    ensures { λ _. ⌜ now (bytes .exit) ≡ row (now (bytes .entry)) at (a % 256) (b % 256) (c % 256) (d % 256) ⌝ }
+{
+    bytes[at] = (a % 256) as u8;
+    bytes[at + 1] = (b % 256) as u8;
+    bytes[at + 2] = (c % 256) as u8;
+    bytes[at + 3] = (d % 256) as u8;
+}
+
+// The four bytes of a number, the lowest at i and each n places after the one before.
+fn put(bytes: &mut [u8], n: usize, i: usize, d: u32)
+    requires { ⌜ 3 * n + i < length (now bytes) ⌝ }
+    ensures { λ _. ⌜ now (bytes .exit) ≡ spread (now (bytes .entry)) n i d ⌝ }
+{
+    bytes[i] = (d % 256) as u8;
+    bytes[n + i] = (d / 256 % 256) as u8;
+    bytes[2 * n + i] = (d / 65536 % 256) as u8;
+    bytes[3 * n + i] = (d / 16777216 % 256) as u8;
+}
