@@ -13,8 +13,8 @@ use mir.Val.{ofZ}
 use Rattle.paper.specs.File.{wordAt}
 use Rattle.mesh.proofs.Scans.{compared}
 use Rattle.archive_laws.proofs.Words.{four-bytes}
-use Rattle.archiving.specs.Planes.{row}
-use Rattle.archiving.proofs.Runs.{Run, run-row}
+use Rattle.planes.specs.Planes.{row}
+use Rattle.planes.proofs.Runs.{Run, run-row}
 use Rattle.four_bytes.specs.Words.{Worded}
 
 module _ (l : List ℕ) (at d : ℕ) (room : at + 3 < length l) (h : d < 2 ^ 32) where

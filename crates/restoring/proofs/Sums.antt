@@ -14,7 +14,8 @@ use mir.Val.{toZ}
 use Rattle.paper.specs.Scan.{valuesFrom}
 use Rattle.dms_lists.proofs.Lists.{Filled, filled-step}
 use Rattle.paper.specs.Archive.{storedAt, sumAt, restoredAt, restored}
-use Rattle.restoring.specs.Sums.{before, Turned}
+use Rattle.differences.specs.Deltas.{Turned}
+use Rattle.restoring.specs.Sums.{before}
 use Rattle.archive_laws.proofs.Words.{third, rest}
 
 module _ (bytes : List ℕ) (n : ℕ) where

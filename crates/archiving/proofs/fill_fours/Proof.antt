@@ -6,7 +6,7 @@ use native.Mathlib.Nat.{div-add-mod, mod-lt}
 use native.Mathlib.Omega.{arith}
 use lib.ListN.{length}
 use denote.Ref.{now}
-use Rattle.archiving.specs.Planes.{Planed}
+use Rattle.planes.specs.Planes.{Planed}
 use borrow.Author.Needs.{needs}
 use Rattle.archiving.proofs.fill_fours.Statement.{statement}
 use Rattle.archiving.proofs.fill_fours.Tie as tie

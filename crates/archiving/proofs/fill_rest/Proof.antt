@@ -6,7 +6,7 @@ use native.Mathlib.Nat.{div-add-mod, mod-lt}
 use native.Mathlib.Omega.{arith}
 use lib.ListN.{length}
 use denote.Ref.{now}
-use Rattle.archiving.specs.Planes.{Planed}
+use Rattle.planes.specs.Planes.{Planed}
 use Rattle.archiving.proofs.Planes.{planed-all}
 use borrow.Author.Needs.{needs}
 use Rattle.archiving.proofs.fill_rest.Statement.{statement}

@@ -2,7 +2,7 @@
 -- Assumes nothing.
 use mathlib.Core.Path.{refl}
 use lib.ListN.{length-set}
-use Rattle.archiving.specs.Planes.{spread}
+use Rattle.archiving.specs.Spread.{spread}
 use native.Mathlib.Omega.{arith}
 use borrow.Author.Needs.{needs}
 use Rattle.archiving.proofs.put.Statement.{statement}

@@ -1,11 +1,11 @@
 -- Four numbers more in each plane.
 -- Assumes nothing.
 use denote.Ref.{now}
-use Rattle.archiving.proofs.Planes.{planed-four}
+use Rattle.planes.proofs.Planes.{planed-four}
 use native.Mathlib.Omega.{arith}
 use borrow.Author.Needs.{needs}
-use Rattle.archiving.proofs.put_four.Statement.{statement}
-use Rattle.archiving.proofs.put_four.Tie as tie
+use Rattle.planes.proofs.put_four.Statement.{statement}
+use Rattle.planes.proofs.put_four.Tie as tie
 
 delta-at-requires : tie.Need-delta-at-requires
 delta-at-requires c κs = search needs

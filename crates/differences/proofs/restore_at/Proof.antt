@@ -6,8 +6,8 @@ use mir.Syntax.{w32}
 use mir.ValLaws.{toZ-ofZ}
 use native.Mathlib.Omega.{arith}
 use borrow.Author.Needs.{needs}
-use Rattle.restoring.proofs.restore_at.Statement.{statement}
-use Rattle.restoring.proofs.restore_at.Tie as tie
+use Rattle.differences.proofs.restore_at.Statement.{statement}
+use Rattle.differences.proofs.restore_at.Tie as tie
 
 stored-requires : tie.Need-stored-requires
 stored-requires c κs = search needs

@@ -4,9 +4,9 @@ use mathlib.Core.Path.{refl}
 use lib.ListN.{length-set}
 use native.Mathlib.Omega.{arith}
 use borrow.Author.Needs.{needs}
-use Rattle.archiving.specs.Planes.{row}
-use Rattle.archiving.proofs.put_row.Statement.{statement}
-use Rattle.archiving.proofs.put_row.Tie as tie
+use Rattle.planes.specs.Planes.{row}
+use Rattle.planes.proofs.put_row.Statement.{statement}
+use Rattle.planes.proofs.put_row.Tie as tie
 
 cast-bytes : tie.Need-cast-bytes
 cast-bytes c = search needs

@@ -1,8 +1,8 @@
--- What the loops over the differences hold: the four planes up to a position, and the bytes that a store puts into them.
+-- The four planes up to a position, and four bytes in one of them.
 -- Assumes nothing.
 use mathlib.Core.Path.{_≡_}
 use mathlib.Core.List.{List}
-use Prim.Native.Nat.{ℕ, _+_, _*_, _/_, _%_, _<_}
+use Prim.Native.Nat.{ℕ, _+_, _*_, _<_}
 use lib.ListN.{length, getD, set}
 use lib.IntN.{ℤ}
 use Rattle.paper.specs.Archive.{byteOf}
@@ -18,8 +18,3 @@ pub record Planed (numbers : List ℤ) (i : ℕ) (bytes : List ℕ) : Type 0 whe
 -- four bytes from a place on
 unfoldable pub row : List ℕ → ℕ → ℕ → ℕ → ℕ → ℕ → List ℕ
 row bytes at a b c d = set (set (set (set bytes at a) (at + 1) b) (at + 2) c) (at + 3) d
-
--- the bytes of d at position i of four planes of n bytes each
-unfoldable pub spread : List ℕ → ℕ → ℕ → ℕ → List ℕ
-spread bytes n i d =
-    set (set (set (set bytes i (d % 256)) (n + i) (d / 256 % 256)) (2 * n + i) (d / 65536 % 256)) (3 * n + i) (d / 16777216 % 256)

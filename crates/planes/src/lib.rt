@@ -1,0 +1,42 @@
+// Four numbers at a time in the four planes of a coordinate list's differences (L11). Four differences are taken before their bytes are stored,
+// plane by plane: the compiler then works on all four at once and has not to see that numbers and planes lie apart, which costs short lists
+// more than the work.
+use differences::delta_at;
+ghost use mathlib.Core.Path.{_≡_};
+ghost use Prim.Native.Nat.{_+_, _%_, _<_, _≤_};
+ghost use lib.ListN.{length};
+ghost use Rattle.planes.specs.Planes.{Planed, row};
+
+// The four numbers from a position on.
+pub fn put_four(numbers: &[i32], bytes: &mut [u8], i: usize)
+    requires { ⌜ (3 ≤ i) × (i + 4 ≤ length (now numbers)) × Planed (now numbers) i (now bytes) ⌝ }
+    ensures { λ _. ⌜ Planed (now (numbers .entry)) (i + 4) (now (bytes .exit)) ⌝ }
+{
+    let n = numbers.len();
+    let a = delta_at(numbers, i);
+    let b = delta_at(numbers, i + 1);
+    let c = delta_at(numbers, i + 2);
+    let d = delta_at(numbers, i + 3);
+    put_row(bytes, i, a, b, c, d);
+    put_row(bytes, n + i, a / 256, b / 256, c / 256, d / 256);
+    put_row(bytes, 2 * n + i, a / 65536, b / 65536, c / 65536, d / 65536);
+    put_row(
+        bytes,
+        3 * n + i,
+        a / 16777216,
+        b / 16777216,
+        c / 16777216,
+        d / 16777216,
+    );
+}
+
+// The lowest bytes of four numbers, from a place on.
+pub fn put_row(bytes: &mut [u8], at: usize, a: u32, b: u32, c: u32, d: u32)
+    requires { ⌜ at + 3 < length (now bytes) ⌝ }
+    ensures { λ _. ⌜ now (bytes .exit) ≡ row (now (bytes .entry)) at (a % 256) (b % 256) (c % 256) (d % 256) ⌝ }
+{
+    bytes[at] = (a % 256) as u8;
+    bytes[at + 1] = (b % 256) as u8;
+    bytes[at + 2] = (c % 256) as u8;
+    bytes[at + 3] = (d % 256) as u8;
+}
