@@ -6,12 +6,12 @@ use Prim.Native.Nat.{ℕ, _+_, _*_, _/_, _%_, _<_}
 use native.Mathlib.Omega.{arith}
 use lib.ListN.{length, set}
 use lib.IntN.{ℤ}
-use Rattle.paper.specs.Archive.{byteOf, archived}
+use Rattle.paper.specs.Archive.{archived}
 use Rattle.archive_laws.proofs.Planes.{first-plane, second-plane, third-plane, last-plane, archived-length, same-planes}
 use Rattle.differences.specs.Deltas.{deltaAt}
 use Rattle.planes.specs.Planes.{Planed}
-use Rattle.planes.proofs.Runs.{run-one}
-use Rattle.planes.proofs.Planes.{planed-runs, byte-here, lowest-byte}
+use Rattle.planes.proofs.Runs.{run-one, lowest-byte}
+use Rattle.planes.proofs.Planes.{Bytes, planed-runs, byte-here}
 use Rattle.archiving.specs.Spread.{spread}
 
 module _ (numbers : List ℤ) where
@@ -42,10 +42,10 @@ module _ (numbers : List ℤ) where
       let b2 = set b1 (m + i) (d / 256 % 256) in
       let b3 = set b2 (2 * m + i) (d / 65536 % 256) in
       let out = set b3 (3 * m + i) (d / 16777216 % 256) in
-      let r0 = run-one (λ j. byteOf numbers 0 (i + j)) i bytes (d % 256) (omega (arith, p .long)) (lowest-byte numbers d ∙ byte-here numbers 0 i d e) in
-      let r1 = run-one (λ j. byteOf numbers 1 (i + j)) (m + i) b1 (d / 256 % 256) (omega (arith, p .long, r0 .long)) (byte-here numbers 1 i d e) in
-      let r2 = run-one (λ j. byteOf numbers 2 (i + j)) (2 * m + i) b2 (d / 65536 % 256) (omega (arith, p .long, r0 .long, r1 .long)) (byte-here numbers 2 i d e) in
-      let r3 = run-one (λ j. byteOf numbers 3 (i + j)) (3 * m + i) b3 (d / 16777216 % 256) (omega (arith, p .long, r0 .long, r1 .long, r2 .long))
+      let r0 = run-one (Bytes numbers 0 i) i bytes (d % 256) (omega (arith, p .long)) (lowest-byte d ∙ byte-here numbers 0 i d e) in
+      let r1 = run-one (Bytes numbers 1 i) (m + i) b1 (d / 256 % 256) (omega (arith, p .long, r0 .long)) (byte-here numbers 1 i d e) in
+      let r2 = run-one (Bytes numbers 2 i) (2 * m + i) b2 (d / 65536 % 256) (omega (arith, p .long, r0 .long, r1 .long)) (byte-here numbers 2 i d e) in
+      let r3 = run-one (Bytes numbers 3 i) (3 * m + i) b3 (d / 16777216 % 256) (omega (arith, p .long, r0 .long, r1 .long, r2 .long))
       (byte-here numbers 3 i d e) in
       planed-runs numbers i 1 (omega arith) bytes b1 b2 b3 out p r0 r1 r2 r3
 

@@ -1,10 +1,9 @@
 -- Four-byte numbers put into a list one after the other.
 -- Assumes nothing.
-use mathlib.Core.Path.{_≡_, refl, sym, ap, _∙_, subst}
+use mathlib.Core.Path.{_≡_, refl, sym, _∙_, subst}
 use mathlib.Core.Logic.{⊎-elim}
 use mathlib.Core.List.{List}
 use Prim.Native.Nat.{ℕ, _+_, _*_, _/_, _%_, _^_, _<_}
-use native.Mathlib.Nat.{div-one}
 use native.Mathlib.Omega.{arith}
 use lib.ListN.{length, getD}
 use lib.IntN.{ℤ, pos}
@@ -14,7 +13,7 @@ use Rattle.paper.specs.File.{wordAt}
 use Rattle.mesh.proofs.Scans.{compared}
 use Rattle.archive_laws.proofs.Words.{four-bytes}
 use Rattle.planes.specs.Planes.{row}
-use Rattle.planes.proofs.Runs.{Run, run-row}
+use Rattle.planes.proofs.Runs.{Run, run-row, lowest-byte}
 use Rattle.four_bytes.specs.Words.{Worded}
 
 module _ (l : List ℕ) (at d : ℕ) (room : at + 3 < length l) (h : d < 2 ^ 32) where
@@ -22,7 +21,7 @@ module _ (l : List ℕ) (at d : ℕ) (room : at + 3 < length l) (h : d < 2 ^ 32)
   put = row l at (d % 256) (d / 256 % 256) (d / 65536 % 256) (d / 16777216 % 256)
 
   bytes-run : Run (λ j. d / 256 ^ j % 256) 4 at l put
-  bytes-run = run-row (λ j. d / 256 ^ j % 256) at l _ _ _ _ room (ap (λ (x : ℕ). x % 256) (sym (div-one d))) refl refl refl
+  bytes-run = run-row (λ j. d / 256 ^ j % 256) at l _ _ _ _ room (lowest-byte d) refl refl refl
 
   byte-at : (i j : ℕ) → i ≡ at + j → j < 4 → getD put i 0 ≡ d / 256 ^ j % 256
   byte-at i j q k = rw q (bytes-run .holds j k)

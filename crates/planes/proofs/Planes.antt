@@ -4,7 +4,6 @@ use mathlib.Core.Path.{_≡_, refl, sym, ap, _∙_, subst}
 use mathlib.Core.Logic.{⊎-elim}
 use mathlib.Core.List.{List}
 use Prim.Native.Nat.{ℕ, _+_, _-_, _*_, _/_, _%_, _^_, _<_, _≤_}
-use native.Mathlib.Nat.{div-one}
 use native.Mathlib.Omega.{arith}
 use lib.Dec.{ltb}
 use borrow.Author.Tests.{ltb-true, ltb-false}
@@ -14,20 +13,21 @@ use Rattle.mesh.proofs.Scans.{ways}
 use Rattle.paper.specs.Archive.{byteOf}
 use Rattle.differences.specs.Deltas.{deltaAt}
 use Rattle.planes.specs.Planes.{Planed, row}
-use Rattle.planes.proofs.Runs.{Run, run-row}
+use Rattle.planes.proofs.Runs.{Run, run-row, lowest-byte}
 
 module _ (numbers : List ℤ) where
   abbrev m : ℕ
   m = length numbers
 
+  -- byte k of the differences from position i on
+  abbrev pub Bytes : ℕ → ℕ → ℕ → ℕ
+  Bytes k i j = byteOf numbers k (i + j)
+
   -- ---- the next w differences, from position i on
   module _ (i w : ℕ) (h : i + w ≤ m) where
-    abbrev Bytes : ℕ → ℕ → ℕ
-    Bytes k j = byteOf numbers k (i + j)
-
     -- one plane, whose byte of position j stands at `place j`
     plane-run : (k : ℕ) (place : ℕ → ℕ) (out : List ℕ) → ((j : ℕ) → place i + j ≡ place (i + j))
-        → ((j : ℕ) → j < i → getD out (place j) 0 ≡ byteOf numbers k j) → ((j : ℕ) → j < w → getD out (place i + j) 0 ≡ Bytes k j)
+        → ((j : ℕ) → j < i → getD out (place j) 0 ≡ byteOf numbers k j) → ((j : ℕ) → j < w → getD out (place i + j) 0 ≡ Bytes k i j)
         → (j : ℕ) → j < i + w → getD out (place j) 0 ≡ byteOf numbers k j
     plane-run k place out moved held new j l =
         ⊎-elim (λ e. held j (ltb-true j i e))
@@ -37,8 +37,8 @@ module _ (numbers : List ℤ) where
         (ap (λ (x : ℕ). getD out x 0) (sym (moved (j - i))) ∙ new (j - i) (omega arith)))
         (ways (ltb j i))
 
-    pub planed-runs : (bytes b1 b2 b3 out : List ℕ) → Planed numbers i bytes → Run (Bytes 0) w i bytes b1 → Run (Bytes 1) w (m + i) b1 b2
-        → Run (Bytes 2) w (2 * m + i) b2 b3 → Run (Bytes 3) w (3 * m + i) b3 out → Planed numbers (i + w) out
+    pub planed-runs : (bytes b1 b2 b3 out : List ℕ) → Planed numbers i bytes → Run (Bytes 0 i) w i bytes b1 → Run (Bytes 1 i) w (m + i) b1 b2
+        → Run (Bytes 2 i) w (2 * m + i) b2 b3 → Run (Bytes 3 i) w (3 * m + i) b3 out → Planed numbers (i + w) out
     planed-runs bytes b1 b2 b3 out p r0 r1 r2 r3 = record {
       long = r3 .long ∙ r2 .long ∙ r1 .long ∙ r0 .long ∙ p .long;
       lowest = plane-run 0 (λ j. j) out (λ j. refl)
@@ -65,16 +65,14 @@ module _ (numbers : List ℤ) where
   pub byte-here : (k i d : ℕ) → d ≡ deltaAt numbers i → d / 256 ^ k % 256 ≡ byteOf numbers k (i + 0)
   byte-here k i d e = byte k i d e ∙ ap (byteOf numbers k) (let q : i ≡ i + 0 = omega arith in q)
 
-  pub lowest-byte : (d : ℕ) → d % 256 ≡ d / 256 ^ 0 % 256
-  lowest-byte d = ap (λ (x : ℕ). x % 256) (sym (div-one d))
-
   -- ---- four differences
-  module _ (i a b c d : ℕ) (ea : a ≡ deltaAt numbers i) (eb : b ≡ deltaAt numbers (i + 1)) (ec : c ≡ deltaAt numbers (i + 2)) (ed : d ≡ deltaAt numbers (i + 3)) where
-    row-run : (k at : ℕ) (old out : List ℕ) → at + 3 < length old → out ≡ row old at (a / 256 ^ k % 256) (b / 256 ^ k % 256) (c / 256 ^ k % 256) (d / 256 ^ k % 256)
-        → Run (λ j. byteOf numbers k (i + j)) 4 at old out
+  module _ (i a b c d : ℕ) (ea : a ≡ deltaAt numbers i) (eb : b ≡ deltaAt numbers (i + 1))
+      (ec : c ≡ deltaAt numbers (i + 2)) (ed : d ≡ deltaAt numbers (i + 3)) where
+    row-run : (k at : ℕ) (old out : List ℕ) → at + 3 < length old
+        → out ≡ row old at (a / 256 ^ k % 256) (b / 256 ^ k % 256) (c / 256 ^ k % 256) (d / 256 ^ k % 256) → Run (Bytes k i) 4 at old out
     row-run k at old out room e =
-        subst (Run (λ j. byteOf numbers k (i + j)) 4 at old) (sym e)
-        (run-row (λ j. byteOf numbers k (i + j)) at old _ _ _ _ room (byte-here k i a ea) (byte k (i + 1) b eb) (byte k (i + 2) c ec) (byte k (i + 3) d ed))
+        subst (Run (Bytes k i) 4 at old) (sym e)
+        (run-row (Bytes k i) at old _ _ _ _ room (byte-here k i a ea) (byte k (i + 1) b eb) (byte k (i + 2) c ec) (byte k (i + 3) d ed))
 
     pub planed-four : (bytes b1 b2 b3 out : List ℕ) → i + 4 ≤ m → Planed numbers i bytes
         → b1 ≡ row bytes i (a % 256) (b % 256) (c % 256) (d % 256)

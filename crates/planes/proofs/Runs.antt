@@ -3,7 +3,8 @@
 use mathlib.Core.Path.{_≡_, refl, sym, ap, _∙_, subst}
 use mathlib.Core.Logic.{⊎-elim}
 use mathlib.Core.List.{List}
-use Prim.Native.Nat.{ℕ, _+_, _<_, _≤_}
+use Prim.Native.Nat.{ℕ, _+_, _/_, _%_, _^_, _<_, _≤_}
+use native.Mathlib.Nat.{div-one}
 use native.Mathlib.Omega.{arith}
 use lib.ListN.{length, getD, set, length-set}
 use lib.Seq.{getD-set-same, getD-set-other}
@@ -46,3 +47,7 @@ module _ (f : ℕ → ℕ) (at : ℕ) (old : List ℕ) where
       let r2 = more 1 (at + 1) b _ refl (omega arith) q r1 in
       let r3 = more 2 (at + 2) c _ refl (omega arith) r r2 in
       more 3 (at + 3) d _ refl (omega arith) s r3
+
+-- the lowest byte of a number, as the others are written
+pub lowest-byte : (d : ℕ) → d % 256 ≡ d / 256 ^ 0 % 256
+lowest-byte d = ap (λ (x : ℕ). x % 256) (sym (div-one d))
