@@ -9,10 +9,9 @@ use lib.IntN.{ℤ}
 use Rattle.paper.specs.Archive.{archived}
 use Rattle.archive_laws.proofs.Planes.{first-plane, second-plane, third-plane, last-plane, archived-length, same-planes}
 use Rattle.differences.specs.Deltas.{deltaAt}
-use Rattle.planes.specs.Planes.{Planed}
+use Rattle.planes.specs.Planes.{Planed, spaced, spread}
 use Rattle.planes.proofs.Runs.{run-one, lowest-byte}
 use Rattle.planes.proofs.Planes.{Bytes, planed-runs, byte-here}
-use Rattle.archiving.specs.Spread.{spread}
 
 module _ (numbers : List ℤ) where
   abbrev m : ℕ
@@ -36,7 +35,7 @@ module _ (numbers : List ℤ) where
       (λ j h. p .highest j (omega arith) ∙ sym (last-plane numbers j h))
 
   one : (i d : ℕ) (bytes : List ℕ) → i < m → d ≡ deltaAt numbers i → Planed numbers i bytes → Planed numbers (i + 1) (spread bytes m i d)
-  unfolding spread
+  unfolding spaced
   one i d bytes h e p =
       let b1 = set bytes i (d % 256) in
       let b2 = set b1 (m + i) (d / 256 % 256) in

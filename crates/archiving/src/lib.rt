@@ -1,13 +1,13 @@
 // The planes of a coordinate list's differences (L11): the first vertex, then four numbers at a time, then the rest.
 use differences::delta_at;
 use dms_lists::bits;
+use planes::put;
 use planes::put_four;
 ghost use mathlib.Core.Path.{_≡_};
 ghost use Prim.Native.Nat.{_+_, _-_, _*_, _%_, _<_, _≤_};
 ghost use lib.ListN.{length};
 ghost use Rattle.paper.specs.Archive.{archived};
-ghost use Rattle.planes.specs.Planes.{Planed};
-ghost use Rattle.archiving.specs.Spread.{spread};
+ghost use Rattle.planes.specs.Planes.{Planed, spread};
 
 // Puts the bytes of every difference into the four planes, each as long as the number list. For one vertex the compiler knows all places.
 pub fn fill_planes(numbers: &[i32], bytes: &mut [u8])
@@ -32,9 +32,9 @@ fn put_first(numbers: &[i32], bytes: &mut [u8], n: usize)
     requires { ⌜ (3 ≤ n) × (n ≡ length (now numbers)) × (length (now bytes) ≡ 4 * length (now numbers)) ⌝ }
     ensures { λ _. ⌜ Planed (now (numbers .entry)) 3 (now (bytes .exit)) ⌝ }
 {
-    put(bytes, n, 0, bits(numbers[0]));
-    put(bytes, n, 1, bits(numbers[1]));
-    put(bytes, n, 2, bits(numbers[2]));
+    put_number(bytes, n, 0, bits(numbers[0]));
+    put_number(bytes, n, 1, bits(numbers[1]));
+    put_number(bytes, n, 2, bits(numbers[2]));
 }
 
 // Then four numbers at a time, as far as there are four.
@@ -70,16 +70,13 @@ fn put_next(numbers: &[i32], bytes: &mut [u8], i: usize)
     ensures { λ _. ⌜ Planed (now (numbers .entry)) (i + 1) (now (bytes .exit)) ⌝ }
 {
     let n = numbers.len();
-    put(bytes, n, i, delta_at(numbers, i));
+    put_number(bytes, n, i, delta_at(numbers, i));
 }
 
-// The four bytes of a number, the lowest at i and each n places after the one before.
-fn put(bytes: &mut [u8], n: usize, i: usize, d: u32)
+// The four bytes of a difference, at its position of each plane.
+fn put_number(bytes: &mut [u8], n: usize, i: usize, d: u32)
     requires { ⌜ 3 * n + i < length (now bytes) ⌝ }
     ensures { λ _. ⌜ now (bytes .exit) ≡ spread (now (bytes .entry)) n i d ⌝ }
 {
-    bytes[i] = (d % 256) as u8;
-    bytes[n + i] = (d / 256 % 256) as u8;
-    bytes[2 * n + i] = (d / 65536 % 256) as u8;
-    bytes[3 * n + i] = (d / 16777216 % 256) as u8;
+    put(bytes, n, i, d, d / 256, d / 65536, d / 16777216);
 }

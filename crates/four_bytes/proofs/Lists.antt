@@ -12,13 +12,13 @@ use mir.Val.{ofZ}
 use Rattle.paper.specs.File.{wordAt}
 use Rattle.mesh.proofs.Scans.{compared}
 use Rattle.archive_laws.proofs.Words.{four-bytes}
-use Rattle.planes.specs.Planes.{row}
+use Rattle.planes.specs.Planes.{spread}
 use Rattle.planes.proofs.Runs.{Run, run-row, lowest-byte}
 use Rattle.four_bytes.specs.Words.{Worded}
 
 module _ (l : List ℕ) (at d : ℕ) (room : at + 3 < length l) (h : d < 2 ^ 32) where
   abbrev put : List ℕ
-  put = row l at (d % 256) (d / 256 % 256) (d / 65536 % 256) (d / 16777216 % 256)
+  put = spread l 1 at d
 
   bytes-run : Run (λ j. d / 256 ^ j % 256) 4 at l put
   bytes-run = run-row (λ j. d / 256 ^ j % 256) at l _ _ _ _ room (lowest-byte d) refl refl refl
@@ -49,7 +49,7 @@ module _ (numbers : List ℤ) where
   worded-none bytes e = record { long = e; words = λ j h. absurd (omega arith) }
 
   pub worded-step : (i d : ℕ) (bytes : List ℕ) → i < length numbers → d < 2 ^ 32 → d ≡ ofZ w32 (getD numbers i (pos 0)) → Worded numbers i bytes
-      → Worded numbers (i + 1) (row bytes (4 * i) (d % 256) (d / 256 % 256) (d / 65536 % 256) (d / 16777216 % 256))
+      → Worded numbers (i + 1) (spread bytes 1 (4 * i) d)
   worded-step i d bytes h b e w =
       let r : 4 * i + 3 < length bytes = omega (arith, w .long) in
       let out = put bytes (4 * i) d r b in

@@ -44,7 +44,7 @@ pub fn write_numbers(numbers: &[i32], bytes: &mut [u8])
     let mut i = 0;
     while i < numbers.len() {
         let d = dms_lists::bits(numbers[i]);
-        planes::put_row(bytes, 4 * i, d, d / 256, d / 65536, d / 16777216);
+        planes::put(bytes, 1, 4 * i, d, d / 256, d / 65536, d / 16777216);
         i += 1;
     }
 }

@@ -3,13 +3,13 @@
 use mathlib.Core.Path.{_≡_, refl, sym, ap, _∙_, subst}
 use mathlib.Core.Logic.{⊎-elim}
 use mathlib.Core.List.{List}
-use Prim.Native.Nat.{ℕ, _+_, _/_, _%_, _^_, _<_, _≤_}
+use Prim.Native.Nat.{ℕ, _+_, _*_, _/_, _%_, _^_, _<_, _≤_}
 use native.Mathlib.Nat.{div-one}
 use native.Mathlib.Omega.{arith}
 use lib.ListN.{length, getD, set, length-set}
 use lib.Seq.{getD-set-same, getD-set-other}
 use Rattle.mesh.proofs.Scans.{compared}
-use Rattle.planes.specs.Planes.{row}
+use Rattle.planes.specs.Planes.{spaced}
 
 -- the first w values of f, from a place on
 pub record Run (f : ℕ → ℕ) (w at : ℕ) (old out : List ℕ) : Type 0 where
@@ -40,13 +40,13 @@ module _ (f : ℕ → ℕ) (at : ℕ) (old : List ℕ) where
   pub run-one : (x : ℕ) → at < length old → x ≡ f 0 → Run f 1 at old (set old at x)
   run-one x room q = more 0 at x old (omega arith) room q none
 
-  pub run-row : (a b c d : ℕ) → at + 3 < length old → a ≡ f 0 → b ≡ f 1 → c ≡ f 2 → d ≡ f 3 → Run f 4 at old (row old at a b c d)
-  unfolding row
+  pub run-row : (a b c d : ℕ) → at + 3 < length old → a ≡ f 0 → b ≡ f 1 → c ≡ f 2 → d ≡ f 3 → Run f 4 at old (spaced old 1 at a b c d)
+  unfolding spaced
   run-row a b c d room p q r s =
       let r1 = run-one a (omega arith) p in
-      let r2 = more 1 (at + 1) b _ refl (omega arith) q r1 in
-      let r3 = more 2 (at + 2) c _ refl (omega arith) r r2 in
-      more 3 (at + 3) d _ refl (omega arith) s r3
+      let r2 = more 1 (1 + at) b _ (omega arith) (omega arith) q r1 in
+      let r3 = more 2 (2 * 1 + at) c _ (omega arith) (omega arith) r r2 in
+      more 3 (3 * 1 + at) d _ (omega arith) (omega arith) s r3
 
 -- the lowest byte of a number, as the others are written
 pub lowest-byte : (d : ℕ) → d % 256 ≡ d / 256 ^ 0 % 256

@@ -1,8 +1,8 @@
--- The four planes up to a position, and four bytes in one of them.
+-- The four planes up to a position; and four bytes stored.
 -- Assumes nothing.
 use mathlib.Core.Path.{_≡_}
 use mathlib.Core.List.{List}
-use Prim.Native.Nat.{ℕ, _+_, _*_, _<_}
+use Prim.Native.Nat.{ℕ, _+_, _*_, _/_, _%_, _<_}
 use lib.ListN.{length, getD, set}
 use lib.IntN.{ℤ}
 use Rattle.paper.specs.Archive.{byteOf}
@@ -15,6 +15,10 @@ pub record Planed (numbers : List ℤ) (i : ℕ) (bytes : List ℕ) : Type 0 whe
   pub third : (j : ℕ) → j < i → getD bytes (2 * length numbers + j) 0 ≡ byteOf numbers 2 j
   pub highest : (j : ℕ) → j < i → getD bytes (3 * length numbers + j) 0 ≡ byteOf numbers 3 j
 
--- four bytes from a place on
-unfoldable pub row : List ℕ → ℕ → ℕ → ℕ → ℕ → ℕ → List ℕ
-row bytes at a b c d = set (set (set (set bytes at a) (at + 1) b) (at + 2) c) (at + 3) d
+-- four bytes, the first at a place and each `step` places after the one before
+unfoldable pub spaced : List ℕ → ℕ → ℕ → ℕ → ℕ → ℕ → ℕ → List ℕ
+spaced bytes step at a b c d = set (set (set (set bytes at a) (step + at) b) (2 * step + at) c) (3 * step + at) d
+
+-- the bytes of d at position i of four planes of n bytes each
+abbrev pub spread : List ℕ → ℕ → ℕ → ℕ → List ℕ
+spread bytes n i d = spaced bytes n i (d % 256) (d / 256 % 256) (d / 65536 % 256) (d / 16777216 % 256)

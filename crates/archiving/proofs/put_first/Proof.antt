@@ -15,8 +15,8 @@ shared-slice-copy-out-bits c = search needs
 bits-requires : tie.Need-bits-requires
 bits-requires c κs = search needs
 
-put-requires : tie.Need-put-requires
-put-requires c κs = search needs
+put-number-requires : tie.Need-put-number-requires
+put-number-requires c κs = search needs
 
 shared-slice-copy-out-bits-2 : tie.Need-shared-slice-copy-out-bits-2
 shared-slice-copy-out-bits-2 c = search needs
@@ -24,8 +24,8 @@ shared-slice-copy-out-bits-2 c = search needs
 bits-requires-2 : tie.Need-bits-requires-2
 bits-requires-2 c κs = search needs
 
-put-requires-2 : tie.Need-put-requires-2
-put-requires-2 c κs = search needs
+put-number-requires-2 : tie.Need-put-number-requires-2
+put-number-requires-2 c κs = search needs
 
 shared-slice-copy-out-bits-3 : tie.Need-shared-slice-copy-out-bits-3
 shared-slice-copy-out-bits-3 c = search needs
@@ -33,8 +33,8 @@ shared-slice-copy-out-bits-3 c = search needs
 bits-requires-3 : tie.Need-bits-requires-3
 bits-requires-3 c κs = search needs
 
-put-requires-3 : tie.Need-put-requires-3
-put-requires-3 c κs = search needs
+put-number-requires-3 : tie.Need-put-number-requires-3
+put-number-requires-3 c κs = search needs
 
 same-length : tie.Need-same-length
 same-length c = search needs
@@ -51,9 +51,9 @@ returns c =
     let d3 = p3 .before .bits3 .ensures ∙ read-bits l 2 (record { sfits = p3 .before .before .bits-arg3 .given }) ∙ sym (delta-first l 2 (omega arith)) in
     let n = s .args .n in
     let q = s .pre .1 in
-    let h1 = planed-one l n 0 _ _ _ q (omega (arith, q)) d1 (planed-none l (now (s .args .bytes)) (s .pre .2)) (p1 .put .ensures) in
-    let h2 = planed-one l n 1 _ _ _ q (omega (arith, q)) d2 h1 (p2 .put2 .ensures) in
-    planed-one l n 2 _ _ _ q (omega (arith, q)) d3 h2 (p3 .put3 .ensures)
+    let h1 = planed-one l n 0 _ _ _ q (omega (arith, q)) d1 (planed-none l (now (s .args .bytes)) (s .pre .2)) (p1 .put-number .ensures) in
+    let h2 = planed-one l n 1 _ _ _ q (omega (arith, q)) d2 h1 (p2 .put-number2 .ensures) in
+    planed-one l n 2 _ _ _ q (omega (arith, q)) d3 h2 (p3 .put-number3 .ensures)
 
 pub put-first-spec : {M : Type 1} → statement M
 put-first-spec =
@@ -61,12 +61,12 @@ put-first-spec =
     (tie.spec
     shared-slice-copy-out-bits
     bits-requires
-    put-requires
+    put-number-requires
     shared-slice-copy-out-bits-2
     bits-requires-2
-    put-requires-2
+    put-number-requires-2
     shared-slice-copy-out-bits-3
     bits-requires-3
-    put-requires-3
+    put-number-requires-3
     same-length
     returns)

@@ -11,8 +11,8 @@ use Rattle.archiving.proofs.put_next.Tie as tie
 delta-at-requires : tie.Need-delta-at-requires
 delta-at-requires c κs = search needs
 
-put-requires : tie.Need-put-requires
-put-requires c κs = omega (arith, c .before .before .before .pre .2 .long)
+put-number-requires : tie.Need-put-number-requires
+put-number-requires c κs = omega (arith, c .before .before .before .pre .2 .long)
 
 same-length : tie.Need-same-length
 same-length c = search needs
@@ -22,7 +22,7 @@ returns c =
     let p = c .before .before in
     let s = p .before .before .before .before in
     let d = p .before .delta-at in
-    planed-one (now (s .args .numbers)) _ (s .args .i) (d .result) _ _ refl (s .pre .1) (d .ensures) (s .pre .2) (p .put .ensures)
+    planed-one (now (s .args .numbers)) _ (s .args .i) (d .result) _ _ refl (s .pre .1) (d .ensures) (s .pre .2) (p .put-number .ensures)
 
 pub put-next-spec : {M : Type 1} → statement M
-put-next-spec = tie.close (tie.spec delta-at-requires put-requires same-length returns)
+put-next-spec = tie.close (tie.spec delta-at-requires put-number-requires same-length returns)

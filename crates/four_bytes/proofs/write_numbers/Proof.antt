@@ -30,11 +30,11 @@ shared-slice-copy-out-bits c = search needs
 bits-requires : tie.Need-bits-requires Inv-loop μ-loop
 bits-requires c κs = search needs
 
-mul-put-row : tie.Need-mul-put-row Inv-loop μ-loop
-mul-put-row c = search needs
+mul-put : tie.Need-mul-put Inv-loop μ-loop
+mul-put c = search needs
 
-put-row-requires : tie.Need-put-row-requires Inv-loop μ-loop
-put-row-requires c κs = omega (arith, c .before .before .before .before .loop .inv .1 .long)
+put-requires : tie.Need-put-requires Inv-loop μ-loop
+put-requires c κs = omega (arith, c .before .before .before .before .loop .inv .1 .long)
 
 add-i : tie.Need-add-i Inv-loop μ-loop
 add-i c = search needs
@@ -51,7 +51,7 @@ loop-again c =
     let list = now (s .args .numbers) in
     let d = b .bits .ensures ∙ read-bits list (l .i) (record { sfits = b .before .bits-arg .given }) in (
       omega arith,
-      subst (Worded list (l .i + 1)) (sym (p .put-row .ensures))
+      subst (Worded list (l .i + 1)) (sym (p .put .ensures))
           (worded-step list (l .i) (b .bits .result) (l .bytes) (omega arith) (b .bits .ok) d (l .inv .1)),
     )
 
@@ -75,8 +75,8 @@ write-numbers-spec =
     mul-bits
     shared-slice-copy-out-bits
     bits-requires
-    mul-put-row
-    put-row-requires
+    mul-put
+    put-requires
     add-i
     loop-less
     loop-again

@@ -28,32 +28,32 @@ add-delta-at-3 c = search needs
 delta-at-requires-4 : tie.Need-delta-at-requires-4
 delta-at-requires-4 c κs = search needs
 
-put-row-requires : tie.Need-put-row-requires
-put-row-requires c κs = search needs
+put-requires : tie.Need-put-requires
+put-requires c κs = search needs
 
-add-put-row : tie.Need-add-put-row
-add-put-row c = search needs
+add-put : tie.Need-add-put
+add-put c = search needs
 
-put-row-requires-2 : tie.Need-put-row-requires-2
-put-row-requires-2 c κs = search needs
+put-requires-2 : tie.Need-put-requires-2
+put-requires-2 c κs = search needs
 
-mul-put-row : tie.Need-mul-put-row
-mul-put-row c = search needs
+mul-put : tie.Need-mul-put
+mul-put c = search needs
 
-add-put-row-2 : tie.Need-add-put-row-2
-add-put-row-2 c = search needs
+add-put-2 : tie.Need-add-put-2
+add-put-2 c = search needs
 
-put-row-requires-3 : tie.Need-put-row-requires-3
-put-row-requires-3 c κs = search needs
+put-requires-3 : tie.Need-put-requires-3
+put-requires-3 c κs = search needs
 
-mul-put-row-2 : tie.Need-mul-put-row-2
-mul-put-row-2 c = search needs
+mul-put-2 : tie.Need-mul-put-2
+mul-put-2 c = search needs
 
-add-put-row-3 : tie.Need-add-put-row-3
-add-put-row-3 c = search needs
+add-put-3 : tie.Need-add-put-3
+add-put-3 c = search needs
 
-put-row-requires-4 : tie.Need-put-row-requires-4
-put-row-requires-4 c κs = search needs
+put-requires-4 : tie.Need-put-requires-4
+put-requires-4 c κs = search needs
 
 same-length : tie.Need-same-length
 same-length c = search needs
@@ -70,8 +70,8 @@ returns c =
     let d1 = d2 .before in
     let s = d1 .before .before in
     planed-four (now (s .args .numbers)) (s .args .i) _ _ _ _ (d1 .delta-at .ensures) (d2 .delta-at2 .ensures) (d3 .delta-at3 .ensures)
-    (d4 .delta-at4 .ensures) _ _ _ _ _ (s .pre .1) (s .pre .2) (r1 .put-row .ensures) (r2 .put-row2 .ensures) (r3 .put-row3 .ensures)
-    (r4 .put-row4 .ensures)
+    (d4 .delta-at4 .ensures) _ _ _ _ _ (s .pre .1) (s .pre .2) (r1 .put .ensures) (r2 .put2 .ensures) (r3 .put3 .ensures)
+    (r4 .put4 .ensures)
 
 pub put-four-spec : {M : Type 1} → statement M
 put-four-spec =
@@ -84,14 +84,14 @@ put-four-spec =
     delta-at-requires-3
     add-delta-at-3
     delta-at-requires-4
-    put-row-requires
-    add-put-row
-    put-row-requires-2
-    mul-put-row
-    add-put-row-2
-    put-row-requires-3
-    mul-put-row-2
-    add-put-row-3
-    put-row-requires-4
+    put-requires
+    add-put
+    put-requires-2
+    mul-put
+    add-put-2
+    put-requires-3
+    mul-put-2
+    add-put-3
+    put-requires-4
     same-length
     returns)

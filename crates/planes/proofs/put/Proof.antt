@@ -1,12 +1,12 @@
--- The four stores lie in four planes, each as long as the number list.
+-- `put` meets its contract, store by store.
 -- Assumes nothing.
 use mathlib.Core.Path.{refl}
 use lib.ListN.{length-set}
-use Rattle.archiving.specs.Spread.{spread}
+use Rattle.planes.specs.Planes.{spaced}
 use native.Mathlib.Omega.{arith}
 use borrow.Author.Needs.{needs}
-use Rattle.archiving.proofs.put.Statement.{statement}
-use Rattle.archiving.proofs.put.Tie as tie
+use Rattle.planes.proofs.put.Statement.{statement}
+use Rattle.planes.proofs.put.Tie as tie
 
 cast-bytes : tie.Need-cast-bytes
 cast-bytes c = search needs
@@ -51,7 +51,7 @@ same-length : tie.Need-same-length
 same-length c = search needs
 
 returns : tie.Need-returns
-unfolding spread
+unfolding spaced
 returns c = refl
 
 pub put-spec : {M : Type 1} → statement M
