@@ -1,16 +1,9 @@
 -- Four bytes and the number that they make.
 -- Assumes nothing.
-use mathlib.Core.Path.{_≡_, refl, ap, _∙_}
-use mathlib.Core.Bool.{true, false, true≢false}
-use Prim.Native.Nat.{ℕ, suc, _+_, _-_, _*_, _/_, _%_, _^_, _<_, _≤_}
+use mathlib.Core.Path.{_≡_, ap, _∙_}
+use Prim.Native.Nat.{ℕ, _+_, _-_, _*_, _/_, _%_, _^_, _<_}
 use native.Mathlib.Nat.{mod-eq-of-lt, add-mod-mod, mod-add-mod, add-mod-right, add-mul-mod-self-left, div-add-mod, div-div-eq-div-mul, div-eq-of-lt-le, div-one}
 use native.Mathlib.Omega.{arith}
-use borrow.Author.Tests.{ltb-true, le-ltb}
-use lib.Dec.{T}
-use lib.IntN.{ℤ, pos, negsuc, natAbs, _-ℤ_}
-use lib.Signed.{ltZ, nonNeg}
-use mir.Syntax.{w32}
-use mir.Val.{ofZ, SFits, Fits}
 
 -- ---- a number below 2^32 is made up of its four bytes
 pub four-bytes : (d : ℕ) → d < 2 ^ 32 → d / 256 ^ 0 % 256 + 256 * (d / 256 ^ 1 % 256) + 256 ^ 2 * (d / 256 ^ 2 % 256) + 256 ^ 3 * (d / 256 ^ 3 % 256) ≡ d

@@ -1,6 +1,6 @@
 -- After k turns every plane holds all but the last of the rest, and k of these.
 -- Assumes nothing.
-use mathlib.Core.Path.{_≡_, sym, subst}
+use mathlib.Core.Path.{_≡_, subst}
 use Prim.Native.Nat.{ℕ, _+_, _-_, _%_, _<_, _≤_}
 use native.Mathlib.Nat.{div-add-mod, mod-lt}
 use native.Mathlib.Omega.{arith}
@@ -8,7 +8,6 @@ use lib.ListN.{length}
 use denote.Ref.{now}
 use Rattle.planes.specs.Planes.{Planed}
 use Rattle.archiving.proofs.Planes.{planed-all}
-use borrow.Author.Needs.{needs}
 use Rattle.archiving.proofs.fill_rest.Statement.{statement}
 use Rattle.archiving.proofs.fill_rest.Tie as tie
 

@@ -2,7 +2,6 @@
 -- Assumes nothing.
 use denote.Ref.{now}
 use Rattle.planes.proofs.Planes.{planed-four}
-use native.Mathlib.Omega.{arith}
 use borrow.Author.Needs.{needs}
 use Rattle.planes.proofs.put_four.Statement.{statement}
 use Rattle.planes.proofs.put_four.Tie as tie
