@@ -1,11 +1,10 @@
 // Rearranges the coordinate list on standard input for the archive: four-byte numbers, low byte first, become the bytes of their
 // differences, plane by plane, on standard output. The second plane comes after the last number's lowest byte, so the whole list is held,
 // and there is a longest list. What is turned down gets a line on standard error and nothing on standard output.
+use four_bytes::BYTES;
+use four_bytes::NUMBERS;
 use libc::STDIN_FILENO;
 use paper::Answer;
-use rearrange::four_bytes;
-use rearrange::four_bytes::BYTES;
-use rearrange::four_bytes::NUMBERS;
 ghost use Prim.Native.Nat.{_*_, _≤_};
 ghost use lib.ListN.{length};
 

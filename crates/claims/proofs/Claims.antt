@@ -17,7 +17,7 @@ use Rattle.nesting.proofs.Theorems.{chains-decide, listing-ordered, one-listing
 use Rattle.irregular.proofs.Theorems.{lines-agree}
 use Rattle.dms.proofs.Theorems.{version-one}
 use Rattle.claims.proofs.Plain.{plain-passes}
-use Rattle.rearrange.proofs.Theorems.{numbers-return, bytes-return}
+use Rattle.archive_laws.proofs.Theorems.{numbers-return, bytes-return}
 use Rattle.off_examples.proofs.Theorems.{no-six, missing-word, whole-text}
 use Rattle.preview.proofs.Theorems.{as-building, previews-build, previews-from-c}
 use Rattle.touching.proofs.Untouched.{untouched}

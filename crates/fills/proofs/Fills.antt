@@ -1,12 +1,12 @@
 -- The values of a function as a list, and a list that is filled from the front, value by value.
 -- Assumes nothing.
 use mathlib.Core.Path.{_≡_, refl, ap, _∙_}
-use mathlib.Core.List.{List, [], _∷_, _++_}
+use mathlib.Core.List.{List, [], _∷_, _++_, append-nil}
 use Prim.Native.Nat.{ℕ, zero, suc, _+_, _<_}
 use native.Mathlib.Numerals.{add-one}
 use native.Mathlib.Omega.{arith}
 use lib.ListN.{length, getD, drop, set, replicate}
-use lib.Seq.{drop-cons, set-at, append-snoc}
+use lib.Seq.{drop-cons, drop-length, set-at, append-snoc}
 use Rattle.paper.specs.Scan.{valuesFrom}
 use Rattle.paper.specs.File.{begins}
 use Rattle.mesh.proofs.Links.{values-length}
@@ -48,3 +48,7 @@ module _ {A : Type 0} (f : ℕ → A) (old : List A) where
 
   pub filled-all : (i n : ℕ) (out : List A) → i ≡ n → Filled i out → out ≡ begins (valuesFrom f 0 n) old
   filled-all i n out q e = rw (values-length f 0 n, ← q) e
+
+  -- a list that is filled whole
+  pub filled-whole : (out : List A) (i : ℕ) → i ≡ length old → Filled i out → out ≡ valuesFrom f 0 (length old)
+  filled-whole out i q e = rw (q, drop-length old, append-nil) at e

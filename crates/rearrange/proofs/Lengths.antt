@@ -1,4 +1,4 @@
--- Checks 30 and 31, from the tests of the code; what they leave of the lengths; and what a call then answers and holds.
+-- Checks 30 and 31, from the tests of the code; and what a call then answers and holds.
 -- Assumes nothing.
 use mathlib.Core.Path.{_≡_, refl, sym, ap, _∙_}
 use mathlib.Core.Bool.{not}
@@ -6,13 +6,12 @@ use mathlib.Core.List.{List}
 use Prim.Native.Nat.{ℕ, _*_, _/_, _%_}
 use native.Mathlib.Nat.{div-add-mod, mod-lt}
 use native.Mathlib.Omega.{arith}
-use lib.Dec.{eqb}
-use borrow.Author.Tests.{eqb-true, eq-eqb, ne-eqb, not-false}
+use borrow.Author.Tests.{eq-eqb, ne-eqb}
 use lib.ListN.{length}
 use lib.IntN.{ℤ}
-use Rattle.paper.specs.Faults.{sound, fault, single}
+use Rattle.paper.specs.Faults.{sound, fault}
 use Rattle.paper.specs.declared.Answer.the-variants.{Done, Refused}
-use Rattle.mesh.proofs.Verdicts.{orElse-fault, orElse-sound, single-hit, single-miss, sound-left, sound-right, single-sound}
+use Rattle.mesh.proofs.Verdicts.{orElse-fault, orElse-sound, single-hit, single-miss}
 use Rattle.paper.specs.Archive.{fault30, fault31, archiveVerdict, archived, restored, Archived, Restored}
 
 module _ (n m : ℕ) where
@@ -24,10 +23,6 @@ module _ (n m : ℕ) where
   unfolding archiveVerdict fault30 fault31
   refused31 f t = orElse-sound _ (single-miss 30 n (ap not (eq-eqb (n % 3) 0 f))) ∙ single-hit 31 m (ap not (ne-eqb m (4 * n) t))
 
-  pub passes : n % 3 ≡ 0 → m ≡ 4 * n → archiveVerdict n m ≡ sound
-  unfolding archiveVerdict fault30 fault31
-  passes a b = orElse-sound _ (single-miss 30 n (ap not (eq-eqb (n % 3) 0 a))) ∙ single-miss 31 m (ap not (eq-eqb m (4 * n) b))
-
   -- four times as long: a multiple of four whose quarter is the other length
   pub rest-four : m ≡ 4 * n → m % 4 ≡ 0
   rest-four e = omega (arith, div-add-mod m 4, mod-lt m {m = 4} (omega arith))
@@ -37,15 +32,6 @@ module _ (n m : ℕ) where
 
   pub from-quarter : m % 4 ≡ 0 → m / 4 ≡ n → m ≡ 4 * n
   from-quarter a b = omega (arith, div-add-mod m 4)
-
-  -- what is left of lengths that pass
-  pub thirds : archiveVerdict n m ≡ sound → n % 3 ≡ 0
-  unfolding archiveVerdict fault30
-  thirds e = eqb-true (n % 3) 0 (not-false (eqb (n % 3) 0) (single-sound 30 _ n (sound-left (single 30 (fault30 n) n) _ e)))
-
-  pub four-times : archiveVerdict n m ≡ sound → m ≡ 4 * n
-  unfolding archiveVerdict fault31
-  four-times e = eqb-true m (4 * n) (not-false (eqb m (4 * n)) (single-sound 31 _ m (sound-right (single 30 (fault30 n) n) _ e)))
 
 -- ---- the calls
 module _ (numbers : List ℤ) (old : List ℕ) where

@@ -1,11 +1,10 @@
 // Restores a coordinate list from the archive: the bytes on standard input, as `archive` writes them, become four-byte numbers, low byte
 // first, on standard output. Every number has a byte in each quarter of the input, so the whole of it is held, and there is a longest
 // list. What is turned down gets a line on standard error and nothing on standard output.
+use four_bytes::BYTES;
+use four_bytes::NUMBERS;
 use libc::STDIN_FILENO;
 use paper::Answer;
-use rearrange::four_bytes;
-use rearrange::four_bytes::BYTES;
-use rearrange::four_bytes::NUMBERS;
 ghost use Prim.Native.Nat.{_≤_};
 
 fn main() {

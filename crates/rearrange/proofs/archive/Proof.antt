@@ -4,7 +4,8 @@ use mathlib.Core.Path.{sym, ap, _∙_}
 use denote.Ref.{now}
 use Rattle.paper.specs.Faults.{stated}
 use Rattle.mesh.proofs.Verdicts.{passed}
-use Rattle.rearrange.proofs.Lengths.{four-times, archive-refused, archive-done}
+use Rattle.archive_laws.proofs.Lengths.{thirds, four-times}
+use Rattle.rearrange.proofs.Lengths.{archive-refused, archive-done}
 use borrow.Author.Needs.{needs}
 use Rattle.rearrange.proofs.archive.Statement.{statement}
 use Rattle.rearrange.proofs.archive.Tie as tie
@@ -29,7 +30,7 @@ fill-planes-requires : tie.Need-fill-planes-requires
 fill-planes-requires c κs =
     let t = c .before in
     let e = passed (t .before .before .check-lengths .result) (t .before .before .check-lengths .ensures) (t .enum-told .given .1) in
-    four-times _ _ e
+    (thirds _ _ e, four-times _ _ e)
 
 same-length : tie.Need-same-length
 same-length c = search needs

@@ -1,0 +1,5 @@
+pub mod Words
+pub mod Lengths
+pub mod Planes
+pub mod Theorems
+pub mod Examples

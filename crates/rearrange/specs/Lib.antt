@@ -1,2 +1,0 @@
-pub mod Planes
-pub mod Words
