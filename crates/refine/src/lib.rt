@@ -5,6 +5,7 @@ use face_sums::fill_sums;
 use mesh::SMALL_MESH;
 use paper::MOST_CORNERS;
 use refined_corners::fill_corner;
+use refined_corners::read_face;
 ghost use mathlib.Core.Path.{_≡_};
 ghost use Prim.Native.Nat.{_+_, _*_, _≤_, _<_};
 ghost use lib.ListN.{length};
@@ -128,7 +129,8 @@ fn fill_faces(
     }
 }
 
-// The refined points of one face, whose first corner is `start`.
+// The refined points of one face, whose first corner is `start`. The end is looked for last: the compiler knows of no face without corners, and would
+// jump to one of many loops where it now looks the reciprocal up.
 fn fill_face(
     coordinates: &[i32],
     sides: &[u8],
@@ -147,20 +149,23 @@ fn fill_face(
     requires points { ⌜ (pointRow * length (now corners) ≤ length (now points)) × Small (now points) ⌝ }
     ensures { λ _. ⌜ Added (meshOf (now (coordinates .entry)) (now (sides .entry)) (now (corners .entry)) (now (sharpness .entry))) 3 start (startOf (now (sides .entry)) (f + 1)) (now (points .entry)) (now (points .exit)) ⌝ }
 {
-    let end = start + sides[f] as usize;
+    let face = read_face(sides, sums, f);
+    let end = start + face.sides as usize;
     let mut c = start;
-    while c < end {
+    loop {
         fill_corner(
             coordinates,
             sides,
             corners,
             sharpness,
             table,
-            sums,
-            f,
+            face,
             c,
             points,
         );
         c += 1;
+        if end <= c {
+            break;
+        }
     }
 }
