@@ -67,9 +67,17 @@ pub record Holds (width bound : ℕ) (value : ℕ → ℕ → ℤ) (P : ℕ → 
 abbrev pub HoldsPoints : Mesh → (ℕ → ℕ → Type 0) → List ℤ → List ℤ → Type 0
 HoldsPoints M = Holds pointRow (2 ^ 24) (refinedPoint rounded M)
 
--- those of the corners below n whose face has a nonzero entry in `wanted`, on the three axes
+-- those of the corners from `start` to before `end` whose vertex has a nonzero entry in `marked`, on the three axes; and from the first corner on
+abbrev pub Filled : Mesh → List ℕ → ℕ → ℕ → List ℤ → List ℤ → Type 0
+Filled M marked start end =
+    HoldsPoints M (λ axis c. (axis < 3) × (start ≤ c) × (c < end) × (0 < getD marked (vertexOf (M .corners) c) 0))
+
 abbrev pub Pointed : Mesh → List ℕ → ℕ → List ℤ → List ℤ → Type 0
-Pointed M wanted n = HoldsPoints M (λ axis c. (axis < 3) × (c < n) × (0 < getD wanted (faceOf (M .sides) c) 0))
+Pointed M marked = Filled M marked 0
+
+-- a face with such a corner has a nonzero entry in `wanted`
+abbrev pub Covered : Mesh → List ℕ → List ℕ → Type 0
+Covered M marked wanted = (c : ℕ) → c < cornerCount M → 0 < getD marked (vertexOf (M .corners) c) 0 → 0 < getD wanted (faceOf (M .sides) c) 0
 
 -- those of the corners from `start` to before `end`, on the axes below k
 abbrev pub Added : Mesh → ℕ → ℕ → ℕ → List ℤ → List ℤ → Type 0

@@ -195,7 +195,8 @@ module _ (M : Mesh) (R : Refinable M) (f : ℕ) (l : f < faceCount M) (c : ℕ) 
   P axis d = stepsOf (M .coordinates) (M .corners) axis d
 
   steps-mean : (axis : ℕ) (w : CornerWeights) → Weighted (M .sharpness) c w
-      → refinedPoint rounded M axis c ≡ mean w (faceSteps M f axis) (P axis (previous (M .sides) c)) (P axis c) (P axis (next (M .sides) c)) (getD (M .sides) f 0)
+      → refinedPoint rounded M axis c
+      ≡ mean w (faceSteps M f axis) (P axis (previous (M .sides) c)) (P axis c) (P axis (next (M .sides) c)) (getD (M .sides) f 0)
   unfolding ticks
   steps-mean axis w h =
       mean-is axis w h

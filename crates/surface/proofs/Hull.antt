@@ -97,7 +97,8 @@ refined-size M a axis c here =
     let start : ℕ = startOf (M .sides) (faceOf (M .sides) c) in
     let n : ℕ = sidesOf (M .sides) c in
     mean-size n _ here
-    (blend-size (2 ^ 24) n _ _ _ _ (faceSum M axis (faceOf (M .sides) c)) (ticks M axis (previous (M .sides) c)) (ticks M axis c) (ticks M axis (next (M .sides) c))
+    (blend-size (2 ^ 24) n _ _ _ _ (faceSum M axis (faceOf (M .sides) c)) (ticks M axis (previous (M .sides) c)) (ticks M axis c)
+    (ticks M axis (next (M .sides) c))
     (weights-sum (uOf M c) (vOf M c) (sharp-within M a (2 * c)) (sharp-within M a (2 * c + 1)))
     (sum-abs (λ j. ticks M axis (start + j)) n (2 ^ 24) (λ j l. ticks-size M a axis (start + j)))
     (ticks-size M a axis (previous (M .sides) c)) (ticks-size M a axis c) (ticks-size M a axis (next (M .sides) c)))

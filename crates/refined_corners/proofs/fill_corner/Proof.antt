@@ -114,19 +114,22 @@ on-axis-requires : tie.Need-on-axis-requires
 on-axis-requires c κs =
     let b = c .before in
     let face = s b .pre .1 .1 .0 in
-    (s b .pre .0 .placed, ((lit< tt, bounds b .0, bounds b .1, bounds b .2), (known-read (s b) 0 (s b .args .face .x) (lit< tt) (face .xs) .0, weights-balanced b)))
+    let k = known-read (s b) 0 (s b .args .face .x) (lit< tt) (face .xs) .0 in
+    (s b .pre .0 .placed, ((lit< tt, bounds b .0, bounds b .1, bounds b .2), (k, weights-balanced b)))
 
 on-axis-requires-2 : tie.Need-on-axis-requires-2
 on-axis-requires-2 c κs =
     let b = c .before .before .before in
     let face = s b .pre .1 .1 .0 in
-    (s b .pre .0 .placed, ((lit< tt, bounds b .0, bounds b .1, bounds b .2), (known-read (s b) 1 (s b .args .face .y) (lit< tt) (face .ys) .0, weights-balanced b)))
+    let k = known-read (s b) 1 (s b .args .face .y) (lit< tt) (face .ys) .0 in
+    (s b .pre .0 .placed, ((lit< tt, bounds b .0, bounds b .1, bounds b .2), (k, weights-balanced b)))
 
 on-axis-requires-3 : tie.Need-on-axis-requires-3
 on-axis-requires-3 c κs =
     let b = c .before .before .before .before .before in
     let face = s b .pre .1 .1 .0 in
-    (s b .pre .0 .placed, ((lit< tt, bounds b .0, bounds b .1, bounds b .2), (known-read (s b) 2 (s b .args .face .z) (lit< tt) (face .zs) .0, weights-balanced b)))
+    let k = known-read (s b) 2 (s b .args .face .z) (lit< tt) (face .zs) .0 in
+    (s b .pre .0 .placed, ((lit< tt, bounds b .0, bounds b .1, bounds b .2), (k, weights-balanced b)))
 
 mul-x : tie.Need-mul-x
 mul-x c = let t = s (c .before .before .before .before .before .before) in omega (arith, here t, few t)

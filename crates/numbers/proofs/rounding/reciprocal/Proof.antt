@@ -58,9 +58,12 @@ returns-14 : tie.Need-returns-14
 returns-14 c =
     let s = c .before in
     let r = c .match .rest in
-    let seven = past (s .args .n) 3 (s .pre .0) (r .0 .0 .0 .0 .0 .0 .0 .0 .0 .0 .0 .0 .1) (r .0 .0 .0 .0 .0 .0 .0 .0 .0 .0 .0 .1) (r .0 .0 .0 .0 .0 .0 .0 .0 .0 .0 .1) (r .0 .0 .0 .0 .0 .0 .0 .0 .0 .1) in
-    let eleven = past (s .args .n) 7 seven (r .0 .0 .0 .0 .0 .0 .0 .0 .1) (r .0 .0 .0 .0 .0 .0 .0 .1) (r .0 .0 .0 .0 .0 .0 .1) (r .0 .0 .0 .0 .0 .1) in
-    let fifteen = past (s .args .n) 11 eleven (r .0 .0 .0 .0 .1) (r .0 .0 .0 .1) (r .0 .0 .1) (r .0 .1) in
+    let low = r .0 .0 .0 .0 .0 .0 .0 .0 .0 in
+    let mid = r .0 .0 .0 .0 .0 in
+    let high = r .0 in
+    let seven = past (s .args .n) 3 (s .pre .0) (low .0 .0 .0 .1) (low .0 .0 .1) (low .0 .1) (low .1) in
+    let eleven = past (s .args .n) 7 seven (mid .0 .0 .0 .1) (mid .0 .0 .1) (mid .0 .1) (mid .1) in
+    let fifteen = past (s .args .n) 11 eleven (high .0 .0 .0 .1) (high .0 .0 .1) (high .0 .1) (high .1) in
     rw (last (s .args .n) fifteen (s .pre .1) (r .1)) (lit≤ tt, lit< tt)
 
 pub reciprocal-spec : {M : Type 1} → statement M
