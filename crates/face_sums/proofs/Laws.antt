@@ -1,4 +1,4 @@
--- The sizes of ticks and of the sums of faces, a table of numbers with a row for each face or corner, and the table of sums.
+-- The sizes of vertices and of the sums of faces, a table of numbers with a row for each face or corner, and the table of sums.
 -- Assumes nothing.
 use mathlib.Core.Path.{_≡_, refl, ap, _∙_, subst}
 use mathlib.Core.Logic.{_⊎_, inl, inr, ⊎-elim}
@@ -17,63 +17,48 @@ use Rattle.paper.specs.Links.{vertexOf}
 use Rattle.paper.specs.Numbers.{sum}
 use Rattle.paper.specs.Refined.{ticksPerStep, ticks, faceSum}
 use Rattle.integers.proofs.Laws.{abs-mul-le}
-use Rattle.integers.proofs.Sum.{sum-abs}
+use Rattle.integers.proofs.Sum.{sum-times, sum-abs}
 use Rattle.mesh.proofs.Scans.{ways, compared}
 use Rattle.mesh.proofs.Faces.{start-next, start-ends, start-all}
 use Rattle.wanted.specs.Tables.{Faces}
-use Rattle.face_sums.specs.Sources.{Placed, Refinable, Face, Within, Apart, Holds, sumRow, SumRoom, Summed, SummedFace, SummedOn, SumsAre}
+use Rattle.face_sums.specs.Sources.{Placed, Refinable, stepsOf, stepSum, Within, Apart, Holds, sumRow, SumRoom, Summed, SummedFace, SumsAre}
 
--- ---- ticks and their sums
-pub tick-size : (z : ℤ) → natAbs z ≤ mostCoordinate → natAbs (pos ticksPerStep *ℤ z) ≤ 2 ^ 24
-tick-size z h = abs-mul-le (pos ticksPerStep) z ticksPerStep mostCoordinate (lit≤ tt) h
+-- ---- the vertices of corners and their sums, in grid steps
+module _ (coordinates : List ℤ) (corners : List ℕ) (p : Placed coordinates corners) where
+  pub place-in : (axis c : ℕ) → axis < 3 → c < length corners → 3 * vertexOf corners c + axis < length coordinates
+  place-in axis c a h = omega (arith, p .named c h)
 
-module _ (coordinates : List ℤ) (corners : List ℕ) (p : Placed coordinates corners) (axis c : ℕ) (a : axis < 3) (h : c < length corners) where
-  pub tick-in : 3 * vertexOf corners c + axis < length coordinates
-  tick-in = omega (arith, p .named c h)
+  pub steps-size : (axis c : ℕ) → axis < 3 → c < length corners → natAbs (stepsOf coordinates corners axis c) ≤ mostCoordinate
+  steps-size axis c a h = p .within (3 * vertexOf corners c + axis) (place-in axis c a h)
 
-  pub coordinate-size : natAbs (getD coordinates (3 * vertexOf corners c + axis) (pos 0)) ≤ mostCoordinate
-  coordinate-size = p .within (3 * vertexOf corners c + axis) tick-in
+  pub sum-size : (start n axis : ℕ) → axis < 3 → start + n ≤ length corners → natAbs (stepSum coordinates corners start n axis) ≤ n * mostCoordinate
+  sum-size start n axis a h =
+      sum-abs (λ j. stepsOf coordinates corners axis (start + j)) n mostCoordinate (λ j l. steps-size axis (start + j) a (omega arith))
 
-  pub ticks-size : (sides sharpness : List ℕ) → natAbs (ticks (meshOf coordinates sides corners sharpness) axis c) ≤ 2 ^ 24
-  unfolding ticks
-  ticks-size sides sharpness = tick-size (getD coordinates (3 * vertexOf corners c + axis) (pos 0)) coordinate-size
+  pub sum-most : (start n axis : ℕ) → axis < 3 → start + n ≤ length corners → n ≤ mostSides → natAbs (stepSum coordinates corners start n axis) ≤ 2 ^ 20
+  sum-most start n axis a h l = omega (arith, sum-size start n axis a h)
 
--- the sum of the vertices of n corners from `start` on
-module _ (coordinates : List ℤ) (corners : List ℕ) (p : Placed coordinates corners) (axis start : ℕ) (a : axis < 3) where
-  pub sum-size : (sides sharpness : List ℕ) (n : ℕ) → start + n ≤ length corners
-      → natAbs (sum (λ j. ticks (meshOf coordinates sides corners sharpness) axis (start + j)) n) ≤ n * 2 ^ 24
-  sum-size sides sharpness n h =
-      sum-abs (λ j. ticks (meshOf coordinates sides corners sharpness) axis (start + j)) n (2 ^ 24)
-      (λ j l. ticks-size coordinates corners p axis (start + j) a (omega arith) sides sharpness)
+-- Σ of a face, in grid steps
+abbrev pub faceSteps : Mesh → ℕ → ℕ → ℤ
+faceSteps M f axis = stepSum (M .coordinates) (M .corners) (startOf (M .sides) f) (getD (M .sides) f 0) axis
 
-  pub sum-most : (sides sharpness : List ℕ) (n : ℕ) → start + n ≤ length corners → n ≤ mostSides
-      → natAbs (sum (λ j. ticks (meshOf coordinates sides corners sharpness) axis (start + j)) n) ≤ 2 ^ 28
-  sum-most sides sharpness n h l = omega (arith, sum-size sides sharpness n h)
-
--- ---- the corners of a mesh
-module _ (M : Mesh) (R : Refinable M) where
-  pub tick-at : (axis c : ℕ) → axis < 3 → c < cornerCount M → natAbs (ticks M axis c) ≤ 2 ^ 24
-  tick-at axis c a h = ticks-size (M .coordinates) (M .corners) (R .placed) axis c a h (M .sides) (M .sharpness)
+pub face-steps : (M : Mesh) (f axis : ℕ) → faceSum M axis f ≡ pos ticksPerStep *ℤ faceSteps M f axis
+unfolding faceSum ticks
+face-steps M f axis =
+    sum-times (pos ticksPerStep) (λ j. stepsOf (M .coordinates) (M .corners) axis (startOf (M .sides) f + j)) (getD (M .sides) f 0)
 
 -- of face f
 module _ (M : Mesh) (R : Refinable M) (f : ℕ) (l : f < faceCount M) where
   pub end-in : startOf (M .sides) f + getD (M .sides) f 0 ≤ cornerCount M
   end-in = omega (arith, start-ends (M .sides) f l, R .sums)
 
-  -- Σ of the face: what the code sums, and its size
-  pub face-sum-is : (axis start : ℕ) → start ≡ startOf (M .sides) f → sum (λ j. ticks M axis (start + j)) (getD (M .sides) f 0) ≡ faceSum M axis f
-  unfolding faceSum
-  face-sum-is axis start e = rw e refl
-
-  pub face-sum-size : (axis : ℕ) → axis < 3 → natAbs (faceSum M axis f) ≤ getD (M .sides) f 0 * 2 ^ 24
-  unfolding faceSum
-  face-sum-size axis a = sum-size (M .coordinates) (M .corners) (R .placed) axis (startOf (M .sides) f) a (M .sides) (M .sharpness) (getD (M .sides) f 0) end-in
+  pub face-steps-size : (axis : ℕ) → axis < 3 → natAbs (faceSteps M f axis) ≤ getD (M .sides) f 0 * mostCoordinate
+  face-steps-size axis a = sum-size (M .coordinates) (M .corners) (R .placed) (startOf (M .sides) f) (getD (M .sides) f 0) axis a end-in
 
   pub face-sum-most : (axis : ℕ) → axis < 3 → natAbs (faceSum M axis f) ≤ 2 ^ 28
-  face-sum-most axis a = le-trans (face-sum-size axis a) (omega (arith, R .faces .most f l))
-
-  pub face-sizes : (axis : ℕ) → axis < 3 → (total : ℤ) → total ≡ faceSum M axis f → Face total (getD (M .sides) f 0)
-  face-sizes axis a total e = record { least = R .faces .least f l; most = R .faces .most f l; total-size = rw e (face-sum-size axis a) }
+  face-sum-most axis a =
+      rw (face-steps M f axis)
+      (le-trans (abs-mul-le (pos ticksPerStep) (faceSteps M f axis) ticksPerStep _ (omega arith) (face-steps-size axis a)) (omega (arith, R .faces .most f l)))
 
 -- ---- tables: a new one
 pub small-zeros : {bound : ℕ} (n : ℕ) → Within bound (replicate n (pos 0))
@@ -145,26 +130,22 @@ summed-face-none M f sums = holds-none sumRow (2 ^ 28) (faceSum M) _ sums (λ ax
 pub summed-none : (M : Mesh) (wanted : List ℕ) (sums : List ℤ) → Within (2 ^ 28) sums → Summed M wanted 0 sums sums
 summed-none M wanted sums = holds-none sumRow (2 ^ 28) (faceSum M) _ sums (λ axis g q. omega (arith, q .1))
 
--- one sum
-module _ (M : Mesh) (R : Refinable M) (f : ℕ) (l : f < faceCount M) (axis : ℕ) (a : axis < 3) where
-  pub summed-set : (old : List ℤ) (v : ℤ) → SumRoom (M .sides) old → v ≡ faceSum M axis f → SummedOn M axis f old (set old (sumRow * f + axis) v)
-  summed-set old v r q =
-      holds-one sumRow (2 ^ 28) (faceSum M) axis f old v (omega (arith, r .0)) q
-      (rw q (face-sum-most M R f l axis a)) (r .1)
-
--- one axis more
-pub summed-axis : (M : Mesh) (k f : ℕ) → k < 3 → (old mid new : List ℤ) → SummedFace M k f old mid → SummedOn M k f mid new
-    → SummedFace M (k + 1) f old new
-summed-axis M k f l old mid new =
-    holds-more sumRow (2 ^ 28) (faceSum M) _ _ _ old mid new
-    (λ axis g r. ⊎-elim
-    (λ (q : axis ≡ k). inl (q, r .1))
-    (λ o. inr (
-      (⊎-elim (λ (m : axis < k). m) (λ (m : k < axis). absurd (omega (arith, r .0))) o, r .1),
-      λ x d p q. ⊎-elim (λ (m : axis < k). omega (arith, r .1, p .0, p .1)) (λ (m : k < axis). omega (arith, r .1, p .0, p .1)) o,
-    ))
-    (compared axis k))
-    (λ axis g p. (omega (arith, p .0), p .1)) (λ axis g p. (omega (arith, p .0), p .1))
+-- one axis more, at its place
+module _ (M : Mesh) (R : Refinable M) (f : ℕ) (l : f < faceCount M) where
+  pub summed-axis : (k at : ℕ) (old mid : List ℤ) (v : ℤ) → k < 3 → at ≡ sumRow * f + k → SumRoom (M .sides) old → v ≡ faceSum M k f
+      → SummedFace M k f old mid → SummedFace M (k + 1) f old (set mid at v)
+  summed-axis k at old mid v a q room e h =
+      rw q
+      (holds-more sumRow (2 ^ 28) (faceSum M) _ _ _ old mid _
+      (λ axis g r. ⊎-elim
+      (λ (i : axis ≡ k). inl (i, r .1))
+      (λ o. inr (
+        (⊎-elim (λ (m : axis < k). m) (λ (m : k < axis). absurd (omega (arith, r .0))) o, r .1),
+        λ x d p i. ⊎-elim (λ (m : axis < k). omega (arith, r .1, p .0, p .1)) (λ (m : k < axis). omega (arith, r .1, p .0, p .1)) o,
+      ))
+      (compared axis k))
+      (λ axis g p. (omega (arith, p .0), p .1)) (λ axis g p. (omega (arith, p .0), p .1))
+      h (holds-one sumRow (2 ^ 28) (faceSum M) k f mid v (omega (arith, room .0, h .same)) e (rw e (face-sum-most M R f l k a)) (h .small)))
 
 -- one face more: one that is wanted, and one that is not
 module _ (M : Mesh) (wanted : List ℕ) (f : ℕ) where

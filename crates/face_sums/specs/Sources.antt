@@ -7,11 +7,13 @@ use lib.ListN.{length, getD}
 use lib.IntN.{ℤ, pos, natAbs}
 use Rattle.paper.specs.Mesh.{leastSides, mostSides, mostCoordinate, mostSharpness, plain, Mesh, faceCount, cornerCount}
 use Rattle.paper.specs.Corners.{sumOf, faceOf}
-use Rattle.paper.specs.Numbers.{rounded}
+use Rattle.paper.specs.Links.{vertexOf}
+use Rattle.paper.specs.Numbers.{rounded, sum}
 use Rattle.paper.specs.Refined.{faceSum, refinedPoint}
 use Rattle.surface.specs.Points.{pointRow}
 use Rattle.mesh.specs.Tables.{Named}
 use Rattle.wanted.specs.Tables.{Faces}
+use Rattle.face_sums.specs.declared.StepSums.{StepSums}
 
 -- corners whose vertices have coordinates, within their limits
 pub record Placed (coordinates : List ℤ) (corners : List ℕ) : Type 0 where
@@ -30,17 +32,18 @@ pub record Refinable (M : Mesh) : Type 0 where
   pub placed : Placed (M .coordinates) (M .corners)
   pub sharp : Sharp (M .sharpness) (cornerCount M)
 
--- the sizes of what one refined point is computed from: ticks within 2^24, and as many of them in the sum as the face has sides
-pub record Face (total : ℤ) (n : ℕ) : Type 0 where
-  pub least : leastSides ≤ n
-  pub most : n ≤ mostSides
-  pub total-size : natAbs total ≤ n * 2 ^ 24
+-- ---- in grid steps, of which one is 256 ticks: the vertex of a corner, and the sum of n of them from `start` on
+abbrev pub stepsOf : List ℤ → List ℕ → ℕ → ℕ → ℤ
+stepsOf coordinates corners axis c = getD coordinates (3 * vertexOf corners c + axis) (pos 0)
 
-pub record Ticks (total before here after : ℤ) (n : ℕ) : Type 0 where
-  pub face : Face total n
-  pub before-size : natAbs before ≤ 2 ^ 24
-  pub here-size : natAbs here ≤ 2 ^ 24
-  pub after-size : natAbs after ≤ 2 ^ 24
+abbrev pub stepSum : List ℤ → List ℕ → ℕ → ℕ → ℕ → ℤ
+stepSum coordinates corners start n axis = sum (λ j. stepsOf coordinates corners axis (start + j)) n
+
+-- the sums on the three axes
+pub record Totals (coordinates : List ℤ) (corners : List ℕ) (start n : ℕ) (t : StepSums) : Type 0 where
+  pub xs : t .x ≡ stepSum coordinates corners start n 0
+  pub ys : t .y ≡ stepSum coordinates corners start n 1
+  pub zs : t .z ≡ stepSum coordinates corners start n 2
 
 -- no entry is larger than the bound, and no larger than a refined point may be
 abbrev pub Within : ℕ → List ℤ → Type 0
@@ -64,9 +67,17 @@ pub record Holds (width bound : ℕ) (value : ℕ → ℕ → ℤ) (P : ℕ → 
 abbrev pub HoldsPoints : Mesh → (ℕ → ℕ → Type 0) → List ℤ → List ℤ → Type 0
 HoldsPoints M = Holds pointRow (2 ^ 24) (refinedPoint rounded M)
 
--- those of the corners below n whose face has a nonzero entry in `wanted`, on the three axes
+-- those of the corners from `start` to before `end` whose vertex has a nonzero entry in `marked`, on the three axes; and from the first corner on
+abbrev pub Filled : Mesh → List ℕ → ℕ → ℕ → List ℤ → List ℤ → Type 0
+Filled M marked start end =
+    HoldsPoints M (λ axis c. (axis < 3) × (start ≤ c) × (c < end) × (0 < getD marked (vertexOf (M .corners) c) 0))
+
 abbrev pub Pointed : Mesh → List ℕ → ℕ → List ℤ → List ℤ → Type 0
-Pointed M wanted n = HoldsPoints M (λ axis c. (axis < 3) × (c < n) × (0 < getD wanted (faceOf (M .sides) c) 0))
+Pointed M marked = Filled M marked 0
+
+-- a face with such a corner has a nonzero entry in `wanted`
+abbrev pub Covered : Mesh → List ℕ → List ℕ → Type 0
+Covered M marked wanted = (c : ℕ) → c < cornerCount M → 0 < getD marked (vertexOf (M .corners) c) 0 → 0 < getD wanted (faceOf (M .sides) c) 0
 
 -- those of the corners from `start` to before `end`, on the axes below k
 abbrev pub Added : Mesh → ℕ → ℕ → ℕ → List ℤ → List ℤ → Type 0
@@ -87,12 +98,9 @@ HoldsSums M = Holds sumRow (2 ^ 28) (faceSum M)
 abbrev pub Summed : Mesh → List ℕ → ℕ → List ℤ → List ℤ → Type 0
 Summed M wanted n = HoldsSums M (λ axis f. (axis < 3) × (f < n) × (0 < getD wanted f 0))
 
--- those of one face: on the axes below k, and on one
+-- those of one face, on the axes below k
 abbrev pub SummedFace : Mesh → ℕ → ℕ → List ℤ → List ℤ → Type 0
 SummedFace M k f = HoldsSums M (λ axis g. (axis < k) × (g ≡ f))
-
-abbrev pub SummedOn : Mesh → ℕ → ℕ → List ℤ → List ℤ → Type 0
-SummedOn M k f = HoldsSums M (λ axis g. (axis ≡ k) × (g ≡ f))
 
 -- what the loop over corners takes: the table has a row for face f, and its sums are there
 pub record SumsOf (M : Mesh) (f : ℕ) (sums : List ℤ) : Type 0 where

@@ -1,17 +1,21 @@
-// The sums of the faces that are wanted, once for each face and axis, in a table; and a vertex on an axis, in ticks.
+// The sums of the faces that are wanted, once for each face and axis, in a table; and a vertex on an axis.
 use paper::TICKS_PER_STEP;
 ghost use mathlib.Core.Path.{_≡_};
-ghost use mathlib.Core.List.{List};
-ghost use Prim.Native.Nat.{ℕ, _+_, _*_, _≤_, _<_};
+ghost use Prim.Native.Nat.{_+_, _≤_, _<_};
 ghost use lib.ListN.{length};
-ghost use Rattle.paper.specs.Mesh.{mostSides, meshOf, plainMesh};
+ghost use Rattle.paper.specs.Mesh.{mostSides, plainMesh};
 ghost use Rattle.paper.specs.Corners.{startOf};
-ghost use Rattle.paper.specs.Numbers.{sum};
-ghost use Rattle.paper.specs.Refined.{ticks};
-ghost use Rattle.face_sums.specs.Sources.{Placed, Refinable, SumRoom, Summed, SummedFace, SummedOn};
+ghost use Rattle.face_sums.specs.Sources.{Placed, Refinable, stepsOf, Totals, SumRoom, Summed, SummedFace};
 
 // corners.
 pub const SUM_ROW: usize = 3;
+
+// Sums on the three axes, in grid steps.
+struct StepSums {
+    x: i32,
+    y: i32,
+    z: i32,
+}
 
 // said of the mesh with 8 and 8 throughout.
 pub fn fill_sums(
@@ -52,51 +56,40 @@ fn sum_face(
     requires sums { ⌜ SumRoom (now sides) (now sums) ⌝ }
     ensures { λ _. ⌜ SummedFace (plainMesh (now (coordinates .entry)) (now (sides .entry)) (now (corners .entry))) 3 f (now (sums .entry)) (now (sums .exit)) ⌝ }
 {
-    sum_axis(coordinates, sides, corners, 0, f, start, sums);
-    sum_axis(coordinates, sides, corners, 1, f, start, sums);
-    sum_axis(coordinates, sides, corners, 2, f, start, sums);
-}
-
-// The same on one axis.
-fn sum_axis(
-    coordinates: &[i32],
-    sides: &[u8],
-    corners: &[u16],
-    axis: usize,
-    f: usize,
-    start: usize,
-    sums: &mut [i32],
-)
-    requires mesh { ⌜ Refinable (plainMesh (now coordinates) (now sides) (now corners)) ⌝ }
-    requires face { ⌜ (axis < 3) × (f < length (now sides)) × (start ≡ startOf (now sides) f) ⌝ }
-    requires sums { ⌜ SumRoom (now sides) (now sums) ⌝ }
-    ensures { λ _. ⌜ SummedOn (plainMesh (now (coordinates .entry)) (now (sides .entry)) (now (corners .entry))) axis f (now (sums .entry)) (now (sums .exit)) ⌝ }
-{
     let n = sides[f] as usize;
-    sums[SUM_ROW * f + axis] = face_sum(coordinates, corners, axis, start, n);
+    let t = face_sum(coordinates, corners, start, n);
+    let ticks = TICKS_PER_STEP as i32;
+    sums[SUM_ROW * f] = ticks * t.x;
+    sums[SUM_ROW * f + 1] = ticks * t.y;
+    sums[SUM_ROW * f + 2] = ticks * t.z;
 }
 
-// Σ: the sum of the vertices of `n` corners from `start` on.
-fn face_sum(coordinates: &[i32], corners: &[u16], axis: usize, start: usize, n: usize) -> i32
+// The sum of the vertices of `n` corners from `start` on, in grid steps: one pass for the three axes.
+fn face_sum(coordinates: &[i32], corners: &[u16], start: usize, n: usize) -> StepSums
     requires placed { ⌜ Placed (now coordinates) (now corners) ⌝ }
-    requires face { ⌜ (axis < 3) × (start + n ≤ length (now corners)) × (n ≤ mostSides) ⌝ }
-    ensures { λ r. ⌜ ((sides sharpness : List ℕ) → r ≡ sum (λ j. ticks (meshOf (now (coordinates .entry)) sides (now (corners .entry)) sharpness) axis (start + j)) n) ⌝ }
+    requires face { ⌜ (start + n ≤ length (now corners)) × (n ≤ mostSides) ⌝ }
+    ensures { λ r. ⌜ Totals (now (coordinates .entry)) (now (corners .entry)) start n r ⌝ }
 {
-    let mut total: i64 = 0;
+    let mut x = 0;
+    let mut y = 0;
+    let mut z = 0;
     let mut j = 0;
     while j < n {
-        total += tick(coordinates, corners, axis, start + j);
+        let c = start + j;
+        x += coordinate(coordinates, corners, 0, c);
+        y += coordinate(coordinates, corners, 1, c);
+        z += coordinate(coordinates, corners, 2, c);
         j += 1;
     }
-    total as i32
+    StepSums { x: x, y: y, z: z }
 }
 
-// P: the vertex of a corner on an axis, in ticks.
-pub fn tick(coordinates: &[i32], corners: &[u16], axis: usize, c: usize) -> i64
+// The vertex of a corner on an axis, in grid steps.
+pub fn coordinate(coordinates: &[i32], corners: &[u16], axis: usize, c: usize) -> i32
     requires placed { ⌜ Placed (now coordinates) (now corners) ⌝ }
     requires corner { ⌜ (axis < 3) × (c < length (now corners)) ⌝ }
-    ensures { λ r. ⌜ ((sides sharpness : List ℕ) → r ≡ ticks (meshOf (now (coordinates .entry)) sides (now (corners .entry)) sharpness) axis c) ⌝ }
+    ensures { λ r. ⌜ r ≡ stepsOf (now (coordinates .entry)) (now (corners .entry)) axis c ⌝ }
 {
     let v = corners[c] as usize;
-    TICKS_PER_STEP * coordinates[3 * v + axis] as i64
+    coordinates[3 * v + axis]
 }

@@ -4,7 +4,7 @@ use mathlib.Core.Path.{_≡_, refl, ap, _∙_}
 use Prim.Native.Nat.{ℕ, zero, suc, _+_, _*_, _≤_, _<_}
 use native.Mathlib.Numerals.{add-one}
 use native.Mathlib.Omega.{arith}
-use lib.IntN.{ℤ, pos, _+ℤ_, natAbs}
+use lib.IntN.{ℤ, pos, _+ℤ_, _*ℤ_, natAbs}
 use Rattle.paper.specs.Numbers.{sum, sumBy}
 use Rattle.integers.proofs.Poly.{over, poly}
 use Rattle.integers.proofs.Laws.{abs-add-le}
@@ -26,6 +26,18 @@ pub sum-same : (f g : ℕ → ℤ) (n : ℕ) → ((j : ℕ) → j < n → f j �
 unfolding sumBy
 sum-same f g zero h = refl
 sum-same f g (suc n) h = cc (sum-same f g n (λ j l. h j (omega arith)), h n (omega arith))
+
+-- a common factor
+pub sum-times : (k : ℤ) (f : ℕ → ℤ) (n : ℕ) → sum (λ j. k *ℤ f j) n ≡ k *ℤ sum f n
+unfolding sumBy
+sum-times k f zero = none k
+  where
+    none : (k : ℤ) → pos 0 ≡ k *ℤ pos 0
+    none = over 1 _ λ ρ. simp (poly, ρ) (omega arith)
+sum-times k f (suc n) = more k (sum (λ j. k *ℤ f j) n) (sum f n) (f n) (sum-times k f n)
+  where
+    more : (k a s x : ℤ) → a ≡ k *ℤ s → a +ℤ k *ℤ x ≡ k *ℤ (s +ℤ x)
+    more = over 4 _ λ ρ. simp (poly, ρ) (omega arith)
 
 -- ---- sizes
 pub sum-abs : (f : ℕ → ℤ) (n B : ℕ) → ((j : ℕ) → j < n → natAbs (f j) ≤ B) → natAbs (sum f n) ≤ n * B

@@ -1,4 +1,5 @@
--- With all faces wanted the tables draw the whole mesh, and the misses of its nets are those of the numbers that building writes for all corners.
+-- With all vertices marked and all faces wanted the tables draw the whole mesh, and the misses of its nets are those of the numbers that building
+-- writes for all corners.
 -- Assumes nothing.
 use mathlib.Core.Path.{_≡_, refl, sym, ap, _∙_}
 use mathlib.Core.List.{List}
@@ -6,9 +7,9 @@ use Prim.Native.Nat.{ℕ, zero, suc, _*_, _<_, _≤_, max}
 use native.Mathlib.Omega.{arith}
 use lib.ListN.{length, getD, replicate, length-replicate}
 use lib.IntN.{ℤ, pos, natAbs}
-use Rattle.paper.specs.Mesh.{Mesh, faceCount, cornerCount, mostFaces}
+use Rattle.paper.specs.Mesh.{Mesh, faceCount, cornerCount, mostVertices, mostFaces}
 use Rattle.paper.specs.Corners.{faceOf}
-use Rattle.paper.specs.Links.{linkTable}
+use Rattle.paper.specs.Links.{vertexOf, linkTable}
 use Rattle.paper.specs.Faults.{Accepted}
 use Rattle.paper.specs.Numbers.{rounded}
 use Rattle.paper.specs.Refined.{Corners, RefinedMesh, cornersOf, refinedPoint, refinedOf}
@@ -16,7 +17,7 @@ use Rattle.paper.specs.Net.{End, Side, side0, side1, neighbour, across, ring, H
 use Rattle.paper.specs.Calls.{perCorner, numberAt, nets}
 use Rattle.paper.specs.Borders.{Output, outputOf, Wrote, written, beside}
 use Rattle.paper.specs.Report.{conditions, condition, missOn, missAt, largestBelow, largestMiss}
-use Rattle.mesh.proofs.Accepted.{sound-of, few-faces}
+use Rattle.mesh.proofs.Accepted.{sound-of, few-vertices, few-faces}
 use Rattle.mesh.proofs.Faces.{held}
 use Rattle.mesh.proofs.Links.{values-length}
 use Rattle.surface.specs.Sound.{Agree}
@@ -25,7 +26,8 @@ use Rattle.surface.proofs.Hull.{corners-sound}
 use Rattle.surface.proofs.Rings.{ring-in, neighbour-in}
 use Rattle.surface.proofs.Agree.{neighbour-same, H-same, T-same, X-same, Y-same, C-same, net-same, sound-same}
 use Rattle.walk.specs.Table.{Tabled, tabled}
-use Rattle.face_sums.specs.Sources.{Pointed}
+use Rattle.mesh.specs.Tables.{Named}
+use Rattle.face_sums.specs.Sources.{Pointed, Covered}
 use Rattle.face_sums.proofs.Accepted.{refinable-of}
 use Rattle.borders.proofs.Ranges.{ranges}
 use Rattle.borders.proofs.Theorem.{same-outer, same-a}
@@ -49,21 +51,35 @@ condition-same : (j : ℕ) (H T X Y C b a â H′ T′ X′ Y′ C′ b′ a′ 
     → natAbs (condition j H T X Y C b a â) ≡ natAbs (condition j H′ T′ X′ Y′ C′ b′ a′ â′)
 condition-same j H T X Y C b a â H′ T′ X′ Y′ C′ b′ a′ â′ eH eT eX eY eC eb ea eâ = rw (eH, eT, eX, eY, eC, eb, ea, eâ)
 
--- ---- every face is wanted
-abbrev ones : List ℕ
-ones = replicate mostFaces 1
+-- ---- every vertex is marked, and every face wanted
+abbrev ones : ℕ → List ℕ
+ones n = replicate n 1
 
-one-at : (n f : ℕ) → f < n → 0 < getD (replicate n 1) f 0
-one-at zero f h = absurd (omega arith)
+one-at : (n i : ℕ) → i < n → 0 < getD (ones n) i 0
+one-at zero i h = absurd (omega arith)
 one-at (suc n) zero h = omega arith
-one-at (suc n) (suc f) h = one-at n f (omega arith)
+one-at (suc n) (suc i) h = one-at n i (omega arith)
 
 pub ones-long : (M : Mesh) → Accepted M → faceCount M ≤ length {A = ℕ} (replicate mostFaces 1)
 ones-long M ok =
     omega (arith, length-replicate {A = ℕ} mostFaces 1, few-faces (length (M .coordinates)) (faceCount M) (cornerCount M) (sound-of M ok .four))
 
+module _ (M : Mesh) (ok : Accepted M) where
+  named-in : (c : ℕ) → c < cornerCount M → vertexOf (M .corners) c < mostVertices
+  named-in c h =
+      omega (arith, refinable-of M ok .placed .named c h, few-vertices (length (M .coordinates)) (faceCount M) (cornerCount M) (sound-of M ok .four))
+
+  pub ones-named : Named (M .corners) (length {A = ℕ} (replicate mostVertices 1))
+  ones-named c h = omega (arith, named-in c h, length-replicate {A = ℕ} mostVertices 1)
+
+  pub ones-covered : Covered M (ones mostVertices) (ones mostFaces)
+  ones-covered c h m =
+      let i = held (M .sides) c (omega (arith, refinable-of M ok .sums)) in
+      one-at mostFaces (faceOf (M .sides) c)
+      (omega (arith, i .exists, few-faces (length (M .coordinates)) (faceCount M) (cornerCount M) (sound-of M ok .four)))
+
 module _ (M : Mesh) (ok : Accepted M) (table : List ℕ) (old points : List ℤ) (t : Tabled (cornersOf M) table)
-    (long : pointRow * cornerCount M ≤ length old) (v : Pointed M ones (cornerCount M) old points) where
+    (long : pointRow * cornerCount M ≤ length old) (v : Pointed M (ones mostVertices) (cornerCount M) old points) where
   abbrev n : ℕ
   n = cornerCount M
 
@@ -89,14 +105,7 @@ module _ (M : Mesh) (ok : Accepted M) (table : List ℕ) (old points : List ℤ)
   }
 
   point-is : (axis c : ℕ) → axis < 3 → c < n → refinedPoint rounded M axis c ≡ pointAt points axis c
-  point-is axis c a h =
-      let i = held (M .sides) c (omega (arith, refinable-of M ok .sums)) in
-      let f : faceOf (M .sides) c < mostFaces = omega (
-        arith,
-        i .exists,
-        few-faces (length (M .coordinates)) (faceCount M) (cornerCount M) (sound-of M ok .four),
-      ) in
-      sym (v .entries-are axis c (a, h, one-at mostFaces (faceOf (M .sides) c) f))
+  point-is axis c a h = sym (v .entries-are axis c (a, omega arith, h, one-at mostVertices (vertexOf (M .corners) c) (named-in M ok c h)))
 
   -- what a call of building for all corners leaves
   whole : 0 < n → Wrote M (outputOf M 0 n)

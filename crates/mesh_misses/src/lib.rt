@@ -2,6 +2,7 @@
 // for all corners.
 use four_misses::Misses;
 use paper::MOST_FACES;
+use paper::MOST_VERTICES;
 ghost use mathlib.Core.Path.{_≡_};
 ghost use Prim.Native.Nat.{ℕ, _*_, _<_, _≤_};
 ghost use lib.ListN.{length};
@@ -28,6 +29,7 @@ pub fn largest(
     requires points { ⌜ (pointRow * length (now corners) ≤ length (now points)) × Small (now points) ⌝ }
     ensures { λ r. ⌜ ((j : ℕ) → j < conditions → inMisses r j ≡ largestMiss (meshOf (now (coordinates .entry)) (now (sides .entry)) (now (corners .entry)) (now (sharpness .entry))) j) ⌝ }
 {
+    let marked = [1u8; MOST_VERTICES];
     let wanted = [1u8; MOST_FACES];
     refine::fill_points(
         coordinates,
@@ -35,6 +37,7 @@ pub fn largest(
         corners,
         sharpness,
         table,
+        &marked,
         &wanted,
         points,
     );

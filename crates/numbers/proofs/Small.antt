@@ -9,13 +9,15 @@ use native.Mathlib.Omega.{arith}
 use lib.Dec.{T, lit<}
 use lib.IntN.{ℤ, pos, negsuc, negℤ, natAbs, _+ℤ_, _-ℤ_, _*ℤ_}
 use lib.Signed.{_≤ℤ_, _<ℤ_, ltZ-yes, nonNeg, shrZ}
+use mir.Syntax.{w32}
+use mir.Val.{SFits}
 use Rattle.paper.specs.Numbers.{floor, round}
 use Rattle.integers.proofs.Diff.{diff}
 use Rattle.integers.proofs.Poly.{over, poly}
 use Rattle.integers.proofs.Laws.{mul-le, nonneg}
 use Rattle.integers.proofs.Floor.{IsFloor, floor-is, floor-unique, step-le, pos-of}
 use Rattle.numbers.specs.Sign.{sign, tie}
-use Rattle.numbers.specs.Small.{lift, Lifted, Fraction}
+use Rattle.numbers.specs.Small.{lift, Lifted, Share, Reciprocal}
 use Rattle.numbers.proofs.Nearest.{sign-bounds, shift-floor, round-floor, round-half}
 
 -- ---- a number that is not below zero, without its sign
@@ -107,11 +109,11 @@ eighth-is c d b u v eu ev =
     )
 
 -- ---- a fraction by a product
--- t is d q and a rest r; m is a little more than 2^32 / d
-product-floor : (d m q r : ℤ) → (m *ℤ (r +ℤ pos 1)) ≤ℤ (m *ℤ d) → ((d *ℤ m -ℤ pos (2 ^ 32)) *ℤ (q +ℤ pos 1)) <ℤ m
-    → ((d *ℤ m -ℤ pos (2 ^ 32)) *ℤ pos 0) ≤ℤ ((d *ℤ m -ℤ pos (2 ^ 32)) *ℤ q) → (m *ℤ pos 0) ≤ℤ (m *ℤ r)
-    → IsFloor ((d *ℤ q +ℤ r) *ℤ m) (pos (2 ^ 32)) q
-product-floor = over 4 _ λ ρ. simp (poly, ρ) (omega arith)
+-- t is d q and a rest r; m is a little more than p / d
+product-floor : (p d m q r : ℤ) → (m *ℤ (r +ℤ pos 1)) ≤ℤ (m *ℤ d) → ((d *ℤ m -ℤ p) *ℤ (q +ℤ pos 1)) <ℤ m
+    → ((d *ℤ m -ℤ p) *ℤ pos 0) ≤ℤ ((d *ℤ m -ℤ p) *ℤ q) → (m *ℤ pos 0) ≤ℤ (m *ℤ r)
+    → IsFloor ((d *ℤ q +ℤ r) *ℤ m) p q
+product-floor = over 5 _ λ ρ. simp (poly, ρ) (omega arith)
 
 -- q is the quotient without the lift
 bounds : (n h s q : ℤ) → Lifted n h → (negsuc 0 ≤ℤ s) × (s ≤ℤ pos 0) → IsFloor (n +ℤ h +ℤ s) (pos 2 *ℤ h) q
@@ -127,11 +129,8 @@ rest = over 3 _ λ ρ. simp (poly, ρ) (omega arith)
 quotient : (q : ℤ) → negℤ (pos lift) ≤ℤ q → q ≤ℤ pos lift → (pos 0 ≤ℤ (q +ℤ pos lift)) × ((q +ℤ pos lift +ℤ pos 1) ≤ℤ pos (2 * lift + 1))
 quotient = over 1 _ λ ρ. simp (poly, ρ) (omega arith)
 
-excess : (h : ℤ) (m : ℕ) → pos (2 ^ 32) ≤ℤ (pos 2 *ℤ h *ℤ pos m) → pos 0 ≤ℤ (pos 2 *ℤ h *ℤ pos m -ℤ pos (2 ^ 32))
-excess h m = plain h (pos m)
-  where
-    plain : (h m : ℤ) → pos (2 ^ 32) ≤ℤ (pos 2 *ℤ h *ℤ m) → pos 0 ≤ℤ (pos 2 *ℤ h *ℤ m -ℤ pos (2 ^ 32))
-    plain = over 2 _ λ ρ. simp (poly, ρ) (omega arith)
+excess : (p h m : ℤ) → p ≤ℤ (pos 2 *ℤ h *ℤ m) → pos 0 ≤ℤ (pos 2 *ℤ h *ℤ m -ℤ p)
+excess = over 3 _ λ ρ. simp (poly, ρ) (omega arith)
 
 -- the quotient with its lift, times the divisor and one divisor more
 top : (n h s q : ℤ) → (negsuc 0 ≤ℤ s) × (s ≤ℤ pos 0) → IsFloor (n +ℤ h +ℤ s) (pos 2 *ℤ h) q
@@ -155,33 +154,78 @@ back = over 4 _ λ ρ. simp poly (omega arith)
 less : (q l : ℤ) → q +ℤ l -ℤ l ≡ q
 less = over 2 _ λ ρ. simp poly (omega arith)
 
-of-naturals : (t m : ℕ) → floor (pos t *ℤ pos m) (pos (2 ^ 32)) ≡ pos (t * m / 2 ^ 32)
+of-naturals : (t m p : ℕ) → floor (pos t *ℤ pos m) (pos p) ≡ pos (t * m / p)
 unfolding floor
-of-naturals t m = refl
+of-naturals t m p = refl
 
-pub fraction-is : (n h : ℤ) (t m : ℕ) → Lifted n h × Fraction n h m → pos t ≡ n +ℤ h +ℤ sign n +ℤ pos 2 *ℤ h *ℤ pos lift
-    → (pos (t * m / 2 ^ 32) ≤ℤ pos (2 * lift)) × (pos (t * m / 2 ^ 32) -ℤ pos lift ≡ round n (pos 2 *ℤ h))
-fraction-is n h t m ok e =
+pub fraction-is : (p : ℕ) → pos 0 <ℤ pos p → (n h : ℤ) (t m : ℕ) → Lifted n h × Share (pos p) n h m
+    → pos t ≡ n +ℤ h +ℤ sign n +ℤ pos 2 *ℤ h *ℤ pos lift
+    → (pos (t * m / p) ≤ℤ pos (2 * lift)) × (pos (t * m / p) -ℤ pos lift ≡ round n (pos 2 *ℤ h))
+fraction-is p some n h t m ok e =
     let d = pos 2 *ℤ h in
     let z = n +ℤ h +ℤ sign n in
-    let p = above n h (ok .0) in
+    let a = above n h (ok .0) in
     let q = floor z d in
-    let f = floor-is z d (p .1) in
+    let f = floor-is z d (a .1) in
     let b = bounds n h (sign n) q (ok .0) (sign-bounds n) f in
-    let k = quotient q (step-le d (negℤ (pos lift)) q (p .1) (b .0)) (step-le d q (pos lift) (p .1) (b .1)) in
+    let k = quotient q (step-le d (negℤ (pos lift)) q (a .1) (b .0)) (step-le d q (pos lift) (a .1) (b .1)) in
     let r = rest z d q f in
-    let x = excess h m (ok .1 .0) in
-    let i = product-floor d (pos m) (q +ℤ pos lift) (z -ℤ d *ℤ q) (mul-le (pos m) _ _ (nonneg m) (r .1))
-    (exact d (d *ℤ pos m -ℤ pos (2 ^ 32)) (pos m) (q +ℤ pos lift) (n +ℤ d *ℤ pos lift +ℤ pos 3 *ℤ h) (p .1)
-    (mul-le (d *ℤ pos m -ℤ pos (2 ^ 32)) _ _ x (top n h (sign n) q (sign-bounds n) f)) (ok .1 .1)) (mul-le (d *ℤ pos m -ℤ pos (2 ^ 32)) _ _ x (k .0))
+    let x = excess (pos p) h (pos m) (ok .1 .0) in
+    let i = product-floor (pos p) d (pos m) (q +ℤ pos lift) (z -ℤ d *ℤ q) (mul-le (pos m) _ _ (nonneg m) (r .1))
+    (exact d (d *ℤ pos m -ℤ pos p) (pos m) (q +ℤ pos lift) (n +ℤ d *ℤ pos lift +ℤ pos 3 *ℤ h) (a .1)
+    (mul-le (d *ℤ pos m -ℤ pos p) _ _ x (top n h (sign n) q (sign-bounds n) f)) (ok .1 .1)) (mul-le (d *ℤ pos m -ℤ pos p) _ _ x (k .0))
     (mul-le (pos m) _ _ (nonneg m) (r .0)) in
-    let g = floor-unique _ (pos (2 ^ 32)) (q +ℤ pos lift) (ltZ-yes tt) i in
-    let s = ap (λ (y : ℤ). floor (y *ℤ pos m) (pos (2 ^ 32))) (back z d q (pos lift) ∙ sym e) in
-    let w = sym (g ∙ s ∙ of-naturals t m) in
-    (rw w (lower q (k .1)), ap (λ (y : ℤ). y -ℤ pos lift) w ∙ less q (pos lift) ∙ halved n h (p .0))
+    let g = floor-unique _ (pos p) (q +ℤ pos lift) some i in
+    let s = ap (λ (y : ℤ). floor (y *ℤ pos m) (pos p)) (back z d q (pos lift) ∙ sym e) in
+    let w = sym (g ∙ s ∙ of-naturals t m p) in
+    (rw w (lower q (k .1)), ap (λ (y : ℤ). y -ℤ pos lift) w ∙ less q (pos lift) ∙ halved n h (a .0))
   where
     lower : (q : ℤ) → (q +ℤ pos lift +ℤ pos 1) ≤ℤ pos (2 * lift + 1) → (q +ℤ pos lift) ≤ℤ pos (2 * lift)
     lower = over 1 _ λ ρ. simp (poly, ρ) (omega arith)
 
     halved : (n h : ℤ) → pos 0 <ℤ h → floor (n +ℤ h +ℤ sign n) (pos 2 *ℤ h) ≡ round n (pos 2 *ℤ h)
     halved n h l = pos-of h l λ j e k. rw e (round-half n j k)
+
+-- the quotient with its lift, as the machine holds it, and without
+pub at-most-lift : (q : ℕ) → pos q ≤ℤ pos (2 * lift) → q ≤ 2 * lift
+at-most-lift q h = let k = simp diff at h in omega arith
+
+pub lift-off : (q : ℕ) → q ≤ 2 * lift → SFits w32 (pos q -ℤ pos lift)
+lift-off q h = off (pos q) h
+  where
+    off : (z : ℤ) → natAbs z ≤ 2 * lift → SFits w32 (z -ℤ pos lift)
+    off = over 1 _ λ ρ. simp (poly, ρ) (omega arith)
+
+-- ---- the reciprocal of a face's sides
+-- what is left of 2^36 is below 2n, and the lifted dividend below 2^31
+pub small-share : (t : ℤ) (n m : ℕ) → 3 ≤ n → n ≤ 16 → natAbs t ≤ n * 2 ^ 25 → Reciprocal n m
+    → Lifted t (pos n) × Share (pos (2 ^ 36)) t (pos n) m
+small-share t n m a b h r =
+    let d = pos 2 *ℤ pos n *ℤ pos m in
+    let l = lifts t (pos n) (from n a) (to n b) (within t n h) in
+    let f = from-p n m (r .0) in
+    (l .0, (f, near d _ (to-p n m b (r .1)) f (mul-le (d -ℤ pos (2 ^ 36)) _ _ (excess (pos (2 ^ 36)) (pos n) (pos m) f) (l .1))))
+  where
+    from : (n : ℕ) → 3 ≤ n → pos 1 ≤ℤ pos n
+    from n a = simp diff (omega arith)
+
+    to : (n : ℕ) → n ≤ 16 → pos n ≤ℤ pos 16
+    to n b = simp diff (omega arith)
+
+    within : (t : ℤ) (n : ℕ) → natAbs t ≤ n * 2 ^ 25 → (negℤ (pos (2 ^ 25) *ℤ pos n) ≤ℤ t) × (t ≤ℤ (pos (2 ^ 25) *ℤ pos n))
+    within (pos i) n h = (simp diff (omega arith), simp diff (omega arith))
+    within (negsuc i) n h = (simp diff (omega arith), simp diff (omega arith))
+
+    lifts : (t h : ℤ) → pos 1 ≤ℤ h → h ≤ℤ pos 16 → (negℤ (pos (2 ^ 25) *ℤ h) ≤ℤ t) × (t ≤ℤ (pos (2 ^ 25) *ℤ h))
+        → Lifted t h × ((t +ℤ pos 2 *ℤ h *ℤ pos lift +ℤ pos 3 *ℤ h) ≤ℤ pos (2 ^ 31))
+    lifts = over 2 _ λ ρ. simp (poly, ρ) (omega arith)
+
+    from-p : (n m : ℕ) → 2 ^ 36 ≤ 2 * n * m → pos (2 ^ 36) ≤ℤ (pos 2 *ℤ pos n *ℤ pos m)
+    from-p n m h = simp diff (omega arith)
+
+    to-p : (n m : ℕ) → n ≤ 16 → 2 * n * m < 2 ^ 36 + 2 * n → (pos 2 *ℤ pos n *ℤ pos m) ≤ℤ pos (2 ^ 36 + 31)
+    to-p n m b h = simp diff (omega arith)
+
+    near : (d y : ℤ) → d ≤ℤ pos (2 ^ 36 + 31) → pos (2 ^ 36) ≤ℤ d → ((d -ℤ pos (2 ^ 36)) *ℤ y) ≤ℤ ((d -ℤ pos (2 ^ 36)) *ℤ pos (2 ^ 31))
+        → ((d -ℤ pos (2 ^ 36)) *ℤ y) <ℤ d
+    near = over 2 _ λ ρ. simp (poly, ρ) (omega arith)

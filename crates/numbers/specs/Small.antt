@@ -1,6 +1,6 @@
--- What `small_product` asks of the number that it multiplies by.
+-- What `small_product` and `small_quotient` ask of the number that they multiply by.
 -- Assumes nothing.
-use Prim.Native.Nat.{ℕ, _*_, _^_}
+use Prim.Native.Nat.{ℕ, _+_, _*_, _^_, _<_, _≤_}
 use lib.IntN.{ℤ, pos, negℤ, _+ℤ_, _-ℤ_, _*ℤ_}
 use lib.Signed.{_≤ℤ_, _<ℤ_}
 
@@ -10,10 +10,18 @@ lift = 3 * 2 ^ 23
 
 -- a dividend that the lift raises above zero, of a divisor 2h
 abbrev pub Lifted : ℤ → ℤ → Type 0
-Lifted n h = (pos 1 ≤ℤ h) × (h ≤ℤ pos 6) × (negℤ (pos (2 * lift) *ℤ h) ≤ℤ n) × (n ≤ℤ (pos (2 * lift) *ℤ h))
+Lifted n h = (pos 1 ≤ℤ h) × (h ≤ℤ pos 16) × (negℤ (pos (2 * lift) *ℤ h) ≤ℤ n) × (n ≤ℤ (pos (2 * lift) *ℤ h))
 
--- m is at least 2^32 / 2h, by so little that the quotient of n lifted does not come out one too large
+-- m is at least p / 2h, by so little that the quotient of n lifted does not come out one too large
+abbrev pub Share : ℤ → ℤ → ℤ → ℕ → Type 0
+Share p n h m =
+    (p ≤ℤ (pos 2 *ℤ h *ℤ pos m))
+    × (((pos 2 *ℤ h *ℤ pos m -ℤ p) *ℤ (n +ℤ pos 2 *ℤ h *ℤ pos lift +ℤ pos 3 *ℤ h)) <ℤ (pos 2 *ℤ h *ℤ pos m))
+
+-- that of 2^32
 abbrev pub Fraction : ℤ → ℤ → ℕ → Type 0
-Fraction n h m =
-    (pos (2 ^ 32) ≤ℤ (pos 2 *ℤ h *ℤ pos m))
-    × (((pos 2 *ℤ h *ℤ pos m -ℤ pos (2 ^ 32)) *ℤ (n +ℤ pos 2 *ℤ h *ℤ pos lift +ℤ pos 3 *ℤ h)) <ℤ (pos 2 *ℤ h *ℤ pos m))
+Fraction = Share (pos (2 ^ 32))
+
+-- m is 2^36 / 2n, rounded up
+abbrev pub Reciprocal : ℕ → ℕ → Type 0
+Reciprocal n m = (2 ^ 36 ≤ 2 * n * m) × (2 * n * m < 2 ^ 36 + 2 * n)

@@ -2,13 +2,14 @@
 // `round_shift` where the divisor is a power of two, or one of 32 bits where the sum is small, and cites the laws of `round`, so that another
 // rounding is another definition, here alone. The sign, -1 below zero and else 0, turns halves below zero down, and no branch is needed.
 ghost use mathlib.Core.Path.{_≡_};
-ghost use Prim.Native.Nat.{_+_, _*_, _/_, _%_, _^_, _≤_};
+ghost use Prim.Native.Nat.{_+_, _*_, _/_, _%_, _^_, _≤_, _<_};
 ghost use lib.IntN.{pos, negsuc, negℤ, natAbs, _+ℤ_, _-ℤ_, _*ℤ_};
 ghost use lib.Signed.{_≤ℤ_, _<ℤ_};
+ghost use Rattle.paper.specs.Mesh.{leastSides, mostSides};
 ghost use Rattle.paper.specs.Numbers.{round};
 ghost use Rattle.numbers.specs.Sign.{sign, tie};
 ghost use Rattle.numbers.specs.Lift.{Lifts};
-ghost use Rattle.numbers.specs.Small.{lift, Lifted, Fraction};
+ghost use Rattle.numbers.specs.Small.{lift, Lifted, Fraction, Reciprocal};
 
 // The sign of n: a shift copies it down.
 fn sign(n: i64) -> i64
@@ -79,7 +80,7 @@ pub fn small_shift(n: i32, k: u32) -> i32
     small_raised(n, 1 << (k - 1)) >> k
 }
 
-// What lifts every dividend of `small_product` above zero, in divisors.
+// What lifts every dividend of `small_product` and `small_quotient` above zero, in divisors.
 const LIFT: i32 = 25165824;
 
 // n / 2h before it is rounded down, lifted above zero.
@@ -103,6 +104,45 @@ pub fn small_product(n: i32, h: i32, m: u32) -> i32
     ensures { λ r. ⌜ r ≡ round n (pos 2 *ℤ h) ⌝ }
 {
     upper(lift_dividend(n, h), m) as i32 - LIFT
+}
+
+// 2^36 / 2n, rounded up, for the sides n of a face. They are written out: the compiler keeps them in a table, and nothing is divided.
+pub fn reciprocal(n: u8) -> u64
+    requires { ⌜ (leastSides ≤ n) × (n ≤ mostSides) ⌝ }
+    ensures { λ r. ⌜ Reciprocal n r ⌝ }
+{
+    match n {
+        3 => 11453246123,
+        4 => 8589934592,
+        5 => 6871947674,
+        6 => 5726623062,
+        7 => 4908534053,
+        8 => 4294967296,
+        9 => 3817748708,
+        10 => 3435973837,
+        11 => 3123612579,
+        12 => 2863311531,
+        13 => 2643056798,
+        14 => 2454267027,
+        15 => 2290649225,
+        _ => 2147483648,
+    }
+}
+
+// t m / 2^36.
+fn scaled(t: u32, m: u64) -> u32
+    requires { ⌜ t * m < 2 ^ 64 ⌝ }
+    ensures { λ r. ⌜ r ≡ t * m / 2 ^ 36 ⌝ }
+{
+    ((t as u64 * m) >> 36) as u32
+}
+
+// r(t / 2n) for the sides n of a face, by a product with their reciprocal.
+pub fn small_quotient(t: i32, n: u8, m: u64) -> i32
+    requires { ⌜ (leastSides ≤ n) × (n ≤ mostSides) × (natAbs t ≤ n * 2 ^ 25) × Reciprocal n m ⌝ }
+    ensures { λ r. ⌜ r ≡ round t (pos 2 *ℤ pos n) ⌝ }
+{
+    scaled(lift_dividend(t, n as i32), m) as i32 - LIFT
 }
 
 // c + 2^30 of a cosine of the table.

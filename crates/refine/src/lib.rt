@@ -1,35 +1,41 @@
-// The refined points of the faces that are wanted, on the three axes: a row for each corner. The sums of these faces are formed first, once
-// for each face and axis, and put into a table; the loop over the corners takes them from there.
+// The refined points of the corners at the vertices that are marked, on the three axes: a row for each corner. The sums of their faces are formed
+// first, once for each face and axis, and put into a table; the loop over the corners takes them from there.
 use face_sums::SUM_ROW;
 use face_sums::fill_sums;
 use mesh::SMALL_MESH;
 use paper::MOST_CORNERS;
+use refined_corners::FaceSums;
 use refined_corners::fill_corner;
+use refined_corners::read_face;
 ghost use mathlib.Core.Path.{_≡_};
 ghost use Prim.Native.Nat.{_+_, _*_, _≤_, _<_};
 ghost use lib.ListN.{length};
 ghost use Rattle.paper.specs.Mesh.{meshOf};
 ghost use Rattle.paper.specs.Corners.{startOf};
 ghost use Rattle.paper.specs.Refined.{cornersOf};
+ghost use Rattle.mesh.specs.Tables.{Named};
 ghost use Rattle.surface.specs.Points.{pointRow};
 ghost use Rattle.walk.specs.Table.{Tabled};
-ghost use Rattle.face_sums.specs.Sources.{Refinable, Small, Pointed, Added, SumRoom, SumsOf, SumsAre};
+ghost use Rattle.face_sums.specs.Sources.{Refinable, Small, Filled, Pointed, Covered, SumRoom, SumsAre};
+ghost use Rattle.refined_corners.specs.Mean.{FaceOf};
 
-// The refined points of the corners whose face has a nonzero entry in `wanted`.
+// The refined points of the corners whose vertex has a nonzero entry in `marked`. A face with such a corner has one in `wanted`.
 pub fn fill_points(
     coordinates: &[i32],
     sides: &[u8],
     corners: &[u16],
     sharpness: &[u8],
     table: &[u16],
+    marked: &[u8],
     wanted: &[u8],
     points: &mut [i32],
 )
     requires mesh { ⌜ Refinable (meshOf (now coordinates) (now sides) (now corners) (now sharpness)) ⌝ }
     requires table { ⌜ Tabled (cornersOf (meshOf (now coordinates) (now sides) (now corners) (now sharpness))) (now table) ⌝ }
+    requires marked { ⌜ Named (now corners) (length (now marked)) × Covered (meshOf (now coordinates) (now sides) (now corners) (now sharpness)) (now marked) (now wanted) ⌝ }
     requires wanted { ⌜ length (now sides) ≤ length (now wanted) ⌝ }
     requires points { ⌜ (pointRow * length (now corners) ≤ length (now points)) × Small (now points) ⌝ }
-    ensures { λ _. ⌜ Pointed (meshOf (now (coordinates .entry)) (now (sides .entry)) (now (corners .entry)) (now (sharpness .entry))) (now (wanted .entry)) (length (now (corners .entry))) (now (points .entry)) (now (points .exit)) ⌝ }
+    ensures { λ _. ⌜ Pointed (meshOf (now (coordinates .entry)) (now (sides .entry)) (now (corners .entry)) (now (sharpness .entry))) (now (marked .entry)) (length (now (corners .entry))) (now (points .entry)) (now (points .exit)) ⌝ }
 {
     if SUM_ROW * sides.len() <= SMALL_MESH {
         let mut sums = [0i32; SMALL_MESH];
@@ -39,6 +45,7 @@ pub fn fill_points(
             corners,
             sharpness,
             table,
+            marked,
             wanted,
             &mut sums,
             points,
@@ -51,6 +58,7 @@ pub fn fill_points(
             corners,
             sharpness,
             table,
+            marked,
             wanted,
             &mut sums,
             points,
@@ -65,16 +73,18 @@ fn fill_over(
     corners: &[u16],
     sharpness: &[u8],
     table: &[u16],
+    marked: &[u8],
     wanted: &[u8],
     sums: &mut [i32],
     points: &mut [i32],
 )
     requires mesh { ⌜ Refinable (meshOf (now coordinates) (now sides) (now corners) (now sharpness)) ⌝ }
     requires table { ⌜ Tabled (cornersOf (meshOf (now coordinates) (now sides) (now corners) (now sharpness))) (now table) ⌝ }
+    requires marked { ⌜ Named (now corners) (length (now marked)) × Covered (meshOf (now coordinates) (now sides) (now corners) (now sharpness)) (now marked) (now wanted) ⌝ }
     requires wanted { ⌜ length (now sides) ≤ length (now wanted) ⌝ }
     requires sums { ⌜ SumRoom (now sides) (now sums) ⌝ }
     requires points { ⌜ (pointRow * length (now corners) ≤ length (now points)) × Small (now points) ⌝ }
-    ensures { λ _. ⌜ Pointed (meshOf (now (coordinates .entry)) (now (sides .entry)) (now (corners .entry)) (now (sharpness .entry))) (now (wanted .entry)) (length (now (corners .entry))) (now (points .entry)) (now (points .exit)) ⌝ }
+    ensures { λ _. ⌜ Pointed (meshOf (now (coordinates .entry)) (now (sides .entry)) (now (corners .entry)) (now (sharpness .entry))) (now (marked .entry)) (length (now (corners .entry))) (now (points .entry)) (now (points .exit)) ⌝ }
 {
     fill_sums(coordinates, sides, corners, wanted, sums);
     fill_faces(
@@ -83,42 +93,46 @@ fn fill_over(
         corners,
         sharpness,
         table,
+        marked,
         wanted,
         sums,
         points,
     );
 }
 
-// The refined points of the corners whose face has a nonzero entry in `wanted`, with the sums of these faces.
+// The same with the sums of the faces that have a nonzero entry in `wanted`.
 fn fill_faces(
     coordinates: &[i32],
     sides: &[u8],
     corners: &[u16],
     sharpness: &[u8],
     table: &[u16],
+    marked: &[u8],
     wanted: &[u8],
     sums: &[i32],
     points: &mut [i32],
 )
     requires mesh { ⌜ Refinable (meshOf (now coordinates) (now sides) (now corners) (now sharpness)) ⌝ }
     requires table { ⌜ Tabled (cornersOf (meshOf (now coordinates) (now sides) (now corners) (now sharpness))) (now table) ⌝ }
+    requires marked { ⌜ Named (now corners) (length (now marked)) × Covered (meshOf (now coordinates) (now sides) (now corners) (now sharpness)) (now marked) (now wanted) ⌝ }
     requires wanted { ⌜ length (now sides) ≤ length (now wanted) ⌝ }
     requires sums { ⌜ SumsAre (meshOf (now coordinates) (now sides) (now corners) (now sharpness)) (now wanted) (now sums) ⌝ }
     requires points { ⌜ (pointRow * length (now corners) ≤ length (now points)) × Small (now points) ⌝ }
-    ensures { λ _. ⌜ Pointed (meshOf (now (coordinates .entry)) (now (sides .entry)) (now (corners .entry)) (now (sharpness .entry))) (now (wanted .entry)) (length (now (corners .entry))) (now (points .entry)) (now (points .exit)) ⌝ }
+    ensures { λ _. ⌜ Pointed (meshOf (now (coordinates .entry)) (now (sides .entry)) (now (corners .entry)) (now (sharpness .entry))) (now (marked .entry)) (length (now (corners .entry))) (now (points .entry)) (now (points .exit)) ⌝ }
 {
     let mut start = 0;
     let mut f = 0;
     while f < sides.len() {
         if wanted[f] != 0 {
+            let face = read_face(sides, sums, f);
             fill_face(
                 coordinates,
                 sides,
                 corners,
                 sharpness,
                 table,
-                sums,
-                f,
+                marked,
+                face,
                 start,
                 points,
             );
@@ -128,39 +142,78 @@ fn fill_faces(
     }
 }
 
-// The refined points of one face, whose first corner is `start`.
+// The refined points of one face, whose first corner is `start`. A face has corners, so the end is looked for last: in front of a loop that may not
+// begin, the compiler makes jumps of the table of reciprocals.
 fn fill_face(
     coordinates: &[i32],
     sides: &[u8],
     corners: &[u16],
     sharpness: &[u8],
     table: &[u16],
-    sums: &[i32],
-    f: usize,
+    marked: &[u8],
+    face: FaceSums,
     start: usize,
     points: &mut [i32],
 )
     requires mesh { ⌜ Refinable (meshOf (now coordinates) (now sides) (now corners) (now sharpness)) ⌝ }
     requires table { ⌜ Tabled (cornersOf (meshOf (now coordinates) (now sides) (now corners) (now sharpness))) (now table) ⌝ }
-    requires face { ⌜ (f < length (now sides)) × (start ≡ startOf (now sides) f) ⌝ }
-    requires sums { ⌜ SumsOf (meshOf (now coordinates) (now sides) (now corners) (now sharpness)) f (now sums) ⌝ }
+    requires marked { ⌜ Named (now corners) (length (now marked)) ⌝ }
+    requires face { ⌜ FaceOf (meshOf (now coordinates) (now sides) (now corners) (now sharpness)) face × (start ≡ startOf (now sides) (face .index)) ⌝ }
     requires points { ⌜ (pointRow * length (now corners) ≤ length (now points)) × Small (now points) ⌝ }
-    ensures { λ _. ⌜ Added (meshOf (now (coordinates .entry)) (now (sides .entry)) (now (corners .entry)) (now (sharpness .entry))) 3 start (startOf (now (sides .entry)) (f + 1)) (now (points .entry)) (now (points .exit)) ⌝ }
+    ensures { λ _. ⌜ Filled (meshOf (now (coordinates .entry)) (now (sides .entry)) (now (corners .entry)) (now (sharpness .entry))) (now (marked .entry)) start (startOf (now (sides .entry)) (face .index + 1)) (now (points .entry)) (now (points .exit)) ⌝ }
 {
-    let end = start + sides[f] as usize;
+    let end = start + face.sides as usize;
     let mut c = start;
-    while c < end {
+    loop {
+        fill_marked(
+            coordinates,
+            sides,
+            corners,
+            sharpness,
+            table,
+            marked,
+            face,
+            c,
+            points,
+        );
+        c += 1;
+        if end <= c {
+            break;
+        }
+    }
+}
+
+// The refined point of one corner, where its vertex is marked.
+fn fill_marked(
+    coordinates: &[i32],
+    sides: &[u8],
+    corners: &[u16],
+    sharpness: &[u8],
+    table: &[u16],
+    marked: &[u8],
+    face: FaceSums,
+    c: usize,
+    points: &mut [i32],
+)
+    requires mesh { ⌜ Refinable (meshOf (now coordinates) (now sides) (now corners) (now sharpness)) ⌝ }
+    requires table { ⌜ Tabled (cornersOf (meshOf (now coordinates) (now sides) (now corners) (now sharpness))) (now table) ⌝ }
+    requires marked { ⌜ Named (now corners) (length (now marked)) ⌝ }
+    requires face { ⌜ FaceOf (meshOf (now coordinates) (now sides) (now corners) (now sharpness)) face ⌝ }
+    requires corner { ⌜ (startOf (now sides) (face .index) ≤ c) × (c < startOf (now sides) (face .index + 1)) ⌝ }
+    requires points { ⌜ (pointRow * length (now corners) ≤ length (now points)) × Small (now points) ⌝ }
+    ensures { λ _. ⌜ Filled (meshOf (now (coordinates .entry)) (now (sides .entry)) (now (corners .entry)) (now (sharpness .entry))) (now (marked .entry)) c (c + 1) (now (points .entry)) (now (points .exit)) ⌝ }
+{
+    let v = corners[c] as usize;
+    if marked[v] != 0 {
         fill_corner(
             coordinates,
             sides,
             corners,
             sharpness,
             table,
-            sums,
-            f,
+            face,
             c,
             points,
         );
-        c += 1;
     }
 }

@@ -1,22 +1,32 @@
 // The refined point of one corner, on the three axes: from the sum of its face, the vertices of three corners, and the weights of its sharpness.
+// It is computed in grid steps, and 32 bits hold every number on the way.
 use face_sums::SUM_ROW;
-use face_sums::tick;
-use numbers::rounding::round_div;
+use face_sums::coordinate;
+use numbers::rounding::reciprocal;
+use numbers::rounding::small_quotient;
 use paper::SHARPNESS_PER_CORNER;
 use surface::POINT_ROW;
 use walk::Walker;
 ghost use mathlib.Core.Path.{_≡_};
-ghost use Prim.Native.Nat.{_+_, _*_, _^_, _≤_, _<_};
-ghost use lib.ListN.{length};
-ghost use lib.IntN.{pos, natAbs, _*ℤ_};
-ghost use Rattle.paper.specs.Mesh.{meshOf};
+ghost use Prim.Native.Nat.{_+_, _*_, _≤_, _<_};
+ghost use lib.ListN.{length, getD};
+ghost use Rattle.paper.specs.Mesh.{leastSides, mostSides, meshOf};
 ghost use Rattle.paper.specs.Corners.{startOf};
-ghost use Rattle.paper.specs.Numbers.{sum, round};
 ghost use Rattle.paper.specs.Refined.{cornersOf};
 ghost use Rattle.surface.specs.Points.{pointRow};
 ghost use Rattle.walk.specs.Table.{Tabled};
-ghost use Rattle.face_sums.specs.Sources.{Placed, Refinable, Face, Ticks, Small, Added, SumsOf};
-ghost use Rattle.refined_corners.specs.Mean.{Pair, Weighted, Balanced, mean, MeanOf};
+ghost use Rattle.face_sums.specs.Sources.{Placed, Refinable, Small, Added, sumRow};
+ghost use Rattle.refined_corners.specs.Mean.{Pair, Weighted, Balanced, Steps, Known, mean, MeanOf, FaceRead, FaceOf};
+
+// What the corners of a face share: which face it is, its sides with their reciprocal, and Σ in grid steps.
+pub struct FaceSums {
+    pub index: usize,
+    pub sides: u8,
+    pub reciprocal: u64,
+    pub x: i32,
+    pub y: i32,
+    pub z: i32,
+}
 
 // A corner with the previous and the next corner of its face.
 struct Around {
@@ -27,32 +37,52 @@ struct Around {
 
 // What Σ and the vertices of the three corners are multiplied with; the four sum to 512.
 struct CornerWeights {
-    face: u16,
-    before: u16,
-    here: u16,
-    after: u16,
+    face: u32,
+    before: u32,
+    here: u32,
+    after: u32,
 }
 
-// The refined point of one corner, of face f, on the three axes.
+// What the corners of face f share, from the table of sums, which is in ticks.
+pub fn read_face(sides: &[u8], sums: &[i32], f: usize) -> FaceSums
+    requires sides { ⌜ (f < length (now sides)) × (leastSides ≤ getD (now sides) f 0) × (getD (now sides) f 0 ≤ mostSides) ⌝ }
+    requires sums { ⌜ sumRow * f + sumRow ≤ length (now sums) ⌝ }
+    ensures { λ r. ⌜ FaceRead (now (sides .entry)) (now (sums .entry)) f r ⌝ }
+{
+    let n = sides[f];
+    let m = reciprocal(n);
+    let x = sums[SUM_ROW * f] >> 8;
+    let y = sums[SUM_ROW * f + 1] >> 8;
+    let z = sums[SUM_ROW * f + 2] >> 8;
+    FaceSums {
+        index: f,
+        sides: n,
+        reciprocal: m,
+        x: x,
+        y: y,
+        z: z,
+    }
+}
+
+// The refined point of one corner of a face, on the three axes. All three are computed before one is put into the table: the compiler does not
+// know that this leaves the lists as they are.
 pub fn fill_corner(
     coordinates: &[i32],
     sides: &[u8],
     corners: &[u16],
     sharpness: &[u8],
     table: &[u16],
-    sums: &[i32],
-    f: usize,
+    face: FaceSums,
     c: usize,
     points: &mut [i32],
 )
     requires mesh { ⌜ Refinable (meshOf (now coordinates) (now sides) (now corners) (now sharpness)) ⌝ }
     requires table { ⌜ Tabled (cornersOf (meshOf (now coordinates) (now sides) (now corners) (now sharpness))) (now table) ⌝ }
-    requires corner { ⌜ (f < length (now sides)) × (startOf (now sides) f ≤ c) × (c < startOf (now sides) (f + 1)) ⌝ }
-    requires sums { ⌜ SumsOf (meshOf (now coordinates) (now sides) (now corners) (now sharpness)) f (now sums) ⌝ }
+    requires face { ⌜ FaceOf (meshOf (now coordinates) (now sides) (now corners) (now sharpness)) face ⌝ }
+    requires corner { ⌜ (startOf (now sides) (face .index) ≤ c) × (c < startOf (now sides) (face .index + 1)) ⌝ }
     requires points { ⌜ (pointRow * length (now corners) ≤ length (now points)) × Small (now points) ⌝ }
     ensures { λ _. ⌜ Added (meshOf (now (coordinates .entry)) (now (sides .entry)) (now (corners .entry)) (now (sharpness .entry))) 3 c (c + 1) (now (points .entry)) (now (points .exit)) ⌝ }
 {
-    let n = sides[f];
     let at = Walker { corner: c };
     let p = at.previous(table);
     let q = at.next(table);
@@ -62,12 +92,12 @@ pub fn fill_corner(
         here: c,
         after: q.corner,
     };
-    let x = sums[SUM_ROW * f];
-    points[POINT_ROW * c] = on_axis(coordinates, corners, 0, around, w, x, n);
-    let y = sums[SUM_ROW * f + 1];
-    points[POINT_ROW * c + 1] = on_axis(coordinates, corners, 1, around, w, y, n);
-    let z = sums[SUM_ROW * f + 2];
-    points[POINT_ROW * c + 2] = on_axis(coordinates, corners, 2, around, w, z, n);
+    let x = on_axis(coordinates, corners, 0, around, w, face.x, face);
+    let y = on_axis(coordinates, corners, 1, around, w, face.y, face);
+    let z = on_axis(coordinates, corners, 2, around, w, face.z, face);
+    points[POINT_ROW * c] = x;
+    points[POINT_ROW * c + 1] = y;
+    points[POINT_ROW * c + 2] = z;
 }
 
 // The weights of a corner, by its sharpness.
@@ -75,8 +105,8 @@ fn weigh(sharpness: &[u8], c: usize) -> CornerWeights
     requires { ⌜ Pair (now sharpness) c ⌝ }
     ensures { λ r. ⌜ Weighted (now (sharpness .entry)) c r ⌝ }
 {
-    let u = sharpness[SHARPNESS_PER_CORNER * c] as u16;
-    let v = sharpness[SHARPNESS_PER_CORNER * c + 1] as u16;
+    let u = sharpness[SHARPNESS_PER_CORNER * c] as u32;
+    let v = sharpness[SHARPNESS_PER_CORNER * c + 1] as u32;
     let to_u = 16 - u;
     let to_v = 16 - v;
     CornerWeights {
@@ -95,58 +125,27 @@ fn on_axis(
     around: Around,
     w: CornerWeights,
     total: i32,
-    n: u8,
+    face: FaceSums,
 ) -> i32
     requires placed { ⌜ Placed (now coordinates) (now corners) ⌝ }
     requires corners { ⌜ (axis < 3) × (around .before < length (now corners)) × (around .here < length (now corners)) × (around .after < length (now corners)) ⌝ }
-    requires face { ⌜ Face total n × Balanced w ⌝ }
-    ensures { λ r. ⌜ MeanOf (now (coordinates .entry)) (now (corners .entry)) axis around w total n r ⌝ }
+    requires face { ⌜ Known total face × Balanced w ⌝ }
+    ensures { λ r. ⌜ MeanOf (now (coordinates .entry)) (now (corners .entry)) axis around w total (face .sides) r ⌝ }
 {
-    let before = tick(coordinates, corners, axis, around.before);
-    let here = tick(coordinates, corners, axis, around.here);
-    let after = tick(coordinates, corners, axis, around.after);
-    refined(w, total as i64, before, here, after, n)
-}
-
-// r(t / 512n).
-fn quotient(t: i64, n: u8) -> i64
-    requires { ⌜ (1 ≤ n) × (natAbs t ≤ 2 ^ 60) ⌝ }
-    ensures { λ r. ⌜ r ≡ round t (pos 512 *ℤ pos n) ⌝ }
-{
-    round_div(t, 512 * n as i64)
-}
-
-// The same, with the side counts of a mesh written out, so that the compiler sees their divisors.
-fn divide(t: i64, n: u8) -> i64
-    requires { ⌜ (1 ≤ n) × (natAbs t ≤ 2 ^ 60) ⌝ }
-    ensures { λ r. ⌜ r ≡ round t (pos 512 *ℤ pos n) ⌝ }
-{
-    match n {
-        3 => quotient(t, 3),
-        4 => quotient(t, 4),
-        5 => quotient(t, 5),
-        6 => quotient(t, 6),
-        7 => quotient(t, 7),
-        8 => quotient(t, 8),
-        9 => quotient(t, 9),
-        10 => quotient(t, 10),
-        11 => quotient(t, 11),
-        12 => quotient(t, 12),
-        13 => quotient(t, 13),
-        14 => quotient(t, 14),
-        15 => quotient(t, 15),
-        16 => quotient(t, 16),
-        _ => quotient(t, n),
-    }
+    let before = coordinate(coordinates, corners, axis, around.before);
+    let here = coordinate(coordinates, corners, axis, around.here);
+    let after = coordinate(coordinates, corners, axis, around.after);
+    refined(w, total, before, here, after, face)
 }
 
 // V from Σ, the vertices of the previous corner, of the corner and of the next, with their weights, and the sides of the face.
-fn refined(w: CornerWeights, total: i64, before: i64, here: i64, after: i64, n: u8) -> i32
-    requires { ⌜ Ticks total before here after n × Balanced w ⌝ }
-    ensures { λ r. ⌜ r ≡ mean w total before here after n ⌝ }
+fn refined(w: CornerWeights, total: i32, before: i32, here: i32, after: i32, face: FaceSums) -> i32
+    requires { ⌜ Steps total before here after face × Balanced w ⌝ }
+    ensures { λ r. ⌜ r ≡ mean w total before here after (face .sides) ⌝ }
 {
-    let sum = w.face as i64 * total;
-    let three = w.before as i64 * before + w.here as i64 * here + w.after as i64 * after;
-    let t = sum + n as i64 * three;
-    divide(t, n) as i32
+    let n = face.sides;
+    let m = face.reciprocal;
+    let three = w.before as i32 * before + w.here as i32 * here + w.after as i32 * after;
+    let t = w.face as i32 * total + n as i32 * three;
+    small_quotient(t, n, m)
 }

@@ -55,18 +55,18 @@ ticks-size M a axis c =
     abs-mul-le (pos 256) (getD (M .coordinates) i (pos 0)) 256 mostCoordinate (omega arith) (coordinate-size M a i)
 
 -- ---- the refined point, from the sum s of n vertices and three of them, with weights that sum to 512
-pub blend-size : (n a b c d : ℕ) (s x y z : ℤ) → a + b + c + d ≡ 512 → natAbs s ≤ n * 2 ^ 24 → natAbs x ≤ 2 ^ 24 → natAbs y ≤ 2 ^ 24 → natAbs z ≤ 2 ^ 24
-    → natAbs (pos a *ℤ s +ℤ pos n *ℤ (pos b *ℤ x +ℤ pos c *ℤ y +ℤ pos d *ℤ z)) ≤ n * (512 * 2 ^ 24)
-blend-size n a b c d s x y z h hs hx hy hz =
-    let t = abs-mul-le (pos a) s a (n * 2 ^ 24) (omega arith) hs in
-    let l = abs-mul-le (pos b) x b (2 ^ 24) (omega arith) hx in
-    let m = abs-mul-le (pos c) y c (2 ^ 24) (omega arith) hy in
-    let r = abs-mul-le (pos d) z d (2 ^ 24) (omega arith) hz in
+pub blend-size : (B n a b c d : ℕ) (s x y z : ℤ) → a + b + c + d ≡ 512 → natAbs s ≤ n * B → natAbs x ≤ B → natAbs y ≤ B → natAbs z ≤ B
+    → natAbs (pos a *ℤ s +ℤ pos n *ℤ (pos b *ℤ x +ℤ pos c *ℤ y +ℤ pos d *ℤ z)) ≤ n * (512 * B)
+blend-size B n a b c d s x y z h hs hx hy hz =
+    let t = abs-mul-le (pos a) s a (n * B) (omega arith) hs in
+    let l = abs-mul-le (pos b) x b B (omega arith) hx in
+    let m = abs-mul-le (pos c) y c B (omega arith) hy in
+    let r = abs-mul-le (pos d) z d B (omega arith) hz in
     let lm = abs-add-le (pos b *ℤ x) (pos c *ℤ y) _ _ l m in
     let three = abs-add-le (pos b *ℤ x +ℤ pos c *ℤ y) (pos d *ℤ z) _ _ lm r in
     let w = abs-mul-le (pos n) (pos b *ℤ x +ℤ pos c *ℤ y +ℤ pos d *ℤ z) n _ (omega arith) three in
     le-trans (abs-add-le (pos a *ℤ s) (pos n *ℤ (pos b *ℤ x +ℤ pos c *ℤ y +ℤ pos d *ℤ z)) _ _ t w)
-    (omega (arith, ap (λ (k : ℕ). n * k) h))
+    (omega (arith, ap (λ (k : ℕ). n * B * k) h))
 
 parts : (M P Q : ℤ) → Within P (M *ℤ pos (512 * 2 ^ 24)) → Near P (pos 512 *ℤ M) Q → Within (M *ℤ (pos 1024 *ℤ Q)) (M *ℤ pos (1024 * 2 ^ 24 + 512))
 parts = over 3 _ λ ρ. simp (poly, ρ) (omega arith)
@@ -97,7 +97,8 @@ refined-size M a axis c here =
     let start : ℕ = startOf (M .sides) (faceOf (M .sides) c) in
     let n : ℕ = sidesOf (M .sides) c in
     mean-size n _ here
-    (blend-size n _ _ _ _ (faceSum M axis (faceOf (M .sides) c)) (ticks M axis (previous (M .sides) c)) (ticks M axis c) (ticks M axis (next (M .sides) c))
+    (blend-size (2 ^ 24) n _ _ _ _ (faceSum M axis (faceOf (M .sides) c)) (ticks M axis (previous (M .sides) c)) (ticks M axis c)
+    (ticks M axis (next (M .sides) c))
     (weights-sum (uOf M c) (vOf M c) (sharp-within M a (2 * c)) (sharp-within M a (2 * c + 1)))
     (sum-abs (λ j. ticks M axis (start + j)) n (2 ^ 24) (λ j l. ticks-size M a axis (start + j)))
     (ticks-size M a axis (previous (M .sides) c)) (ticks-size M a axis c) (ticks-size M a axis (next (M .sides) c)))

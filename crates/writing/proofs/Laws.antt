@@ -3,13 +3,15 @@
 use mathlib.Core.Path.{_≡_, refl, ap, _∙_, sym, subst}
 use mathlib.Core.Logic.{⊎-elim}
 use mathlib.Core.List.{List}
-use Prim.Native.Nat.{ℕ, zero, suc, _+_, _*_, _/_, _%_, _<_, _≤_}
+use Prim.Native.Nat.{ℕ, zero, suc, _+_, _-_, _*_, _/_, _%_, _<_, _≤_}
 use native.Mathlib.Omega.{arith}
+use lib.Dec.{ltb}
+use borrow.Author.Tests.{ltb-true, ltb-false}
 use lib.ListN.{length, getD, replicate, length-replicate}
 use lib.Seq.{ext-getD}
 use lib.IntN.{ℤ, pos}
 use Rattle.paper.specs.Mesh.{Mesh, vertexCount, faceCount, cornerCount, mostVertices, mostFaces}
-use Rattle.paper.specs.Corners.{faceOf}
+use Rattle.paper.specs.Corners.{sumOf, faceOf, firstOf, sidesOf, positionOf, next}
 use Rattle.paper.specs.Links.{vertexOf}
 use Rattle.paper.specs.Faults.{Accepted}
 use Rattle.paper.specs.Numbers.{rounded}
@@ -18,19 +20,19 @@ use Rattle.paper.specs.Net.{ring, net, netPoints}
 use Rattle.paper.specs.Calls.{perCorner, numberAt, nets}
 use Rattle.mesh.specs.Tables.{Named}
 use Rattle.mesh.proofs.Accepted.{sound-of, few-vertices, few-faces}
-use Rattle.mesh.proofs.Faces.{held, start-next}
+use Rattle.mesh.proofs.Faces.{held, first-from, first-to, first-same, sides-same, next-inner, next-last, start-next}
 use Rattle.mesh.proofs.Links.{values-length, values-at}
-use Rattle.mesh.proofs.Scans.{compared}
+use Rattle.mesh.proofs.Scans.{ways, compared}
 use Rattle.surface.specs.Sound.{Sound, Agree}
 use Rattle.surface.specs.Points.{pointRow}
 use Rattle.surface.proofs.Hull.{corners-sound}
 use Rattle.surface.proofs.Rings.{ring-in}
-use Rattle.surface.proofs.Near.{ring-near}
+use Rattle.surface.proofs.Near.{Seen, ring-seen}
 use Rattle.surface.proofs.Agree.{net-same, sound-same}
 use Rattle.walk.specs.Table.{Tabled, tabled}
-use Rattle.wanted.specs.Tables.{Near, Wanted}
+use Rattle.wanted.specs.Tables.{Marked, Wanted}
 use Rattle.wanted.proofs.Accepted.{vertex-in}
-use Rattle.face_sums.specs.Sources.{Pointed}
+use Rattle.face_sums.specs.Sources.{Pointed, Covered}
 use Rattle.face_sums.proofs.Accepted.{refinable-of}
 use Rattle.net_sides.specs.Drawn.{drawn, Drawn}
 use Rattle.net.specs.Put.{Put}
@@ -99,10 +101,81 @@ module _ (M : Mesh) (accepted : Accepted M) where
         .four),
   )
 
+-- ---- the walk to the end of c's face, at its corner d
+module _ (sides : List ℕ) (c d : ℕ) (h : c < sumOf sides) (a : c ≤ d) (b : d < firstOf sides c + sidesOf sides c) where
+  same-face : (firstOf sides d ≡ firstOf sides c) × (sidesOf sides d ≡ sidesOf sides c)
+  same-face = let f = first-from sides c h in (first-same sides c h d (omega arith) b, sides-same sides c h d (omega arith) b)
+
+  pub walk-on : next sides d ≡ d + 1 → d + 1 < firstOf sides c + sidesOf sides c
+  walk-on e =
+      ⊎-elim
+      (λ l. omega (arith, ltb-true (positionOf sides d + 1) (sidesOf sides d) l, same-face))
+      (λ l. absurd (omega (arith, next-last sides d (ltb-false _ _ l), same-face, first-from sides c h)))
+      (ways (ltb (positionOf sides d + 1) (sidesOf sides d)))
+
+  pub walk-end : (next sides d ≡ d + 1 → ⊥) → d + 1 ≡ firstOf sides c + sidesOf sides c
+  walk-end n =
+      ⊎-elim
+      (λ l. absurd (n (next-inner sides d (ltb-true _ _ l))))
+      (λ l. omega (arith, ltb-false (positionOf sides d + 1) (sidesOf sides d) l, same-face, first-from sides c h))
+      (ways (ltb (positionOf sides d + 1) (sidesOf sides d)))
+
+  -- and from there to its first corner
+  pub walk-round : d + 1 ≡ firstOf sides c + sidesOf sides c → next sides d ≡ firstOf sides c
+  walk-round e = next-last sides d (omega (arith, same-face, first-from sides c h)) ∙ same-face .0
+
+-- ---- the faces of the range: their corners are one range too
+module _ (sides : List ℕ) (first last c d : ℕ) (a : first ≤ c) (b : c ≤ last) (l : last < sumOf sides) (h : d < sumOf sides)
+    (e : faceOf sides d ≡ faceOf sides c) where
+  here : c < sumOf sides
+  here = omega arith
+
+  in-face : (firstOf sides c ≤ d) × (d < firstOf sides c + sidesOf sides c)
+  unfolding firstOf sidesOf
+  in-face = (rw (← e) (first-from sides d h), rw (← e) (first-to sides d h))
+
+  -- a corner of the range's first or last face that is beyond d is in d's face, and so no such corner is
+  pub from-first : firstOf sides first ≤ d
+  from-first =
+      ⊎-elim
+      (λ k. let m = ltb-true d (firstOf sides first) k in
+      let f = first-from sides first (omega arith) in
+      absurd (omega (arith, in-face .0, first-same sides c here first (omega (arith, in-face .0)) (omega (arith, first-to sides c here)))))
+      (λ k. ltb-false d (firstOf sides first) k)
+      (ways (ltb d (firstOf sides first)))
+
+  pub to-last : d < firstOf sides last + sidesOf sides last
+  to-last =
+      ⊎-elim
+      (λ k. ltb-true d (firstOf sides last + sidesOf sides last) k)
+      (λ k. let m = ltb-false d (firstOf sides last + sidesOf sides last) k in
+      let t = first-to sides last l in
+      let f = first-from sides c here in
+      absurd (omega (
+        arith,
+        in-face .1,
+        first-same sides c here last (omega arith) (omega (arith, in-face .1)),
+        sides-same sides c here last (omega arith) (omega (arith, in-face .1)),
+      )))
+      (ways (ltb d (firstOf sides last + sidesOf sides last)))
+
+-- ---- a face with a marked vertex is wanted
+pub covered-of : (M : Mesh) (accepted : Accepted M) (marked wanted : List ℕ) (start all : ℕ) → Named (M .corners) (length marked)
+    → Wanted (M .sides) (M .corners) start all wanted (faceCount M) → Marked (M .corners) start all marked → Covered M marked wanted
+covered-of M accepted marked wanted start all n w m c h k =
+    let i = held (M .sides) c (omega (arith, refinable-of M accepted .sums)) in
+    w (faceOf (M .sides) c) (i .exists) .yes (record {
+      at = c;
+      from = i .from;
+      to = omega (arith, i .to, start-next (M .sides) (faceOf (M .sides) c) (i .exists));
+      holds = m (vertexOf (M .corners) c) (n c h) .only k;
+    })
+
 -- ---- the tables draw the mesh, as far as the nets of the range look
-module _ (M : Mesh) (accepted : Accepted M) (table wanted : List ℕ) (old points : List ℤ) (first count : ℕ) (t : Tabled (cornersOf M) table)
-    (w : Wanted (M .sides) (M .corners) first count wanted (faceCount M)) (long : pointRow * cornerCount M ≤ length old)
-    (v : Pointed M wanted (cornerCount M) old points) where
+module _ (M : Mesh) (accepted : Accepted M) (table marked : List ℕ) (old points : List ℤ) (first count start all : ℕ) (t : Tabled (cornersOf M) table)
+    (some : 0 < count) (range : first + count ≤ cornerCount M) (named : Named (M .corners) (length marked)) (from : start ≡ firstOf (M .sides) first)
+    (to : start + all ≡ firstOf (M .sides) (first + count - 1) + sidesOf (M .sides) (first + count - 1)) (m : Marked (M .corners) start all marked)
+    (long : pointRow * cornerCount M ≤ length old) (v : Pointed M marked (cornerCount M) old points) where
   abbrev told : Corners
   told = tabled (cornerCount M) table
 
@@ -124,18 +197,20 @@ module _ (M : Mesh) (accepted : Accepted M) (table wanted : List ℕ) (old point
     small = λ axis l c h. v .small _;
   }
 
-  -- a corner at the vertex of one of the range is in a face that is wanted
-  near-of : (k d : ℕ) → k < count → d < cornerCount M → vertexOf (M .corners) d ≡ vertexOf (M .corners) (first + k) → 0 < getD wanted (faceOf (M .sides) d) 0
-  near-of k d l h e =
-      let i = held (M .sides) d (omega (arith, refinable-of M accepted .sums)) in
-      w (faceOf (M .sides) d) (i .exists) .yes (record {
-        at = d;
-        from = i .from;
-        to = omega (arith, i .to, start-next (M .sides) (faceOf (M .sides) d) (i .exists));
-        holds = record { at = first + k; from = omega arith; to = omega arith; holds = sym e };
+  -- a corner at a vertex of the face of a corner of the range is marked
+  marks : (k d : ℕ) → k < count → d < cornerCount M → Seen M (first + k) d → 0 < getD marked (vertexOf (M .corners) d) 0
+  marks k d l h s =
+      let sums = refinable-of M accepted .sums in
+      let last : first + count - 1 < sumOf (M .sides) = omega arith in
+      let at : s .at < sumOf (M .sides) = omega (arith, s .at-in) in
+      m (vertexOf (M .corners) d) (named d h) .yes (record {
+        at = s .at;
+        from = omega (arith, from-first (M .sides) first (first + count - 1) (first + k) (s .at) (omega arith) (omega arith) last at (s .at-face));
+        to = omega (arith, to-last (M .sides) first (first + count - 1) (first + k) (s .at) (omega arith) (omega arith) last at (s .at-face));
+        holds = sym (s .same-vertex);
       })
 
-  -- the rings of a corner of the range lie in faces at its vertex
+  -- the rings of a corner of the range are at the vertices of its face
   pub drawn-net : (axis : ℕ) → axis < 3 → (k : ℕ) → k < count → first + k < cornerCount M
       → net (refinedOf rounded M axis) (first + k) ≡ net (drawn (cornerCount M) table points axis) (first + k)
   drawn-net axis a k l h =
@@ -143,13 +218,13 @@ module _ (M : Mesh) (accepted : Accepted M) (table wanted : List ℕ) (old point
       let c = first + k in
       let ok = corners-sound M accepted in
       net-same (refinedOf rounded M axis) (drawn (cornerCount M) table points axis) agree ok c h
-      (λ e j. let near = ring-near M accepted c h e j in
-      sym (v .entries-are axis (ring K c e j) (a, ring-in K ok c h e j, rw (near .in-face) (near-of k (near .at) l (near .at-in) (near .at-vertex)))))
+      (λ e j. let d = ring-in K ok c h e j in
+      sym (v .entries-are axis (ring K c e j) (a, omega arith, d, marks k (ring K c e j) l d (ring-seen M accepted c h e j))))
 
   -- what is written from the tables is what the mesh has
-  pub drawn-written : (out : List ℤ) → first + count ≤ cornerCount M → length out ≡ perCorner * count
+  pub drawn-written : (out : List ℤ) → length out ≡ perCorner * count
       → NetsWritten (drawn (cornerCount M) table points) first count out → out ≡ nets M first count
   unfolding NetsWritten
-  drawn-written out range size n =
+  drawn-written out size n =
       written-all M first count out size
       (λ a j p h hj hp. n a j p h hj hp ∙ ap (λ (l : List ℤ). getD l p (pos 0)) (sym (drawn-net a h j hj (omega arith))))

@@ -1,13 +1,15 @@
-// The numbers that building writes: the refined points of the faces at the range's vertices are computed once, and then the quad-nets are
-// written corner by corner, so that each part of the output is gone over once.
+// The numbers that building writes: the refined points of the corners at the vertices of the range's faces are computed once, and then the
+// quad-nets are written corner by corner, so that each part of the output is gone over once.
 use numbers::cosines;
 use paper::MOST_FACES;
 use paper::MOST_VERTICES;
 use paper::NUMBERS_PER_CORNER;
+use walk::Walker;
 ghost use mathlib.Core.Path.{_≡_};
 ghost use Prim.Native.Nat.{_+_, _*_, _≤_, _<_};
 ghost use lib.ListN.{length};
 ghost use Rattle.paper.specs.Mesh.{meshOf};
+ghost use Rattle.paper.specs.Corners.{sumOf, firstOf, sidesOf};
 ghost use Rattle.paper.specs.Faults.{Accepted};
 ghost use Rattle.paper.specs.Refined.{cornersOf};
 ghost use Rattle.paper.specs.Calls.{nets, perCorner};
@@ -16,7 +18,7 @@ ghost use Rattle.surface.specs.Points.{pointRow};
 ghost use Rattle.walk.specs.Table.{Tabled};
 ghost use Rattle.face_sums.specs.Sources.{Small};
 ghost use Rattle.net_sides.specs.Drawn.{drawn, Drawn};
-ghost use Rattle.writing.specs.Written.{NetsWritten};
+ghost use Rattle.writing.specs.Written.{Rounds, NetsWritten};
 
 // The numbers of `count` corners from `first` on, by the table of the mesh's corners. The refined points are put into `points`.
 pub fn write_nets(
@@ -38,18 +40,50 @@ pub fn write_nets(
 {
     let mut marked = [0u8; MOST_VERTICES];
     let mut wanted = [0u8; MOST_FACES];
-    wanted::fill_wanted(sides, corners, first, count, &mut marked, &mut wanted);
+    let start = face_start(sides, table, first);
+    let end = face_end(sides, table, first + count - 1);
+    let all = end - start;
+    wanted::fill_wanted(sides, corners, start, all, &mut marked, &mut wanted);
     refine::fill_points(
         coordinates,
         sides,
         corners,
         sharpness,
         table,
+        &marked,
         &wanted,
         points,
     );
     let rows = cosines::rows();
     write_corners(points, table, &rows, corners.len(), first, count, out);
+}
+
+// The first corner of a corner's face: next to its last one.
+fn face_start(sides: &[u8], table: &[u16], c: usize) -> usize
+    requires { ⌜ Rounds (now sides) (now table) × (c < sumOf (now sides)) ⌝ }
+    ensures { λ r. ⌜ r ≡ firstOf (now (sides .entry)) c ⌝ }
+{
+    let end = face_end(sides, table, c);
+    let last = Walker { corner: end - 1 };
+    let start = last.next(table);
+    start.corner
+}
+
+// The corner after the last one of a corner's face: there the next corner is not the one that follows in the list.
+fn face_end(sides: &[u8], table: &[u16], c: usize) -> usize
+    requires { ⌜ Rounds (now sides) (now table) × (c < sumOf (now sides)) ⌝ }
+    ensures { λ r. ⌜ r ≡ firstOf (now (sides .entry)) c + sidesOf (now (sides .entry)) c ⌝ }
+{
+    let mut end = c;
+    loop {
+        let at = Walker { corner: end };
+        let to = at.next(table);
+        end += 1;
+        if to.corner != end {
+            break;
+        }
+    }
+    end
 }
 
 // The numbers of each corner of the range. The tables are those of n corners.

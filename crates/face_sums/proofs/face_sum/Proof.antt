@@ -1,65 +1,105 @@
--- The sum of a face's vertices meets its contract: `total` is the sum of those passed, and small.
+-- The sum of a face's vertices meets its contract: `x`, `y` and `z` are the sums of those passed, and small.
 -- Assumes nothing.
 use mathlib.Core.Path.{_≡_, ap, _∙_, sym}
-use mathlib.Core.List.{List, []}
-use Prim.Native.Nat.{ℕ, _+_, _-_, _^_, _≤_}
-use lib.Dec.{lit<}
-use lib.IntN.{ℤ, _+ℤ_}
-use denote.Ref.{now}
-use mir.Syntax.{w32, w64}
-use mir.Val.{SFits, toZ, ofZ}
-use mir.Facts.{toZ-ofZ}
-use Rattle.paper.specs.Mesh.{meshOf}
-use Rattle.paper.specs.Numbers.{sum}
-use Rattle.paper.specs.Refined.{ticks}
-use Rattle.integers.proofs.Sum.{sum-zero, sum-more}
-use Rattle.integers.proofs.Machine.{abs-fits}
-use Rattle.face_sums.proofs.Laws.{sum-most}
+use mathlib.Core.List.{List}
+use Prim.Native.Nat.{ℕ, _+_, _-_, _^_, _≤_, _<_}
 use native.Mathlib.Omega.{arith}
 use borrow.Author.Needs.{needs}
+use lib.Dec.{lit<}
+use lib.ListN.{length}
+use lib.IntN.{ℤ, _+ℤ_}
+use denote.Ref.{now}
+use mir.Syntax.{w32}
+use mir.Val.{SFits, toZ, ofZ}
+use mir.Facts.{toZ-ofZ}
+use Rattle.paper.specs.Mesh.{mostSides}
+use Rattle.integers.proofs.Sum.{sum-zero, sum-more}
+use Rattle.integers.proofs.Machine.{abs-fits}
+use Rattle.face_sums.specs.Sources.{Placed, stepsOf, stepSum}
+use Rattle.face_sums.proofs.Laws.{sum-most}
 use Rattle.face_sums.proofs.face_sum.Statement.{statement}
 use Rattle.face_sums.proofs.face_sum.Tie as tie
 
 abbrev Inv-loop : tie.InvT-loop
-Inv-loop coordinates corners axis start n total₀ j₀ total j =
-    (j ≤ n) × ((sides sharpness : List ℕ) → toZ w64 total ≡ sum (λ k. ticks (meshOf coordinates sides corners sharpness) axis (start + k)) j)
+Inv-loop coordinates corners start n x₀ y₀ z₀ j₀ x y z j =
+    (j ≤ n)
+    × (toZ w32 x ≡ stepSum coordinates corners start j 0)
+    × (toZ w32 y ≡ stepSum coordinates corners start j 1)
+    × (toZ w32 z ≡ stepSum coordinates corners start j 2)
 
 abbrev μ-loop : tie.MeasureT-loop
-μ-loop coordinates corners axis start n total₀ j₀ total j = n - j
+μ-loop coordinates corners start n x₀ y₀ z₀ j₀ x y z j = n - j
 
--- one more vertex x to the sum s, as the machine adds it
-turn : (t : ℕ) (r s x : ℤ) → SFits w64 r → toZ w64 t ≡ s → r ≡ x → SFits w64 (s +ℤ x)
-    → SFits w64 (toZ w64 t +ℤ toZ w64 (ofZ w64 r)) × (toZ w64 (ofZ w64 (toZ w64 t +ℤ toZ w64 (ofZ w64 r))) ≡ s +ℤ x)
-turn t r s x f e q k = rw (toZ-ofZ f, e, q) (k, toZ-ofZ k)
+-- one more vertex r to the sum t on an axis, as the machine adds it
+module _ (coordinates : List ℤ) (corners : List ℕ) (p : Placed coordinates corners) (start j : ℕ) (h : start + (j + 1) ≤ length corners)
+    (l : j + 1 ≤ mostSides) (axis : ℕ) (a : axis < 3) where
+  turn : (t : ℕ) (r : ℤ) → SFits w32 r → toZ w32 t ≡ stepSum coordinates corners start j axis → r ≡ stepsOf coordinates corners axis (start + j)
+      → SFits w32 (toZ w32 t +ℤ toZ w32 (ofZ w32 r))
+      × (toZ w32 (ofZ w32 (toZ w32 t +ℤ toZ w32 (ofZ w32 r))) ≡ stepSum coordinates corners start (j + 1) axis)
+  turn t r f e q =
+      let k = abs-fits w32 (stepSum coordinates corners start (j + 1) axis) (2 ^ 20) (sum-most coordinates corners p start (j + 1) axis a h l) (lit< tt) in
+      let m = sum-more (λ i. stepsOf coordinates corners axis (start + i)) j in
+      rw (toZ-ofZ f, e, q, ← m) (k, toZ-ofZ k)
 
-module _ (c : tie.After-tick Inv-loop μ-loop) (sides sharpness : List ℕ) where
-  abbrev vertex : ℕ → ℤ
-  vertex k =
-      let s = c .before .before .before .before in
-      ticks (meshOf (now (s .args .coordinates)) sides (now (s .args .corners)) sharpness) (s .args .axis) (s .args .start + k)
+-- there is one more
+here : (i : tie.In-loop Inv-loop μ-loop)
+    → let s = i .before .before .before in
+    (s .args .start + (i .before .loop .j + 1) ≤ length (now (s .args .corners))) × (i .before .loop .j + 1 ≤ mostSides)
+here i = let s = i .before .before .before in (omega (arith, i .loop-test .taken, s .pre .1 .0), omega (arith, i .loop-test .taken, s .pre .1 .1))
 
-  step : SFits w64 (toZ w64 (c .before .before .loop .total) +ℤ toZ w64 (ofZ w64 (c .tick .result)))
-      × (toZ w64 (ofZ w64 (toZ w64 (c .before .before .loop .total) +ℤ toZ w64 (ofZ w64 (c .tick .result)))) ≡ sum vertex (c .before .before .loop .j + 1))
-  step =
-      let s = c .before .before .before .before in
-      let l = c .before .before .loop in
-      let fits = abs-fits w64 (sum vertex (l .j + 1)) (2 ^ 28) (sum-most (now (s .args .coordinates)) (now (s .args .corners)) (s .pre .0) (s .args .axis)
-      (s .args .start) (s .pre .1 .0) sides sharpness (l .j + 1) (omega (arith, s .pre .1 .1)) (omega (arith, s .pre .1 .2))) (lit< tt) in
-      rw sum-more
-      (turn (l .total) (c .tick .result) (sum vertex (l .j)) (vertex (l .j)) (search needs) (l .inv .1 sides sharpness) (c .tick .ensures sides sharpness)
-      (rw sum-more at fits))
+-- the sums with it: on x, on y and on z
+module _ (c : tie.After-coordinate Inv-loop μ-loop) where
+  on-x : SFits w32 (toZ w32 (c .before .before .loop .x) +ℤ toZ w32 (ofZ w32 (c .coordinate .result))) × (toZ w32 (ofZ w32 (toZ w32
+      (c .before .before .loop .x) +ℤ toZ w32 (ofZ w32 (c .coordinate .result)))) ≡ stepSum (now (c .before .before .before .before .args .coordinates))
+      (now (c .before .before .before .before .args .corners)) (c .before .before .before .before .args .start) (c .before .before .loop .j + 1) 0)
+  on-x =
+      let i = c .before in
+      turn _ _ (i .before .before .before .pre .0) _ _ (here i .0) (here i .1) 0 (lit< tt) (i .before .loop .x) (c .coordinate .result) (search needs)
+      (i .before .loop .inv .1) (c .coordinate .ensures)
+
+module _ (c : tie.After-coordinate2 Inv-loop μ-loop) where
+  on-y : SFits w32 (toZ w32 (c .before .before .before .loop .y) +ℤ toZ w32 (ofZ w32 (c .coordinate2 .result))) × (toZ w32 (ofZ w32 (toZ w32
+      (c .before .before .before .loop .y) +ℤ toZ w32 (ofZ w32 (c .coordinate2 .result)))) ≡ stepSum (now (c .before .before .before .before .before .args
+      .coordinates)) (now (c .before .before .before .before .before .args .corners)) (c .before .before .before .before .before .args .start)
+      (c .before .before .before .loop .j + 1) 1)
+  on-y =
+      let i = c .before .before in
+      turn _ _ (i .before .before .before .pre .0) _ _ (here i .0) (here i .1) 1 (lit< tt) (i .before .loop .y) (c .coordinate2 .result) (search needs)
+      (i .before .loop .inv .2) (c .coordinate2 .ensures)
+
+module _ (c : tie.After-coordinate3 Inv-loop μ-loop) where
+  on-z : SFits w32 (toZ w32 (c .before .before .before .before .loop .z) +ℤ toZ w32 (ofZ w32 (c .coordinate3 .result))) × (toZ w32 (ofZ w32 (toZ w32
+      (c .before .before .before .before .loop .z) +ℤ toZ w32 (ofZ w32 (c .coordinate3 .result)))) ≡ stepSum (now (c .before .before .before .before .before
+      .before .args .coordinates)) (now (c .before .before .before .before .before .before .args .corners)) (c .before .before .before .before .before
+      .before .args .start) (c .before .before .before .before .loop .j + 1) 2)
+  on-z =
+      let i = c .before .before .before in
+      turn _ _ (i .before .before .before .pre .0) _ _ (here i .0) (here i .1) 2 (lit< tt) (i .before .loop .z) (c .coordinate3 .result) (search needs)
+      (i .before .loop .inv .3) (c .coordinate3 .ensures)
 
 loop-holds : tie.Need-loop-holds Inv-loop μ-loop
-loop-holds c = (search needs, λ sides sharpness. sym (sum-zero _))
+loop-holds c = (search needs, sym (sum-zero _), sym (sum-zero _), sym (sum-zero _))
 
-add-tick : tie.Need-add-tick Inv-loop μ-loop
-add-tick c = omega (arith, c .before .before .before .pre .1 .1)
+add-c : tie.Need-add-c Inv-loop μ-loop
+add-c c = search needs
 
-tick-requires : tie.Need-tick-requires Inv-loop μ-loop
-tick-requires c κs = let s = c .before .before .before in (s .pre .0, (s .pre .1 .0, omega (arith, s .pre .1 .1)))
+coordinate-requires : tie.Need-coordinate-requires Inv-loop μ-loop
+coordinate-requires c κs = let i = c in (i .before .before .before .pre .0, (lit< tt, omega (arith, here i .0)))
 
-add-total : tie.Need-add-total Inv-loop μ-loop
-add-total c = step c [] [] .0
+add-x : tie.Need-add-x Inv-loop μ-loop
+add-x c = on-x c .0
+
+coordinate-requires-2 : tie.Need-coordinate-requires-2 Inv-loop μ-loop
+coordinate-requires-2 c κs = let i = c .before in (i .before .before .before .pre .0, (lit< tt, omega (arith, here i .0)))
+
+add-y : tie.Need-add-y Inv-loop μ-loop
+add-y c = on-y c .0
+
+coordinate-requires-3 : tie.Need-coordinate-requires-3 Inv-loop μ-loop
+coordinate-requires-3 c κs = let i = c .before .before in (i .before .before .before .pre .0, (lit< tt, omega (arith, here i .0)))
+
+add-z : tie.Need-add-z Inv-loop μ-loop
+add-z c = on-z c .0
 
 add-j : tie.Need-add-j Inv-loop μ-loop
 add-j c = search needs
@@ -68,31 +108,19 @@ loop-less : tie.Need-loop-less Inv-loop μ-loop
 loop-less c = search needs
 
 loop-again : tie.Need-loop-again Inv-loop μ-loop
-loop-again c = (search needs, λ sides sharpness. step c sides sharpness .1)
-
--- the whole sum, and that it fits the shorter number
-module _ (c : tie.After-loop Inv-loop μ-loop) (sides sharpness : List ℕ) where
-  abbrev s : tie.Start Inv-loop μ-loop
-  s = c .before .before .before
-
-  whole : toZ w64 (c .before .loop .total)
-      ≡ sum (λ j. ticks (meshOf (now (s .args .coordinates)) sides (now (s .args .corners)) sharpness) (s .args .axis) (s .args .start + j)) (s .args .n)
-  whole =
-      let e : c .before .loop .j ≡ s .args .n = omega arith in
-      c .before .loop .inv .1 sides sharpness
-      ∙ ap (sum (λ j. ticks (meshOf (now (s .args .coordinates)) sides (now (s .args .corners)) sharpness) (s .args .axis) (s .args .start + j))) e
-
-  narrow : SFits w32 (toZ w64 (c .before .loop .total))
-  narrow =
-      rw whole
-      (abs-fits w32 _ (2 ^ 28) (sum-most (now (s .args .coordinates)) (now (s .args .corners)) (s .pre .0) (s .args .axis) (s .args .start) (s .pre .1 .0)
-      sides sharpness (s .args .n) (s .pre .1 .1) (s .pre .1 .2)) (lit< tt))
-
-cast-result : tie.Need-cast-result Inv-loop μ-loop
-cast-result c = narrow c [] []
+loop-again c = (search needs, on-x (c .before .before) .1, on-y (c .before) .1, on-z c .1)
 
 returns : tie.Need-returns Inv-loop μ-loop
-returns c = λ sides sharpness. toZ-ofZ (narrow c sides sharpness) ∙ whole c sides sharpness
+returns c =
+    let s = c .before .before .before in
+    let l = c .before .loop in
+    let e : l .j ≡ s .args .n = omega (arith, l .inv .0) in
+    let S = stepSum (now (s .args .coordinates)) (now (s .args .corners)) (s .args .start) in
+    record {
+      xs = l .inv .1 ∙ ap (λ (k : ℕ). S k 0) e;
+      ys = l .inv .2 ∙ ap (λ (k : ℕ). S k 1) e;
+      zs = l .inv .3 ∙ ap (λ (k : ℕ). S k 2) e;
+    }
 
 pub face-sum-spec : {M : Type 1} → statement M
 face-sum-spec =
@@ -101,11 +129,14 @@ face-sum-spec =
     Inv-loop
     μ-loop
     loop-holds
-    add-tick
-    tick-requires
-    add-total
+    add-c
+    coordinate-requires
+    add-x
+    coordinate-requires-2
+    add-y
+    coordinate-requires-3
+    add-z
     add-j
     loop-less
     loop-again
-    cast-result
     returns)

@@ -4,7 +4,7 @@ use mathlib.Core.Path.{_∙_}
 use denote.Ref.{now}
 use Rattle.paper.specs.Mesh.{Mesh, meshOf}
 use Rattle.face_sums.proofs.Accepted.{refinable-of}
-use Rattle.mesh_misses.proofs.Laws.{ones-long, drawn-all, largest-is}
+use Rattle.mesh_misses.proofs.Laws.{ones-named, ones-covered, ones-long, drawn-all, largest-is}
 use borrow.Author.Needs.{needs}
 use Rattle.mesh_misses.proofs.largest.Statement.{statement}
 use Rattle.mesh_misses.proofs.largest.Tie as tie
@@ -15,14 +15,18 @@ mesh s = meshOf (now (s .args .coordinates)) (now (s .args .sides)) (now (s .arg
 slice-aggregate-fill-points : tie.Need-slice-aggregate-fill-points
 slice-aggregate-fill-points c = search needs
 
+slice-aggregate-fill-points-2 : tie.Need-slice-aggregate-fill-points-2
+slice-aggregate-fill-points-2 c = search needs
+
 fill-points-requires : tie.Need-fill-points-requires
 fill-points-requires c κs =
-    let s = c .before .before .before .before .before .before in
-    (refinable-of (mesh s) (s .pre .0), (s .pre .1 .0, (ones-long (mesh s) (s .pre .0), s .pre .1 .1)))
+    let s = c .before .before .before .before .before .before .before in
+    let M = mesh s in
+    (refinable-of M (s .pre .0), (s .pre .1 .0, ((ones-named M (s .pre .0), ones-covered M (s .pre .0)), (ones-long M (s .pre .0), s .pre .1 .1))))
 
 largest-requires : tie.Need-largest-requires
 largest-requires c κs =
-    let s = c .before .before .before .before .before .before .before .before .before in
+    let s = c .before .before .before .before .before .before .before .before .before .before in
     drawn-all (mesh s) (s .pre .0) (now (s .args .table)) (now (s .args .points)) _ (s .pre .1 .0) (s .pre .1 .1 .0) (c .before .before .fill-points .ensures)
 
 same-length : tie.Need-same-length
@@ -30,7 +34,7 @@ same-length c = search needs
 
 returns : tie.Need-returns
 returns c j few =
-    let s = c .before .before .before .before .before .before .before .before .before .before in
+    let s = c .before .before .before .before .before .before .before .before .before .before .before in
     c .largest .ensures j few
     ∙ largest-is (mesh s) (s .pre .0) (now (s .args .table)) (now (s .args .points)) _ (s .pre .1 .0) (s .pre .1 .1 .0)
     (c .before .before .before .fill-points .ensures) j few
@@ -40,6 +44,7 @@ largest-spec =
     tie.close
     (tie.spec
     slice-aggregate-fill-points
+    slice-aggregate-fill-points-2
     fill-points-requires
     largest-requires
     same-length

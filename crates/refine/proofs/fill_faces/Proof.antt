@@ -1,58 +1,87 @@
 -- `refine::fill_faces` meets its contract: those of the faces before `f` are filled.
 -- Assumes nothing.
-use mathlib.Core.Path.{_≡_, refl, _∙_, sym}
+use mathlib.Core.Path.{_≡_, refl, _∙_, sym, subst}
 use mathlib.Core.Logic.{⊎-elim}
-use Prim.Native.Nat.{_-_, _*_, _≤_, _<_}
+use Prim.Native.Nat.{ℕ, _+_, _-_, _*_, _≤_, _<_}
 use native.Mathlib.Omega.{arith}
 use borrow.Author.Needs.{needs}
-use lib.ListN.{length}
+use lib.ListN.{length, getD}
 use denote.Ref.{now}
 use Rattle.paper.specs.Mesh.{Mesh, meshOf}
 use Rattle.paper.specs.Corners.{startOf}
-use Rattle.mesh.proofs.Faces.{start-zero, start-next, start-ends, start-all}
-use Rattle.face_sums.specs.Sources.{Pointed}
-use Rattle.refine.proofs.Laws.{pointed-none, pointed-added, pointed-passed}
+use Rattle.mesh.proofs.Faces.{start-zero, start-next, start-ends, start-all, face-at}
+use Rattle.face_sums.specs.Sources.{Pointed, Covered}
+use Rattle.refined_corners.proofs.Laws.{face-of}
+use Rattle.refine.proofs.Laws.{Marks, filled-none, filled-more}
 use Rattle.refine.proofs.fill_faces.Statement.{statement}
 use Rattle.refine.proofs.fill_faces.Tie as tie
 
 abbrev Inv-loop : tie.InvT-loop
-Inv-loop coordinates sides corners sharpness table wanted sums points₀ start₀ f₀ points start f =
-    (f ≤ length sides) × (start ≡ startOf sides f) × Pointed (meshOf coordinates sides corners sharpness) wanted (startOf sides f) points₀ points
+Inv-loop coordinates sides corners sharpness table marked wanted sums points₀ start₀ f₀ points start f =
+    (f ≤ length sides) × (start ≡ startOf sides f) × Pointed (meshOf coordinates sides corners sharpness) marked (startOf sides f) points₀ points
 
 abbrev μ-loop : tie.MeasureT-loop
-μ-loop coordinates sides corners sharpness table wanted sums points₀ start₀ f₀ points start f = length sides - f
+μ-loop coordinates sides corners sharpness table marked wanted sums points₀ start₀ f₀ points start f = length sides - f
 
 abbrev mesh : tie.Start Inv-loop μ-loop → Mesh
 mesh s = meshOf (now (s .args .coordinates)) (now (s .args .sides)) (now (s .args .corners)) (now (s .args .sharpness))
 
+-- no corner of a face that is not wanted is marked
+unmarked : (s : tie.Start Inv-loop μ-loop) (f : ℕ) → f < length (now (s .args .sides)) → getD (now (s .args .wanted)) f 0 ≡ 0 → (c : ℕ)
+    → startOf (now (s .args .sides)) f ≤ c → c < startOf (now (s .args .sides)) (f + 1) → Marks (mesh s) (now (s .args .marked)) c → ⊥
+unmarked s f l z c a b m =
+    let n = start-next (now (s .args .sides)) f l in
+    let h = s .pre .1 .1 .0 .1 c (omega (arith, n, start-ends (now (s .args .sides)) f l, s .pre .0 .sums)) m in
+    let e = face-at (now (s .args .sides)) f c a (omega (arith, n)) l in
+    omega (arith, z, subst (λ (g : ℕ). 0 < getD (now (s .args .wanted)) g 0) e h)
+
 loop-holds : tie.Need-loop-holds Inv-loop μ-loop
 loop-holds c =
-    let s = c .before .before .before .before .before in
-    (search needs, sym (start-zero _), pointed-none (mesh s) (now (s .args .wanted)) _ (s .pre .1 .1 .1 .1 .1))
+    let s = c .before .before .before .before .before .before in (
+      search needs,
+      sym (start-zero _),
+      filled-none (mesh s) (now (s .args .marked)) 0 _ _ (λ d a b m. omega (arith, start-zero (now (s .args .sides)))) (s .pre .1 .1 .1 .1 .1 .1),
+    )
 
 shared-slice-read-if1 : tie.Need-shared-slice-read-if1 Inv-loop μ-loop
-shared-slice-read-if1 c = let s = c .before .before .before .before .before .before .before .before in omega (arith, s .pre .1 .1 .0)
+shared-slice-read-if1 c = let s = c .before .before .before .before .before .before .before .before .before in omega (arith, s .pre .1 .1 .1 .0)
+
+read-face-requires : tie.Need-read-face-requires Inv-loop μ-loop
+read-face-requires c κs =
+    let s = c .before .before .before .before .before .before .before .before .before .before in
+    let l = c .before .before .before .loop in
+    let h : l .f < length (now (s .args .sides)) = search needs in
+    let sums = s .pre .1 .1 .1 .1 .0 (l .f) h (search needs) in
+    ((h, s .pre .0 .faces .least (l .f) h, s .pre .0 .faces .most (l .f) h), sums .long)
 
 fill-face-requires : tie.Need-fill-face-requires Inv-loop μ-loop
 fill-face-requires c κs =
-    let s = c .before .before .before .before .before .before .before .before .before .before in
-    let l = c .before .before .before .before .loop in
+    let s = c .before .before .before .before .before .before .before .before .before .before .before .before in
+    let l = c .before .before .before .before .before .loop in
     let i = l .inv in
-    let sums = s .pre .1 .1 .1 .0 (l .f) (search needs) (search needs) in
-    (s .pre .0, (s .pre .1 .0, ((search needs, i .1), (sums, (omega (arith, i .2 .same, s .pre .1 .1 .1 .1 .0), i .2 .small)))))
+    let r = c .before .read-face .ensures in
+    let h : l .f < length (now (s .args .sides)) = search needs in
+    let sums = s .pre .1 .1 .1 .1 .0 (l .f) h (search needs) in
+    let face = face-of (mesh s) (s .pre .0) (l .f) h _ sums (c .before .read-face .result) r in (
+      s .pre .0,
+      (
+        s .pre .1 .0,
+        (s .pre .1 .1 .0 .0, ((face, rw (r .index-is) (i .1)), (omega (arith, i .2 .same, s .pre .1 .1 .1 .1 .1 .0), i .2 .small))),
+      ),
+    )
 
 shared-slice-read-start : tie.Need-shared-slice-read-start Inv-loop μ-loop
 shared-slice-read-start c = search needs
 
 cast-start : tie.Need-cast-start Inv-loop μ-loop
 cast-start c =
-    let s = c .before .before .before .before .before .before .before .before .before .before in
+    let s = c .before .before .before .before .before .before .before .before .before .before .before in
     let l = c .before .before .before .before .loop in
     omega (arith, s .pre .0 .faces .most (l .f) (search needs))
 
 add-start : tie.Need-add-start Inv-loop μ-loop
 add-start c =
-    let s = c .before .before .before .before .before .before .before .before .before .before in
+    let s = c .before .before .before .before .before .before .before .before .before .before .before in
     let l = c .before .before .before .before .loop in
     omega (arith, l .inv .1, s .pre .0 .faces .few, start-ends (now (s .args .sides)) (l .f) (search needs))
 
@@ -64,15 +93,18 @@ loop-less c = search needs
 
 loop-again : tie.Need-loop-again Inv-loop μ-loop
 loop-again c =
-    let s = c .before .before .before .before .before .before .before .before .before .before in
+    let s = c .before .before .before .before .before .before .before .before .before .before .before in
     let l = c .before .before .before .before .loop in
-    let h : l .f < length (now (s .args .sides)) = search needs in (
+    let sides = now (s .args .sides) in
+    let h : l .f < length sides = search needs in
+    let n = start-next sides (l .f) h in
+    let more = filled-more (mesh s) (now (s .args .marked)) 0 (startOf sides (l .f)) (startOf sides (l .f + 1)) (now (s .args .points)) (l .points) in (
       omega arith,
-      omega (arith, start-next (now (s .args .sides)) (l .f) h, l .inv .1),
+      omega (arith, n, l .inv .1),
       ⊎-elim
-          (λ w. rw (w .4) (pointed-added (mesh s) (now (s .args .wanted)) (l .f) h _ _ _ (omega (arith, w .0 .taken)) (l .inv .2) (rw (← l .inv .1)
-          (w .2 .ensures))))
-          (λ w. rw (w .1) (pointed-passed (mesh s) (now (s .args .wanted)) (l .f) h _ _ (omega (arith, w .0 .left)) (l .inv .2)))
+          (λ w. rw (w .5) (more _ (omega arith) (omega (arith, n)) (l .inv .2) (rw (← l .inv .1, ← w .1 .ensures .index-is) (w .3 .ensures))))
+          (λ w. rw (w .1) (more _ (omega arith) (omega (arith, n)) (l .inv .2)
+          (filled-none (mesh s) (now (s .args .marked)) _ _ _ (unmarked s (l .f) h (omega (arith, w .0 .left))) (l .inv .2 .small))))
           (c .before .if1 .came),
     )
 
@@ -81,7 +113,7 @@ same-length c = c .before .loop .inv .2 .same
 
 returns : tie.Need-returns Inv-loop μ-loop
 returns c =
-    let s = c .before .before .before .before .before .before .before in
+    let s = c .before .before .before .before .before .before .before .before in
     let l = c .before .loop in
     let e : startOf (now (s .args .sides)) (l .f) ≡ length (now (s .args .corners)) = start-all (now (s .args .sides)) (l .f) (c .loop-test .left)
     ∙ s .pre .0 .sums in
@@ -95,6 +127,7 @@ fill-faces-spec =
     μ-loop
     loop-holds
     shared-slice-read-if1
+    read-face-requires
     fill-face-requires
     shared-slice-read-start
     cast-start

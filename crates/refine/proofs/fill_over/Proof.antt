@@ -13,25 +13,14 @@ mesh s = meshOf (now (s .args .coordinates)) (now (s .args .sides)) (now (s .arg
 
 fill-sums-requires : tie.Need-fill-sums-requires
 fill-sums-requires c κs =
-    let s = c .before .before .before .before .before .before in
-    (soft-refinable (mesh s) (s .pre .0), (s .pre .1 .1 .0, s .pre .1 .1 .1 .0))
+    let s = c .before .before .before .before .before .before .before in
+    (soft-refinable (mesh s) (s .pre .0), (s .pre .1 .1 .1 .0, s .pre .1 .1 .1 .1 .0))
 
 fill-faces-requires : tie.Need-fill-faces-requires
 fill-faces-requires c κs =
-    let s = c .before .before .before .before .before .before .before .before .before .before in
-    let sums = sums-of (softened (mesh s)) (now (s .args .wanted)) _ _ (s .pre .1 .1 .1 .0) (c .before .before .before .fill-sums .ensures) in (
-      s .pre .0,
-      (
-        s .pre .1 .0,
-        (
-          s .pre .1 .1 .0,
-          (
-            sums-soft (mesh s) (now (s .args .wanted)) _ sums,
-            s .pre .1 .1 .1 .1,
-          ),
-        ),
-      ),
-    )
+    let s = c .before .before .before .before .before .before .before .before .before .before .before in
+    let sums = sums-of (softened (mesh s)) (now (s .args .wanted)) _ _ (s .pre .1 .1 .1 .1 .0) (c .before .before .before .fill-sums .ensures) in
+    (s .pre .0, (s .pre .1 .0, (s .pre .1 .1 .0, (s .pre .1 .1 .1 .0, (sums-soft (mesh s) (now (s .args .wanted)) _ sums, s .pre .1 .1 .1 .1 .1)))))
 
 same-length : tie.Need-same-length
 same-length c = search needs

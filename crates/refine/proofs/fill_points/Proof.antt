@@ -13,23 +13,24 @@ abbrev mesh : tie.Start → Mesh
 mesh s = meshOf (now (s .args .coordinates)) (now (s .args .sides)) (now (s .args .corners)) (now (s .args .sharpness))
 
 mul-if1 : tie.Need-mul-if1
-mul-if1 c = let s = c .before .before .before .before .before in omega (arith, sums-fit (mesh s) (s .pre .0))
+mul-if1 c = let s = c .before .before .before .before .before .before in omega (arith, sums-fit (mesh s) (s .pre .0))
 
 slice-aggregate-fill-over : tie.Need-slice-aggregate-fill-over
 slice-aggregate-fill-over c = search needs
 
 fill-over-requires : tie.Need-fill-over-requires
 fill-over-requires c κs =
-    let s = c .before .before .before .before .before .before .before .before in
-    (s .pre .0, (s .pre .1 .0, (s .pre .1 .1 .0, (sum-room (now (s .args .sides)) smallMesh (search needs), s .pre .1 .1 .1))))
+    let s = c .before .before .before .before .before .before .before .before .before in
+    (s .pre .0, (s .pre .1 .0, (s .pre .1 .1 .0, (s .pre .1 .1 .1 .0, (sum-room (now (s .args .sides)) smallMesh (search needs), s .pre .1 .1 .1 .1)))))
 
 slice-aggregate-fill-over-2 : tie.Need-slice-aggregate-fill-over-2
 slice-aggregate-fill-over-2 c = search needs
 
 fill-over-requires-2 : tie.Need-fill-over-requires-2
 fill-over-requires-2 c κs =
-    let s = c .before .before .before .before .before .before .before .before in
-    (s .pre .0, (s .pre .1 .0, (s .pre .1 .1 .0, (sum-room (now (s .args .sides)) mostCorners (sums-fit (mesh s) (s .pre .0)), s .pre .1 .1 .1))))
+    let s = c .before .before .before .before .before .before .before .before .before in
+    let room = sum-room (now (s .args .sides)) mostCorners (sums-fit (mesh s) (s .pre .0)) in
+    (s .pre .0, (s .pre .1 .0, (s .pre .1 .1 .0, (s .pre .1 .1 .1 .0, (room, s .pre .1 .1 .1 .1)))))
 
 same-length : tie.Need-same-length
 same-length c = search needs

@@ -1,4 +1,4 @@
--- `refine::weigh` meets its contract: no product is above what two bytes hold.
+-- `refine::weigh` meets its contract: every product is small.
 -- Assumes nothing.
 use mathlib.Core.Path.{_≡_}
 use Prim.Native.Nat.{ℕ, _+_, _-_, _*_, _<_, _≤_}
@@ -7,7 +7,7 @@ use native.Mathlib.Omega.{arith}
 use borrow.Author.Needs.{needs}
 use lib.ListN.{getD}
 use denote.Ref.{now}
-use mir.Syntax.{w16}
+use mir.Syntax.{w32}
 use mir.Val.{Fits}
 use Rattle.paper.specs.Mesh.{mostSharpness, plain}
 use Rattle.mesh.proofs.Accepted.{in-list}
@@ -33,11 +33,11 @@ module _ (s : tie.Start) where
   limits = (omega (arith, u-is, s .pre .u-most), omega (arith, v-is, s .pre .v-most))
 
 -- products of two of them, and of their distances from 16
-in-two-bytes : (a b : ℕ) → a ≤ 16 → b ≤ 16 → Fits w16 (a * b)
-in-two-bytes a b ha hb = omega (arith, mul-le-mul ha hb)
+in-width : (a b : ℕ) → a ≤ 16 → b ≤ 16 → Fits w32 (a * b)
+in-width a b ha hb = omega (arith, mul-le-mul ha hb)
 
-twice-in-two-bytes : (a b : ℕ) → a ≤ 16 → b ≤ 16 → Fits w16 (2 * a * b)
-twice-in-two-bytes a b ha hb = omega (arith, mul-le-mul ha hb)
+twice-in-width : (a b : ℕ) → a ≤ 16 → b ≤ 16 → Fits w32 (2 * a * b)
+twice-in-width a b ha hb = omega (arith, mul-le-mul ha hb)
 
 -- the weights, from u and v as they are read
 weights-are : (u v x y : ℕ) → u ≡ x → v ≡ y
@@ -75,10 +75,10 @@ mul-t12 : tie.Need-mul-t12
 mul-t12 c = search needs
 
 mul-t13 : tie.Need-mul-t13
-mul-t13 c = twice-in-two-bytes _ _ (omega (arith, limits (c .before .before))) (omega (arith, limits (c .before .before)))
+mul-t13 c = twice-in-width _ _ (omega (arith, limits (c .before .before))) (omega (arith, limits (c .before .before)))
 
 mul-t14 : tie.Need-mul-t14
-mul-t14 c = in-two-bytes _ _ (omega (arith, limits (c .before .before))) (omega (arith, limits (c .before .before)))
+mul-t14 c = in-width _ _ (omega (arith, limits (c .before .before))) (omega (arith, limits (c .before .before)))
 
 add-t15 : tie.Need-add-t15
 add-t15 c = omega (arith, limits (c .before .before))
@@ -87,7 +87,7 @@ mul-t16 : tie.Need-mul-t16
 mul-t16 c = omega (arith, limits (c .before .before))
 
 mul-t17 : tie.Need-mul-t17
-mul-t17 c = in-two-bytes _ _ (omega (arith, limits (c .before .before))) (omega (arith, limits (c .before .before)))
+mul-t17 c = in-width _ _ (omega (arith, limits (c .before .before))) (omega (arith, limits (c .before .before)))
 
 returns : tie.Need-returns
 returns c = let s = c .before .before in weights-are (u s) (v s) _ _ (u-is s) (v-is s)

@@ -1,19 +1,72 @@
--- `writing::write_nets` meets its contract: the faces near the range are wanted, and with their refined points the tables draw the mesh as far as
--- the nets look.
+-- `writing::write_nets` meets its contract: the vertices of the range's faces are marked, and with the refined points of the corners there the tables
+-- draw the mesh as far as the nets look.
 -- Assumes nothing.
-use mathlib.Core.Path.{_∙_}
+use mathlib.Core.Path.{_≡_, _∙_}
+use mathlib.Core.List.{List}
+use Prim.Native.Nat.{ℕ, _+_, _-_, _≤_, _<_}
 use native.Mathlib.Omega.{arith}
 use borrow.Author.Needs.{needs}
+use lib.ListN.{length}
 use denote.Ref.{now}
-use Rattle.paper.specs.Mesh.{Mesh, meshOf, mostVertices}
+use Rattle.paper.specs.Mesh.{Mesh, meshOf, cornerCount, mostVertices}
+use Rattle.paper.specs.Corners.{sumOf, firstOf, sidesOf}
+use Rattle.mesh.specs.Tables.{Named}
+use Rattle.mesh.proofs.Faces.{first-from, first-to, first-ends}
 use Rattle.wanted.proofs.Accepted.{faces-of}
+use Rattle.face_sums.specs.Sources.{Covered}
 use Rattle.face_sums.proofs.Accepted.{refinable-of}
-use Rattle.writing.proofs.Laws.{zeros, named-in, faces-in, drawn-of, drawn-written}
+use Rattle.writing.specs.Written.{Rounds}
+use Rattle.writing.proofs.Laws.{zeros, named-in, faces-in, from-first, to-last, covered-of, drawn-of, drawn-written}
 use Rattle.writing.proofs.write_nets.Statement.{statement}
 use Rattle.writing.proofs.write_nets.Tie as tie
 
-abbrev mesh : tie.Start → Mesh
-mesh s = meshOf (now (s .args .coordinates)) (now (s .args .sides)) (now (s .args .corners)) (now (s .args .sharpness))
+module _ (s : tie.Start) where
+  abbrev mesh : Mesh
+  mesh = meshOf (now (s .args .coordinates)) (now (s .args .sides)) (now (s .args .corners)) (now (s .args .sharpness))
+
+  sums : sumOf (now (s .args .sides)) ≡ length (now (s .args .corners))
+  sums = refinable-of mesh (s .pre .0) .sums
+
+  rounds : Rounds (now (s .args .sides)) (now (s .args .table))
+  rounds = record {
+    few = faces-of mesh (s .pre .0) .few;
+    long = omega (arith, s .pre .1 .0 .long, sums);
+    nexts = λ c h. s .pre .1 .0 .nexts c (omega (arith, sums));
+  }
+
+  -- the first and the last corner of the range
+  ends : (s .args .first < sumOf (now (s .args .sides))) × (s .args .first + s .args .count - 1 < sumOf (now (s .args .sides)))
+  ends = let r = s .pre .1 .1 .0 in (omega (arith, r .0, r .1, sums), omega (arith, r .0, r .1, sums))
+
+-- the corners of the range's faces
+module _ (c : tie.After-face-end) where
+  abbrev t : tie.Start
+  t = c .before .before .before .before .before .before
+
+  whole : (c .before .face-start .result ≤ c .face-end .result) × (c .face-end .result ≤ length (now (t .args .corners)))
+  whole =
+      let r = t .pre .1 .1 .0 in
+      let e = ends t in
+      let sides = now (t .args .sides) in
+      let last = t .args .first + t .args .count - 1 in (
+        omega (arith, c .before .face-start .ensures, c .face-end .ensures, first-from sides (t .args .first) (e .0), first-to sides last (e .1), r .0),
+        omega (arith, c .face-end .ensures, first-ends sides last (e .1), sums t),
+      )
+
+face-start-requires : tie.Need-face-start-requires
+face-start-requires c κs = let s = c .before .before .before .before in (rounds s, ends s .0)
+
+add-face-end : tie.Need-add-face-end
+add-face-end c = search needs
+
+sub-face-end : tie.Need-sub-face-end
+sub-face-end c = search needs
+
+face-end-requires : tie.Need-face-end-requires
+face-end-requires c κs = let s = c .before .before .before .before .before in (rounds s, ends s .1)
+
+sub-all : tie.Need-sub-all
+sub-all c = whole c .0
 
 slice-aggregate-fill-wanted : tie.Need-slice-aggregate-fill-wanted
 slice-aggregate-fill-wanted c = search needs
@@ -23,40 +76,74 @@ slice-aggregate-fill-wanted-2 c = search needs
 
 fill-wanted-requires : tie.Need-fill-wanted-requires
 fill-wanted-requires c κs =
-    let s = c .before .before .before .before .before .before in
+    let b = c .before .before in
+    let s = t b in
     let M = mesh s in (
-      (faces-of M (s .pre .0), omega (arith, refinable-of M (s .pre .0) .sums), faces-in M (s .pre .0)),
-      (
-        (
-          named-in M
-              (s .pre .0),
-          zeros mostVertices,
-        ),
-        s .pre .1 .1 .0 .1,
-      ),
+      (faces-of M (s .pre .0), omega (arith, sums s), faces-in M (s .pre .0)),
+      ((named-in M (s .pre .0), zeros mostVertices), omega (arith, whole b)),
     )
 
 slice-aggregate-fill-points : tie.Need-slice-aggregate-fill-points
 slice-aggregate-fill-points c = search needs
 
+slice-aggregate-fill-points-2 : tie.Need-slice-aggregate-fill-points-2
+slice-aggregate-fill-points-2 c = search needs
+
+-- what is marked then
+module _ (c : tie.After-fill-wanted) where
+  abbrev b : tie.After-face-end
+  b = c .before .before .before
+
+  abbrev marked : List ℕ
+  marked = c .fill-wanted .last .1 .1 .1 .1 .0
+
+  abbrev wanted : List ℕ
+  wanted = c .fill-wanted .last .1 .1 .1 .1 .1 .0
+
+  named : Named (now (t b .args .corners)) (length marked)
+  named d h = omega (arith, named-in (mesh (t b)) (t b .pre .0) d h, c .fill-wanted .kept .1 .1 .1 .1 .0)
+
+  covered : Covered (mesh (t b)) marked wanted
+  covered =
+      covered-of (mesh (t b)) (t b .pre .0) marked wanted (b .before .face-start .result) (b .face-end .result - b .before .face-start .result) named
+      (c .fill-wanted .ensures .0) (c .fill-wanted .ensures .1)
+
+  -- where the range's faces start and end
+  at-first : b .before .face-start .result ≡ firstOf (now (t b .args .sides)) (t b .args .first)
+  at-first = b .before .face-start .ensures
+
+  at-last : let last = t b .args .first + t b .args .count - 1 in
+      b .before .face-start .result + (b .face-end .result - b .before .face-start .result)
+      ≡ firstOf (now (t b .args .sides)) last + sidesOf (now (t b .args .sides)) last
+  at-last = omega (arith, b .face-end .ensures, whole b .0)
+
 fill-points-requires : tie.Need-fill-points-requires
 fill-points-requires c κs =
-    let s = c .before .before .before .before .before .before .before .before .before .before .before in
-    let w = c .before .before .before .before .fill-wanted in
-    (refinable-of (mesh s) (s .pre .0), (s .pre .1 .0, (omega (arith, faces-in (mesh s) (s .pre .0), w .kept .1 .1 .1 .1 .1 .0), s .pre .1 .1 .1)))
+    let w = c .before .before .before .before .before in
+    let s = t (b w) in
+    let M = mesh s in (
+      refinable-of M (s .pre .0),
+      (
+        s .pre .1 .0,
+        (
+          (named w, covered w),
+          (omega (arith, faces-in M (s .pre .0), w .fill-wanted .kept .1 .1 .1 .1 .1 .0), s .pre .1 .1 .1),
+        ),
+      ),
+    )
 
 rows-requires : tie.Need-rows-requires
 rows-requires c κs = search needs
 
 write-corners-requires : tie.Need-write-corners-requires
 write-corners-requires c κs =
-    let s = c .before .before .before .before .before .before .before .before .before .before .before .before .before .before .before .before .before in
-    let p = c .before .before .before .before .before .fill-points in
-    let w = c .before .before .before .before .before .before .before .before .before .before .fill-wanted in
-    let range = s .pre .1 .1 .0 in (
-      drawn-of (mesh s) (s .pre .0) (now (s .args .table)) (w .last .1 .1 .1 .1 .1 .0) (now (s .args .points)) _ (s .args .first) (s .args .count)
-          (s .pre .1 .0) (w .ensures .0) (s .pre .1 .1 .1 .0) (p .ensures),
-      ((range .0, range .1, range .2), c .before .before .before .rows .ensures),
+    let p = c .before .before .before .before .before .fill-points .ensures in
+    let w = c .before .before .before .before .before .before .before .before .before .before .before in
+    let s = t (b w) in
+    let r = s .pre .1 .1 .0 in (
+      drawn-of (mesh s) (s .pre .0) (now (s .args .table)) (marked w) (now (s .args .points)) _ (s .args .first) (s .args .count) _ _ (s .pre .1 .0)
+          (r .0) (r .1) (named w) (at-first w) (at-last w) (w .fill-wanted .ensures .1) (s .pre .1 .1 .1 .0) p,
+      ((r .0, r .1, r .2), c .before .before .before .rows .ensures),
     )
 
 same-length : tie.Need-same-length
@@ -67,24 +154,28 @@ same-length-2 c = search needs
 
 returns : tie.Need-returns
 returns c =
-    let s = c .before .before .before .before .before .before .before .before .before .before .before .before .before .before .before .before
-    .before .before .before in
     let n = c .before .write-corners in
-    let p = c .before .before .before .before .before .before .before .fill-points in
-    let w = c .before .before .before .before .before .before .before .before .before .before .before .before .fill-wanted in
-    let range = s .pre .1 .1 .0 in
-    drawn-written (mesh s) (s .pre .0) (now (s .args .table)) (w .last .1 .1 .1 .1 .1 .0) (now (s .args .points)) _ (s .args .first)
-    (s .args .count) (s .pre .1 .0) (w .ensures .0) (s .pre .1 .1 .1 .0) (p .ensures) _ (range .1)
-    (n .kept .1 .1 .1 .1 .1 .1 .0 ∙ range .2) (n .ensures)
+    let p = c .before .before .before .before .before .before .before .fill-points .ensures in
+    let w = c .before .before .before .before .before .before .before .before .before .before .before .before .before in
+    let s = t (b w) in
+    let r = s .pre .1 .1 .0 in
+    drawn-written (mesh s) (s .pre .0) (now (s .args .table)) (marked w) (now (s .args .points)) _ (s .args .first) (s .args .count) _ _ (s .pre .1 .0)
+    (r .0) (r .1) (named w) (at-first w) (at-last w) (w .fill-wanted .ensures .1) (s .pre .1 .1 .1 .0) p _ (n .kept .1 .1 .1 .1 .1 .1 .0 ∙ r .2) (n .ensures)
 
 pub write-nets-spec : {M : Type 1} → statement M
 write-nets-spec =
     tie.close
     (tie.spec
+    face-start-requires
+    add-face-end
+    sub-face-end
+    face-end-requires
+    sub-all
     slice-aggregate-fill-wanted
     slice-aggregate-fill-wanted-2
     fill-wanted-requires
     slice-aggregate-fill-points
+    slice-aggregate-fill-points-2
     fill-points-requires
     rows-requires
     write-corners-requires

@@ -5,7 +5,7 @@ use Prim.Native.Nat.{ℕ, _+_, _*_, _/_, _^_, _≤_, _<_}
 use native.Mathlib.Omega.{arith}
 use borrow.Author.Needs.{needs}
 use lib.IntN.{ℤ, pos, natAbs, _-ℤ_, _*ℤ_}
-use lib.Signed.{_≤ℤ_}
+use lib.Signed.{_≤ℤ_, ltZ-yes}
 use mir.Syntax.{w32}
 use mir.Val.{SFits, toZ}
 use mir.Facts.{toZ-ofZ, toZ-pos}
@@ -13,18 +13,9 @@ use Rattle.integers.proofs.Diff.{diff}
 use Rattle.integers.proofs.Poly.{over, poly}
 use Rattle.paper.specs.Numbers.{round}
 use Rattle.numbers.specs.Small.{lift}
-use Rattle.numbers.proofs.Small.{fraction-is}
+use Rattle.numbers.proofs.Small.{fraction-is, at-most-lift, lift-off}
 use Rattle.numbers.proofs.rounding.small_product.Statement.{statement}
 use Rattle.numbers.proofs.rounding.small_product.Tie as tie
-
-small : (q : ℕ) → pos q ≤ℤ pos (2 * lift) → q ≤ 2 * lift
-small q h = let k = simp diff at h in omega arith
-
-near : (q : ℕ) → q ≤ 2 * lift → SFits w32 (pos q -ℤ pos lift)
-near q h = less (pos q) h
-  where
-    less : (z : ℤ) → natAbs z ≤ 2 * lift → SFits w32 (z -ℤ pos lift)
-    less = over 1 _ λ ρ. simp (poly, ρ) (omega arith)
 
 module _ (c : tie.After-upper) where
   whole : let s = c .before .before in
@@ -32,11 +23,11 @@ module _ (c : tie.After-upper) where
       (pos q ≤ℤ pos (2 * lift)) × (pos q -ℤ pos lift ≡ round (s .args .n) (pos 2 *ℤ s .args .h))
   whole =
       let s = c .before .before in
-      fraction-is (s .args .n) (s .args .h) (c .before .lift-dividend .result) (s .args .m) (s .pre)
+      fraction-is (2 ^ 32) (ltZ-yes tt) (s .args .n) (s .args .h) (c .before .lift-dividend .result) (s .args .m) (s .pre)
       (simp (toZ-ofZ, s .fits .n, s .fits .h) at (c .before .lift-dividend .ensures))
 
   value : (c .upper .result ≤ 2 * lift) × (pos (c .upper .result) -ℤ pos lift ≡ round (c .before .before .args .n) (pos 2 *ℤ c .before .before .args .h))
-  value = rw (c .upper .ensures) (small _ (whole .0), whole .1)
+  value = rw (c .upper .ensures) (at-most-lift _ (whole .0), whole .1)
 
   plain : toZ w32 (c .upper .result) ≡ pos (c .upper .result)
   plain = toZ-pos w32 (omega (arith, value .0))
@@ -51,10 +42,10 @@ cast-result : tie.Need-cast-result
 cast-result c = record { sfits = omega (arith, value c .0) }
 
 sub-result : tie.Need-sub-result
-sub-result c = rw (plain c) (near _ (value c .0))
+sub-result c = rw (plain c) (lift-off _ (value c .0))
 
 returns : tie.Need-returns
-returns c = rw (plain c, toZ-ofZ (near _ (value c .0))) (value c .1)
+returns c = rw (plain c, toZ-ofZ (lift-off _ (value c .0))) (value c .1)
 
 pub small-product-spec : {M : Type 1} → statement M
 small-product-spec = tie.close (tie.spec lift-dividend-requires upper-requires cast-result sub-result returns)
