@@ -5,10 +5,11 @@ ghost use mathlib.Core.Path.{_≡_};
 ghost use Prim.Native.Nat.{_+_, _*_, _/_, _%_, _^_, _≤_};
 ghost use lib.IntN.{pos, negsuc, negℤ, natAbs, _+ℤ_, _-ℤ_, _*ℤ_};
 ghost use lib.Signed.{_≤ℤ_, _<ℤ_};
-ghost use Rattle.paper.specs.Numbers.{round};
+ghost use Rattle.paper.specs.Numbers.{floor, round};
 ghost use Rattle.numbers.specs.Sign.{sign, tie};
 ghost use Rattle.numbers.specs.Lift.{Lifts};
 ghost use Rattle.numbers.specs.Small.{lift, Lifted, Fraction};
+ghost use Rattle.numbers.specs.Units.{Units, Reciprocal};
 
 // The sign of n: a shift copies it down.
 fn sign(n: i64) -> i64
@@ -153,4 +154,31 @@ pub fn small_eighth(c: i64, d: i32, b: i32) -> i32
     let p = u as u64 * v as u64;
     let m = whole_part(u, d, p) + b;
     (m + 4 + tie(p, m)) >> 3
+}
+
+// A little more than 2^37 / d, so that several quotients by one divisor cost one division.
+pub fn reciprocal(d: i64) -> u64
+    requires { ⌜ (pos 1 ≤ℤ d) × (d ≤ℤ pos 48) ⌝ }
+    ensures { λ r. ⌜ Reciprocal d r ⌝ }
+{
+    (137438953471 + d) as u64 / d as u64
+}
+
+// What lifts every dividend of `unit_quotient` above zero, in divisors.
+const UNIT_LIFT: i64 = 33554432;
+
+// n and half its divisor 2^30 d, in whole units of 2^30, lifted above zero.
+fn lift_units(n: i64, d: i64) -> u64
+    requires { ⌜ Units n d ⌝ }
+    ensures { λ r. ⌜ pos r ≡ floor (n +ℤ pos (2 ^ 29) *ℤ d +ℤ sign n) (pos (2 ^ 30)) +ℤ pos (2 ^ 25) *ℤ d ⌝ }
+{
+    ((raised(n, 536870912 * d) >> 30) + UNIT_LIFT * d) as u64
+}
+
+// r(n / 2^30 d) by a product without sign: f is the divisor's reciprocal.
+pub fn unit_quotient(n: i64, d: i64, f: u64) -> i64
+    requires { ⌜ Units n d × Reciprocal d f ⌝ }
+    ensures { λ r. ⌜ r ≡ round n (pos (2 ^ 30) *ℤ d) ⌝ }
+{
+    ((lift_units(n, d) * f) >> 37) as i64 - UNIT_LIFT
 }
