@@ -130,9 +130,6 @@ face-of p m i j f r ec ea eb h = record {
   behind-size = rw eb (h .behind-size);
 }
 
-pub sized-of : (p : ℕ → ℤ) (m i j : ℕ) (f : Face) → IsFace p m i j f → FaceSized f
-sized-of p m i j f h = record { centre = h .centre-size; ahead = h .ahead-size; behind = h .behind-size }
-
 module _ (p : ℕ → ℕ → ℤ) (m i : ℕ) (f g h : Face) (hf : IsFace (p 0) m 0 (m - 1) f) (hg : IsFace (p 1) m 0 (m - 1) g) (hh : IsFace (p 2) m 0 (m - 1) h)
     (old new : List ℤ) (t : FaceTaken f g h i old new) where
   faces : (a : ℕ) → a < 3 → IsFace (p a) m 0 (m - 1) (rowsFace new a i)

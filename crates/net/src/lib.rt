@@ -3,6 +3,8 @@
 // of four too, are then copied to the corner's part of the output.
 use numbers::cosines;
 use refined_faces::Face;
+use walk::LINK;
+use walk::NEXT;
 use walk::Walker;
 ghost use mathlib.Core.Path.{_≡_};
 ghost use Prim.Native.Nat.{ℕ, _+_, _*_, _≤_, _<_};
@@ -13,8 +15,8 @@ ghost use Rattle.surface.specs.Sound.{Sound};
 ghost use Rattle.paper.specs.Net.{rows};
 ghost use Rattle.paper.specs.Calls.{perCorner};
 ghost use Rattle.numbers.specs.Stored.{stored};
-ghost use Rattle.walk.specs.Table.{rowLength, toNext, toLink, tabled};
-ghost use Rattle.refined_faces.specs.Ring.{around, Ring};
+ghost use Rattle.walk.specs.Table.{rowLength, tabled};
+ghost use Rattle.refined_faces.specs.Ring.{around, Rings};
 ghost use Rattle.net_sides.specs.Drawn.{drawn, Drawn};
 ghost use Rattle.net_sides.specs.Values.{FaceSized};
 ghost use Rattle.net_rows.specs.Rows.{Square};
@@ -56,45 +58,24 @@ fn take_face(f: Face, g: Face, h: Face, near: &mut [i32], i: usize)
     take_row(f.behind, g.behind, h.behind, near, i + 2);
 }
 
-// The face of the vertex of c, of m corners, where these are not four.
-fn take_vertex(
+// The face of the ring of m corners at c that a column goes round, into the rows from i on, where it is not of four.
+fn take_ring(
     points: &[i32],
     table: &[u16],
+    column: usize,
     rows: &cosines::Rows,
     c: usize,
     m: usize,
     near: &mut [i32],
+    i: usize,
 )
-    requires ring { ⌜ ((a : ℕ) → a < 3 → Ring (now points) a (now table) toLink c m) ⌝ }
-    requires room { ⌜ (now rows ≡ stored) × (56 ≤ length (now near)) ⌝ }
-    ensures { λ _. ⌜ RingTaken (λ a. around (now (points .entry)) a (now (table .entry)) toLink c) m 11 (now (near .entry)) (now (near .exit)) ⌝ }
+    requires ring { ⌜ Rings (now points) (now table) column c m ⌝ }
+    requires room { ⌜ (now rows ≡ stored) × (4 * i + 12 ≤ length (now near)) ⌝ }
+    ensures { λ _. ⌜ RingTaken (λ a. around (now (points .entry)) a (now (table .entry)) column c) m i (now (near .entry)) (now (near .exit)) ⌝ }
 {
     if m != 4 {
-        let f = net_sides::vertex_face(points, table, rows, c, m, 0);
-        let g = net_sides::vertex_face(points, table, rows, c, m, 1);
-        let h = net_sides::vertex_face(points, table, rows, c, m, 2);
-        take_face(f, g, h, near, VERTEX);
-    }
-}
-
-// The same of the face of c, of m sides.
-fn take_mesh_face(
-    points: &[i32],
-    table: &[u16],
-    rows: &cosines::Rows,
-    c: usize,
-    m: usize,
-    near: &mut [i32],
-)
-    requires ring { ⌜ ((a : ℕ) → a < 3 → Ring (now points) a (now table) toNext c m) ⌝ }
-    requires room { ⌜ (now rows ≡ stored) × (68 ≤ length (now near)) ⌝ }
-    ensures { λ _. ⌜ RingTaken (λ a. around (now (points .entry)) a (now (table .entry)) toNext c) m 14 (now (near .entry)) (now (near .exit)) ⌝ }
-{
-    if m != 4 {
-        let f = net_sides::mesh_face(points, table, rows, c, m, 0);
-        let g = net_sides::mesh_face(points, table, rows, c, m, 1);
-        let h = net_sides::mesh_face(points, table, rows, c, m, 2);
-        take_face(f, g, h, near, FACE);
+        let f = refined_faces::ring_faces(points, table, column, rows, c, m);
+        take_face(f.x, f.y, f.z, near, i);
     }
 }
 
@@ -328,8 +309,8 @@ pub fn put_net(
     let here = Walker { corner: c };
     let m = here.valence(table);
     let n = here.sides(table);
-    take_vertex(points, table, rows, c, m, near);
-    take_mesh_face(points, table, rows, c, n, near);
+    take_ring(points, table, LINK, rows, c, m, near, VERTEX);
+    take_ring(points, table, NEXT, rows, c, n, near, FACE);
     let corners = corners_near(table, count, c);
     take_points(points, corners, near);
     let v = cosines::cosine(rows, m, 1);

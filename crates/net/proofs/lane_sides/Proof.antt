@@ -5,7 +5,8 @@ use borrow.Author.Needs.{needs}
 use lib.Dec.{lit<}
 use mir.Facts.{toZ-ofZ}
 use Rattle.net_sides.specs.Values.{EdgeSized}
-use Rattle.net.proofs.Lanes.{through-sized, ring-sized}
+use Rattle.net_sides.proofs.Laws.{through-sized}
+use Rattle.net.proofs.Lanes.{ring-sized}
 use Rattle.net.proofs.lane_sides.Statement.{statement}
 use Rattle.net.proofs.lane_sides.Tie as tie
 
