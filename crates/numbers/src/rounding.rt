@@ -8,7 +8,7 @@ ghost use lib.Signed.{_≤ℤ_, _<ℤ_};
 ghost use Rattle.paper.specs.Numbers.{floor, round};
 ghost use Rattle.numbers.specs.Sign.{sign, tie};
 ghost use Rattle.numbers.specs.Lift.{Lifts};
-ghost use Rattle.numbers.specs.Small.{lift, Lifted, Fraction};
+ghost use Rattle.numbers.specs.Small.{lift, Lifted, Fraction, OddLifted, OddFraction};
 ghost use Rattle.numbers.specs.Units.{Units, Reciprocal};
 
 // The sign of n: a shift copies it down.
@@ -154,6 +154,25 @@ pub fn small_eighth(c: i64, d: i32, b: i32) -> i32
     let p = u as u64 * v as u64;
     let m = whole_part(u, d, p) + b;
     (m + 4 + tie(p, m)) >> 3
+}
+
+// The same lift in 64 bits.
+const ODD_LIFT: i64 = 25165824;
+
+// n / (2h + 1) before it is rounded down, lifted above zero: a quotient by an odd number has no tie, so no sign is asked for.
+fn lift_odd(n: i64, h: i64) -> u64
+    requires { ⌜ OddLifted n h ⌝ }
+    ensures { λ r. ⌜ (pos r ≡ n +ℤ h +ℤ (pos 2 *ℤ h +ℤ pos 1) *ℤ pos lift) × (r ≤ 2 ^ 29) ⌝ }
+{
+    (n + h + (2 * h + 1) * ODD_LIFT) as u64
+}
+
+// r(n / (2h + 1)) by a product without sign: m is a little more than 2^32 / (2h + 1).
+pub fn odd_product(n: i64, h: i64, m: u64) -> i64
+    requires { ⌜ OddLifted n h × OddFraction h m ⌝ }
+    ensures { λ r. ⌜ r ≡ round n (pos 2 *ℤ h +ℤ pos 1) ⌝ }
+{
+    ((lift_odd(n, h) * m) >> 32) as i64 - ODD_LIFT
 }
 
 // A little more than 2^37 / d, so that several quotients by one divisor cost one division.
