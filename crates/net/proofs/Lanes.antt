@@ -1,4 +1,4 @@
--- The four sides that a lane makes: their sizes in every lane, and in the lane of an axis that they are the sides of the corner's quad-net.
+-- What the lanes make: every lane has what it asks, and in the lane of an axis the four sides are those of the corner's quad-net.
 -- Assumes nothing.
 use mathlib.Core.Path.{_≡_, refl, sym, ap, _∙_, subst}
 use mathlib.Core.Logic.{_⊎_, inl, inr}
@@ -23,28 +23,14 @@ use Rattle.refined_faces.proofs.Laws.{point-ring}
 use Rattle.net_sides.specs.Drawn.{drawn, Drawn}
 use Rattle.net_sides.specs.declared.Edge.{Edge}
 use Rattle.net_sides.specs.declared.NetSides.{NetSides}
-use Rattle.net_sides.specs.Values.{Through, IsLeaving, IsArriving, FaceSized, FourSides}
-use Rattle.net_sides.proofs.Laws.{vertex-ring, face-ring, edge-face-sized, four-sides}
-use Rattle.net.specs.Near.{near, lane, rowsFace, edgeFace, RingTaken, PointsTaken, LaneReady, RingMade, LaneMade}
-use Rattle.net.specs.Put.{Filled, Copied, Put}
-use Rattle.net.proofs.Rows.{as-face, lane-sized, face-of}
-
-pub four-or : (m : ℕ) → (m ≡ 4) ⊎ (m ≡ 4 → ⊥)
-four-or zero = inr (λ e. omega arith)
-four-or (suc zero) = inr (λ e. omega arith)
-four-or (suc (suc zero)) = inr (λ e. omega arith)
-four-or (suc (suc (suc zero))) = inr (λ e. omega arith)
-four-or (suc (suc (suc (suc zero)))) = inl refl
-four-or (suc (suc (suc (suc (suc m))))) = inr (λ e. omega arith)
-
--- ---- sizes
-pub ring-sized : (p : ℕ → ℤ) (a b c d m : ℕ) (e : Edge) (f g : Face) → Through p a b c d e → (m ≡ 4 → f ≡ edgeFace e) → ((m ≡ 4 → ⊥) → f ≡ g)
-    → ((m ≡ 4 → ⊥) → FaceSized g) → FaceSized f
-ring-sized p a b c d m e f g t h k z = go (four-or m)
-  where
-    go : (m ≡ 4) ⊎ (m ≡ 4 → ⊥) → FaceSized f
-    go (inl y) = rw (h y) (edge-face-sized _ _ _ _ _ (t .face))
-    go (inr n) = rw (k n) (z n)
+use Rattle.net_sides.specs.Values.{Through, IsLeaving, IsArriving, FourSides}
+use Rattle.net_sides.proofs.Laws.{vertex-ring, face-ring, four-sides}
+use Rattle.net_near.specs.Near.{near, lane, rowsFace, RingTaken, PointsTaken}
+use Rattle.net_lanes.specs.Lanes.{edgeFace, LaneReady, RingMade, LaneMade, Filled}
+use Rattle.net_lanes.proofs.Laws.{four-or}
+use Rattle.net_copy.specs.Copy.{Copied}
+use Rattle.net.specs.Put.{Put}
+use Rattle.net_near.proofs.Rows.{as-face, lane-sized, face-of}
 
 -- ---- the same face by other names of its corners
 through-move : (p q : ℕ → ℤ) (a b c d a′ b′ c′ d′ : ℕ) (e : Edge) → p a ≡ q a′ → p b ≡ q b′ → p c ≡ q c′ → p d ≡ q d′ → Through p a b c d e
