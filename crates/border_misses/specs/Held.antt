@@ -8,8 +8,12 @@ use lib.IntN.{ℤ, pos, natAbs}
 use Rattle.paper.specs.Numbers.{rounded}
 use Rattle.paper.specs.Refined.{RefinedMesh}
 use Rattle.paper.specs.Net.{Side, side0, side1, neighbour, across, H, T, X, Y, C, net, netPoints, outerRow, aRow}
-use Rattle.paper.specs.Report.{condition, largestBelow}
+use Rattle.paper.specs.Report.{conditions, condition, largestBelow}
 use Rattle.surface.specs.Sizes.{WrittenSize}
+use Rattle.net_sides.specs.declared.NetSides.{NetSides}
+use Rattle.net_sides.specs.Values.{FourSides}
+use Rattle.four_misses.specs.declared.Misses.{Misses}
+use Rattle.four_misses.specs.Four.{inMisses}
 
 -- point k on an axis
 abbrev pub pointIn : List ℤ → ℕ → ℕ → ℤ
@@ -46,3 +50,9 @@ netMiss K j c s =
 -- at sides 0 and 1 of a corner, on all axes
 unfoldable pub cornerMiss : (ℕ → RefinedMesh rounded) → ℕ → ℕ → ℕ
 cornerMiss K j c = largestBelow 3 (λ axis. max (netMiss (K axis) j c side0) (netMiss (K axis) j c side1))
+
+-- the misses of sides 0 and 1 on an axis, at whichever corner has these sides and these numbers
+abbrev pub AxisMisses : NetSides → ℕ → List ℤ → List ℤ → List ℤ → Misses → Type 0
+AxisMisses s axis here linked next r =
+    (K : RefinedMesh rounded) (c : ℕ) → FourSides K c s → Held K c axis here → Held K (K .corners .link c) axis linked
+    → Held K (K .corners .next c) axis next → (j : ℕ) → j < conditions → inMisses r j ≡ max (netMiss K j c side0) (netMiss K j c side1)

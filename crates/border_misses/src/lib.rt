@@ -7,16 +7,17 @@ use numbers::cosines;
 use paper::NUMBERS_PER_CORNER;
 use walk::Walker;
 ghost use mathlib.Core.Path.{_≡_};
-ghost use Prim.Native.Nat.{ℕ, _+_, _*_, _<_, max};
-ghost use Rattle.paper.specs.Net.{side0, side1, netPoints};
+ghost use Prim.Native.Nat.{ℕ, _+_, _*_, _<_};
+ghost use Rattle.paper.specs.Net.{netPoints};
 ghost use Rattle.paper.specs.Report.{conditions, largestBelow};
 ghost use Rattle.numbers.specs.Stored.{stored};
 ghost use Rattle.surface.specs.Sizes.{WrittenSize};
 ghost use Rattle.walk.specs.Table.{toNext, toLink, entry};
 ghost use Rattle.net_sides.specs.Drawn.{drawn, Drawn};
+ghost use Rattle.net_sides.specs.Values.{Sized};
 ghost use Rattle.four_misses.specs.Four.{inMisses};
 ghost use Rattle.misses.specs.Row.{inRow, SmallRow};
-ghost use Rattle.border_misses.specs.Held.{pointIn, SmallOn, Held, HeldAll, netMiss, cornerMiss, fourOf};
+ghost use Rattle.border_misses.specs.Held.{pointIn, SmallOn, HeldAll, cornerMiss, AxisMisses, fourOf};
 
 // The largest miss of each condition over all borders of n corners.
 pub fn largest(points: &[i32], table: &[u16], n: usize) -> Misses
@@ -85,31 +86,25 @@ fn corner_misses(
     requires next { ⌜ HeldAll (drawn n (now table) (now points)) (entry (now table) toNext c) (now next) ⌝ }
     ensures { λ r. ⌜ ((j : ℕ) → j < conditions → inMisses r j ≡ cornerMiss (drawn n (now (table .entry)) (now (points .entry))) j c) ⌝ }
 {
-    let x = axis_misses(points, table, rows, n, c, 0, here, linked, next);
-    let y = axis_misses(points, table, rows, n, c, 1, here, linked, next);
-    let z = axis_misses(points, table, rows, n, c, 2, here, linked, next);
+    let sides = net_sides::net_sides(points, table, rows, n, c);
+    let x = axis_misses(sides.x, 0, here, linked, next);
+    let y = axis_misses(sides.y, 1, here, linked, next);
+    let z = axis_misses(sides.z, 2, here, linked, next);
     four_misses::larger_of(four_misses::larger_of(x, y), z)
 }
 
-// The same on one axis.
+// The same on one axis, from the sides there.
 fn axis_misses(
-    points: &[i32],
-    table: &[u16],
-    rows: &cosines::Rows,
-    n: usize,
-    c: usize,
+    sides: net_sides::NetSides,
     axis: usize,
     here: &[i32; 123],
     linked: &[i32; 123],
     next: &[i32; 123],
 ) -> Misses
-    requires mesh { ⌜ Drawn n (now table) (now points) × (c < n) × (axis < 3) × (now rows ≡ stored) ⌝ }
-    requires here { ⌜ Held (drawn n (now table) (now points) axis) c axis (now here) ⌝ }
-    requires linked { ⌜ Held (drawn n (now table) (now points) axis) (entry (now table) toLink c) axis (now linked) ⌝ }
-    requires next { ⌜ Held (drawn n (now table) (now points) axis) (entry (now table) toNext c) axis (now next) ⌝ }
-    ensures { λ r. ⌜ ((j : ℕ) → j < conditions → inMisses r j ≡ max (netMiss (drawn n (now (table .entry)) (now (points .entry)) axis) j c side0) (netMiss (drawn n (now (table .entry)) (now (points .entry)) axis) j c side1)) ⌝ }
+    requires sides { ⌜ Sized (sides .side0) × Sized (sides .side1) ⌝ }
+    requires numbers { ⌜ (axis < 3) × SmallOn (now here) axis × SmallOn (now linked) axis × SmallOn (now next) axis ⌝ }
+    ensures { λ r. ⌜ AxisMisses sides axis (now (here .entry)) (now (linked .entry)) (now (next .entry)) r ⌝ }
 {
-    let sides = net_sides::net_sides(points, table, rows, n, c, axis);
     let side0 = sides.side0;
     let outer0 = row(here, axis, 0, 1, 2, 3);
     let own0 = row(here, axis, 25, 26, 27, 28);

@@ -34,7 +34,7 @@ pub fn mean_of_three(a: i64, b: i64, c: i64) -> i64
     requires { ⌜ RefinedSize a × RefinedSize b × RefinedSize c ⌝ }
     ensures { λ r. ⌜ (r ≡ round (a +ℤ b +ℤ c) (pos 3)) × RefinedSize r ⌝ }
 {
-    rounding::round_div(a + b + c, 3)
+    rounding::odd_product(a + b + c, 1, 1431655766)
 }
 
 // The point of a three-sided refined face towards its side from a to b: the weights 4/9, 4/9, 1/9.
@@ -42,7 +42,7 @@ pub fn toward_of_three(a: i64, b: i64, c: i64) -> i64
     requires { ⌜ RefinedSize a × RefinedSize b × RefinedSize c ⌝ }
     ensures { λ r. ⌜ (r ≡ round (pos 4 *ℤ a +ℤ pos 4 *ℤ b +ℤ c) (pos 9)) × RefinedSize r ⌝ }
 {
-    rounding::round_div(4 * a + 4 * b + c, 9)
+    rounding::odd_product(4 * a + 4 * b + c, 4, 477218589)
 }
 
 // Half the sum of two points.

@@ -1,10 +1,9 @@
--- The four sides that a lane makes: their sizes in every lane, and in the lane of an axis that they are the sides of the corner's quad-net.
+-- What the lanes make: every lane has what it asks, and in the lane of an axis the four sides are those of the corner's quad-net.
 -- Assumes nothing.
 use mathlib.Core.Path.{_≡_, refl, sym, ap, _∙_, subst}
 use mathlib.Core.Logic.{_⊎_, inl, inr}
 use mathlib.Core.List.{List, [], _∷_}
-use Prim.Native.Nat.{ℕ, zero, suc, _+_, _-_, _*_, _%_, _^_, _≤_, _<_}
-use native.Mathlib.Nat.{add-mod-right}
+use Prim.Native.Nat.{ℕ, zero, suc, _+_, _-_, _*_, _^_, _≤_, _<_}
 use native.Mathlib.Omega.{arith}
 use lib.Dec.{lit<, lit≤}
 use lib.ListN.{length, getD}
@@ -13,82 +12,25 @@ use Rattle.paper.specs.Scan.{iterate}
 use Rattle.paper.specs.Numbers.{rounded}
 use Rattle.paper.specs.Cosines.{cosine}
 use Rattle.paper.specs.Refined.{RefinedMesh}
-use Rattle.paper.specs.Net.{side0, side1, side2, side3, H, T, X, Y, N, C, neighbour, Side}
+use Rattle.paper.specs.Net.{side0, side1, C}
 use Rattle.surface.specs.Points.{pointRow, pointAt}
 use Rattle.surface.specs.Sizes.{RefinedSize, FaceSize, CosineSize}
 use Rattle.surface.proofs.Sizes.{C-cosine}
 use Rattle.walk.specs.Table.{toNext, toLink, tabled, entry}
 use Rattle.refined_faces.specs.declared.Face.{Face}
-use Rattle.refined_faces.specs.Ring.{around, Ring, IsFace, IsEdgeFace}
+use Rattle.refined_faces.specs.Ring.{around, IsFace}
 use Rattle.refined_faces.proofs.Laws.{point-ring}
 use Rattle.net_sides.specs.Drawn.{drawn, Drawn}
 use Rattle.net_sides.specs.declared.Edge.{Edge}
 use Rattle.net_sides.specs.declared.NetSides.{NetSides}
-use Rattle.net_sides.specs.declared.SideValues.{SideValues}
-use Rattle.net_sides.specs.Values.{Through, IsLeaving, IsArriving, IsSide, Sized, Made, FaceSized, EdgeSized, FourSides}
-use Rattle.net_sides.proofs.Laws.{Parts, vertex-ring, face-ring, vertex-is, face-is, leaving-is, arriving-is}
-use Rattle.net.specs.Near.{near, lane, rowsFace, edgeFace, RingTaken, PointsTaken, LaneReady, RingMade, LaneMade}
-use Rattle.net.specs.Put.{Filled, Copied, Put}
-use Rattle.net.proofs.Rows.{as-face, lane-sized, face-of}
-
-pub four-or : (m : ℕ) → (m ≡ 4) ⊎ (m ≡ 4 → ⊥)
-four-or zero = inr (λ e. omega arith)
-four-or (suc zero) = inr (λ e. omega arith)
-four-or (suc (suc zero)) = inr (λ e. omega arith)
-four-or (suc (suc (suc zero))) = inr (λ e. omega arith)
-four-or (suc (suc (suc (suc zero)))) = inl refl
-four-or (suc (suc (suc (suc (suc m))))) = inr (λ e. omega arith)
-
--- ---- sizes
--- a ring of four with these points
-turning : ℤ → ℤ → ℤ → ℤ → ℕ → ℤ
-turning a b c d j = getD (a ∷ b ∷ c ∷ d ∷ []) (j % 4) (pos 0)
-
-turns : (a b c d : ℤ) (j : ℕ) → turning a b c d (j + 4) ≡ turning a b c d j
-unfolding turning
-turns a b c d j = rw add-mod-right refl
-
-edge-face-sized : (a b c d : ℤ) (f : Face) → IsEdgeFace a b c d f → FaceSized f
-unfolding turning
-edge-face-sized a b c d f h =
-    let i = h .faces (turning a b c d) (turns a b c d) 0 refl refl refl refl in
-    record { centre = i .centre-size; ahead = i .ahead-size; behind = i .behind-size }
-
-pub through-sized : (p : ℕ → ℤ) (a b c d : ℕ) (e : Edge) → Through p a b c d e → RefinedSize (p a) → RefinedSize (p b) → RefinedSize (p d) → EdgeSized e
-through-sized p a b c d e t ha hb hd =
-    let f = edge-face-sized _ _ _ _ _ (t .face) in
-    record {
-      centre = f .centre;
-      ahead = f .ahead;
-      behind = f .behind;
-      here = rw (t .here) ha;
-      after = rw (t .after) hb;
-      before = rw (t .before) hd;
-    }
-
-pub ring-sized : (p : ℕ → ℤ) (a b c d m : ℕ) (e : Edge) (f g : Face) → Through p a b c d e → (m ≡ 4 → f ≡ edgeFace e) → ((m ≡ 4 → ⊥) → f ≡ g)
-    → ((m ≡ 4 → ⊥) → FaceSized g) → FaceSized f
-ring-sized p a b c d m e f g t h k z = go (four-or m)
-  where
-    go : (m ≡ 4) ⊎ (m ≡ 4 → ⊥) → FaceSized f
-    go (inl y) = rw (h y) (edge-face-sized _ _ _ _ _ (t .face))
-    go (inr n) = rw (k n) (z n)
-
--- ---- a side from its parts, in plain numbers
-made-exact : (K : RefinedMesh rounded) (c : ℕ) (s : Side) (h t p q v w k : ℤ) (r : SideValues) → Parts K c s h t p q v w k → Made h t p q v w k r
-    → IsSide K c s r × Sized r
-unfolding N
-made-exact K c s h t p q v w k r e m = (
-  record {
-    head = m .head ∙ e .head;
-    tail = m .tail ∙ e .tail;
-    x = m .x ∙ e .x;
-    y = m .y ∙ e .y;
-    inner = m .inner ∙ cc (e .x, e .y, e .here, e .there);
-    cosine = m .cosine ∙ e .cosine;
-  },
-  m .sized,
-)
+use Rattle.net_sides.specs.Values.{Through, IsLeaving, IsArriving, FourSides}
+use Rattle.net_sides.proofs.Laws.{vertex-ring, face-ring, four-sides}
+use Rattle.net_near.specs.Near.{near, lane, rowsFace, RingTaken, PointsTaken}
+use Rattle.net_lanes.specs.Lanes.{edgeFace, LaneReady, RingMade, LaneMade, Filled}
+use Rattle.net_lanes.proofs.Laws.{four-or}
+use Rattle.net_copy.specs.Copy.{Copied}
+use Rattle.net.specs.Put.{Put}
+use Rattle.net_near.proofs.Rows.{as-face, lane-sized, face-of}
 
 -- ---- the same face by other names of its corners
 through-move : (p q : ℕ → ℤ) (a b c d a′ b′ c′ d′ : ℕ) (e : Edge) → p a ≡ q a′ → p b ≡ q b′ → p c ≡ q c′ → p d ≡ q d′ → Through p a b c d e
@@ -217,7 +159,6 @@ module _ (count : ℕ) (table : List ℕ) (points : List ℤ) (c : ℕ) (t : Dra
               .face f a la))
 
       pub lane-four : (v w : ℤ) (r : NetSides) → v ≡ cosine m 1 → w ≡ cosine n 1 → LaneMade a3 a m n v w r → FourSides (drawn count table points a) c r
-      unfolding H T C
       lane-four v w r ev ew l =
           let K = drawn count table points a in
           let p = pointAt points a in
@@ -225,22 +166,10 @@ module _ (count : ℕ) (table : List ℕ) (points : List ℤ) (c : ℕ) (t : Dra
           (row-is 2 (lit< tt)) (row-is 3 (lit< tt)) (l .is-leaving) in
           let g : IsArriving K c (l .arriving) = through-move (pointAt a3 a) p 0 4 5 6 _ _ _ _ (l .arriving) (row-is 0 (lit< tt)) (row-is 4 (lit< tt))
           (row-is 5 (lit< tt)) (row-is 6 (lit< tt)) (l .is-arriving) in
-          let le = leaving-is count table points c a axis (l .leaving) e in
-          let ar = arriving-is count table points c a axis (l .arriving) g in
-          let vx = vertex-is count table points c a axis m (l .vertex) em (vertex-face (l .vertex) (l .is-vertex)) in
-          let fx = face-is count table points c a axis n (l .face) en (mesh-face (l .face) (l .is-face)) in
-          let cv = ev ∙ ap (λ (m : ℕ). cosine m 1) em in
-          let cw = ew ∙ ap (λ (n : ℕ). cosine n 1) en in
-          record {
-            side0 = made-exact K c side0 _ _ _ _ _ _ _ _
-                (record { head = vx .0; tail = le .0; x = vx .1; y = le .1; here = e .here; there = e .before; cosine = cv }) (l .made .side0);
-            side1 = made-exact K c side1 _ _ _ _ _ _ _ _
-                (record { head = fx .0; tail = le .0; x = fx .1; y = le .2; here = e .here; there = e .after; cosine = cw }) (l .made .side1);
-            side2 = made-exact K c side2 _ _ _ _ _ _ _ _
-                (record { head = fx .0; tail = ar .0; x = fx .2; y = ar .1; here = g .here; there = g .before; cosine = cw }) (l .made .side2);
-            side3 = made-exact K c side3 _ _ _ _ _ _ _ _
-                (record { head = vx .0; tail = ar .0; x = vx .2; y = ar .2; here = g .here; there = g .after; cosine = cv }) (l .made .side3);
-          }
+          let vx = subst (λ (m : ℕ). IsFace (around points a table toLink c) m 0 (m - 1) (l .vertex)) em (vertex-face (l .vertex) (l .is-vertex)) in
+          let fx = subst (λ (n : ℕ). IsFace (around points a table toNext c) n 0 (n - 1) (l .face)) en (mesh-face (l .face) (l .is-face)) in
+          four-sides count table points c a axis (l .vertex) (l .face) (l .leaving) (l .arriving) v w r
+          (record { vertex = vx; face = fx; at-vertex = ev ∙ ap (λ (m : ℕ). cosine m 1) em; at-face = ew ∙ ap (λ (n : ℕ). cosine n 1) en }) e g (l .made)
 
     pub net-put : (v w : ℤ) (lanes : List ℤ) (at : ℕ) (old new : List ℤ) → v ≡ cosine m 1 → w ≡ cosine n 1 → Filled a3 m n v w 4 lanes
         → Copied lanes at 0 41 old new → Put (drawn count table points) c at old new

@@ -1,21 +1,22 @@
 -- The faces at a corner, as the code has them from the tables, are those of the definitions; and so are the sides made from them.
 -- Assumes nothing.
 use mathlib.Core.Path.{_≡_, refl, ap, _∙_, subst}
-use mathlib.Core.List.{List}
-use Prim.Native.Nat.{ℕ, _+_, _-_, _*_, _^_, _≤_, _<_}
+use mathlib.Core.List.{List, [], _∷_}
+use Prim.Native.Nat.{ℕ, _+_, _-_, _*_, _%_, _^_, _≤_, _<_}
+use native.Mathlib.Nat.{add-mod-right}
 use native.Mathlib.Omega.{arith}
 use lib.Dec.{lit<}
-use lib.ListN.{length}
-use lib.IntN.{ℤ}
+use lib.ListN.{length, getD}
+use lib.IntN.{ℤ, pos}
 use mir.Syntax.{w64}
 use mir.Val.{SFits}
 use mir.Facts.{toZ-ofZ}
 use Rattle.integers.proofs.Poly.{over, poly}
 use Rattle.integers.proofs.Machine.{abs-fits}
 use Rattle.surface.specs.Sizes.{RefinedSize, FaceSize, CosineSize}
-use Rattle.refined_faces.specs.Ring.{around, Ring, IsFace, IsEdgeFace}
+use Rattle.refined_faces.specs.Ring.{around, Ring, Readable, IsFace, IsEdgeFace}
 use Rattle.refined_faces.specs.declared.Face.{Face}
-use Rattle.refined_faces.proofs.Laws.{plain}
+use Rattle.refined_faces.proofs.Laws.{plain, corner-plain}
 use Rattle.paper.specs.Scan.{iterate}
 use Rattle.paper.specs.Mesh.{leastSides, mostSides}
 use Rattle.paper.specs.Numbers.{rounded}
@@ -23,14 +24,15 @@ use Rattle.paper.specs.Refined.{Corners, RefinedMesh}
 use Rattle.paper.specs.Net.{leaving, arriving, Side, side0, side1, side2, side3, neighbour, quad, points, H, T, X, Y, N, C}
 use Rattle.surface.specs.Points.{pointAt}
 use Rattle.surface.specs.Sound.{Sound, Small}
-use Rattle.surface.proofs.Rings.{points-cyclic, neighbour-in}
+use Rattle.surface.proofs.Rings.{points-cyclic}
 use Rattle.surface.proofs.Faces.{toward-same}
-use Rattle.surface.proofs.Sizes.{H-size, T-size, X-size, Y-size, C-cosine}
+use Rattle.surface.proofs.Sizes.{C-cosine}
 use Rattle.walk.specs.Table.{rowLength, toNext, toLink, entry, tabled}
-use Rattle.net_sides.specs.Drawn.{drawn, Drawn, Readable}
-use Rattle.net_sides.specs.Values.{IsLeaving, IsArriving, IsSide, Sized, Made}
+use Rattle.net_sides.specs.Drawn.{drawn, Drawn, Ringed}
+use Rattle.net_sides.specs.Values.{Through, IsLeaving, IsArriving, IsSide, Sized, Made, FaceSized, EdgeSized, MadeFour, FourSides}
 use Rattle.net_sides.specs.declared.Edge.{Edge}
 use Rattle.net_sides.specs.declared.SideValues.{SideValues}
+use Rattle.net_sides.specs.declared.NetSides.{NetSides}
 
 -- ---- the four-sided face, in the machine's numbers
 pub edge-plain : (a b c d A B C D : ℤ) (f : Face) → plain a ≡ A → plain b ≡ B → plain c ≡ C → plain d ≡ D
@@ -120,13 +122,10 @@ pub record Parts (K : RefinedMesh rounded) (c : ℕ) (s : Side) (h t p q v w k :
   pub there : w ≡ K .point (neighbour (K .corners) c s)
   pub cosine : k ≡ C K c s
 
-pub corner-plain : (z y : ℤ) → z ≡ y → RefinedSize y → (plain z ≡ y) × RefinedSize (plain z)
-corner-plain z y e h = let f = ap plain e ∙ toZ-ofZ (abs-fits w64 y (2 ^ 24) h (lit< tt)) in (f, rw f h)
-
 point-plain : (z y : ℤ) → z ≡ y → FaceSize y → (plain z ≡ y) × FaceSize (plain z)
 point-plain z y e h = let f = ap plain e ∙ toZ-ofZ (abs-fits w64 y (2 ^ 24 + 2 ^ 21) h (lit< tt)) in (f, rw f h)
 
-row-plain : (z y : ℤ) → z ≡ y → CosineSize y → (plain z ≡ y) × CosineSize (plain z)
+pub row-plain : (z y : ℤ) → z ≡ y → CosineSize y → (plain z ≡ y) × CosineSize (plain z)
 row-plain z y e h = let f = ap plain e ∙ toZ-ofZ (fits y h) in (f, rw f h)
   where
     fits : (y : ℤ) → CosineSize y → SFits w64 y
@@ -167,43 +166,93 @@ module _ (h t p q v w k : ℤ) (z : SideSized h t p q v w k) where
         ← row-plain k k refl (z .cosine) .0,
       ) m
 
-module _ (K : RefinedMesh rounded) (ok : Sound (K .corners)) (small : Small K) (c : ℕ) (here : c < K .corners .count) (s : Side) (h t p q v w k : ℤ)
-    (e : Parts K c s h t p q v w k) where
-  head′ : (plain h ≡ H K c s) × RefinedSize (plain h)
-  head′ = corner-plain h (H K c s) (e .head) (H-size K ok small c here s)
+-- ---- a side from its parts, in plain numbers
+made-exact : (K : RefinedMesh rounded) (c : ℕ) (s : Side) (h t p q v w k : ℤ) (r : SideValues) → Parts K c s h t p q v w k → Made h t p q v w k r
+    → IsSide K c s r × Sized r
+unfolding N
+made-exact K c s h t p q v w k r e m = (
+  record {
+    head = m .head ∙ e .head;
+    tail = m .tail ∙ e .tail;
+    x = m .x ∙ e .x;
+    y = m .y ∙ e .y;
+    inner = m .inner ∙ cc (e .x, e .y, e .here, e .there);
+    cosine = m .cosine ∙ e .cosine;
+  },
+  m .sized,
+)
 
-  tail′ : (plain t ≡ T K c s) × RefinedSize (plain t)
-  tail′ = corner-plain t (T K c s) (e .tail) (T-size K ok small c here s)
+-- ---- sizes of the faces
+-- a ring of four with these points
+turning : ℤ → ℤ → ℤ → ℤ → ℕ → ℤ
+turning a b c d j = getD (a ∷ b ∷ c ∷ d ∷ []) (j % 4) (pos 0)
 
-  x′ : (plain p ≡ X K c s) × FaceSize (plain p)
-  x′ = point-plain p (X K c s) (e .x) (X-size K ok small c here s)
+turns : (a b c d : ℤ) (j : ℕ) → turning a b c d (j + 4) ≡ turning a b c d j
+unfolding turning
+turns a b c d j = rw add-mod-right refl
 
-  y′ : (plain q ≡ Y K c s) × FaceSize (plain q)
-  y′ = point-plain q (Y K c s) (e .y) (Y-size K ok small c here s)
+pub edge-face-sized : (a b c d : ℤ) (f : Face) → IsEdgeFace a b c d f → FaceSized f
+unfolding turning
+edge-face-sized a b c d f h =
+    let i = h .faces (turning a b c d) (turns a b c d) 0 refl refl refl refl in
+    record { centre = i .centre-size; ahead = i .ahead-size; behind = i .behind-size }
 
-  here′ : (plain v ≡ K .point c) × RefinedSize (plain v)
-  here′ = corner-plain v (K .point c) (e .here) (small c here)
-
-  there′ : (plain w ≡ K .point (neighbour (K .corners) c s)) × RefinedSize (plain w)
-  there′ = corner-plain w (K .point (neighbour (K .corners) c s)) (e .there) (small (neighbour (K .corners) c s) (neighbour-in (K .corners) ok c here s))
-
-  cosine′ : (plain k ≡ C K c s) × CosineSize (plain k)
-  cosine′ = row-plain k (C K c s) (e .cosine) (C-cosine K ok small c here s)
-
-  pub sizes : RefinedSize (plain h) × RefinedSize (plain t) × FaceSize (plain p) × FaceSize (plain q) × RefinedSize (plain v) × RefinedSize (plain w)
-      × CosineSize (plain k)
-  sizes = (head′ .1, tail′ .1, x′ .1, y′ .1, here′ .1, there′ .1, cosine′ .1)
-
-  pub made-is : (r : SideValues) → Made (plain h) (plain t) (plain p) (plain q) (plain v) (plain w) (plain k) r → IsSide K c s r × Sized r
-  unfolding N
-  made-is r m = (
+pub through-sized : (p : ℕ → ℤ) (a b c d : ℕ) (e : Edge) → Through p a b c d e → RefinedSize (p a) → RefinedSize (p b) → RefinedSize (p d) → EdgeSized e
+through-sized p a b c d e t ha hb hd =
+    let f = edge-face-sized _ _ _ _ _ (t .face) in
     record {
-      head = m .head ∙ head′ .0;
-      tail = m .tail ∙ tail′ .0;
-      x = m .x ∙ x′ .0;
-      y = m .y ∙ y′ .0;
-      inner = m .inner ∙ cc (x′ .0, y′ .0, here′ .0, there′ .0);
-      cosine = m .cosine ∙ cosine′ .0;
-    },
-    m .sized,
+      centre = f .centre;
+      ahead = f .ahead;
+      behind = f .behind;
+      here = rw (t .here) ha;
+      after = rw (t .after) hb;
+      before = rw (t .before) hd;
+    }
+
+pub sized-of : (p : ℕ → ℤ) (m i j : ℕ) (f : Face) → IsFace p m i j f → FaceSized f
+sized-of p m i j f h = record { centre = h .centre-size; ahead = h .ahead-size; behind = h .behind-size }
+
+-- ---- the four sides at corner c, from the faces of its two rings and of its two edges
+module _ (count : ℕ) (table : List ℕ) (ticks : List ℤ) (c axis : ℕ) (t : Drawn count table ticks × (c < count) × (axis < 3)) where
+  abbrev M : RefinedMesh rounded
+  M = drawn count table ticks axis
+
+  pub rings-sized : (v f : Face) (k l : ℤ) → Ringed count table ticks c axis v f k l → CosineSize k × CosineSize l
+  unfolding C
+  rings-sized v f k l r = (
+    rw (r .at-vertex) (C-cosine M (t .0 .sound) (t .0 .small axis (t .2)) c (t .1) side0),
+    rw (r .at-face) (C-cosine M (t .0 .sound) (t .0 .small axis (t .2)) c (t .1) side1),
   )
+
+  small : (i : ℕ) → i < count → RefinedSize (pointAt ticks axis i)
+  small = t .0 .small axis (t .2)
+
+  pub leaving-sized : (e : Edge) → IsLeaving M c e → EdgeSized e
+  leaving-sized e h =
+      let k = t .0 .sound in
+      through-sized _ _ _ _ _ e h (small _ (t .1)) (small _ (k .next-in c (t .1))) (small _ (k .link-in c (t .1)))
+
+  pub arriving-sized : (e : Edge) → IsArriving M c e → EdgeSized e
+  arriving-sized e h =
+      let k = t .0 .sound in
+      let p = k .previous-in c (t .1) in
+      through-sized _ _ _ _ _ e h (small _ (t .1)) (small _ (k .previous-in _ (k .link-in _ p))) (small _ p)
+
+  pub four-sides : (v f : Face) (e g : Edge) (k l : ℤ) (r : NetSides) → Ringed count table ticks c axis v f k l → IsLeaving M c e → IsArriving M c g
+      → MadeFour v f e g k l r → FourSides M c r
+  unfolding H T C
+  four-sides v f e g k l r q he hg made =
+      let le = leaving-is count table ticks c axis t e he in
+      let ar = arriving-is count table ticks c axis t g hg in
+      let vx = vertex-is count table ticks c axis t _ v refl (q .vertex) in
+      let fx = face-is count table ticks c axis t _ f refl (q .face) in
+      record {
+        side0 = made-exact M c side0 _ _ _ _ _ _ _ _
+            (record { head = vx .0; tail = le .0; x = vx .1; y = le .1; here = he .here; there = he .before; cosine = q .at-vertex }) (made .side0);
+        side1 = made-exact M c side1 _ _ _ _ _ _ _ _
+            (record { head = fx .0; tail = le .0; x = fx .1; y = le .2; here = he .here; there = he .after; cosine = q .at-face }) (made .side1);
+        side2 = made-exact M c side2 _ _ _ _ _ _ _ _
+            (record { head = fx .0; tail = ar .0; x = fx .2; y = ar .1; here = hg .here; there = hg .before; cosine = q .at-face }) (made .side2);
+        side3 = made-exact M c side3 _ _ _ _ _ _ _ _
+            (record { head = vx .0; tail = ar .0; x = vx .2; y = ar .2; here = hg .here; there = hg .after; cosine = q .at-vertex }) (made .side3);
+      }

@@ -12,6 +12,7 @@ use Rattle.refined_faces.specs.declared.Face.{Face}
 use Rattle.net_sides.specs.declared.Edge.{Edge}
 use Rattle.net_sides.specs.declared.SideValues.{SideValues}
 use Rattle.net_sides.specs.declared.NetSides.{NetSides}
+use Rattle.net_sides.specs.declared.ThreeSides.{ThreeSides}
 
 -- the four-sided face through the corners a, b, c and d in turn, whose refined points are p, and three of these; a is the corner where the code
 -- stands
@@ -82,3 +83,9 @@ pub record FourSides (K : RefinedMesh rounded) (c : ℕ) (r : NetSides) : Type 0
   pub side1 : IsSide K c side1 (r .side1) × Sized (r .side1)
   pub side2 : IsSide K c side2 (r .side2) × Sized (r .side2)
   pub side3 : IsSide K c side3 (r .side3) × Sized (r .side3)
+
+-- on the three axes
+pub record AllSides (K : ℕ → RefinedMesh rounded) (c : ℕ) (r : ThreeSides) : Type 0 where
+  pub x : FourSides (K 0) c (r .x)
+  pub y : FourSides (K 1) c (r .y)
+  pub z : FourSides (K 2) c (r .z)

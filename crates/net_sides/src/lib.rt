@@ -1,17 +1,16 @@
-// The four sides of a corner's quad-net on one axis: H, T, X, Y, N and C of each, from the tables of corners and refined points.
+// The four sides of a corner's quad-net: H, T, X, Y, N and C of each, from the tables of corners and refined points.
 use numbers::cosines;
 use walk::LINK;
 use walk::NEXT;
 use walk::Walker;
 ghost use mathlib.Core.Path.{_≡_};
-ghost use Prim.Native.Nat.{_-_, _<_};
+ghost use Prim.Native.Nat.{_<_};
 ghost use Rattle.surface.specs.Sizes.{RefinedSize, FaceSize, CosineSize};
 ghost use Rattle.numbers.specs.Stored.{stored};
 ghost use Rattle.surface.specs.Points.{pointAt};
-ghost use Rattle.walk.specs.Table.{toNext, toLink};
-ghost use Rattle.refined_faces.specs.Ring.{around, Ring, IsFace};
-ghost use Rattle.net_sides.specs.Drawn.{drawn, Drawn, Readable};
-ghost use Rattle.net_sides.specs.Values.{Through, IsLeaving, IsArriving, Made, FaceSized, EdgeSized, MadeFour, FourSides};
+ghost use Rattle.refined_faces.specs.Ring.{Readable};
+ghost use Rattle.net_sides.specs.Drawn.{drawn, Drawn, Ringed};
+ghost use Rattle.net_sides.specs.Values.{Through, IsLeaving, IsArriving, Made, FaceSized, EdgeSized, MadeFour, FourSides, AllSides};
 
 // The refined face of an edge at a corner, with the refined points of the corner and of its neighbours in that face.
 pub struct Edge {
@@ -38,6 +37,13 @@ pub struct NetSides {
     pub side1: SideValues,
     pub side2: SideValues,
     pub side3: SideValues,
+}
+
+// One on each axis.
+pub struct ThreeSides {
+    pub x: NetSides,
+    pub y: NetSides,
+    pub z: NetSides,
 }
 
 // The face through four corners in turn.
@@ -162,115 +168,49 @@ pub fn sides_of(
     }
 }
 
-// The refined face of the vertex of c, whose ring the links go round. It stands beside that of the face, with the same body: a function
-// that is called once is put in line, and then only a ring of five and more costs a call.
-pub fn vertex_face(
+// The four sides on an axis, from the faces of the two rings there and from C of these.
+fn axis_sides(
     points: &[i32],
     table: &[u16],
-    rows: &cosines::Rows,
+    count: usize,
     c: usize,
-    m: usize,
     axis: usize,
-) -> refined_faces::Face
-    requires ring { ⌜ Ring (now points) axis (now table) toLink c m ⌝ }
-    requires rows { ⌜ now rows ≡ stored ⌝ }
-    ensures { λ r. ⌜ IsFace (around (now (points .entry)) axis (now (table .entry)) toLink c) m 0 (m - 1) r ⌝ }
+    vertex: refined_faces::Face,
+    face: refined_faces::Face,
+    k: i64,
+    l: i64,
+) -> NetSides
+    requires mesh { ⌜ Drawn count (now table) (now points) × (c < count) × (axis < 3) ⌝ }
+    requires rings { ⌜ Ringed count (now table) (now points) c axis vertex face k l ⌝ }
+    ensures { λ r. ⌜ FourSides (drawn count (now (table .entry)) (now (points .entry)) axis) c r ⌝ }
 {
-    match m {
-        3 => refined_faces::ring_of_three(points, axis, table, LINK, c),
-        4 => refined_faces::ring_of_four(points, axis, table, LINK, c),
-        _ => {
-            let s = refined_faces::ring_sums(points, axis, table, LINK, rows, c, m);
-            refined_faces::divide(s, m)
-        }
-    }
+    let leaving = leaving_edge(points, table, count, c, axis);
+    let arriving = arriving_edge(points, table, count, c, axis);
+    sides_of(vertex, face, leaving, arriving, k, l)
 }
 
-// The refined face of the face of c, whose ring the next corners go round.
-pub fn mesh_face(
-    points: &[i32],
-    table: &[u16],
-    rows: &cosines::Rows,
-    c: usize,
-    m: usize,
-    axis: usize,
-) -> refined_faces::Face
-    requires ring { ⌜ Ring (now points) axis (now table) toNext c m ⌝ }
-    requires rows { ⌜ now rows ≡ stored ⌝ }
-    ensures { λ r. ⌜ IsFace (around (now (points .entry)) axis (now (table .entry)) toNext c) m 0 (m - 1) r ⌝ }
-{
-    match m {
-        3 => refined_faces::ring_of_three(points, axis, table, NEXT, c),
-        4 => refined_faces::ring_of_four(points, axis, table, NEXT, c),
-        _ => {
-            let s = refined_faces::ring_sums(points, axis, table, NEXT, rows, c, m);
-            refined_faces::divide(s, m)
-        }
-    }
-}
-
-// The four sides of the net of c, one of `count` corners, on an axis.
+// The four sides of the net of c, one of `count` corners, on the three axes.
 pub fn net_sides(
     points: &[i32],
     table: &[u16],
     rows: &cosines::Rows,
     count: usize,
     c: usize,
-    axis: usize,
-) -> NetSides
-    requires mesh { ⌜ Drawn count (now table) (now points) × (c < count) × (axis < 3) ⌝ }
+) -> ThreeSides
+    requires mesh { ⌜ Drawn count (now table) (now points) × (c < count) ⌝ }
     requires rows { ⌜ now rows ≡ stored ⌝ }
-    ensures { λ r. ⌜ FourSides (drawn count (now (table .entry)) (now (points .entry)) axis) c r ⌝ }
+    ensures { λ r. ⌜ AllSides (drawn count (now (table .entry)) (now (points .entry))) c r ⌝ }
 {
     let here = Walker { corner: c };
     let m = here.valence(table);
     let n = here.sides(table);
-    let vertex = vertex_face(points, table, rows, c, m, axis);
-    let face = mesh_face(points, table, rows, c, n, axis);
-    let leaving = leaving_edge(points, table, count, c, axis);
-    let arriving = arriving_edge(points, table, count, c, axis);
+    let vertex = refined_faces::ring_faces(points, table, LINK, rows, c, m);
+    let face = refined_faces::ring_faces(points, table, NEXT, rows, c, n);
     let k = cosines::cosine(rows, m, 1);
     let l = cosines::cosine(rows, n, 1);
-    let side0 = side(
-        vertex.centre,
-        leaving.centre,
-        vertex.ahead,
-        leaving.behind,
-        leaving.here,
-        leaving.before,
-        k,
-    );
-    let side1 = side(
-        face.centre,
-        leaving.centre,
-        face.ahead,
-        leaving.ahead,
-        leaving.here,
-        leaving.after,
-        l,
-    );
-    let side2 = side(
-        face.centre,
-        arriving.centre,
-        face.behind,
-        arriving.behind,
-        arriving.here,
-        arriving.before,
-        l,
-    );
-    let side3 = side(
-        vertex.centre,
-        arriving.centre,
-        vertex.behind,
-        arriving.ahead,
-        arriving.here,
-        arriving.after,
-        k,
-    );
-    NetSides {
-        side0: side0,
-        side1: side1,
-        side2: side2,
-        side3: side3,
+    ThreeSides {
+        x: axis_sides(points, table, count, c, 0, vertex.x, face.x, k, l),
+        y: axis_sides(points, table, count, c, 1, vertex.y, face.y, k, l),
+        z: axis_sides(points, table, count, c, 2, vertex.z, face.z, k, l),
     }
 }

@@ -2,3 +2,4 @@ pub mod Nearest
 pub mod Rules
 pub mod Fractions
 pub mod Small
+pub mod Units

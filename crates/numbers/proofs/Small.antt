@@ -1,4 +1,4 @@
--- The rounding in 32 bits. A dividend that is lifted above zero has no sign, and its quotient is a product's upper half (`fraction-is`); of c d / 2^30 the
+-- The rounding in 32 bits. A dividend that is lifted above zero has no sign, and its quotient is a product's upper half (`fraction-is`, `odd-is`); of c d / 2^30 the
 -- whole part alone is rounded, and a tie shows in the rest (`eighth-is`).
 -- Assumes nothing.
 use mathlib.Core.Path.{_≡_, refl, sym, ap, _∙_}
@@ -14,10 +14,10 @@ use mir.Val.{SFits}
 use Rattle.paper.specs.Numbers.{floor, round}
 use Rattle.integers.proofs.Diff.{diff}
 use Rattle.integers.proofs.Poly.{over, poly}
-use Rattle.integers.proofs.Laws.{mul-le, nonneg}
+use Rattle.integers.proofs.Laws.{mul-le, nonneg, lt-of-le-of-lt}
 use Rattle.integers.proofs.Floor.{IsFloor, floor-is, floor-unique, step-le, pos-of}
 use Rattle.numbers.specs.Sign.{sign, tie}
-use Rattle.numbers.specs.Small.{lift, Lifted, Share, Reciprocal}
+use Rattle.numbers.specs.Small.{lift, Lifted, Share, SideReciprocal, OddLifted, OddFraction}
 use Rattle.numbers.proofs.Nearest.{sign-bounds, shift-floor, round-floor, round-half}
 
 -- ---- a number that is not below zero, without its sign
@@ -158,6 +158,24 @@ of-naturals : (t m p : ℕ) → floor (pos t *ℤ pos m) (pos p) ≡ pos (t * m 
 unfolding floor
 of-naturals t m p = refl
 
+-- the quotient of z by d, lifted, by a product with m, which is a little more than p / d
+product-is : (p : ℕ) → pos 0 <ℤ pos p → (z d : ℤ) (t m : ℕ) → pos 0 <ℤ d → negℤ (pos lift) ≤ℤ floor z d → floor z d ≤ℤ pos lift
+    → pos 0 ≤ℤ (d *ℤ pos m -ℤ pos p) → ((d *ℤ pos m -ℤ pos p) *ℤ (floor z d +ℤ pos lift +ℤ pos 1)) <ℤ pos m → pos t ≡ z +ℤ d *ℤ pos lift
+    → (pos (t * m / p) ≤ℤ pos (2 * lift)) × (pos (t * m / p) -ℤ pos lift ≡ floor z d)
+product-is p some z d t m a from to x fine e =
+    let q = floor z d in
+    let k = quotient q from to in
+    let r = rest z d q (floor-is z d a) in
+    let i = product-floor (pos p) d (pos m) (q +ℤ pos lift) (z -ℤ d *ℤ q) (mul-le (pos m) _ _ (nonneg m) (r .1)) fine
+    (mul-le (d *ℤ pos m -ℤ pos p) _ _ x (k .0)) (mul-le (pos m) _ _ (nonneg m) (r .0)) in
+    let g = floor-unique _ (pos p) (q +ℤ pos lift) some i in
+    let s = ap (λ (y : ℤ). floor (y *ℤ pos m) (pos p)) (back z d q (pos lift) ∙ sym e) in
+    let w = sym (g ∙ s ∙ of-naturals t m p) in
+    (rw w (lower q (k .1)), ap (λ (y : ℤ). y -ℤ pos lift) w ∙ less q (pos lift))
+  where
+    lower : (q : ℤ) → (q +ℤ pos lift +ℤ pos 1) ≤ℤ pos (2 * lift + 1) → (q +ℤ pos lift) ≤ℤ pos (2 * lift)
+    lower = over 1 _ λ ρ. simp (poly, ρ) (omega arith)
+
 pub fraction-is : (p : ℕ) → pos 0 <ℤ pos p → (n h : ℤ) (t m : ℕ) → Lifted n h × Share (pos p) n h m
     → pos t ≡ n +ℤ h +ℤ sign n +ℤ pos 2 *ℤ h *ℤ pos lift
     → (pos (t * m / p) ≤ℤ pos (2 * lift)) × (pos (t * m / p) -ℤ pos lift ≡ round n (pos 2 *ℤ h))
@@ -168,23 +186,47 @@ fraction-is p some n h t m ok e =
     let q = floor z d in
     let f = floor-is z d (a .1) in
     let b = bounds n h (sign n) q (ok .0) (sign-bounds n) f in
-    let k = quotient q (step-le d (negℤ (pos lift)) q (a .1) (b .0)) (step-le d q (pos lift) (a .1) (b .1)) in
-    let r = rest z d q f in
     let x = excess (pos p) h (pos m) (ok .1 .0) in
-    let i = product-floor (pos p) d (pos m) (q +ℤ pos lift) (z -ℤ d *ℤ q) (mul-le (pos m) _ _ (nonneg m) (r .1))
+    let w = product-is p some z d t m (a .1) (step-le d (negℤ (pos lift)) q (a .1) (b .0)) (step-le d q (pos lift) (a .1) (b .1)) x
     (exact d (d *ℤ pos m -ℤ pos p) (pos m) (q +ℤ pos lift) (n +ℤ d *ℤ pos lift +ℤ pos 3 *ℤ h) (a .1)
-    (mul-le (d *ℤ pos m -ℤ pos p) _ _ x (top n h (sign n) q (sign-bounds n) f)) (ok .1 .1)) (mul-le (d *ℤ pos m -ℤ pos p) _ _ x (k .0))
-    (mul-le (pos m) _ _ (nonneg m) (r .0)) in
-    let g = floor-unique _ (pos p) (q +ℤ pos lift) some i in
-    let s = ap (λ (y : ℤ). floor (y *ℤ pos m) (pos p)) (back z d q (pos lift) ∙ sym e) in
-    let w = sym (g ∙ s ∙ of-naturals t m p) in
-    (rw w (lower q (k .1)), ap (λ (y : ℤ). y -ℤ pos lift) w ∙ less q (pos lift) ∙ halved n h (a .0))
+    (mul-le (d *ℤ pos m -ℤ pos p) _ _ x (top n h (sign n) q (sign-bounds n) f)) (ok .1 .1)) e in
+    (w .0, w .1 ∙ halved n h (a .0))
   where
-    lower : (q : ℤ) → (q +ℤ pos lift +ℤ pos 1) ≤ℤ pos (2 * lift + 1) → (q +ℤ pos lift) ≤ℤ pos (2 * lift)
-    lower = over 1 _ λ ρ. simp (poly, ρ) (omega arith)
-
     halved : (n h : ℤ) → pos 0 <ℤ h → floor (n +ℤ h +ℤ sign n) (pos 2 *ℤ h) ≡ round n (pos 2 *ℤ h)
     halved n h l = pos-of h l λ j e k. rw e (round-half n j k)
+
+-- ---- the same by an odd divisor, which has no tie
+untied-odd : (n h s q : ℤ) → (negsuc 0 ≤ℤ s) × (s ≤ℤ pos 0) → IsFloor (n +ℤ h) (pos 2 *ℤ h +ℤ pos 1) q
+    → IsFloor (pos 2 *ℤ n +ℤ (pos 2 *ℤ h +ℤ pos 1) +ℤ s) (pos 2 *ℤ (pos 2 *ℤ h +ℤ pos 1)) q
+untied-odd = over 4 _ λ ρ. simp (poly, ρ) (omega arith)
+
+-- the divisor, and the bounds of a quotient
+odd-bounds : (n h q : ℤ) → (pos 1 ≤ℤ h) × (h ≤ℤ pos 4) → (negℤ (pos lift *ℤ (pos 2 *ℤ h +ℤ pos 1)) ≤ℤ n) × (n ≤ℤ (pos lift *ℤ (pos 2 *ℤ h +ℤ pos 1)))
+    → IsFloor (n +ℤ h) (pos 2 *ℤ h +ℤ pos 1) q
+    → (((pos 2 *ℤ h +ℤ pos 1) *ℤ negℤ (pos lift)) <ℤ ((pos 2 *ℤ h +ℤ pos 1) *ℤ q +ℤ (pos 2 *ℤ h +ℤ pos 1)))
+    × (((pos 2 *ℤ h +ℤ pos 1) *ℤ q) <ℤ ((pos 2 *ℤ h +ℤ pos 1) *ℤ pos lift +ℤ (pos 2 *ℤ h +ℤ pos 1)))
+odd-bounds = over 3 _ λ ρ. simp (poly, ρ) (omega arith)
+
+odd-some : (h : ℤ) → (pos 1 ≤ℤ h) × (h ≤ℤ pos 4) → (pos 0 <ℤ (pos 2 *ℤ h +ℤ pos 1)) × (pos 0 <ℤ (pos 2 *ℤ (pos 2 *ℤ h +ℤ pos 1)))
+odd-some = over 1 _ λ ρ. simp (poly, ρ) (omega arith)
+
+difference : (a b : ℤ) → a ≤ℤ b → pos 0 ≤ℤ (b -ℤ a)
+difference = over 2 _ λ ρ. simp (poly, ρ) (omega arith)
+
+pub odd-is : (n h : ℤ) (t m : ℕ) → OddLifted n h × OddFraction h m → pos t ≡ n +ℤ h +ℤ (pos 2 *ℤ h +ℤ pos 1) *ℤ pos lift
+    → (pos (t * m / 2 ^ 32) ≤ℤ pos (2 * lift)) × (pos (t * m / 2 ^ 32) -ℤ pos lift ≡ round n (pos 2 *ℤ h +ℤ pos 1))
+odd-is n h t m ok e =
+    let d = pos 2 *ℤ h +ℤ pos 1 in
+    let z = n +ℤ h in
+    let p = odd-some h (ok .0 .0) in
+    let q = floor z d in
+    let f = floor-is z d (p .0) in
+    let b = odd-bounds n h q (ok .0 .0) (ok .0 .1) f in
+    let from = step-le d (negℤ (pos lift)) q (p .0) (b .0) in
+    let to = step-le d q (pos lift) (p .0) (b .1) in
+    let x = difference _ _ (ok .1 .0) in
+    let w = product-is (2 ^ 32) (ltZ-yes tt) z d t m (p .0) from to x (lt-of-le-of-lt _ _ _ (mul-le (d *ℤ pos m -ℤ pos (2 ^ 32)) _ _ x (quotient q from to .1)) (ok .1 .2)) e in
+    (w .0, w .1 ∙ floor-unique _ _ q (p .1) (untied-odd n h (sign n) q (sign-bounds n) f) ∙ sym (round-floor n d (p .0)))
 
 -- the quotient with its lift, as the machine holds it, and without
 pub at-most-lift : (q : ℕ) → pos q ≤ℤ pos (2 * lift) → q ≤ 2 * lift
@@ -198,7 +240,7 @@ lift-off q h = off (pos q) h
 
 -- ---- the reciprocal of a face's sides
 -- what is left of 2^36 is below 2n, and the lifted dividend below 2^31
-pub small-share : (t : ℤ) (n m : ℕ) → 3 ≤ n → n ≤ 16 → natAbs t ≤ n * 2 ^ 25 → Reciprocal n m
+pub small-share : (t : ℤ) (n m : ℕ) → 3 ≤ n → n ≤ 16 → natAbs t ≤ n * 2 ^ 25 → SideReciprocal n m
     → Lifted t (pos n) × Share (pos (2 ^ 36)) t (pos n) m
 small-share t n m a b h r =
     let d = pos 2 *ℤ pos n *ℤ pos m in

@@ -3,3 +3,4 @@ pub mod Near
 pub mod Sign
 pub mod Small
 pub mod Stored
+pub mod Units

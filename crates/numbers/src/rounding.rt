@@ -6,10 +6,11 @@ ghost use Prim.Native.Nat.{_+_, _*_, _/_, _%_, _^_, _≤_, _<_};
 ghost use lib.IntN.{pos, negsuc, negℤ, natAbs, _+ℤ_, _-ℤ_, _*ℤ_};
 ghost use lib.Signed.{_≤ℤ_, _<ℤ_};
 ghost use Rattle.paper.specs.Mesh.{leastSides, mostSides};
-ghost use Rattle.paper.specs.Numbers.{round};
+ghost use Rattle.paper.specs.Numbers.{floor, round};
 ghost use Rattle.numbers.specs.Sign.{sign, tie};
 ghost use Rattle.numbers.specs.Lift.{Lifts};
-ghost use Rattle.numbers.specs.Small.{lift, Lifted, Fraction, Reciprocal};
+ghost use Rattle.numbers.specs.Small.{lift, Lifted, Fraction, SideReciprocal, OddLifted, OddFraction};
+ghost use Rattle.numbers.specs.Units.{Units, Reciprocal};
 
 // The sign of n: a shift copies it down.
 fn sign(n: i64) -> i64
@@ -107,9 +108,9 @@ pub fn small_product(n: i32, h: i32, m: u32) -> i32
 }
 
 // 2^36 / 2n, rounded up, for the sides n of a face. They are written out: the compiler keeps them in a table, and nothing is divided.
-pub fn reciprocal(n: u8) -> u64
+pub fn side_reciprocal(n: u8) -> u64
     requires { ⌜ (leastSides ≤ n) × (n ≤ mostSides) ⌝ }
-    ensures { λ r. ⌜ Reciprocal n r ⌝ }
+    ensures { λ r. ⌜ SideReciprocal n r ⌝ }
 {
     match n {
         3 => 11453246123,
@@ -139,7 +140,7 @@ fn scaled(t: u32, m: u64) -> u32
 
 // r(t / 2n) for the sides n of a face, by a product with their reciprocal.
 pub fn small_quotient(t: i32, n: u8, m: u64) -> i32
-    requires { ⌜ (leastSides ≤ n) × (n ≤ mostSides) × (natAbs t ≤ n * 2 ^ 25) × Reciprocal n m ⌝ }
+    requires { ⌜ (leastSides ≤ n) × (n ≤ mostSides) × (natAbs t ≤ n * 2 ^ 25) × SideReciprocal n m ⌝ }
     ensures { λ r. ⌜ r ≡ round t (pos 2 *ℤ pos n) ⌝ }
 {
     scaled(lift_dividend(t, n as i32), m) as i32 - LIFT
@@ -193,4 +194,50 @@ pub fn small_eighth(c: i64, d: i32, b: i32) -> i32
     let p = u as u64 * v as u64;
     let m = whole_part(u, d, p) + b;
     (m + 4 + tie(p, m)) >> 3
+}
+
+// The same lift in 64 bits.
+const ODD_LIFT: i64 = 25165824;
+
+// n / (2h + 1) before it is rounded down, lifted above zero: a quotient by an odd number has no tie, so no sign is asked for.
+fn lift_odd(n: i64, h: i64) -> u64
+    requires { ⌜ OddLifted n h ⌝ }
+    ensures { λ r. ⌜ (pos r ≡ n +ℤ h +ℤ (pos 2 *ℤ h +ℤ pos 1) *ℤ pos lift) × (r ≤ 2 ^ 29) ⌝ }
+{
+    (n + h + (2 * h + 1) * ODD_LIFT) as u64
+}
+
+// r(n / (2h + 1)) by a product without sign: m is a little more than 2^32 / (2h + 1).
+pub fn odd_product(n: i64, h: i64, m: u64) -> i64
+    requires { ⌜ OddLifted n h × OddFraction h m ⌝ }
+    ensures { λ r. ⌜ r ≡ round n (pos 2 *ℤ h +ℤ pos 1) ⌝ }
+{
+    ((lift_odd(n, h) * m) >> 32) as i64 - ODD_LIFT
+}
+
+// A little more than 2^37 / d, so that several quotients by one divisor cost one division.
+pub fn reciprocal(d: i64) -> u64
+    requires { ⌜ (pos 1 ≤ℤ d) × (d ≤ℤ pos 48) ⌝ }
+    ensures { λ r. ⌜ Reciprocal d r ⌝ }
+{
+    (137438953471 + d) as u64 / d as u64
+}
+
+// What lifts every dividend of `unit_quotient` above zero, in divisors.
+const UNIT_LIFT: i64 = 33554432;
+
+// n and half its divisor 2^30 d, in whole units of 2^30, lifted above zero.
+fn lift_units(n: i64, d: i64) -> u64
+    requires { ⌜ Units n d ⌝ }
+    ensures { λ r. ⌜ pos r ≡ floor (n +ℤ pos (2 ^ 29) *ℤ d +ℤ sign n) (pos (2 ^ 30)) +ℤ pos (2 ^ 25) *ℤ d ⌝ }
+{
+    ((raised(n, 536870912 * d) >> 30) + UNIT_LIFT * d) as u64
+}
+
+// r(n / 2^30 d) by a product without sign: f is the divisor's reciprocal.
+pub fn unit_quotient(n: i64, d: i64, f: u64) -> i64
+    requires { ⌜ Units n d × Reciprocal d f ⌝ }
+    ensures { λ r. ⌜ r ≡ round n (pos (2 ^ 30) *ℤ d) ⌝ }
+{
+    ((lift_units(n, d) * f) >> 37) as i64 - UNIT_LIFT
 }

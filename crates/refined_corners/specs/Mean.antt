@@ -8,7 +8,7 @@ use lib.IntN.{ℤ, pos, natAbs, _+ℤ_, _*ℤ_}
 use Rattle.paper.specs.Mesh.{leastSides, mostSides, mostCoordinate, mostSharpness, plain, Mesh, faceCount}
 use Rattle.paper.specs.Numbers.{floor, round}
 use Rattle.paper.specs.Refined.{ticksPerStep, faceSum}
-use Rattle.numbers.specs.Small.{Reciprocal}
+use Rattle.numbers.specs.Small.{SideReciprocal}
 use Rattle.face_sums.specs.Sources.{stepsOf, sumRow}
 use Rattle.refined_corners.specs.declared.Around.{Around}
 use Rattle.refined_corners.specs.declared.CornerWeights.{CornerWeights}
@@ -38,7 +38,7 @@ Balanced w = w .face + w .before + w .here + w .after ≡ 512
 pub record Known (total : ℤ) (face : FaceSums) : Type 0 where
   pub least : leastSides ≤ face .sides
   pub most : face .sides ≤ mostSides
-  pub reciprocal-is : Reciprocal (face .sides) (face .reciprocal)
+  pub reciprocal-is : SideReciprocal (face .sides) (face .reciprocal)
   pub total-size : natAbs total ≤ face .sides * mostCoordinate
 
 pub record Steps (total before here after : ℤ) (face : FaceSums) : Type 0 where
@@ -64,7 +64,7 @@ MeanOf coordinates corners axis around w total n r =
 pub record FaceRead (sides : List ℕ) (sums : List ℤ) (f : ℕ) (face : FaceSums) : Type 0 where
   pub index-is : face .index ≡ f
   pub sides-are : face .sides ≡ getD sides f 0
-  pub reciprocal-is : Reciprocal (face .sides) (face .reciprocal)
+  pub reciprocal-is : SideReciprocal (face .sides) (face .reciprocal)
   pub xs : face .x ≡ floor (getD sums (sumRow * f) (pos 0)) (pos ticksPerStep)
   pub ys : face .y ≡ floor (getD sums (sumRow * f + 1) (pos 0)) (pos ticksPerStep)
   pub zs : face .z ≡ floor (getD sums (sumRow * f + 2) (pos 0)) (pos ticksPerStep)
@@ -72,7 +72,7 @@ pub record FaceRead (sides : List ℕ) (sums : List ℤ) (f : ℕ) (face : FaceS
 pub record FaceOf (M : Mesh) (face : FaceSums) : Type 0 where
   pub exists : face .index < faceCount M
   pub sides-are : face .sides ≡ getD (M .sides) (face .index) 0
-  pub reciprocal-is : Reciprocal (face .sides) (face .reciprocal)
+  pub reciprocal-is : SideReciprocal (face .sides) (face .reciprocal)
   pub xs : pos ticksPerStep *ℤ face .x ≡ faceSum M 0 (face .index)
   pub ys : pos ticksPerStep *ℤ face .y ≡ faceSum M 1 (face .index)
   pub zs : pos ticksPerStep *ℤ face .z ≡ faceSum M 2 (face .index)

@@ -2,7 +2,7 @@
 // It is computed in grid steps, and 32 bits hold every number on the way.
 use face_sums::SUM_ROW;
 use face_sums::coordinate;
-use numbers::rounding::reciprocal;
+use numbers::rounding::side_reciprocal;
 use numbers::rounding::small_quotient;
 use paper::SHARPNESS_PER_CORNER;
 use surface::POINT_ROW;
@@ -50,7 +50,7 @@ pub fn read_face(sides: &[u8], sums: &[i32], f: usize) -> FaceSums
     ensures { λ r. ⌜ FaceRead (now (sides .entry)) (now (sums .entry)) f r ⌝ }
 {
     let n = sides[f];
-    let m = reciprocal(n);
+    let m = side_reciprocal(n);
     let x = sums[SUM_ROW * f] >> 8;
     let y = sums[SUM_ROW * f + 1] >> 8;
     let z = sums[SUM_ROW * f + 2] >> 8;

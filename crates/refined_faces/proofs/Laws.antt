@@ -7,7 +7,7 @@ use native.Mathlib.Omega.{arith}
 use native.Mathlib.Nat.{le-trans, mul-le-mul-right}
 use native.Mathlib.Numerals.{add-one}
 use lib.Dec.{lit<, lit≤}
-use lib.IntN.{ℤ, pos, natAbs, _+ℤ_, _*ℤ_}
+use lib.IntN.{ℤ, pos, negℤ, natAbs, _+ℤ_, _*ℤ_}
 use lib.Signed.{_<ℤ_, _≤ℤ_, ltZ-yes}
 use mir.Syntax.{w64}
 use mir.Val.{SFits, ofZ, toZ}
@@ -17,21 +17,23 @@ use Rattle.paper.specs.Mesh.{leastSides, mostSides}
 use Rattle.paper.specs.Numbers.{sum, sumBy, rounded, round}
 use Rattle.paper.specs.Cosines.{unit, table, cosine}
 use Rattle.paper.specs.Face.{centre, weight, toward}
-use Rattle.integers.proofs.Diff.{diff}
+use Rattle.integers.proofs.Diff.{as-diff, diff}
 use Rattle.integers.proofs.Poly.{over, poly}
-use Rattle.integers.proofs.Laws.{abs-mul-le, abs-add-le, zero-add}
+use Rattle.integers.proofs.Laws.{abs-mul-le, abs-add-le, zero-add, mul-le, nonneg}
 use Rattle.integers.proofs.Machine.{abs-fits}
-use Rattle.integers.proofs.Sum.{Cyclic, sum-same, sum-abs, cycle-one, sum-more, cycle}
+use Rattle.integers.proofs.Sum.{Cyclic, sum-same, sum-abs, sum-zero, cycle-one, sum-more, cycle}
 use Rattle.mesh.proofs.Rings.{iterate-suc}
 use Rattle.numbers.proofs.Rules.{period, cosine-size}
 use Rattle.surface.specs.Points.{pointAt}
 use Rattle.surface.proofs.Rings.{iterate-in, iterate-round}
-use Rattle.surface.proofs.Faces.{weight-period, toward-is}
-use Rattle.surface.proofs.Sizes.{weight-size, gather-size, centre-size, toward-size}
+use Rattle.surface.proofs.Faces.{weight-period, toward-is, toward-near}
+use Rattle.surface.proofs.Sizes.{weight-size, centre-size, toward-size}
 use Rattle.walk.specs.Table.{entry}
 use Rattle.numbers.proofs.Nearest.{round-scale}
 use Rattle.surface.specs.Sizes.{RefinedSize, FaceSize}
-use Rattle.refined_faces.specs.Ring.{around, Ring, Summed, Divisible, Divided, IsFace, IsEdgeFace}
+use Rattle.numbers.specs.Near.{Near}
+use Rattle.numbers.specs.Units.{Units}
+use Rattle.refined_faces.specs.Ring.{around, Ring, Readable, Addable, Added, Summed, Divisible, Divided, IsFace, IsThreeFace, IsEdgeFace}
 use Rattle.refined_faces.specs.declared.Sums.{Sums}
 use Rattle.refined_faces.specs.declared.Face.{Face}
 
@@ -80,90 +82,50 @@ module _ (points : List ℤ) (axis : ℕ) (table : List ℕ) (column c m : ℕ) 
     cyclic = λ j. ap (pointAt points axis) (iterate-round (entry table column) j m c (r .closes));
   }
 
--- ---- the turn at place j
+-- ---- the machine's numbers: a signed local is its bits
+abbrev pub plain : ℤ → ℤ
+plain z = toZ w64 (ofZ w64 z)
+
+pub corner-plain : (z y : ℤ) → z ≡ y → RefinedSize y → (plain z ≡ y) × RefinedSize (plain z)
+corner-plain z y e h = let f = ap plain e ∙ toZ-ofZ (abs-fits w64 y (2 ^ 24) h (lit< tt)) in (f, rw f h)
+
+-- ---- the sums of the first n places, and the place after them
 module _ (p : ℕ → ℤ) (m : ℕ) (r : PointRing p m) where
-  weight-fits : (k : ℕ) → natAbs (weight m k) ≤ 7 * unit
+  pub weight-fits : (k : ℕ) → natAbs (weight m k) ≤ 7 * unit
   weight-fits = weight-size p m (r .least) (r .most) (r .small)
 
   term-size : (j k : ℕ) → natAbs (p j *ℤ weight m k) ≤ 2 ^ 24 * (7 * unit)
   term-size j k = abs-mul-le (p j) (weight m k) (2 ^ 24) (7 * unit) (r .small j) (weight-fits k)
 
-  -- what it asks of the machine: the point, its two products, and the three sums with them
-  pub record Turn (j : ℕ) : Type 0 where
-    pub point : SFits w64 (p j)
-    pub weights : SFits w64 (weight m j) × SFits w64 (weight m (j + 1))
-    pub total : SFits w64 (sum p j +ℤ p j)
-    pub products : SFits w64 (p j *ℤ weight m j) × SFits w64 (p j *ℤ weight m (j + 1))
-    pub ahead : SFits w64 (sum (λ k. p k *ℤ weight m k) j +ℤ p j *ℤ weight m j)
-    pub behind : SFits w64 (sum (λ k. p k *ℤ weight m (k + 1)) j +ℤ p j *ℤ weight m (j + 1))
+  so-far : (f : ℕ → ℤ) (n B : ℕ) → n ≤ m → ((k : ℕ) → natAbs (f k) ≤ B) → natAbs (sum f n) ≤ mostSides * B
+  so-far f n B l h = let n16 : n ≤ mostSides = omega (arith, r .most) in le-trans (sum-abs f n B (λ k q. h k)) (mul-le-mul-right B n16)
 
-  more-fits : (f : ℕ → ℤ) (j B : ℕ) → j < m → B ≤ 2 ^ 57 → ((k : ℕ) → natAbs (f k) ≤ B) → SFits w64 (sum f j +ℤ f j)
-  more-fits f j B l b h =
-      abs-fits w64 (sum f j +ℤ f j) ((mostSides + 1) * B)
-      (let s = abs-add-le (sum f j) (f j) (j * B) B (sum-abs f j B (λ k q. h k)) (h j) in
-      bound j B (natAbs (sum f j +ℤ f j)) (omega (arith, r .most)) s)
-      (omega arith)
-    where
-      bound : (j B z : ℕ) → j ≤ mostSides → z ≤ j * B + B → z ≤ (mostSides + 1) * B
-      bound j B z l h = le-trans h (omega (arith, mul-le-mul-right B l))
-
-  pub turn : (j : ℕ) → j < m → Turn j
-  turn j l = record {
-    point = abs-fits w64 (p j) (2 ^ 24) (r .small j) (lit< tt);
-    weights = (abs-fits w64 (weight m j) (7 * unit) (weight-fits j) (lit< tt), abs-fits w64 (weight m (j + 1)) (7 * unit) (weight-fits (j + 1)) (lit< tt));
-    total = more-fits p j (2 ^ 24) l (lit≤ tt) (r .small);
-    products = (abs-fits w64 _ (2 ^ 24 * (7 * unit)) (term-size j j) (lit< tt), abs-fits w64 _ (2 ^ 24 * (7 * unit)) (term-size j (j + 1)) (lit< tt));
-    ahead = more-fits (λ k. p k *ℤ weight m k) j (2 ^ 24 * (7 * unit)) l (lit≤ tt) (λ k. term-size k k);
-    behind = more-fits (λ k. p k *ℤ weight m (k + 1)) j (2 ^ 24 * (7 * unit)) l (lit≤ tt) (λ k. term-size k (k + 1));
+  pub addable : (n : ℕ) (s : Sums) (v w u : ℤ) → n < m → Summed p m n s → v ≡ p n → w ≡ weight m n → u ≡ weight m (n + 1) → Addable s v w u
+  addable n s v w u l q ev ew eu = record {
+    total = rw (q .total) (le-trans (so-far p n (2 ^ 24) (omega arith) (r .small)) (lit≤ tt));
+    ahead = rw (q .ahead) (le-trans (so-far (λ k. p k *ℤ weight m k) n (2 ^ 24 * (7 * unit)) (omega arith) (λ k. term-size k k)) (lit≤ tt));
+    behind = rw (q .behind) (le-trans (so-far (λ k. p k *ℤ weight m (k + 1)) n (2 ^ 24 * (7 * unit)) (omega arith) (λ k. term-size k (k + 1))) (lit≤ tt));
+    point = rw ev (r .small n);
+    weights = (rw ew (weight-fits n), rw eu (weight-fits (n + 1)));
   }
 
--- ---- the same in the machine's numbers: a signed local is its bits
-abbrev pub plain : ℤ → ℤ
-plain z = toZ w64 (ofZ w64 z)
+  -- a weight in the machine, and that after the last, which is the first
+  pub weight-plain : (k : ℕ) (u : ℤ) → u ≡ weight m k → plain u ≡ weight m k
+  weight-plain k u e = ap plain e ∙ toZ-ofZ (abs-fits w64 (weight m k) (7 * unit) (weight-fits k) (lit< tt))
 
-module _ (p : ℕ → ℤ) (m : ℕ) where
-  -- before the turn at j
-  pub record Came (total ahead behind w j : ℕ) : Type 0 where
-    pub total-is : toZ w64 total ≡ sum p j
-    pub ahead-is : toZ w64 ahead ≡ sum (λ k. p k *ℤ weight m k) j
-    pub behind-is : toZ w64 behind ≡ sum (λ k. p k *ℤ weight m (k + 1)) j
-    pub weight-is : toZ w64 w ≡ weight m j
+  pub weight-first : (u : ℤ) → u ≡ weight m (m - 1 + 1) → plain u ≡ weight m 0
+  weight-first u e = weight-plain 0 u (e ∙ ap (weight m) (omega (arith, r .least)) ∙ weight-period m 0)
 
-  -- what the turn asks, and what it leaves; v is the point that was read, u the next weight
-  pub record Goes (total ahead behind w j : ℕ) (v u : ℤ) : Type 0 where
-    pub add-total : SFits w64 (toZ w64 total +ℤ plain v)
-    pub mul-ahead : SFits w64 (plain v *ℤ toZ w64 w)
-    pub add-ahead : SFits w64 (toZ w64 ahead +ℤ plain (plain v *ℤ toZ w64 w))
-    pub mul-behind : SFits w64 (plain v *ℤ plain u)
-    pub add-behind : SFits w64 (toZ w64 behind +ℤ plain (plain v *ℤ plain u))
-    pub came : Came (ofZ w64 (toZ w64 total +ℤ plain v)) (ofZ w64 (toZ w64 ahead +ℤ plain (plain v *ℤ toZ w64 w)))
-        (ofZ w64 (toZ w64 behind +ℤ plain (plain v *ℤ plain u))) (ofZ w64 u) (j + 1)
+pub summed-none : (p : ℕ → ℤ) (m : ℕ) (s : Sums) → s .total ≡ pos 0 → s .ahead ≡ pos 0 → s .behind ≡ pos 0 → Summed p m 0 s
+summed-none p m s et ea eb = record { total = et ∙ sym (sum-zero _); ahead = ea ∙ sym (sum-zero _); behind = eb ∙ sym (sum-zero _) }
 
-  pub goes : PointRing p m → (total ahead behind w j : ℕ) (v u : ℤ) → j < m → Came total ahead behind w j → v ≡ p j → u ≡ weight m (j + 1)
-      → Goes total ahead behind w j v u
-  goes r total ahead behind w j v u l came a e =
-      let t = turn p m r j l in
-      let d : plain v ≡ p j = ap plain a ∙ toZ-ofZ (t .point) in
-      let f : plain u ≡ weight m (j + 1) = ap plain e ∙ toZ-ofZ (t .weights .1) in
-      record {
-        add-total = rw (d, came .total-is) (t .total);
-        mul-ahead = rw (d, came .weight-is) (t .products .0);
-        add-ahead = rw (d, came .weight-is, toZ-ofZ (t .products .0), came .ahead-is) (t .ahead);
-        mul-behind = rw (d, f) (t .products .1);
-        add-behind = rw (d, f, toZ-ofZ (t .products .1), came .behind-is) (t .behind);
-        came = record {
-          total-is = rw (d, came .total-is) (toZ-ofZ (t .total) ∙ sym (sum-more p j));
-          ahead-is = rw (d, came .weight-is, toZ-ofZ (t .products .0), came .ahead-is) (toZ-ofZ (t .ahead) ∙ sym (sum-more (λ k. p k *ℤ weight m k) j));
-          behind-is = rw (d, f, toZ-ofZ (t .products .1), came .behind-is) (toZ-ofZ (t .behind) ∙ sym (sum-more (λ k. p k *ℤ weight m (k + 1)) j));
-          weight-is = f;
-        };
-      }
-
-  -- the weight that the first turn has
-  pub first : PointRing p m → (u : ℤ) → u ≡ weight m (m - 1 + 1) → plain u ≡ weight m 0
-  first r u e =
-      let f : u ≡ weight m 0 = e ∙ ap (weight m) (omega (arith, r .least)) ∙ weight-period m 0 in
-      ap plain f ∙ toZ-ofZ (abs-fits w64 (weight m 0) (7 * unit) (weight-fits p m r 0) (lit< tt))
+pub summed-more : (p : ℕ → ℤ) (m n : ℕ) (s t : Sums) (v w u : ℤ) → Summed p m n s → Added s v w u t → v ≡ p n → w ≡ weight m n → u ≡ weight m (n + 1)
+    → Summed p m (n + 1) t
+summed-more p m n s t v w u q a ev ew eu = record {
+  total = a .total ∙ cc (q .total, ev) ∙ sym (sum-more p n);
+  ahead = a .ahead ∙ cc (q .ahead, ev, ew) ∙ sym (sum-more (λ k. p k *ℤ weight m k) n);
+  behind = a .behind ∙ cc (q .behind, ev, eu) ∙ sym (sum-more (λ k. p k *ℤ weight m (k + 1)) n);
+}
 
 -- a number of the cosine table in the machine's numbers, and the one after the last, which is the first
 pub cosine-plain : (m k : ℕ) → leastSides ≤ m → m ≤ mostSides → (u : ℤ) → u ≡ cosine m k → plain u ≡ cosine m k
@@ -178,12 +140,26 @@ pub step-more : (step : ℕ → ℕ) (c j at : ℕ) → at ≡ iterate j step c 
 step-more step c j at e = ap step e ∙ sym (iterate-suc step j c) ∙ ap (λ (n : ℕ). iterate n step c) (sym (add-one j))
 
 -- ---- the face points of the ring, from its sums
-module _ (p : ℕ → ℤ) (m : ℕ) (r : PointRing p m) (s : Sums) (q : Summed p m s) where
-  pub divisible : Divisible s
+within : (q : ℤ) (k : ℕ) → natAbs q ≤ k → (negℤ (pos k) ≤ℤ q) × (q ≤ℤ pos k)
+within q k h = as-diff q λ a b e. let h′ = simp (diff, e) at h in simp (diff, e) (omega arith, omega arith)
+
+gathered : (n m q : ℤ) → Near n (pos (3 * unit) *ℤ m) q → pos 1 ≤ℤ m → m ≤ℤ pos mostSides → (m *ℤ q) ≤ℤ (m *ℤ pos (2 ^ 24 + 2 ^ 21))
+    → (m *ℤ negℤ (pos (2 ^ 24 + 2 ^ 21))) ≤ℤ (m *ℤ q) → Units n (pos 3 *ℤ m)
+gathered = over 3 _ λ ρ. simp (poly, ρ) (omega arith)
+
+module _ (p : ℕ → ℤ) (m : ℕ) (r : PointRing p m) (s : Sums) (q : Summed p m m s) where
+  gather-units : (i : ℕ) → Units (sum (λ k. p (i + k) *ℤ weight m k) m) (pos (3 * m))
+  gather-units i =
+      let t = toward rounded p m i in
+      let z = within t (2 ^ 24 + 2 ^ 21) (toward-size p m (r .least) (r .most) (r .small) i) in
+      gathered _ (pos m) t (toward-near p m i (omega (arith, r .least))) (simp diff (omega (arith, r .least))) (simp diff (omega (arith, r .most)))
+      (mul-le (pos m) _ _ (nonneg m) (z .1)) (mul-le (pos m) _ _ (nonneg m) (z .0))
+
+  pub divisible : Divisible s m
   divisible = record {
-    total = let h = sum-abs p m (2 ^ 24) (λ j l. r .small j) in rw (q .total) (omega (arith, r .most));
-    ahead = rw (q .ahead, ahead-sum p m) (gather-size p m (r .least) (r .most) (r .small) 0);
-    behind = rw (q .behind, behind-sum p m (r .least) (r .cyclic)) (gather-size p m (r .least) (r .most) (r .small) (m - 1));
+    total = let h = sum-abs p m (2 ^ 24) (λ j l. r .small j) in rw (q .total) (omega arith);
+    ahead = rw (q .ahead, ahead-sum p m) (gather-units 0);
+    behind = rw (q .behind, behind-sum p m (r .least) (r .cyclic)) (gather-units (m - 1));
   }
 
   pub ring-is : (f : Face) → Divided s m f → IsFace p m 0 (m - 1) f
@@ -222,13 +198,12 @@ toward-three p i =
 
 -- from the points v, w and x in turn
 pub three-is : (p : ℕ → ℤ) → PointRing p 3 → (v w x : ℤ) (g : Face) → p 0 ≡ v → p 1 ≡ w → p 2 ≡ x
-    → g .centre ≡ round (v +ℤ w +ℤ x) (pos 3) → g .ahead ≡ round (pos 4 *ℤ v +ℤ pos 4 *ℤ w +ℤ x) (pos 9)
-    → g .behind ≡ round (pos 4 *ℤ x +ℤ pos 4 *ℤ v +ℤ w) (pos 9) → IsFace p 3 0 2 g
+    → IsThreeFace v w x g → IsFace p 3 0 2 g
 unfolding centre
-three-is p r v w x g p0 p1 p2 ec ea eb =
-    let ce : g .centre ≡ centre rounded p 3 = cc (ec, three p, p0, p1, p2) in
-    let ah : g .ahead ≡ toward rounded p 3 0 = cc (ea, toward-three p 0, p0, p1, p2) in
-    let be : g .behind ≡ toward rounded p 3 2 = cc (eb, toward-three p 2, r .cyclic 0, r .cyclic 1, p0, p1, p2) in
+three-is p r v w x g p0 p1 p2 h =
+    let ce : g .centre ≡ centre rounded p 3 = cc (h .centre, three p, p0, p1, p2) in
+    let ah : g .ahead ≡ toward rounded p 3 0 = cc (h .ahead, toward-three p 0, p0, p1, p2) in
+    let be : g .behind ≡ toward rounded p 3 2 = cc (h .behind, toward-three p 2, r .cyclic 0, r .cyclic 1, p0, p1, p2) in
     record {
       centre = ce;
       ahead = ah;
@@ -302,33 +277,50 @@ module _ (points : List ℤ) (axis : ℕ) (table : List ℕ) (column c m : ℕ) 
   met-next j d e t q =
       record { inside = stepped points axis table column c m r d e (t .inside) q; place = q ∙ step-more (entry table column) c j d (t .place) }
 
-  pub held : (j d : ℕ) (v : ℤ) → Met j d → v ≡ pointAt points axis d → (around points axis table column c j ≡ plain v) × RefinedSize (plain v)
+  -- what stands there can be read, and is the ring's
+  pub readable : (j d : ℕ) → Met j d → Readable points axis d
+  readable j d t = (r .points-hold d (t .inside), r .point-size d (t .inside))
+
+  pub held : (j d : ℕ) → Met j d → around points axis table column c j ≡ pointAt points axis d
   unfolding around
-  held j d v t e =
-      let z = r .point-size d (t .inside) in
-      let q : plain v ≡ pointAt points axis d = ap plain e ∙ toZ-ofZ (abs-fits w64 (pointAt points axis d) (2 ^ 24) z (lit< tt)) in
-      (ap (pointAt points axis) (sym (t .place)) ∙ sym q, rw q z)
+  held j d t = ap (pointAt points axis) (sym (t .place))
 
 -- ---- the divisions, in the machine's numbers
-abbrev Divisor : ℤ → Type 0
-Divisor d = (pos 0 <ℤ d) × (d ≤ℤ pos (2 ^ 36))
-
--- the two divisors of a ring of m corners
-pub record Divisors (m : ℕ) : Type 0 where
+-- the divisor of a ring of m corners, in units of 2^30
+pub record Divisor (m : ℕ) : Type 0 where
   pub count-is : toZ w64 m ≡ pos m
-  pub count : Divisor (pos m)
-  pub weights-fit : SFits w64 (pos (3 * unit) *ℤ pos m)
-  pub weights : Divisor (pos (3 * unit) *ℤ pos m)
+  pub fits : SFits w64 (pos (3 * m))
+  pub from : pos 1 ≤ℤ pos (3 * m)
+  pub to : pos (3 * m) ≤ℤ pos 48
 
-pub divisors : (m : ℕ) → leastSides ≤ m → m ≤ mostSides → Divisors m
-divisors m l h = let k = sizes m l h in record { count-is = toZ-pos w64 {n = m} (omega arith); count = k .1; weights-fit = k .0; weights = k .2 }
+pub divisor : (m : ℕ) → leastSides ≤ m → m ≤ mostSides → Divisor m
+divisor m l h = let k = sizes m l h in record { count-is = toZ-pos w64 {n = m} (omega arith); fits = k .0; from = k .1; to = k .2 }
   where
-    sizes : (m : ℕ) → 3 ≤ m → m ≤ mostSides → SFits w64 (pos (3221225472 * m)) × Divisor (pos m) × Divisor (pos (3221225472 * m))
+    sizes : (m : ℕ) → 3 ≤ m → m ≤ mostSides → SFits w64 (pos (3 * m)) × (pos 1 ≤ℤ pos (3 * m)) × (pos (3 * m) ≤ℤ pos 48)
     sizes m l h = simp diff (omega arith)
 
--- a division: what it asks, and what it gives
-pub dividend : (n : ℤ) → natAbs n ≤ 2 ^ 60 → natAbs (plain n) ≤ 2 ^ 60
-dividend n h = rw (toZ-ofZ (abs-fits w64 n (2 ^ 60) h (lit< tt))) h
+-- the sum of the points, scaled
+pub scaled : (t : ℤ) (m : ℕ) → leastSides ≤ m → m ≤ mostSides → natAbs t ≤ 2 ^ 24 * m
+    → SFits w64 t × SFits w64 (pos (3 * unit) *ℤ t) × Units (pos (3 * unit) *ℤ t) (pos (3 * m))
+scaled t m l k h = let d = divisor m l k in let z = sizes t (pos m) (simp diff (omega arith)) (bound m t h) in (z .0, z .1, (d .from, d .to, z .2, z .3))
+  where
+    bound : (m : ℕ) (t : ℤ) → natAbs t ≤ 2 ^ 24 * m → (negℤ (pos (2 ^ 24) *ℤ pos m) ≤ℤ t) × (t ≤ℤ (pos (2 ^ 24) *ℤ pos m))
+    bound m t h = within t (2 ^ 24 * m) h
 
-pub quotient : (n d r : ℤ) → natAbs n ≤ 2 ^ 60 → SFits w64 r → r ≡ round (plain n) d → plain r ≡ round n d
-quotient n d r h fr q = toZ-ofZ fr ∙ q ∙ ap (λ (z : ℤ). round z d) (toZ-ofZ (abs-fits w64 n (2 ^ 60) h (lit< tt)))
+    sizes : (t m : ℤ) → m ≤ℤ pos mostSides → (negℤ (pos (2 ^ 24) *ℤ m) ≤ℤ t) × (t ≤ℤ (pos (2 ^ 24) *ℤ m))
+        → SFits w64 t × SFits w64 (pos (3 * unit) *ℤ t) × (negℤ (pos (5 * 2 ^ 52) *ℤ (pos 3 *ℤ m)) ≤ℤ (pos (3 * unit) *ℤ t))
+        × ((pos (3 * unit) *ℤ t) ≤ℤ (pos (5 * 2 ^ 52) *ℤ (pos 3 *ℤ m)))
+    sizes = over 2 _ λ ρ. simp (poly, ρ) (omega arith)
+
+pub units-fit : (n : ℤ) (d : ℤ) → Units n d → SFits w64 n
+units-fit = over 2 _ λ ρ. simp (poly, ρ) (omega arith)
+
+-- 2^30 times 3m is what the weights sum to
+pub by-weights : (n : ℤ) (m : ℕ) → round n (pos (2 ^ 30) *ℤ pos (3 * m)) ≡ round n (pos (3 * unit) *ℤ pos m)
+by-weights n m = ap (λ (k : ℕ). round n (pos k)) (same m)
+  where
+    same : (m : ℕ) → 2 ^ 30 * (3 * m) ≡ 3 * unit * m
+    same m = omega arith
+
+pub by-count : (t : ℤ) (m : ℕ) → leastSides ≤ m → round (pos (3 * unit) *ℤ t) (pos (2 ^ 30) *ℤ pos (3 * m)) ≡ round t (pos m)
+by-count t m l = by-weights (pos (3 * unit) *ℤ t) m ∙ round-scale (pos (3 * unit)) t (pos m) (ltZ-yes tt) (simp diff (omega arith))

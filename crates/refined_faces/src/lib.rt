@@ -1,5 +1,5 @@
-// Face points on one axis: the centre of a refined face and its points towards the two sides at a corner. The face of a vertex and the
-// face of a mesh face are rings, gone round by a column of the table of corners; the four-sided face of an edge is given by its points.
+// Face points: the centre of a refined face and its points towards the two sides at a corner. The face of a vertex and the face of a mesh face
+// are rings, gone round once for the three axes by a column of the table of corners; the four-sided face of an edge is given by its points.
 use numbers::cosines;
 use numbers::rounding;
 use paper::UNIT;
@@ -8,13 +8,15 @@ use walk::Walker;
 ghost use mathlib.Core.Path.{_≡_};
 ghost use Prim.Native.Nat.{_+_, _-_, _*_, _≤_, _<_};
 ghost use lib.ListN.{length};
+ghost use lib.IntN.{pos};
 ghost use Rattle.paper.specs.Mesh.{leastSides, mostSides};
 ghost use Rattle.paper.specs.Cosines.{cosine};
 ghost use Rattle.paper.specs.Face.{weight};
 ghost use Rattle.numbers.specs.Stored.{stored};
 ghost use Rattle.surface.specs.Points.{pointRow, pointAt};
 ghost use Rattle.surface.specs.Sizes.{RefinedSize};
-ghost use Rattle.refined_faces.specs.Ring.{around, Ring, Summed, Divisible, Divided, IsFace, IsEdgeFace};
+ghost use Rattle.numbers.specs.Units.{Reciprocal};
+ghost use Rattle.refined_faces.specs.Ring.{around, Rings, Addable, Added, AllSummed, Divisible, AllDivisible, Divided, AllDivided, Readable, AreFaces, IsThreeFace, IsEdgeFace};
 
 // What the weights of a ring sum to for each of its corners, where the table has UNIT for 1.
 const WEIGHTS: i64 = 3 * UNIT;
@@ -26,11 +28,24 @@ pub struct Face {
     pub behind: i64,
 }
 
+// One on each axis.
+pub struct Faces {
+    pub x: Face,
+    pub y: Face,
+    pub z: Face,
+}
+
 // What a ring is summed to before the divisions.
 pub struct Sums {
     pub total: i64,
     pub ahead: i64,
     pub behind: i64,
+}
+
+pub struct RingSums {
+    pub x: Sums,
+    pub y: Sums,
+    pub z: Sums,
 }
 
 // The weight of a place of a ring, and the cosine that the next one shares with it.
@@ -67,95 +82,92 @@ fn weight_after(rows: &cosines::Rows, m: usize, j: usize, last: i64) -> Weight
     }
 }
 
-// One way round the ring of m corners at c. It is called with a column that the compiler sees, and put in line.
-pub fn ring_sums(
+// The sums with one place more: its point v, and its weights w ahead and u behind.
+fn add_place(s: Sums, v: i64, w: i64, u: i64) -> Sums
+    requires { ⌜ Addable s v w u ⌝ }
+    ensures { λ r. ⌜ Added s v w u r ⌝ }
+{
+    Sums {
+        total: s.total + v,
+        ahead: s.ahead + v * w,
+        behind: s.behind + v * u,
+    }
+}
+
+// One way round the ring of m corners at c.
+fn ring_sums(
     points: &[i32],
-    axis: usize,
     table: &[u16],
     column: usize,
     rows: &cosines::Rows,
     c: usize,
     m: usize,
-) -> Sums
-    requires ring { ⌜ Ring (now points) axis (now table) column c m ⌝ }
+) -> RingSums
+    requires ring { ⌜ Rings (now points) (now table) column c m ⌝ }
     requires rows { ⌜ now rows ≡ stored ⌝ }
-    ensures { λ r. ⌜ Summed (around (now (points .entry)) axis (now (table .entry)) column c) m r ⌝ }
+    ensures { λ r. ⌜ AllSummed (λ a. around (now (points .entry)) a (now (table .entry)) column c) m m r ⌝ }
 {
-    let mut total: i64 = 0;
-    let mut ahead: i64 = 0;
-    let mut behind: i64 = 0;
+    let mut x = Sums {
+        total: 0,
+        ahead: 0,
+        behind: 0,
+    };
+    let mut y = x;
+    let mut z = x;
     let first = weight_after(rows, m, m - 1, cosines::cosine(rows, m, m - 1));
     let mut w = first.weight;
     let mut last = first.cosine;
     let mut at = Walker { corner: c };
     let mut j: usize = 0;
     while j < m {
-        let v = point(points, axis, at.corner);
         let u = weight_after(rows, m, j, last);
-        total += v;
-        ahead += v * w;
-        behind += v * u.weight;
+        x = add_place(x, point(points, 0, at.corner), w, u.weight);
+        y = add_place(y, point(points, 1, at.corner), w, u.weight);
+        z = add_place(z, point(points, 2, at.corner), w, u.weight);
         w = u.weight;
         last = u.cosine;
         at = at.by(table, column);
         j += 1;
     }
-    Sums {
-        total: total,
-        ahead: ahead,
-        behind: behind,
-    }
+    RingSums { x: x, y: y, z: z }
 }
 
-// The face that the sums of a ring of m corners come to.
-fn quotients(s: Sums, m: usize) -> Face
-    requires count { ⌜ (leastSides ≤ m) × (m ≤ mostSides) ⌝ }
-    requires sums { ⌜ Divisible s ⌝ }
+// The face that the sums of a ring of m corners come to; f is the reciprocal of 3m.
+fn quotients(s: Sums, m: usize, f: u64) -> Face
+    requires count { ⌜ (leastSides ≤ m) × (m ≤ mostSides) × Reciprocal (pos (3 * m)) f ⌝ }
+    requires sums { ⌜ Divisible s m ⌝ }
     ensures { λ r. ⌜ Divided s m r ⌝ }
 {
-    let n = m as i64;
-    let w = WEIGHTS * n;
+    let d = 3 * m as i64;
     Face {
-        centre: rounding::round_div(s.total, n),
-        ahead: rounding::round_div(s.ahead, w),
-        behind: rounding::round_div(s.behind, w),
+        centre: rounding::unit_quotient(WEIGHTS * s.total, d, f),
+        ahead: rounding::unit_quotient(s.ahead, d, f),
+        behind: rounding::unit_quotient(s.behind, d, f),
     }
 }
 
-// The same, with each count written out, so that each division is a product and a shift.
-pub fn divide(s: Sums, m: usize) -> Face
+// The same on the three axes, by one reciprocal.
+fn divide(s: RingSums, m: usize) -> Faces
     requires count { ⌜ (leastSides ≤ m) × (m ≤ mostSides) ⌝ }
-    requires sums { ⌜ Divisible s ⌝ }
-    ensures { λ r. ⌜ Divided s m r ⌝ }
+    requires sums { ⌜ AllDivisible s m ⌝ }
+    ensures { λ r. ⌜ AllDivided s m r ⌝ }
 {
-    match m {
-        5 => quotients(s, 5),
-        6 => quotients(s, 6),
-        7 => quotients(s, 7),
-        8 => quotients(s, 8),
-        9 => quotients(s, 9),
-        10 => quotients(s, 10),
-        11 => quotients(s, 11),
-        12 => quotients(s, 12),
-        13 => quotients(s, 13),
-        14 => quotients(s, 14),
-        15 => quotients(s, 15),
-        16 => quotients(s, 16),
-        _ => quotients(s, m),
+    let f = rounding::reciprocal(3 * m as i64);
+    Faces {
+        x: quotients(s.x, m, f),
+        y: quotients(s.y, m, f),
+        z: quotients(s.z, m, f),
     }
 }
 
-// The refined face of three corners: row 3 of the cosine table is exact, so the weights are 4/9, 4/9, 1/9.
-pub fn ring_of_three(points: &[i32], axis: usize, table: &[u16], column: usize, c: usize) -> Face
-    requires { ⌜ Ring (now points) axis (now table) column c 3 ⌝ }
-    ensures { λ r. ⌜ IsFace (around (now (points .entry)) axis (now (table .entry)) column c) 3 0 2 r ⌝ }
+// The refined face of three corners in turn on an axis: row 3 of the cosine table is exact, so the weights are 4/9, 4/9, 1/9.
+fn three_on(points: &[i32], axis: usize, c: usize, d: usize, e: usize) -> Face
+    requires { ⌜ Readable (now points) axis c × Readable (now points) axis d × Readable (now points) axis e ⌝ }
+    ensures { λ r. ⌜ IsThreeFace (pointAt (now (points .entry)) axis c) (pointAt (now (points .entry)) axis d) (pointAt (now (points .entry)) axis e) r ⌝ }
 {
-    let here = Walker { corner: c };
-    let second = here.by(table, column);
-    let third = second.by(table, column);
     let v = point(points, axis, c);
-    let w = point(points, axis, second.corner);
-    let x = point(points, axis, third.corner);
+    let w = point(points, axis, d);
+    let x = point(points, axis, e);
     Face {
         centre: formulas::mean_of_three(v, w, x),
         ahead: formulas::toward_of_three(v, w, x),
@@ -163,21 +175,68 @@ pub fn ring_of_three(points: &[i32], axis: usize, table: &[u16], column: usize, 
     }
 }
 
-// The refined face of four corners: row 4 is exact too, and the weights are those of an edge's face.
-pub fn ring_of_four(points: &[i32], axis: usize, table: &[u16], column: usize, c: usize) -> Face
-    requires { ⌜ Ring (now points) axis (now table) column c 4 ⌝ }
-    ensures { λ r. ⌜ IsFace (around (now (points .entry)) axis (now (table .entry)) column c) 4 0 3 r ⌝ }
+fn ring_of_three(points: &[i32], table: &[u16], column: usize, c: usize) -> Faces
+    requires { ⌜ Rings (now points) (now table) column c 3 ⌝ }
+    ensures { λ r. ⌜ AreFaces (λ a. around (now (points .entry)) a (now (table .entry)) column c) 3 0 2 r ⌝ }
+{
+    let here = Walker { corner: c };
+    let second = here.by(table, column);
+    let third = second.by(table, column);
+    Faces {
+        x: three_on(points, 0, c, second.corner, third.corner),
+        y: three_on(points, 1, c, second.corner, third.corner),
+        z: three_on(points, 2, c, second.corner, third.corner),
+    }
+}
+
+// The refined face of four corners in turn: row 4 is exact too, and the weights are those of an edge's face.
+fn four_on(points: &[i32], axis: usize, c: usize, d: usize, e: usize, f: usize) -> Face
+    requires { ⌜ Readable (now points) axis c × Readable (now points) axis d × Readable (now points) axis e × Readable (now points) axis f ⌝ }
+    ensures { λ r. ⌜ IsEdgeFace (pointAt (now (points .entry)) axis c) (pointAt (now (points .entry)) axis d) (pointAt (now (points .entry)) axis e) (pointAt (now (points .entry)) axis f) r ⌝ }
+{
+    let v = point(points, axis, c);
+    let w = point(points, axis, d);
+    let x = point(points, axis, e);
+    let y = point(points, axis, f);
+    edge_face(v, w, x, y)
+}
+
+fn ring_of_four(points: &[i32], table: &[u16], column: usize, c: usize) -> Faces
+    requires { ⌜ Rings (now points) (now table) column c 4 ⌝ }
+    ensures { λ r. ⌜ AreFaces (λ a. around (now (points .entry)) a (now (table .entry)) column c) 4 0 3 r ⌝ }
 {
     let here = Walker { corner: c };
     let second = here.by(table, column);
     let third = second.by(table, column);
     let fourth = third.by(table, column);
-    edge_face(
-        point(points, axis, c),
-        point(points, axis, second.corner),
-        point(points, axis, third.corner),
-        point(points, axis, fourth.corner),
-    )
+    Faces {
+        x: four_on(points, 0, c, second.corner, third.corner, fourth.corner),
+        y: four_on(points, 1, c, second.corner, third.corner, fourth.corner),
+        z: four_on(points, 2, c, second.corner, third.corner, fourth.corner),
+    }
+}
+
+// The refined face of the ring of m corners at c, on the three axes.
+pub fn ring_faces(
+    points: &[i32],
+    table: &[u16],
+    column: usize,
+    rows: &cosines::Rows,
+    c: usize,
+    m: usize,
+) -> Faces
+    requires ring { ⌜ Rings (now points) (now table) column c m ⌝ }
+    requires rows { ⌜ now rows ≡ stored ⌝ }
+    ensures { λ r. ⌜ AreFaces (λ a. around (now (points .entry)) a (now (table .entry)) column c) m 0 (m - 1) r ⌝ }
+{
+    match m {
+        3 => ring_of_three(points, table, column, c),
+        4 => ring_of_four(points, table, column, c),
+        _ => {
+            let s = ring_sums(points, table, column, rows, c, m);
+            divide(s, m)
+        }
+    }
 }
 
 // The four-sided refined face of an edge, from its points in turn: row 4 of the table is exact, so the weights are fractions.

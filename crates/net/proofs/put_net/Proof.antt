@@ -15,7 +15,7 @@ use Rattle.surface.specs.Sizes.{FaceSize}
 use Rattle.walk.specs.Table.{tabled}
 use Rattle.refined_faces.proofs.Laws.{plain, cosine-plain}
 use Rattle.net_sides.proofs.Laws.{vertex-ring, face-ring}
-use Rattle.net.specs.Near.{PointsTaken, near}
+use Rattle.net_near.specs.Near.{PointsTaken, near}
 use Rattle.net.proofs.Lanes.{near-fine, cosine-fine, cosine-fine-2, ready, net-put}
 use Rattle.net.proofs.put_net.Statement.{statement}
 use Rattle.net.proofs.put_net.Tie as tie
@@ -42,7 +42,7 @@ module _ (a : tie.After-take-points) where
   face-bounds = rw sides-is (start .pre .0 .0 .sound .sides-least _ (start .pre .0 .1), start .pre .0 .0 .sound .sides-most _ (start .pre .0 .1))
 
   taken : PointsTaken (start .args .points .now) (near (tabled (start .args .count) (start .args .table .now)) (start .args .c)) 11
-      (a .before .before .before .before .take-mesh-face .last .1 .1 .1 .1 .1 .0) (a .take-points .last .1 .1 .0)
+      (a .before .before .before .before .take-ring2 .last .1 .1 .1 .1 .1 .1 .0) (a .take-points .last .1 .1 .0)
   taken = rw (a .before .before .corners-near .ensures) at (a .take-points .ensures)
 
 valence-requires : tie.Need-valence-requires
@@ -51,18 +51,18 @@ valence-requires c κs = search needs
 sides-requires : tie.Need-sides-requires
 sides-requires c κs = search needs
 
-take-vertex-requires : tie.Need-take-vertex-requires
-take-vertex-requires c κs =
+take-ring-requires : tie.Need-take-ring-requires
+take-ring-requires c κs =
     let s = c .before .before .before .before in (
       λ a l. vertex-ring _ _ _ _ a (s .pre .0 .0, s .pre .0 .1, l) _ (c .before .before .valence .ensures .read),
       (s .pre .1 .1 .1, omega (arith, s .pre .1 .0 .0)),
     )
 
-take-mesh-face-requires : tie.Need-take-mesh-face-requires
-take-mesh-face-requires c κs =
+take-ring-requires-2 : tie.Need-take-ring-requires-2
+take-ring-requires-2 c κs =
     let s = c .before .before .before .before .before .before .before in (
       λ a l. face-ring _ _ _ _ a (s .pre .0 .0, s .pre .0 .1, l) _ (c .before .before .before .before .sides .ensures .read),
-      (s .pre .1 .1 .1, omega (arith, s .pre .1 .0 .0, c .before .before .take-vertex .ensures .same)),
+      (s .pre .1 .1 .1, omega (arith, s .pre .1 .0 .0, c .before .before .take-ring .ensures .same)),
     )
 
 corners-near-requires : tie.Need-corners-near-requires
@@ -75,9 +75,9 @@ take-points-requires c κs =
       omega (
         arith,
         s .pre .1 .0 .0,
-        c .before .before .before .take-mesh-face .ensures .same,
+        c .before .before .before .take-ring2 .ensures .same,
         c .before .before .before .before .before .before
-            .take-vertex .ensures .same,
+            .take-ring .ensures .same,
       ),
     )
 
@@ -94,8 +94,8 @@ fill-lanes-requires c κs =
     let v = cosine-plain _ 1 (vertex-bounds a .0) (vertex-bounds a .1) _ (c .before .before .before .cosine .ensures) in
     let w = cosine-plain _ 1 (face-bounds a .0) (face-bounds a .1) _ (c .before .before .cosine2 .ensures) in (
       ready (s .args .count) (s .args .table .now) (s .args .points .now) (s .args .c) (s .pre .0) _ _ (valence-is a) (sides-is a) (s .args .near .now) _ _ _
-          (s .pre .1 .0 .0) (a .before .before .before .before .before .before .before .take-vertex .ensures) (a .before .before .before .before
-          .take-mesh-face .ensures) (taken a),
+          (s .pre .1 .0 .0) (a .before .before .before .before .before .before .before .take-ring .ensures) (a .before .before .before .before
+          .take-ring2 .ensures) (taken a),
       rw v (cosine-fine (s .args .count) (s .args .table .now) (s .args .points .now) (s .args .c) (s .pre .0) _ (valence-is a)),
       rw w (cosine-fine-2 (s .args .count) (s .args .table .now) (s .args .points .now) (s .args .c) (s .pre .0) _ (sides-is a)),
       s .pre .1 .0 .1,
@@ -124,8 +124,8 @@ returns c =
     let v = cosine-plain _ 1 (vertex-bounds a .0) (vertex-bounds a .1) _ (f .before .before .before .before .cosine .ensures) in
     let w = cosine-plain _ 1 (face-bounds a .0) (face-bounds a .1) _ (f .before .before .before .cosine2 .ensures) in
     net-put (s .args .count) (s .args .table .now) (s .args .points .now) (s .args .c) (s .pre .0) _ _ (valence-is a) (sides-is a) (s .args .near .now) _ _ _
-    (s .pre .1 .0 .0) (a .before .before .before .before .before .before .before .take-vertex .ensures) (a .before .before .before .before
-    .take-mesh-face .ensures) (taken a) _ _ _ (s .args .at) (s .args .out .now) _ v w
+    (s .pre .1 .0 .0) (a .before .before .before .before .before .before .before .take-ring .ensures) (a .before .before .before .before
+    .take-ring2 .ensures) (taken a) _ _ _ (s .args .at) (s .args .out .now) _ v w
     (f .fill-lanes .ensures) (c .before .copy .ensures)
 
 pub put-net-spec : {M : Type 1} → statement M
@@ -134,8 +134,8 @@ put-net-spec =
     (tie.spec
     valence-requires
     sides-requires
-    take-vertex-requires
-    take-mesh-face-requires
+    take-ring-requires
+    take-ring-requires-2
     corners-near-requires
     take-points-requires
     cosine-requires

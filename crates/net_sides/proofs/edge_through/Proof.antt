@@ -3,7 +3,8 @@
 use borrow.Author.Needs.{needs}
 use mir.Syntax.{w64}
 use mir.Val.{SFits}
-use Rattle.net_sides.proofs.Laws.{corner-plain, edge-plain}
+use Rattle.refined_faces.proofs.Laws.{corner-plain}
+use Rattle.net_sides.proofs.Laws.{edge-plain}
 use Rattle.net_sides.proofs.edge_through.Statement.{statement}
 use Rattle.net_sides.proofs.edge_through.Tie as tie
 

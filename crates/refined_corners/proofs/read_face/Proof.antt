@@ -29,8 +29,8 @@ steps z f = rw (toZ-ofZ f, toZ-ofZ (in-width z f)) (shift-floor z 256)
 shared-slice-read-n : tie.Need-shared-slice-read-n
 shared-slice-read-n c = search needs
 
-reciprocal-requires : tie.Need-reciprocal-requires
-reciprocal-requires c κs = search needs
+side-reciprocal-requires : tie.Need-side-reciprocal-requires
+side-reciprocal-requires c κs = search needs
 
 mul-x : tie.Need-mul-x
 mul-x c = search needs
@@ -71,7 +71,7 @@ returns c =
     record {
       index-is = refl;
       sides-are = refl;
-      reciprocal-is = c .before .before .before .reciprocal .ensures;
+      reciprocal-is = c .before .before .before .side-reciprocal .ensures;
       xs = steps _ (search needs);
       ys = steps _ (search needs);
       zs = steps _ (search needs);
@@ -82,7 +82,7 @@ read-face-spec =
     tie.close
     (tie.spec
     shared-slice-read-n
-    reciprocal-requires
+    side-reciprocal-requires
     mul-x
     mul-x-2
     shared-slice-copy-out-x

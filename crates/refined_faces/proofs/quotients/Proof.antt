@@ -1,54 +1,74 @@
--- `refined_faces::quotients` meets its contract: three divisions with the same rounding.
+-- `refined_faces::quotients` meets its contract: three divisions with the same rounding, that of the points scaled by what the weights sum to.
 -- Assumes nothing.
+use mathlib.Core.Path.{_≡_, _∙_}
+use Prim.Native.Nat.{ℕ, _*_}
 use borrow.Author.Needs.{needs}
+use lib.IntN.{ℤ, pos, _*ℤ_}
 use mir.Syntax.{w64}
 use mir.Val.{SFits}
 use mir.Facts.{toZ-ofZ}
-use Rattle.refined_faces.proofs.Laws.{Divisors, divisors, dividend, quotient}
+use Rattle.paper.specs.Cosines.{unit}
+use Rattle.numbers.specs.Units.{Units}
+use Rattle.refined_faces.proofs.Laws.{Divisor, divisor, scaled, units-fit, by-weights, by-count}
 use Rattle.refined_faces.proofs.quotients.Statement.{statement}
 use Rattle.refined_faces.proofs.quotients.Tie as tie
 
-divided-by : (s : tie.Start) → Divisors (s .args .m)
-divided-by s = divisors (s .args .m) (s .pre .0 .0) (s .pre .0 .1)
+module _ (s : tie.Start) where
+  by : Divisor (s .args .m)
+  by = divisor (s .args .m) (s .pre .0 .0) (s .pre .0 .1)
 
-cast-n : tie.Need-cast-n
-cast-n c = search needs
+  total : SFits w64 (s .args .s .total) × SFits w64 (pos (3 * unit) *ℤ s .args .s .total) × Units (pos (3 * unit) *ℤ s .args .s .total) (pos (3 * s .args .m))
+  total = scaled (s .args .s .total) (s .args .m) (s .pre .0 .0) (s .pre .0 .1) (s .pre .1 .total)
 
-mul-w : tie.Need-mul-w
-mul-w c = let d = divided-by c in rw (d .count-is) (d .weights-fit)
+  ahead : SFits w64 (s .args .s .ahead)
+  ahead = units-fit _ _ (s .pre .1 .ahead)
 
-round-div-requires : tie.Need-round-div-requires
-round-div-requires c κs =
-    let s = c .before in
-    let d = divided-by s in
-    rw (d .count-is) (d .count .0, (d .count .1, dividend (s .args .s .total) (s .pre .1 .total)))
+  behind : SFits w64 (s .args .s .behind)
+  behind = units-fit _ _ (s .pre .1 .behind)
 
-round-div-requires-2 : tie.Need-round-div-requires-2
-round-div-requires-2 c κs =
-    let s = c .before .before .before in
-    let d = divided-by s in
-    rw (d .count-is, toZ-ofZ (d .weights-fit)) (d .weights .0, (d .weights .1, dividend (s .args .s .ahead) (s .pre .1 .ahead)))
+cast-d : tie.Need-cast-d
+cast-d c = search needs
 
-round-div-requires-3 : tie.Need-round-div-requires-3
-round-div-requires-3 c κs =
-    let s = c .before .before .before .before .before in
-    let d = divided-by s in
-    rw (d .count-is, toZ-ofZ (d .weights-fit)) (d .weights .0, (d .weights .1, dividend (s .args .s .behind) (s .pre .1 .behind)))
+mul-d : tie.Need-mul-d
+mul-d c = rw (by c .count-is) (by c .fits)
+
+mul-unit-quotient : tie.Need-mul-unit-quotient
+mul-unit-quotient c = let t = total (c .before .before) in rw (toZ-ofZ (t .0)) (t .1)
+
+unit-quotient-requires : tie.Need-unit-quotient-requires
+unit-quotient-requires c κs =
+    let s = c .before .before in
+    let t = total s in
+    rw (by s .count-is, toZ-ofZ (by s .fits), toZ-ofZ (t .0), toZ-ofZ (t .1)) (t .2, s .pre .0 .2)
+
+unit-quotient-requires-2 : tie.Need-unit-quotient-requires-2
+unit-quotient-requires-2 c κs =
+    let s = c .before .before .before .before in
+    rw (by s .count-is, toZ-ofZ (by s .fits), toZ-ofZ (ahead s)) (s .pre .1 .ahead, s .pre .0 .2)
+
+unit-quotient-requires-3 : tie.Need-unit-quotient-requires-3
+unit-quotient-requires-3 c κs =
+    let s = c .before .before .before .before .before .before in
+    rw (by s .count-is, toZ-ofZ (by s .fits), toZ-ofZ (behind s)) (s .pre .1 .behind, s .pre .0 .2)
 
 returns : tie.Need-returns
 returns c =
-    let s = c .before .before .before .before .before .before in
-    let d = divided-by s in
-    let e : SFits w64 (c .before .before .before .before .round-div .result) = search needs in
-    let f : SFits w64 (c .before .before .round-div2 .result) = search needs in
-    let g : SFits w64 (c .round-div3 .result) = search needs in
+    let s = c .before .before .before .before .before .before .before in
+    let t = total s in
+    let e : SFits w64 (c .before .before .before .before .unit-quotient .result) = search needs in
+    let f : SFits w64 (c .before .before .unit-quotient2 .result) = search needs in
+    let g : SFits w64 (c .unit-quotient3 .result) = search needs in
     record {
-      centre = quotient (s .args .s .total) _ _ (s .pre .1 .total) e (rw (d .count-is) at (c .before .before .before .before .round-div .ensures));
-      ahead = quotient (s .args .s .ahead) _ _ (s .pre .1 .ahead) f (rw (d .count-is, toZ-ofZ (d .weights-fit)) at (c .before .before .round-div2 .ensures));
-      behind = quotient (s .args .s .behind) _ _ (s .pre .1 .behind) g (rw (d .count-is, toZ-ofZ (d .weights-fit)) at (c .round-div3 .ensures));
+      centre = toZ-ofZ e
+          ∙ (rw (by s .count-is, toZ-ofZ (by s .fits), toZ-ofZ (t .0), toZ-ofZ (t .1)) at (c .before .before .before .before .unit-quotient .ensures))
+          ∙ by-count (s .args .s .total) (s .args .m) (s .pre .0 .0);
+      ahead = toZ-ofZ f ∙ (rw (by s .count-is, toZ-ofZ (by s .fits), toZ-ofZ (ahead s)) at (c .before .before .unit-quotient2 .ensures))
+          ∙ by-weights (s .args .s .ahead) (s .args .m);
+      behind = toZ-ofZ g ∙ (rw (by s .count-is, toZ-ofZ (by s .fits), toZ-ofZ (behind s)) at (c .unit-quotient3 .ensures))
+          ∙ by-weights (s .args .s .behind) (s .args .m);
     }
 
 pub quotients-spec : {M : Type 1} → statement M
 quotients-spec =
     tie.close
-    (tie.spec cast-n mul-w round-div-requires round-div-requires-2 round-div-requires-3 returns)
+    (tie.spec cast-d mul-d mul-unit-quotient unit-quotient-requires unit-quotient-requires-2 unit-quotient-requires-3 returns)

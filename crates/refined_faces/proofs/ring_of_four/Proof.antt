@@ -1,58 +1,67 @@
--- `refined_faces::ring_of_four` meets its contract: a ring of four is the face of its points in turn.
+-- `refined_faces::ring_of_four` meets its contract: the walk takes three steps, and on each axis the face is that of the points there.
 -- Assumes nothing.
-use Rattle.refined_faces.proofs.Laws.{Met, met-here, met-next, held, point-ring}
+use Prim.Native.Nat.{ℕ, _<_}
+use lib.Dec.{lit<}
+use Rattle.surface.specs.Points.{pointAt}
+use Rattle.refined_faces.specs.Ring.{around, Readable, IsFace, IsEdgeFace}
+use Rattle.refined_faces.specs.declared.Face.{Face}
+use Rattle.refined_faces.proofs.Laws.{Met, met-here, met-next, readable, held, point-ring}
 use Rattle.refined_faces.proofs.ring_of_four.Statement.{statement}
 use Rattle.refined_faces.proofs.ring_of_four.Tie as tie
 
-second : (a : tie.After-by) → Met _ _ _ _ _ _ (a .before .before .pre) 1 (a .by .result .corner)
-second a = met-next _ _ _ _ _ _ _ 0 _ _ (met-here _ _ _ _ _ _ (a .before .before .pre)) (a .by .ensures)
+module _ (axis : ℕ) (l : axis < 3) where
+  second : (a : tie.After-by) → Met _ _ _ _ _ _ (a .before .before .pre axis l) 1 (a .by .result .corner)
+  second a = met-next _ _ _ _ _ _ _ 0 _ _ (met-here _ _ _ _ _ _ (a .before .before .pre axis l)) (a .by .ensures)
 
-third : (a : tie.After-by2) → Met _ _ _ _ _ _ (a .before .before .before .pre) 2 (a .by2 .result .corner)
-third a = met-next _ _ _ _ _ _ _ 1 _ _ (second (a .before)) (a .by2 .ensures)
+  third : (a : tie.After-by2) → Met _ _ _ _ _ _ (a .before .before .before .pre axis l) 2 (a .by2 .result .corner)
+  third a = met-next _ _ _ _ _ _ _ 1 _ _ (second (a .before)) (a .by2 .ensures)
 
-fourth : (a : tie.After-by3) → Met _ _ _ _ _ _ (a .before .before .before .before .pre) 3 (a .by3 .result .corner)
-fourth a = met-next _ _ _ _ _ _ _ 2 _ _ (third (a .before)) (a .by3 .ensures)
+  fourth : (a : tie.After-by3) → Met _ _ _ _ _ _ (a .before .before .before .before .pre axis l) 3 (a .by3 .result .corner)
+  fourth a = met-next _ _ _ _ _ _ _ 2 _ _ (third (a .before)) (a .by3 .ensures)
+
+  points-at : (a : tie.After-by3) → Readable (a .before .before .before .before .args .points .now) axis (a .before .before .before .before .args .c) × Readable (a .before .before .before .before .args .points .now) axis (a .before .before .by .result .corner) × Readable (a .before .before .before .before .args .points .now) axis (a .before .by2 .result .corner) × Readable (a .before .before .before .before .args .points .now) axis (a .by3 .result .corner)
+  points-at a = (
+    readable _ _ _ _ _ _ _ _ _ (met-here _ _ _ _ _ _ (a .before .before .before .before .pre axis l)),
+    readable _ _ _ _ _ _ _ _ _ (second (a .before .before)),
+    readable _ _ _ _ _ _ _ _ _ (third (a .before)),
+    readable _ _ _ _ _ _ _ _ _ (fourth a),
+  )
+
+  face-at : (a : tie.After-by3) (f : Face) → IsEdgeFace (pointAt (a .before .before .before .before .args .points .now) axis (a .before .before .before .before .args .c)) (pointAt (a .before .before .before .before .args .points .now) axis (a .before .before .by .result .corner)) (pointAt (a .before .before .before .before .args .points .now) axis (a .before .by2 .result .corner)) (pointAt (a .before .before .before .before .args .points .now) axis (a .by3 .result .corner)) f
+      → IsFace (around (a .before .before .before .before .args .points .now) axis (a .before .before .before .before .args .table .now) (a .before .before .before .before .args .column) (a .before .before .before .before .args .c)) 4 0 3 f
+  face-at a f h =
+      h .faces _ (point-ring _ _ _ _ _ _ (a .before .before .before .before .pre axis l) .cyclic) 0
+      (held _ _ _ _ _ _ _ _ _ (met-here _ _ _ _ _ _ (a .before .before .before .before .pre axis l)))
+      (held _ _ _ _ _ _ _ _ _ (second (a .before .before)))
+      (held _ _ _ _ _ _ _ _ _ (third (a .before)))
+      (held _ _ _ _ _ _ _ _ _ (fourth a))
 
 by-requires : tie.Need-by-requires
-by-requires c κs = let r = c .before .pre in r .table-holds _ (r .here)
+by-requires c κs = let r = c .before .pre 0 (lit< tt) in r .table-holds _ (r .here)
 
 by-requires-2 : tie.Need-by-requires-2
-by-requires-2 c κs = c .before .before .pre .table-holds _ (second c .inside)
+by-requires-2 c κs = c .before .before .pre 0 (lit< tt) .table-holds _ (second 0 (lit< tt) c .inside)
 
 by-requires-3 : tie.Need-by-requires-3
-by-requires-3 c κs = c .before .before .before .pre .table-holds _ (third c .inside)
+by-requires-3 c κs = c .before .before .before .pre 0 (lit< tt) .table-holds _ (third 0 (lit< tt) c .inside)
 
-point-requires : tie.Need-point-requires
-point-requires c κs = let r = c .before .before .before .before .pre in r .points-hold _ (r .here)
+four-on-requires : tie.Need-four-on-requires
+four-on-requires c κs = points-at 0 (lit< tt) c
 
-point-requires-2 : tie.Need-point-requires-2
-point-requires-2 c κs = c .before .before .before .before .before .pre .points-hold _ (second (c .before .before .before) .inside)
+four-on-requires-2 : tie.Need-four-on-requires-2
+four-on-requires-2 c κs = points-at 1 (lit< tt) (c .before)
 
-point-requires-3 : tie.Need-point-requires-3
-point-requires-3 c κs = c .before .before .before .before .before .before .pre .points-hold _ (third (c .before .before .before) .inside)
-
-point-requires-4 : tie.Need-point-requires-4
-point-requires-4 c κs = c .before .before .before .before .before .before .before .pre .points-hold _ (fourth (c .before .before .before) .inside)
-
-edge-face-requires : tie.Need-edge-face-requires
-edge-face-requires c κs =
-    let a = c .before .before .before .before in (
-      held _ _ _ _ _ _ _ _ _ _ (met-here _ _ _ _ _ _ (a .before .before .before .before .pre)) (c .before .before .before .point .ensures) .1,
-      held _ _ _ _ _ _ _ _ _ _ (second (a .before .before)) (c .before .before .point2 .ensures) .1,
-      held _ _ _ _ _ _ _ _ _ _ (third (a .before)) (c .before .point3 .ensures) .1,
-      held _ _ _ _ _ _ _ _ _ _ (fourth a) (c .point4 .ensures) .1,
-    )
+four-on-requires-3 : tie.Need-four-on-requires-3
+four-on-requires-3 c κs = points-at 2 (lit< tt) (c .before .before)
 
 returns : tie.Need-returns
 returns c =
-    let p = c .before in
-    let a = p .before .before .before .before in
-    let r = a .before .before .before .before .pre in
-    c .edge-face .ensures .faces _ (point-ring _ _ _ _ _ _ r .cyclic) 0
-    (held _ _ _ _ _ _ _ _ _ _ (met-here _ _ _ _ _ _ r) (p .before .before .before .point .ensures) .0)
-    (held _ _ _ _ _ _ _ _ _ _ (second (a .before .before)) (p .before .before .point2 .ensures) .0)
-    (held _ _ _ _ _ _ _ _ _ _ (third (a .before)) (p .before .point3 .ensures) .0)
-    (held _ _ _ _ _ _ _ _ _ _ (fourth a) (p .point4 .ensures) .0)
+    let a = c .before .before .before in
+    record {
+      x = face-at 0 (lit< tt) a _ (c .before .before .four-on .ensures);
+      y = face-at 1 (lit< tt) a _ (c .before .four-on2 .ensures);
+      z = face-at 2 (lit< tt) a _ (c .four-on3 .ensures);
+    }
 
 pub ring-of-four-spec : {M : Type 1} → statement M
 ring-of-four-spec =
@@ -61,9 +70,7 @@ ring-of-four-spec =
     by-requires
     by-requires-2
     by-requires-3
-    point-requires
-    point-requires-2
-    point-requires-3
-    point-requires-4
-    edge-face-requires
+    four-on-requires
+    four-on-requires-2
+    four-on-requires-3
     returns)

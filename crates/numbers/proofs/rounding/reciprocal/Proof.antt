@@ -1,86 +1,65 @@
--- `rounding::reciprocal` meets its contract: each number is checked by computing, and what is left of the sides is 16.
+-- `rounding::reciprocal` meets its contract: the quotient of 2^37 + d - 1 by d, rounded down.
 -- Assumes nothing.
-use mathlib.Core.Path.{_≡_}
-use Prim.Native.Nat.{ℕ, _+_, _≤_, _<_}
+use mathlib.Core.Path.{_≡_, refl}
+use Prim.Native.Nat.{ℕ, _+_, _-_, _/_, _^_, _≤_, _<_}
+use native.Mathlib.Nat.{div-le-self, le-trans}
 use native.Mathlib.Omega.{arith}
-use borrow.Author.Needs.{needs}
-use lib.Dec.{lit<, lit≤}
+use lib.Dec.{T}
+use lib.IntN.{ℤ, pos, negsuc, natAbs, _+ℤ_, _*ℤ_}
+use lib.Signed.{_≤ℤ_, _<ℤ_, nonNeg}
+use mir.Syntax.{w64}
+use mir.Val.{SFits}
+use mir.Facts.{toZ-ofZ}
+use Rattle.integers.proofs.Diff.{diff}
+use Rattle.integers.proofs.Poly.{over, poly}
+use Rattle.integers.proofs.Floor.{IsFloor, floor-is}
+use Rattle.paper.specs.Numbers.{floor}
+use Rattle.numbers.specs.Units.{Reciprocal}
+use Rattle.numbers.proofs.Small.{unsigned, at-least}
 use Rattle.numbers.proofs.rounding.reciprocal.Statement.{statement}
 use Rattle.numbers.proofs.rounding.reciprocal.Tie as tie
 
+abbrev Ok : ℤ → Type 0
+Ok d = (pos 1 ≤ℤ d) × (d ≤ℤ pos 48)
+
+abbrev whole : ℤ → ℤ
+whole d = pos 137438953471 +ℤ d
+
+fits : (d : ℤ) → Ok d
+    → SFits w64 (whole d) × (pos 0 ≤ℤ whole d) × (natAbs (whole d) ≤ 2 ^ 38) × (pos 0 ≤ℤ d) × (natAbs d ≤ 48) × (pos 0 <ℤ d)
+fits = over 1 _ λ ρ. simp (poly, ρ) (omega arith)
+
+near : (d q : ℤ) → IsFloor (whole d) d q → (pos (2 ^ 37) ≤ℤ (d *ℤ q)) × ((d *ℤ q) <ℤ (pos (2 ^ 37) +ℤ d))
+near = over 2 _ λ ρ. simp (poly, ρ) (omega arith)
+
+quotient : (z d : ℤ) → pos 0 ≤ℤ z → pos (natAbs z / natAbs d) ≡ floor z d
+unfolding floor
+quotient (pos a) d h = refl
+quotient (negsuc a) d h = absurd (h .le)
+
+reciprocal-is : (d : ℤ) → Ok d → Reciprocal d (natAbs (whole d) / natAbs d)
+reciprocal-is d ok =
+    let k = fits d ok in
+    near d _ (rw (quotient (whole d) d (k .1)) (floor-is (whole d) d (k .5)))
+
+add-result : tie.Need-add-result
+add-result c = rw (toZ-ofZ (c .fits .d)) (fits (c .args .d) (c .pre) .0)
+
+cast-result : tie.Need-cast-result
+cast-result c =
+    let k = fits (c .args .d) (c .pre) in
+    rw (toZ-ofZ (c .fits .d), toZ-ofZ (k .0)) (unsigned _ (k .1) .0, record { fits = omega (arith, k .2) })
+
+cast-result-2 : tie.Need-cast-result-2
+cast-result-2 c =
+    let k = fits (c .args .d) (c .pre) in
+    rw (toZ-ofZ (c .fits .d)) (unsigned _ (k .3) .0, record { fits = omega (arith, k .4) })
+
+div-result : tie.Need-div-result
+div-result c = rw (toZ-ofZ (c .fits .d)) (at-least _ 1 (c .pre .0))
+
 returns : tie.Need-returns
-returns c = search needs
-
-returns-2 : tie.Need-returns-2
-returns-2 c = search needs
-
-returns-3 : tie.Need-returns-3
-returns-3 c = search needs
-
-returns-4 : tie.Need-returns-4
-returns-4 c = search needs
-
-returns-5 : tie.Need-returns-5
-returns-5 c = search needs
-
-returns-6 : tie.Need-returns-6
-returns-6 c = search needs
-
-returns-7 : tie.Need-returns-7
-returns-7 c = search needs
-
-returns-8 : tie.Need-returns-8
-returns-8 c = search needs
-
-returns-9 : tie.Need-returns-9
-returns-9 c = search needs
-
-returns-10 : tie.Need-returns-10
-returns-10 c = search needs
-
-returns-11 : tie.Need-returns-11
-returns-11 c = search needs
-
-returns-12 : tie.Need-returns-12
-returns-12 c = search needs
-
-returns-13 : tie.Need-returns-13
-returns-13 c = search needs
-
--- a number that is none of four in turn is above them
-past : (n k : ℕ) → k ≤ n → (n ≡ k → ⊥) → (n ≡ k + 1 → ⊥) → (n ≡ k + 2 → ⊥) → (n ≡ k + 3 → ⊥) → k + 4 ≤ n
-past n k h a b c d = omega arith
-
-last : (n : ℕ) → 15 ≤ n → n ≤ 16 → (n ≡ 15 → ⊥) → n ≡ 16
-last n h l a = omega arith
-
-returns-14 : tie.Need-returns-14
-returns-14 c =
-    let s = c .before in
-    let r = c .match .rest in
-    let low = r .0 .0 .0 .0 .0 .0 .0 .0 .0 in
-    let mid = r .0 .0 .0 .0 .0 in
-    let high = r .0 in
-    let seven = past (s .args .n) 3 (s .pre .0) (low .0 .0 .0 .1) (low .0 .0 .1) (low .0 .1) (low .1) in
-    let eleven = past (s .args .n) 7 seven (mid .0 .0 .0 .1) (mid .0 .0 .1) (mid .0 .1) (mid .1) in
-    let fifteen = past (s .args .n) 11 eleven (high .0 .0 .0 .1) (high .0 .0 .1) (high .0 .1) (high .1) in
-    rw (last (s .args .n) fifteen (s .pre .1) (r .1)) (lit≤ tt, lit< tt)
+returns c = let k = fits (c .args .d) (c .pre) in rw (toZ-ofZ (c .fits .d), toZ-ofZ (k .0)) (reciprocal-is (c .args .d) (c .pre))
 
 pub reciprocal-spec : {M : Type 1} → statement M
-reciprocal-spec =
-    tie.close
-    (tie.spec
-    returns
-    returns-2
-    returns-3
-    returns-4
-    returns-5
-    returns-6
-    returns-7
-    returns-8
-    returns-9
-    returns-10
-    returns-11
-    returns-12
-    returns-13
-    returns-14)
+reciprocal-spec = tie.close (tie.spec add-result cast-result cast-result-2 div-result returns)
