@@ -19,12 +19,12 @@ use Rattle.mesh.proofs.Faces.{next-below, previous-below}
 use Rattle.mesh.proofs.Links.{link-in}
 use Rattle.mesh.proofs.Verdicts.{sound-left, sound-right, single-sound, lowest-sound, orElse-fault, orElse-sound, orElse-assoc, unsound}
 use Rattle.mesh.proofs.Accepted.{few-vertices, few-corners, sides-within, sums-of, named-of}
-use Rattle.walk.specs.Table.{rowLength, toNext, toPrevious, toLink, sidesHere, Column, KeptBut, Tabled}
+use Rattle.walk.specs.Table.{rowLength, toLink, Column, Tabled}
 use Rattle.walk.proofs.Table.{blank}
 use Rattle.columns.specs.Vertices.{Rowed}
-use Rattle.columns.specs.Chain.{EarliersTo, Ready}
-use Rattle.columns.specs.Filled.{Fillable, FacesFilled, ValencesFilled}
-use Rattle.edge_checks.specs.Entries.{Searchable, Ends}
+use Rattle.columns.specs.Chain.{EarliersTo, EarliersFrom, Ready}
+use Rattle.columns.specs.Filled.{Fillable, FacesFilled}
+use Rattle.edge_checks.specs.Entries.{Searchable, ChainsFrom, Ends, FacesKept, Valences}
 use Rattle.vertex_checks.specs.Ring.{Linking}
 use Rattle.checks.specs.Checked.{RoomFor, Checked, ListsChecked, Listed}
 
@@ -81,7 +81,6 @@ module _ (M : Mesh) (g : Listed M) where
 
     pub searchable : (vertices : List ℕ) → rowLength * cornerCount M ≤ length table → rowLength * vertexCount M ≤ length vertices
         → Ready (M .corners) old vertices → Searchable (M .corners) table vertices
-    unfolding EarliersTo
     searchable vertices lt lv r =
         record {
           small = g .small;
@@ -89,11 +88,12 @@ module _ (M : Mesh) (g : Listed M) where
           rowed = rows vertices lv;
           nexts-in = λ c l. omega (arith, g .sums, ends .nexts c l, next-below (M .sides) c (omega (arith, g .sums)));
           previouses-in = λ c l. omega (arith, g .sums, ends .previouses c l, previous-below (M .sides) c (omega (arith, g .sums)));
-          chained = record {
-            earliers-are = λ c l. f .chains c ∙ r .chained .earliers-are c l;
-            lasts-are = r .chained .lasts-are;
-          };
+          lasts = r .chained .lasts-are;
         }
+
+    pub chains : (vertices : List ℕ) → Ready (M .corners) old vertices → ChainsFrom (M .corners) table 0
+    unfolding EarliersTo EarliersFrom
+    chains vertices r c h l = f .chains c ∙ r .chained .earliers-are c h
 
 -- after 10 and 11
 abbrev pub edgeFaults : Mesh → Verdict
@@ -106,22 +106,17 @@ pub linking : (M : Mesh) (table : List ℕ) → Closed (M .sides) (M .corners) �
     → Column table toLink (link (M .sides) (M .corners)) (cornerCount M) → Linking table (cornerCount M)
 linking M table k l t = record { long = l; links-in = λ c h. omega (arith, t c h, link-in (M .sides) (M .corners) k c h) }
 
--- the table of corners, column by column: faces, then links, then valences
-pub tabled : (M : Mesh) → Listed M → (old faced linked table : List ℕ) → rowLength * cornerCount M ≤ length table
-    → FacesFilled (M .sides) old faced → KeptBut toLink faced linked → Column linked toLink (link (M .sides) (M .corners)) (cornerCount M)
-    → ValencesFilled (M .corners) linked table → Tabled (cornersOf M) table
-tabled M g old faced linked table l f k t v =
-    let apart = v .others in
+-- the table of corners, column by column: those of the faces, then links and valences
+pub tabled : (M : Mesh) → Listed M → (old faced table : List ℕ) → rowLength * cornerCount M ≤ length table → FacesFilled (M .sides) old faced
+    → FacesKept faced table → Column table toLink (link (M .sides) (M .corners)) (cornerCount M) → Valences (M .corners) table → Tabled (cornersOf M) table
+tabled M g old faced table l f k t v =
     record {
       long = l;
-      nexts = λ c h.
-          apart toNext (omega arith) (λ q. omega arith) c ∙ k toNext (omega arith) (λ q. omega arith) c ∙ f .nexts c (omega (arith, g .sums));
-      previouses = λ c h.
-          apart toPrevious (omega arith) (λ q. omega arith) c ∙ k toPrevious (omega arith) (λ q. omega arith) c ∙ f .previouses c (omega (arith, g .sums));
-      links = λ c h. apart toLink (omega arith) (λ q. omega arith) c ∙ t c h;
-      sides = λ c h.
-          apart sidesHere (omega arith) (λ q. omega arith) c ∙ k sidesHere (omega arith) (λ q. omega arith) c ∙ f .sides-are c (omega (arith, g .sums));
-      valences = v .valences;
+      nexts = λ c h. k .nexts c ∙ f .nexts c (omega (arith, g .sums));
+      previouses = λ c h. k .previouses c ∙ f .previouses c (omega (arith, g .sums));
+      links = t;
+      sides = λ c h. k .sides-are c ∙ f .sides-are c (omega (arith, g .sums));
+      valences = v;
     }
 
 -- ---- the ways out of the whole check

@@ -182,17 +182,3 @@ module _ (corners vertices : List ℕ) where
       where
         above : (d : ℕ) → c ≤ d → (d ≡ c → ⊥) → at ≤ d
         above d a n = omega (arith, n)
-
--- ---- the valences below corner c
-module _ (corners vertices old table : List ℕ) (c : ℕ) (n : CornersCounted corners vertices) (r : rowLength * c + valenceHere < length table)
-    (k : Column table valenceHere (λ d. valence corners (vertexOf corners d)) c) (o : (j : ℕ) → j < rowLength → (j ≡ valenceHere → ⊥) → Kept old table j) where
-  pub valences-step : Column (set table (rowLength * c + valenceHere) (entry vertices countHere (vertexOf corners c))) valenceHere
-      (λ d. valence corners (vertexOf corners d)) (c + 1)
-  valences-step =
-      column-put table valenceHere c (entry vertices countHere (vertexOf corners c)) (λ d. valence corners (vertexOf corners d)) r
-      (n .count-is (vertexOf corners c)) k
-
-  pub valences-kept : (j : ℕ) → j < rowLength → (j ≡ valenceHere → ⊥)
-      → Kept old (set table (rowLength * c + valenceHere) (entry vertices countHere (vertexOf corners c))) j
-  valences-kept j l q d =
-      kept-put table valenceHere c (entry vertices countHere (vertexOf corners c)) (omega arith) j l q d ∙ o j l q d

@@ -6,8 +6,8 @@ use Prim.Native.Nat.{ℕ, _*_, _<_, _≤_}
 use lib.ListN.{length, getD}
 use Rattle.paper.specs.Mesh.{leastSides, mostCorners}
 use Rattle.paper.specs.Corners.{sumOf, sidesOf, next, previous}
-use Rattle.paper.specs.Links.{vertexOf, valence, lowest}
-use Rattle.walk.specs.Table.{rowLength, toNext, toPrevious, sidesHere, valenceHere, entry, Column, Kept, KeptBut}
+use Rattle.paper.specs.Links.{valence, lowest}
+use Rattle.walk.specs.Table.{rowLength, toNext, toPrevious, sidesHere, valenceHere, entry, Column, Kept}
 use Rattle.columns.specs.Vertices.{countHere, lowestHere, Rowed}
 use Rattle.columns.specs.Chain.{Clear}
 
@@ -39,8 +39,3 @@ pub record Countable (corners vertices : List ℕ) : Type 0 where
 pub record CornersCounted (corners vertices : List ℕ) : Type 0 where
   pub count-is : (u : ℕ) → entry vertices countHere u ≡ valence corners u
   pub lowest-is : (u : ℕ) → lowest corners u < length corners → entry vertices lowestHere u ≡ lowest corners u
-
--- the column of valences; the others are kept
-pub record ValencesFilled (corners old new : List ℕ) : Type 0 where
-  pub valences : Column new valenceHere (λ c. valence corners (vertexOf corners c)) (length corners)
-  pub others : KeptBut valenceHere old new

@@ -3,14 +3,12 @@ use walk::NEXT;
 use walk::PREVIOUS;
 use walk::ROW;
 use walk::SIDES;
-use walk::VALENCE;
 ghost use mathlib.Core.Path.{_≡_};
 ghost use Prim.Native.Nat.{_+_, _*_, _<_, _≤_};
 ghost use lib.ListN.{length};
 ghost use Rattle.paper.specs.Corners.{startOf};
 ghost use Rattle.walk.specs.Table.{rowLength, valenceHere, Kept};
-ghost use Rattle.columns.specs.Vertices.{Rowed};
-ghost use Rattle.columns.specs.Filled.{Fillable, FacesTo, FacesFilled, Countable, CornersCounted, ValencesFilled};
+ghost use Rattle.columns.specs.Filled.{Fillable, FacesTo, FacesFilled, Countable, CornersCounted};
 
 // The columns of the table of vertices, whose rows are as long as those of corners: one more than the last corner met; one more than a
 // corner of the vertex at hand whose edge goes to this one, and comes from it; how many corners there are, and the lowest of them.
@@ -70,19 +68,5 @@ pub fn count_corners(corners: &[u16], vertices: &mut [u16])
         let count = vertices[ROW * u + COUNT];
         vertices[ROW * u + COUNT] = count + 1;
         vertices[ROW * u + LOWEST] = c as u16;
-    }
-}
-
-// The corners of its vertex, of every corner.
-pub fn fill_valences(corners: &[u16], vertices: &[u16], table: &mut [u16])
-    requires counted { ⌜ Rowed (now corners) (now vertices) × CornersCounted (now corners) (now vertices) ⌝ }
-    requires long { ⌜ rowLength * length (now corners) ≤ length (now table) ⌝ }
-    ensures { λ _. ⌜ ValencesFilled (now (corners .entry)) (now (table .entry)) (now (table .exit)) ⌝ }
-{
-    let mut c = 0;
-    while c < corners.len() {
-        let u = corners[c] as usize;
-        table[ROW * c + VALENCE] = vertices[ROW * u + COUNT];
-        c += 1;
     }
 }

@@ -154,12 +154,3 @@ module _ (sides corners table vertices : List ℕ) (f c start : ℕ) (l : f < le
         chains = chains-step corners table vertices c (p .chains) ht hv;
         faultless = fails-step (fault9 sides corners) c (p .faultless) (in-face ∙ unrepeated start corners c _ met q);
       }
-
--- none of the list up to i is above a number that bounds those before it, and the one there
-pub all-below-step :
-    (list : List ℕ) (i m r : ℕ) → ((j : ℕ) → j < i → getD list j 0 ≤ m) → m ≤ r → getD list i 0 ≤ r → (j : ℕ) → j < i + 1 → getD list j 0 ≤ r
-all-below-step list i m r before grown here j h =
-    ⊎-elim
-    (λ (q : j ≡ i). subst (λ (k : ℕ). getD list k 0 ≤ r) (sym q) here)
-    (λ o. let l : j < i = ⊎-elim (λ (z : j < i). z) (λ (z : i < j). absurd (omega arith)) o in omega (arith, before j l))
-    (compared j i)

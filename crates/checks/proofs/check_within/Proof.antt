@@ -1,5 +1,5 @@
--- The shared check meets its contract: after 4 to 9 the columns of the faces are filled, after 10 and 11 the links stand in theirs, and
--- 12 and 13 complete the verdict and the table. Assumes nothing.
+-- The shared check meets its contract: after 4 to 9 the columns of the faces are filled, after 10 and 11 the links and the valences, and
+-- 12 and 13 complete the verdict. Assumes nothing.
 use mathlib.Core.Path.{_≡_, ap, _∙_, sym}
 use Prim.Native.Nat.{_*_, _≤_}
 use lib.ListN.{length}
@@ -12,7 +12,7 @@ use Rattle.walk.specs.Table.{rowLength, toLink, Column}
 use Rattle.columns.specs.Chain.{Ready}
 use Rattle.edge_checks.specs.Entries.{Ends}
 use Rattle.checks.specs.Checked.{Listed}
-use Rattle.checks.proofs.Laws.{listed, fillable, rows, ends, searchable, edgeFaults, closed, linking, tabled, stopped-lists, stopped-edges, checked}
+use Rattle.checks.proofs.Laws.{listed, fillable, ends, searchable, chains, edgeFaults, closed, linking, tabled, stopped-lists, stopped-edges, checked}
 use native.Mathlib.Omega.{arith}
 use borrow.Author.Needs.{needs}
 use Rattle.checks.proofs.check_within.Statement.{statement}
@@ -100,8 +100,11 @@ check-edges-requires : tie.Need-check-edges-requires
 check-edges-requires c κs =
     let f = c .before .before .before .before in
     let t = f .before .before in (
-      searchable (mesh t) (lists t) _ _ (f .fill-faces .ensures) _ (omega (arith, long-table t, f .fill-faces .kept .1 .0)) (long-vertices t) (ready t),
-      ((lists t .named, long-vertices t), (ready t .leaving-clear, ready t .arriving-clear)),
+      (
+        searchable (mesh t) (lists t) _ _ (f .fill-faces .ensures) _ (omega (arith, long-table t, f .fill-faces .kept .1 .0)) (long-vertices t) (ready t),
+        chains (mesh t) (lists t) _ _ (f .fill-faces .ensures) _ (ready t),
+      ),
+      ((lists t .named, long-vertices t), (ready t .leaving-clear, ready t .arriving-clear, ready t .count-clear)),
     )
 
 enum-known-b : tie.Need-enum-known-b
@@ -130,18 +133,8 @@ check-vertices-requires c κs =
     let t = filled u .before .before in
     let b = u .before .before .before .before .before .before .check-edges in
     let g = lists t in
-    let lv : rowLength * vertexCount (mesh t) ≤ length (b .last .1 .1 .1 .0) = omega (arith, long-vertices t, b .kept .1 .1 .1 .0) in (
-      (
-        record {
-          small = g .small;
-          rowed = rows (mesh t) g (b .last .1 .1 .1 .0) lv;
-          clear = λ v. b .ensures .counts v ∙ ready t .count-clear v;
-        },
-        g .few,
-        lv,
-      ),
-      linking (mesh t) _ (closed (mesh t) g (edges-sound u)) (long-linked u) (links u),
-    )
+    let lv : rowLength * vertexCount (mesh t) ≤ length (b .last .1 .1 .1 .0) = omega (arith, long-vertices t, b .kept .1 .1 .1 .0) in
+    ((g .few, lv, b .ensures .counted), linking (mesh t) _ (closed (mesh t) g (edges-sound u)) (long-linked u) (links u))
 
 same-length-5 : tie.Need-same-length-5
 same-length-5 c = search needs
@@ -151,15 +144,14 @@ same-length-6 c = search needs
 
 returns-3 : tie.Need-returns-3
 returns-3 c =
-    let u = c .before .before .before .before .before .before .before in
+    let u = c .before .before .before in
     let f = filled u in
     let t = f .before .before in
     let b = u .before .before .before .before .before .before .check-edges in
-    let v = c .before .before .before .before .check-vertices in
+    let v = c .check-vertices in
     let g = lists t in
-    checked (mesh t) _ (lists-sound t) (v .result) (edges-sound u) (v .ensures .answers (mesh t .sides) (closed (mesh t) g (edges-sound u)) (links u))
-    (λ z. tabled (mesh t) g _ _ _ _ (omega (arith, long-linked u, v .kept .1 .1 .0))
-    (f .fill-faces .ensures) (b .ensures .columns) (links u) (v .ensures .filled z))
+    checked (mesh t) _ (lists-sound t) (v .result) (edges-sound u) (v .ensures (mesh t .sides) (closed (mesh t) g (edges-sound u)) (links u))
+    (λ z. tabled (mesh t) g _ _ _ (long-linked u) (f .fill-faces .ensures) (b .ensures .faces) (links u) (b .ensures .valences))
 
 pub check-within-spec : {M : Type 1} → statement M
 check-within-spec =
