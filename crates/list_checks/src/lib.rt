@@ -67,16 +67,16 @@ pub fn check_sides(sides: &[u8]) -> Answer
 fn all_sided(sides: &[u8]) -> bool
     ensures { λ r. ⌜ (r ≡ true → (j : ℕ) → j < length (now (sides .entry)) → fault5 (now (sides .entry)) j ≡ false) ⌝ }
 {
-    let mut all = true;
+    let mut sided = true;
     let mut f = 0;
     while f < sides.len() {
         let s = sides[f] as usize;
         if s < LEAST_SIDES || MOST_SIDES < s {
-            all = false;
+            sided = false;
         }
         f += 1;
     }
-    all
+    sided
 }
 
 // The lowest face at fault.
@@ -125,16 +125,16 @@ pub fn check_coordinates(coordinates: &[i32]) -> Answer
 fn all_near(coordinates: &[i32]) -> bool
     ensures { λ r. ⌜ (r ≡ true → (j : ℕ) → j < length (now (coordinates .entry)) → fault7 (now (coordinates .entry)) j ≡ false) ⌝ }
 {
-    let mut all = true;
+    let mut near = true;
     let mut i = 0;
     while i < coordinates.len() {
         let z = coordinates[i];
         if z < -MOST_COORDINATE || MOST_COORDINATE < z {
-            all = false;
+            near = false;
         }
         i += 1;
     }
-    all
+    near
 }
 
 // The lowest coordinate at fault.

@@ -15,10 +15,10 @@ use Rattle.list_checks.proofs.all_near.Statement.{statement}
 use Rattle.list_checks.proofs.all_near.Tie as tie
 
 abbrev Inv-loop : tie.InvT-loop
-Inv-loop coordinates all₀ i₀ all i = (i ≤ length coordinates) × (all ≡ true → (j : ℕ) → j < i → fault7 coordinates j ≡ false)
+Inv-loop coordinates near₀ i₀ near i = (i ≤ length coordinates) × (near ≡ true → (j : ℕ) → j < i → fault7 coordinates j ≡ false)
 
 abbrev μ-loop : tie.MeasureT-loop
-μ-loop coordinates all₀ i₀ all i = length coordinates - i
+μ-loop coordinates near₀ i₀ near i = length coordinates - i
 
 loop-holds : tie.Need-loop-holds Inv-loop μ-loop
 loop-holds c = (omega arith, λ e j h. absurd (omega arith))

@@ -17,10 +17,10 @@ use Rattle.list_checks.proofs.all_sided.Statement.{statement}
 use Rattle.list_checks.proofs.all_sided.Tie as tie
 
 abbrev Inv-loop : tie.InvT-loop
-Inv-loop sides all₀ f₀ all f = (f ≤ length sides) × (all ≡ true → (j : ℕ) → j < f → fault5 sides j ≡ false)
+Inv-loop sides sided₀ f₀ sided f = (f ≤ length sides) × (sided ≡ true → (j : ℕ) → j < f → fault5 sides j ≡ false)
 
 abbrev μ-loop : tie.MeasureT-loop
-μ-loop sides all₀ f₀ all f = length sides - f
+μ-loop sides sided₀ f₀ sided f = length sides - f
 
 loop-holds : tie.Need-loop-holds Inv-loop μ-loop
 loop-holds c = (omega arith, λ e j h. absurd (omega arith))
