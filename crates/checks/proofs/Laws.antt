@@ -23,7 +23,7 @@ use Rattle.walk.specs.Table.{rowLength, toLink, Column, Tabled}
 use Rattle.walk.proofs.Table.{blank}
 use Rattle.columns.specs.Vertices.{Rowed}
 use Rattle.columns.specs.Chain.{EarliersTo, EarliersFrom, Ready}
-use Rattle.columns.specs.Filled.{Fillable, FacesFilled}
+use Rattle.columns.specs.Filled.{FacesFilled}
 use Rattle.edge_checks.specs.Entries.{Searchable, ChainsFrom, Ends, FacesKept, Valences}
 use Rattle.vertex_checks.specs.Ring.{Linking}
 use Rattle.checks.specs.Checked.{RoomFor, Checked, ListsChecked, Listed}
@@ -49,7 +49,7 @@ pub joined : {a b v w : Verdict} → a ≡ v → b ≡ w → a orElse b ≡ v or
 joined {a = a} {w = w} e f = ap (λ (x : Verdict). a orElse x) f ∙ ap (λ (x : Verdict). x orElse w) e
 
 pub lists-refused : (M : Mesh) (table vertices : List ℕ) (k p : ℕ) → fault k p ≡ listFaults M → ListsChecked M (Refused k p) table vertices
-lists-refused M table vertices k p e = record { answers = e; ready = unsound k p }
+lists-refused M table vertices k p e = record { answers = e; ready = unsound k p; faced = unsound k p }
 
 -- after 4 to 9 with 27 and 28
 pub listed : (M : Mesh) → listFaults M ≡ sound → Listed M
@@ -68,19 +68,16 @@ listed M e4 =
     }
 
 module _ (M : Mesh) (g : Listed M) where
-  pub fillable : (table : List ℕ) → rowLength * cornerCount M ≤ length table → Fillable (M .sides) table
-  fillable table l = record { few = omega (arith, g .sums, g .small); least = g .sided; long = omega (arith, g .sums) }
-
   pub rows : (vertices : List ℕ) → rowLength * vertexCount M ≤ length vertices → Rowed (M .corners) vertices
   rows vertices l c h = omega (arith, g .named c h)
 
   -- the columns of the faces
-  module _ (old table : List ℕ) (f : FacesFilled (M .sides) old table) where
+  module _ (table : List ℕ) (f : FacesFilled (M .sides) table) where
     pub ends : Ends (M .sides) (M .corners) table
     ends = record { sums = g .sums; nexts = λ c l. f .nexts c (omega (arith, g .sums)); previouses = λ c l. f .previouses c (omega (arith, g .sums)) }
 
     pub searchable : (vertices : List ℕ) → rowLength * cornerCount M ≤ length table → rowLength * vertexCount M ≤ length vertices
-        → Ready (M .corners) old vertices → Searchable (M .corners) table vertices
+        → Ready (M .corners) table vertices → Searchable (M .corners) table vertices
     searchable vertices lt lv r =
         record {
           small = g .small;
@@ -91,9 +88,10 @@ module _ (M : Mesh) (g : Listed M) where
           lasts = r .chained .lasts-are;
         }
 
-    pub chains : (vertices : List ℕ) → Ready (M .corners) old vertices → ChainsFrom (M .corners) table 0
-    unfolding EarliersTo EarliersFrom
-    chains vertices r c h l = f .chains c ∙ r .chained .earliers-are c h
+
+pub chains : (corners table vertices : List ℕ) → Ready corners table vertices → ChainsFrom corners table 0
+unfolding EarliersTo EarliersFrom
+chains corners table vertices r c h l = r .chained .earliers-are c h
 
 -- after 10 and 11
 abbrev pub edgeFaults : Mesh → Verdict
@@ -107,9 +105,9 @@ pub linking : (M : Mesh) (table : List ℕ) → Closed (M .sides) (M .corners) �
 linking M table k l t = record { long = l; links-in = λ c h. omega (arith, t c h, link-in (M .sides) (M .corners) k c h) }
 
 -- the table of corners, column by column: those of the faces, then links and valences
-pub tabled : (M : Mesh) → Listed M → (old faced table : List ℕ) → rowLength * cornerCount M ≤ length table → FacesFilled (M .sides) old faced
+pub tabled : (M : Mesh) → Listed M → (faced table : List ℕ) → rowLength * cornerCount M ≤ length table → FacesFilled (M .sides) faced
     → FacesKept faced table → Column table toLink (link (M .sides) (M .corners)) (cornerCount M) → Valences (M .corners) table → Tabled (cornersOf M) table
-tabled M g old faced table l f k t v =
+tabled M g faced table l f k t v =
     record {
       long = l;
       nexts = λ c h. k .nexts c ∙ f .nexts c (omega (arith, g .sums));

@@ -79,7 +79,6 @@ pub fn check_within(
     if let Answer::Refused(k, p) = a {
         return Answer::Refused(k, p);
     }
-    columns::fill_faces(sides, table);
     let count = coordinates.len() / 3;
     let b = edge_checks::check_edges(corners, count, table, vertices);
     if let Answer::Refused(k, p) = b {
@@ -88,7 +87,8 @@ pub fn check_within(
     vertex_checks::check_vertices(corners, count, table, vertices)
 }
 
-// Checks 4 to 9 with 27 and 28, of the lists themselves; the last of them leaves the chains of the vertices in the two tables.
+// Checks 4 to 9 with 27 and 28, of the lists themselves; the last of them leaves the chains of the vertices in the two tables, and the
+// columns of the faces in the first.
 pub fn check_lists(
     coordinates: &[i32],
     sides: &[u8],

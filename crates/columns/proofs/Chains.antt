@@ -13,7 +13,7 @@ use Rattle.paper.specs.Scan.{firstBelow, countBelow}
 use Rattle.paper.specs.Links.{vertexOf, names, valence, lowest}
 use Rattle.mesh.proofs.Scans.{ways, clash, compared, first-passes, first-at}
 use Rattle.mesh.proofs.Rings.{count-hit, count-miss, count-le, none-counted}
-use Rattle.walk.specs.Table.{rowLength, valenceHere, entry, Blank}
+use Rattle.walk.specs.Table.{rowLength, valenceHere, entry, Kept, Blank}
 use Rattle.walk.proofs.Table.{put, kept-put}
 use Rattle.columns.specs.Vertices.{lastHere, leavingHere, arrivingHere, countHere}
 use Rattle.columns.specs.Chain.{lastBelow, earlierOf, EarliersTo, LastsTo, Chain, Chained, Clear, Ready}
@@ -91,6 +91,17 @@ module _ (corners table vertices : List ℕ) where
           earliers-are = subst (EarliersTo corners (entry table valenceHere)) e (k .earliers-to);
           lasts-are = subst (LastsTo corners (entry vertices lastHere)) e (k .lasts-to);
         };
+        leaving-clear = k .leaving-clear;
+        arriving-clear = k .arriving-clear;
+        count-clear = k .count-clear;
+      }
+
+  pub chains-kept : (new : List ℕ) (c : ℕ) → Kept table new valenceHere → ChainsTo corners table vertices c → ChainsTo corners new vertices c
+  unfolding EarliersTo
+  chains-kept new c e k =
+      record {
+        earliers-to = λ d h. e d ∙ k .earliers-to d h;
+        lasts-to = k .lasts-to;
         leaving-clear = k .leaving-clear;
         arriving-clear = k .arriving-clear;
         count-clear = k .count-clear;
