@@ -88,7 +88,6 @@ module _ (M : Mesh) (g : Listed M) where
           lasts = r .chained .lasts-are;
         }
 
-
 pub chains : (corners table vertices : List ℕ) → Ready corners table vertices → ChainsFrom corners table 0
 unfolding EarliersTo EarliersFrom
 chains corners table vertices r c h l = r .chained .earliers-are c h

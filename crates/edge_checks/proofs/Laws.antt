@@ -18,7 +18,8 @@ use Rattle.paper.specs.declared.Answer.{Answer}
 use Rattle.paper.specs.declared.Answer.the-variants.{Done, Refused}
 use Rattle.mesh.specs.Closed.{Closed}
 use Rattle.mesh.specs.Tables.{Named}
-use Rattle.mesh.proofs.Scans.{ways, clash, compared, and-true, and-left, and-right, first-passes, first-fails, some-true, some-false, some-below, some-passes, none}
+use Rattle.mesh.proofs.Scans.{ways, clash, compared, and-true, and-left, and-right}
+use Rattle.mesh.proofs.Scans.{first-passes, first-fails, some-true, some-false, some-below, some-passes, none}
 use Rattle.mesh.proofs.Rings.{count-none}
 use Rattle.mesh.proofs.Faces.{next-below, previous-below, next-previous, previous-next}
 use Rattle.mesh.proofs.Links.{unique, reverse-in, reverse-vertex, reverse-to, link-is}

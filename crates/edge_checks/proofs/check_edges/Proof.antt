@@ -59,10 +59,10 @@ same-length-6 c = search needs
 
 returns-3 : tie.Need-returns-3
 returns-3 c =
-    let s = c .before .before .before .before .before .before .before .before .before .before .before .before .before .before .before .before .before .before .before in
-    let f = c .before .before .before .before .before .before .before .before .before .before .before .before .before .fill-links in
+    let f = c .before .before .before .before .before .before .before .before .before .before .before .before .before in
+    let s = f .before .before .before .before .before .before in
     let a = c .before .before .before .before .check-repeats in let q = c .before .before .enum-told .given .1 in
-    edges-checked _ _ _ _ (s .pre .0 .0 .small) (f .ensures) (c .check-reverses .result) (λ sides t. sym (ap stated q) ∙ a .ensures sides t)
+    edges-checked _ _ _ _ (s .pre .0 .0 .small) (f .fill-links .ensures) (c .check-reverses .result) (λ sides t. sym (ap stated q) ∙ a .ensures sides t)
     (c .check-reverses .ensures)
 
 pub check-edges-spec : {M : Type 1} → statement M

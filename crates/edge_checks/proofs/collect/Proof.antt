@@ -75,7 +75,9 @@ mul-at-4 c =
 
 slice-read-at : tie.Need-slice-read-at Inv-loop μ-loop
 slice-read-at c =
-    let l = c .before .before .before .before .loop in let s = c .before .before .before .before .before .before .before .before .before in let k = s .pre .0 .0 in
+    let l = c .before .before .before .before .loop in
+    let s = c .before .before .before .before .before .before .before .before .before in
+    let k = s .pre .0 .0 in
     let n : l .at ≡ 0 → ⊥ = search needs in
     omega (arith, n, l .inv .0 .inside, l .inv .1, k .long)
 
@@ -93,7 +95,9 @@ mul-table-2 c =
 
 slice-write-table : tie.Need-slice-write-table Inv-loop μ-loop
 slice-write-table c =
-    let l = c .before .before .before .before .loop in let s = c .before .before .before .before .before .before .before .before .before in let k = s .pre .0 .0 in
+    let l = c .before .before .before .before .loop in
+    let s = c .before .before .before .before .before .before .before .before .before in
+    let k = s .pre .0 .0 in
     let n : l .at ≡ 0 → ⊥ = search needs in
     omega (arith, n, l .inv .0 .inside, l .inv .1, k .long)
 
@@ -111,7 +115,9 @@ mul-table-4 c =
 
 slice-write-table-2 : tie.Need-slice-write-table-2 Inv-loop μ-loop
 slice-write-table-2 c =
-    let l = c .before .before .before .before .loop in let s = c .before .before .before .before .before .before .before .before .before in let k = s .pre .0 .0 in
+    let l = c .before .before .before .before .loop in
+    let s = c .before .before .before .before .before .before .before .before .before in
+    let k = s .pre .0 .0 in
     let n : l .at ≡ 0 → ⊥ = search needs in
     simp length-set (omega (arith, n, l .inv .0 .inside, l .inv .1, k .long))
 

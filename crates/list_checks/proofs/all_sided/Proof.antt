@@ -46,7 +46,8 @@ loop-again c =
       search needs,
       λ e. ⊎-elim
           (λ w. absurd (clash e (w .1)))
-          (λ w. fails-step (fault5 xs) (l .f) (l .inv .1 (sym (w .2) ∙ e)) (inside leastSides mostSides (getD xs (l .f) 0) (w .0 .left) (ltb-false _ _ (w .1 .left))))
+          (λ w. fails-step (fault5 xs) (l .f) (l .inv .1 (sym (w .2) ∙ e))
+          (inside leastSides mostSides (getD xs (l .f) 0) (w .0 .left) (ltb-false _ _ (w .1 .left))))
           (c .if1 .came),
     )
 

@@ -161,13 +161,19 @@ cast-vertices : tie.Need-cast-vertices Inv-loop2 μ-loop2 Inv-loop μ-loop
 cast-vertices c = search needs
 
 mul-vertices : tie.Need-mul-vertices Inv-loop2 μ-loop2 Inv-loop μ-loop
-mul-vertices c = omega (arith, c .before .before .before .before .before .before .shared-slice-known4 .given (c .before .before .before .before .before .before .before .before .loop2 .c))
+mul-vertices c =
+    let k = c .before .before .before .before .before .before in
+    omega (arith, k .shared-slice-known4 .given (k .before .before .loop2 .c))
 
 add-vertices-2 : tie.Need-add-vertices-2 Inv-loop2 μ-loop2 Inv-loop μ-loop
-add-vertices-2 c = omega (arith, c .before .before .before .before .before .before .shared-slice-known4 .given (c .before .before .before .before .before .before .before .before .loop2 .c))
+add-vertices-2 c =
+    let k = c .before .before .before .before .before .before in
+    omega (arith, k .shared-slice-known4 .given (k .before .before .loop2 .c))
 
 mul-vertices-2 : tie.Need-mul-vertices-2 Inv-loop2 μ-loop2 Inv-loop μ-loop
-mul-vertices-2 c = omega (arith, c .before .before .before .before .before .before .shared-slice-known4 .given (c .before .before .before .before .before .before .before .before .loop2 .c))
+mul-vertices-2 c =
+    let k = c .before .before .before .before .before .before in
+    omega (arith, k .shared-slice-known4 .given (k .before .before .loop2 .c))
 
 slice-write-vertices : tie.Need-slice-write-vertices Inv-loop2 μ-loop2 Inv-loop μ-loop
 slice-write-vertices c =
