@@ -1,4 +1,5 @@
 // Building: writes the control points of a range of corners, or answers why the call is refused and leaves the output as it was.
+use mesh::MEDIUM_MESH;
 use mesh::SMALL_MESH;
 use paper::Answer;
 use paper::MOST_CORNERS;
@@ -39,9 +40,43 @@ pub fn build(
         first: first,
         count: count,
     };
-    if corners.len() <= SMALL_MESH && coordinates.len() / 3 <= SMALL_MESH {
-        let mut table = [0u16; ROW * SMALL_MESH];
-        let mut vertices = [0u16; ROW * SMALL_MESH];
+    if SMALL_MESH < corners.len() {
+        return build_large(coordinates, sides, corners, sharpness, links, range, out);
+    }
+    if SMALL_MESH < coordinates.len() / 3 {
+        return build_large(coordinates, sides, corners, sharpness, links, range, out);
+    }
+    let mut table = [0u16; ROW * SMALL_MESH];
+    let mut vertices = [0u16; ROW * SMALL_MESH];
+    build_over(
+        coordinates,
+        sides,
+        corners,
+        sharpness,
+        links,
+        range,
+        &mut table,
+        &mut vertices,
+        out,
+    )
+}
+
+// The same of a mesh that is not small. A function of its own, with two callers, so that the compiler does not reserve its long tables
+// for a small mesh too: reserving them touches every page of them.
+fn build_large(
+    coordinates: &[i32],
+    sides: &[u8],
+    corners: &[u16],
+    sharpness: &[u8],
+    links: &[u16],
+    range: Range,
+    out: &mut [i32],
+) -> Answer
+    ensures { λ r. ⌜ Built (meshOf (now (coordinates .entry)) (now (sides .entry)) (now (corners .entry)) (now (sharpness .entry))) (now (links .entry)) (range .first) (range .count) (now (out .entry)) r (now (out .exit)) ⌝ }
+{
+    if corners.len() <= MEDIUM_MESH && coordinates.len() / 3 <= MEDIUM_MESH {
+        let mut table = [0u16; ROW * MEDIUM_MESH];
+        let mut vertices = [0u16; ROW * MEDIUM_MESH];
         return build_over(
             coordinates,
             sides,
@@ -142,6 +177,19 @@ fn write_range(
 {
     if corners.len() <= SMALL_MESH {
         let mut points = [0i32; POINT_ROW * SMALL_MESH];
+        writing::write_nets(
+            coordinates,
+            sides,
+            corners,
+            sharpness,
+            table,
+            range.first,
+            range.count,
+            &mut points,
+            out,
+        );
+    } else if corners.len() <= MEDIUM_MESH {
+        let mut points = [0i32; POINT_ROW * MEDIUM_MESH];
         writing::write_nets(
             coordinates,
             sides,

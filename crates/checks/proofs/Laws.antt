@@ -19,12 +19,12 @@ use Rattle.mesh.proofs.Faces.{next-below, previous-below}
 use Rattle.mesh.proofs.Links.{link-in}
 use Rattle.mesh.proofs.Verdicts.{sound-left, sound-right, single-sound, lowest-sound, orElse-fault, orElse-sound, orElse-assoc, unsound}
 use Rattle.mesh.proofs.Accepted.{few-vertices, few-corners, sides-within, sums-of, named-of}
-use Rattle.walk.specs.Table.{rowLength, toNext, toPrevious, toLink, sidesHere, Column, KeptBut, Tabled}
+use Rattle.walk.specs.Table.{rowLength, toLink, Column, Tabled}
 use Rattle.walk.proofs.Table.{blank}
 use Rattle.columns.specs.Vertices.{Rowed}
-use Rattle.columns.specs.Chain.{EarliersTo, Ready}
-use Rattle.columns.specs.Filled.{Fillable, FacesFilled, ValencesFilled}
-use Rattle.edge_checks.specs.Entries.{Searchable, Ends}
+use Rattle.columns.specs.Chain.{EarliersTo, EarliersFrom, Ready}
+use Rattle.columns.specs.Filled.{FacesFilled}
+use Rattle.edge_checks.specs.Entries.{Searchable, ChainsFrom, Ends, FacesKept, Valences}
 use Rattle.vertex_checks.specs.Ring.{Linking}
 use Rattle.checks.specs.Checked.{RoomFor, Checked, ListsChecked, Listed}
 
@@ -49,7 +49,7 @@ pub joined : {a b v w : Verdict} → a ≡ v → b ≡ w → a orElse b ≡ v or
 joined {a = a} {w = w} e f = ap (λ (x : Verdict). a orElse x) f ∙ ap (λ (x : Verdict). x orElse w) e
 
 pub lists-refused : (M : Mesh) (table vertices : List ℕ) (k p : ℕ) → fault k p ≡ listFaults M → ListsChecked M (Refused k p) table vertices
-lists-refused M table vertices k p e = record { answers = e; ready = unsound k p }
+lists-refused M table vertices k p e = record { answers = e; ready = unsound k p; faced = unsound k p }
 
 -- after 4 to 9 with 27 and 28
 pub listed : (M : Mesh) → listFaults M ≡ sound → Listed M
@@ -68,20 +68,16 @@ listed M e4 =
     }
 
 module _ (M : Mesh) (g : Listed M) where
-  pub fillable : (table : List ℕ) → rowLength * cornerCount M ≤ length table → Fillable (M .sides) table
-  fillable table l = record { few = omega (arith, g .sums, g .small); least = g .sided; long = omega (arith, g .sums) }
-
   pub rows : (vertices : List ℕ) → rowLength * vertexCount M ≤ length vertices → Rowed (M .corners) vertices
   rows vertices l c h = omega (arith, g .named c h)
 
   -- the columns of the faces
-  module _ (old table : List ℕ) (f : FacesFilled (M .sides) old table) where
+  module _ (table : List ℕ) (f : FacesFilled (M .sides) table) where
     pub ends : Ends (M .sides) (M .corners) table
     ends = record { sums = g .sums; nexts = λ c l. f .nexts c (omega (arith, g .sums)); previouses = λ c l. f .previouses c (omega (arith, g .sums)) }
 
     pub searchable : (vertices : List ℕ) → rowLength * cornerCount M ≤ length table → rowLength * vertexCount M ≤ length vertices
-        → Ready (M .corners) old vertices → Searchable (M .corners) table vertices
-    unfolding EarliersTo
+        → Ready (M .corners) table vertices → Searchable (M .corners) table vertices
     searchable vertices lt lv r =
         record {
           small = g .small;
@@ -89,11 +85,12 @@ module _ (M : Mesh) (g : Listed M) where
           rowed = rows vertices lv;
           nexts-in = λ c l. omega (arith, g .sums, ends .nexts c l, next-below (M .sides) c (omega (arith, g .sums)));
           previouses-in = λ c l. omega (arith, g .sums, ends .previouses c l, previous-below (M .sides) c (omega (arith, g .sums)));
-          chained = record {
-            earliers-are = λ c l. f .chains c ∙ r .chained .earliers-are c l;
-            lasts-are = r .chained .lasts-are;
-          };
+          lasts = r .chained .lasts-are;
         }
+
+pub chains : (corners table vertices : List ℕ) → Ready corners table vertices → ChainsFrom corners table 0
+unfolding EarliersTo EarliersFrom
+chains corners table vertices r c h l = r .chained .earliers-are c h
 
 -- after 10 and 11
 abbrev pub edgeFaults : Mesh → Verdict
@@ -106,22 +103,17 @@ pub linking : (M : Mesh) (table : List ℕ) → Closed (M .sides) (M .corners) �
     → Column table toLink (link (M .sides) (M .corners)) (cornerCount M) → Linking table (cornerCount M)
 linking M table k l t = record { long = l; links-in = λ c h. omega (arith, t c h, link-in (M .sides) (M .corners) k c h) }
 
--- the table of corners, column by column: faces, then links, then valences
-pub tabled : (M : Mesh) → Listed M → (old faced linked table : List ℕ) → rowLength * cornerCount M ≤ length table
-    → FacesFilled (M .sides) old faced → KeptBut toLink faced linked → Column linked toLink (link (M .sides) (M .corners)) (cornerCount M)
-    → ValencesFilled (M .corners) linked table → Tabled (cornersOf M) table
-tabled M g old faced linked table l f k t v =
-    let apart = v .others in
+-- the table of corners, column by column: those of the faces, then links and valences
+pub tabled : (M : Mesh) → Listed M → (faced table : List ℕ) → rowLength * cornerCount M ≤ length table → FacesFilled (M .sides) faced
+    → FacesKept faced table → Column table toLink (link (M .sides) (M .corners)) (cornerCount M) → Valences (M .corners) table → Tabled (cornersOf M) table
+tabled M g faced table l f k t v =
     record {
       long = l;
-      nexts = λ c h.
-          apart toNext (omega arith) (λ q. omega arith) c ∙ k toNext (omega arith) (λ q. omega arith) c ∙ f .nexts c (omega (arith, g .sums));
-      previouses = λ c h.
-          apart toPrevious (omega arith) (λ q. omega arith) c ∙ k toPrevious (omega arith) (λ q. omega arith) c ∙ f .previouses c (omega (arith, g .sums));
-      links = λ c h. apart toLink (omega arith) (λ q. omega arith) c ∙ t c h;
-      sides = λ c h.
-          apart sidesHere (omega arith) (λ q. omega arith) c ∙ k sidesHere (omega arith) (λ q. omega arith) c ∙ f .sides-are c (omega (arith, g .sums));
-      valences = v .valences;
+      nexts = λ c h. k .nexts c ∙ f .nexts c (omega (arith, g .sums));
+      previouses = λ c h. k .previouses c ∙ f .previouses c (omega (arith, g .sums));
+      links = t;
+      sides = λ c h. k .sides-are c ∙ f .sides-are c (omega (arith, g .sums));
+      valences = v;
     }
 
 -- ---- the ways out of the whole check

@@ -12,6 +12,7 @@ use Rattle.paper.specs.declared.Answer.{Answer}
 use Rattle.mesh.specs.Tables.{Named}
 use Rattle.walk.specs.Table.{rowLength, Blank, Tabled}
 use Rattle.columns.specs.Chain.{Ready}
+use Rattle.columns.specs.Filled.{FacesFilled}
 
 -- a table of corners and a table of vertices with a row for each, where there are not too many; the second is of zeros
 pub record RoomFor (M : Mesh) (table vertices : List ℕ) : Type 0 where
@@ -28,6 +29,7 @@ pub record Checked (M : Mesh) (r : Answer) (table : List ℕ) : Type 0 where
 pub record ListsChecked (M : Mesh) (r : Answer) (table vertices : List ℕ) : Type 0 where
   pub answers : stated r ≡ listFaults M
   pub ready : stated r ≡ sound → Ready (M .corners) table vertices
+  pub faced : stated r ≡ sound → FacesFilled (M .sides) table
 
 -- what they leave for the later ones
 pub record Listed (M : Mesh) : Type 0 where

@@ -1,5 +1,6 @@
 // The checks that the file, linking and building share: 4 to 13 of a mesh with 27 and 28. Each number is tried over the whole input before the
 // next. Those of what is asked besides, 14 to 17, are in crate request_checks.
+use mesh::MEDIUM_MESH;
 use mesh::SMALL_MESH;
 use paper::Answer;
 use paper::MOST_CORNERS;
@@ -15,9 +16,32 @@ ghost use Rattle.checks.specs.Checked.{RoomFor, Checked, ListsChecked};
 pub fn check(coordinates: &[i32], sides: &[u8], corners: &[u16], sharpness: &[u8]) -> Answer
     ensures { λ r. ⌜ stated r ≡ verdict (meshOf (now (coordinates .entry)) (now (sides .entry)) (now (corners .entry)) (now (sharpness .entry))) ⌝ }
 {
-    if corners.len() <= SMALL_MESH && coordinates.len() / 3 <= SMALL_MESH {
-        let mut table = [0u16; ROW * SMALL_MESH];
-        let mut vertices = [0u16; ROW * SMALL_MESH];
+    if SMALL_MESH < corners.len() {
+        return check_large(coordinates, sides, corners, sharpness);
+    }
+    if SMALL_MESH < coordinates.len() / 3 {
+        return check_large(coordinates, sides, corners, sharpness);
+    }
+    let mut table = [0u16; ROW * SMALL_MESH];
+    let mut vertices = [0u16; ROW * SMALL_MESH];
+    check_within(
+        coordinates,
+        sides,
+        corners,
+        sharpness,
+        &mut table,
+        &mut vertices,
+    )
+}
+
+// The same of a mesh that is not small. A function of its own, with two callers, so that the compiler does not reserve its long tables
+// for a small mesh too: reserving them touches every page of them.
+fn check_large(coordinates: &[i32], sides: &[u8], corners: &[u16], sharpness: &[u8]) -> Answer
+    ensures { λ r. ⌜ stated r ≡ verdict (meshOf (now (coordinates .entry)) (now (sides .entry)) (now (corners .entry)) (now (sharpness .entry))) ⌝ }
+{
+    if corners.len() <= MEDIUM_MESH && coordinates.len() / 3 <= MEDIUM_MESH {
+        let mut table = [0u16; ROW * MEDIUM_MESH];
+        let mut vertices = [0u16; ROW * MEDIUM_MESH];
         return check_within(
             coordinates,
             sides,
@@ -55,7 +79,6 @@ pub fn check_within(
     if let Answer::Refused(k, p) = a {
         return Answer::Refused(k, p);
     }
-    columns::fill_faces(sides, table);
     let count = coordinates.len() / 3;
     let b = edge_checks::check_edges(corners, count, table, vertices);
     if let Answer::Refused(k, p) = b {
@@ -64,7 +87,8 @@ pub fn check_within(
     vertex_checks::check_vertices(corners, count, table, vertices)
 }
 
-// Checks 4 to 9 with 27 and 28, of the lists themselves; the last of them leaves the chains of the vertices in the two tables.
+// Checks 4 to 9 with 27 and 28, of the lists themselves; the last of them leaves the chains of the vertices in the two tables, and the
+// columns of the faces in the first.
 pub fn check_lists(
     coordinates: &[i32],
     sides: &[u8],

@@ -9,12 +9,14 @@ use native.Mathlib.Omega.{arith}
 use native.Mathlib.Numerals.{add-one}
 use lib.ListN.{length, getD, set}
 use borrow.Author.Tests.{eq-eqb, ne-eqb, eqb-true}
-use Rattle.paper.specs.Links.{vertexOf, names}
-use Rattle.mesh.proofs.Scans.{ways, clash, compared}
-use Rattle.walk.specs.Table.{rowLength, valenceHere, entry, Blank}
+use Rattle.paper.specs.Scan.{firstBelow, countBelow}
+use Rattle.paper.specs.Links.{vertexOf, names, valence, lowest}
+use Rattle.mesh.proofs.Scans.{ways, clash, compared, first-passes, first-at}
+use Rattle.mesh.proofs.Rings.{count-hit, count-miss, count-le, none-counted}
+use Rattle.walk.specs.Table.{rowLength, valenceHere, entry, Kept, Blank}
 use Rattle.walk.proofs.Table.{put, kept-put}
 use Rattle.columns.specs.Vertices.{lastHere, leavingHere, arrivingHere, countHere}
-use Rattle.columns.specs.Chain.{lastBelow, EarliersTo, LastsTo, Chain, Chained, Clear, Ready}
+use Rattle.columns.specs.Chain.{lastBelow, earlierOf, EarliersTo, LastsTo, Chain, Chained, Clear, Ready}
 
 -- the highest number that passes
 module _ (f : ℕ → Bool) where
@@ -53,6 +55,15 @@ module _ (f : ℕ → Bool) where
       (compared d n))
       (ways (f n))
 
+  -- as many pass below it
+  pub last-counted : (n : ℕ) → countBelow (lastBelow n f) f ≡ countBelow n f
+  last-counted zero = ap (λ (x : ℕ). countBelow x f) last-zero
+  last-counted (suc n) =
+      ⊎-elim
+      (λ e. ap (λ (x : ℕ). countBelow x f) (last-hit n e))
+      (λ e. ap (λ (x : ℕ). countBelow x f) (last-miss n e) ∙ last-counted n ∙ sym (count-miss f n e))
+      (ways (f n))
+
 -- ---- the chains below corner c, and what they leave clear
 pub record ChainsTo (corners table vertices : List ℕ) (c : ℕ) : Type 0 where
   pub earliers-to : EarliersTo corners (entry table valenceHere) c
@@ -80,6 +91,17 @@ module _ (corners table vertices : List ℕ) where
           earliers-are = subst (EarliersTo corners (entry table valenceHere)) e (k .earliers-to);
           lasts-are = subst (LastsTo corners (entry vertices lastHere)) e (k .lasts-to);
         };
+        leaving-clear = k .leaving-clear;
+        arriving-clear = k .arriving-clear;
+        count-clear = k .count-clear;
+      }
+
+  pub chains-kept : (new : List ℕ) (c : ℕ) → Kept table new valenceHere → ChainsTo corners table vertices c → ChainsTo corners new vertices c
+  unfolding EarliersTo
+  chains-kept new c e k =
+      record {
+        earliers-to = λ d h. e d ∙ k .earliers-to d h;
+        lasts-to = k .lasts-to;
         leaving-clear = k .leaving-clear;
         arriving-clear = k .arriving-clear;
         count-clear = k .count-clear;
@@ -170,3 +192,52 @@ module _ (corners : List ℕ) (earlier last : ℕ → ℕ) (k : Chained corners 
         (λ (z : at - 1 < d). omega arith)
         o)
         (compared d (at - 1))
+
+-- chains whose earlier corners are the definition's own
+pub chained-own : (corners : List ℕ) (last : ℕ → ℕ) → LastsTo corners last (length corners) → Chained corners (earlierOf corners) last
+unfolding EarliersTo
+chained-own corners last k = record { earliers-are = λ c l. refl; lasts-are = k }
+
+-- ---- the corners of u from `at` on: n of them, and the lowest one
+pub record Passed (corners : List ℕ) (u at n low : ℕ) : Type 0 where
+  pub count : n + countBelow at (names corners u) ≡ valence corners u
+  pub own : (n ≡ 0 → ⊥) → vertexOf corners low ≡ u
+  pub inside : (n ≡ 0 → ⊥) → low < length corners
+  pub before : (n ≡ 0 → ⊥) → at ≡ lastBelow low (names corners u)
+
+module _ (corners : List ℕ) (u : ℕ) where
+  pub passed-none : (last : ℕ → ℕ) → LastsTo corners last (length corners) → Passed corners u (last u) 0 0
+  unfolding LastsTo valence
+  passed-none last k =
+      let q = ap (λ (x : ℕ). countBelow x (names corners u)) (k u) ∙ last-counted (names corners u) (length corners) in
+      record { count = omega (arith, q); own = λ n. absurd (n refl); inside = λ n. absurd (n refl); before = λ n. absurd (n refl) }
+
+  pub passed-few : (at n low : ℕ) → Passed corners u at n low → n ≤ length corners
+  unfolding valence
+  passed-few at n low k = omega (arith, k .count, count-le (names corners u) (length corners))
+
+  pub passed-more : (at n low : ℕ) → (at ≡ 0 → ⊥) → On corners u at → Passed corners u at n low
+      → Passed corners u (earlierOf corners (at - 1)) (n + 1) (at - 1)
+  unfolding names Chain
+  passed-more at n low z o k =
+      let d = at - 1 in
+      let v : vertexOf corners d ≡ u = o .chain d (omega arith) in
+      let q : earlierOf corners d ≡ lastBelow d (names corners u) = ap (λ (x : ℕ). lastBelow d (names corners x)) v in
+      let b = ap (λ (x : ℕ). countBelow x (names corners u)) q ∙ last-counted (names corners u) d in
+      let w : at ≡ suc d = omega arith in
+      let h = ap (λ (x : ℕ). countBelow x (names corners u)) w ∙ count-hit (names corners u) d (eq-eqb (vertexOf corners d) u v) in
+      record { count = omega (arith, k .count, b, h); own = λ m. v; inside = λ m. omega (arith, o .inside); before = λ m. q }
+
+  -- the whole chain
+  module _ (at n low : ℕ) (z : at ≡ 0) (k : Passed corners u at n low) where
+    pub passed-count : n ≡ valence corners u
+    passed-count = omega (arith, k .count, ap (λ (x : ℕ). countBelow x (names corners u)) z, count-le (names corners u) 0)
+
+    pub passed-lowest : lowest corners u < length corners → low ≡ lowest corners u
+    unfolding lowest valence names
+    passed-lowest h =
+        let f = names corners u in
+        let e = first-passes (length corners) f h in
+        let m : n ≡ 0 → ⊥ = λ q. clash e (none-counted f (length corners) (omega (arith, passed-count)) (firstBelow (length corners) f) h) in
+        sym (first-at (length corners) f low (k .inside m) (eq-eqb (vertexOf corners low) u (k .own m))
+        (λ j l. last-above f low j (omega (arith, k .before m)) l))

@@ -17,7 +17,7 @@ use Rattle.walk.specs.Table.{rowLength, toNext, toPrevious, sidesHere, valenceH
 use Rattle.walk.proofs.Table.{put, kept-put, column-put}
 use Rattle.columns.specs.Vertices.{countHere, lowestHere}
 use Rattle.columns.specs.Chain.{Clear}
-use Rattle.columns.specs.Filled.{FacesTo, FacesFilled, CornersCounted}
+use Rattle.columns.specs.Filled.{FacesTo, FacesFilled, filled, CornersCounted}
 
 -- ---- the corners of face f
 module _ (sides : List ℕ) (f : ℕ) (l : f < length sides) where
@@ -41,10 +41,7 @@ module _ (sides : List ℕ) (f : ℕ) (l : f < length sides) where
       let i = first-is (c + 1) (omega arith) (omega arith) in
       previous-inner sides (c + 1) (λ q. omega arith) ∙ omega arith
 
--- ---- the columns of the faces: the row of corner c, and the next of the corner before it
-abbrev pub filled : List ℕ → ℕ → ℕ → ℕ → List ℕ
-filled table c last n = set (set (set table (rowLength * last + toNext) c) (rowLength * c + toPrevious) last) (rowLength * c + sidesHere) n
-
+-- ---- the columns of the faces
 module _ (sides table : List ℕ) where
   pub faces-none : FacesTo sides table (startOf sides 0)
   faces-none =
@@ -101,15 +98,24 @@ module _ (sides table : List ℕ) where
         lower : (d : ℕ) → d < c + 1 → (d ≡ c → ⊥) → d < c
         lower d l q = omega (arith, q)
 
-  pub faces-all : (n : ℕ) → n ≡ sumOf sides → (old : List ℕ) → Kept old table valenceHere → FacesTo sides table n → FacesFilled sides old table
-  faces-all n e old k t =
+  pub faces-all : (n : ℕ) → n ≡ sumOf sides → FacesTo sides table n → FacesFilled sides table
+  faces-all n e t =
       record {
         nexts = λ c h.
             let b = next-below sides c h in
             ap (entry table toNext) (sym (previous-next sides c h)) ∙ t .nexts (next sides c) (omega arith);
         previouses = λ c h. t .previouses c (omega arith);
         sides-are = λ c h. t .sides-are c (omega arith);
-        chains = k;
+      }
+
+  -- a store in the column of chains
+  pub faces-beside : (c x n : ℕ) → FacesTo sides table n → FacesTo sides (set table (rowLength * c + valenceHere) x) n
+  faces-beside c x n t =
+      let k = kept-put table valenceHere c x (omega arith) in
+      record {
+        nexts = λ d h. k toNext (omega arith) (λ q. omega arith) (previous sides d) ∙ t .nexts d h;
+        previouses = λ d h. k toPrevious (omega arith) (λ q. omega arith) d ∙ t .previouses d h;
+        sides-are = λ d h. k sidesHere (omega arith) (λ q. omega arith) d ∙ t .sides-are d h;
       }
 
 -- ---- the corners from c on are counted
@@ -182,17 +188,3 @@ module _ (corners vertices : List ℕ) where
       where
         above : (d : ℕ) → c ≤ d → (d ≡ c → ⊥) → at ≤ d
         above d a n = omega (arith, n)
-
--- ---- the valences below corner c
-module _ (corners vertices old table : List ℕ) (c : ℕ) (n : CornersCounted corners vertices) (r : rowLength * c + valenceHere < length table)
-    (k : Column table valenceHere (λ d. valence corners (vertexOf corners d)) c) (o : (j : ℕ) → j < rowLength → (j ≡ valenceHere → ⊥) → Kept old table j) where
-  pub valences-step : Column (set table (rowLength * c + valenceHere) (entry vertices countHere (vertexOf corners c))) valenceHere
-      (λ d. valence corners (vertexOf corners d)) (c + 1)
-  valences-step =
-      column-put table valenceHere c (entry vertices countHere (vertexOf corners c)) (λ d. valence corners (vertexOf corners d)) r
-      (n .count-is (vertexOf corners c)) k
-
-  pub valences-kept : (j : ℕ) → j < rowLength → (j ≡ valenceHere → ⊥)
-      → Kept old (set table (rowLength * c + valenceHere) (entry vertices countHere (vertexOf corners c))) j
-  valences-kept j l q d =
-      kept-put table valenceHere c (entry vertices countHere (vertexOf corners c)) (omega arith) j l q d ∙ o j l q d

@@ -3,7 +3,7 @@
 use mathlib.Core.Path.{_≡_}
 use mathlib.Core.Bool.{Bool}
 use mathlib.Core.List.{List}
-use Prim.Native.Nat.{ℕ, zero, suc, _<_}
+use Prim.Native.Nat.{ℕ, zero, suc, _<_, _≤_}
 use lib.ListN.{length}
 use Rattle.paper.specs.Scan.{pickN}
 use Rattle.paper.specs.Links.{vertexOf, names}
@@ -15,9 +15,17 @@ unfoldable pub lastBelow : ℕ → (ℕ → Bool) → ℕ
 lastBelow zero f = 0
 lastBelow (suc n) f = pickN (f n) (suc n) (lastBelow n f)
 
--- the earlier corner of the same vertex, of each corner below `end`: 0 for none, else one more than the corner
+-- the earlier corner of the same vertex: 0 for none, else one more than the corner
+abbrev pub earlierOf : List ℕ → ℕ → ℕ
+earlierOf corners c = lastBelow c (names corners (vertexOf corners c))
+
+-- that of each corner below `end`
 unfoldable pub EarliersTo : List ℕ → (ℕ → ℕ) → ℕ → Type 0
-EarliersTo corners earlier end = (c : ℕ) → c < end → earlier c ≡ lastBelow c (names corners (vertexOf corners c))
+EarliersTo corners earlier end = (c : ℕ) → c < end → earlier c ≡ earlierOf corners c
+
+-- and of each corner of the vertices from u on
+unfoldable pub EarliersFrom : List ℕ → (ℕ → ℕ) → ℕ → Type 0
+EarliersFrom corners earlier u = (c : ℕ) → c < length corners → u ≤ vertexOf corners c → earlier c ≡ earlierOf corners c
 
 -- the highest corner below `end` of each vertex, in the same way
 unfoldable pub LastsTo : List ℕ → (ℕ → ℕ) → ℕ → Type 0

@@ -3,14 +3,10 @@ use walk::NEXT;
 use walk::PREVIOUS;
 use walk::ROW;
 use walk::SIDES;
-use walk::VALENCE;
 ghost use mathlib.Core.Path.{_≡_};
-ghost use Prim.Native.Nat.{_+_, _*_, _<_, _≤_};
-ghost use lib.ListN.{length};
-ghost use Rattle.paper.specs.Corners.{startOf};
-ghost use Rattle.walk.specs.Table.{rowLength, valenceHere, Kept};
-ghost use Rattle.columns.specs.Vertices.{Rowed};
-ghost use Rattle.columns.specs.Filled.{Fillable, FacesTo, FacesFilled, Countable, CornersCounted, ValencesFilled};
+ghost use Prim.Native.Nat.{_≤_};
+ghost use Rattle.paper.specs.Mesh.{mostCorners};
+ghost use Rattle.columns.specs.Filled.{filled, RowAt, Countable, CornersCounted};
 
 // The columns of the table of vertices, whose rows are as long as those of corners: one more than the last corner met; one more than a
 // corner of the vertex at hand whose edge goes to this one, and comes from it; how many corners there are, and the lowest of them.
@@ -24,38 +20,14 @@ pub const COUNT: usize = 3;
 
 pub const LOWEST: usize = 4;
 
-// The next and the previous corner of every corner, and the sides of its face.
-pub fn fill_faces(sides: &[u8], table: &mut [u16])
-    requires { ⌜ Fillable (now sides) (now table) ⌝ }
-    ensures { λ _. ⌜ FacesFilled (now (sides .entry)) (now (table .entry)) (now (table .exit)) ⌝ }
+// The row of corner c, which comes after `last` in a face of n sides: its previous corner and the sides, and the next of that corner.
+pub fn put_corner(table: &mut [u16], c: usize, last: usize, n: usize)
+    requires { ⌜ RowAt (now table) c × RowAt (now table) last × (n ≤ mostCorners) ⌝ }
+    ensures { λ _. ⌜ now (table .exit) ≡ filled (now (table .entry)) c last n ⌝ }
 {
-    let mut start = 0;
-    let mut f = 0;
-    while f < sides.len() {
-        fill_face(sides, f, start, table);
-        start += sides[f] as usize;
-        f += 1;
-    }
-}
-
-// One face, whose first corner is `start`: the previous corner of the first is the last.
-fn fill_face(sides: &[u8], f: usize, start: usize, table: &mut [u16])
-    requires faces { ⌜ Fillable (now sides) (now table) ⌝ }
-    requires face { ⌜ (f < length (now sides)) × (start ≡ startOf (now sides) f) ⌝ }
-    requires before { ⌜ FacesTo (now sides) (now table) (startOf (now sides) f) ⌝ }
-    ensures { λ _. ⌜ FacesTo (now (sides .entry)) (now (table .exit)) (startOf (now (sides .entry)) (f + 1)) × Kept (now (table .entry)) (now (table .exit)) valenceHere ⌝ }
-{
-    let n = sides[f] as usize;
-    let end = start + n;
-    let mut last = end - 1;
-    let mut c = start;
-    while c < end {
-        table[ROW * last + NEXT] = c as u16;
-        table[ROW * c + PREVIOUS] = last as u16;
-        table[ROW * c + SIDES] = n as u16;
-        last = c;
-        c += 1;
-    }
+    table[ROW * last + NEXT] = c as u16;
+    table[ROW * c + PREVIOUS] = last as u16;
+    table[ROW * c + SIDES] = n as u16;
 }
 
 // How many corners name each vertex, and the lowest of them: met last, so what is written last stays.
@@ -70,19 +42,5 @@ pub fn count_corners(corners: &[u16], vertices: &mut [u16])
         let count = vertices[ROW * u + COUNT];
         vertices[ROW * u + COUNT] = count + 1;
         vertices[ROW * u + LOWEST] = c as u16;
-    }
-}
-
-// The corners of its vertex, of every corner.
-pub fn fill_valences(corners: &[u16], vertices: &[u16], table: &mut [u16])
-    requires counted { ⌜ Rowed (now corners) (now vertices) × CornersCounted (now corners) (now vertices) ⌝ }
-    requires long { ⌜ rowLength * length (now corners) ≤ length (now table) ⌝ }
-    ensures { λ _. ⌜ ValencesFilled (now (corners .entry)) (now (table .entry)) (now (table .exit)) ⌝ }
-{
-    let mut c = 0;
-    while c < corners.len() {
-        let u = corners[c] as usize;
-        table[ROW * c + VALENCE] = vertices[ROW * u + COUNT];
-        c += 1;
     }
 }

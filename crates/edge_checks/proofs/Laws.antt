@@ -6,29 +6,33 @@ use mathlib.Core.Logic.{⊎-elim}
 use mathlib.Core.List.{List}
 use Prim.Native.Nat.{ℕ, _+_, _-_, _*_, _<_, _≤_}
 use native.Mathlib.Omega.{arith}
-use lib.Dec.{eqb}
+use lib.Dec.{eqb, ltb}
 use lib.ListN.{length, set, length-set}
-use borrow.Author.Tests.{eq-eqb, ne-eqb, eqb-true}
+use borrow.Author.Tests.{eq-eqb, ne-eqb, eqb-true, ltb-true, ltb-false}
 use Rattle.paper.specs.Scan.{someBelow, firstBelow}
 use Rattle.paper.specs.Mesh.{mostCorners}
 use Rattle.paper.specs.Corners.{sumOf, next, previous}
-use Rattle.paper.specs.Links.{vertexOf, leavesTo, arrivesFrom, sameEdge, reverseEdge, linked, link, reverse}
+use Rattle.paper.specs.Links.{vertexOf, names, valence, lowest, leavesTo, arrivesFrom, sameEdge, reverseEdge, linked, link, reverse}
 use Rattle.paper.specs.Faults.{sound, lowestOf, fault10, fault11, stated}
 use Rattle.paper.specs.declared.Answer.{Answer}
-use Rattle.paper.specs.declared.Answer.the-variants.{Refused}
+use Rattle.paper.specs.declared.Answer.the-variants.{Done, Refused}
 use Rattle.mesh.specs.Closed.{Closed}
 use Rattle.mesh.specs.Tables.{Named}
-use Rattle.mesh.proofs.Scans.{ways, clash, compared, and-true, and-left, and-right, first-fails, some-true, some-false, some-below, some-passes, none}
+use Rattle.mesh.proofs.Scans.{ways, clash, compared, and-true, and-left, and-right}
+use Rattle.mesh.proofs.Scans.{first-passes, first-fails, some-true, some-false, some-below, some-passes, none}
+use Rattle.mesh.proofs.Rings.{count-none}
 use Rattle.mesh.proofs.Faces.{next-below, previous-below, next-previous, previous-next}
 use Rattle.mesh.proofs.Links.{unique, reverse-in, reverse-vertex, reverse-to, link-is}
 use Rattle.mesh.proofs.Verdicts.{lowest-hit, lowest-none, lowest-sound, orElse-fault, orElse-sound, unsound}
-use Rattle.walk.specs.Table.{rowLength, toNext, toPrevious, toLink, valenceHere, entry, Column, Kept, KeptBut}
+use Rattle.walk.specs.Table.{rowLength, toNext, toPrevious, toLink, sidesHere, valenceHere, entry, Column, Kept}
 use Rattle.walk.proofs.Table.{put, kept-put}
-use Rattle.columns.specs.Vertices.{lastHere, leavingHere, arrivingHere, countHere}
-use Rattle.columns.specs.Chain.{EarliersTo, LastsTo, Chained, Clear}
-use Rattle.columns.proofs.Chains.{On, above-head, at-vertex, on-from}
-use Rattle.edge_checks.specs.Entries.{repeated, alone, Entry, again, single, joined, Entries, has, to, from, Searchable, Keyed, BothKeyed, Hit}
-use Rattle.edge_checks.specs.Entries.{Marked, MarkedFrom, Unmarked, Ends, EntryFor, Collected, Found, EdgesChecked}
+use Rattle.columns.specs.Vertices.{lastHere, leavingHere, arrivingHere, countHere, lowestHere}
+use Rattle.columns.specs.Chain.{earlierOf, EarliersFrom, LastsTo, Chain, Chained, Clear}
+use Rattle.columns.specs.Filled.{CornersCounted}
+use Rattle.columns.proofs.Chains.{On, above-head, at-vertex, on-falls, on-from}
+use Rattle.edge_checks.specs.Entries.{repeated, alone, Entry, again, single, joined, Entries, has, Unrepeated, Reversed, to, from, Searchable}
+use Rattle.edge_checks.specs.Entries.{ChainsFrom, Row, Keyed, BothKeyed, Hit, Marked, MarkedFrom, CountedAt, Unmarked, Ends, EntryFor}
+use Rattle.edge_checks.specs.Entries.{FacesKept, Collected, Found, EdgesChecked}
 
 -- ---- marking
 pub keyed-clear : (corners table vertices : List ℕ) → Clear vertices leavingHere → Clear vertices arrivingHere → BothKeyed corners table vertices
@@ -37,6 +41,12 @@ keyed-clear corners table vertices l a =
       left = record { inside = λ t n. absurd (n (l t)); key-is = λ t n. absurd (n (l t)) };
       arrived = record { inside = λ t n. absurd (n (a t)); key-is = λ t n. absurd (n (a t)) };
     }
+
+-- the chain of u, as the table has it
+pub chain-here : (corners table : List ℕ) (u at : ℕ) → On corners u at → (at ≡ 0 → ⊥) → ChainsFrom corners table u
+    → entry table valenceHere (at - 1) ≡ earlierOf corners (at - 1)
+unfolding EarliersFrom Chain
+chain-here corners table u at o z f = f (at - 1) (omega (arith, z, o .inside)) (omega (arith, o .chain (at - 1) (omega arith)))
 
 -- one column, before and after a store of `at` by its corner's key
 module _ (corners : List ℕ) (earlier last : ℕ → ℕ) (k : Chained corners earlier last) (u at : ℕ) (o : On corners u at) (n : at ≡ 0 → ⊥)
@@ -58,17 +68,23 @@ module _ (corners : List ℕ) (earlier last : ℕ → ℕ) (k : Chained corners 
       (λ q. let ne : d ≡ at - 1 → ⊥ = λ e. q (ap key e) in f d (omega (arith, ne, l)) b v)
 
 -- both columns
-pub marked-none : (corners table vertices : List ℕ) → Chained corners (entry table valenceHere) (entry vertices lastHere) → (u : ℕ)
+pub marked-none : (corners table vertices : List ℕ) → Chained corners (earlierOf corners) (entry vertices lastHere) → (u : ℕ)
     → BothKeyed corners table vertices → MarkedFrom corners table vertices u (entry vertices lastHere u)
 unfolding Marked
 marked-none corners table vertices k u m =
     record {
       keyed = m;
-      left-from = λ d a b v. absurd (above-head corners (entry table valenceHere) (entry vertices lastHere) k u d a b v);
-      arrived-from = λ d a b v. absurd (above-head corners (entry table valenceHere) (entry vertices lastHere) k u d a b v);
+      left-from = λ d a b v. absurd (above-head corners (earlierOf corners) (entry vertices lastHere) k u d a b v);
+      arrived-from = λ d a b v. absurd (above-head corners (earlierOf corners) (entry vertices lastHere) k u d a b v);
     }
 
-module _ (corners table : List ℕ) (last : ℕ → ℕ) (k : Chained corners (entry table valenceHere) last) (vertices : List ℕ) (u at : ℕ)
+-- the columns that marking does not use
+pub record RowsKept (old new : List ℕ) : Type 0 where
+  pub lasts : Kept old new lastHere
+  pub counts : Kept old new countHere
+  pub lowests : Kept old new lowestHere
+
+module _ (corners table : List ℕ) (last : ℕ → ℕ) (k : Chained corners (earlierOf corners) last) (vertices : List ℕ) (u at : ℕ)
     (o : On corners u at) (n : at ≡ 0 → ⊥) (t f : ℕ) (et : t ≡ to corners table (at - 1)) (ef : f ≡ from corners table (at - 1))
     (rt : rowLength * t + rowLength ≤ length vertices) (rf : rowLength * f + rowLength ≤ length vertices) where
   both-kept : (j : ℕ) → j < rowLength → (j ≡ leavingHere → ⊥) → (j ≡ arrivingHere → ⊥)
@@ -77,12 +93,13 @@ module _ (corners table : List ℕ) (last : ℕ → ℕ) (k : Chained corners (e
       kept-put (set vertices (rowLength * t + leavingHere) at) arrivingHere f at (omega arith) j l q c
       ∙ kept-put vertices leavingHere t at (omega arith) j l p c
 
-  pub unmarked-more : (old : List ℕ) → Unmarked old vertices
-      → Unmarked old (set (set vertices (rowLength * t + leavingHere) at) (rowLength * f + arrivingHere) at)
-  unmarked-more old m =
+  pub rows-more : (old : List ℕ) → RowsKept old vertices
+      → RowsKept old (set (set vertices (rowLength * t + leavingHere) at) (rowLength * f + arrivingHere) at)
+  rows-more old m =
       record {
         lasts = λ c. both-kept lastHere (omega arith) (λ q. omega arith) (λ q. omega arith) c ∙ m .lasts c;
         counts = λ c. both-kept countHere (omega arith) (λ q. omega arith) (λ q. omega arith) c ∙ m .counts c;
+        lowests = λ c. both-kept lowestHere (omega arith) (λ q. omega arith) (λ q. omega arith) c ∙ m .lowests c;
       }
 
   leaving-stored : (P : ℕ → Type 0) (j : ℕ) → (j ≡ to corners table (at - 1) → P at) → ((j ≡ to corners table (at - 1) → ⊥) → P (entry vertices leavingHere j))
@@ -100,21 +117,79 @@ module _ (corners table : List ℕ) (last : ℕ → ℕ) (k : Chained corners (e
       (λ q. subst P (sym (kept-put vertices leavingHere t at (omega arith) arrivingHere (omega arith) (λ q. omega arith) j)) (other (λ z. q (z ∙ sym ef))))
 
   pub marked-more : MarkedFrom corners table vertices u at
-      → MarkedFrom corners table (set (set vertices (rowLength * t + leavingHere) at) (rowLength * f + arrivingHere) at) u (entry table valenceHere (at - 1))
+      → MarkedFrom corners table (set (set vertices (rowLength * t + leavingHere) at) (rowLength * f + arrivingHere) at) u (earlierOf corners (at - 1))
   marked-more m =
       record {
         keyed = record {
-          left = keyed-step corners (entry table valenceHere) last k u at o n (to corners table) (entry vertices leavingHere) _ leaving-stored (m .keyed .left);
+          left = keyed-step corners (earlierOf corners) last k u at o n (to corners table) (entry vertices leavingHere) _ leaving-stored (m .keyed .left);
           arrived =
-              keyed-step corners (entry table valenceHere) last k u at o n (from corners table) (entry vertices arrivingHere) _ arriving-stored
+              keyed-step corners (earlierOf corners) last k u at o n (from corners table) (entry vertices arrivingHere) _ arriving-stored
               (m .keyed .arrived);
         };
         left-from =
-            marked-step corners (entry table valenceHere) last k u at o n (to corners table) (entry vertices leavingHere) _ leaving-stored (m .left-from);
+            marked-step corners (earlierOf corners) last k u at o n (to corners table) (entry vertices leavingHere) _ leaving-stored (m .left-from);
         arrived-from =
-            marked-step corners (entry table valenceHere) last k u at o n (from corners table) (entry vertices arrivingHere) _ arriving-stored
+            marked-step corners (earlierOf corners) last k u at o n (from corners table) (entry vertices arrivingHere) _ arriving-stored
             (m .arrived-from);
       }
+
+-- ---- what is noted of u: n corners, and the lowest
+abbrev pub noted : List ℕ → ℕ → ℕ → ℕ → List ℕ
+noted vertices u n low = set (set vertices (rowLength * u + countHere) n) (rowLength * u + lowestHere) low
+
+module _ (corners table vertices : List ℕ) (u n low : ℕ) (r : Row vertices u) where
+  noted-kept : (j : ℕ) → j < rowLength → (j ≡ countHere → ⊥) → (j ≡ lowestHere → ⊥) → Kept vertices (noted vertices u n low) j
+  noted-kept j l p q c =
+      kept-put (set vertices (rowLength * u + countHere) n) lowestHere u low (omega arith) j l q c
+      ∙ kept-put vertices countHere u n (omega arith) j l p c
+
+  noted-long : length (set vertices (rowLength * u + countHere) n) ≡ length vertices
+  noted-long = length-set vertices (rowLength * u + countHere) n
+
+  noted-count : (P : ℕ → Type 0) (v : ℕ) → (v ≡ u → P n) → ((v ≡ u → ⊥) → P (entry vertices countHere v)) → P (entry (noted vertices u n low) countHere v)
+  noted-count P v same other =
+      subst P (sym (kept-put (set vertices (rowLength * u + countHere) n) lowestHere u low (omega arith) countHere (omega arith) (λ q. omega arith) v))
+      (put vertices countHere u n P v (omega arith) same other)
+
+  noted-lowest : (P : ℕ → Type 0) (v : ℕ) → (v ≡ u → P low) → ((v ≡ u → ⊥) → P (entry vertices lowestHere v))
+      → P (entry (noted vertices u n low) lowestHere v)
+  noted-lowest P v same other =
+      put (set vertices (rowLength * u + countHere) n) lowestHere u low P v (omega (arith, noted-long)) same
+      (λ q. subst P (sym (kept-put vertices countHere u n (omega arith) lowestHere (omega arith) (λ z. omega arith) v)) (other q))
+
+  pub noted-at : n ≡ valence corners u → (lowest corners u < length corners → low ≡ lowest corners u) → CountedAt corners (noted vertices u n low) u
+  noted-at e f =
+      record {
+        count-is = noted-count (λ x. x ≡ valence corners u) u (λ q. e) (λ q. absurd (q refl));
+        lowest-is = λ h. noted-lowest (λ x. x ≡ lowest corners u) u (λ q. f h) (λ q. absurd (q refl));
+      }
+
+  pub noted-rest : (old : List ℕ) → RowsKept old vertices → Unmarked old (noted vertices u n low) u
+  noted-rest old k =
+      record {
+        lasts = λ c. noted-kept lastHere (omega arith) (λ q. omega arith) (λ q. omega arith) c ∙ k .lasts c;
+        counts = λ v m. noted-count (λ x. x ≡ entry old countHere v) v (λ q. absurd (m q)) (λ q. k .counts v);
+        lowests = λ v m. noted-lowest (λ x. x ≡ entry old lowestHere v) v (λ q. absurd (m q)) (λ q. k .lowests v);
+      }
+
+  -- the marks stand in other columns
+  pub noted-marks : (at : ℕ) → MarkedFrom corners table vertices u at → MarkedFrom corners table (noted vertices u n low) u at
+  unfolding Marked
+  noted-marks at m =
+      let l = noted-kept leavingHere (omega arith) (λ q. omega arith) (λ q. omega arith) in
+      let a = noted-kept arrivingHere (omega arith) (λ q. omega arith) (λ q. omega arith) in
+      record {
+        keyed = record { left = keyed-same l (m .keyed .left); arrived = keyed-same a (m .keyed .arrived) };
+        left-from = λ d b h v. subst (Hit corners u d) (sym (l (to corners table d))) (m .left-from d b h v);
+        arrived-from = λ d b h v. subst (Hit corners u d) (sym (a (from corners table d))) (m .arrived-from d b h v);
+      }
+    where
+      keyed-same : {key f g : ℕ → ℕ} → ((t : ℕ) → g t ≡ f t) → Keyed corners key f → Keyed corners key g
+      keyed-same {key} {f} {g} e k =
+          record {
+            inside = λ t. subst (λ (x : ℕ). (x ≡ 0 → ⊥) → x ≤ length corners) (sym (e t)) (k .inside t);
+            key-is = λ t. subst (λ (x : ℕ). (x ≡ 0 → ⊥) → key (x - 1) ≡ t) (sym (e t)) (k .key-is t);
+          }
 
 -- the corner of an edge's reverse is the one before the corner where the reverse arrives
 module _ (sides corners : List ℕ) (s : sumOf sides ≡ length corners) (c : ℕ) where
@@ -216,34 +291,39 @@ module _ (corners table vertices : List ℕ) (c : ℕ) (h : c < length corners) 
       (eq-eqb (arrivesFrom sides corners (x - 1)) (leavesTo sides corners c)
       (sym (arrives (x - 1) l) ∙ m .keyed .arrived .key-is (to corners table c) n ∙ leaves c h)))
 
--- ---- tables that differ in the column of links only
-module _ (corners old new : List ℕ) (k : KeptBut toLink old new) where
-  nexts-kept : Kept old new toNext
-  nexts-kept = k toNext (omega arith) (λ q. omega arith)
+-- ---- tables that have the columns of the faces in common
+pub faces-same : (table : List ℕ) → FacesKept table table
+faces-same table = record { nexts = λ c. refl; previouses = λ c. refl; sides-are = λ c. refl }
 
-  previouses-kept : Kept old new toPrevious
-  previouses-kept = k toPrevious (omega arith) (λ q. omega arith)
+pub faces-then : (old middle new : List ℕ) → FacesKept middle new → FacesKept old middle → FacesKept old new
+faces-then old middle new b a =
+    record {
+      nexts = λ c. b .nexts c ∙ a .nexts c;
+      previouses = λ c. b .previouses c ∙ a .previouses c;
+      sides-are = λ c. b .sides-are c ∙ a .sides-are c;
+    }
 
+module _ (corners old new : List ℕ) (k : FacesKept old new) where
   to-kept : (c : ℕ) → to corners new c ≡ to corners old c
-  to-kept c = ap (vertexOf corners) (nexts-kept c)
+  to-kept c = ap (vertexOf corners) (k .nexts c)
 
   from-kept : (c : ℕ) → from corners new c ≡ from corners old c
-  from-kept c = ap (vertexOf corners) (previouses-kept c)
+  from-kept c = ap (vertexOf corners) (k .previouses c)
 
   ends-back : (sides : List ℕ) → Ends sides corners new → Ends sides corners old
   ends-back sides e =
       record {
         sums = e .sums;
-        nexts = λ c l. sym (nexts-kept c) ∙ e .nexts c l;
-        previouses = λ c l. sym (previouses-kept c) ∙ e .previouses c l;
+        nexts = λ c l. sym (k .nexts c) ∙ e .nexts c l;
+        previouses = λ c l. sym (k .previouses c) ∙ e .previouses c l;
       }
 
   pub ends-on : (sides : List ℕ) → Ends sides corners old → Ends sides corners new
   ends-on sides e =
       record {
         sums = e .sums;
-        nexts = λ c l. nexts-kept c ∙ e .nexts c l;
-        previouses = λ c l. previouses-kept c ∙ e .previouses c l;
+        nexts = λ c l. k .nexts c ∙ e .nexts c l;
+        previouses = λ c l. k .previouses c ∙ e .previouses c l;
       }
 
   keyed-on : {f g column : ℕ → ℕ} → ((c : ℕ) → g c ≡ f c) → Keyed corners f column → Keyed corners g column
@@ -263,18 +343,15 @@ module _ (corners old new : List ℕ) (k : KeptBut toLink old new) where
 
   pub searchable-on : (before after : List ℕ) → length new ≡ length old → length after ≡ length before → Kept before after lastHere
       → Searchable corners old before → Searchable corners new after
-  unfolding EarliersTo LastsTo
+  unfolding LastsTo
   searchable-on before after ln lv kl s =
       record {
         small = s .small;
         long = omega (arith, s .long);
         rowed = λ c l. omega (arith, s .rowed c l);
-        nexts-in = λ c l. omega (arith, nexts-kept c, s .nexts-in c l);
-        previouses-in = λ c l. omega (arith, previouses-kept c, s .previouses-in c l);
-        chained = record {
-          earliers-are = λ c l. k valenceHere (omega arith) (λ q. omega arith) c ∙ s .chained .earliers-are c l;
-          lasts-are = λ u. kl u ∙ s .chained .lasts-are u;
-        };
+        nexts-in = λ c l. omega (arith, k .nexts c, s .nexts-in c l);
+        previouses-in = λ c l. omega (arith, k .previouses c, s .previouses-in c l);
+        lasts = λ u. kl u ∙ s .lasts u;
       }
 
   pub entry-back : (c x : ℕ) → EntryFor corners new c x → EntryFor corners old c x
@@ -283,64 +360,174 @@ module _ (corners old new : List ℕ) (k : KeptBut toLink old new) where
   pub entry-on : (c x : ℕ) → EntryFor corners old c x → EntryFor corners new c x
   entry-on c x f sides e = f sides (ends-back sides e)
 
--- ---- collecting: the corners of u from `at` on have their entries
-pub record CollectedFrom (corners old new : List ℕ) (u at : ℕ) : Type 0 where
+-- ---- collecting: the corners of u from `at` on have their entries and the valence n
+pub record CollectedFrom (corners old new : List ℕ) (u n at : ℕ) : Type 0 where
   pub entries : (c : ℕ) → c < length corners → vertexOf corners c ≡ u → at ≤ c → EntryFor corners old c (entry new toLink c)
   pub others : (c : ℕ) → (vertexOf corners c ≡ u → ⊥) → entry new toLink c ≡ entry old toLink c
-  pub columns : KeptBut toLink old new
+  pub valences : (c : ℕ) → c < length corners → vertexOf corners c ≡ u → at ≤ c → entry new valenceHere c ≡ n
+  pub chains : (c : ℕ) → (vertexOf corners c ≡ u → at ≤ c → ⊥) → entry new valenceHere c ≡ entry old valenceHere c
+  pub faces : FacesKept old new
 
-module _ (corners old : List ℕ) (last : ℕ → ℕ) (k : Chained corners (entry old valenceHere) last) (u : ℕ) where
-  pub collected-none : CollectedFrom corners old old u (last u)
+module _ (corners old : List ℕ) (last : ℕ → ℕ) (k : Chained corners (earlierOf corners) last) (u n : ℕ) where
+  pub collected-none : CollectedFrom corners old old u n (last u)
   collected-none =
       record {
-        entries = λ c h v a. absurd (above-head corners (entry old valenceHere) last k u c a h v);
-        others = λ c n. refl;
-        columns = λ j l n c. refl;
+        entries = λ c h v a. absurd (above-head corners (earlierOf corners) last k u c a h v);
+        others = λ c m. refl;
+        valences = λ c h v a. absurd (above-head corners (earlierOf corners) last k u c a h v);
+        chains = λ c m. refl;
+        faces = faces-same old;
       }
 
-  module _ (new : List ℕ) (at : ℕ) (o : On corners u at) (n : at ≡ 0 → ⊥) (h : rowLength * (at - 1) + toLink < length new)
-      (t : CollectedFrom corners old new u at) (x : ℕ) (w : EntryFor corners old (at - 1) x) where
-    pub collected-more : CollectedFrom corners old (set new (rowLength * (at - 1) + toLink) x) u (entry old valenceHere (at - 1))
-    collected-more =
-        record {
-          entries = λ c l v a.
-              put new toLink (at - 1) x (EntryFor corners old c) c h
-              (λ q. subst (λ (y : ℕ). EntryFor corners old y x) (sym q) w)
-              (λ q. t .entries c l v (omega (arith, q, on-from corners (entry old valenceHere) last k u at o n c a v)));
-          others = λ c m.
-              put new toLink (at - 1) x (λ y. y ≡ entry old toLink c) c h
-              (λ q. absurd (m (ap (vertexOf corners) q ∙ at-vertex corners (entry old valenceHere) last k u at o n)))
-              (λ q. t .others c m);
-          columns = λ j l m c. kept-put new toLink (at - 1) x (omega arith) j l m c ∙ t .columns j l m c;
-        }
+  module _ (new : List ℕ) (at : ℕ) (o : On corners u at) (z : at ≡ 0 → ⊥) (h : rowLength * (at - 1) + rowLength ≤ length new)
+      (t : CollectedFrom corners old new u n at) where
+    -- the chain goes on as it was
+    pub chain-on : ChainsFrom corners old u → entry new valenceHere (at - 1) ≡ earlierOf corners (at - 1)
+    chain-on f = t .chains (at - 1) (λ q a. omega (arith, z)) ∙ chain-here corners old u at o z f
 
-  pub collected-all : (new : List ℕ) (at : ℕ) → at ≡ 0 → CollectedFrom corners old new u at → Collected corners old new u
-  collected-all new at z t = record { entries = λ c h v. t .entries c h v (omega arith); others = t .others; columns = t .columns }
+    module _ (x : ℕ) (w : EntryFor corners old (at - 1) x) where
+      pub collected-more :
+          CollectedFrom corners old (set (set new (rowLength * (at - 1) + toLink) x) (rowLength * (at - 1) + valenceHere) n) u n (earlierOf corners (at - 1))
+      collected-more =
+          let once = set new (rowLength * (at - 1) + toLink) x in
+          let size : length once ≡ length new = length-set new (rowLength * (at - 1) + toLink) x in
+          let first = kept-put new toLink (at - 1) x (omega arith) in
+          let second = kept-put once valenceHere (at - 1) n (omega arith) in
+          let v = at-vertex corners (earlierOf corners) last k u at o z in
+          let falls = on-falls corners (earlierOf corners) last k u at o z in
+          record {
+            entries = λ c l e a.
+                subst (EntryFor corners old c) (sym (second toLink (omega arith) (λ q. omega arith) c))
+                (put new toLink (at - 1) x (EntryFor corners old c) c (omega arith)
+                (λ q. subst (λ (y : ℕ). EntryFor corners old y x) (sym q) w)
+                (λ q. t .entries c l e (omega (arith, q, on-from corners (earlierOf corners) last k u at o z c a e))));
+            others = λ c m.
+                second toLink (omega arith) (λ q. omega arith) c
+                ∙ put new toLink (at - 1) x (λ y. y ≡ entry old toLink c) c (omega arith)
+                (λ q. absurd (m (ap (vertexOf corners) q ∙ v)))
+                (λ q. t .others c m);
+            valences = λ c l e a.
+                put once valenceHere (at - 1) n (λ y. y ≡ n) c (omega arith) (λ q. refl)
+                (λ q. first valenceHere (omega arith) (λ y. omega arith) c
+                ∙ t .valences c l e (omega (arith, q, on-from corners (earlierOf corners) last k u at o z c a e)));
+            chains = λ c m.
+                put once valenceHere (at - 1) n (λ y. y ≡ entry old valenceHere c) c (omega arith)
+                (λ q. absurd (m (ap (vertexOf corners) q ∙ v) (omega (arith, q, falls))))
+                (λ q. first valenceHere (omega arith) (λ y. omega arith) c ∙ t .chains c (λ e a. m e (omega (arith, falls))));
+            faces = record {
+              nexts = λ c. second toNext (omega arith) (λ q. omega arith) c ∙ first toNext (omega arith) (λ q. omega arith) c ∙ t .faces .nexts c;
+              previouses = λ c.
+                  second toPrevious (omega arith) (λ q. omega arith) c ∙ first toPrevious (omega arith) (λ q. omega arith) c ∙ t .faces .previouses c;
+              sides-are = λ c.
+                  second sidesHere (omega arith) (λ q. omega arith) c ∙ first sidesHere (omega arith) (λ q. omega arith) c ∙ t .faces .sides-are c;
+            };
+          }
 
--- ---- all vertices: those below u have their entries
+  pub collected-all : (new : List ℕ) (at : ℕ) → at ≡ 0 → n ≡ valence corners u → CollectedFrom corners old new u n at → Collected corners old new u
+  collected-all new at z e t =
+      record {
+        entries = λ c h v. t .entries c h v (omega arith);
+        others = t .others;
+        valences = λ c h v. t .valences c h v (omega arith) ∙ e;
+        chains = λ c m. t .chains c (λ q a. m q);
+        faces = t .faces;
+      }
+
+-- ---- all vertices: those below u have their entries and valences, and are counted
 pub EntriesBelow : List ℕ → List ℕ → ℕ → Type 0
 EntriesBelow corners table u = (c : ℕ) → c < length corners → vertexOf corners c < u → EntryFor corners table c (entry table toLink c)
+
+pub ValencesBelow : List ℕ → List ℕ → ℕ → Type 0
+ValencesBelow corners table u = (c : ℕ) → c < length corners → vertexOf corners c < u → entry table valenceHere c ≡ valence corners (vertexOf corners c)
+
+pub record CountedBelow (corners vertices : List ℕ) (u : ℕ) : Type 0 where
+  pub counts : (v : ℕ) → v < u → entry vertices countHere v ≡ valence corners v
+  pub lowests : (v : ℕ) → v < u → lowest corners v < length corners → entry vertices lowestHere v ≡ lowest corners v
+  pub clear : (v : ℕ) → u ≤ v → entry vertices countHere v ≡ 0
+
+-- below u + 1 is u, or below u
+upTo : (P : ℕ → Type 0) (v u : ℕ) → v < u + 1 → (v ≡ u → P v) → (v < u → P v) → P v
+upTo P v u l same lower =
+    ⊎-elim same (λ o. lower (⊎-elim (λ (z : v < u). z) (λ (z : u < v). absurd (omega arith)) o)) (compared v u)
 
 module _ (corners : List ℕ) where
   pub below-none : (table : List ℕ) → EntriesBelow corners table 0
   unfolding EntriesBelow
   below-none table c h v = absurd (omega arith)
 
-  pub below-more : (old new : List ℕ) (u : ℕ) → EntriesBelow corners old u → Collected corners old new u → EntriesBelow corners new (u + 1)
-  unfolding EntriesBelow
-  below-more old new u b t c h v =
-      entry-on corners old new (t .columns) c (entry new toLink c)
-      (⊎-elim
-      (λ (q : vertexOf corners c ≡ u). t .entries c h q)
-      (λ o. let l : vertexOf corners c < u = ⊎-elim (λ (z : vertexOf corners c < u). z) (λ (z : u < vertexOf corners c). absurd (omega arith)) o in
-      subst (EntryFor corners old c) (sym (t .others c (λ q. omega arith))) (b c h l))
-      (compared (vertexOf corners c) u))
+  pub valences-none : (table : List ℕ) → ValencesBelow corners table 0
+  unfolding ValencesBelow
+  valences-none table c h v = absurd (omega arith)
 
-  pub found : (old new before after : List ℕ) (u count : ℕ) → count ≤ u → Named corners count → EntriesBelow corners new u
-      → KeptBut toLink old new → Kept before after countHere → Found corners old new before after
-  unfolding EntriesBelow Entries
-  found old new before after u count l n b k c =
-      record { entries = λ sides e d h. b d h (omega (arith, n d h)) sides e; columns = k; counts = c }
+  pub counted-none : (vertices : List ℕ) → Clear vertices countHere → CountedBelow corners vertices 0
+  counted-none vertices z = record { counts = λ v l. absurd (omega arith); lowests = λ v l. absurd (omega arith); clear = λ v l. z v }
+
+  module _ (old new : List ℕ) (u : ℕ) (t : Collected corners old new u) where
+    pub below-more : EntriesBelow corners old u → EntriesBelow corners new (u + 1)
+    unfolding EntriesBelow
+    below-more b c h v =
+        entry-on corners old new (t .faces) c (entry new toLink c)
+        (upTo (λ w. EntryFor corners old c (entry new toLink c)) (vertexOf corners c) u v
+        (λ q. t .entries c h q)
+        (λ l. subst (EntryFor corners old c) (sym (t .others c (λ q. omega arith))) (b c h l)))
+
+    pub valences-more : ValencesBelow corners old u → ValencesBelow corners new (u + 1)
+    unfolding ValencesBelow
+    valences-more b c h v =
+        upTo (λ w. entry new valenceHere c ≡ valence corners w) (vertexOf corners c) u v
+        (λ q. t .valences c h q ∙ ap (valence corners) (sym q))
+        (λ l. t .chains c (λ q. omega arith) ∙ b c h l)
+
+    pub chains-more : ChainsFrom corners old u → ChainsFrom corners new (u + 1)
+    unfolding EarliersFrom
+    chains-more f c h v = t .chains c (λ q. omega arith) ∙ f c h (omega arith)
+
+  pub counted-more : (old new : List ℕ) (u : ℕ) → CountedAt corners new u → Unmarked old new u → CountedBelow corners old u → CountedBelow corners new (u + 1)
+  counted-more old new u a m b =
+      record {
+        counts = λ v l.
+            upTo (λ w. entry new countHere w ≡ valence corners w) v u l
+            (λ q. subst (λ (w : ℕ). entry new countHere w ≡ valence corners w) (sym q) (a .count-is))
+            (λ k. m .counts v (λ q. omega arith) ∙ b .counts v k);
+        lowests = λ v l.
+            upTo (λ w. lowest corners w < length corners → entry new lowestHere w ≡ lowest corners w) v u l
+            (λ q. subst (λ (w : ℕ). lowest corners w < length corners → entry new lowestHere w ≡ lowest corners w) (sym q) (a .lowest-is))
+            (λ k h. m .lowests v (λ q. omega arith) ∙ b .lowests v k h);
+        clear = λ v l. m .counts v (λ q. omega arith) ∙ b .clear v (omega arith);
+      }
+
+  -- no corner names a vertex from `count` on
+  module _ (u count : ℕ) (l : count ≤ u) (named : Named corners count) where
+    nameless : (v : ℕ) → u ≤ v → (c : ℕ) → c < length corners → names corners v c ≡ false
+    unfolding names
+    nameless v a c h = ne-eqb (vertexOf corners c) v (λ q. omega (arith, named c h))
+
+    counted-all : (vertices : List ℕ) → CountedBelow corners vertices u → CornersCounted corners vertices
+    unfolding valence lowest
+    counted-all vertices b =
+        record {
+          count-is = λ v.
+              ⊎-elim
+              (λ k. b .counts v (ltb-true v u k))
+              (λ k. let a = ltb-false v u k in b .clear v a ∙ sym (count-none (names corners v) (length corners) (nameless v a)))
+              (ways (ltb v u));
+          lowest-is = λ v h.
+              ⊎-elim
+              (λ k. b .lowests v (ltb-true v u k) h)
+              (λ k. absurd (clash (first-passes (length corners) (names corners v) h) (nameless v (ltb-false v u k) _ h)))
+              (ways (ltb v u));
+        }
+
+    pub found : (old new vertices : List ℕ) → EntriesBelow corners new u → ValencesBelow corners new u → FacesKept old new
+        → CountedBelow corners vertices u → Found corners old new vertices
+    unfolding EntriesBelow ValencesBelow Entries
+    found old new vertices b w k c =
+        record {
+          entries = λ sides e d h. b d h (omega (arith, named d h)) sides e;
+          valences = λ d h. w d h (omega (arith, named d h));
+          faces = k;
+          counted = counted-all vertices c;
+        }
 
 -- two tests that agree have their lowest place in common
 lowest-same : (k n : ℕ) (f g : ℕ → Bool) → ((j : ℕ) → j < n → f j ≡ g j) → lowestOf k n f ≡ lowestOf k n g
@@ -396,27 +583,22 @@ module _ (sides corners table : List ℕ) (small : length corners ≤ mostCorner
       told x (single f g) = absurd (clash g (k .eleven c h))
       told x (joined f d l p) = link-only sides corners k c d h l p
 
--- ---- the two ways out of 10 and 11
-module _ (corners old new before after : List ℕ) (small : length corners ≤ mostCorners) (f : Found corners old new before after) where
+-- ---- the ways out of 10 and 11
+module _ (corners old new vertices : List ℕ) (small : length corners ≤ mostCorners) (f : Found corners old new vertices) where
   entries-of : (sides : List ℕ) → Ends sides corners old → Entries sides corners new
-  entries-of sides e = f .entries sides (ends-on corners old new (f .columns) sides e)
+  entries-of sides e = f .entries sides (ends-on corners old new (f .faces) sides e)
 
-  pub repeats-refused : (r : Answer) (k p : ℕ) → r ≡ Refused k p
-      → ((sides : List ℕ) → Entries sides corners new → stated r ≡ lowestOf 10 (length corners) (fault10 sides corners))
-      → EdgesChecked corners old new before after (Refused k p)
+  pub repeats-refused : (r : Answer) (k p : ℕ) → r ≡ Refused k p → Unrepeated corners new r → EdgesChecked corners old new vertices (Refused k p)
   repeats-refused r k p q a =
       record {
         answers = λ sides e. sym (orElse-fault k p _ (sym (a sides (entries-of sides e)) ∙ ap stated q));
         links = λ sides e. unsound k p;
-        columns = f .columns;
-        counts = f .counts;
+        valences = f .valences;
+        faces = f .faces;
+        counted = f .counted;
       }
 
-  pub edges-checked : (r : Answer)
-      → ((sides : List ℕ) → Entries sides corners new → sound ≡ lowestOf 10 (length corners) (fault10 sides corners))
-      → ((sides : List ℕ) → sumOf sides ≡ length corners → Entries sides corners new → lowestOf 10 (length corners) (fault10 sides corners) ≡ sound
-      → stated r ≡ lowestOf 11 (length corners) (fault11 sides corners))
-      → EdgesChecked corners old new before after r
+  pub edges-checked : (r : Answer) → Unrepeated corners new Done → Reversed corners new r → EdgesChecked corners old new vertices r
   edges-checked r a b =
       record {
         answers = λ sides e.
@@ -430,6 +612,17 @@ module _ (corners old new before after : List ℕ) (small : length corners ≤ m
               ten = lowest-sound _ _ _ ten;
               eleven = lowest-sound _ _ _ (sym (b sides (e .sums) (entries-of sides e) ten) ∙ s);
             });
-        columns = f .columns;
-        counts = f .counts;
+        valences = f .valences;
+        faces = f .faces;
+        counted = f .counted;
       }
+
+  -- no entry is as high as one of a corner at fault
+  pub edges-passed : (most : ℕ) → most < alone → ((c : ℕ) → c < length corners → entry new toLink c ≤ most) → EdgesChecked corners old new vertices Done
+  edges-passed most l h =
+      edges-checked Done
+      (λ sides t. sym (lowest-none 10 (length corners) (has new repeated) (other repeated (omega arith))) ∙ ten-found sides corners new small t)
+      (λ sides s t ten. sym (lowest-none 11 (length corners) (has new alone) (other alone (omega arith))) ∙ eleven-found sides corners new small t ten s)
+    where
+      other : (x : ℕ) → most < x → (c : ℕ) → c < length corners → has new x c ≡ false
+      other x m c b = ne-eqb (entry new toLink c) x (λ q. omega (arith, h c b))

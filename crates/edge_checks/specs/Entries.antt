@@ -8,12 +8,13 @@ use lib.Dec.{eqb}
 use lib.ListN.{length}
 use Rattle.paper.specs.Mesh.{mostCorners}
 use Rattle.paper.specs.Corners.{sumOf, next, previous}
-use Rattle.paper.specs.Links.{vertexOf, linked, link}
+use Rattle.paper.specs.Links.{vertexOf, linked, link, valence, lowest}
 use Rattle.paper.specs.Faults.{sound, _orElse_, lowestOf, fault10, fault11, stated}
 use Rattle.paper.specs.declared.Answer.{Answer}
-use Rattle.walk.specs.Table.{rowLength, toNext, toPrevious, toLink, valenceHere, entry, Column, Kept, KeptBut}
-use Rattle.columns.specs.Vertices.{lastHere, leavingHere, arrivingHere, countHere, Rowed}
-use Rattle.columns.specs.Chain.{Chained}
+use Rattle.walk.specs.Table.{rowLength, toNext, toPrevious, toLink, sidesHere, valenceHere, entry, Column, Kept}
+use Rattle.columns.specs.Vertices.{lastHere, leavingHere, arrivingHere, countHere, lowestHere, Rowed}
+use Rattle.columns.specs.Chain.{EarliersFrom, LastsTo}
+use Rattle.columns.specs.Filled.{CornersCounted}
 
 -- the entry of a corner whose leaving edge already left an earlier one, and of a corner whose leaving edge has no reverse: no corners
 abbrev pub repeated : ℕ
@@ -52,14 +53,18 @@ to corners table c = vertexOf corners (entry table toNext c)
 abbrev pub from : List ℕ → List ℕ → ℕ → ℕ
 from corners table c = vertexOf corners (entry table toPrevious c)
 
--- a table of corners and a table of vertices that the search can go by: its steps lead to corners, and the chains are made
+-- a table of corners and a table of vertices that the search can go by: its steps lead to corners, and each vertex to its chain
 pub record Searchable (corners table vertices : List ℕ) : Type 0 where
   pub small : length corners ≤ mostCorners
   pub long : rowLength * length corners ≤ length table
   pub rowed : Rowed corners vertices
   pub nexts-in : (c : ℕ) → c < length corners → entry table toNext c < length corners
   pub previouses-in : (c : ℕ) → c < length corners → entry table toPrevious c < length corners
-  pub chained : Chained corners (entry table valenceHere) (entry vertices lastHere)
+  pub lasts : LastsTo corners (entry vertices lastHere) (length corners)
+
+-- the chains of the vertices from u on stand in the column where the valences of those before it stand
+abbrev pub ChainsFrom : List ℕ → List ℕ → ℕ → Type 0
+ChainsFrom corners table u = EarliersFrom corners (entry table valenceHere) u
 
 -- vertex u has a row
 abbrev pub Row : List ℕ → ℕ → Type 0
@@ -91,10 +96,16 @@ pub record MarkedFrom (corners table vertices : List ℕ) (u at : ℕ) : Type 0 
   pub left-from : Marked corners (to corners table) (entry vertices leavingHere) u at
   pub arrived-from : Marked corners (from corners table) (entry vertices arrivingHere) u at
 
--- the columns that marking keeps
-pub record Unmarked (old new : List ℕ) : Type 0 where
+-- how many corners u has, and the lowest where it has any
+pub record CountedAt (corners vertices : List ℕ) (u : ℕ) : Type 0 where
+  pub count-is : entry vertices countHere u ≡ valence corners u
+  pub lowest-is : lowest corners u < length corners → entry vertices lowestHere u ≡ lowest corners u
+
+-- what marking u keeps: the chains' heads, and what is noted of the other vertices
+pub record Unmarked (old new : List ℕ) (u : ℕ) : Type 0 where
   pub lasts : Kept old new lastHere
-  pub counts : Kept old new countHere
+  pub counts : (v : ℕ) → (v ≡ u → ⊥) → entry new countHere v ≡ entry old countHere v
+  pub lowests : (v : ℕ) → (v ≡ u → ⊥) → entry new lowestHere v ≡ entry old lowestHere v
 
 -- side counts that the table's steps belong to
 pub record Ends (sides corners table : List ℕ) : Type 0 where
@@ -106,22 +117,36 @@ pub record Ends (sides corners table : List ℕ) : Type 0 where
 abbrev pub EntryFor : List ℕ → List ℕ → ℕ → ℕ → Type 0
 EntryFor corners table c x = (sides : List ℕ) → Ends sides corners table → Entry sides corners c x
 
--- the corners of u have their entries; the others, and the other columns, hold what they held
+-- the columns of the faces hold what they held
+pub record FacesKept (old new : List ℕ) : Type 0 where
+  pub nexts : Kept old new toNext
+  pub previouses : Kept old new toPrevious
+  pub sides-are : Kept old new sidesHere
+
+-- the corners of u have their entries and their valence; the others, and the columns of the faces, hold what they held
 pub record Collected (corners old new : List ℕ) (u : ℕ) : Type 0 where
   pub entries : (c : ℕ) → c < length corners → vertexOf corners c ≡ u → EntryFor corners old c (entry new toLink c)
   pub others : (c : ℕ) → (vertexOf corners c ≡ u → ⊥) → entry new toLink c ≡ entry old toLink c
-  pub columns : KeptBut toLink old new
+  pub valences : (c : ℕ) → c < length corners → vertexOf corners c ≡ u → entry new valenceHere c ≡ valence corners u
+  pub chains : (c : ℕ) → (vertexOf corners c ≡ u → ⊥) → entry new valenceHere c ≡ entry old valenceHere c
+  pub faces : FacesKept old new
 
--- all corners have their entries; the other columns, and the counts of the vertices, hold what they held
-pub record Found (corners old new before after : List ℕ) : Type 0 where
+-- the column of valences
+abbrev pub Valences : List ℕ → List ℕ → Type 0
+Valences corners table = Column table valenceHere (λ c. valence corners (vertexOf corners c)) (length corners)
+
+-- all corners have their entries and their valences, and the vertices are counted; the columns of the faces hold what they held
+pub record Found (corners old new vertices : List ℕ) : Type 0 where
   pub entries : (sides : List ℕ) → Ends sides corners new → Entries sides corners new
-  pub columns : KeptBut toLink old new
-  pub counts : Kept before after countHere
+  pub valences : Valences corners new
+  pub faces : FacesKept old new
+  pub counted : CornersCounted corners vertices
 
 -- checks 10 and 11, for all side counts that the table's steps belong to; the links, where both have passed
-pub record EdgesChecked (corners old new before after : List ℕ) (r : Answer) : Type 0 where
+pub record EdgesChecked (corners old new vertices : List ℕ) (r : Answer) : Type 0 where
   pub answers : (sides : List ℕ) → Ends sides corners old
       → stated r ≡ lowestOf 10 (length corners) (fault10 sides corners) orElse lowestOf 11 (length corners) (fault11 sides corners)
   pub links : (sides : List ℕ) → Ends sides corners old → stated r ≡ sound → Column new toLink (link sides corners) (length corners)
-  pub columns : KeptBut toLink old new
-  pub counts : Kept before after countHere
+  pub valences : Valences corners new
+  pub faces : FacesKept old new
+  pub counted : CornersCounted corners vertices

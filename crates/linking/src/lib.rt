@@ -1,4 +1,5 @@
 // Linking: fills a lent link table, or answers why the mesh is turned down and leaves the table as it was.
+use mesh::MEDIUM_MESH;
 use mesh::SMALL_MESH;
 use paper::Answer;
 use paper::MOST_CORNERS;
@@ -23,9 +24,39 @@ pub fn link(
 ) -> Answer
     ensures { λ r. ⌜ Linked (meshOf (now (coordinates .entry)) (now (sides .entry)) (now (corners .entry)) (now (sharpness .entry))) (now (links .entry)) r (now (links .exit)) ⌝ }
 {
-    if corners.len() <= SMALL_MESH && coordinates.len() / 3 <= SMALL_MESH {
-        let mut table = [0u16; ROW * SMALL_MESH];
-        let mut vertices = [0u16; ROW * SMALL_MESH];
+    if SMALL_MESH < corners.len() {
+        return link_large(coordinates, sides, corners, sharpness, links);
+    }
+    if SMALL_MESH < coordinates.len() / 3 {
+        return link_large(coordinates, sides, corners, sharpness, links);
+    }
+    let mut table = [0u16; ROW * SMALL_MESH];
+    let mut vertices = [0u16; ROW * SMALL_MESH];
+    link_over(
+        coordinates,
+        sides,
+        corners,
+        sharpness,
+        &mut table,
+        &mut vertices,
+        links,
+    )
+}
+
+// The same of a mesh that is not small. A function of its own, with two callers, so that the compiler does not reserve its long tables
+// for a small mesh too: reserving them touches every page of them.
+fn link_large(
+    coordinates: &[i32],
+    sides: &[u8],
+    corners: &[u16],
+    sharpness: &[u8],
+    links: &mut [u16],
+) -> Answer
+    ensures { λ r. ⌜ Linked (meshOf (now (coordinates .entry)) (now (sides .entry)) (now (corners .entry)) (now (sharpness .entry))) (now (links .entry)) r (now (links .exit)) ⌝ }
+{
+    if corners.len() <= MEDIUM_MESH && coordinates.len() / 3 <= MEDIUM_MESH {
+        let mut table = [0u16; ROW * MEDIUM_MESH];
+        let mut vertices = [0u16; ROW * MEDIUM_MESH];
         return link_over(
             coordinates,
             sides,

@@ -24,10 +24,10 @@ use Rattle.mesh.proofs.Accepted.{in-list}
 use Rattle.mesh.proofs.Scans.{compared, ways, some-true, some-false, fails-step}
 use Rattle.mesh.proofs.Faces.{face-at}
 use Rattle.mesh.proofs.Verdicts.{single-hit, single-miss, lowest-hit}
-use Rattle.walk.specs.Table.{rowLength, valenceHere, entry, Blank}
+use Rattle.walk.specs.Table.{rowLength, valenceHere, entry, Kept, Blank}
 use Rattle.columns.specs.Vertices.{lastHere}
 use Rattle.columns.specs.Chain.{lastBelow}
-use Rattle.columns.proofs.Chains.{last-le, last-passes, last-above, ChainsTo, chains-none, chains-step, last-is}
+use Rattle.columns.proofs.Chains.{last-le, last-passes, last-above, ChainsTo, chains-none, chains-kept, chains-step, last-is}
 
 -- the lengths
 module _ (n f c : ℕ) where
@@ -130,6 +130,10 @@ pub record Passed (sides corners table vertices : List ℕ) (c : ℕ) : Type 0 w
 pub passed-none : (sides corners table vertices : List ℕ) → Blank vertices → Passed sides corners table vertices 0
 passed-none sides corners table vertices z = record { chains = chains-none corners table vertices z; faultless = λ j l. absurd (omega arith) }
 
+pub passed-kept : (sides corners old new vertices : List ℕ) (c : ℕ) → Kept old new valenceHere → Passed sides corners old vertices c
+    → Passed sides corners new vertices c
+passed-kept sides corners old new vertices c k p = record { chains = chains-kept corners old vertices new c k (p .chains); faultless = p .faultless }
+
 -- a corner of face f, whose first corner is where the face starts
 module _ (sides corners table vertices : List ℕ) (f c start : ℕ) (l : f < length sides) (s : start ≡ startOf sides f)
     (h : start ≤ c) (k : c < start + getD sides f 0) (p : Passed sides corners table vertices c) where
@@ -154,12 +158,3 @@ module _ (sides corners table vertices : List ℕ) (f c start : ℕ) (l : f < le
         chains = chains-step corners table vertices c (p .chains) ht hv;
         faultless = fails-step (fault9 sides corners) c (p .faultless) (in-face ∙ unrepeated start corners c _ met q);
       }
-
--- none of the list up to i is above a number that bounds those before it, and the one there
-pub all-below-step :
-    (list : List ℕ) (i m r : ℕ) → ((j : ℕ) → j < i → getD list j 0 ≤ m) → m ≤ r → getD list i 0 ≤ r → (j : ℕ) → j < i + 1 → getD list j 0 ≤ r
-all-below-step list i m r before grown here j h =
-    ⊎-elim
-    (λ (q : j ≡ i). subst (λ (k : ℕ). getD list k 0 ≤ r) (sym q) here)
-    (λ o. let l : j < i = ⊎-elim (λ (z : j < i). z) (λ (z : i < j). absurd (omega arith)) o in omega (arith, before j l))
-    (compared j i)

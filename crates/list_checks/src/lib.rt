@@ -12,14 +12,16 @@ use paper::SHARPNESS_PER_CORNER;
 use walk::ROW;
 use walk::VALENCE;
 ghost use mathlib.Core.Path.{_≡_};
+ghost use mathlib.Core.Bool.{true, false};
 ghost use Prim.Native.Nat.{ℕ, _*_, _≤_, _<_};
 ghost use lib.ListN.{length, getD};
-ghost use Rattle.paper.specs.Mesh.{mostFaces, mostCorners};
+ghost use Rattle.paper.specs.Mesh.{leastSides, mostFaces, mostCorners};
 ghost use Rattle.paper.specs.Corners.{sumOf};
 ghost use Rattle.paper.specs.Faults.{sound, single, lowestOf, fault4, fault27, fault5, fault6, fault7, fault8, fault28, fault9, stated};
 ghost use Rattle.walk.specs.Table.{rowLength, Blank};
 ghost use Rattle.columns.specs.Vertices.{Rowed};
 ghost use Rattle.columns.specs.Chain.{Ready};
+ghost use Rattle.columns.specs.Filled.{FacesFilled};
 
 // Check 4, of the lists' lengths.
 pub fn check_lengths(coordinates: usize, faces: usize, corners: usize) -> Answer
@@ -52,8 +54,34 @@ pub fn check_pairs(sharpness: usize, corners: usize) -> Answer
     Answer::Done
 }
 
-// Check 5, of the faces' side counts.
+// Check 5, of the faces' side counts. Nearly every list passes: it is gone over without an early end first, as in checks 7, 8 and 28.
 pub fn check_sides(sides: &[u8]) -> Answer
+    ensures { λ r. ⌜ stated r ≡ lowestOf 5 (length (now (sides .entry))) (fault5 (now (sides .entry))) ⌝ }
+{
+    if all_sided(sides) {
+        return Answer::Done;
+    }
+    find_sides(sides)
+}
+
+// Whether each face has a side count that passes.
+fn all_sided(sides: &[u8]) -> bool
+    ensures { λ r. ⌜ (r ≡ true → (j : ℕ) → j < length (now (sides .entry)) → fault5 (now (sides .entry)) j ≡ false) ⌝ }
+{
+    let mut sided = true;
+    let mut f = 0;
+    while f < sides.len() {
+        let s = sides[f] as usize;
+        if s < LEAST_SIDES || MOST_SIDES < s {
+            sided = false;
+        }
+        f += 1;
+    }
+    sided
+}
+
+// The lowest face at fault.
+fn find_sides(sides: &[u8]) -> Answer
     ensures { λ r. ⌜ stated r ≡ lowestOf 5 (length (now (sides .entry))) (fault5 (now (sides .entry))) ⌝ }
 {
     let mut f = 0;
@@ -86,6 +114,32 @@ pub fn check_sum(sides: &[u8], corners: usize) -> Answer
 
 // Check 7, of the coordinates.
 pub fn check_coordinates(coordinates: &[i32]) -> Answer
+    ensures { λ r. ⌜ stated r ≡ lowestOf 7 (length (now (coordinates .entry))) (fault7 (now (coordinates .entry))) ⌝ }
+{
+    if all_near(coordinates) {
+        return Answer::Done;
+    }
+    find_coordinate(coordinates)
+}
+
+// Whether each coordinate passes.
+fn all_near(coordinates: &[i32]) -> bool
+    ensures { λ r. ⌜ (r ≡ true → (j : ℕ) → j < length (now (coordinates .entry)) → fault7 (now (coordinates .entry)) j ≡ false) ⌝ }
+{
+    let mut near = true;
+    let mut i = 0;
+    while i < coordinates.len() {
+        let z = coordinates[i];
+        if z < -MOST_COORDINATE || MOST_COORDINATE < z {
+            near = false;
+        }
+        i += 1;
+    }
+    near
+}
+
+// The lowest coordinate at fault.
+fn find_coordinate(coordinates: &[i32]) -> Answer
     ensures { λ r. ⌜ stated r ≡ lowestOf 7 (length (now (coordinates .entry))) (fault7 (now (coordinates .entry))) ⌝ }
 {
     let mut i = 0;
@@ -192,18 +246,20 @@ fn find_sharpness(sharpness: &[u8]) -> Answer
 
 // Check 9: no corner names the vertex of an earlier corner of its face. The table of vertices holds one more than the last corner met of
 // each vertex: that corner is in the face if the entry is above the face's first corner. It is kept for the corner, so that the corners
-// of a vertex form a falling chain. A refused mesh leaves the two tables with any contents.
+// of a vertex form a falling chain. On the way the columns of the faces are filled. A refused mesh leaves the two tables with any contents.
 pub fn check_faces(sides: &[u8], corners: &[u16], table: &mut [u16], vertices: &mut [u16]) -> Answer
-    requires mesh { ⌜ (sumOf (now sides) ≡ length (now corners)) × (length (now corners) ≤ mostCorners) ⌝ }
+    requires mesh { ⌜ (sumOf (now sides) ≡ length (now corners)) × (length (now corners) ≤ mostCorners) × ((f : ℕ) → f < length (now sides) → leastSides ≤ getD (now sides) f 0) ⌝ }
     requires room { ⌜ (rowLength * length (now corners) ≤ length (now table)) × Rowed (now corners) (now vertices) × Blank (now vertices) ⌝ }
     ensures answer { λ r. ⌜ stated r ≡ lowestOf 9 (length (now (corners .entry))) (fault9 (now (sides .entry)) (now (corners .entry))) ⌝ }
     ensures chains { λ r. ⌜ (stated r ≡ sound → Ready (now (corners .entry)) (now (table .exit)) (now (vertices .exit))) ⌝ }
+    ensures faces { λ r. ⌜ (stated r ≡ sound → FacesFilled (now (sides .entry)) (now (table .exit))) ⌝ }
 {
     let mut start = 0;
     let mut f = 0;
     while f < sides.len() {
         let count = sides[f] as usize;
         let end = start + count;
+        let mut before = end - 1;
         let mut c = start;
         while c < end {
             let u = corners[c] as usize;
@@ -211,8 +267,10 @@ pub fn check_faces(sides: &[u8], corners: &[u16], table: &mut [u16], vertices: &
             if start < last as usize {
                 return Answer::Refused(9, c);
             }
+            columns::put_corner(table, c, before, count);
             table[ROW * c + VALENCE] = last;
             vertices[ROW * u + LAST] = (c + 1) as u16;
+            before = c;
             c += 1;
         }
         start = end;

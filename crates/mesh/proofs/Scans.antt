@@ -133,3 +133,11 @@ fails-step f c h e j l =
     (λ (q : j ≡ c). subst (λ (k : ℕ). f k ≡ false) (sym q) e)
     (λ o. h j (⊎-elim (λ (z : j < c). z) (λ (z : c < j). absurd (omega arith)) o))
     (compared j c)
+
+-- no value up to i is above a number that bounds those before it, and the one there
+pub all-below-step : (f : ℕ → ℕ) (i m r : ℕ) → ((j : ℕ) → j < i → f j ≤ m) → m ≤ r → f i ≤ r → (j : ℕ) → j < i + 1 → f j ≤ r
+all-below-step f i m r before grown here j h =
+    ⊎-elim
+    (λ (q : j ≡ i). subst (λ (k : ℕ). f k ≤ r) (sym q) here)
+    (λ o. let l : j < i = ⊎-elim (λ (z : j < i). z) (λ (z : i < j). absurd (omega arith)) o in omega (arith, before j l))
+    (compared j i)

@@ -11,6 +11,10 @@ use Rattle.paper.specs.Links.{vertexOf, link}
 abbrev pub smallMesh : ℕ
 smallMesh = 256
 
+-- with at most so many it is of medium size
+abbrev pub mediumMesh : ℕ
+mediumMesh = 1024
+
 -- the vertex of every corner has a place in a table of n entries
 abbrev pub Named : List ℕ → ℕ → Type 0
 Named corners n = (c : ℕ) → c < length corners → vertexOf corners c < n

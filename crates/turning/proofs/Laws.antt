@@ -15,7 +15,7 @@ use Rattle.paper.specs.declared.Answer.{Answer}
 use Rattle.mesh.proofs.Verdicts.{sound-left, sound-right, single-sound, lowest-sound, orElse-fault, orElse-sound, single-hit, single-miss, unsound}
 use Rattle.mesh.proofs.Accepted.{few-vertices, few-faces, few-corners, named-of}
 use Rattle.walk.specs.Table.{rowLength}
-use Rattle.columns.specs.Filled.{Fillable, FacesFilled}
+use Rattle.columns.specs.Filled.{FacesFilled}
 use Rattle.turn_laws.specs.States.{turnsBy}
 use Rattle.turn_laws.proofs.Theorem.{listed-of}
 use Rattle.turn_laws.proofs.Theorems.{long-of}
@@ -43,11 +43,8 @@ sized-of M e =
 
 -- the table of corners is long enough, and then has the next corners
 module _ (vertices : ℕ) (sides corners table : List ℕ) (z : Sized vertices sides corners) (l : rowLength * mostCorners ≤ length table) where
-  pub fillable-of : Fillable sides table
-  fillable-of = let s = z .listed .sums in let f = z .few-corners in record { few = omega arith; least = z .listed .least; long = omega arith }
-
-  pub nexted-of : (old : List ℕ) → FacesFilled sides old table → Nexted sides corners table
-  nexted-of old f = let s = z .listed .sums in let g = z .few-corners in record { long = omega arith; nexts = λ c h. f .nexts c (omega arith) }
+  pub nexted-of : FacesFilled sides table → Nexted sides corners table
+  nexted-of f = let s = z .listed .sums in let g = z .few-corners in record { long = omega arith; nexts = λ c h. f .nexts c (omega arith) }
 
 -- 4 to 9 stop the search, or 34 and 35 decide
 module _ (M : Mesh) (a : Answer) (v : stated a ≡ listFaults M) where

@@ -69,6 +69,5 @@ fn choose(
     if let Answer::Refused(k, p) = a {
         return Answer::Refused(k, p);
     }
-    columns::fill_faces(sides, &mut table);
     choosing::find_turns(coordinates.len() / 3, sides, corners, &table, states)
 }

@@ -24,7 +24,7 @@ use Rattle.mesh.proofs.Accepted.{turns, ring-full, valence-within}
 use Rattle.mesh.proofs.Verdicts.{lowest-hit, lowest-none, lowest-sound, unsound, stop, past}
 use Rattle.walk.specs.Table.{toLink, entry, Column}
 use Rattle.columns.specs.Vertices.{countHere, lowestHere}
-use Rattle.columns.specs.Filled.{CornersCounted, ValencesFilled}
+use Rattle.columns.specs.Filled.{CornersCounted}
 use Rattle.vertex_checks.specs.Ring.{ringWithin, Cornered, Ringed, VerticesChecked}
 
 -- the ring
@@ -166,14 +166,10 @@ pub cornered : (corners : List ℕ) (count : ℕ) → lowestOf 12 count (fault12
 cornered corners count e u h = valence-within corners u (lowest-sound 12 count (fault12 corners) e u h) .0
 
 -- ---- the ways out of 12 and 13
-module _ (corners : List ℕ) (count : ℕ) (old new : List ℕ) where
+module _ (corners : List ℕ) (count : ℕ) (table : List ℕ) where
   pub valences-refused : (r : Answer) (k p : ℕ) → r ≡ Refused k p → stated r ≡ lowestOf 12 count (fault12 corners)
-      → VerticesChecked corners count old new (Refused k p)
-  valences-refused r k p q a = record { answers = λ sides c t. stop r a k p q _; filled = unsound k p }
+      → VerticesChecked corners count table (Refused k p)
+  valences-refused r k p q a sides c t = stop r a k p q _
 
-  module _ (twelve : lowestOf 12 count (fault12 corners) ≡ sound) where
-    pub rings-refused : (r : Answer) (k p : ℕ) → r ≡ Refused k p → Ringed corners old count r → VerticesChecked corners count old new (Refused k p)
-    rings-refused r k p q a = record { answers = λ sides c t. past twelve _ (sym (ap stated q) ∙ a sides c t); filled = unsound k p }
-
-    pub vertices-checked : (r : Answer) → r ≡ Done → Ringed corners old count r → ValencesFilled corners old new → VerticesChecked corners count old new Done
-    vertices-checked r q a f = record { answers = λ sides c t. past twelve _ (sym (ap stated q) ∙ a sides c t); filled = λ s. f }
+  pub vertices-checked : (r : Answer) → lowestOf 12 count (fault12 corners) ≡ sound → Ringed corners table count r → VerticesChecked corners count table r
+  vertices-checked r twelve a sides c t = past twelve _ (a sides c t)

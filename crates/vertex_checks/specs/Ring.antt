@@ -8,11 +8,10 @@ use lib.ListN.{length}
 use Rattle.paper.specs.Scan.{pickN, firstBelow, iterate}
 use Rattle.paper.specs.Mesh.{leastSides}
 use Rattle.paper.specs.Links.{link, valence}
-use Rattle.paper.specs.Faults.{sound, _orElse_, lowestOf, fault12, fault13, stated}
+use Rattle.paper.specs.Faults.{_orElse_, lowestOf, fault12, fault13, stated}
 use Rattle.paper.specs.declared.Answer.{Answer}
 use Rattle.mesh.specs.Closed.{Closed}
 use Rattle.walk.specs.Table.{rowLength, toLink, entry, Column}
-use Rattle.columns.specs.Filled.{ValencesFilled}
 
 -- the steps until the start comes back, within a bound; 0 where it does not
 unfoldable pub ringWithin : (ℕ → ℕ) → ℕ → ℕ → ℕ
@@ -35,8 +34,8 @@ Ringed corners table count r =
     (sides : List ℕ) → Closed sides corners → Column table toLink (link sides corners) (length corners)
     → stated r ≡ lowestOf 13 count (fault13 sides corners)
 
--- checks 12 and 13, likewise; the valences, where both have passed
-pub record VerticesChecked (corners : List ℕ) (count : ℕ) (old new : List ℕ) (r : Answer) : Type 0 where
-  pub answers : (sides : List ℕ) → Closed sides corners → Column old toLink (link sides corners) (length corners)
-      → stated r ≡ lowestOf 12 count (fault12 corners) orElse lowestOf 13 count (fault13 sides corners)
-  pub filled : stated r ≡ sound → ValencesFilled corners old new
+-- checks 12 and 13, likewise
+abbrev pub VerticesChecked : List ℕ → ℕ → List ℕ → Answer → Type 0
+VerticesChecked corners count table r =
+    (sides : List ℕ) → Closed sides corners → Column table toLink (link sides corners) (length corners)
+    → stated r ≡ lowestOf 12 count (fault12 corners) orElse lowestOf 13 count (fault13 sides corners)

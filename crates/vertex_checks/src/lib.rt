@@ -12,31 +12,20 @@ ghost use lib.ListN.{length};
 ghost use Rattle.paper.specs.Mesh.{mostVertices};
 ghost use Rattle.paper.specs.Faults.{lowestOf, fault12, stated};
 ghost use Rattle.walk.specs.Table.{rowLength, toLink, entry};
-ghost use Rattle.columns.specs.Filled.{Countable, CornersCounted};
+ghost use Rattle.columns.specs.Filled.{CornersCounted};
 ghost use Rattle.vertex_checks.specs.Ring.{ringWithin, Linking, Cornered, Ringed, VerticesChecked};
 
-// Checks 12 and 13; the valences stand in their column where both have passed.
-pub fn check_vertices(
-    corners: &[u16],
-    count: usize,
-    table: &mut [u16],
-    vertices: &mut [u16],
-) -> Answer
-    requires counted { ⌜ Countable (now corners) (now vertices) × (count ≤ mostVertices) × (rowLength * count ≤ length (now vertices)) ⌝ }
+// Checks 12 and 13, of vertices that are counted.
+pub fn check_vertices(corners: &[u16], count: usize, table: &[u16], vertices: &[u16]) -> Answer
+    requires counted { ⌜ (count ≤ mostVertices) × (rowLength * count ≤ length (now vertices)) × CornersCounted (now corners) (now vertices) ⌝ }
     requires links { ⌜ Linking (now table) (length (now corners)) ⌝ }
-    ensures { λ r. ⌜ VerticesChecked (now (corners .entry)) count (now (table .entry)) (now (table .exit)) r ⌝ }
+    ensures { λ r. ⌜ VerticesChecked (now (corners .entry)) count (now (table .entry)) r ⌝ }
 {
-    columns::count_corners(corners, vertices);
     let a12 = check_valences(corners, vertices, count);
     if let Answer::Refused(k, p) = a12 {
         return Answer::Refused(k, p);
     }
-    let a13 = check_rings(corners, table, vertices, count);
-    if let Answer::Refused(k, p) = a13 {
-        return Answer::Refused(k, p);
-    }
-    columns::fill_valences(corners, vertices, table);
-    Answer::Done
+    check_rings(corners, table, vertices, count)
 }
 
 // Check 12: the corners that name a vertex are neither too few nor too many.

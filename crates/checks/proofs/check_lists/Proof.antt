@@ -6,8 +6,8 @@ use denote.Ref.{now}
 use Rattle.paper.specs.Mesh.{Mesh, meshOf, vertexCount, faceCount, cornerCount}
 use Rattle.paper.specs.Corners.{sumOf}
 use Rattle.paper.specs.Faults.{sound, _orElse_, single, lowestOf, fault4, fault27, fault5, fault6, fault7, fault8, fault28, listFaults}
-use Rattle.mesh.proofs.Verdicts.{stop, passed, past, single-sound, sound-left, orElse-assoc}
-use Rattle.mesh.proofs.Accepted.{few-vertices, few-faces, few-corners, sums-of}
+use Rattle.mesh.proofs.Verdicts.{stop, passed, past, single-sound, lowest-sound, sound-left, orElse-assoc}
+use Rattle.mesh.proofs.Accepted.{few-vertices, few-faces, few-corners, sides-within, sums-of}
 use Rattle.checks.proofs.Laws.{rowed, joined, lists-refused}
 use borrow.Author.Needs.{needs}
 use Rattle.checks.proofs.check_lists.Statement.{statement}
@@ -192,12 +192,17 @@ check-faces-requires : tie.Need-check-faces-requires
 check-faces-requires c κs =
     let t8 = c .before .before in
     let t6 = t8 .before .before .before .before .before .before .before .before in
-    let t4 = t6 .before .before .before .before .before .before .before .before .before in
+    let t5 = t6 .before .before .before in
+    let t4 = t5 .before .before .before .before .before .before in
     let s = t4 .before .before .before .before .before .before .before .before in
     let b = single-sound 4 _ 0 (four t4) in
     let few = few-vertices _ _ _ b in
     let small = few-corners _ _ _ b in (
-      (sums-of _ _ (single-sound 6 _ _ (six t6)), small),
+      (
+        sums-of _ _ (single-sound 6 _ _ (six t6)),
+        small,
+        (λ f l. sides-within (mesh s .sides) f (lowest-sound 5 (faceCount (mesh s)) (fault5 (mesh s .sides)) (five t5) f l) .0),
+      ),
       (s .pre .corners-fit small, rowed (mesh s) (now (s .args .vertices)) few (s .pre .vertices-fit) (eight t8), s .pre .blank),
     )
 
@@ -220,7 +225,8 @@ returns-7 c =
     record {
       answers = past (four t4) _ (past (twenty-seven t27) _ (past (five t5) _ (past (six t6) _ (past (seven t7) _
           (past (entries t8) _ (f .ensures .0) ∙ orElse-assoc _ _ _)))));
-      ready = f .ensures .1;
+      ready = f .ensures .1 .0;
+      faced = f .ensures .1 .1;
     }
 
 pub check-lists-spec : {M : Type 1} → statement M

@@ -1,5 +1,5 @@
--- The shared check meets its contract: after 4 to 9 the columns of the faces are filled, after 10 and 11 the links stand in theirs, and
--- 12 and 13 complete the verdict and the table. Assumes nothing.
+-- The shared check meets its contract: after 4 to 9 the columns of the faces are filled, after 10 and 11 those of the links and
+-- the valences, and 12 and 13 complete the verdict. Assumes nothing.
 use mathlib.Core.Path.{_≡_, ap, _∙_, sym}
 use Prim.Native.Nat.{_*_, _≤_}
 use lib.ListN.{length}
@@ -10,9 +10,10 @@ use Rattle.paper.specs.Faults.{sound, listFaults, stated}
 use Rattle.mesh.proofs.Verdicts.{passed}
 use Rattle.walk.specs.Table.{rowLength, toLink, Column}
 use Rattle.columns.specs.Chain.{Ready}
+use Rattle.columns.specs.Filled.{FacesFilled}
 use Rattle.edge_checks.specs.Entries.{Ends}
 use Rattle.checks.specs.Checked.{Listed}
-use Rattle.checks.proofs.Laws.{listed, fillable, rows, ends, searchable, edgeFaults, closed, linking, tabled, stopped-lists, stopped-edges, checked}
+use Rattle.checks.proofs.Laws.{listed, ends, searchable, chains, edgeFaults, closed, linking, tabled, stopped-lists, stopped-edges, checked}
 use native.Mathlib.Omega.{arith}
 use borrow.Author.Needs.{needs}
 use Rattle.checks.proofs.check_within.Statement.{statement}
@@ -44,31 +45,32 @@ module _ (t : tie.After-enum-told) where
   long-vertices : rowLength * vertexCount mesh ≤ length (t .before .before .before .before .before .before .check-lists .last .1 .1 .1 .1 .1 .0)
   long-vertices = omega (arith, start .pre .vertices-fit (lists .few), t .before .before .before .before .before .before .check-lists .kept .1 .1 .1 .1 .1 .0)
 
--- after the columns of the faces
-module _ (t : tie.After-fill-faces) where
-  faced : Ends (mesh (t .before .before) .sides) (mesh (t .before .before) .corners) (t .fill-faces .last .1 .0)
-  faced = ends (mesh (t .before .before)) (lists (t .before .before)) _ _ (t .fill-faces .ensures)
+  filled : FacesFilled (mesh .sides) (t .before .before .before .before .before .before .check-lists .last .1 .1 .1 .1 .0)
+  filled = t .before .before .before .before .before .before .check-lists .ensures .faced (ap stated (t .enum-told .given .1))
+
+  faced : Ends (mesh .sides) (mesh .corners) (t .before .before .before .before .before .before .check-lists .last .1 .1 .1 .1 .0)
+  faced = ends mesh lists _ filled
 
 -- after checks 10 and 11
 module _ (t : tie.After-enum-told2) where
-  abbrev filled : tie.After-fill-faces
-  filled = t .before .before .before .before .before .before .before .before .before .before .before
+  abbrev listed-at : tie.After-enum-told
+  listed-at = t .before .before .before .before .before .before .before .before .before
 
   abbrev of : Mesh
-  of = mesh (filled .before .before)
+  of = mesh listed-at
 
   edges-sound : edgeFaults of ≡ sound
   edges-sound =
       let b = t .before .before .before .before .before .before .check-edges in
-      passed {v = edgeFaults of} (b .result) (b .ensures .answers (of .sides) (faced filled)) (t .enum-told2 .given .1)
+      passed {v = edgeFaults of} (b .result) (b .ensures .answers (of .sides) (faced listed-at)) (t .enum-told2 .given .1)
 
   links : Column (t .before .before .before .before .before .before .check-edges .last .1 .1 .0) toLink (link (of .sides) (of .corners)) (cornerCount of)
-  links = t .before .before .before .before .before .before .check-edges .ensures .links (of .sides) (faced filled) (ap stated (t .enum-told2 .given .1))
+  links = t .before .before .before .before .before .before .check-edges .ensures .links (of .sides) (faced listed-at) (ap stated (t .enum-told2 .given .1))
 
   long-linked : rowLength * cornerCount of ≤ length (t .before .before .before .before .before .before .check-edges .last .1 .1 .0)
   long-linked =
       let b = t .before .before .before .before .before .before .check-edges in
-      omega (arith, long-table (filled .before .before), filled .fill-faces .kept .1 .0, b .kept .1 .1 .0)
+      omega (arith, long-table listed-at, b .kept .1 .1 .0)
 
 check-lists-requires : tie.Need-check-lists-requires
 check-lists-requires c κs = search needs
@@ -93,15 +95,11 @@ returns c =
 enum-told : tie.Need-enum-told
 enum-told c = search needs
 
-fill-faces-requires : tie.Need-fill-faces-requires
-fill-faces-requires c κs = fillable (mesh (c .before)) (lists (c .before)) _ (long-table (c .before))
-
 check-edges-requires : tie.Need-check-edges-requires
 check-edges-requires c κs =
-    let f = c .before .before .before .before in
-    let t = f .before .before in (
-      searchable (mesh t) (lists t) _ _ (f .fill-faces .ensures) _ (omega (arith, long-table t, f .fill-faces .kept .1 .0)) (long-vertices t) (ready t),
-      ((lists t .named, long-vertices t), (ready t .leaving-clear, ready t .arriving-clear)),
+    let t = c .before .before in (
+      (searchable (mesh t) (lists t) _ (filled t) _ (long-table t) (long-vertices t) (ready t), chains _ _ _ (ready t)),
+      ((lists t .named, long-vertices t), (ready t .leaving-clear, ready t .arriving-clear, ready t .count-clear)),
     )
 
 enum-known-b : tie.Need-enum-known-b
@@ -115,11 +113,10 @@ same-length-4 c = search needs
 
 returns-2 : tie.Need-returns-2
 returns-2 c =
-    let f = c .before .before .before .before .before .before .before .before .before .before .before .before in
-    let t = f .before .before in
+    let t = c .before .before .before .before .before .before .before .before .before .before in
     let b = c .before .before .before .before .before .before .before .check-edges in
     let k = c .before .b .given in
-    stopped-edges (mesh t) _ (lists-sound t) (k .0 .0) (k .0 .1 .0) (sym (ap stated (k .1)) ∙ b .ensures .answers (mesh t .sides) (faced f))
+    stopped-edges (mesh t) _ (lists-sound t) (k .0 .0) (k .0 .1 .0) (sym (ap stated (k .1)) ∙ b .ensures .answers (mesh t .sides) (faced t))
 
 enum-told-2 : tie.Need-enum-told-2
 enum-told-2 c = search needs
@@ -127,21 +124,11 @@ enum-told-2 c = search needs
 check-vertices-requires : tie.Need-check-vertices-requires
 check-vertices-requires c κs =
     let u = c .before .before in
-    let t = filled u .before .before in
+    let t = listed-at u in
     let b = u .before .before .before .before .before .before .check-edges in
     let g = lists t in
-    let lv : rowLength * vertexCount (mesh t) ≤ length (b .last .1 .1 .1 .0) = omega (arith, long-vertices t, b .kept .1 .1 .1 .0) in (
-      (
-        record {
-          small = g .small;
-          rowed = rows (mesh t) g (b .last .1 .1 .1 .0) lv;
-          clear = λ v. b .ensures .counts v ∙ ready t .count-clear v;
-        },
-        g .few,
-        lv,
-      ),
-      linking (mesh t) _ (closed (mesh t) g (edges-sound u)) (long-linked u) (links u),
-    )
+    let lv : rowLength * vertexCount (mesh t) ≤ length (b .last .1 .1 .1 .0) = omega (arith, long-vertices t, b .kept .1 .1 .1 .0) in
+    ((g .few, lv, b .ensures .counted), linking (mesh t) _ (closed (mesh t) g (edges-sound u)) (long-linked u) (links u))
 
 same-length-5 : tie.Need-same-length-5
 same-length-5 c = search needs
@@ -151,15 +138,13 @@ same-length-6 c = search needs
 
 returns-3 : tie.Need-returns-3
 returns-3 c =
-    let u = c .before .before .before .before .before .before .before in
-    let f = filled u in
-    let t = f .before .before in
+    let u = c .before .before .before in
+    let t = listed-at u in
     let b = u .before .before .before .before .before .before .check-edges in
-    let v = c .before .before .before .before .check-vertices in
+    let v = c .check-vertices in
     let g = lists t in
-    checked (mesh t) _ (lists-sound t) (v .result) (edges-sound u) (v .ensures .answers (mesh t .sides) (closed (mesh t) g (edges-sound u)) (links u))
-    (λ z. tabled (mesh t) g _ _ _ _ (omega (arith, long-linked u, v .kept .1 .1 .0))
-    (f .fill-faces .ensures) (b .ensures .columns) (links u) (v .ensures .filled z))
+    checked (mesh t) _ (lists-sound t) (v .result) (edges-sound u) (v .ensures (mesh t .sides) (closed (mesh t) g (edges-sound u)) (links u))
+    (λ z. tabled (mesh t) g _ _ (long-linked u) (filled t) (b .ensures .faces) (links u) (b .ensures .valences))
 
 pub check-within-spec : {M : Type 1} → statement M
 check-within-spec =
@@ -171,7 +156,6 @@ check-within-spec =
     same-length-2
     returns
     enum-told
-    fill-faces-requires
     check-edges-requires
     enum-known-b
     same-length-3

@@ -1,12 +1,11 @@
--- `fill_links` meets its contract: the corners of the vertices below `u` have their entries.
+-- `fill_links` meets its contract: the corners of the vertices below `u` have their entries and valences, and those vertices are counted.
 -- Assumes nothing.
 use mathlib.Core.Path.{_≡_, refl, _∙_}
 use Prim.Native.Nat.{_≤_, _-_}
 use lib.ListN.{length}
-use Rattle.walk.specs.Table.{toLink, Kept, KeptBut}
-use Rattle.columns.specs.Vertices.{countHere}
-use Rattle.edge_checks.specs.Entries.{Searchable, BothKeyed}
-use Rattle.edge_checks.proofs.Laws.{EntriesBelow, keyed-clear, searchable-on, both-keyed-on, below-none, below-more, found}
+use Rattle.edge_checks.specs.Entries.{Searchable, ChainsFrom, BothKeyed, FacesKept}
+use Rattle.edge_checks.proofs.Laws.{EntriesBelow, ValencesBelow, CountedBelow, keyed-clear, searchable-on, both-keyed-on, faces-same, faces-then}
+use Rattle.edge_checks.proofs.Laws.{below-none, valences-none, counted-none, below-more, valences-more, chains-more, counted-more, found}
 use native.Mathlib.Omega.{arith}
 use borrow.Author.Needs.{needs}
 use Rattle.edge_checks.proofs.fill_links.Statement.{statement}
@@ -15,7 +14,8 @@ use Rattle.edge_checks.proofs.fill_links.Tie as tie
 abbrev Inv-loop : tie.InvT-loop
 Inv-loop corners count table₀ vertices₀ u₀ table vertices u =
     (u ≤ count) × (length table ≡ length table₀) × (length vertices ≡ length vertices₀) × Searchable corners table vertices
-    × BothKeyed corners table vertices × EntriesBelow corners table u × KeptBut toLink table₀ table × Kept vertices₀ vertices countHere
+    × BothKeyed corners table vertices × ChainsFrom corners table u × EntriesBelow corners table u × ValencesBelow corners table u
+    × FacesKept table₀ table × CountedBelow corners vertices u
 
 abbrev μ-loop : tie.MeasureT-loop
 μ-loop corners count table₀ vertices₀ u₀ table vertices u = count - u
@@ -23,21 +23,32 @@ abbrev μ-loop : tie.MeasureT-loop
 loop-holds : tie.Need-loop-holds Inv-loop μ-loop
 loop-holds c =
     let s = c .before .before .before in
-    (omega arith, refl, refl, s .pre .0, keyed-clear _ _ _ (s .pre .1 .1 .0) (s .pre .1 .1 .1), below-none _ _, (λ j l n d. refl), λ d. refl)
+    let z = s .pre .1 .1 in (
+      omega arith,
+      refl,
+      refl,
+      s .pre .0 .0,
+      keyed-clear _ _ _ (z .0) (z .1),
+      s .pre .0 .1,
+      below-none _ _,
+      valences-none _ _,
+      faces-same _,
+      counted-none _ _ (z .2),
+    )
 
 mark-requires : tie.Need-mark-requires Inv-loop μ-loop
 mark-requires c κs =
     let l = c .before .before .before .loop in let s = c .before .before .before .before .before .before .before in
-    ((l .inv .3, omega (arith, s .pre .1 .0 .1, l .inv .2, c .before .before .loop-test .taken)), l .inv .4)
+    ((l .inv .3, omega (arith, s .pre .1 .0 .1, l .inv .2, c .before .before .loop-test .taken), l .inv .5), l .inv .4)
 
 collect-requires : tie.Need-collect-requires Inv-loop μ-loop
 collect-requires c κs =
     let m = c .before .before .before .before .mark in
     let l = c .before .before .before .before .before .before .before .before .loop in
     let s = c .before .before .before .before .before .before .before .before .before .before .before .before in
-    let k = searchable-on _ (l .table) (l .table) (λ j a n d. refl) (l .vertices) _ refl (m .kept .1 .1 .1 .0) (m .ensures .1 .lasts) (l .inv .3) in
+    let k = searchable-on _ (l .table) (l .table) (faces-same (l .table)) (l .vertices) _ refl (m .kept .1 .1 .1 .0) (m .ensures .1 .1 .lasts) (l .inv .3) in
     let h = c .before .before .before .before .before .before .before .loop-test .taken in
-    ((k, omega (arith, s .pre .1 .0 .1, l .inv .2, m .kept .1 .1 .1 .0)), m .ensures .0)
+    ((k, omega (arith, s .pre .1 .0 .1, l .inv .2, m .kept .1 .1 .1 .0), l .inv .5), (m .ensures .0, m .ensures .1 .0 .0))
 
 add-u : tie.Need-add-u Inv-loop μ-loop
 add-u c = search needs
@@ -50,16 +61,17 @@ loop-again c =
     let k = c .before .before .collect in
     let m = c .before .before .before .before .before .before .before .mark in
     let l = c .before .before .before .before .before .before .before .before .before .before .before .loop in
-    let s = c .before .before .before .before .before .before .before .before .before .before .before .before .before .before .before in
-    let e = k .ensures .columns in (
+    let e = k .ensures .faces in (
       search needs,
-      k .kept .1 .1 .1 .0 ∙ l .inv .1,
+      k .kept .1 .1 .1 .1 .0 ∙ l .inv .1,
       m .kept .1 .1 .1 .0 ∙ l .inv .2,
-      searchable-on _ (l .table) _ e (l .vertices) _ (k .kept .1 .1 .1 .0) (m .kept .1 .1 .1 .0) (m .ensures .1 .lasts) (l .inv .3),
+      searchable-on _ (l .table) _ e (l .vertices) _ (k .kept .1 .1 .1 .1 .0) (m .kept .1 .1 .1 .0) (m .ensures .1 .1 .lasts) (l .inv .3),
       both-keyed-on _ (l .table) _ e _ (m .ensures .0 .keyed),
-      below-more _ (l .table) _ (l .u) (l .inv .5) (k .ensures),
-      (λ j a n d. e j a n d ∙ l .inv .6 j a n d),
-      (λ d. m .ensures .1 .counts d ∙ l .inv .7 d),
+      chains-more _ (l .table) _ (l .u) (k .ensures) (l .inv .5),
+      below-more _ (l .table) _ (l .u) (k .ensures) (l .inv .6),
+      valences-more _ (l .table) _ (l .u) (k .ensures) (l .inv .7),
+      faces-then _ (l .table) _ e (l .inv .8),
+      counted-more _ (l .vertices) _ (l .u) (m .ensures .1 .0 .1) (m .ensures .1 .1) (l .inv .9),
     )
 
 same-length : tie.Need-same-length Inv-loop μ-loop
@@ -71,7 +83,7 @@ same-length-2 c = search needs
 returns : tie.Need-returns Inv-loop μ-loop
 returns c =
     let l = c .before .loop in let s = c .before .before .before .before .before in
-    found _ _ _ _ _ (l .u) (s .args .count) (c .loop-test .left) (s .pre .1 .0 .0) (l .inv .5) (l .inv .6) (l .inv .7)
+    found _ (l .u) (s .args .count) (c .loop-test .left) (s .pre .1 .0 .0) _ _ _ (l .inv .6) (l .inv .7) (l .inv .8) (l .inv .9)
 
 pub fill-links-spec : {M : Type 1} → statement M
 fill-links-spec =

@@ -1,25 +1,31 @@
--- `mark` meets its contract: the corners of the vertex from `at` on are in both columns. The chain falls.
+-- `mark` meets its contract: the corners of the vertex from `at` on are in both columns, and counted. The chain falls.
 -- Assumes nothing.
-use mathlib.Core.Path.{_≡_, refl, subst}
-use Prim.Native.Nat.{_<_, _-_}
+use mathlib.Core.Path.{_≡_, refl, sym, subst}
+use Prim.Native.Nat.{ℕ, _+_, _<_, _-_}
 use lib.ListN.{length, length-set}
 use denote.Ref.{now}
-use Rattle.walk.specs.Table.{toNext, toPrevious, valenceHere, entry}
+use Rattle.walk.specs.Table.{toNext, toPrevious, entry}
 use Rattle.columns.specs.Vertices.{lastHere}
-use Rattle.columns.proofs.Chains.{On, on-head, on-next, on-falls}
-use Rattle.edge_checks.specs.Entries.{to, from, MarkedFrom, Unmarked}
-use Rattle.edge_checks.proofs.Laws.{marked-none, marked-more, unmarked-more}
+use Rattle.columns.specs.Chain.{earlierOf, Chained}
+use Rattle.columns.proofs.Chains.{On, on-head, on-next, on-falls, chained-own, Passed, passed-none, passed-few, passed-more, passed-count, passed-lowest}
+use Rattle.edge_checks.specs.Entries.{to, from, Row, MarkedFrom}
+use Rattle.edge_checks.proofs.Laws.{chain-here, marked-none, marked-more, RowsKept, rows-more, noted-marks, noted-at, noted-rest}
 use native.Mathlib.Omega.{arith}
 use borrow.Author.Needs.{needs}
 use Rattle.edge_checks.proofs.mark.Statement.{statement}
 use Rattle.edge_checks.proofs.mark.Tie as tie
 
 abbrev Inv-loop : tie.InvT-loop
-Inv-loop corners table u vertices₀ at₀ vertices at =
-    On corners u at × (length vertices ≡ length vertices₀) × MarkedFrom corners table vertices u at × Unmarked vertices₀ vertices
+Inv-loop corners table u vertices₀ at₀ n₀ lowest₀ vertices at n lowest =
+    On corners u at × (length vertices ≡ length vertices₀) × MarkedFrom corners table vertices u at × RowsKept vertices₀ vertices
+    × Passed corners u at n lowest
 
 abbrev μ-loop : tie.MeasureT-loop
-μ-loop corners table u vertices₀ at₀ vertices at = at
+μ-loop corners table u vertices₀ at₀ n₀ lowest₀ vertices at n lowest = at
+
+-- the chains of a call
+chains : (s : tie.Start Inv-loop μ-loop) → Chained (now (s .args .corners)) (earlierOf (now (s .args .corners))) (entry (now (s .args .vertices)) lastHere)
+chains s = chained-own (now (s .args .corners)) (entry (now (s .args .vertices)) lastHere) (s .pre .0 .0 .lasts)
 
 mul-at : tie.Need-mul-at Inv-loop μ-loop
 mul-at c = search needs
@@ -35,12 +41,19 @@ slice-read-at c = search needs
 
 loop-holds : tie.Need-loop-holds Inv-loop μ-loop
 loop-holds c =
-    let s = c .before in let k = s .pre .0 .0 .chained in (
-      on-head (now (s .args .corners)) _ _ k (s .args .u),
+    let s = c .before in (
+      on-head (now (s .args .corners)) _ _ (chains s) (s .args .u),
       refl,
-      marked-none _ _ _ k (s .args .u) (s .pre .1),
-      record { lasts = λ v. refl; counts = λ v. refl },
+      marked-none _ _ _ (chains s) (s .args .u) (s .pre .1),
+      record { lasts = λ v. refl; counts = λ v. refl; lowests = λ v. refl },
+      passed-none (now (s .args .corners)) (s .args .u) (entry (now (s .args .vertices)) lastHere) (s .pre .0 .0 .lasts),
     )
+
+add-n : tie.Need-add-n Inv-loop μ-loop
+add-n c = let t = c .before in omega (arith, passed-few _ _ _ _ _ (t .loop .inv .4), t .before .before .pre .0 .0 .small)
+
+sub-lowest : tie.Need-sub-lowest Inv-loop μ-loop
+sub-lowest c = search needs
 
 sub-d : tie.Need-sub-d Inv-loop μ-loop
 sub-d c = search needs
@@ -189,10 +202,13 @@ loop-less : tie.Need-loop-less Inv-loop μ-loop
 loop-less c =
     let l = c .before .before .before .before .before .before .loop in
     let s = c .before .before .before .before .before .before .before .before in
-    let k = s .pre .0 .0 in
+    let cs = now (s .args .corners) in let last = entry (now (s .args .vertices)) lastHere in
     let n : l .at ≡ 0 → ⊥ = search needs in
-    on-falls (now (s .args .corners)) (entry (now (s .args .table)) valenceHere) (entry (now (s .args .vertices)) lastHere) (k .chained) (s .args .u) (l .at)
-    (l .inv .0) n
+    omega (
+      arith,
+      chain-here cs (now (s .args .table)) (s .args .u) (l .at) (l .inv .0) n (s .pre .0 .2),
+      on-falls cs (earlierOf cs) last (chains s) (s .args .u) (l .at) (l .inv .0) n,
+    )
 
 loop-again : tie.Need-loop-again Inv-loop μ-loop
 loop-again c =
@@ -200,25 +216,64 @@ loop-again c =
     let s = c .before .before .before .before .before .before .before .before in
     let k = s .pre .0 .0 in
     let cs = now (s .args .corners) in let ts = now (s .args .table) in let last = entry (now (s .args .vertices)) lastHere in
+    let u = s .args .u in
     let n : l .at ≡ 0 → ⊥ = search needs in
     let h : l .at - 1 < length cs = omega (arith, n, l .inv .0 .inside) in
     let rt = k .rowed (entry ts toNext (l .at - 1)) (k .nexts-in (l .at - 1) h) in
-    let rf = k .rowed (entry ts toPrevious (l .at - 1)) (k .previouses-in (l .at - 1) h) in (
-      on-next cs (entry ts valenceHere) last (k .chained) (s .args .u) (l .at) (l .inv .0) n,
+    let rf = k .rowed (entry ts toPrevious (l .at - 1)) (k .previouses-in (l .at - 1) h) in
+    let q = sym (chain-here cs ts u (l .at) (l .inv .0) n (s .pre .0 .2)) in (
+      subst (On cs u) q (on-next cs (earlierOf cs) last (chains s) u (l .at) (l .inv .0) n),
       simp length-set (l .inv .1),
-      marked-more cs ts last (k .chained) (l .vertices) (s .args .u) (l .at) (l .inv .0) n (to cs ts (l .at - 1)) (from cs ts (l .at - 1)) refl refl
-          (omega (arith, rt, l .inv .1)) (omega (arith, rf, l .inv .1)) (l .inv .2),
-      unmarked-more cs ts last (k .chained) (l .vertices) (s .args .u) (l .at) (l .inv .0) n (to cs ts (l .at - 1)) (from cs ts (l .at - 1)) refl refl
+      subst (MarkedFrom cs ts _ u) q
+          (marked-more cs ts last (chains s) (l .vertices) u (l .at) (l .inv .0) n (to cs ts (l .at - 1)) (from cs ts (l .at - 1)) refl refl
+          (omega (arith, rt, l .inv .1)) (omega (arith, rf, l .inv .1)) (l .inv .2)),
+      rows-more cs ts last (chains s) (l .vertices) u (l .at) (l .inv .0) n (to cs ts (l .at - 1)) (from cs ts (l .at - 1)) refl refl
           (omega (arith, rt, l .inv .1)) (omega (arith, rf, l .inv .1)) _ (l .inv .3),
+      subst (λ (x : ℕ). Passed cs u x (l .n + 1) (l .at - 1)) q (passed-more cs u (l .at) (l .n) (l .lowest) n (l .inv .0) (l .inv .4)),
     )
+
+mul-vertices-5 : tie.Need-mul-vertices-5 Inv-loop μ-loop
+mul-vertices-5 c = search needs
+
+add-vertices-3 : tie.Need-add-vertices-3 Inv-loop μ-loop
+add-vertices-3 c = search needs
+
+mul-vertices-6 : tie.Need-mul-vertices-6 Inv-loop μ-loop
+mul-vertices-6 c = search needs
+
+slice-write-vertices-3 : tie.Need-slice-write-vertices-3 Inv-loop μ-loop
+slice-write-vertices-3 c = search needs
+
+mul-vertices-7 : tie.Need-mul-vertices-7 Inv-loop μ-loop
+mul-vertices-7 c = search needs
+
+add-vertices-4 : tie.Need-add-vertices-4 Inv-loop μ-loop
+add-vertices-4 c = search needs
+
+mul-vertices-8 : tie.Need-mul-vertices-8 Inv-loop μ-loop
+mul-vertices-8 c = search needs
+
+slice-write-vertices-4 : tie.Need-slice-write-vertices-4 Inv-loop μ-loop
+slice-write-vertices-4 c =
+    let l = c .before .loop in let s = c .before .before .before in
+    simp length-set (omega (arith, s .pre .0 .1, l .inv .1))
 
 same-length : tie.Need-same-length Inv-loop μ-loop
 same-length c = search needs
 
 returns : tie.Need-returns Inv-loop μ-loop
 returns c =
-    let l = c .before .loop in let z : l .at ≡ 0 = search needs in
-    (subst (MarkedFrom _ _ _ _) z (l .inv .2), l .inv .3)
+    let l = c .before .loop in let s = c .before .before .before in
+    let cs = now (s .args .corners) in let u = s .args .u in
+    let z : l .at ≡ 0 = search needs in
+    let r : Row (l .vertices) u = omega (arith, s .pre .0 .1, l .inv .1) in
+    let m = passed-count cs u (l .at) (l .n) (l .lowest) z (l .inv .4) in (
+      noted-marks cs (now (s .args .table)) (l .vertices) u (l .n) (l .lowest) r 0 (subst (MarkedFrom _ _ _ _) z (l .inv .2)),
+      (
+        (m, noted-at cs (now (s .args .table)) (l .vertices) u (l .n) (l .lowest) r m (passed-lowest cs u (l .at) (l .n) (l .lowest) z (l .inv .4))),
+        noted-rest cs (now (s .args .table)) (l .vertices) u (l .n) (l .lowest) r _ (l .inv .3),
+      ),
+    )
 
 pub mark-spec : {M : Type 1} → statement M
 mark-spec =
@@ -231,6 +286,8 @@ mark-spec =
     mul-at-2
     slice-read-at
     loop-holds
+    add-n
+    sub-lowest
     sub-d
     cast-d
     mul-next
@@ -263,5 +320,13 @@ mark-spec =
     shared-slice-read-at
     loop-less
     loop-again
+    mul-vertices-5
+    add-vertices-3
+    mul-vertices-6
+    slice-write-vertices-3
+    mul-vertices-7
+    add-vertices-4
+    mul-vertices-8
+    slice-write-vertices-4
     same-length
     returns)

@@ -1,75 +1,27 @@
--- Check 5 meets its contract: no face before `f` is at fault.
+-- Check 5 meets its contract: where each side count passes, no face is at fault.
 -- Assumes nothing.
-use mathlib.Core.Path.{_≡_, sym}
-use mathlib.Core.Bool.{false}
-use mathlib.Core.Logic.{⊎-elim}
-use Prim.Native.Nat.{ℕ, _≤_, _<_, _-_}
-use lib.ListN.{length, getD}
+use mathlib.Core.Path.{sym}
+use lib.ListN.{length}
 use denote.Ref.{now}
-use borrow.Author.Tests.{ltb-true, ltb-false}
-use Rattle.paper.specs.Mesh.{leastSides, mostSides}
 use Rattle.paper.specs.Faults.{fault5}
-use Rattle.mesh.proofs.Ranges.{outside-low, outside-high, inside}
-use Rattle.mesh.proofs.Scans.{fails-step}
-use Rattle.mesh.proofs.Verdicts.{lowest-hit, lowest-none}
-use native.Mathlib.Omega.{arith}
+use Rattle.mesh.proofs.Verdicts.{lowest-none}
 use borrow.Author.Needs.{needs}
 use Rattle.list_checks.proofs.check_sides.Statement.{statement}
 use Rattle.list_checks.proofs.check_sides.Tie as tie
 
-abbrev Inv-loop : tie.InvT-loop
-Inv-loop sides f₀ f = (f ≤ length sides) × ((j : ℕ) → j < f → fault5 sides j ≡ false)
+all-sided-requires : tie.Need-all-sided-requires
+all-sided-requires c κs = search needs
 
-abbrev μ-loop : tie.MeasureT-loop
-μ-loop sides f₀ f = length sides - f
+returns : tie.Need-returns
+returns c =
+    let xs = now (c .before .before .before .args .sides) in
+    sym (lowest-none 5 (length xs) (fault5 xs) (c .before .all-sided .ensures (c .if1 .taken)))
 
-loop-holds : tie.Need-loop-holds Inv-loop μ-loop
-loop-holds c = (omega arith, λ j h. absurd (omega arith))
+find-sides-requires : tie.Need-find-sides-requires
+find-sides-requires c κs = search needs
 
-shared-slice-read-s : tie.Need-shared-slice-read-s Inv-loop μ-loop
-shared-slice-read-s c = search needs
-
-cast-s : tie.Need-cast-s Inv-loop μ-loop
-cast-s c = omega (arith, c .shared-slice-known .given (c .before .before .loop .f))
-
-returns : tie.Need-returns Inv-loop μ-loop
-unfolding fault5
-returns c = let s = c .before .before .before .before in let l = c .before .before .before .loop in
-    let xs = now (s .args .sides) in
-    sym (lowest-hit 5 (length xs) (fault5 xs) (l .f) (search needs)
-    (⊎-elim (λ w. outside-low leastSides mostSides (getD xs (l .f) 0) (w .taken))
-    (λ w. outside-high leastSides mostSides (getD xs (l .f) 0) (ltb-true _ _ (w .1 .taken))) (c .if1 .came))
-    (l .inv .1))
-
-add-f : tie.Need-add-f Inv-loop μ-loop
-add-f c = search needs
-
-loop-less : tie.Need-loop-less Inv-loop μ-loop
-loop-less c = search needs
-
-loop-again : tie.Need-loop-again Inv-loop μ-loop
-unfolding fault5
-loop-again c = let s = c .before .before .before .before .before in let l = c .before .before .before .before .loop in
-    let xs = now (s .args .sides) in (
-      search needs,
-      fails-step (fault5 xs) (l .f) (l .inv .1) (inside leastSides mostSides (getD xs (l .f) 0) (c .before .if1 .left)
-          (ltb-false _ _ (c .if2 .left))),
-    )
-
-returns-2 : tie.Need-returns-2 Inv-loop μ-loop
-returns-2 c = let l = c .before .loop in sym (lowest-none 5 _ (fault5 (now (c .before .before .args .sides))) (λ j h. l .inv .1 j (omega arith)))
+returns-2 : tie.Need-returns-2
+returns-2 c = search needs
 
 pub check-sides-spec : {M : Type 1} → statement M
-check-sides-spec =
-    tie.close
-    (tie.spec
-    Inv-loop
-    μ-loop
-    loop-holds
-    shared-slice-read-s
-    cast-s
-    returns
-    add-f
-    loop-less
-    loop-again
-    returns-2)
+check-sides-spec = tie.close (tie.spec all-sided-requires returns find-sides-requires returns-2)

@@ -5,7 +5,7 @@ use lib.ListN.{length, getD}
 use denote.Ref.{now}
 use native.Mathlib.Omega.{arith}
 use borrow.Author.Needs.{needs}
-use Rattle.list_checks.proofs.Laws.{all-below-step}
+use Rattle.mesh.proofs.Scans.{all-below-step}
 use Rattle.list_checks.proofs.highest.Statement.{statement}
 use Rattle.list_checks.proofs.highest.Tie as tie
 
@@ -32,7 +32,8 @@ loop-less c = search needs
 
 loop-again : tie.Need-loop-again Inv-loop μ-loop
 loop-again c = let s = c .before .before .before .before .before in let l = c .before .before .before .loop in
-    (search needs, all-below-step (now (s .args .list)) (l .i) (l .most) (c .greater .result) (l .inv .1) (c .greater .ensures .0) (c .greater .ensures .1))
+    let f : ℕ → ℕ = λ j. getD (now (s .args .list)) j 0 in
+    (search needs, all-below-step f (l .i) (l .most) (c .greater .result) (l .inv .1) (c .greater .ensures .0) (c .greater .ensures .1))
 
 returns : tie.Need-returns Inv-loop μ-loop
 returns c = let l = c .before .loop in λ j h. l .inv .1 j (omega arith)

@@ -5,7 +5,7 @@ use lib.ListN.{length, getD}
 use denote.Ref.{now}
 use native.Mathlib.Omega.{arith}
 use borrow.Author.Needs.{needs}
-use Rattle.list_checks.proofs.Laws.{all-below-step}
+use Rattle.mesh.proofs.Scans.{all-below-step}
 use Rattle.list_checks.proofs.highest_name.Statement.{statement}
 use Rattle.list_checks.proofs.highest_name.Tie as tie
 
@@ -36,7 +36,7 @@ loop-less c = search needs
 loop-again : tie.Need-loop-again Inv-loop μ-loop
 loop-again c = let s = c .before .before .before .before .before in let l = c .before .before .before .loop in (
   search needs,
-  all-below-step (now (s .args .corners)) (l .c) (l .most) (c .greater-name .result) (l .inv .1) (c .greater-name .ensures .0)
+  all-below-step (λ j. getD (now (s .args .corners)) j 0) (l .c) (l .most) (c .greater-name .result) (l .inv .1) (c .greater-name .ensures .0)
       (c .greater-name .ensures .1),
 )
 

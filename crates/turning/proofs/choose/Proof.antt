@@ -1,10 +1,12 @@
 -- `choose` meets its contract: 4 to 9 stop it, or 34 and 35 decide. Assumes nothing.
 use native.Mathlib.Omega.{arith}
 use denote.Ref.{now}
+use mathlib.Core.Path.{ap}
+use Rattle.paper.specs.Faults.{stated}
 use borrow.Author.Needs.{needs}
 use Rattle.paper.specs.Mesh.{Mesh, meshOf, vertexCount, mostVertices, mostCorners}
 use Rattle.checks.proofs.Laws.{room}
-use Rattle.turning.proofs.Laws.{sized-of, fillable-of, nexted-of, lists-refused, lists-sound, lists-passed}
+use Rattle.turning.proofs.Laws.{sized-of, nexted-of, lists-refused, lists-sound, lists-passed}
 use Rattle.turning.proofs.choose.Statement.{statement}
 use Rattle.turning.proofs.choose.Tie as tie
 
@@ -34,30 +36,20 @@ returns c =
 enum-told : tie.Need-enum-told
 enum-told c = search needs
 
-slice-aggregate-fill-faces : tie.Need-slice-aggregate-fill-faces
-slice-aggregate-fill-faces c = search needs
-
-fill-faces-requires : tie.Need-fill-faces-requires
-fill-faces-requires c κs =
-    let s = c .before .before .before .before .before .before .before .before .before .before .before .before in
-    let a = c .before .before .before .before .before .check-lists in
-    let z = sized-of (mesh s) (lists-sound (mesh s) (a .result) (a .ensures .answers) (c .before .enum-told .given .1)) in
-    fillable-of (vertexCount (mesh s)) (now (s .args .sides)) (now (s .args .corners)) (a .last .1 .1 .1 .1 .0) z (omega (arith, a .kept .1 .1 .1 .1 .0))
-
 slice-aggregate-find-turns : tie.Need-slice-aggregate-find-turns
 slice-aggregate-find-turns c = search needs
 
 find-turns-requires : tie.Need-find-turns-requires
 find-turns-requires c κs =
-    let h = c .before .before .before .before .before .before .before .before .before in
+    let e = c .before .before in
+    let h = e .before .before .before .before in
     let s = h .before .before .before .before .before .before .before in
     let a = h .check-lists in
-    let v = c .before .before .before .fill-faces in
-    let z = sized-of (mesh s) (lists-sound (mesh s) (a .result) (a .ensures .answers) (c .before .before .before .before .before .enum-told .given .1)) in (
+    let z = sized-of (mesh s) (lists-sound (mesh s) (a .result) (a .ensures .answers) (e .enum-told .given .1)) in (
       (
         z,
-        nexted-of (vertexCount (mesh s)) (now (s .args .sides)) (now (s .args .corners)) (v .last .1 .0) z
-            (omega (arith, v .kept .1 .0, a .kept .1 .1 .1 .1 .0)) (a .last .1 .1 .1 .1 .0) (v .ensures),
+        nexted-of (vertexCount (mesh s)) (now (s .args .sides)) (now (s .args .corners)) (a .last .1 .1 .1 .1 .0) z (omega (arith, a .kept .1 .1 .1 .1 .0))
+            (a .ensures .faced (ap stated (e .enum-told .given .1))),
       ),
       (omega (arith, z .few-faces, s .pre .0), s .pre .1),
     )
@@ -67,7 +59,7 @@ same-length c = search needs
 
 returns-2 : tie.Need-returns-2
 returns-2 c =
-    let e = c .before .before .before .before .before .before .before .before in
+    let e = c .before .before .before .before .before in
     let h = e .before .before .before .before in
     let s = h .before .before .before .before .before .before .before in
     let a = h .check-lists in
@@ -84,8 +76,6 @@ choose-spec =
     enum-known-a
     returns
     enum-told
-    slice-aggregate-fill-faces
-    fill-faces-requires
     slice-aggregate-find-turns
     find-turns-requires
     same-length
