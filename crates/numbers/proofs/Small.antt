@@ -1,5 +1,5 @@
--- The rounding in 32 bits. A dividend that is lifted above zero has no sign, and its quotient is a product's upper half (`fraction-is`, `odd-is`); of c d / 2^30 the
--- whole part alone is rounded, and a tie shows in the rest (`eighth-is`).
+-- The rounding in 32 bits. A dividend that is lifted above zero has no sign, and its quotient is a product's upper half (`fraction-is`, `odd-is`); of
+-- c d / 2^30 the whole part alone is rounded, and a tie shows in the rest (`eighth-is`).
 -- Assumes nothing.
 use mathlib.Core.Path.{_≡_, refl, sym, ap, _∙_}
 use mathlib.Core.Bool.{Bool, true, false, cond}
@@ -158,6 +158,10 @@ less = over 2 _ λ ρ. simp poly (omega arith)
 of-naturals : (t m : ℕ) → floor (pos t *ℤ pos m) (pos (2 ^ 32)) ≡ pos (t * m / 2 ^ 32)
 unfolding floor
 of-naturals t m = refl
+
+-- a quotient with its lift
+pub small : (q : ℕ) → pos q ≤ℤ pos (2 * lift) → q ≤ 2 * lift
+small q h = let k = simp diff at h in omega arith
 
 -- the quotient of z by d, lifted, by a product
 product-is : (z d : ℤ) (t m : ℕ) → pos 0 <ℤ d → negℤ (pos lift) ≤ℤ floor z d → floor z d ≤ℤ pos lift → pos 0 ≤ℤ (d *ℤ pos m -ℤ pos (2 ^ 32))

@@ -9,16 +9,12 @@ use lib.Signed.{_≤ℤ_}
 use mir.Syntax.{w32}
 use mir.Val.{SFits, toZ}
 use mir.Facts.{toZ-ofZ, toZ-pos}
-use Rattle.integers.proofs.Diff.{diff}
 use Rattle.integers.proofs.Poly.{over, poly}
 use Rattle.paper.specs.Numbers.{round}
 use Rattle.numbers.specs.Small.{lift}
-use Rattle.numbers.proofs.Small.{fraction-is}
+use Rattle.numbers.proofs.Small.{small, fraction-is}
 use Rattle.numbers.proofs.rounding.small_product.Statement.{statement}
 use Rattle.numbers.proofs.rounding.small_product.Tie as tie
-
-small : (q : ℕ) → pos q ≤ℤ pos (2 * lift) → q ≤ 2 * lift
-small q h = let k = simp diff at h in omega arith
 
 near : (q : ℕ) → q ≤ 2 * lift → SFits w32 (pos q -ℤ pos lift)
 near q h = less (pos q) h
