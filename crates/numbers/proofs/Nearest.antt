@@ -94,6 +94,12 @@ pub shift-small : (n : ℤ) → SFits w32 n → shrZ n 2147483648 ≡ sign n
 shift-small (pos a) h = ap pos (div-eq-of-lt (omega (arith, h .sfits)))
 shift-small (negsuc a) h = ap negsuc (div-eq-of-lt (omega (arith, h .sfits)))
 
+-- the machine's quotient of two numbers that are not negative
+pub quotient : (z d : ℤ) → pos 0 ≤ℤ z → pos (natAbs z / natAbs d) ≡ floor z d
+unfolding floor
+quotient (pos a) d h = refl
+quotient (negsuc a) d h = absurd (h .le)
+
 -- a shift rounds down, and makes no number larger
 pub shift-floor : (z : ℤ) (m : ℕ) → shrZ z m ≡ floor z (pos m)
 unfolding floor

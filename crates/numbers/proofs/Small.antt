@@ -1,10 +1,9 @@
--- The rounding in 32 bits. A dividend that is lifted above zero has no sign, and its quotient is a product's upper half (`fraction-is`, `odd-is`); of c d / 2^30 the
--- whole part alone is rounded, and a tie shows in the rest (`eighth-is`).
+-- The rounding in 32 bits. A dividend that is lifted above zero has no sign, and its quotient is a product's upper half (`fraction-is`, `odd-is`); of
+-- c d / 2^30 the whole part alone is rounded, and a tie shows in the rest (`eighth-is`).
 -- Assumes nothing.
 use mathlib.Core.Path.{_≡_, refl, sym, ap, _∙_}
-use mathlib.Core.Bool.{Bool, true, false, cond}
 use Prim.Native.Nat.{ℕ, zero, suc, _+_, _-_, _*_, _/_, _%_, _^_, _<_, _≤_}
-use native.Mathlib.Nat.{div-add-mod, mod-lt, mul-le-mul, le-trans}
+use native.Mathlib.Nat.{div-add-mod, mod-lt}
 use native.Mathlib.Omega.{arith}
 use lib.Dec.{T, lit<}
 use lib.IntN.{ℤ, pos, negsuc, negℤ, natAbs, _+ℤ_, _-ℤ_, _*ℤ_}

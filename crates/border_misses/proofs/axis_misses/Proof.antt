@@ -34,7 +34,9 @@ row-requires-6 : tie.Need-row-requires-6
 row-requires-6 c κs = let p = c .before .before .before .before .before .before .before .before .pre .1 in ((p .3, p .0), (lit< tt, lit< tt, lit< tt, lit< tt))
 
 side-misses-requires-2 : tie.Need-side-misses-requires-2
-side-misses-requires-2 c κs = (c .before .before .before .before .before .before .before .before .before .pre .0 .1, c .before .before .row4 .ensures .1, c .before .row5 .ensures .1, c .row6 .ensures .1)
+side-misses-requires-2 c κs =
+    let s = c .before .before .before .before .before .before .before .before .before in
+    (s .pre .0 .1, c .before .before .row4 .ensures .1, c .before .row5 .ensures .1, c .row6 .ensures .1)
 
 larger-of-requires : tie.Need-larger-of-requires
 larger-of-requires c κs = search needs
@@ -42,10 +44,11 @@ larger-of-requires c κs = search needs
 returns : tie.Need-returns
 returns c K e four held-here held-linked held-next j few =
     let a = c .before .before .before .before .before .before .before .before .before .before .before .args in
+    let r = c .before .before .before .before .before .before .before in
     let across-link =
     c .before .before .before .before .before .before .side-misses .ensures j few
     ∙ miss0 K e (a .axis) (now (a .here)) (now (a .linked)) held-here held-linked (a .sides .side0) (four .side0 .0) j few _ _ _
-    (c .before .before .before .before .before .before .before .before .before .row .ensures .0 j) (c .before .before .before .before .before .before .before .before .row2 .ensures .0 j) (c .before .before .before .before .before .before .before .row3 .ensures .0 j)
+    (r .before .before .row .ensures .0 j) (r .before .row2 .ensures .0 j) (r .row3 .ensures .0 j)
     in
     let across-next =
     c .before .side-misses2 .ensures j few

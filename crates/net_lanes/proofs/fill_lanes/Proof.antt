@@ -12,7 +12,7 @@ use Rattle.net_lanes.proofs.fill_lanes.Tie as tie
 use Rattle.net_lanes.proofs.fill_lanes.Reads as reads
 use Rattle.net_lanes.proofs.fill_lanes.Lts as lts
 use Rattle.net_lanes.proofs.lane_sides.Reads as lane-sides-reads
-use Rattle.net_lanes.proofs.put_lane.Reads as put-lane-reads
+use Rattle.net_points.proofs.put_lane.Reads as put-lane-reads
 
 abbrev Inv-loop : tie.InvT-loop
 Inv-loop near m n v w lanes₀ k₀ lanes k = (k ≤ 4) × Filled near m n (toZ w64 v) (toZ w64 w) k lanes

@@ -2,6 +2,7 @@
 -- Assumes nothing.
 use Prim.Native.Nat.{ℕ, _<_}
 use lib.Dec.{lit<}
+use lib.IntN.{ℤ}
 use Rattle.surface.specs.Points.{pointAt}
 use Rattle.refined_faces.specs.Ring.{around, Readable, IsFace, IsEdgeFace}
 use Rattle.refined_faces.specs.declared.Face.{Face}
@@ -19,22 +20,42 @@ module _ (axis : ℕ) (l : axis < 3) where
   fourth : (a : tie.After-by3) → Met _ _ _ _ _ _ (a .before .before .before .before .pre axis l) 3 (a .by3 .result .corner)
   fourth a = met-next _ _ _ _ _ _ _ 2 _ _ (third (a .before)) (a .by3 .ensures)
 
-  points-at : (a : tie.After-by3) → Readable (a .before .before .before .before .args .points .now) axis (a .before .before .before .before .args .c) × Readable (a .before .before .before .before .args .points .now) axis (a .before .before .by .result .corner) × Readable (a .before .before .before .before .args .points .now) axis (a .before .by2 .result .corner) × Readable (a .before .before .before .before .args .points .now) axis (a .by3 .result .corner)
-  points-at a = (
-    readable _ _ _ _ _ _ _ _ _ (met-here _ _ _ _ _ _ (a .before .before .before .before .pre axis l)),
-    readable _ _ _ _ _ _ _ _ _ (second (a .before .before)),
-    readable _ _ _ _ _ _ _ _ _ (third (a .before)),
-    readable _ _ _ _ _ _ _ _ _ (fourth a),
+-- once the walk is done: where the function began, and the corners
+module _ (axis : ℕ) (l : axis < 3) (a : tie.After-by3) where
+  abbrev start : tie.Start
+  start = a .before .before .before .before
+
+  abbrev point : ℕ → ℤ
+  point = pointAt (start .args .points .now) axis
+
+  abbrev corner1 : ℕ
+  corner1 = a .before .before .by .result .corner
+
+  abbrev corner2 : ℕ
+  corner2 = a .before .by2 .result .corner
+
+  abbrev corner3 : ℕ
+  corner3 = a .by3 .result .corner
+
+  points-at : Readable (start .args .points .now) axis (start .args .c)
+      × Readable (start .args .points .now) axis corner1
+      × Readable (start .args .points .now) axis corner2
+      × Readable (start .args .points .now) axis corner3
+  points-at = (
+    readable _ _ _ _ _ _ _ _ _ (met-here _ _ _ _ _ _ (start .pre axis l)),
+    readable _ _ _ _ _ _ _ _ _ (second axis l (a .before .before)),
+    readable _ _ _ _ _ _ _ _ _ (third axis l (a .before)),
+    readable _ _ _ _ _ _ _ _ _ (fourth axis l a),
   )
 
-  face-at : (a : tie.After-by3) (f : Face) → IsEdgeFace (pointAt (a .before .before .before .before .args .points .now) axis (a .before .before .before .before .args .c)) (pointAt (a .before .before .before .before .args .points .now) axis (a .before .before .by .result .corner)) (pointAt (a .before .before .before .before .args .points .now) axis (a .before .by2 .result .corner)) (pointAt (a .before .before .before .before .args .points .now) axis (a .by3 .result .corner)) f
-      → IsFace (around (a .before .before .before .before .args .points .now) axis (a .before .before .before .before .args .table .now) (a .before .before .before .before .args .column) (a .before .before .before .before .args .c)) 4 0 3 f
-  face-at a f h =
-      h .faces _ (point-ring _ _ _ _ _ _ (a .before .before .before .before .pre axis l) .cyclic) 0
-      (held _ _ _ _ _ _ _ _ _ (met-here _ _ _ _ _ _ (a .before .before .before .before .pre axis l)))
-      (held _ _ _ _ _ _ _ _ _ (second (a .before .before)))
-      (held _ _ _ _ _ _ _ _ _ (third (a .before)))
-      (held _ _ _ _ _ _ _ _ _ (fourth a))
+  face-at : (f : Face) → IsEdgeFace (point (start .args .c)) (point corner1) (point corner2) (point corner3) f
+      → IsFace (around (start .args .points .now) axis (start .args .table .now) (start .args .column) (start .args .c)) 4 0 3 f
+  face-at f h =
+      h .faces _ (point-ring _ _ _ _ _ _ (start .pre axis l) .cyclic) 0
+      (held _ _ _ _ _ _ _ _ _ (met-here _ _ _ _ _ _ (start .pre axis l)))
+      (held _ _ _ _ _ _ _ _ _ (second axis l (a .before .before)))
+      (held _ _ _ _ _ _ _ _ _ (third axis l (a .before)))
+      (held _ _ _ _ _ _ _ _ _ (fourth axis l a))
 
 by-requires : tie.Need-by-requires
 by-requires c κs = let r = c .before .pre 0 (lit< tt) in r .table-holds _ (r .here)

@@ -2,6 +2,7 @@
 -- Assumes nothing.
 use Prim.Native.Nat.{ℕ, _<_}
 use lib.Dec.{lit<}
+use lib.IntN.{ℤ}
 use Rattle.surface.specs.Points.{pointAt}
 use Rattle.refined_faces.specs.Ring.{around, Readable, IsFace, IsThreeFace}
 use Rattle.refined_faces.specs.declared.Face.{Face}
@@ -16,20 +17,36 @@ module _ (axis : ℕ) (l : axis < 3) where
   third : (a : tie.After-by2) → Met _ _ _ _ _ _ (a .before .before .before .pre axis l) 2 (a .by2 .result .corner)
   third a = met-next _ _ _ _ _ _ _ 1 _ _ (second (a .before)) (a .by2 .ensures)
 
-  points-at : (a : tie.After-by2) → Readable (a .before .before .before .args .points .now) axis (a .before .before .before .args .c) × Readable (a .before .before .before .args .points .now) axis (a .before .by .result .corner) × Readable (a .before .before .before .args .points .now) axis (a .by2 .result .corner)
-  points-at a = (
-    readable _ _ _ _ _ _ _ _ _ (met-here _ _ _ _ _ _ (a .before .before .before .pre axis l)),
-    readable _ _ _ _ _ _ _ _ _ (second (a .before)),
-    readable _ _ _ _ _ _ _ _ _ (third a),
+-- once the walk is done: where the function began, and the corners
+module _ (axis : ℕ) (l : axis < 3) (a : tie.After-by2) where
+  abbrev start : tie.Start
+  start = a .before .before .before
+
+  abbrev point : ℕ → ℤ
+  point = pointAt (start .args .points .now) axis
+
+  abbrev corner1 : ℕ
+  corner1 = a .before .by .result .corner
+
+  abbrev corner2 : ℕ
+  corner2 = a .by2 .result .corner
+
+  points-at : Readable (start .args .points .now) axis (start .args .c)
+      × Readable (start .args .points .now) axis corner1
+      × Readable (start .args .points .now) axis corner2
+  points-at = (
+    readable _ _ _ _ _ _ _ _ _ (met-here _ _ _ _ _ _ (start .pre axis l)),
+    readable _ _ _ _ _ _ _ _ _ (second axis l (a .before)),
+    readable _ _ _ _ _ _ _ _ _ (third axis l a),
   )
 
-  face-at : (a : tie.After-by2) (f : Face) → IsThreeFace (pointAt (a .before .before .before .args .points .now) axis (a .before .before .before .args .c)) (pointAt (a .before .before .before .args .points .now) axis (a .before .by .result .corner)) (pointAt (a .before .before .before .args .points .now) axis (a .by2 .result .corner)) f
-      → IsFace (around (a .before .before .before .args .points .now) axis (a .before .before .before .args .table .now) (a .before .before .before .args .column) (a .before .before .before .args .c)) 3 0 2 f
-  face-at a f h =
-      three-is _ (point-ring _ _ _ _ _ _ (a .before .before .before .pre axis l)) _ _ _ f
-      (held _ _ _ _ _ _ _ _ _ (met-here _ _ _ _ _ _ (a .before .before .before .pre axis l)))
-      (held _ _ _ _ _ _ _ _ _ (second (a .before)))
-      (held _ _ _ _ _ _ _ _ _ (third a))
+  face-at : (f : Face) → IsThreeFace (point (start .args .c)) (point corner1) (point corner2) f
+      → IsFace (around (start .args .points .now) axis (start .args .table .now) (start .args .column) (start .args .c)) 3 0 2 f
+  face-at f h =
+      three-is _ (point-ring _ _ _ _ _ _ (start .pre axis l)) _ _ _ f
+      (held _ _ _ _ _ _ _ _ _ (met-here _ _ _ _ _ _ (start .pre axis l)))
+      (held _ _ _ _ _ _ _ _ _ (second axis l (a .before)))
+      (held _ _ _ _ _ _ _ _ _ (third axis l a))
       h
 
 by-requires : tie.Need-by-requires

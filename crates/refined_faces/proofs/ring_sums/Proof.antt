@@ -135,20 +135,25 @@ add-j c =
     omega (arith, t .loop-test .taken, ring 0 (lit< tt) (t .before) .most)
 
 loop-less : tie.Need-loop-less Inv-loop μ-loop
-loop-less c = let t = c .before .before .before .before .before .before .before .before .before .before .before .before .before in omega (arith, t .loop-test .taken)
+loop-less c =
+    let t = c .before .before .before .before .before .before .before .before .before .before .before .before .before in
+    omega (arith, t .loop-test .taken)
 
 loop-again : tie.Need-loop-again Inv-loop μ-loop
 loop-again c =
-    let w = c .before .before .before .before .before .before .before .before .before .before .before .before in
+    let z = c .before .before .before in
+    let y = z .before .before .before in
+    let x = y .before .before .before in
+    let w = x .before .before .before in
     let a = w .before .before in
     let r = ring 0 (lit< tt) a in
     let u = w .weight-after2 .ensures in (
       omega (arith, w .before .loop-test .taken),
       c .by .ensures ∙ step-more _ _ _ _ (a .loop .inv .1),
       (
-        more 0 (lit< tt) a _ _ _ _ (a .loop .inv .2 .0) (c .before .before .before .before .before .before .before .before .before .before .before .point .ensures) (u .0) (c .before .before .before .before .before .before .before .before .before .add-place .ensures),
-        more 1 (lit< tt) a _ _ _ _ (a .loop .inv .2 .1) (c .before .before .before .before .before .before .before .before .point2 .ensures) (u .0) (c .before .before .before .before .before .before .add-place2 .ensures),
-        more 2 (lit< tt) a _ _ _ _ (a .loop .inv .2 .2) (c .before .before .before .before .before .point3 .ensures) (u .0) (c .before .before .before .add-place3 .ensures),
+        more 0 (lit< tt) a _ _ _ _ (a .loop .inv .2 .0) (x .before .before .point .ensures) (u .0) (x .add-place .ensures),
+        more 1 (lit< tt) a _ _ _ _ (a .loop .inv .2 .1) (y .before .before .point2 .ensures) (u .0) (y .add-place2 .ensures),
+        more 2 (lit< tt) a _ _ _ _ (a .loop .inv .2 .2) (z .before .before .point3 .ensures) (u .0) (z .add-place3 .ensures),
       ),
       next 0 (lit< tt) a _ (u .0),
       cosine-plain _ _ (r .least) (r .most) _ (u .1),

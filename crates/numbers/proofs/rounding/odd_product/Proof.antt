@@ -10,11 +10,10 @@ use lib.Signed.{_≤ℤ_}
 use mir.Syntax.{w64}
 use mir.Val.{SFits, toZ}
 use mir.Facts.{toZ-ofZ, toZ-pos}
-use Rattle.integers.proofs.Diff.{diff}
 use Rattle.integers.proofs.Poly.{over, poly}
 use Rattle.paper.specs.Numbers.{round}
 use Rattle.numbers.specs.Small.{lift}
-use Rattle.numbers.proofs.Small.{odd-is}
+use Rattle.numbers.proofs.Small.{at-most-lift, odd-is}
 use Rattle.numbers.proofs.rounding.odd_product.Statement.{statement}
 use Rattle.numbers.proofs.rounding.odd_product.Tie as tie
 
@@ -23,9 +22,6 @@ less q h = lifted (pos q) h
   where
     lifted : (z : ℤ) → natAbs z ≤ 2 * lift → SFits w64 (z -ℤ pos lift)
     lifted = over 1 _ λ ρ. simp (poly, ρ) (omega arith)
-
-natural : (q : ℕ) → pos q ≤ℤ pos (2 * lift) → q ≤ 2 * lift
-natural q h = let k = simp diff at h in omega arith
 
 module _ (c : tie.After-lift-odd) where
   abbrev t : ℕ
@@ -42,11 +38,11 @@ module _ (c : tie.After-lift-odd) where
       let s = c .before in
       odd-is (s .args .n) (s .args .h) t m (s .pre) (simp (toZ-ofZ, s .fits .n, s .fits .h) at (c .lift-odd .ensures .0))
 
-  small : t * m / 2 ^ 32 ≤ 2 * lift
-  small = natural (t * m / 2 ^ 32) (whole .0)
+  bounded : t * m / 2 ^ 32 ≤ 2 * lift
+  bounded = at-most-lift (t * m / 2 ^ 32) (whole .0)
 
   plain : toZ w64 (t * m / 2 ^ 32) ≡ pos (t * m / 2 ^ 32)
-  plain = toZ-pos w64 (omega (arith, small))
+  plain = toZ-pos w64 (omega (arith, bounded))
 
 lift-odd-requires : tie.Need-lift-odd-requires
 lift-odd-requires c κs = rw (toZ-ofZ (c .fits .n), toZ-ofZ (c .fits .h)) (c .pre .0)
@@ -55,13 +51,13 @@ mul-result : tie.Need-mul-result
 mul-result c = record { fits = omega (arith, fits c) }
 
 cast-result : tie.Need-cast-result
-cast-result c = record { sfits = omega (arith, small c) }
+cast-result c = record { sfits = omega (arith, bounded c) }
 
 sub-result : tie.Need-sub-result
-sub-result c = rw (plain c) (less _ (small c))
+sub-result c = rw (plain c) (less _ (bounded c))
 
 returns : tie.Need-returns
-returns c = rw (plain c, toZ-ofZ (less _ (small c))) (whole c .1)
+returns c = rw (plain c, toZ-ofZ (less _ (bounded c))) (whole c .1)
 
 pub odd-product-spec : {M : Type 1} → statement M
 odd-product-spec = tie.close (tie.spec lift-odd-requires mul-result cast-result sub-result returns)

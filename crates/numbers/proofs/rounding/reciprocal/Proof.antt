@@ -1,20 +1,16 @@
 -- `rounding::reciprocal` meets its contract: the quotient of 2^37 + d - 1 by d, rounded down.
 -- Assumes nothing.
-use mathlib.Core.Path.{_≡_, refl}
-use Prim.Native.Nat.{ℕ, _+_, _-_, _/_, _^_, _≤_, _<_}
-use native.Mathlib.Nat.{div-le-self, le-trans}
+use Prim.Native.Nat.{_/_, _^_, _≤_}
 use native.Mathlib.Omega.{arith}
-use lib.Dec.{T}
-use lib.IntN.{ℤ, pos, negsuc, natAbs, _+ℤ_, _*ℤ_}
-use lib.Signed.{_≤ℤ_, _<ℤ_, nonNeg}
+use lib.IntN.{ℤ, pos, natAbs, _+ℤ_, _*ℤ_}
+use lib.Signed.{_≤ℤ_, _<ℤ_}
 use mir.Syntax.{w64}
 use mir.Val.{SFits}
 use mir.Facts.{toZ-ofZ}
-use Rattle.integers.proofs.Diff.{diff}
 use Rattle.integers.proofs.Poly.{over, poly}
 use Rattle.integers.proofs.Floor.{IsFloor, floor-is}
-use Rattle.paper.specs.Numbers.{floor}
 use Rattle.numbers.specs.Units.{Reciprocal}
+use Rattle.numbers.proofs.Nearest.{quotient}
 use Rattle.numbers.proofs.Small.{unsigned, at-least}
 use Rattle.numbers.proofs.rounding.reciprocal.Statement.{statement}
 use Rattle.numbers.proofs.rounding.reciprocal.Tie as tie
@@ -31,11 +27,6 @@ fits = over 1 _ λ ρ. simp (poly, ρ) (omega arith)
 
 near : (d q : ℤ) → IsFloor (whole d) d q → (pos (2 ^ 37) ≤ℤ (d *ℤ q)) × ((d *ℤ q) <ℤ (pos (2 ^ 37) +ℤ d))
 near = over 2 _ λ ρ. simp (poly, ρ) (omega arith)
-
-quotient : (z d : ℤ) → pos 0 ≤ℤ z → pos (natAbs z / natAbs d) ≡ floor z d
-unfolding floor
-quotient (pos a) d h = refl
-quotient (negsuc a) d h = absurd (h .le)
 
 reciprocal-is : (d : ℤ) → Ok d → Reciprocal d (natAbs (whole d) / natAbs d)
 reciprocal-is d ok =

@@ -19,7 +19,7 @@ use Rattle.integers.proofs.Laws.{nonneg}
 use Rattle.integers.proofs.Floor.{IsFloor, floor-is, floor-unique, double-pos}
 use Rattle.numbers.specs.Lift.{Lifts}
 use Rattle.numbers.specs.Sign.{sign}
-use Rattle.numbers.proofs.Nearest.{sign-bounds, sign-double, round-floor}
+use Rattle.numbers.proofs.Nearest.{sign-bounds, sign-double, round-floor, quotient}
 use Rattle.numbers.proofs.rounding.round_div.Statement.{statement}
 use Rattle.numbers.proofs.rounding.round_div.Tie as tie
 
@@ -56,12 +56,6 @@ lifted = over 4 _ λ ρ. simp (poly, ρ) (omega arith)
 above-zero : (z : ℤ) → pos 0 ≤ℤ z → T (nonNeg z)
 above-zero (pos a) h = tt
 above-zero (negsuc a) h = absurd (h .le)
-
--- the machine's quotient of two numbers that are not negative
-quotient : (z d : ℤ) → pos 0 ≤ℤ z → pos (natAbs z / natAbs d) ≡ floor z d
-unfolding floor
-quotient (pos a) d h = refl
-quotient (negsuc a) d h = absurd (h .le)
 
 some : (d : ℤ) → pos 0 <ℤ d → 0 < natAbs d
 some (pos a) h = let k = simp diff at h in omega arith

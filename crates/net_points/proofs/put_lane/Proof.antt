@@ -1,4 +1,4 @@
--- `net_lanes::put_lane` meets its contract: the rows and grids are those of whichever net has these sides, and the two grids are placed one after the other.
+-- `net_points::put_lane` meets its contract: the rows and grids are those of whichever net has these sides, and the two grids are placed one after the other.
 -- Assumes nothing.
 use mathlib.Core.Path.{_≡_, _∙_, subst}
 use mathlib.Core.List.{List}
@@ -9,10 +9,10 @@ use lib.Dec.{lit<}
 use lib.IntN.{ℤ}
 use Rattle.paper.specs.Net.{rows}
 use Rattle.net_rows.proofs.Laws.{value-written}
-use Rattle.net_lanes.specs.Lanes.{Placed}
-use Rattle.net_lanes.proofs.Laws.{a-is, b-is, lane-laid, other-lanes}
-use Rattle.net_lanes.proofs.put_lane.Statement.{statement}
-use Rattle.net_lanes.proofs.put_lane.Tie as tie
+use Rattle.net_points.specs.Placed.{Placed}
+use Rattle.net_points.proofs.Laws.{a-is, b-is, lane-laid, other-lanes}
+use Rattle.net_points.proofs.put_lane.Statement.{statement}
+use Rattle.net_points.proofs.put_lane.Tie as tie
 
 side-rows-requires : tie.Need-side-rows-requires
 side-rows-requires c κs = search needs

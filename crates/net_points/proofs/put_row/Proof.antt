@@ -1,4 +1,4 @@
--- `net_lanes::put_row` meets its contract. The invariant: the first j numbers are placed.
+-- `net_points::put_row` meets its contract. The invariant: the first j numbers are placed.
 -- Assumes nothing.
 use mathlib.Core.Path.{refl, subst}
 use mathlib.Core.List.{List}
@@ -8,10 +8,10 @@ use borrow.Author.Needs.{needs}
 use lib.ListN.{length, take, getD}
 use lib.Seq.{take-all}
 use lib.IntN.{ℤ, pos}
-use Rattle.net_lanes.specs.Lanes.{Placed}
-use Rattle.net_lanes.proofs.Laws.{placed-none, row-step, number}
-use Rattle.net_lanes.proofs.put_row.Statement.{statement}
-use Rattle.net_lanes.proofs.put_row.Tie as tie
+use Rattle.net_points.specs.Placed.{Placed}
+use Rattle.net_points.proofs.Laws.{placed-none, row-step, number}
+use Rattle.net_points.proofs.put_row.Statement.{statement}
+use Rattle.net_points.proofs.put_row.Tie as tie
 
 abbrev Inv-loop : tie.InvT-loop
 Inv-loop row out₀ from j₀ out j = (j ≤ length row) × Placed out₀ out from (take j row)

@@ -1,12 +1,12 @@
--- `net_lanes::put_b` meets its contract. The invariant: the first i rows of five are placed. One law, `grid-step`, has both grids.
+-- `net_points::put_b` meets its contract. The invariant: the first i rows of five are placed. One law, `grid-step`, has both grids.
 -- Assumes nothing.
 use mathlib.Core.Path.{sym}
 use Prim.Native.Nat.{_+_, _-_, _*_, _≤_}
-use Rattle.net_lanes.proofs.Laws.{Rowed, grid-start, grid-row, grid-step, grid-end}
+use Rattle.net_points.proofs.Laws.{Rowed, grid-start, grid-row, grid-step, grid-end}
 use native.Mathlib.Omega.{arith}
 use borrow.Author.Needs.{needs}
-use Rattle.net_lanes.proofs.put_b.Statement.{statement}
-use Rattle.net_lanes.proofs.put_b.Tie as tie
+use Rattle.net_points.proofs.put_b.Statement.{statement}
+use Rattle.net_points.proofs.put_b.Tie as tie
 
 abbrev Inv-loop : tie.InvT-loop
 Inv-loop out₀ from g i₀ out i = (i ≤ 5) × Rowed out₀ out from g 5 i
