@@ -11,10 +11,9 @@ use lib.ListN.{length, getD, set, length-set, replicate, getD-replicate, length-
 use lib.Seq.{getD-set-same, getD-set-other}
 use borrow.Author.Tests.{eqb-true, eqb-false, ltb-true, ltb-false}
 use lib.IntN.{ℤ, pos, natAbs, _*ℤ_}
-use Rattle.paper.specs.Mesh.{mostSides, mostCorners, mostCoordinate, plain, Mesh, meshOf, plainMesh, faceCount, cornerCount}
+use Rattle.paper.specs.Mesh.{mostSides, mostCorners, mostCoordinate, plain, Mesh, plainMesh, faceCount, cornerCount}
 use Rattle.paper.specs.Corners.{startOf}
 use Rattle.paper.specs.Links.{vertexOf}
-use Rattle.paper.specs.Numbers.{sum}
 use Rattle.paper.specs.Refined.{ticksPerStep, ticks, faceSum}
 use Rattle.integers.proofs.Laws.{abs-mul-le}
 use Rattle.integers.proofs.Sum.{sum-times, sum-abs}

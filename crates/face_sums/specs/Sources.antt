@@ -5,7 +5,7 @@ use mathlib.Core.List.{List}
 use Prim.Native.Nat.{ℕ, _+_, _*_, _^_, _<_, _≤_, _/_}
 use lib.ListN.{length, getD}
 use lib.IntN.{ℤ, pos, natAbs}
-use Rattle.paper.specs.Mesh.{leastSides, mostSides, mostCoordinate, mostSharpness, plain, Mesh, faceCount, cornerCount}
+use Rattle.paper.specs.Mesh.{mostCoordinate, mostSharpness, plain, Mesh, faceCount, cornerCount}
 use Rattle.paper.specs.Corners.{sumOf, faceOf}
 use Rattle.paper.specs.Links.{vertexOf}
 use Rattle.paper.specs.Numbers.{rounded, sum}

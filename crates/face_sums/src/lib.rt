@@ -7,6 +7,7 @@ ghost use Rattle.paper.specs.Mesh.{mostSides, plainMesh};
 ghost use Rattle.paper.specs.Corners.{startOf};
 ghost use Rattle.face_sums.specs.Sources.{Placed, Refinable, stepsOf, Totals, SumRoom, Summed, SummedFace};
 
+// The numbers in a row of the table, one for each axis. A face has at least three corners, so the table has no more numbers than the mesh has
 // corners.
 pub const SUM_ROW: usize = 3;
 
@@ -17,6 +18,7 @@ struct StepSums {
     z: i32,
 }
 
+// Σ of the faces that have a nonzero entry in `wanted`, on the three axes, in ticks. Sums do not depend on sharpness, so the contract is
 // said of the mesh with 8 and 8 throughout.
 pub fn fill_sums(
     coordinates: &[i32],

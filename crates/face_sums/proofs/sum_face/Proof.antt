@@ -1,7 +1,7 @@
 -- `face_sums::sum_face` meets its contract: the sums of the face's corners, in ticks, are put at their places.
 -- Assumes nothing.
-use mathlib.Core.Path.{_≡_, _∙_, sym, ap}
-use Prim.Native.Nat.{ℕ, _+_, _*_, _^_, _≤_, _<_}
+use mathlib.Core.Path.{_≡_, _∙_, sym}
+use Prim.Native.Nat.{ℕ, _^_, _<_}
 use native.Mathlib.Omega.{arith}
 use borrow.Author.Needs.{needs}
 use lib.Dec.{lit<}
@@ -14,7 +14,7 @@ use mir.Facts.{toZ-ofZ}
 use Rattle.paper.specs.Mesh.{Mesh, plainMesh}
 use Rattle.paper.specs.Refined.{faceSum}
 use Rattle.integers.proofs.Machine.{abs-fits}
-use Rattle.face_sums.specs.Sources.{stepSum, SumRoom}
+use Rattle.face_sums.specs.Sources.{stepSum}
 use Rattle.face_sums.proofs.Laws.{end-in, face-steps, face-sum-most, summed-face-none, summed-axis}
 use Rattle.face_sums.proofs.sum_face.Statement.{statement}
 use Rattle.face_sums.proofs.sum_face.Tie as tie

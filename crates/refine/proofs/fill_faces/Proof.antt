@@ -10,7 +10,7 @@ use denote.Ref.{now}
 use Rattle.paper.specs.Mesh.{Mesh, meshOf}
 use Rattle.paper.specs.Corners.{startOf}
 use Rattle.mesh.proofs.Faces.{start-zero, start-next, start-ends, start-all, face-at}
-use Rattle.face_sums.specs.Sources.{Pointed, Covered}
+use Rattle.face_sums.specs.Sources.{Pointed}
 use Rattle.refined_corners.proofs.Laws.{face-of}
 use Rattle.refine.proofs.Laws.{Marks, filled-none, filled-more}
 use Rattle.refine.proofs.fill_faces.Statement.{statement}

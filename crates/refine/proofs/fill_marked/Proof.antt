@@ -4,10 +4,9 @@ use mathlib.Core.Path.{_≡_, subst}
 use Prim.Native.Nat.{ℕ, _≤_, _<_}
 use native.Mathlib.Omega.{arith}
 use borrow.Author.Needs.{needs}
-use lib.ListN.{length, getD}
+use lib.ListN.{length}
 use denote.Ref.{now}
 use Rattle.paper.specs.Mesh.{mostCorners, Mesh, meshOf}
-use Rattle.paper.specs.Links.{vertexOf}
 use Rattle.refined_corners.proofs.Laws.{here-in}
 use Rattle.refine.proofs.Laws.{Marks, filled-none, filled-one}
 use Rattle.refine.proofs.fill_marked.Statement.{statement}

@@ -1,10 +1,8 @@
 -- `writing::face_end` meets its contract: `end` is a corner of the face until the next one does not follow it.
 -- Assumes nothing.
-use mathlib.Core.Path.{_≡_, sym, _∙_}
-use Prim.Native.Nat.{ℕ, _+_, _-_, _*_, _≤_, _<_}
+use mathlib.Core.Path.{sym, _∙_}
+use Prim.Native.Nat.{ℕ, _+_, _-_, _≤_, _<_}
 use native.Mathlib.Omega.{arith}
-use borrow.Author.Needs.{needs}
-use lib.ListN.{length}
 use denote.Ref.{now}
 use Rattle.paper.specs.Corners.{sumOf, firstOf, sidesOf, next}
 use Rattle.mesh.proofs.Faces.{first-to, first-ends}

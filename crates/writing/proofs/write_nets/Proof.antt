@@ -8,7 +8,7 @@ use native.Mathlib.Omega.{arith}
 use borrow.Author.Needs.{needs}
 use lib.ListN.{length}
 use denote.Ref.{now}
-use Rattle.paper.specs.Mesh.{Mesh, meshOf, cornerCount, mostVertices}
+use Rattle.paper.specs.Mesh.{Mesh, meshOf, mostVertices}
 use Rattle.paper.specs.Corners.{sumOf, firstOf, sidesOf}
 use Rattle.mesh.specs.Tables.{Named}
 use Rattle.mesh.proofs.Faces.{first-from, first-to, first-ends}
@@ -16,7 +16,7 @@ use Rattle.wanted.proofs.Accepted.{faces-of}
 use Rattle.face_sums.specs.Sources.{Covered}
 use Rattle.face_sums.proofs.Accepted.{refinable-of}
 use Rattle.writing.specs.Written.{Rounds}
-use Rattle.writing.proofs.Laws.{zeros, named-in, faces-in, from-first, to-last, covered-of, drawn-of, drawn-written}
+use Rattle.writing.proofs.Laws.{zeros, named-in, faces-in, covered-of, drawn-of, drawn-written}
 use Rattle.writing.proofs.write_nets.Statement.{statement}
 use Rattle.writing.proofs.write_nets.Tie as tie
 

@@ -1,16 +1,15 @@
 -- `rounding::small_quotient` meets its contract, by `fraction-is`.
 -- Assumes nothing.
-use mathlib.Core.Path.{_≡_, _∙_}
-use Prim.Native.Nat.{ℕ, _+_, _*_, _/_, _^_, _≤_, _<_}
+use mathlib.Core.Path.{_≡_}
+use Prim.Native.Nat.{_*_, _/_, _^_, _≤_}
 use native.Mathlib.Omega.{arith}
 use borrow.Author.Needs.{needs}
-use lib.IntN.{ℤ, pos, negsuc, natAbs, _+ℤ_, _-ℤ_, _*ℤ_}
-use lib.Signed.{_≤ℤ_, ltZ-yes}
+use lib.IntN.{pos, _-ℤ_, _*ℤ_}
+use lib.Signed.{ltZ-yes}
 use mir.Syntax.{w32}
-use mir.Val.{SFits, toZ}
+use mir.Val.{toZ}
 use mir.Facts.{toZ-ofZ, toZ-pos}
 use Rattle.paper.specs.Numbers.{round}
-use Rattle.numbers.specs.Sign.{sign}
 use Rattle.numbers.specs.Small.{lift, Lifted, Share}
 use Rattle.numbers.proofs.Small.{small-share, fraction-is, at-most-lift, lift-off}
 use Rattle.numbers.proofs.rounding.small_quotient.Statement.{statement}
