@@ -272,7 +272,7 @@ module _ (file : List ℕ) (counted : ℕ) (lent : Counts) (before : ℕ) where
 
       pub survey-done : (ltb (length (lent .cornered)) (mostSides + 1) || ltb (length (lent .sided)) (mostSides + 1)) ≡ false
           → (told : Counts) → told ≡ countsOf (r .counts .vertices) (r .counts .faces) (r .counts .corners) (begins (r .counts .cornered) (lent .cornered))
-              (begins (r .counts .sided) (lent .sided))
+          (begins (r .counts .sided) (lent .sided))
           → SurveyCall file counted lent before 0 before told
       unfolding surveyVerdict
       survey-done t told e =

@@ -43,9 +43,10 @@ tell-counts-requires c κs =
     let room = sym (s .before .too-short .ensures) ∙ s .if1 .left in
     let f = s .before .before .before .before .survey in
     let a = s .before .before .before .before .before .before .before .before .args in
-    let n = numbered _ _ _ (f .ensures) (s .before .before .enum-told .given .1) in
-    (fits-first (f .result .counts .cornered) (length (a .cornered .now)) (length (a .sided .now)) (n .0) room,
-    fits-second (f .result .counts .sided) (length (a .cornered .now)) (length (a .sided .now)) (n .1) room)
+    let n = numbered _ _ _ (f .ensures) (s .before .before .enum-told .given .1) in (
+      fits-first (f .result .counts .cornered) (length (a .cornered .now)) (length (a .sided .now)) (n .0) room,
+      fits-second (f .result .counts .sided) (length (a .cornered .now)) (length (a .sided .now)) (n .1) room,
+    )
 
 same-length : tie.Need-same-length
 same-length c = search needs
