@@ -224,7 +224,8 @@ odd-is n h t m ok e =
     let from = step-le d (negℤ (pos lift)) q (p .0) (b .0) in
     let to = step-le d q (pos lift) (p .0) (b .1) in
     let x = difference _ _ (ok .1 .0) in
-    let w = product-is (2 ^ 32) (ltZ-yes tt) z d t m (p .0) from to x (lt-of-le-of-lt _ _ _ (mul-le (d *ℤ pos m -ℤ pos (2 ^ 32)) _ _ x (quotient q from to .1)) (ok .1 .2)) e in
+    let w = product-is (2 ^ 32) (ltZ-yes tt) z d t m (p .0) from to x
+    (lt-of-le-of-lt _ _ _ (mul-le (d *ℤ pos m -ℤ pos (2 ^ 32)) _ _ x (quotient q from to .1)) (ok .1 .2)) e in
     (w .0, w .1 ∙ floor-unique _ _ q (p .1) (untied-odd n h (sign n) q (sign-bounds n) f) ∙ sym (round-floor n d (p .0)))
 
 -- the quotient with its lift, as the machine holds it, and without

@@ -25,7 +25,8 @@ use Rattle.turn_laws.proofs.Parts.{true-both, joined-same, joined-back}
 use Rattle.turn_laws.proofs.Turned.{face-in}
 use Rattle.turn_laws.proofs.Theorem.{partner-in, partner-partner, no-35-of-meets, is-35, chosen-is, low-in, low-joined, joined-connected}
 use Rattle.visiting.specs.Visit.{Seen, seen, Settled, AllSettled, Round, Queued, Visiting, Unturnable}
-use Rattle.visiting.proofs.Laws.{seen-grown, grown-set, unseen-before, seen-of, of-seen, tail-below, queued-more, settled-grown, forced-self, round-none, round-more}
+use Rattle.visiting.proofs.Laws.{seen-grown, grown-set, unseen-before, seen-of, of-seen, tail-below, queued-more, settled-grown, forced-self}
+use Rattle.visiting.proofs.Laws.{round-none, round-more}
 use Rattle.spreading.specs.Spread.{Rounded}
 use Rattle.turn_laws.specs.States.{turnsBy}
 

@@ -42,7 +42,8 @@ loop-again c =
     let l = c .before .before .loop in (
       search needs,
       rw length-set (l .inv .1),
-      copied-step (s .args .values .now) (s .args .lent .now) (l .i) (l .lent) (getD (s .args .values .now) (l .i) 0) 0 (omega arith) (omega arith) refl (l .inv .2),
+      copied-step (s .args .values .now) (s .args .lent .now) (l .i) (l .lent) (getD (s .args .values .now) (l .i) 0) 0 (omega arith) (omega arith) refl
+          (l .inv .2),
     )
 
 same-length : tie.Need-same-length Inv-loop μ-loop
