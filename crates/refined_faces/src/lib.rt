@@ -175,6 +175,7 @@ fn three_on(points: &[i32], axis: usize, c: usize, d: usize, e: usize) -> Face
     }
 }
 
+// The same on the three axes, by one walk.
 fn ring_of_three(points: &[i32], table: &[u16], column: usize, c: usize) -> Faces
     requires { ⌜ Rings (now points) (now table) column c 3 ⌝ }
     ensures { λ r. ⌜ AreFaces (λ a. around (now (points .entry)) a (now (table .entry)) column c) 3 0 2 r ⌝ }
@@ -201,6 +202,7 @@ fn four_on(points: &[i32], axis: usize, c: usize, d: usize, e: usize, f: usize) 
     edge_face(v, w, x, y)
 }
 
+// The same on the three axes, by one walk.
 fn ring_of_four(points: &[i32], table: &[u16], column: usize, c: usize) -> Faces
     requires { ⌜ Rings (now points) (now table) column c 4 ⌝ }
     ensures { λ r. ⌜ AreFaces (λ a. around (now (points .entry)) a (now (table .entry)) column c) 4 0 3 r ⌝ }
