@@ -62,7 +62,8 @@ pub fn build(
 }
 
 // The same of a mesh that is not small. A function of its own, with two callers, so that the compiler does not reserve its long tables
-// for a small mesh too: reserving them touches every page of them.
+// for a small mesh too: reserving them touches every page of them. Tables for a mesh of medium size beside them would take more stack than
+// a call may.
 fn build_large(
     coordinates: &[i32],
     sides: &[u8],
@@ -74,21 +75,6 @@ fn build_large(
 ) -> Answer
     ensures { λ r. ⌜ Built (meshOf (now (coordinates .entry)) (now (sides .entry)) (now (corners .entry)) (now (sharpness .entry))) (now (links .entry)) (range .first) (range .count) (now (out .entry)) r (now (out .exit)) ⌝ }
 {
-    if corners.len() <= MEDIUM_MESH && coordinates.len() / 3 <= MEDIUM_MESH {
-        let mut table = [0u16; ROW * MEDIUM_MESH];
-        let mut vertices = [0u16; ROW * MEDIUM_MESH];
-        return build_over(
-            coordinates,
-            sides,
-            corners,
-            sharpness,
-            links,
-            range,
-            &mut table,
-            &mut vertices,
-            out,
-        );
-    }
     let mut table = [0u16; ROW * MOST_CORNERS];
     let mut vertices = [0u16; ROW * MOST_VERTICES];
     build_over(

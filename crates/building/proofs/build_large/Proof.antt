@@ -1,11 +1,8 @@
--- `building::build_large` meets its contract: a mesh of medium size fits the shorter tables, and every mesh that is not too large the
--- long ones.
+-- `building::build_large` meets its contract: every mesh that is not too large fits the long tables.
 -- Assumes nothing.
-use native.Mathlib.Omega.{arith}
 use borrow.Author.Needs.{needs}
 use denote.Ref.{now}
 use Rattle.paper.specs.Mesh.{Mesh, meshOf, mostVertices, mostCorners}
-use Rattle.mesh.specs.Tables.{mediumMesh}
 use Rattle.checks.proofs.Laws.{room}
 use Rattle.building.proofs.build_large.Statement.{statement}
 use Rattle.building.proofs.build_large.Tie as tie
@@ -21,31 +18,14 @@ slice-aggregate-build-over-2 c = search needs
 
 build-over-requires : tie.Need-build-over-requires
 build-over-requires c κs =
-    let s = c .before .before .before .before .before .before .before .before .before in
-    room (mesh s) mediumMesh mediumMesh (λ h. search needs) (λ h. search needs)
+    let s = c .before .before .before .before .before .before .before in
+    room (mesh s) mostCorners mostVertices (λ h. h) (λ h. h)
 
 same-length : tie.Need-same-length
 same-length c = search needs
 
 returns : tie.Need-returns
 returns c = search needs
-
-slice-aggregate-build-over-3 : tie.Need-slice-aggregate-build-over-3
-slice-aggregate-build-over-3 c = search needs
-
-slice-aggregate-build-over-4 : tie.Need-slice-aggregate-build-over-4
-slice-aggregate-build-over-4 c = search needs
-
-build-over-requires-2 : tie.Need-build-over-requires-2
-build-over-requires-2 c κs =
-    let s = c .before .before .before .before .before .before .before .before in
-    room (mesh s) mostCorners mostVertices (λ h. h) (λ h. h)
-
-same-length-2 : tie.Need-same-length-2
-same-length-2 c = search needs
-
-returns-2 : tie.Need-returns-2
-returns-2 c = search needs
 
 pub build-large-spec : {M : Type 1} → statement M
 build-large-spec =
@@ -55,9 +35,4 @@ build-large-spec =
     slice-aggregate-build-over-2
     build-over-requires
     same-length
-    returns
-    slice-aggregate-build-over-3
-    slice-aggregate-build-over-4
-    build-over-requires-2
-    same-length-2
-    returns-2)
+    returns)
