@@ -40,43 +40,9 @@ pub fn build(
         first: first,
         count: count,
     };
-    if SMALL_MESH < corners.len() {
-        return build_large(coordinates, sides, corners, sharpness, links, range, out);
-    }
-    if SMALL_MESH < coordinates.len() / 3 {
-        return build_large(coordinates, sides, corners, sharpness, links, range, out);
-    }
-    let mut table = [0u16; ROW * SMALL_MESH];
-    let mut vertices = [0u16; ROW * SMALL_MESH];
-    build_over(
-        coordinates,
-        sides,
-        corners,
-        sharpness,
-        links,
-        range,
-        &mut table,
-        &mut vertices,
-        out,
-    )
-}
-
-// The same of a mesh that is not small. A function of its own, with two callers, so that the compiler does not reserve its long tables
-// for a small mesh too: reserving them touches every page of them.
-fn build_large(
-    coordinates: &[i32],
-    sides: &[u8],
-    corners: &[u16],
-    sharpness: &[u8],
-    links: &[u16],
-    range: Range,
-    out: &mut [i32],
-) -> Answer
-    ensures { λ r. ⌜ Built (meshOf (now (coordinates .entry)) (now (sides .entry)) (now (corners .entry)) (now (sharpness .entry))) (now (links .entry)) (range .first) (range .count) (now (out .entry)) r (now (out .exit)) ⌝ }
-{
-    if corners.len() <= MEDIUM_MESH && coordinates.len() / 3 <= MEDIUM_MESH {
-        let mut table = [0u16; ROW * MEDIUM_MESH];
-        let mut vertices = [0u16; ROW * MEDIUM_MESH];
+    if corners.len() <= SMALL_MESH && coordinates.len() / 3 <= SMALL_MESH {
+        let mut table = [0u16; ROW * SMALL_MESH];
+        let mut vertices = [0u16; ROW * SMALL_MESH];
         return build_over(
             coordinates,
             sides,
