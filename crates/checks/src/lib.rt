@@ -126,7 +126,7 @@ pub fn check_lists(
     if let Answer::Refused(k, p) = entries {
         return Answer::Refused(k, p);
     }
-    list_checks::check_faces(sides, corners, table, vertices)
+    face_checks::check_faces(sides, corners, table, vertices)
 }
 
 // The first refusal of two checks.

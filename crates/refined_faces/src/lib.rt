@@ -168,10 +168,13 @@ fn three_on(points: &[i32], axis: usize, c: usize, d: usize, e: usize) -> Face
     let v = point(points, axis, c);
     let w = point(points, axis, d);
     let x = point(points, axis, e);
+    let centre = formulas::mean_of_three(v, w, x);
+    let ahead = formulas::toward_of_three(v, w, x);
+    let behind = formulas::toward_of_three(x, v, w);
     Face {
-        centre: formulas::mean_of_three(v, w, x),
-        ahead: formulas::toward_of_three(v, w, x),
-        behind: formulas::toward_of_three(x, v, w),
+        centre: centre,
+        ahead: ahead,
+        behind: behind,
     }
 }
 

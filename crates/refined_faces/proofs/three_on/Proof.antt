@@ -27,10 +27,10 @@ mean-of-three-requires c κs =
     )
 
 toward-of-three-requires : tie.Need-toward-of-three-requires
-toward-of-three-requires c κs = let h = mean-of-three-requires (c .before) κs in search (h .0, h .1, h .2)
+toward-of-three-requires c κs = mean-of-three-requires (c .before) κs
 
 toward-of-three-requires-2 : tie.Need-toward-of-three-requires-2
-toward-of-three-requires-2 c κs = let h = mean-of-three-requires (c .before .before) κs in search (h .0, h .1, h .2)
+toward-of-three-requires-2 c κs = let h = mean-of-three-requires (c .before .before) κs in (h .2, h .0, h .1)
 
 returns : tie.Need-returns
 returns c =

@@ -15,11 +15,11 @@ use Rattle.columns.specs.Vertices.{lastHere}
 use Rattle.columns.specs.Filled.{FacesTo, filled}
 use Rattle.columns.proofs.Chains.{chains-all}
 use Rattle.columns.proofs.Laws.{sides-is, previous-start, previous-later, faces-none, faces-step, faces-chains, faces-beside, faces-all}
-use Rattle.list_checks.proofs.Laws.{Passed, passed-none, passed-kept, passed-step, doubled}
+use Rattle.face_checks.proofs.Laws.{Passed, passed-none, passed-kept, passed-step, doubled}
 use native.Mathlib.Omega.{arith}
 use borrow.Author.Needs.{needs}
-use Rattle.list_checks.proofs.check_faces.Statement.{statement}
-use Rattle.list_checks.proofs.check_faces.Tie as tie
+use Rattle.face_checks.proofs.check_faces.Statement.{statement}
+use Rattle.face_checks.proofs.check_faces.Tie as tie
 
 abbrev Inv-loop2 : tie.InvT-loop2
 Inv-loop2 sides corners table₀ vertices₀ start f count end before₀ c₀ table vertices before c =
