@@ -62,6 +62,13 @@ vectors() {
     [ "$found" -ge 40 ]
 }
 
+# Archiving takes four numbers at once: the bytes of four are packed by `packuswb`, which nothing else in the library has either.
+packed() {
+    found=$(objdump -d "$library/libmahunopi.a" | grep -c packuswb)
+    echo "packuswb: $found, expected 4 or more"
+    [ "$found" -ge 4 ]
+}
+
 # Every test that cargo runs counts as one; what does not compile counts as one that fails.
 rust_tests() {
     cargo test --manifest-path rust/Cargo.toml --workspace --release --offline --locked --no-fail-fast \
@@ -98,6 +105,7 @@ check 'example cube in C++17 prints what it should' cube g++ -std=c++17 -x c++
 check 'example inspect in C11 prints what it should' inspect gcc -std=c11
 check 'example inspect in C++17 prints what it should' inspect g++ -std=c++17 -x c++
 check 'building is compiled to vectors' vectors
+check 'archiving is compiled to vectors' packed
 check 'sample meshes are what make-dms makes of their texts' samples
 rust_tests
 echo "users: $passed passed, $failed failed"

@@ -43,9 +43,9 @@ returns c =
     let g : SFits w64 (c .before .toward-of-three .result) = search needs in
     let h : SFits w64 (c .toward-of-three2 .result) = search needs in
     record {
-      centre = toZ-ofZ f ∙ c .before .before .mean-of-three .ensures .0 ∙ cc (a, b, d);
-      ahead = toZ-ofZ g ∙ c .before .toward-of-three .ensures .0 ∙ cc (a, b, d);
-      behind = toZ-ofZ h ∙ c .toward-of-three2 .ensures .0 ∙ cc (a, b, d);
+      centre = toZ-ofZ f ∙ c .before .before .mean-of-three .ensures .0 ∙ rw (a, b, d);
+      ahead = toZ-ofZ g ∙ c .before .toward-of-three .ensures .0 ∙ rw (a, b, d);
+      behind = toZ-ofZ h ∙ c .toward-of-three2 .ensures .0 ∙ rw (a, b, d);
     }
 
 pub three-on-spec : {M : Type 1} → statement M
