@@ -102,6 +102,7 @@ module _ (M : Mesh) (ok : Accepted M) (table : List ℕ) (old points : List ℤ)
     table-long = t .long;
     points-long = omega (arith, v .same);
     small = λ axis l c h. v .small _;
+    fourth = λ c h. v .small _;
   }
 
   point-is : (axis c : ℕ) → axis < 3 → c < n → refinedPoint rounded M axis c ≡ pointAt points axis c

@@ -25,12 +25,12 @@ use Rattle.net_sides.specs.declared.Edge.{Edge}
 use Rattle.net_sides.specs.declared.NetSides.{NetSides}
 use Rattle.net_sides.specs.Values.{Through, IsLeaving, IsArriving, FourSides}
 use Rattle.net_sides.proofs.Laws.{vertex-ring, face-ring, four-sides}
-use Rattle.net_near.specs.Near.{near, lane, rowsFace, RingTaken, PointsTaken}
+use Rattle.net_near.specs.Near.{near, rowsFace, RingTaken, PointsTaken}
 use Rattle.net_lanes.specs.Lanes.{edgeFace, LaneReady, RingMade, LaneMade, Filled}
 use Rattle.net_lanes.proofs.Laws.{four-or}
 use Rattle.net_copy.specs.Copy.{Copied}
 use Rattle.net.specs.Put.{Put}
-use Rattle.net_near.proofs.Rows.{as-face, lane-sized, face-of}
+use Rattle.net_near.proofs.Rows.{as-face, face-of}
 
 -- ---- the same face by other names of its corners
 through-move : (p q : ℕ → ℤ) (a b c d a′ b′ c′ d′ : ℕ) (e : Edge) → p a ≡ q a′ → p b ≡ q b′ → p c ≡ q c′ → p d ≡ q d′ → Through p a b c d e
@@ -63,10 +63,14 @@ module _ (count : ℕ) (table : List ℕ) (points : List ℤ) (c : ℕ) (t : Dra
       t .0 .sound .next-in _ (t .0 .sound .next-in _ (t .0 .sound .next-in c (t .1)))
   near-in (suc (suc (suc (suc (suc (suc (suc (suc (suc (suc (suc i))))))))))) h = absurd (omega arith)
 
-  near-size : (i a : ℕ) → i < 11 → a < 3 → RefinedSize (pointAt points a (getD around-c i 0))
-  near-size i a h l = t .0 .small a l (getD around-c i 0) (near-in i h)
+  near-size : (i a : ℕ) → i < 11 → a < 4 → RefinedSize (pointAt points a (getD around-c i 0))
+  near-size i zero h l = t .0 .small 0 (lit< tt) (getD around-c i 0) (near-in i h)
+  near-size i (suc zero) h l = t .0 .small 1 (lit< tt) (getD around-c i 0) (near-in i h)
+  near-size i (suc (suc zero)) h l = t .0 .small 2 (lit< tt) (getD around-c i 0) (near-in i h)
+  near-size i (suc (suc (suc zero))) h l = t .0 .fourth (getD around-c i 0) (near-in i h)
+  near-size i (suc (suc (suc (suc a)))) h l = absurd (omega arith)
 
-  pub near-fine : (i a : ℕ) → i < 11 → a < 3
+  pub near-fine : (i a : ℕ) → i < 11 → a < 4
       → (pointRow * getD around-c i 0 + a < length points) × FaceSize (pointAt points a (getD around-c i 0))
   near-fine i a h l = (omega (arith, near-in i h, t .0 .points-long), as-face (pointAt points a (getD around-c i 0)) (near-size i a h l))
 
@@ -91,8 +95,7 @@ module _ (count : ℕ) (table : List ℕ) (points : List ℤ) (c : ℕ) (t : Dra
     ready k l = record {
       long = v3 .same ∙ v2 .same ∙ v1 .same ∙ e0;
       lane = l;
-      points = λ i h. rw (v3 .rows i k h l)
-          (lane-sized RefinedSize (lit≤ tt) _ _ _ (near-size i 0 h (lit< tt)) (near-size i 1 h (lit< tt)) (near-size i 2 h (lit< tt)) k);
+      points = λ i h. rw (v3 .rows i k h l) (near-size i k h l);
       vertex = λ f.
           let z = v1 .sized f k l in
           record {
@@ -117,14 +120,8 @@ module _ (count : ℕ) (table : List ℕ) (points : List ℤ) (c : ℕ) (t : Dra
       axis : Drawn count table points × (c < count) × (a < 3)
       axis = (t .0, t .1, la)
 
-      lane-is : (x : ℕ → ℤ) (b : ℕ) → b < 3 → lane (x 0) (x 1) (x 2) b ≡ x b
-      lane-is x zero h = refl
-      lane-is x (suc zero) h = refl
-      lane-is x (suc (suc zero)) h = refl
-      lane-is x (suc (suc (suc b))) h = absurd (omega arith)
-
       row-is : (i : ℕ) → i < 11 → pointAt a3 a i ≡ pointAt points a (getD around-c i 0)
-      row-is i h = v3 .rows i a h la4 ∙ lane-is (λ b. pointAt points b (getD around-c i 0)) a la
+      row-is i h = v3 .rows i a h la4
 
       vertex-face : (f : Face) → RingMade a3 a m 3 7 11 8 f → IsFace (around points a table toLink c) m 0 (m - 1) f
       unfolding around iterate

@@ -36,10 +36,10 @@ pub face-number : (z : ℤ) → FaceSize z → SFits w32 (plain z) × (toZ w32 (
 face-number z h = let f = abs-fits w32 z (2 ^ 24 + 2 ^ 21) h (lit< tt) in rw (plain-is z h) (f, toZ-ofZ f)
 
 -- ---- one row
-abbrev filled : List ℤ → ℕ → ℤ → ℤ → ℤ → List ℤ
-filled near i x y z = set (set (set (set near (4 * i) x) (4 * i + 1) y) (4 * i + 2) z) (4 * i + 3) (pos 0)
+abbrev filled : List ℤ → ℕ → ℤ → ℤ → ℤ → ℤ → List ℤ
+filled near i x y z w = set (set (set (set near (4 * i) x) (4 * i + 1) y) (4 * i + 2) z) (4 * i + 3) w
 
-module _ (near : List ℤ) (i : ℕ) (x y z : ℤ) (room : 4 * i + 4 ≤ length near) where
+module _ (near : List ℤ) (i : ℕ) (x y z w : ℤ) (room : 4 * i + 4 ≤ length near) where
   abbrev one : List ℤ
   one = set near (4 * i) x
 
@@ -61,44 +61,45 @@ module _ (near : List ℤ) (i : ℕ) (x y z : ℤ) (room : 4 * i + 4 ≤ length 
   there : (l : List ℤ) (n : ℕ) (v : ℤ) (k : ℕ) → k ≡ n → n < length l → getD (set l n v) k (pos 0) ≡ v
   there l n v k e h = at (set l n v) k n e ∙ getD-set-same l n v (pos 0) h
 
-  place : (k : ℕ) → k < 4 → pointAt (filled near i x y z) k i ≡ lane x y z k
+  place : (k : ℕ) → k < 4 → pointAt (filled near i x y z w) k i ≡ lane x y z w k
   place zero h =
-      other three (4 * i + 3) (pos 0) (pointRow * i + 0) (λ e. omega arith)
+      other three (4 * i + 3) w (pointRow * i + 0) (λ e. omega arith)
       ∙ other two (4 * i + 2) z (pointRow * i + 0) (λ e. omega arith)
       ∙ other one (4 * i + 1) y (pointRow * i + 0) (λ e. omega arith)
       ∙ there near (4 * i) x (pointRow * i + 0) (omega arith) (omega arith)
   place (suc zero) h =
-      other three (4 * i + 3) (pos 0) (pointRow * i + 1) (λ e. omega arith)
+      other three (4 * i + 3) w (pointRow * i + 1) (λ e. omega arith)
       ∙ other two (4 * i + 2) z (pointRow * i + 1) (λ e. omega arith)
       ∙ there one (4 * i + 1) y (pointRow * i + 1) (omega arith) (rw (length-set near (4 * i) x) (omega arith))
   place (suc (suc zero)) h =
-      other three (4 * i + 3) (pos 0) (pointRow * i + 2) (λ e. omega arith)
+      other three (4 * i + 3) w (pointRow * i + 2) (λ e. omega arith)
       ∙ there two (4 * i + 2) z (pointRow * i + 2) (omega arith) (rw (length-set (set near (4 * i) x) (4 * i + 1) y, length-set near (4 * i) x) (omega arith))
   place (suc (suc (suc zero))) h =
-      there three (4 * i + 3) (pos 0) (pointRow * i + 3) (omega arith)
+      there three (4 * i + 3) w (pointRow * i + 3) (omega arith)
       (rw (length-set (set (set near (4 * i) x) (4 * i + 1) y) (4 * i + 2) z, length-set (set near (4 * i) x) (4 * i + 1) y, length-set near (4 * i) x)
       (omega arith))
   place (suc (suc (suc (suc k)))) h = absurd (omega arith)
 
-  pub row-taken : RowTaken x y z i near (filled near i x y z)
+  pub row-taken : RowTaken x y z w i near (filled near i x y z w)
   row-taken = record {
-    same = long three (4 * i + 3) (pos 0) (long two (4 * i + 2) z (long one (4 * i + 1) y (length-set near (4 * i) x)));
+    same = long three (4 * i + 3) w (long two (4 * i + 2) z (long one (4 * i + 1) y (length-set near (4 * i) x)));
     row = place;
     kept = λ j k l n.
-        other three (4 * i + 3) (pos 0) (pointRow * j + k) (λ e. n (omega arith))
+        other three (4 * i + 3) w (pointRow * j + k) (λ e. n (omega arith))
         ∙ other two (4 * i + 2) z (pointRow * j + k) (λ e. n (omega arith))
         ∙ other one (4 * i + 1) y (pointRow * j + k) (λ e. n (omega arith))
         ∙ other near (4 * i) x (pointRow * j + k) (λ e. n (omega arith));
   }
 
 -- ---- the three rows of a face
-lane-plain : (x y z : ℤ) → FaceSize x → FaceSize y → FaceSize z → (k : ℕ) → lane (plain x) (plain y) (plain z) k ≡ lane x y z k
+lane-plain : (x y z : ℤ) → FaceSize x → FaceSize y → FaceSize z → (k : ℕ)
+    → lane (plain x) (plain y) (plain z) (pos 0) k ≡ lane x y z (pos 0) k
 lane-plain x y z hx hy hz k = rw (plain-is x hx, plain-is y hy, plain-is z hz) refl
 
 module _ (f g h : Face) (zf : FaceSized f) (zg : FaceSized g) (zh : FaceSized h) (i : ℕ) (a b c d : List ℤ)
-    (p : RowTaken (plain (f .centre)) (plain (g .centre)) (plain (h .centre)) i a b)
-    (q : RowTaken (plain (f .ahead)) (plain (g .ahead)) (plain (h .ahead)) (i + 1) b c)
-    (r : RowTaken (plain (f .behind)) (plain (g .behind)) (plain (h .behind)) (i + 2) c d) where
+    (p : RowTaken (plain (f .centre)) (plain (g .centre)) (plain (h .centre)) (pos 0) i a b)
+    (q : RowTaken (plain (f .ahead)) (plain (g .ahead)) (plain (h .ahead)) (pos 0) (i + 1) b c)
+    (r : RowTaken (plain (f .behind)) (plain (g .behind)) (plain (h .behind)) (pos 0) (i + 2) c d) where
   pub face-taken : FaceTaken f g h i a d
   face-taken = record {
     same = r .same ∙ q .same ∙ p .same;
@@ -113,7 +114,7 @@ module _ (f g h : Face) (zf : FaceSized f) (zg : FaceSized g) (zh : FaceSized h)
   }
 
 -- ---- a ring's face on the three axes
-pub lane-sized : (P : ℤ → Type 0) → P (pos 0) → (x y z : ℤ) → P x → P y → P z → (k : ℕ) → P (lane x y z k)
+lane-sized : (P : ℤ → Type 0) → P (pos 0) → (x y z : ℤ) → P x → P y → P z → (k : ℕ) → P (lane x y z (pos 0) k)
 lane-sized P p0 x y z px py pz zero = px
 lane-sized P p0 x y z px py pz (suc zero) = py
 lane-sized P p0 x y z px py pz (suc (suc zero)) = pz
@@ -168,19 +169,25 @@ pub points-none : (points : List ℤ) (corners : List ℕ) (near : List ℤ) →
 points-none points corners near = record { same = refl; rows = λ i k h. absurd (omega arith); above = λ j k l h. refl }
 
 -- one row more
-pub points-more : (points : List ℤ) (corners : List ℕ) (n : ℕ) (old mid new : List ℤ) (x y z : ℤ) → PointsTaken points corners n old mid
+pub points-more : (points : List ℤ) (corners : List ℕ) (n : ℕ) (old mid new : List ℤ) (x y z w : ℤ) → PointsTaken points corners n old mid
     → x ≡ pointAt points 0 (getD corners n 0) → y ≡ pointAt points 1 (getD corners n 0) → z ≡ pointAt points 2 (getD corners n 0)
-    → RowTaken x y z n mid new → PointsTaken points corners (n + 1) old new
-points-more points corners n old mid new x y z t ex ey ez r = record {
+    → w ≡ pointAt points 3 (getD corners n 0) → RowTaken x y z w n mid new → PointsTaken points corners (n + 1) old new
+points-more points corners n old mid new x y z w t ex ey ez ew r = record {
   same = r .same ∙ t .same;
   rows = λ i k h l. which i k h l (ltb i n) (λ u. ltb→lt i n u) (λ u. nltb→le i n u);
   above = λ j k l h. r .kept j k l (λ e. omega arith) ∙ t .above j k l (omega arith);
 }
   where
-    which : (i k : ℕ) → i < n + 1 → k < 4 → (b : Bool) → (T b → i < n) → (T (not b) → n ≤ i)
-        → pointAt new k i ≡ lane (pointAt points 0 (getD corners i 0)) (pointAt points 1 (getD corners i 0)) (pointAt points 2 (getD corners i 0)) k
+    read : (k : ℕ) → k < 4 → lane x y z w k ≡ pointAt points k (getD corners n 0)
+    read zero h = ex
+    read (suc zero) h = ey
+    read (suc (suc zero)) h = ez
+    read (suc (suc (suc zero))) h = ew
+    read (suc (suc (suc (suc k)))) h = absurd (omega arith)
+
+    which : (i k : ℕ) → i < n + 1 → k < 4 → (b : Bool) → (T b → i < n) → (T (not b) → n ≤ i) → pointAt new k i ≡ pointAt points k (getD corners i 0)
     which i k h l true f g = let m = f tt in r .kept i k l (λ e. omega arith) ∙ t .rows i k m l
     which i k h l false f g =
         let m = g tt in
         let e : i ≡ n = omega arith in
-        rw e (r .row k l ∙ rw (ex, ey, ez) refl)
+        rw e (r .row k l ∙ read k l)

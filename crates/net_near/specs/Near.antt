@@ -1,4 +1,4 @@
--- The rows that a net is made from, four numbers each: x, y, z and a zero. A lane is one place of each row.
+-- The rows that a net is made from, four numbers each: x, y, z and one that is not used. A lane is one place of each row.
 -- Assumes nothing.
 use mathlib.Core.Path.{_≡_}
 use mathlib.Core.List.{List, [], _∷_}
@@ -19,24 +19,24 @@ near K c =
     ∷ K .link (K .link c) ∷ K .link (K .link (K .link c)) ∷ K .next (K .next c) ∷ K .next (K .next (K .next c)) ∷ []
 
 -- a row's number in lane k
-abbrev pub lane : ℤ → ℤ → ℤ → ℕ → ℤ
-lane x y z zero = x
-lane x y z (suc zero) = y
-lane x y z (suc (suc zero)) = z
-lane x y z (suc (suc (suc k))) = pos 0
+abbrev pub lane : ℤ → ℤ → ℤ → ℤ → ℕ → ℤ
+lane x y z w zero = x
+lane x y z w (suc zero) = y
+lane x y z w (suc (suc zero)) = z
+lane x y z w (suc (suc (suc k))) = w
 
 -- row i has these numbers, every other row is as before
-pub record RowTaken (x y z : ℤ) (i : ℕ) (old new : List ℤ) : Type 0 where
+pub record RowTaken (x y z w : ℤ) (i : ℕ) (old new : List ℤ) : Type 0 where
   pub same : length new ≡ length old
-  pub row : (k : ℕ) → k < 4 → pointAt new k i ≡ lane x y z k
+  pub row : (k : ℕ) → k < 4 → pointAt new k i ≡ lane x y z w k
   pub kept : (j k : ℕ) → k < 4 → (j ≡ i → ⊥) → pointAt new k j ≡ pointAt old k j
 
--- the three rows from i on have a face's numbers, of which f, g and h are the three axes
+-- the three rows from i on have a face's numbers, of which f, g and h are the three axes, and zeros
 pub record FaceTaken (f g h : Face) (i : ℕ) (old new : List ℤ) : Type 0 where
   pub same : length new ≡ length old
-  pub centre : (k : ℕ) → k < 4 → pointAt new k i ≡ lane (f .centre) (g .centre) (h .centre) k
-  pub ahead : (k : ℕ) → k < 4 → pointAt new k (i + 1) ≡ lane (f .ahead) (g .ahead) (h .ahead) k
-  pub behind : (k : ℕ) → k < 4 → pointAt new k (i + 2) ≡ lane (f .behind) (g .behind) (h .behind) k
+  pub centre : (k : ℕ) → k < 4 → pointAt new k i ≡ lane (f .centre) (g .centre) (h .centre) (pos 0) k
+  pub ahead : (k : ℕ) → k < 4 → pointAt new k (i + 1) ≡ lane (f .ahead) (g .ahead) (h .ahead) (pos 0) k
+  pub behind : (k : ℕ) → k < 4 → pointAt new k (i + 2) ≡ lane (f .behind) (g .behind) (h .behind) (pos 0) k
   pub below : (j k : ℕ) → k < 4 → j < i → pointAt new k j ≡ pointAt old k j
   pub above : (j k : ℕ) → k < 4 → i + 2 < j → pointAt new k j ≡ pointAt old k j
 
@@ -52,14 +52,13 @@ pub record RingTaken (p : ℕ → ℕ → ℤ) (m i : ℕ) (old new : List ℤ) 
   pub below : (j k : ℕ) → k < 4 → j < i → pointAt new k j ≡ pointAt old k j
   pub above : (j k : ℕ) → k < 4 → i + 2 < j → pointAt new k j ≡ pointAt old k j
 
--- the table has small points for the corners of the rows
+-- the table has rows of small numbers for the corners
 abbrev pub Readable : List ℤ → List ℕ → Type 0
 Readable points corners =
-    (i a : ℕ) → i < 11 → a < 3 → (pointRow * getD corners i 0 + a < length points) × FaceSize (pointAt points a (getD corners i 0))
+    (i a : ℕ) → i < 11 → a < 4 → (pointRow * getD corners i 0 + a < length points) × FaceSize (pointAt points a (getD corners i 0))
 
--- the first n rows have the points of the first n corners
+-- the first n rows are those of the first n corners in the table
 pub record PointsTaken (points : List ℤ) (corners : List ℕ) (n : ℕ) (old new : List ℤ) : Type 0 where
   pub same : length new ≡ length old
-  pub rows : (i k : ℕ) → i < n → k < 4
-      → pointAt new k i ≡ lane (pointAt points 0 (getD corners i 0)) (pointAt points 1 (getD corners i 0)) (pointAt points 2 (getD corners i 0)) k
+  pub rows : (i k : ℕ) → i < n → k < 4 → pointAt new k i ≡ pointAt points k (getD corners i 0)
   pub above : (j k : ℕ) → k < 4 → n ≤ j → pointAt new k j ≡ pointAt old k j

@@ -1,4 +1,4 @@
-// The rows that a quad-net is made from, four numbers each, x, y, z and a zero: the refined points of the corner and of ten around it, then centre
+// The rows that a quad-net is made from, four numbers each, x, y, z and one that is not used: the refined points of the corner and of ten around it, then centre
 // and face points of its vertex's and of its face's ring, where these are not of four.
 use numbers::cosines;
 use refined_faces::Face;
@@ -23,15 +23,15 @@ pub const VERTEX: usize = 11;
 pub const FACE: usize = 14;
 
 // A row.
-fn take_row(x: i64, y: i64, z: i64, near: &mut [i32], i: usize)
-    requires { ⌜ FaceSize x × FaceSize y × FaceSize z × (4 * i + 4 ≤ length (now near)) ⌝ }
-    ensures { λ _. ⌜ RowTaken x y z i (now (near .entry)) (now (near .exit)) ⌝ }
+fn take_row(x: i64, y: i64, z: i64, w: i64, near: &mut [i32], i: usize)
+    requires { ⌜ FaceSize x × FaceSize y × FaceSize z × FaceSize w × (4 * i + 4 ≤ length (now near)) ⌝ }
+    ensures { λ _. ⌜ RowTaken x y z w i (now (near .entry)) (now (near .exit)) ⌝ }
 {
     let from = 4 * i;
     near[from] = x as i32;
     near[from + 1] = y as i32;
     near[from + 2] = z as i32;
-    near[from + 3] = 0;
+    near[from + 3] = w as i32;
 }
 
 // The rows of a face, given on the three axes.
@@ -39,9 +39,9 @@ fn take_face(f: Face, g: Face, h: Face, near: &mut [i32], i: usize)
     requires { ⌜ FaceSized f × FaceSized g × FaceSized h × (4 * i + 12 ≤ length (now near)) ⌝ }
     ensures { λ _. ⌜ FaceTaken f g h i (now (near .entry)) (now (near .exit)) ⌝ }
 {
-    take_row(f.centre, g.centre, h.centre, near, i);
-    take_row(f.ahead, g.ahead, h.ahead, near, i + 1);
-    take_row(f.behind, g.behind, h.behind, near, i + 2);
+    take_row(f.centre, g.centre, h.centre, 0, near, i);
+    take_row(f.ahead, g.ahead, h.ahead, 0, near, i + 1);
+    take_row(f.behind, g.behind, h.behind, 0, near, i + 2);
 }
 
 // The face of the ring of m corners at c that a column goes round, into the rows from i on, where it is not of four.
@@ -97,7 +97,7 @@ pub fn corners_near(table: &[u16], count: usize, c: usize) -> [usize; AROUND]
     ]
 }
 
-// The refined points of these corners, row by row.
+// The rows of these corners. A row is taken whole, with the number that is not used: the compiler reads it in one step.
 pub fn take_points(points: &[i32], corners: [usize; AROUND], near: &mut [i32])
     requires { ⌜ Readable (now points) corners × (44 ≤ length (now near)) ⌝ }
     ensures { λ _. ⌜ PointsTaken (now (points .entry)) corners 11 (now (near .entry)) (now (near .exit)) ⌝ }
@@ -108,7 +108,8 @@ pub fn take_points(points: &[i32], corners: [usize; AROUND], near: &mut [i32])
         let x = refined_faces::point(points, 0, c);
         let y = refined_faces::point(points, 1, c);
         let z = refined_faces::point(points, 2, c);
-        take_row(x, y, z, near, i);
+        let w = refined_faces::point(points, 3, c);
+        take_row(x, y, z, w, near, i);
         i += 1;
     }
 }

@@ -10,6 +10,7 @@ use Rattle.paper.specs.Cosines.{cosine}
 use Rattle.paper.specs.Refined.{RefinedMesh}
 use Rattle.surface.specs.Sound.{Sound, Small}
 use Rattle.surface.specs.Points.{pointRow, pointAt}
+use Rattle.surface.specs.Sizes.{RefinedSize}
 use Rattle.walk.specs.Table.{rowLength, toNext, toLink, tabled}
 use Rattle.refined_faces.specs.Ring.{around, IsFace}
 use Rattle.refined_faces.specs.declared.Face.{Face}
@@ -18,12 +19,14 @@ use Rattle.refined_faces.specs.declared.Face.{Face}
 abbrev pub drawn : ℕ → List ℕ → List ℤ → ℕ → RefinedMesh rounded
 drawn count table points axis = record { corners = tabled count table; point = pointAt points axis }
 
--- the tables have the corners of an accepted mesh, and for each corner refined points that are no larger than such a mesh has
+-- the tables have the corners of an accepted mesh, and for each corner refined points that are no larger than such a mesh has; the fourth number of
+-- a row is no larger either
 pub record Drawn (count : ℕ) (table : List ℕ) (points : List ℤ) : Type 0 where
   pub sound : Sound (tabled count table)
   pub table-long : rowLength * count ≤ length table
   pub points-long : pointRow * count ≤ length points
   pub small : (axis : ℕ) → axis < 3 → Small (drawn count table points axis)
+  pub fourth : (c : ℕ) → c < count → RefinedSize (pointAt points 3 c)
 
 -- the faces of the vertex and of the mesh face of c on an axis, and C of the two rings
 pub record Ringed (count : ℕ) (table : List ℕ) (points : List ℤ) (c axis : ℕ) (v f : Face) (k l : ℤ) : Type 0 where

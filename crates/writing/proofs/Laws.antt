@@ -195,6 +195,7 @@ module _ (M : Mesh) (accepted : Accepted M) (table marked : List ℕ) (old point
     table-long = t .long;
     points-long = omega (arith, v .same);
     small = λ axis l c h. v .small _;
+    fourth = λ c h. v .small _;
   }
 
   -- a corner at a vertex of the face of a corner of the range is marked

@@ -3,6 +3,7 @@
 use Prim.Native.Nat.{_+_, _*_}
 use native.Mathlib.Omega.{arith}
 use borrow.Author.Needs.{needs}
+use lib.Dec.{lit≤}
 use Rattle.net_near.proofs.Rows.{plain-size, as-face, face-taken}
 use Rattle.net_near.proofs.take_face.Statement.{statement}
 use Rattle.net_near.proofs.take_face.Tie as tie
@@ -14,6 +15,7 @@ take-row-requires c κs =
       plain-size (s .args .g .centre) (as-face (s .args .g .centre)
           (s .pre .1 .centre)),
       plain-size (s .args .h .centre) (as-face (s .args .h .centre) (s .pre .2 .centre)),
+      lit≤ tt,
       omega (arith, s .pre .3),
     )
 
@@ -27,6 +29,7 @@ take-row-requires-2 c κs =
       plain-size (s .args .g .ahead) (s .pre .1 .ahead),
       plain-size (s .args .h .ahead) (s .pre .2
           .ahead),
+      lit≤ tt,
       omega (arith, s .pre .3, c .before .before .before .before .before .take-row .ensures .same),
     )
 
@@ -39,6 +42,7 @@ take-row-requires-3 c κs =
       plain-size (s .args .f .behind) (s .pre .0 .behind),
       plain-size (s .args .g .behind) (s .pre .1 .behind),
       plain-size (s .args .h .behind) (s .pre .2 .behind),
+      lit≤ tt,
       omega (
         arith,
         s .pre .3,

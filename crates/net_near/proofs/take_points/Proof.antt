@@ -25,7 +25,7 @@ abbrev μ-loop : tie.MeasureT-loop
 
 -- src/lib.rt:126:5
 -- the point of row i on axis a, as it is read
-module _ (c : tie.In-loop Inv-loop μ-loop) (a : ℕ) (l : a < 3) where
+module _ (c : tie.In-loop Inv-loop μ-loop) (a : ℕ) (l : a < 4) where
   fine : let s = c .before .before in
       let d = getD (s .args .t2) (c .before .loop .i) 0 in
       (pointRow * d + a < length (s .args .points .now)) × FaceSize (pointAt (s .args .points .now) a d)
@@ -58,13 +58,17 @@ point-requires-2 c κs = fine (c .before) 1 (lit< tt) .0
 point-requires-3 : tie.Need-point-requires-3 Inv-loop μ-loop
 point-requires-3 c κs = fine (c .before .before) 2 (lit< tt) .0
 
+point-requires-4 : tie.Need-point-requires-4 Inv-loop μ-loop
+point-requires-4 c κs = fine (c .before .before .before) 3 (lit< tt) .0
+
 -- src/lib.rt:131:9
 take-row-requires : tie.Need-take-row-requires Inv-loop μ-loop
 take-row-requires c κs =
-    let l = c .before .before .before .before in (
-      read l 0 (lit< tt) _ (c .before .before .before .point .ensures) .0,
-      read l 1 (lit< tt) _ (c .before .before .point2 .ensures) .0,
-      read l 2 (lit< tt) _ (c .before .point3 .ensures) .0,
+    let l = c .before .before .before .before .before in (
+      read l 0 (lit< tt) _ (c .before .before .before .before .point .ensures) .0,
+      read l 1 (lit< tt) _ (c .before .before .before .point2 .ensures) .0,
+      read l 2 (lit< tt) _ (c .before .before .point3 .ensures) .0,
+      read l 3 (lit< tt) _ (c .before .point4 .ensures) .0,
       omega (arith, l .before .loop .inv .1 .same, l .before .before .pre .1, l .loop-test .taken),
     )
 
@@ -79,13 +83,14 @@ loop-less c = search needs
 -- src/lib.rt:126:5
 loop-again : tie.Need-loop-again Inv-loop μ-loop
 loop-again c =
-    let l = c .before .before .before .before .before .before in (
+    let l = c .before .before .before .before .before .before .before in (
       omega (arith, l .loop-test .taken),
       points-more (l .before .before .args .points .now) (l .before .before .args .t2) (l .before .loop .i) (l .before .before .args .near .now)
-          (l .before .loop .near) _ _ _ _ (l .before .loop .inv .1)
-          (read l 0 (lit< tt) _ (c .before .before .before .before .before .point .ensures) .1)
-          (read l 1 (lit< tt) _ (c .before .before .before .before .point2 .ensures) .1)
-          (read l 2 (lit< tt) _ (c .before .before .before .point3 .ensures) .1) (c .before .take-row .ensures),
+          (l .before .loop .near) _ _ _ _ _ (l .before .loop .inv .1)
+          (read l 0 (lit< tt) _ (c .before .before .before .before .before .before .point .ensures) .1)
+          (read l 1 (lit< tt) _ (c .before .before .before .before .before .point2 .ensures) .1)
+          (read l 2 (lit< tt) _ (c .before .before .before .before .point3 .ensures) .1)
+          (read l 3 (lit< tt) _ (c .before .before .before .point4 .ensures) .1) (c .before .take-row .ensures),
     )
 
 -- src/lib.rt:121:1
@@ -112,6 +117,7 @@ take-points-spec =
     point-requires
     point-requires-2
     point-requires-3
+    point-requires-4
     take-row-requires
     add-i
     loop-less

@@ -30,19 +30,10 @@ mul-near-2 : tie.Need-mul-near-2
 mul-near-2 c = search needs
 
 slice-set-from-near-2 : tie.Need-slice-set-from-near-2
-slice-set-from-near-2 c = simp length-set (omega (arith, c .pre .3))
+slice-set-from-near-2 c = simp length-set (omega (arith, c .pre .4))
 
 cast-near-3 : tie.Need-cast-near-3
 cast-near-3 c = face-number (c .args .z) (c .pre .2) .0
-
-add-t10 : tie.Need-add-t10
-add-t10 c = search needs
-
-mul-t8 : tie.Need-mul-t8
-mul-t8 c = search needs
-
-slice-set-from-near-3 : tie.Need-slice-set-from-near-3
-slice-set-from-near-3 c = simp length-set (omega (arith, c .pre .3))
 
 add-near-2 : tie.Need-add-near-2
 add-near-2 c = search needs
@@ -50,16 +41,33 @@ add-near-2 c = search needs
 mul-near-3 : tie.Need-mul-near-3
 mul-near-3 c = search needs
 
-slice-set-of-near : tie.Need-slice-set-of-near
-slice-set-of-near c = simp length-set (omega (arith, c .pre .3))
+slice-set-from-near-3 : tie.Need-slice-set-from-near-3
+slice-set-from-near-3 c = simp length-set (omega (arith, c .pre .4))
+
+cast-near-4 : tie.Need-cast-near-4
+cast-near-4 c = face-number (c .args .w) (c .pre .3) .0
+
+add-t9 : tie.Need-add-t9
+add-t9 c = search needs
+
+mul-t11 : tie.Need-mul-t11
+mul-t11 c = search needs
+
+slice-set-from-near-4 : tie.Need-slice-set-from-near-4
+slice-set-from-near-4 c = simp length-set (omega (arith, c .pre .4))
 
 same-length : tie.Need-same-length
 same-length c = search needs
 
 returns : tie.Need-returns
 returns c =
-    rw (face-number (c .args .x) (c .pre .0) .1, face-number (c .args .y) (c .pre .1) .1, face-number (c .args .z) (c .pre .2) .1)
-    (row-taken (c .args .near .now) (c .args .i) (c .args .x) (c .args .y) (c .args .z) (c .pre .3))
+    rw (
+      face-number (c .args .x) (c .pre .0) .1,
+      face-number (c .args .y) (c .pre .1) .1,
+      face-number (c .args .z) (c .pre .2) .1,
+      face-number (c .args .w) (c .pre .3) .1,
+    )
+    (row-taken (c .args .near .now) (c .args .i) (c .args .x) (c .args .y) (c .args .z) (c .args .w) (c .pre .4))
 
 pub take-row-spec : {M : Type 1} → statement M
 take-row-spec =
@@ -74,11 +82,12 @@ take-row-spec =
     mul-near-2
     slice-set-from-near-2
     cast-near-3
-    add-t10
-    mul-t8
-    slice-set-from-near-3
     add-near-2
     mul-near-3
-    slice-set-of-near
+    slice-set-from-near-3
+    cast-near-4
+    add-t9
+    mul-t11
+    slice-set-from-near-4
     same-length
     returns)
