@@ -204,8 +204,8 @@ pub fn net_sides(
     let here = Walker { corner: c };
     let m = here.valence(table);
     let n = here.sides(table);
-    let vertex = refined_faces::ring_faces(points, table, LINK, rows, c, m);
-    let face = refined_faces::ring_faces(points, table, NEXT, rows, c, n);
+    let vertex = refined_faces::four_or_ring_faces(points, table, LINK, rows, c, m);
+    let face = refined_faces::four_or_ring_faces(points, table, NEXT, rows, c, n);
     let k = cosines::cosine(rows, m, 1);
     let l = cosines::cosine(rows, n, 1);
     ThreeSides {

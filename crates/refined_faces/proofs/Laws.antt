@@ -34,6 +34,7 @@ use Rattle.surface.specs.Sizes.{RefinedSize, FaceSize}
 use Rattle.numbers.specs.Near.{Near}
 use Rattle.numbers.specs.Units.{Units}
 use Rattle.refined_faces.specs.Ring.{around, Ring, Readable, Addable, Added, Summed, Divisible, Divided, IsFace, IsThreeFace, IsEdgeFace}
+use Rattle.refined_faces.specs.Ring.{fiveSum, IsFiveFace, IsSixFace}
 use Rattle.refined_faces.specs.declared.Sums.{Sums}
 use Rattle.refined_faces.specs.declared.Face.{Face}
 
@@ -139,6 +140,18 @@ cosine-first m low high u e =
 pub step-more : (step : ℕ → ℕ) (c j at : ℕ) → at ≡ iterate j step c → step at ≡ iterate (j + 1) step c
 step-more step c j at e = ap step e ∙ sym (iterate-suc step j c) ∙ ap (λ (n : ℕ). iterate n step c) (sym (add-one j))
 
+-- ---- the face of a ring, from its three numbers: their sizes follow
+face-is : (p : ℕ → ℤ) (m : ℕ) → PointRing p m → (g : Face) → g .centre ≡ centre rounded p m → g .ahead ≡ toward rounded p m 0
+    → g .behind ≡ toward rounded p m (m - 1) → IsFace p m 0 (m - 1) g
+face-is p m r g e a b = record {
+  centre = e;
+  ahead = a;
+  behind = b;
+  centre-size = rw e (centre-size p m (r .least) (r .most) (r .small));
+  ahead-size = rw a (toward-size p m (r .least) (r .most) (r .small) 0);
+  behind-size = rw b (toward-size p m (r .least) (r .most) (r .small) (m - 1));
+}
+
 -- ---- the face points of the ring, from its sums
 within : (q : ℤ) (k : ℕ) → natAbs q ≤ k → (negℤ (pos k) ≤ℤ q) × (q ≤ℤ pos k)
 within q k h = as-diff q λ a b e. let h′ = simp (diff, e) at h in simp (diff, e) (omega arith, omega arith)
@@ -169,14 +182,7 @@ module _ (p : ℕ → ℤ) (m : ℕ) (r : PointRing p m) (s : Sums) (q : Summed 
       let x : f .ahead ≡ toward rounded p m 0 = d .ahead ∙ ap over-weights (q .ahead ∙ ahead-sum p m) ∙ sym (toward-is p m 0) in
       let y : f .behind ≡ toward rounded p m (m - 1)
       = d .behind ∙ ap over-weights (q .behind ∙ behind-sum p m (r .least) (r .cyclic)) ∙ sym (toward-is p m (m - 1)) in
-      record {
-        centre = e;
-        ahead = x;
-        behind = y;
-        centre-size = rw e (centre-size p m (r .least) (r .most) (r .small));
-        ahead-size = rw x (toward-size p m (r .least) (r .most) (r .small) 0);
-        behind-size = rw y (toward-size p m (r .least) (r .most) (r .small) (m - 1));
-      }
+      face-is p m r f e x y
     where
       over-weights : ℤ → ℤ
       over-weights z = round z (pos (3 * unit) *ℤ pos m)
@@ -204,14 +210,56 @@ three-is p r v w x g p0 p1 p2 h =
     let ce : g .centre ≡ centre rounded p 3 = cc (h .centre, three p, p0, p1, p2) in
     let ah : g .ahead ≡ toward rounded p 3 0 = cc (h .ahead, toward-three p 0, p0, p1, p2) in
     let be : g .behind ≡ toward rounded p 3 2 = cc (h .behind, toward-three p 2, r .cyclic 0, r .cyclic 1, p0, p1, p2) in
-    record {
-      centre = ce;
-      ahead = ah;
-      behind = be;
-      centre-size = rw ce (centre-size p 3 (r .least) (r .most) (r .small));
-      ahead-size = rw ah (toward-size p 3 (r .least) (r .most) (r .small) 0);
-      behind-size = rw be (toward-size p 3 (r .least) (r .most) (r .small) 2);
-    }
+    face-is p 3 r g ce ah be
+
+-- ---- a ring of five: three of its weights are multiples of 2^30 and of 2 C(5, 1), two are 2^31
+five : (f : ℕ → ℤ) → sum f 5 ≡ f 0 +ℤ f 1 +ℤ f 2 +ℤ f 3 +ℤ f 4
+unfolding sumBy
+five f = ap (λ (z : ℤ). z +ℤ f 1 +ℤ f 2 +ℤ f 3 +ℤ f 4) (zero-add (f 0))
+
+fifteenths : (a b c d e : ℤ)
+    → a *ℤ pos 6032318062 +ℤ b *ℤ pos 6032318062 +ℤ c *ℤ pos (2 * unit) +ℤ d *ℤ negℤ (pos 253476060) +ℤ e *ℤ pos (2 * unit) ≡ fiveSum a b c d e
+fifteenths = over 5 _ λ ρ. simp (poly, ρ) (omega arith)
+
+toward-five : (p : ℕ → ℤ) (i : ℕ)
+    → toward rounded p 5 i ≡ round (fiveSum (p (i + 0)) (p (i + 1)) (p (i + 2)) (p (i + 3)) (p (i + 4))) (pos (15 * unit))
+unfolding weight cosine table
+toward-five p i =
+    toward-is p 5 i
+    ∙ ap (λ (z : ℤ). round z (pos (15 * unit)))
+    (five (λ k. p (i + k) *ℤ weight 5 k) ∙ fifteenths (p (i + 0)) (p (i + 1)) (p (i + 2)) (p (i + 3)) (p (i + 4)))
+
+pub five-is : (p : ℕ → ℤ) → PointRing p 5 → (v w x y z : ℤ) (g : Face) → p 0 ≡ v → p 1 ≡ w → p 2 ≡ x → p 3 ≡ y → p 4 ≡ z
+    → IsFiveFace v w x y z g → IsFace p 5 0 4 g
+unfolding centre
+five-is p r v w x y z g p0 p1 p2 p3 p4 h =
+    face-is p 5 r g (cc (h .centre, five p, p0, p1, p2, p3, p4)) (cc (h .ahead, toward-five p 0, p0, p1, p2, p3, p4))
+    (cc (h .behind, toward-five p 4, r .cyclic 0, r .cyclic 1, r .cyclic 2, r .cyclic 3, p0, p1, p2, p3, p4))
+
+-- ---- a ring of six: its weights are 6, 6, 3, 0, 0 and 3 times 2^30
+six : (f : ℕ → ℤ) → sum f 6 ≡ f 0 +ℤ f 1 +ℤ f 2 +ℤ f 3 +ℤ f 4 +ℤ f 5
+unfolding sumBy
+six f = ap (λ (z : ℤ). z +ℤ f 1 +ℤ f 2 +ℤ f 3 +ℤ f 4 +ℤ f 5) (zero-add (f 0))
+
+sixths : (a b c d e f : ℤ)
+    → a *ℤ pos (6 * unit) +ℤ b *ℤ pos (6 * unit) +ℤ c *ℤ pos (3 * unit) +ℤ d *ℤ pos 0 +ℤ e *ℤ pos 0 +ℤ f *ℤ pos (3 * unit)
+    ≡ pos (3 * unit) *ℤ (pos 2 *ℤ a +ℤ pos 2 *ℤ b +ℤ c +ℤ f)
+sixths = over 6 _ λ ρ. simp (poly, ρ) (omega arith)
+
+toward-six : (p : ℕ → ℤ) (i : ℕ) → toward rounded p 6 i ≡ round (pos 2 *ℤ p (i + 0) +ℤ pos 2 *ℤ p (i + 1) +ℤ p (i + 2) +ℤ p (i + 5)) (pos 6)
+unfolding weight cosine table
+toward-six p i =
+    toward-is p 6 i
+    ∙ ap (λ (z : ℤ). round z (pos (18 * unit)))
+    (six (λ k. p (i + k) *ℤ weight 6 k) ∙ sixths (p (i + 0)) (p (i + 1)) (p (i + 2)) (p (i + 3)) (p (i + 4)) (p (i + 5)))
+    ∙ round-scale (pos (3 * unit)) (pos 2 *ℤ p (i + 0) +ℤ pos 2 *ℤ p (i + 1) +ℤ p (i + 2) +ℤ p (i + 5)) (pos 6) (ltZ-yes tt) (ltZ-yes tt)
+
+pub six-is : (p : ℕ → ℤ) → PointRing p 6 → (u v w x y z : ℤ) (g : Face) → p 0 ≡ u → p 1 ≡ v → p 2 ≡ w → p 3 ≡ x → p 4 ≡ y → p 5 ≡ z
+    → IsSixFace u v w x y z g → IsFace p 6 0 5 g
+unfolding centre
+six-is p r u v w x y z g p0 p1 p2 p3 p4 p5 h =
+    face-is p 6 r g (cc (h .centre, six p, p0, p1, p2, p3, p4, p5)) (cc (h .ahead, toward-six p 0, p0, p1, p2, p5))
+    (cc (h .behind, toward-six p 5, r .cyclic 0, r .cyclic 1, r .cyclic 4, p0, p1, p4, p5))
 
 -- ---- a ring of four: its weights are 5, 5, 1 and 1 times 2^30
 four : (f : ℕ → ℤ) → sum f 4 ≡ f 0 +ℤ f 1 +ℤ f 2 +ℤ f 3

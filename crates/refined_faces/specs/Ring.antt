@@ -4,7 +4,7 @@ use mathlib.Core.Path.{_≡_}
 use mathlib.Core.List.{List}
 use Prim.Native.Nat.{ℕ, _+_, _*_, _^_, _≤_, _<_}
 use lib.ListN.{length}
-use lib.IntN.{ℤ, pos, natAbs, _+ℤ_, _*ℤ_}
+use lib.IntN.{ℤ, pos, natAbs, _+ℤ_, _-ℤ_, _*ℤ_}
 use Rattle.paper.specs.Scan.{iterate}
 use Rattle.paper.specs.Mesh.{leastSides, mostSides}
 use Rattle.paper.specs.Numbers.{sum, round, rounded}
@@ -109,6 +109,23 @@ pub record IsThreeFace (v w x : ℤ) (r : Face) : Type 0 where
   pub centre : r .centre ≡ round (v +ℤ w +ℤ x) (pos 3)
   pub ahead : r .ahead ≡ round (pos 4 *ℤ v +ℤ pos 4 *ℤ w +ℤ x) (pos 9)
   pub behind : r .behind ≡ round (pos 4 *ℤ x +ℤ pos 4 *ℤ v +ℤ w) (pos 9)
+
+-- the weighted sum of five points in turn towards the side of the first two, for the divisor 15 times 2^30
+abbrev pub fiveSum : ℤ → ℤ → ℤ → ℤ → ℤ → ℤ
+fiveSum v w x y z =
+    pos unit *ℤ (pos 5 *ℤ v +ℤ pos 5 *ℤ w +ℤ pos 2 *ℤ x +ℤ y +ℤ pos 2 *ℤ z) +ℤ pos 663608942 *ℤ (v +ℤ w -ℤ pos 2 *ℤ y)
+
+-- the face of five points in turn
+pub record IsFiveFace (v w x y z : ℤ) (r : Face) : Type 0 where
+  pub centre : r .centre ≡ round (v +ℤ w +ℤ x +ℤ y +ℤ z) (pos 5)
+  pub ahead : r .ahead ≡ round (fiveSum v w x y z) (pos (15 * unit))
+  pub behind : r .behind ≡ round (fiveSum z v w x y) (pos (15 * unit))
+
+-- the face of six
+pub record IsSixFace (u v w x y z : ℤ) (r : Face) : Type 0 where
+  pub centre : r .centre ≡ round (u +ℤ v +ℤ w +ℤ x +ℤ y +ℤ z) (pos 6)
+  pub ahead : r .ahead ≡ round (pos 2 *ℤ u +ℤ pos 2 *ℤ v +ℤ w +ℤ z) (pos 6)
+  pub behind : r .behind ≡ round (pos 2 *ℤ z +ℤ pos 2 *ℤ u +ℤ v +ℤ y) (pos 6)
 
 -- the face of any ring of four that has these points in turn from its place i
 pub record IsEdgeFace (here after far before : ℤ) (r : Face) : Type 0 where

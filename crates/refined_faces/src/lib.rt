@@ -6,17 +6,19 @@ use paper::UNIT;
 use surface::POINT_ROW;
 use walk::Walker;
 ghost use mathlib.Core.Path.{_≡_};
-ghost use Prim.Native.Nat.{_+_, _-_, _*_, _≤_, _<_};
+ghost use Prim.Native.Nat.{_+_, _-_, _*_, _^_, _≤_, _<_};
 ghost use lib.ListN.{length};
-ghost use lib.IntN.{pos};
+ghost use lib.IntN.{pos, natAbs};
 ghost use Rattle.paper.specs.Mesh.{leastSides, mostSides};
-ghost use Rattle.paper.specs.Cosines.{cosine};
+ghost use Rattle.paper.specs.Numbers.{round};
+ghost use Rattle.paper.specs.Cosines.{unit, cosine};
 ghost use Rattle.paper.specs.Face.{weight};
 ghost use Rattle.numbers.specs.Stored.{stored};
 ghost use Rattle.surface.specs.Points.{pointRow, pointAt};
 ghost use Rattle.surface.specs.Sizes.{RefinedSize};
 ghost use Rattle.numbers.specs.Units.{Reciprocal};
 ghost use Rattle.refined_faces.specs.Ring.{around, Rings, Addable, Added, AllSummed, Divisible, AllDivisible, Divided, AllDivided, Readable, AreFaces, IsThreeFace, IsEdgeFace};
+ghost use Rattle.refined_faces.specs.Ring.{fiveSum, IsFiveFace, IsSixFace};
 
 // What the weights of a ring sum to for each of its corners, where the table has UNIT for 1.
 const WEIGHTS: i64 = 3 * UNIT;
@@ -221,7 +223,178 @@ fn ring_of_four(points: &[i32], table: &[u16], column: usize, c: usize) -> Faces
     }
 }
 
-// The refined face of the ring of m corners at c, on the three axes.
+// r(n / 6).
+fn sixth(n: i64) -> i64
+    requires { ⌜ natAbs n ≤ 6 * 2 ^ 24 ⌝ }
+    ensures { λ r. ⌜ r ≡ round n (pos 6) ⌝ }
+{
+    rounding::small_product(n as i32, 3, 715827883) as i64
+}
+
+// The refined face of six points in turn: row 6 is exact too, and the weights are 1/3, 1/3, 1/6, 0, 0, 1/6.
+fn six_face(u: i64, v: i64, w: i64, x: i64, y: i64, z: i64) -> Face
+    requires { ⌜ RefinedSize u × RefinedSize v × RefinedSize w × RefinedSize x × RefinedSize y × RefinedSize z ⌝ }
+    ensures { λ r. ⌜ IsSixFace u v w x y z r ⌝ }
+{
+    let centre = sixth(u + v + w + x + y + z);
+    let ahead = sixth(2 * (u + v) + w + z);
+    let behind = sixth(2 * (z + u) + v + y);
+    Face {
+        centre: centre,
+        ahead: ahead,
+        behind: behind,
+    }
+}
+
+// The same from six corners in turn on an axis.
+fn six_on(
+    points: &[i32],
+    axis: usize,
+    c: usize,
+    d: usize,
+    e: usize,
+    f: usize,
+    g: usize,
+    h: usize,
+) -> Face
+    requires { ⌜ Readable (now points) axis c × Readable (now points) axis d × Readable (now points) axis e × Readable (now points) axis f × Readable (now points) axis g × Readable (now points) axis h ⌝ }
+    ensures { λ r. ⌜ IsSixFace (pointAt (now (points .entry)) axis c) (pointAt (now (points .entry)) axis d) (pointAt (now (points .entry)) axis e) (pointAt (now (points .entry)) axis f) (pointAt (now (points .entry)) axis g) (pointAt (now (points .entry)) axis h) r ⌝ }
+{
+    let u = point(points, axis, c);
+    let v = point(points, axis, d);
+    let w = point(points, axis, e);
+    let x = point(points, axis, f);
+    let y = point(points, axis, g);
+    let z = point(points, axis, h);
+    six_face(u, v, w, x, y, z)
+}
+
+// The same on the three axes, by one walk.
+fn ring_of_six(points: &[i32], table: &[u16], column: usize, c: usize) -> Faces
+    requires { ⌜ Rings (now points) (now table) column c 6 ⌝ }
+    ensures { λ r. ⌜ AreFaces (λ a. around (now (points .entry)) a (now (table .entry)) column c) 6 0 5 r ⌝ }
+{
+    let here = Walker { corner: c };
+    let second = here.by(table, column);
+    let third = second.by(table, column);
+    let fourth = third.by(table, column);
+    let fifth = fourth.by(table, column);
+    let sixth = fifth.by(table, column);
+    Faces {
+        x: six_on(
+            points,
+            0,
+            c,
+            second.corner,
+            third.corner,
+            fourth.corner,
+            fifth.corner,
+            sixth.corner,
+        ),
+        y: six_on(
+            points,
+            1,
+            c,
+            second.corner,
+            third.corner,
+            fourth.corner,
+            fifth.corner,
+            sixth.corner,
+        ),
+        z: six_on(
+            points,
+            2,
+            c,
+            second.corner,
+            third.corner,
+            fourth.corner,
+            fifth.corner,
+            sixth.corner,
+        ),
+    }
+}
+
+// The point of five in turn towards the side of the first two: of row 5 one cosine is no fraction, C(5, 1) / 2^30, and the others are 1 and -1/2 less it.
+fn toward_of_five(v: i64, w: i64, x: i64, y: i64, z: i64) -> i64
+    requires { ⌜ RefinedSize v × RefinedSize w × RefinedSize x × RefinedSize y × RefinedSize z ⌝ }
+    ensures { λ r. ⌜ r ≡ round (fiveSum v w x y z) (pos (15 * unit)) ⌝ }
+{
+    let near = v + w;
+    let n = UNIT * (5 * near + 2 * (x + z) + y) + 663608942 * (near - 2 * y);
+    rounding::unit_quotient(n, 15, 9162596899)
+}
+
+// The refined face of five points in turn.
+fn five_face(v: i64, w: i64, x: i64, y: i64, z: i64) -> Face
+    requires { ⌜ RefinedSize v × RefinedSize w × RefinedSize x × RefinedSize y × RefinedSize z ⌝ }
+    ensures { λ r. ⌜ IsFiveFace v w x y z r ⌝ }
+{
+    let centre = rounding::odd_product(v + w + x + y + z, 2, 858993460);
+    let ahead = toward_of_five(v, w, x, y, z);
+    let behind = toward_of_five(z, v, w, x, y);
+    Face {
+        centre: centre,
+        ahead: ahead,
+        behind: behind,
+    }
+}
+
+// The same from five corners in turn on an axis.
+fn five_on(points: &[i32], axis: usize, c: usize, d: usize, e: usize, f: usize, g: usize) -> Face
+    requires { ⌜ Readable (now points) axis c × Readable (now points) axis d × Readable (now points) axis e × Readable (now points) axis f × Readable (now points) axis g ⌝ }
+    ensures { λ r. ⌜ IsFiveFace (pointAt (now (points .entry)) axis c) (pointAt (now (points .entry)) axis d) (pointAt (now (points .entry)) axis e) (pointAt (now (points .entry)) axis f) (pointAt (now (points .entry)) axis g) r ⌝ }
+{
+    let u = point(points, axis, c);
+    let v = point(points, axis, d);
+    let w = point(points, axis, e);
+    let x = point(points, axis, f);
+    let y = point(points, axis, g);
+    five_face(u, v, w, x, y)
+}
+
+// The same on the three axes, by one walk.
+fn ring_of_five(points: &[i32], table: &[u16], column: usize, c: usize) -> Faces
+    requires { ⌜ Rings (now points) (now table) column c 5 ⌝ }
+    ensures { λ r. ⌜ AreFaces (λ a. around (now (points .entry)) a (now (table .entry)) column c) 5 0 4 r ⌝ }
+{
+    let here = Walker { corner: c };
+    let second = here.by(table, column);
+    let third = second.by(table, column);
+    let fourth = third.by(table, column);
+    let fifth = fourth.by(table, column);
+    Faces {
+        x: five_on(
+            points,
+            0,
+            c,
+            second.corner,
+            third.corner,
+            fourth.corner,
+            fifth.corner,
+        ),
+        y: five_on(
+            points,
+            1,
+            c,
+            second.corner,
+            third.corner,
+            fourth.corner,
+            fifth.corner,
+        ),
+        z: five_on(
+            points,
+            2,
+            c,
+            second.corner,
+            third.corner,
+            fourth.corner,
+            fifth.corner,
+        ),
+    }
+}
+
+// The refined face of the ring of m corners at c, on the three axes. Rings of four have no arm of their own: with four arms the compiler jumps by a
+// table, and rings of other sizes take longer.
 pub fn ring_faces(
     points: &[i32],
     table: &[u16],
@@ -236,11 +409,31 @@ pub fn ring_faces(
 {
     match m {
         3 => ring_of_three(points, table, column, c),
-        4 => ring_of_four(points, table, column, c),
+        5 => ring_of_five(points, table, column, c),
+        6 => ring_of_six(points, table, column, c),
         _ => {
             let s = ring_sums(points, table, column, rows, c, m);
             divide(s, m)
         }
+    }
+}
+
+// The same where rings of four are as common as others.
+pub fn four_or_ring_faces(
+    points: &[i32],
+    table: &[u16],
+    column: usize,
+    rows: &cosines::Rows,
+    c: usize,
+    m: usize,
+) -> Faces
+    requires ring { ⌜ Rings (now points) (now table) column c m ⌝ }
+    requires rows { ⌜ now rows ≡ stored ⌝ }
+    ensures { λ r. ⌜ AreFaces (λ a. around (now (points .entry)) a (now (table .entry)) column c) m 0 (m - 1) r ⌝ }
+{
+    match m {
+        4 => ring_of_four(points, table, column, c),
+        _ => ring_faces(points, table, column, rows, c, m),
     }
 }
 

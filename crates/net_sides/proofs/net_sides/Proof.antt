@@ -58,13 +58,13 @@ valence-requires c κs = let p = c .before .pre .0 in row-in _ _ _ (p .0) _ _ (l
 sides-requires : tie.Need-sides-requires
 sides-requires c κs = let p = c .before .before .pre .0 in row-in _ _ _ (p .0) _ _ (lit< tt) (p .1)
 
-ring-faces-requires : tie.Need-ring-faces-requires
-ring-faces-requires c κs =
+four-or-ring-faces-requires : tie.Need-four-or-ring-faces-requires
+four-or-ring-faces-requires c κs =
     let s = c .before .before .before in
     (λ a l. vertex-ring _ _ _ _ _ (drawn-on s a l) _ (c .before .valence .ensures .read), s .pre .1)
 
-ring-faces-requires-2 : tie.Need-ring-faces-requires-2
-ring-faces-requires-2 c κs =
+four-or-ring-faces-requires-2 : tie.Need-four-or-ring-faces-requires-2
+four-or-ring-faces-requires-2 c κs =
     let s = c .before .before .before .before in
     (λ a l. face-ring _ _ _ _ _ (drawn-on s a l) _ (c .before .sides .ensures .read), s .pre .1)
 
@@ -81,17 +81,17 @@ cosine-requires-2 c κs =
 axis-sides-requires : tie.Need-axis-sides-requires
 axis-sides-requires c κs =
     let a = c in
-    (drawn-on (start a) 0 (lit< tt), ringed a 0 _ _ (a .before .before .before .ring-faces .ensures .x) (a .before .before .ring-faces2 .ensures .x))
+    (drawn-on (start a) 0 (lit< tt), ringed a 0 _ _ (a .before .before .before .four-or-ring-faces .ensures .x) (a .before .before .four-or-ring-faces2 .ensures .x))
 
 axis-sides-requires-2 : tie.Need-axis-sides-requires-2
 axis-sides-requires-2 c κs =
     let a = c .before in
-    (drawn-on (start a) 1 (lit< tt), ringed a 1 _ _ (a .before .before .before .ring-faces .ensures .y) (a .before .before .ring-faces2 .ensures .y))
+    (drawn-on (start a) 1 (lit< tt), ringed a 1 _ _ (a .before .before .before .four-or-ring-faces .ensures .y) (a .before .before .four-or-ring-faces2 .ensures .y))
 
 axis-sides-requires-3 : tie.Need-axis-sides-requires-3
 axis-sides-requires-3 c κs =
     let a = c .before .before in
-    (drawn-on (start a) 2 (lit< tt), ringed a 2 _ _ (a .before .before .before .ring-faces .ensures .z) (a .before .before .ring-faces2 .ensures .z))
+    (drawn-on (start a) 2 (lit< tt), ringed a 2 _ _ (a .before .before .before .four-or-ring-faces .ensures .z) (a .before .before .four-or-ring-faces2 .ensures .z))
 
 returns : tie.Need-returns
 returns c = record { x = c .before .before .axis-sides .ensures; y = c .before .axis-sides2 .ensures; z = c .axis-sides3 .ensures }
@@ -102,8 +102,8 @@ net-sides-spec =
     (tie.spec
     valence-requires
     sides-requires
-    ring-faces-requires
-    ring-faces-requires-2
+    four-or-ring-faces-requires
+    four-or-ring-faces-requires-2
     cosine-requires
     cosine-requires-2
     axis-sides-requires

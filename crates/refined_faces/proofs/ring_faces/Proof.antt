@@ -19,8 +19,11 @@ keyed s k e = subst (λ (n : ℕ). Rings (s .args .points .now) (s .args .table 
 ring-of-three-requires : tie.Need-ring-of-three-requires
 ring-of-three-requires c κs = let s = c .before .before in keyed s 3 (c .match .keys1)
 
-ring-of-four-requires : tie.Need-ring-of-four-requires
-ring-of-four-requires c κs = let s = c .before .before in keyed s 4 (c .match .keys2)
+ring-of-five-requires : tie.Need-ring-of-five-requires
+ring-of-five-requires c κs = let s = c .before .before in keyed s 5 (c .match .keys2)
+
+ring-of-six-requires : tie.Need-ring-of-six-requires
+ring-of-six-requires c κs = let s = c .before .before in keyed s 6 (c .match .keys3)
 
 ring-sums-requires : tie.Need-ring-sums-requires
 ring-sums-requires c κs = search needs
@@ -42,10 +45,13 @@ returns : tie.Need-returns
 returns c = rw (c .before .match .keys1) (c .ring-of-three .ensures)
 
 returns-2 : tie.Need-returns-2
-returns-2 c = rw (c .before .match .keys2) (c .ring-of-four .ensures)
+returns-2 c = rw (c .before .match .keys2) (c .ring-of-five .ensures)
 
 returns-3 : tie.Need-returns-3
-returns-3 c =
+returns-3 c = rw (c .before .match .keys3) (c .ring-of-six .ensures)
+
+returns-4 : tie.Need-returns-4
+returns-4 c =
     let s = c .before .before .before .before in
     let q = c .before .ring-sums .ensures in
     let d = c .divide .ensures in
@@ -60,9 +66,11 @@ ring-faces-spec =
     tie.close
     (tie.spec
     ring-of-three-requires
-    ring-of-four-requires
+    ring-of-five-requires
+    ring-of-six-requires
     ring-sums-requires
     divide-requires
     returns
     returns-2
-    returns-3)
+    returns-3
+    returns-4)
