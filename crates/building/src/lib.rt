@@ -1,5 +1,5 @@
 // Building: writes the control points of a range of corners, or answers why the call is refused and leaves the output as it was.
-use mesh::MEDIUM_MESH;
+use mesh::LARGE_MESH;
 use mesh::SMALL_MESH;
 use paper::Answer;
 use paper::MOST_CORNERS;
@@ -40,10 +40,25 @@ pub fn build(
         first: first,
         count: count,
     };
+    build_sized(coordinates, sides, corners, sharpness, links, range, out)
+}
+
+// The same with tables as long as the mesh needs. A function of its own, which the compiler puts in line: only then do the tables share their place.
+fn build_sized(
+    coordinates: &[i32],
+    sides: &[u8],
+    corners: &[u16],
+    sharpness: &[u8],
+    links: &[u16],
+    range: Range,
+    out: &mut [i32],
+) -> Answer
+    ensures { λ r. ⌜ Built (meshOf (now (coordinates .entry)) (now (sides .entry)) (now (corners .entry)) (now (sharpness .entry))) (now (links .entry)) (range .first) (range .count) (now (out .entry)) r (now (out .exit)) ⌝ }
+{
     if corners.len() <= SMALL_MESH && coordinates.len() / 3 <= SMALL_MESH {
         let mut table = [0u16; ROW * SMALL_MESH];
         let mut vertices = [0u16; ROW * SMALL_MESH];
-        return build_over(
+        build_over(
             coordinates,
             sides,
             corners,
@@ -53,21 +68,36 @@ pub fn build(
             &mut table,
             &mut vertices,
             out,
-        );
+        )
+    } else if corners.len() <= LARGE_MESH {
+        let mut table = [0u16; ROW * LARGE_MESH];
+        let mut vertices = [0u16; ROW * MOST_VERTICES];
+        build_over(
+            coordinates,
+            sides,
+            corners,
+            sharpness,
+            links,
+            range,
+            &mut table,
+            &mut vertices,
+            out,
+        )
+    } else {
+        let mut table = [0u16; ROW * MOST_CORNERS];
+        let mut vertices = [0u16; ROW * MOST_VERTICES];
+        build_over(
+            coordinates,
+            sides,
+            corners,
+            sharpness,
+            links,
+            range,
+            &mut table,
+            &mut vertices,
+            out,
+        )
     }
-    let mut table = [0u16; ROW * MOST_CORNERS];
-    let mut vertices = [0u16; ROW * MOST_VERTICES];
-    build_over(
-        coordinates,
-        sides,
-        corners,
-        sharpness,
-        links,
-        range,
-        &mut table,
-        &mut vertices,
-        out,
-    )
 }
 
 // The same over tables of its own, which the checks fill.
@@ -154,8 +184,8 @@ fn write_range(
             &mut points,
             out,
         );
-    } else if corners.len() <= MEDIUM_MESH {
-        let mut points = [0i32; POINT_ROW * MEDIUM_MESH];
+    } else if corners.len() <= LARGE_MESH {
+        let mut points = [0i32; POINT_ROW * LARGE_MESH];
         writing::write_nets(
             coordinates,
             sides,

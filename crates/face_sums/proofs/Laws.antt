@@ -6,17 +6,22 @@ use mathlib.Core.List.{List}
 use Prim.Native.Nat.{ℕ, zero, suc, _+_, _*_, _^_, _<_, _≤_}
 use native.Mathlib.Nat.{le-trans}
 use native.Mathlib.Omega.{arith}
-use lib.Dec.{ltb, eqb, lit≤}
+use lib.Dec.{ltb, eqb, lit<, lit≤}
 use lib.ListN.{length, getD, set, length-set, replicate, getD-replicate, length-replicate, List·getD-eq-default}
 use lib.Seq.{getD-set-same, getD-set-other}
 use borrow.Author.Tests.{eqb-true, eqb-false, ltb-true, ltb-false}
-use lib.IntN.{ℤ, pos, natAbs, _*ℤ_}
+use lib.IntN.{ℤ, pos, natAbs, _+ℤ_, _*ℤ_}
+use mir.Syntax.{w32}
+use mir.Val.{SFits, toZ, ofZ}
+use mir.Facts.{toZ-ofZ}
 use Rattle.paper.specs.Mesh.{mostSides, mostCorners, mostCoordinate, plain, Mesh, plainMesh, faceCount, cornerCount}
 use Rattle.paper.specs.Corners.{startOf}
 use Rattle.paper.specs.Links.{vertexOf}
 use Rattle.paper.specs.Refined.{ticksPerStep, ticks, faceSum}
 use Rattle.integers.proofs.Laws.{abs-mul-le}
-use Rattle.integers.proofs.Sum.{sum-times, sum-abs}
+use Rattle.integers.proofs.Machine.{abs-fits}
+use Rattle.integers.proofs.Sum.{sum-more, sum-times, sum-abs}
+use Rattle.paper.specs.Numbers.{sum}
 use Rattle.mesh.proofs.Scans.{ways, compared}
 use Rattle.mesh.proofs.Faces.{start-next, start-ends, start-all}
 use Rattle.wanted.specs.Tables.{Faces}
@@ -34,8 +39,16 @@ module _ (coordinates : List ℤ) (corners : List ℕ) (p : Placed coordinates c
   sum-size start n axis a h =
       sum-abs (λ j. stepsOf coordinates corners axis (start + j)) n mostCoordinate (λ j l. steps-size axis (start + j) a (omega arith))
 
-  pub sum-most : (start n axis : ℕ) → axis < 3 → start + n ≤ length corners → n ≤ mostSides → natAbs (stepSum coordinates corners start n axis) ≤ 2 ^ 20
-  sum-most start n axis a h l = omega (arith, sum-size start n axis a h)
+  -- one more vertex r, that of corner p j, to the sum t on an axis, as the machine adds it
+  pub sum-turn : (p : ℕ → ℕ) (j axis : ℕ) → axis < 3 → ((i : ℕ) → i < j + 1 → p i < length corners) → j + 1 ≤ mostSides → (t : ℕ) (r : ℤ) → SFits w32 r
+      → toZ w32 t ≡ sum (λ i. stepsOf coordinates corners axis (p i)) j → r ≡ stepsOf coordinates corners axis (p j)
+      → SFits w32 (toZ w32 t +ℤ toZ w32 (ofZ w32 r))
+      × (toZ w32 (ofZ w32 (toZ w32 t +ℤ toZ w32 (ofZ w32 r))) ≡ sum (λ i. stepsOf coordinates corners axis (p i)) (j + 1))
+  sum-turn p j axis a h l t r f e q =
+      let most = sum-abs (λ i. stepsOf coordinates corners axis (p i)) (j + 1) mostCoordinate (λ i b. steps-size axis (p i) a (h i b)) in
+      let k = abs-fits w32 (sum (λ i. stepsOf coordinates corners axis (p i)) (j + 1)) (2 ^ 20) (omega (arith, most)) (lit< tt) in
+      let m = sum-more (λ i. stepsOf coordinates corners axis (p i)) j in
+      rw (toZ-ofZ f, e, q, ← m) (k, toZ-ofZ k)
 
 -- Σ of a face, in grid steps
 abbrev pub faceSteps : Mesh → ℕ → ℕ → ℤ

@@ -12,10 +12,10 @@ ghost use Rattle.face_sums.specs.Sources.{Placed, Refinable, stepsOf, To
 pub const SUM_ROW: usize = 3;
 
 // Sums on the three axes, in grid steps.
-struct StepSums {
-    x: i32,
-    y: i32,
-    z: i32,
+pub struct StepSums {
+    pub x: i32,
+    pub y: i32,
+    pub z: i32,
 }
 
 // Σ of the faces that have a nonzero entry in `wanted`, on the three axes, in ticks. Sums do not depend on sharpness, so the contract is

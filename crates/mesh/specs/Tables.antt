@@ -11,9 +11,12 @@ use Rattle.paper.specs.Links.{vertexOf, link}
 abbrev pub smallMesh : ℕ
 smallMesh = 256
 
--- with at most so many it is of medium size
+-- with at most so many it is of medium size, and large
 abbrev pub mediumMesh : ℕ
-mediumMesh = 1024
+mediumMesh = 512
+
+abbrev pub largeMesh : ℕ
+largeMesh = 4096
 
 -- the vertex of every corner has a place in a table of n entries
 abbrev pub Named : List ℕ → ℕ → Type 0

@@ -11,7 +11,7 @@ ghost use mathlib.Core.Path.{_≡_};
 ghost use Prim.Native.Nat.{_+_, _*_, _≤_, _<_};
 ghost use lib.ListN.{length};
 ghost use Rattle.paper.specs.Mesh.{meshOf};
-ghost use Rattle.paper.specs.Corners.{startOf};
+ghost use Rattle.paper.specs.Corners.{firstOf, faceOf};
 ghost use Rattle.paper.specs.Refined.{cornersOf};
 ghost use Rattle.mesh.specs.Tables.{Named};
 ghost use Rattle.surface.specs.Points.{pointRow};
@@ -158,9 +158,9 @@ fn fill_face(
     requires mesh { ⌜ Refinable (meshOf (now coordinates) (now sides) (now corners) (now sharpness)) ⌝ }
     requires table { ⌜ Tabled (cornersOf (meshOf (now coordinates) (now sides) (now corners) (now sharpness))) (now table) ⌝ }
     requires marked { ⌜ Named (now corners) (length (now marked)) ⌝ }
-    requires face { ⌜ FaceOf (meshOf (now coordinates) (now sides) (now corners) (now sharpness)) face × (start ≡ startOf (now sides) (face .index)) ⌝ }
+    requires face { ⌜ (start < length (now corners)) × (start ≡ firstOf (now sides) start) × FaceOf (meshOf (now coordinates) (now sides) (now corners) (now sharpness)) (faceOf (now sides) start) face ⌝ }
     requires points { ⌜ (pointRow * length (now corners) ≤ length (now points)) × Small (now points) ⌝ }
-    ensures { λ _. ⌜ Filled (meshOf (now (coordinates .entry)) (now (sides .entry)) (now (corners .entry)) (now (sharpness .entry))) (now (marked .entry)) start (startOf (now (sides .entry)) (face .index + 1)) (now (points .entry)) (now (points .exit)) ⌝ }
+    ensures { λ _. ⌜ Filled (meshOf (now (coordinates .entry)) (now (sides .entry)) (now (corners .entry)) (now (sharpness .entry))) (now (marked .entry)) start (start + face .sides) (now (points .entry)) (now (points .exit)) ⌝ }
 {
     let end = start + face.sides as usize;
     let mut c = start;
@@ -198,8 +198,7 @@ fn fill_marked(
     requires mesh { ⌜ Refinable (meshOf (now coordinates) (now sides) (now corners) (now sharpness)) ⌝ }
     requires table { ⌜ Tabled (cornersOf (meshOf (now coordinates) (now sides) (now corners) (now sharpness))) (now table) ⌝ }
     requires marked { ⌜ Named (now corners) (length (now marked)) ⌝ }
-    requires face { ⌜ FaceOf (meshOf (now coordinates) (now sides) (now corners) (now sharpness)) face ⌝ }
-    requires corner { ⌜ (startOf (now sides) (face .index) ≤ c) × (c < startOf (now sides) (face .index + 1)) ⌝ }
+    requires face { ⌜ (c < length (now corners)) × FaceOf (meshOf (now coordinates) (now sides) (now corners) (now sharpness)) (faceOf (now sides) c) face ⌝ }
     requires points { ⌜ (pointRow * length (now corners) ≤ length (now points)) × Small (now points) ⌝ }
     ensures { λ _. ⌜ Filled (meshOf (now (coordinates .entry)) (now (sides .entry)) (now (corners .entry)) (now (sharpness .entry))) (now (marked .entry)) c (c + 1) (now (points .entry)) (now (points .exit)) ⌝ }
 {

@@ -14,7 +14,7 @@ use mir.Syntax.{w32}
 use mir.Val.{SFits, toZ}
 use mir.Facts.{toZ-pos}
 use Rattle.paper.specs.Mesh.{mostCoordinate, plain, Mesh, faceCount, cornerCount}
-use Rattle.paper.specs.Corners.{sumOf, startOf, faceOf, sidesOf, next, previous}
+use Rattle.paper.specs.Corners.{sumOf, faceOf, sidesOf, next, previous}
 use Rattle.paper.specs.Numbers.{floor, round, rounded}
 use Rattle.paper.specs.Refined.{ticksPerStep, ticks, faceSum, uOf, vOf, refinedPoint}
 use Rattle.integers.proofs.Diff.{diff}
@@ -24,11 +24,11 @@ use Rattle.integers.proofs.Floor.{IsFloor, floor-unique}
 use Rattle.integers.proofs.Machine.{abs-fits}
 use Rattle.numbers.proofs.Nearest.{round-scale}
 use Rattle.mesh.proofs.Scans.{compared}
-use Rattle.mesh.proofs.Faces.{face-at, start-next, next-below, previous-below}
+use Rattle.mesh.proofs.Faces.{held, next-below, previous-below}
 use Rattle.surface.proofs.Hull.{blend-size, mean-size, weights-sum}
 use Rattle.surface.specs.Points.{pointRow}
 use Rattle.face_sums.specs.Sources.{Refinable, Small, Added, stepsOf, sumRow, SumsOf}
-use Rattle.face_sums.proofs.Laws.{steps-size, faceSteps, face-steps, face-steps-size, end-in, holds-none, holds-one, holds-more}
+use Rattle.face_sums.proofs.Laws.{steps-size, faceSteps, face-steps, face-steps-size, holds-none, holds-one, holds-more}
 use Rattle.refined_corners.specs.Mean.{Pair, Weighted, Balanced, Known, Steps, blend, mean, FaceRead, FaceOf}
 use Rattle.refined_corners.specs.declared.CornerWeights.{CornerWeights}
 use Rattle.refined_corners.specs.declared.FaceSums.{FaceSums}
@@ -141,26 +141,26 @@ module _ (M : Mesh) (R : Refinable M) (f : ℕ) (l : f < faceCount M) (sums : Li
       let k : getD sums at (pos 0) ≡ pos ticksPerStep *ℤ faceSteps M f axis = rw e (s .sums-are axis a ∙ face-steps M f axis) in
       rw (q, k) (whole (faceSteps M f axis)) ∙ sym (face-steps M f axis)
 
-  pub face-of : (face : FaceSums) → FaceRead (M .sides) sums f face → FaceOf M face
+  pub face-of : (face : FaceSums) → FaceRead (M .sides) sums f face → FaceOf M f face
   face-of face r = record {
-    exists = rw (r .index-is) l;
-    sides-are = rw (r .index-is) (r .sides-are);
+    exists = l;
+    sides-are = r .sides-are;
     reciprocal-is = r .reciprocal-is;
-    xs = rw (r .index-is) (on-axis 0 (sumRow * f) (face .x) (lit< tt) (omega arith) (r .xs));
-    ys = rw (r .index-is) (on-axis 1 (sumRow * f + 1) (face .y) (lit< tt) refl (r .ys));
-    zs = rw (r .index-is) (on-axis 2 (sumRow * f + 2) (face .z) (lit< tt) refl (r .zs));
+    xs = on-axis 0 (sumRow * f) (face .x) (lit< tt) (omega arith) (r .xs);
+    ys = on-axis 1 (sumRow * f + 1) (face .y) (lit< tt) refl (r .ys);
+    zs = on-axis 2 (sumRow * f + 2) (face .z) (lit< tt) refl (r .zs);
   }
 
-module _ (M : Mesh) (R : Refinable M) (face : FaceSums) (h : FaceOf M face) where
-  pub steps-are : (axis : ℕ) (total : ℤ) → pos ticksPerStep *ℤ total ≡ faceSum M axis (face .index) → total ≡ faceSteps M (face .index) axis
-  steps-are axis total e = cancel total (faceSteps M (face .index) axis) (e ∙ face-steps M (face .index) axis)
+module _ (M : Mesh) (R : Refinable M) (f : ℕ) (face : FaceSums) (h : FaceOf M f face) where
+  pub steps-are : (axis : ℕ) (total : ℤ) → pos ticksPerStep *ℤ total ≡ faceSum M axis (f) → total ≡ faceSteps M (f) axis
+  steps-are axis total e = cancel total (faceSteps M (f) axis) (e ∙ face-steps M (f) axis)
 
-  pub known : (axis : ℕ) (total : ℤ) → axis < 3 → pos ticksPerStep *ℤ total ≡ faceSum M axis (face .index) → Known total face
+  pub known : (axis : ℕ) (total : ℤ) → axis < 3 → pos ticksPerStep *ℤ total ≡ faceSum M axis (f) → Known total face
   known axis total a e = record {
-    least = rw (h .sides-are) (R .faces .least (face .index) (h .exists));
-    most = rw (h .sides-are) (R .faces .most (face .index) (h .exists));
+    least = rw (h .sides-are) (R .faces .least (f) (h .exists));
+    most = rw (h .sides-are) (R .faces .most (f) (h .exists));
     reciprocal-is = h .reciprocal-is;
-    total-size = rw (steps-are axis total e, h .sides-are) (face-steps-size M R (face .index) (h .exists) axis a);
+    total-size = rw (steps-are axis total e, h .sides-are) (face-steps-size M R (f) (h .exists) axis a);
   }
 
 -- ---- the corners of a mesh
@@ -168,13 +168,10 @@ module _ (M : Mesh) (R : Refinable M) where
   pub pair-of : (c : ℕ) → c < cornerCount M → Pair (M .sharpness) c
   pair-of c h = record { long = omega (arith, R .sharp .pairs); u-most = R .sharp .sixteenths (2 * c); v-most = R .sharp .sixteenths (2 * c + 1) }
 
--- ---- a corner of face f
-module _ (M : Mesh) (R : Refinable M) (f : ℕ) (l : f < faceCount M) (c : ℕ) (a : startOf (M .sides) f ≤ c) (b : c < startOf (M .sides) (f + 1)) where
+-- ---- a corner, and its face
+module _ (M : Mesh) (R : Refinable M) (c : ℕ) (here : c < cornerCount M) where
   inside : c < sumOf (M .sides)
-  inside = omega (arith, start-next (M .sides) f l, end-in M R f l, R .sums)
-
-  pub here-in : c < cornerCount M
-  here-in = omega (arith, inside, R .sums)
+  inside = omega (arith, R .sums)
 
   pub before-in : (p : ℕ) → p ≡ previous (M .sides) c → p < cornerCount M
   before-in p e = omega (arith, previous-below (M .sides) c inside, R .sums)
@@ -182,13 +179,13 @@ module _ (M : Mesh) (R : Refinable M) (f : ℕ) (l : f < faceCount M) (c : ℕ) 
   pub after-in : (q : ℕ) → q ≡ next (M .sides) c → q < cornerCount M
   after-in q e = omega (arith, next-below (M .sides) c inside, R .sums)
 
-  its-face : faceOf (M .sides) c ≡ f
-  its-face = face-at (M .sides) f c a (omega (arith, start-next (M .sides) f l)) l
+  abbrev f : ℕ
+  f = faceOf (M .sides) c
 
   mean-is : (axis : ℕ) (w : CornerWeights) → Weighted (M .sharpness) c w → refinedPoint rounded M axis c ≡ round (blend w (faceSum M axis f) (ticks M axis
       (previous (M .sides) c)) (ticks M axis c) (ticks M axis (next (M .sides) c)) (getD (M .sides) f 0)) (pos 512 *ℤ pos (getD (M .sides) f 0))
   unfolding refinedPoint sidesOf uOf vOf
-  mean-is axis w h = rw (h .face, h .before, h .here, h .after, its-face)
+  mean-is axis w h = rw (h .face, h .before, h .here, h .after)
 
   -- in grid steps
   abbrev P : ℕ → ℕ → ℤ
@@ -201,29 +198,22 @@ module _ (M : Mesh) (R : Refinable M) (f : ℕ) (l : f < faceCount M) (c : ℕ) 
   steps-mean axis w h =
       mean-is axis w h
       ∙ rw (face-steps M f axis) (in-ticks w (faceSteps M f axis) (P axis (previous (M .sides) c)) (P axis c) (P axis (next (M .sides) c))
-      (getD (M .sides) f 0) (omega (arith, R .faces .least f l)))
+      (getD (M .sides) f 0) (omega (arith, R .faces .least f (held (M .sides) c inside .exists))))
 
--- from the values that the code has of it: the refined point, and its size
-module _ (M : Mesh) (R : Refinable M) (face : FaceSums) (h : FaceOf M face) (c : ℕ) (a : startOf (M .sides) (face .index) ≤ c)
-    (b : c < startOf (M .sides) (face .index + 1)) where
-  pub point-is : (axis p q : ℕ) (w : CornerWeights) (total r : ℤ) → axis < 3 → Weighted (M .sharpness) c w → p ≡ previous (M .sides) c → q ≡ next (M .sides) c
-      → pos ticksPerStep *ℤ total ≡ faceSum M axis (face .index)
-      → r ≡ mean w total (P M R (face .index) (h .exists) c a b axis p) (P M R (face .index) (h .exists) c a b axis c)
-      (P M R (face .index) (h .exists) c a b axis q) (face .sides)
-      → (r ≡ refinedPoint rounded M axis c) × (natAbs r ≤ 2 ^ 24)
-  point-is axis p q w total r x weights ep eq et er =
-      let l = h .exists in
-      let f = face .index in
+  -- from the values that the code has of it: the refined point, and its size
+  pub point-is : (face : FaceSums) → FaceOf M f face → (axis p q : ℕ) (w : CornerWeights) (total r : ℤ) → axis < 3 → Weighted (M .sharpness) c w
+      → p ≡ previous (M .sides) c → q ≡ next (M .sides) c → pos ticksPerStep *ℤ total ≡ faceSum M axis f
+      → r ≡ mean w total (P axis p) (P axis c) (P axis q) (face .sides) → (r ≡ refinedPoint rounded M axis c) × (natAbs r ≤ 2 ^ 24)
+  point-is face h axis p q w total r x weights ep eq et er =
       let size = steps-size (M .coordinates) (M .corners) (R .placed) axis in
-      let P = stepsOf (M .coordinates) (M .corners) axis in
-      let k = sizes w (balanced (M .sharpness) c w (pair-of M R c (here-in M R f l c a b)) weights) total (P p) (P c) (P q) face (record {
-        known = known M R face h axis total x et;
-        before-size = size p x (before-in M R f l c a b p ep);
-        here-size = size c x (here-in M R f l c a b);
-        after-size = size q x (after-in M R f l c a b q eq);
+      let k = sizes w (balanced (M .sharpness) c w (pair-of M R c here) weights) total (P axis p) (P axis c) (P axis q) face (record {
+        known = known M R f face h axis total x et;
+        before-size = size p x (before-in p ep);
+        here-size = size c x here;
+        after-size = size q x (after-in q eq);
       }) in (
-        er ∙ rw (steps-are M R face h axis total et, ep, eq, h .sides-are) (sym (steps-mean M R f l c a b axis w weights)),
-        rw er (result-size w total (P p) (P c) (P q) (face .sides) (omega (arith, known M R face h axis total x et .least)) (k .size)),
+        er ∙ rw (steps-are M R f face h axis total et, ep, eq, h .sides-are) (sym (steps-mean axis w weights)),
+        rw er (result-size w total (P axis p) (P axis c) (P axis q) (face .sides) (omega (arith, known M R f face h axis total x et .least)) (k .size)),
       )
 
 -- ---- the table of refined points, of one corner

@@ -60,19 +60,18 @@ abbrev pub MeanOf : List ℤ → List ℕ → ℕ → Around → CornerWeights �
 MeanOf coordinates corners axis around w total n r =
     let P = stepsOf coordinates corners axis in r ≡ mean w total (P (around .before)) (P (around .here)) (P (around .after)) n
 
--- ---- what the corners of a face share: as it is read from the lists, and what it is of a mesh
+-- ---- what the corners of a face share: as it is read from the lists, and what it is of face f of a mesh
 pub record FaceRead (sides : List ℕ) (sums : List ℤ) (f : ℕ) (face : FaceSums) : Type 0 where
-  pub index-is : face .index ≡ f
   pub sides-are : face .sides ≡ getD sides f 0
   pub reciprocal-is : SideReciprocal (face .sides) (face .reciprocal)
   pub xs : face .x ≡ floor (getD sums (sumRow * f) (pos 0)) (pos ticksPerStep)
   pub ys : face .y ≡ floor (getD sums (sumRow * f + 1) (pos 0)) (pos ticksPerStep)
   pub zs : face .z ≡ floor (getD sums (sumRow * f + 2) (pos 0)) (pos ticksPerStep)
 
-pub record FaceOf (M : Mesh) (face : FaceSums) : Type 0 where
-  pub exists : face .index < faceCount M
-  pub sides-are : face .sides ≡ getD (M .sides) (face .index) 0
+pub record FaceOf (M : Mesh) (f : ℕ) (face : FaceSums) : Type 0 where
+  pub exists : f < faceCount M
+  pub sides-are : face .sides ≡ getD (M .sides) f 0
   pub reciprocal-is : SideReciprocal (face .sides) (face .reciprocal)
-  pub xs : pos ticksPerStep *ℤ face .x ≡ faceSum M 0 (face .index)
-  pub ys : pos ticksPerStep *ℤ face .y ≡ faceSum M 1 (face .index)
-  pub zs : pos ticksPerStep *ℤ face .z ≡ faceSum M 2 (face .index)
+  pub xs : pos ticksPerStep *ℤ face .x ≡ faceSum M 0 f
+  pub ys : pos ticksPerStep *ℤ face .y ≡ faceSum M 1 f
+  pub zs : pos ticksPerStep *ℤ face .z ≡ faceSum M 2 f

@@ -11,16 +11,15 @@ ghost use mathlib.Core.Path.{_≡_};
 ghost use Prim.Native.Nat.{_+_, _*_, _≤_, _<_};
 ghost use lib.ListN.{length, getD};
 ghost use Rattle.paper.specs.Mesh.{leastSides, mostSides, meshOf};
-ghost use Rattle.paper.specs.Corners.{startOf};
+ghost use Rattle.paper.specs.Corners.{faceOf};
 ghost use Rattle.paper.specs.Refined.{cornersOf};
 ghost use Rattle.surface.specs.Points.{pointRow};
 ghost use Rattle.walk.specs.Table.{Tabled};
 ghost use Rattle.face_sums.specs.Sources.{Placed, Refinable, Small, Added, sumRow};
 ghost use Rattle.refined_corners.specs.Mean.{Pair, Weighted, Balanced, Steps, Known, mean, MeanOf, FaceRead, FaceOf};
 
-// What the corners of a face share: which face it is, its sides with their reciprocal, and Σ in grid steps.
+// What the corners of a face share: its sides with their reciprocal, and Σ in grid steps.
 pub struct FaceSums {
-    pub index: usize,
     pub sides: u8,
     pub reciprocal: u64,
     pub x: i32,
@@ -55,7 +54,6 @@ pub fn read_face(sides: &[u8], sums: &[i32], f: usize) -> FaceSums
     let y = sums[SUM_ROW * f + 1] >> 8;
     let z = sums[SUM_ROW * f + 2] >> 8;
     FaceSums {
-        index: f,
         sides: n,
         reciprocal: m,
         x: x,
@@ -78,8 +76,7 @@ pub fn fill_corner(
 )
     requires mesh { ⌜ Refinable (meshOf (now coordinates) (now sides) (now corners) (now sharpness)) ⌝ }
     requires table { ⌜ Tabled (cornersOf (meshOf (now coordinates) (now sides) (now corners) (now sharpness))) (now table) ⌝ }
-    requires face { ⌜ FaceOf (meshOf (now coordinates) (now sides) (now corners) (now sharpness)) face ⌝ }
-    requires corner { ⌜ (startOf (now sides) (face .index) ≤ c) × (c < startOf (now sides) (face .index + 1)) ⌝ }
+    requires face { ⌜ (c < length (now corners)) × FaceOf (meshOf (now coordinates) (now sides) (now corners) (now sharpness)) (faceOf (now sides) c) face ⌝ }
     requires points { ⌜ (pointRow * length (now corners) ≤ length (now points)) × Small (now points) ⌝ }
     ensures { λ _. ⌜ Added (meshOf (now (coordinates .entry)) (now (sides .entry)) (now (corners .entry)) (now (sharpness .entry))) 3 c (c + 1) (now (points .entry)) (now (points .exit)) ⌝ }
 {

@@ -15,7 +15,7 @@ use Rattle.paper.specs.Corners.{sumOf, faceOf, firstOf, sidesOf, positionOf, ne
 use Rattle.paper.specs.Links.{vertexOf}
 use Rattle.paper.specs.Faults.{Accepted}
 use Rattle.paper.specs.Numbers.{rounded}
-use Rattle.paper.specs.Refined.{Corners, RefinedMesh, cornersOf, refinedOf}
+use Rattle.paper.specs.Refined.{RefinedMesh, cornersOf, refinedOf}
 use Rattle.paper.specs.Net.{ring, net, netPoints}
 use Rattle.paper.specs.Calls.{perCorner, numberAt, nets}
 use Rattle.mesh.specs.Tables.{Named}
@@ -23,14 +23,15 @@ use Rattle.mesh.proofs.Accepted.{sound-of, few-vertices, few-faces}
 use Rattle.mesh.proofs.Faces.{held, first-from, first-to, first-same, sides-same, next-inner, next-last, start-next}
 use Rattle.mesh.proofs.Links.{values-length, values-at}
 use Rattle.mesh.proofs.Scans.{ways, compared}
-use Rattle.surface.specs.Sound.{Sound, Agree}
 use Rattle.surface.specs.Points.{pointRow}
 use Rattle.surface.proofs.Hull.{corners-sound}
 use Rattle.surface.proofs.Rings.{ring-in}
 use Rattle.surface.proofs.Near.{Seen, ring-seen}
-use Rattle.surface.proofs.Agree.{net-same, sound-same}
-use Rattle.walk.specs.Table.{Tabled, tabled}
-use Rattle.wanted.specs.Tables.{Marked, Wanted}
+use Rattle.surface.proofs.Agree.{net-same}
+use Rattle.walk.specs.Table.{Tabled}
+use Rattle.wanted.specs.Tables.{Asked, Marked, Wanted}
+use Rattle.near.specs.Near.{NearPointed}
+use Rattle.near.proofs.Laws.{table-agrees, table-sound}
 use Rattle.wanted.proofs.Accepted.{vertex-in}
 use Rattle.face_sums.specs.Sources.{Pointed, Covered}
 use Rattle.face_sums.proofs.Accepted.{refinable-of}
@@ -171,45 +172,41 @@ covered-of M accepted marked wanted start all n w m c h k =
       holds = m (vertexOf (M .corners) c) (n c h) .only k;
     })
 
+-- ---- the corners at marked vertices are those at the vertices of the range
+pub near-of : (M : Mesh) (marked : List ℕ) (first count : ℕ) (old points : List ℤ) → Named (M .corners) (length marked)
+    → Marked (M .corners) first count marked → Pointed M marked (cornerCount M) old points → NearPointed M first count old points
+near-of M marked first count old points n m v = record {
+  points-are = λ axis c a h s. v .entries-are axis c (a, omega arith, h, m (vertexOf (M .corners) c) (n c h) .yes s);
+  same = v .same;
+  small = v .small;
+}
+
 -- ---- the tables draw the mesh, as far as the nets of the range look
-module _ (M : Mesh) (accepted : Accepted M) (table marked : List ℕ) (old points : List ℤ) (first count start all : ℕ) (t : Tabled (cornersOf M) table)
-    (some : 0 < count) (range : first + count ≤ cornerCount M) (named : Named (M .corners) (length marked)) (from : start ≡ firstOf (M .sides) first)
-    (to : start + all ≡ firstOf (M .sides) (first + count - 1) + sidesOf (M .sides) (first + count - 1)) (m : Marked (M .corners) start all marked)
-    (long : pointRow * cornerCount M ≤ length old) (v : Pointed M marked (cornerCount M) old points) where
-  abbrev told : Corners
-  told = tabled (cornerCount M) table
-
-  agree : Agree (cornersOf M) told
-  agree = record {
-    count = refl;
-    next = λ c h. sym (t .nexts c h);
-    previous = λ c h. sym (t .previouses c h);
-    link = λ c h. sym (t .links c h);
-    sides = λ c h. sym (t .sides c h);
-    valence = λ c h. sym (t .valences c h);
-  }
-
+module _ (M : Mesh) (accepted : Accepted M) (table : List ℕ) (old points : List ℤ) (first count start all : ℕ) (t : Tabled (cornersOf M) table)
+    (some : 0 < count) (range : first + count ≤ cornerCount M) (from : start ≡ firstOf (M .sides) first)
+    (to : start + all ≡ firstOf (M .sides) (first + count - 1) + sidesOf (M .sides) (first + count - 1))
+    (long : pointRow * cornerCount M ≤ length old) (v : NearPointed M start all old points) where
   pub drawn-of : Drawn (cornerCount M) table points
   drawn-of = record {
-    sound = sound-same (cornersOf M) told agree (corners-sound M accepted);
+    sound = table-sound M accepted table t;
     table-long = t .long;
     points-long = omega (arith, v .same);
     small = λ axis l c h. v .small _;
     fourth = λ c h. v .small _;
   }
 
-  -- a corner at a vertex of the face of a corner of the range is marked
-  marks : (k d : ℕ) → k < count → d < cornerCount M → Seen M (first + k) d → 0 < getD marked (vertexOf (M .corners) d) 0
-  marks k d l h s =
+  -- a corner at a vertex of the face of a corner of the range is one of them
+  asked : (k d : ℕ) → k < count → d < cornerCount M → Seen M (first + k) d → Asked (M .corners) start all (vertexOf (M .corners) d)
+  asked k d l h s =
       let sums = refinable-of M accepted .sums in
       let last : first + count - 1 < sumOf (M .sides) = omega arith in
       let at : s .at < sumOf (M .sides) = omega (arith, s .at-in) in
-      m (vertexOf (M .corners) d) (named d h) .yes (record {
+      record {
         at = s .at;
         from = omega (arith, from-first (M .sides) first (first + count - 1) (first + k) (s .at) (omega arith) (omega arith) last at (s .at-face));
         to = omega (arith, to-last (M .sides) first (first + count - 1) (first + k) (s .at) (omega arith) (omega arith) last at (s .at-face));
         holds = sym (s .same-vertex);
-      })
+      }
 
   -- the rings of a corner of the range are at the vertices of its face
   pub drawn-net : (axis : ℕ) → axis < 3 → (k : ℕ) → k < count → first + k < cornerCount M
@@ -218,9 +215,9 @@ module _ (M : Mesh) (accepted : Accepted M) (table marked : List ℕ) (old point
       let K = cornersOf M in
       let c = first + k in
       let ok = corners-sound M accepted in
-      net-same (refinedOf rounded M axis) (drawn (cornerCount M) table points axis) agree ok c h
+      net-same (refinedOf rounded M axis) (drawn (cornerCount M) table points axis) (table-agrees M accepted table t) ok c h
       (λ e j. let d = ring-in K ok c h e j in
-      sym (v .entries-are axis (ring K c e j) (a, omega arith, d, marks k (ring K c e j) l d (ring-seen M accepted c h e j))))
+      sym (v .points-are axis (ring K c e j) a d (asked k (ring K c e j) l d (ring-seen M accepted c h e j))))
 
   -- what is written from the tables is what the mesh has
   pub drawn-written : (out : List ℤ) → length out ≡ perCorner * count

@@ -18,6 +18,7 @@ ghost use Rattle.surface.specs.Points.{pointRow};
 ghost use Rattle.walk.specs.Table.{Tabled};
 ghost use Rattle.face_sums.specs.Sources.{Small};
 ghost use Rattle.net_sides.specs.Drawn.{drawn, Drawn};
+ghost use Rattle.near.specs.Near.{NearPointed};
 ghost use Rattle.writing.specs.Written.{Rounds, NetsWritten};
 
 // The numbers of `count` corners from `first` on, by the table of the mesh's corners. The refined points are put into `points`.
@@ -38,12 +39,56 @@ pub fn write_nets(
     requires points { ⌜ (pointRow * length (now corners) ≤ length (now points)) × Small (now points) ⌝ }
     ensures { λ _. ⌜ now (out .exit) ≡ nets (meshOf (now (coordinates .entry)) (now (sides .entry)) (now (corners .entry)) (now (sharpness .entry))) first count ⌝ }
 {
-    let mut marked = [0u8; MOST_VERTICES];
-    let mut wanted = [0u8; MOST_FACES];
     let start = face_start(sides, table, first);
     let end = face_end(sides, table, first + count - 1);
     let all = end - start;
-    wanted::fill_wanted(sides, corners, start, all, &mut marked, &mut wanted);
+    fill_asked(
+        coordinates,
+        sides,
+        corners,
+        sharpness,
+        table,
+        start,
+        all,
+        points,
+    );
+    let rows = cosines::rows();
+    write_corners(points, table, &rows, corners.len(), first, count, out);
+}
+
+// The refined points of the corners at the vertices of `count` corners from `first` on: by the rings of links where these are a small part of the
+// mesh, else by one pass over all faces.
+fn fill_asked(
+    coordinates: &[i32],
+    sides: &[u8],
+    corners: &[u16],
+    sharpness: &[u8],
+    table: &[u16],
+    first: usize,
+    count: usize,
+    points: &mut [i32],
+)
+    requires mesh { ⌜ Accepted (meshOf (now coordinates) (now sides) (now corners) (now sharpness)) ⌝ }
+    requires table { ⌜ Tabled (cornersOf (meshOf (now coordinates) (now sides) (now corners) (now sharpness))) (now table) ⌝ }
+    requires range { ⌜ first + count ≤ length (now corners) ⌝ }
+    requires points { ⌜ (pointRow * length (now corners) ≤ length (now points)) × Small (now points) ⌝ }
+    ensures { λ _. ⌜ NearPointed (meshOf (now (coordinates .entry)) (now (sides .entry)) (now (corners .entry)) (now (sharpness .entry))) first count (now (points .entry)) (now (points .exit)) ⌝ }
+{
+    if near::fill_near(
+        coordinates,
+        sides,
+        corners,
+        sharpness,
+        table,
+        first,
+        count,
+        points,
+    ) {
+        return;
+    }
+    let mut marked = [0u8; MOST_VERTICES];
+    let mut wanted = [0u8; MOST_FACES];
+    wanted::fill_wanted(sides, corners, first, count, &mut marked, &mut wanted);
     refine::fill_points(
         coordinates,
         sides,
@@ -54,8 +99,6 @@ pub fn write_nets(
         &wanted,
         points,
     );
-    let rows = cosines::rows();
-    write_corners(points, table, &rows, corners.len(), first, count, out);
 }
 
 // The first corner of a corner's face: next to its last one.

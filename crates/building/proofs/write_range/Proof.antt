@@ -1,11 +1,11 @@
--- `building::write_range` meets its contract: a mesh that is small or of medium size fits a shorter table of points,
+-- `building::write_range` meets its contract: a mesh that is small or large fits a shorter table of points,
 -- and every accepted mesh the long one.
 -- Assumes nothing.
 use borrow.Author.Needs.{needs}
 use lib.ListN.{length}
 use denote.Ref.{now}
 use Rattle.paper.specs.Mesh.{Mesh, meshOf, mostCorners}
-use Rattle.mesh.specs.Tables.{smallMesh, mediumMesh}
+use Rattle.mesh.specs.Tables.{smallMesh, largeMesh}
 use Rattle.building.proofs.Laws.{point-room, few}
 use Rattle.building.proofs.write_range.Statement.{statement}
 use Rattle.building.proofs.write_range.Tie as tie
@@ -27,7 +27,7 @@ slice-aggregate-write-nets-2 c = search needs
 write-nets-requires-2 : tie.Need-write-nets-requires-2
 write-nets-requires-2 c κs =
     let s = c .before .before .before .before .before .before .before .before in
-    (s .pre .0, (s .pre .1 .0, (s .pre .1 .1, point-room (length (now (s .args .corners))) mediumMesh (search needs))))
+    (s .pre .0, (s .pre .1 .0, (s .pre .1 .1, point-room (length (now (s .args .corners))) largeMesh (search needs))))
 
 slice-aggregate-write-nets-3 : tie.Need-slice-aggregate-write-nets-3
 slice-aggregate-write-nets-3 c = search needs

@@ -2,7 +2,7 @@
 -- Assumes nothing.
 use mathlib.Core.Path.{_≡_, ap, _∙_, sym}
 use mathlib.Core.List.{List}
-use Prim.Native.Nat.{ℕ, _+_, _-_, _^_, _≤_, _<_}
+use Prim.Native.Nat.{ℕ, _+_, _-_, _≤_, _<_}
 use native.Mathlib.Omega.{arith}
 use borrow.Author.Needs.{needs}
 use lib.Dec.{lit<}
@@ -11,12 +11,10 @@ use lib.IntN.{ℤ, _+ℤ_}
 use denote.Ref.{now}
 use mir.Syntax.{w32}
 use mir.Val.{SFits, toZ, ofZ}
-use mir.Facts.{toZ-ofZ}
 use Rattle.paper.specs.Mesh.{mostSides}
-use Rattle.integers.proofs.Sum.{sum-zero, sum-more}
-use Rattle.integers.proofs.Machine.{abs-fits}
+use Rattle.integers.proofs.Sum.{sum-zero}
 use Rattle.face_sums.specs.Sources.{Placed, stepsOf, stepSum}
-use Rattle.face_sums.proofs.Laws.{sum-most}
+use Rattle.face_sums.proofs.Laws.{sum-turn}
 use Rattle.face_sums.proofs.face_sum.Statement.{statement}
 use Rattle.face_sums.proofs.face_sum.Tie as tie
 
@@ -30,16 +28,13 @@ Inv-loop coordinates corners start n x₀ y₀ z₀ j₀ x y z j =
 abbrev μ-loop : tie.MeasureT-loop
 μ-loop coordinates corners start n x₀ y₀ z₀ j₀ x y z j = n - j
 
--- one more vertex r to the sum t on an axis, as the machine adds it
+-- one more vertex to the sum t on an axis
 module _ (coordinates : List ℤ) (corners : List ℕ) (p : Placed coordinates corners) (start j : ℕ) (h : start + (j + 1) ≤ length corners)
     (l : j + 1 ≤ mostSides) (axis : ℕ) (a : axis < 3) where
   turn : (t : ℕ) (r : ℤ) → SFits w32 r → toZ w32 t ≡ stepSum coordinates corners start j axis → r ≡ stepsOf coordinates corners axis (start + j)
       → SFits w32 (toZ w32 t +ℤ toZ w32 (ofZ w32 r))
       × (toZ w32 (ofZ w32 (toZ w32 t +ℤ toZ w32 (ofZ w32 r))) ≡ stepSum coordinates corners start (j + 1) axis)
-  turn t r f e q =
-      let k = abs-fits w32 (stepSum coordinates corners start (j + 1) axis) (2 ^ 20) (sum-most coordinates corners p start (j + 1) axis a h l) (lit< tt) in
-      let m = sum-more (λ i. stepsOf coordinates corners axis (start + i)) j in
-      rw (toZ-ofZ f, e, q, ← m) (k, toZ-ofZ k)
+  turn = sum-turn coordinates corners p (λ i. start + i) j axis a (λ i b. omega arith) l
 
 -- there is one more
 here : (i : tie.In-loop Inv-loop μ-loop)

@@ -1,17 +1,16 @@
 -- `refine::fill_face` meets its contract: those of the corners below `c` are put in.
 -- Assumes nothing.
 use mathlib.Core.Path.{_≡_}
-use Prim.Native.Nat.{_+_, _-_, _*_, _≤_, _<_}
+use Prim.Native.Nat.{ℕ, _+_, _-_, _*_, _≤_, _<_}
 use native.Mathlib.Omega.{arith}
 use borrow.Author.Needs.{needs}
 use lib.ListN.{length}
 use denote.Ref.{now}
 use Rattle.paper.specs.Mesh.{leastSides, mostCorners, Mesh, meshOf}
-use Rattle.paper.specs.Corners.{startOf}
-use Rattle.mesh.proofs.Faces.{start-next}
+use Rattle.paper.specs.Corners.{sumOf, faceOf, sidesOf}
+use Rattle.mesh.proofs.Faces.{first-ends, face-same}
 use Rattle.surface.specs.Points.{pointRow}
 use Rattle.face_sums.specs.Sources.{Filled}
-use Rattle.face_sums.proofs.Laws.{end-in}
 use Rattle.refine.proofs.Laws.{filled-none, filled-more}
 use Rattle.refine.proofs.fill_face.Statement.{statement}
 use Rattle.refine.proofs.fill_face.Tie as tie
@@ -28,16 +27,28 @@ module _ (s : tie.Start Inv-loop μ-loop) where
   abbrev mesh : Mesh
   mesh = meshOf (now (s .args .coordinates)) (now (s .args .sides)) (now (s .args .corners)) (now (s .args .sharpness))
 
-  end-is : s .args .start + s .args .face .sides ≡ startOf (now (s .args .sides)) (s .args .face .index + 1)
-  end-is = let i = s .pre .1 .1 .1 .0 in omega (arith, start-next (now (s .args .sides)) (s .args .face .index) (i .0 .exists), i .1, i .0 .sides-are)
+  -- its first corner is `start`
+  start-in : s .args .start < sumOf (now (s .args .sides))
+  start-in = omega (arith, s .pre .1 .1 .1 .0 .0, s .pre .0 .sums)
+
+  sides-are : s .args .face .sides ≡ sidesOf (now (s .args .sides)) (s .args .start)
+  unfolding sidesOf
+  sides-are = s .pre .1 .1 .1 .0 .2 .sides-are
+
+  ends : s .args .start + s .args .face .sides ≤ length (now (s .args .corners))
+  ends = omega (arith, first-ends (now (s .args .sides)) (s .args .start) start-in, s .pre .1 .1 .1 .0 .1, sides-are, s .pre .0 .sums)
 
   within : (leastSides ≤ s .args .face .sides) × (s .args .start + s .args .face .sides ≤ mostCorners)
   within =
-      let i = s .pre .1 .1 .1 .0 in
-      let f = s .args .face .index in (
-        omega (arith, s .pre .0 .faces .least f (i .0 .exists), i .0 .sides-are),
-        omega (arith, end-in mesh (s .pre .0) f (i .0 .exists), i .1, i .0 .sides-are, s .pre .0 .sums, s .pre .0 .faces .few),
-      )
+      let i = s .pre .1 .1 .1 .0 .2 in
+      (omega (arith, s .pre .0 .faces .least _ (i .exists), i .sides-are), omega (arith, ends, s .pre .0 .sums, s .pre .0 .faces .few))
+
+  -- a corner before its end is one of the face
+  same-face : (c : ℕ) → s .args .start ≤ c → c < s .args .start + s .args .face .sides
+      → faceOf (now (s .args .sides)) c ≡ faceOf (now (s .args .sides)) (s .args .start)
+  same-face c a b =
+      let e = s .pre .1 .1 .1 .0 .1 in
+      face-same (now (s .args .sides)) (s .args .start) start-in c (omega (arith, e)) (omega (arith, e, sides-are))
 
 cast-end : tie.Need-cast-end Inv-loop μ-loop
 cast-end c = omega (arith, within (c .before .before .before .before .before .before) .1)
@@ -66,11 +77,8 @@ fill-marked-requires c κs =
         (
           s .pre .1 .1 .0,
           (
-            i .0,
-            (
-              (omega (arith, i .1, l .inv .0), omega (arith, end-is s, l .inv .1)),
-              (omega (arith, s .pre .1 .1 .1 .1 .0, k .same), k .small),
-            ),
+            (omega (arith, ends s, l .inv .1), rw (same-face s (l .c) (l .inv .0) (l .inv .1)) (i .2)),
+            (omega (arith, s .pre .1 .1 .1 .1 .0, k .same), k .small),
           ),
         ),
       ),
@@ -100,7 +108,7 @@ returns : tie.Need-returns Inv-loop μ-loop
 returns c =
     let s = c .before .before .before .before .before .before .before .before .before .before .before in
     let l = c .before .before .before .before .loop in
-    let e : l .c + 1 ≡ startOf (now (s .args .sides)) (s .args .face .index + 1) = omega (arith, end-is s, l .inv .1, c .if1 .taken) in
+    let e : l .c + 1 ≡ s .args .start + s .args .face .sides = omega (arith, l .inv .1, c .if1 .taken) in
     rw (← e)
     (filled-more (mesh s) (now (s .args .marked)) (s .args .start) (l .c) _ _ _ _ (l .inv .0) (omega arith) (l .inv .3)
     (c .before .before .fill-marked .ensures))

@@ -1,16 +1,18 @@
 -- `refine::fill_faces` meets its contract: those of the faces before `f` are filled.
 -- Assumes nothing.
-use mathlib.Core.Path.{_≡_, refl, _∙_, sym, subst}
+use mathlib.Core.Path.{_≡_, refl, ap, _∙_, sym, subst}
 use mathlib.Core.Logic.{⊎-elim}
+use mathlib.Core.List.{List}
+use lib.IntN.{ℤ}
 use Prim.Native.Nat.{ℕ, _+_, _-_, _*_, _≤_, _<_}
 use native.Mathlib.Omega.{arith}
 use borrow.Author.Needs.{needs}
 use lib.ListN.{length, getD}
 use denote.Ref.{now}
 use Rattle.paper.specs.Mesh.{Mesh, meshOf}
-use Rattle.paper.specs.Corners.{startOf}
+use Rattle.paper.specs.Corners.{startOf, firstOf, faceOf}
 use Rattle.mesh.proofs.Faces.{start-zero, start-next, start-ends, start-all, face-at}
-use Rattle.face_sums.specs.Sources.{Pointed}
+use Rattle.face_sums.specs.Sources.{Pointed, Filled}
 use Rattle.refined_corners.proofs.Laws.{face-of}
 use Rattle.refine.proofs.Laws.{Marks, filled-none, filled-more}
 use Rattle.refine.proofs.fill_faces.Statement.{statement}
@@ -34,6 +36,16 @@ unmarked s f l z c a b m =
     let h = s .pre .1 .1 .0 .1 c (omega (arith, n, start-ends (now (s .args .sides)) f l, s .pre .0 .sums)) m in
     let e = face-at (now (s .args .sides)) f c a (omega (arith, n)) l in
     omega (arith, z, subst (λ (g : ℕ). 0 < getD (now (s .args .wanted)) g 0) e h)
+
+-- the first corner of a face
+at-start : (s : tie.Start Inv-loop μ-loop) (f start : ℕ) → f < length (now (s .args .sides)) → start ≡ startOf (now (s .args .sides)) f
+    → (start < length (now (s .args .corners))) × (faceOf (now (s .args .sides)) start ≡ f) × (start ≡ firstOf (now (s .args .sides)) start)
+unfolding firstOf
+at-start s f start l e =
+    let sides = now (s .args .sides) in
+    let n = s .pre .0 .faces .least f l in
+    let q : faceOf sides start ≡ f = face-at sides f start (omega arith) (omega arith) l in
+    (omega (arith, start-ends sides f l, s .pre .0 .sums), q, e ∙ ap (startOf sides) (sym q))
 
 loop-holds : tie.Need-loop-holds Inv-loop μ-loop
 loop-holds c =
@@ -62,11 +74,15 @@ fill-face-requires c κs =
     let r = c .before .read-face .ensures in
     let h : l .f < length (now (s .args .sides)) = search needs in
     let sums = s .pre .1 .1 .1 .1 .0 (l .f) h (search needs) in
-    let face = face-of (mesh s) (s .pre .0) (l .f) h _ sums (c .before .read-face .result) r in (
+    let face = face-of (mesh s) (s .pre .0) (l .f) h _ sums (c .before .read-face .result) r in
+    let a = at-start s (l .f) (l .start) h (i .1) in (
       s .pre .0,
       (
         s .pre .1 .0,
-        (s .pre .1 .1 .0 .0, ((face, rw (r .index-is) (i .1)), (omega (arith, i .2 .same, s .pre .1 .1 .1 .1 .1 .0), i .2 .small))),
+        (
+          s .pre .1 .1 .0 .0,
+          ((a .0, a .2, rw (a .1) face), (omega (arith, i .2 .same, s .pre .1 .1 .1 .1 .1 .0), i .2 .small)),
+        ),
       ),
     )
 
@@ -91,6 +107,14 @@ add-f c = search needs
 loop-less : tie.Need-loop-less Inv-loop μ-loop
 loop-less c = search needs
 
+-- what a face is filled with: up to where the next starts
+filled-to : (s : tie.Start Inv-loop μ-loop) (f start : ℕ) → f < length (now (s .args .sides)) → start ≡ startOf (now (s .args .sides)) f
+    → (n : ℕ) → n ≡ getD (now (s .args .sides)) f 0 → (old new : List ℤ) → Filled (mesh s) (now (s .args .marked)) start (start + n) old new
+    → Filled (mesh s) (now (s .args .marked)) (startOf (now (s .args .sides)) f) (startOf (now (s .args .sides)) (f + 1)) old new
+filled-to s f start l e n q old new h =
+    let t : startOf (now (s .args .sides)) (f + 1) ≡ start + n = omega (arith, start-next (now (s .args .sides)) f l) in
+    rw (← e, t) h
+
 loop-again : tie.Need-loop-again Inv-loop μ-loop
 loop-again c =
     let s = c .before .before .before .before .before .before .before .before .before .before .before in
@@ -102,7 +126,7 @@ loop-again c =
       omega arith,
       omega (arith, n, l .inv .1),
       ⊎-elim
-          (λ w. rw (w .5) (more _ (omega arith) (omega (arith, n)) (l .inv .2) (rw (← l .inv .1, ← w .1 .ensures .index-is) (w .3 .ensures))))
+          (λ w. rw (w .5) (more _ (omega arith) (omega (arith, n)) (l .inv .2) (filled-to s (l .f) (l .start) h (l .inv .1) _ (w .1 .ensures .sides-are) _ _ (w .3 .ensures))))
           (λ w. rw (w .1) (more _ (omega arith) (omega (arith, n)) (l .inv .2)
           (filled-none (mesh s) (now (s .args .marked)) _ _ _ (unmarked s (l .f) h (omega (arith, w .0 .left))) (l .inv .2 .small))))
           (c .before .if1 .came),

@@ -7,7 +7,6 @@ use borrow.Author.Needs.{needs}
 use lib.ListN.{length}
 use denote.Ref.{now}
 use Rattle.paper.specs.Mesh.{mostCorners, Mesh, meshOf}
-use Rattle.refined_corners.proofs.Laws.{here-in}
 use Rattle.refine.proofs.Laws.{Marks, filled-none, filled-one}
 use Rattle.refine.proofs.fill_marked.Statement.{statement}
 use Rattle.refine.proofs.fill_marked.Tie as tie
@@ -17,7 +16,7 @@ module _ (s : tie.Start) where
   mesh = meshOf (now (s .args .coordinates)) (now (s .args .sides)) (now (s .args .corners)) (now (s .args .sharpness))
 
   here : s .args .c < length (now (s .args .corners))
-  here = let i = s .pre .1 .1 .1 in here-in mesh (s .pre .0) (s .args .face .index) (i .0 .exists) (s .args .c) (i .1 .0 .0) (i .1 .0 .1)
+  here = s .pre .1 .1 .1 .0 .0
 
   few : length (now (s .args .corners)) ≤ mostCorners
   few = omega (arith, s .pre .0 .sums, s .pre .0 .faces .few)
@@ -52,7 +51,7 @@ returns-2 c =
     filled-none (mesh s) (now (s .args .marked)) (s .args .c) _ _ (λ d a b m.
     let e : d ≡ s .args .c = omega arith in
     let k = subst (λ (i : ℕ). Marks (mesh s) (now (s .args .marked)) i) e m in
-    omega (arith, c .if1 .left)) (s .pre .1 .1 .1 .1 .1 .1)
+    omega (arith, c .if1 .left)) (s .pre .1 .1 .1 .1 .1)
 
 pub fill-marked-spec : {M : Type 1} → statement M
 fill-marked-spec =

@@ -14,14 +14,14 @@ use mir.Val.{SFits, toZ, ofZ}
 use mir.Facts.{toZ-ofZ}
 use Rattle.integers.proofs.Machine.{abs-fits}
 use Rattle.paper.specs.Mesh.{mostCorners, Mesh, meshOf}
-use Rattle.paper.specs.Corners.{next, previous}
+use Rattle.paper.specs.Corners.{faceOf, next, previous}
 use Rattle.paper.specs.Numbers.{rounded}
 use Rattle.paper.specs.Refined.{ticksPerStep, faceSum, refinedPoint, cornersOf}
 use Rattle.surface.specs.Points.{pointRow}
 use Rattle.walk.specs.Table.{rowLength, toNext, toPrevious}
 use Rattle.face_sums.specs.Sources.{stepsOf}
 use Rattle.refined_corners.specs.Mean.{Balanced, Known, mean}
-use Rattle.refined_corners.proofs.Laws.{here-in, before-in, after-in, pair-of, balanced, known, point-is, added-none, added-axis}
+use Rattle.refined_corners.proofs.Laws.{before-in, after-in, pair-of, balanced, known, point-is, added-none, added-axis}
 use Rattle.refined_corners.proofs.fill_corner.Statement.{statement}
 use Rattle.refined_corners.proofs.fill_corner.Tie as tie
 
@@ -30,7 +30,10 @@ module _ (s : tie.Start) where
   mesh = meshOf (now (s .args .coordinates)) (now (s .args .sides)) (now (s .args .corners)) (now (s .args .sharpness))
 
   here : s .args .c < length (now (s .args .corners))
-  here = let i = s .pre .1 .1 in here-in mesh (s .pre .0) (s .args .face .index) (i .0 .exists) (s .args .c) (i .1 .0 .0) (i .1 .0 .1)
+  here = s .pre .1 .1 .0 .0
+
+  abbrev f : ℕ
+  f = faceOf (now (s .args .sides)) (s .args .c)
 
   few : length (now (s .args .corners)) ≤ mostCorners
   few = omega (arith, s .pre .0 .sums, s .pre .0 .faces .few)
@@ -39,13 +42,13 @@ module _ (s : tie.Start) where
   row-in k l = omega (arith, here, s .pre .1 .0 .long)
 
   room : (k : ℕ) → k < pointRow → pointRow * s .args .c + k < length (now (s .args .points))
-  room k l = omega (arith, here, s .pre .1 .1 .1 .1 .0)
+  room k l = omega (arith, here, s .pre .1 .1 .1 .0)
 
   -- Σ on an axis, as it is read
-  known-read : (k : ℕ) (total : ℤ) → k < 3 → pos ticksPerStep *ℤ total ≡ faceSum mesh k (s .args .face .index)
+  known-read : (k : ℕ) (total : ℤ) → k < 3 → pos ticksPerStep *ℤ total ≡ faceSum mesh k f
       → Known (toZ w32 (ofZ w32 total)) (s .args .face) × (toZ w32 (ofZ w32 total) ≡ total)
   known-read k total l e =
-      let i = known mesh (s .pre .0) (s .args .face) (s .pre .1 .1 .0) k total l e in
+      let i = known mesh (s .pre .0) f (s .args .face) (s .pre .1 .1 .0 .1) k total l e in
       let f = abs-fits w32 total (2 ^ 20) (le-trans (i .total-size) (omega (arith, i .most))) (lit< tt) in
       (rw (toZ-ofZ f) i, toZ-ofZ f)
 
@@ -75,26 +78,23 @@ module _ (c : tie.After-weigh) where
 
   weights-balanced : Balanced (c .weigh .result)
   weights-balanced =
-      let i = s .pre .1 .1 in
-      let b = before-in (mesh s) (s .pre .0) (s .args .face .index) (i .0 .exists) (s .args .c) (i .1 .0 .0) (i .1 .0 .1) p (before-is (c .before .before)) in
+      let b = before-in (mesh s) (s .pre .0) (s .args .c) (here s) p (before-is (c .before .before)) in
       balanced (now (s .args .sharpness)) _ (c .weigh .result) (pair-of (mesh s) (s .pre .0) _ (omega (arith, here s, b))) (c .weigh .ensures)
 
   bounds : (p < length (now (s .args .corners))) × (s .args .c < length (now (s .args .corners))) × (q < length (now (s .args .corners)))
-  bounds =
-      let i = s .pre .1 .1 in (
-        before-in (mesh s) (s .pre .0) (s .args .face .index) (i .0 .exists) (s .args .c) (i .1 .0 .0) (i .1 .0 .1) p (before-is (c .before .before)),
-        here s,
-        after-in (mesh s) (s .pre .0) (s .args .face .index) (i .0 .exists) (s .args .c) (i .1 .0 .0) (i .1 .0 .1) q (after-is (c .before)),
-      )
+  bounds = (
+    before-in (mesh s) (s .pre .0) (s .args .c) (here s) p (before-is (c .before .before)),
+    here s,
+    after-in (mesh s) (s .pre .0) (s .args .c) (here s) q (after-is (c .before)),
+  )
 
   -- what a call answers is the corner's point on that axis
-  value-is : (k : ℕ) (total r : ℤ) → k < 3 → pos ticksPerStep *ℤ total ≡ faceSum (mesh s) k (s .args .face .index) → SFits w32 r
+  value-is : (k : ℕ) (total r : ℤ) → k < 3 → pos ticksPerStep *ℤ total ≡ faceSum (mesh s) k (f s) → SFits w32 r
       → let P = stepsOf (now (s .args .coordinates)) (now (s .args .corners)) k in
       r ≡ mean (c .weigh .result) (toZ w32 (ofZ w32 total)) (P p) (P (s .args .c)) (P q) (s .args .face .sides)
       → (toZ w32 (ofZ w32 r) ≡ refinedPoint rounded (mesh s) k (s .args .c)) × (natAbs (toZ w32 (ofZ w32 r)) ≤ 2 ^ 24)
   value-is k total r l e f h =
-      let i = s .pre .1 .1 in
-      point-is (mesh s) (s .pre .0) (s .args .face) (i .0) (s .args .c) (i .1 .0 .0) (i .1 .0 .1) k p q (c .weigh .result) total (toZ w32 (ofZ w32 r)) l
+      point-is (mesh s) (s .pre .0) (s .args .c) (here s) (s .args .face) (s .pre .1 .1 .0 .1) k p q (c .weigh .result) total (toZ w32 (ofZ w32 r)) l
       (c .weigh .ensures) (before-is (c .before .before)) (after-is (c .before)) e (toZ-ofZ f ∙ (rw (known-read s k total l e .1) at h))
 
 previous-requires : tie.Need-previous-requires
@@ -106,28 +106,27 @@ next-requires c κs = row-in (c .before .before .before .before .before) toNext 
 weigh-requires : tie.Need-weigh-requires
 weigh-requires c κs =
     let s = c .before .before .before .before .before .before in
-    let i = s .pre .1 .1 in
-    let b = before-in (mesh s) (s .pre .0) (s .args .face .index) (i .0 .exists) (s .args .c) (i .1 .0 .0) (i .1 .0 .1) _ (before-is (c .before)) in
+    let b = before-in (mesh s) (s .pre .0) (s .args .c) (here s) _ (before-is (c .before)) in
     pair-of (mesh s) (s .pre .0) _ (omega (arith, here s, b))
 
 on-axis-requires : tie.Need-on-axis-requires
 on-axis-requires c κs =
     let b = c .before in
-    let face = s b .pre .1 .1 .0 in
+    let face = s b .pre .1 .1 .0 .1 in
     let k = known-read (s b) 0 (s b .args .face .x) (lit< tt) (face .xs) .0 in
     (s b .pre .0 .placed, ((lit< tt, bounds b .0, bounds b .1, bounds b .2), (k, weights-balanced b)))
 
 on-axis-requires-2 : tie.Need-on-axis-requires-2
 on-axis-requires-2 c κs =
     let b = c .before .before .before in
-    let face = s b .pre .1 .1 .0 in
+    let face = s b .pre .1 .1 .0 .1 in
     let k = known-read (s b) 1 (s b .args .face .y) (lit< tt) (face .ys) .0 in
     (s b .pre .0 .placed, ((lit< tt, bounds b .0, bounds b .1, bounds b .2), (k, weights-balanced b)))
 
 on-axis-requires-3 : tie.Need-on-axis-requires-3
 on-axis-requires-3 c κs =
     let b = c .before .before .before .before .before in
-    let face = s b .pre .1 .1 .0 in
+    let face = s b .pre .1 .1 .0 .1 in
     let k = known-read (s b) 2 (s b .args .face .z) (lit< tt) (face .zs) .0 in
     (s b .pre .0 .placed, ((lit< tt, bounds b .0, bounds b .1, bounds b .2), (k, weights-balanced b)))
 
@@ -171,7 +170,7 @@ returns : tie.Need-returns
 returns c =
     let b = c .before .before .before .before .before .before in
     let t = s b in
-    let face = t .pre .1 .1 .0 in
+    let face = t .pre .1 .1 .0 .1 in
     let x : SFits w32 (c .before .before .before .before .on-axis .result) = search needs in
     let y : SFits w32 (c .before .before .on-axis2 .result) = search needs in
     let z : SFits w32 (c .on-axis3 .result) = search needs in
@@ -181,7 +180,7 @@ returns c =
     (value-is b 1 (t .args .face .y) _ (lit< tt) (face .ys) y (c .before .before .on-axis2 .ensures))
     (added-axis (mesh t) 0 (t .args .c) _ _ _ _ (lit< tt) (omega arith) (omega (arith, room t 0 (lit< tt)))
     (value-is b 0 (t .args .face .x) _ (lit< tt) (face .xs) x (c .before .before .before .before .on-axis .ensures))
-    (added-none (mesh t) (t .args .c) _ _ (t .pre .1 .1 .1 .1 .1))))
+    (added-none (mesh t) (t .args .c) _ _ (t .pre .1 .1 .1 .1))))
 
 pub fill-corner-spec : {M : Type 1} → statement M
 fill-corner-spec =

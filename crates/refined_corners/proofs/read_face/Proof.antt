@@ -66,7 +66,6 @@ returns : tie.Need-returns
 returns c =
     let s = c .before .before .before .before .before .before in
     record {
-      index-is = refl;
       sides-are = refl;
       reciprocal-is = c .before .before .before .side-reciprocal .ensures;
       xs = steps _ (search needs);

@@ -1,4 +1,4 @@
--- `writing::write_nets` meets its contract: the vertices of the range's faces are marked, and with the refined points of the corners there the tables
+-- `writing::write_nets` meets its contract: with the refined points of the corners at the vertices of the range's faces the tables
 -- draw the mesh as far as the nets look.
 -- Assumes nothing.
 use mathlib.Core.Path.{_≡_, _∙_}
@@ -8,15 +8,13 @@ use native.Mathlib.Omega.{arith}
 use borrow.Author.Needs.{needs}
 use lib.ListN.{length}
 use denote.Ref.{now}
-use Rattle.paper.specs.Mesh.{Mesh, meshOf, mostVertices}
+use Rattle.paper.specs.Mesh.{Mesh, meshOf}
 use Rattle.paper.specs.Corners.{sumOf, firstOf, sidesOf}
-use Rattle.mesh.specs.Tables.{Named}
 use Rattle.mesh.proofs.Faces.{first-from, first-to, first-ends}
 use Rattle.wanted.proofs.Accepted.{faces-of}
-use Rattle.face_sums.specs.Sources.{Covered}
 use Rattle.face_sums.proofs.Accepted.{refinable-of}
 use Rattle.writing.specs.Written.{Rounds}
-use Rattle.writing.proofs.Laws.{zeros, named-in, faces-in, covered-of, drawn-of, drawn-written}
+use Rattle.writing.proofs.Laws.{drawn-of, drawn-written}
 use Rattle.writing.proofs.write_nets.Statement.{statement}
 use Rattle.writing.proofs.write_nets.Tie as tie
 
@@ -68,47 +66,8 @@ face-end-requires c κs = let s = c .before .before .before .before .before in (
 sub-all : tie.Need-sub-all
 sub-all c = whole c .0
 
-slice-aggregate-fill-wanted : tie.Need-slice-aggregate-fill-wanted
-slice-aggregate-fill-wanted c = search needs
-
-slice-aggregate-fill-wanted-2 : tie.Need-slice-aggregate-fill-wanted-2
-slice-aggregate-fill-wanted-2 c = search needs
-
-fill-wanted-requires : tie.Need-fill-wanted-requires
-fill-wanted-requires c κs =
-    let b = c .before .before in
-    let s = t b in
-    let M = mesh s in (
-      (faces-of M (s .pre .0), omega (arith, sums s), faces-in M (s .pre .0)),
-      ((named-in M (s .pre .0), zeros mostVertices), omega (arith, whole b)),
-    )
-
-slice-aggregate-fill-points : tie.Need-slice-aggregate-fill-points
-slice-aggregate-fill-points c = search needs
-
-slice-aggregate-fill-points-2 : tie.Need-slice-aggregate-fill-points-2
-slice-aggregate-fill-points-2 c = search needs
-
--- what is marked then
-module _ (c : tie.After-fill-wanted) where
-  abbrev b : tie.After-face-end
-  b = c .before .before .before
-
-  abbrev marked : List ℕ
-  marked = c .fill-wanted .last .1 .1 .1 .1 .0
-
-  abbrev wanted : List ℕ
-  wanted = c .fill-wanted .last .1 .1 .1 .1 .1 .0
-
-  named : Named (now (t b .args .corners)) (length marked)
-  named d h = omega (arith, named-in (mesh (t b)) (t b .pre .0) d h, c .fill-wanted .kept .1 .1 .1 .1 .0)
-
-  covered : Covered (mesh (t b)) marked wanted
-  covered =
-      covered-of (mesh (t b)) (t b .pre .0) marked wanted (b .before .face-start .result) (b .face-end .result - b .before .face-start .result) named
-      (c .fill-wanted .ensures .0) (c .fill-wanted .ensures .1)
-
-  -- where the range's faces start and end
+-- where the range's faces start and end
+module _ (b : tie.After-face-end) where
   at-first : b .before .face-start .result ≡ firstOf (now (t b .args .sides)) (t b .args .first)
   at-first = b .before .face-start .ensures
 
@@ -117,32 +76,22 @@ module _ (c : tie.After-fill-wanted) where
       ≡ firstOf (now (t b .args .sides)) last + sidesOf (now (t b .args .sides)) last
   at-last = omega (arith, b .face-end .ensures, whole b .0)
 
-fill-points-requires : tie.Need-fill-points-requires
-fill-points-requires c κs =
-    let w = c .before .before .before .before .before in
-    let s = t (b w) in
-    let M = mesh s in (
-      refinable-of M (s .pre .0),
-      (
-        s .pre .1 .0,
-        (
-          (named w, covered w),
-          (omega (arith, faces-in M (s .pre .0), w .fill-wanted .kept .1 .1 .1 .1 .1 .0), s .pre .1 .1 .1),
-        ),
-      ),
-    )
+fill-asked-requires : tie.Need-fill-asked-requires
+fill-asked-requires c κs =
+    let b = c .before in
+    let s = t b in
+    (s .pre .0, (s .pre .1 .0, (omega (arith, whole b), s .pre .1 .1 .1)))
 
 rows-requires : tie.Need-rows-requires
 rows-requires c κs = search needs
 
 write-corners-requires : tie.Need-write-corners-requires
 write-corners-requires c κs =
-    let p = c .before .before .before .before .before .fill-points .ensures in
-    let w = c .before .before .before .before .before .before .before .before .before .before .before in
-    let s = t (b w) in
+    let b = c .before .before .before .before .before .before .before in
+    let s = t b in
     let r = s .pre .1 .1 .0 in (
-      drawn-of (mesh s) (s .pre .0) (now (s .args .table)) (marked w) (now (s .args .points)) _ (s .args .first) (s .args .count) _ _ (s .pre .1 .0)
-          (r .0) (r .1) (named w) (at-first w) (at-last w) (w .fill-wanted .ensures .1) (s .pre .1 .1 .1 .0) p,
+      drawn-of (mesh s) (s .pre .0) (now (s .args .table)) (now (s .args .points)) _ (s .args .first) (s .args .count) _ _ (s .pre .1 .0)
+          (r .0) (r .1) (at-first b) (at-last b) (s .pre .1 .1 .1 .0) (c .before .before .before .before .before .fill-asked .ensures),
       ((r .0, r .1, r .2), c .before .before .before .rows .ensures),
     )
 
@@ -155,12 +104,11 @@ same-length-2 c = search needs
 returns : tie.Need-returns
 returns c =
     let n = c .before .write-corners in
-    let p = c .before .before .before .before .before .before .before .fill-points .ensures in
-    let w = c .before .before .before .before .before .before .before .before .before .before .before .before .before in
-    let s = t (b w) in
+    let b = c .before .before .before .before .before .before .before .before .before in
+    let s = t b in
     let r = s .pre .1 .1 .0 in
-    drawn-written (mesh s) (s .pre .0) (now (s .args .table)) (marked w) (now (s .args .points)) _ (s .args .first) (s .args .count) _ _ (s .pre .1 .0)
-    (r .0) (r .1) (named w) (at-first w) (at-last w) (w .fill-wanted .ensures .1) (s .pre .1 .1 .1 .0) p _ (n .kept .1 .1 .1 .1 .1 .1 .0 ∙ r .2) (n .ensures)
+    drawn-written (mesh s) (s .pre .0) (now (s .args .table)) (now (s .args .points)) _ (s .args .first) (s .args .count) _ _ (s .pre .1 .0)
+    (r .0) (r .1) (at-first b) (at-last b) (s .pre .1 .1 .1 .0) (c .before .before .before .before .before .before .before .fill-asked .ensures) _ (n .kept .1 .1 .1 .1 .1 .1 .0 ∙ r .2) (n .ensures)
 
 pub write-nets-spec : {M : Type 1} → statement M
 write-nets-spec =
@@ -171,12 +119,7 @@ write-nets-spec =
     sub-face-end
     face-end-requires
     sub-all
-    slice-aggregate-fill-wanted
-    slice-aggregate-fill-wanted-2
-    fill-wanted-requires
-    slice-aggregate-fill-points
-    slice-aggregate-fill-points-2
-    fill-points-requires
+    fill-asked-requires
     rows-requires
     write-corners-requires
     same-length
