@@ -6,9 +6,9 @@ use native.Mathlib.Nat.{mul-le-mul, mul-le-mul-right}
 use native.Mathlib.Omega.{arith}
 use lib.IntN.{ℤ, pos, negsuc, _+ℤ_, _-ℤ_, _*ℤ_, negℤ, natAbs}
 use lib.Signed.{_≤ℤ_, _<ℤ_}
-use Rattle.integers.proofs.Diff.{as-diff, diff}
-use Rattle.integers.proofs.Poly.{over, poly}
-use Rattle.integers.proofs.Laws.{mul-le, nonneg}
+use Rattle.numbers.proofs.Diff.{as-diff, diff}
+use Rattle.numbers.proofs.Poly.{over, poly}
+use Rattle.numbers.proofs.Laws.{mul-le, nonneg}
 use Rattle.paper.specs.Numbers.{Numbers, round, sum, sumBy, Fraction, exact}
 use Rattle.numbers.specs.Near.{Near}
 use Rattle.numbers.proofs.Nearest.{round-near}

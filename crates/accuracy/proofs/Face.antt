@@ -9,7 +9,7 @@ use Rattle.paper.specs.Mesh.{leastSides, mostSides}
 use Rattle.paper.specs.Numbers.{sum, sumBy, rounded, Fraction, exact}
 use Rattle.paper.specs.Cosines.{unit}
 use Rattle.paper.specs.Face.{weight, centre, toward}
-use Rattle.integers.proofs.Diff.{diff}
+use Rattle.numbers.proofs.Diff.{diff}
 use Rattle.surface.proofs.Sizes.{heavy}
 use Rattle.accuracy.proofs.Close.{Close, close-times, close-over, close-sum}
 

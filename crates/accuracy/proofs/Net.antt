@@ -12,8 +12,8 @@ use Rattle.paper.specs.Refined.{Corners, RefinedMesh}
 use Rattle.paper.specs.Face.{centre, toward}
 use Rattle.paper.specs.Net.{End, Side, side0, side1, side2, side3, head, tail, neighbour, atHead, atTail, opposite, size, headPlace, tailPlace, ring, points}
 use Rattle.paper.specs.Net.{H, T, X, Y, N, C, outer1, outer2, outer3, a0, a1, a2, a3, middle, bHead, bTail, aHead, aTail, b22, bGrid, aGrid, net}
-use Rattle.integers.proofs.Poly.{over, poly}
-use Rattle.integers.proofs.Laws.{abs-mul-le}
+use Rattle.numbers.proofs.Poly.{over, poly}
+use Rattle.numbers.proofs.Laws.{abs-mul-le}
 use Rattle.numbers.proofs.Rules.{bottom, cosine-size}
 use Rattle.surface.specs.Sound.{Sound}
 use Rattle.surface.proofs.Rings.{neighbour-in, ring-in, size-least, size-most}

@@ -1,10 +1,10 @@
 // Rearranges the coordinate list on standard input for the archive: four-byte numbers, low byte first, become the bytes of their
 // differences, plane by plane, on standard output. The second plane comes after the last number's lowest byte, so the whole list is held,
 // and there is a longest list. What is turned down gets a line on standard error and nothing on standard output.
-use four_bytes::BYTES;
-use four_bytes::NUMBERS;
 use libc::STDIN_FILENO;
 use paper::Answer;
+use rearrange::four_bytes::BYTES;
+use rearrange::four_bytes::NUMBERS;
 ghost use Prim.Native.Nat.{_*_, _≤_};
 ghost use lib.ListN.{length};
 
@@ -13,7 +13,7 @@ fn main() {
         streams::output::complain(b"usage: archive < FILE > FILE\n");
         return;
     }
-    let mut bytes = four_bytes::byte_room();
+    let mut bytes = rearrange::four_bytes::byte_room();
     let got = streams::input::read_up_to(STDIN_FILENO, b"standard input", &mut bytes);
     let held = got.count;
     if BYTES < held {
@@ -27,7 +27,7 @@ fn main() {
 
 // Lends a number list, with a number for each four bytes.
 fn archive_bytes(bytes: &mut [u8]) {
-    let mut numbers = four_bytes::number_room();
+    let mut numbers = rearrange::four_bytes::number_room();
     let n = least(bytes.len() / 4, NUMBERS);
     archive_numbers(bytes, &mut numbers[..n]);
 }
@@ -36,7 +36,7 @@ fn archive_bytes(bytes: &mut [u8]) {
 fn archive_numbers(bytes: &mut [u8], numbers: &mut [i32])
     requires { ⌜ 4 * length (now numbers) ≤ length (now bytes) ⌝ }
 {
-    four_bytes::read_numbers(bytes, numbers);
+    rearrange::four_bytes::read_numbers(bytes, numbers);
     let answer = rearrange::archive(numbers, bytes);
     match answer {
         Answer::Refused(number, place) => print::complain_refusal(number, place),

@@ -13,9 +13,9 @@ use Rattle.paper.specs.declared.Answer.the-variants.{Done, Refused}
 use Rattle.paper.specs.declared.Page.{Page}
 use Rattle.surface.specs.Points.{pointRow}
 use Rattle.walk.specs.Table.{rowLength}
-use Rattle.four_misses.specs.Four.{inMisses}
-use Rattle.four_misses.specs.declared.Misses.{Misses}
-use Rattle.page_laws.proofs.Runs.{values-equal}
+use Rattle.border_report.specs.four.Four.{inMisses}
+use Rattle.border_report.specs.declared.four.Misses.{Misses}
+use Rattle.border_report.proofs.page_laws.Runs.{values-equal}
 
 -- a mesh whose checks give a fault, and an accepted one
 pub refused-added : (P : Page) (M : Mesh) (v : Verdict) (r : Page) (k p : ℕ) → ((M : Mesh) (p : ℕ) → r ≡ added P M (fault k p)) → fault k p ≡ v → r ≡

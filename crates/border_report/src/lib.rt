@@ -1,5 +1,13 @@
 // L14, the yearly border report: a call takes a page with one file and returns the next page. The file is checked as behind `inspect`, in local copies of
 // its lists; of an accepted mesh the misses are taken over a table of its corners and one of its refined points.
+pub mod border_misses;
+pub mod four;
+pub mod mesh_misses;
+pub mod misses;
+pub mod page_laws;
+pub mod page_numbers;
+pub mod pages;
+
 use mesh::SMALL_MESH;
 use paper::Answer;
 use paper::MOST_CORNERS;
@@ -18,8 +26,8 @@ ghost use Rattle.paper.specs.File.{fileMesh, fileVerdict};
 ghost use Rattle.paper.specs.Report.{added, pageVerdict, offered, ReportedTo, MergedTo};
 ghost use Rattle.surface.specs.Points.{pointRow};
 ghost use Rattle.walk.specs.Table.{rowLength};
-ghost use Rattle.face_sums.specs.Sources.{Small};
-ghost use Rattle.dms_header.specs.Sized.{Sized};
+ghost use Rattle.refine.specs.sums.Sources.{Small};
+ghost use Rattle.dms.specs.header.Sized.{Sized};
 ghost use Rattle.checks.specs.Checked.{Checked};
 
 // The numbers of the longest coordinate list and of the longest sharpness list.
@@ -31,7 +39,7 @@ const MOST_PAIRS: usize = 2 * MOST_CORNERS;
 pub fn report(bytes: &[u8], counted: usize, page: Page) -> Reported
     ensures { λ r. ⌜ ReportedTo page (offered (now (bytes .entry)) counted) r ⌝ }
 {
-    let a = pages::check(page);
+    let a = crate::pages::check(page);
     if let Answer::Refused(k, p) = a {
         return Reported {
             answer: Answer::Refused(k, p),
@@ -50,7 +58,7 @@ pub fn report(bytes: &[u8], counted: usize, page: Page) -> Reported
 pub fn merge(page: Page, other: Page) -> Reported
     ensures { λ r. ⌜ MergedTo page other r ⌝ }
 {
-    pages::merge(page, other)
+    crate::pages::merge(page, other)
 }
 
 // The lesser of two numbers.
@@ -65,9 +73,9 @@ fn with_file(file: &[u8], counted: usize, page: Page) -> Page
     requires { ⌜ pageVerdict page ≡ sound ⌝ }
     ensures { λ r. ⌜ r ≡ added page (fileMesh (now (file .entry))) (fileVerdict (now (file .entry)) counted) ⌝ }
 {
-    let header = dms_header::check_header(file, counted);
+    let header = dms::header::check_header(file, counted);
     if let Answer::Refused(number, place) = header {
-        return pages::refuse(page, number);
+        return crate::pages::refuse(page, number);
     }
     with_lists(file, page)
 }
@@ -81,16 +89,16 @@ fn with_lists(file: &[u8], page: Page) -> Page
     let mut sides = [0u8; MOST_FACES];
     let mut corners = [0u16; MOST_CORNERS];
     let mut sharpness = [0u8; MOST_PAIRS];
-    dms_lists::read_lists(
+    dms::lists::read_lists(
         file,
         &mut coordinates,
         &mut sides,
         &mut corners,
         &mut sharpness,
     );
-    let numbers = 3 * dms_header::vertex_count(file);
-    let faces = dms_header::face_count(file);
-    let count = dms_header::corner_count(file);
+    let numbers = 3 * dms::header::vertex_count(file);
+    let faces = dms::header::face_count(file);
+    let count = dms::header::corner_count(file);
     with_mesh(
         &coordinates[..numbers],
         &sides[..faces],
@@ -154,10 +162,17 @@ fn over(
 {
     let a = check_mesh(coordinates, sides, corners, sharpness, table);
     if let Answer::Refused(number, place) = a {
-        return pages::refuse(page, number);
+        return crate::pages::refuse(page, number);
     }
-    let largest = mesh_misses::largest(coordinates, sides, corners, sharpness, table, points);
-    pages::accept(page, corners.len(), largest)
+    let largest = crate::mesh_misses::largest(
+        coordinates,
+        sides,
+        corners,
+        sharpness,
+        table,
+        points,
+    );
+    crate::pages::accept(page, corners.len(), largest)
 }
 
 // Checks 4 to 13 with 27 and 28, which fill the table of corners.

@@ -7,7 +7,7 @@ use native.Mathlib.Omega.{arith}
 use lib.Dec.{T as Passes}
 use lib.IntN.{ℤ, pos, _+ℤ_, _-ℤ_, _*ℤ_}
 use lib.Signed.{ltZ}
-use Rattle.integers.proofs.Poly.{over, poly}
+use Rattle.numbers.proofs.Poly.{over, poly}
 use Rattle.paper.specs.Numbers.{round, rounded}
 use Rattle.paper.specs.Refined.{RefinedMesh}
 use Rattle.paper.specs.Net.{Side, side0, side1, side2, side3, atHead, atTail, H, T, X, Y, N, C, outer1, outer2, outer3, a0, a1, a2, a3}

@@ -3,8 +3,8 @@
 // same numbers. The cube is soft (8 and 8 throughout) and then crisp (16 and 16), and the tetrahedron has corners of all sorts.
 use paper::Answer;
 use streams::output::say_up_to;
-use text_buffer::put_entry;
-use text_buffer::put_word;
+use streams::text::put_entry;
+use streams::text::put_word;
 ghost use Prim.Native.Nat.{_*_, _≤_, _<_};
 
 const COORDINATES: [i32; 24] = [

@@ -8,8 +8,8 @@ use Rattle.paper.specs.Mesh.{mostCorners, Mesh, cornerCount, faceCount}
 use Rattle.paper.specs.Faults.{Accepted}
 use Rattle.mesh.proofs.Accepted.{sound-of, few-corners}
 use Rattle.surface.specs.Points.{pointRow}
-use Rattle.face_sums.specs.Sources.{Small}
-use Rattle.face_sums.proofs.Laws.{small-zeros}
+use Rattle.refine.specs.sums.Sources.{Small}
+use Rattle.refine.proofs.sums.Laws.{small-zeros}
 
 pub point-room : (n p : ℕ) → n ≤ p → (pointRow * n ≤ length (replicate (pointRow * p) (pos 0))) × Small (replicate (pointRow * p) (pos 0))
 point-room n p h = (rw (length-replicate {A = ℤ} (pointRow * p) (pos 0)) (omega arith), small-zeros (pointRow * p))

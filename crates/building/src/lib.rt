@@ -1,4 +1,6 @@
 // Building: writes the control points of a range of corners, or answers why the call is refused and leaves the output as it was.
+pub mod writing;
+
 use mesh::LARGE_MESH;
 use mesh::SMALL_MESH;
 use paper::Answer;
@@ -173,7 +175,7 @@ fn write_range(
 {
     if corners.len() <= SMALL_MESH {
         let mut points = [0i32; POINT_ROW * SMALL_MESH];
-        writing::write_nets(
+        crate::writing::write_nets(
             coordinates,
             sides,
             corners,
@@ -186,7 +188,7 @@ fn write_range(
         );
     } else if corners.len() <= LARGE_MESH {
         let mut points = [0i32; POINT_ROW * LARGE_MESH];
-        writing::write_nets(
+        crate::writing::write_nets(
             coordinates,
             sides,
             corners,
@@ -199,7 +201,7 @@ fn write_range(
         );
     } else {
         let mut points = [0i32; POINT_ROW * MOST_CORNERS];
-        writing::write_nets(
+        crate::writing::write_nets(
             coordinates,
             sides,
             corners,

@@ -21,11 +21,11 @@ use Rattle.mesh.proofs.Verdicts.{sound-left, sound-right, single-sound, lowest-
 use Rattle.mesh.proofs.Accepted.{few-vertices, few-corners, sides-within, sums-of, named-of}
 use Rattle.walk.specs.Table.{rowLength, toLink, Column, Tabled}
 use Rattle.walk.proofs.Table.{blank}
-use Rattle.columns.specs.Vertices.{Rowed}
-use Rattle.columns.specs.Chain.{EarliersTo, EarliersFrom, Ready}
-use Rattle.columns.specs.Filled.{FacesFilled}
-use Rattle.edge_checks.specs.Entries.{Searchable, ChainsFrom, Ends, FacesKept, Valences}
-use Rattle.vertex_checks.specs.Ring.{Linking}
+use Rattle.checks.specs.columns.Vertices.{Rowed}
+use Rattle.checks.specs.columns.Chain.{EarliersTo, EarliersFrom, Ready}
+use Rattle.checks.specs.columns.Filled.{FacesFilled}
+use Rattle.checks.specs.edges.Entries.{Searchable, ChainsFrom, Ends, FacesKept, Valences}
+use Rattle.checks.specs.vertices.Ring.{Linking}
 use Rattle.checks.specs.Checked.{RoomFor, Checked, ListsChecked, Listed}
 
 -- tables of p and q rows, of zeros

@@ -11,8 +11,8 @@ use Rattle.paper.specs.Refined.{cornersOf}
 use Rattle.paper.specs.declared.Answer.{Answer}
 use Rattle.mesh.specs.Tables.{Named}
 use Rattle.walk.specs.Table.{rowLength, Blank, Tabled}
-use Rattle.columns.specs.Chain.{Ready}
-use Rattle.columns.specs.Filled.{FacesFilled}
+use Rattle.checks.specs.columns.Chain.{Ready}
+use Rattle.checks.specs.columns.Filled.{FacesFilled}
 
 -- a table of corners and a table of vertices with a row for each, where there are not too many; the second is of zeros
 pub record RoomFor (M : Mesh) (table vertices : List ℕ) : Type 0 where

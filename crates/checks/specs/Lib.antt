@@ -1,1 +1,4 @@
 pub mod Checked
+pub mod columns
+pub mod edges
+pub mod vertices

@@ -1,5 +1,10 @@
 // The checks that the file, linking and building share: 4 to 13 of a mesh with 27 and 28. Each number is tried over the whole input before the
 // next. Those of what is asked besides, 14 to 17, are in crate request_checks.
+pub mod columns;
+pub mod edges;
+pub mod faces;
+pub mod vertices;
+
 use mesh::MEDIUM_MESH;
 use mesh::SMALL_MESH;
 use paper::Answer;
@@ -80,11 +85,11 @@ pub fn check_within(
         return Answer::Refused(k, p);
     }
     let count = coordinates.len() / 3;
-    let b = edge_checks::check_edges(corners, count, table, vertices);
+    let b = crate::edges::check_edges(corners, count, table, vertices);
     if let Answer::Refused(k, p) = b {
         return Answer::Refused(k, p);
     }
-    vertex_checks::check_vertices(corners, count, table, vertices)
+    crate::vertices::check_vertices(corners, count, table, vertices)
 }
 
 // Checks 4 to 9 with 27 and 28, of the lists themselves; the last of them leaves the chains of the vertices in the two tables, and the
@@ -126,7 +131,7 @@ pub fn check_lists(
     if let Answer::Refused(k, p) = entries {
         return Answer::Refused(k, p);
     }
-    face_checks::check_faces(sides, corners, table, vertices)
+    crate::faces::check_faces(sides, corners, table, vertices)
 }
 
 // The first refusal of two checks.

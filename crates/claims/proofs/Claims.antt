@@ -12,21 +12,21 @@ use Rattle.accuracy.proofs.Theorem.{accuracy}
 use Rattle.mirror.proofs.Theorem.{mirrors}
 use Rattle.examples.proofs.Claim.{examples}
 use Rattle.floats.proofs.Theorems.{far-pairs, float-sums, one-answer}
-use Rattle.float_nets.proofs.Nets.{nets-pass}
+use Rattle.floats.proofs.nets.Nets.{nets-pass}
 use Rattle.nesting.proofs.Theorems.{chains-decide, listing-ordered, one-listing}
 use Rattle.irregular.proofs.Theorems.{lines-agree}
 use Rattle.dms.proofs.Theorems.{version-one}
 use Rattle.claims.proofs.Plain.{plain-passes}
-use Rattle.archive_laws.proofs.Theorems.{numbers-return, bytes-return}
+use Rattle.rearrange.proofs.laws.Theorems.{numbers-return, bytes-return}
 use Rattle.off_examples.proofs.Theorems.{no-six, missing-word, whole-text}
 use Rattle.preview.proofs.Theorems.{as-building, previews-build, previews-from-c}
 use Rattle.touching.proofs.Untouched.{untouched}
 use Rattle.sampling.proofs.Theorems.{samples-close, rays-agree, sample-ends, samples-between, triangles-sample}
-use Rattle.turn_laws.proofs.Theorems.{turned-passes, turns-decide, one-choice, turned-twice, turned-back, nothing-turned, none-farther}
-use Rattle.turn_laws.proofs.Listing.{listing-rises}
-use Rattle.page_laws.proofs.Once.{borders-once}
-use Rattle.page_laws.proofs.Runs.{runs-pass, runs-sum, misses-within, order-free, parts-merge}
-use Rattle.page_laws.proofs.Refusals.{refused-adds}
+use Rattle.turning.proofs.Theorems.{turned-passes, turns-decide, one-choice, turned-twice, turned-back, nothing-turned, none-farther}
+use Rattle.turning.proofs.Listing.{listing-rises}
+use Rattle.border_report.proofs.page_laws.Once.{borders-once}
+use Rattle.border_report.proofs.page_laws.Runs.{runs-pass, runs-sum, misses-within, order-free, parts-merge}
+use Rattle.border_report.proofs.page_laws.Refusals.{refused-adds}
 
 pub claims : Claims
 claims = record {

@@ -18,10 +18,10 @@ use Rattle.paper.specs.declared.Summary.{Summary}
 use Rattle.paper.specs.declared.Decoded.{Decoded}
 use Rattle.mesh.proofs.Scans.{ways}
 use Rattle.mesh.proofs.Verdicts.{orElse-sound, sound-left, sound-right, single-sound}
-use Rattle.dms_header.specs.Sized.{Sized}
-use Rattle.dms_lists.specs.Room.{Room, ListsRead}
-use Rattle.dms_lists.proofs.Lists.{read-back, file-coordinates, file-faces, file-corners, file-sharpness}
-use Rattle.dms_header.proofs.Headers.{header-sized}
+use Rattle.dms.specs.header.Sized.{Sized}
+use Rattle.dms.specs.lists.Room.{Room, ListsRead}
+use Rattle.dms.proofs.lists.Lists.{read-back, file-coordinates, file-faces, file-corners, file-sharpness}
+use Rattle.dms.proofs.header.Headers.{header-sized}
 
 -- ---- the bytes of the file
 pub held-bytes : (bytes : List ℕ) (held counted : ℕ) → (held < counted → held ≡ length bytes) → held ≤ counted → take held bytes ≡ take counted bytes

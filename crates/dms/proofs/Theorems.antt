@@ -7,7 +7,7 @@ use Prim.Native.Nat.{ℕ, _*_}
 use Rattle.paper.specs.Mesh.{plainList}
 use Rattle.paper.specs.File.{versionIn, sharp, cornersIn, sharpnessStart, fileMesh}
 use Rattle.paper.specs.Claims.{VersionOne}
-use Rattle.dms_lists.proofs.Lists.{file-corners, plain-values}
+use Rattle.dms.proofs.lists.Lists.{file-corners, plain-values}
 
 not-sharp : (file : List ℕ) → versionIn file ≡ 1 → sharp file ≡ false
 unfolding sharp

@@ -1,20 +1,24 @@
 // The mesh file DMS as a whole: the bytes read, and the length counted, give its counts, or its lists, or why it is turned down.
 // A file is checked by 1 to 13 and 28 in local copies of its lists, before anything is written to a lent space.
-pub use surveying::survey_mesh;
-ghost use mathlib.Core.Path.{_≡_};
-ghost use Prim.Native.Nat.{_<_, _≤_};
-ghost use lib.ListN.{length};
-ghost use Rattle.paper.specs.Mesh.{meshOf};
-ghost use Rattle.paper.specs.Faults.{verdict, stated};
-ghost use Rattle.paper.specs.File.{headerLength, fileMesh, fileOf, Surveyed, FileSurveyed, roomVerdict, decodeVerdict, DecodedTo};
-ghost use Rattle.dms_header.specs.Sized.{Sized};
+pub mod header;
+pub mod lists;
+pub mod surveying;
+
+use crate::surveying::none;
+pub use crate::surveying::survey_mesh;
 use paper::Answer;
 use paper::Decoded;
 use paper::MOST_CORNERS;
 use paper::MOST_FACES;
 use paper::MOST_VERTICES;
 use paper::Summary;
-use surveying::none;
+ghost use mathlib.Core.Path.{_≡_};
+ghost use Prim.Native.Nat.{_<_, _≤_};
+ghost use lib.ListN.{length};
+ghost use Rattle.paper.specs.Mesh.{meshOf};
+ghost use Rattle.paper.specs.Faults.{verdict, stated};
+ghost use Rattle.paper.specs.File.{headerLength, fileMesh, fileOf, Surveyed, FileSurveyed, roomVerdict, decodeVerdict, DecodedTo};
+ghost use Rattle.dms.specs.header.Sized.{Sized};
 
 // The numbers of the longest coordinate list.
 const MOST_NUMBERS: usize = 3 * MOST_VERTICES;
@@ -79,7 +83,7 @@ fn refused(number: u8, place: usize) -> Decoded
 fn survey_file(file: &[u8], counted: usize) -> Summary
     ensures { λ r. ⌜ FileSurveyed (now (file .entry)) counted r ⌝ }
 {
-    let header = dms_header::check_header(file, counted);
+    let header = crate::header::check_header(file, counted);
     if let Answer::Refused(number, place) = header {
         return Summary {
             answer: Answer::Refused(number, place),
@@ -98,16 +102,16 @@ fn survey_lists(file: &[u8]) -> Summary
     let mut sides = [0u8; MOST_FACES];
     let mut corners = [0u16; MOST_CORNERS];
     let mut sharpness = [0u8; MOST_PAIRS];
-    dms_lists::read_lists(
+    crate::lists::read_lists(
         file,
         &mut coordinates,
         &mut sides,
         &mut corners,
         &mut sharpness,
     );
-    let numbers = 3 * dms_header::vertex_count(file);
-    let faces = dms_header::face_count(file);
-    let count = dms_header::corner_count(file);
+    let numbers = 3 * crate::header::vertex_count(file);
+    let faces = crate::header::face_count(file);
+    let count = crate::header::corner_count(file);
     survey_mesh(
         &coordinates[..numbers],
         &sides[..faces],
@@ -138,13 +142,13 @@ fn decode_file(
     if let Answer::Refused(number, place) = answer {
         return refused(number, place);
     }
-    dms_lists::read_lists(file, coordinates, sides, corners, sharpness);
+    crate::lists::read_lists(file, coordinates, sides, corners, sharpness);
     Decoded {
         answer: Answer::Done,
-        coordinates: 3 * dms_header::vertex_count(file),
-        sides: dms_header::face_count(file),
-        corners: dms_header::corner_count(file),
-        sharpness: 2 * dms_header::corner_count(file),
+        coordinates: 3 * crate::header::vertex_count(file),
+        sides: crate::header::face_count(file),
+        corners: crate::header::corner_count(file),
+        sharpness: 2 * crate::header::corner_count(file),
     }
 }
 
@@ -178,15 +182,15 @@ fn check_room(
     requires { ⌜ headerLength ≤ length (now file) ⌝ }
     ensures { λ r. ⌜ stated r ≡ roomVerdict (now (file .entry)) coordinates sides corners sharpness ⌝ }
 {
-    let numbers = 3 * dms_header::vertex_count(file);
+    let numbers = 3 * crate::header::vertex_count(file);
     if coordinates < numbers {
         return Answer::Refused(NO_ROOM, numbers);
     }
-    let faces = dms_header::face_count(file);
+    let faces = crate::header::face_count(file);
     if sides < faces {
         return Answer::Refused(NO_ROOM, faces);
     }
-    let count = dms_header::corner_count(file);
+    let count = crate::header::corner_count(file);
     if corners < count {
         return Answer::Refused(NO_ROOM, count);
     }

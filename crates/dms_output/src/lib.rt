@@ -5,13 +5,13 @@ ghost use lib.ListN.{length};
 ghost use mir.Syntax.{w32};
 ghost use mir.Val.{ofZ};
 ghost use Rattle.paper.specs.Mesh.{meshOf};
-ghost use Rattle.text_buffer.specs.Text.{Put};
+ghost use Rattle.streams.specs.text.Text.{Put};
 ghost use Rattle.dms_output.specs.Bytes.{halfBytes, wordBytes, coordinateBytes, cornerBytes, headerBytes, listBytes, fileBytes, Plain};
-use dms_lists::bits;
+use dms::lists::bits;
 use paper::PLAIN;
 use streams::output::say_up_to;
-use text_buffer::put_byte;
-use text_buffer::put_word;
+use streams::text::put_byte;
+use streams::text::put_word;
 
 // The buffer has room for the file of every mesh within the limits.
 pub const BUFFER: usize = 61451;

@@ -16,7 +16,7 @@ use Rattle.paper.specs.Net.{quad, H, T, X, Y, N, C, outer1, outer2, outer3, a0,
 use Rattle.paper.specs.Calls.{numberAt, nets}
 use Rattle.paper.specs.Borders.{outputOf, written}
 use Rattle.paper.specs.Accuracy.{truePoint, mostOff}
-use Rattle.integers.proofs.Below.{both}
+use Rattle.numbers.proofs.Below.{both}
 
 -- a pyramid over five sides, flat but for x
 pyramid : Mesh

@@ -18,7 +18,7 @@ use Rattle.paper.specs.Net.{side1, quad, H, T, X, Y, N, C, outer1, outer2, oute
 use Rattle.paper.specs.Net.{bGrid, aGrid, net}
 use Rattle.paper.specs.Calls.{numberAt, nets}
 use Rattle.paper.specs.Borders.{outputOf, written, first, second, third, fourth, mostMiss, miss}
-use Rattle.integers.proofs.Below.{both}
+use Rattle.numbers.proofs.Below.{both}
 
 -- a pyramid over five sides, flat but for x
 pyramid : Mesh

@@ -6,7 +6,7 @@ use mathlib.Core.List.{List, [], _∷_}
 use lib.Dec.{T as Holds}
 use lib.IntN.{ℤ}
 use Rattle.paper.specs.Examples.{Row, _gives_, AllGive}
-use Rattle.integers.proofs.Below.{both, both-left, both-right, eqZ, eqZ-eq}
+use Rattle.numbers.proofs.Below.{both, both-left, both-right, eqZ, eqZ-eq}
 
 unfoldable pub same : List ℤ → List ℤ → Bool
 same [] [] = true

@@ -17,9 +17,9 @@ use lib.Ieee.Exact.{HasValue, round-exact}
 use lib.Ieee.Fits.{ofInt-fits, fits-widens, down-pos, and-i}
 use Rattle.paper.specs.Numbers.{floor}
 use Rattle.paper.specs.Floats.{farFirst, farSecond, readBack, FarPair}
-use Rattle.integers.proofs.Diff.{diff}
-use Rattle.integers.proofs.Poly.{over, poly}
-use Rattle.integers.proofs.Floor.{floor-is}
+use Rattle.numbers.proofs.Diff.{diff}
+use Rattle.numbers.proofs.Poly.{over, poly}
+use Rattle.numbers.proofs.Floor.{floor-is}
 use Rattle.floats.specs.Exact.{FloatOf}
 
 -- the float of z in the format f has the value z

@@ -24,10 +24,10 @@ use Rattle.paper.specs.declared.Answer.{Answer}
 use Rattle.paper.specs.declared.Answer.the-variants.{Done, Refused}
 use Rattle.paper.specs.declared.FloatPoint.{FloatPoint}
 use Rattle.paper.specs.declared.FloatPoint.the-variants.{Near, Far, Refused as NoPoint}
-use Rattle.integers.proofs.Diff.{diff}
-use Rattle.integers.proofs.Poly.{over, poly}
-use Rattle.integers.proofs.Laws.{mul-comm}
-use Rattle.integers.proofs.Machine.{abs-fits}
+use Rattle.numbers.proofs.Diff.{diff}
+use Rattle.numbers.proofs.Poly.{over, poly}
+use Rattle.numbers.proofs.Laws.{mul-comm}
+use Rattle.numbers.proofs.Machine.{abs-fits}
 use Rattle.mesh.proofs.Scans.{and-left, and-right}
 use Rattle.mesh.proofs.Verdicts.{sound-left, sound-right, single-sound, lowest-sound, orElse-assoc}
 use Rattle.floats.specs.Exact.{FloatOf, firstPart, SplitTo}

@@ -1,5 +1,7 @@
 // L1: one control point of a quad-net as its difference from b00, in floats. Checks 18 to 20, then the three differences, then their
 // floats. Every cast is one that loses nothing, and no other operation on floats is used.
+pub mod nets;
+
 use paper::Answer;
 use paper::FloatPoint;
 use paper::Floats;

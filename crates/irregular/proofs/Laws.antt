@@ -16,8 +16,8 @@ use Rattle.paper.specs.declared.Answer.the-variants.{Refused as Fault}
 use Rattle.mesh.proofs.Accepted.{sound-of, few-vertices, few-corners, named-of}
 use Rattle.walk.specs.Table.{rowLength}
 use Rattle.walk.proofs.Table.{blank}
-use Rattle.columns.specs.Vertices.{countHere}
-use Rattle.columns.specs.Filled.{Countable}
+use Rattle.checks.specs.columns.Vertices.{countHere}
+use Rattle.checks.specs.columns.Filled.{Countable}
 use Rattle.paper.specs.declared.Irregular.{Irregular}
 use Rattle.paper.specs.declared.Irregular.the-variants.{Face, Vertex, None, Refused}
 use Rattle.paper.specs.Squares.{irregularFace, irregularVertex, SearchCase, faceFound, vertexFound}

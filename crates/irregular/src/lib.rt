@@ -1,6 +1,6 @@
 // L7, is it all squares? Checks 4 to 13 with 27 and 28; then the lowest face that has not four sides, else the lowest vertex that has not four corners,
 // else none. Each search stops at the first that it finds, and that of the faces counts the side counts that it reads.
-use columns::COUNT;
+use checks::columns::COUNT;
 use paper::Answer;
 use paper::Irregular;
 use paper::MOST_VERTICES;
@@ -11,7 +11,7 @@ ghost use lib.ListN.{length};
 ghost use Rattle.paper.specs.Scan.{firstBelow};
 ghost use Rattle.paper.specs.Mesh.{mostVertices, mostCorners, meshOf};
 ghost use Rattle.walk.specs.Table.{rowLength};
-ghost use Rattle.columns.specs.Filled.{CornersCounted};
+ghost use Rattle.checks.specs.columns.Filled.{CornersCounted};
 ghost use Rattle.paper.specs.Squares.{irregularVertex, Searched};
 ghost use Rattle.irregular.specs.Found.{Named, FacesSearched};
 
@@ -76,7 +76,7 @@ fn search_corners(corners: &[u16], count: usize) -> usize
     ensures { λ r. ⌜ r ≡ firstBelow count (irregularVertex (now (corners .entry))) ⌝ }
 {
     let mut vertices = [0u16; ROW * MOST_VERTICES];
-    columns::count_corners(corners, &mut vertices);
+    checks::columns::count_corners(corners, &mut vertices);
     search_vertices(corners, &vertices, count)
 }
 

@@ -8,7 +8,7 @@ use native.Mathlib.Omega.{arith}
 use lib.IntN.{ℤ, pos, negℤ, _+ℤ_, _-ℤ_, _*ℤ_}
 use Rattle.paper.specs.Numbers.{round}
 use Rattle.paper.specs.Mirror.{negatedIf}
-use Rattle.integers.proofs.Poly.{over, poly}
+use Rattle.numbers.proofs.Poly.{over, poly}
 use Rattle.numbers.proofs.Nearest.{round-neg}
 
 pub record Turn (σ : ℤ → ℤ) : Type 0 where

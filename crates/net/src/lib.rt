@@ -1,7 +1,14 @@
 // The quad-net of one corner: its 41 control points on the three axes, from the rows of four numbers that they are made from, by the lanes, to the
 // corner's part of the output.
-use net_near::FACE;
-use net_near::VERTEX;
+pub mod copy;
+pub mod lanes;
+pub mod near;
+pub mod points;
+pub mod rows;
+pub mod sides;
+
+use crate::near::FACE;
+use crate::near::VERTEX;
 use numbers::cosines;
 use walk::LINK;
 use walk::NEXT;
@@ -11,7 +18,7 @@ ghost use Prim.Native.Nat.{_+_, _≤_, _<_};
 ghost use lib.ListN.{length};
 ghost use Rattle.paper.specs.Calls.{perCorner};
 ghost use Rattle.numbers.specs.Stored.{stored};
-ghost use Rattle.net_sides.specs.Drawn.{drawn, Drawn};
+ghost use Rattle.net.specs.sides.Drawn.{drawn, Drawn};
 ghost use Rattle.net.specs.Put.{Put};
 
 // The numbers in the rows that a net is made from, and in those of its points.
@@ -41,12 +48,12 @@ pub fn put_net(
     let here = Walker { corner: c };
     let m = here.valence(table);
     let n = here.sides(table);
-    net_near::take_ring(points, table, LINK, rows, c, m, near, VERTEX);
-    net_near::take_ring(points, table, NEXT, rows, c, n, near, FACE);
-    let corners = net_near::corners_near(table, count, c);
-    net_near::take_points(points, corners, near);
+    crate::near::take_ring(points, table, LINK, rows, c, m, near, VERTEX);
+    crate::near::take_ring(points, table, NEXT, rows, c, n, near, FACE);
+    let corners = crate::near::corners_near(table, count, c);
+    crate::near::take_points(points, corners, near);
     let v = cosines::cosine(rows, m, 1);
     let w = cosines::cosine(rows, n, 1);
-    net_lanes::fill_lanes(near, m, n, v, w, lanes);
-    net_copy::copy(lanes, out, at);
+    crate::lanes::fill_lanes(near, m, n, v, w, lanes);
+    crate::copy::copy(lanes, out, at);
 }

@@ -4,7 +4,7 @@ use mathlib.Core.Path.{_≡_}
 use native.Mathlib.Omega.{arith}
 use lib.IntN.{ℤ, pos, _*ℤ_}
 use Rattle.paper.specs.Claims.{NoRounding}
-use Rattle.integers.proofs.Poly.{over, poly}
+use Rattle.numbers.proofs.Poly.{over, poly}
 
 pub no-rounding : NoRounding
 no-rounding q d some = turn (pos d) (q .top) (pos (q .bottom))

@@ -13,10 +13,10 @@ use lib.Signed.{_≤ℤ_, _<ℤ_, ltZ, ltZ-yes, shrZ}
 use mir.Syntax.{w32, w64}
 use mir.Val.{SFits}
 use Rattle.paper.specs.Numbers.{floor, round}
-use Rattle.integers.proofs.Diff.{diff}
-use Rattle.integers.proofs.Poly.{over, poly}
-use Rattle.integers.proofs.Laws.{mul-le}
-use Rattle.integers.proofs.Floor.{IsFloor, floor-is, floor-unique, double-pos, pos-of}
+use Rattle.numbers.proofs.Diff.{diff}
+use Rattle.numbers.proofs.Poly.{over, poly}
+use Rattle.numbers.proofs.Laws.{mul-le}
+use Rattle.numbers.proofs.Floor.{IsFloor, floor-is, floor-unique, double-pos, pos-of}
 use Rattle.numbers.specs.Near.{Near}
 use Rattle.numbers.specs.Sign.{sign}
 

@@ -11,10 +11,10 @@ use lib.Signed.{_≤ℤ_, _<ℤ_, ltZ-yes, nonNeg, shrZ}
 use mir.Syntax.{w32}
 use mir.Val.{SFits}
 use Rattle.paper.specs.Numbers.{floor, round}
-use Rattle.integers.proofs.Diff.{diff}
-use Rattle.integers.proofs.Poly.{over, poly}
-use Rattle.integers.proofs.Laws.{mul-le, nonneg, lt-of-le-of-lt}
-use Rattle.integers.proofs.Floor.{IsFloor, floor-is, floor-unique, step-le, pos-of}
+use Rattle.numbers.proofs.Diff.{diff}
+use Rattle.numbers.proofs.Poly.{over, poly}
+use Rattle.numbers.proofs.Laws.{mul-le, nonneg, lt-of-le-of-lt}
+use Rattle.numbers.proofs.Floor.{IsFloor, floor-is, floor-unique, step-le, pos-of}
 use Rattle.numbers.specs.Sign.{sign, tie}
 use Rattle.numbers.specs.Small.{lift, Lifted, Share, SideReciprocal, OddLifted, OddFraction}
 use Rattle.numbers.proofs.Nearest.{sign-bounds, shift-floor, round-floor, round-half}

@@ -9,10 +9,10 @@ use lib.Signed.{_≤ℤ_, _<ℤ_, ltZ-yes}
 use mir.Syntax.{w64}
 use mir.Val.{SFits}
 use Rattle.paper.specs.Numbers.{floor, round}
-use Rattle.integers.proofs.Diff.{diff}
-use Rattle.integers.proofs.Poly.{over, poly}
-use Rattle.integers.proofs.Laws.{mul-le, nonneg}
-use Rattle.integers.proofs.Floor.{IsFloor, floor-is, floor-unique, step-le, pos-of}
+use Rattle.numbers.proofs.Diff.{diff}
+use Rattle.numbers.proofs.Poly.{over, poly}
+use Rattle.numbers.proofs.Laws.{mul-le, nonneg}
+use Rattle.numbers.proofs.Floor.{IsFloor, floor-is, floor-unique, step-le, pos-of}
 use Rattle.numbers.specs.Sign.{sign}
 use Rattle.numbers.specs.Units.{Units, Reciprocal}
 use Rattle.numbers.proofs.Nearest.{sign-bounds, round-half}

@@ -1,9 +1,11 @@
 // The lines of a Wavefront OBJ, for the samples of a quad-net's four triangles: points in grid steps, as exact decimals, and the small triangles
 // between the rows of samples. Each function puts its lines at a position, as far as the lent list has room, and answers the position after them.
+pub mod points;
+
 use print::lines::put_ended;
-use text_buffer::put_byte;
-use text_buffer::put_number;
-use text_buffer::put_word;
+use streams::text::put_byte;
+use streams::text::put_number;
+use streams::text::put_word;
 ghost use mathlib.Core.Path.{_≡_};
 ghost use Prim.Native.Nat.{_*_, _≤_, _<_};
 ghost use lib.IntN.{natAbs};

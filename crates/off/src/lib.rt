@@ -1,8 +1,13 @@
-// L6, reading OFF files: check 24, then 25, 26 and 4 to 13 (crate off_checks), and the four lists, the last of them 8 and 8 throughout. The
+// L6, reading OFF files: check 24, then 25, 26 and 4 to 13 (`checking`), and the four lists, the last of them 8 and 8 throughout. The
 // lists are read into own ones, and copied to the lent ones when every check has passed.
-use off_checks::read_checked;
-use off_checks::refused;
-use off_words::Cursor;
+pub mod checking;
+pub mod digits;
+pub mod lists;
+pub mod words;
+
+use crate::checking::read_checked;
+use crate::checking::refused;
+use crate::words::Cursor;
 use paper::Answer;
 use paper::Decoded;
 use paper::MOST_CORNERS;
@@ -15,8 +20,8 @@ ghost use lib.ListN.{length};
 ghost use Rattle.paper.specs.Mesh.{meshOf, four, mostCorners};
 ghost use Rattle.paper.specs.File.{begins};
 ghost use Rattle.paper.specs.Off.{short, OffRead};
-ghost use Rattle.off_words.specs.Cursor.{Before};
-ghost use Rattle.off_checks.specs.Call.{Room, Copied};
+ghost use Rattle.off.specs.words.Cursor.{Before};
+ghost use Rattle.off.specs.checking.Call.{Room, Copied};
 
 // The numbers of the longest coordinate list.
 const MOST_NUMBERS: usize = 3 * MOST_VERTICES;
@@ -37,7 +42,7 @@ pub fn read(
     if too_short(coordinates, sides, corners, sharpness) {
         return refused(24, 0);
     }
-    let mark = off_words::read_mark(text);
+    let mark = crate::words::read_mark(text);
     if !mark.ok {
         return refused(24, 0);
     }
@@ -100,7 +105,7 @@ fn read_through(
     copy_sides(&sizes[..f], sides);
     copy_corners(&names[..k], corners);
     let pairs = 2 * k;
-    dms_lists::fill_plain(pairs, sharpness);
+    dms::lists::fill_plain(pairs, sharpness);
     Decoded {
         answer: Answer::Done,
         coordinates: n,

@@ -2,7 +2,7 @@
 // with number and place, on standard error, and nothing on standard output; so does one that is longer than 1 MiB, with another line. With the
 // argument `as-drawn` the lists are written as the text has them, checked by 24, 25, 26 and 4 alone, for `turn` to check the rest.
 use libc::STDIN_FILENO;
-use off_words::Cursor;
+use off::words::Cursor;
 use paper::Answer;
 use paper::Decoded;
 use paper::MOST_CORNERS;
@@ -11,7 +11,7 @@ use paper::MOST_VERTICES;
 use print::complain_refusal;
 use streams::output::complain;
 ghost use Prim.Native.Nat.{_≤_};
-ghost use Rattle.off_words.specs.Cursor.{Before};
+ghost use Rattle.off.specs.words.Cursor.{Before};
 
 // The longest text. The buffer has a byte more, which a longer text fills.
 const MOST_BYTES: usize = 1048576;
@@ -123,7 +123,7 @@ fn convert(text: &[u8]) {
 
 // Check 24, and then the lists as they are drawn.
 fn convert_drawn(text: &[u8]) {
-    let mark = off_words::read_mark(text);
+    let mark = off::words::read_mark(text);
     if mark.ok {
         read_drawn(text, mark.next);
     } else {
@@ -139,7 +139,7 @@ fn read_drawn(text: &[u8], c: Cursor)
     let mut coordinates = [0i32; 3 * MOST_VERTICES];
     let mut sides = [0u8; MOST_FACES];
     let mut corners = [0u16; MOST_CORNERS];
-    let d = off_checks::read_words(text, c, &mut coordinates, &mut sides, &mut corners);
+    let d = off::checking::read_words(text, c, &mut coordinates, &mut sides, &mut corners);
     let answer = check_counts(d);
     let n = least(d.coordinates, 3 * MOST_VERTICES);
     let f = least(d.sides, MOST_FACES);

@@ -1,11 +1,11 @@
 // A page of the border report as text: a line in words for each of its 21 numbers, and last the line `page` with the numbers themselves, which is read
 // back. Numbers are decimal; misses are in ticks, with three decimals, halves up.
-use text_buffer::put_byte;
-use text_buffer::put_number;
-use text_buffer::put_word;
+use streams::text::put_byte;
+use streams::text::put_number;
+use streams::text::put_word;
 ghost use mathlib.Core.Path.{_≡_};
 ghost use Prim.Native.Nat.{_≤_, _<_};
-ghost use Rattle.text_buffer.specs.Text.{Put};
+ghost use Rattle.streams.specs.text.Text.{Put};
 ghost use Rattle.page_text.specs.Lines.{textsBelow, namedLine, refusedByLine, refusalsLine, inTicks, missLine, conditionLine};
 ghost use Rattle.page_text.specs.Lines.{spaced, spacedNumber, pageLine, pageLines};
 ghost use Rattle.page_text.specs.Lines.{thousandths as Lines·thousandths, digit as Lines·digit};

@@ -1,15 +1,15 @@
 // Prints the control points of every corner of the mesh file on standard input, in ticks: a line `corner N`, then 41 lines of
 // x, y, z, the b points row by row and then the a points; or why the file is turned down, as `inspect` does.
-use mesh_input::MOST_NUMBERS;
-use mesh_input::MOST_PAIRS;
-use mesh_input::read_mesh;
 use paper::Answer;
 use paper::MOST_CORNERS;
 use paper::MOST_FACES;
 use paper::NUMBERS_PER_CORNER;
+use print::mesh_input::MOST_NUMBERS;
+use print::mesh_input::MOST_PAIRS;
+use print::mesh_input::read_mesh;
 use print::say_refusal;
 use streams::output::say_up_to;
-use text_buffer::put_entry;
+use streams::text::put_entry;
 ghost use Prim.Native.Nat.{_≤_, _<_};
 ghost use Rattle.paper.specs.Mesh.{mostCorners};
 
@@ -148,7 +148,7 @@ fn print_corner(output: &[i32; NUMBERS], place: usize, corner: usize) -> bool
     requires { ⌜ place < 64 ⌝ }
 {
     let mut lines = [0u8; LINES];
-    let word = text_buffer::put_word(&mut lines, 0, b"corner ");
+    let word = streams::text::put_word(&mut lines, 0, b"corner ");
     let first = print::lines::put_ended(&mut lines, word, corner as u64, b'\n');
     let end = put_points(&mut lines, first, output, place);
     say_up_to(&lines, end)

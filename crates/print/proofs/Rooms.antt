@@ -18,10 +18,10 @@ use Rattle.paper.specs.declared.Answer.the-variants.{Done, Refused}
 use Rattle.paper.specs.declared.Counts.{Counts}
 use Rattle.paper.specs.declared.Summary.{Summary}
 use Rattle.io.specs.Counts.{Counts as Within}
-use Rattle.text_buffer.specs.Text.{decimal, Put}
+use Rattle.streams.specs.text.Text.{decimal, Put}
 use Rattle.print.specs.Lines.{ended, threeLine, refusedLine, countLine, countLines, meshLines, answerLines, summaryLines}
-use Rattle.text_buffer.proofs.Putting.{put-fits}
-use Rattle.text_buffer.proofs.Decimals.{decimal-short}
+use Rattle.streams.proofs.text.Putting.{put-fits}
+use Rattle.streams.proofs.text.Decimals.{decimal-short}
 
 -- the line of a file, and one for each m from 0 on
 abbrev answerRoom : ℕ

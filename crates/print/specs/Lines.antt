@@ -10,7 +10,7 @@ use Rattle.paper.specs.declared.Answer.{Answer}
 use Rattle.paper.specs.declared.Answer.the-variants.{Done, Refused}
 use Rattle.paper.specs.declared.Counts.{Counts}
 use Rattle.paper.specs.declared.Summary.{Summary}
-use Rattle.text_buffer.specs.Text.{decimal}
+use Rattle.streams.specs.text.Text.{decimal}
 
 abbrev pub space : ℕ
 space = 32

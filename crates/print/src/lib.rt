@@ -1,14 +1,16 @@
 // What the programs print: lines in a lent buffer, with the bytes that they then hold stated; and what `inspect` does with a file.
+pub mod file_input;
 pub mod lines;
+pub mod mesh_input;
 
+use crate::file_input::BUFFER;
+use crate::file_input::read_file;
+use lines::ANSWER;
+use streams::output;
 ghost use lib.ListN.{take};
 ghost use Rattle.io.specs.Counts.{Counts};
 ghost use Rattle.paper.specs.File.{fileOf};
 ghost use Rattle.print.specs.Files.{Reported};
-use file_input::BUFFER;
-use file_input::read_file;
-use lines::ANSWER;
-use streams::output;
 
 // The lines that say what `dms::survey` answers, of the bytes read and the length counted.
 pub fn report(bytes: &[u8], counted: usize, lines: &mut [u8; ANSWER]) -> usize

@@ -4,15 +4,15 @@ ghost use lib.ListN.{take};
 ghost use Prim.Native.Nat.{_+_};
 ghost use Rattle.io.specs.Counts.{Counts as Within};
 ghost use Rattle.paper.specs.Mesh.{mostSides};
-ghost use Rattle.text_buffer.specs.Text.{Put};
+ghost use Rattle.streams.specs.text.Text.{Put};
 ghost use Rattle.print.specs.Lines.{ended, threeLine, refusedLine, countLine, countLines, meshLines, summaryLines};
 use paper::Answer;
 use paper::Counts;
 use paper::NUMBERS;
 use paper::Summary;
-use text_buffer::put_byte;
-use text_buffer::put_number;
-use text_buffer::put_word;
+use streams::text::put_byte;
+use streams::text::put_number;
+use streams::text::put_word;
 
 // Room for all that is printed of a file: a line for it and one for each m, none of them longer than 63 bytes after the word.
 pub const ANSWER: usize = 64 * (NUMBERS + 1);

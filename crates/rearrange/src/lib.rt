@@ -1,5 +1,12 @@
 // L11, coordinates rearranged for the archive, and back: checks 30 and 31 of the two lengths, then one pass over the numbers. Lists may
 // have any length: no length is multiplied before it is known to be a quarter of the other.
+pub mod archiving;
+pub mod differences;
+pub mod four_bytes;
+pub mod laws;
+pub mod planes;
+pub mod restoring;
+
 use paper::Answer;
 ghost use mathlib.Core.Path.{_≡_};
 ghost use Rattle.paper.specs.Faults.{stated};
@@ -13,7 +20,7 @@ pub fn archive(numbers: &[i32], bytes: &mut [u8]) -> Answer
     if let Answer::Refused(k, p) = a {
         return Answer::Refused(k, p);
     }
-    archiving::fill_planes(numbers, bytes);
+    crate::archiving::fill_planes(numbers, bytes);
     Answer::Done
 }
 
@@ -25,7 +32,7 @@ pub fn restore(bytes: &[u8], numbers: &mut [i32]) -> Answer
     if let Answer::Refused(k, p) = a {
         return Answer::Refused(k, p);
     }
-    restoring::fill_numbers(bytes, numbers);
+    crate::restoring::fill_numbers(bytes, numbers);
     Answer::Done
 }
 

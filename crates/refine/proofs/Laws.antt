@@ -15,8 +15,8 @@ use Rattle.paper.specs.Numbers.{rounded}
 use Rattle.paper.specs.Refined.{refinedPoint}
 use Rattle.mesh.proofs.Scans.{ways}
 use Rattle.surface.specs.Points.{pointRow}
-use Rattle.face_sums.specs.Sources.{Small, Filled, Added}
-use Rattle.face_sums.proofs.Laws.{holds-none, holds-more}
+use Rattle.refine.specs.sums.Sources.{Small, Filled, Added}
+use Rattle.refine.proofs.sums.Laws.{holds-none, holds-more}
 
 module _ (M : Mesh) (marked : List ℕ) where
   abbrev pub Marks : ℕ → Type 0

@@ -1,12 +1,18 @@
 // The refined points of the corners at the vertices that are marked, on the three axes: a row for each corner. The sums of their faces are formed
 // first, once for each face and axis, and put into a table; the loop over the corners takes them from there.
-use face_sums::SUM_ROW;
-use face_sums::fill_sums;
+pub mod corners;
+pub mod faces;
+pub mod formulas;
+pub mod sums;
+pub mod wanted;
+
+use crate::corners::FaceSums;
+use crate::corners::fill_corner;
+use crate::corners::read_face;
+use crate::sums::SUM_ROW;
+use crate::sums::fill_sums;
 use mesh::SMALL_MESH;
 use paper::MOST_CORNERS;
-use refined_corners::FaceSums;
-use refined_corners::fill_corner;
-use refined_corners::read_face;
 ghost use mathlib.Core.Path.{_≡_};
 ghost use Prim.Native.Nat.{_+_, _*_, _≤_, _<_};
 ghost use lib.ListN.{length};
@@ -16,8 +22,8 @@ ghost use Rattle.paper.specs.Refined.{cornersOf};
 ghost use Rattle.mesh.specs.Tables.{Named};
 ghost use Rattle.surface.specs.Points.{pointRow};
 ghost use Rattle.walk.specs.Table.{Tabled};
-ghost use Rattle.face_sums.specs.Sources.{Refinable, Small, Filled, Pointed, Covered, SumRoom, SumsAre};
-ghost use Rattle.refined_corners.specs.Mean.{FaceOf};
+ghost use Rattle.refine.specs.sums.Sources.{Refinable, Small, Filled, Pointed, Covered, SumRoom, SumsAre};
+ghost use Rattle.refine.specs.corners.Mean.{FaceOf};
 
 // The refined points of the corners whose vertex has a nonzero entry in `marked`. A face with such a corner has one in `wanted`.
 pub fn fill_points(

@@ -1,21 +1,21 @@
 // The border report over a run of mesh files, whose names are the arguments, or with none the lines of standard input: the page in words on standard
 // output, and last the line `page` with its numbers. `report merge` makes one page of all such lines on standard input. A file that cannot be opened or
 // read is named on standard error and not counted. A refusal goes there too, and leaves standard output empty.
-use file_input::BUFFER;
-use file_input::read_file;
+use border_report::page_numbers::NUMBERS;
 use libc::STDERR_FILENO;
 use libc::STDIN_FILENO;
 use line_input::next_line;
-use page_numbers::NUMBERS;
 use page_text::begins;
 use paper::Answer;
 use paper::Reported;
 use print::complain_refusal;
+use print::file_input::BUFFER;
+use print::file_input::read_file;
 use streams::output::complain;
 use streams::output::complain_up_to;
 use streams::output::say_up_to;
-use text_buffer::put_number;
-use text_buffer::put_word;
+use streams::text::put_number;
+use streams::text::put_word;
 ghost use Prim.Native.Nat.{_≤_, _<_};
 ghost use lib.ListN.{length};
 
@@ -112,7 +112,7 @@ fn offer_open(fd: i32, name: &[u8], numbers: &mut [u64; NUMBERS]) -> bool {
 
 // Offers the bytes of a file to the page.
 fn offer(bytes: &[u8], counted: usize, numbers: &mut [u64; NUMBERS]) -> bool {
-    let page = page_numbers::read(numbers);
+    let page = border_report::page_numbers::read(numbers);
     let reported = border_report::report(bytes, counted, page);
     take_page(reported, numbers)
 }
@@ -125,7 +125,7 @@ fn take_page(reported: Reported, numbers: &mut [u64; NUMBERS]) -> bool {
         return false;
     }
     let page = reported.page;
-    *numbers = page_numbers::numbers(page);
+    *numbers = border_report::page_numbers::numbers(page);
     true
 }
 
@@ -195,8 +195,8 @@ fn merge_line(line: &[u8], i: u64, numbers: &mut [u64; NUMBERS]) -> bool {
 
 // Merges a page.
 fn merge(others: &[u64; NUMBERS], numbers: &mut [u64; NUMBERS]) -> bool {
-    let page = page_numbers::read(numbers);
-    let other = page_numbers::read(others);
+    let page = border_report::page_numbers::read(numbers);
+    let other = border_report::page_numbers::read(others);
     let reported = border_report::merge(page, other);
     take_page(reported, numbers)
 }

@@ -1,10 +1,10 @@
 // Restores a coordinate list from the archive: the bytes on standard input, as `archive` writes them, become four-byte numbers, low byte
 // first, on standard output. Every number has a byte in each quarter of the input, so the whole of it is held, and there is a longest
 // list. What is turned down gets a line on standard error and nothing on standard output.
-use four_bytes::BYTES;
-use four_bytes::NUMBERS;
 use libc::STDIN_FILENO;
 use paper::Answer;
+use rearrange::four_bytes::BYTES;
+use rearrange::four_bytes::NUMBERS;
 ghost use Prim.Native.Nat.{_≤_};
 
 fn main() {
@@ -12,7 +12,7 @@ fn main() {
         streams::output::complain(b"usage: restore < FILE > FILE\n");
         return;
     }
-    let mut bytes = four_bytes::byte_room();
+    let mut bytes = rearrange::four_bytes::byte_room();
     let got = streams::input::read_up_to(STDIN_FILENO, b"standard input", &mut bytes);
     let held = got.count;
     if BYTES < held {
@@ -26,7 +26,7 @@ fn main() {
 
 // Lends a number list, with a number for each four bytes.
 fn restore_bytes(bytes: &mut [u8]) {
-    let mut numbers = four_bytes::number_room();
+    let mut numbers = rearrange::four_bytes::number_room();
     let n = least(bytes.len() / 4, NUMBERS);
     restore_numbers(bytes, &mut numbers[..n]);
 }
@@ -37,7 +37,7 @@ fn restore_numbers(bytes: &mut [u8], numbers: &mut [i32]) {
     match answer {
         Answer::Refused(number, place) => print::complain_refusal(number, place),
         Answer::Done => {
-            four_bytes::write_numbers(numbers, bytes);
+            rearrange::four_bytes::write_numbers(numbers, bytes);
             streams::output::say(bytes);
         }
     }

@@ -23,17 +23,17 @@ use Rattle.paper.specs.declared.Answer.{Answer}
 use Rattle.paper.specs.declared.Answer.the-variants.{Done, Refused}
 use Rattle.paper.specs.Sampling.{control, Weights, weights, onAxis, bernsteinSum, sampleAt, samplePoint, fault32, mostParts, fault33, sampleVerdict, sideAt}
 use Rattle.paper.specs.Sampling.{Sampled, sampleCount, triangleSamples, triangleVerdict, TriangleSampled}
-use Rattle.integers.proofs.Diff.{as-diff, diff}
+use Rattle.numbers.proofs.Diff.{as-diff, diff}
 use Rattle.mesh.proofs.Ranges.{or-left, or-right, none-left, none-right, inside, at-least, at-most}
 use Rattle.mesh.proofs.Verdicts.{sound-left, sound-right, single-sound, single-miss, single-hit, orElse-fault, orElse-sound, stop, past}
-use Rattle.bernstein.specs.declared.Five.{Five}
-use Rattle.bernstein.specs.declared.Rows.{Rows}
-use Rattle.bernstein.specs.Sums.{AllSized, Tapered, AllTapered, rowsOf, polynomialOf, rowOf, valueOf, quarticSum}
-use Rattle.bernstein.proofs.Laws.{bits, sized-bits, polynomial-tapers, row-tapers, value-size}
-use Rattle.bernstein.proofs.Identity.{polynomial-sum}
-use Rattle.bernstein.proofs.Sum.{bernstein-is, sum-size}
-use Rattle.triangle_points.specs.Places.{bPlace, aPlace}
-use Rattle.triangle_points.proofs.Laws.{outer-place, a-place, inner-place, inner-a-place, number-size}
+use Rattle.sampling.specs.declared.bernstein.Five.{Five}
+use Rattle.sampling.specs.declared.bernstein.Rows.{Rows}
+use Rattle.sampling.specs.bernstein.Sums.{AllSized, Tapered, AllTapered, rowsOf, polynomialOf, rowOf, valueOf, quarticSum}
+use Rattle.sampling.proofs.bernstein.Laws.{bits, sized-bits, polynomial-tapers, row-tapers, value-size}
+use Rattle.sampling.proofs.bernstein.Identity.{polynomial-sum}
+use Rattle.sampling.proofs.bernstein.Sum.{bernstein-is, sum-size}
+use Rattle.sampling.specs.points.Places.{bPlace, aPlace}
+use Rattle.sampling.proofs.points.Laws.{outer-place, a-place, inner-place, inner-a-place, number-size}
 use Rattle.sampling.specs.Grid.{Sampleable}
 use Rattle.sampling.proofs.Lists.{row-value}
 

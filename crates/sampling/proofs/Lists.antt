@@ -17,12 +17,12 @@ use Rattle.paper.specs.Floats.{netVerdict, axes}
 use Rattle.paper.specs.Sampling.{control, Weights, weights, onAxis, bernsteinSum, sampleAt, samplePoint, sideAt, rowSamples, firstRows, triangleSamples}
 use Rattle.paper.specs.Sampling.{sampleCount, rowStart}
 use Rattle.mesh.proofs.Scans.{compared}
-use Rattle.bernstein.specs.declared.Five.{Five}
-use Rattle.bernstein.specs.declared.Rows.{Rows}
-use Rattle.bernstein.specs.Sums.{Tapered, AllTapered, rowsOf, polynomialOf, rowOf, valueOf, quarticSum}
-use Rattle.bernstein.proofs.Identity.{polynomial-sum}
-use Rattle.bernstein.proofs.Laws.{row-tapers}
-use Rattle.bernstein.proofs.Sum.{bernstein-is}
+use Rattle.sampling.specs.declared.bernstein.Five.{Five}
+use Rattle.sampling.specs.declared.bernstein.Rows.{Rows}
+use Rattle.sampling.specs.bernstein.Sums.{Tapered, AllTapered, rowsOf, polynomialOf, rowOf, valueOf, quarticSum}
+use Rattle.sampling.proofs.bernstein.Identity.{polynomial-sum}
+use Rattle.sampling.proofs.bernstein.Laws.{row-tapers}
+use Rattle.sampling.proofs.bernstein.Sum.{bernstein-is}
 use Rattle.sampling.specs.Grid.{before, Sampleable, RowSampleable, RowPut, RowsPut}
 
 pub below-or-last : {A : Type 0} (j k : ℕ) → j < k + 1 → (j < k → A) → (j ≡ k → A) → A

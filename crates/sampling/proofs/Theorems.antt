@@ -27,16 +27,17 @@ use Rattle.paper.specs.Sampling.{control, Weights, weights, onAxis, bernsteinSu
 use Rattle.paper.specs.Sampling.{Sampled, rowSamples, firstRows, triangleSamples, triangleVerdict, TriangleSampled, sideNumber, netIn, Alike, controlPoint}
 use Rattle.paper.specs.Sampling.{Leaves, Between, rowStart}
 use Rattle.paper.specs.Claims.{SamplesClose, RaysAgree, SampleEnds, SamplesBetween, TrianglesSample}
-use Rattle.integers.proofs.Diff.{diff}
+use Rattle.numbers.proofs.Diff.{diff}
 use Rattle.mesh.proofs.Ranges.{inside, or-none}
 use Rattle.mesh.proofs.Scans.{compared}
 use Rattle.mesh.proofs.Verdicts.{orElse-sound, single-miss, sound-left}
-use Rattle.float_nets.proofs.Nets.{nets-pass}
+use Rattle.floats.proofs.nets.Nets.{nets-pass}
 use Rattle.borders.proofs.Theorem.{demand3}
-use Rattle.bernstein.specs.declared.Rows.{Rows}
-use Rattle.bernstein.specs.Sums.{five, quartic, quarticSum, rowsOf}
-use Rattle.bernstein.proofs.Laws.{round-between}
-use Rattle.bernstein.proofs.Sum.{bernstein-is, sum-from, sum-to, on-side, from-head, from-tail, head-alone, tail-alone, centre-alone, round-multiple}
+use Rattle.sampling.specs.declared.bernstein.Rows.{Rows}
+use Rattle.sampling.specs.bernstein.Sums.{five, quartic, quarticSum, rowsOf}
+use Rattle.sampling.proofs.bernstein.Laws.{round-between}
+use Rattle.sampling.proofs.bernstein.Sum.{bernstein-is, sum-from, sum-to, on-side, from-head}
+use Rattle.sampling.proofs.bernstein.Sum.{from-tail, head-alone, tail-alone, centre-alone, round-multiple}
 use Rattle.sampling.specs.Grid.{before}
 use Rattle.sampling.proofs.Laws.{some-parts, few-parts, parts-sum, net-passed, side-passed, all-passed, triangle-chain}
 use Rattle.sampling.proofs.Lists.{row-start, below-or-last}

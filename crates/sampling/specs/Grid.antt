@@ -6,9 +6,9 @@ use Prim.Native.Nat.{ℕ, zero, suc, _+_, _-_, _*_, _^_, _≤_, _<_}
 use lib.ListN.{length, getD}
 use lib.IntN.{ℤ, pos, natAbs}
 use Rattle.paper.specs.Numbers.{round}
-use Rattle.bernstein.specs.declared.Five.{Five}
-use Rattle.bernstein.specs.declared.Rows.{Rows}
-use Rattle.bernstein.specs.Sums.{AllSized, Tapered, valueOf, quarticSum}
+use Rattle.sampling.specs.declared.bernstein.Five.{Five}
+use Rattle.sampling.specs.declared.bernstein.Rows.{Rows}
+use Rattle.sampling.specs.bernstein.Sums.{AllSized, Tapered, valueOf, quarticSum}
 
 -- ---- control points that can be sampled in n parts: no sum of theirs is too large
 pub record Sampleable (p : Rows) (n : ℕ) : Type 0 where

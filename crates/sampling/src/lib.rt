@@ -1,10 +1,13 @@
 // L12: the point of one of a quad-net's four triangles at weights i/n, j/n, k/n. Checks 18, 19, 32 and 33, then one sample, or all samples of the
 // triangle into a lent list. Nothing is written before the last check has passed.
-use bernstein::Five;
-use bernstein::Rows;
+pub mod bernstein;
+pub mod points;
+
+use crate::bernstein::Five;
+use crate::bernstein::Rows;
+use crate::points::control_points;
 use paper::Answer;
 use paper::MOST_PARTS;
-use triangle_points::control_points;
 ghost use mathlib.Core.Path.{_≡_};
 ghost use Prim.Native.Nat.{ℕ, _+_, _*_, _^_, _≤_, _<_};
 ghost use lib.ListN.{length};
@@ -15,7 +18,7 @@ ghost use Rattle.paper.specs.File.{begins};
 ghost use Rattle.paper.specs.Floats.{netVerdict, axes};
 ghost use Rattle.paper.specs.Sampling.{weights, sampleAt, fault33, sampleVerdict, sideAt, Sampled, sampleCount, triangleSamples};
 ghost use Rattle.paper.specs.Sampling.{TriangleSampled};
-ghost use Rattle.bernstein.specs.Sums.{AllSized, Tapered, polynomialOf, rowOf, valueOf};
+ghost use Rattle.sampling.specs.bernstein.Sums.{AllSized, Tapered, polynomialOf, rowOf, valueOf};
 ghost use Rattle.sampling.specs.Grid.{before, Sampleable, RowSampleable, RowPut, RowsPut};
 
 // Our own number for a lent list that is too short.
@@ -123,7 +126,7 @@ fn sample_on(numbers: &[i32], side: usize, axis: usize, j: usize, k: usize, n: u
     let p = control_points(numbers, side, axis);
     let e = row_at(p, k, n);
     let v = value_at(e, j);
-    bernstein::rounded(v, n)
+    crate::bernstein::rounded(v, n)
 }
 
 // The polynomial of row k.
@@ -131,13 +134,13 @@ fn row_at(p: Rows, k: usize, n: usize) -> Five
     requires { ⌜ AllSized (2 ^ 27) p × (k ≤ 16) × (n ≤ 16) ⌝ }
     ensures { λ r. ⌜ r ≡ rowOf (polynomialOf p (pos n)) k ⌝ }
 {
-    let mut s = bernstein::start(p, n);
+    let mut s = crate::bernstein::start(p, n);
     let mut x = 0;
     while x < k {
-        s = bernstein::next(s);
+        s = crate::bernstein::next(s);
         x += 1;
     }
-    bernstein::row(s)
+    crate::bernstein::row(s)
 }
 
 // Its value at j.
@@ -145,10 +148,10 @@ fn value_at(e: Five, j: usize) -> i64
     requires { ⌜ Tapered (5 * 2 ^ 34) e × (j ≤ 16) ⌝ }
     ensures { λ r. ⌜ r ≡ valueOf e j ⌝ }
 {
-    let mut g = bernstein::ahead(e);
+    let mut g = crate::bernstein::ahead(e);
     let mut x = 0;
     while x < j {
-        g = bernstein::step(g);
+        g = crate::bernstein::step(g);
         x += 1;
     }
     g.a
@@ -159,15 +162,15 @@ fn put_axis(p: Rows, n: usize, points: &mut [i32], axis: usize)
     requires { ⌜ Sampleable p n × (axis < 3) × (3 * before n (n + 1) ≤ length (now points)) ⌝ }
     ensures { λ _. ⌜ RowsPut p n axis (n + 1) (now (points .entry)) (now (points .exit)) ⌝ }
 {
-    let mut s = bernstein::start(p, n);
+    let mut s = crate::bernstein::start(p, n);
     let mut at = axis;
     let mut k = 0;
     while k <= n {
         let count = n - k + 1;
-        let e = bernstein::row(s);
+        let e = crate::bernstein::row(s);
         put_row(e, n, count, points, at);
         at += 3 * count;
-        s = bernstein::next(s);
+        s = crate::bernstein::next(s);
         k += 1;
     }
 }
@@ -177,12 +180,12 @@ fn put_row(e: Five, n: usize, count: usize, points: &mut [i32], from: usize)
     requires { ⌜ RowSampleable e n count × (from + 3 * count ≤ length (now points) + 2) ⌝ }
     ensures { λ _. ⌜ RowPut e n count from (now (points .entry)) (now (points .exit)) ⌝ }
 {
-    let mut g = bernstein::ahead(e);
+    let mut g = crate::bernstein::ahead(e);
     let mut j = 0;
     while j < count {
-        let v = bernstein::rounded(g.a, n);
+        let v = crate::bernstein::rounded(g.a, n);
         points[from + 3 * j] = v;
-        g = bernstein::step(g);
+        g = crate::bernstein::step(g);
         j += 1;
     }
 }

@@ -1,15 +1,15 @@
 // Whether the mesh file on standard input is all squares: prints the lowest face that has not four sides, else the lowest vertex that has
 // not four corners, else `none`, and how many side counts the search read; or why the file is turned down, as `inspect` does.
-use mesh_input::MOST_NUMBERS;
-use mesh_input::MOST_PAIRS;
-use mesh_input::read_mesh;
 use paper::Irregular;
 use paper::MOST_CORNERS;
 use paper::MOST_FACES;
 use print::lines::put_ended;
+use print::mesh_input::MOST_NUMBERS;
+use print::mesh_input::MOST_PAIRS;
+use print::mesh_input::read_mesh;
 use print::say_refusal;
 use streams::output::say_up_to;
-use text_buffer::put_word;
+use streams::text::put_word;
 
 fn main() {
     if 1 < os::arg_count() {

@@ -5,7 +5,7 @@ use mathlib.Core.Path.{_≡_, refl, sym, ap, _∙_}
 use Prim.Native.Nat.{ℕ, zero, suc, _+_, _-_, _<_}
 use native.Mathlib.Omega.{arith}
 use lib.IntN.{ℤ, pos}
-use Rattle.integers.proofs.Sum.{sum-same}
+use Rattle.numbers.proofs.Sum.{sum-same}
 use Rattle.paper.specs.Scan.{iterate}
 use Rattle.paper.specs.Numbers.{round, rounded}
 use Rattle.paper.specs.Cosines.{cosine}

@@ -5,8 +5,8 @@ use mathlib.Core.Path.{_≡_, refl, sym, ap, _∙_, subst}
 use Prim.Native.Nat.{ℕ, _+_, _-_, _*_, _^_, _<_, _≤_}
 use native.Mathlib.Omega.{arith}
 use lib.IntN.{ℤ, pos, _+ℤ_, natAbs}
-use Rattle.integers.proofs.Poly.{over, poly}
-use Rattle.integers.proofs.Sum.{Cyclic}
+use Rattle.numbers.proofs.Poly.{over, poly}
+use Rattle.numbers.proofs.Sum.{Cyclic}
 use Rattle.paper.specs.Scan.{iterate}
 use Rattle.paper.specs.Mesh.{leastSides, mostSides}
 use Rattle.paper.specs.Numbers.{rounded}

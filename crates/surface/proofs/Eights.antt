@@ -6,8 +6,8 @@ use native.Mathlib.Omega.{arith}
 use lib.ListN.{getD, replicate}
 use lib.IntN.{ℤ, pos, _+ℤ_, _*ℤ_}
 use lib.Signed.{ltZ-yes}
-use Rattle.integers.proofs.Poly.{over, poly}
-use Rattle.integers.proofs.Sum.{sum-zero}
+use Rattle.numbers.proofs.Poly.{over, poly}
+use Rattle.numbers.proofs.Sum.{sum-zero}
 use Rattle.paper.specs.Mesh.{Mesh, plain, cornerCount}
 use Rattle.paper.specs.Corners.{faceOf, sidesOf, next, previous}
 use Rattle.paper.specs.Numbers.{round, rounded}

@@ -11,10 +11,10 @@ use Rattle.paper.specs.Mesh.{leastSides, mostSides}
 use Rattle.paper.specs.Numbers.{sum, sumBy, round, rounded}
 use Rattle.paper.specs.Cosines.{unit, cosine, rest}
 use Rattle.paper.specs.Face.{weight, centre, toward}
-use Rattle.integers.proofs.Poly.{over, poly}
-use Rattle.integers.proofs.Diff.{diff}
-use Rattle.integers.proofs.Laws.{abs-mul-le, mul-comm, mul-le, lt-or-ge, nonneg}
-use Rattle.integers.proofs.Sum.{sum-same, sum-abs, cycle, cycle-one, Cyclic}
+use Rattle.numbers.proofs.Poly.{over, poly}
+use Rattle.numbers.proofs.Diff.{diff}
+use Rattle.numbers.proofs.Laws.{abs-mul-le, mul-comm, mul-le, lt-or-ge, nonneg}
+use Rattle.numbers.proofs.Sum.{sum-same, sum-abs, cycle, cycle-one, Cyclic}
 use Rattle.numbers.specs.Near.{Near}
 use Rattle.numbers.proofs.Nearest.{round-near}
 use Rattle.numbers.proofs.Rules.{rules, period, cosine-size, bottom, exact, quarter}

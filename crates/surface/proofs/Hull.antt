@@ -12,10 +12,10 @@ use lib.Dec.{ltb}
 use lib.ListN.{length, getD, List·getD-eq-default}
 use lib.IntN.{ℤ, pos, negsuc, _+ℤ_, _*ℤ_, natAbs}
 use lib.Signed.{ltZ, _<ℤ_}
-use Rattle.integers.proofs.Diff.{as-diff, diff}
-use Rattle.integers.proofs.Poly.{over, poly}
-use Rattle.integers.proofs.Laws.{abs-mul-le, abs-add-le}
-use Rattle.integers.proofs.Sum.{sum-abs}
+use Rattle.numbers.proofs.Diff.{as-diff, diff}
+use Rattle.numbers.proofs.Poly.{over, poly}
+use Rattle.numbers.proofs.Laws.{abs-mul-le, abs-add-le}
+use Rattle.numbers.proofs.Sum.{sum-abs}
 use Rattle.paper.specs.Mesh.{mostCoordinate, Mesh}
 use Rattle.paper.specs.Corners.{startOf, faceOf, sidesOf, next, previous}
 use Rattle.paper.specs.Links.{vertexOf}

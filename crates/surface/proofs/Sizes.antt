@@ -16,11 +16,11 @@ use Rattle.paper.specs.Refined.{RefinedMesh}
 use Rattle.paper.specs.Face.{weight, centre, toward}
 use Rattle.paper.specs.Net.{End, Side, side0, side1, side2, side3, head, tail, neighbour, atHead, atTail, opposite, size, headPlace, tailPlace, points, H, T}
 use Rattle.paper.specs.Net.{X, Y, N, C, outer1, outer2, outer3, a0, a1, a2, a3, middle, bHead, bTail, aHead, aTail, b22, bGrid, aGrid, net}
-use Rattle.integers.proofs.Diff.{diff}
-use Rattle.integers.proofs.Poly.{over, poly}
-use Rattle.integers.proofs.Laws.{abs-mul-le, add-comm}
-use Rattle.integers.proofs.Sum.{sum-abs}
-use Rattle.integers.proofs.Below.{below-at}
+use Rattle.numbers.proofs.Diff.{diff}
+use Rattle.numbers.proofs.Poly.{over, poly}
+use Rattle.numbers.proofs.Laws.{abs-mul-le, add-comm}
+use Rattle.numbers.proofs.Sum.{sum-abs}
+use Rattle.numbers.proofs.Below.{below-at}
 use Rattle.numbers.specs.Near.{Near}
 use Rattle.numbers.proofs.Nearest.{near-is}
 use Rattle.numbers.proofs.Rules.{bottom, cosine-size}

@@ -4,10 +4,10 @@ use Prim.Native.Nat.{ℕ, _*_, _<_, _≤_}
 use native.Mathlib.Omega.{arith}
 use lib.IntN.{ℤ, pos, _+ℤ_, _*ℤ_, negℤ, natAbs}
 use lib.Signed.{_<ℤ_, _≤ℤ_}
-use Rattle.integers.proofs.Diff.{as-diff, diff}
-use Rattle.integers.proofs.Poly.{over, poly}
-use Rattle.integers.proofs.Laws.{mul-le}
-use Rattle.integers.proofs.Floor.{step-le}
+use Rattle.numbers.proofs.Diff.{as-diff, diff}
+use Rattle.numbers.proofs.Poly.{over, poly}
+use Rattle.numbers.proofs.Laws.{mul-le}
+use Rattle.numbers.proofs.Floor.{step-le}
 
 -- b lies between -d and d
 abbrev pub Within : ℤ → ℤ → Type 0

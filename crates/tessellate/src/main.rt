@@ -5,31 +5,31 @@
 // Corner by corner the file has the ends E0, E1 and E2 that no earlier corner had, then the corner's own points: the curves of its sides 0 and 1
 // without their ends, the rays from E0, E1, E2 and E3 to the centre without theirs, the centre, and the inside of the four triangles. The
 // curve of side 2 is that of the previous corner's side 1, the curve of side 3 that of side 0 of the corner whose link this is.
-use mesh_input::MOST_NUMBERS;
-use mesh_input::MOST_PAIRS;
-use mesh_input::read_mesh;
 use obj::SAMPLES;
 use obj::own_count;
+use obj::points::OWN;
+use obj::points::POINTS;
+use obj::points::TABLE;
+use obj::points::enter_corners;
+use obj::points::enter_faces;
+use obj::points::enter_twin;
+use obj::points::fill_index;
+use obj::points::more;
+use obj::points::narrow;
+use obj::points::put_ends;
+use obj::points::set_point;
 use obj::put_own;
 use obj::put_rows;
 use obj::wide;
-use obj_points::OWN;
-use obj_points::POINTS;
-use obj_points::TABLE;
-use obj_points::enter_corners;
-use obj_points::enter_faces;
-use obj_points::enter_twin;
-use obj_points::fill_index;
-use obj_points::more;
-use obj_points::narrow;
-use obj_points::put_ends;
-use obj_points::set_point;
 use paper::Answer;
 use paper::MOST_CORNERS;
 use paper::MOST_FACES;
 use paper::MOST_PARTS;
 use paper::NUMBERS_PER_CORNER;
 use print::complain_refusal;
+use print::mesh_input::MOST_NUMBERS;
+use print::mesh_input::MOST_PAIRS;
+use print::mesh_input::read_mesh;
 use streams::output::complain;
 use streams::output::say_up_to;
 ghost use mathlib.Core.Path.{_≡_};

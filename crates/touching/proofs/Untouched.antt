@@ -10,7 +10,7 @@ use lib.ListN.{getD, set}
 use lib.Seq.{getD-set-other}
 use lib.IntN.{ℤ, pos, _*ℤ_}
 use borrow.Author.Tests.{eq-eqb}
-use Rattle.integers.proofs.Sum.{sum-same}
+use Rattle.numbers.proofs.Sum.{sum-same}
 use Rattle.paper.specs.Scan.{pickN}
 use Rattle.paper.specs.Mesh.{Mesh, cornerCount}
 use Rattle.paper.specs.Corners.{startOf, faceOf, next, previous}

@@ -1,21 +1,21 @@
 // Turns the faces of the mesh file on standard input that are drawn the wrong way round: the turned file, of the version that the input has, goes to
 // standard output, and the turned faces to standard error, one number a line. A file that is turned down gets the line `refused`, with number and
 // place, on standard error, and nothing on standard output.
-use file_input::BUFFER;
-use file_input::read_file;
 use libc::STDIN_FILENO;
 use paper::Answer;
 use paper::MOST_CORNERS;
 use paper::MOST_FACES;
 use paper::MOST_VERTICES;
 use print::complain_refusal;
+use print::file_input::BUFFER;
+use print::file_input::read_file;
 use print::lines::put_ended;
 use streams::output::complain;
 use streams::output::complain_up_to;
 use streams::output::say_up_to;
 ghost use Prim.Native.Nat.{_≤_};
 ghost use lib.ListN.{length};
-ghost use Rattle.dms_header.specs.Sized.{Sized};
+ghost use Rattle.dms.specs.header.Sized.{Sized};
 
 // The numbers of the longest coordinate list and of the longest sharpness list.
 const MOST_NUMBERS: usize = 3 * MOST_VERTICES;
@@ -45,7 +45,7 @@ fn turn_input() {
 
 // Checks what the header says: 1 to 3, and 4.
 fn turn_file(file: &[u8], counted: usize) {
-    let header = dms_header::check_header(file, counted);
+    let header = dms::header::check_header(file, counted);
     if let Answer::Refused(number, place) = header {
         complain_refusal(number, place);
         return;
@@ -61,17 +61,17 @@ fn turn_lists(file: &[u8])
     let mut sides = [0u8; MOST_FACES];
     let mut corners = [0u16; MOST_CORNERS];
     let mut sharpness = [0u8; MOST_PAIRS];
-    dms_lists::read_lists(
+    dms::lists::read_lists(
         file,
         &mut coordinates,
         &mut sides,
         &mut corners,
         &mut sharpness,
     );
-    let sharp = dms_header::is_sharp(file);
-    let numbers = least(3 * dms_header::vertex_count(file), MOST_NUMBERS);
-    let faces = least(dms_header::face_count(file), MOST_FACES);
-    let count = least(dms_header::corner_count(file), MOST_CORNERS);
+    let sharp = dms::header::is_sharp(file);
+    let numbers = least(3 * dms::header::vertex_count(file), MOST_NUMBERS);
+    let faces = least(dms::header::face_count(file), MOST_FACES);
+    let count = least(dms::header::corner_count(file), MOST_CORNERS);
     let pairs = 2 * count;
     turn_mesh(
         sharp,

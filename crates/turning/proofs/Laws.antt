@@ -15,13 +15,13 @@ use Rattle.paper.specs.declared.Answer.{Answer}
 use Rattle.mesh.proofs.Verdicts.{sound-left, sound-right, single-sound, lowest-sound, orElse-fault, orElse-sound, single-hit, single-miss, unsound}
 use Rattle.mesh.proofs.Accepted.{few-vertices, few-faces, few-corners, named-of}
 use Rattle.walk.specs.Table.{rowLength}
-use Rattle.columns.specs.Filled.{FacesFilled}
-use Rattle.turn_laws.specs.States.{turnsBy}
-use Rattle.turn_laws.proofs.Theorem.{listed-of}
-use Rattle.turn_laws.proofs.Theorems.{long-of}
-use Rattle.turn_laws.proofs.Models.{corners-same, pairs-same, faces-same}
-use Rattle.reversing.specs.Written.{Written}
-use Rattle.choosing.specs.Choice.{Sized, Nexted, Chosen}
+use Rattle.checks.specs.columns.Filled.{FacesFilled}
+use Rattle.turning.specs.States.{turnsBy}
+use Rattle.turning.proofs.Theorem.{listed-of}
+use Rattle.turning.proofs.Theorems.{long-of}
+use Rattle.turning.proofs.Models.{corners-same, pairs-same, faces-same}
+use Rattle.turning.specs.reversing.Written.{Written}
+use Rattle.turning.specs.choosing.Choice.{Sized, Nexted, Chosen}
 use Rattle.turning.specs.Chosen.{ChosenFor}
 
 -- lists that pass 4 to 9

@@ -1,5 +1,12 @@
 // L13, faces drawn the wrong way round: checks 36, 4 to 9 with 27 and 28, 34 and 35; then the turned model in the lent lists, and the turned faces
 // at the beginning of the lent listing. Nothing is written before the last check has passed.
+pub mod choosing;
+pub mod partners;
+pub mod reversing;
+pub mod spreading;
+pub mod starts;
+pub mod visiting;
+
 use paper::Answer;
 use paper::MOST_CORNERS;
 use paper::MOST_FACES;
@@ -37,8 +44,8 @@ pub fn turn(
             turned: 0,
         };
     }
-    reversing::turn_sharpness(sides, &states, sharpness);
-    let turned = reversing::turn_faces(sides, &states, corners, listing);
+    crate::reversing::turn_sharpness(sides, &states, sharpness);
+    let turned = crate::reversing::turn_faces(sides, &states, corners, listing);
     Turned {
         answer: Answer::Done,
         turned: turned,
@@ -69,5 +76,5 @@ fn choose(
     if let Answer::Refused(k, p) = a {
         return Answer::Refused(k, p);
     }
-    choosing::find_turns(coordinates.len() / 3, sides, corners, &table, states)
+    crate::choosing::find_turns(coordinates.len() / 3, sides, corners, &table, states)
 }

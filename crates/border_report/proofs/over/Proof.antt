@@ -5,7 +5,7 @@ use denote.Ref.{now}
 use Rattle.paper.specs.Mesh.{Mesh, meshOf}
 use Rattle.paper.specs.Faults.{verdict, stated, Accepted}
 use Rattle.mesh.proofs.Verdicts.{passed}
-use Rattle.surveying.proofs.Surveys.{limits}
+use Rattle.dms.proofs.surveying.Surveys.{limits}
 use Rattle.border_report.proofs.Laws.{refused-added, accepted-added}
 use borrow.Author.Needs.{needs}
 use Rattle.border_report.proofs.over.Statement.{statement}

@@ -6,7 +6,7 @@ use Rattle.paper.specs.Faults.{verdict}
 use Rattle.paper.specs.File.{fileMesh, fileVerdict}
 use Rattle.paper.specs.Report.{added}
 use Rattle.mesh.proofs.Verdicts.{passed, stop, orElse-sound}
-use Rattle.dms_header.proofs.Headers.{header-sized}
+use Rattle.dms.proofs.header.Headers.{header-sized}
 use Rattle.border_report.proofs.Laws.{refused-added}
 use borrow.Author.Needs.{needs}
 use Rattle.border_report.proofs.with_file.Statement.{statement}

@@ -7,7 +7,7 @@ use Rattle.paper.specs.Mesh.{Mesh}
 use Rattle.paper.specs.Faults.{verdict}
 use Rattle.paper.specs.File.{fileMesh}
 use Rattle.paper.specs.Report.{added}
-use Rattle.dms_lists.proofs.Lists.{read-length, file-coordinates, file-faces, file-corners, file-sharpness}
+use Rattle.dms.proofs.lists.Lists.{read-length, file-coordinates, file-faces, file-corners, file-sharpness}
 use Rattle.dms.proofs.Files.{mesh-read}
 use Rattle.border_report.proofs.with_lists.Statement.{statement}
 use Rattle.border_report.proofs.with_lists.Tie as tie

@@ -6,7 +6,7 @@ use lib.ListN.{length}
 use Rattle.paper.specs.Mesh.{mostCorners}
 use Rattle.mesh.specs.Tables.{smallMesh}
 use Rattle.surface.specs.Points.{pointRow}
-use Rattle.face_sums.proofs.Laws.{small-zeros}
+use Rattle.refine.proofs.sums.Laws.{small-zeros}
 use Rattle.border_report.proofs.Laws.{table-room, point-room}
 use borrow.Author.Needs.{needs}
 use Rattle.border_report.proofs.with_mesh.Statement.{statement}

@@ -9,9 +9,9 @@ use Rattle.paper.specs.Links.{link}
 use Rattle.paper.specs.Faults.{sound, listFaults, stated}
 use Rattle.mesh.proofs.Verdicts.{passed}
 use Rattle.walk.specs.Table.{rowLength, toLink, Column}
-use Rattle.columns.specs.Chain.{Ready}
-use Rattle.columns.specs.Filled.{FacesFilled}
-use Rattle.edge_checks.specs.Entries.{Ends}
+use Rattle.checks.specs.columns.Chain.{Ready}
+use Rattle.checks.specs.columns.Filled.{FacesFilled}
+use Rattle.checks.specs.edges.Entries.{Ends}
 use Rattle.checks.specs.Checked.{Listed}
 use Rattle.checks.proofs.Laws.{listed, ends, searchable, chains, edgeFaults, closed, linking, tabled, stopped-lists, stopped-edges, checked}
 use native.Mathlib.Omega.{arith}

@@ -4,8 +4,8 @@ use borrow.Author.Needs.{needs}
 use Rattle.paper.specs.Faults.{verdict}
 use Rattle.paper.specs.File.{fileMesh, fileVerdict}
 use Rattle.mesh.proofs.Verdicts.{passed, stop}
-use Rattle.dms_header.proofs.Headers.{header-sized}
-use Rattle.surveying.proofs.Surveys.{refused-survey}
+use Rattle.dms.proofs.header.Headers.{header-sized}
+use Rattle.dms.proofs.surveying.Surveys.{refused-survey}
 use Rattle.dms.proofs.Files.{later-survey}
 use Rattle.dms.proofs.survey_file.Statement.{statement}
 use Rattle.dms.proofs.survey_file.Tie as tie

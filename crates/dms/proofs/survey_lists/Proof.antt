@@ -6,7 +6,7 @@ use borrow.Author.Needs.{needs}
 use Rattle.paper.specs.Mesh.{Mesh}
 use Rattle.paper.specs.Faults.{verdict}
 use Rattle.paper.specs.File.{fileMesh, Surveyed}
-use Rattle.dms_lists.proofs.Lists.{read-length, file-coordinates, file-faces, file-corners, file-sharpness}
+use Rattle.dms.proofs.lists.Lists.{read-length, file-coordinates, file-faces, file-corners, file-sharpness}
 use Rattle.dms.proofs.Files.{mesh-read}
 use Rattle.dms.proofs.survey_lists.Statement.{statement}
 use Rattle.dms.proofs.survey_lists.Tie as tie

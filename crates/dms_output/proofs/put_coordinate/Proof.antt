@@ -7,7 +7,7 @@ use mir.Syntax.{w32}
 use mir.Val.{ofZ}
 use mir.ValLaws.{toZ-ofZ}
 use Rattle.dms_output.specs.Bytes.{halfBytes}
-use Rattle.text_buffer.proofs.Putting.{put-then, put-same}
+use Rattle.streams.proofs.text.Putting.{put-then, put-same}
 use borrow.Author.Needs.{needs}
 use Rattle.dms_output.proofs.put_coordinate.Statement.{statement}
 use Rattle.dms_output.proofs.put_coordinate.Tie as tie

@@ -7,8 +7,8 @@ use lib.IntN.{pos}
 use mir.Syntax.{w32}
 use mir.ValLaws.{toZ-ofZ}
 use native.Mathlib.Omega.{arith}
-use Rattle.text_buffer.specs.Text.{Put}
-use Rattle.text_buffer.proofs.Putting.{put-none, put-then, put-same}
+use Rattle.streams.specs.text.Text.{Put}
+use Rattle.streams.proofs.text.Putting.{put-none, put-then, put-same}
 use Rattle.dms_output.specs.Bytes.{wordBytes, coordinateBytes}
 use Rattle.dms_output.proofs.Steps.{no-coordinates, next-coordinate}
 use borrow.Author.Needs.{needs}

@@ -4,7 +4,7 @@ use mathlib.Core.Path.{sym, ap}
 use mathlib.Core.Bool.{Bool}
 use Rattle.paper.specs.Mesh.{meshOf}
 use Rattle.dms_output.specs.Bytes.{fileBytes}
-use Rattle.text_buffer.proofs.Putting.{put-then, put-same}
+use Rattle.streams.proofs.text.Putting.{put-then, put-same}
 use borrow.Author.Needs.{needs}
 use Rattle.dms_output.proofs.put_file.Statement.{statement}
 use Rattle.dms_output.proofs.put_file.Tie as tie

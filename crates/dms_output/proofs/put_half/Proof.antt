@@ -1,6 +1,6 @@
 -- The low byte, and after it the high one.
 -- Assumes nothing.
-use Rattle.text_buffer.proofs.Putting.{put-then}
+use Rattle.streams.proofs.text.Putting.{put-then}
 use borrow.Author.Needs.{needs}
 use Rattle.dms_output.proofs.put_half.Statement.{statement}
 use Rattle.dms_output.proofs.put_half.Tie as tie

@@ -1,6 +1,6 @@
 -- Mark, version and counts, one after the other.
 -- Assumes nothing.
-use Rattle.text_buffer.proofs.Putting.{put-then}
+use Rattle.streams.proofs.text.Putting.{put-then}
 use borrow.Author.Needs.{needs}
 use Rattle.dms_output.proofs.put_header.Statement.{statement}
 use Rattle.dms_output.proofs.put_header.Tie as tie

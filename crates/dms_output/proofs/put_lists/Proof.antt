@@ -1,6 +1,6 @@
 -- The header, and one list after the other.
 -- Assumes nothing.
-use Rattle.text_buffer.proofs.Putting.{put-then}
+use Rattle.streams.proofs.text.Putting.{put-then}
 use borrow.Author.Needs.{needs}
 use Rattle.dms_output.proofs.put_lists.Statement.{statement}
 use Rattle.dms_output.proofs.put_lists.Tie as tie

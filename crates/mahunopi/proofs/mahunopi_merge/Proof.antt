@@ -5,7 +5,7 @@ use denote.Ref.{now}
 use Rattle.paper.specs.Report.{MergedTo}
 use Rattle.paper.specs.CFace.{pageIn}
 use Rattle.paper.specs.declared.Page.{Page}
-use Rattle.page_numbers.proofs.Calls.{merge-refused, merge-done}
+use Rattle.border_report.proofs.page_numbers.Calls.{merge-refused, merge-done}
 use borrow.Author.Needs.{needs}
 use Rattle.mahunopi.proofs.mahunopi_merge.Statement.{statement}
 use Rattle.mahunopi.proofs.mahunopi_merge.Tie as tie

@@ -13,10 +13,10 @@ use Rattle.paper.specs.Cosines.{cosine}
 use Rattle.surface.specs.Points.{pointRow, pointAt}
 use Rattle.surface.specs.Sizes.{FaceSize}
 use Rattle.walk.specs.Table.{tabled}
-use Rattle.refined_faces.proofs.Laws.{plain, cosine-plain}
-use Rattle.net_sides.proofs.Laws.{vertex-ring, face-ring}
-use Rattle.net_near.specs.Near.{PointsTaken, near}
-use Rattle.net.proofs.Lanes.{near-fine, cosine-fine, cosine-fine-2, ready, net-put}
+use Rattle.refine.proofs.faces.Laws.{plain, cosine-plain}
+use Rattle.net.proofs.sides.Laws.{vertex-ring, face-ring}
+use Rattle.net.specs.near.Near.{PointsTaken, near}
+use Rattle.net.proofs.Laid.{near-fine, cosine-fine, cosine-fine-2, ready, net-put}
 use Rattle.net.proofs.put_net.Statement.{statement}
 use Rattle.net.proofs.put_net.Tie as tie
 

@@ -6,7 +6,7 @@ use lib.Dec.{T}
 use mir.Val.{Fits, SFits}
 use mir.Syntax.{w32, w64}
 use mir.Facts.{toZ-ofZ, sfits-widen}
-use Rattle.text_buffer.proofs.Decimals.{negated, plain, negated-size}
+use Rattle.streams.proofs.text.Decimals.{negated, plain, negated-size}
 use Rattle.obj.proofs.size_of.Statement.{statement}
 use Rattle.obj.proofs.size_of.Tie as tie
 

@@ -6,7 +6,7 @@ use lib.IntN.{pos}
 use mir.Syntax.{w32}
 use mir.ValLaws.{toZ-ofZ}
 use lib.ListN.{length, length-set}
-use Rattle.fills.proofs.Copies.{Copied, copied-none, copied-step, copied-all}
+use Rattle.mesh.proofs.Copies.{Copied, copied-none, copied-step, copied-all}
 use native.Mathlib.Omega.{arith}
 use borrow.Author.Needs.{needs}
 use Rattle.off.proofs.copy_coordinates.Statement.{statement}

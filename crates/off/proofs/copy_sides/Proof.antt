@@ -3,7 +3,7 @@
 use mathlib.Core.Path.{_≡_, refl}
 use Prim.Native.Nat.{_≤_, _-_}
 use lib.ListN.{length, getD, length-set}
-use Rattle.fills.proofs.Copies.{Copied, copied-none, copied-step, copied-all}
+use Rattle.mesh.proofs.Copies.{Copied, copied-none, copied-step, copied-all}
 use native.Mathlib.Omega.{arith}
 use borrow.Author.Needs.{needs}
 use Rattle.off.proofs.copy_sides.Statement.{statement}

@@ -3,7 +3,7 @@
 use mathlib.Core.Path.{sym, _∙_}
 use borrow.Author.Tests.{not-true, not-false}
 use Rattle.paper.specs.Mesh.{meshOf}
-use Rattle.off_checks.proofs.Parts.{too-short, no-mark, marked, lent-room, lent-pairs, read-refused, read-all}
+use Rattle.off.proofs.checking.Parts.{too-short, no-mark, marked, lent-room, lent-pairs, read-refused, read-all}
 use borrow.Author.Needs.{needs}
 use Rattle.off.proofs.read.Statement.{statement}
 use Rattle.off.proofs.read.Tie as tie

@@ -1,7 +1,7 @@
 -- A refusal writes nothing to the lent lists. Else the own lists are those of the text, and are copied.
 -- Assumes nothing.
-use Rattle.off_checks.proofs.Parts.{within-limits, room-kept, coordinates-fit, sides-fit, corners-fit}
-use Rattle.off_checks.proofs.Parts.{taken, taken-fits, few-pairs, copied-none, copied-all}
+use Rattle.off.proofs.checking.Parts.{within-limits, room-kept, coordinates-fit, sides-fit, corners-fit}
+use Rattle.off.proofs.checking.Parts.{taken, taken-fits, few-pairs, copied-none, copied-all}
 use native.Mathlib.Omega.{arith}
 use borrow.Author.Needs.{needs}
 use Rattle.off.proofs.read_through.Statement.{statement}

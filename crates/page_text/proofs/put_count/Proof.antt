@@ -1,9 +1,9 @@
 -- The word, the number and the line feed.
 -- Assumes nothing.
 use mathlib.Core.List.{[], _∷_}
-use Rattle.text_buffer.specs.Text.{decimal}
+use Rattle.streams.specs.text.Text.{decimal}
 use Rattle.page_text.specs.Lines.{feed}
-use Rattle.text_buffer.proofs.Putting.{put-three}
+use Rattle.streams.proofs.text.Putting.{put-three}
 use borrow.Author.Needs.{needs}
 use Rattle.page_text.proofs.put_count.Statement.{statement}
 use Rattle.page_text.proofs.put_count.Tie as tie

@@ -1,9 +1,9 @@
 -- The words and the numbers between them.
 -- Assumes nothing.
 use mathlib.Core.List.{_++_}
-use Rattle.text_buffer.specs.Text.{decimal}
+use Rattle.streams.specs.text.Text.{decimal}
 use Rattle.page_text.specs.Lines.{missWord, colon, limitWord, inTicks, thousandths}
-use Rattle.text_buffer.proofs.Putting.{put-three}
+use Rattle.streams.proofs.text.Putting.{put-three}
 use borrow.Author.Needs.{needs}
 use Rattle.page_text.proofs.put_miss.Statement.{statement}
 use Rattle.page_text.proofs.put_miss.Tie as tie

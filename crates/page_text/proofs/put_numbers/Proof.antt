@@ -2,7 +2,7 @@
 -- Assumes nothing.
 use mathlib.Core.List.{[], _∷_}
 use Rattle.page_text.specs.Lines.{textsBelow, feed, pageWord, spacedNumber}
-use Rattle.text_buffer.proofs.Putting.{put-three}
+use Rattle.streams.proofs.text.Putting.{put-three}
 use borrow.Author.Needs.{needs}
 use Rattle.page_text.proofs.put_numbers.Statement.{statement}
 use Rattle.page_text.proofs.put_numbers.Tie as tie

@@ -4,7 +4,7 @@ use mathlib.Core.List.{_++_}
 use lib.ListN.{getD}
 use Rattle.page_text.specs.Lines.{meshesWord, cornersWord, bordersWord}
 use Rattle.page_text.specs.Lines.{textsBelow, namedLine, refusedByLine, refusalsLine, conditionLine, pageLine, pageLines}
-use Rattle.text_buffer.proofs.Putting.{put-three}
+use Rattle.streams.proofs.text.Putting.{put-three}
 use borrow.Author.Needs.{needs}
 use Rattle.page_text.proofs.put_page.Statement.{statement}
 use Rattle.page_text.proofs.put_page.Tie as tie

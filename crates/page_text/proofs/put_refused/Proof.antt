@@ -1,8 +1,8 @@
 -- The word, the number, and a colon with the count.
 -- Assumes nothing.
-use Rattle.text_buffer.specs.Text.{decimal}
+use Rattle.streams.specs.text.Text.{decimal}
 use Rattle.page_text.specs.Lines.{refusedWord, colon, namedLine}
-use Rattle.text_buffer.proofs.Putting.{put-three}
+use Rattle.streams.proofs.text.Putting.{put-three}
 use borrow.Author.Needs.{needs}
 use Rattle.page_text.proofs.put_refused.Statement.{statement}
 use Rattle.page_text.proofs.put_refused.Tie as tie

@@ -1,8 +1,8 @@
 -- A space, and after it the number.
 -- Assumes nothing.
 use mathlib.Core.List.{[], _∷_}
-use Rattle.text_buffer.specs.Text.{decimal}
-use Rattle.text_buffer.proofs.Putting.{put-then}
+use Rattle.streams.specs.text.Text.{decimal}
+use Rattle.streams.proofs.text.Putting.{put-then}
 use borrow.Author.Needs.{needs}
 use Rattle.page_text.proofs.put_spaced.Statement.{statement}
 use Rattle.page_text.proofs.put_spaced.Tie as tie

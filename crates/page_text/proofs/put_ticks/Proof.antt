@@ -3,9 +3,9 @@
 use mathlib.Core.Path.{ap}
 use mathlib.Core.List.{[], _∷_, _++_}
 use Prim.Native.Nat.{_/_, _%_}
-use Rattle.text_buffer.specs.Text.{decimal}
+use Rattle.streams.specs.text.Text.{decimal}
 use Rattle.page_text.specs.Lines.{digit, inTicks}
-use Rattle.text_buffer.proofs.Putting.{put-three, put-same}
+use Rattle.streams.proofs.text.Putting.{put-three, put-same}
 use borrow.Author.Needs.{needs}
 use Rattle.page_text.proofs.put_ticks.Statement.{statement}
 use Rattle.page_text.proofs.put_ticks.Tie as tie

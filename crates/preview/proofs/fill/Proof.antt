@@ -8,7 +8,7 @@ use lib.IntN.{pos}
 use mir.Syntax.{w32}
 use mir.ValLaws.{toZ-ofZ}
 use borrow.Author.Needs.{needs}
-use Rattle.fills.proofs.Copies.{Copied, copied-none, copied-step, copied-all}
+use Rattle.mesh.proofs.Copies.{Copied, copied-none, copied-step, copied-all}
 use Rattle.preview.proofs.fill.Statement.{statement}
 use Rattle.preview.proofs.fill.Tie as tie
 

@@ -2,7 +2,7 @@
 -- is the other length.
 -- Assumes nothing.
 use mathlib.Core.Path.{sym}
-use Rattle.archive_laws.proofs.Lengths.{passes}
+use Rattle.rearrange.proofs.laws.Lengths.{passes}
 use Rattle.rearrange.proofs.Lengths.{refused30, refused31, rest-four, quarter-four, from-quarter}
 use Rattle.rearrange.proofs.check_lengths.Statement.{statement}
 use Rattle.rearrange.proofs.check_lengths.Tie as tie

@@ -10,7 +10,7 @@ use Rattle.paper.specs.Mesh.{leastSides, mostCorners, Mesh, meshOf}
 use Rattle.paper.specs.Corners.{sumOf, faceOf, sidesOf}
 use Rattle.mesh.proofs.Faces.{first-ends, face-same}
 use Rattle.surface.specs.Points.{pointRow}
-use Rattle.face_sums.specs.Sources.{Filled}
+use Rattle.refine.specs.sums.Sources.{Filled}
 use Rattle.refine.proofs.Laws.{filled-none, filled-more}
 use Rattle.refine.proofs.fill_face.Statement.{statement}
 use Rattle.refine.proofs.fill_face.Tie as tie

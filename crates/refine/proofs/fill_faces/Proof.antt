@@ -12,8 +12,8 @@ use denote.Ref.{now}
 use Rattle.paper.specs.Mesh.{Mesh, meshOf}
 use Rattle.paper.specs.Corners.{startOf, firstOf, faceOf}
 use Rattle.mesh.proofs.Faces.{start-zero, start-next, start-ends, start-all, face-at}
-use Rattle.face_sums.specs.Sources.{Pointed, Filled}
-use Rattle.refined_corners.proofs.Laws.{face-of}
+use Rattle.refine.specs.sums.Sources.{Pointed, Filled}
+use Rattle.refine.proofs.corners.Laws.{face-of}
 use Rattle.refine.proofs.Laws.{Marks, filled-none, filled-more}
 use Rattle.refine.proofs.fill_faces.Statement.{statement}
 use Rattle.refine.proofs.fill_faces.Tie as tie
@@ -126,7 +126,10 @@ loop-again c =
       omega arith,
       omega (arith, n, l .inv .1),
       ⊎-elim
-          (λ w. rw (w .5) (more _ (omega arith) (omega (arith, n)) (l .inv .2) (filled-to s (l .f) (l .start) h (l .inv .1) _ (w .1 .ensures .sides-are) _ _ (w .3 .ensures))))
+          (λ w. rw (w .5) (more _ (omega arith) (omega (
+            arith,
+            n,
+          )) (l .inv .2) (filled-to s (l .f) (l .start) h (l .inv .1) _ (w .1 .ensures .sides-are) _ _ (w .3 .ensures))))
           (λ w. rw (w .1) (more _ (omega arith) (omega (arith, n)) (l .inv .2)
           (filled-none (mesh s) (now (s .args .marked)) _ _ _ (unmarked s (l .f) h (omega (arith, w .0 .left))) (l .inv .2 .small))))
           (c .before .if1 .came),

@@ -4,7 +4,7 @@ use native.Mathlib.Omega.{arith}
 use borrow.Author.Needs.{needs}
 use denote.Ref.{now}
 use Rattle.paper.specs.Mesh.{Mesh, meshOf}
-use Rattle.face_sums.proofs.Laws.{softened, soft-refinable, sums-of, sums-soft}
+use Rattle.refine.proofs.sums.Laws.{softened, soft-refinable, sums-of, sums-soft}
 use Rattle.refine.proofs.fill_over.Statement.{statement}
 use Rattle.refine.proofs.fill_over.Tie as tie
 

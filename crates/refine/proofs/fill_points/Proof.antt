@@ -5,7 +5,7 @@ use borrow.Author.Needs.{needs}
 use denote.Ref.{now}
 use Rattle.paper.specs.Mesh.{Mesh, meshOf, mostCorners}
 use Rattle.mesh.specs.Tables.{smallMesh}
-use Rattle.face_sums.proofs.Laws.{sums-fit, sum-room}
+use Rattle.refine.proofs.sums.Laws.{sums-fit, sum-room}
 use Rattle.refine.proofs.fill_points.Statement.{statement}
 use Rattle.refine.proofs.fill_points.Tie as tie
 

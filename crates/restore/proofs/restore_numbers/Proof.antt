@@ -1,6 +1,6 @@
 -- Bytes that are restored are four times as many as the numbers.
 -- Assumes nothing.
-use Rattle.archive_laws.proofs.Theorems.{restored-fits}
+use Rattle.rearrange.proofs.laws.Theorems.{restored-fits}
 use borrow.Author.Needs.{needs}
 use Rattle.restore.proofs.restore_numbers.Statement.{statement}
 use Rattle.restore.proofs.restore_numbers.Tie as tie

@@ -8,7 +8,7 @@ use native.Mathlib.Omega.{arith}
 use borrow.Author.Needs.{needs}
 use lib.Dec.{lit<}
 use denote.Ref.{now}
-use Rattle.bernstein.specs.declared.Rows.{Rows}
+use Rattle.sampling.specs.declared.bernstein.Rows.{Rows}
 use Rattle.sampling.specs.Grid.{before, Sampleable, RowsPut}
 use Rattle.sampling.proofs.Laws.{points-sampleable}
 use Rattle.sampling.proofs.Lists.{count-is, triangle-put}

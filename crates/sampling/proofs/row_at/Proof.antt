@@ -5,10 +5,10 @@ use Prim.Native.Nat.{_-_, _^_, _≤_}
 use native.Mathlib.Omega.{arith}
 use borrow.Author.Needs.{needs}
 use lib.IntN.{pos}
-use Rattle.bernstein.specs.declared.Rows.{Rows}
-use Rattle.bernstein.specs.Sums.{AllSized, polynomialOf, statesOf, firstsOf, stepsOf, rowOf}
-use Rattle.bernstein.proofs.Laws.{polynomial-tapers, states-size}
-use Rattle.bernstein.proofs.Identity.{states-step, firsts-row}
+use Rattle.sampling.specs.declared.bernstein.Rows.{Rows}
+use Rattle.sampling.specs.bernstein.Sums.{AllSized, polynomialOf, statesOf, firstsOf, stepsOf, rowOf}
+use Rattle.sampling.proofs.bernstein.Laws.{polynomial-tapers, states-size}
+use Rattle.sampling.proofs.bernstein.Identity.{states-step, firsts-row}
 use Rattle.sampling.proofs.row_at.Statement.{statement}
 use Rattle.sampling.proofs.row_at.Tie as tie
 

@@ -5,10 +5,10 @@ use Prim.Native.Nat.{ℕ, _-_, _*_, _^_, _≤_}
 use native.Mathlib.Omega.{arith}
 use borrow.Author.Needs.{needs}
 use lib.Dec.{lit≤}
-use Rattle.bernstein.specs.declared.Five.{Five}
-use Rattle.bernstein.specs.Sums.{Sized, stateOf, valueOf, stepOf}
-use Rattle.bernstein.proofs.Laws.{state-size, tapered-size, sized-bits}
-use Rattle.bernstein.proofs.Identity.{state-step}
+use Rattle.sampling.specs.declared.bernstein.Five.{Five}
+use Rattle.sampling.specs.bernstein.Sums.{Sized, stateOf, valueOf, stepOf}
+use Rattle.sampling.proofs.bernstein.Laws.{state-size, tapered-size, sized-bits}
+use Rattle.sampling.proofs.bernstein.Identity.{state-step}
 use Rattle.sampling.proofs.value_at.Statement.{statement}
 use Rattle.sampling.proofs.value_at.Tie as tie
 

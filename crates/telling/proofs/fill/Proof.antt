@@ -5,7 +5,7 @@ use Prim.Native.Nat.{_≤_, _-_}
 use native.Mathlib.Omega.{arith}
 use lib.ListN.{length, getD, length-set}
 use borrow.Author.Needs.{needs}
-use Rattle.fills.proofs.Copies.{Copied, copied-none, copied-step, copied-all}
+use Rattle.mesh.proofs.Copies.{Copied, copied-none, copied-step, copied-all}
 use Rattle.telling.proofs.fill.Statement.{statement}
 use Rattle.telling.proofs.fill.Tie as tie
 

@@ -2,7 +2,7 @@
 -- Assumes nothing.
 use borrow.Author.Needs.{needs}
 use Rattle.mesh.proofs.Verdicts.{passed}
-use Rattle.dms_header.proofs.Headers.{header-sized}
+use Rattle.dms.proofs.header.Headers.{header-sized}
 use Rattle.turn.proofs.turn_file.Statement.{statement}
 use Rattle.turn.proofs.turn_file.Tie as tie
 

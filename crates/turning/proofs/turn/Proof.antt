@@ -7,7 +7,7 @@ use borrow.Author.Needs.{needs}
 use Rattle.paper.specs.Mesh.{Mesh, meshOf}
 use Rattle.paper.specs.Faults.{stated}
 use Rattle.walk.proofs.Table.{blank}
-use Rattle.turn_laws.proofs.Theorems.{long-of}
+use Rattle.turning.proofs.Theorems.{long-of}
 use Rattle.turning.proofs.Laws.{sized-of, turned-refused, length-refused, verdict-is, passes, turned-done}
 use Rattle.turning.proofs.turn.Statement.{statement}
 use Rattle.turning.proofs.turn.Tie as tie

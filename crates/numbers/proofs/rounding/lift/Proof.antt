@@ -8,11 +8,11 @@ use lib.Signed.{_≤ℤ_, _<ℤ_, quotZ}
 use mir.Syntax.{w64}
 use mir.Val.{SFits}
 use mir.Facts.{toZ-ofZ}
-use Rattle.integers.proofs.Diff.{as-diff, diff}
-use Rattle.integers.proofs.Poly.{over, poly}
-use Rattle.integers.proofs.Laws.{nonneg}
-use Rattle.integers.proofs.Floor.{IsFloor, floor-is, quot-floor}
-use Rattle.integers.proofs.Machine.{quot-abs, quot-fits, pos-bits}
+use Rattle.numbers.proofs.Diff.{as-diff, diff}
+use Rattle.numbers.proofs.Poly.{over, poly}
+use Rattle.numbers.proofs.Laws.{nonneg}
+use Rattle.numbers.proofs.Floor.{IsFloor, floor-is, quot-floor}
+use Rattle.numbers.proofs.Machine.{quot-abs, quot-fits, pos-bits}
 use Rattle.numbers.specs.Lift.{Lifts}
 use Rattle.numbers.proofs.rounding.lift.Statement.{statement}
 use Rattle.numbers.proofs.rounding.lift.Tie as tie

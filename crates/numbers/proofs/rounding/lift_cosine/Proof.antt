@@ -8,7 +8,7 @@ use lib.Signed.{_≤ℤ_}
 use mir.Syntax.{w64}
 use mir.Val.{SFits}
 use mir.Facts.{toZ-ofZ}
-use Rattle.integers.proofs.Poly.{over, poly}
+use Rattle.numbers.proofs.Poly.{over, poly}
 use Rattle.numbers.proofs.Small.{unsigned}
 use Rattle.numbers.proofs.rounding.lift_cosine.Statement.{statement}
 use Rattle.numbers.proofs.rounding.lift_cosine.Tie as tie

@@ -10,7 +10,7 @@ use mir.Syntax.{w64}
 use mir.Val.{SFits}
 use mir.Facts.{toZ-ofZ}
 use Rattle.paper.specs.Numbers.{floor}
-use Rattle.integers.proofs.Floor.{floor-is}
+use Rattle.numbers.proofs.Floor.{floor-is}
 use Rattle.numbers.specs.Sign.{sign}
 use Rattle.numbers.proofs.Nearest.{sign-bounds, shift-floor}
 use Rattle.numbers.proofs.Small.{unsigned}

@@ -10,7 +10,7 @@ use lib.Signed.{_≤ℤ_}
 use mir.Syntax.{w64}
 use mir.Val.{SFits, toZ}
 use mir.Facts.{toZ-ofZ, toZ-pos}
-use Rattle.integers.proofs.Poly.{over, poly}
+use Rattle.numbers.proofs.Poly.{over, poly}
 use Rattle.paper.specs.Numbers.{round}
 use Rattle.numbers.specs.Small.{lift}
 use Rattle.numbers.proofs.Small.{at-most-lift, odd-is}

@@ -7,8 +7,8 @@ use lib.Signed.{_≤ℤ_, _<ℤ_}
 use mir.Syntax.{w64}
 use mir.Val.{SFits}
 use mir.Facts.{toZ-ofZ}
-use Rattle.integers.proofs.Poly.{over, poly}
-use Rattle.integers.proofs.Floor.{IsFloor, floor-is}
+use Rattle.numbers.proofs.Poly.{over, poly}
+use Rattle.numbers.proofs.Floor.{IsFloor, floor-is}
 use Rattle.numbers.specs.Units.{Reciprocal}
 use Rattle.numbers.proofs.Nearest.{quotient}
 use Rattle.numbers.proofs.Small.{unsigned, at-least}

@@ -13,10 +13,10 @@ use mir.Syntax.{w64}
 use mir.Val.{Fits, SFits, toZ}
 use mir.Facts.{toZ-ofZ, toZ-pos}
 use Rattle.paper.specs.Numbers.{floor, round}
-use Rattle.integers.proofs.Diff.{diff}
-use Rattle.integers.proofs.Poly.{over, poly}
-use Rattle.integers.proofs.Laws.{nonneg}
-use Rattle.integers.proofs.Floor.{IsFloor, floor-is, floor-unique, double-pos}
+use Rattle.numbers.proofs.Diff.{diff}
+use Rattle.numbers.proofs.Poly.{over, poly}
+use Rattle.numbers.proofs.Laws.{nonneg}
+use Rattle.numbers.proofs.Floor.{IsFloor, floor-is, floor-unique, double-pos}
 use Rattle.numbers.specs.Lift.{Lifts}
 use Rattle.numbers.specs.Sign.{sign}
 use Rattle.numbers.proofs.Nearest.{sign-bounds, sign-double, round-floor, quotient}

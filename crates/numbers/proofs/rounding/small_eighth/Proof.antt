@@ -11,8 +11,8 @@ use lib.Signed.{_≤ℤ_, shrZ}
 use mir.Syntax.{w32, w64}
 use mir.Val.{Fits, SFits}
 use mir.Facts.{toZ-ofZ}
-use Rattle.integers.proofs.Machine.{abs-fits}
-use Rattle.integers.proofs.Poly.{over, poly}
+use Rattle.numbers.proofs.Machine.{abs-fits}
+use Rattle.numbers.proofs.Poly.{over, poly}
 use Rattle.numbers.specs.Sign.{tie as tied}
 use Rattle.numbers.proofs.Nearest.{shift-size}
 use Rattle.numbers.proofs.Small.{eighth-is}

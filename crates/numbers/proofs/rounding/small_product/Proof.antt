@@ -9,7 +9,7 @@ use lib.Signed.{_≤ℤ_, ltZ-yes}
 use mir.Syntax.{w32}
 use mir.Val.{toZ}
 use mir.Facts.{toZ-ofZ, toZ-pos}
-use Rattle.integers.proofs.Poly.{poly}
+use Rattle.numbers.proofs.Poly.{poly}
 use Rattle.paper.specs.Numbers.{round}
 use Rattle.numbers.specs.Small.{lift}
 use Rattle.numbers.proofs.Small.{fraction-is, at-most-lift, lift-off}

@@ -13,8 +13,8 @@ use lib.Signed.{_≤ℤ_, shrZ}
 use mir.Syntax.{w32}
 use mir.Val.{SFits, toZ}
 use mir.Facts.{toZ-ofZ, toZ-pos}
-use Rattle.integers.proofs.Poly.{over, poly}
-use Rattle.integers.proofs.Machine.{abs-fits}
+use Rattle.numbers.proofs.Poly.{over, poly}
+use Rattle.numbers.proofs.Machine.{abs-fits}
 use Rattle.numbers.specs.Sign.{sign}
 use Rattle.numbers.proofs.Nearest.{sign-bounds, shift-size, round-by-shift}
 use Rattle.numbers.proofs.rounding.small_shift.Statement.{statement}

@@ -8,7 +8,7 @@ use lib.IntN.{ℤ, pos, natAbs, _-ℤ_, _*ℤ_}
 use mir.Syntax.{w64}
 use mir.Val.{SFits, toZ}
 use mir.Facts.{toZ-ofZ, toZ-pos}
-use Rattle.integers.proofs.Poly.{over, poly}
+use Rattle.numbers.proofs.Poly.{over, poly}
 use Rattle.paper.specs.Numbers.{round}
 use Rattle.numbers.proofs.Units.{unit-is, product-fits}
 use Rattle.numbers.proofs.rounding.unit_quotient.Statement.{statement}

@@ -8,7 +8,7 @@ use lib.IntN.{pos, natAbs, _-ℤ_}
 use mir.Syntax.{w32}
 use mir.Val.{SFits}
 use mir.Facts.{toZ-ofZ, toZ-pos}
-use Rattle.integers.proofs.Machine.{abs-fits}
+use Rattle.numbers.proofs.Machine.{abs-fits}
 use Rattle.numbers.proofs.Small.{whole-size, whole-is, whole-fits}
 use Rattle.numbers.proofs.rounding.whole_part.Statement.{statement}
 use Rattle.numbers.proofs.rounding.whole_part.Tie as tie

@@ -1,6 +1,6 @@
 -- No line where the sum of the two numbers is zero, else their line.
 -- Assumes nothing.
-use Rattle.text_buffer.proofs.Putting.{put-none, put-same}
+use Rattle.streams.proofs.text.Putting.{put-none, put-same}
 use Rattle.print.proofs.Rooms.{no-line, a-line}
 use borrow.Author.Needs.{needs}
 use Rattle.print.proofs.lines.put_count.Statement.{statement}

@@ -4,9 +4,9 @@ use mathlib.Core.Path.{_≡_, refl, ap, _∙_}
 use Prim.Native.Nat.{_+_, _-_, _≤_}
 use lib.ListN.{length}
 use Rattle.paper.specs.Mesh.{mostSides}
-use Rattle.text_buffer.specs.Text.{Put}
+use Rattle.streams.specs.text.Text.{Put}
 use Rattle.print.specs.Lines.{countLines}
-use Rattle.text_buffer.proofs.Putting.{put-none, put-then, put-same}
+use Rattle.streams.proofs.text.Putting.{put-none, put-then, put-same}
 use Rattle.print.proofs.Rooms.{no-lines, next-lines}
 use borrow.Author.Needs.{needs}
 use native.Mathlib.Omega.{arith}

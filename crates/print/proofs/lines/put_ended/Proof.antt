@@ -1,6 +1,6 @@
 -- The number, and after it the byte.
 -- Assumes nothing.
-use Rattle.text_buffer.proofs.Putting.{put-then}
+use Rattle.streams.proofs.text.Putting.{put-then}
 use borrow.Author.Needs.{needs}
 use Rattle.print.proofs.lines.put_ended.Statement.{statement}
 use Rattle.print.proofs.lines.put_ended.Tie as tie

@@ -3,7 +3,7 @@
 use Prim.Native.Nat.{_+_}
 use Rattle.paper.specs.Mesh.{mostSides}
 use Rattle.print.specs.Lines.{threeLine, countLines, meshWord}
-use Rattle.text_buffer.proofs.Putting.{put-three}
+use Rattle.streams.proofs.text.Putting.{put-three}
 use borrow.Author.Needs.{needs}
 use Rattle.print.proofs.lines.put_mesh.Statement.{statement}
 use Rattle.print.proofs.lines.put_mesh.Tie as tie

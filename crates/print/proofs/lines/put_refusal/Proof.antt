@@ -1,7 +1,7 @@
 -- The word, and after it the two numbers.
 -- Assumes nothing.
 use Rattle.print.specs.Lines.{ended, space, feed, refusedWord}
-use Rattle.text_buffer.proofs.Putting.{put-three}
+use Rattle.streams.proofs.text.Putting.{put-three}
 use borrow.Author.Needs.{needs}
 use Rattle.print.proofs.lines.put_refusal.Statement.{statement}
 use Rattle.print.proofs.lines.put_refusal.Tie as tie

@@ -1,7 +1,7 @@
 -- Three numbers, each with the byte that ends it.
 -- Assumes nothing.
 use Rattle.print.specs.Lines.{ended, space, feed}
-use Rattle.text_buffer.proofs.Putting.{put-three}
+use Rattle.streams.proofs.text.Putting.{put-three}
 use borrow.Author.Needs.{needs}
 use Rattle.print.proofs.lines.put_three.Statement.{statement}
 use Rattle.print.proofs.lines.put_three.Tie as tie

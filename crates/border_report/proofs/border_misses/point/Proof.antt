@@ -1,0 +1,38 @@
+-- `border_report::border_misses::point` meets its contract: what is read is the number of the point on the axis, and a written point fits.
+-- Assumes nothing.
+use mathlib.Core.Path.{_∙_}
+use mir.Syntax.{w32, w64}
+use mir.Val.{SFits}
+use mir.Facts.{toZ-ofZ}
+use Rattle.border_report.specs.border_misses.Held.{pointIn}
+use borrow.Author.Needs.{needs}
+use Rattle.border_report.proofs.border_misses.point.Statement.{statement}
+use Rattle.border_report.proofs.border_misses.point.Tie as tie
+
+mul-wide : tie.Need-mul-wide
+mul-wide c = search needs
+
+add-wide : tie.Need-add-wide
+add-wide c = search needs
+
+mul-wide-2 : tie.Need-mul-wide-2
+mul-wide-2 c = search needs
+
+element-copy-out-wide : tie.Need-element-copy-out-wide
+element-copy-out-wide c = search needs
+
+wide-requires : tie.Need-wide-requires
+wide-requires c κs = search needs
+
+returns : tie.Need-returns
+returns c =
+    let f : SFits w64 (c .wide .result) = search needs in
+    let s = c .before .before in
+    let a = s .args in
+    let g : SFits w32 (pointIn (a .net .now) (a .axis) (a .k)) = search needs in
+    let e = toZ-ofZ f ∙ c .wide .ensures ∙ toZ-ofZ g in
+    (e, rw e (s .pre .0 (a .k) (s .pre .2)))
+
+pub point-spec : {M : Type 1} → statement M
+point-spec =
+    tie.close (tie.spec mul-wide add-wide mul-wide-2 element-copy-out-wide wide-requires returns)

@@ -1,0 +1,51 @@
+-- `border_report::mesh_misses::largest` meets its contract: the tables draw the whole mesh.
+-- Assumes nothing.
+use mathlib.Core.Path.{_∙_}
+use denote.Ref.{now}
+use Rattle.paper.specs.Mesh.{Mesh, meshOf}
+use Rattle.refine.proofs.sums.Accepted.{refinable-of}
+use Rattle.border_report.proofs.mesh_misses.Laws.{ones-named, ones-covered, ones-long, drawn-all, largest-is}
+use borrow.Author.Needs.{needs}
+use Rattle.border_report.proofs.mesh_misses.largest.Statement.{statement}
+use Rattle.border_report.proofs.mesh_misses.largest.Tie as tie
+
+abbrev mesh : tie.Start → Mesh
+mesh s = meshOf (now (s .args .coordinates)) (now (s .args .sides)) (now (s .args .corners)) (now (s .args .sharpness))
+
+slice-aggregate-fill-points : tie.Need-slice-aggregate-fill-points
+slice-aggregate-fill-points c = search needs
+
+slice-aggregate-fill-points-2 : tie.Need-slice-aggregate-fill-points-2
+slice-aggregate-fill-points-2 c = search needs
+
+fill-points-requires : tie.Need-fill-points-requires
+fill-points-requires c κs =
+    let s = c .before .before .before .before .before .before .before in
+    let M = mesh s in
+    (refinable-of M (s .pre .0), (s .pre .1 .0, ((ones-named M (s .pre .0), ones-covered M (s .pre .0)), (ones-long M (s .pre .0), s .pre .1 .1))))
+
+largest-requires : tie.Need-largest-requires
+largest-requires c κs =
+    let s = c .before .before .before .before .before .before .before .before .before .before in
+    drawn-all (mesh s) (s .pre .0) (now (s .args .table)) (now (s .args .points)) _ (s .pre .1 .0) (s .pre .1 .1 .0) (c .before .before .fill-points .ensures)
+
+same-length : tie.Need-same-length
+same-length c = search needs
+
+returns : tie.Need-returns
+returns c j few =
+    let s = c .before .before .before .before .before .before .before .before .before .before .before in
+    c .largest .ensures j few
+    ∙ largest-is (mesh s) (s .pre .0) (now (s .args .table)) (now (s .args .points)) _ (s .pre .1 .0) (s .pre .1 .1 .0)
+    (c .before .before .before .fill-points .ensures) j few
+
+pub largest-spec : {M : Type 1} → statement M
+largest-spec =
+    tie.close
+    (tie.spec
+    slice-aggregate-fill-points
+    slice-aggregate-fill-points-2
+    fill-points-requires
+    largest-requires
+    same-length
+    returns)

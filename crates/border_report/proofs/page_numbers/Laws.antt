@@ -1,0 +1,42 @@
+-- Lists that are filled number by number, and where a page's numbers stand.
+-- Assumes nothing.
+use mathlib.Core.Path.{_≡_, refl, sym, ap, _∙_}
+use mathlib.Core.List.{List}
+use Prim.Native.Nat.{ℕ, suc, _+_, _-_, _<_, _≤_}
+use native.Mathlib.Omega.{arith}
+use lib.ListN.{length, getD, replicate, length-append, List·getD-append}
+use lib.Seq.{getD-append-add}
+use Rattle.paper.specs.Scan.{valuesFrom}
+use Rattle.paper.specs.Report.{lines, conditions, numbersOn}
+use Rattle.paper.specs.declared.Page.{Page}
+use Rattle.mesh.proofs.Fills.{Filled, filled-all}
+use Rattle.border_report.proofs.page_laws.Runs.{values-of}
+
+-- ---- the whole of a new list
+pub all-lines : (f : ℕ → ℕ) (i : ℕ) (new : List ℕ) → i ≡ lines → Filled f (replicate lines 0) i new → new ≡ valuesFrom f 0 lines
+unfolding valuesFrom
+all-lines f i new e h = filled-all f (replicate lines 0) i lines new e h
+
+pub all-conditions : (f : ℕ → ℕ) (i : ℕ) (new : List ℕ) → i ≡ conditions → Filled f (replicate conditions 0) i new → new ≡ valuesFrom f 0 conditions
+unfolding valuesFrom
+all-conditions f i new e h = filled-all f (replicate conditions 0) i conditions new e h
+
+all-numbers : (f : ℕ → ℕ) (i : ℕ) (new : List ℕ) → i ≡ 21 → Filled f (replicate 21 0) i new → new ≡ valuesFrom f 0 21
+unfolding valuesFrom
+all-numbers f i new e h = filled-all f (replicate 21 0) i 21 new e h
+
+-- ---- a page's numbers
+module _ (P : Page) (r : length (P .refusals) ≡ lines) (m : length (P .misses) ≡ conditions) where
+  pub number-line : (i : ℕ) → 3 ≤ i → i < 17 → getD (P .refusals) (i - 3) 0 ≡ getD (numbersOn P) i 0
+  number-line i l h =
+      sym (List·getD-append (P .refusals) (P .misses) 0 (i - 3) (omega arith))
+      ∙ ap (λ (k : ℕ). getD (numbersOn P) k 0) (let e : suc (suc (suc (i - 3))) ≡ i = omega arith in e)
+
+  pub number-miss : (i : ℕ) → 17 ≤ i → getD (P .misses) (i - 17) 0 ≡ getD (numbersOn P) i 0
+  number-miss i l =
+      sym (getD-append-add (P .refusals) (P .misses) (i - 17) 0)
+      ∙ ap (λ (k : ℕ). getD (numbersOn P) k 0) (let e : suc (suc (suc (length (P .refusals) + (i - 17)))) ≡ i = omega arith in e)
+
+  pub page-numbers : (i : ℕ) (new : List ℕ) → i ≡ 21 → Filled (λ k. getD (numbersOn P) k 0) (replicate 21 0) i new → new ≡ numbersOn P
+  page-numbers i new e h =
+      all-numbers _ i new e h ∙ values-of _ (numbersOn P) 21 (omega (arith, length-append (P .refusals) (P .misses))) (λ k l. refl)

@@ -1,0 +1,67 @@
+-- `border_report::page_numbers::read_lines` meets its contract: the lines before `l` are read.
+-- Assumes nothing.
+use Prim.Native.Nat.{_+_, _-_, _≤_}
+use mathlib.Core.Path.{refl}
+use lib.ListN.{getD, replicate}
+use Rattle.mesh.proofs.Fills.{Filled, filled-none, filled-step}
+use Rattle.paper.specs.Report.{lines}
+use Rattle.border_report.proofs.page_numbers.Laws.{all-lines}
+use native.Mathlib.Omega.{arith}
+use borrow.Author.Needs.{needs}
+use Rattle.border_report.proofs.page_numbers.read_lines.Statement.{statement}
+use Rattle.border_report.proofs.page_numbers.read_lines.Tie as tie
+
+abbrev Inv-loop : tie.InvT-loop
+Inv-loop numbers refusals₀ l₀ refusals l = (l ≤ lines) × Filled (λ i. getD numbers (3 + i) 0) (replicate lines 0) l refusals
+
+abbrev μ-loop : tie.MeasureT-loop
+μ-loop numbers refusals₀ l₀ refusals l = lines - l
+
+loop-holds : tie.Need-loop-holds Inv-loop μ-loop
+loop-holds c = (omega arith, filled-none _ (replicate lines 0))
+
+add-refusals : tie.Need-add-refusals Inv-loop μ-loop
+add-refusals c = search needs
+
+mul-refusals : tie.Need-mul-refusals Inv-loop μ-loop
+mul-refusals c = search needs
+
+element-copy-out-refusals : tie.Need-element-copy-out-refusals Inv-loop μ-loop
+element-copy-out-refusals c = search needs
+
+mul-refusals-2 : tie.Need-mul-refusals-2 Inv-loop μ-loop
+mul-refusals-2 c = search needs
+
+array-write-refusals : tie.Need-array-write-refusals Inv-loop μ-loop
+array-write-refusals c = search needs
+
+add-l : tie.Need-add-l Inv-loop μ-loop
+add-l c = search needs
+
+loop-less : tie.Need-loop-less Inv-loop μ-loop
+loop-less c = search needs
+
+loop-again : tie.Need-loop-again Inv-loop μ-loop
+loop-again c =
+    let l = c .before .before .loop in
+    (search needs, filled-step _ (replicate lines 0) (l .l) (l .refusals) _ 0 (search needs) (l .inv .1) refl)
+
+returns : tie.Need-returns Inv-loop μ-loop
+returns c = let l = c .before .loop in all-lines _ (l .l) (l .refusals) (omega arith) (l .inv .1)
+
+pub read-lines-spec : {M : Type 1} → statement M
+read-lines-spec =
+    tie.close
+    (tie.spec
+    Inv-loop
+    μ-loop
+    loop-holds
+    add-refusals
+    mul-refusals
+    element-copy-out-refusals
+    mul-refusals-2
+    array-write-refusals
+    add-l
+    loop-less
+    loop-again
+    returns)

@@ -1,0 +1,67 @@
+-- `border_report::page_numbers::read_misses` meets its contract: the misses before `j` are read.
+-- Assumes nothing.
+use Prim.Native.Nat.{_+_, _-_, _≤_}
+use mathlib.Core.Path.{refl}
+use lib.ListN.{getD, replicate}
+use Rattle.mesh.proofs.Fills.{Filled, filled-none, filled-step}
+use Rattle.paper.specs.Report.{lines, conditions}
+use Rattle.border_report.proofs.page_numbers.Laws.{all-conditions}
+use native.Mathlib.Omega.{arith}
+use borrow.Author.Needs.{needs}
+use Rattle.border_report.proofs.page_numbers.read_misses.Statement.{statement}
+use Rattle.border_report.proofs.page_numbers.read_misses.Tie as tie
+
+abbrev Inv-loop : tie.InvT-loop
+Inv-loop numbers misses₀ j₀ misses j = (j ≤ conditions) × Filled (λ i. getD numbers (3 + lines + i) 0) (replicate conditions 0) j misses
+
+abbrev μ-loop : tie.MeasureT-loop
+μ-loop numbers misses₀ j₀ misses j = conditions - j
+
+loop-holds : tie.Need-loop-holds Inv-loop μ-loop
+loop-holds c = (omega arith, filled-none _ (replicate conditions 0))
+
+add-misses : tie.Need-add-misses Inv-loop μ-loop
+add-misses c = search needs
+
+mul-misses : tie.Need-mul-misses Inv-loop μ-loop
+mul-misses c = search needs
+
+element-copy-out-misses : tie.Need-element-copy-out-misses Inv-loop μ-loop
+element-copy-out-misses c = search needs
+
+mul-misses-2 : tie.Need-mul-misses-2 Inv-loop μ-loop
+mul-misses-2 c = search needs
+
+array-write-misses : tie.Need-array-write-misses Inv-loop μ-loop
+array-write-misses c = search needs
+
+add-j : tie.Need-add-j Inv-loop μ-loop
+add-j c = search needs
+
+loop-less : tie.Need-loop-less Inv-loop μ-loop
+loop-less c = search needs
+
+loop-again : tie.Need-loop-again Inv-loop μ-loop
+loop-again c =
+    let l = c .before .before .loop in
+    (search needs, filled-step _ (replicate conditions 0) (l .j) (l .misses) _ 0 (search needs) (l .inv .1) refl)
+
+returns : tie.Need-returns Inv-loop μ-loop
+returns c = let l = c .before .loop in all-conditions _ (l .j) (l .misses) (omega arith) (l .inv .1)
+
+pub read-misses-spec : {M : Type 1} → statement M
+read-misses-spec =
+    tie.close
+    (tie.spec
+    Inv-loop
+    μ-loop
+    loop-holds
+    add-misses
+    mul-misses
+    element-copy-out-misses
+    mul-misses-2
+    array-write-misses
+    add-j
+    loop-less
+    loop-again
+    returns)

@@ -1,0 +1,56 @@
+-- `border_report::pages::check_merge` meets its contract: 37 by the exact sum, then 38 of either page.
+-- Assumes nothing.
+use mathlib.Core.Path.{sym, _∙_}
+use Rattle.border_report.proofs.pages.Checks.{many-both, large-first, large-second, both-pass}
+use borrow.Author.Needs.{needs}
+use Rattle.border_report.proofs.pages.check_merge.Statement.{statement}
+use Rattle.border_report.proofs.pages.check_merge.Tie as tie
+
+returns : tie.Need-returns
+returns c = let a = c .before .before .args in many-both (a .page) (a .other) (search needs)
+
+returns-2 : tie.Need-returns-2
+returns-2 c = let a = c .before .before .before .before .args in many-both (a .page) (a .other) (search needs)
+
+add-if3 : tie.Need-add-if3
+add-if3 c = search needs
+
+returns-3 : tie.Need-returns-3
+returns-3 c = let a = c .before .before .before .before .before .before .before .args in many-both (a .page) (a .other) (search needs)
+
+is-above-requires : tie.Need-is-above-requires
+is-above-requires c κs = search needs
+
+returns-4 : tie.Need-returns-4
+returns-4 c =
+    let a = c .before .before .before .before .before .before .before .before .before .args in
+    large-first (a .page) (a .other) (search needs) (sym (c .if4 .taken) ∙ c .before .is-above .ensures)
+
+is-above-requires-2 : tie.Need-is-above-requires-2
+is-above-requires-2 c κs = search needs
+
+returns-5 : tie.Need-returns-5
+returns-5 c =
+    let a = c .before .before .before .before .before .before .before .before .before .before .before .args in
+    large-second (a .page) (a .other) (search needs) (sym (c .before .before .if4 .left) ∙ c .before .before .before .is-above .ensures)
+    (sym (c .if5 .taken) ∙ c .before .is-above2 .ensures)
+
+returns-6 : tie.Need-returns-6
+returns-6 c =
+    let a = c .before .before .before .before .before .before .before .before .before .before .before .args in
+    both-pass (a .page) (a .other) (search needs) (sym (c .before .before .if4 .left) ∙ c .before .before .before .is-above .ensures)
+    (sym (c .if5 .left) ∙ c .before .is-above2 .ensures)
+
+pub check-merge-spec : {M : Type 1} → statement M
+check-merge-spec =
+    tie.close
+    (tie.spec
+    returns
+    returns-2
+    add-if3
+    returns-3
+    is-above-requires
+    returns-4
+    is-above-requires-2
+    returns-5
+    returns-6)

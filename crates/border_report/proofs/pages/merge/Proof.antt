@@ -1,0 +1,37 @@
+-- `border_report::pages::merge` meets its contract: the checks refuse and the page is as it was, or the two become one.
+-- Assumes nothing.
+use mathlib.Core.Path.{sym, ap, _∙_}
+use Rattle.paper.specs.Faults.{stated}
+use Rattle.mesh.proofs.Verdicts.{passed}
+use Rattle.border_report.proofs.pages.Checks.{refused-merge, done-merge}
+use borrow.Author.Needs.{needs}
+use Rattle.border_report.proofs.pages.merge.Statement.{statement}
+use Rattle.border_report.proofs.pages.merge.Tie as tie
+
+check-merge-requires : tie.Need-check-merge-requires
+check-merge-requires c κs = search needs
+
+enum-known-a : tie.Need-enum-known-a
+enum-known-a c = search needs
+
+returns : tie.Need-returns
+returns c =
+    let a = c .before .before .before .before .args in
+    refused-merge (a .page) (a .other) _ _ (sym (ap stated (c .before .a .given .1)) ∙ c .before .before .before .check-merge .ensures)
+
+enum-told : tie.Need-enum-told
+enum-told c = search needs
+
+sum-pages-requires : tie.Need-sum-pages-requires
+sum-pages-requires c κs = passed (c .before .before .check-merge .result) (c .before .before .check-merge .ensures) (c .enum-told .given .1)
+
+returns-2 : tie.Need-returns-2
+returns-2 c =
+    let a = c .before .before .before .before .args in
+    let m = c .before .before .before .check-merge in
+    done-merge (a .page) (a .other) _ (passed (m .result) (m .ensures) (c .before .enum-told .given .1)) (c .sum-pages .ensures)
+
+pub merge-spec : {M : Type 1} → statement M
+merge-spec =
+    tie.close
+    (tie.spec check-merge-requires enum-known-a returns enum-told sum-pages-requires returns-2)

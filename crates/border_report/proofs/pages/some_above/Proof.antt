@@ -1,0 +1,60 @@
+-- `border_report::pages::some_above` meets its contract: the numbers before `i` are not above 2^40.
+-- Assumes nothing.
+use mathlib.Core.Path.{_≡_, refl, sym, _∙_}
+use Prim.Native.Nat.{_≤_, _-_}
+use lib.ListN.{length, drop}
+use Rattle.paper.specs.Report.{someAbove}
+use Rattle.border_report.proofs.pages.Checks.{some-here, some-later, some-end}
+use native.Mathlib.Omega.{arith}
+use borrow.Author.Needs.{needs}
+use Rattle.border_report.proofs.pages.some_above.Statement.{statement}
+use Rattle.border_report.proofs.pages.some_above.Tie as tie
+
+abbrev Inv-loop : tie.InvT-loop
+Inv-loop numbers i₀ i = (i ≤ length numbers) × (someAbove numbers ≡ someAbove (drop i numbers))
+
+abbrev μ-loop : tie.MeasureT-loop
+μ-loop numbers i₀ i = length numbers - i
+
+loop-holds : tie.Need-loop-holds Inv-loop μ-loop
+loop-holds c = (omega arith, refl)
+
+mul-if1 : tie.Need-mul-if1 Inv-loop μ-loop
+mul-if1 c = search needs
+
+shared-slice-read-if1 : tie.Need-shared-slice-read-if1 Inv-loop μ-loop
+shared-slice-read-if1 c = search needs
+
+returns : tie.Need-returns Inv-loop μ-loop
+returns c =
+    let l = c .before .before .before .loop in
+    sym (l .inv .1 ∙ some-here (c .before .before .before .before .args .numbers .now) (l .i) (search needs) (search needs))
+
+add-i : tie.Need-add-i Inv-loop μ-loop
+add-i c = search needs
+
+loop-less : tie.Need-loop-less Inv-loop μ-loop
+loop-less c = search needs
+
+loop-again : tie.Need-loop-again Inv-loop μ-loop
+loop-again c =
+    let l = c .before .before .before .loop in
+    (search needs, l .inv .1 ∙ some-later (c .before .before .before .before .args .numbers .now) (l .i) (search needs) (search needs))
+
+returns-2 : tie.Need-returns-2 Inv-loop μ-loop
+returns-2 c = let l = c .before .loop in sym (l .inv .1 ∙ some-end (c .before .before .args .numbers .now) (l .i) (omega arith))
+
+pub some-above-spec : {M : Type 1} → statement M
+some-above-spec =
+    tie.close
+    (tie.spec
+    Inv-loop
+    μ-loop
+    loop-holds
+    mul-if1
+    shared-slice-read-if1
+    returns
+    add-i
+    loop-less
+    loop-again
+    returns-2)

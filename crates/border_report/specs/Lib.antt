@@ -1,0 +1,3 @@
+pub mod four
+pub mod misses
+pub mod border_misses

@@ -1,0 +1,58 @@
+-- A corner's numbers in a list of 123, and the misses that are read from such lists.
+-- Assumes nothing.
+use mathlib.Core.Path.{_≡_}
+use mathlib.Core.List.{List}
+use Prim.Native.Nat.{ℕ, zero, suc, _+_, _*_, _<_, max}
+use lib.ListN.{getD}
+use lib.IntN.{ℤ, pos, natAbs}
+use Rattle.paper.specs.Numbers.{rounded}
+use Rattle.paper.specs.Refined.{RefinedMesh}
+use Rattle.paper.specs.Net.{Side, side0, side1, neighbour, across, H, T, X, Y, C, net, netPoints, outerRow, aRow}
+use Rattle.paper.specs.Report.{conditions, condition, largestBelow}
+use Rattle.surface.specs.Sizes.{WrittenSize}
+use Rattle.net.specs.declared.sides.NetSides.{NetSides}
+use Rattle.net.specs.sides.Values.{FourSides}
+use Rattle.border_report.specs.declared.four.Misses.{Misses}
+use Rattle.border_report.specs.four.Four.{inMisses}
+
+-- point k on an axis
+abbrev pub pointIn : List ℤ → ℕ → ℕ → ℤ
+pointIn numbers axis k = getD numbers (3 * k + axis) (pos 0)
+
+abbrev pub SmallOn : List ℤ → ℕ → Type 0
+SmallOn numbers axis = (k : ℕ) → k < netPoints → WrittenSize (pointIn numbers axis k)
+
+-- the points on an axis are those of corner c
+pub record Held (K : RefinedMesh rounded) (c axis : ℕ) (numbers : List ℤ) : Type 0 where
+  pub points-are : (k : ℕ) → k < netPoints → pointIn numbers axis k ≡ getD (net K c) k (pos 0)
+  pub small : SmallOn numbers axis
+
+abbrev pub HeldAll : (ℕ → RefinedMesh rounded) → ℕ → List ℤ → Type 0
+HeldAll K c numbers = (axis : ℕ) → axis < 3 → Held (K axis) c axis numbers
+
+-- four of a list's points
+abbrev pub fourOf : (ℕ → ℤ) → ℕ → ℕ → ℕ → ℕ → ℕ → ℤ
+fourOf f p q r s zero = f p
+fourOf f p q r s (suc zero) = f q
+fourOf f p q r s (suc (suc zero)) = f r
+fourOf f p q r s (suc (suc (suc j))) = f s
+
+-- by how much condition j is missed at a side on one axis, of the nets of a mesh
+abbrev pub netPoint : RefinedMesh rounded → ℕ → ℕ → ℤ
+netPoint K c k = getD (net K c) k (pos 0)
+
+unfoldable pub netMiss : RefinedMesh rounded → ℕ → ℕ → Side → ℕ
+netMiss K j c s =
+    natAbs
+    (condition j (H K c s) (T K c s) (X K c s) (Y K c s) (C K c s) (outerRow (netPoint K c) s j) (aRow (netPoint K c) s j)
+    (aRow (netPoint K (neighbour (K .corners) c s)) (across s) j))
+
+-- at sides 0 and 1 of a corner, on all axes
+unfoldable pub cornerMiss : (ℕ → RefinedMesh rounded) → ℕ → ℕ → ℕ
+cornerMiss K j c = largestBelow 3 (λ axis. max (netMiss (K axis) j c side0) (netMiss (K axis) j c side1))
+
+-- the misses of sides 0 and 1 on an axis, at whichever corner has these sides and these numbers
+abbrev pub AxisMisses : NetSides → ℕ → List ℤ → List ℤ → List ℤ → Misses → Type 0
+AxisMisses s axis here linked next r =
+    (K : RefinedMesh rounded) (c : ℕ) → FourSides K c s → Held K c axis here → Held K (K .corners .link c) axis linked
+    → Held K (K .corners .next c) axis next → (j : ℕ) → j < conditions → inMisses r j ≡ max (netMiss K j c side0) (netMiss K j c side1)

@@ -1,0 +1,228 @@
+-- The places of the output, the turns of the loop that writes it, and the mesh that the tables draw.
+-- Assumes nothing.
+use mathlib.Core.Path.{_≡_, refl, ap, _∙_, sym, subst}
+use mathlib.Core.Logic.{⊎-elim}
+use mathlib.Core.List.{List}
+use Prim.Native.Nat.{ℕ, zero, suc, _+_, _-_, _*_, _/_, _%_, _<_, _≤_}
+use native.Mathlib.Omega.{arith}
+use lib.Dec.{ltb}
+use borrow.Author.Tests.{ltb-true, ltb-false}
+use lib.ListN.{length, getD, replicate, length-replicate}
+use lib.Seq.{ext-getD}
+use lib.IntN.{ℤ, pos}
+use Rattle.paper.specs.Mesh.{Mesh, vertexCount, faceCount, cornerCount, mostVertices, mostFaces}
+use Rattle.paper.specs.Corners.{sumOf, faceOf, firstOf, sidesOf, positionOf, next}
+use Rattle.paper.specs.Links.{vertexOf}
+use Rattle.paper.specs.Faults.{Accepted}
+use Rattle.paper.specs.Numbers.{rounded}
+use Rattle.paper.specs.Refined.{RefinedMesh, cornersOf, refinedOf}
+use Rattle.paper.specs.Net.{ring, net, netPoints}
+use Rattle.paper.specs.Calls.{perCorner, numberAt, nets}
+use Rattle.mesh.specs.Tables.{Named}
+use Rattle.mesh.proofs.Accepted.{sound-of, few-vertices, few-faces}
+use Rattle.mesh.proofs.Faces.{held, first-from, first-to, first-same, sides-same, next-inner, next-last, start-next}
+use Rattle.mesh.proofs.Links.{values-length, values-at}
+use Rattle.mesh.proofs.Scans.{ways, compared}
+use Rattle.surface.specs.Points.{pointRow}
+use Rattle.surface.proofs.Hull.{corners-sound}
+use Rattle.surface.proofs.Rings.{ring-in}
+use Rattle.surface.proofs.Near.{Seen, ring-seen}
+use Rattle.surface.proofs.Agree.{net-same}
+use Rattle.walk.specs.Table.{Tabled}
+use Rattle.refine.specs.wanted.Tables.{Asked, Marked, Wanted}
+use Rattle.short_range.specs.Near.{NearPointed}
+use Rattle.short_range.proofs.Laws.{table-agrees, table-sound}
+use Rattle.refine.proofs.wanted.Accepted.{vertex-in}
+use Rattle.refine.specs.sums.Sources.{Pointed, Covered}
+use Rattle.refine.proofs.sums.Accepted.{refinable-of}
+use Rattle.net.specs.sides.Drawn.{drawn, Drawn}
+use Rattle.net.specs.Put.{Put}
+use Rattle.building.specs.writing.Written.{NetsWritten}
+
+-- ---- place i of the output holds point `i % perCorner / 3` of corner `i / perCorner` on axis `i % 3`
+place : (i : ℕ) → perCorner * (i / perCorner) + 3 * (i % perCorner / 3) + i % 3 ≡ i
+place i = omega arith
+
+corner-of : (i count : ℕ) → i < perCorner * count → i / perCorner < count
+corner-of i count h = omega arith
+
+point-of : (i : ℕ) → i % perCorner / 3 < netPoints
+point-of i = omega arith
+
+axis-in : (i : ℕ) → i % 3 < 3
+axis-in i = omega arith
+
+-- all corners written: the whole output
+pub written-all : (M : Mesh) (first count : ℕ) (out : List ℤ) → length out ≡ perCorner * count → NetsWritten (refinedOf rounded M) first count out
+    → out ≡ nets M first count
+unfolding NetsWritten nets numberAt
+written-all M first count out l w =
+    ext-getD (pos 0) out (nets M first count) (l ∙ sym (values-length (numberAt rounded M first) 0 (perCorner * count)))
+    (λ i h. let b : i < perCorner * count = omega arith in
+    subst (λ (k : ℕ). getD out k (pos 0) ≡ numberAt rounded M first i) (place i)
+    (w (i % 3) (i / perCorner) (i % perCorner / 3) (axis-in i) (corner-of i count b) (point-of i))
+    ∙ sym (values-at (numberAt rounded M first) (pos 0) 0 (perCorner * count) i b ∙ ap (numberAt rounded M first) (let q : 0 + i ≡ i = omega arith in q)))
+
+-- one corner more
+pub written-none : (K : ℕ → RefinedMesh rounded) (first : ℕ) (out : List ℤ) → NetsWritten K first 0 out
+unfolding NetsWritten
+written-none K first out a j p h l = absurd (omega arith)
+
+pub written-step : (K : ℕ → RefinedMesh rounded) (first k : ℕ) (old new : List ℤ) → NetsWritten K first k old
+    → Put K (first + k) (perCorner * k) old new → NetsWritten K first (k + 1) new
+unfolding NetsWritten
+written-step K first k old new w x a j p h hj hp =
+    ⊎-elim
+    (λ (q : j ≡ k). rw q (x .points-are a p h hp))
+    (λ o.
+    let l : j < k = ⊎-elim (λ (l : j < k). l) (λ (l : k < j). absurd (omega arith)) o in
+    x .before (perCorner * j + 3 * p + a) (omega arith) ∙ w a j p h l hp)
+    (compared j k)
+
+-- ---- new tables of zeros, for the vertices and for the faces
+pub zeros : (n : ℕ) → replicate {A = ℕ} n 0 ≡ replicate {A = ℕ} (length {A = ℕ} (replicate n 0)) 0
+zeros n = ap (λ (k : ℕ). replicate {A = ℕ} k 0) (sym (length-replicate {A = ℕ} n 0))
+
+module _ (M : Mesh) (accepted : Accepted M) where
+  pub named-in : Named (M .corners) (length {A = ℕ} (replicate mostVertices 0))
+  named-in c h =
+      omega (
+        arith,
+        vertex-in M accepted c h,
+        length-replicate {A = ℕ} mostVertices 0,
+        few-vertices (length (M .coordinates)) (faceCount M)
+            (cornerCount M) (sound-of M accepted .four),
+      )
+
+  pub faces-in : faceCount M ≤ length {A = ℕ} (replicate mostFaces 0)
+  faces-in = omega (
+    arith,
+    length-replicate {A = ℕ} mostFaces 0,
+    few-faces (length (M .coordinates)) (faceCount M) (cornerCount M) (sound-of M accepted
+        .four),
+  )
+
+-- ---- the walk to the end of c's face, at its corner d
+module _ (sides : List ℕ) (c d : ℕ) (h : c < sumOf sides) (a : c ≤ d) (b : d < firstOf sides c + sidesOf sides c) where
+  same-face : (firstOf sides d ≡ firstOf sides c) × (sidesOf sides d ≡ sidesOf sides c)
+  same-face = let f = first-from sides c h in (first-same sides c h d (omega arith) b, sides-same sides c h d (omega arith) b)
+
+  pub walk-on : next sides d ≡ d + 1 → d + 1 < firstOf sides c + sidesOf sides c
+  walk-on e =
+      ⊎-elim
+      (λ l. omega (arith, ltb-true (positionOf sides d + 1) (sidesOf sides d) l, same-face))
+      (λ l. absurd (omega (arith, next-last sides d (ltb-false _ _ l), same-face, first-from sides c h)))
+      (ways (ltb (positionOf sides d + 1) (sidesOf sides d)))
+
+  pub walk-end : (next sides d ≡ d + 1 → ⊥) → d + 1 ≡ firstOf sides c + sidesOf sides c
+  walk-end n =
+      ⊎-elim
+      (λ l. absurd (n (next-inner sides d (ltb-true _ _ l))))
+      (λ l. omega (arith, ltb-false (positionOf sides d + 1) (sidesOf sides d) l, same-face, first-from sides c h))
+      (ways (ltb (positionOf sides d + 1) (sidesOf sides d)))
+
+  -- and from there to its first corner
+  pub walk-round : d + 1 ≡ firstOf sides c + sidesOf sides c → next sides d ≡ firstOf sides c
+  walk-round e = next-last sides d (omega (arith, same-face, first-from sides c h)) ∙ same-face .0
+
+-- ---- the faces of the range: their corners are one range too
+module _ (sides : List ℕ) (first last c d : ℕ) (a : first ≤ c) (b : c ≤ last) (l : last < sumOf sides) (h : d < sumOf sides)
+    (e : faceOf sides d ≡ faceOf sides c) where
+  here : c < sumOf sides
+  here = omega arith
+
+  in-face : (firstOf sides c ≤ d) × (d < firstOf sides c + sidesOf sides c)
+  unfolding firstOf sidesOf
+  in-face = (rw (← e) (first-from sides d h), rw (← e) (first-to sides d h))
+
+  -- a corner of the range's first or last face that is beyond d is in d's face, and so no such corner is
+  pub from-first : firstOf sides first ≤ d
+  from-first =
+      ⊎-elim
+      (λ k. let m = ltb-true d (firstOf sides first) k in
+      let f = first-from sides first (omega arith) in
+      absurd (omega (arith, in-face .0, first-same sides c here first (omega (arith, in-face .0)) (omega (arith, first-to sides c here)))))
+      (λ k. ltb-false d (firstOf sides first) k)
+      (ways (ltb d (firstOf sides first)))
+
+  pub to-last : d < firstOf sides last + sidesOf sides last
+  to-last =
+      ⊎-elim
+      (λ k. ltb-true d (firstOf sides last + sidesOf sides last) k)
+      (λ k. let m = ltb-false d (firstOf sides last + sidesOf sides last) k in
+      let t = first-to sides last l in
+      let f = first-from sides c here in
+      absurd (omega (
+        arith,
+        in-face .1,
+        first-same sides c here last (omega arith) (omega (arith, in-face .1)),
+        sides-same sides c here last (omega arith) (omega (arith, in-face .1)),
+      )))
+      (ways (ltb d (firstOf sides last + sidesOf sides last)))
+
+-- ---- a face with a marked vertex is wanted
+pub covered-of : (M : Mesh) (accepted : Accepted M) (marked wanted : List ℕ) (start all : ℕ) → Named (M .corners) (length marked)
+    → Wanted (M .sides) (M .corners) start all wanted (faceCount M) → Marked (M .corners) start all marked → Covered M marked wanted
+covered-of M accepted marked wanted start all n w m c h k =
+    let i = held (M .sides) c (omega (arith, refinable-of M accepted .sums)) in
+    w (faceOf (M .sides) c) (i .exists) .yes (record {
+      at = c;
+      from = i .from;
+      to = omega (arith, i .to, start-next (M .sides) (faceOf (M .sides) c) (i .exists));
+      holds = m (vertexOf (M .corners) c) (n c h) .only k;
+    })
+
+-- ---- the corners at marked vertices are those at the vertices of the range
+pub near-of : (M : Mesh) (marked : List ℕ) (first count : ℕ) (old points : List ℤ) → Named (M .corners) (length marked)
+    → Marked (M .corners) first count marked → Pointed M marked (cornerCount M) old points → NearPointed M first count old points
+near-of M marked first count old points n m v = record {
+  points-are = λ axis c a h s. v .entries-are axis c (a, omega arith, h, m (vertexOf (M .corners) c) (n c h) .yes s);
+  same = v .same;
+  small = v .small;
+}
+
+-- ---- the tables draw the mesh, as far as the nets of the range look
+module _ (M : Mesh) (accepted : Accepted M) (table : List ℕ) (old points : List ℤ) (first count start all : ℕ) (t : Tabled (cornersOf M) table)
+    (some : 0 < count) (range : first + count ≤ cornerCount M) (from : start ≡ firstOf (M .sides) first)
+    (to : start + all ≡ firstOf (M .sides) (first + count - 1) + sidesOf (M .sides) (first + count - 1))
+    (long : pointRow * cornerCount M ≤ length old) (v : NearPointed M start all old points) where
+  pub drawn-of : Drawn (cornerCount M) table points
+  drawn-of = record {
+    sound = table-sound M accepted table t;
+    table-long = t .long;
+    points-long = omega (arith, v .same);
+    small = λ axis l c h. v .small _;
+    fourth = λ c h. v .small _;
+  }
+
+  -- a corner at a vertex of the face of a corner of the range is one of them
+  asked : (k d : ℕ) → k < count → d < cornerCount M → Seen M (first + k) d → Asked (M .corners) start all (vertexOf (M .corners) d)
+  asked k d l h s =
+      let sums = refinable-of M accepted .sums in
+      let last : first + count - 1 < sumOf (M .sides) = omega arith in
+      let at : s .at < sumOf (M .sides) = omega (arith, s .at-in) in
+      record {
+        at = s .at;
+        from = omega (arith, from-first (M .sides) first (first + count - 1) (first + k) (s .at) (omega arith) (omega arith) last at (s .at-face));
+        to = omega (arith, to-last (M .sides) first (first + count - 1) (first + k) (s .at) (omega arith) (omega arith) last at (s .at-face));
+        holds = sym (s .same-vertex);
+      }
+
+  -- the rings of a corner of the range are at the vertices of its face
+  pub drawn-net : (axis : ℕ) → axis < 3 → (k : ℕ) → k < count → first + k < cornerCount M
+      → net (refinedOf rounded M axis) (first + k) ≡ net (drawn (cornerCount M) table points axis) (first + k)
+  drawn-net axis a k l h =
+      let K = cornersOf M in
+      let c = first + k in
+      let ok = corners-sound M accepted in
+      net-same (refinedOf rounded M axis) (drawn (cornerCount M) table points axis) (table-agrees M accepted table t) ok c h
+      (λ e j. let d = ring-in K ok c h e j in
+      sym (v .points-are axis (ring K c e j) a d (asked k (ring K c e j) l d (ring-seen M accepted c h e j))))
+
+  -- what is written from the tables is what the mesh has
+  pub drawn-written : (out : List ℤ) → length out ≡ perCorner * count
+      → NetsWritten (drawn (cornerCount M) table points) first count out → out ≡ nets M first count
+  unfolding NetsWritten
+  drawn-written out size n =
+      written-all M first count out size
+      (λ a j p h hj hp. n a j p h hj hp ∙ ap (λ (l : List ℤ). getD l p (pos 0)) (sym (drawn-net a h j hj (omega arith))))

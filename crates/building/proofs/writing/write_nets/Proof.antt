@@ -1,0 +1,128 @@
+-- `building::writing::write_nets` meets its contract: with the refined points of the corners at the vertices of the range's faces the tables
+-- draw the mesh as far as the nets look.
+-- Assumes nothing.
+use mathlib.Core.Path.{_≡_, _∙_}
+use mathlib.Core.List.{List}
+use Prim.Native.Nat.{ℕ, _+_, _-_, _≤_, _<_}
+use native.Mathlib.Omega.{arith}
+use borrow.Author.Needs.{needs}
+use lib.ListN.{length}
+use denote.Ref.{now}
+use Rattle.paper.specs.Mesh.{Mesh, meshOf}
+use Rattle.paper.specs.Corners.{sumOf, firstOf, sidesOf}
+use Rattle.mesh.proofs.Faces.{first-from, first-to, first-ends}
+use Rattle.refine.proofs.wanted.Accepted.{faces-of}
+use Rattle.refine.proofs.sums.Accepted.{refinable-of}
+use Rattle.building.specs.writing.Written.{Rounds}
+use Rattle.building.proofs.writing.Laws.{drawn-of, drawn-written}
+use Rattle.building.proofs.writing.write_nets.Statement.{statement}
+use Rattle.building.proofs.writing.write_nets.Tie as tie
+
+module _ (s : tie.Start) where
+  abbrev mesh : Mesh
+  mesh = meshOf (now (s .args .coordinates)) (now (s .args .sides)) (now (s .args .corners)) (now (s .args .sharpness))
+
+  sums : sumOf (now (s .args .sides)) ≡ length (now (s .args .corners))
+  sums = refinable-of mesh (s .pre .0) .sums
+
+  rounds : Rounds (now (s .args .sides)) (now (s .args .table))
+  rounds = record {
+    few = faces-of mesh (s .pre .0) .few;
+    long = omega (arith, s .pre .1 .0 .long, sums);
+    nexts = λ c h. s .pre .1 .0 .nexts c (omega (arith, sums));
+  }
+
+  -- the first and the last corner of the range
+  ends : (s .args .first < sumOf (now (s .args .sides))) × (s .args .first + s .args .count - 1 < sumOf (now (s .args .sides)))
+  ends = let r = s .pre .1 .1 .0 in (omega (arith, r .0, r .1, sums), omega (arith, r .0, r .1, sums))
+
+-- the corners of the range's faces
+module _ (c : tie.After-face-end) where
+  abbrev t : tie.Start
+  t = c .before .before .before .before .before .before
+
+  whole : (c .before .face-start .result ≤ c .face-end .result) × (c .face-end .result ≤ length (now (t .args .corners)))
+  whole =
+      let r = t .pre .1 .1 .0 in
+      let e = ends t in
+      let sides = now (t .args .sides) in
+      let last = t .args .first + t .args .count - 1 in (
+        omega (arith, c .before .face-start .ensures, c .face-end .ensures, first-from sides (t .args .first) (e .0), first-to sides last (e .1), r .0),
+        omega (arith, c .face-end .ensures, first-ends sides last (e .1), sums t),
+      )
+
+face-start-requires : tie.Need-face-start-requires
+face-start-requires c κs = let s = c .before .before .before .before in (rounds s, ends s .0)
+
+add-face-end : tie.Need-add-face-end
+add-face-end c = search needs
+
+sub-face-end : tie.Need-sub-face-end
+sub-face-end c = search needs
+
+face-end-requires : tie.Need-face-end-requires
+face-end-requires c κs = let s = c .before .before .before .before .before in (rounds s, ends s .1)
+
+sub-all : tie.Need-sub-all
+sub-all c = whole c .0
+
+-- where the range's faces start and end
+module _ (b : tie.After-face-end) where
+  at-first : b .before .face-start .result ≡ firstOf (now (t b .args .sides)) (t b .args .first)
+  at-first = b .before .face-start .ensures
+
+  at-last : let last = t b .args .first + t b .args .count - 1 in
+      b .before .face-start .result + (b .face-end .result - b .before .face-start .result)
+      ≡ firstOf (now (t b .args .sides)) last + sidesOf (now (t b .args .sides)) last
+  at-last = omega (arith, b .face-end .ensures, whole b .0)
+
+fill-asked-requires : tie.Need-fill-asked-requires
+fill-asked-requires c κs =
+    let b = c .before in
+    let s = t b in
+    (s .pre .0, (s .pre .1 .0, (omega (arith, whole b), s .pre .1 .1 .1)))
+
+rows-requires : tie.Need-rows-requires
+rows-requires c κs = search needs
+
+write-corners-requires : tie.Need-write-corners-requires
+write-corners-requires c κs =
+    let b = c .before .before .before .before .before .before .before in
+    let s = t b in
+    let r = s .pre .1 .1 .0 in (
+      drawn-of (mesh s) (s .pre .0) (now (s .args .table)) (now (s .args .points)) _ (s .args .first) (s .args .count) _ _ (s .pre .1 .0)
+          (r .0) (r .1) (at-first b) (at-last b) (s .pre .1 .1 .1 .0) (c .before .before .before .before .before .fill-asked .ensures),
+      ((r .0, r .1, r .2), c .before .before .before .rows .ensures),
+    )
+
+same-length : tie.Need-same-length
+same-length c = search needs
+
+same-length-2 : tie.Need-same-length-2
+same-length-2 c = search needs
+
+returns : tie.Need-returns
+returns c =
+    let n = c .before .write-corners in
+    let b = c .before .before .before .before .before .before .before .before .before in
+    let s = t b in
+    let r = s .pre .1 .1 .0 in
+    drawn-written (mesh s) (s .pre .0) (now (s .args .table)) (now (s .args .points)) _ (s .args .first) (s .args .count) _ _ (s .pre .1 .0)
+    (r .0) (r .1) (at-first b) (at-last b) (s .pre .1 .1 .1 .0) (c .before .before .before .before .before .before .before .fill-asked .ensures) _
+    (n .kept .1 .1 .1 .1 .1 .1 .0 ∙ r .2) (n .ensures)
+
+pub write-nets-spec : {M : Type 1} → statement M
+write-nets-spec =
+    tie.close
+    (tie.spec
+    face-start-requires
+    add-face-end
+    sub-face-end
+    face-end-requires
+    sub-all
+    fill-asked-requires
+    rows-requires
+    write-corners-requires
+    same-length
+    same-length-2
+    returns)

@@ -1,0 +1,156 @@
+// The numbers that building writes: the refined points of the corners at the vertices of the range's faces are computed once, and then the
+// quad-nets are written corner by corner, so that each part of the output is gone over once.
+use numbers::cosines;
+use paper::MOST_FACES;
+use paper::MOST_VERTICES;
+use paper::NUMBERS_PER_CORNER;
+use walk::Walker;
+ghost use mathlib.Core.Path.{_≡_};
+ghost use Prim.Native.Nat.{_+_, _*_, _≤_, _<_};
+ghost use lib.ListN.{length};
+ghost use Rattle.paper.specs.Mesh.{meshOf};
+ghost use Rattle.paper.specs.Corners.{sumOf, firstOf, sidesOf};
+ghost use Rattle.paper.specs.Faults.{Accepted};
+ghost use Rattle.paper.specs.Refined.{cornersOf};
+ghost use Rattle.paper.specs.Calls.{nets, perCorner};
+ghost use Rattle.numbers.specs.Stored.{stored};
+ghost use Rattle.surface.specs.Points.{pointRow};
+ghost use Rattle.walk.specs.Table.{Tabled};
+ghost use Rattle.refine.specs.sums.Sources.{Small};
+ghost use Rattle.net.specs.sides.Drawn.{drawn, Drawn};
+ghost use Rattle.short_range.specs.Near.{NearPointed};
+ghost use Rattle.building.specs.writing.Written.{Rounds, NetsWritten};
+
+// The numbers of `count` corners from `first` on, by the table of the mesh's corners. The refined points are put into `points`.
+pub fn write_nets(
+    coordinates: &[i32],
+    sides: &[u8],
+    corners: &[u16],
+    sharpness: &[u8],
+    table: &[u16],
+    first: usize,
+    count: usize,
+    points: &mut [i32],
+    out: &mut [i32],
+)
+    requires mesh { ⌜ Accepted (meshOf (now coordinates) (now sides) (now corners) (now sharpness)) ⌝ }
+    requires table { ⌜ Tabled (cornersOf (meshOf (now coordinates) (now sides) (now corners) (now sharpness))) (now table) ⌝ }
+    requires range { ⌜ (0 < count) × (first + count ≤ length (now corners)) × (length (now out) ≡ perCorner * count) ⌝ }
+    requires points { ⌜ (pointRow * length (now corners) ≤ length (now points)) × Small (now points) ⌝ }
+    ensures { λ _. ⌜ now (out .exit) ≡ nets (meshOf (now (coordinates .entry)) (now (sides .entry)) (now (corners .entry)) (now (sharpness .entry))) first count ⌝ }
+{
+    let start = face_start(sides, table, first);
+    let end = face_end(sides, table, first + count - 1);
+    let all = end - start;
+    fill_asked(
+        coordinates,
+        sides,
+        corners,
+        sharpness,
+        table,
+        start,
+        all,
+        points,
+    );
+    let rows = cosines::rows();
+    write_corners(points, table, &rows, corners.len(), first, count, out);
+}
+
+// The refined points of the corners at the vertices of `count` corners from `first` on: by the rings of links where these are a small part of the
+// mesh, else by one pass over all faces.
+fn fill_asked(
+    coordinates: &[i32],
+    sides: &[u8],
+    corners: &[u16],
+    sharpness: &[u8],
+    table: &[u16],
+    first: usize,
+    count: usize,
+    points: &mut [i32],
+)
+    requires mesh { ⌜ Accepted (meshOf (now coordinates) (now sides) (now corners) (now sharpness)) ⌝ }
+    requires table { ⌜ Tabled (cornersOf (meshOf (now coordinates) (now sides) (now corners) (now sharpness))) (now table) ⌝ }
+    requires range { ⌜ first + count ≤ length (now corners) ⌝ }
+    requires points { ⌜ (pointRow * length (now corners) ≤ length (now points)) × Small (now points) ⌝ }
+    ensures { λ _. ⌜ NearPointed (meshOf (now (coordinates .entry)) (now (sides .entry)) (now (corners .entry)) (now (sharpness .entry))) first count (now (points .entry)) (now (points .exit)) ⌝ }
+{
+    if short_range::fill_near(
+        coordinates,
+        sides,
+        corners,
+        sharpness,
+        table,
+        first,
+        count,
+        points,
+    ) {
+        return;
+    }
+    let mut marked = [0u8; MOST_VERTICES];
+    let mut wanted = [0u8; MOST_FACES];
+    refine::wanted::fill_wanted(sides, corners, first, count, &mut marked, &mut wanted);
+    refine::fill_points(
+        coordinates,
+        sides,
+        corners,
+        sharpness,
+        table,
+        &marked,
+        &wanted,
+        points,
+    );
+}
+
+// The first corner of a corner's face: next to its last one.
+fn face_start(sides: &[u8], table: &[u16], c: usize) -> usize
+    requires { ⌜ Rounds (now sides) (now table) × (c < sumOf (now sides)) ⌝ }
+    ensures { λ r. ⌜ r ≡ firstOf (now (sides .entry)) c ⌝ }
+{
+    let end = face_end(sides, table, c);
+    let last = Walker { corner: end - 1 };
+    let start = last.next(table);
+    start.corner
+}
+
+// The corner after the last one of a corner's face: there the next corner is not the one that follows in the list.
+fn face_end(sides: &[u8], table: &[u16], c: usize) -> usize
+    requires { ⌜ Rounds (now sides) (now table) × (c < sumOf (now sides)) ⌝ }
+    ensures { λ r. ⌜ r ≡ firstOf (now (sides .entry)) c + sidesOf (now (sides .entry)) c ⌝ }
+{
+    let mut end = c;
+    loop {
+        let at = Walker { corner: end };
+        let to = at.next(table);
+        end += 1;
+        if to.corner != end {
+            break;
+        }
+    }
+    end
+}
+
+// The numbers of each corner of the range. The tables are those of n corners.
+pub fn write_corners(
+    points: &[i32],
+    table: &[u16],
+    rows: &cosines::Rows,
+    n: usize,
+    first: usize,
+    count: usize,
+    out: &mut [i32],
+)
+    requires mesh { ⌜ Drawn n (now table) (now points) ⌝ }
+    requires range { ⌜ (0 < count) × (first + count ≤ n) × (length (now out) ≡ perCorner * count) ⌝ }
+    requires rows { ⌜ now rows ≡ stored ⌝ }
+    ensures { λ _. ⌜ NetsWritten (drawn n (now (table .entry)) (now (points .entry))) first count (now (out .exit)) ⌝ }
+{
+    let mut near = [0i32; net::NEAR];
+    let mut lanes = [0i32; net::LANES];
+    let mut k = 0;
+    while k < count {
+        let c = first + k;
+        let at = NUMBERS_PER_CORNER * k;
+        net::put_net(points, table, rows, n, c, &mut near, &mut lanes, out, at);
+        k += 1;
+    }
+}

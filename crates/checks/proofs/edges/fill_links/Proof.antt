@@ -1,0 +1,102 @@
+-- `fill_links` meets its contract: the corners of the vertices below `u` have their entries and valences, and those vertices are counted.
+-- Assumes nothing.
+use mathlib.Core.Path.{_≡_, refl, _∙_}
+use Prim.Native.Nat.{_≤_, _-_}
+use lib.ListN.{length}
+use Rattle.checks.specs.edges.Entries.{Searchable, ChainsFrom, BothKeyed, FacesKept}
+use Rattle.checks.proofs.edges.Laws.{EntriesBelow, ValencesBelow, CountedBelow, keyed-clear, searchable-on, both-keyed-on, faces-same, faces-then}
+use Rattle.checks.proofs.edges.Laws.{below-none, valences-none, counted-none, below-more, valences-more, chains-more, counted-more, found}
+use native.Mathlib.Omega.{arith}
+use borrow.Author.Needs.{needs}
+use Rattle.checks.proofs.edges.fill_links.Statement.{statement}
+use Rattle.checks.proofs.edges.fill_links.Tie as tie
+
+abbrev Inv-loop : tie.InvT-loop
+Inv-loop corners count table₀ vertices₀ u₀ table vertices u =
+    (u ≤ count) × (length table ≡ length table₀) × (length vertices ≡ length vertices₀) × Searchable corners table vertices
+    × BothKeyed corners table vertices × ChainsFrom corners table u × EntriesBelow corners table u × ValencesBelow corners table u
+    × FacesKept table₀ table × CountedBelow corners vertices u
+
+abbrev μ-loop : tie.MeasureT-loop
+μ-loop corners count table₀ vertices₀ u₀ table vertices u = count - u
+
+loop-holds : tie.Need-loop-holds Inv-loop μ-loop
+loop-holds c =
+    let s = c .before .before .before in
+    let z = s .pre .1 .1 in (
+      omega arith,
+      refl,
+      refl,
+      s .pre .0 .0,
+      keyed-clear _ _ _ (z .0) (z .1),
+      s .pre .0 .1,
+      below-none _ _,
+      valences-none _ _,
+      faces-same _,
+      counted-none _ _ (z .2),
+    )
+
+mark-requires : tie.Need-mark-requires Inv-loop μ-loop
+mark-requires c κs =
+    let l = c .before .before .before .loop in let s = c .before .before .before .before .before .before .before in
+    ((l .inv .3, omega (arith, s .pre .1 .0 .1, l .inv .2, c .before .before .loop-test .taken), l .inv .5), l .inv .4)
+
+collect-requires : tie.Need-collect-requires Inv-loop μ-loop
+collect-requires c κs =
+    let m = c .before .before .before .before .mark in
+    let l = c .before .before .before .before .before .before .before .before .loop in
+    let s = c .before .before .before .before .before .before .before .before .before .before .before .before in
+    let k = searchable-on _ (l .table) (l .table) (faces-same (l .table)) (l .vertices) _ refl (m .kept .1 .1 .1 .0) (m .ensures .1 .1 .lasts) (l .inv .3) in
+    let h = c .before .before .before .before .before .before .before .loop-test .taken in
+    ((k, omega (arith, s .pre .1 .0 .1, l .inv .2, m .kept .1 .1 .1 .0), l .inv .5), (m .ensures .0, m .ensures .1 .0 .0))
+
+add-u : tie.Need-add-u Inv-loop μ-loop
+add-u c = search needs
+
+loop-less : tie.Need-loop-less Inv-loop μ-loop
+loop-less c = search needs
+
+loop-again : tie.Need-loop-again Inv-loop μ-loop
+loop-again c =
+    let k = c .before .before .collect in
+    let m = c .before .before .before .before .before .before .before .mark in
+    let l = c .before .before .before .before .before .before .before .before .before .before .before .loop in
+    let e = k .ensures .faces in (
+      search needs,
+      k .kept .1 .1 .1 .1 .0 ∙ l .inv .1,
+      m .kept .1 .1 .1 .0 ∙ l .inv .2,
+      searchable-on _ (l .table) _ e (l .vertices) _ (k .kept .1 .1 .1 .1 .0) (m .kept .1 .1 .1 .0) (m .ensures .1 .1 .lasts) (l .inv .3),
+      both-keyed-on _ (l .table) _ e _ (m .ensures .0 .keyed),
+      chains-more _ (l .table) _ (l .u) (k .ensures) (l .inv .5),
+      below-more _ (l .table) _ (l .u) (k .ensures) (l .inv .6),
+      valences-more _ (l .table) _ (l .u) (k .ensures) (l .inv .7),
+      faces-then _ (l .table) _ e (l .inv .8),
+      counted-more _ (l .vertices) _ (l .u) (m .ensures .1 .0 .1) (m .ensures .1 .1) (l .inv .9),
+    )
+
+same-length : tie.Need-same-length Inv-loop μ-loop
+same-length c = search needs
+
+same-length-2 : tie.Need-same-length-2 Inv-loop μ-loop
+same-length-2 c = search needs
+
+returns : tie.Need-returns Inv-loop μ-loop
+returns c =
+    let l = c .before .loop in let s = c .before .before .before .before .before in
+    found _ (l .u) (s .args .count) (c .loop-test .left) (s .pre .1 .0 .0) _ _ _ (l .inv .6) (l .inv .7) (l .inv .8) (l .inv .9)
+
+pub fill-links-spec : {M : Type 1} → statement M
+fill-links-spec =
+    tie.close
+    (tie.spec
+    Inv-loop
+    μ-loop
+    loop-holds
+    mark-requires
+    collect-requires
+    add-u
+    loop-less
+    loop-again
+    same-length
+    same-length-2
+    returns)

@@ -1,0 +1,67 @@
+-- No entry before `c` is above the greatest met.
+-- Assumes nothing.
+use Prim.Native.Nat.{ℕ, _≤_, _<_, _-_}
+use denote.Ref.{now}
+use Rattle.mesh.proofs.Scans.{all-below-step}
+use Rattle.walk.specs.Table.{toLink, entry}
+use native.Mathlib.Omega.{arith}
+use borrow.Author.Needs.{needs}
+use Rattle.checks.proofs.edges.highest_entry.Statement.{statement}
+use Rattle.checks.proofs.edges.highest_entry.Tie as tie
+
+abbrev Inv-loop : tie.InvT-loop
+Inv-loop table count most₀ c₀ most c = (c ≤ count) × ((j : ℕ) → j < c → entry table toLink j ≤ most)
+
+abbrev μ-loop : tie.MeasureT-loop
+μ-loop table count most₀ c₀ most c = count - c
+
+loop-holds : tie.Need-loop-holds Inv-loop μ-loop
+loop-holds c = (omega arith, λ j h. absurd (omega arith))
+
+mul-greater : tie.Need-mul-greater Inv-loop μ-loop
+mul-greater c = search needs
+
+add-greater : tie.Need-add-greater Inv-loop μ-loop
+add-greater c = search needs
+
+mul-greater-2 : tie.Need-mul-greater-2 Inv-loop μ-loop
+mul-greater-2 c = search needs
+
+shared-slice-read-greater : tie.Need-shared-slice-read-greater Inv-loop μ-loop
+shared-slice-read-greater c = search needs
+
+greater-requires : tie.Need-greater-requires Inv-loop μ-loop
+greater-requires c κs = search needs
+
+add-c : tie.Need-add-c Inv-loop μ-loop
+add-c c = search needs
+
+loop-less : tie.Need-loop-less Inv-loop μ-loop
+loop-less c = search needs
+
+loop-again : tie.Need-loop-again Inv-loop μ-loop
+loop-again c =
+    let s = c .before .before .before .before .before in let l = c .before .before .before .loop in (
+      search needs,
+      all-below-step (entry (now (s .args .table)) toLink) (l .c) (l .most) (c .greater .result) (l .inv .1) (c .greater .ensures .0) (c .greater .ensures .1),
+    )
+
+returns : tie.Need-returns Inv-loop μ-loop
+returns c = let l = c .before .loop in λ j h. l .inv .1 j (omega arith)
+
+pub highest-entry-spec : {M : Type 1} → statement M
+highest-entry-spec =
+    tie.close
+    (tie.spec
+    Inv-loop
+    μ-loop
+    loop-holds
+    mul-greater
+    add-greater
+    mul-greater-2
+    shared-slice-read-greater
+    greater-requires
+    add-c
+    loop-less
+    loop-again
+    returns)

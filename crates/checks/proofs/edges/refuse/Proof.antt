@@ -1,0 +1,73 @@
+-- `refuse` meets its contract: no corner before `c` has the entry.
+-- Assumes nothing.
+use mathlib.Core.Path.{_≡_, sym}
+use mathlib.Core.Bool.{false}
+use Prim.Native.Nat.{ℕ, _≤_, _<_, _-_}
+use denote.Ref.{now}
+use borrow.Author.Tests.{eq-eqb, ne-eqb}
+use Rattle.mesh.proofs.Scans.{fails-step}
+use Rattle.mesh.proofs.Verdicts.{lowest-hit, lowest-none}
+use Rattle.checks.specs.edges.Entries.{has}
+use native.Mathlib.Omega.{arith}
+use borrow.Author.Needs.{needs}
+use Rattle.checks.proofs.edges.refuse.Statement.{statement}
+use Rattle.checks.proofs.edges.refuse.Tie as tie
+
+abbrev Inv-loop : tie.InvT-loop
+Inv-loop table count x number c₀ c = (c ≤ count) × ((j : ℕ) → j < c → has table x j ≡ false)
+
+abbrev μ-loop : tie.MeasureT-loop
+μ-loop table count x number c₀ c = count - c
+
+loop-holds : tie.Need-loop-holds Inv-loop μ-loop
+loop-holds c = (omega arith, λ j l. absurd (omega arith))
+
+mul-if1 : tie.Need-mul-if1 Inv-loop μ-loop
+mul-if1 c = search needs
+
+add-if1 : tie.Need-add-if1 Inv-loop μ-loop
+add-if1 c = search needs
+
+mul-if1-2 : tie.Need-mul-if1-2 Inv-loop μ-loop
+mul-if1-2 c = search needs
+
+shared-slice-read-if1 : tie.Need-shared-slice-read-if1 Inv-loop μ-loop
+shared-slice-read-if1 c = search needs
+
+returns : tie.Need-returns Inv-loop μ-loop
+returns c =
+    let s = c .before .before .before .before in let l = c .before .before .before .loop in
+    sym (lowest-hit (s .args .number) (s .args .count) (has (now (s .args .table)) (s .args .x)) (l .c) (search needs) (eq-eqb _ _ (c .if1 .taken)) (l .inv .1))
+
+add-c : tie.Need-add-c Inv-loop μ-loop
+add-c c = search needs
+
+loop-less : tie.Need-loop-less Inv-loop μ-loop
+loop-less c = search needs
+
+loop-again : tie.Need-loop-again Inv-loop μ-loop
+loop-again c =
+    let s = c .before .before .before .before in let l = c .before .before .before .loop in
+    (search needs, fails-step (has (now (s .args .table)) (s .args .x)) (l .c) (l .inv .1) (ne-eqb _ _ (c .if1 .left)))
+
+returns-2 : tie.Need-returns-2 Inv-loop μ-loop
+returns-2 c =
+    let s = c .before .before in let l = c .before .loop in
+    sym (lowest-none (s .args .number) (s .args .count) (has (now (s .args .table)) (s .args .x)) (λ j h. l .inv .1 j (omega arith)))
+
+pub refuse-spec : {M : Type 1} → statement M
+refuse-spec =
+    tie.close
+    (tie.spec
+    Inv-loop
+    μ-loop
+    loop-holds
+    mul-if1
+    add-if1
+    mul-if1-2
+    shared-slice-read-if1
+    returns
+    add-c
+    loop-less
+    loop-again
+    returns-2)

@@ -1,0 +1,108 @@
+-- Check 13 meets its contract: no vertex before `u` is at fault.
+-- Assumes nothing.
+use Prim.Native.Nat.{_+_, _*_, _≤_, _<_, _-_}
+use denote.Ref.{now}
+use Rattle.walk.specs.Table.{rowLength}
+use Rattle.checks.specs.columns.Vertices.{countHere, lowestHere}
+use Rattle.checks.proofs.vertices.Laws.{Whole, whole-none, whole-more, whole-torn, whole-all, lowest-in}
+use native.Mathlib.Omega.{arith}
+use borrow.Author.Needs.{needs}
+use Rattle.checks.proofs.vertices.check_rings.Statement.{statement}
+use Rattle.checks.proofs.vertices.check_rings.Tie as tie
+
+abbrev Inv-loop : tie.InvT-loop
+Inv-loop corners table vertices count u₀ u = (u ≤ count) × Whole corners table u
+
+abbrev μ-loop : tie.MeasureT-loop
+μ-loop corners table vertices count u₀ u = count - u
+
+loop-holds : tie.Need-loop-holds Inv-loop μ-loop
+loop-holds c = (omega arith, whole-none _ _)
+
+mul-n : tie.Need-mul-n Inv-loop μ-loop
+mul-n c = search needs
+
+add-n : tie.Need-add-n Inv-loop μ-loop
+add-n c = search needs
+
+mul-n-2 : tie.Need-mul-n-2 Inv-loop μ-loop
+mul-n-2 c = search needs
+
+shared-slice-read-n : tie.Need-shared-slice-read-n Inv-loop μ-loop
+shared-slice-read-n c = search needs
+
+cast-n : tie.Need-cast-n Inv-loop μ-loop
+cast-n c = omega (arith, c .shared-slice-known4 .given (rowLength * c .before .before .loop .u + countHere))
+
+mul-lowest : tie.Need-mul-lowest Inv-loop μ-loop
+mul-lowest c = search needs
+
+add-lowest : tie.Need-add-lowest Inv-loop μ-loop
+add-lowest c = search needs
+
+mul-lowest-2 : tie.Need-mul-lowest-2 Inv-loop μ-loop
+mul-lowest-2 c = search needs
+
+shared-slice-read-lowest : tie.Need-shared-slice-read-lowest Inv-loop μ-loop
+shared-slice-read-lowest c = search needs
+
+cast-lowest : tie.Need-cast-lowest Inv-loop μ-loop
+cast-lowest c = omega (arith, c .shared-slice-known5 .given (rowLength * c .before .before .before .loop .u + lowestHere))
+
+ring-requires : tie.Need-ring-requires Inv-loop μ-loop
+ring-requires c κs =
+    let s = c .before .before .before .before .before .before .before in let l = c .before .before .before .loop in
+    let h : l .u < s .args .count = search needs in
+    let i = lowest-in (now (s .args .corners)) (l .u) (s .pre .1 .1 (l .u) h) in
+    (omega (arith, i, s .pre .0 .2 .lowest-is (l .u) i), s .pre .1 .0)
+
+returns : tie.Need-returns Inv-loop μ-loop
+returns c =
+    let s = c .before .before .before .before .before .before .before .before .before in let l = c .before .before .before .before .before .loop in
+    let h : l .u < s .args .count = search needs in
+    whole-torn (now (s .args .corners)) (now (s .args .table)) (l .u) (s .args .count) (l .inv .1) (s .pre .1 .1) h (now (s .args .vertices)) (s .pre .0 .2)
+    (c .before .ring .result) (c .before .ring .ensures) (c .if1 .taken)
+
+add-u : tie.Need-add-u Inv-loop μ-loop
+add-u c = search needs
+
+loop-less : tie.Need-loop-less Inv-loop μ-loop
+loop-less c = search needs
+
+loop-again : tie.Need-loop-again Inv-loop μ-loop
+loop-again c =
+    let s = c .before .before .before .before .before .before .before .before .before in let l = c .before .before .before .before .before .loop in
+    let h : l .u < s .args .count = search needs in (
+      search needs,
+      whole-more (now (s .args .corners)) (now (s .args .table)) (l .u) (s .args .count) (l .inv .1) (s .pre .1 .1) h (now (s .args .vertices)) (s .pre .0 .2)
+          (c .before .ring .result) (c .before .ring .ensures) (c .if1 .left),
+    )
+
+returns-2 : tie.Need-returns-2 Inv-loop μ-loop
+returns-2 c =
+    let s = c .before .before .before .before .before in let l = c .before .loop in
+    whole-all (now (s .args .corners)) (now (s .args .table)) (l .u) (s .args .count) (l .inv .1) (c .loop-test .left)
+
+pub check-rings-spec : {M : Type 1} → statement M
+check-rings-spec =
+    tie.close
+    (tie.spec
+    Inv-loop
+    μ-loop
+    loop-holds
+    mul-n
+    add-n
+    mul-n-2
+    shared-slice-read-n
+    cast-n
+    mul-lowest
+    add-lowest
+    mul-lowest-2
+    shared-slice-read-lowest
+    cast-lowest
+    ring-requires
+    returns
+    add-u
+    loop-less
+    loop-again
+    returns-2)

@@ -1,0 +1,54 @@
+-- Checks 12 and 13 meet their contract: the first stops the chain or is passed.
+-- Assumes nothing.
+use mathlib.Core.Path.{_≡_}
+use denote.Ref.{now}
+use Rattle.paper.specs.Faults.{sound, lowestOf, fault12}
+use Rattle.mesh.proofs.Verdicts.{passed}
+use Rattle.checks.proofs.vertices.Laws.{cornered, valences-refused, vertices-checked}
+use borrow.Author.Needs.{needs}
+use Rattle.checks.proofs.vertices.check_vertices.Statement.{statement}
+use Rattle.checks.proofs.vertices.check_vertices.Tie as tie
+
+-- after check 12
+module _ (t : tie.After-enum-told) where
+  abbrev start : tie.Start
+  start = t .before .before .before .before .before .before
+
+  twelve : lowestOf 12 (start .args .count) (fault12 (now (start .args .corners))) ≡ sound
+  twelve = passed (t .before .before .check-valences .result) (t .before .before .check-valences .ensures) (t .enum-told .given .1)
+
+check-valences-requires : tie.Need-check-valences-requires
+check-valences-requires c κs = search needs
+
+enum-known-a12 : tie.Need-enum-known-a12
+enum-known-a12 c = search needs
+
+returns : tie.Need-returns
+returns c =
+    let s = c .before .before .before .before .before .before .before in
+    let a = c .before .before .before .check-valences in let k = c .before .a12 .given in
+    valences-refused (now (s .args .corners)) (s .args .count) (now (s .args .table)) (a .result) (k .0 .0) (k .0 .1 .0) (k .1) (a .ensures)
+
+enum-told : tie.Need-enum-told
+enum-told c = search needs
+
+check-rings-requires : tie.Need-check-rings-requires
+check-rings-requires c κs =
+    let s = start c in
+    (s .pre .0, (s .pre .1, cornered (now (s .args .corners)) (s .args .count) (twelve c)))
+
+returns-2 : tie.Need-returns-2
+returns-2 c =
+    let s = start (c .before) in
+    vertices-checked (now (s .args .corners)) (s .args .count) (now (s .args .table)) (c .check-rings .result) (twelve (c .before)) (c .check-rings .ensures)
+
+pub check-vertices-spec : {M : Type 1} → statement M
+check-vertices-spec =
+    tie.close
+    (tie.spec
+    check-valences-requires
+    enum-known-a12
+    returns
+    enum-told
+    check-rings-requires
+    returns-2)

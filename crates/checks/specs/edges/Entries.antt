@@ -1,0 +1,152 @@
+-- What the column of links holds while edges are checked, and the columns by which its entries are found.
+-- Assumes nothing.
+use mathlib.Core.Path.{_≡_}
+use mathlib.Core.Bool.{Bool, true, false}
+use mathlib.Core.List.{List}
+use Prim.Native.Nat.{ℕ, _+_, _-_, _*_, _<_, _≤_}
+use lib.Dec.{eqb}
+use lib.ListN.{length}
+use Rattle.paper.specs.Mesh.{mostCorners}
+use Rattle.paper.specs.Corners.{sumOf, next, previous}
+use Rattle.paper.specs.Links.{vertexOf, linked, link, valence, lowest}
+use Rattle.paper.specs.Faults.{sound, _orElse_, lowestOf, fault10, fault11, stated}
+use Rattle.paper.specs.declared.Answer.{Answer}
+use Rattle.walk.specs.Table.{rowLength, toNext, toPrevious, toLink, sidesHere, valenceHere, entry, Column, Kept}
+use Rattle.checks.specs.columns.Vertices.{lastHere, leavingHere, arrivingHere, countHere, lowestHere, Rowed}
+use Rattle.checks.specs.columns.Chain.{EarliersFrom, LastsTo}
+use Rattle.checks.specs.columns.Filled.{CornersCounted}
+
+-- the entry of a corner whose leaving edge already left an earlier one, and of a corner whose leaving edge has no reverse: no corners
+abbrev pub repeated : ℕ
+repeated = 8193
+
+abbrev pub alone : ℕ
+alone = 8192
+
+-- the entry of corner c: one of these, where it is at fault, or a corner at its vertex whose arriving edge is the reverse of its leaving edge
+pub data Entry (sides corners : List ℕ) (c : ℕ) : ℕ → Type 0 where
+  again : fault10 sides corners c ≡ true → Entry sides corners c repeated
+  single : fault10 sides corners c ≡ false → fault11 sides corners c ≡ true → Entry sides corners c alone
+  joined : fault10 sides corners c ≡ false → (d : ℕ) → d < length corners → linked sides corners c d ≡ true → Entry sides corners c d
+
+unfoldable pub Entries : List ℕ → List ℕ → List ℕ → Type 0
+Entries sides corners table = (c : ℕ) → c < length corners → Entry sides corners c (entry table toLink c)
+
+-- corner c has this entry
+abbrev pub has : List ℕ → ℕ → ℕ → Bool
+has table x c = eqb (entry table toLink c) x
+
+-- what checks 10 and 11 answer, for all side counts that the entries belong to; check 11 comes after check 10
+abbrev pub Unrepeated : List ℕ → List ℕ → Answer → Type 0
+Unrepeated corners table r = (sides : List ℕ) → Entries sides corners table → stated r ≡ lowestOf 10 (length corners) (fault10 sides corners)
+
+abbrev pub Reversed : List ℕ → List ℕ → Answer → Type 0
+Reversed corners table r =
+    (sides : List ℕ) → sumOf sides ≡ length corners → Entries sides corners table → lowestOf 10 (length corners) (fault10 sides corners) ≡ sound
+    → stated r ≡ lowestOf 11 (length corners) (fault11 sides corners)
+
+-- ---- the search
+-- the far ends of a corner's edges, by the table
+abbrev pub to : List ℕ → List ℕ → ℕ → ℕ
+to corners table c = vertexOf corners (entry table toNext c)
+
+abbrev pub from : List ℕ → List ℕ → ℕ → ℕ
+from corners table c = vertexOf corners (entry table toPrevious c)
+
+-- a table of corners and a table of vertices that the search can go by: its steps lead to corners, and each vertex to its chain
+pub record Searchable (corners table vertices : List ℕ) : Type 0 where
+  pub small : length corners ≤ mostCorners
+  pub long : rowLength * length corners ≤ length table
+  pub rowed : Rowed corners vertices
+  pub nexts-in : (c : ℕ) → c < length corners → entry table toNext c < length corners
+  pub previouses-in : (c : ℕ) → c < length corners → entry table toPrevious c < length corners
+  pub lasts : LastsTo corners (entry vertices lastHere) (length corners)
+
+-- the chains of the vertices from u on stand in the column where the valences of those before it stand
+abbrev pub ChainsFrom : List ℕ → List ℕ → ℕ → Type 0
+ChainsFrom corners table u = EarliersFrom corners (entry table valenceHere) u
+
+-- vertex u has a row
+abbrev pub Row : List ℕ → ℕ → Type 0
+Row vertices u = rowLength * u + rowLength ≤ length vertices
+
+-- a column of corners by their key, the far end of an edge: each entry is 0, or one more than a corner that has the key
+pub record Keyed (corners : List ℕ) (key column : ℕ → ℕ) : Type 0 where
+  pub inside : (t : ℕ) → (column t ≡ 0 → ⊥) → column t ≤ length corners
+  pub key-is : (t : ℕ) → (column t ≡ 0 → ⊥) → key (column t - 1) ≡ t
+
+-- both columns of edges
+pub record BothKeyed (corners table vertices : List ℕ) : Type 0 where
+  pub left : Keyed corners (to corners table) (entry vertices leavingHere)
+  pub arrived : Keyed corners (from corners table) (entry vertices arrivingHere)
+
+-- an entry that is one more than a corner of u, and no higher one than d
+pub record Hit (corners : List ℕ) (u d x : ℕ) : Type 0 where
+  pub some : x ≡ 0 → ⊥
+  pub low : x ≤ d + 1
+  pub own : vertexOf corners (x - 1) ≡ u
+
+-- the corners of u from `at` on are in the column
+unfoldable pub Marked : List ℕ → (ℕ → ℕ) → (ℕ → ℕ) → ℕ → ℕ → Type 0
+Marked corners key column u at = (d : ℕ) → at ≤ d → d < length corners → vertexOf corners d ≡ u → Hit corners u d (column (key d))
+
+-- both columns, with the corners of u from `at` on
+pub record MarkedFrom (corners table vertices : List ℕ) (u at : ℕ) : Type 0 where
+  pub keyed : BothKeyed corners table vertices
+  pub left-from : Marked corners (to corners table) (entry vertices leavingHere) u at
+  pub arrived-from : Marked corners (from corners table) (entry vertices arrivingHere) u at
+
+-- how many corners u has, and the lowest where it has any
+pub record CountedAt (corners vertices : List ℕ) (u : ℕ) : Type 0 where
+  pub count-is : entry vertices countHere u ≡ valence corners u
+  pub lowest-is : lowest corners u < length corners → entry vertices lowestHere u ≡ lowest corners u
+
+-- what marking u keeps: the chains' heads, and what is noted of the other vertices
+pub record Unmarked (old new : List ℕ) (u : ℕ) : Type 0 where
+  pub lasts : Kept old new lastHere
+  pub counts : (v : ℕ) → (v ≡ u → ⊥) → entry new countHere v ≡ entry old countHere v
+  pub lowests : (v : ℕ) → (v ≡ u → ⊥) → entry new lowestHere v ≡ entry old lowestHere v
+
+-- side counts that the table's steps belong to
+pub record Ends (sides corners table : List ℕ) : Type 0 where
+  pub sums : sumOf sides ≡ length corners
+  pub nexts : Column table toNext (next sides) (length corners)
+  pub previouses : Column table toPrevious (previous sides) (length corners)
+
+-- the entry of a corner, for all such side counts
+abbrev pub EntryFor : List ℕ → List ℕ → ℕ → ℕ → Type 0
+EntryFor corners table c x = (sides : List ℕ) → Ends sides corners table → Entry sides corners c x
+
+-- the columns of the faces hold what they held
+pub record FacesKept (old new : List ℕ) : Type 0 where
+  pub nexts : Kept old new toNext
+  pub previouses : Kept old new toPrevious
+  pub sides-are : Kept old new sidesHere
+
+-- the corners of u have their entries and their valence; the others, and the columns of the faces, hold what they held
+pub record Collected (corners old new : List ℕ) (u : ℕ) : Type 0 where
+  pub entries : (c : ℕ) → c < length corners → vertexOf corners c ≡ u → EntryFor corners old c (entry new toLink c)
+  pub others : (c : ℕ) → (vertexOf corners c ≡ u → ⊥) → entry new toLink c ≡ entry old toLink c
+  pub valences : (c : ℕ) → c < length corners → vertexOf corners c ≡ u → entry new valenceHere c ≡ valence corners u
+  pub chains : (c : ℕ) → (vertexOf corners c ≡ u → ⊥) → entry new valenceHere c ≡ entry old valenceHere c
+  pub faces : FacesKept old new
+
+-- the column of valences
+abbrev pub Valences : List ℕ → List ℕ → Type 0
+Valences corners table = Column table valenceHere (λ c. valence corners (vertexOf corners c)) (length corners)
+
+-- all corners have their entries and their valences, and the vertices are counted; the columns of the faces hold what they held
+pub record Found (corners old new vertices : List ℕ) : Type 0 where
+  pub entries : (sides : List ℕ) → Ends sides corners new → Entries sides corners new
+  pub valences : Valences corners new
+  pub faces : FacesKept old new
+  pub counted : CornersCounted corners vertices
+
+-- checks 10 and 11, for all side counts that the table's steps belong to; the links, where both have passed
+pub record EdgesChecked (corners old new vertices : List ℕ) (r : Answer) : Type 0 where
+  pub answers : (sides : List ℕ) → Ends sides corners old
+      → stated r ≡ lowestOf 10 (length corners) (fault10 sides corners) orElse lowestOf 11 (length corners) (fault11 sides corners)
+  pub links : (sides : List ℕ) → Ends sides corners old → stated r ≡ sound → Column new toLink (link sides corners) (length corners)
+  pub valences : Valences corners new
+  pub faces : FacesKept old new
+  pub counted : CornersCounted corners vertices

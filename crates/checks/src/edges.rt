@@ -1,0 +1,186 @@
+// Checks 10 and 11: edges that leave twice, and edges that have no reverse; the links come out of the same search.
+// A vertex's corners are marked by where their leaving edge goes and by where their arriving edge comes from. Each of them then finds,
+// without a search, the first corner that its edge leaves and a corner where the reverse of its edge arrives.
+use crate::columns::ARRIVING;
+use crate::columns::COUNT;
+use crate::columns::LAST;
+use crate::columns::LEAVING;
+use crate::columns::LOWEST;
+use paper::Answer;
+use walk::LINK;
+use walk::NEXT;
+use walk::PREVIOUS;
+use walk::ROW;
+use walk::VALENCE;
+ghost use mathlib.Core.Path.{_≡_};
+ghost use Prim.Native.Nat.{ℕ, _*_, _≤_, _<_};
+ghost use lib.ListN.{length};
+ghost use Rattle.paper.specs.Mesh.{mostCorners};
+ghost use Rattle.paper.specs.Links.{vertexOf, valence};
+ghost use Rattle.paper.specs.Faults.{lowestOf, stated};
+ghost use Rattle.mesh.specs.Tables.{Named};
+ghost use Rattle.walk.specs.Table.{rowLength, toLink, entry};
+ghost use Rattle.checks.specs.columns.Vertices.{leavingHere, arrivingHere, countHere};
+ghost use Rattle.checks.specs.columns.Chain.{Clear};
+ghost use Rattle.checks.specs.edges.Entries.{has, Unrepeated, Reversed, Searchable, ChainsFrom, Row, BothKeyed};
+ghost use Rattle.checks.specs.edges.Entries.{MarkedFrom, CountedAt, Unmarked, EntryFor, Collected, Found, EdgesChecked};
+
+// The entry of a corner whose leaving edge already left an earlier one, and of a corner whose leaving edge has no reverse.
+const REPEATED: u16 = 8193;
+
+const ALONE: u16 = 8192;
+
+// Checks 10 and 11; the links stand in their column where both have passed. Nearly every mesh passes: its entries are gone over without an
+// early end first. The valences stand in theirs, and the vertices are counted, in any case.
+pub fn check_edges(corners: &[u16], count: usize, table: &mut [u16], vertices: &mut [u16]) -> Answer
+    requires walk { ⌜ Searchable (now corners) (now table) (now vertices) × ChainsFrom (now corners) (now table) 0 ⌝ }
+    requires vertices { ⌜ Named (now corners) count × (rowLength * count ≤ length (now vertices)) ⌝ }
+    requires clear { ⌜ Clear (now vertices) leavingHere × Clear (now vertices) arrivingHere × Clear (now vertices) countHere ⌝ }
+    ensures { λ r. ⌜ EdgesChecked (now (corners .entry)) (now (table .entry)) (now (table .exit)) (now (vertices .exit)) r ⌝ }
+{
+    fill_links(corners, count, table, vertices);
+    if highest_entry(table, corners.len()) < ALONE {
+        return Answer::Done;
+    }
+    let a10 = check_repeats(corners, table);
+    if let Answer::Refused(k, p) = a10 {
+        return Answer::Refused(k, p);
+    }
+    check_reverses(corners, table)
+}
+
+// The entry and the valence of every corner, vertex by vertex, in the columns of links and valences; the second held the chains. The
+// columns of edges are never cleared: an entry of another vertex is known by its corner.
+fn fill_links(corners: &[u16], count: usize, table: &mut [u16], vertices: &mut [u16])
+    requires walk { ⌜ Searchable (now corners) (now table) (now vertices) × ChainsFrom (now corners) (now table) 0 ⌝ }
+    requires vertices { ⌜ Named (now corners) count × (rowLength * count ≤ length (now vertices)) ⌝ }
+    requires clear { ⌜ Clear (now vertices) leavingHere × Clear (now vertices) arrivingHere × Clear (now vertices) countHere ⌝ }
+    ensures { λ _. ⌜ Found (now (corners .entry)) (now (table .entry)) (now (table .exit)) (now (vertices .exit)) ⌝ }
+{
+    let mut u = 0;
+    while u < count {
+        let n = mark(corners, table, u, vertices);
+        collect(corners, vertices, u, n, table);
+        u += 1;
+    }
+}
+
+// Marks the corners of u, from the highest down: the lowest one of an edge stays. Answers how many there are, and notes that and the
+// lowest.
+fn mark(corners: &[u16], table: &[u16], u: usize, vertices: &mut [u16]) -> u16
+    requires walk { ⌜ Searchable (now corners) (now table) (now vertices) × Row (now vertices) u × ChainsFrom (now corners) (now table) u ⌝ }
+    requires keyed { ⌜ BothKeyed (now corners) (now table) (now vertices) ⌝ }
+    ensures marks { λ _. ⌜ MarkedFrom (now (corners .entry)) (now (table .entry)) (now (vertices .exit)) u 0 ⌝ }
+    ensures count { λ r. ⌜ (r ≡ valence (now (corners .entry)) u) × CountedAt (now (corners .entry)) (now (vertices .exit)) u ⌝ }
+    ensures rest { λ _. ⌜ Unmarked (now (vertices .entry)) (now (vertices .exit)) u ⌝ }
+{
+    let mut at = vertices[ROW * u + LAST];
+    let mut n: u16 = 0;
+    let mut lowest: u16 = 0;
+    while at != 0 {
+        n += 1;
+        lowest = at - 1;
+        let d = (at - 1) as usize;
+        let next = table[ROW * d + NEXT] as usize;
+        let to = corners[next] as usize;
+        vertices[ROW * to + LEAVING] = at;
+        let previous = table[ROW * d + PREVIOUS] as usize;
+        let from = corners[previous] as usize;
+        vertices[ROW * from + ARRIVING] = at;
+        at = table[ROW * d + VALENCE];
+    }
+    vertices[ROW * u + COUNT] = n;
+    vertices[ROW * u + LOWEST] = lowest;
+    n
+}
+
+// The entries of the corners of u, which are marked, and their valence n. It takes the place of the chain behind the walk.
+fn collect(corners: &[u16], vertices: &[u16], u: usize, n: u16, table: &mut [u16])
+    requires walk { ⌜ Searchable (now corners) (now table) (now vertices) × Row (now vertices) u × ChainsFrom (now corners) (now table) u ⌝ }
+    requires marked { ⌜ MarkedFrom (now corners) (now table) (now vertices) u 0 × (n ≡ valence (now corners) u) ⌝ }
+    ensures { λ _. ⌜ Collected (now (corners .entry)) (now (table .entry)) (now (table .exit)) u ⌝ }
+{
+    let mut at = vertices[ROW * u + LAST];
+    while at != 0 {
+        let c = (at - 1) as usize;
+        let x = entry(corners, table, vertices, c);
+        at = table[ROW * c + VALENCE];
+        table[ROW * c + LINK] = x;
+        table[ROW * c + VALENCE] = n;
+    }
+}
+
+// The entry of corner c, whose vertex is marked.
+fn entry(corners: &[u16], table: &[u16], vertices: &[u16], c: usize) -> u16
+    requires corner { ⌜ (c < length (now corners)) × Searchable (now corners) (now table) (now vertices) ⌝ }
+    requires marked { ⌜ MarkedFrom (now corners) (now table) (now vertices) (vertexOf (now corners) c) 0 ⌝ }
+    ensures { λ r. ⌜ EntryFor (now (corners .entry)) (now (table .entry)) c r ⌝ }
+{
+    let next = table[ROW * c + NEXT] as usize;
+    let to = corners[next] as usize;
+    let first = vertices[ROW * to + LEAVING] as usize;
+    if first != c + 1 {
+        return REPEATED;
+    }
+    let e = vertices[ROW * to + ARRIVING];
+    if e == 0 {
+        return ALONE;
+    }
+    let d = e - 1;
+    if corners[d as usize] != corners[c] {
+        return ALONE;
+    }
+    d
+}
+
+// A number that no entry is above.
+fn highest_entry(table: &[u16], count: usize) -> u16
+    requires { ⌜ (count ≤ mostCorners) × (rowLength * count ≤ length (now table)) ⌝ }
+    ensures { λ r. ⌜ ((c : ℕ) → c < count → entry (now (table .entry)) toLink c ≤ r) ⌝ }
+{
+    let mut most: u16 = 0;
+    let mut c = 0;
+    while c < count {
+        most = greater(most, table[ROW * c + LINK]);
+        c += 1;
+    }
+    most
+}
+
+// The greater of two entries.
+fn greater(a: u16, b: u16) -> u16
+    ensures { λ r. ⌜ (a ≤ r) × (b ≤ r) ⌝ }
+{
+    if a < b { b } else { a }
+}
+
+// Check 10: no leaving edge already left an earlier corner.
+fn check_repeats(corners: &[u16], table: &[u16]) -> Answer
+    requires { ⌜ (length (now corners) ≤ mostCorners) × (rowLength * length (now corners) ≤ length (now table)) ⌝ }
+    ensures { λ r. ⌜ Unrepeated (now (corners .entry)) (now (table .entry)) r ⌝ }
+{
+    refuse(table, corners.len(), REPEATED, 10)
+}
+
+// Check 11, after check 10: each leaving edge has a reverse.
+fn check_reverses(corners: &[u16], table: &[u16]) -> Answer
+    requires { ⌜ (length (now corners) ≤ mostCorners) × (rowLength * length (now corners) ≤ length (now table)) ⌝ }
+    ensures { λ r. ⌜ Reversed (now (corners .entry)) (now (table .entry)) r ⌝ }
+{
+    refuse(table, corners.len(), ALONE, 11)
+}
+
+// The lowest corner that has the entry, as the place of a fault.
+fn refuse(table: &[u16], count: usize, x: u16, number: u8) -> Answer
+    requires { ⌜ (count ≤ mostCorners) × (rowLength * count ≤ length (now table)) ⌝ }
+    ensures { λ r. ⌜ stated r ≡ lowestOf number count (has (now (table .entry)) x) ⌝ }
+{
+    let mut c = 0;
+    while c < count {
+        if table[ROW * c + LINK] == x {
+            return Answer::Refused(number, c);
+        }
+        c += 1;
+    }
+    Answer::Done
+}

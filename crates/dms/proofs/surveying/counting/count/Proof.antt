@@ -1,0 +1,68 @@
+-- The corner list's tally holds the corners of each vertex, and the tally of its first entries the counts for each m.
+-- Assumes nothing.
+use mathlib.Core.Path.{refl}
+use Prim.Native.Nat.{_/_}
+use native.Mathlib.Omega.{arith}
+use lib.ListN.{length}
+use borrow.Author.Needs.{needs}
+use Rattle.paper.specs.Mesh.{mostVertices, meshOf, vertexCount}
+use Rattle.dms.proofs.surveying.Each.{prefix-length, cornered-is, sided-is}
+use Rattle.dms.proofs.surveying.counting.count.Statement.{statement}
+use Rattle.dms.proofs.surveying.counting.count.Tie as tie
+
+slice-aggregate-tally : tie.Need-slice-aggregate-tally
+slice-aggregate-tally c = search needs
+
+tally-requires : tie.Need-tally-requires
+tally-requires c κs = search needs
+
+array-share-prefix-valences : tie.Need-array-share-prefix-valences
+array-share-prefix-valences c = search needs
+
+slice-aggregate-tally-2 : tie.Need-slice-aggregate-tally-2
+slice-aggregate-tally-2 c =
+    let s = c .before .before .before .before .before .before in
+    prefix-length _ _ mostVertices _ (c .before .before .tally .ensures) (s .pre .0)
+
+slice-aggregate-tally-3 : tie.Need-slice-aggregate-tally-3
+slice-aggregate-tally-3 c = search needs
+
+tally-requires-2 : tie.Need-tally-requires-2
+tally-requires-2 c κs =
+    let s = c .before .before .before .before .before .before .before in
+    let few = s .pre .0 in
+    (omega (arith, prefix-length _ _ mostVertices (length (s .args .coordinates .now) / 3) (c .before .before .before .tally .ensures) few), refl)
+
+slice-aggregate-tally-bytes : tie.Need-slice-aggregate-tally-bytes
+slice-aggregate-tally-bytes c = search needs
+
+tally-bytes-requires : tie.Need-tally-bytes-requires
+tally-bytes-requires c κs = search needs
+
+returns : tie.Need-returns
+returns c =
+    λ sharpness.
+    let s = c .before .before .before .before .before .before .before .before .before .before .before .before in
+    let M = meshOf (s .args .coordinates .now) (s .args .sides .now) (s .args .corners .now) sharpness in
+    record {
+      vertices = refl;
+      faces = refl;
+      corners = refl;
+      cornered = cornered-is M (vertexCount M) _ (c .before .before .before .before .before .before .before .before .tally .ensures) (s .pre .0) _ refl
+          (c .before .before .before .before .tally2 .ensures);
+      sided = sided-is M _ (c .before .tally-bytes .ensures);
+    }
+
+pub count-spec : {M : Type 1} → statement M
+count-spec =
+    tie.close
+    (tie.spec
+    slice-aggregate-tally
+    tally-requires
+    array-share-prefix-valences
+    slice-aggregate-tally-2
+    slice-aggregate-tally-3
+    tally-requires-2
+    slice-aggregate-tally-bytes
+    tally-bytes-requires
+    returns)

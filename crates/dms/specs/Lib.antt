@@ -1,0 +1,3 @@
+pub mod header
+pub mod lists
+pub mod surveying

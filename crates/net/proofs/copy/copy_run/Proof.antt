@@ -1,0 +1,171 @@
+-- `net::copy::copy_run` meets its contract. The invariant: the first j points are copied.
+-- Assumes nothing.
+use mathlib.Core.Path.{_≡_, refl, subst}
+use Prim.Native.Nat.{ℕ, _+_, _-_, _*_, _≤_, _<_}
+use native.Mathlib.Omega.{arith}
+use lib.ListN.{getD}
+use lib.IntN.{pos}
+use mir.Syntax.{w32}
+use mir.Val.{SFits}
+use mir.Facts.{toZ-ofZ}
+use Rattle.net.specs.copy.Copy.{Copied}
+use Rattle.net.proofs.copy.Copies.{copied-none, copied-more}
+use borrow.Author.Needs.{needs}
+use Rattle.net.proofs.copy.copy_run.Statement.{statement}
+use Rattle.net.proofs.copy.copy_run.Tie as tie
+use Rattle.net.proofs.copy.copy_run.Reads as reads
+use Rattle.net.proofs.copy.copy_run.Lts as lts
+use Rattle.net.proofs.copy.put_four.Reads as put-four-reads
+
+abbrev Inv-loop : tie.InvT-loop
+Inv-loop lanes point count out₀ at j₀ out j = (j ≤ count) × Copied lanes at point (point + j) out₀ out
+
+abbrev μ-loop : tie.MeasureT-loop
+μ-loop lanes point count out₀ at j₀ out j = count - j
+
+-- src/lib.rt:272:5
+zero-more : (n : ℕ) → n ≡ n + 0
+zero-more n = omega arith
+
+one-more : (n j : ℕ) → n + j + 1 ≡ n + (j + 1)
+one-more n j = omega arith
+
+-- the point that is copied
+below : (l : tie.In-loop Inv-loop μ-loop) → l .before .before .args .point + l .before .loop .j < 40
+below l = omega (arith, l .before .before .pre .0, l .loop-test .taken)
+
+loop-holds : tie.Need-loop-holds Inv-loop μ-loop
+loop-holds c = (
+  search needs,
+  subst (λ (n : ℕ). Copied (c .args .lanes .now) (c .args .at) (c .args .point) n (c .args .out .now) (c .args .out .now))
+      (zero-more (c .args .point)) (copied-none _ _ _ _),
+)
+
+-- src/lib.rt:273:17
+add-p : tie.Need-add-p Inv-loop μ-loop
+add-p c = record { fits = omega (arith, below (c)) }
+
+-- src/lib.rt:274:20
+mul-from : tie.Need-mul-from Inv-loop μ-loop
+mul-from c = record { fits = omega (arith, below (c)) }
+
+-- src/lib.rt:275:17
+mul-x : tie.Need-mul-x Inv-loop μ-loop
+mul-x c = record { fits = omega (arith, below (c)) }
+
+-- src/lib.rt:275:17
+shared-slice-copy-out-x : tie.Need-shared-slice-copy-out-x Inv-loop μ-loop
+shared-slice-copy-out-x c = let l = c in omega (arith, below l, l .before .before .pre .1)
+
+-- src/lib.rt:276:23
+add-y : tie.Need-add-y Inv-loop μ-loop
+add-y c = record { fits = omega (arith, below (c .before)) }
+
+-- src/lib.rt:276:17
+mul-y : tie.Need-mul-y Inv-loop μ-loop
+mul-y c = record { fits = omega (arith, below (c .before)) }
+
+-- src/lib.rt:276:17
+shared-slice-copy-out-y : tie.Need-shared-slice-copy-out-y Inv-loop μ-loop
+shared-slice-copy-out-y c = let l = c .before in omega (arith, below l, l .before .before .pre .1)
+
+-- src/lib.rt:277:23
+add-z : tie.Need-add-z Inv-loop μ-loop
+add-z c = record { fits = omega (arith, below (c .before .before)) }
+
+-- src/lib.rt:277:17
+mul-z : tie.Need-mul-z Inv-loop μ-loop
+mul-z c = record { fits = omega (arith, below (c .before .before)) }
+
+-- src/lib.rt:277:17
+shared-slice-copy-out-z : tie.Need-shared-slice-copy-out-z Inv-loop μ-loop
+shared-slice-copy-out-z c = let l = c .before .before in omega (arith, below l, l .before .before .pre .1)
+
+-- src/lib.rt:278:23
+add-w : tie.Need-add-w Inv-loop μ-loop
+add-w c = record { fits = omega (arith, below (c .before .before .before)) }
+
+-- src/lib.rt:278:17
+mul-w : tie.Need-mul-w Inv-loop μ-loop
+mul-w c = record { fits = omega (arith, below (c .before .before .before)) }
+
+-- src/lib.rt:278:17
+shared-slice-copy-out-w : tie.Need-shared-slice-copy-out-w Inv-loop μ-loop
+shared-slice-copy-out-w c = let l = c .before .before .before in omega (arith, below l, l .before .before .pre .1)
+
+-- src/lib.rt:279:40
+mul-put-four : tie.Need-mul-put-four Inv-loop μ-loop
+mul-put-four c = record { fits = omega (arith, below (c .before .before .before .before .before)) }
+
+-- src/lib.rt:279:35
+add-put-four : tie.Need-add-put-four Inv-loop μ-loop
+add-put-four c = let l = c .before .before .before .before .before in search (needs, below l, l .before .before .pre .2)
+
+-- src/lib.rt:279:9
+put-four-requires : tie.Need-put-four-requires Inv-loop μ-loop
+put-four-requires c κs = let l = c .before .before .before .before .before in omega (arith, below l, l .before .before .pre .2, l .before .loop .inv .1 .same)
+
+-- src/lib.rt:280:9
+add-j : tie.Need-add-j Inv-loop μ-loop
+add-j c = search needs
+
+-- src/lib.rt:272:5
+loop-less : tie.Need-loop-less Inv-loop μ-loop
+loop-less c = search needs
+
+-- src/lib.rt:272:5
+loop-again : tie.Need-loop-again Inv-loop μ-loop
+loop-again c =
+    let l = c .before .before .before .before .before .before .before in
+    let s = l .before .before in
+    let n = s .args .point + l .before .loop .j in
+    let fx : SFits w32 (getD (s .args .lanes .now) (4 * n) (pos 0)) = search needs in
+    let fy : SFits w32 (getD (s .args .lanes .now) (4 * n + 1) (pos 0)) = search needs in
+    let fz : SFits w32 (getD (s .args .lanes .now) (4 * n + 2) (pos 0)) = search needs in (
+      omega (arith, l .loop-test .taken),
+      subst (λ (i : ℕ). Copied (s .args .lanes .now) (s .args .at) (s .args .point) i (s .args .out .now) (c .before .put-four .last .1 .1 .1 .1 .0))
+          (one-more (s .args .point) (l .before .loop .j))
+          (copied-more (s .args .lanes .now) (s .args .at) (s .args .point) n 4 (s .args .at + 3 * n) (s .args .out .now) (l .before .loop .out) _ _ _ _ refl
+          (omega arith) (omega (arith, below l)) (l .before .loop .inv .1) (toZ-ofZ fx) (toZ-ofZ fy) (toZ-ofZ fz) (c .before .put-four .ensures)),
+    )
+
+-- src/lib.rt:267:1
+same-length : tie.Need-same-length Inv-loop μ-loop
+same-length c = c .before .loop .inv .1 .same
+
+-- src/lib.rt:267:1
+returns : tie.Need-returns Inv-loop μ-loop
+returns c =
+    let s = c .before .before in
+    let l = c .before .loop in
+    let e : l .j ≡ s .args .count = omega arith in
+    subst (λ (n : ℕ). Copied (s .args .lanes .now) (s .args .at) (s .args .point) (s .args .point + n) (s .args .out .now) (l .out)) e (l .inv .1)
+
+pub copy-run-spec : {M : Type 1} → statement M
+copy-run-spec =
+    tie.close
+    (tie.spec
+    Inv-loop
+    μ-loop
+    loop-holds
+    add-p
+    mul-from
+    mul-x
+    shared-slice-copy-out-x
+    add-y
+    mul-y
+    shared-slice-copy-out-y
+    add-z
+    mul-z
+    shared-slice-copy-out-z
+    add-w
+    mul-w
+    shared-slice-copy-out-w
+    mul-put-four
+    add-put-four
+    put-four-requires
+    add-j
+    loop-less
+    loop-again
+    same-length
+    returns)

@@ -1,0 +1,65 @@
+-- `net::lanes::ring_face` meets its contract, number by number.
+-- Assumes nothing.
+use mathlib.Core.Path.{_≡_, _∙_}
+use native.Mathlib.Omega.{arith}
+use borrow.Author.Needs.{needs}
+use mir.Syntax.{w64}
+use mir.Val.{SFits}
+use mir.Facts.{toZ-ofZ}
+use Rattle.net.proofs.lanes.ring_face.Statement.{statement}
+use Rattle.net.proofs.lanes.ring_face.Tie as tie
+
+point-requires : tie.Need-point-requires
+point-requires c κs = search needs
+
+add-point : tie.Need-add-point
+add-point c = search needs
+
+point-requires-2 : tie.Need-point-requires-2
+point-requires-2 c κs = search needs
+
+add-point-2 : tie.Need-add-point-2
+add-point-2 c = search needs
+
+point-requires-3 : tie.Need-point-requires-3
+point-requires-3 c κs = search needs
+
+choose-requires : tie.Need-choose-requires
+choose-requires c κs = search needs
+
+choose-requires-2 : tie.Need-choose-requires-2
+choose-requires-2 c κs = search needs
+
+choose-requires-3 : tie.Need-choose-requires-3
+choose-requires-3 c κs = search needs
+
+returns : tie.Need-returns
+returns c =
+    let s = c .before .before .before .before .before .before .before .before .before in
+    let p = c .before .before .before .before .before .before in
+    let fq : SFits w64 (c .before .before .before .before .choose .result) = search needs in
+    let fr : SFits w64 (c .before .before .choose2 .result) = search needs in
+    let fs : SFits w64 (c .choose3 .result) = search needs in
+    let fp : SFits w64 (p .before .before .point .result) = search needs in
+    let fo : SFits w64 (p .before .point2 .result) = search needs in
+    let fn : SFits w64 (p .point3 .result) = search needs in
+    let fc : SFits w64 (s .args .e .centre) = search needs in
+    let fa : SFits w64 (s .args .e .ahead) = search needs in
+    let fb : SFits w64 (s .args .e .behind) = search needs in (
+      λ h.
+          cc (
+            toZ-ofZ fq ∙ c .before .before .before .before .choose .ensures .0 h ∙ toZ-ofZ fc,
+            toZ-ofZ fr ∙ c .before .before .choose2 .ensures .0 h ∙ toZ-ofZ fa,
+            toZ-ofZ fs ∙ c .choose3 .ensures .0 h ∙ toZ-ofZ fb,
+          ),
+      λ n.
+          cc (
+            toZ-ofZ fq ∙ c .before .before .before .before .choose .ensures .1 n ∙ toZ-ofZ fp ∙ p .before .before .point .ensures,
+            toZ-ofZ fr ∙ c .before .before .choose2 .ensures .1 n ∙ toZ-ofZ fo ∙ p .before .point2 .ensures,
+            toZ-ofZ fs ∙ c .choose3 .ensures .1 n ∙ toZ-ofZ fn ∙ p .point3 .ensures,
+          ),
+    )
+
+pub ring-face-spec : {M : Type 1} → statement M
+ring-face-spec = tie.close (tie.spec point-requires add-point point-requires-2 add-point-2 point-requires-3 choose-requires choose-requires-2
+    choose-requires-3 returns)

@@ -1,0 +1,64 @@
+-- The rows that a net is made from, four numbers each: x, y, z and one that is not used. A lane is one place of each row.
+-- Assumes nothing.
+use mathlib.Core.Path.{_≡_}
+use mathlib.Core.List.{List, [], _∷_}
+use Prim.Native.Nat.{ℕ, zero, suc, _+_, _-_, _*_, _≤_, _<_}
+use lib.ListN.{length, getD}
+use lib.IntN.{ℤ, pos}
+use Rattle.paper.specs.Refined.{Corners}
+use Rattle.surface.specs.Points.{pointRow, pointAt}
+use Rattle.surface.specs.Sizes.{FaceSize}
+use Rattle.refine.specs.declared.faces.Face.{Face}
+use Rattle.refine.specs.faces.Ring.{IsFace}
+use Rattle.net.specs.sides.Values.{FaceSized}
+
+-- the corners around c, in the order of the rows
+abbrev pub near : Corners → ℕ → List ℕ
+near K c =
+    c ∷ K .next c ∷ K .previous (K .link c) ∷ K .link c ∷ K .previous (K .link (K .previous c)) ∷ K .link (K .previous c) ∷ K .previous c
+    ∷ K .link (K .link c) ∷ K .link (K .link (K .link c)) ∷ K .next (K .next c) ∷ K .next (K .next (K .next c)) ∷ []
+
+-- a row's number in lane k
+abbrev pub lane : ℤ → ℤ → ℤ → ℤ → ℕ → ℤ
+lane x y z w zero = x
+lane x y z w (suc zero) = y
+lane x y z w (suc (suc zero)) = z
+lane x y z w (suc (suc (suc k))) = w
+
+-- row i has these numbers, every other row is as before
+pub record RowTaken (x y z w : ℤ) (i : ℕ) (old new : List ℤ) : Type 0 where
+  pub same : length new ≡ length old
+  pub row : (k : ℕ) → k < 4 → pointAt new k i ≡ lane x y z w k
+  pub kept : (j k : ℕ) → k < 4 → (j ≡ i → ⊥) → pointAt new k j ≡ pointAt old k j
+
+-- the three rows from i on have a face's numbers, of which f, g and h are the three axes, and zeros
+pub record FaceTaken (f g h : Face) (i : ℕ) (old new : List ℤ) : Type 0 where
+  pub same : length new ≡ length old
+  pub centre : (k : ℕ) → k < 4 → pointAt new k i ≡ lane (f .centre) (g .centre) (h .centre) (pos 0) k
+  pub ahead : (k : ℕ) → k < 4 → pointAt new k (i + 1) ≡ lane (f .ahead) (g .ahead) (h .ahead) (pos 0) k
+  pub behind : (k : ℕ) → k < 4 → pointAt new k (i + 2) ≡ lane (f .behind) (g .behind) (h .behind) (pos 0) k
+  pub below : (j k : ℕ) → k < 4 → j < i → pointAt new k j ≡ pointAt old k j
+  pub above : (j k : ℕ) → k < 4 → i + 2 < j → pointAt new k j ≡ pointAt old k j
+
+-- what the three rows from i on hold in lane k, as a face
+abbrev pub rowsFace : List ℤ → ℕ → ℕ → Face
+rowsFace near k i = record { centre = pointAt near k i; ahead = pointAt near k (i + 1); behind = pointAt near k (i + 2) }
+
+-- the rows from i on have the face of a ring of m, whose points on axis a are p a, unless m is four; every other row is as before
+pub record RingTaken (p : ℕ → ℕ → ℤ) (m i : ℕ) (old new : List ℤ) : Type 0 where
+  pub same : length new ≡ length old
+  pub face : (m ≡ 4 → ⊥) → (a : ℕ) → a < 3 → IsFace (p a) m 0 (m - 1) (rowsFace new a i)
+  pub sized : (m ≡ 4 → ⊥) → (k : ℕ) → k < 4 → FaceSized (rowsFace new k i)
+  pub below : (j k : ℕ) → k < 4 → j < i → pointAt new k j ≡ pointAt old k j
+  pub above : (j k : ℕ) → k < 4 → i + 2 < j → pointAt new k j ≡ pointAt old k j
+
+-- the table has rows of small numbers for the corners
+abbrev pub Readable : List ℤ → List ℕ → Type 0
+Readable points corners =
+    (i a : ℕ) → i < 11 → a < 4 → (pointRow * getD corners i 0 + a < length points) × FaceSize (pointAt points a (getD corners i 0))
+
+-- the first n rows are those of the first n corners in the table
+pub record PointsTaken (points : List ℤ) (corners : List ℕ) (n : ℕ) (old new : List ℤ) : Type 0 where
+  pub same : length new ≡ length old
+  pub rows : (i k : ℕ) → i < n → k < 4 → pointAt new k i ≡ pointAt points k (getD corners i 0)
+  pub above : (j k : ℕ) → k < 4 → n ≤ j → pointAt new k j ≡ pointAt old k j

@@ -1,0 +1,351 @@
+-- The parts of a call, as laws over lists: 25 and 26 of the words, 4 to 13 of the lists, and what is copied.
+-- Assumes nothing.
+use mathlib.Core.Path.{_≡_, refl, sym, ap, _∙_, subst}
+use mathlib.Core.Bool.{Bool, true, false, not, _||_}
+use mathlib.Core.List.{List, _∷_}
+use Prim.Native.Nat.{ℕ, zero, suc, _+_, _*_, _%_, _≤_}
+use native.Mathlib.Omega.{arith}
+use lib.Dec.{eqb, ltb}
+use lib.ListN.{length, take, replicate, length-replicate}
+use lib.Seq.{length-take-le}
+use lib.IntN.{ℤ}
+use borrow.Author.Tests.{eqb-true, not-false, ltb-false}
+use Rattle.mesh.proofs.Accepted.{sound-of, few-vertices, few-faces, few-corners}
+use Rattle.mesh.proofs.Links.{values-length}
+use Rattle.mesh.proofs.Ranges.{none-left, none-right, or-left, or-right, or-none}
+use Rattle.mesh.proofs.Verdicts.{sound-right, single-hit, single-miss, orElse-fault, orElse-sound, orElse-assoc, stop, passed, past}
+use Rattle.paper.specs.Mesh.{mostVertices, mostFaces, mostCorners, Mesh, meshOf, plain, plainList, plainMesh, lengthsOf, faceCount, cornerCount}
+use Rattle.paper.specs.Faults.{sound, fault, single, fault4, listFaults, linkFaults, verdict, stated}
+use Rattle.paper.specs.File.{begins}
+use Rattle.paper.specs.declared.Answer.{Answer}
+use Rattle.paper.specs.declared.Answer.the-variants.{Done, Refused}
+use Rattle.paper.specs.declared.Decoded.{Decoded}
+use Rattle.paper.specs.Off.{wordsOf, nthWord, listCount, coordinate, valueAt, vertices, faces, facesStart, faceAfter, wordsEnd, badFrom}
+use Rattle.paper.specs.Off.{neededVerdict, sidesFrom, wordsMesh, isOff, short, fault24, fault26, wordsVerdict, offVerdict, textMesh, OffRead}
+use Rattle.off.specs.lists.Reading.{HeaderRead, ListRead, FacesRead}
+use Rattle.off.specs.declared.lists.Progress.{Progress}
+use Rattle.off.specs.declared.lists.Header.{Header}
+use Rattle.off.specs.declared.lists.Faces.{Faces}
+use Rattle.off.specs.checking.Call.{Lists, Room, readVerdict, WordsRead, Checked, Copied}
+
+not-done : {A : Type 0} {k p : ℕ} (a : Answer) → a ≡ Refused k p → a ≡ Done → A
+not-done a e f = let z : _≡_ {A = ℕ} 0 1 = cc in absurd (omega arith)
+
+-- ---- 25 and 26
+sides-length : (words : List (List ℕ)) (p n : ℕ) → length (sidesFrom words p n) ≡ n
+unfolding sidesFrom
+sides-length words p zero = refl
+sides-length words p (suc n) = ap suc (sides-length words (faceAfter words p) n)
+
+-- a fault among the needed words
+module _ (text : List ℕ) (coordinates : List ℤ) (sides corners : List ℕ) (r : Decoded) (k p : ℕ) (a : r .answer ≡ Refused k p) where
+  pub words-refused : readVerdict (wordsOf text) ≡ fault k p → WordsRead text r coordinates sides corners
+  words-refused e = record { answers = ap stated a ∙ sym e; lists = not-done (r .answer) a }
+
+  needed-refused : neededVerdict (wordsOf text) ≡ fault k p → WordsRead text r coordinates sides corners
+  unfolding readVerdict
+  needed-refused e = words-refused (orElse-fault k p _ e)
+
+module _ (text : List ℕ) (h : Header) (eh : HeaderRead text h) (coordinates : List ℤ) (sides corners : List ℕ) where
+  pub header-refused : h .ok ≡ false → (r : Decoded) → r .answer ≡ Refused 25 (h .next .word) → WordsRead text r coordinates sides corners
+  unfolding neededVerdict
+  header-refused o r a =
+      needed-refused text coordinates sides corners r 25 (h .next .word) a (orElse-fault 25 (h .next .word) _ (eh .read .answers ∙ single-hit 25 _
+      (ap not o)))
+
+  module _ (good : h .ok ≡ true) (old : List ℤ) (x : Progress)
+      (ex : ListRead text coordinate (valueAt (wordsOf text) coordinate) (h .next .word) (3 * h .vertices) 0 old coordinates x) where
+    count-is : 3 * h .vertices ≡ 3 * vertices (wordsOf text)
+    count-is = ap (λ (n : ℕ). 3 * n) (eh .vertices-are good)
+
+    coordinates-read : ListRead text coordinate (valueAt (wordsOf text) coordinate) 4 (3 * vertices (wordsOf text)) 0 old coordinates x
+    coordinates-read =
+        subst (λ (n : ℕ). ListRead text coordinate (valueAt (wordsOf text) coordinate) 4 n 0 old coordinates x) count-is
+        (subst (λ (n : ℕ). ListRead text coordinate (valueAt (wordsOf text) coordinate) n (3 * h .vertices) 0 old coordinates x)
+        (eh .read .next-is good .number) ex)
+
+    counts-sound : badFrom (wordsOf text) listCount 1 3 ≡ sound
+    counts-sound = eh .read .answers ∙ single-miss 25 _ (ap not good)
+
+    pub vertices-refused : x .ok ≡ false → (r : Decoded) → r .answer ≡ Refused 25 (x .next .word) → WordsRead text r coordinates sides corners
+    unfolding neededVerdict
+    vertices-refused o r a =
+        needed-refused text coordinates sides corners r 25 (x .next .word) a
+        (orElse-sound _ counts-sound ∙ orElse-fault 25 (x .next .word) _ (coordinates-read .read .answers ∙ single-hit 25 _ (ap not o)))
+
+    module _ (fine : x .ok ≡ true) (old-sides old-corners : List ℕ) (f : Faces)
+        (ef : FacesRead text (x .next .word) (h .faces) old-sides old-corners f sides corners) where
+      coordinates-sound : badFrom (wordsOf text) coordinate 4 (3 * vertices (wordsOf text)) ≡ sound
+      coordinates-sound = coordinates-read .read .answers ∙ single-miss 25 _ (ap not fine)
+
+      faces-read : FacesRead text (facesStart (wordsOf text)) (faces (wordsOf text)) old-sides old-corners f sides corners
+      faces-read =
+          subst (λ (n : ℕ). FacesRead text (facesStart (wordsOf text)) n old-sides old-corners f sides corners) (eh .faces-are good)
+          (subst (λ (n : ℕ). FacesRead text n (h .faces) old-sides old-corners f sides corners) (coordinates-read .read .next-is fine .number) ef)
+
+      pub faces-refused : f .ok ≡ false → (r : Decoded) → r .answer ≡ Refused 25 (f .next .word) → WordsRead text r coordinates sides corners
+      unfolding neededVerdict
+      faces-refused o r a =
+          needed-refused text coordinates sides corners r 25 (f .next .word) a
+          (orElse-sound _ counts-sound ∙ orElse-sound _ coordinates-sound ∙ faces-read .read .answers ∙ single-hit 25 _ (ap not o))
+
+      module _ (whole : f .ok ≡ true) where
+        needed-sound : neededVerdict (wordsOf text) ≡ sound
+        unfolding neededVerdict
+        needed-sound =
+            orElse-sound _ counts-sound ∙ orElse-sound _ coordinates-sound ∙ faces-read .read .answers ∙ single-miss 25 _ (ap not whole)
+
+        end-is : f .next .word ≡ wordsEnd (wordsOf text)
+        unfolding wordsEnd
+        end-is = faces-read .read .next-is whole .number
+
+        pub more-refused : ltb (f .next .word) (length (wordsOf text)) ≡ true → (r : Decoded) → r .answer ≡ Refused 26 (f .next .word)
+            → WordsRead text r coordinates sides corners
+        unfolding readVerdict fault26
+        more-refused e r a =
+            words-refused text coordinates sides corners r 26 (f .next .word) a
+            (orElse-sound _ needed-sound ∙ single-hit 26 _ (ap (λ (n : ℕ). ltb n (length (wordsOf text))) (sym end-is) ∙ e) ∙ ap (fault 26)
+            (sym end-is))
+
+        pub words-done : ltb (f .next .word) (length (wordsOf text)) ≡ false
+            → WordsRead text
+            (record { answer = Done; coordinates = 3 * h .vertices; sides = h .faces; corners = f .corners; sharpness = 0 }) coordinates sides corners
+        unfolding readVerdict fault26 wordsMesh
+        words-done e =
+            record {
+              answers = sym (orElse-sound _ needed-sound ∙ single-miss 26 _ (ap (λ (n : ℕ). ltb n (length (wordsOf text))) (sym end-is) ∙ e));
+              lists = λ z. record {
+                coordinates-count = count-is ∙ sym (values-length _ 4 (3 * vertices (wordsOf text)));
+                sides-count = eh .faces-are good ∙ sym (sides-length (wordsOf text) (facesStart (wordsOf text)) (faces (wordsOf text)));
+                corners-count = faces-read .corners-count whole;
+                coordinates-hold = λ l. ap (λ (n : ℕ). take n coordinates) (all-of count-is)
+                    ∙ coordinates-read .stored fine .holds (omega (arith, count-is, coordinates-read .stored fine .same));
+                sides-hold = λ l. ap (λ (n : ℕ). take n sides) (eh .faces-are good) ∙ faces-read .sides-hold whole (omega
+                    (arith, eh .faces-are good, faces-read .sides-same whole));
+                corners-hold = λ l. faces-read .corners-hold whole (omega (arith, faces-read .corners-same whole));
+                plain-pairs = refl;
+              };
+            }
+          where
+            all-of : {a b : ℕ} → a ≡ b → a ≡ 0 + b
+            all-of q = omega arith
+
+-- ---- 4 to 13
+-- no fault of 4 keeps the lists within the limits
+module _ (n f k : ℕ) (e : fault4 n f k ≡ false) where
+  thirds : n % 3 ≡ 0
+  unfolding fault4
+  thirds = eqb-true (n % 3) 0 (not-false _ (none-left (not (eqb (n % 3) 0)) _ e))
+
+  pub few-numbers : n ≤ 3 * mostVertices
+  few-numbers = omega (arith, few-vertices n f k e, thirds)
+
+module _ (d : Decoded) (coordinates : List ℤ) (sides corners : List ℕ) (room : Room coordinates sides corners)
+    (e : fault4 (d .coordinates) (d .sides) (d .corners) ≡ false) where
+  pub coordinates-fit : d .coordinates ≤ length coordinates
+  coordinates-fit = omega (arith, few-numbers _ _ _ e, room .coordinates-room)
+
+  pub sides-fit : d .sides ≤ length sides
+  sides-fit = omega (arith, few-faces _ _ _ e, room .sides-room)
+
+  pub corners-fit : d .corners ≤ length corners
+  corners-fit = omega (arith, few-corners _ _ _ e, room .corners-room)
+
+  -- as check_plain asks it
+  pub corners-few : length (take (d .corners) corners) ≤ mostCorners
+  corners-few = omega (arith, few-corners _ _ _ e, length-take-le (d .corners) corners corners-fit)
+
+  pub check-all : (r : Answer) → stated r ≡ verdict (plainMesh (take (d .coordinates) coordinates) (take (d .sides) sides) (take
+      (d .corners) corners))
+      → (M : Mesh) → Lists M d coordinates sides corners → stated r ≡ verdict M
+  check-all r q M l =
+      let k = l .corners-hold corners-fit in
+      q ∙ ap verdict (same M (l .coordinates-hold coordinates-fit) (l .sides-hold sides-fit) k (ap pairs-of k ∙ sym (l .plain-pairs)))
+    where
+      pairs-of : List ℕ → List ℕ
+      pairs-of ks = plainList (length ks)
+
+      same : (M : Mesh) {cs : List ℤ} {ss ks hs : List ℕ} → cs ≡ M .coordinates → ss ≡ M .sides → ks ≡ M .corners → hs ≡ M .sharpness
+          → meshOf cs ss ks hs ≡ M
+      same M p q r s = rw (p, q, r, s)
+
+four-is : (d : Decoded) (coordinates : List ℤ) (sides corners : List ℕ) (M : Mesh) → Lists M d coordinates sides corners
+    → single 4 (fault4 (d .coordinates) (d .sides) (d .corners)) 0 ≡ single 4 (fault4 (length (M .coordinates)) (faceCount M) (cornerCount M)) 0
+four-is d coordinates sides corners M l = rw (l .coordinates-count, l .sides-count, l .corners-count)
+
+pub check-four : (d : Decoded) (coordinates : List ℤ) (sides corners : List ℕ) (a : Answer) (k p : ℕ)
+    → stated a ≡ single 4 (fault4 (d .coordinates) (d .sides) (d .corners)) 0 → a ≡ Refused k p
+    → (M : Mesh) → Lists M d coordinates sides corners → fault k p ≡ verdict M
+unfolding verdict listFaults
+check-four d coordinates sides corners a k p e q M l =
+    let v : single 4 (fault4 (length (M .coordinates)) (faceCount M) (cornerCount M)) 0 ≡ fault k p =
+    sym (four-is d coordinates sides corners M l) ∙ sym e ∙ ap stated q in
+    sym (orElse-fault k p (linkFaults M) (orElse-fault k p _ v))
+
+-- the beginning of a list of eights
+pub eights : (k n : ℕ) → k ≤ n → take k (replicate n plain) ≡ replicate k plain
+eights zero n h = refl
+eights (suc k) zero h = absurd (omega arith)
+eights (suc k) (suc n) h = ap {B = List ℕ} (λ r. plain ∷ r) (eights k n (omega arith))
+
+-- ---- the checks in a row
+module _ (text : List ℕ) (coordinates : List ℤ) (sides corners : List ℕ) where
+  pub checked-words : (d r : Decoded) (k p : ℕ) → WordsRead text d coordinates sides corners → d .answer ≡ Refused k p → r .answer ≡ Refused k p
+      → Checked text r coordinates sides corners
+  checked-words d r k p w e a =
+      record { answers = ap stated a ∙ stop (d .answer) (w .answers) k p e (verdict (wordsMesh (wordsOf text))); lists = not-done (r .answer) a }
+
+  module _ (d : Decoded) (w : WordsRead text d coordinates sides corners) (done : d .answer ≡ Done) (c : Answer)
+      (q : (M : Mesh) → Lists M d coordinates sides corners → stated c ≡ verdict M) where
+    whole : stated c ≡ verdict (wordsMesh (wordsOf text))
+    whole = q (wordsMesh (wordsOf text)) (w .lists done)
+
+    pub checked-lists : (r : Decoded) (k p : ℕ) → c ≡ Refused k p → r .answer ≡ Refused k p → Checked text r coordinates sides corners
+    checked-lists r k p e a =
+        record {
+          answers = ap stated a ∙ past (passed (d .answer) (w .answers) done) _ (ap stated (sym e) ∙ whole);
+          lists = not-done (r .answer) a;
+        }
+
+    pub checked-all : c ≡ Done → Checked text d coordinates sides corners
+    checked-all e =
+        record {
+          answers = ap stated done ∙ past (passed (d .answer) (w .answers) done) _ (ap stated (sym e) ∙ whole);
+          lists = w .lists;
+        }
+
+  -- an accepted text's lists are within the limits
+  pub within-limits : (d : Decoded) → Checked text d coordinates sides corners → d .answer ≡ Done
+      → fault4 (d .coordinates) (d .sides) (d .corners) ≡ false
+  within-limits d c done =
+      let v = sound-right _ _ (sym (c .answers) ∙ ap stated done) in
+      let l = c .lists done in
+      rw (l .coordinates-count, l .sides-count, l .corners-count) (sound-of (wordsMesh (wordsOf text)) v .four)
+
+  pub few-pairs : (d : Decoded) → Checked text d coordinates sides corners → d .answer ≡ Done → d .corners ≤ mostCorners
+  few-pairs d c done = few-corners _ _ _ (within-limits d c done)
+
+pub room-kept : (coordinates coordinates' : List ℤ) (sides corners sides' corners' : List ℕ) → Room coordinates sides corners
+    → length coordinates' ≡ length coordinates → length sides' ≡ length sides → length corners' ≡ length corners → Room coordinates' sides' corners'
+room-kept cs cs' ss ks ss' ks' r p q k =
+    record {
+      coordinates-room = omega (arith, r .coordinates-room);
+      sides-room = omega (arith, r .sides-room);
+      corners-room = omega (arith, r .corners-room);
+    }
+
+-- ---- copying
+pub taken : {A : Type 0} (n : ℕ) (list : List A) → n ≤ length list → n ≡ length (take n list)
+taken n list h = sym (length-take-le n list h)
+
+pub taken-fits : {A B : Type 0} (n : ℕ) (list : List A) (lent : List B) → n ≤ length list → n ≤ length lent → length (take n list) ≤ length lent
+taken-fits n list lent h k = omega (arith, taken n list h)
+
+-- ---- what the lent lists hold
+module _ (text : List ℕ) (lent : Mesh) where
+  module _ (coordinates : List ℤ) (sides corners : List ℕ) (d : Decoded) (c : Checked text d coordinates sides corners) where
+    pub copied-none : (k p : ℕ) → d .answer ≡ Refused k p → (r : Decoded) → r .answer ≡ Refused k p → r .coordinates ≡ 0 → r .sides ≡ 0
+        → r .corners ≡ 0 → r .sharpness ≡ 0 → Copied text lent r lent
+    copied-none k p e r a n f m s =
+        record {
+          answers = ap stated (a ∙ sym e) ∙ c .answers;
+          coordinates-length = rw a n;
+          sides-length = rw a f;
+          corners-length = rw a m;
+          sharpness-length = rw a s;
+          holds = rw a;
+        }
+
+    module _ (done : d .answer ≡ Done) (room : Room coordinates sides corners) where
+      four : fault4 (d .coordinates) (d .sides) (d .corners) ≡ false
+      four = within-limits text coordinates sides corners d c done
+
+      pub copied-all : (lists : Mesh) → lists .coordinates ≡ begins (take (d .coordinates) coordinates) (lent .coordinates)
+          → lists .sides ≡ begins (take (d .sides) sides) (lent .sides) → lists .corners ≡ begins (take (d .corners) corners) (lent .corners)
+          → lists .sharpness ≡ begins (replicate (2 * d .corners) plain) (lent .sharpness)
+          → Copied text lent
+          (record { answer = Done; coordinates = d .coordinates; sides = d .sides; corners = d .corners; sharpness = 2 * d .corners }) lists
+      copied-all lists p q r s =
+          let l = c .lists done in
+          let x = l .coordinates-hold (coordinates-fit d coordinates sides corners room four) in
+          let y = l .sides-hold (sides-fit d coordinates sides corners room four) in
+          let z = l .corners-hold (corners-fit d coordinates sides corners room four) in
+          let w : plainList (d .corners) ≡ wordsMesh (wordsOf text) .sharpness = ap plainList (l .corners-count) ∙ sym (l .plain-pairs) in
+          record {
+            answers = ap stated (sym done) ∙ c .answers;
+            coordinates-length = l .coordinates-count;
+            sides-length = l .sides-count;
+            corners-length = l .corners-count;
+            sharpness-length = sym (length-replicate (2 * d .corners) plain) ∙ ap length w;
+            holds = same lists (p ∙ ap (λ (m : List ℤ). begins m (lent .coordinates)) x) (q ∙ ap (λ (m : List ℕ). begins m (lent .sides)) y)
+                (r ∙ ap (λ (m : List ℕ). begins m (lent .corners)) z) (s ∙ ap (λ (m : List ℕ). begins m (lent .sharpness)) w);
+          }
+        where
+          same : (L : Mesh) {cs : List ℤ} {ss ks hs : List ℕ} → L .coordinates ≡ cs → L .sides ≡ ss → L .corners ≡ ks → L .sharpness ≡ hs
+              → L ≡ meshOf cs ss ks hs
+          same L p q r s = rw (← p, ← q, ← r, ← s)
+
+-- ---- 24, and the call as a whole
+module _ (text : List ℕ) (lent : Mesh) where
+  pub read-refused : fault24 (wordsOf text) (lengthsOf lent) ≡ true → (r : Decoded) → r .answer ≡ Refused 24 0
+      → r .coordinates ≡ 0 → r .sides ≡ 0 → r .corners ≡ 0 → r .sharpness ≡ 0 → OffRead text lent r lent
+  unfolding offVerdict wordsVerdict
+  read-refused e r a n f m s =
+      record {
+        answers = ap stated a ∙ sym (orElse-fault 24 0 _ (single-hit 24 0 e));
+        coordinates-length = rw a n;
+        sides-length = rw a f;
+        corners-length = rw a m;
+        sharpness-length = rw a s;
+        holds = rw a;
+      }
+
+  pub too-short : short (lengthsOf lent) ≡ true → fault24 (wordsOf text) (lengthsOf lent) ≡ true
+  unfolding fault24
+  too-short e = or-left (short (lengthsOf lent)) _ e
+
+  pub no-mark : isOff (nthWord (wordsOf text) 0) ≡ false → fault24 (wordsOf text) (lengthsOf lent) ≡ true
+  unfolding fault24
+  no-mark e = or-right (short (lengthsOf lent)) _ (ap not e)
+
+  pub marked : short (lengthsOf lent) ≡ false → isOff (nthWord (wordsOf text) 0) ≡ true → fault24 (wordsOf text) (lengthsOf lent) ≡ false
+  unfolding fault24
+  marked e o = or-none (short (lengthsOf lent)) _ e (ap not o)
+
+  module _ (e : short (lengthsOf lent) ≡ false) where
+    abbrev a : Bool
+    a = ltb (length (lent .coordinates)) (3 * mostVertices)
+
+    abbrev b : Bool
+    b = ltb (length (lent .sides)) mostFaces
+
+    abbrev c : Bool
+    c = ltb (length (lent .corners)) mostCorners
+
+    after-sides : (c || ltb (length (lent .sharpness)) (2 * mostCorners)) ≡ false
+    unfolding short
+    after-sides = none-right b _ (none-right a _ e)
+
+    pub lent-room : Room (lent .coordinates) (lent .sides) (lent .corners)
+    unfolding short
+    lent-room =
+        record {
+          coordinates-room = ltb-false _ _ (none-left a _ e);
+          sides-room = ltb-false _ _ (none-left b _ (none-right a _ e));
+          corners-room = ltb-false _ _ (none-left c _ after-sides);
+        }
+
+    pub lent-pairs : 2 * mostCorners ≤ length (lent .sharpness)
+    lent-pairs = ltb-false _ _ (none-right c _ after-sides)
+
+  pub read-all : fault24 (wordsOf text) (lengthsOf lent) ≡ false → (r : Decoded) (lists : Mesh) → Copied text lent r lists → OffRead text lent r lists
+  unfolding offVerdict wordsVerdict textMesh readVerdict
+  read-all e r lists c =
+      record {
+        answers = c .answers ∙ orElse-assoc _ _ _ ∙ sym (orElse-sound _ (single-miss 24 0 e));
+        coordinates-length = c .coordinates-length;
+        sides-length = c .sides-length;
+        corners-length = c .corners-length;
+        sharpness-length = c .sharpness-length;
+        holds = c .holds;
+      }

@@ -1,0 +1,78 @@
+-- The value of all digits is that of those after `i`, continued from `n`, which so many digits keep below a power of ten.
+-- Assumes nothing.
+use mathlib.Core.Path.{_≡_, refl, sym, ap, _∙_}
+use mathlib.Core.Bool.{true}
+use Prim.Native.Nat.{ℕ, _+_, _≤_, _<_, _-_}
+use lib.ListN.{length, getD, drop}
+use Rattle.paper.specs.Off.{allDigits, decimal}
+use Rattle.off.proofs.digits.Numbers.{digit-here, digits-on, decimal-on, decimal-none, tens, tens-start, tens-on, below-eight, below-nine}
+use native.Mathlib.Omega.{arith}
+use borrow.Author.Needs.{needs}
+use Rattle.off.proofs.digits.decimal.Statement.{statement}
+use Rattle.off.proofs.digits.decimal.Tie as tie
+
+abbrev Inv-loop : tie.InvT-loop
+Inv-loop word from n₀ i₀ n i =
+    (from ≤ i) × (i ≤ length word) × (allDigits (drop i word) ≡ true) × (decimal 0 (drop from word) ≡ decimal n (drop i word)) × (n < tens (i - from))
+
+abbrev μ-loop : tie.MeasureT-loop
+μ-loop word from n₀ i₀ n i = length word - i
+
+loop-holds : tie.Need-loop-holds Inv-loop μ-loop
+loop-holds c =
+    let s = c .before in
+    (omega arith, omega (arith, s .pre .0), s .pre .2, refl, tens-start (s .args .from - s .args .from) (omega arith))
+
+shared-slice-read-with-digit : tie.Need-shared-slice-read-with-digit Inv-loop μ-loop
+shared-slice-read-with-digit c = search needs
+
+with-digit-requires : tie.Need-with-digit-requires Inv-loop μ-loop
+with-digit-requires c κs =
+    let s = c .before .before .before .before in
+    let l = c .before .before .loop in
+    let h : l .i < length (s .args .word .now) = search needs in
+    let d = digit-here (s .args .word .now) (l .i) h (l .inv .2) in
+    (below-eight (l .n) (l .i - s .args .from) (l .inv .4) (omega (arith, s .pre .1)), d .0, d .1)
+
+add-i : tie.Need-add-i Inv-loop μ-loop
+add-i c = search needs
+
+loop-less : tie.Need-loop-less Inv-loop μ-loop
+loop-less c = search needs
+
+loop-again : tie.Need-loop-again Inv-loop μ-loop
+loop-again c =
+    let s = c .before .before .before .before .before in
+    let l = c .before .before .before .loop in
+    let w = s .args .word .now in
+    let h : l .i < length w = search needs in
+    let d = digit-here w (l .i) h (l .inv .2) in
+    let e = c .with-digit .ensures in (
+      omega arith,
+      omega arith,
+      digits-on w (l .i) h (l .inv .2),
+      l .inv .3 ∙ decimal-on w (l .i) h (l .n) ∙ ap (λ (k : ℕ). decimal k (drop (l .i + 1) w)) (sym e),
+      rw e (tens-on (l .n) (l .i - s .args .from) (l .i + 1 - s .args .from) (getD w (l .i) 0 - 48) (l .inv .4) (omega (arith, d .1)) (omega arith)),
+    )
+
+returns : tie.Need-returns Inv-loop μ-loop
+returns c =
+    let s = c .before .before .before in
+    let l = c .before .loop in (
+      sym (l .inv .3 ∙ decimal-none (l .n) (s .args .word .now) (l .i) (omega arith)),
+      below-nine (l .n) (l .i - s .args .from) (l .inv .4) (omega (arith, s .pre .1)),
+    )
+
+pub decimal-spec : {M : Type 1} → statement M
+decimal-spec =
+    tie.close
+    (tie.spec
+    Inv-loop
+    μ-loop
+    loop-holds
+    shared-slice-read-with-digit
+    with-digit-requires
+    add-i
+    loop-less
+    loop-again
+    returns)

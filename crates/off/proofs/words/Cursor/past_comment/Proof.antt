@@ -1,0 +1,31 @@
+-- The words after the # are those after the comment.
+-- Assumes nothing.
+use mathlib.Core.Path.{_∙_}
+use Rattle.off.proofs.words.Cursors.{before-on, comment-words}
+use native.Mathlib.Omega.{arith}
+use borrow.Author.Needs.{needs}
+use Rattle.off.proofs.words.Cursor.past_comment.Statement.{statement}
+use Rattle.off.proofs.words.Cursor.past_comment.Tie as tie
+
+add-comment-end : tie.Need-add-comment-end
+add-comment-end c = search needs
+
+comment-end-requires : tie.Need-comment-end-requires
+comment-end-requires c κs = search needs
+
+moved-requires : tie.Need-moved-requires
+moved-requires c κs = search needs
+
+returns : tie.Need-returns
+returns c =
+    let s = c .before .before .before in
+    let self = s .args .self in
+    let e = c .before .comment-end .ensures in (
+      omega (arith, c .moved .ensures .0, e .0),
+      before-on _ _ self _ _ _ (s .pre .2) (omega (arith, e .0)) (e .1)
+          (comment-words _ (self .at) (s .pre .0) (s .pre .1) ∙ e .2) (c .moved .ensures .0) (c .moved .ensures .1) (omega arith),
+    )
+
+pub past-comment-spec : {M : Type 1} → statement M
+past-comment-spec =
+    tie.close (tie.spec add-comment-end comment-end-requires moved-requires returns)

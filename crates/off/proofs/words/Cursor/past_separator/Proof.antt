@@ -1,0 +1,25 @@
+-- A separator parts words and is none.
+-- Assumes nothing.
+use Rattle.off.proofs.words.Cursors.{before-on, separator-words}
+use native.Mathlib.Omega.{arith}
+use borrow.Author.Needs.{needs}
+use Rattle.off.proofs.words.Cursor.past_separator.Statement.{statement}
+use Rattle.off.proofs.words.Cursor.past_separator.Tie as tie
+
+add-moved : tie.Need-add-moved
+add-moved c = search needs
+
+moved-requires : tie.Need-moved-requires
+moved-requires c κs = search needs
+
+returns : tie.Need-returns
+returns c =
+    let s = c .before .before in
+    let self = s .args .self in (
+      omega (arith, c .moved .ensures .0),
+      before-on _ _ self _ _ _ (s .pre .2) (omega arith) (omega arith)
+          (separator-words _ (self .at) (s .pre .0) (s .pre .1)) (c .moved .ensures .0) (c .moved .ensures .1) (omega arith),
+    )
+
+pub past-separator-spec : {M : Type 1} → statement M
+past-separator-spec = tie.close (tie.spec add-moved moved-requires returns)

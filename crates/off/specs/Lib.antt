@@ -1,0 +1,4 @@
+pub mod digits
+pub mod words
+pub mod lists
+pub mod checking

@@ -1,0 +1,71 @@
+-- Each turn reads at least a byte, and there are turns only up to one byte past the length expected.
+-- Assumes nothing.
+use Prim.Native.Nat.{_-_, _<_, _≤_}
+use lib.ListN.{length}
+use Rattle.print.proofs.file_input.Lengths.{measured-short, measured-long}
+use borrow.Author.Needs.{needs}
+use native.Mathlib.Omega.{arith}
+use Rattle.print.proofs.file_input.count_on.Statement.{statement}
+use Rattle.print.proofs.file_input.count_on.Tie as tie
+
+abbrev Inv-loop : tie.InvT-loop
+Inv-loop fd held size counted₀ ok₀ most counted ok = (length held ≤ counted) × (length held < counted → counted ≤ most)
+
+abbrev μ-loop : tie.MeasureT-loop
+μ-loop fd held size counted₀ ok₀ most counted ok = most - counted
+
+expected-length-requires : tie.Need-expected-length-requires Inv-loop μ-loop
+expected-length-requires c κs = search needs
+
+add-most : tie.Need-add-most Inv-loop μ-loop
+add-most c = search needs
+
+loop-holds : tie.Need-loop-holds Inv-loop μ-loop
+loop-holds c = (omega arith, λ l. absurd (omega arith))
+
+sub-skip : tie.Need-sub-skip Inv-loop μ-loop
+sub-skip c = search needs
+
+skip-requires : tie.Need-skip-requires Inv-loop μ-loop
+skip-requires c κs = search needs
+
+add-counted : tie.Need-add-counted Inv-loop μ-loop
+add-counted c = search needs
+
+loop-less : tie.Need-loop-less Inv-loop μ-loop
+loop-less c = let e = c .before .skip .ensures in omega arith
+
+loop-again : tie.Need-loop-again Inv-loop μ-loop
+loop-again c = let e = c .before .skip .ensures in let h = c .before .before .before .loop .inv .0 in (omega arith, λ l. omega arith)
+
+returns : tie.Need-returns Inv-loop μ-loop
+returns c =
+    let l = c .before .loop in
+    measured-long _ _ _ (l .counted) (c .before .before .before .if1 .taken) (c .before .before .expected-length .ensures .0) (l .inv .0) (l .inv .1)
+
+returns-2 : tie.Need-returns-2 Inv-loop μ-loop
+returns-2 c =
+    let l = c .before .before .before .loop in
+    measured-long _ _ _ (l .counted) (c .before .before .before .before .before .if1 .taken) (c .before .before .before .before .expected-length .ensures .0)
+    (l .inv .0) (l .inv .1)
+
+returns-3 : tie.Need-returns-3 Inv-loop μ-loop
+returns-3 c = measured-short _ _
+
+pub count-on-spec : {M : Type 1} → statement M
+count-on-spec =
+    tie.close
+    (tie.spec
+    Inv-loop
+    μ-loop
+    expected-length-requires
+    add-most
+    loop-holds
+    sub-skip
+    skip-requires
+    add-counted
+    loop-less
+    loop-again
+    returns
+    returns-2
+    returns-3)

@@ -1,0 +1,70 @@
+-- After each turn every plane holds a first vertex and some fours.
+-- Assumes nothing.
+use mathlib.Core.Path.{_≡_, refl, subst}
+use Prim.Native.Nat.{ℕ, _+_, _-_, _%_, _<_, _≤_}
+use native.Mathlib.Nat.{div-add-mod, mod-lt}
+use native.Mathlib.Omega.{arith}
+use lib.ListN.{length}
+use denote.Ref.{now}
+use Rattle.rearrange.specs.planes.Planes.{Planed}
+use borrow.Author.Needs.{needs}
+use Rattle.rearrange.proofs.archiving.fill_fours.Statement.{statement}
+use Rattle.rearrange.proofs.archiving.fill_fours.Tie as tie
+
+more : (i : ℕ) → 3 ≤ i → (i - 3) % 4 ≡ 0 → (i + 4 - 3) % 4 ≡ 0
+more i h e = omega (arith, div-add-mod (i - 3) 4, div-add-mod (i + 4 - 3) 4, mod-lt (i + 4 - 3) {m = 4} (omega arith))
+
+end : (i n : ℕ) → 3 ≤ i → i ≤ n → n < i + 4 → (i - 3) % 4 ≡ 0 → i ≡ n - (n - 3) % 4
+end i n h a b e = omega (arith, div-add-mod (i - 3) 4, div-add-mod (n - 3) 4, mod-lt (n - 3) {m = 4} (omega arith))
+
+abbrev Inv-loop : tie.InvT-loop
+Inv-loop numbers bytes₀ n i₀ bytes i = (3 ≤ i) × (i ≤ length numbers) × ((i - 3) % 4 ≡ 0) × Planed numbers i bytes
+
+abbrev μ-loop : tie.MeasureT-loop
+μ-loop numbers bytes₀ n i₀ bytes i = length numbers - i
+
+loop-holds : tie.Need-loop-holds Inv-loop μ-loop
+loop-holds c = let s = c .before in (omega arith, s .pre .0, refl, s .pre .1)
+
+add-loop : tie.Need-add-loop Inv-loop μ-loop
+add-loop c = record { fits = omega (arith, c .loop .inv .3 .long) }
+
+put-four-requires : tie.Need-put-four-requires Inv-loop μ-loop
+put-four-requires c κs = let l = c .before .before .loop in (l .inv .0, omega arith, l .inv .3)
+
+add-i : tie.Need-add-i Inv-loop μ-loop
+add-i c = search needs
+
+loop-less : tie.Need-loop-less Inv-loop μ-loop
+loop-less c = omega arith
+
+loop-again : tie.Need-loop-again Inv-loop μ-loop
+loop-again c =
+    let l = c .before .before .before .before .before .loop in
+    let i = l .i in
+    (omega (arith, l .inv .0), omega arith, more i (l .inv .0) (l .inv .2), c .before .before .put-four .ensures)
+
+same-length : tie.Need-same-length Inv-loop μ-loop
+same-length c = let s = c .before .before .before in omega (arith, c .before .loop .inv .3 .long, s .pre .1 .long)
+
+returns : tie.Need-returns Inv-loop μ-loop
+returns c =
+    let s = c .before .before .before in
+    let l = c .before .loop in
+    let list = now (s .args .numbers) in
+    subst (λ (k : ℕ). Planed list k (l .bytes)) (end (l .i) (length list) (l .inv .0) (l .inv .1) (omega arith) (l .inv .2)) (l .inv .3)
+
+pub fill-fours-spec : {M : Type 1} → statement M
+fill-fours-spec =
+    tie.close
+    (tie.spec
+    Inv-loop
+    μ-loop
+    loop-holds
+    add-loop
+    put-four-requires
+    add-i
+    loop-less
+    loop-again
+    same-length
+    returns)

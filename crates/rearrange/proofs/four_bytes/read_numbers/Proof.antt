@@ -1,0 +1,79 @@
+-- After i turns the first i numbers are read.
+-- Assumes nothing.
+use mathlib.Core.Path.{_≡_, refl, _∙_}
+use Prim.Native.Nat.{_-_, _≤_}
+use lib.IntN.{pos}
+use lib.ListN.{length, length-set}
+use denote.Ref.{now}
+use mir.Syntax.{w32}
+use mir.ValLaws.{toZ-ofZ}
+use Rattle.mesh.proofs.Fills.{Filled, filled-none, filled-step, filled-whole}
+use Rattle.rearrange.specs.four_bytes.Words.{numberIn}
+use native.Mathlib.Omega.{arith}
+use borrow.Author.Needs.{needs}
+use Rattle.rearrange.proofs.four_bytes.read_numbers.Statement.{statement}
+use Rattle.rearrange.proofs.four_bytes.read_numbers.Tie as tie
+
+abbrev Inv-loop : tie.InvT-loop
+Inv-loop bytes numbers₀ i₀ numbers i = (i ≤ length numbers₀) × (length numbers ≡ length numbers₀) × Filled (numberIn bytes) numbers₀ i numbers
+
+abbrev μ-loop : tie.MeasureT-loop
+μ-loop bytes numbers₀ i₀ numbers i = length numbers₀ - i
+
+loop-holds : tie.Need-loop-holds Inv-loop μ-loop
+loop-holds c = let s = c .before in (omega arith, refl, filled-none (numberIn (now (s .args .bytes))) (now (s .args .numbers)))
+
+mul-coordinate : tie.Need-mul-coordinate Inv-loop μ-loop
+mul-coordinate c = search needs
+
+coordinate-requires : tie.Need-coordinate-requires Inv-loop μ-loop
+coordinate-requires c κs = search needs
+
+mul-t7 : tie.Need-mul-t7 Inv-loop μ-loop
+mul-t7 c = search needs
+
+slice-set-from-numbers : tie.Need-slice-set-from-numbers Inv-loop μ-loop
+slice-set-from-numbers c = search needs
+
+add-i : tie.Need-add-i Inv-loop μ-loop
+add-i c = search needs
+
+loop-less : tie.Need-loop-less Inv-loop μ-loop
+loop-less c = search needs
+
+loop-again : tie.Need-loop-again Inv-loop μ-loop
+loop-again c =
+    let s = c .before .before .before .before in
+    let f = numberIn (now (s .args .bytes)) in
+    let l = c .before .before .loop in (
+      search needs,
+      rw length-set (l .inv .1),
+      filled-step f (now (s .args .numbers)) (l .i) (l .numbers) _ (pos 0) (omega arith) (l .inv .2)
+          (toZ-ofZ w32 (c .coordinate .result) (record { sfits = c .coordinate .ok }) ∙ c .coordinate .ensures),
+    )
+
+same-length : tie.Need-same-length Inv-loop μ-loop
+same-length c = search needs
+
+returns : tie.Need-returns Inv-loop μ-loop
+returns c =
+    let s = c .before .before .before in
+    let l = c .before .loop in
+    filled-whole (numberIn (now (s .args .bytes))) (now (s .args .numbers)) (l .numbers) (l .i) (omega arith) (l .inv .2)
+
+pub read-numbers-spec : {M : Type 1} → statement M
+read-numbers-spec =
+    tie.close
+    (tie.spec
+    Inv-loop
+    μ-loop
+    loop-holds
+    mul-coordinate
+    coordinate-requires
+    mul-t7
+    slice-set-from-numbers
+    add-i
+    loop-less
+    loop-again
+    same-length
+    returns)

@@ -1,0 +1,84 @@
+-- After i turns the first i numbers stand in the bytes.
+-- Assumes nothing.
+use mathlib.Core.Path.{_≡_, sym, _∙_, subst}
+use Prim.Native.Nat.{ℕ, _+_, _-_, _≤_}
+use lib.ListN.{length}
+use denote.Ref.{now}
+use Rattle.rearrange.specs.four_bytes.Words.{Worded}
+use Rattle.rearrange.proofs.differences.Deltas.{read-bits}
+use Rattle.rearrange.proofs.four_bytes.Lists.{worded-none, worded-step}
+use native.Mathlib.Omega.{arith}
+use borrow.Author.Needs.{needs}
+use Rattle.rearrange.proofs.four_bytes.write_numbers.Statement.{statement}
+use Rattle.rearrange.proofs.four_bytes.write_numbers.Tie as tie
+
+abbrev Inv-loop : tie.InvT-loop
+Inv-loop numbers bytes₀ i₀ bytes i = (i ≤ length numbers) × Worded numbers i bytes
+
+abbrev μ-loop : tie.MeasureT-loop
+μ-loop numbers bytes₀ i₀ bytes i = length numbers - i
+
+loop-holds : tie.Need-loop-holds Inv-loop μ-loop
+loop-holds c = let s = c .before in (omega arith, worded-none (now (s .args .numbers)) (now (s .args .bytes)) (s .pre))
+
+mul-bits : tie.Need-mul-bits Inv-loop μ-loop
+mul-bits c = search needs
+
+shared-slice-copy-out-bits : tie.Need-shared-slice-copy-out-bits Inv-loop μ-loop
+shared-slice-copy-out-bits c = search needs
+
+bits-requires : tie.Need-bits-requires Inv-loop μ-loop
+bits-requires c κs = search needs
+
+mul-put : tie.Need-mul-put Inv-loop μ-loop
+mul-put c = search needs
+
+put-requires : tie.Need-put-requires Inv-loop μ-loop
+put-requires c κs = omega (arith, c .before .before .before .before .loop .inv .1 .long)
+
+add-i : tie.Need-add-i Inv-loop μ-loop
+add-i c = search needs
+
+loop-less : tie.Need-loop-less Inv-loop μ-loop
+loop-less c = search needs
+
+loop-again : tie.Need-loop-again Inv-loop μ-loop
+loop-again c =
+    let p = c .before .before in
+    let b = p .before .before in
+    let l = b .before .before .before .loop in
+    let s = b .before .before .before .before .before in
+    let list = now (s .args .numbers) in
+    let d = b .bits .ensures ∙ read-bits list (l .i) (record { sfits = b .before .bits-arg .given }) in (
+      omega arith,
+      subst (Worded list (l .i + 1)) (sym (p .put .ensures))
+          (worded-step list (l .i) (b .bits .result) (l .bytes) (omega arith) (b .bits .ok) d (l .inv .1)),
+    )
+
+same-length : tie.Need-same-length Inv-loop μ-loop
+same-length c = let s = c .before .before .before in omega (arith, c .before .loop .inv .1 .long, s .pre)
+
+returns : tie.Need-returns Inv-loop μ-loop
+returns c =
+    let s = c .before .before .before in
+    let l = c .before .loop in
+    let e : l .i ≡ length (now (s .args .numbers)) = omega arith in
+    subst (λ (k : ℕ). Worded (now (s .args .numbers)) k (l .bytes)) e (l .inv .1)
+
+pub write-numbers-spec : {M : Type 1} → statement M
+write-numbers-spec =
+    tie.close
+    (tie.spec
+    Inv-loop
+    μ-loop
+    loop-holds
+    mul-bits
+    shared-slice-copy-out-bits
+    bits-requires
+    mul-put
+    put-requires
+    add-i
+    loop-less
+    loop-again
+    same-length
+    returns)

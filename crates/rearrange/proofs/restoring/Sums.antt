@@ -1,0 +1,62 @@
+-- Restoring: the sums of a vertex are those of the vertex before and its differences; and how the loop fills the numbers.
+-- Assumes nothing.
+use mathlib.Core.Path.{_≡_, refl, sym, ap, _∙_}
+use mathlib.Core.List.{List}
+use Prim.Native.Nat.{ℕ, zero, suc, _+_, _*_, _%_, _^_, _<_}
+use native.Mathlib.Nat.{mod-eq-of-lt}
+use native.Mathlib.Numerals.{add-one}
+use native.Mathlib.Omega.{arith}
+use lib.ListN.{length, length-set}
+use lib.IntN.{ℤ, pos}
+use mir.Syntax.{w32}
+use mir.Val.{toZ}
+use Rattle.mesh.proofs.Fills.{Filled, filled-step, filled-whole}
+use Rattle.paper.specs.Archive.{storedAt, sumAt, restoredAt, restored}
+use Rattle.rearrange.specs.differences.Deltas.{Turned}
+use Rattle.rearrange.specs.restoring.Sums.{before}
+use Rattle.rearrange.proofs.laws.Words.{third, rest}
+
+module _ (bytes : List ℕ) (n : ℕ) where
+  pub before-first : (a : ℕ) → before bytes n 0 a ≡ 0
+  unfolding before
+  before-first a = refl
+
+  before-next : (v a : ℕ) → before bytes n (v + 1) a ≡ sumAt bytes n v a
+  unfolding before
+  before-next v a = rw add-one
+
+  -- the first vertex starts from 0
+  sum-step : (v a : ℕ) → storedAt bytes n (3 * v + a) < 2 ^ 32 → (before bytes n v a + storedAt bytes n (3 * v + a)) % 2 ^ 32 ≡ sumAt bytes n v a
+  unfolding before sumAt
+  sum-step zero a h =
+      let e : storedAt bytes n (3 * 0 + a) ≡ storedAt bytes n a = ap (storedAt bytes n) (let q : 3 * 0 + a ≡ a = omega arith in q) in
+      ap (λ (k : ℕ). k % 2 ^ 32) (let q : 0 + storedAt bytes n (3 * 0 + a) ≡ storedAt bytes n a = omega arith in q) ∙ mod-eq-of-lt (omega (arith, e))
+  sum-step (suc v) a h = refl
+
+  -- one turn, at the position i of axis a of vertex v
+  module _ (v a i : ℕ) (h : a < 3) (q : i ≡ 3 * v + a) where
+    number-is : toZ w32 (sumAt bytes n v a) ≡ restoredAt bytes n i
+    number-is = rw (q, third v a h, rest v a h)
+
+    module _ (l out : List ℤ) (sum r : ℕ) (e : sum ≡ before bytes n v a) (t : Turned bytes n l i sum r out) where
+      turned-sum : r ≡ sumAt bytes n v a
+      turned-sum =
+          t .sums ∙ ap (λ (k : ℕ). (k + storedAt bytes n i) % 2 ^ 32) e ∙ ap (λ (k : ℕ). (before bytes n v a + storedAt bytes n k) % 2 ^ 32) q
+          ∙ sum-step v a (rw q at (t .small))
+
+      pub turned-next : r ≡ before bytes n (v + 1) a
+      turned-next = turned-sum ∙ sym (before-next v a)
+
+      pub turned-fills : (old : List ℤ) (j : ℕ) → i < length old → i + 1 ≡ j → Filled (restoredAt bytes n) old i l → Filled (restoredAt bytes n) old j out
+      turned-fills old j at k f =
+          rw (t .holds, ← k) (filled-step (restoredAt bytes n) old i l (toZ w32 r) (pos 0) at f (ap (toZ w32) turned-sum ∙ number-is))
+
+-- a list keeps its length
+pub turned-length : (bytes : List ℕ) (n : ℕ) (l out : List ℤ) (i sum r m : ℕ) → Turned bytes n l i sum r out → length l ≡ m → length out ≡ m
+turned-length bytes n l out i sum r m t e = ap length (t .holds) ∙ length-set l i (toZ w32 r) ∙ e
+
+-- all numbers of it
+pub restored-all : (bytes : List ℕ) (old out : List ℤ) (i : ℕ) → i ≡ length old → Filled (restoredAt bytes (length old)) old i out
+    → out ≡ restored bytes (length old)
+unfolding restored
+restored-all bytes old out i q e = filled-whole (restoredAt bytes (length old)) old out i q e

@@ -1,0 +1,114 @@
+-- `refine::weigh` meets its contract: every product is small.
+-- Assumes nothing.
+use mathlib.Core.Path.{_≡_}
+use Prim.Native.Nat.{ℕ, _+_, _-_, _*_, _<_, _≤_}
+use native.Mathlib.Nat.{mul-le-mul}
+use native.Mathlib.Omega.{arith}
+use borrow.Author.Needs.{needs}
+use lib.ListN.{getD}
+use denote.Ref.{now}
+use mir.Syntax.{w32}
+use mir.Val.{Fits}
+use Rattle.paper.specs.Mesh.{mostSharpness, plain}
+use Rattle.mesh.proofs.Accepted.{in-list}
+use Rattle.refine.specs.corners.Mean.{WeightsOf}
+use Rattle.refine.proofs.corners.weigh.Statement.{statement}
+use Rattle.refine.proofs.corners.weigh.Tie as tie
+
+-- u and v as the code reads them
+module _ (s : tie.Start) where
+  abbrev u : ℕ
+  u = getD (now (s .args .sharpness)) (2 * s .args .c) 0
+
+  abbrev v : ℕ
+  v = getD (now (s .args .sharpness)) (2 * s .args .c + 1) 0
+
+  u-is : u ≡ getD (now (s .args .sharpness)) (2 * s .args .c) plain
+  u-is = in-list (now (s .args .sharpness)) (2 * s .args .c) 0 plain (omega (arith, s .pre .long))
+
+  v-is : v ≡ getD (now (s .args .sharpness)) (2 * s .args .c + 1) plain
+  v-is = in-list (now (s .args .sharpness)) (2 * s .args .c + 1) 0 plain (s .pre .long)
+
+  limits : (u ≤ mostSharpness) × (v ≤ mostSharpness)
+  limits = (omega (arith, u-is, s .pre .u-most), omega (arith, v-is, s .pre .v-most))
+
+-- products of two of them, and of their distances from 16
+in-width : (a b : ℕ) → a ≤ 16 → b ≤ 16 → Fits w32 (a * b)
+in-width a b ha hb = omega (arith, mul-le-mul ha hb)
+
+twice-in-width : (a b : ℕ) → a ≤ 16 → b ≤ 16 → Fits w32 (2 * a * b)
+twice-in-width a b ha hb = omega (arith, mul-le-mul ha hb)
+
+-- the weights, from u and v as they are read
+weights-are : (u v x y : ℕ) → u ≡ x → v ≡ y
+    → WeightsOf x y (record { face = 2 * (16 - u) * (16 - v); before = (16 - u) * v; here = 16 * (u + v); after = u * (16 - v) })
+weights-are u v x y e f = record { face = rw (e, f); before = rw (e, f); here = rw (e, f); after = rw (e, f) }
+
+mul-u : tie.Need-mul-u
+mul-u c = search needs
+
+shared-slice-read-u : tie.Need-shared-slice-read-u
+shared-slice-read-u c = search needs
+
+cast-u : tie.Need-cast-u
+cast-u c = omega (arith, limits (c .before))
+
+mul-v : tie.Need-mul-v
+mul-v c = search needs
+
+add-v : tie.Need-add-v
+add-v c = search needs
+
+shared-slice-read-v : tie.Need-shared-slice-read-v
+shared-slice-read-v c = search needs
+
+cast-v : tie.Need-cast-v
+cast-v c = omega (arith, limits (c .before .before))
+
+sub-to-u : tie.Need-sub-to-u
+sub-to-u c = omega (arith, limits (c .before .before))
+
+sub-to-v : tie.Need-sub-to-v
+sub-to-v c = omega (arith, limits (c .before .before))
+
+mul-t12 : tie.Need-mul-t12
+mul-t12 c = search needs
+
+mul-t13 : tie.Need-mul-t13
+mul-t13 c = twice-in-width _ _ (omega (arith, limits (c .before .before))) (omega (arith, limits (c .before .before)))
+
+mul-t14 : tie.Need-mul-t14
+mul-t14 c = in-width _ _ (omega (arith, limits (c .before .before))) (omega (arith, limits (c .before .before)))
+
+add-t15 : tie.Need-add-t15
+add-t15 c = omega (arith, limits (c .before .before))
+
+mul-t16 : tie.Need-mul-t16
+mul-t16 c = omega (arith, limits (c .before .before))
+
+mul-t17 : tie.Need-mul-t17
+mul-t17 c = in-width _ _ (omega (arith, limits (c .before .before))) (omega (arith, limits (c .before .before)))
+
+returns : tie.Need-returns
+returns c = let s = c .before .before in weights-are (u s) (v s) _ _ (u-is s) (v-is s)
+
+pub weigh-spec : {M : Type 1} → statement M
+weigh-spec =
+    tie.close
+    (tie.spec
+    mul-u
+    shared-slice-read-u
+    cast-u
+    mul-v
+    add-v
+    shared-slice-read-v
+    cast-v
+    sub-to-u
+    sub-to-v
+    mul-t12
+    mul-t13
+    mul-t14
+    add-t15
+    mul-t16
+    mul-t17
+    returns)

@@ -1,0 +1,84 @@
+-- `refine::wanted::mark_vertices` meets its contract: the vertices of the first `k` corners of the range are marked.
+-- Assumes nothing.
+use mathlib.Core.Path.{_≡_, refl}
+use Prim.Native.Nat.{_+_, _-_, _≤_}
+use lib.ListN.{length, length-set}
+use denote.Ref.{now}
+use Rattle.refine.specs.wanted.Tables.{Marked}
+use Rattle.refine.proofs.wanted.Laws.{marked-none, marked-set}
+use native.Mathlib.Omega.{arith}
+use borrow.Author.Needs.{needs}
+use Rattle.refine.proofs.wanted.mark_vertices.Statement.{statement}
+use Rattle.refine.proofs.wanted.mark_vertices.Tie as tie
+
+abbrev Inv-loop : tie.InvT-loop
+Inv-loop corners first count marked₀ k₀ marked k =
+    (k ≤ count) × (length marked ≡ length marked₀) × Marked corners first k marked
+
+abbrev μ-loop : tie.MeasureT-loop
+μ-loop corners first count marked₀ k₀ marked k = count - k
+
+loop-holds : tie.Need-loop-holds Inv-loop μ-loop
+loop-holds c = (omega arith, refl, marked-none (now (c .args .corners)) (now (c .args .marked)) (c .args .first) (c .pre .0 .1))
+
+add-u : tie.Need-add-u Inv-loop μ-loop
+add-u c = search needs
+
+mul-u : tie.Need-mul-u Inv-loop μ-loop
+mul-u c = search needs
+
+shared-slice-read-u : tie.Need-shared-slice-read-u Inv-loop μ-loop
+shared-slice-read-u c = search needs
+
+cast-u : tie.Need-cast-u Inv-loop μ-loop
+cast-u c = let l = c .before .before .loop in omega (arith, c .shared-slice-known .given (c .before .before .before .args .first + l .k))
+
+slice-write-marked : tie.Need-slice-write-marked Inv-loop μ-loop
+slice-write-marked c =
+    let s = c .before .before .before in
+    let l = c .before .before .loop in
+    omega (arith, l .inv .1, s .pre .0 .0 (s .args .first + l .k) (omega (arith, s .pre .1)))
+
+add-k : tie.Need-add-k Inv-loop μ-loop
+add-k c = search needs
+
+loop-less : tie.Need-loop-less Inv-loop μ-loop
+loop-less c = search needs
+
+loop-again : tie.Need-loop-again Inv-loop μ-loop
+loop-again c =
+    let s = c .before .before .before in
+    let l = c .before .before .loop in (
+      omega arith,
+      simp length-set (l .inv .1),
+      marked-set (now (s .args .corners)) (l .marked) (s .args .first) (l .k) (l .inv .2)
+          (omega (arith, l .inv .1, s .pre .0 .0 (s .args .first + l .k) (omega (arith, s .pre .1)))),
+    )
+
+same-length : tie.Need-same-length Inv-loop μ-loop
+same-length c = search needs
+
+returns : tie.Need-returns Inv-loop μ-loop
+returns c =
+    let s = c .before .before in
+    let l = c .before .loop in
+    let e : l .k ≡ s .args .count = omega (arith, l .inv .0) in
+    rw (← e) (l .inv .2)
+
+pub mark-vertices-spec : {M : Type 1} → statement M
+mark-vertices-spec =
+    tie.close
+    (tie.spec
+    Inv-loop
+    μ-loop
+    loop-holds
+    add-u
+    mul-u
+    shared-slice-read-u
+    cast-u
+    slice-write-marked
+    add-k
+    loop-less
+    loop-again
+    same-length
+    returns)

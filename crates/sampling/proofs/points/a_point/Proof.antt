@@ -1,0 +1,28 @@
+-- `sampling::points::a_point` meets its contract.
+-- Assumes nothing.
+use mathlib.Core.Path.{_≡_, ap, _∙_}
+use Prim.Native.Nat.{ℕ}
+use borrow.Author.Needs.{needs}
+use lib.Dec.{lit≤}
+use denote.Ref.{now}
+use Rattle.paper.specs.Sampling.{onAxis}
+use Rattle.sampling.proofs.bernstein.Laws.{sized-bits}
+use Rattle.sampling.proofs.points.a_point.Statement.{statement}
+use Rattle.sampling.proofs.points.a_point.Tie as tie
+
+a-place-requires : tie.Need-a-place-requires
+a-place-requires c κs = search needs
+
+number-requires : tie.Need-number-requires
+number-requires c κs = search needs
+
+returns : tie.Need-returns
+returns c =
+    let s = c .before .before in
+    let b = sized-bits (c .number .result) _ (c .number .ensures .1) (lit≤ tt) in (
+      b ∙ c .number .ensures .0 ∙ ap (λ (t : ℕ). onAxis (now (s .args .numbers)) (s .args .axis) t) (c .before .a-place .ensures .0),
+      rw b (c .number .ensures .1),
+    )
+
+pub a-point-spec : {M : Type 1} → statement M
+a-point-spec = tie.close (tie.spec a-place-requires number-requires returns)

@@ -1,0 +1,39 @@
+-- `sampling::points::a_row` meets its contract, point by point.
+-- Assumes nothing.
+use mathlib.Core.Path.{_≡_, refl, sym, _∙_}
+use borrow.Author.Needs.{needs}
+use lib.Dec.{lit≤}
+use denote.Ref.{now}
+use Rattle.paper.specs.Sampling.{onAxis}
+use Rattle.sampling.proofs.bernstein.Identity.{five-same}
+use Rattle.sampling.proofs.points.Laws.{by-bits, a-place}
+use Rattle.sampling.proofs.points.a_row.Statement.{statement}
+use Rattle.sampling.proofs.points.a_row.Tie as tie
+
+a-point-requires : tie.Need-a-point-requires
+a-point-requires c κs = search needs
+
+a-point-requires-2 : tie.Need-a-point-requires-2
+a-point-requires-2 c κs = search needs
+
+a-point-requires-3 : tie.Need-a-point-requires-3
+a-point-requires-3 c κs = search needs
+
+a-point-requires-4 : tie.Need-a-point-requires-4
+a-point-requires-4 c κs = search needs
+
+returns : tie.Need-returns
+returns c =
+    let s = c .before .before .before .before in
+    five-same
+    (by-bits (c .before .before .before .a-point .result) _ (c .before .before .before .a-point .ensures)
+    ∙ sym (a-place (onAxis (now (s .args .numbers)) (s .args .axis)) (s .args .side) 0 (lit≤ tt)))
+    (by-bits (c .before .before .a-point2 .result) _ (c .before .before .a-point2 .ensures)
+    ∙ sym (a-place (onAxis (now (s .args .numbers)) (s .args .axis)) (s .args .side) 1 (lit≤ tt)))
+    (by-bits (c .before .a-point3 .result) _ (c .before .a-point3 .ensures)
+    ∙ sym (a-place (onAxis (now (s .args .numbers)) (s .args .axis)) (s .args .side) 2 (lit≤ tt)))
+    (by-bits (c .a-point4 .result) _ (c .a-point4 .ensures) ∙ sym (a-place (onAxis (now (s .args .numbers)) (s .args .axis)) (s .args .side) 3 (lit≤ tt)))
+    refl
+
+pub a-row-spec : {M : Type 1} → statement M
+a-row-spec = tie.close (tie.spec a-point-requires a-point-requires-2 a-point-requires-3 a-point-requires-4 returns)

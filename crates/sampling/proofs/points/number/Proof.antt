@@ -1,0 +1,35 @@
+-- `sampling::points::number` meets its contract: 18 keeps the place within the list, 19 the number within ±2^27.
+-- Assumes nothing.
+use native.Mathlib.Omega.{arith}
+use borrow.Author.Needs.{needs}
+use denote.Ref.{now}
+use Rattle.floats.proofs.Laws.{is-long}
+use Rattle.sampling.proofs.points.Laws.{number-fits, number-is, number-size}
+use Rattle.sampling.proofs.points.number.Statement.{statement}
+use Rattle.sampling.proofs.points.number.Tie as tie
+
+mul-z : tie.Need-mul-z
+mul-z c = search needs
+
+add-z : tie.Need-add-z
+add-z c = search needs
+
+mul-z-2 : tie.Need-mul-z-2
+mul-z-2 c = search needs
+
+shared-slice-copy-out-z : tie.Need-shared-slice-copy-out-z
+shared-slice-copy-out-z c = omega (arith, is-long _ (c .pre .0), c .pre .1, c .pre .2)
+
+cast-result : tie.Need-cast-result
+cast-result c =
+    let s = c .before in
+    number-fits (now (s .args .numbers)) (s .pre .0) (s .args .point) (s .args .axis) (s .pre .1) (s .pre .2)
+
+returns : tie.Need-returns
+returns c =
+    let s = c .before in
+    let e = number-is (now (s .args .numbers)) (s .pre .0) (s .args .point) (s .args .axis) (s .pre .1) (s .pre .2) in
+    (e, rw e (number-size (now (s .args .numbers)) (s .pre .0) (s .args .point) (s .args .axis) (s .pre .1) (s .pre .2)))
+
+pub number-spec : {M : Type 1} → statement M
+number-spec = tie.close (tie.spec mul-z add-z mul-z-2 shared-slice-copy-out-z cast-result returns)

@@ -1,0 +1,30 @@
+-- The number, and after it the byte.
+-- Assumes nothing.
+use mathlib.Core.Path.{ap}
+use mir.Syntax.{w32}
+use mir.ValLaws.{toZ-ofZ}
+use Rattle.streams.specs.text.Text.{signedDecimal}
+use Rattle.streams.proofs.text.Putting.{put-then, put-same}
+use borrow.Author.Needs.{needs}
+use Rattle.streams.proofs.text.put_entry.Statement.{statement}
+use Rattle.streams.proofs.text.put_entry.Tie as tie
+
+put-signed-requires : tie.Need-put-signed-requires
+put-signed-requires c κs = search needs
+
+put-byte-requires : tie.Need-put-byte-requires
+put-byte-requires c κs = search needs
+
+same-length : tie.Need-same-length
+same-length c = search needs
+
+returns : tie.Need-returns
+returns c = put-then (c .before .before .before .before .before .before .put-signed .kept .0)
+    (put-same
+    (ap signedDecimal
+    (toZ-ofZ w32 (c .before .before .before .before .before .before .before .before .before .args .z)
+    (c .before .before .before .before .before .before .before .before .before .fits .z)))
+    (c .before .before .before .before .before .before .put-signed .ensures)) (c .before .before .put-byte .ensures)
+
+pub put-entry-spec : {M : Type 1} → statement M
+put-entry-spec = tie.close (tie.spec put-signed-requires put-byte-requires same-length returns)

@@ -1,0 +1,66 @@
+-- A minus sign and the size, or the size alone.
+-- Assumes nothing.
+use mathlib.Core.Path.{ap, _∙_}
+use mathlib.Core.List.{_∷_}
+use Prim.Native.Nat.{ℕ}
+use lib.IntN.{natAbs}
+use mir.Syntax.{w32}
+use mir.Facts.{toZ-ofZ}
+use mir.ValLaws.{toZ-ofZ as exact}
+use Rattle.streams.specs.text.Text.{decimal}
+use Rattle.streams.proofs.text.Putting.{put-then, put-same}
+use Rattle.streams.proofs.text.Decimals.{signed-below, signed-above}
+use borrow.Author.Needs.{needs}
+use Rattle.streams.proofs.text.put_signed.Statement.{statement}
+use Rattle.streams.proofs.text.put_signed.Tie as tie
+
+put-byte-requires : tie.Need-put-byte-requires
+put-byte-requires c κs = search needs
+
+size-requires : tie.Need-size-requires
+size-requires c κs = search needs
+
+put-number-requires : tie.Need-put-number-requires
+put-number-requires c κs = search needs
+
+same-length : tie.Need-same-length
+same-length c = search needs
+
+returns : tie.Need-returns
+returns c =
+    let s = c .before .before .before .before .before .before .before .before .before .before .before in
+    put-same
+    (ap (λ (n : ℕ). 45 ∷ decimal n) (c .before .before .before .size .ensures ∙ ap natAbs (exact w32 (s .args .z) (s .fits .z))) ∙ signed-below (s .args .z)
+    (simp (toZ-ofZ, s .fits .z) at (c .before .before .before .before .before .before .before .before .before .if1 .taken)))
+    (put-then (c .before .before .before .before .before .before .before .put-byte .kept .0)
+    (c .before .before .before .before .before .before .before .put-byte .ensures) (c .before .before .put-number .ensures))
+
+size-requires-2 : tie.Need-size-requires-2
+size-requires-2 c κs = search needs
+
+put-number-requires-2 : tie.Need-put-number-requires-2
+put-number-requires-2 c κs = search needs
+
+same-length-2 : tie.Need-same-length-2
+same-length-2 c = search needs
+
+returns-2 : tie.Need-returns-2
+returns-2 c =
+    let s = c .before .before .before .before .before .before .before in
+    put-same
+    (ap decimal (c .before .before .before .size2 .ensures ∙ ap natAbs (exact w32 (s .args .z) (s .fits .z))) ∙ signed-above (s .args .z)
+    (simp (toZ-ofZ, s .fits .z) at (c .before .before .before .before .before .if1 .left))) (c .before .before .put-number2 .ensures)
+
+pub put-signed-spec : {M : Type 1} → statement M
+put-signed-spec =
+    tie.close
+    (tie.spec
+    put-byte-requires
+    size-requires
+    put-number-requires
+    same-length
+    returns
+    size-requires-2
+    put-number-requires-2
+    same-length-2
+    returns-2)

@@ -1,0 +1,63 @@
+-- After i turns the first i bytes of the word were put.
+-- Assumes nothing.
+use mathlib.Core.Path.{_≡_, refl, _∙_}
+use Prim.Native.Nat.{_≤_, _-_}
+use lib.ListN.{length, take}
+use Rattle.streams.specs.text.Text.{Put}
+use Rattle.streams.proofs.text.Putting.{put-none, put-next, put-whole}
+use native.Mathlib.Omega.{arith}
+use borrow.Author.Needs.{needs}
+use Rattle.streams.proofs.text.put_word.Statement.{statement}
+use Rattle.streams.proofs.text.put_word.Tie as tie
+
+abbrev Inv-loop : tie.InvT-loop
+Inv-loop buffer₀ at word to₀ i₀ buffer to i = (i ≤ length word) × (length buffer ≡ length buffer₀) × Put buffer₀ at (take i word) buffer to
+
+abbrev μ-loop : tie.MeasureT-loop
+μ-loop buffer₀ at word to₀ i₀ buffer to i = length word - i
+
+loop-holds : tie.Need-loop-holds Inv-loop μ-loop
+loop-holds c = (search needs, refl, put-none _ _)
+
+shared-slice-read-put-byte : tie.Need-shared-slice-read-put-byte Inv-loop μ-loop
+shared-slice-read-put-byte c = search needs
+
+put-byte-requires : tie.Need-put-byte-requires Inv-loop μ-loop
+put-byte-requires c κs = search needs
+
+add-i : tie.Need-add-i Inv-loop μ-loop
+add-i c = search needs
+
+loop-less : tie.Need-loop-less Inv-loop μ-loop
+loop-less c = search needs
+
+loop-again : tie.Need-loop-again Inv-loop μ-loop
+loop-again c =
+    let l = c .before .before .before .before .before .before .loop in (
+      search needs,
+      c .before .before .put-byte .kept .0 ∙ l .inv .1,
+      put-next
+          (c .before .before .before .before .before .before .before .before .before .args .word .now) (l .i) (omega arith) (l .inv .1) (l .inv .2)
+          (c .before .before .put-byte .ensures),
+    )
+
+same-length : tie.Need-same-length Inv-loop μ-loop
+same-length c = search needs
+
+returns : tie.Need-returns Inv-loop μ-loop
+returns c = put-whole (c .before .before .before .before .args .word .now) (c .before .loop .i) (omega arith) (c .before .loop .inv .2)
+
+pub put-word-spec : {M : Type 1} → statement M
+put-word-spec =
+    tie.close
+    (tie.spec
+    Inv-loop
+    μ-loop
+    loop-holds
+    shared-slice-read-put-byte
+    put-byte-requires
+    add-i
+    loop-less
+    loop-again
+    same-length
+    returns)

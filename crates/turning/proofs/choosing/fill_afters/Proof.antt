@@ -1,0 +1,67 @@
+-- `fill_afters` meets its contract: the chains are those of the lower ends. Assumes nothing.
+use borrow.Author.Needs.{needs}
+use Prim.Native.Nat.{_-_}
+use native.Mathlib.Omega.{arith}
+use Rattle.walk.proofs.Table.{blank}
+use Rattle.turning.proofs.choosing.fill_afters.Statement.{statement}
+use Rattle.turning.proofs.choosing.fill_afters.Tie as tie
+
+slice-aggregate-fill-earliers : tie.Need-slice-aggregate-fill-earliers
+slice-aggregate-fill-earliers c = search needs
+
+slice-aggregate-fill-earliers-2 : tie.Need-slice-aggregate-fill-earliers-2
+slice-aggregate-fill-earliers-2 c = search needs
+
+fill-earliers-requires : tie.Need-fill-earliers-requires
+fill-earliers-requires c κs = let s = c .before .before .before .before .before in
+    record {
+      small = s .pre .0 .few-corners;
+      lows-in = s .pre .0 .lows-in;
+      earliers-long = omega (arith, s .pre .0 .few-corners);
+      heads-long = omega (arith, s .pre .0 .few-vertices);
+      blank = blank 2048;
+    }
+
+slice-aggregate-fill-afters : tie.Need-slice-aggregate-fill-afters
+slice-aggregate-fill-afters c = search needs
+
+slice-aggregate-fill-afters-2 : tie.Need-slice-aggregate-fill-afters-2
+slice-aggregate-fill-afters-2 c = search needs
+
+slice-aggregate-fill-afters-3 : tie.Need-slice-aggregate-fill-afters-3
+slice-aggregate-fill-afters-3 c = search needs
+
+fill-afters-requires : tie.Need-fill-afters-requires
+fill-afters-requires c κs = let s = c .before .before .before .before .before .before .before .before .before .before .before .before in
+    let v = c .before .before .before .before .before .before .fill-earliers in (
+      record {
+        small = s .pre .0 .few-corners;
+        highs-long = s .pre .0 .highs-long;
+        lows-in = s .pre .0 .lows-in;
+        highs-in = s .pre .0 .highs-in;
+        earliers-long = omega (arith, v .kept .1 .1 .0, s .pre .0 .few-corners);
+        heads-long = omega (arith, v .kept .1 .1 .1 .0, s .pre .0 .few-vertices);
+        chained = v .ensures;
+      },
+      (omega (arith, s .pre .0 .few-vertices), blank 2048, s .pre .1),
+    )
+
+same-length : tie.Need-same-length
+same-length c = search needs
+
+returns : tie.Need-returns
+returns c = search needs
+
+pub fill-afters-spec : {M : Type 1} → statement M
+fill-afters-spec =
+    tie.close
+    (tie.spec
+    slice-aggregate-fill-earliers
+    slice-aggregate-fill-earliers-2
+    fill-earliers-requires
+    slice-aggregate-fill-afters
+    slice-aggregate-fill-afters-2
+    slice-aggregate-fill-afters-3
+    fill-afters-requires
+    same-length
+    returns)

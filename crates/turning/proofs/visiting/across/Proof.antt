@@ -1,0 +1,16 @@
+-- `across` meets its contract: it goes by the test. Assumes nothing.
+use borrow.Author.Needs.{needs}
+use Rattle.turning.proofs.visiting.across.Statement.{statement}
+use Rattle.turning.proofs.visiting.across.Tie as tie
+
+sub-result : tie.Need-sub-result
+sub-result c = search needs
+
+returns : tie.Need-returns
+returns c = rw (c .if1 .taken)
+
+returns-2 : tie.Need-returns-2
+returns-2 c = rw (c .if1 .left)
+
+pub across-spec : {M : Type 1} → statement M
+across-spec = tie.close (tie.spec sub-result returns returns-2)
