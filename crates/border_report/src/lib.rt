@@ -8,6 +8,7 @@ pub mod page_laws;
 pub mod page_numbers;
 pub mod pages;
 
+use checks::columns::VERTEX_ROW;
 use mesh::SMALL_MESH;
 use paper::Answer;
 use paper::MOST_CORNERS;
@@ -186,6 +187,6 @@ fn check_mesh(
     requires { ⌜ (length (now corners) ≤ mostCorners → rowLength * length (now corners) ≤ length (now table)) ⌝ }
     ensures { λ r. ⌜ Checked (meshOf (now (coordinates .entry)) (now (sides .entry)) (now (corners .entry)) (now (sharpness .entry))) r (now (table .exit)) ⌝ }
 {
-    let mut vertices = [0u16; ROW * MOST_VERTICES];
+    let mut vertices = [0u16; VERTEX_ROW * MOST_VERTICES];
     checks::check_within(coordinates, sides, corners, sharpness, table, &mut vertices)
 }

@@ -1,6 +1,7 @@
 // Building: writes the control points of a range of corners, or answers why the call is refused and leaves the output as it was.
 pub mod writing;
 
+use checks::columns::VERTEX_ROW;
 use mesh::LARGE_MESH;
 use mesh::SMALL_MESH;
 use paper::Answer;
@@ -59,7 +60,7 @@ fn build_sized(
 {
     if corners.len() <= SMALL_MESH && coordinates.len() / 3 <= SMALL_MESH {
         let mut table = [0u16; ROW * SMALL_MESH];
-        let mut vertices = [0u16; ROW * SMALL_MESH];
+        let mut vertices = [0u16; VERTEX_ROW * SMALL_MESH];
         build_over(
             coordinates,
             sides,
@@ -73,7 +74,7 @@ fn build_sized(
         )
     } else if corners.len() <= LARGE_MESH {
         let mut table = [0u16; ROW * LARGE_MESH];
-        let mut vertices = [0u16; ROW * MOST_VERTICES];
+        let mut vertices = [0u16; VERTEX_ROW * MOST_VERTICES];
         build_over(
             coordinates,
             sides,
@@ -87,7 +88,7 @@ fn build_sized(
         )
     } else {
         let mut table = [0u16; ROW * MOST_CORNERS];
-        let mut vertices = [0u16; ROW * MOST_VERTICES];
+        let mut vertices = [0u16; VERTEX_ROW * MOST_VERTICES];
         build_over(
             coordinates,
             sides,

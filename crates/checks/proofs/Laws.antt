@@ -21,25 +21,25 @@ use Rattle.mesh.proofs.Verdicts.{sound-left, sound-right, single-sound, lowest-
 use Rattle.mesh.proofs.Accepted.{few-vertices, few-corners, sides-within, sums-of, named-of}
 use Rattle.walk.specs.Table.{rowLength, toLink, Column, Tabled}
 use Rattle.walk.proofs.Table.{blank}
-use Rattle.checks.specs.columns.Vertices.{Rowed}
-use Rattle.checks.specs.columns.Chain.{EarliersTo, EarliersFrom, Ready}
+use Rattle.checks.specs.columns.Vertices.{vertexRow, Rowed}
+use Rattle.checks.specs.columns.Chain.{EarliersTo, EarliersFrom, LastsTo, Ready}
 use Rattle.checks.specs.columns.Filled.{FacesFilled}
-use Rattle.checks.specs.edges.Entries.{Searchable, ChainsFrom, Ends, FacesKept, Valences}
+use Rattle.checks.specs.edges.Entries.{Searchable, ChainsFrom, HeadsFrom, Ends, FacesKept, Valences}
 use Rattle.checks.specs.vertices.Ring.{Linking}
 use Rattle.checks.specs.Checked.{RoomFor, Checked, ListsChecked, Listed}
 
 -- tables of p and q rows, of zeros
 pub room : (M : Mesh) (p q : ℕ) → (cornerCount M ≤ mostCorners → cornerCount M ≤ p) → (vertexCount M ≤ mostVertices → vertexCount M ≤ q)
-    → RoomFor M (replicate (rowLength * p) 0) (replicate (rowLength * q) 0)
+    → RoomFor M (replicate (rowLength * p) 0) (replicate (vertexRow * q) 0)
 room M p q a b =
     record {
       corners-fit = λ h. rw (length-replicate {A = ℕ} (rowLength * p) 0) (omega (arith, a h));
-      vertices-fit = λ h. rw (length-replicate {A = ℕ} (rowLength * q) 0) (omega (arith, b h));
-      blank = blank (rowLength * q);
+      vertices-fit = λ h. rw (length-replicate {A = ℕ} (vertexRow * q) 0) (omega (arith, b h));
+      blank = blank (vertexRow * q);
     }
 
 -- after 4 and 8 the vertex of every corner has a row
-pub rowed : (M : Mesh) (vertices : List ℕ) → vertexCount M ≤ mostVertices → (vertexCount M ≤ mostVertices → rowLength * vertexCount M ≤ length vertices)
+pub rowed : (M : Mesh) (vertices : List ℕ) → vertexCount M ≤ mostVertices → (vertexCount M ≤ mostVertices → vertexRow * vertexCount M ≤ length vertices)
     → lowestOf 8 (cornerCount M) (fault8 (vertexCount M) (M .corners)) ≡ sound → Rowed (M .corners) vertices
 rowed M vertices l r e c h =
     omega (arith, r l, named-of (vertexCount M) (M .corners) c (lowest-sound 8 (cornerCount M) (fault8 (vertexCount M) (M .corners)) e c h))
@@ -68,7 +68,7 @@ listed M e4 =
     }
 
 module _ (M : Mesh) (g : Listed M) where
-  pub rows : (vertices : List ℕ) → rowLength * vertexCount M ≤ length vertices → Rowed (M .corners) vertices
+  pub rows : (vertices : List ℕ) → vertexRow * vertexCount M ≤ length vertices → Rowed (M .corners) vertices
   rows vertices l c h = omega (arith, g .named c h)
 
   -- the columns of the faces
@@ -76,21 +76,25 @@ module _ (M : Mesh) (g : Listed M) where
     pub ends : Ends (M .sides) (M .corners) table
     ends = record { sums = g .sums; nexts = λ c l. f .nexts c (omega (arith, g .sums)); previouses = λ c l. f .previouses c (omega (arith, g .sums)) }
 
-    pub searchable : (vertices : List ℕ) → rowLength * cornerCount M ≤ length table → rowLength * vertexCount M ≤ length vertices
-        → Ready (M .corners) table vertices → Searchable (M .corners) table vertices
-    searchable vertices lt lv r =
+    pub searchable : (vertices : List ℕ) → rowLength * cornerCount M ≤ length table → vertexRow * vertexCount M ≤ length vertices
+        → Searchable (M .corners) table vertices
+    searchable vertices lt lv =
         record {
           small = g .small;
           long = lt;
           rowed = rows vertices lv;
           nexts-in = λ c l. omega (arith, g .sums, ends .nexts c l, next-below (M .sides) c (omega (arith, g .sums)));
           previouses-in = λ c l. omega (arith, g .sums, ends .previouses c l, previous-below (M .sides) c (omega (arith, g .sums)));
-          lasts = r .chained .lasts-are;
         }
 
-pub chains : (corners table vertices : List ℕ) → Ready corners table vertices → ChainsFrom corners table 0
-unfolding EarliersTo EarliersFrom
-chains corners table vertices r c h l = r .chained .earliers-are c h
+module _ (corners table vertices : List ℕ) (r : Ready corners table vertices) where
+  pub chains : ChainsFrom corners table 0
+  unfolding EarliersTo EarliersFrom
+  chains c h l = r .chained .earliers-are c h
+
+  pub heads : HeadsFrom corners vertices 0
+  unfolding LastsTo
+  heads v l = r .chained .lasts-are v
 
 -- after 10 and 11
 abbrev pub edgeFaults : Mesh → Verdict

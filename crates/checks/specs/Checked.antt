@@ -11,13 +11,14 @@ use Rattle.paper.specs.Refined.{cornersOf}
 use Rattle.paper.specs.declared.Answer.{Answer}
 use Rattle.mesh.specs.Tables.{Named}
 use Rattle.walk.specs.Table.{rowLength, Blank, Tabled}
+use Rattle.checks.specs.columns.Vertices.{vertexRow}
 use Rattle.checks.specs.columns.Chain.{Ready}
 use Rattle.checks.specs.columns.Filled.{FacesFilled}
 
 -- a table of corners and a table of vertices with a row for each, where there are not too many; the second is of zeros
 pub record RoomFor (M : Mesh) (table vertices : List ℕ) : Type 0 where
   pub corners-fit : cornerCount M ≤ mostCorners → rowLength * cornerCount M ≤ length table
-  pub vertices-fit : vertexCount M ≤ mostVertices → rowLength * vertexCount M ≤ length vertices
+  pub vertices-fit : vertexCount M ≤ mostVertices → vertexRow * vertexCount M ≤ length vertices
   pub blank : Blank vertices
 
 -- of every mesh; a refused one leaves the table of corners with any contents, as every mesh does the table of vertices

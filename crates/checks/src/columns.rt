@@ -8,8 +8,11 @@ ghost use Prim.Native.Nat.{_≤_};
 ghost use Rattle.paper.specs.Mesh.{mostCorners};
 ghost use Rattle.checks.specs.columns.Filled.{filled, RowAt, Countable, CornersCounted};
 
-// The columns of the table of vertices, whose rows are as long as those of corners: one more than the last corner met; one more than a
-// corner of the vertex at hand whose edge goes to this one, and comes from it; how many corners there are, and the lowest of them.
+// The numbers in a row of the table of vertices: four, so that a row needs no product to be found.
+pub const VERTEX_ROW: usize = 4;
+
+// Its columns: one more than the last corner met; one more than a corner of the vertex at hand whose edge goes to this one, and comes
+// from it; how many corners there are. The lowest of them takes the place of the last.
 pub const LAST: usize = 0;
 
 pub const LEAVING: usize = 1;
@@ -18,7 +21,7 @@ pub const ARRIVING: usize = 2;
 
 pub const COUNT: usize = 3;
 
-pub const LOWEST: usize = 4;
+pub const LOWEST: usize = 0;
 
 // The row of corner c, which comes after `last` in a face of n sides: its previous corner and the sides, and the next of that corner.
 pub fn put_corner(table: &mut [u16], c: usize, last: usize, n: usize)
@@ -39,8 +42,8 @@ pub fn count_corners(corners: &[u16], vertices: &mut [u16])
     while c != 0 {
         c -= 1;
         let u = corners[c] as usize;
-        let count = vertices[ROW * u + COUNT];
-        vertices[ROW * u + COUNT] = count + 1;
-        vertices[ROW * u + LOWEST] = c as u16;
+        let count = vertices[VERTEX_ROW * u + COUNT];
+        vertices[VERTEX_ROW * u + COUNT] = count + 1;
+        vertices[VERTEX_ROW * u + LOWEST] = c as u16;
     }
 }

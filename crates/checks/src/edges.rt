@@ -6,6 +6,7 @@ use crate::columns::COUNT;
 use crate::columns::LAST;
 use crate::columns::LEAVING;
 use crate::columns::LOWEST;
+use crate::columns::VERTEX_ROW;
 use paper::Answer;
 use walk::LINK;
 use walk::NEXT;
@@ -20,9 +21,9 @@ ghost use Rattle.paper.specs.Links.{vertexOf, valence};
 ghost use Rattle.paper.specs.Faults.{lowestOf, stated};
 ghost use Rattle.mesh.specs.Tables.{Named};
 ghost use Rattle.walk.specs.Table.{rowLength, toLink, entry};
-ghost use Rattle.checks.specs.columns.Vertices.{leavingHere, arrivingHere, countHere};
-ghost use Rattle.checks.specs.columns.Chain.{Clear};
-ghost use Rattle.checks.specs.edges.Entries.{has, Unrepeated, Reversed, Searchable, ChainsFrom, Row, BothKeyed};
+ghost use Rattle.checks.specs.columns.Vertices.{vertexRow, leavingHere, arrivingHere, countHere};
+ghost use Rattle.checks.specs.columns.Chain.{lastOf, Clear};
+ghost use Rattle.checks.specs.edges.Entries.{has, Unrepeated, Reversed, Searchable, ChainsFrom, HeadsFrom, Row, BothKeyed};
 ghost use Rattle.checks.specs.edges.Entries.{MarkedFrom, CountedAt, Unmarked, EntryFor, Collected, Found, EdgesChecked};
 
 // The entry of a corner whose leaving edge already left an earlier one, and of a corner whose leaving edge has no reverse.
@@ -33,8 +34,8 @@ const ALONE: u16 = 8192;
 // Checks 10 and 11; the links stand in their column where both have passed. Nearly every mesh passes: its entries are gone over without an
 // early end first. The valences stand in theirs, and the vertices are counted, in any case.
 pub fn check_edges(corners: &[u16], count: usize, table: &mut [u16], vertices: &mut [u16]) -> Answer
-    requires walk { ⌜ Searchable (now corners) (now table) (now vertices) × ChainsFrom (now corners) (now table) 0 ⌝ }
-    requires vertices { ⌜ Named (now corners) count × (rowLength * count ≤ length (now vertices)) ⌝ }
+    requires walk { ⌜ Searchable (now corners) (now table) (now vertices) × ChainsFrom (now corners) (now table) 0 × HeadsFrom (now corners) (now vertices) 0 ⌝ }
+    requires vertices { ⌜ Named (now corners) count × (vertexRow * count ≤ length (now vertices)) ⌝ }
     requires clear { ⌜ Clear (now vertices) leavingHere × Clear (now vertices) arrivingHere × Clear (now vertices) countHere ⌝ }
     ensures { λ r. ⌜ EdgesChecked (now (corners .entry)) (now (table .entry)) (now (table .exit)) (now (vertices .exit)) r ⌝ }
 {
@@ -52,29 +53,31 @@ pub fn check_edges(corners: &[u16], count: usize, table: &mut [u16], vertices: &
 // The entry and the valence of every corner, vertex by vertex, in the columns of links and valences; the second held the chains. The
 // columns of edges are never cleared: an entry of another vertex is known by its corner.
 fn fill_links(corners: &[u16], count: usize, table: &mut [u16], vertices: &mut [u16])
-    requires walk { ⌜ Searchable (now corners) (now table) (now vertices) × ChainsFrom (now corners) (now table) 0 ⌝ }
-    requires vertices { ⌜ Named (now corners) count × (rowLength * count ≤ length (now vertices)) ⌝ }
+    requires walk { ⌜ Searchable (now corners) (now table) (now vertices) × ChainsFrom (now corners) (now table) 0 × HeadsFrom (now corners) (now vertices) 0 ⌝ }
+    requires vertices { ⌜ Named (now corners) count × (vertexRow * count ≤ length (now vertices)) ⌝ }
     requires clear { ⌜ Clear (now vertices) leavingHere × Clear (now vertices) arrivingHere × Clear (now vertices) countHere ⌝ }
     ensures { λ _. ⌜ Found (now (corners .entry)) (now (table .entry)) (now (table .exit)) (now (vertices .exit)) ⌝ }
 {
     let mut u = 0;
     while u < count {
-        let n = mark(corners, table, u, vertices);
-        collect(corners, vertices, u, n, table);
+        let last = vertices[VERTEX_ROW * u + LAST];
+        let n = mark(corners, table, u, last, vertices);
+        collect(corners, vertices, u, last, n, table);
         u += 1;
     }
 }
 
-// Marks the corners of u, from the highest down: the lowest one of an edge stays. Answers how many there are, and notes that and the
-// lowest.
-fn mark(corners: &[u16], table: &[u16], u: usize, vertices: &mut [u16]) -> u16
+// Marks the corners of u, from the highest down, which is before `last`: the lowest one of an edge stays. Answers how many there are, and
+// notes that, and the lowest in place of the last.
+fn mark(corners: &[u16], table: &[u16], u: usize, last: u16, vertices: &mut [u16]) -> u16
     requires walk { ⌜ Searchable (now corners) (now table) (now vertices) × Row (now vertices) u × ChainsFrom (now corners) (now table) u ⌝ }
+    requires last { ⌜ last ≡ lastOf (now corners) u ⌝ }
     requires keyed { ⌜ BothKeyed (now corners) (now table) (now vertices) ⌝ }
     ensures marks { λ _. ⌜ MarkedFrom (now (corners .entry)) (now (table .entry)) (now (vertices .exit)) u 0 ⌝ }
     ensures count { λ r. ⌜ (r ≡ valence (now (corners .entry)) u) × CountedAt (now (corners .entry)) (now (vertices .exit)) u ⌝ }
     ensures rest { λ _. ⌜ Unmarked (now (vertices .entry)) (now (vertices .exit)) u ⌝ }
 {
-    let mut at = vertices[ROW * u + LAST];
+    let mut at = last;
     let mut n: u16 = 0;
     let mut lowest: u16 = 0;
     while at != 0 {
@@ -83,51 +86,51 @@ fn mark(corners: &[u16], table: &[u16], u: usize, vertices: &mut [u16]) -> u16
         let d = (at - 1) as usize;
         let next = table[ROW * d + NEXT] as usize;
         let to = corners[next] as usize;
-        vertices[ROW * to + LEAVING] = at;
+        vertices[VERTEX_ROW * to + LEAVING] = at;
         let previous = table[ROW * d + PREVIOUS] as usize;
         let from = corners[previous] as usize;
-        vertices[ROW * from + ARRIVING] = at;
+        vertices[VERTEX_ROW * from + ARRIVING] = at;
         at = table[ROW * d + VALENCE];
     }
-    vertices[ROW * u + COUNT] = n;
-    vertices[ROW * u + LOWEST] = lowest;
+    vertices[VERTEX_ROW * u + COUNT] = n;
+    vertices[VERTEX_ROW * u + LOWEST] = lowest;
     n
 }
 
 // The entries of the corners of u, which are marked, and their valence n. It takes the place of the chain behind the walk.
-fn collect(corners: &[u16], vertices: &[u16], u: usize, n: u16, table: &mut [u16])
-    requires walk { ⌜ Searchable (now corners) (now table) (now vertices) × Row (now vertices) u × ChainsFrom (now corners) (now table) u ⌝ }
+fn collect(corners: &[u16], vertices: &[u16], u: usize, last: u16, n: u16, table: &mut [u16])
+    requires walk { ⌜ Searchable (now corners) (now table) (now vertices) × ChainsFrom (now corners) (now table) u × (last ≡ lastOf (now corners) u) ⌝ }
     requires marked { ⌜ MarkedFrom (now corners) (now table) (now vertices) u 0 × (n ≡ valence (now corners) u) ⌝ }
     ensures { λ _. ⌜ Collected (now (corners .entry)) (now (table .entry)) (now (table .exit)) u ⌝ }
 {
-    let mut at = vertices[ROW * u + LAST];
+    let mut at = last;
     while at != 0 {
         let c = (at - 1) as usize;
-        let x = entry(corners, table, vertices, c);
+        let x = entry(corners, table, vertices, u, c);
         at = table[ROW * c + VALENCE];
         table[ROW * c + LINK] = x;
         table[ROW * c + VALENCE] = n;
     }
 }
 
-// The entry of corner c, whose vertex is marked.
-fn entry(corners: &[u16], table: &[u16], vertices: &[u16], c: usize) -> u16
-    requires corner { ⌜ (c < length (now corners)) × Searchable (now corners) (now table) (now vertices) ⌝ }
-    requires marked { ⌜ MarkedFrom (now corners) (now table) (now vertices) (vertexOf (now corners) c) 0 ⌝ }
+// The entry of corner c of u, which is marked.
+fn entry(corners: &[u16], table: &[u16], vertices: &[u16], u: usize, c: usize) -> u16
+    requires corner { ⌜ (c < length (now corners)) × (u ≡ vertexOf (now corners) c) × Searchable (now corners) (now table) (now vertices) ⌝ }
+    requires marked { ⌜ MarkedFrom (now corners) (now table) (now vertices) u 0 ⌝ }
     ensures { λ r. ⌜ EntryFor (now (corners .entry)) (now (table .entry)) c r ⌝ }
 {
     let next = table[ROW * c + NEXT] as usize;
     let to = corners[next] as usize;
-    let first = vertices[ROW * to + LEAVING] as usize;
+    let first = vertices[VERTEX_ROW * to + LEAVING] as usize;
     if first != c + 1 {
         return REPEATED;
     }
-    let e = vertices[ROW * to + ARRIVING];
+    let e = vertices[VERTEX_ROW * to + ARRIVING];
     if e == 0 {
         return ALONE;
     }
     let d = e - 1;
-    if corners[d as usize] != corners[c] {
+    if corners[d as usize] as usize != u {
         return ALONE;
     }
     d

@@ -1,5 +1,6 @@
 // Check 9, over the lists themselves: it answers its fault at the lowest place, or that there is none, and fills what the checks of edges need.
 use crate::columns::LAST;
+use crate::columns::VERTEX_ROW;
 use paper::Answer;
 use walk::ROW;
 use walk::VALENCE;
@@ -33,13 +34,13 @@ pub fn check_faces(sides: &[u8], corners: &[u16], table: &mut [u16], vertices: &
         let mut c = start;
         while c < end {
             let u = corners[c] as usize;
-            let last = vertices[ROW * u + LAST];
+            let last = vertices[VERTEX_ROW * u + LAST];
             if start < last as usize {
                 return Answer::Refused(9, c);
             }
             crate::columns::put_corner(table, c, before, count);
             table[ROW * c + VALENCE] = last;
-            vertices[ROW * u + LAST] = (c + 1) as u16;
+            vertices[VERTEX_ROW * u + LAST] = (c + 1) as u16;
             before = c;
             c += 1;
         }

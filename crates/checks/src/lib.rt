@@ -5,6 +5,7 @@ pub mod edges;
 pub mod faces;
 pub mod vertices;
 
+use crate::columns::VERTEX_ROW;
 use mesh::MEDIUM_MESH;
 use mesh::SMALL_MESH;
 use paper::Answer;
@@ -28,7 +29,7 @@ pub fn check(coordinates: &[i32], sides: &[u8], corners: &[u16], sharpness: &[u8
         return check_large(coordinates, sides, corners, sharpness);
     }
     let mut table = [0u16; ROW * SMALL_MESH];
-    let mut vertices = [0u16; ROW * SMALL_MESH];
+    let mut vertices = [0u16; VERTEX_ROW * SMALL_MESH];
     check_within(
         coordinates,
         sides,
@@ -46,7 +47,7 @@ fn check_large(coordinates: &[i32], sides: &[u8], corners: &[u16], sharpness: &[
 {
     if corners.len() <= MEDIUM_MESH && coordinates.len() / 3 <= MEDIUM_MESH {
         let mut table = [0u16; ROW * MEDIUM_MESH];
-        let mut vertices = [0u16; ROW * MEDIUM_MESH];
+        let mut vertices = [0u16; VERTEX_ROW * MEDIUM_MESH];
         return check_within(
             coordinates,
             sides,
@@ -57,7 +58,7 @@ fn check_large(coordinates: &[i32], sides: &[u8], corners: &[u16], sharpness: &[
         );
     }
     let mut table = [0u16; ROW * MOST_CORNERS];
-    let mut vertices = [0u16; ROW * MOST_VERTICES];
+    let mut vertices = [0u16; VERTEX_ROW * MOST_VERTICES];
     check_within(
         coordinates,
         sides,

@@ -14,9 +14,8 @@ use Rattle.paper.specs.Faults.{Verdict, sound, fault, verdict, stated, Accepted
 use Rattle.paper.specs.declared.Answer.{Answer}
 use Rattle.paper.specs.declared.Answer.the-variants.{Refused as Fault}
 use Rattle.mesh.proofs.Accepted.{sound-of, few-vertices, few-corners, named-of}
-use Rattle.walk.specs.Table.{rowLength}
 use Rattle.walk.proofs.Table.{blank}
-use Rattle.checks.specs.columns.Vertices.{countHere}
+use Rattle.checks.specs.columns.Vertices.{vertexRow, countHere}
 use Rattle.checks.specs.columns.Filled.{Countable}
 use Rattle.paper.specs.declared.Irregular.{Irregular}
 use Rattle.paper.specs.declared.Irregular.the-variants.{Face, Vertex, None, Refused}
@@ -46,12 +45,12 @@ module _ (corners : List ℕ) (u n : ℕ) (e : n ≡ valence corners u) where
 
 -- ---- a table of zeros with a row for every vertex
 pub countable : (corners : List ℕ) (count : ℕ) → count ≤ mostVertices → length corners ≤ mostCorners → Named corners count
-    → Countable corners (replicate (rowLength * mostVertices) 0)
+    → Countable corners (replicate (vertexRow * mostVertices) 0)
 countable corners count few small named =
     record {
       small = small;
-      rowed = λ c h. rw (length-replicate {A = ℕ} (rowLength * mostVertices) 0) (omega (arith, named c h));
-      clear = λ u. blank (rowLength * mostVertices) (rowLength * u + countHere);
+      rowed = λ c h. rw (length-replicate {A = ℕ} (vertexRow * mostVertices) 0) (omega (arith, named c h));
+      clear = λ u. blank (vertexRow * mostVertices) (vertexRow * u + countHere);
     }
 
 module _ (M : Mesh) (accepted : Accepted M) where

@@ -1,16 +1,16 @@
 // L7, is it all squares? Checks 4 to 13 with 27 and 28; then the lowest face that has not four sides, else the lowest vertex that has not four corners,
 // else none. Each search stops at the first that it finds, and that of the faces counts the side counts that it reads.
 use checks::columns::COUNT;
+use checks::columns::VERTEX_ROW;
 use paper::Answer;
 use paper::Irregular;
 use paper::MOST_VERTICES;
-use walk::ROW;
 ghost use mathlib.Core.Path.{_≡_};
 ghost use Prim.Native.Nat.{_*_, _≤_};
 ghost use lib.ListN.{length};
 ghost use Rattle.paper.specs.Scan.{firstBelow};
 ghost use Rattle.paper.specs.Mesh.{mostVertices, mostCorners, meshOf};
-ghost use Rattle.walk.specs.Table.{rowLength};
+ghost use Rattle.checks.specs.columns.Vertices.{vertexRow};
 ghost use Rattle.checks.specs.columns.Filled.{CornersCounted};
 ghost use Rattle.paper.specs.Squares.{irregularVertex, Searched};
 ghost use Rattle.irregular.specs.Found.{Named, FacesSearched};
@@ -75,20 +75,20 @@ fn search_corners(corners: &[u16], count: usize) -> usize
     requires { ⌜ (count ≤ mostVertices) × (length (now corners) ≤ mostCorners) × Named (now corners) count ⌝ }
     ensures { λ r. ⌜ r ≡ firstBelow count (irregularVertex (now (corners .entry))) ⌝ }
 {
-    let mut vertices = [0u16; ROW * MOST_VERTICES];
+    let mut vertices = [0u16; VERTEX_ROW * MOST_VERTICES];
     checks::columns::count_corners(corners, &mut vertices);
     search_vertices(corners, &vertices, count)
 }
 
 // The same from the counts.
 fn search_vertices(corners: &[u16], vertices: &[u16], count: usize) -> usize
-    requires { ⌜ (count ≤ mostVertices) × (rowLength * count ≤ length (now vertices)) × CornersCounted (now corners) (now vertices) ⌝ }
+    requires { ⌜ (count ≤ mostVertices) × (vertexRow * count ≤ length (now vertices)) × CornersCounted (now corners) (now vertices) ⌝ }
     ensures { λ r. ⌜ r ≡ firstBelow count (irregularVertex (now (corners .entry))) ⌝ }
 {
     let mut lowest = count;
     let mut u = 0;
     while u < lowest {
-        let n = vertices[ROW * u + COUNT];
+        let n = vertices[VERTEX_ROW * u + COUNT];
         if n != CORNERS {
             lowest = u;
         }

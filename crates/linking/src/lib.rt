@@ -1,4 +1,5 @@
 // Linking: fills a lent link table, or answers why the mesh is turned down and leaves the table as it was.
+use checks::columns::VERTEX_ROW;
 use mesh::MEDIUM_MESH;
 use mesh::SMALL_MESH;
 use paper::Answer;
@@ -31,7 +32,7 @@ pub fn link(
         return link_large(coordinates, sides, corners, sharpness, links);
     }
     let mut table = [0u16; ROW * SMALL_MESH];
-    let mut vertices = [0u16; ROW * SMALL_MESH];
+    let mut vertices = [0u16; VERTEX_ROW * SMALL_MESH];
     link_over(
         coordinates,
         sides,
@@ -56,7 +57,7 @@ fn link_large(
 {
     if corners.len() <= MEDIUM_MESH && coordinates.len() / 3 <= MEDIUM_MESH {
         let mut table = [0u16; ROW * MEDIUM_MESH];
-        let mut vertices = [0u16; ROW * MEDIUM_MESH];
+        let mut vertices = [0u16; VERTEX_ROW * MEDIUM_MESH];
         return link_over(
             coordinates,
             sides,
@@ -68,7 +69,7 @@ fn link_large(
         );
     }
     let mut table = [0u16; ROW * MOST_CORNERS];
-    let mut vertices = [0u16; ROW * MOST_VERTICES];
+    let mut vertices = [0u16; VERTEX_ROW * MOST_VERTICES];
     link_over(
         coordinates,
         sides,

@@ -173,24 +173,25 @@ module _ (sides : List ℕ) (c : ℕ) (h : c < sumOf sides) where
   inner : (j : ℕ) → j < sidesOf sides c → (firstOf sides (firstOf sides c + j) ≡ firstOf sides c) × (sidesOf sides (firstOf sides c + j) ≡ sidesOf sides c)
   inner j l = (first-same sides c h (firstOf sides c + j) (omega arith) (omega arith), sides-same sides c h (firstOf sides c + j) (omega arith) (omega arith))
 
-  run : (j : ℕ) → j < sidesOf sides c → iterate j (next sides) (firstOf sides c) ≡ firstOf sides c + j
-  run zero l = iterate-zero (next sides) (firstOf sides c) ∙ omega arith
-  run (suc j) l =
+  pub next-along : (j : ℕ) → j < sidesOf sides c → iterate j (next sides) (firstOf sides c) ≡ firstOf sides c + j
+  next-along zero l = iterate-zero (next sides) (firstOf sides c) ∙ omega arith
+  next-along (suc j) l =
       let i = inner j (omega arith) in
-      iterate-suc (next sides) j (firstOf sides c) ∙ ap (next sides) (run j (omega arith)) ∙ next-inner sides (firstOf sides c + j) (omega arith) ∙ omega arith
+      iterate-suc (next sides) j (firstOf sides c) ∙ ap (next sides) (next-along j (omega arith))
+      ∙ next-inner sides (firstOf sides c + j) (omega arith) ∙ omega arith
 
   round : (n : ℕ) → n ≡ sidesOf sides c → iterate n (next sides) (firstOf sides c) ≡ firstOf sides c
   round zero e = absurd (omega (arith, first-from sides c h, first-to sides c h))
   round (suc j) e =
       let i = inner j (omega arith) in
-      iterate-suc (next sides) j (firstOf sides c) ∙ ap (next sides) (run j (omega arith)) ∙ next-last sides (firstOf sides c + j) (omega arith) ∙ i .0
+      iterate-suc (next sides) j (firstOf sides c) ∙ ap (next sides) (next-along j (omega arith)) ∙ next-last sides (firstOf sides c + j) (omega arith) ∙ i .0
 
   pub next-turn : Returns (next sides) (sidesOf sides c) c
   next-turn =
       let f = first-from sides c h in
       let t = first-to sides c h in
       let p = c - firstOf sides c in
-      let q : iterate p (next sides) (firstOf sides c) ≡ c = run p (omega arith) ∙ omega arith in
+      let q : iterate p (next sides) (firstOf sides c) ≡ c = next-along p (omega arith) ∙ omega arith in
       let w = round (sidesOf sides c) refl in
       record {
         back =
@@ -200,12 +201,12 @@ module _ (sides : List ℕ) (c : ℕ) (h : c < sumOf sides) where
             let r' : iterate (j + p) (next sides) (firstOf sides c) ≡ c =
             sym (iterate-add (next sides) j p (firstOf sides c)) ∙ ap (iterate j (next sides)) q ∙ r in
             ⊎-elim
-            (λ l. let l' : j + p < sidesOf sides c = ltb-true _ _ l in omega (arith, run (j + p) l'))
+            (λ l. let l' : j + p < sidesOf sides c = ltb-true _ _ l in omega (arith, next-along (j + p) l'))
             (λ l. let l' : sidesOf sides c ≤ j + p = ltb-false _ _ l in
             let m = j + p - sidesOf sides c in
             let e : j + p ≡ m + sidesOf sides c = omega arith in
             let z : iterate (m + sidesOf sides c) (next sides) (firstOf sides c) ≡ firstOf sides c + m =
-            sym (iterate-add (next sides) m (sidesOf sides c) (firstOf sides c)) ∙ ap (iterate m (next sides)) w ∙ run m (omega arith) in
+            sym (iterate-add (next sides) m (sidesOf sides c) (firstOf sides c)) ∙ ap (iterate m (next sides)) w ∙ next-along m (omega arith) in
             omega (arith, sym (ap (λ (k : ℕ). iterate k (next sides) (firstOf sides c)) e) ∙ r', z))
             (ways (ltb (j + p) (sidesOf sides c)));
       }

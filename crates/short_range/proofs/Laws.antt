@@ -21,9 +21,9 @@ use Rattle.paper.specs.Links.{vertexOf, link, names, valence}
 use Rattle.paper.specs.Faults.{Accepted}
 use Rattle.paper.specs.Refined.{ticksPerStep, faceSum, cornersOf}
 use Rattle.mesh.proofs.Scans.{compared, some-below, some-passes}
-use Rattle.mesh.proofs.Faces.{held, first-from, first-to, first-same, sides-same, first-next, sides-next, next-below, next-inner}
+use Rattle.mesh.proofs.Faces.{held, first-from, first-to, sides-same, first-next, sides-next, next-below}
 use Rattle.mesh.proofs.Rings.{iterate-zero, iterate-suc, iterate-add, Turns, period, period-le, comes-back, met-all, metBy, and-not}
-use Rattle.mesh.proofs.Accepted.{next-turn}
+use Rattle.mesh.proofs.Accepted.{next-turn, next-along}
 use Rattle.mesh.proofs.Theorems.{manifold}
 use Rattle.surface.specs.Points.{pointRow}
 use Rattle.surface.proofs.Rings.{iterate-in, iterate-round}
@@ -136,14 +136,6 @@ module _ (sides : List ℕ) where
       (first-next sides (iterate j (next sides) d) l ∙ r .0, sides-next sides (iterate j (next sides) d) l ∙ r .1)
 
   module _ (c : ℕ) (h : c < sumOf sides) where
-    along : (j : ℕ) → j < sidesOf sides c → iterate j (next sides) (firstOf sides c) ≡ firstOf sides c + j
-    along zero l = iterate-zero (next sides) (firstOf sides c) ∙ omega arith
-    along (suc j) l =
-        let d = firstOf sides c + j in
-        let f = first-same sides c h d (omega arith) (omega arith) in
-        let s = sides-same sides c h d (omega arith) (omega arith) in
-        iterate-suc (next sides) j (firstOf sides c) ∙ ap (next sides) (along j (omega arith)) ∙ next-inner sides d (omega arith) ∙ omega arith
-
     -- the sum is the same from wherever it starts
     pub round-sum : (coordinates : List ℤ) (corners : List ℕ) (axis : ℕ)
         → roundSum coordinates sides corners c (sidesOf sides c) axis ≡ stepSum coordinates corners (firstOf sides c) (sidesOf sides c) axis
@@ -154,14 +146,14 @@ module _ (sides : List ℕ) where
         let t = first-to sides c h in
         let p = c - s in
         let P = stepsOf coordinates corners axis in
-        let at : iterate p (next sides) s ≡ c = along p (omega arith) ∙ omega arith in
+        let at : iterate p (next sides) s ≡ c = next-along sides c h p (omega arith) ∙ omega arith in
         let back : iterate n (next sides) s ≡ s = subst (λ (k : ℕ). iterate k (next sides) s ≡ s) (sides-same sides c h s (omega arith) (omega arith))
         (next-turn sides s (omega arith) .back) in
         let cyclic : Cyclic (λ j. P (iterate j (next sides) s)) n = λ j. ap P (iterate-round (next sides) j n s back) in
         sum-same (λ j. P (iterate j (next sides) c)) (λ j. P (iterate (j + p) (next sides) s)) n
         (λ j l. ap P (ap (iterate j (next sides)) (sym at) ∙ iterate-add (next sides) j p s))
         ∙ cycle (λ j. P (iterate j (next sides) s)) n cyclic p
-        ∙ sum-same (λ j. P (iterate j (next sides) s)) (λ j. P (s + j)) n (λ j l. ap P (along j l))
+        ∙ sum-same (λ j. P (iterate j (next sides) s)) (λ j. P (s + j)) n (λ j l. ap P (next-along sides c h j l))
 
 -- ---- three numbers put into row k
 module _ (before : List ℤ) (k : ℕ) (x y z : ℤ) (b : sumRow * k + sumRow ≤ length before) where

@@ -7,6 +7,7 @@ pub mod spreading;
 pub mod starts;
 pub mod visiting;
 
+use checks::columns::VERTEX_ROW;
 use paper::Answer;
 use paper::MOST_CORNERS;
 use paper::MOST_FACES;
@@ -64,7 +65,7 @@ fn choose(
     ensures { λ r. ⌜ ChosenFor (meshOf (now (coordinates .entry)) (now (sides .entry)) (now (corners .entry)) (now (sharpness .entry))) r (now (states .exit)) ⌝ }
 {
     let mut table = [0u16; ROW * MOST_CORNERS];
-    let mut vertices = [0u16; ROW * MOST_VERTICES];
+    let mut vertices = [0u16; VERTEX_ROW * MOST_VERTICES];
     let a = checks::check_lists(
         coordinates,
         sides,

@@ -3,8 +3,8 @@
 use lib.ListN.{length-replicate}
 use Prim.Native.Nat.{ℕ, _*_}
 use Rattle.paper.specs.Mesh.{mostVertices}
-use Rattle.walk.specs.Table.{rowLength}
 use Rattle.walk.proofs.Table.{blank}
+use Rattle.checks.specs.columns.Vertices.{vertexRow}
 use native.Mathlib.Omega.{arith}
 use borrow.Author.Needs.{needs}
 use Rattle.border_report.proofs.check_mesh.Statement.{statement}
@@ -18,8 +18,8 @@ check-within-requires c κs =
     let s = c .before .before .before .before .before .before in
     record {
       corners-fit = s .pre;
-      vertices-fit = λ h. rw (length-replicate {A = ℕ} (rowLength * mostVertices) 0) (omega arith);
-      blank = blank (rowLength * mostVertices);
+      vertices-fit = λ h. rw (length-replicate {A = ℕ} (vertexRow * mostVertices) 0) (omega arith);
+      blank = blank (vertexRow * mostVertices);
     }
 
 same-length : tie.Need-same-length

@@ -9,11 +9,12 @@ use Rattle.paper.specs.Links.{link}
 use Rattle.paper.specs.Faults.{sound, listFaults, stated}
 use Rattle.mesh.proofs.Verdicts.{passed}
 use Rattle.walk.specs.Table.{rowLength, toLink, Column}
+use Rattle.checks.specs.columns.Vertices.{vertexRow}
 use Rattle.checks.specs.columns.Chain.{Ready}
 use Rattle.checks.specs.columns.Filled.{FacesFilled}
 use Rattle.checks.specs.edges.Entries.{Ends}
 use Rattle.checks.specs.Checked.{Listed}
-use Rattle.checks.proofs.Laws.{listed, ends, searchable, chains, edgeFaults, closed, linking, tabled, stopped-lists, stopped-edges, checked}
+use Rattle.checks.proofs.Laws.{listed, ends, searchable, chains, heads, edgeFaults, closed, linking, tabled, stopped-lists, stopped-edges, checked}
 use native.Mathlib.Omega.{arith}
 use borrow.Author.Needs.{needs}
 use Rattle.checks.proofs.check_within.Statement.{statement}
@@ -42,7 +43,7 @@ module _ (t : tie.After-enum-told) where
   long-table : rowLength * cornerCount mesh ≤ length (t .before .before .before .before .before .before .check-lists .last .1 .1 .1 .1 .0)
   long-table = omega (arith, start .pre .corners-fit (lists .small), t .before .before .before .before .before .before .check-lists .kept .1 .1 .1 .1 .0)
 
-  long-vertices : rowLength * vertexCount mesh ≤ length (t .before .before .before .before .before .before .check-lists .last .1 .1 .1 .1 .1 .0)
+  long-vertices : vertexRow * vertexCount mesh ≤ length (t .before .before .before .before .before .before .check-lists .last .1 .1 .1 .1 .1 .0)
   long-vertices = omega (arith, start .pre .vertices-fit (lists .few), t .before .before .before .before .before .before .check-lists .kept .1 .1 .1 .1 .1 .0)
 
   filled : FacesFilled (mesh .sides) (t .before .before .before .before .before .before .check-lists .last .1 .1 .1 .1 .0)
@@ -98,7 +99,7 @@ enum-told c = search needs
 check-edges-requires : tie.Need-check-edges-requires
 check-edges-requires c κs =
     let t = c .before .before in (
-      (searchable (mesh t) (lists t) _ (filled t) _ (long-table t) (long-vertices t) (ready t), chains _ _ _ (ready t)),
+      (searchable (mesh t) (lists t) _ (filled t) _ (long-table t) (long-vertices t), chains _ _ _ (ready t), heads _ _ _ (ready t)),
       ((lists t .named, long-vertices t), (ready t .leaving-clear, ready t .arriving-clear, ready t .count-clear)),
     )
 
@@ -127,7 +128,7 @@ check-vertices-requires c κs =
     let t = listed-at u in
     let b = u .before .before .before .before .before .before .check-edges in
     let g = lists t in
-    let lv : rowLength * vertexCount (mesh t) ≤ length (b .last .1 .1 .1 .0) = omega (arith, long-vertices t, b .kept .1 .1 .1 .0) in
+    let lv : vertexRow * vertexCount (mesh t) ≤ length (b .last .1 .1 .1 .0) = omega (arith, long-vertices t, b .kept .1 .1 .1 .0) in
     ((g .few, lv, b .ensures .counted), linking (mesh t) _ (closed (mesh t) g (edges-sound u)) (long-linked u) (links u))
 
 same-length-5 : tie.Need-same-length-5

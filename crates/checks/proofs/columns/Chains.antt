@@ -14,9 +14,10 @@ use Rattle.paper.specs.Links.{vertexOf, names, valence, lowest}
 use Rattle.mesh.proofs.Scans.{ways, clash, compared, first-passes, first-at}
 use Rattle.mesh.proofs.Rings.{count-hit, count-miss, count-le, none-counted}
 use Rattle.walk.specs.Table.{rowLength, valenceHere, entry, Kept, Blank}
-use Rattle.walk.proofs.Table.{put, kept-put}
-use Rattle.checks.specs.columns.Vertices.{lastHere, leavingHere, arrivingHere, countHere}
-use Rattle.checks.specs.columns.Chain.{lastBelow, earlierOf, EarliersTo, LastsTo, Chain, Chained, Clear, Ready}
+use Rattle.walk.proofs.Table.{put}
+use Rattle.checks.specs.columns.Vertices.{vertexRow, lastHere, leavingHere, arrivingHere, countHere, noted}
+use Rattle.checks.specs.columns.Chain.{lastBelow, earlierOf, EarliersTo, LastsTo, lastOf, Chain, Chained, Clear, Ready}
+use Rattle.checks.proofs.columns.Notes.{note-put, note-kept}
 
 -- the highest number that passes
 module _ (f : ℕ → Bool) where
@@ -67,7 +68,7 @@ module _ (f : ℕ → Bool) where
 -- ---- the chains below corner c, and what they leave clear
 pub record ChainsTo (corners table vertices : List ℕ) (c : ℕ) : Type 0 where
   pub earliers-to : EarliersTo corners (entry table valenceHere) c
-  pub lasts-to : LastsTo corners (entry vertices lastHere) c
+  pub lasts-to : LastsTo corners (noted vertices lastHere) c
   pub leaving-clear : Clear vertices leavingHere
   pub arriving-clear : Clear vertices arrivingHere
   pub count-clear : Clear vertices countHere
@@ -78,10 +79,10 @@ module _ (corners table vertices : List ℕ) where
   chains-none z =
       record {
         earliers-to = λ c h. absurd (omega arith);
-        lasts-to = λ u. z (rowLength * u + lastHere) ∙ sym (last-zero (names corners u));
-        leaving-clear = λ u. z (rowLength * u + leavingHere);
-        arriving-clear = λ u. z (rowLength * u + arrivingHere);
-        count-clear = λ u. z (rowLength * u + countHere);
+        lasts-to = λ u. z (vertexRow * u + lastHere) ∙ sym (last-zero (names corners u));
+        leaving-clear = λ u. z (vertexRow * u + leavingHere);
+        arriving-clear = λ u. z (vertexRow * u + arrivingHere);
+        count-clear = λ u. z (vertexRow * u + countHere);
       }
 
   pub chains-all : (c : ℕ) → c ≡ length corners → ChainsTo corners table vertices c → Ready corners table vertices
@@ -89,7 +90,7 @@ module _ (corners table vertices : List ℕ) where
       record {
         chained = record {
           earliers-are = subst (EarliersTo corners (entry table valenceHere)) e (k .earliers-to);
-          lasts-are = subst (LastsTo corners (entry vertices lastHere)) e (k .lasts-to);
+          lasts-are = subst (LastsTo corners (noted vertices lastHere)) e (k .lasts-to);
         };
         leaving-clear = k .leaving-clear;
         arriving-clear = k .arriving-clear;
@@ -109,24 +110,24 @@ module _ (corners table vertices : List ℕ) where
 
   -- one corner more: its earlier one is the last of its vertex, and then it is the last
   module _ (c : ℕ) (k : ChainsTo corners table vertices c) where
-    pub last-is : entry vertices lastHere (vertexOf corners c) ≡ lastBelow c (names corners (vertexOf corners c))
+    pub last-is : noted vertices lastHere (vertexOf corners c) ≡ lastBelow c (names corners (vertexOf corners c))
     unfolding LastsTo
     last-is = k .lasts-to (vertexOf corners c)
 
-    pub chains-step : rowLength * c + valenceHere < length table → rowLength * vertexOf corners c + lastHere < length vertices
-        → ChainsTo corners (set table (rowLength * c + valenceHere) (entry vertices lastHere (vertexOf corners c)))
-        (set vertices (rowLength * vertexOf corners c + lastHere) (c + 1)) (c + 1)
+    pub chains-step : rowLength * c + valenceHere < length table → vertexRow * vertexOf corners c + lastHere < length vertices
+        → ChainsTo corners (set table (rowLength * c + valenceHere) (noted vertices lastHere (vertexOf corners c)))
+        (set vertices (vertexRow * vertexOf corners c + lastHere) (c + 1)) (c + 1)
     unfolding EarliersTo LastsTo names
     chains-step ht hv =
         let v = vertexOf corners c in
-        let others = kept-put vertices lastHere v (c + 1) (omega arith) in
+        let others = note-kept vertices lastHere v (c + 1) (omega arith) in
         record {
           earliers-to = λ d b.
-              put table valenceHere c (entry vertices lastHere v) (λ x. x ≡ lastBelow d (names corners (vertexOf corners d))) d ht
+              put table valenceHere c (noted vertices lastHere v) (λ x. x ≡ lastBelow d (names corners (vertexOf corners d))) d ht
               (λ q. rw q last-is)
               (λ q. k .earliers-to d (omega (arith, q)));
           lasts-to = λ u.
-              put vertices lastHere v (c + 1) (λ x. x ≡ lastBelow (c + 1) (names corners u)) u hv
+              note-put vertices lastHere v (c + 1) (λ x. x ≡ lastBelow (c + 1) (names corners u)) u hv
               (λ q. rw add-one (sym (last-hit (names corners u) c (eq-eqb v u (sym q)))))
               (λ q. k .lasts-to u ∙ rw add-one (sym (last-miss (names corners u) c (ne-eqb v u (λ z. q (sym z))))));
           leaving-clear = λ u. others leavingHere (omega arith) (λ q. omega arith) u ∙ k .leaving-clear u;
@@ -193,10 +194,10 @@ module _ (corners : List ℕ) (earlier last : ℕ → ℕ) (k : Chained corners 
         o)
         (compared d (at - 1))
 
--- chains whose earlier corners are the definition's own
-pub chained-own : (corners : List ℕ) (last : ℕ → ℕ) → LastsTo corners last (length corners) → Chained corners (earlierOf corners) last
-unfolding EarliersTo
-chained-own corners last k = record { earliers-are = λ c l. refl; lasts-are = k }
+-- the chains as the definitions have them
+pub chained-own : (corners : List ℕ) → Chained corners (earlierOf corners) (lastOf corners)
+unfolding EarliersTo LastsTo
+chained-own corners = record { earliers-are = λ c l. refl; lasts-are = λ u. refl }
 
 -- ---- the corners of u from `at` on: n of them, and the lowest one
 pub record Passed (corners : List ℕ) (u at n low : ℕ) : Type 0 where
@@ -206,10 +207,10 @@ pub record Passed (corners : List ℕ) (u at n low : ℕ) : Type 0 where
   pub before : (n ≡ 0 → ⊥) → at ≡ lastBelow low (names corners u)
 
 module _ (corners : List ℕ) (u : ℕ) where
-  pub passed-none : (last : ℕ → ℕ) → LastsTo corners last (length corners) → Passed corners u (last u) 0 0
-  unfolding LastsTo valence
-  passed-none last k =
-      let q = ap (λ (x : ℕ). countBelow x (names corners u)) (k u) ∙ last-counted (names corners u) (length corners) in
+  pub passed-none : Passed corners u (lastOf corners u) 0 0
+  unfolding valence
+  passed-none =
+      let q = last-counted (names corners u) (length corners) in
       record { count = omega (arith, q); own = λ n. absurd (n refl); inside = λ n. absurd (n refl); before = λ n. absurd (n refl) }
 
   pub passed-few : (at n low : ℕ) → Passed corners u at n low → n ≤ length corners

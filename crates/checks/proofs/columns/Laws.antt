@@ -13,11 +13,12 @@ use Rattle.paper.specs.Links.{vertexOf, names, valence, lowest}
 use Rattle.mesh.proofs.Scans.{first-passes, first-le}
 use Rattle.mesh.proofs.Faces.{face-at, start-zero, next-below, previous-first, previous-inner, previous-next, next-previous}
 use Rattle.mesh.proofs.Rings.{count-hit, count-miss, count-le}
-use Rattle.walk.specs.Table.{rowLength, toNext, toPrevious, sidesHere, valenceHere, entry, Column, Kept}
-use Rattle.walk.proofs.Table.{put, kept-put, column-put}
-use Rattle.checks.specs.columns.Vertices.{countHere, lowestHere}
+use Rattle.walk.specs.Table.{rowLength, toNext, toPrevious, sidesHere, valenceHere, entry, Kept}
+use Rattle.walk.proofs.Table.{put, kept-put}
+use Rattle.checks.specs.columns.Vertices.{vertexRow, countHere, lowestHere, noted, NotesKept}
 use Rattle.checks.specs.columns.Chain.{Clear}
 use Rattle.checks.specs.columns.Filled.{FacesTo, FacesFilled, filled, CornersCounted}
+use Rattle.checks.proofs.columns.Notes.{note-put, note-kept}
 
 -- ---- the corners of face f
 module _ (sides : List ℕ) (f : ℕ) (l : f < length sides) where
@@ -120,9 +121,9 @@ module _ (sides table : List ℕ) where
 
 -- ---- the corners from c on are counted
 pub record CountedFrom (corners vertices : List ℕ) (c : ℕ) : Type 0 where
-  pub rest : (u : ℕ) → entry vertices countHere u + countBelow c (names corners u) ≡ valence corners u
-  pub least : (u d : ℕ) → c ≤ d → d < length corners → vertexOf corners d ≡ u → entry vertices lowestHere u ≤ d
-  pub own : (u d : ℕ) → c ≤ d → d < length corners → vertexOf corners d ≡ u → vertexOf corners (entry vertices lowestHere u) ≡ u
+  pub rest : (u : ℕ) → noted vertices countHere u + countBelow c (names corners u) ≡ valence corners u
+  pub least : (u d : ℕ) → c ≤ d → d < length corners → vertexOf corners d ≡ u → noted vertices lowestHere u ≤ d
+  pub own : (u d : ℕ) → c ≤ d → d < length corners → vertexOf corners d ≡ u → vertexOf corners (noted vertices lowestHere u) ≡ u
 
 module _ (corners vertices : List ℕ) where
   pub counted-start : Clear vertices countHere → CountedFrom corners vertices (length corners)
@@ -145,44 +146,44 @@ module _ (corners vertices : List ℕ) where
             omega (
               arith,
               k .least u low (omega arith) h n,
-              first-le (length corners) (names corners u) (entry vertices lowestHere u) (eq-eqb _ _ (k .own u low (omega arith) h n)),
+              first-le (length corners) (names corners u) (noted vertices lowestHere u) (eq-eqb _ _ (k .own u low (omega arith) h n)),
             );
       }
 
   -- one corner more, c, which names v
   module _ (at c v : ℕ) (k : CountedFrom corners vertices at) (w : at ≡ suc c) (h : c < length corners) (e : vertexOf corners c ≡ v)
-      (r : rowLength * v + rowLength ≤ length vertices) where
-    counted-with : (u : ℕ) → entry vertices countHere u + countBelow (suc c) (names corners u) ≡ valence corners u
-    counted-with u = ap (λ (x : ℕ). entry vertices countHere u + countBelow x (names corners u)) (sym w) ∙ k .rest u
+      (r : vertexRow * v + vertexRow ≤ length vertices) where
+    counted-with : (u : ℕ) → noted vertices countHere u + countBelow (suc c) (names corners u) ≡ valence corners u
+    counted-with u = ap (λ (x : ℕ). noted vertices countHere u + countBelow x (names corners u)) (sym w) ∙ k .rest u
 
-    pub counted-small : entry vertices countHere v < length corners
+    pub counted-small : noted vertices countHere v < length corners
     unfolding valence names
     counted-small =
         omega (arith, counted-with v, count-hit (names corners v) c (eq-eqb (vertexOf corners c) v e), count-le (names corners v) (length corners))
 
     pub counted-step :
-        CountedFrom corners (set (set vertices (rowLength * v + countHere) (entry vertices countHere v + 1)) (rowLength * v + lowestHere) c) c
+        CountedFrom corners (set (set vertices (vertexRow * v + countHere) (noted vertices countHere v + 1)) (vertexRow * v + lowestHere) c) c
     unfolding names
     counted-step =
-        let once = set vertices (rowLength * v + countHere) (entry vertices countHere v + 1) in
-        let size : length once ≡ length vertices = length-set vertices (rowLength * v + countHere) (entry vertices countHere v + 1) in
-        let counts : Kept once (set once (rowLength * v + lowestHere) c) countHere =
-        kept-put once lowestHere v c (omega arith) countHere (omega arith) (λ q. omega arith) in
-        let lowests : Kept vertices once lowestHere =
-        kept-put vertices countHere v (entry vertices countHere v + 1) (omega arith) lowestHere (omega arith) (λ q. omega arith) in
+        let once = set vertices (vertexRow * v + countHere) (noted vertices countHere v + 1) in
+        let size : length once ≡ length vertices = length-set vertices (vertexRow * v + countHere) (noted vertices countHere v + 1) in
+        let counts : NotesKept once (set once (vertexRow * v + lowestHere) c) countHere =
+        note-kept once lowestHere v c (omega arith) countHere (omega arith) (λ q. omega arith) in
+        let lowests : NotesKept vertices once lowestHere =
+        note-kept vertices countHere v (noted vertices countHere v + 1) (omega arith) lowestHere (omega arith) (λ q. omega arith) in
         record {
           rest = λ u.
               ap (λ (x : ℕ). x + countBelow c (names corners u)) (counts u)
-              ∙ put vertices countHere v (entry vertices countHere v + 1) (λ x. x + countBelow c (names corners u) ≡ valence corners u) u (omega arith)
+              ∙ note-put vertices countHere v (noted vertices countHere v + 1) (λ x. x + countBelow c (names corners u) ≡ valence corners u) u (omega arith)
               (λ q. let b : names corners u c ≡ true = eq-eqb (vertexOf corners c) u (e ∙ sym q) in
-              omega (arith, counted-with u, count-hit (names corners u) c b, ap (entry vertices countHere) q))
+              omega (arith, counted-with u, count-hit (names corners u) c b, ap (noted vertices countHere) q))
               (λ q. let b : names corners u c ≡ false = ne-eqb (vertexOf corners c) u (λ z. q (sym z ∙ e)) in
               omega (arith, counted-with u, count-miss (names corners u) c b));
           least = λ u d a b z.
-              put once lowestHere v c (λ x. x ≤ d) u (omega arith) (λ q. a)
+              note-put once lowestHere v c (λ x. x ≤ d) u (omega arith) (λ q. a)
               (λ q. omega (arith, lowests u, k .least u d (above d a (λ y. q (sym z ∙ ap (vertexOf corners) y ∙ e))) b z));
           own = λ u d a b z.
-              put once lowestHere v c (λ x. vertexOf corners x ≡ u) u (omega arith) (λ q. e ∙ sym q)
+              note-put once lowestHere v c (λ x. vertexOf corners x ≡ u) u (omega arith) (λ q. e ∙ sym q)
               (λ q. ap (vertexOf corners) (lowests u) ∙ k .own u d (above d a (λ y. q (sym z ∙ ap (vertexOf corners) y ∙ e))) b z);
         }
       where

@@ -24,14 +24,15 @@ use Rattle.mesh.proofs.Rings.{count-none}
 use Rattle.mesh.proofs.Faces.{next-below, previous-below, next-previous, previous-next}
 use Rattle.mesh.proofs.Links.{unique, reverse-in, reverse-vertex, reverse-to, link-is}
 use Rattle.mesh.proofs.Verdicts.{lowest-hit, lowest-none, lowest-sound, orElse-fault, orElse-sound, unsound}
-use Rattle.walk.specs.Table.{rowLength, toNext, toPrevious, toLink, sidesHere, valenceHere, entry, Column, Kept}
+use Rattle.walk.specs.Table.{rowLength, toNext, toPrevious, toLink, sidesHere, valenceHere, entry, Column}
 use Rattle.walk.proofs.Table.{put, kept-put}
-use Rattle.checks.specs.columns.Vertices.{lastHere, leavingHere, arrivingHere, countHere, lowestHere}
-use Rattle.checks.specs.columns.Chain.{earlierOf, EarliersFrom, LastsTo, Chain, Chained, Clear}
+use Rattle.checks.specs.columns.Vertices.{vertexRow, lastHere, leavingHere, arrivingHere, countHere, lowestHere, noted, NotesKept}
+use Rattle.checks.specs.columns.Chain.{earlierOf, EarliersFrom, lastOf, Chain, Chained, Clear}
 use Rattle.checks.specs.columns.Filled.{CornersCounted}
-use Rattle.checks.proofs.columns.Chains.{On, above-head, at-vertex, on-falls, on-from}
+use Rattle.checks.proofs.columns.Notes.{note-put, note-kept}
+use Rattle.checks.proofs.columns.Chains.{On, above-head, at-vertex, on-falls, on-from, chained-own}
 use Rattle.checks.specs.edges.Entries.{repeated, alone, Entry, again, single, joined, Entries, has, Unrepeated, Reversed, to, from, Searchable}
-use Rattle.checks.specs.edges.Entries.{ChainsFrom, Row, Keyed, BothKeyed, Hit, Marked, MarkedFrom, CountedAt, Unmarked, Ends, EntryFor}
+use Rattle.checks.specs.edges.Entries.{ChainsFrom, HeadsFrom, Row, Keyed, BothKeyed, Hit, Marked, MarkedFrom, CountedAt, Unmarked, Ends, EntryFor}
 use Rattle.checks.specs.edges.Entries.{FacesKept, Collected, Found, EdgesChecked}
 
 -- ---- marking
@@ -68,112 +69,102 @@ module _ (corners : List ℕ) (earlier last : ℕ → ℕ) (k : Chained corners 
       (λ q. let ne : d ≡ at - 1 → ⊥ = λ e. q (ap key e) in f d (omega (arith, ne, l)) b v)
 
 -- both columns
-pub marked-none : (corners table vertices : List ℕ) → Chained corners (earlierOf corners) (entry vertices lastHere) → (u : ℕ)
-    → BothKeyed corners table vertices → MarkedFrom corners table vertices u (entry vertices lastHere u)
+pub marked-none : (corners table vertices : List ℕ) (u : ℕ) → BothKeyed corners table vertices → MarkedFrom corners table vertices u (lastOf corners u)
 unfolding Marked
-marked-none corners table vertices k u m =
-    record {
-      keyed = m;
-      left-from = λ d a b v. absurd (above-head corners (earlierOf corners) (entry vertices lastHere) k u d a b v);
-      arrived-from = λ d a b v. absurd (above-head corners (earlierOf corners) (entry vertices lastHere) k u d a b v);
-    }
+marked-none corners table vertices u m =
+    let above = above-head corners (earlierOf corners) (lastOf corners) (chained-own corners) u in
+    record { keyed = m; left-from = λ d a b v. absurd (above d a b v); arrived-from = λ d a b v. absurd (above d a b v) }
 
 -- the columns that marking does not use
 pub record RowsKept (old new : List ℕ) : Type 0 where
-  pub lasts : Kept old new lastHere
-  pub counts : Kept old new countHere
-  pub lowests : Kept old new lowestHere
+  pub heads : NotesKept old new lastHere
+  pub counts : NotesKept old new countHere
 
-module _ (corners table : List ℕ) (last : ℕ → ℕ) (k : Chained corners (earlierOf corners) last) (vertices : List ℕ) (u at : ℕ)
+module _ (corners table vertices : List ℕ) (u at : ℕ)
     (o : On corners u at) (n : at ≡ 0 → ⊥) (t f : ℕ) (et : t ≡ to corners table (at - 1)) (ef : f ≡ from corners table (at - 1))
-    (rt : rowLength * t + rowLength ≤ length vertices) (rf : rowLength * f + rowLength ≤ length vertices) where
-  both-kept : (j : ℕ) → j < rowLength → (j ≡ leavingHere → ⊥) → (j ≡ arrivingHere → ⊥)
-      → Kept vertices (set (set vertices (rowLength * t + leavingHere) at) (rowLength * f + arrivingHere) at) j
+    (rt : vertexRow * t + vertexRow ≤ length vertices) (rf : vertexRow * f + vertexRow ≤ length vertices) where
+  both-kept : (j : ℕ) → j < vertexRow → (j ≡ leavingHere → ⊥) → (j ≡ arrivingHere → ⊥)
+      → NotesKept vertices (set (set vertices (vertexRow * t + leavingHere) at) (vertexRow * f + arrivingHere) at) j
   both-kept j l p q c =
-      kept-put (set vertices (rowLength * t + leavingHere) at) arrivingHere f at (omega arith) j l q c
-      ∙ kept-put vertices leavingHere t at (omega arith) j l p c
+      note-kept (set vertices (vertexRow * t + leavingHere) at) arrivingHere f at (omega arith) j l q c
+      ∙ note-kept vertices leavingHere t at (omega arith) j l p c
 
   pub rows-more : (old : List ℕ) → RowsKept old vertices
-      → RowsKept old (set (set vertices (rowLength * t + leavingHere) at) (rowLength * f + arrivingHere) at)
+      → RowsKept old (set (set vertices (vertexRow * t + leavingHere) at) (vertexRow * f + arrivingHere) at)
   rows-more old m =
       record {
-        lasts = λ c. both-kept lastHere (omega arith) (λ q. omega arith) (λ q. omega arith) c ∙ m .lasts c;
+        heads = λ c. both-kept lastHere (omega arith) (λ q. omega arith) (λ q. omega arith) c ∙ m .heads c;
         counts = λ c. both-kept countHere (omega arith) (λ q. omega arith) (λ q. omega arith) c ∙ m .counts c;
-        lowests = λ c. both-kept lowestHere (omega arith) (λ q. omega arith) (λ q. omega arith) c ∙ m .lowests c;
       }
 
-  leaving-stored : (P : ℕ → Type 0) (j : ℕ) → (j ≡ to corners table (at - 1) → P at) → ((j ≡ to corners table (at - 1) → ⊥) → P (entry vertices leavingHere j))
-      → P (entry (set (set vertices (rowLength * t + leavingHere) at) (rowLength * f + arrivingHere) at) leavingHere j)
+  leaving-stored : (P : ℕ → Type 0) (j : ℕ) → (j ≡ to corners table (at - 1) → P at) → ((j ≡ to corners table (at - 1) → ⊥) → P (noted vertices leavingHere j))
+      → P (noted (set (set vertices (vertexRow * t + leavingHere) at) (vertexRow * f + arrivingHere) at) leavingHere j)
   leaving-stored P j same other =
-      subst P (sym (kept-put (set vertices (rowLength * t + leavingHere) at) arrivingHere f at (omega arith) leavingHere (omega arith) (λ q. omega arith) j))
-      (put vertices leavingHere t at P j (omega arith) (λ q. same (q ∙ et)) (λ q. other (λ z. q (z ∙ sym et))))
+      subst P (sym (note-kept (set vertices (vertexRow * t + leavingHere) at) arrivingHere f at (omega arith) leavingHere (omega arith) (λ q. omega arith) j))
+      (note-put vertices leavingHere t at P j (omega arith) (λ q. same (q ∙ et)) (λ q. other (λ z. q (z ∙ sym et))))
 
   arriving-stored : (P : ℕ → Type 0) (j : ℕ) → (j ≡ from corners table (at - 1) → P at) →
-      ((j ≡ from corners table (at - 1) → ⊥) → P (entry vertices arrivingHere j))
-      → P (entry (set (set vertices (rowLength * t + leavingHere) at) (rowLength * f + arrivingHere) at) arrivingHere j)
+      ((j ≡ from corners table (at - 1) → ⊥) → P (noted vertices arrivingHere j))
+      → P (noted (set (set vertices (vertexRow * t + leavingHere) at) (vertexRow * f + arrivingHere) at) arrivingHere j)
   arriving-stored P j same other =
-      put (set vertices (rowLength * t + leavingHere) at) arrivingHere f at P j
-      (omega (arith, length-set vertices (rowLength * t + leavingHere) at)) (λ q. same (q ∙ ef))
-      (λ q. subst P (sym (kept-put vertices leavingHere t at (omega arith) arrivingHere (omega arith) (λ q. omega arith) j)) (other (λ z. q (z ∙ sym ef))))
+      note-put (set vertices (vertexRow * t + leavingHere) at) arrivingHere f at P j
+      (omega (arith, length-set vertices (vertexRow * t + leavingHere) at)) (λ q. same (q ∙ ef))
+      (λ q. subst P (sym (note-kept vertices leavingHere t at (omega arith) arrivingHere (omega arith) (λ q. omega arith) j)) (other (λ z. q (z ∙ sym ef))))
 
   pub marked-more : MarkedFrom corners table vertices u at
-      → MarkedFrom corners table (set (set vertices (rowLength * t + leavingHere) at) (rowLength * f + arrivingHere) at) u (earlierOf corners (at - 1))
+      → MarkedFrom corners table (set (set vertices (vertexRow * t + leavingHere) at) (vertexRow * f + arrivingHere) at) u (earlierOf corners (at - 1))
   marked-more m =
+      let keyed = keyed-step corners (earlierOf corners) (lastOf corners) (chained-own corners) u at o n in
+      let marked = marked-step corners (earlierOf corners) (lastOf corners) (chained-own corners) u at o n in
       record {
         keyed = record {
-          left = keyed-step corners (earlierOf corners) last k u at o n (to corners table) (entry vertices leavingHere) _ leaving-stored (m .keyed .left);
-          arrived =
-              keyed-step corners (earlierOf corners) last k u at o n (from corners table) (entry vertices arrivingHere) _ arriving-stored
-              (m .keyed .arrived);
+          left = keyed (to corners table) (noted vertices leavingHere) _ leaving-stored (m .keyed .left);
+          arrived = keyed (from corners table) (noted vertices arrivingHere) _ arriving-stored (m .keyed .arrived);
         };
-        left-from =
-            marked-step corners (earlierOf corners) last k u at o n (to corners table) (entry vertices leavingHere) _ leaving-stored (m .left-from);
-        arrived-from =
-            marked-step corners (earlierOf corners) last k u at o n (from corners table) (entry vertices arrivingHere) _ arriving-stored
-            (m .arrived-from);
+        left-from = marked (to corners table) (noted vertices leavingHere) _ leaving-stored (m .left-from);
+        arrived-from = marked (from corners table) (noted vertices arrivingHere) _ arriving-stored (m .arrived-from);
       }
 
 -- ---- what is noted of u: n corners, and the lowest
-abbrev pub noted : List ℕ → ℕ → ℕ → ℕ → List ℕ
-noted vertices u n low = set (set vertices (rowLength * u + countHere) n) (rowLength * u + lowestHere) low
+abbrev pub noting : List ℕ → ℕ → ℕ → ℕ → List ℕ
+noting vertices u n low = set (set vertices (vertexRow * u + countHere) n) (vertexRow * u + lowestHere) low
 
 module _ (corners table vertices : List ℕ) (u n low : ℕ) (r : Row vertices u) where
-  noted-kept : (j : ℕ) → j < rowLength → (j ≡ countHere → ⊥) → (j ≡ lowestHere → ⊥) → Kept vertices (noted vertices u n low) j
+  noted-kept : (j : ℕ) → j < vertexRow → (j ≡ countHere → ⊥) → (j ≡ lowestHere → ⊥) → NotesKept vertices (noting vertices u n low) j
   noted-kept j l p q c =
-      kept-put (set vertices (rowLength * u + countHere) n) lowestHere u low (omega arith) j l q c
-      ∙ kept-put vertices countHere u n (omega arith) j l p c
+      note-kept (set vertices (vertexRow * u + countHere) n) lowestHere u low (omega arith) j l q c
+      ∙ note-kept vertices countHere u n (omega arith) j l p c
 
-  noted-long : length (set vertices (rowLength * u + countHere) n) ≡ length vertices
-  noted-long = length-set vertices (rowLength * u + countHere) n
+  noted-long : length (set vertices (vertexRow * u + countHere) n) ≡ length vertices
+  noted-long = length-set vertices (vertexRow * u + countHere) n
 
-  noted-count : (P : ℕ → Type 0) (v : ℕ) → (v ≡ u → P n) → ((v ≡ u → ⊥) → P (entry vertices countHere v)) → P (entry (noted vertices u n low) countHere v)
+  noted-count : (P : ℕ → Type 0) (v : ℕ) → (v ≡ u → P n) → ((v ≡ u → ⊥) → P (noted vertices countHere v)) → P (noted (noting vertices u n low) countHere v)
   noted-count P v same other =
-      subst P (sym (kept-put (set vertices (rowLength * u + countHere) n) lowestHere u low (omega arith) countHere (omega arith) (λ q. omega arith) v))
-      (put vertices countHere u n P v (omega arith) same other)
+      subst P (sym (note-kept (set vertices (vertexRow * u + countHere) n) lowestHere u low (omega arith) countHere (omega arith) (λ q. omega arith) v))
+      (note-put vertices countHere u n P v (omega arith) same other)
 
-  noted-lowest : (P : ℕ → Type 0) (v : ℕ) → (v ≡ u → P low) → ((v ≡ u → ⊥) → P (entry vertices lowestHere v))
-      → P (entry (noted vertices u n low) lowestHere v)
+  noted-lowest : (P : ℕ → Type 0) (v : ℕ) → (v ≡ u → P low) → ((v ≡ u → ⊥) → P (noted vertices lowestHere v))
+      → P (noted (noting vertices u n low) lowestHere v)
   noted-lowest P v same other =
-      put (set vertices (rowLength * u + countHere) n) lowestHere u low P v (omega (arith, noted-long)) same
-      (λ q. subst P (sym (kept-put vertices countHere u n (omega arith) lowestHere (omega arith) (λ z. omega arith) v)) (other q))
+      note-put (set vertices (vertexRow * u + countHere) n) lowestHere u low P v (omega (arith, noted-long)) same
+      (λ q. subst P (sym (note-kept vertices countHere u n (omega arith) lowestHere (omega arith) (λ z. omega arith) v)) (other q))
 
-  pub noted-at : n ≡ valence corners u → (lowest corners u < length corners → low ≡ lowest corners u) → CountedAt corners (noted vertices u n low) u
+  pub noted-at : n ≡ valence corners u → (lowest corners u < length corners → low ≡ lowest corners u) → CountedAt corners (noting vertices u n low) u
   noted-at e f =
       record {
         count-is = noted-count (λ x. x ≡ valence corners u) u (λ q. e) (λ q. absurd (q refl));
         lowest-is = λ h. noted-lowest (λ x. x ≡ lowest corners u) u (λ q. f h) (λ q. absurd (q refl));
       }
 
-  pub noted-rest : (old : List ℕ) → RowsKept old vertices → Unmarked old (noted vertices u n low) u
+  pub noted-rest : (old : List ℕ) → RowsKept old vertices → Unmarked old (noting vertices u n low) u
   noted-rest old k =
       record {
-        lasts = λ c. noted-kept lastHere (omega arith) (λ q. omega arith) (λ q. omega arith) c ∙ k .lasts c;
-        counts = λ v m. noted-count (λ x. x ≡ entry old countHere v) v (λ q. absurd (m q)) (λ q. k .counts v);
-        lowests = λ v m. noted-lowest (λ x. x ≡ entry old lowestHere v) v (λ q. absurd (m q)) (λ q. k .lowests v);
+        heads = λ v m. noted-lowest (λ x. x ≡ noted old lastHere v) v (λ q. absurd (m q)) (λ q. k .heads v);
+        counts = λ v m. noted-count (λ x. x ≡ noted old countHere v) v (λ q. absurd (m q)) (λ q. k .counts v);
       }
 
   -- the marks stand in other columns
-  pub noted-marks : (at : ℕ) → MarkedFrom corners table vertices u at → MarkedFrom corners table (noted vertices u n low) u at
+  pub noted-marks : (at : ℕ) → MarkedFrom corners table vertices u at → MarkedFrom corners table (noting vertices u n low) u at
   unfolding Marked
   noted-marks at m =
       let l = noted-kept leavingHere (omega arith) (λ q. omega arith) (λ q. omega arith) in
@@ -221,8 +212,11 @@ module _ (sides corners : List ℕ) (s : sumOf sides ≡ length corners) (c : �
       ap not (some-true (length corners) (reverseEdge sides corners c) (previous sides d) (omega (arith, b)) (linked-reverse d l e))
 
 -- the entry of a corner whose vertex is marked
-module _ (corners table vertices : List ℕ) (c : ℕ) (h : c < length corners) (m : MarkedFrom corners table vertices (vertexOf corners c) 0)
+module _ (corners table vertices : List ℕ) (u c : ℕ) (h : c < length corners) (v : u ≡ vertexOf corners c) (marked : MarkedFrom corners table vertices u 0)
     (sides : List ℕ) (e : Ends sides corners table) where
+  m : MarkedFrom corners table vertices (vertexOf corners c) 0
+  m = subst (λ (x : ℕ). MarkedFrom corners table vertices x 0) v marked
+
   leaves : (d : ℕ) → d < length corners → to corners table d ≡ leavesTo sides corners d
   unfolding leavesTo
   leaves d l = ap (vertexOf corners) (e .nexts d l)
@@ -231,14 +225,14 @@ module _ (corners table vertices : List ℕ) (c : ℕ) (h : c < length corners) 
   unfolding arrivesFrom
   arrives d l = ap (vertexOf corners) (e .previouses d l)
 
-  first : Hit corners (vertexOf corners c) c (entry vertices leavingHere (to corners table c))
+  first : Hit corners (vertexOf corners c) c (noted vertices leavingHere (to corners table c))
   unfolding Marked
   first = m .left-from c (omega arith) h refl
 
-  pub entry-again : (entry vertices leavingHere (to corners table c) ≡ c + 1 → ⊥) → Entry sides corners c repeated
+  pub entry-again : (noted vertices leavingHere (to corners table c) ≡ c + 1 → ⊥) → Entry sides corners c repeated
   unfolding fault10 sameEdge
   entry-again ne =
-      let x = entry vertices leavingHere (to corners table c) in
+      let x = noted vertices leavingHere (to corners table c) in
       let k = m .keyed .left .inside (to corners table c) (first .some) in
       let l : x - 1 < c = omega (arith, ne, first .some, first .low) in
       again
@@ -247,7 +241,7 @@ module _ (corners table vertices : List ℕ) (c : ℕ) (h : c < length corners) 
       (eq-eqb (leavesTo sides corners (x - 1)) (leavesTo sides corners c)
       (sym (leaves (x - 1) (omega arith)) ∙ m .keyed .left .key-is (to corners table c) (first .some) ∙ leaves c h))))
 
-  once : entry vertices leavingHere (to corners table c) ≡ c + 1 → fault10 sides corners c ≡ false
+  once : noted vertices leavingHere (to corners table c) ≡ c + 1 → fault10 sides corners c ≡ false
   unfolding fault10 sameEdge Marked
   once q =
       some-false c (sameEdge sides corners c) (λ j l.
@@ -257,13 +251,13 @@ module _ (corners table vertices : List ℕ) (c : ℕ) (h : c < length corners) 
       let t : leavesTo sides corners j ≡ leavesTo sides corners c =
       eqb-true _ _ (and-right (eqb (vertexOf corners j) (vertexOf corners c)) _ b) in
       let r : to corners table j ≡ to corners table c = leaves j (omega arith) ∙ t ∙ sym (leaves c h) in
-      absurd (omega (arith, m .left-from j (omega arith) (omega arith) w .low, ap (entry vertices leavingHere) r)))
+      absurd (omega (arith, m .left-from j (omega arith) (omega arith) w .low, ap (noted vertices leavingHere) r)))
       (λ b. b)
       (ways (sameEdge sides corners c j)))
 
-  pub entry-single : entry vertices leavingHere (to corners table c) ≡ c + 1
-      → ((entry vertices arrivingHere (to corners table c) ≡ 0 → ⊥)
-      → vertexOf corners (entry vertices arrivingHere (to corners table c) - 1) ≡ vertexOf corners c → ⊥) → Entry sides corners c alone
+  pub entry-single : noted vertices leavingHere (to corners table c) ≡ c + 1
+      → ((noted vertices arrivingHere (to corners table c) ≡ 0 → ⊥)
+      → vertexOf corners (noted vertices arrivingHere (to corners table c) - 1) ≡ u → ⊥) → Entry sides corners c alone
   unfolding linked Marked
   entry-single q ne =
       single (once q)
@@ -274,20 +268,20 @@ module _ (corners table vertices : List ℕ) (c : ℕ) (h : c < length corners) 
       let t : arrivesFrom sides corners d ≡ leavesTo sides corners c =
       eqb-true _ _ (and-right (eqb (vertexOf corners d) (vertexOf corners c)) _ b) in
       let r : from corners table d ≡ to corners table c = arrives d l ∙ t ∙ sym (leaves c h) in
-      let k = subst (λ (x : ℕ). Hit corners (vertexOf corners c) d (entry vertices arrivingHere x)) r (m .arrived-from d (omega arith) l w) in
-      absurd (ne (k .some) (k .own)))
+      let k = subst (λ (x : ℕ). Hit corners (vertexOf corners c) d (noted vertices arrivingHere x)) r (m .arrived-from d (omega arith) l w) in
+      absurd (ne (k .some) (k .own ∙ sym v)))
       (λ b. b)
       (ways (linked sides corners c d))))
 
-  pub entry-joined : entry vertices leavingHere (to corners table c) ≡ c + 1 → (entry vertices arrivingHere (to corners table c) ≡ 0 → ⊥)
-      → vertexOf corners (entry vertices arrivingHere (to corners table c) - 1) ≡ vertexOf corners c
-      → Entry sides corners c (entry vertices arrivingHere (to corners table c) - 1)
+  pub entry-joined : noted vertices leavingHere (to corners table c) ≡ c + 1 → (noted vertices arrivingHere (to corners table c) ≡ 0 → ⊥)
+      → vertexOf corners (noted vertices arrivingHere (to corners table c) - 1) ≡ u
+      → Entry sides corners c (noted vertices arrivingHere (to corners table c) - 1)
   unfolding linked
   entry-joined q n w =
-      let x = entry vertices arrivingHere (to corners table c) in
+      let x = noted vertices arrivingHere (to corners table c) in
       let l : x - 1 < length corners = omega (arith, n, m .keyed .arrived .inside (to corners table c) n) in
       joined (once q) (x - 1) l
-      (and-true _ _ (eq-eqb (vertexOf corners (x - 1)) (vertexOf corners c) w)
+      (and-true _ _ (eq-eqb (vertexOf corners (x - 1)) (vertexOf corners c) (w ∙ v))
       (eq-eqb (arrivesFrom sides corners (x - 1)) (leavesTo sides corners c)
       (sym (arrives (x - 1) l) ∙ m .keyed .arrived .key-is (to corners table c) n ∙ leaves c h)))
 
@@ -337,21 +331,19 @@ module _ (corners old new : List ℕ) (k : FacesKept old new) where
   marked-on vertices u at m =
       record {
         keyed = both-keyed-on vertices (m .keyed);
-        left-from = λ d a b v. subst (λ (x : ℕ). Hit corners u d (entry vertices leavingHere x)) (sym (to-kept d)) (m .left-from d a b v);
-        arrived-from = λ d a b v. subst (λ (x : ℕ). Hit corners u d (entry vertices arrivingHere x)) (sym (from-kept d)) (m .arrived-from d a b v);
+        left-from = λ d a b v. subst (λ (x : ℕ). Hit corners u d (noted vertices leavingHere x)) (sym (to-kept d)) (m .left-from d a b v);
+        arrived-from = λ d a b v. subst (λ (x : ℕ). Hit corners u d (noted vertices arrivingHere x)) (sym (from-kept d)) (m .arrived-from d a b v);
       }
 
-  pub searchable-on : (before after : List ℕ) → length new ≡ length old → length after ≡ length before → Kept before after lastHere
+  pub searchable-on : (before after : List ℕ) → length new ≡ length old → length after ≡ length before
       → Searchable corners old before → Searchable corners new after
-  unfolding LastsTo
-  searchable-on before after ln lv kl s =
+  searchable-on before after ln lv s =
       record {
         small = s .small;
         long = omega (arith, s .long);
         rowed = λ c l. omega (arith, s .rowed c l);
         nexts-in = λ c l. omega (arith, k .nexts c, s .nexts-in c l);
         previouses-in = λ c l. omega (arith, k .previouses c, s .previouses-in c l);
-        lasts = λ u. kl u ∙ s .lasts u;
       }
 
   pub entry-back : (c x : ℕ) → EntryFor corners new c x → EntryFor corners old c x
@@ -368,13 +360,14 @@ pub record CollectedFrom (corners old new : List ℕ) (u n at : ℕ) : Type 0 wh
   pub chains : (c : ℕ) → (vertexOf corners c ≡ u → at ≤ c → ⊥) → entry new valenceHere c ≡ entry old valenceHere c
   pub faces : FacesKept old new
 
-module _ (corners old : List ℕ) (last : ℕ → ℕ) (k : Chained corners (earlierOf corners) last) (u n : ℕ) where
-  pub collected-none : CollectedFrom corners old old u n (last u)
+module _ (corners old : List ℕ) (u n : ℕ) where
+  pub collected-none : CollectedFrom corners old old u n (lastOf corners u)
   collected-none =
+      let above = above-head corners (earlierOf corners) (lastOf corners) (chained-own corners) u in
       record {
-        entries = λ c h v a. absurd (above-head corners (earlierOf corners) last k u c a h v);
+        entries = λ c h v a. absurd (above c a h v);
         others = λ c m. refl;
-        valences = λ c h v a. absurd (above-head corners (earlierOf corners) last k u c a h v);
+        valences = λ c h v a. absurd (above c a h v);
         chains = λ c m. refl;
         faces = faces-same old;
       }
@@ -393,14 +386,14 @@ module _ (corners old : List ℕ) (last : ℕ → ℕ) (k : Chained corners (ear
           let size : length once ≡ length new = length-set new (rowLength * (at - 1) + toLink) x in
           let first = kept-put new toLink (at - 1) x (omega arith) in
           let second = kept-put once valenceHere (at - 1) n (omega arith) in
-          let v = at-vertex corners (earlierOf corners) last k u at o z in
-          let falls = on-falls corners (earlierOf corners) last k u at o z in
+          let v = at-vertex corners (earlierOf corners) (lastOf corners) (chained-own corners) u at o z in
+          let falls = on-falls corners (earlierOf corners) (lastOf corners) (chained-own corners) u at o z in
           record {
             entries = λ c l e a.
                 subst (EntryFor corners old c) (sym (second toLink (omega arith) (λ q. omega arith) c))
                 (put new toLink (at - 1) x (EntryFor corners old c) c (omega arith)
                 (λ q. subst (λ (y : ℕ). EntryFor corners old y x) (sym q) w)
-                (λ q. t .entries c l e (omega (arith, q, on-from corners (earlierOf corners) last k u at o z c a e))));
+                (λ q. t .entries c l e (omega (arith, q, on-from corners (earlierOf corners) (lastOf corners) (chained-own corners) u at o z c a e))));
             others = λ c m.
                 second toLink (omega arith) (λ q. omega arith) c
                 ∙ put new toLink (at - 1) x (λ y. y ≡ entry old toLink c) c (omega arith)
@@ -409,7 +402,7 @@ module _ (corners old : List ℕ) (last : ℕ → ℕ) (k : Chained corners (ear
             valences = λ c l e a.
                 put once valenceHere (at - 1) n (λ y. y ≡ n) c (omega arith) (λ q. refl)
                 (λ q. first valenceHere (omega arith) (λ y. omega arith) c
-                ∙ t .valences c l e (omega (arith, q, on-from corners (earlierOf corners) last k u at o z c a e)));
+                ∙ t .valences c l e (omega (arith, q, on-from corners (earlierOf corners) (lastOf corners) (chained-own corners) u at o z c a e)));
             chains = λ c m.
                 put once valenceHere (at - 1) n (λ y. y ≡ entry old valenceHere c) c (omega arith)
                 (λ q. absurd (m (ap (vertexOf corners) q ∙ v) (omega (arith, q, falls))))
@@ -441,9 +434,9 @@ pub ValencesBelow : List ℕ → List ℕ → ℕ → Type 0
 ValencesBelow corners table u = (c : ℕ) → c < length corners → vertexOf corners c < u → entry table valenceHere c ≡ valence corners (vertexOf corners c)
 
 pub record CountedBelow (corners vertices : List ℕ) (u : ℕ) : Type 0 where
-  pub counts : (v : ℕ) → v < u → entry vertices countHere v ≡ valence corners v
-  pub lowests : (v : ℕ) → v < u → lowest corners v < length corners → entry vertices lowestHere v ≡ lowest corners v
-  pub clear : (v : ℕ) → u ≤ v → entry vertices countHere v ≡ 0
+  pub counts : (v : ℕ) → v < u → noted vertices countHere v ≡ valence corners v
+  pub lowests : (v : ℕ) → v < u → lowest corners v < length corners → noted vertices lowestHere v ≡ lowest corners v
+  pub clear : (v : ℕ) → u ≤ v → noted vertices countHere v ≡ 0
 
 -- below u + 1 is u, or below u
 upTo : (P : ℕ → Type 0) (v u : ℕ) → v < u + 1 → (v ≡ u → P v) → (v < u → P v) → P v
@@ -482,17 +475,20 @@ module _ (corners : List ℕ) where
     unfolding EarliersFrom
     chains-more f c h v = t .chains c (λ q. omega arith) ∙ f c h (omega arith)
 
+  pub heads-more : (old new : List ℕ) (u : ℕ) → Unmarked old new u → HeadsFrom corners old u → HeadsFrom corners new (u + 1)
+  heads-more old new u m f v l = m .heads v (λ q. omega arith) ∙ f v (omega arith)
+
   pub counted-more : (old new : List ℕ) (u : ℕ) → CountedAt corners new u → Unmarked old new u → CountedBelow corners old u → CountedBelow corners new (u + 1)
   counted-more old new u a m b =
       record {
         counts = λ v l.
-            upTo (λ w. entry new countHere w ≡ valence corners w) v u l
-            (λ q. subst (λ (w : ℕ). entry new countHere w ≡ valence corners w) (sym q) (a .count-is))
+            upTo (λ w. noted new countHere w ≡ valence corners w) v u l
+            (λ q. subst (λ (w : ℕ). noted new countHere w ≡ valence corners w) (sym q) (a .count-is))
             (λ k. m .counts v (λ q. omega arith) ∙ b .counts v k);
         lowests = λ v l.
-            upTo (λ w. lowest corners w < length corners → entry new lowestHere w ≡ lowest corners w) v u l
-            (λ q. subst (λ (w : ℕ). lowest corners w < length corners → entry new lowestHere w ≡ lowest corners w) (sym q) (a .lowest-is))
-            (λ k h. m .lowests v (λ q. omega arith) ∙ b .lowests v k h);
+            upTo (λ w. lowest corners w < length corners → noted new lowestHere w ≡ lowest corners w) v u l
+            (λ q. subst (λ (w : ℕ). lowest corners w < length corners → noted new lowestHere w ≡ lowest corners w) (sym q) (a .lowest-is))
+            (λ k h. m .heads v (λ q. omega arith) ∙ b .lowests v k h);
         clear = λ v l. m .counts v (λ q. omega arith) ∙ b .clear v (omega arith);
       }
 

@@ -16,8 +16,8 @@ use Rattle.paper.specs.Faults.{fault, lowestOf, fault9, sameVertexFrom}
 use Rattle.mesh.proofs.Scans.{ways, some-true, some-false, fails-step}
 use Rattle.mesh.proofs.Faces.{face-at}
 use Rattle.mesh.proofs.Verdicts.{lowest-hit}
-use Rattle.walk.specs.Table.{rowLength, valenceHere, entry, Kept, Blank}
-use Rattle.checks.specs.columns.Vertices.{lastHere}
+use Rattle.walk.specs.Table.{rowLength, valenceHere, Kept, Blank}
+use Rattle.checks.specs.columns.Vertices.{vertexRow, lastHere, noted}
 use Rattle.checks.specs.columns.Chain.{lastBelow}
 use Rattle.checks.proofs.columns.Chains.{last-le, last-passes, last-above, ChainsTo, chains-none, chains-kept, chains-step, last-is}
 
@@ -66,16 +66,16 @@ module _ (sides corners table vertices : List ℕ) (f c start : ℕ) (l : f < le
       ap (λ (x : ℕ). someBelow c (sameVertexFrom (startOf sides x) corners c)) (face-at sides f c (omega arith) (omega arith) l)
       ∙ ap (λ (x : ℕ). someBelow c (sameVertexFrom x corners c)) (sym s)
 
-  met : entry vertices lastHere (vertexOf corners c) ≡ lastBelow c (names corners (vertexOf corners c))
+  met : noted vertices lastHere (vertexOf corners c) ≡ lastBelow c (names corners (vertexOf corners c))
   met = last-is corners table vertices c (p .chains)
 
-  pub doubled : c < length corners → start < entry vertices lastHere (vertexOf corners c) → lowestOf 9 (length corners) (fault9 sides corners) ≡ fault 9 c
+  pub doubled : c < length corners → start < noted vertices lastHere (vertexOf corners c) → lowestOf 9 (length corners) (fault9 sides corners) ≡ fault 9 c
   doubled i q = lowest-hit 9 (length corners) (fault9 sides corners) c i (in-face ∙ repeated start corners c _ met q) (p .faultless)
 
-  pub passed-step : rowLength * c + valenceHere < length table → rowLength * vertexOf corners c + lastHere < length vertices
-      → entry vertices lastHere (vertexOf corners c) ≤ start
-      → Passed sides corners (set table (rowLength * c + valenceHere) (entry vertices lastHere (vertexOf corners c)))
-      (set vertices (rowLength * vertexOf corners c + lastHere) (c + 1)) (c + 1)
+  pub passed-step : rowLength * c + valenceHere < length table → vertexRow * vertexOf corners c + lastHere < length vertices
+      → noted vertices lastHere (vertexOf corners c) ≤ start
+      → Passed sides corners (set table (rowLength * c + valenceHere) (noted vertices lastHere (vertexOf corners c)))
+      (set vertices (vertexRow * vertexOf corners c + lastHere) (c + 1)) (c + 1)
   passed-step ht hv q =
       record {
         chains = chains-step corners table vertices c (p .chains) ht hv;

@@ -15,15 +15,15 @@ use Rattle.paper.specs.Mesh.{leastSides}
 use Rattle.paper.specs.Links.{vertexOf, names, link, valence, lowest}
 use Rattle.paper.specs.Faults.{fault12, fault13, after, ringLength, met, sound, fault, lowestOf, stated}
 use Rattle.paper.specs.declared.Answer.{Answer}
-use Rattle.paper.specs.declared.Answer.the-variants.{Done, Refused}
+use Rattle.paper.specs.declared.Answer.the-variants.{Refused}
 use Rattle.mesh.specs.Closed.{Closed}
 use Rattle.mesh.proofs.Scans.{first-passes, first-fails, some-false, ways, compared, first-none, first-at, first-le-all, fails-step}
 use Rattle.mesh.proofs.Rings.{Turns, period-le, comes-back, met-all, count-none, iterate-zero, iterate-suc}
 use Rattle.mesh.proofs.Links.{link-in}
 use Rattle.mesh.proofs.Accepted.{turns, ring-full, valence-within}
-use Rattle.mesh.proofs.Verdicts.{lowest-hit, lowest-none, lowest-sound, unsound, stop, past}
+use Rattle.mesh.proofs.Verdicts.{lowest-hit, lowest-none, lowest-sound, stop, past}
 use Rattle.walk.specs.Table.{toLink, entry, Column}
-use Rattle.checks.specs.columns.Vertices.{countHere, lowestHere}
+use Rattle.checks.specs.columns.Vertices.{countHere, lowestHere, noted}
 use Rattle.checks.specs.columns.Filled.{CornersCounted}
 use Rattle.checks.specs.vertices.Ring.{ringWithin, Cornered, Ringed, VerticesChecked}
 
@@ -136,19 +136,19 @@ module _ (corners table : List ℕ) where
 
   module _ (u count : ℕ) (w : Whole corners table u) (f : Cornered corners count) (l : u < count)
       (vertices : List ℕ) (g : CornersCounted corners vertices) (len : ℕ)
-      (en : len ≡ ringWithin (entry table toLink) (entry vertices lowestHere u) (entry vertices countHere u)) where
+      (en : len ≡ ringWithin (entry table toLink) (noted vertices lowestHere u) (noted vertices countHere u)) where
     len-is : len ≡ ringWithin (entry table toLink) (lowest corners u) (valence corners u)
     len-is =
-        en ∙ ap (λ (x : ℕ). ringWithin (entry table toLink) x (entry vertices countHere u)) (g .lowest-is u (lowest-in corners u (f u l)))
+        en ∙ ap (λ (x : ℕ). ringWithin (entry table toLink) x (noted vertices countHere u)) (g .lowest-is u (lowest-in corners u (f u l)))
         ∙ ap (ringWithin (entry table toLink) (lowest corners u)) (g .count-is u)
 
-    pub whole-more : len ≡ entry vertices countHere u → Whole corners table (u + 1)
+    pub whole-more : len ≡ noted vertices countHere u → Whole corners table (u + 1)
     unfolding Whole
     whole-more e sides k t =
         fails-step (fault13 sides corners) u (w sides k t)
         (whole-ring sides corners table k t u (f u l) (sym len-is ∙ e ∙ g .count-is u))
 
-    pub whole-torn : (len ≡ entry vertices countHere u → ⊥)
+    pub whole-torn : (len ≡ noted vertices countHere u → ⊥)
         → (sides : List ℕ) → Closed sides corners → Column table toLink (link sides corners) (length corners) → fault 13 u ≡ lowestOf 13 count
         (fault13 sides corners)
     unfolding Whole

@@ -8,7 +8,7 @@ use lib.ListN.{length}
 use Rattle.paper.specs.Scan.{pickN}
 use Rattle.paper.specs.Links.{vertexOf, names}
 use Rattle.walk.specs.Table.{valenceHere, entry}
-use Rattle.checks.specs.columns.Vertices.{lastHere, leavingHere, arrivingHere, countHere}
+use Rattle.checks.specs.columns.Vertices.{lastHere, leavingHere, arrivingHere, countHere, noted}
 
 -- one more than the highest number below n that passes the test; 0 where none does
 unfoldable pub lastBelow : ℕ → (ℕ → Bool) → ℕ
@@ -31,6 +31,10 @@ EarliersFrom corners earlier u = (c : ℕ) → c < length corners → u ≤ vert
 unfoldable pub LastsTo : List ℕ → (ℕ → ℕ) → ℕ → Type 0
 LastsTo corners last end = (u : ℕ) → last u ≡ lastBelow end (names corners u)
 
+-- that of vertex u among all corners
+abbrev pub lastOf : List ℕ → ℕ → ℕ
+lastOf corners u = lastBelow (length corners) (names corners u)
+
 -- `at` is 0, or one more than a corner of u
 unfoldable pub Chain : List ℕ → ℕ → ℕ → Type 0
 Chain corners u at = (d : ℕ) → at ≡ suc d → vertexOf corners d ≡ u
@@ -41,11 +45,11 @@ pub record Chained (corners : List ℕ) (earlier last : ℕ → ℕ) : Type 0 wh
 
 -- a column of the table of vertices that is not used yet
 abbrev pub Clear : List ℕ → ℕ → Type 0
-Clear vertices k = (u : ℕ) → entry vertices k u ≡ 0
+Clear vertices k = (u : ℕ) → noted vertices k u ≡ 0
 
 -- what check 9 leaves for the later ones: the chains, in the column that valences fill at last, and columns of zeros
 pub record Ready (corners table vertices : List ℕ) : Type 0 where
-  pub chained : Chained corners (entry table valenceHere) (entry vertices lastHere)
+  pub chained : Chained corners (entry table valenceHere) (noted vertices lastHere)
   pub leaving-clear : Clear vertices leavingHere
   pub arriving-clear : Clear vertices arrivingHere
   pub count-clear : Clear vertices countHere

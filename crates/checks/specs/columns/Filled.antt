@@ -8,7 +8,7 @@ use Rattle.paper.specs.Mesh.{mostCorners}
 use Rattle.paper.specs.Corners.{sumOf, sidesOf, next, previous}
 use Rattle.paper.specs.Links.{valence, lowest}
 use Rattle.walk.specs.Table.{rowLength, toNext, toPrevious, sidesHere, entry, Column}
-use Rattle.checks.specs.columns.Vertices.{countHere, lowestHere, Rowed}
+use Rattle.checks.specs.columns.Vertices.{countHere, lowestHere, noted, Rowed}
 use Rattle.checks.specs.columns.Chain.{Clear}
 
 -- the corners below n have their rows, where next is known by the corner that it leads to
@@ -38,5 +38,5 @@ pub record Countable (corners vertices : List ℕ) : Type 0 where
   pub clear : Clear vertices countHere
 
 pub record CornersCounted (corners vertices : List ℕ) : Type 0 where
-  pub count-is : (u : ℕ) → entry vertices countHere u ≡ valence corners u
-  pub lowest-is : (u : ℕ) → lowest corners u < length corners → entry vertices lowestHere u ≡ lowest corners u
+  pub count-is : (u : ℕ) → noted vertices countHere u ≡ valence corners u
+  pub lowest-is : (u : ℕ) → lowest corners u < length corners → noted vertices lowestHere u ≡ lowest corners u

@@ -1,13 +1,16 @@
--- The table of vertices, scratch of the checks: a row of five numbers for each vertex.
+-- The table of vertices, scratch of the checks: a row of four numbers for each vertex.
 -- Assumes nothing.
+use mathlib.Core.Path.{_≡_}
 use mathlib.Core.List.{List}
 use Prim.Native.Nat.{ℕ, _+_, _*_, _<_, _≤_}
-use lib.ListN.{length}
+use lib.ListN.{length, getD}
 use Rattle.paper.specs.Links.{vertexOf}
-use Rattle.walk.specs.Table.{rowLength}
+
+abbrev pub vertexRow : ℕ
+vertexRow = 4
 
 -- ---- the columns: one more than the last corner met; by the far end of an edge, one more than a corner that it leaves and one where
--- it arrives; how many corners name the vertex, and the lowest of them
+-- it arrives; how many corners name the vertex. The lowest of them takes the place of the last one once it is known
 abbrev pub lastHere : ℕ
 lastHere = 0
 
@@ -21,8 +24,16 @@ abbrev pub countHere : ℕ
 countHere = 3
 
 abbrev pub lowestHere : ℕ
-lowestHere = 4
+lowestHere = 0
+
+-- what is noted in column k of vertex u
+abbrev pub noted : List ℕ → ℕ → ℕ → ℕ
+noted vertices k u = getD vertices (vertexRow * u + k) 0
+
+-- column k holds what it held
+abbrev pub NotesKept : List ℕ → List ℕ → ℕ → Type 0
+NotesKept old new k = (u : ℕ) → noted new k u ≡ noted old k u
 
 -- the vertex of every corner has a row
 abbrev pub Rowed : List ℕ → List ℕ → Type 0
-Rowed corners vertices = (c : ℕ) → c < length corners → rowLength * vertexOf corners c + rowLength ≤ length vertices
+Rowed corners vertices = (c : ℕ) → c < length corners → vertexRow * vertexOf corners c + vertexRow ≤ length vertices

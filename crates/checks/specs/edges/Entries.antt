@@ -12,8 +12,8 @@ use Rattle.paper.specs.Links.{vertexOf, linked, link, valence, lowest}
 use Rattle.paper.specs.Faults.{sound, _orElse_, lowestOf, fault10, fault11, stated}
 use Rattle.paper.specs.declared.Answer.{Answer}
 use Rattle.walk.specs.Table.{rowLength, toNext, toPrevious, toLink, sidesHere, valenceHere, entry, Column, Kept}
-use Rattle.checks.specs.columns.Vertices.{lastHere, leavingHere, arrivingHere, countHere, lowestHere, Rowed}
-use Rattle.checks.specs.columns.Chain.{EarliersFrom, LastsTo}
+use Rattle.checks.specs.columns.Vertices.{vertexRow, lastHere, leavingHere, arrivingHere, countHere, lowestHere, noted, Rowed}
+use Rattle.checks.specs.columns.Chain.{EarliersFrom, lastOf}
 use Rattle.checks.specs.columns.Filled.{CornersCounted}
 
 -- the entry of a corner whose leaving edge already left an earlier one, and of a corner whose leaving edge has no reverse: no corners
@@ -53,22 +53,25 @@ to corners table c = vertexOf corners (entry table toNext c)
 abbrev pub from : List ℕ → List ℕ → ℕ → ℕ
 from corners table c = vertexOf corners (entry table toPrevious c)
 
--- a table of corners and a table of vertices that the search can go by: its steps lead to corners, and each vertex to its chain
+-- a table of corners and a table of vertices that the search can go by: its steps lead to corners, and each vertex has a row
 pub record Searchable (corners table vertices : List ℕ) : Type 0 where
   pub small : length corners ≤ mostCorners
   pub long : rowLength * length corners ≤ length table
   pub rowed : Rowed corners vertices
   pub nexts-in : (c : ℕ) → c < length corners → entry table toNext c < length corners
   pub previouses-in : (c : ℕ) → c < length corners → entry table toPrevious c < length corners
-  pub lasts : LastsTo corners (entry vertices lastHere) (length corners)
 
 -- the chains of the vertices from u on stand in the column where the valences of those before it stand
 abbrev pub ChainsFrom : List ℕ → List ℕ → ℕ → Type 0
 ChainsFrom corners table u = EarliersFrom corners (entry table valenceHere) u
 
+-- and the heads of these chains in that where the lowest corners of those before it stand
+abbrev pub HeadsFrom : List ℕ → List ℕ → ℕ → Type 0
+HeadsFrom corners vertices u = (v : ℕ) → u ≤ v → noted vertices lastHere v ≡ lastOf corners v
+
 -- vertex u has a row
 abbrev pub Row : List ℕ → ℕ → Type 0
-Row vertices u = rowLength * u + rowLength ≤ length vertices
+Row vertices u = vertexRow * u + vertexRow ≤ length vertices
 
 -- a column of corners by their key, the far end of an edge: each entry is 0, or one more than a corner that has the key
 pub record Keyed (corners : List ℕ) (key column : ℕ → ℕ) : Type 0 where
@@ -77,8 +80,8 @@ pub record Keyed (corners : List ℕ) (key column : ℕ → ℕ) : Type 0 where
 
 -- both columns of edges
 pub record BothKeyed (corners table vertices : List ℕ) : Type 0 where
-  pub left : Keyed corners (to corners table) (entry vertices leavingHere)
-  pub arrived : Keyed corners (from corners table) (entry vertices arrivingHere)
+  pub left : Keyed corners (to corners table) (noted vertices leavingHere)
+  pub arrived : Keyed corners (from corners table) (noted vertices arrivingHere)
 
 -- an entry that is one more than a corner of u, and no higher one than d
 pub record Hit (corners : List ℕ) (u d x : ℕ) : Type 0 where
@@ -93,19 +96,18 @@ Marked corners key column u at = (d : ℕ) → at ≤ d → d < length corners �
 -- both columns, with the corners of u from `at` on
 pub record MarkedFrom (corners table vertices : List ℕ) (u at : ℕ) : Type 0 where
   pub keyed : BothKeyed corners table vertices
-  pub left-from : Marked corners (to corners table) (entry vertices leavingHere) u at
-  pub arrived-from : Marked corners (from corners table) (entry vertices arrivingHere) u at
+  pub left-from : Marked corners (to corners table) (noted vertices leavingHere) u at
+  pub arrived-from : Marked corners (from corners table) (noted vertices arrivingHere) u at
 
 -- how many corners u has, and the lowest where it has any
 pub record CountedAt (corners vertices : List ℕ) (u : ℕ) : Type 0 where
-  pub count-is : entry vertices countHere u ≡ valence corners u
-  pub lowest-is : lowest corners u < length corners → entry vertices lowestHere u ≡ lowest corners u
+  pub count-is : noted vertices countHere u ≡ valence corners u
+  pub lowest-is : lowest corners u < length corners → noted vertices lowestHere u ≡ lowest corners u
 
--- what marking u keeps: the chains' heads, and what is noted of the other vertices
+-- what marking u keeps: what is noted of the other vertices
 pub record Unmarked (old new : List ℕ) (u : ℕ) : Type 0 where
-  pub lasts : Kept old new lastHere
-  pub counts : (v : ℕ) → (v ≡ u → ⊥) → entry new countHere v ≡ entry old countHere v
-  pub lowests : (v : ℕ) → (v ≡ u → ⊥) → entry new lowestHere v ≡ entry old lowestHere v
+  pub heads : (v : ℕ) → (v ≡ u → ⊥) → noted new lastHere v ≡ noted old lastHere v
+  pub counts : (v : ℕ) → (v ≡ u → ⊥) → noted new countHere v ≡ noted old countHere v
 
 -- side counts that the table's steps belong to
 pub record Ends (sides corners table : List ℕ) : Type 0 where

@@ -3,9 +3,10 @@
 use mathlib.Core.Path.{_≡_, refl, _∙_}
 use Prim.Native.Nat.{_≤_, _-_}
 use lib.ListN.{length}
-use Rattle.checks.specs.edges.Entries.{Searchable, ChainsFrom, BothKeyed, FacesKept}
+use denote.Ref.{now}
+use Rattle.checks.specs.edges.Entries.{Searchable, ChainsFrom, HeadsFrom, BothKeyed, FacesKept}
 use Rattle.checks.proofs.edges.Laws.{EntriesBelow, ValencesBelow, CountedBelow, keyed-clear, searchable-on, both-keyed-on, faces-same, faces-then}
-use Rattle.checks.proofs.edges.Laws.{below-none, valences-none, counted-none, below-more, valences-more, chains-more, counted-more, found}
+use Rattle.checks.proofs.edges.Laws.{below-none, valences-none, counted-none, below-more, valences-more, chains-more, heads-more, counted-more, found}
 use native.Mathlib.Omega.{arith}
 use borrow.Author.Needs.{needs}
 use Rattle.checks.proofs.edges.fill_links.Statement.{statement}
@@ -15,7 +16,7 @@ abbrev Inv-loop : tie.InvT-loop
 Inv-loop corners count table₀ vertices₀ u₀ table vertices u =
     (u ≤ count) × (length table ≡ length table₀) × (length vertices ≡ length vertices₀) × Searchable corners table vertices
     × BothKeyed corners table vertices × ChainsFrom corners table u × EntriesBelow corners table u × ValencesBelow corners table u
-    × FacesKept table₀ table × CountedBelow corners vertices u
+    × FacesKept table₀ table × CountedBelow corners vertices u × HeadsFrom corners vertices u
 
 abbrev μ-loop : tie.MeasureT-loop
 μ-loop corners count table₀ vertices₀ u₀ table vertices u = count - u
@@ -34,21 +35,33 @@ loop-holds c =
       valences-none _ _,
       faces-same _,
       counted-none _ _ (z .2),
+      s .pre .0 .2,
     )
+
+mul-last : tie.Need-mul-last Inv-loop μ-loop
+mul-last c = search needs
+
+add-last : tie.Need-add-last Inv-loop μ-loop
+add-last c = search needs
+
+mul-last-2 : tie.Need-mul-last-2 Inv-loop μ-loop
+mul-last-2 c = search needs
+
+slice-read-last : tie.Need-slice-read-last Inv-loop μ-loop
+slice-read-last c = search needs
 
 mark-requires : tie.Need-mark-requires Inv-loop μ-loop
 mark-requires c κs =
-    let l = c .before .before .before .loop in let s = c .before .before .before .before .before .before .before in
-    ((l .inv .3, omega (arith, s .pre .1 .0 .1, l .inv .2, c .before .before .loop-test .taken), l .inv .5), l .inv .4)
+    let l = c .before .before .before .before .loop in let s = c .before .before .before .before .before .before .before .before in
+    let taken = c .before .before .before .loop-test .taken in
+    ((l .inv .3, omega (arith, s .pre .1 .0 .1, l .inv .2, taken), l .inv .5), (l .inv .10 (l .u) (omega arith), l .inv .4))
 
 collect-requires : tie.Need-collect-requires Inv-loop μ-loop
 collect-requires c κs =
     let m = c .before .before .before .before .mark in
-    let l = c .before .before .before .before .before .before .before .before .loop in
-    let s = c .before .before .before .before .before .before .before .before .before .before .before .before in
-    let k = searchable-on _ (l .table) (l .table) (faces-same (l .table)) (l .vertices) _ refl (m .kept .1 .1 .1 .0) (m .ensures .1 .1 .lasts) (l .inv .3) in
-    let h = c .before .before .before .before .before .before .before .loop-test .taken in
-    ((k, omega (arith, s .pre .1 .0 .1, l .inv .2, m .kept .1 .1 .1 .0), l .inv .5), (m .ensures .0, m .ensures .1 .0 .0))
+    let l = c .before .before .before .before .before .before .before .before .before .loop in
+    let k = searchable-on _ (l .table) (l .table) (faces-same (l .table)) (l .vertices) _ refl (m .kept .1 .1 .1 .1 .0) (l .inv .3) in
+    ((k, l .inv .5, l .inv .10 (l .u) (omega arith)), (m .ensures .0, m .ensures .1 .0 .0))
 
 add-u : tie.Need-add-u Inv-loop μ-loop
 add-u c = search needs
@@ -60,18 +73,21 @@ loop-again : tie.Need-loop-again Inv-loop μ-loop
 loop-again c =
     let k = c .before .before .collect in
     let m = c .before .before .before .before .before .before .before .mark in
-    let l = c .before .before .before .before .before .before .before .before .before .before .before .loop in
+    let taken = c .before .before .before .before .before .before .before .before .before .before .before .loop-test .taken in
+    let t = c .before .before .before .before .before .before .before .before .before .before .before .before in
+    let l = t .loop in let s = t .before .before .before .before in
     let e = k .ensures .faces in (
-      search needs,
-      k .kept .1 .1 .1 .1 .0 ∙ l .inv .1,
-      m .kept .1 .1 .1 .0 ∙ l .inv .2,
-      searchable-on _ (l .table) _ e (l .vertices) _ (k .kept .1 .1 .1 .1 .0) (m .kept .1 .1 .1 .0) (m .ensures .1 .1 .lasts) (l .inv .3),
+      omega (arith, taken),
+      k .kept .1 .1 .1 .1 .1 .0 ∙ l .inv .1,
+      m .kept .1 .1 .1 .1 .0 ∙ l .inv .2,
+      searchable-on _ (l .table) _ e (l .vertices) _ (k .kept .1 .1 .1 .1 .1 .0) (m .kept .1 .1 .1 .1 .0) (l .inv .3),
       both-keyed-on _ (l .table) _ e _ (m .ensures .0 .keyed),
       chains-more _ (l .table) _ (l .u) (k .ensures) (l .inv .5),
       below-more _ (l .table) _ (l .u) (k .ensures) (l .inv .6),
       valences-more _ (l .table) _ (l .u) (k .ensures) (l .inv .7),
       faces-then _ (l .table) _ e (l .inv .8),
       counted-more _ (l .vertices) _ (l .u) (m .ensures .1 .0 .1) (m .ensures .1 .1) (l .inv .9),
+      heads-more (now (s .args .corners)) (l .vertices) _ (l .u) (m .ensures .1 .1) (l .inv .10),
     )
 
 same-length : tie.Need-same-length Inv-loop μ-loop
@@ -92,6 +108,10 @@ fill-links-spec =
     Inv-loop
     μ-loop
     loop-holds
+    mul-last
+    add-last
+    mul-last-2
+    slice-read-last
     mark-requires
     collect-requires
     add-u

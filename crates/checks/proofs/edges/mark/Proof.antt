@@ -5,8 +5,7 @@ use Prim.Native.Nat.{ℕ, _+_, _<_, _-_}
 use lib.ListN.{length, length-set}
 use denote.Ref.{now}
 use Rattle.walk.specs.Table.{toNext, toPrevious, entry}
-use Rattle.checks.specs.columns.Vertices.{lastHere}
-use Rattle.checks.specs.columns.Chain.{earlierOf, Chained}
+use Rattle.checks.specs.columns.Chain.{earlierOf, lastOf}
 use Rattle.checks.proofs.columns.Chains.{On, on-head, on-next, on-falls, chained-own}
 use Rattle.checks.proofs.columns.Chains.{Passed, passed-none, passed-few, passed-more, passed-count, passed-lowest}
 use Rattle.checks.specs.edges.Entries.{to, from, Row, MarkedFrom}
@@ -17,41 +16,27 @@ use Rattle.checks.proofs.edges.mark.Statement.{statement}
 use Rattle.checks.proofs.edges.mark.Tie as tie
 
 abbrev Inv-loop : tie.InvT-loop
-Inv-loop corners table u vertices₀ at₀ n₀ lowest₀ vertices at n lowest =
+Inv-loop corners table u last vertices₀ at₀ n₀ lowest₀ vertices at n lowest =
     On corners u at × (length vertices ≡ length vertices₀) × MarkedFrom corners table vertices u at × RowsKept vertices₀ vertices
     × Passed corners u at n lowest
 
 abbrev μ-loop : tie.MeasureT-loop
-μ-loop corners table u vertices₀ at₀ n₀ lowest₀ vertices at n lowest = at
-
--- the chains of a call
-chains : (s : tie.Start Inv-loop μ-loop) → Chained (now (s .args .corners)) (earlierOf (now (s .args .corners))) (entry (now (s .args .vertices)) lastHere)
-chains s = chained-own (now (s .args .corners)) (entry (now (s .args .vertices)) lastHere) (s .pre .0 .0 .lasts)
-
-mul-at : tie.Need-mul-at Inv-loop μ-loop
-mul-at c = search needs
-
-add-at : tie.Need-add-at Inv-loop μ-loop
-add-at c = search needs
-
-mul-at-2 : tie.Need-mul-at-2 Inv-loop μ-loop
-mul-at-2 c = search needs
-
-slice-read-at : tie.Need-slice-read-at Inv-loop μ-loop
-slice-read-at c = search needs
+μ-loop corners table u last vertices₀ at₀ n₀ lowest₀ vertices at n lowest = at
 
 loop-holds : tie.Need-loop-holds Inv-loop μ-loop
 loop-holds c =
-    let s = c .before in (
-      on-head (now (s .args .corners)) _ _ (chains s) (s .args .u),
+    let s = c in
+    let cs = now (s .args .corners) in let u = s .args .u in
+    let q : lastOf cs u ≡ s .args .last = sym (s .pre .1 .0) in (
+      subst (On cs u) q (on-head cs (earlierOf cs) (lastOf cs) (chained-own cs) u),
       refl,
-      marked-none _ _ _ (chains s) (s .args .u) (s .pre .1),
-      record { lasts = λ v. refl; counts = λ v. refl; lowests = λ v. refl },
-      passed-none (now (s .args .corners)) (s .args .u) (entry (now (s .args .vertices)) lastHere) (s .pre .0 .0 .lasts),
+      subst (MarkedFrom cs _ _ u) q (marked-none cs _ _ u (s .pre .1 .1)),
+      record { heads = λ v. refl; counts = λ v. refl },
+      subst (λ (x : ℕ). Passed cs u x 0 0) q (passed-none cs u),
     )
 
 add-n : tie.Need-add-n Inv-loop μ-loop
-add-n c = let t = c .before in omega (arith, passed-few _ _ _ _ _ (t .loop .inv .4), t .before .before .pre .0 .0 .small)
+add-n c = let t = c .before in omega (arith, passed-few _ _ _ _ _ (t .loop .inv .4), t .before .pre .0 .0 .small)
 
 sub-lowest : tie.Need-sub-lowest Inv-loop μ-loop
 sub-lowest c = search needs
@@ -60,141 +45,141 @@ sub-d : tie.Need-sub-d Inv-loop μ-loop
 sub-d c = search needs
 
 cast-d : tie.Need-cast-d Inv-loop μ-loop
-cast-d c = let t = c .before in omega (arith, t .loop .inv .0 .inside, t .before .before .pre .0 .0 .small)
+cast-d c = let t = c .before in omega (arith, t .loop .inv .0 .inside, t .before .pre .0 .0 .small)
 
 mul-next : tie.Need-mul-next Inv-loop μ-loop
-mul-next c = let t = c .before in omega (arith, t .loop .inv .0 .inside, t .before .before .pre .0 .0 .small)
+mul-next c = let t = c .before in omega (arith, t .loop .inv .0 .inside, t .before .pre .0 .0 .small)
 
 add-next : tie.Need-add-next Inv-loop μ-loop
-add-next c = let t = c .before in omega (arith, t .loop .inv .0 .inside, t .before .before .pre .0 .0 .small)
+add-next c = let t = c .before in omega (arith, t .loop .inv .0 .inside, t .before .pre .0 .0 .small)
 
 mul-next-2 : tie.Need-mul-next-2 Inv-loop μ-loop
-mul-next-2 c = let t = c .before in omega (arith, t .loop .inv .0 .inside, t .before .before .pre .0 .0 .small)
+mul-next-2 c = let t = c .before in omega (arith, t .loop .inv .0 .inside, t .before .pre .0 .0 .small)
 
 shared-slice-read-next : tie.Need-shared-slice-read-next Inv-loop μ-loop
 shared-slice-read-next c =
-    let l = c .before .before .loop in let s = c .before .before .before .before in let k = s .pre .0 .0 in
+    let l = c .before .before .loop in let s = c .before .before .before in let k = s .pre .0 .0 in
     let n : l .at ≡ 0 → ⊥ = search needs in
     omega (arith, n, l .inv .0 .inside, k .long)
 
 cast-next : tie.Need-cast-next Inv-loop μ-loop
 cast-next c =
-    let l = c .before .before .loop in let s = c .before .before .before .before in let k = s .pre .0 .0 in
+    let l = c .before .before .loop in let s = c .before .before .before in let k = s .pre .0 .0 in
     let n : l .at ≡ 0 → ⊥ = search needs in
     omega (arith, k .small, k .nexts-in (l .at - 1) (omega (arith, n, l .inv .0 .inside)))
 
 mul-to : tie.Need-mul-to Inv-loop μ-loop
 mul-to c =
-    let l = c .before .before .loop in let s = c .before .before .before .before in let k = s .pre .0 .0 in
+    let l = c .before .before .loop in let s = c .before .before .before in let k = s .pre .0 .0 in
     let n : l .at ≡ 0 → ⊥ = search needs in
     omega (arith, k .small, k .nexts-in (l .at - 1) (omega (arith, n, l .inv .0 .inside)))
 
 shared-slice-read-to : tie.Need-shared-slice-read-to Inv-loop μ-loop
 shared-slice-read-to c =
-    let l = c .before .before .before .loop in let s = c .before .before .before .before .before in let k = s .pre .0 .0 in
+    let l = c .before .before .before .loop in let s = c .before .before .before .before in let k = s .pre .0 .0 in
     let n : l .at ≡ 0 → ⊥ = search needs in
     omega (arith, k .small, k .nexts-in (l .at - 1) (omega (arith, n, l .inv .0 .inside)))
 
 cast-to : tie.Need-cast-to Inv-loop μ-loop
 cast-to c =
-    let l = c .before .before .before .loop in let s = c .before .before .before .before .before in let k = s .pre .0 .0 in
+    let l = c .before .before .before .loop in let s = c .before .before .before .before in let k = s .pre .0 .0 in
     omega (arith, c .shared-slice-known2 .given (entry (now (s .args .table)) toNext (l .at - 1)))
 
 mul-vertices : tie.Need-mul-vertices Inv-loop μ-loop
 mul-vertices c =
-    let l = c .before .before .before .loop in let s = c .before .before .before .before .before in let k = s .pre .0 .0 in
+    let l = c .before .before .before .loop in let s = c .before .before .before .before in let k = s .pre .0 .0 in
     omega (arith, c .shared-slice-known2 .given (entry (now (s .args .table)) toNext (l .at - 1)))
 
 add-vertices : tie.Need-add-vertices Inv-loop μ-loop
 add-vertices c =
-    let l = c .before .before .before .loop in let s = c .before .before .before .before .before in let k = s .pre .0 .0 in
+    let l = c .before .before .before .loop in let s = c .before .before .before .before in let k = s .pre .0 .0 in
     omega (arith, c .shared-slice-known2 .given (entry (now (s .args .table)) toNext (l .at - 1)))
 
 mul-vertices-2 : tie.Need-mul-vertices-2 Inv-loop μ-loop
 mul-vertices-2 c =
-    let l = c .before .before .before .loop in let s = c .before .before .before .before .before in let k = s .pre .0 .0 in
+    let l = c .before .before .before .loop in let s = c .before .before .before .before in let k = s .pre .0 .0 in
     omega (arith, c .shared-slice-known2 .given (entry (now (s .args .table)) toNext (l .at - 1)))
 
 slice-write-vertices : tie.Need-slice-write-vertices Inv-loop μ-loop
 slice-write-vertices c =
-    let l = c .before .before .before .loop in let s = c .before .before .before .before .before in let k = s .pre .0 .0 in
+    let l = c .before .before .before .loop in let s = c .before .before .before .before in let k = s .pre .0 .0 in
     let n : l .at ≡ 0 → ⊥ = search needs in
     let r = k .rowed (entry (now (s .args .table)) toNext (l .at - 1)) (k .nexts-in (l .at - 1) (omega (arith, n, l .inv .0 .inside))) in
     omega (arith, r, l .inv .1)
 
 mul-previous : tie.Need-mul-previous Inv-loop μ-loop
-mul-previous c = let t = c .before .before .before in omega (arith, t .loop .inv .0 .inside, t .before .before .pre .0 .0 .small)
+mul-previous c = let t = c .before .before .before in omega (arith, t .loop .inv .0 .inside, t .before .pre .0 .0 .small)
 
 add-previous : tie.Need-add-previous Inv-loop μ-loop
-add-previous c = let t = c .before .before .before in omega (arith, t .loop .inv .0 .inside, t .before .before .pre .0 .0 .small)
+add-previous c = let t = c .before .before .before in omega (arith, t .loop .inv .0 .inside, t .before .pre .0 .0 .small)
 
 mul-previous-2 : tie.Need-mul-previous-2 Inv-loop μ-loop
-mul-previous-2 c = let t = c .before .before .before in omega (arith, t .loop .inv .0 .inside, t .before .before .pre .0 .0 .small)
+mul-previous-2 c = let t = c .before .before .before in omega (arith, t .loop .inv .0 .inside, t .before .pre .0 .0 .small)
 
 shared-slice-read-previous : tie.Need-shared-slice-read-previous Inv-loop μ-loop
 shared-slice-read-previous c =
-    let l = c .before .before .before .before .loop in let s = c .before .before .before .before .before .before in let k = s .pre .0 .0 in
+    let l = c .before .before .before .before .loop in let s = c .before .before .before .before .before in let k = s .pre .0 .0 in
     let n : l .at ≡ 0 → ⊥ = search needs in
     omega (arith, n, l .inv .0 .inside, k .long)
 
 cast-previous : tie.Need-cast-previous Inv-loop μ-loop
 cast-previous c =
-    let l = c .before .before .before .before .loop in let s = c .before .before .before .before .before .before in let k = s .pre .0 .0 in
+    let l = c .before .before .before .before .loop in let s = c .before .before .before .before .before in let k = s .pre .0 .0 in
     let n : l .at ≡ 0 → ⊥ = search needs in
     omega (arith, k .small, k .previouses-in (l .at - 1) (omega (arith, n, l .inv .0 .inside)))
 
 mul-from : tie.Need-mul-from Inv-loop μ-loop
 mul-from c =
-    let l = c .before .before .before .before .loop in let s = c .before .before .before .before .before .before in let k = s .pre .0 .0 in
+    let l = c .before .before .before .before .loop in let s = c .before .before .before .before .before in let k = s .pre .0 .0 in
     let n : l .at ≡ 0 → ⊥ = search needs in
     omega (arith, k .small, k .previouses-in (l .at - 1) (omega (arith, n, l .inv .0 .inside)))
 
 shared-slice-read-from : tie.Need-shared-slice-read-from Inv-loop μ-loop
 shared-slice-read-from c =
-    let l = c .before .before .before .before .before .loop in let s = c .before .before .before .before .before .before .before in let k = s .pre .0 .0 in
+    let l = c .before .before .before .before .before .loop in let s = c .before .before .before .before .before .before in let k = s .pre .0 .0 in
     let n : l .at ≡ 0 → ⊥ = search needs in
     omega (arith, k .small, k .previouses-in (l .at - 1) (omega (arith, n, l .inv .0 .inside)))
 
 cast-from : tie.Need-cast-from Inv-loop μ-loop
 cast-from c =
-    let l = c .before .before .before .before .before .loop in let s = c .before .before .before .before .before .before .before in let k = s .pre .0 .0 in
+    let l = c .before .before .before .before .before .loop in let s = c .before .before .before .before .before .before in let k = s .pre .0 .0 in
     omega (arith, c .shared-slice-known4 .given (entry (now (s .args .table)) toPrevious (l .at - 1)))
 
 mul-vertices-3 : tie.Need-mul-vertices-3 Inv-loop μ-loop
 mul-vertices-3 c =
-    let l = c .before .before .before .before .before .loop in let s = c .before .before .before .before .before .before .before in let k = s .pre .0 .0 in
+    let l = c .before .before .before .before .before .loop in let s = c .before .before .before .before .before .before in let k = s .pre .0 .0 in
     omega (arith, c .shared-slice-known4 .given (entry (now (s .args .table)) toPrevious (l .at - 1)))
 
 add-vertices-2 : tie.Need-add-vertices-2 Inv-loop μ-loop
 add-vertices-2 c =
-    let l = c .before .before .before .before .before .loop in let s = c .before .before .before .before .before .before .before in let k = s .pre .0 .0 in
+    let l = c .before .before .before .before .before .loop in let s = c .before .before .before .before .before .before in let k = s .pre .0 .0 in
     omega (arith, c .shared-slice-known4 .given (entry (now (s .args .table)) toPrevious (l .at - 1)))
 
 mul-vertices-4 : tie.Need-mul-vertices-4 Inv-loop μ-loop
 mul-vertices-4 c =
-    let l = c .before .before .before .before .before .loop in let s = c .before .before .before .before .before .before .before in let k = s .pre .0 .0 in
+    let l = c .before .before .before .before .before .loop in let s = c .before .before .before .before .before .before in let k = s .pre .0 .0 in
     omega (arith, c .shared-slice-known4 .given (entry (now (s .args .table)) toPrevious (l .at - 1)))
 
 slice-write-vertices-2 : tie.Need-slice-write-vertices-2 Inv-loop μ-loop
 slice-write-vertices-2 c =
-    let l = c .before .before .before .before .before .loop in let s = c .before .before .before .before .before .before .before in let k = s .pre .0 .0 in
+    let l = c .before .before .before .before .before .loop in let s = c .before .before .before .before .before .before in let k = s .pre .0 .0 in
     let n : l .at ≡ 0 → ⊥ = search needs in
     let r = k .rowed (entry (now (s .args .table)) toPrevious (l .at - 1)) (k .previouses-in (l .at - 1) (omega (arith, n, l .inv .0 .inside))) in
     simp length-set (omega (arith, r, l .inv .1))
 
-mul-at-3 : tie.Need-mul-at-3 Inv-loop μ-loop
-mul-at-3 c = let t = c .before .before .before .before .before in omega (arith, t .loop .inv .0 .inside, t .before .before .pre .0 .0 .small)
+mul-at : tie.Need-mul-at Inv-loop μ-loop
+mul-at c = let t = c .before .before .before .before .before in omega (arith, t .loop .inv .0 .inside, t .before .pre .0 .0 .small)
 
-add-at-2 : tie.Need-add-at-2 Inv-loop μ-loop
-add-at-2 c = let t = c .before .before .before .before .before in omega (arith, t .loop .inv .0 .inside, t .before .before .pre .0 .0 .small)
+add-at : tie.Need-add-at Inv-loop μ-loop
+add-at c = let t = c .before .before .before .before .before in omega (arith, t .loop .inv .0 .inside, t .before .pre .0 .0 .small)
 
-mul-at-4 : tie.Need-mul-at-4 Inv-loop μ-loop
-mul-at-4 c = let t = c .before .before .before .before .before in omega (arith, t .loop .inv .0 .inside, t .before .before .pre .0 .0 .small)
+mul-at-2 : tie.Need-mul-at-2 Inv-loop μ-loop
+mul-at-2 c = let t = c .before .before .before .before .before in omega (arith, t .loop .inv .0 .inside, t .before .pre .0 .0 .small)
 
 shared-slice-read-at : tie.Need-shared-slice-read-at Inv-loop μ-loop
 shared-slice-read-at c =
     let l = c .before .before .before .before .before .before .loop in
-    let s = c .before .before .before .before .before .before .before .before in
+    let s = c .before .before .before .before .before .before .before in
     let k = s .pre .0 .0 in
     let n : l .at ≡ 0 → ⊥ = search needs in
     omega (arith, n, l .inv .0 .inside, k .long)
@@ -202,33 +187,33 @@ shared-slice-read-at c =
 loop-less : tie.Need-loop-less Inv-loop μ-loop
 loop-less c =
     let l = c .before .before .before .before .before .before .loop in
-    let s = c .before .before .before .before .before .before .before .before in
-    let cs = now (s .args .corners) in let last = entry (now (s .args .vertices)) lastHere in
+    let s = c .before .before .before .before .before .before .before in
+    let cs = now (s .args .corners) in
     let n : l .at ≡ 0 → ⊥ = search needs in
     omega (
       arith,
       chain-here cs (now (s .args .table)) (s .args .u) (l .at) (l .inv .0) n (s .pre .0 .2),
-      on-falls cs (earlierOf cs) last (chains s) (s .args .u) (l .at) (l .inv .0) n,
+      on-falls cs (earlierOf cs) (lastOf cs) (chained-own cs) (s .args .u) (l .at) (l .inv .0) n,
     )
 
 loop-again : tie.Need-loop-again Inv-loop μ-loop
 loop-again c =
     let l = c .before .before .before .before .before .before .loop in
-    let s = c .before .before .before .before .before .before .before .before in
+    let s = c .before .before .before .before .before .before .before in
     let k = s .pre .0 .0 in
-    let cs = now (s .args .corners) in let ts = now (s .args .table) in let last = entry (now (s .args .vertices)) lastHere in
+    let cs = now (s .args .corners) in let ts = now (s .args .table) in
     let u = s .args .u in
     let n : l .at ≡ 0 → ⊥ = search needs in
     let h : l .at - 1 < length cs = omega (arith, n, l .inv .0 .inside) in
     let rt = k .rowed (entry ts toNext (l .at - 1)) (k .nexts-in (l .at - 1) h) in
     let rf = k .rowed (entry ts toPrevious (l .at - 1)) (k .previouses-in (l .at - 1) h) in
     let q = sym (chain-here cs ts u (l .at) (l .inv .0) n (s .pre .0 .2)) in (
-      subst (On cs u) q (on-next cs (earlierOf cs) last (chains s) u (l .at) (l .inv .0) n),
+      subst (On cs u) q (on-next cs (earlierOf cs) (lastOf cs) (chained-own cs) u (l .at) (l .inv .0) n),
       simp length-set (l .inv .1),
       subst (MarkedFrom cs ts _ u) q
-          (marked-more cs ts last (chains s) (l .vertices) u (l .at) (l .inv .0) n (to cs ts (l .at - 1)) (from cs ts (l .at - 1)) refl refl
+          (marked-more cs ts (l .vertices) u (l .at) (l .inv .0) n (to cs ts (l .at - 1)) (from cs ts (l .at - 1)) refl refl
           (omega (arith, rt, l .inv .1)) (omega (arith, rf, l .inv .1)) (l .inv .2)),
-      rows-more cs ts last (chains s) (l .vertices) u (l .at) (l .inv .0) n (to cs ts (l .at - 1)) (from cs ts (l .at - 1)) refl refl
+      rows-more cs ts (l .vertices) u (l .at) (l .inv .0) n (to cs ts (l .at - 1)) (from cs ts (l .at - 1)) refl refl
           (omega (arith, rt, l .inv .1)) (omega (arith, rf, l .inv .1)) _ (l .inv .3),
       subst (λ (x : ℕ). Passed cs u x (l .n + 1) (l .at - 1)) q (passed-more cs u (l .at) (l .n) (l .lowest) n (l .inv .0) (l .inv .4)),
     )
@@ -256,7 +241,7 @@ mul-vertices-8 c = search needs
 
 slice-write-vertices-4 : tie.Need-slice-write-vertices-4 Inv-loop μ-loop
 slice-write-vertices-4 c =
-    let l = c .before .loop in let s = c .before .before .before in
+    let l = c .before .loop in let s = c .before .before in
     simp length-set (omega (arith, s .pre .0 .1, l .inv .1))
 
 same-length : tie.Need-same-length Inv-loop μ-loop
@@ -264,7 +249,7 @@ same-length c = search needs
 
 returns : tie.Need-returns Inv-loop μ-loop
 returns c =
-    let l = c .before .loop in let s = c .before .before .before in
+    let l = c .before .loop in let s = c .before .before in
     let cs = now (s .args .corners) in let u = s .args .u in
     let z : l .at ≡ 0 = search needs in
     let r : Row (l .vertices) u = omega (arith, s .pre .0 .1, l .inv .1) in
@@ -282,10 +267,6 @@ mark-spec =
     (tie.spec
     Inv-loop
     μ-loop
-    mul-at
-    add-at
-    mul-at-2
-    slice-read-at
     loop-holds
     add-n
     sub-lowest
@@ -315,9 +296,9 @@ mark-spec =
     add-vertices-2
     mul-vertices-4
     slice-write-vertices-2
-    mul-at-3
-    add-at-2
-    mul-at-4
+    mul-at
+    add-at
+    mul-at-2
     shared-slice-read-at
     loop-less
     loop-again

@@ -10,8 +10,8 @@ use Rattle.paper.specs.Corners.{sumOf, startOf, previous}
 use Rattle.paper.specs.Faults.{fault9}
 use Rattle.mesh.proofs.Faces.{start-zero, start-next, start-all, start-ends}
 use Rattle.mesh.proofs.Verdicts.{lowest-none, unsound}
-use Rattle.walk.specs.Table.{rowLength, valenceHere, entry}
-use Rattle.checks.specs.columns.Vertices.{lastHere}
+use Rattle.walk.specs.Table.{rowLength, valenceHere}
+use Rattle.checks.specs.columns.Vertices.{vertexRow, lastHere, noted}
 use Rattle.checks.specs.columns.Filled.{FacesTo, filled}
 use Rattle.checks.proofs.columns.Chains.{chains-all}
 use Rattle.checks.proofs.columns.Laws.{sides-is, previous-start, previous-later, faces-none, faces-step, faces-chains, faces-beside, faces-all}
@@ -107,7 +107,7 @@ slice-read-last c =
 cast-if1 : tie.Need-cast-if1 Inv-loop2 μ-loop2 Inv-loop μ-loop
 cast-if1 c =
     let s = c .before .before .before .before .before .before .before .before .before .before .before in
-    omega (arith, c .slice-known3 .given (rowLength * getD (now (s .args .corners)) (c .before .before .before .loop2 .c) 0 + lastHere))
+    omega (arith, c .slice-known3 .given (vertexRow * getD (now (s .args .corners)) (c .before .before .before .loop2 .c) 0 + lastHere))
 
 same-length : tie.Need-same-length Inv-loop2 μ-loop2 Inv-loop μ-loop
 same-length c = search needs
@@ -205,7 +205,7 @@ loop2-again c =
     let m = sym (sides-is sides (o .f) (l .inv .0) (l .c) (omega (arith, l .inv .1, l .inv .4)) (omega (arith, l .inv .1, l .inv .2, taken))) in
     let r : rowLength * sumOf sides ≤ length (l .table) = omega (arith, s .pre .0 .0, long) in
     let t = filled (l .table) (l .c) (l .before) n in
-    let x = entry (l .vertices) lastHere (getD cs (l .c) 0) in
+    let x = noted (l .vertices) lastHere (getD cs (l .c) 0) in
     let e = ap (λ (y : List ℕ). set y (rowLength * l .c + valenceHere) x) (sym (k .ensures)) in
     let size : length t ≡ length (l .table) = sym (ap length (k .ensures)) ∙ k .kept .0 in
     let q = passed-kept sides cs (l .table) t (l .vertices) (l .c)
@@ -218,7 +218,7 @@ loop2-again c =
       omega (arith, taken),
       simp length-set (k .kept .0 ∙ l .inv .6),
       simp length-set (l .inv .7),
-      subst (λ (y : List ℕ). Passed sides cs y (set (l .vertices) (rowLength * getD cs (l .c) 0 + lastHere) (l .c + 1)) (l .c + 1)) e
+      subst (λ (y : List ℕ). Passed sides cs y (set (l .vertices) (vertexRow * getD cs (l .c) 0 + lastHere) (l .c + 1)) (l .c + 1)) e
           (passed-step sides cs t (l .vertices) (o .f) (l .c) (o .start) (l .inv .0) (l .inv .1) (l .inv .4) (omega (arith, l .inv .2, taken)) q
           (omega (arith, i, long, size)) (omega (arith, o .inv .3, l .inv .7, s .pre .1 .1 (l .c) i)) (c .before .before .before .before .if1 .left)),
       (

@@ -2,8 +2,7 @@
 -- Assumes nothing.
 use Prim.Native.Nat.{_+_, _*_, _≤_, _<_, _-_}
 use denote.Ref.{now}
-use Rattle.walk.specs.Table.{rowLength}
-use Rattle.checks.specs.columns.Vertices.{countHere, lowestHere}
+use Rattle.checks.specs.columns.Vertices.{vertexRow, countHere, lowestHere}
 use Rattle.checks.proofs.vertices.Laws.{Whole, whole-none, whole-more, whole-torn, whole-all, lowest-in}
 use native.Mathlib.Omega.{arith}
 use borrow.Author.Needs.{needs}
@@ -32,7 +31,7 @@ shared-slice-read-n : tie.Need-shared-slice-read-n Inv-loop μ-loop
 shared-slice-read-n c = search needs
 
 cast-n : tie.Need-cast-n Inv-loop μ-loop
-cast-n c = omega (arith, c .shared-slice-known4 .given (rowLength * c .before .before .loop .u + countHere))
+cast-n c = omega (arith, c .shared-slice-known4 .given (vertexRow * c .before .before .loop .u + countHere))
 
 mul-lowest : tie.Need-mul-lowest Inv-loop μ-loop
 mul-lowest c = search needs
@@ -47,7 +46,7 @@ shared-slice-read-lowest : tie.Need-shared-slice-read-lowest Inv-loop μ-loop
 shared-slice-read-lowest c = search needs
 
 cast-lowest : tie.Need-cast-lowest Inv-loop μ-loop
-cast-lowest c = omega (arith, c .shared-slice-known5 .given (rowLength * c .before .before .before .loop .u + lowestHere))
+cast-lowest c = omega (arith, c .shared-slice-known5 .given (vertexRow * c .before .before .before .loop .u + lowestHere))
 
 ring-requires : tie.Need-ring-requires Inv-loop μ-loop
 ring-requires c κs =

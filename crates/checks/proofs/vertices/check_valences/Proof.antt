@@ -12,8 +12,7 @@ use Rattle.paper.specs.Faults.{fault12}
 use Rattle.mesh.proofs.Ranges.{outside-low, outside-high, inside}
 use Rattle.mesh.proofs.Scans.{fails-step}
 use Rattle.mesh.proofs.Verdicts.{lowest-hit, lowest-none}
-use Rattle.walk.specs.Table.{rowLength, entry}
-use Rattle.checks.specs.columns.Vertices.{countHere}
+use Rattle.checks.specs.columns.Vertices.{vertexRow, countHere, noted}
 use native.Mathlib.Omega.{arith}
 use borrow.Author.Needs.{needs}
 use Rattle.checks.proofs.vertices.check_valences.Statement.{statement}
@@ -41,14 +40,14 @@ shared-slice-read-n : tie.Need-shared-slice-read-n Inv-loop μ-loop
 shared-slice-read-n c = search needs
 
 cast-n : tie.Need-cast-n Inv-loop μ-loop
-cast-n c = omega (arith, c .shared-slice-known .given (rowLength * c .before .before .loop .u + countHere))
+cast-n c = omega (arith, c .shared-slice-known .given (vertexRow * c .before .before .loop .u + countHere))
 
 returns : tie.Need-returns Inv-loop μ-loop
 unfolding fault12
 returns c =
     let s = c .before .before .before .before in let l = c .before .before .before .loop in
     let v = valence (now (s .args .corners)) (l .u) in
-    let n = entry (now (s .args .vertices)) countHere (l .u) in
+    let n = noted (now (s .args .vertices)) countHere (l .u) in
     sym (lowest-hit 12 (s .args .count) (fault12 (now (s .args .corners))) (l .u) (search needs)
     (⊎-elim
     (λ w. outside-low leastSides mostSides v (omega (arith, s .pre .2 .count-is (l .u), w .taken)))
@@ -67,7 +66,7 @@ unfolding fault12
 loop-again c =
     let s = c .before .before .before .before .before in let l = c .before .before .before .before .loop in
     let v = valence (now (s .args .corners)) (l .u) in
-    let n = entry (now (s .args .vertices)) countHere (l .u) in (
+    let n = noted (now (s .args .vertices)) countHere (l .u) in (
       search needs,
       fails-step (fault12 (now (s .args .corners))) (l .u) (l .inv .1)
           (inside leastSides mostSides v (omega (arith, s .pre .2 .count-is (l .u), c .before .if1 .left))
