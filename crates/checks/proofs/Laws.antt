@@ -24,9 +24,9 @@ use Rattle.walk.proofs.Table.{blank}
 use Rattle.checks.specs.columns.Vertices.{vertexRow, Rowed}
 use Rattle.checks.specs.columns.Chain.{EarliersTo, EarliersFrom, LastsTo, Ready}
 use Rattle.checks.specs.columns.Filled.{FacesFilled}
-use Rattle.checks.specs.edges.Entries.{Searchable, ChainsFrom, HeadsFrom, Ends, FacesKept, Valences}
+use Rattle.checks.specs.edges.Entries.{Searchable, ChainsFrom, HeadsFrom, Ends, Found}
 use Rattle.checks.specs.vertices.Ring.{Linking}
-use Rattle.checks.specs.Checked.{RoomFor, Checked, ListsChecked, Listed}
+use Rattle.checks.specs.Checked.{RoomFor, Checked, ListsChecked, Listed, FilledFor, ListsFilled}
 
 -- tables of p and q rows, of zeros
 pub room : (M : Mesh) (p q : ℕ) → (cornerCount M ≤ mostCorners → cornerCount M ≤ p) → (vertexCount M ≤ mostVertices → vertexCount M ≤ q)
@@ -50,6 +50,9 @@ joined {a = a} {w = w} e f = ap (λ (x : Verdict). a orElse x) f ∙ ap (λ (x :
 
 pub lists-refused : (M : Mesh) (table vertices : List ℕ) (k p : ℕ) → fault k p ≡ listFaults M → ListsChecked M (Refused k p) table vertices
 lists-refused M table vertices k p e = record { answers = e; ready = unsound k p; faced = unsound k p }
+
+pub fill-refused : (M : Mesh) (table vertices : List ℕ) (k p : ℕ) → fault k p ≡ listFaults M → ListsFilled M (Refused k p) table vertices
+fill-refused M table vertices k p e = record { answers = e; filled = unsound k p }
 
 -- after 4 to 9 with 27 and 28
 pub listed : (M : Mesh) → listFaults M ≡ sound → Listed M
@@ -96,6 +99,26 @@ module _ (corners table vertices : List ℕ) (r : Ready corners table vertices) 
   unfolding LastsTo
   heads v l = r .chained .lasts-are v
 
+-- after the search, which leaves the columns of the faces as they were
+pub filled-for : (M : Mesh) → listFaults M ≡ sound → (old table vertices : List ℕ) → rowLength * cornerCount M ≤ length table
+    → vertexRow * vertexCount M ≤ length vertices → FacesFilled (M .sides) old → Found (M .corners) old table vertices → FilledFor M table vertices
+filled-for M e old table vertices lt lv f k =
+    let faced : FacesFilled (M .sides) table =
+    record {
+      nexts = λ c h. k .faces .nexts c ∙ f .nexts c h;
+      previouses = λ c h. k .faces .previouses c ∙ f .previouses c h;
+      sides-are = λ c h. k .faces .sides-are c ∙ f .sides-are c h;
+    } in
+    record {
+      passed = e;
+      long = lt;
+      long-vertices = lv;
+      faces = faced;
+      entries = k .entries (M .sides) (ends M (listed M e) table faced);
+      valences = k .valences;
+      counted = k .counted;
+    }
+
 -- after 10 and 11
 abbrev pub edgeFaults : Mesh → Verdict
 edgeFaults M = lowestOf 10 (cornerCount M) (fault10 (M .sides) (M .corners)) orElse lowestOf 11 (cornerCount M) (fault11 (M .sides) (M .corners))
@@ -107,17 +130,18 @@ pub linking : (M : Mesh) (table : List ℕ) → Closed (M .sides) (M .corners) �
     → Column table toLink (link (M .sides) (M .corners)) (cornerCount M) → Linking table (cornerCount M)
 linking M table k l t = record { long = l; links-in = λ c h. omega (arith, t c h, link-in (M .sides) (M .corners) k c h) }
 
--- the table of corners, column by column: those of the faces, then links and valences
-pub tabled : (M : Mesh) → Listed M → (faced table : List ℕ) → rowLength * cornerCount M ≤ length table → FacesFilled (M .sides) faced
-    → FacesKept faced table → Column table toLink (link (M .sides) (M .corners)) (cornerCount M) → Valences (M .corners) table → Tabled (cornersOf M) table
-tabled M g faced table l f k t v =
+-- the table of corners, column by column
+pub tabled : (M : Mesh) (table vertices : List ℕ) → FilledFor M table vertices
+    → Column table toLink (link (M .sides) (M .corners)) (cornerCount M) → Tabled (cornersOf M) table
+tabled M table vertices f t =
+    let g = listed M (f .passed) in
     record {
-      long = l;
-      nexts = λ c h. k .nexts c ∙ f .nexts c (omega (arith, g .sums));
-      previouses = λ c h. k .previouses c ∙ f .previouses c (omega (arith, g .sums));
+      long = f .long;
+      nexts = λ c h. f .faces .nexts c (omega (arith, g .sums));
+      previouses = λ c h. f .faces .previouses c (omega (arith, g .sums));
       links = t;
-      sides = λ c h. k .sides-are c ∙ f .sides-are c (omega (arith, g .sums));
-      valences = v;
+      sides = λ c h. f .faces .sides-are c (omega (arith, g .sums));
+      valences = f .valences;
     }
 
 -- ---- the ways out of the whole check

@@ -31,16 +31,14 @@ const REPEATED: u16 = 8193;
 
 const ALONE: u16 = 8192;
 
-// Checks 10 and 11; the links stand in their column where both have passed. Nearly every mesh passes: its entries are gone over without an
-// early end first. The valences stand in theirs, and the vertices are counted, in any case.
-pub fn check_edges(corners: &[u16], count: usize, table: &mut [u16], vertices: &mut [u16]) -> Answer
-    requires walk { ⌜ Searchable (now corners) (now table) (now vertices) × ChainsFrom (now corners) (now table) 0 × HeadsFrom (now corners) (now vertices) 0 ⌝ }
-    requires vertices { ⌜ Named (now corners) count × (vertexRow * count ≤ length (now vertices)) ⌝ }
-    requires clear { ⌜ Clear (now vertices) leavingHere × Clear (now vertices) arrivingHere × Clear (now vertices) countHere ⌝ }
-    ensures { λ r. ⌜ EdgesChecked (now (corners .entry)) (now (table .entry)) (now (table .exit)) (now (vertices .exit)) r ⌝ }
+// Checks 10 and 11, of entries that are found and none of which is above `most`: where both have passed, they are the links. Nearly every
+// mesh passes by that number alone.
+pub fn check_entries(corners: &[u16], table: &[u16], most: u16) -> Answer
+    requires table { ⌜ (length (now corners) ≤ mostCorners) × (rowLength * length (now corners) ≤ length (now table)) ⌝ }
+    requires most { ⌜ ((c : ℕ) → c < length (now corners) → entry (now table) toLink c ≤ most) ⌝ }
+    ensures { λ r. ⌜ EdgesChecked (now (corners .entry)) (now (table .entry)) r ⌝ }
 {
-    fill_links(corners, count, table, vertices);
-    if highest_entry(table, corners.len()) < ALONE {
+    if most < ALONE {
         return Answer::Done;
     }
     let a10 = check_repeats(corners, table);
@@ -52,7 +50,7 @@ pub fn check_edges(corners: &[u16], count: usize, table: &mut [u16], vertices: &
 
 // The entry and the valence of every corner, vertex by vertex, in the columns of links and valences; the second held the chains. The
 // columns of edges are never cleared: an entry of another vertex is known by its corner.
-fn fill_links(corners: &[u16], count: usize, table: &mut [u16], vertices: &mut [u16])
+pub fn fill_links(corners: &[u16], count: usize, table: &mut [u16], vertices: &mut [u16])
     requires walk { ⌜ Searchable (now corners) (now table) (now vertices) × ChainsFrom (now corners) (now table) 0 × HeadsFrom (now corners) (now vertices) 0 ⌝ }
     requires vertices { ⌜ Named (now corners) count × (vertexRow * count ≤ length (now vertices)) ⌝ }
     requires clear { ⌜ Clear (now vertices) leavingHere × Clear (now vertices) arrivingHere × Clear (now vertices) countHere ⌝ }
@@ -137,7 +135,7 @@ fn entry(corners: &[u16], table: &[u16], vertices: &[u16], u: usize, c: usize) -
 }
 
 // A number that no entry is above.
-fn highest_entry(table: &[u16], count: usize) -> u16
+pub fn highest_entry(table: &[u16], count: usize) -> u16
     requires { ⌜ (count ≤ mostCorners) × (rowLength * count ≤ length (now table)) ⌝ }
     ensures { λ r. ⌜ ((c : ℕ) → c < count → entry (now (table .entry)) toLink c ≤ r) ⌝ }
 {

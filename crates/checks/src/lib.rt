@@ -13,10 +13,12 @@ use paper::MOST_CORNERS;
 use paper::MOST_VERTICES;
 use walk::ROW;
 ghost use mathlib.Core.Path.{_≡_};
-ghost use Prim.Native.Nat.{_*_};
+ghost use Prim.Native.Nat.{ℕ, _*_, _≤_, _<_};
+ghost use lib.ListN.{length};
 ghost use Rattle.paper.specs.Mesh.{meshOf};
 ghost use Rattle.paper.specs.Faults.{_orElse_, verdict, stated};
-ghost use Rattle.checks.specs.Checked.{RoomFor, Checked, ListsChecked};
+ghost use Rattle.walk.specs.Table.{toLink, entry};
+ghost use Rattle.checks.specs.Checked.{RoomFor, Checked, ListsChecked, FilledFor, ListsFilled};
 
 // Checks 4 to 13 with 27 and 28, over tables of its own.
 pub fn check(coordinates: &[i32], sides: &[u8], corners: &[u16], sharpness: &[u8]) -> Answer
@@ -81,16 +83,61 @@ pub fn check_within(
     requires { ⌜ RoomFor (meshOf (now coordinates) (now sides) (now corners) (now sharpness)) (now table) (now vertices) ⌝ }
     ensures { λ r. ⌜ Checked (meshOf (now (coordinates .entry)) (now (sides .entry)) (now (corners .entry)) (now (sharpness .entry))) r (now (table .exit)) ⌝ }
 {
+    let a = fill_tables(coordinates, sides, corners, sharpness, table, vertices);
+    if let Answer::Refused(k, p) = a {
+        return Answer::Refused(k, p);
+    }
+    let most = crate::edges::highest_entry(table, corners.len());
+    check_filled(
+        coordinates,
+        sides,
+        corners,
+        sharpness,
+        table,
+        vertices,
+        most,
+    )
+}
+
+// Checks 4 to 9 with 27 and 28; where they have passed, the tables are filled for the later ones.
+pub fn fill_tables(
+    coordinates: &[i32],
+    sides: &[u8],
+    corners: &[u16],
+    sharpness: &[u8],
+    table: &mut [u16],
+    vertices: &mut [u16],
+) -> Answer
+    requires { ⌜ RoomFor (meshOf (now coordinates) (now sides) (now corners) (now sharpness)) (now table) (now vertices) ⌝ }
+    ensures { λ r. ⌜ ListsFilled (meshOf (now (coordinates .entry)) (now (sides .entry)) (now (corners .entry)) (now (sharpness .entry))) r (now (table .exit)) (now (vertices .exit)) ⌝ }
+{
     let a = check_lists(coordinates, sides, corners, sharpness, table, vertices);
     if let Answer::Refused(k, p) = a {
         return Answer::Refused(k, p);
     }
-    let count = coordinates.len() / 3;
-    let b = crate::edges::check_edges(corners, count, table, vertices);
+    crate::edges::fill_links(corners, coordinates.len() / 3, table, vertices);
+    Answer::Done
+}
+
+// Checks 10 to 13, over tables that are filled; none of the entries is above `most`. Sides and sharpness are there for the contract alone.
+pub fn check_filled(
+    coordinates: &[i32],
+    sides: &[u8],
+    corners: &[u16],
+    sharpness: &[u8],
+    table: &[u16],
+    vertices: &[u16],
+    most: u16,
+) -> Answer
+    requires filled { ⌜ FilledFor (meshOf (now coordinates) (now sides) (now corners) (now sharpness)) (now table) (now vertices) ⌝ }
+    requires most { ⌜ ((c : ℕ) → c < length (now corners) → entry (now table) toLink c ≤ most) ⌝ }
+    ensures { λ r. ⌜ Checked (meshOf (now (coordinates .entry)) (now (sides .entry)) (now (corners .entry)) (now (sharpness .entry))) r (now (table .entry)) ⌝ }
+{
+    let b = crate::edges::check_entries(corners, table, most);
     if let Answer::Refused(k, p) = b {
         return Answer::Refused(k, p);
     }
-    crate::vertices::check_vertices(corners, count, table, vertices)
+    crate::vertices::check_vertices(corners, coordinates.len() / 3, table, vertices)
 }
 
 // Checks 4 to 9 with 27 and 28, of the lists themselves; the last of them leaves the chains of the vertices in the two tables, and the

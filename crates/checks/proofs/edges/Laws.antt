@@ -580,45 +580,27 @@ module _ (sides corners table : List ℕ) (small : length corners ≤ mostCorner
       told x (joined f d l p) = link-only sides corners k c d h l p
 
 -- ---- the ways out of 10 and 11
-module _ (corners old new vertices : List ℕ) (small : length corners ≤ mostCorners) (f : Found corners old new vertices) where
-  entries-of : (sides : List ℕ) → Ends sides corners old → Entries sides corners new
-  entries-of sides e = f .entries sides (ends-on corners old new (f .faces) sides e)
-
-  pub repeats-refused : (r : Answer) (k p : ℕ) → r ≡ Refused k p → Unrepeated corners new r → EdgesChecked corners old new vertices (Refused k p)
+module _ (corners table : List ℕ) (small : length corners ≤ mostCorners) where
+  pub repeats-refused : (r : Answer) (k p : ℕ) → r ≡ Refused k p → Unrepeated corners table r → EdgesChecked corners table (Refused k p)
   repeats-refused r k p q a =
-      record {
-        answers = λ sides e. sym (orElse-fault k p _ (sym (a sides (entries-of sides e)) ∙ ap stated q));
-        links = λ sides e. unsound k p;
-        valences = f .valences;
-        faces = f .faces;
-        counted = f .counted;
-      }
+      record { answers = λ sides s t. sym (orElse-fault k p _ (sym (a sides t) ∙ ap stated q)); links = λ sides s t. unsound k p }
 
-  pub edges-checked : (r : Answer) → Unrepeated corners new Done → Reversed corners new r → EdgesChecked corners old new vertices r
+  pub edges-checked : (r : Answer) → Unrepeated corners table Done → Reversed corners table r → EdgesChecked corners table r
   edges-checked r a b =
       record {
-        answers = λ sides e.
-            let ten = sym (a sides (entries-of sides e)) in
-            b sides (e .sums) (entries-of sides e) ten ∙ sym (orElse-sound _ ten);
-        links = λ sides e s.
-            let ten = sym (a sides (entries-of sides e)) in
-            links-found sides corners new small (entries-of sides e)
-            (record {
-              sums = e .sums;
-              ten = lowest-sound _ _ _ ten;
-              eleven = lowest-sound _ _ _ (sym (b sides (e .sums) (entries-of sides e) ten) ∙ s);
-            });
-        valences = f .valences;
-        faces = f .faces;
-        counted = f .counted;
+        answers = λ sides s t. let ten = sym (a sides t) in b sides s t ten ∙ sym (orElse-sound _ ten);
+        links = λ sides s t e.
+            let ten = sym (a sides t) in
+            links-found sides corners table small t
+            (record { sums = s; ten = lowest-sound _ _ _ ten; eleven = lowest-sound _ _ _ (sym (b sides s t ten) ∙ e) });
       }
 
   -- no entry is as high as one of a corner at fault
-  pub edges-passed : (most : ℕ) → most < alone → ((c : ℕ) → c < length corners → entry new toLink c ≤ most) → EdgesChecked corners old new vertices Done
+  pub edges-passed : (most : ℕ) → most < alone → ((c : ℕ) → c < length corners → entry table toLink c ≤ most) → EdgesChecked corners table Done
   edges-passed most l h =
       edges-checked Done
-      (λ sides t. sym (lowest-none 10 (length corners) (has new repeated) (other repeated (omega arith))) ∙ ten-found sides corners new small t)
-      (λ sides s t ten. sym (lowest-none 11 (length corners) (has new alone) (other alone (omega arith))) ∙ eleven-found sides corners new small t ten s)
+      (λ sides t. sym (lowest-none 10 (length corners) (has table repeated) (other repeated (omega arith))) ∙ ten-found sides corners table small t)
+      (λ sides s t ten. sym (lowest-none 11 (length corners) (has table alone) (other alone (omega arith))) ∙ eleven-found sides corners table small t ten s)
     where
-      other : (x : ℕ) → most < x → (c : ℕ) → c < length corners → has new x c ≡ false
-      other x m c b = ne-eqb (entry new toLink c) x (λ q. omega (arith, h c b))
+      other : (x : ℕ) → most < x → (c : ℕ) → c < length corners → has table x c ≡ false
+      other x m c b = ne-eqb (entry table toLink c) x (λ q. omega (arith, h c b))

@@ -144,11 +144,9 @@ pub record Found (corners old new vertices : List ℕ) : Type 0 where
   pub faces : FacesKept old new
   pub counted : CornersCounted corners vertices
 
--- checks 10 and 11, for all side counts that the table's steps belong to; the links, where both have passed
-pub record EdgesChecked (corners old new vertices : List ℕ) (r : Answer) : Type 0 where
-  pub answers : (sides : List ℕ) → Ends sides corners old
+-- checks 10 and 11, for all side counts that the entries belong to; the entries are the links, where both have passed
+pub record EdgesChecked (corners table : List ℕ) (r : Answer) : Type 0 where
+  pub answers : (sides : List ℕ) → sumOf sides ≡ length corners → Entries sides corners table
       → stated r ≡ lowestOf 10 (length corners) (fault10 sides corners) orElse lowestOf 11 (length corners) (fault11 sides corners)
-  pub links : (sides : List ℕ) → Ends sides corners old → stated r ≡ sound → Column new toLink (link sides corners) (length corners)
-  pub valences : Valences corners new
-  pub faces : FacesKept old new
-  pub counted : CornersCounted corners vertices
+  pub links : (sides : List ℕ) → sumOf sides ≡ length corners → Entries sides corners table → stated r ≡ sound
+      → Column table toLink (link sides corners) (length corners)
