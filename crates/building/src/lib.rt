@@ -10,15 +10,17 @@ use paper::MOST_VERTICES;
 use surface::POINT_ROW;
 use walk::ROW;
 ghost use mathlib.Core.Path.{_≡_};
-ghost use Prim.Native.Nat.{_+_, _*_, _<_, _≤_};
+ghost use mathlib.Core.Bool.{true};
+ghost use Prim.Native.Nat.{ℕ, _+_, _*_, _<_, _≤_};
 ghost use lib.ListN.{length};
-ghost use Rattle.paper.specs.Mesh.{meshOf};
+ghost use Rattle.paper.specs.Mesh.{mostCorners, meshOf};
 ghost use Rattle.paper.specs.Faults.{Accepted};
 ghost use Rattle.paper.specs.Refined.{cornersOf};
 ghost use Rattle.paper.specs.Calls.{perCorner, nets, Built};
-ghost use Rattle.walk.specs.Table.{Tabled};
+ghost use Rattle.walk.specs.Table.{rowLength, toLink, entry, Tabled};
+ghost use Rattle.request_checks.specs.Request.{SameLinks};
 ghost use Rattle.checks.specs.Checked.{RoomFor};
-ghost use Rattle.building.specs.Answered.{Answered};
+ghost use Rattle.building.specs.Answered.{LinksChecked, Answered};
 
 // What is asked for: `count` corners from `first` on.
 struct Range {
@@ -118,40 +120,88 @@ fn build_over(
     requires { ⌜ RoomFor (meshOf (now coordinates) (now sides) (now corners) (now sharpness)) (now table) (now vertices) ⌝ }
     ensures { λ r. ⌜ Built (meshOf (now (coordinates .entry)) (now (sides .entry)) (now (corners .entry)) (now (sharpness .entry))) (now (links .entry)) (range .first) (range .count) (now (out .entry)) r (now (out .exit)) ⌝ }
 {
-    let a = checks::check_within(coordinates, sides, corners, sharpness, table, vertices);
-    if let Answer::Refused(k, p) = a {
-        return Answer::Refused(k, p);
-    }
-    answer(
+    let a = check_linked(
         coordinates,
         sides,
         corners,
         sharpness,
         links,
-        range,
         table,
-        out,
-    )
+        vertices,
+    );
+    if let Answer::Refused(k, p) = a {
+        return Answer::Refused(k, p);
+    }
+    answer(coordinates, sides, corners, sharpness, range, table, out)
 }
 
-// The same for an accepted mesh, over the table of its corners: checks 14 to 17, then the control points.
-fn answer(
+// Checks 4 to 15. Nearly every call lends the links of its mesh, which are the table's entries: how high these are is then seen in the lent
+// list, whose numbers lie side by side, and the entries are gone over once.
+fn check_linked(
     coordinates: &[i32],
     sides: &[u8],
     corners: &[u16],
     sharpness: &[u8],
     links: &[u16],
+    table: &mut [u16],
+    vertices: &mut [u16],
+) -> Answer
+    requires { ⌜ RoomFor (meshOf (now coordinates) (now sides) (now corners) (now sharpness)) (now table) (now vertices) ⌝ }
+    ensures { λ r. ⌜ LinksChecked (meshOf (now (coordinates .entry)) (now (sides .entry)) (now (corners .entry)) (now (sharpness .entry))) (now (links .entry)) r (now (table .exit)) ⌝ }
+{
+    let a = checks::fill_tables(coordinates, sides, corners, sharpness, table, vertices);
+    if let Answer::Refused(k, p) = a {
+        return Answer::Refused(k, p);
+    }
+    let same = request_checks::same_links(corners.len(), table, links);
+    let most = highest(same, links, table, corners.len());
+    let b = checks::check_filled(
+        coordinates,
+        sides,
+        corners,
+        sharpness,
+        table,
+        vertices,
+        most,
+    );
+    if let Answer::Refused(k, p) = b {
+        return Answer::Refused(k, p);
+    }
+    if same {
+        return Answer::Done;
+    }
+    request_checks::check_links(corners.len(), table, links)
+}
+
+// A number that no entry is above: of the links, where they are the same.
+fn highest(same: bool, links: &[u16], table: &[u16], count: usize) -> u16
+    requires table { ⌜ (count ≤ mostCorners) × (rowLength * count ≤ length (now table)) ⌝ }
+    requires links { ⌜ (same ≡ true → SameLinks count (now table) (now links)) ⌝ }
+    ensures { λ r. ⌜ ((c : ℕ) → c < count → entry (now (table .entry)) toLink c ≤ r) ⌝ }
+{
+    if same {
+        return list_checks::highest_index(links);
+    }
+    checks::edges::highest_entry(table, count)
+}
+
+// The same for an accepted mesh and its links, over the table of its corners: checks 16 and 17, then the control points.
+fn answer(
+    coordinates: &[i32],
+    sides: &[u8],
+    corners: &[u16],
+    sharpness: &[u8],
     range: Range,
     table: &[u16],
     out: &mut [i32],
 ) -> Answer
     requires mesh { ⌜ Accepted (meshOf (now coordinates) (now sides) (now corners) (now sharpness)) ⌝ }
     requires table { ⌜ Tabled (cornersOf (meshOf (now coordinates) (now sides) (now corners) (now sharpness))) (now table) ⌝ }
-    ensures { λ r. ⌜ Answered (meshOf (now (coordinates .entry)) (now (sides .entry)) (now (corners .entry)) (now (sharpness .entry))) (now (links .entry)) (range .first) (range .count) (now (out .entry)) r (now (out .exit)) ⌝ }
+    ensures { λ r. ⌜ Answered (meshOf (now (coordinates .entry)) (now (sides .entry)) (now (corners .entry)) (now (sharpness .entry))) (range .first) (range .count) (now (out .entry)) r (now (out .exit)) ⌝ }
 {
     let first = range.first;
     let count = range.count;
-    let a = request_checks::check_request(corners.len(), table, links, first, count, out.len());
+    let a = request_checks::check_asked(corners.len(), first, count, out.len());
     if let Answer::Refused(k, p) = a {
         return Answer::Refused(k, p);
     }

@@ -150,28 +150,28 @@ fn find_coordinate(coordinates: &[i32]) -> Answer
 pub fn check_names(vertices: usize, corners: &[u16]) -> Answer
     ensures { λ r. ⌜ stated r ≡ lowestOf 8 (length (now (corners .entry))) (fault8 vertices (now (corners .entry))) ⌝ }
 {
-    let highest = highest_name(corners) as usize;
+    let highest = highest_index(corners) as usize;
     if highest < vertices {
         return Answer::Done;
     }
     find_name(vertices, corners)
 }
 
-// A vertex that none of the corners is above.
-fn highest_name(corners: &[u16]) -> u16
-    ensures { λ r. ⌜ ((j : ℕ) → j < length (now (corners .entry)) → getD (now (corners .entry)) j 0 ≤ r) ⌝ }
+// A number that none of the list is above; of the corners a vertex, of the links a corner.
+pub fn highest_index(list: &[u16]) -> u16
+    ensures { λ r. ⌜ ((j : ℕ) → j < length (now (list .entry)) → getD (now (list .entry)) j 0 ≤ r) ⌝ }
 {
     let mut most: u16 = 0;
     let mut c = 0;
-    while c < corners.len() {
-        most = greater_name(most, corners[c]);
+    while c < list.len() {
+        most = greater_index(most, list[c]);
         c += 1;
     }
     most
 }
 
-// The greater of two vertices.
-fn greater_name(a: u16, b: u16) -> u16
+// The greater of two such numbers.
+fn greater_index(a: u16, b: u16) -> u16
     ensures { λ r. ⌜ (a ≤ r) × (b ≤ r) ⌝ }
 {
     if a < b { b } else { a }

@@ -6,7 +6,7 @@ use mathlib.Core.List.{List}
 use Prim.Native.Nat.{ℕ, _+_, _*_, _<_, _≤_}
 use native.Mathlib.Omega.{arith}
 use lib.Dec.{eqb, ltb}
-use lib.ListN.{getD}
+use lib.ListN.{length, getD}
 use borrow.Author.Tests.{eqb-true, eqb-false, eq-eqb, ne-eqb, lt-ltb, le-ltb, ltb-false, not-false}
 use Rattle.paper.specs.Mesh.{Mesh, cornerCount}
 use Rattle.paper.specs.Links.{link}
@@ -14,8 +14,8 @@ use Rattle.paper.specs.Faults.{Verdict, sound, _orElse_, single, verdict, linkV
 use Rattle.paper.specs.Calls.{perCorner, fault15, fault16, fault17, buildVerdict}
 use Rattle.walk.specs.Table.{toLink, entry, Column}
 use Rattle.mesh.proofs.Ranges.{or-left, or-right, or-none, none-left, none-right}
-use Rattle.mesh.proofs.Verdicts.{single-sound, sound-left, sound-right, orElse-assoc}
-use Rattle.request_checks.specs.Request.{requestFaults}
+use Rattle.mesh.proofs.Verdicts.{single-sound, single-miss, lowest-none, sound-left, sound-right, orElse-sound, orElse-assoc}
+use Rattle.request_checks.specs.Request.{linksFaults, rangeFaults, SameLinks}
 
 -- 15, by the table of the mesh's links
 module _ (M : Mesh) (table links : List ℕ) (t : Column table toLink (link (M .sides) (M .corners)) (cornerCount M)) (c : ℕ) (h : c < cornerCount M)
@@ -70,23 +70,33 @@ module _ (M : Mesh) (corners : ℕ) (e : cornerCount M ≡ corners) where
   unfolding fault16
   as-16 first count h = rw e h
 
--- building's verdict is that of the mesh, then that of the request
-pub verdict-is : (M : Mesh) (links : List ℕ) (first count n : ℕ) → buildVerdict M links first count n ≡ verdict M orElse requestFaults M links first count n
-unfolding buildVerdict linkVerdict requestFaults
-verdict-is M links first count n = orElse-assoc (verdict M) _ _
+-- a table's own links have no fault
+pub links-granted : (M : Mesh) (table links : List ℕ) → Column table toLink (link (M .sides) (M .corners)) (cornerCount M)
+    → SameLinks (cornerCount M) table links → linksFaults M links ≡ sound
+unfolding linksFaults
+links-granted M table links t s =
+    orElse-sound _ (single-miss 14 _ (ap not (eq-eqb _ _ (s .as-many))))
+    ∙ lowest-none 15 (cornerCount M) (fault15 M links) (λ c h. links-agree M table links t c h (s .same c h))
 
--- a request with no fault
+-- building's verdict is that of the mesh, then that of the links, then that of the range
+pub verdict-is : (M : Mesh) (links : List ℕ) (first count n : ℕ)
+    → buildVerdict M links first count n ≡ (verdict M orElse linksFaults M links) orElse rangeFaults M first count n
+unfolding buildVerdict linkVerdict linksFaults rangeFaults
+verdict-is M links first count n =
+    sym (orElse-assoc (verdict M orElse single 14 (not (eqb (length links) (cornerCount M))) (length links)) _ _)
+    ∙ ap (λ (v : Verdict). v orElse rangeFaults M first count n) (orElse-assoc (verdict M) _ _)
+
+-- a range with no fault
 pub record Granted (M : Mesh) (first count n : ℕ) : Type 0 where
   pub some : 0 < count
   pub within : first + count ≤ cornerCount M
   pub room : n ≡ perCorner * count
 
-pub granted : (M : Mesh) (links : List ℕ) (first count n : ℕ) → requestFaults M links first count n ≡ sound → Granted M first count n
-unfolding requestFaults fault16 fault17
-granted M links first count n e14 =
-    let e16 = sound-right _ _ (sound-right _ _ e14) in
+pub granted : (M : Mesh) (first count n : ℕ) → rangeFaults M first count n ≡ sound → Granted M first count n
+unfolding rangeFaults fault16 fault17
+granted M first count n e =
     record {
-      some = range-of (cornerCount M) first count (sound-left _ _ e16) .0;
-      within = range-of (cornerCount M) first count (sound-left _ _ e16) .1;
-      room = eqb-true _ _ (not-false _ (single-sound 17 _ _ (sound-right _ _ e16)));
+      some = range-of (cornerCount M) first count (sound-left _ _ e) .0;
+      within = range-of (cornerCount M) first count (sound-left _ _ e) .1;
+      room = eqb-true _ _ (not-false _ (single-sound 17 _ _ (sound-right _ _ e)));
     }

@@ -5,36 +5,33 @@ use walk::LINK;
 use walk::ROW;
 ghost use mathlib.Core.Path.{_≡_};
 ghost use mathlib.Core.Bool.{true, not, _||_};
-ghost use Prim.Native.Nat.{ℕ, _+_, _*_, _<_, _≤_};
+ghost use Prim.Native.Nat.{_+_, _*_, _≤_};
 ghost use lib.Dec.{eqb, ltb};
-ghost use lib.ListN.{length, getD};
+ghost use lib.ListN.{length};
 ghost use Rattle.paper.specs.Mesh.{mostCorners, Mesh, cornerCount};
 ghost use Rattle.paper.specs.Links.{link};
 ghost use Rattle.paper.specs.Faults.{single, lowestOf, stated};
 ghost use Rattle.paper.specs.Calls.{fault15, fault17};
-ghost use Rattle.walk.specs.Table.{rowLength, toLink, entry, Column};
-ghost use Rattle.request_checks.specs.Request.{requestFaults};
+ghost use Rattle.walk.specs.Table.{rowLength, toLink, Column};
+ghost use Rattle.request_checks.specs.Request.{linksFaults, rangeFaults, SameLinks};
 
-// Checks 14 to 17; `table` is the mesh's table of corners, `room` is the output's length.
-pub fn check_request(
-    corners: usize,
-    table: &[u16],
-    links: &[u16],
-    first: usize,
-    count: usize,
-    room: usize,
-) -> Answer
+// Checks 14 and 15; `table` is the mesh's table of corners.
+pub fn check_links(corners: usize, table: &[u16], links: &[u16]) -> Answer
     requires { ⌜ (corners ≤ mostCorners) × (rowLength * corners ≤ length (now table)) ⌝ }
-    ensures { λ r. ⌜ ((M : Mesh) → cornerCount M ≡ corners → Column (now (table .entry)) toLink (link (M .sides) (M .corners)) (cornerCount M) → stated r ≡ requestFaults M (now (links .entry)) first count room) ⌝ }
+    ensures { λ r. ⌜ ((M : Mesh) → cornerCount M ≡ corners → Column (now (table .entry)) toLink (link (M .sides) (M .corners)) (cornerCount M) → stated r ≡ linksFaults M (now (links .entry))) ⌝ }
 {
     let a14 = check_length(links.len(), corners);
     if let Answer::Refused(k, p) = a14 {
         return Answer::Refused(k, p);
     }
-    let a15 = check_links(table, links);
-    if let Answer::Refused(k, p) = a15 {
-        return Answer::Refused(k, p);
-    }
+    find_link(table, links)
+}
+
+// Checks 16 and 17; `room` is the output's length.
+pub fn check_asked(corners: usize, first: usize, count: usize, room: usize) -> Answer
+    requires { ⌜ corners ≤ mostCorners ⌝ }
+    ensures { λ r. ⌜ ((M : Mesh) → cornerCount M ≡ corners → stated r ≡ rangeFaults M first count room) ⌝ }
+{
     let a16 = check_range(first, count, corners);
     if let Answer::Refused(k, p) = a16 {
         return Answer::Refused(k, p);
@@ -52,22 +49,15 @@ pub fn check_length(links: usize, corners: usize) -> Answer
     Answer::Done
 }
 
-// Check 15: the link table is the mesh's own. Nearly every one is: it is gone over without an early end first.
-fn check_links(table: &[u16], links: &[u16]) -> Answer
-    requires { ⌜ (length (now links) ≤ mostCorners) × (rowLength * length (now links) ≤ length (now table)) ⌝ }
-    ensures { λ r. ⌜ ((M : Mesh) → cornerCount M ≡ length (now (links .entry)) → Column (now (table .entry)) toLink (link (M .sides) (M .corners)) (cornerCount M) → stated r ≡ lowestOf 15 (cornerCount M) (fault15 M (now (links .entry)))) ⌝ }
+// Whether there is a link for each corner and each is the table's. Nearly every link table is the mesh's own: it is gone over without an
+// early end, and only another one by 14 and 15.
+pub fn same_links(corners: usize, table: &[u16], links: &[u16]) -> bool
+    requires { ⌜ (corners ≤ mostCorners) × (rowLength * corners ≤ length (now table)) ⌝ }
+    ensures { λ r. ⌜ (r ≡ true → SameLinks corners (now (table .entry)) (now (links .entry))) ⌝ }
 {
-    if same_links(table, links) {
-        return Answer::Done;
+    if links.len() != corners {
+        return false;
     }
-    find_link(table, links)
-}
-
-// Whether each link is the table's.
-fn same_links(table: &[u16], links: &[u16]) -> bool
-    requires { ⌜ (length (now links) ≤ mostCorners) × (rowLength * length (now links) ≤ length (now table)) ⌝ }
-    ensures { λ r. ⌜ (r ≡ true → (c : ℕ) → c < length (now (links .entry)) → getD (now (links .entry)) c 0 ≡ entry (now (table .entry)) toLink c) ⌝ }
-{
     let mut same = true;
     let mut c = 0;
     while c < links.len() {
@@ -79,7 +69,7 @@ fn same_links(table: &[u16], links: &[u16]) -> bool
     same
 }
 
-// The lowest corner whose link is another.
+// Check 15: the lowest corner whose link is another.
 fn find_link(table: &[u16], links: &[u16]) -> Answer
     requires { ⌜ (length (now links) ≤ mostCorners) × (rowLength * length (now links) ≤ length (now table)) ⌝ }
     ensures { λ r. ⌜ ((M : Mesh) → cornerCount M ≡ length (now (links .entry)) → Column (now (table .entry)) toLink (link (M .sides) (M .corners)) (cornerCount M) → stated r ≡ lowestOf 15 (cornerCount M) (fault15 M (now (links .entry)))) ⌝ }

@@ -1,4 +1,4 @@
--- `building::answer` meets its contract: checks 14 to 17 refuse and the output is as it was, or the range is within the corners and the output has its places.
+-- `building::answer` meets its contract: checks 16 and 17 refuse and the output is as it was, or the range is within the corners and the output has its places.
 -- Assumes nothing.
 use mathlib.Core.Path.{_≡_, refl, ap, _∙_, sym}
 use borrow.Author.Needs.{needs}
@@ -7,7 +7,7 @@ use denote.Ref.{now}
 use Rattle.paper.specs.Mesh.{Mesh, meshOf}
 use Rattle.paper.specs.Faults.{stated, sound}
 use Rattle.mesh.proofs.Verdicts.{passed}
-use Rattle.request_checks.specs.Request.{requestFaults}
+use Rattle.request_checks.specs.Request.{rangeFaults}
 use Rattle.request_checks.proofs.Requests.{Granted, granted}
 use Rattle.building.proofs.Laws.{few}
 use Rattle.building.proofs.answer.Statement.{statement}
@@ -19,28 +19,25 @@ mesh s = meshOf (now (s .args .coordinates)) (now (s .args .sides)) (now (s .arg
 -- past the checks
 module _ (t : tie.After-enum-told) where
   abbrev start : tie.Start
-  start = t .before .before .before .before .before .before .before .before
+  start = t .before .before .before .before .before .before .before
 
-  accepts : requestFaults (mesh start) (now (start .args .links)) (start .args .range .first) (start .args .range .count) (length (now
-      (start .args .out))) ≡ sound
-  accepts = passed (t .before .before .check-request .result) (t .before .before .check-request .ensures (mesh start) refl
-      (start .pre .1 .links)) (t .enum-told .given .1)
+  accepts : rangeFaults (mesh start) (start .args .range .first) (start .args .range .count) (length (now (start .args .out))) ≡ sound
+  accepts = passed (t .before .before .check-asked .result) (t .before .before .check-asked .ensures (mesh start) refl) (t .enum-told .given .1)
 
   grants : Granted (mesh start) (start .args .range .first) (start .args .range .count) (length (now (start .args .out)))
-  grants = granted (mesh start) (now (start .args .links)) (start .args .range .first) (start .args .range .count) (length (now (start .args .out))) accepts
+  grants = granted (mesh start) (start .args .range .first) (start .args .range .count) (length (now (start .args .out))) accepts
 
-check-request-requires : tie.Need-check-request-requires
-check-request-requires c κs = let s = c .before .before .before .before .before in (few (mesh s) (s .pre .0), s .pre .1 .long)
+check-asked-requires : tie.Need-check-asked-requires
+check-asked-requires c κs = let s = c .before .before .before .before in few (mesh s) (s .pre .0)
 
 enum-known-a : tie.Need-enum-known-a
 enum-known-a c = search needs
 
 returns : tie.Need-returns
 returns c =
-    let s = c .before .before .before .before .before .before .before .before .before in
+    let s = c .before .before .before .before .before .before .before .before in
     record {
-      answers = ap stated (sym (c .before .a .given .1)) ∙ c .before .before .before .check-request .ensures (mesh s) refl
-          (s .pre .1 .links);
+      answers = ap stated (sym (c .before .a .given .1)) ∙ c .before .before .before .check-asked .ensures (mesh s) refl;
       holds = refl;
     }
 
@@ -63,7 +60,7 @@ pub answer-spec : {M : Type 1} → statement M
 answer-spec =
     tie.close
     (tie.spec
-    check-request-requires
+    check-asked-requires
     enum-known-a
     returns
     enum-told

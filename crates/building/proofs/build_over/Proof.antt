@@ -1,13 +1,13 @@
--- `building::build_over` meets its contract: the check of the mesh refuses, or its table serves the checks of the request and the writing.
+-- `building::build_over` meets its contract: the check of the mesh and its links refuses, or its table serves the writing.
 -- Assumes nothing.
-use mathlib.Core.Path.{refl, _∙_, sym}
-use native.Mathlib.Omega.{arith}
+use mathlib.Core.Path.{_≡_, refl, ap, _∙_, sym}
 use borrow.Author.Needs.{needs}
 use lib.ListN.{length}
 use denote.Ref.{now}
 use Rattle.paper.specs.Mesh.{Mesh, meshOf}
-use Rattle.paper.specs.Faults.{Accepted}
-use Rattle.mesh.proofs.Verdicts.{passed, stop, past}
+use Rattle.paper.specs.Faults.{Verdict, sound, _orElse_, verdict, stated}
+use Rattle.mesh.proofs.Verdicts.{passed, stop, past, sound-left}
+use Rattle.request_checks.specs.Request.{linksFaults}
 use Rattle.request_checks.proofs.Requests.{verdict-is}
 use Rattle.building.proofs.build_over.Statement.{statement}
 use Rattle.building.proofs.build_over.Tie as tie
@@ -15,17 +15,21 @@ use Rattle.building.proofs.build_over.Tie as tie
 abbrev mesh : tie.Start → Mesh
 mesh s = meshOf (now (s .args .coordinates)) (now (s .args .sides)) (now (s .args .corners)) (now (s .args .sharpness))
 
--- past the check of the mesh
+-- past the check of the mesh and its links
 abbrev start : tie.After-enum-told → tie.Start
 start t = t .before .before .before .before .before .before .before .before .before .before .before .before .before .before .before
 
-accepts : (t : tie.After-enum-told) → Accepted (mesh (start t))
-accepts t =
-    let a = t .before .before .before .before .before .before .check-within in
-    passed (a .result) (a .ensures .answers) (t .enum-told .given .1)
+-- what it answers
+abbrev checks : tie.Start → Verdict
+checks s = verdict (mesh s) orElse linksFaults (mesh s) (now (s .args .links))
 
-check-within-requires : tie.Need-check-within-requires
-check-within-requires c κs = search needs
+accepts : (t : tie.After-enum-told) → checks (start t) ≡ sound
+accepts t =
+    let a = t .before .before .before .before .before .before .check-linked in
+    passed {v = checks (start t)} (a .result) (a .ensures .answers) (t .enum-told .given .1)
+
+check-linked-requires : tie.Need-check-linked-requires
+check-linked-requires c κs = search needs
 
 enum-known-a : tie.Need-enum-known-a
 enum-known-a c = search needs
@@ -39,7 +43,7 @@ same-length-2 c = search needs
 returns : tie.Need-returns
 returns c =
     let s = c .before .before .before .before .before .before .before .before .before .before .before .before .before .before .before .before in
-    let a = c .before .before .before .before .before .before .before .check-within in
+    let a = c .before .before .before .before .before .before .before .check-linked in
     record {
       answers =
           stop (a .result) (a .ensures .answers) (c .before .a .given .0 .0) (c .before .a .given .0 .1 .0) (c .before .a .given .1) _
@@ -53,8 +57,8 @@ enum-told c = search needs
 answer-requires : tie.Need-answer-requires
 answer-requires c κs =
     let t = c .before .before in
-    let a = t .before .before .before .before .before .before .check-within in
-    (accepts t, a .ensures .tabled (accepts t))
+    let a = t .before .before .before .before .before .before .check-linked in
+    (sound-left _ _ (accepts t), a .ensures .tabled (ap stated (t .enum-told .given .1)))
 
 same-length-3 : tie.Need-same-length-3
 same-length-3 c = search needs
@@ -81,7 +85,7 @@ pub build-over-spec : {M : Type 1} → statement M
 build-over-spec =
     tie.close
     (tie.spec
-    check-within-requires
+    check-linked-requires
     enum-known-a
     same-length
     same-length-2

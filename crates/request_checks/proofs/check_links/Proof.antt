@@ -1,30 +1,52 @@
--- Check 15 meets its contract: where each link is the table's, no corner is at fault.
+-- Checks 14 and 15 meet their contract: the first stops the chain with its fault or is passed.
 -- Assumes nothing.
-use mathlib.Core.Path.{sym}
+use mathlib.Core.Path.{_≡_, _∙_, sym}
+use lib.ListN.{length}
 use denote.Ref.{now}
-use Rattle.paper.specs.Mesh.{cornerCount}
-use Rattle.paper.specs.Calls.{fault15}
-use Rattle.mesh.proofs.Verdicts.{lowest-none}
-use Rattle.request_checks.proofs.Requests.{links-agree}
+use Rattle.mesh.proofs.Verdicts.{stop, passed, past}
+use Rattle.request_checks.specs.Request.{linksFaults}
+use Rattle.request_checks.proofs.Requests.{length-of, as-14}
 use native.Mathlib.Omega.{arith}
 use borrow.Author.Needs.{needs}
 use Rattle.request_checks.proofs.check_links.Statement.{statement}
 use Rattle.request_checks.proofs.check_links.Tie as tie
 
-same-links-requires : tie.Need-same-links-requires
-same-links-requires c κs = search needs
+-- after check 14
+module _ (t : tie.After-enum-told) where
+  abbrev s14 : tie.Start
+  s14 = t .before .before .before .before .before
+
+  same-length : length (now (s14 .args .links)) ≡ s14 .args .corners
+  same-length = length-of _ _ (passed (t .before .before .check-length .result) (t .before .before .check-length .ensures) (t .enum-told .given .1))
+
+check-length-requires : tie.Need-check-length-requires
+check-length-requires c κs = search needs
+
+enum-known-a14 : tie.Need-enum-known-a14
+enum-known-a14 c = search needs
 
 returns : tie.Need-returns
+unfolding linksFaults
 returns c =
-    let s = c .before .before .before .before in
-    λ M e t. sym (lowest-none 15 (cornerCount M) (fault15 M (now (s .args .links)))
-    (λ j k. links-agree M (now (s .args .table)) (now (s .args .links)) t j k (c .before .same-links .ensures (c .if1 .taken) j (omega arith))))
+    let s = c .before .before .before .before .before .before in
+    let a = c .before .before .before .check-length in
+    λ M e t. stop (a .result) (as-14 M (s .args .corners) e (length (now (s .args .links))) (a .ensures))
+    (c .before .a14 .given .0 .0) (c .before .a14 .given .0 .1 .0) (c .before .a14 .given .1) _
+
+enum-told : tie.Need-enum-told
+enum-told c = search needs
 
 find-link-requires : tie.Need-find-link-requires
-find-link-requires c κs = search needs
+find-link-requires c κs = let s = s14 c in (omega (arith, same-length c, s .pre .0), omega (arith, same-length c, s .pre .1))
 
 returns-2 : tie.Need-returns-2
-returns-2 c = search needs
+unfolding linksFaults
+returns-2 c =
+    let t14 = c .before in
+    let s = s14 t14 in
+    let a = t14 .before .before .check-length in
+    λ M e t. past (passed (a .result) (as-14 M (s .args .corners) e (length (now (s .args .links))) (a .ensures)) (t14 .enum-told .given .1)) _
+    (c .find-link .ensures M (e ∙ sym (same-length t14)) t)
 
 pub check-links-spec : {M : Type 1} → statement M
-check-links-spec = tie.close (tie.spec same-links-requires returns find-link-requires returns-2)
+check-links-spec = tie.close (tie.spec check-length-requires enum-known-a14 returns enum-told find-link-requires returns-2)

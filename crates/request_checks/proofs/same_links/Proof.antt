@@ -1,6 +1,6 @@
 -- `same_links` meets its contract: where no difference was met, the tables agree below `c`.
 -- Assumes nothing.
-use mathlib.Core.Path.{_≡_, _∙_, sym}
+use mathlib.Core.Path.{_≡_, refl, _∙_, sym}
 use mathlib.Core.Bool.{true}
 use mathlib.Core.Logic.{⊎-elim}
 use Prim.Native.Nat.{ℕ, _-_, _≤_, _<_}
@@ -15,31 +15,34 @@ use Rattle.request_checks.proofs.same_links.Statement.{statement}
 use Rattle.request_checks.proofs.same_links.Tie as tie
 
 abbrev Inv-loop : tie.InvT-loop
-Inv-loop table links same₀ c₀ same c = (c ≤ length links) × (same ≡ true → (j : ℕ) → j < c → getD links j 0 ≡ entry table toLink j)
+Inv-loop corners table links same₀ c₀ same c = (c ≤ length links) × (same ≡ true → (j : ℕ) → j < c → getD links j 0 ≡ entry table toLink j)
 
 abbrev μ-loop : tie.MeasureT-loop
-μ-loop table links same₀ c₀ same c = length links - c
+μ-loop corners table links same₀ c₀ same c = length links - c
+
+returns : tie.Need-returns Inv-loop μ-loop
+returns c = λ e. absurd (clash e refl)
 
 loop-holds : tie.Need-loop-holds Inv-loop μ-loop
 loop-holds c = (omega arith, λ e j h. absurd (omega arith))
 
-mul-if1 : tie.Need-mul-if1 Inv-loop μ-loop
-mul-if1 c = search needs
+mul-if2 : tie.Need-mul-if2 Inv-loop μ-loop
+mul-if2 c = search needs
 
-shared-slice-read-if1 : tie.Need-shared-slice-read-if1 Inv-loop μ-loop
-shared-slice-read-if1 c = search needs
+shared-slice-read-if2 : tie.Need-shared-slice-read-if2 Inv-loop μ-loop
+shared-slice-read-if2 c = search needs
 
-mul-if1-2 : tie.Need-mul-if1-2 Inv-loop μ-loop
-mul-if1-2 c = search needs
+mul-if2-2 : tie.Need-mul-if2-2 Inv-loop μ-loop
+mul-if2-2 c = search needs
 
-add-if1 : tie.Need-add-if1 Inv-loop μ-loop
-add-if1 c = search needs
+add-if2 : tie.Need-add-if2 Inv-loop μ-loop
+add-if2 c = search needs
 
-mul-if1-3 : tie.Need-mul-if1-3 Inv-loop μ-loop
-mul-if1-3 c = search needs
+mul-if2-3 : tie.Need-mul-if2-3 Inv-loop μ-loop
+mul-if2-3 c = search needs
 
-shared-slice-read-if1-2 : tie.Need-shared-slice-read-if1-2 Inv-loop μ-loop
-shared-slice-read-if1-2 c = omega arith
+shared-slice-read-if2-2 : tie.Need-shared-slice-read-if2-2 Inv-loop μ-loop
+shared-slice-read-if2-2 c = omega arith
 
 add-c : tie.Need-add-c Inv-loop μ-loop
 add-c c = search needs
@@ -49,17 +52,17 @@ loop-less c = search needs
 
 loop-again : tie.Need-loop-again Inv-loop μ-loop
 loop-again c =
-    let s = c .before .before .before .before .before in
+    let s = c .before .before .before .before .before .before in
     let l = c .before .before .before .before .loop in (
       search needs,
       λ e. ⊎-elim
           (λ w. absurd (clash e (w .1)))
           (λ w. below-more (λ j. getD (now (s .args .links)) j 0 ≡ entry (now (s .args .table)) toLink j) (l .c) (l .inv .1 (sym (w .1) ∙ e)) (w .0 .left))
-          (c .if1 .came),
+          (c .if2 .came),
     )
 
-returns : tie.Need-returns Inv-loop μ-loop
-returns c = let l = c .before .loop in λ e j h. l .inv .1 e j (omega arith)
+returns-2 : tie.Need-returns-2 Inv-loop μ-loop
+returns-2 c = let l = c .before .loop in λ e. record { as-many = c .before .before .if1 .left; same = λ j h. l .inv .1 e j (omega arith) }
 
 pub same-links-spec : {M : Type 1} → statement M
 same-links-spec =
@@ -67,14 +70,15 @@ same-links-spec =
     (tie.spec
     Inv-loop
     μ-loop
+    returns
     loop-holds
-    mul-if1
-    shared-slice-read-if1
-    mul-if1-2
-    add-if1
-    mul-if1-3
-    shared-slice-read-if1-2
+    mul-if2
+    shared-slice-read-if2
+    mul-if2-2
+    add-if2
+    mul-if2-3
+    shared-slice-read-if2-2
     add-c
     loop-less
     loop-again
-    returns)
+    returns-2)

@@ -1,0 +1,59 @@
+-- No number before `c` is above the greatest met.
+-- Assumes nothing.
+use Prim.Native.Nat.{ℕ, _≤_, _<_, _-_}
+use lib.ListN.{length, getD}
+use denote.Ref.{now}
+use native.Mathlib.Omega.{arith}
+use borrow.Author.Needs.{needs}
+use Rattle.mesh.proofs.Scans.{all-below-step}
+use Rattle.list_checks.proofs.highest_index.Statement.{statement}
+use Rattle.list_checks.proofs.highest_index.Tie as tie
+
+abbrev Inv-loop : tie.InvT-loop
+Inv-loop list most₀ c₀ most c = (c ≤ length list) × ((j : ℕ) → j < c → getD list j 0 ≤ most)
+
+abbrev μ-loop : tie.MeasureT-loop
+μ-loop list most₀ c₀ most c = length list - c
+
+loop-holds : tie.Need-loop-holds Inv-loop μ-loop
+loop-holds c = (omega arith, λ j h. absurd (omega arith))
+
+mul-greater-index : tie.Need-mul-greater-index Inv-loop μ-loop
+mul-greater-index c = search needs
+
+shared-slice-read-greater-index : tie.Need-shared-slice-read-greater-index Inv-loop μ-loop
+shared-slice-read-greater-index c = search needs
+
+greater-index-requires : tie.Need-greater-index-requires Inv-loop μ-loop
+greater-index-requires c κs = search needs
+
+add-c : tie.Need-add-c Inv-loop μ-loop
+add-c c = search needs
+
+loop-less : tie.Need-loop-less Inv-loop μ-loop
+loop-less c = search needs
+
+loop-again : tie.Need-loop-again Inv-loop μ-loop
+loop-again c = let s = c .before .before .before .before .before in let l = c .before .before .before .loop in (
+  search needs,
+  all-below-step (λ j. getD (now (s .args .list)) j 0) (l .c) (l .most) (c .greater-index .result) (l .inv .1) (c .greater-index .ensures .0)
+      (c .greater-index .ensures .1),
+)
+
+returns : tie.Need-returns Inv-loop μ-loop
+returns c = let l = c .before .loop in λ j h. l .inv .1 j (omega arith)
+
+pub highest-index-spec : {M : Type 1} → statement M
+highest-index-spec =
+    tie.close
+    (tie.spec
+    Inv-loop
+    μ-loop
+    loop-holds
+    mul-greater-index
+    shared-slice-read-greater-index
+    greater-index-requires
+    add-c
+    loop-less
+    loop-again
+    returns)
