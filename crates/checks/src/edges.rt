@@ -142,17 +142,10 @@ pub fn highest_entry(table: &[u16], count: usize) -> u16
     let mut most: u16 = 0;
     let mut c = 0;
     while c < count {
-        most = greater(most, table[ROW * c + LINK]);
+        most = list_checks::greater_index(most, table[ROW * c + LINK]);
         c += 1;
     }
     most
-}
-
-// The greater of two entries.
-fn greater(a: u16, b: u16) -> u16
-    ensures { λ r. ⌜ (a ≤ r) × (b ≤ r) ⌝ }
-{
-    if a < b { b } else { a }
 }
 
 // Check 10: no leaving edge already left an earlier corner.

@@ -171,7 +171,7 @@ pub fn highest_index(list: &[u16]) -> u16
 }
 
 // The greater of two such numbers.
-fn greater_index(a: u16, b: u16) -> u16
+pub fn greater_index(a: u16, b: u16) -> u16
     ensures { λ r. ⌜ (a ≤ r) × (b ≤ r) ⌝ }
 {
     if a < b { b } else { a }

@@ -18,20 +18,20 @@ abbrev μ-loop : tie.MeasureT-loop
 loop-holds : tie.Need-loop-holds Inv-loop μ-loop
 loop-holds c = (omega arith, λ j h. absurd (omega arith))
 
-mul-greater : tie.Need-mul-greater Inv-loop μ-loop
-mul-greater c = search needs
+mul-greater-index : tie.Need-mul-greater-index Inv-loop μ-loop
+mul-greater-index c = search needs
 
-add-greater : tie.Need-add-greater Inv-loop μ-loop
-add-greater c = search needs
+add-greater-index : tie.Need-add-greater-index Inv-loop μ-loop
+add-greater-index c = search needs
 
-mul-greater-2 : tie.Need-mul-greater-2 Inv-loop μ-loop
-mul-greater-2 c = search needs
+mul-greater-index-2 : tie.Need-mul-greater-index-2 Inv-loop μ-loop
+mul-greater-index-2 c = search needs
 
-shared-slice-read-greater : tie.Need-shared-slice-read-greater Inv-loop μ-loop
-shared-slice-read-greater c = search needs
+shared-slice-read-greater-index : tie.Need-shared-slice-read-greater-index Inv-loop μ-loop
+shared-slice-read-greater-index c = search needs
 
-greater-requires : tie.Need-greater-requires Inv-loop μ-loop
-greater-requires c κs = search needs
+greater-index-requires : tie.Need-greater-index-requires Inv-loop μ-loop
+greater-index-requires c κs = search needs
 
 add-c : tie.Need-add-c Inv-loop μ-loop
 add-c c = search needs
@@ -43,7 +43,7 @@ loop-again : tie.Need-loop-again Inv-loop μ-loop
 loop-again c =
     let s = c .before .before .before .before .before in let l = c .before .before .before .loop in (
       search needs,
-      all-below-step (entry (now (s .args .table)) toLink) (l .c) (l .most) (c .greater .result) (l .inv .1) (c .greater .ensures .0) (c .greater .ensures .1),
+      all-below-step (entry (now (s .args .table)) toLink) (l .c) (l .most) (c .greater-index .result) (l .inv .1) (c .greater-index .ensures .0) (c .greater-index .ensures .1),
     )
 
 returns : tie.Need-returns Inv-loop μ-loop
@@ -56,11 +56,11 @@ highest-entry-spec =
     Inv-loop
     μ-loop
     loop-holds
-    mul-greater
-    add-greater
-    mul-greater-2
-    shared-slice-read-greater
-    greater-requires
+    mul-greater-index
+    add-greater-index
+    mul-greater-index-2
+    shared-slice-read-greater-index
+    greater-index-requires
     add-c
     loop-less
     loop-again
