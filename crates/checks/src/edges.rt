@@ -65,8 +65,8 @@ pub fn fill_links(corners: &[u16], count: usize, table: &mut [u16], vertices: &m
     }
 }
 
-// Marks the corners of u, from the highest down, which is before `last`: the lowest one of an edge stays. Answers how many there are, and
-// notes that, and the lowest in place of the last.
+// Marks the corners of u from the highest down, so that the lowest one of an edge stays; `last` is one more than the highest. Answers how
+// many there are, and notes that, and the lowest in place of the last.
 fn mark(corners: &[u16], table: &[u16], u: usize, last: u16, vertices: &mut [u16]) -> u16
     requires walk { ⌜ Searchable (now corners) (now table) (now vertices) × Row (now vertices) u × ChainsFrom (now corners) (now table) u ⌝ }
     requires last { ⌜ last ≡ lastOf (now corners) u ⌝ }
