@@ -2,17 +2,21 @@
 // and face points of its vertex's and of its face's ring, where these are not of four.
 use numbers::cosines;
 use refine::faces::Face;
+use walk::NEXT;
 use walk::Walker;
 ghost use mathlib.Core.Path.{_≡_};
-ghost use Prim.Native.Nat.{_+_, _*_, _≤_, _<_};
+ghost use mathlib.Core.Bool.{true};
+ghost use Prim.Native.Nat.{ℕ, _+_, _*_, _≤_, _<_};
 ghost use lib.ListN.{length};
 ghost use Rattle.surface.specs.Sizes.{FaceSize};
 ghost use Rattle.surface.specs.Sound.{Sound};
 ghost use Rattle.numbers.specs.Stored.{stored};
-ghost use Rattle.walk.specs.Table.{rowLength, tabled};
+ghost use Rattle.surface.specs.Points.{pointAt};
+ghost use Rattle.walk.specs.Table.{rowLength, toNext, toPrevious, tabled};
 ghost use Rattle.refine.specs.faces.Ring.{around, Rings};
 ghost use Rattle.net.specs.sides.Values.{FaceSized};
 ghost use Rattle.net.specs.near.Near.{near, RowTaken, FaceTaken, RingTaken, Readable, PointsTaken};
+ghost use Rattle.net.specs.near.Near.{Shared, AheadTaken, Follows};
 
 // The corners whose refined points they hold.
 pub const AROUND: usize = 11;
@@ -63,6 +67,65 @@ pub fn take_ring(
         let f = refine::faces::ring_faces(points, table, column, rows, c, m);
         take_face(f.x, f.y, f.z, near, i);
     }
+}
+
+// Whether c comes after c - 1 in its face, and its net, from `at` on in the output, after another.
+pub fn follows(table: &[u16], c: usize, at: usize) -> bool
+    requires { ⌜ rowLength * c + toPrevious < length (now table) ⌝ }
+    ensures { λ r. ⌜ (r ≡ true → Follows (now (table .entry)) c at) ⌝ }
+{
+    if at == 0 {
+        return false;
+    }
+    if c == 0 {
+        return false;
+    }
+    let here = Walker { corner: c };
+    let previous = here.previous(table);
+    let p = previous.corner;
+    p == c - 1
+}
+
+// The rows of the ring of the face of c, which has m corners, where it is not of four. Where they have that of the corner before, the centre
+// stays, and the point that was ahead is the one behind.
+pub fn take_next(
+    points: &[i32],
+    table: &[u16],
+    rows: &cosines::Rows,
+    c: usize,
+    m: usize,
+    shared: bool,
+    near: &mut [i32],
+)
+    requires ring { ⌜ Rings (now points) (now table) toNext c m ⌝ }
+    requires room { ⌜ (now rows ≡ stored) × (68 ≤ length (now near)) ⌝ }
+    requires shared { ⌜ (shared ≡ true → (m ≡ 4 → ⊥) → Shared (λ a. around (now points) a (now table) toNext c) m (now near)) ⌝ }
+    ensures { λ _. ⌜ RingTaken (λ a. around (now (points .entry)) a (now (table .entry)) toNext c) m 14 (now (near .entry)) (now (near .exit)) ⌝ }
+{
+    if m == 4 {
+        return;
+    }
+    if shared {
+        let a = refine::faces::ring_ahead(points, table, NEXT, rows, c, m);
+        take_ahead(a.x, a.y, a.z, near);
+        return;
+    }
+    let f = refine::faces::ring_faces(points, table, NEXT, rows, c, m);
+    take_face(f.x, f.y, f.z, near, FACE);
+}
+
+// The row of the point ahead becomes that of the one behind, and is taken anew.
+fn take_ahead(x: i64, y: i64, z: i64, near: &mut [i32])
+    requires sizes { ⌜ FaceSize x × FaceSize y × FaceSize z × (68 ≤ length (now near)) ⌝ }
+    requires held { ⌜ ((k : ℕ) → k < 4 → FaceSize (pointAt (now near) k 15)) ⌝ }
+    ensures { λ _. ⌜ AheadTaken x y z (now (near .entry)) (now (near .exit)) ⌝ }
+{
+    let u = refine::faces::point(near, 0, FACE + 1);
+    let v = refine::faces::point(near, 1, FACE + 1);
+    let w = refine::faces::point(near, 2, FACE + 1);
+    let s = refine::faces::point(near, 3, FACE + 1);
+    take_row(u, v, w, s, near, FACE + 2);
+    take_row(x, y, z, 0, near, FACE + 1);
 }
 
 // The corner and those around it: the rings of its leaving and of its arriving edge, then what follows in the rings of its vertex and of its

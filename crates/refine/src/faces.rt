@@ -8,7 +8,7 @@ use walk::Walker;
 ghost use mathlib.Core.Path.{_≡_};
 ghost use Prim.Native.Nat.{_+_, _-_, _*_, _^_, _≤_, _<_};
 ghost use lib.ListN.{length};
-ghost use lib.IntN.{pos, natAbs};
+ghost use lib.IntN.{pos, natAbs, _+ℤ_, _*ℤ_};
 ghost use Rattle.paper.specs.Mesh.{leastSides, mostSides};
 ghost use Rattle.paper.specs.Numbers.{round};
 ghost use Rattle.paper.specs.Cosines.{unit, cosine};
@@ -19,6 +19,7 @@ ghost use Rattle.surface.specs.Sizes.{RefinedSize};
 ghost use Rattle.numbers.specs.Units.{Reciprocal};
 ghost use Rattle.refine.specs.faces.Ring.{around, Rings, Addable, Added, AllSummed, Divisible, AllDivisible, Divided, AllDivided, Readable, AreFaces, IsThreeFace, IsEdgeFace};
 ghost use Rattle.refine.specs.faces.Ring.{fiveSum, IsFiveFace, IsSixFace};
+ghost use Rattle.refine.specs.faces.Ring.{AheadSummed, AheadDivisible, AheadDivided, AreAhead};
 
 // What the weights of a ring sum to for each of its corners, where the table has UNIT for 1.
 const WEIGHTS: i64 = 3 * UNIT;
@@ -35,6 +36,13 @@ pub struct Faces {
     pub x: Face,
     pub y: Face,
     pub z: Face,
+}
+
+// The point of a refined face towards the side that leaves the corner, on each axis.
+pub struct Ahead {
+    pub x: i64,
+    pub y: i64,
+    pub z: i64,
 }
 
 // What a ring is summed to before the divisions.
@@ -70,6 +78,19 @@ pub fn point(points: &[i32], axis: usize, c: usize) -> i64
     wide(points[POINT_ROW * c + axis])
 }
 
+// The weight of place j, from the cosine of the place before; and C(m, j), for the next place.
+fn weight_at(rows: &cosines::Rows, m: usize, j: usize, last: i64) -> Weight
+    requires row { ⌜ (leastSides ≤ m) × (m ≤ mostSides) × (j < m) × (now rows ≡ stored) ⌝ }
+    requires last { ⌜ last ≡ cosine m (j + (m - 1)) ⌝ }
+    ensures { λ r. ⌜ (r .weight ≡ weight m j) × (r .cosine ≡ cosine m j) ⌝ }
+{
+    let next = cosines::cosine(rows, m, j);
+    Weight {
+        weight: WEIGHTS + 2 * next + 2 * last,
+        cosine: next,
+    }
+}
+
 // The weight of the place after j, k = j + 1, from C(m, j); and C(m, k), for the next place.
 fn weight_after(rows: &cosines::Rows, m: usize, j: usize, last: i64) -> Weight
     requires row { ⌜ (leastSides ≤ m) × (m ≤ mostSides) × (j < m) × (now rows ≡ stored) ⌝ }
@@ -77,11 +98,7 @@ fn weight_after(rows: &cosines::Rows, m: usize, j: usize, last: i64) -> Weight
     ensures { λ r. ⌜ (r .weight ≡ weight m (j + 1)) × (r .cosine ≡ cosine m (j + 1)) ⌝ }
 {
     let k = if j + 1 < m { j + 1 } else { 0 };
-    let next = cosines::cosine(rows, m, k);
-    Weight {
-        weight: WEIGHTS + 2 * next + 2 * last,
-        cosine: next,
-    }
+    weight_at(rows, m, k, last)
 }
 
 // The sums with one place more: its point v, and its weights w ahead and u behind.
@@ -434,6 +451,194 @@ pub fn four_or_ring_faces(
     match m {
         4 => ring_of_four(points, table, column, c),
         _ => ring_faces(points, table, column, rows, c, m),
+    }
+}
+
+// The sum with one place more: its point v, and its weight w.
+fn add_ahead(s: i64, v: i64, w: i64) -> i64
+    requires { ⌜ (natAbs s ≤ 2 ^ 61) × RefinedSize v × (natAbs w ≤ 7 * unit) ⌝ }
+    ensures { λ r. ⌜ r ≡ s +ℤ v *ℤ w ⌝ }
+{
+    s + v * w
+}
+
+// The sums ahead alone of the ring of m corners at c, by one way round it.
+fn ahead_sums(
+    points: &[i32],
+    table: &[u16],
+    column: usize,
+    rows: &cosines::Rows,
+    c: usize,
+    m: usize,
+) -> Ahead
+    requires ring { ⌜ Rings (now points) (now table) column c m ⌝ }
+    requires rows { ⌜ now rows ≡ stored ⌝ }
+    ensures { λ r. ⌜ AheadSummed (λ a. around (now (points .entry)) a (now (table .entry)) column c) m r ⌝ }
+{
+    let mut x: i64 = 0;
+    let mut y: i64 = 0;
+    let mut z: i64 = 0;
+    let mut last = cosines::cosine(rows, m, m - 1);
+    let mut at = Walker { corner: c };
+    let mut j: usize = 0;
+    while j < m {
+        let w = weight_at(rows, m, j, last);
+        x = add_ahead(x, point(points, 0, at.corner), w.weight);
+        y = add_ahead(y, point(points, 1, at.corner), w.weight);
+        z = add_ahead(z, point(points, 2, at.corner), w.weight);
+        last = w.cosine;
+        at = at.by(table, column);
+        j += 1;
+    }
+    Ahead { x: x, y: y, z: z }
+}
+
+// The points that they come to, by one reciprocal.
+fn divide_ahead(s: Ahead, m: usize) -> Ahead
+    requires count { ⌜ (leastSides ≤ m) × (m ≤ mostSides) ⌝ }
+    requires sums { ⌜ AheadDivisible s m ⌝ }
+    ensures { λ r. ⌜ AheadDivided s m r ⌝ }
+{
+    let d = 3 * m as i64;
+    let f = rounding::reciprocal(d);
+    Ahead {
+        x: rounding::unit_quotient(s.x, d, f),
+        y: rounding::unit_quotient(s.y, d, f),
+        z: rounding::unit_quotient(s.z, d, f),
+    }
+}
+
+// The points ahead of a ring of three: nothing else of its faces is used.
+fn ahead_of_three(points: &[i32], table: &[u16], column: usize, c: usize) -> Ahead
+    requires { ⌜ Rings (now points) (now table) column c 3 ⌝ }
+    ensures { λ r. ⌜ AreAhead (λ a. around (now (points .entry)) a (now (table .entry)) column c) 3 r ⌝ }
+{
+    let here = Walker { corner: c };
+    let second = here.by(table, column);
+    let third = second.by(table, column);
+    let x = three_on(points, 0, c, second.corner, third.corner);
+    let y = three_on(points, 1, c, second.corner, third.corner);
+    let z = three_on(points, 2, c, second.corner, third.corner);
+    Ahead {
+        x: x.ahead,
+        y: y.ahead,
+        z: z.ahead,
+    }
+}
+
+// The same of a ring of five.
+fn ahead_of_five(points: &[i32], table: &[u16], column: usize, c: usize) -> Ahead
+    requires { ⌜ Rings (now points) (now table) column c 5 ⌝ }
+    ensures { λ r. ⌜ AreAhead (λ a. around (now (points .entry)) a (now (table .entry)) column c) 5 r ⌝ }
+{
+    let here = Walker { corner: c };
+    let second = here.by(table, column);
+    let third = second.by(table, column);
+    let fourth = third.by(table, column);
+    let fifth = fourth.by(table, column);
+    let x = five_on(
+        points,
+        0,
+        c,
+        second.corner,
+        third.corner,
+        fourth.corner,
+        fifth.corner,
+    );
+    let y = five_on(
+        points,
+        1,
+        c,
+        second.corner,
+        third.corner,
+        fourth.corner,
+        fifth.corner,
+    );
+    let z = five_on(
+        points,
+        2,
+        c,
+        second.corner,
+        third.corner,
+        fourth.corner,
+        fifth.corner,
+    );
+    Ahead {
+        x: x.ahead,
+        y: y.ahead,
+        z: z.ahead,
+    }
+}
+
+// The same of a ring of six.
+fn ahead_of_six(points: &[i32], table: &[u16], column: usize, c: usize) -> Ahead
+    requires { ⌜ Rings (now points) (now table) column c 6 ⌝ }
+    ensures { λ r. ⌜ AreAhead (λ a. around (now (points .entry)) a (now (table .entry)) column c) 6 r ⌝ }
+{
+    let here = Walker { corner: c };
+    let second = here.by(table, column);
+    let third = second.by(table, column);
+    let fourth = third.by(table, column);
+    let fifth = fourth.by(table, column);
+    let sixth = fifth.by(table, column);
+    let x = six_on(
+        points,
+        0,
+        c,
+        second.corner,
+        third.corner,
+        fourth.corner,
+        fifth.corner,
+        sixth.corner,
+    );
+    let y = six_on(
+        points,
+        1,
+        c,
+        second.corner,
+        third.corner,
+        fourth.corner,
+        fifth.corner,
+        sixth.corner,
+    );
+    let z = six_on(
+        points,
+        2,
+        c,
+        second.corner,
+        third.corner,
+        fourth.corner,
+        fifth.corner,
+        sixth.corner,
+    );
+    Ahead {
+        x: x.ahead,
+        y: y.ahead,
+        z: z.ahead,
+    }
+}
+
+// The points ahead of the ring of m corners at c: what `ring_faces` gives there, without the rest.
+pub fn ring_ahead(
+    points: &[i32],
+    table: &[u16],
+    column: usize,
+    rows: &cosines::Rows,
+    c: usize,
+    m: usize,
+) -> Ahead
+    requires ring { ⌜ Rings (now points) (now table) column c m ⌝ }
+    requires rows { ⌜ now rows ≡ stored ⌝ }
+    ensures { λ r. ⌜ AreAhead (λ a. around (now (points .entry)) a (now (table .entry)) column c) m r ⌝ }
+{
+    match m {
+        3 => ahead_of_three(points, table, column, c),
+        5 => ahead_of_five(points, table, column, c),
+        6 => ahead_of_six(points, table, column, c),
+        _ => {
+            let s = ahead_sums(points, table, column, rows, c, m);
+            divide_ahead(s, m)
+        }
     }
 }
 

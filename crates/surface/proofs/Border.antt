@@ -61,10 +61,10 @@ module _ (v : ℕ → ℤ) (step n : ℕ → ℕ) (c : ℕ) (cyc : Cyclic (λ j.
   moved : (j : ℕ) → there j ≡ here (j + 1)
   moved j = ap v (iterate-first step j c)
 
-  ring-H : centre rounded there (n (step c)) ≡ centre rounded here (n c)
+  pub ring-H : centre rounded there (n (step c)) ≡ centre rounded here (n c)
   ring-H = ap (centre rounded there) same ∙ centre-same here there (n c) 1 cyc (λ j l. moved j)
 
-  ring-X : toward rounded there (n (step c)) (n (step c) - 1) ≡ toward rounded here (n c) 0
+  pub ring-X : toward rounded there (n (step c)) (n (step c) - 1) ≡ toward rounded here (n c) 0
   ring-X =
       ap (λ (m : ℕ). toward rounded there m (m - 1)) same
       ∙ toward-same there here (n c) (n c - 1) 0 (λ k l. moved (n c - 1 + k) ∙ ap here (index k) ∙ cyc (0 + k))

@@ -92,7 +92,7 @@ module _ (near : List ℤ) (i : ℕ) (x y z w : ℤ) (room : 4 * i + 4 ≤ lengt
   }
 
 -- ---- the three rows of a face
-lane-plain : (x y z : ℤ) → FaceSize x → FaceSize y → FaceSize z → (k : ℕ)
+pub lane-plain : (x y z : ℤ) → FaceSize x → FaceSize y → FaceSize z → (k : ℕ)
     → lane (plain x) (plain y) (plain z) (pos 0) k ≡ lane x y z (pos 0) k
 lane-plain x y z hx hy hz k = rw (plain-is x hx, plain-is y hy, plain-is z hz) refl
 
@@ -114,7 +114,7 @@ module _ (f g h : Face) (zf : FaceSized f) (zg : FaceSized g) (zh : FaceSized h)
   }
 
 -- ---- a ring's face on the three axes
-lane-sized : (P : ℤ → Type 0) → P (pos 0) → (x y z : ℤ) → P x → P y → P z → (k : ℕ) → P (lane x y z (pos 0) k)
+pub lane-sized : (P : ℤ → Type 0) → P (pos 0) → (x y z : ℤ) → P x → P y → P z → (k : ℕ) → P (lane x y z (pos 0) k)
 lane-sized P p0 x y z px py pz zero = px
 lane-sized P p0 x y z px py pz (suc zero) = py
 lane-sized P p0 x y z px py pz (suc (suc zero)) = pz

@@ -7,7 +7,10 @@ use lib.ListN.{length, getD}
 use lib.IntN.{ℤ, pos}
 use Rattle.paper.specs.Refined.{Corners}
 use Rattle.surface.specs.Points.{pointRow, pointAt}
-use Rattle.surface.specs.Sizes.{FaceSize}
+use Rattle.paper.specs.Numbers.{rounded}
+use Rattle.paper.specs.Face.{centre, toward}
+use Rattle.surface.specs.Sizes.{RefinedSize, FaceSize}
+use Rattle.walk.specs.Table.{toPrevious, entry}
 use Rattle.refine.specs.declared.faces.Face.{Face}
 use Rattle.refine.specs.faces.Ring.{IsFace}
 use Rattle.net.specs.sides.Values.{FaceSized}
@@ -51,6 +54,31 @@ pub record RingTaken (p : ℕ → ℕ → ℤ) (m i : ℕ) (old new : List ℤ) 
   pub sized : (m ≡ 4 → ⊥) → (k : ℕ) → k < 4 → FaceSized (rowsFace new k i)
   pub below : (j k : ℕ) → k < 4 → j < i → pointAt new k j ≡ pointAt old k j
   pub above : (j k : ℕ) → k < 4 → i + 2 < j → pointAt new k j ≡ pointAt old k j
+
+-- they have it, whatever was there before
+pub record FaceHeld (p : ℕ → ℕ → ℤ) (m : ℕ) (near : List ℤ) : Type 0 where
+  pub face : (m ≡ 4 → ⊥) → (a : ℕ) → a < 3 → IsFace (p a) m 0 (m - 1) (rowsFace near a 14)
+  pub sized : (m ≡ 4 → ⊥) → (k : ℕ) → k < 4 → FaceSized (rowsFace near k 14)
+
+-- they have what the face has in common with that of the corner before: the centre, and in the row of the point ahead the one behind
+pub record Shared (p : ℕ → ℕ → ℤ) (m : ℕ) (near : List ℤ) : Type 0 where
+  pub centre-is : (a : ℕ) → a < 3 → pointAt near a 14 ≡ centre rounded (p a) m
+  pub behind-is : (a : ℕ) → a < 3 → pointAt near a 15 ≡ toward rounded (p a) m (m - 1)
+  pub centre-size : (k : ℕ) → k < 4 → RefinedSize (pointAt near k 14)
+  pub behind-size : (k : ℕ) → k < 4 → FaceSize (pointAt near k 15)
+
+-- the row of the point ahead has become that of the one behind, and has other numbers now
+pub record AheadTaken (x y z : ℤ) (old new : List ℤ) : Type 0 where
+  pub same : length new ≡ length old
+  pub ahead : (k : ℕ) → k < 4 → pointAt new k 15 ≡ lane x y z (pos 0) k
+  pub behind : (k : ℕ) → k < 4 → pointAt new k 16 ≡ pointAt old k 15
+  pub others : (j k : ℕ) → k < 4 → (j ≡ 15 → ⊥) → (j ≡ 16 → ⊥) → pointAt new k j ≡ pointAt old k j
+
+-- corner c comes after c - 1 in its face, and its net after another
+pub record Follows (table : List ℕ) (c at : ℕ) : Type 0 where
+  pub later : at ≡ 0 → ⊥
+  pub some : c ≡ 0 → ⊥
+  pub before : entry table toPrevious c ≡ c - 1
 
 -- the table has rows of small numbers for the corners
 abbrev pub Readable : List ℤ → List ℕ → Type 0

@@ -34,7 +34,7 @@ use Rattle.surface.specs.Sizes.{RefinedSize, FaceSize}
 use Rattle.numbers.specs.Near.{Near}
 use Rattle.numbers.specs.Units.{Units}
 use Rattle.refine.specs.faces.Ring.{around, Ring, Readable, Addable, Added, Summed, Divisible, Divided, IsFace, IsThreeFace, IsEdgeFace}
-use Rattle.refine.specs.faces.Ring.{fiveSum, IsFiveFace, IsSixFace}
+use Rattle.refine.specs.faces.Ring.{fiveSum, IsFiveFace, IsSixFace, IsAhead}
 use Rattle.refine.specs.declared.faces.Sums.{Sums}
 use Rattle.refine.specs.declared.faces.Face.{Face}
 
@@ -101,14 +101,24 @@ module _ (p : ℕ → ℤ) (m : ℕ) (r : PointRing p m) where
   so-far : (f : ℕ → ℤ) (n B : ℕ) → n ≤ m → ((k : ℕ) → natAbs (f k) ≤ B) → natAbs (sum f n) ≤ mostSides * B
   so-far f n B l h = let n16 : n ≤ mostSides = omega (arith, r .most) in le-trans (sum-abs f n B (λ k q. h k)) (mul-le-mul-right B n16)
 
+  pub ahead-size : (n : ℕ) → n ≤ m → natAbs (sum (λ k. p k *ℤ weight m k) n) ≤ 2 ^ 61
+  ahead-size n l = le-trans (so-far (λ k. p k *ℤ weight m k) n (2 ^ 24 * (7 * unit)) l (λ k. term-size k k)) (lit≤ tt)
+
   pub addable : (n : ℕ) (s : Sums) (v w u : ℤ) → n < m → Summed p m n s → v ≡ p n → w ≡ weight m n → u ≡ weight m (n + 1) → Addable s v w u
   addable n s v w u l q ev ew eu = record {
     total = rw (q .total) (le-trans (so-far p n (2 ^ 24) (omega arith) (r .small)) (lit≤ tt));
-    ahead = rw (q .ahead) (le-trans (so-far (λ k. p k *ℤ weight m k) n (2 ^ 24 * (7 * unit)) (omega arith) (λ k. term-size k k)) (lit≤ tt));
+    ahead = rw (q .ahead) (ahead-size n (omega arith));
     behind = rw (q .behind) (le-trans (so-far (λ k. p k *ℤ weight m (k + 1)) n (2 ^ 24 * (7 * unit)) (omega arith) (λ k. term-size k (k + 1))) (lit≤ tt));
     point = rw ev (r .small n);
     weights = (rw ew (weight-fits n), rw eu (weight-fits (n + 1)));
   }
+
+  -- the sum ahead with a place more, in the machine
+  pub ahead-more : (n : ℕ) (s v w u : ℤ) → n < m → s ≡ sum (λ k. p k *ℤ weight m k) n → v ≡ p n → w ≡ weight m n → u ≡ s +ℤ v *ℤ w
+      → plain u ≡ sum (λ k. p k *ℤ weight m k) (n + 1)
+  ahead-more n s v w u l es ev ew eu =
+      let e : u ≡ sum (λ k. p k *ℤ weight m k) (n + 1) = eu ∙ cc (es, ev, ew) ∙ sym (sum-more (λ k. p k *ℤ weight m k) n) in
+      ap plain e ∙ toZ-ofZ (abs-fits w64 _ (2 ^ 61) (ahead-size (n + 1) (omega arith)) (lit< tt))
 
   -- a weight in the machine, and that after the last, which is the first
   pub weight-plain : (k : ℕ) (u : ℤ) → u ≡ weight m k → plain u ≡ weight m k
@@ -160,7 +170,10 @@ gathered : (n m q : ℤ) → Near n (pos (3 * unit) *ℤ m) q → pos 1 ≤ℤ m
     → (m *ℤ negℤ (pos (2 ^ 24 + 2 ^ 21))) ≤ℤ (m *ℤ q) → Units n (pos 3 *ℤ m)
 gathered = over 3 _ λ ρ. simp (poly, ρ) (omega arith)
 
-module _ (p : ℕ → ℤ) (m : ℕ) (r : PointRing p m) (s : Sums) (q : Summed p m m s) where
+abbrev over-weights : ℕ → ℤ → ℤ
+over-weights m z = round z (pos (3 * unit) *ℤ pos m)
+
+module _ (p : ℕ → ℤ) (m : ℕ) (r : PointRing p m) where
   gather-units : (i : ℕ) → Units (sum (λ k. p (i + k) *ℤ weight m k) m) (pos (3 * m))
   gather-units i =
       let t = toward rounded p m i in
@@ -168,24 +181,38 @@ module _ (p : ℕ → ℤ) (m : ℕ) (r : PointRing p m) (s : Sums) (q : Summed 
       gathered _ (pos m) t (toward-near p m i (omega (arith, r .least))) (simp diff (omega (arith, r .least))) (simp diff (omega (arith, r .most)))
       (mul-le (pos m) _ _ (nonneg m) (z .1)) (mul-le (pos m) _ _ (nonneg m) (z .0))
 
+  -- of the sum ahead alone
+  pub ahead-units : (s : ℤ) → s ≡ sum (λ k. p k *ℤ weight m k) m → Units s (pos (3 * m))
+  ahead-units s q = rw (q, ahead-sum p m) (gather-units 0)
+
+  ahead-toward : (s f : ℤ) → s ≡ sum (λ k. p k *ℤ weight m k) m → f ≡ round s (pos (3 * unit) *ℤ pos m) → f ≡ toward rounded p m 0
+  ahead-toward s f q d = d ∙ ap (over-weights m) (q ∙ ahead-sum p m) ∙ sym (toward-is p m 0)
+
+  pub ahead-is : (s f : ℤ) → s ≡ sum (λ k. p k *ℤ weight m k) m → f ≡ round s (pos (3 * unit) *ℤ pos m) → IsAhead p m f
+  ahead-is s f q d =
+      let e = ahead-toward s f q d in record { is = e; size = rw e (toward-size p m (r .least) (r .most) (r .small) 0) }
+
+module _ (p : ℕ → ℤ) (m : ℕ) (r : PointRing p m) (s : Sums) (q : Summed p m m s) where
   pub divisible : Divisible s m
   divisible = record {
     total = let h = sum-abs p m (2 ^ 24) (λ j l. r .small j) in rw (q .total) (omega arith);
-    ahead = rw (q .ahead, ahead-sum p m) (gather-units 0);
-    behind = rw (q .behind, behind-sum p m (r .least) (r .cyclic)) (gather-units (m - 1));
+    ahead = ahead-units p m r (s .ahead) (q .ahead);
+    behind = rw (q .behind, behind-sum p m (r .least) (r .cyclic)) (gather-units p m r (m - 1));
   }
 
   pub ring-is : (f : Face) → Divided s m f → IsFace p m 0 (m - 1) f
   unfolding centre
   ring-is f d =
       let e : f .centre ≡ centre rounded p m = d .centre ∙ ap (λ (z : ℤ). round z (pos m)) (q .total) in
-      let x : f .ahead ≡ toward rounded p m 0 = d .ahead ∙ ap over-weights (q .ahead ∙ ahead-sum p m) ∙ sym (toward-is p m 0) in
       let y : f .behind ≡ toward rounded p m (m - 1)
-      = d .behind ∙ ap over-weights (q .behind ∙ behind-sum p m (r .least) (r .cyclic)) ∙ sym (toward-is p m (m - 1)) in
-      face-is p m r f e x y
-    where
-      over-weights : ℤ → ℤ
-      over-weights z = round z (pos (3 * unit) *ℤ pos m)
+      = d .behind ∙ ap (over-weights m) (q .behind ∙ behind-sum p m (r .least) (r .cyclic)) ∙ sym (toward-is p m (m - 1)) in
+      face-is p m r f e (ahead-toward p m r (s .ahead) (f .ahead) (q .ahead) (d .ahead)) y
+
+-- the point ahead of a face, in the machine
+pub face-ahead : (p : ℕ → ℤ) (m j : ℕ) (f : Face) → IsFace p m 0 j f → IsAhead p m (plain (f .ahead))
+face-ahead p m j f h =
+    let e : plain (f .ahead) ≡ f .ahead = toZ-ofZ (abs-fits w64 (f .ahead) (2 ^ 24 + 2 ^ 21) (h .ahead-size) (lit< tt)) in
+    record { is = e ∙ h .ahead; size = rw e (h .ahead-size) }
 
 -- ---- a ring of three: its weights are 4, 4 and 1 times 2^30
 three : (f : ℕ → ℤ) → sum f 3 ≡ f 0 +ℤ f 1 +ℤ f 2

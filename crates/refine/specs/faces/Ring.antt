@@ -18,6 +18,7 @@ use Rattle.refine.specs.declared.faces.Sums.{Sums}
 use Rattle.refine.specs.declared.faces.RingSums.{RingSums}
 use Rattle.refine.specs.declared.faces.Face.{Face}
 use Rattle.refine.specs.declared.faces.Faces.{Faces}
+use Rattle.refine.specs.declared.faces.Ahead.{Ahead}
 
 -- the point of an axis after j steps from c by a column
 unfoldable pub around : List ℤ → ℕ → List ℕ → ℕ → ℕ → ℕ → ℤ
@@ -103,6 +104,32 @@ pub record AreFaces (p : ℕ → ℕ → ℤ) (m i j : ℕ) (r : Faces) : Type 0
   pub x : IsFace (p 0) m i j (r .x)
   pub y : IsFace (p 1) m i j (r .y)
   pub z : IsFace (p 2) m i j (r .z)
+
+-- the sums of a ring of m towards the side that leaves c, on each axis; sums that the rounding takes; their quotients
+pub record AheadSummed (p : ℕ → ℕ → ℤ) (m : ℕ) (r : Ahead) : Type 0 where
+  pub x : r .x ≡ sum (λ k. p 0 k *ℤ weight m k) m
+  pub y : r .y ≡ sum (λ k. p 1 k *ℤ weight m k) m
+  pub z : r .z ≡ sum (λ k. p 2 k *ℤ weight m k) m
+
+pub record AheadDivisible (s : Ahead) (m : ℕ) : Type 0 where
+  pub x : Units (s .x) (pos (3 * m))
+  pub y : Units (s .y) (pos (3 * m))
+  pub z : Units (s .z) (pos (3 * m))
+
+pub record AheadDivided (s : Ahead) (m : ℕ) (r : Ahead) : Type 0 where
+  pub x : r .x ≡ round (s .x) (pos (3 * unit) *ℤ pos m)
+  pub y : r .y ≡ round (s .y) (pos (3 * unit) *ℤ pos m)
+  pub z : r .z ≡ round (s .z) (pos (3 * unit) *ℤ pos m)
+
+-- a point towards the side from place 0
+pub record IsAhead (p : ℕ → ℤ) (m : ℕ) (r : ℤ) : Type 0 where
+  pub is : r ≡ toward rounded p m 0
+  pub size : FaceSize r
+
+pub record AreAhead (p : ℕ → ℕ → ℤ) (m : ℕ) (r : Ahead) : Type 0 where
+  pub x : IsAhead (p 0) m (r .x)
+  pub y : IsAhead (p 1) m (r .y)
+  pub z : IsAhead (p 2) m (r .z)
 
 -- the face of three points in turn
 pub record IsThreeFace (v w x : ℤ) (r : Face) : Type 0 where

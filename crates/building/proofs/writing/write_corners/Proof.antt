@@ -10,7 +10,10 @@ use mir.Val.{Fits}
 use Rattle.paper.specs.Numbers.{rounded}
 use Rattle.paper.specs.Refined.{RefinedMesh}
 use Rattle.paper.specs.Calls.{perCorner}
+use Rattle.walk.specs.Table.{toNext, sidesHere, entry}
+use Rattle.refine.specs.faces.Ring.{around}
 use Rattle.net.specs.sides.Drawn.{drawn}
+use Rattle.net.specs.near.Near.{FaceHeld}
 use Rattle.building.specs.writing.Written.{NetsWritten}
 use Rattle.building.proofs.writing.Laws.{written-none, written-step}
 use borrow.Author.Needs.{needs}
@@ -20,6 +23,7 @@ use Rattle.building.proofs.writing.write_corners.Tie as tie
 abbrev Inv-loop : tie.InvT-loop
 Inv-loop points table rows n first count out₀ near₀ lanes₀ k₀ out near lanes k =
     (k ≤ count) × (length out ≡ perCorner * count) × NetsWritten (drawn n table points) first k out × (length near ≡ 68) × (length lanes ≡ 164)
+    × ((k ≡ 0 → ⊥) → FaceHeld (λ (a : ℕ). around points a table toNext (first + k - 1)) (entry table sidesHere (first + k - 1)) near)
 
 abbrev μ-loop : tie.MeasureT-loop
 μ-loop points table rows n first count out₀ near₀ lanes₀ k₀ out near lanes k = count - k
@@ -29,7 +33,7 @@ abbrev mesh : tie.Start Inv-loop μ-loop → ℕ → RefinedMesh rounded
 mesh s = drawn (s .args .n) (now (s .args .table)) (now (s .args .points))
 
 loop-holds : tie.Need-loop-holds Inv-loop μ-loop
-loop-holds c = let s = c .before in (search needs, s .pre .1 .0 .2, written-none (mesh s) _ _, refl, refl)
+loop-holds c = let s = c .before in (search needs, s .pre .1 .0 .2, written-none (mesh s) _ _, refl, refl, λ z. absurd (z refl))
 
 add-c : tie.Need-add-c Inv-loop μ-loop
 add-c c = search needs
@@ -53,7 +57,7 @@ put-net-requires c κs =
         (l .inv .3, l .inv .4),
         (
           omega (arith, l .inv .1),
-          s .pre .1 .1,
+          (s .pre .1 .1, (λ z w. l .inv .5 (λ e. z (omega arith)))),
         ),
       ),
     )
@@ -75,10 +79,13 @@ loop-again c =
     let l = in-loop .before .loop in
     let p = c .before .before .before .put-net in (
       omega (arith, in-loop .loop-test .taken, s .pre .1 .0 .0),
-      p .ensures .same ∙ l .inv .1,
-      written-step (mesh s) (s .args .first) (l .k) (l .out) _ (l .inv .2) (p .ensures),
+      p .ensures .0 .same ∙ l .inv .1,
+      written-step (mesh s) (s .args .first) (l .k) (l .out) _ (l .inv .2) (p .ensures .0),
       p .kept .1 .1 .1 .1 .1 .0 ∙ l .inv .3,
       p .kept .1 .1 .1 .1 .1 .1 .0 ∙ l .inv .4,
+      (λ z. let q : s .args .first + l .k ≡ s .args .first + (l .k + 1) - 1 = omega arith in
+          subst (λ (c : ℕ). FaceHeld (λ (a : ℕ). around (now (s .args .points)) a (now (s .args .table)) toNext c) (entry (now (s .args .table)) sidesHere c)
+          (p .last .1 .1 .1 .1 .1 .0)) q (p .ensures .1)),
     )
 
 same-length : tie.Need-same-length Inv-loop μ-loop

@@ -1,0 +1,104 @@
+-- `net::near::take_ahead` meets its contract, row by row. Assumes nothing.
+use lib.Dec.{lit<}
+use Rattle.net.proofs.near.Shared.{moved-is, moved-size, ahead-taken}
+use native.Mathlib.Omega.{arith}
+use borrow.Author.Needs.{needs}
+use Rattle.net.proofs.near.take_ahead.Statement.{statement}
+use Rattle.net.proofs.near.take_ahead.Tie as tie
+use Rattle.net.proofs.near.take_ahead.Reads as reads
+use Rattle.net.proofs.near.take_ahead.Lts as lts
+use Rattle.net.proofs.near.take_row.Reads as take-row-reads
+use Rattle.refine.proofs.faces.point.Reads as point-reads
+
+-- src/near.rt:123:43
+add-point : tie.Need-add-point
+add-point c = search needs
+
+-- src/near.rt:123:9
+point-requires : tie.Need-point-requires
+point-requires c κs = search needs
+
+-- src/near.rt:124:43
+add-point-2 : tie.Need-add-point-2
+add-point-2 c = search needs
+
+-- src/near.rt:124:9
+point-requires-2 : tie.Need-point-requires-2
+point-requires-2 c κs = search needs
+
+-- src/near.rt:125:43
+add-point-3 : tie.Need-add-point-3
+add-point-3 c = search needs
+
+-- src/near.rt:125:9
+point-requires-3 : tie.Need-point-requires-3
+point-requires-3 c κs = search needs
+
+-- src/near.rt:126:43
+add-point-4 : tie.Need-add-point-4
+add-point-4 c = search needs
+
+-- src/near.rt:126:9
+point-requires-4 : tie.Need-point-requires-4
+point-requires-4 c κs = search needs
+
+-- src/near.rt:127:32
+add-take-row : tie.Need-add-take-row
+add-take-row c = search needs
+
+-- src/near.rt:127:5
+take-row-requires : tie.Need-take-row-requires
+take-row-requires c κs =
+    let s = c .before .before .before .before .before .before .before .before .before in
+    let size = s .pre .1 in (
+      moved-size _ _ (c .before .before .before .before .before .before .before .point .ensures) (size 0 (lit< tt)),
+      moved-size _ _ (c .before .before .before .before .before .point2 .ensures) (size 1 (lit< tt)),
+      moved-size _ _ (c .before .before .before .point3 .ensures) (size 2 (lit< tt)),
+      moved-size _ _ (c .before .point4 .ensures) (size 3 (lit< tt)),
+      s .pre .0 .3,
+    )
+
+-- src/near.rt:128:32
+add-take-row-2 : tie.Need-add-take-row-2
+add-take-row-2 c = search needs
+
+-- src/near.rt:128:5
+take-row-requires-2 : tie.Need-take-row-requires-2
+take-row-requires-2 c κs = search needs
+
+-- src/near.rt:118:1
+same-length : tie.Need-same-length
+same-length c = search needs
+
+-- src/near.rt:118:1
+returns : tie.Need-returns
+returns c =
+    let q = c .before .before .before .before .take-row in
+    let p = c .before .before .before .before .before .before in
+    let s = p .before .before .before .before .before .before .before .before in
+    let size = s .pre .1 in
+    ahead-taken (s .args .x) (s .args .y) (s .args .z) _ _ _ _ _ _ _
+    (moved-is _ _ (p .before .before .before .before .before .before .point .ensures) (size 0 (lit< tt)))
+    (moved-is _ _ (p .before .before .before .before .point2 .ensures) (size 1 (lit< tt)))
+    (moved-is _ _ (p .before .before .point3 .ensures) (size 2 (lit< tt)))
+    (moved-is _ _ (p .point4 .ensures) (size 3 (lit< tt)))
+    (s .pre .0 .0) (s .pre .0 .1) (s .pre .0 .2) (q .ensures) (c .before .take-row2 .ensures)
+
+pub take-ahead-spec : {M : Type 1} → statement M
+take-ahead-spec =
+    tie.close
+    (tie.spec
+    add-point
+    point-requires
+    add-point-2
+    point-requires-2
+    add-point-3
+    point-requires-3
+    add-point-4
+    point-requires-4
+    add-take-row
+    take-row-requires
+    add-take-row-2
+    take-row-requires-2
+    same-length
+    returns)

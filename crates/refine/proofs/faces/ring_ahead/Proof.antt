@@ -1,0 +1,76 @@
+-- `refine::faces::ring_ahead` meets its contract: each arm is given a ring of its own key, and the sums of a ring are small enough to divide.
+-- Assumes nothing.
+use mathlib.Core.Path.{_≡_, subst}
+use Prim.Native.Nat.{ℕ, _<_}
+use borrow.Author.Needs.{needs}
+use lib.Dec.{lit<}
+use Rattle.refine.specs.faces.Ring.{around, Rings}
+use Rattle.refine.proofs.faces.Laws.{PointRing, point-ring, ahead-units, ahead-is}
+use Rattle.refine.proofs.faces.ring_ahead.Statement.{statement}
+use Rattle.refine.proofs.faces.ring_ahead.Tie as tie
+
+repeats : (s : tie.Start) (axis : ℕ) → axis < 3
+    → PointRing (around (s .args .points .now) axis (s .args .table .now) (s .args .column) (s .args .c)) (s .args .m)
+repeats s axis l = point-ring _ _ _ _ _ _ (s .pre .0 axis l)
+
+keyed : (s : tie.Start) (k : ℕ) → s .args .m ≡ k → Rings (s .args .points .now) (s .args .table .now) (s .args .column) (s .args .c) k
+keyed s k e = subst (λ (n : ℕ). Rings (s .args .points .now) (s .args .table .now) (s .args .column) (s .args .c) n) e (s .pre .0)
+
+ahead-of-three-requires : tie.Need-ahead-of-three-requires
+ahead-of-three-requires c κs = let s = c .before .before in keyed s 3 (c .match .keys1)
+
+ahead-of-five-requires : tie.Need-ahead-of-five-requires
+ahead-of-five-requires c κs = let s = c .before .before in keyed s 5 (c .match .keys2)
+
+ahead-of-six-requires : tie.Need-ahead-of-six-requires
+ahead-of-six-requires c κs = let s = c .before .before in keyed s 6 (c .match .keys3)
+
+ahead-sums-requires : tie.Need-ahead-sums-requires
+ahead-sums-requires c κs = search needs
+
+divide-ahead-requires : tie.Need-divide-ahead-requires
+divide-ahead-requires c κs =
+    let s = c .before .before .before in
+    let r = s .pre .0 0 (lit< tt) in
+    let q = c .ahead-sums .ensures in (
+      (r .least, r .most),
+      record {
+        x = ahead-units _ _ (repeats s 0 (lit< tt)) _ (q .x);
+        y = ahead-units _ _ (repeats s 1 (lit< tt)) _ (q .y);
+        z = ahead-units _ _ (repeats s 2 (lit< tt)) _ (q .z);
+      },
+    )
+
+returns : tie.Need-returns
+returns c = rw (c .before .match .keys1) (c .ahead-of-three .ensures)
+
+returns-2 : tie.Need-returns-2
+returns-2 c = rw (c .before .match .keys2) (c .ahead-of-five .ensures)
+
+returns-3 : tie.Need-returns-3
+returns-3 c = rw (c .before .match .keys3) (c .ahead-of-six .ensures)
+
+returns-4 : tie.Need-returns-4
+returns-4 c =
+    let s = c .before .before .before .before in
+    let q = c .before .ahead-sums .ensures in
+    let d = c .divide-ahead .ensures in
+    record {
+      x = ahead-is _ _ (repeats s 0 (lit< tt)) _ _ (q .x) (d .x);
+      y = ahead-is _ _ (repeats s 1 (lit< tt)) _ _ (q .y) (d .y);
+      z = ahead-is _ _ (repeats s 2 (lit< tt)) _ _ (q .z) (d .z);
+    }
+
+pub ring-ahead-spec : {M : Type 1} → statement M
+ring-ahead-spec =
+    tie.close
+    (tie.spec
+    ahead-of-three-requires
+    ahead-of-five-requires
+    ahead-of-six-requires
+    ahead-sums-requires
+    divide-ahead-requires
+    returns
+    returns-2
+    returns-3
+    returns-4)
