@@ -25,33 +25,27 @@ Inv-loop lanes out₀ at i₀ out i = (i ≤ 5) × Copied lanes at 0 (8 * i) out
 abbrev μ-loop : tie.MeasureT-loop
 μ-loop lanes out₀ at i₀ out i = 5 - i
 
--- src/lib.rt:290:5
 eight-more : (i : ℕ) → 8 * i + 8 ≡ 8 * (i + 1)
 eight-more i = omega arith
 
 loop-holds : tie.Need-loop-holds Inv-loop μ-loop
 loop-holds c = (search needs, copied-none _ _ _ _)
 
--- src/lib.rt:291:25
 mul-copy-run : tie.Need-mul-copy-run Inv-loop μ-loop
 mul-copy-run c = search needs
 
--- src/lib.rt:291:9
 copy-run-requires : tie.Need-copy-run-requires Inv-loop μ-loop
 copy-run-requires c κs =
     let l = c .before in
     let s = l .before .before in
     (omega (arith, l .loop-test .taken), s .pre .0, omega (arith, s .pre .1, l .before .loop .inv .1 .same))
 
--- src/lib.rt:292:9
 add-i : tie.Need-add-i Inv-loop μ-loop
 add-i c = search needs
 
--- src/lib.rt:290:5
 loop-less : tie.Need-loop-less Inv-loop μ-loop
 loop-less c = search needs
 
--- src/lib.rt:290:5
 loop-again : tie.Need-loop-again Inv-loop μ-loop
 loop-again c =
     let l = c .before .before .before in
@@ -63,31 +57,24 @@ loop-again c =
           (c .before .copy-run .ensures) (omega arith)),
     )
 
--- src/lib.rt:294:13
 shared-slice-copy-out-x : tie.Need-shared-slice-copy-out-x Inv-loop μ-loop
 shared-slice-copy-out-x c = let s = c .before .before in search (needs, s .pre .0)
 
--- src/lib.rt:295:13
 shared-slice-copy-out-y : tie.Need-shared-slice-copy-out-y Inv-loop μ-loop
 shared-slice-copy-out-y c = let s = c .before .before .before in search (needs, s .pre .0)
 
--- src/lib.rt:296:13
 shared-slice-copy-out-z : tie.Need-shared-slice-copy-out-z Inv-loop μ-loop
 shared-slice-copy-out-z c = let s = c .before .before .before .before in search (needs, s .pre .0)
 
--- src/lib.rt:297:29
 add-put-three : tie.Need-add-put-three Inv-loop μ-loop
 add-put-three c = let s = c .before .before .before .before .before .before in search (needs, s .pre .1)
 
--- src/lib.rt:297:5
 put-three-requires : tie.Need-put-three-requires Inv-loop μ-loop
 put-three-requires c κs = let l = c .before .before .before .before .before in omega (arith, l .before .pre .1, l .loop .inv .1 .same)
 
--- src/lib.rt:285:1
 same-length : tie.Need-same-length Inv-loop μ-loop
 same-length c = search (needs, c .before .before .before .before .before .before .before .loop .inv .1 .same)
 
--- src/lib.rt:285:1
 returns : tie.Need-returns Inv-loop μ-loop
 returns c =
     let l = c .before .before .before .before .before .before .before .loop in

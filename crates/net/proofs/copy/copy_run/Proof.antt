@@ -23,7 +23,6 @@ Inv-loop lanes point count out₀ at j₀ out j = (j ≤ count) × Copied lanes 
 abbrev μ-loop : tie.MeasureT-loop
 μ-loop lanes point count out₀ at j₀ out j = count - j
 
--- src/lib.rt:272:5
 zero-more : (n : ℕ) → n ≡ n + 0
 zero-more n = omega arith
 
@@ -41,79 +40,60 @@ loop-holds c = (
       (zero-more (c .args .point)) (copied-none _ _ _ _),
 )
 
--- src/lib.rt:273:17
 add-p : tie.Need-add-p Inv-loop μ-loop
 add-p c = record { fits = omega (arith, below (c)) }
 
--- src/lib.rt:274:20
 mul-from : tie.Need-mul-from Inv-loop μ-loop
 mul-from c = record { fits = omega (arith, below (c)) }
 
--- src/lib.rt:275:17
 mul-x : tie.Need-mul-x Inv-loop μ-loop
 mul-x c = record { fits = omega (arith, below (c)) }
 
--- src/lib.rt:275:17
 shared-slice-copy-out-x : tie.Need-shared-slice-copy-out-x Inv-loop μ-loop
 shared-slice-copy-out-x c = let l = c in omega (arith, below l, l .before .before .pre .1)
 
--- src/lib.rt:276:23
 add-y : tie.Need-add-y Inv-loop μ-loop
 add-y c = record { fits = omega (arith, below (c .before)) }
 
--- src/lib.rt:276:17
 mul-y : tie.Need-mul-y Inv-loop μ-loop
 mul-y c = record { fits = omega (arith, below (c .before)) }
 
--- src/lib.rt:276:17
 shared-slice-copy-out-y : tie.Need-shared-slice-copy-out-y Inv-loop μ-loop
 shared-slice-copy-out-y c = let l = c .before in omega (arith, below l, l .before .before .pre .1)
 
--- src/lib.rt:277:23
 add-z : tie.Need-add-z Inv-loop μ-loop
 add-z c = record { fits = omega (arith, below (c .before .before)) }
 
--- src/lib.rt:277:17
 mul-z : tie.Need-mul-z Inv-loop μ-loop
 mul-z c = record { fits = omega (arith, below (c .before .before)) }
 
--- src/lib.rt:277:17
 shared-slice-copy-out-z : tie.Need-shared-slice-copy-out-z Inv-loop μ-loop
 shared-slice-copy-out-z c = let l = c .before .before in omega (arith, below l, l .before .before .pre .1)
 
--- src/lib.rt:278:23
 add-w : tie.Need-add-w Inv-loop μ-loop
 add-w c = record { fits = omega (arith, below (c .before .before .before)) }
 
--- src/lib.rt:278:17
 mul-w : tie.Need-mul-w Inv-loop μ-loop
 mul-w c = record { fits = omega (arith, below (c .before .before .before)) }
 
--- src/lib.rt:278:17
 shared-slice-copy-out-w : tie.Need-shared-slice-copy-out-w Inv-loop μ-loop
 shared-slice-copy-out-w c = let l = c .before .before .before in omega (arith, below l, l .before .before .pre .1)
 
--- src/lib.rt:279:40
 mul-put-four : tie.Need-mul-put-four Inv-loop μ-loop
 mul-put-four c = record { fits = omega (arith, below (c .before .before .before .before .before)) }
 
--- src/lib.rt:279:35
 add-put-four : tie.Need-add-put-four Inv-loop μ-loop
 add-put-four c = let l = c .before .before .before .before .before in search (needs, below l, l .before .before .pre .2)
 
--- src/lib.rt:279:9
 put-four-requires : tie.Need-put-four-requires Inv-loop μ-loop
 put-four-requires c κs = let l = c .before .before .before .before .before in omega (arith, below l, l .before .before .pre .2, l .before .loop .inv .1 .same)
 
--- src/lib.rt:280:9
 add-j : tie.Need-add-j Inv-loop μ-loop
 add-j c = search needs
 
--- src/lib.rt:272:5
 loop-less : tie.Need-loop-less Inv-loop μ-loop
 loop-less c = search needs
 
--- src/lib.rt:272:5
 loop-again : tie.Need-loop-again Inv-loop μ-loop
 loop-again c =
     let l = c .before .before .before .before .before .before .before in
@@ -129,11 +109,9 @@ loop-again c =
           (omega arith) (omega (arith, below l)) (l .before .loop .inv .1) (toZ-ofZ fx) (toZ-ofZ fy) (toZ-ofZ fz) (c .before .put-four .ensures)),
     )
 
--- src/lib.rt:267:1
 same-length : tie.Need-same-length Inv-loop μ-loop
 same-length c = c .before .loop .inv .1 .same
 
--- src/lib.rt:267:1
 returns : tie.Need-returns Inv-loop μ-loop
 returns c =
     let s = c .before .before in

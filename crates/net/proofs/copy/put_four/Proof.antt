@@ -10,27 +10,21 @@ use Rattle.net.proofs.copy.put_four.Reads as reads
 use Rattle.net.proofs.copy.put_four.Lts as lts
 use Rattle.net.proofs.copy.put_three.Reads as put-three-reads
 
--- src/lib.rt:262:5
 put-three-requires : tie.Need-put-three-requires
 put-three-requires c κs = search needs
 
--- src/lib.rt:263:9
 add-w : tie.Need-add-w
 add-w c = search needs
 
--- src/lib.rt:263:5
 mul-w : tie.Need-mul-w
 mul-w c = search needs
 
--- src/lib.rt:263:5
 slice-set-from-w : tie.Need-slice-set-from-w
 slice-set-from-w c = search needs
 
--- src/lib.rt:258:1
 same-length : tie.Need-same-length
 same-length c = search needs
 
--- src/lib.rt:258:1
 returns : tie.Need-returns
 returns c =
     let s = c .before .before .before in

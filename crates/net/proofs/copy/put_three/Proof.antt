@@ -10,43 +10,33 @@ use Rattle.net.proofs.copy.put_three.Tie as tie
 use Rattle.net.proofs.copy.put_three.Reads as reads
 use Rattle.net.proofs.copy.put_three.Lts as lts
 
--- src/lib.rt:252:5
 mul-x : tie.Need-mul-x
 mul-x c = search needs
 
--- src/lib.rt:252:5
 slice-set-from-x : tie.Need-slice-set-from-x
 slice-set-from-x c = search needs
 
--- src/lib.rt:253:9
 add-y : tie.Need-add-y
 add-y c = search needs
 
--- src/lib.rt:253:5
 mul-y : tie.Need-mul-y
 mul-y c = search needs
 
--- src/lib.rt:253:5
 slice-set-from-y : tie.Need-slice-set-from-y
 slice-set-from-y c = simp length-set (omega (arith, c .pre))
 
--- src/lib.rt:254:9
 add-z : tie.Need-add-z
 add-z c = search needs
 
--- src/lib.rt:254:5
 mul-z : tie.Need-mul-z
 mul-z c = search needs
 
--- src/lib.rt:254:5
 slice-set-from-z : tie.Need-slice-set-from-z
 slice-set-from-z c = simp length-set (omega (arith, c .pre))
 
--- src/lib.rt:248:1
 same-length : tie.Need-same-length
 same-length c = search needs
 
--- src/lib.rt:248:1
 returns : tie.Need-returns
 returns c =
     rw (toZ-ofZ (c .fits .x), toZ-ofZ (c .fits .y), toZ-ofZ (c .fits .z)) (three-put (c .args .x) (c .args .y) (c .args .z) (c .args .to) (c .args .out

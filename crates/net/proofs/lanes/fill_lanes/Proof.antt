@@ -20,31 +20,25 @@ Inv-loop near m n v w lanes₀ k₀ lanes k = (k ≤ 4) × Filled near m n (toZ 
 abbrev μ-loop : tie.MeasureT-loop
 μ-loop near m n v w lanes₀ k₀ lanes k = 4 - k
 
--- src/lib.rt:240:5
 loop-holds : tie.Need-loop-holds Inv-loop μ-loop
 loop-holds c = (search needs, filled-none _ _ _ _ _ _ (c .pre .3))
 
--- src/lib.rt:241:13
 lane-sides-requires : tie.Need-lane-sides-requires Inv-loop μ-loop
 lane-sides-requires c κs =
     let s = c .before .before in
     rw (toZ-ofZ (s .fits .v), toZ-ofZ (s .fits .w)) (s .pre .0 (c .before .loop .k) (c .loop-test .taken), s .pre .1, s .pre .2)
 
--- src/lib.rt:242:9
 put-lane-requires : tie.Need-put-lane-requires Inv-loop μ-loop
 put-lane-requires c κs =
     let l = c .before .before in
     (sized-four _ _ _ _ _ _ _ (c .before .lane-sides .ensures), l .loop-test .taken, l .before .loop .inv .1 .long)
 
--- src/lib.rt:243:9
 add-k : tie.Need-add-k Inv-loop μ-loop
 add-k c = search needs
 
--- src/lib.rt:240:5
 loop-less : tie.Need-loop-less Inv-loop μ-loop
 loop-less c = search needs
 
--- src/lib.rt:240:5
 loop-again : tie.Need-loop-again Inv-loop μ-loop
 loop-again c =
     let l = c .before .before .before .before in (
@@ -53,11 +47,9 @@ loop-again c =
           .put-lane .ensures),
     )
 
--- src/lib.rt:235:1
 same-length : tie.Need-same-length Inv-loop μ-loop
 same-length c = c .before .loop .inv .1 .long ∙ sym (c .before .before .pre .3)
 
--- src/lib.rt:235:1
 returns : tie.Need-returns Inv-loop μ-loop
 returns c =
     let s = c .before .before in

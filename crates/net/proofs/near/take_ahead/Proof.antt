@@ -1,52 +1,37 @@
 -- `net::near::take_ahead` meets its contract, row by row. Assumes nothing.
 use lib.Dec.{lit<}
 use Rattle.net.proofs.near.Shared.{moved-is, moved-size, ahead-taken}
-use native.Mathlib.Omega.{arith}
 use borrow.Author.Needs.{needs}
 use Rattle.net.proofs.near.take_ahead.Statement.{statement}
 use Rattle.net.proofs.near.take_ahead.Tie as tie
-use Rattle.net.proofs.near.take_ahead.Reads as reads
-use Rattle.net.proofs.near.take_ahead.Lts as lts
-use Rattle.net.proofs.near.take_row.Reads as take-row-reads
-use Rattle.refine.proofs.faces.point.Reads as point-reads
 
--- src/near.rt:123:43
 add-point : tie.Need-add-point
 add-point c = search needs
 
--- src/near.rt:123:9
 point-requires : tie.Need-point-requires
 point-requires c κs = search needs
 
--- src/near.rt:124:43
 add-point-2 : tie.Need-add-point-2
 add-point-2 c = search needs
 
--- src/near.rt:124:9
 point-requires-2 : tie.Need-point-requires-2
 point-requires-2 c κs = search needs
 
--- src/near.rt:125:43
 add-point-3 : tie.Need-add-point-3
 add-point-3 c = search needs
 
--- src/near.rt:125:9
 point-requires-3 : tie.Need-point-requires-3
 point-requires-3 c κs = search needs
 
--- src/near.rt:126:43
 add-point-4 : tie.Need-add-point-4
 add-point-4 c = search needs
 
--- src/near.rt:126:9
 point-requires-4 : tie.Need-point-requires-4
 point-requires-4 c κs = search needs
 
--- src/near.rt:127:32
 add-take-row : tie.Need-add-take-row
 add-take-row c = search needs
 
--- src/near.rt:127:5
 take-row-requires : tie.Need-take-row-requires
 take-row-requires c κs =
     let s = c .before .before .before .before .before .before .before .before .before in
@@ -58,19 +43,15 @@ take-row-requires c κs =
       s .pre .0 .3,
     )
 
--- src/near.rt:128:32
 add-take-row-2 : tie.Need-add-take-row-2
 add-take-row-2 c = search needs
 
--- src/near.rt:128:5
 take-row-requires-2 : tie.Need-take-row-requires-2
 take-row-requires-2 c κs = search needs
 
--- src/near.rt:118:1
 same-length : tie.Need-same-length
 same-length c = search needs
 
--- src/near.rt:118:1
 returns : tie.Need-returns
 returns c =
     let q = c .before .before .before .before .take-row in

@@ -4,28 +4,18 @@ use Rattle.walk.specs.Table.{toNext}
 use Rattle.refine.specs.faces.Ring.{around}
 use Rattle.net.proofs.near.Rows.{plain-size, ring-taken, ring-left}
 use Rattle.net.proofs.near.Shared.{shared-taken}
-use native.Mathlib.Omega.{arith}
 use borrow.Author.Needs.{needs}
 use Rattle.net.proofs.near.take_next.Statement.{statement}
 use Rattle.net.proofs.near.take_next.Tie as tie
-use Rattle.net.proofs.near.take_next.Reads as reads
-use Rattle.net.proofs.near.take_next.Lts as lts
-use Rattle.net.proofs.near.take_ahead.Reads as take-ahead-reads
-use Rattle.net.proofs.near.take_face.Reads as take-face-reads
-use Rattle.refine.proofs.faces.ring_ahead.Reads as ring-ahead-reads
-use Rattle.refine.proofs.faces.ring_faces.Reads as ring-faces-reads
 
--- src/near.rt:106:9
 returns : tie.Need-returns
 returns c =
     let s = c .before .before in
     ring-left (λ (a : ℕ). around (s .args .points .now) a (s .args .table .now) toNext (s .args .c)) (s .args .m) 14 (s .args .near .now) (c .if1 .taken)
 
--- src/near.rt:109:13
 ring-ahead-requires : tie.Need-ring-ahead-requires
 ring-ahead-requires c κs = search needs
 
--- src/near.rt:110:9
 take-ahead-requires : tie.Need-take-ahead-requires
 take-ahead-requires c κs =
     let r = c .before .before .before .before .ring-ahead in
@@ -36,11 +26,9 @@ take-ahead-requires c κs =
       g .behind-size,
     )
 
--- src/near.rt:111:9
 same-length : tie.Need-same-length
 same-length c = search needs
 
--- src/near.rt:111:9
 returns-2 : tie.Need-returns-2
 returns-2 c =
     let r = c .before .before .before .before .before .before .ring-ahead in
@@ -49,19 +37,15 @@ returns-2 c =
     shared-taken (λ (a : ℕ). around (s .args .points .now) a (s .args .table .now) toNext (s .args .c)) (s .args .m) (r .result) (r .ensures)
     (s .args .near .now) _ g (c .before .take-ahead .ensures)
 
--- src/near.rt:113:9
 ring-faces-requires : tie.Need-ring-faces-requires
 ring-faces-requires c κs = search needs
 
--- src/near.rt:114:5
 take-face-requires : tie.Need-take-face-requires
 take-face-requires c κs = search needs
 
--- src/near.rt:91:1
 same-length-2 : tie.Need-same-length-2
 same-length-2 c = search needs
 
--- src/near.rt:91:1
 returns-3 : tie.Need-returns-3
 returns-3 c =
     let v = c .before .before .before in

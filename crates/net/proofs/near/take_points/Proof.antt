@@ -23,7 +23,6 @@ Inv-loop points near₀ corners i₀ near i = (i ≤ 11) × PointsTaken points c
 abbrev μ-loop : tie.MeasureT-loop
 μ-loop points near₀ corners i₀ near i = 11 - i
 
--- src/lib.rt:126:5
 -- the point of row i on axis a, as it is read
 module _ (c : tie.In-loop Inv-loop μ-loop) (a : ℕ) (l : a < 4) where
   fine : let s = c .before .before in
@@ -38,30 +37,24 @@ module _ (c : tie.In-loop Inv-loop μ-loop) (a : ℕ) (l : a < 4) where
 loop-holds : tie.Need-loop-holds Inv-loop μ-loop
 loop-holds c = (search needs, points-none _ _ _)
 
--- src/lib.rt:127:17
 mul-c : tie.Need-mul-c Inv-loop μ-loop
 mul-c c = search needs
 
--- src/lib.rt:127:17
 array-read-c : tie.Need-array-read-c Inv-loop μ-loop
 array-read-c c = search needs
 
--- src/lib.rt:128:13
 point-requires : tie.Need-point-requires Inv-loop μ-loop
 point-requires c κs = fine c 0 (lit< tt) .0
 
--- src/lib.rt:129:13
 point-requires-2 : tie.Need-point-requires-2 Inv-loop μ-loop
 point-requires-2 c κs = fine (c .before) 1 (lit< tt) .0
 
--- src/lib.rt:130:13
 point-requires-3 : tie.Need-point-requires-3 Inv-loop μ-loop
 point-requires-3 c κs = fine (c .before .before) 2 (lit< tt) .0
 
 point-requires-4 : tie.Need-point-requires-4 Inv-loop μ-loop
 point-requires-4 c κs = fine (c .before .before .before) 3 (lit< tt) .0
 
--- src/lib.rt:131:9
 take-row-requires : tie.Need-take-row-requires Inv-loop μ-loop
 take-row-requires c κs =
     let l = c .before .before .before .before .before in (
@@ -72,15 +65,12 @@ take-row-requires c κs =
       omega (arith, l .before .loop .inv .1 .same, l .before .before .pre .1, l .loop-test .taken),
     )
 
--- src/lib.rt:132:9
 add-i : tie.Need-add-i Inv-loop μ-loop
 add-i c = search needs
 
--- src/lib.rt:126:5
 loop-less : tie.Need-loop-less Inv-loop μ-loop
 loop-less c = search needs
 
--- src/lib.rt:126:5
 loop-again : tie.Need-loop-again Inv-loop μ-loop
 loop-again c =
     let l = c .before .before .before .before .before .before .before in (
@@ -93,11 +83,9 @@ loop-again c =
           (read l 3 (lit< tt) _ (c .before .before .before .point4 .ensures) .1) (c .before .take-row .ensures),
     )
 
--- src/lib.rt:121:1
 same-length : tie.Need-same-length Inv-loop μ-loop
 same-length c = c .before .loop .inv .1 .same
 
--- src/lib.rt:121:1
 returns : tie.Need-returns Inv-loop μ-loop
 returns c =
     let l = c .before .loop in
