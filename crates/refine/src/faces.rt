@@ -297,37 +297,15 @@ fn ring_of_six(points: &[i32], table: &[u16], column: usize, c: usize) -> Faces
     let fourth = third.by(table, column);
     let fifth = fourth.by(table, column);
     let sixth = fifth.by(table, column);
+    let d = second.corner;
+    let e = third.corner;
+    let f = fourth.corner;
+    let g = fifth.corner;
+    let h = sixth.corner;
     Faces {
-        x: six_on(
-            points,
-            0,
-            c,
-            second.corner,
-            third.corner,
-            fourth.corner,
-            fifth.corner,
-            sixth.corner,
-        ),
-        y: six_on(
-            points,
-            1,
-            c,
-            second.corner,
-            third.corner,
-            fourth.corner,
-            fifth.corner,
-            sixth.corner,
-        ),
-        z: six_on(
-            points,
-            2,
-            c,
-            second.corner,
-            third.corner,
-            fourth.corner,
-            fifth.corner,
-            sixth.corner,
-        ),
+        x: six_on(points, 0, c, d, e, f, g, h),
+        y: six_on(points, 1, c, d, e, f, g, h),
+        z: six_on(points, 2, c, d, e, f, g, h),
     }
 }
 
@@ -379,34 +357,14 @@ fn ring_of_five(points: &[i32], table: &[u16], column: usize, c: usize) -> Faces
     let third = second.by(table, column);
     let fourth = third.by(table, column);
     let fifth = fourth.by(table, column);
+    let d = second.corner;
+    let e = third.corner;
+    let f = fourth.corner;
+    let g = fifth.corner;
     Faces {
-        x: five_on(
-            points,
-            0,
-            c,
-            second.corner,
-            third.corner,
-            fourth.corner,
-            fifth.corner,
-        ),
-        y: five_on(
-            points,
-            1,
-            c,
-            second.corner,
-            third.corner,
-            fourth.corner,
-            fifth.corner,
-        ),
-        z: five_on(
-            points,
-            2,
-            c,
-            second.corner,
-            third.corner,
-            fourth.corner,
-            fifth.corner,
-        ),
+        x: five_on(points, 0, c, d, e, f, g),
+        y: five_on(points, 1, c, d, e, f, g),
+        z: five_on(points, 2, c, d, e, f, g),
     }
 }
 
@@ -536,33 +494,13 @@ fn ahead_of_five(points: &[i32], table: &[u16], column: usize, c: usize) -> Ahea
     let third = second.by(table, column);
     let fourth = third.by(table, column);
     let fifth = fourth.by(table, column);
-    let x = five_on(
-        points,
-        0,
-        c,
-        second.corner,
-        third.corner,
-        fourth.corner,
-        fifth.corner,
-    );
-    let y = five_on(
-        points,
-        1,
-        c,
-        second.corner,
-        third.corner,
-        fourth.corner,
-        fifth.corner,
-    );
-    let z = five_on(
-        points,
-        2,
-        c,
-        second.corner,
-        third.corner,
-        fourth.corner,
-        fifth.corner,
-    );
+    let d = second.corner;
+    let e = third.corner;
+    let f = fourth.corner;
+    let g = fifth.corner;
+    let x = five_on(points, 0, c, d, e, f, g);
+    let y = five_on(points, 1, c, d, e, f, g);
+    let z = five_on(points, 2, c, d, e, f, g);
     Ahead {
         x: x.ahead,
         y: y.ahead,
@@ -581,36 +519,14 @@ fn ahead_of_six(points: &[i32], table: &[u16], column: usize, c: usize) -> Ahead
     let fourth = third.by(table, column);
     let fifth = fourth.by(table, column);
     let sixth = fifth.by(table, column);
-    let x = six_on(
-        points,
-        0,
-        c,
-        second.corner,
-        third.corner,
-        fourth.corner,
-        fifth.corner,
-        sixth.corner,
-    );
-    let y = six_on(
-        points,
-        1,
-        c,
-        second.corner,
-        third.corner,
-        fourth.corner,
-        fifth.corner,
-        sixth.corner,
-    );
-    let z = six_on(
-        points,
-        2,
-        c,
-        second.corner,
-        third.corner,
-        fourth.corner,
-        fifth.corner,
-        sixth.corner,
-    );
+    let d = second.corner;
+    let e = third.corner;
+    let f = fourth.corner;
+    let g = fifth.corner;
+    let h = sixth.corner;
+    let x = six_on(points, 0, c, d, e, f, g, h);
+    let y = six_on(points, 1, c, d, e, f, g, h);
+    let z = six_on(points, 2, c, d, e, f, g, h);
     Ahead {
         x: x.ahead,
         y: y.ahead,
