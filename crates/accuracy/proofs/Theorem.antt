@@ -14,7 +14,7 @@ use Rattle.paper.specs.Refined.{refinedPoint, cornersOf, refinedOf}
 use Rattle.paper.specs.Net.{net, netPoints}
 use Rattle.paper.specs.Accuracy.{truePoint, OffAtMost, mostOff}
 use Rattle.paper.specs.Claims.{Accuracy}
-use Rattle.numbers.proofs.Below.{below-at}
+use Rattle.paper.proofs.Below.{below-at}
 use Rattle.numbers.proofs.Diff.{as-diff, diff}
 use Rattle.mesh.proofs.Theorems.{manifold}
 use Rattle.surface.proofs.Within.{Within}

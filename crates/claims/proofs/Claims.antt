@@ -10,7 +10,7 @@ use Rattle.borders.proofs.Theorem.{demand3}
 use Rattle.borders.proofs.FromC.{from-c}
 use Rattle.accuracy.proofs.Theorem.{accuracy}
 use Rattle.mirror.proofs.Theorem.{mirrors}
-use Rattle.examples.proofs.Claim.{examples}
+use Rattle.paper.proofs.Claim.{examples}
 use Rattle.floats.proofs.Theorems.{far-pairs, float-sums, one-answer}
 use Rattle.floats.proofs.nets.Nets.{nets-pass}
 use Rattle.nesting.proofs.Theorems.{chains-decide, listing-ordered, one-listing}

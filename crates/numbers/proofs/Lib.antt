@@ -12,7 +12,6 @@ pub mod Laws
 pub mod Floor
 pub mod Sum
 pub mod Machine
-pub mod Below
 pub mod Nearest
 pub mod Rules
 pub mod Fractions

@@ -11,7 +11,7 @@ use lib.ListN.{getD}
 use lib.Dec.{T, leb, leb→le}
 use lib.IntN.{pos, negℤ, natAbs}
 use lib.Signed.{ltZ, leZ, _<ℤ_, _≤ℤ_}
-use Rattle.numbers.proofs.Below.{below, below-at, eqZ, eqZ-eq}
+use Rattle.paper.proofs.Below.{below, below-at, eqZ, eqZ-eq}
 use Rattle.paper.specs.Mesh.{mostSides}
 use Rattle.paper.specs.Cosines.{unit, table, cosine, rest}
 use Rattle.paper.specs.Claims.{TableRules}

@@ -21,7 +21,7 @@ use Rattle.paper.specs.Off.{badFrom, badFaces, neededVerdict, sidesFrom, corner
 use Rattle.paper.specs.Off.{isOff, short, fault24, fault26, wordsVerdict, offVerdict}
 use Rattle.paper.specs.Off.{textMesh}
 use Rattle.paper.specs.Examples.{Row, _gives_, AllGive}
-use Rattle.examples.proofs.Rows.{same, all-same, agree}
+use Rattle.paper.proofs.Rows.{same, all-same, agree}
 
 -- a quoted text as its bytes
 abbrev bytes : String → List ℕ

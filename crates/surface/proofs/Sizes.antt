@@ -20,7 +20,7 @@ use Rattle.numbers.proofs.Diff.{diff}
 use Rattle.numbers.proofs.Poly.{over, poly}
 use Rattle.numbers.proofs.Laws.{abs-mul-le, add-comm}
 use Rattle.numbers.proofs.Sum.{sum-abs}
-use Rattle.numbers.proofs.Below.{below-at}
+use Rattle.paper.proofs.Below.{below-at}
 use Rattle.numbers.specs.Near.{Near}
 use Rattle.numbers.proofs.Nearest.{near-is}
 use Rattle.numbers.proofs.Rules.{bottom, cosine-size}

@@ -14,7 +14,7 @@ use Rattle.paper.specs.Scan.{pickN, someBelow, firstBelow}
 use Rattle.paper.specs.Mesh.{Mesh, cornerCount}
 use Rattle.paper.specs.Faults.{Verdict, sound, fault, _orElse_, single, lowestOf, fault27, listFaults, linkFaults, verdict}
 use Rattle.paper.specs.File.{fileMesh, lengthVerdict, headerVerdict, fileVerdict}
-use Rattle.numbers.proofs.Below.{below-at}
+use Rattle.paper.proofs.Below.{below-at}
 use Rattle.mesh.proofs.Scans.{compared}
 use Rattle.mesh.proofs.Verdicts.{single-miss}
 use Rattle.dms.proofs.lists.Lists.{file-corners, file-sharpness}

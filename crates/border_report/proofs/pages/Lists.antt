@@ -5,7 +5,7 @@ use mathlib.Core.List.{List, [], _∷_}
 use Prim.Native.Nat.{ℕ, _+_, _<_, max}
 use lib.Dec.{eqb, eqb→eq}
 use lib.ListN.{getD, replicate}
-use Rattle.numbers.proofs.Below.{below-at}
+use Rattle.paper.proofs.Below.{below-at}
 use Rattle.paper.specs.Scan.{valuesFrom}
 use Rattle.paper.specs.Report.{pageWith, lineNumbers, lines, conditions}
 use Rattle.border_report.specs.four.Four.{inMisses}

@@ -1,5 +1,0 @@
-pub mod Rows
-pub mod Claim
-pub mod Pyramid
-pub mod Distance
-pub mod Sample
