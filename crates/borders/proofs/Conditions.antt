@@ -2,7 +2,7 @@
 -- Each is one linear argument over the products of the values (notes of the budget: 12.6, 11.6, 11 and 11 ticks are the worst that can be).
 -- Assumes nothing.
 use mathlib.Core.Path.{_≡_, refl}
-use Prim.Native.Nat.{ℕ, _*_, _^_}
+use Prim.Native.Nat.{ℕ, _*_}
 use native.Mathlib.Omega.{arith}
 use lib.Dec.{T as Passes}
 use lib.IntN.{ℤ, pos, _+ℤ_, _-ℤ_, _*ℤ_}

@@ -6,7 +6,6 @@ use mathlib.Core.List.{List}
 use Prim.Native.Nat.{ℕ, _<_}
 use native.Mathlib.Omega.{arith}
 use lib.ListN.{length}
-use lib.IntN.{ℤ}
 use Rattle.paper.specs.Scan.{firstBelow, someBelow}
 use Rattle.paper.specs.Mesh.{Mesh}
 use Rattle.paper.specs.Faults.{Verdict, sound, fault, _orElse_, single, lowestOf, listFaults, linkFaults, verdict, linkVerdict, kept}

@@ -7,12 +7,11 @@ use native.Mathlib.Omega.{arith}
 use lib.ListN.{getD}
 use lib.IntN.{ℤ, pos, _+ℤ_}
 use Rattle.numbers.proofs.Laws.{add-comm}
-use Rattle.paper.specs.Mesh.{Mesh}
 use Rattle.paper.specs.Numbers.{round, rounded}
 use Rattle.paper.specs.Refined.{RefinedMesh, refinedOf}
-use Rattle.paper.specs.Net.{Side, side0, side1, side2, side3, neighbour, across, H, T, X, Y, C, outer1, outer2, outer3, a0, a1, a2, a3, bGrid, aGrid, net}
+use Rattle.paper.specs.Net.{Side, side0, side1, side2, side3, across, H, T, X, Y, C, outer1, outer2, outer3, a0, a1, a2, a3, bGrid, aGrid, net}
 use Rattle.paper.specs.Net.{outerRow, aRow}
-use Rattle.paper.specs.Borders.{Output, Wrote, written, first, second, third, fourth, InBounds, beside, Borders}
+use Rattle.paper.specs.Borders.{written, first, second, third, fourth, InBounds, beside}
 use Rattle.paper.specs.Claims.{Demand3}
 use Rattle.surface.proofs.Border.{Border, border}
 use Rattle.surface.proofs.Hull.{corners-sound, points-small}

@@ -136,7 +136,7 @@ pub second-size : (d : ℤ) → natAbs (farSecond d) ≤ 4095
 second-size d = let r = far-pair d .rest in subst (λ (z : ℤ). natAbs z ≤ 4095) (sym (r .1)) (r .2)
 
 first-from : (d h l : ℤ) → h +ℤ l ≡ d → natAbs d ≤ 2 ^ 28 → natAbs l ≤ 4095 → natAbs h ≤ 2 ^ 28 + 4095
-first-from = over 3 _ λ ρ. simp (poly, ρ) (omega arith)
+first-from = over 3 _ λ ρ. simp poly (omega arith)
 
 pub first-size : (d : ℤ) → natAbs d ≤ 2 ^ 28 → natAbs (farFirst d) ≤ 2 ^ 28 + 4095
 first-size d h = first-from d (farFirst d) (farSecond d) (far-pair d .sum) h (second-size d)

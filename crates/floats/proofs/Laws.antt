@@ -158,7 +158,7 @@ module _ (numbers : List ℤ) (point : ℕ) (e : pointVerdict numbers point ≡ 
 
 -- ---- a difference of two numbers, by their bits
 apart : (a b : ℤ) → natAbs a ≤ 2 ^ 27 → natAbs b ≤ 2 ^ 27 → natAbs (a -ℤ b) ≤ 2 ^ 28
-apart = over 2 _ λ ρ. simp (poly, ρ) (omega arith)
+apart = over 2 _ λ ρ. simp poly (omega arith)
 
 module _ (a b : ℤ) (ha : natAbs a ≤ 2 ^ 27) (hb : natAbs b ≤ 2 ^ 27) where
   a-bits : toZ w32 (ofZ w32 a) ≡ a

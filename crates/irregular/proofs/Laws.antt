@@ -20,8 +20,7 @@ use Rattle.checks.specs.columns.Filled.{Countable}
 use Rattle.paper.specs.declared.Irregular.{Irregular}
 use Rattle.paper.specs.declared.Irregular.the-variants.{Face, Vertex, None, Refused}
 use Rattle.paper.specs.Squares.{irregularFace, irregularVertex, SearchCase, faceFound, vertexFound}
-use Rattle.paper.specs.Squares.{noneFound, searchRefused, squaresStated, pickCase, lowestFace}
-use Rattle.paper.specs.Squares.{lowestVertex, found, searchUnless, squares, Searched}
+use Rattle.paper.specs.Squares.{noneFound, searchRefused, squaresStated, pickCase, lowestFace, lowestVertex, found, searchUnless, squares, Searched}
 use Rattle.irregular.specs.Found.{Named, FacesSearched}
 
 -- ---- the tests, as the code makes them

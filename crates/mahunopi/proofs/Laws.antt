@@ -23,14 +23,12 @@ use Rattle.paper.specs.Nesting.{listing, Nested}
 use Rattle.paper.specs.CFace.{States, LinkCall, BuildCall, lentVerdict, DecodeCall, countsOf, surveyVerdict, SurveyCall, put}
 use Rattle.paper.specs.Squares.{SearchCase, faceFound, vertexFound, noneFound, searchRefused, squaresStated, Searched}
 use Rattle.paper.specs.Archive.{archived, restored, Archived, Restored}
-use Rattle.paper.specs.CFace.{ArchiveCall, RestoreCall, OffCall}
+use Rattle.paper.specs.CFace.{ArchiveCall, RestoreCall, OffCall, FloatsCall, NestCall, Finding, finding, findingOf, IrregularCall, PreviewCall, TouchedCall}
 use Rattle.paper.specs.Off.{offVerdict, OffRead}
 use Rattle.paper.specs.Preview.{moveOf, moved, Previewed, touchMarks, Touched}
-use Rattle.paper.specs.CFace.{FloatsCall, NestCall, Finding, finding, findingOf, IrregularCall, PreviewCall, TouchedCall}
 use Rattle.paper.specs.Sampling.{Weights, samplePoint, sideAt, Sampled, triangleSamples, TriangleSampled}
-use Rattle.paper.specs.CFace.{SampleCall, TriangleCall}
+use Rattle.paper.specs.CFace.{SampleCall, TriangleCall, TurnCall}
 use Rattle.paper.specs.Turning.{turnVerdict, TurnedTo}
-use Rattle.paper.specs.CFace.{TurnCall}
 use Rattle.paper.specs.declared.Answer.{Answer}
 use Rattle.paper.specs.declared.Answer.the-variants.{Done, Refused}
 use Rattle.paper.specs.declared.Counts.{Counts}

@@ -2,9 +2,9 @@
 -- rings from that of 13.
 -- Assumes nothing.
 use mathlib.Core.Path.{ap}
-use Prim.Native.Nat.{ℕ, _<_}
+use Prim.Native.Nat.{_<_}
 use native.Mathlib.Omega.{arith}
-use Rattle.paper.specs.Mesh.{Mesh, vertexCount, cornerCount}
+use Rattle.paper.specs.Mesh.{vertexCount}
 use Rattle.paper.specs.Corners.{sumOf, faceOf, sidesOf}
 use Rattle.paper.specs.Links.{vertexOf, valence}
 use Rattle.paper.specs.Claims.{Manifolds}

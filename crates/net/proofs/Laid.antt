@@ -1,22 +1,20 @@
 -- What the lanes make: every lane has what it asks, and in the lane of an axis the four sides are those of the corner's quad-net.
 -- Assumes nothing.
-use mathlib.Core.Path.{_≡_, refl, sym, ap, _∙_, subst}
+use mathlib.Core.Path.{_≡_, sym, ap, _∙_, subst}
 use mathlib.Core.Logic.{_⊎_, inl, inr}
-use mathlib.Core.List.{List, [], _∷_}
-use Prim.Native.Nat.{ℕ, zero, suc, _+_, _-_, _*_, _^_, _≤_, _<_}
+use mathlib.Core.List.{List, []}
+use Prim.Native.Nat.{ℕ, zero, suc, _+_, _-_, _*_, _≤_, _<_}
 use native.Mathlib.Omega.{arith}
 use lib.Dec.{lit<, lit≤}
 use lib.ListN.{length, getD}
-use lib.IntN.{ℤ, pos}
+use lib.IntN.{ℤ}
 use Rattle.paper.specs.Scan.{iterate}
-use Rattle.paper.specs.Numbers.{rounded}
 use Rattle.paper.specs.Cosines.{cosine}
-use Rattle.paper.specs.Refined.{RefinedMesh}
 use Rattle.paper.specs.Net.{side0, side1, C}
 use Rattle.surface.specs.Points.{pointRow, pointAt}
 use Rattle.surface.specs.Sizes.{RefinedSize, FaceSize, CosineSize}
 use Rattle.surface.proofs.Sizes.{C-cosine}
-use Rattle.walk.specs.Table.{toNext, toLink, tabled, entry}
+use Rattle.walk.specs.Table.{toNext, toLink, tabled}
 use Rattle.refine.specs.declared.faces.Face.{Face}
 use Rattle.refine.specs.faces.Ring.{around, IsFace}
 use Rattle.refine.proofs.faces.Laws.{point-ring}

@@ -43,7 +43,7 @@ whole-fits p u d h l k m = let f = within p u h l k in (f, less (pos (p / 2 ^ 30
     within p u h l k = simp diff (omega arith)
 
     less : (a d : ℤ) → natAbs a ≤ 2 ^ 30 → natAbs d ≤ 2 ^ 28 → natAbs (a -ℤ d) ≤ 2 ^ 30 + 2 ^ 29
-    less = over 2 _ λ ρ. simp (poly, ρ) (omega arith)
+    less = over 2 _ λ ρ. simp poly (omega arith)
 
 -- ---- the tie of an eighth
 abbrev unit : ℤ

@@ -37,7 +37,7 @@ sum-times k f zero = none k
 sum-times k f (suc n) = more k (sum (λ j. k *ℤ f j) n) (sum f n) (f n) (sum-times k f n)
   where
     more : (k a s x : ℤ) → a ≡ k *ℤ s → a +ℤ k *ℤ x ≡ k *ℤ (s +ℤ x)
-    more = over 4 _ λ ρ. simp (poly, ρ) (omega arith)
+    more = over 4 _ λ ρ. simp poly (omega arith)
 
 -- ---- sizes
 pub sum-abs : (f : ℕ → ℤ) (n B : ℕ) → ((j : ℕ) → j < n → natAbs (f j) ≤ B) → natAbs (sum f n) ≤ n * B

@@ -17,8 +17,7 @@ use Rattle.paper.specs.Faults.{Verdict, sound, fault, _orElse_, single, lowestO
 use Rattle.paper.specs.Faults.{fault5, fault6, fault7, fault8, fault28, sameVertexFrom, fault9, fault10}
 use Rattle.paper.specs.Faults.{fault11, fault12, after, ringLength, met, fault13, listFaults, linkFaults, verdict}
 use Rattle.paper.specs.Off.{separates, comments, uncommented, piecesOf, wordsOf, isNumber, decimal, valueOf, bad, valueAt, naturalAt, endFrom, wordsEnd}
-use Rattle.paper.specs.Off.{badFrom, badFaces, neededVerdict, sidesFrom, cornersFrom, wordsMesh}
-use Rattle.paper.specs.Off.{isOff, short, fault24, fault26, wordsVerdict, offVerdict}
+use Rattle.paper.specs.Off.{badFrom, badFaces, neededVerdict, sidesFrom, cornersFrom, wordsMesh, isOff, short, fault24, fault26, wordsVerdict, offVerdict}
 use Rattle.paper.specs.Off.{textMesh}
 use Rattle.paper.specs.Examples.{Row, _gives_, AllGive}
 use Rattle.paper.proofs.Rows.{same, all-same, agree}

@@ -16,8 +16,7 @@ use Rattle.paper.specs.Scan.{valuesFrom}
 use Rattle.paper.specs.Mesh.{Mesh, Lengths, lengthsOf, cornerCount}
 use Rattle.paper.specs.Corners.{sumOf}
 use Rattle.paper.specs.Faults.{Verdict, sound, fault, _orElse_, single, lowestOf, fault6, listFaults, linkFaults, verdict, stated}
-use Rattle.paper.specs.Off.{wordsOf, Kind, listCount, coordinate, sideCount, vertexNumber}
-use Rattle.paper.specs.Off.{bad, naturalAt, vertices, faces, facesStart, sidesAt, faceAfter}
+use Rattle.paper.specs.Off.{wordsOf, Kind, listCount, coordinate, sideCount, vertexNumber, bad, naturalAt, vertices, faces, facesStart, sidesAt, faceAfter}
 use Rattle.paper.specs.Off.{endFrom, wordsEnd, badFrom, badFaces, neededVerdict, sidesFrom, cornersFrom, wordsMesh, isOff, short, fault24, fault26}
 use Rattle.paper.specs.Off.{wordsVerdict, offVerdict}
 use Rattle.paper.specs.Claims.{NoSix, MissingWord, WholeText}

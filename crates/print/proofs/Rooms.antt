@@ -1,10 +1,10 @@
 -- The lines of a file have room in the answer, 64 bytes for each; the line of m by the sum of its numbers.
 -- Assumes nothing.
 use mathlib.Core.Path.{_≡_, refl, sym, ap, _∙_}
-use mathlib.Core.Bool.{cond, true, false, _&&_}
+use mathlib.Core.Bool.{true, false, _&&_}
 use mathlib.Core.List.{List, [], _∷_, _++_}
 use mathlib.Core.Logic.{⊎-elim}
-use Prim.Native.Nat.{ℕ, zero, suc, _+_, _*_, _<_, _≤_}
+use Prim.Native.Nat.{ℕ, zero, suc, _+_, _*_, _≤_}
 use native.Mathlib.Numerals.{add-one}
 use native.Mathlib.Omega.{arith}
 use lib.Dec.{eqb}
@@ -19,7 +19,7 @@ use Rattle.paper.specs.declared.Counts.{Counts}
 use Rattle.paper.specs.declared.Summary.{Summary}
 use Rattle.io.specs.Counts.{Counts as Within}
 use Rattle.streams.specs.text.Text.{decimal, Put}
-use Rattle.print.specs.Lines.{ended, threeLine, refusedLine, countLine, countLines, meshLines, answerLines, summaryLines}
+use Rattle.print.specs.Lines.{ended, threeLine, countLine, countLines, answerLines, summaryLines}
 use Rattle.streams.proofs.text.Putting.{put-fits}
 use Rattle.streams.proofs.text.Decimals.{decimal-short}
 

@@ -3,7 +3,7 @@
 use mathlib.Core.Path.{_≡_, refl, sym, ap, _∙_, subst}
 use mathlib.Core.Logic.{⊎-elim}
 use mathlib.Core.List.{List, [], _∷_, _++_, append-assoc, append-nil}
-use Prim.Native.Nat.{ℕ, zero, suc, _+_, _-_, _*_, _/_, _^_, _≤_, _<_}
+use Prim.Native.Nat.{ℕ, zero, suc, _+_, _-_, _*_, _^_, _≤_, _<_}
 use native.Mathlib.Numerals.{add-one}
 use native.Mathlib.Omega.{arith}
 use lib.ListN.{length, getD, set, take, drop, length-set, length-drop, take-append-drop}
@@ -14,8 +14,7 @@ use Rattle.paper.specs.Faults.{sound}
 use Rattle.paper.specs.Net.{Side}
 use Rattle.paper.specs.File.{begins}
 use Rattle.paper.specs.Floats.{netVerdict, axes}
-use Rattle.paper.specs.Sampling.{control, Weights, weights, onAxis, bernsteinSum, sampleAt, samplePoint, sideAt, rowSamples, firstRows, triangleSamples}
-use Rattle.paper.specs.Sampling.{sampleCount, rowStart}
+use Rattle.paper.specs.Sampling.{control, weights, onAxis, sampleAt, samplePoint, sideAt, rowSamples, firstRows, triangleSamples, sampleCount, rowStart}
 use Rattle.mesh.proofs.Scans.{compared}
 use Rattle.sampling.specs.declared.bernstein.Five.{Five}
 use Rattle.sampling.specs.declared.bernstein.Rows.{Rows}

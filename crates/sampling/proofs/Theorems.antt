@@ -1,19 +1,18 @@
 -- The theorems of L12: closing along common sides and rays, the ends, the bounds, and a triangle's samples one by one.
 -- Assumes nothing.
 use mathlib.Core.Path.{_≡_, refl, sym, ap, _∙_, subst}
-use mathlib.Core.Logic.{⊎-elim}
-use mathlib.Core.Bool.{Bool, true, false, not, _||_}
-use mathlib.Core.List.{List, [], _∷_, _++_, append-assoc, append-nil}
+use mathlib.Core.Bool.{false, not}
+use mathlib.Core.List.{List, [], _++_, append-assoc, append-nil}
 use Prim.Native.Nat.{ℕ, zero, suc, _+_, _-_, _*_, _^_, _≤_, _<_}
 use native.Mathlib.Nat.{one-le-pow}
 use native.Mathlib.Omega.{arith}
 use borrow.Author.Tests.{eq-eqb}
-use lib.Dec.{lit≤, eqb}
+use lib.Dec.{eqb}
 use lib.ListN.{length, getD, take, drop, length-append}
 use lib.Seq.{getD-take, getD-drop, drop-append-seam}
 use lib.IntN.{ℤ, pos, _*ℤ_}
 use lib.Signed.{_≤ℤ_, _<ℤ_}
-use Rattle.paper.specs.Faults.{Verdict, sound, fault, _orElse_, single, outside, stated, kept}
+use Rattle.paper.specs.Faults.{Verdict, sound, _orElse_, single, outside, stated, kept}
 use Rattle.paper.specs.Numbers.{round}
 use Rattle.paper.specs.Mesh.{Mesh}
 use Rattle.paper.specs.Net.{Side, side0, side1, side2, side3, across, atHead, atTail, outerRow}
@@ -24,17 +23,14 @@ use Rattle.paper.specs.Borders.{Output, Wrote, Holds, beside, written}
 use Rattle.paper.specs.declared.Answer.{Answer}
 use Rattle.paper.specs.declared.Answer.the-variants.{Done, Refused}
 use Rattle.paper.specs.Sampling.{control, Weights, weights, onAxis, bernsteinSum, sampleAt, samplePoint, fault32, mostParts, fault33, sampleVerdict, sideAt}
-use Rattle.paper.specs.Sampling.{Sampled, rowSamples, firstRows, triangleSamples, triangleVerdict, TriangleSampled, sideNumber, netIn, Alike, controlPoint}
-use Rattle.paper.specs.Sampling.{Leaves, Between, rowStart}
+use Rattle.paper.specs.Sampling.{Sampled, rowSamples, firstRows, triangleSamples, sideNumber, netIn, Alike, controlPoint, Leaves, Between, rowStart}
 use Rattle.paper.specs.Claims.{SamplesClose, RaysAgree, SampleEnds, SamplesBetween, TrianglesSample}
 use Rattle.numbers.proofs.Diff.{diff}
 use Rattle.mesh.proofs.Ranges.{inside, or-none}
-use Rattle.mesh.proofs.Scans.{compared}
 use Rattle.mesh.proofs.Verdicts.{orElse-sound, single-miss, sound-left}
 use Rattle.floats.proofs.nets.Nets.{nets-pass}
 use Rattle.borders.proofs.Theorem.{demand3}
-use Rattle.sampling.specs.declared.bernstein.Rows.{Rows}
-use Rattle.sampling.specs.bernstein.Sums.{five, quartic, quarticSum, rowsOf}
+use Rattle.sampling.specs.bernstein.Sums.{rowsOf}
 use Rattle.sampling.proofs.bernstein.Laws.{round-between}
 use Rattle.sampling.proofs.bernstein.Sum.{bernstein-is, sum-from, sum-to, on-side, from-head}
 use Rattle.sampling.proofs.bernstein.Sum.{from-tail, head-alone, tail-alone, centre-alone, round-multiple}

@@ -20,7 +20,7 @@ use Rattle.paper.specs.Corners.{sumOf, faceOf, firstOf, sidesOf, next}
 use Rattle.paper.specs.Links.{vertexOf, link, names, valence}
 use Rattle.paper.specs.Faults.{Accepted}
 use Rattle.paper.specs.Refined.{ticksPerStep, faceSum, cornersOf}
-use Rattle.mesh.proofs.Scans.{compared, some-below, some-passes}
+use Rattle.mesh.proofs.Scans.{compared, some-below, some-passes, ways}
 use Rattle.mesh.proofs.Faces.{held, first-from, first-to, sides-same, first-next, sides-next, next-below}
 use Rattle.mesh.proofs.Rings.{iterate-zero, iterate-suc, iterate-add, Turns, period, period-le, comes-back, met-all, metBy, and-not}
 use Rattle.mesh.proofs.Accepted.{next-turn, next-along}
@@ -31,14 +31,13 @@ use Rattle.walk.specs.Table.{entry, toLink, sidesHere, valenceHere, Blank, Tabl
 use Rattle.surface.specs.Sound.{Sound, Agree}
 use Rattle.surface.proofs.Hull.{corners-sound}
 use Rattle.surface.proofs.Agree.{sound-same}
-use Rattle.refine.specs.wanted.Tables.{SomeIn, Asked}
+use Rattle.refine.specs.wanted.Tables.{SomeIn}
 use Rattle.refine.proofs.wanted.Laws.{some-more, some-last}
 use Rattle.refine.specs.sums.Sources.{Refinable, stepsOf, stepSum, Added, sumRow}
 use Rattle.refine.proofs.sums.Laws.{softened, faceSteps, face-steps}
 use Rattle.walk.proofs.Table.{blank}
 use Rattle.refine.specs.corners.Mean.{FaceOf}
 use Rattle.refine.specs.declared.corners.FaceSums.{FaceSums}
-use Rattle.mesh.proofs.Scans.{ways}
 use Rattle.short_range.specs.Near.{Below, RingPut, RingsListed, roundSum, RoundMarked, RowOf}
 use Rattle.short_range.specs.Near.{RowsHold, RowsCover, RowSummed, RowRead, ListPointed, NearPointed}
 

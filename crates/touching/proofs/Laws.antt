@@ -15,7 +15,7 @@ use Rattle.paper.specs.Scan.{pickN, firstBelow, someBelow}
 use Rattle.paper.specs.Mesh.{mostVertices, Mesh, vertexCount, cornerCount}
 use Rattle.paper.specs.Corners.{sumOf, faceOf, startOf}
 use Rattle.paper.specs.Links.{vertexOf, names}
-use Rattle.paper.specs.Faults.{Verdict, sound, fault, single, verdict, stated, kept, Accepted}
+use Rattle.paper.specs.Faults.{sound, verdict, stated, Accepted}
 use Rattle.paper.specs.File.{noRoom}
 use Rattle.paper.specs.declared.Answer.{Answer}
 use Rattle.paper.specs.declared.Answer.the-variants.{Done, Refused}

@@ -8,8 +8,7 @@ use native.Mathlib.Omega.{arith}
 use lib.Dec.{eqb}
 use borrow.Author.Tests.{eqb-true, eqb-false, eq-eqb, ne-eqb, not-true}
 use Rattle.paper.specs.Scan.{firstBelow, someBelow, countBelow}
-use Rattle.mesh.proofs.Scans.{ways, clash, and-left, and-right, some-below}
-use Rattle.mesh.proofs.Scans.{some-passes, none}
+use Rattle.mesh.proofs.Scans.{ways, clash, and-left, and-right, some-below, some-passes, none}
 use Rattle.turning.specs.Constraints.{besides, other}
 use Rattle.mesh.proofs.Rings.{count-less, count-none, none-counted}
 

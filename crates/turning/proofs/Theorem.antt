@@ -3,9 +3,9 @@
 -- Assumes nothing.
 use mathlib.Core.Path.{_≡_, refl, ap, _∙_, sym, subst}
 use mathlib.Core.Bool.{Bool, true, false, not, _&&_, _||_}
-use mathlib.Core.Logic.{_⊎_, ⊎-elim}
+use mathlib.Core.Logic.{⊎-elim}
 use mathlib.Core.List.{List}
-use Prim.Native.Nat.{ℕ, zero, suc, _-_, _<_, _≤_}
+use Prim.Native.Nat.{ℕ, zero, suc, _<_, _≤_}
 use native.Mathlib.Omega.{arith}
 use lib.ListN.{length}
 use borrow.Author.Tests.{eqb-true, eq-eqb, not-true, not-false}
@@ -23,8 +23,7 @@ use Rattle.turning.specs.Constraints.{FacesListed, partner, label, Meets
 use Rattle.mesh.proofs.Ranges.{or-left, or-right, or-none, none-left, none-right}
 use Rattle.turning.proofs.Steps.{sharing, Stepped, from-face, last-step, adjoins, here, still-joins}
 use Rattle.turning.proofs.Choices.{some-choice, first-choice, choice-of, choice-long, choice-says}
-use Rattle.turning.proofs.Parts.{true-both, joined-same, joined-across, joined-back, choices-same, glued, glued-meets}
-use Rattle.turning.proofs.Parts.{glued-keeps}
+use Rattle.turning.proofs.Parts.{true-both, joined-same, joined-across, joined-back, choices-same, glued, glued-meets, glued-keeps}
 use Rattle.turning.proofs.Pairs.{Paired, paired, counted}
 use Rattle.turning.proofs.Edges.{alike, met-of-reverse, reverse-of-met, unrepeated-of-met, paired-of-served}
 use Rattle.turning.proofs.Turned.{moved, length-turned, moved-in, moved-twice, face-moved, face-in, sided, moves, reverses-same, same-back}

@@ -10,9 +10,6 @@ use borrow.Author.Needs.{needs}
 use Rattle.border_report.proofs.check_mesh.Statement.{statement}
 use Rattle.border_report.proofs.check_mesh.Tie as tie
 
-slice-aggregate-check-within : tie.Need-slice-aggregate-check-within
-slice-aggregate-check-within c = search needs
-
 check-within-requires : tie.Need-check-within-requires
 check-within-requires c κs =
     let s = c .before .before .before .before .before .before in
@@ -22,12 +19,5 @@ check-within-requires c κs =
       blank = blank (vertexRow * mostVertices);
     }
 
-same-length : tie.Need-same-length
-same-length c = search needs
-
-returns : tie.Need-returns
-returns c = search needs
-
 pub check-mesh-spec : {M : Type 1} → statement M
-check-mesh-spec =
-    tie.close (tie.spec slice-aggregate-check-within check-within-requires same-length returns)
+check-mesh-spec = tie.close (tie.spec (λ c. search needs) check-within-requires (λ c. search needs) (λ c. search needs))

@@ -21,27 +21,12 @@ start t = t .before .before .before .before .before .before .before .before .bef
 accepts : (t : tie.After-enum-told) → Accepted (mesh (start t))
 accepts t = let a = t .before .before .before .before .check-mesh in passed (a .result) (a .ensures .answers) (t .enum-told .given .1)
 
-check-mesh-requires : tie.Need-check-mesh-requires
-check-mesh-requires c κs = search needs
-
-enum-known-a : tie.Need-enum-known-a
-enum-known-a c = search needs
-
-refuse-requires : tie.Need-refuse-requires
-refuse-requires c κs = search needs
-
-same-length : tie.Need-same-length
-same-length c = search needs
-
 returns : tie.Need-returns
 returns c =
     let s = c .before .before .before .before .before .before .before .before .before .before .before .before in
     let a = c .before .before .a .given in
     refused-added (s .args .page) (mesh s) (verdict (mesh s)) (c .refuse .result) _ (a .0 .1 .0) (c .refuse .ensures)
     (sym (ap stated (a .1)) ∙ c .before .before .before .before .before .before .check-mesh .ensures .answers)
-
-enum-told : tie.Need-enum-told
-enum-told c = search needs
 
 largest-requires : tie.Need-largest-requires
 largest-requires c κs =
@@ -55,12 +40,6 @@ accept-requires c κs =
     let t = c .before .before .before .before in
     (start t .pre .0, limits (mesh (start t)) (accepts t) .1 .1)
 
-same-length-2 : tie.Need-same-length-2
-same-length-2 c = search needs
-
-same-length-3 : tie.Need-same-length-3
-same-length-3 c = search needs
-
 returns-2 : tie.Need-returns-2
 returns-2 c =
     let t = c .before .before .before .before .before in
@@ -70,16 +49,5 @@ returns-2 c =
 
 pub over-spec : {M : Type 1} → statement M
 over-spec =
-    tie.close
-    (tie.spec
-    check-mesh-requires
-    enum-known-a
-    refuse-requires
-    same-length
-    returns
-    enum-told
-    largest-requires
-    accept-requires
-    same-length-2
-    same-length-3
-    returns-2)
+    tie.close (tie.spec (λ c κs. search needs) (λ c. search needs) (λ c κs. search needs) (λ c. search needs) returns (λ c. search needs) largest-requires
+    accept-requires (λ c. search needs) (λ c. search needs) returns-2)

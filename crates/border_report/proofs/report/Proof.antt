@@ -14,23 +14,11 @@ use borrow.Author.Needs.{needs}
 use Rattle.border_report.proofs.report.Statement.{statement}
 use Rattle.border_report.proofs.report.Tie as tie
 
-check-requires : tie.Need-check-requires
-check-requires c κs = search needs
-
-enum-known-a : tie.Need-enum-known-a
-enum-known-a c = search needs
-
 returns : tie.Need-returns
 returns c =
     let s = c .before .before .before .before .before in
     refused-report (s .args .page) (offered (s .args .bytes .now) (s .args .counted)) _ _
     (sym (ap stated (c .before .a .given .1)) ∙ c .before .before .before .check .ensures)
-
-enum-told : tie.Need-enum-told
-enum-told c = search needs
-
-least-requires : tie.Need-least-requires
-least-requires c κs = search needs
 
 slice-aggregate-with-file : tie.Need-slice-aggregate-with-file
 slice-aggregate-with-file c = sym (length-take-le _ (c .before .before .before .before .before .before .args .bytes .now) (c .before .least .ensures .0))
@@ -51,13 +39,5 @@ returns-2 c =
 
 pub report-spec : {M : Type 1} → statement M
 report-spec =
-    tie.close
-    (tie.spec
-    check-requires
-    enum-known-a
-    returns
-    enum-told
-    least-requires
-    slice-aggregate-with-file
-    with-file-requires
-    returns-2)
+    tie.close (tie.spec (λ c κs. search needs) (λ c. search needs) returns (λ c. search needs) (λ c κs. search needs) slice-aggregate-with-file
+    with-file-requires returns-2)

@@ -12,15 +12,6 @@ use borrow.Author.Needs.{needs}
 use Rattle.border_report.proofs.with_file.Statement.{statement}
 use Rattle.border_report.proofs.with_file.Tie as tie
 
-check-header-requires : tie.Need-check-header-requires
-check-header-requires c κs = search needs
-
-enum-known-header : tie.Need-enum-known-header
-enum-known-header c = search needs
-
-refuse-requires : tie.Need-refuse-requires
-refuse-requires c κs = search needs
-
 returns : tie.Need-returns
 unfolding fileVerdict
 returns c =
@@ -29,9 +20,6 @@ returns c =
     let a = c .before .before .header .given in
     refused-added (s .args .page) M _ (c .refuse .result) _ (a .0 .1 .0) (c .refuse .ensures)
     (stop _ (c .before .before .before .before .check-header .ensures) _ _ (a .1) (verdict M))
-
-enum-told : tie.Need-enum-told
-enum-told c = search needs
 
 with-lists-requires : tie.Need-with-lists-requires
 with-lists-requires c κs =
@@ -51,12 +39,4 @@ returns-2 c =
 
 pub with-file-spec : {M : Type 1} → statement M
 with-file-spec =
-    tie.close
-    (tie.spec
-    check-header-requires
-    enum-known-header
-    refuse-requires
-    returns
-    enum-told
-    with-lists-requires
-    returns-2)
+    tie.close (tie.spec (λ c κs. search needs) (λ c. search needs) (λ c κs. search needs) returns (λ c. search needs) with-lists-requires returns-2)

@@ -12,26 +12,11 @@ use borrow.Author.Needs.{needs}
 use Rattle.border_report.proofs.with_mesh.Statement.{statement}
 use Rattle.border_report.proofs.with_mesh.Tie as tie
 
-slice-aggregate-over : tie.Need-slice-aggregate-over
-slice-aggregate-over c = search needs
-
-slice-aggregate-over-2 : tie.Need-slice-aggregate-over-2
-slice-aggregate-over-2 c = search needs
-
 over-requires : tie.Need-over-requires
 over-requires c κs =
     let s = c .before .before .before .before .before .before in
     let n = length (now (s .args .corners)) in
     (s .pre, (table-room n smallMesh (λ h. search needs), (point-room n smallMesh (λ h. search needs), small-zeros (pointRow * smallMesh))))
-
-returns : tie.Need-returns
-returns c = search needs
-
-slice-aggregate-over-3 : tie.Need-slice-aggregate-over-3
-slice-aggregate-over-3 c = search needs
-
-slice-aggregate-over-4 : tie.Need-slice-aggregate-over-4
-slice-aggregate-over-4 c = search needs
 
 over-requires-2 : tie.Need-over-requires-2
 over-requires-2 c κs =
@@ -39,18 +24,7 @@ over-requires-2 c κs =
     let n = length (now (s .args .corners)) in
     (s .pre, (table-room n mostCorners (λ h. h), (point-room n mostCorners (λ h. h), small-zeros (pointRow * mostCorners))))
 
-returns-2 : tie.Need-returns-2
-returns-2 c = search needs
-
 pub with-mesh-spec : {M : Type 1} → statement M
 with-mesh-spec =
-    tie.close
-    (tie.spec
-    slice-aggregate-over
-    slice-aggregate-over-2
-    over-requires
-    returns
-    slice-aggregate-over-3
-    slice-aggregate-over-4
-    over-requires-2
-    returns-2)
+    tie.close (tie.spec (λ c. search needs) (λ c. search needs) over-requires (λ c. search needs) (λ c. search needs) (λ c. search needs) over-requires-2
+    (λ c. search needs))

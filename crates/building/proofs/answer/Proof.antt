@@ -30,9 +30,6 @@ module _ (t : tie.After-enum-told) where
 check-asked-requires : tie.Need-check-asked-requires
 check-asked-requires c κs = let s = c .before .before .before .before in few (mesh s) (s .pre .0)
 
-enum-known-a : tie.Need-enum-known-a
-enum-known-a c = search needs
-
 returns : tie.Need-returns
 returns c =
     let s = c .before .before .before .before .before .before .before .before in
@@ -41,29 +38,14 @@ returns c =
       holds = refl;
     }
 
-enum-told : tie.Need-enum-told
-enum-told c = search needs
-
 write-range-requires : tie.Need-write-range-requires
 write-range-requires c κs =
     let t = c .before in
     let g = grants t in
     (start t .pre .0, (start t .pre .1, (g .some, g .within, g .room)))
 
-same-length : tie.Need-same-length
-same-length c = search needs
-
 returns-2 : tie.Need-returns-2
 returns-2 c = record { answers = sym (accepts (c .before .before .before)); holds = c .before .write-range .ensures }
 
 pub answer-spec : {M : Type 1} → statement M
-answer-spec =
-    tie.close
-    (tie.spec
-    check-asked-requires
-    enum-known-a
-    returns
-    enum-told
-    write-range-requires
-    same-length
-    returns-2)
+answer-spec = tie.close (tie.spec check-asked-requires (λ c. search needs) returns (λ c. search needs) write-range-requires (λ c. search needs) returns-2)

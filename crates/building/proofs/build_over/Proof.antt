@@ -28,18 +28,6 @@ accepts t =
     let a = t .before .before .before .before .before .before .check-linked in
     passed {v = checks (start t)} (a .result) (a .ensures .answers) (t .enum-told .given .1)
 
-check-linked-requires : tie.Need-check-linked-requires
-check-linked-requires c κs = search needs
-
-enum-known-a : tie.Need-enum-known-a
-enum-known-a c = search needs
-
-same-length : tie.Need-same-length
-same-length c = search needs
-
-same-length-2 : tie.Need-same-length-2
-same-length-2 c = search needs
-
 returns : tie.Need-returns
 returns c =
     let s = c .before .before .before .before .before .before .before .before .before .before .before .before .before .before .before .before in
@@ -51,23 +39,11 @@ returns c =
       holds = refl;
     }
 
-enum-told : tie.Need-enum-told
-enum-told c = search needs
-
 answer-requires : tie.Need-answer-requires
 answer-requires c κs =
     let t = c .before .before in
     let a = t .before .before .before .before .before .before .check-linked in
     (sound-left _ _ (accepts t), a .ensures .tabled (ap stated (t .enum-told .given .1)))
-
-same-length-3 : tie.Need-same-length-3
-same-length-3 c = search needs
-
-same-length-4 : tie.Need-same-length-4
-same-length-4 c = search needs
-
-same-length-5 : tie.Need-same-length-5
-same-length-5 c = search needs
 
 returns-2 : tie.Need-returns-2
 returns-2 c =
@@ -83,16 +59,5 @@ returns-2 c =
 
 pub build-over-spec : {M : Type 1} → statement M
 build-over-spec =
-    tie.close
-    (tie.spec
-    check-linked-requires
-    enum-known-a
-    same-length
-    same-length-2
-    returns
-    enum-told
-    answer-requires
-    same-length-3
-    same-length-4
-    same-length-5
-    returns-2)
+    tie.close (tie.spec (λ c κs. search needs) (λ c. search needs) (λ c. search needs) (λ c. search needs) returns (λ c. search needs) answer-requires
+    (λ c. search needs) (λ c. search needs) (λ c. search needs) returns-2)

@@ -40,18 +40,6 @@ module _ (t : tie.After-enum-told2) where
   tabled : Tabled (cornersOf (mesh (start listed-at))) (listed-at .before .before .before .before .before .before .fill-tables .last .1 .1 .1 .1 .0)
   tabled = t .before .before .check-filled .ensures .tabled accepts
 
-fill-tables-requires : tie.Need-fill-tables-requires
-fill-tables-requires c κs = search needs
-
-enum-known-a : tie.Need-enum-known-a
-enum-known-a c = search needs
-
-same-length : tie.Need-same-length
-same-length c = search needs
-
-same-length-2 : tie.Need-same-length-2
-same-length-2 c = search needs
-
 returns : tie.Need-returns
 returns c =
     let s = c .before .before .before .before .before .before .before .before .before .before .before .before .before .before .before .before in
@@ -59,9 +47,6 @@ returns c =
     let k = c .before .a .given in
     mesh-refused (mesh s) _ _ (k .0 .0) (k .0 .1 .0)
     (stopped-lists (mesh s) (a .last .1 .1 .1 .1 .0) (k .0 .0) (k .0 .1 .0) (sym (ap stated (k .1)) ∙ a .ensures .answers) .answers)
-
-enum-told : tie.Need-enum-told
-enum-told c = search needs
 
 same-links-requires : tie.Need-same-links-requires
 same-links-requires c κs = let f = filled (c .before) in (listed (mesh (start (c .before))) (f .passed) .small, f .long)
@@ -75,30 +60,12 @@ highest-requires c κs =
 check-filled-requires : tie.Need-check-filled-requires
 check-filled-requires c κs = (filled (c .before .before .before .before .before .before), c .before .before .highest .ensures)
 
-enum-known-b : tie.Need-enum-known-b
-enum-known-b c = search needs
-
-same-length-3 : tie.Need-same-length-3
-same-length-3 c = search needs
-
-same-length-4 : tie.Need-same-length-4
-same-length-4 c = search needs
-
 returns-2 : tie.Need-returns-2
 returns-2 c =
     let M = mesh (start (c .before .before .before .before .before .before .before .before .before .before)) in
     let b = c .before .before .before .check-filled in
     let k = c .before .b .given in
     mesh-refused M _ _ (k .0 .0) (k .0 .1 .0) (sym (ap stated (k .1)) ∙ b .ensures .answers)
-
-enum-told-2 : tie.Need-enum-told-2
-enum-told-2 c = search needs
-
-same-length-5 : tie.Need-same-length-5
-same-length-5 c = search needs
-
-same-length-6 : tie.Need-same-length-6
-same-length-6 c = search needs
 
 returns-3 : tie.Need-returns-3
 returns-3 c =
@@ -111,12 +78,6 @@ check-links-requires : tie.Need-check-links-requires
 check-links-requires c κs =
     let t = listed-at (c .before .before) in (listed (mesh (start t)) (filled t .passed) .small, filled t .long)
 
-same-length-7 : tie.Need-same-length-7
-same-length-7 c = search needs
-
-same-length-8 : tie.Need-same-length-8
-same-length-8 c = search needs
-
 returns-4 : tie.Need-returns-4
 returns-4 c =
     let t = c .before .before .before in
@@ -125,26 +86,6 @@ returns-4 c =
 
 pub check-linked-spec : {M : Type 1} → statement M
 check-linked-spec =
-    tie.close
-    (tie.spec
-    fill-tables-requires
-    enum-known-a
-    same-length
-    same-length-2
-    returns
-    enum-told
-    same-links-requires
-    highest-requires
-    check-filled-requires
-    enum-known-b
-    same-length-3
-    same-length-4
-    returns-2
-    enum-told-2
-    same-length-5
-    same-length-6
-    returns-3
-    check-links-requires
-    same-length-7
-    same-length-8
-    returns-4)
+    tie.close (tie.spec (λ c κs. search needs) (λ c. search needs) (λ c. search needs) (λ c. search needs) returns (λ c. search needs) same-links-requires
+    highest-requires check-filled-requires (λ c. search needs) (λ c. search needs) (λ c. search needs) returns-2 (λ c. search needs) (λ c. search needs)
+    (λ c. search needs) returns-3 check-links-requires (λ c. search needs) (λ c. search needs) returns-4)

@@ -1,16 +1,16 @@
 -- The places of the output, the turns of the loop that writes it, and the mesh that the tables draw.
 -- Assumes nothing.
-use mathlib.Core.Path.{_≡_, refl, ap, _∙_, sym, subst}
+use mathlib.Core.Path.{_≡_, ap, _∙_, sym, subst}
 use mathlib.Core.Logic.{⊎-elim}
 use mathlib.Core.List.{List}
-use Prim.Native.Nat.{ℕ, zero, suc, _+_, _-_, _*_, _/_, _%_, _<_, _≤_}
+use Prim.Native.Nat.{ℕ, _+_, _-_, _*_, _/_, _%_, _<_, _≤_}
 use native.Mathlib.Omega.{arith}
 use lib.Dec.{ltb}
 use borrow.Author.Tests.{ltb-true, ltb-false}
 use lib.ListN.{length, getD, replicate, length-replicate}
 use lib.Seq.{ext-getD}
 use lib.IntN.{ℤ, pos}
-use Rattle.paper.specs.Mesh.{Mesh, vertexCount, faceCount, cornerCount, mostVertices, mostFaces}
+use Rattle.paper.specs.Mesh.{Mesh, faceCount, cornerCount, mostVertices, mostFaces}
 use Rattle.paper.specs.Corners.{sumOf, faceOf, firstOf, sidesOf, positionOf, next}
 use Rattle.paper.specs.Links.{vertexOf}
 use Rattle.paper.specs.Faults.{Accepted}

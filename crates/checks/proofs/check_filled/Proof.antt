@@ -41,9 +41,6 @@ module _ (t : tie.After-enum-told) where
 check-entries-requires : tie.Need-check-entries-requires
 check-entries-requires c κs = let s = c .before .before .before .before .before in ((lists s .small, s .pre .0 .long), s .pre .1)
 
-enum-known-b : tie.Need-enum-known-b
-enum-known-b c = search needs
-
 returns : tie.Need-returns
 returns c =
     let s = c .before .before .before .before .before .before .before .before .before in
@@ -51,9 +48,6 @@ returns c =
     let k = c .before .b .given in
     stopped-edges (mesh s) _ (s .pre .0 .passed) (k .0 .0) (k .0 .1 .0)
     (sym (ap stated (k .1)) ∙ b .ensures .answers (mesh s .sides) (lists s .sums) (s .pre .0 .entries))
-
-enum-told : tie.Need-enum-told
-enum-told c = search needs
 
 check-vertices-requires : tie.Need-check-vertices-requires
 check-vertices-requires c κs =
@@ -69,12 +63,4 @@ returns-2 c =
     (λ z. tabled (mesh s) _ _ (s .pre .0) (links t))
 
 pub check-filled-spec : {M : Type 1} → statement M
-check-filled-spec =
-    tie.close
-    (tie.spec
-    check-entries-requires
-    enum-known-b
-    returns
-    enum-told
-    check-vertices-requires
-    returns-2)
+check-filled-spec = tie.close (tie.spec check-entries-requires (λ c. search needs) returns (λ c. search needs) check-vertices-requires returns-2)

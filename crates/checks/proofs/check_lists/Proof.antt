@@ -63,12 +63,6 @@ entries t =
 eight : (t : tie.After-enum-told6) → lowestOf 8 (cornerCount (of8 t)) (fault8 (vertexCount (of8 t)) (of8 t .corners)) ≡ sound
 eight t = sound-left _ _ (entries t)
 
-check-lengths-requires : tie.Need-check-lengths-requires
-check-lengths-requires c κs = search needs
-
-enum-known-a4 : tie.Need-enum-known-a4
-enum-known-a4 c = search needs
-
 returns : tie.Need-returns
 unfolding listFaults
 returns c =
@@ -77,14 +71,8 @@ returns c =
     lists-refused (mesh (c .before .before .before .before .before .before .before .before .before)) _ _ (r .0 .0) (r .0 .1 .0)
     (stop (a .result) (a .ensures) (r .0 .0) (r .0 .1 .0) (r .1) _)
 
-enum-told : tie.Need-enum-told
-enum-told c = search needs
-
 check-pairs-requires : tie.Need-check-pairs-requires
 check-pairs-requires c κs = few-corners _ _ _ (single-sound 4 _ 0 (four c))
-
-enum-known-a27 : tie.Need-enum-known-a27
-enum-known-a27 c = search needs
 
 returns-2 : tie.Need-returns-2
 unfolding listFaults
@@ -94,15 +82,6 @@ returns-2 c =
     let r = c .before .a27 .given in
     lists-refused (of4 t4) _ _ (r .0 .0) (r .0 .1 .0)
     (past (four t4) _ (stop (a .result) (a .ensures) (r .0 .0) (r .0 .1 .0) (r .1) _))
-
-enum-told-2 : tie.Need-enum-told-2
-enum-told-2 c = search needs
-
-check-sides-requires : tie.Need-check-sides-requires
-check-sides-requires c κs = search needs
-
-enum-known-a5 : tie.Need-enum-known-a5
-enum-known-a5 c = search needs
 
 returns-3 : tie.Need-returns-3
 unfolding listFaults
@@ -114,14 +93,8 @@ returns-3 c =
     lists-refused (of4 t4) _ _ (r .0 .0) (r .0 .1 .0)
     (past (four t4) _ (past (twenty-seven t27) _ (stop (a .result) (a .ensures) (r .0 .0) (r .0 .1 .0) (r .1) _)))
 
-enum-told-3 : tie.Need-enum-told-3
-enum-told-3 c = search needs
-
 check-sum-requires : tie.Need-check-sum-requires
 check-sum-requires c κs = few-faces _ _ _ (single-sound 4 _ 0 (four (c .before .before .before .before .before .before)))
-
-enum-known-a6 : tie.Need-enum-known-a6
-enum-known-a6 c = search needs
 
 returns-4 : tie.Need-returns-4
 unfolding listFaults
@@ -134,15 +107,6 @@ returns-4 c =
     lists-refused (of4 t4) _ _ (r .0 .0) (r .0 .1 .0)
     (past (four t4) _ (past (twenty-seven t27) _ (past (five t5) _ (stop (a .result) (a .ensures) (r .0 .0) (r .0 .1 .0) (r .1) _))))
 
-enum-told-4 : tie.Need-enum-told-4
-enum-told-4 c = search needs
-
-check-coordinates-requires : tie.Need-check-coordinates-requires
-check-coordinates-requires c κs = search needs
-
-enum-known-a7 : tie.Need-enum-known-a7
-enum-known-a7 c = search needs
-
 returns-5 : tie.Need-returns-5
 unfolding listFaults
 returns-5 c =
@@ -154,21 +118,6 @@ returns-5 c =
     let r = c .before .a7 .given in
     lists-refused (of4 t4) _ _ (r .0 .0) (r .0 .1 .0)
     (past (four t4) _ (past (twenty-seven t27) _ (past (five t5) _ (past (six t6) _ (stop (a .result) (a .ensures) (r .0 .0) (r .0 .1 .0) (r .1) _)))))
-
-enum-told-5 : tie.Need-enum-told-5
-enum-told-5 c = search needs
-
-check-names-requires : tie.Need-check-names-requires
-check-names-requires c κs = search needs
-
-check-sharpness-requires : tie.Need-check-sharpness-requires
-check-sharpness-requires c κs = search needs
-
-first-of-requires : tie.Need-first-of-requires
-first-of-requires c κs = search needs
-
-enum-known-entries : tie.Need-enum-known-entries
-enum-known-entries c = search needs
 
 returns-6 : tie.Need-returns-6
 unfolding listFaults
@@ -184,9 +133,6 @@ returns-6 c =
     lists-refused (of4 t4) _ _ (r .0 .0) (r .0 .1 .0)
     (past (four t4) _ (past (twenty-seven t27) _ (past (five t5) _ (past (six t6) _ (past (seven t7) _
     (stop (f .first-of .result) e (r .0 .0) (r .0 .1 .0) (r .1) _ ∙ orElse-assoc _ _ _))))))
-
-enum-told-6 : tie.Need-enum-told-6
-enum-told-6 c = search needs
 
 check-faces-requires : tie.Need-check-faces-requires
 check-faces-requires c κs =
@@ -205,12 +151,6 @@ check-faces-requires c κs =
       ),
       (s .pre .corners-fit small, rowed (mesh s) (now (s .args .vertices)) few (s .pre .vertices-fit) (eight t8), s .pre .blank),
     )
-
-same-length : tie.Need-same-length
-same-length c = search needs
-
-same-length-2 : tie.Need-same-length-2
-same-length-2 c = search needs
 
 returns-7 : tie.Need-returns-7
 unfolding listFaults
@@ -231,35 +171,7 @@ returns-7 c =
 
 pub check-lists-spec : {M : Type 1} → statement M
 check-lists-spec =
-    tie.close
-    (tie.spec
-    check-lengths-requires
-    enum-known-a4
-    returns
-    enum-told
-    check-pairs-requires
-    enum-known-a27
-    returns-2
-    enum-told-2
-    check-sides-requires
-    enum-known-a5
-    returns-3
-    enum-told-3
-    check-sum-requires
-    enum-known-a6
-    returns-4
-    enum-told-4
-    check-coordinates-requires
-    enum-known-a7
-    returns-5
-    enum-told-5
-    check-names-requires
-    check-sharpness-requires
-    first-of-requires
-    enum-known-entries
-    returns-6
-    enum-told-6
-    check-faces-requires
-    same-length
-    same-length-2
-    returns-7)
+    tie.close (tie.spec (λ c κs. search needs) (λ c. search needs) returns (λ c. search needs) check-pairs-requires (λ c. search needs) returns-2
+    (λ c. search needs) (λ c κs. search needs) (λ c. search needs) returns-3 (λ c. search needs) check-sum-requires (λ c. search needs) returns-4
+    (λ c. search needs) (λ c κs. search needs) (λ c. search needs) returns-5 (λ c. search needs) (λ c κs. search needs) (λ c κs. search needs)
+    (λ c κs. search needs) (λ c. search needs) returns-6 (λ c. search needs) check-faces-requires (λ c. search needs) (λ c. search needs) returns-7)

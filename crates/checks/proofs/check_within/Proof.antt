@@ -22,18 +22,6 @@ module _ (t : tie.After-enum-told) where
       (t .before .before .before .before .before .before .fill-tables .last .1 .1 .1 .1 .1 .0)
   filled = t .before .before .before .before .before .before .fill-tables .ensures .filled (ap stated (t .enum-told .given .1))
 
-fill-tables-requires : tie.Need-fill-tables-requires
-fill-tables-requires c κs = search needs
-
-enum-known-a : tie.Need-enum-known-a
-enum-known-a c = search needs
-
-same-length : tie.Need-same-length
-same-length c = search needs
-
-same-length-2 : tie.Need-same-length-2
-same-length-2 c = search needs
-
 returns : tie.Need-returns
 returns c =
     let s = c .before .before .before .before .before .before .before .before .before .before .before .before .before .before .before in
@@ -41,36 +29,13 @@ returns c =
     let k = c .before .a .given in
     stopped-lists (mesh s) _ (k .0 .0) (k .0 .1 .0) (sym (ap stated (k .1)) ∙ a .ensures .answers)
 
-enum-told : tie.Need-enum-told
-enum-told c = search needs
-
 highest-entry-requires : tie.Need-highest-entry-requires
 highest-entry-requires c κs = let t = c .before in (listed (mesh (start t)) (filled t .passed) .small, filled t .long)
 
 check-filled-requires : tie.Need-check-filled-requires
 check-filled-requires c κs = (filled (c .before .before .before .before), c .before .before .highest-entry .ensures)
 
-same-length-3 : tie.Need-same-length-3
-same-length-3 c = search needs
-
-same-length-4 : tie.Need-same-length-4
-same-length-4 c = search needs
-
-returns-2 : tie.Need-returns-2
-returns-2 c = search needs
-
 pub check-within-spec : {M : Type 1} → statement M
 check-within-spec =
-    tie.close
-    (tie.spec
-    fill-tables-requires
-    enum-known-a
-    same-length
-    same-length-2
-    returns
-    enum-told
-    highest-entry-requires
-    check-filled-requires
-    same-length-3
-    same-length-4
-    returns-2)
+    tie.close (tie.spec (λ c κs. search needs) (λ c. search needs) (λ c. search needs) (λ c. search needs) returns (λ c. search needs)
+    highest-entry-requires check-filled-requires (λ c. search needs) (λ c. search needs) (λ c. search needs))

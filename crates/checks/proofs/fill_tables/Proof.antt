@@ -47,26 +47,11 @@ module _ (t : tie.After-enum-told) where
   filled : FacesFilled (mesh .sides) (t .before .before .before .before .before .before .check-lists .last .1 .1 .1 .1 .0)
   filled = t .before .before .before .before .before .before .check-lists .ensures .faced (ap stated (t .enum-told .given .1))
 
-check-lists-requires : tie.Need-check-lists-requires
-check-lists-requires c κs = search needs
-
-enum-known-a : tie.Need-enum-known-a
-enum-known-a c = search needs
-
-same-length : tie.Need-same-length
-same-length c = search needs
-
-same-length-2 : tie.Need-same-length-2
-same-length-2 c = search needs
-
 returns : tie.Need-returns
 returns c =
     let a = c .before .before .before .before .before .before .before .check-lists in
     let k = c .before .a .given in
     fill-refused _ _ _ (k .0 .0) (k .0 .1 .0) (sym (ap stated (k .1)) ∙ a .ensures .answers)
-
-enum-told : tie.Need-enum-told
-enum-told c = search needs
 
 fill-links-requires : tie.Need-fill-links-requires
 fill-links-requires c κs =
@@ -74,12 +59,6 @@ fill-links-requires c κs =
       (searchable (mesh t) (lists t) _ (filled t) _ (long-table t) (long-vertices t), chains _ _ _ (ready t), heads _ _ _ (ready t)),
       ((lists t .named, long-vertices t), (ready t .leaving-clear, ready t .arriving-clear, ready t .count-clear)),
     )
-
-same-length-3 : tie.Need-same-length-3
-same-length-3 c = search needs
-
-same-length-4 : tie.Need-same-length-4
-same-length-4 c = search needs
 
 returns-2 : tie.Need-returns-2
 returns-2 c =
@@ -93,15 +72,5 @@ returns-2 c =
 
 pub fill-tables-spec : {M : Type 1} → statement M
 fill-tables-spec =
-    tie.close
-    (tie.spec
-    check-lists-requires
-    enum-known-a
-    same-length
-    same-length-2
-    returns
-    enum-told
-    fill-links-requires
-    same-length-3
-    same-length-4
-    returns-2)
+    tie.close (tie.spec (λ c κs. search needs) (λ c. search needs) (λ c. search needs) (λ c. search needs) returns (λ c. search needs) fill-links-requires
+    (λ c. search needs) (λ c. search needs) returns-2)

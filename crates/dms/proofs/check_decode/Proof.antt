@@ -7,18 +7,9 @@ use Rattle.dms.proofs.Files.{file-sized}
 use Rattle.dms.proofs.check_decode.Statement.{statement}
 use Rattle.dms.proofs.check_decode.Tie as tie
 
-survey-file-requires : tie.Need-survey-file-requires
-survey-file-requires c κs = search needs
-
-enum-known-answer : tie.Need-enum-known-answer
-enum-known-answer c = search needs
-
 returns : tie.Need-returns
 unfolding decodeVerdict
 returns c = stop _ (c .before .before .before .survey-file .ensures .answers) _ _ (c .before .answer .given .1) _
-
-enum-told : tie.Need-enum-told
-enum-told c = search needs
 
 check-room-requires : tie.Need-check-room-requires
 check-room-requires c κs = file-sized _ _ (passed _ (c .before .before .survey-file .ensures .answers) (c .enum-told .given .1)) .header
@@ -28,12 +19,4 @@ unfolding decodeVerdict
 returns-2 c = past (passed _ (c .before .before .before .survey-file .ensures .answers) (c .before .enum-told .given .1)) _ (c .check-room .ensures)
 
 pub check-decode-spec : {M : Type 1} → statement M
-check-decode-spec =
-    tie.close
-    (tie.spec
-    survey-file-requires
-    enum-known-answer
-    returns
-    enum-told
-    check-room-requires
-    returns-2)
+check-decode-spec = tie.close (tie.spec (λ c κs. search needs) (λ c. search needs) returns (λ c. search needs) check-room-requires returns-2)

@@ -7,26 +7,8 @@ use Rattle.dms.proofs.Files.{held-bytes, decode-held}
 use Rattle.dms.proofs.decode.Statement.{statement}
 use Rattle.dms.proofs.decode.Tie as tie
 
-least-requires : tie.Need-least-requires
-least-requires c κs = search needs
-
 slice-aggregate-decode-file : tie.Need-slice-aggregate-decode-file
 slice-aggregate-decode-file c = sym (length-take-le _ (c .before .before .before .before .before .before .args .bytes .now) (c .before .least .ensures .0))
-
-decode-file-requires : tie.Need-decode-file-requires
-decode-file-requires c κs = search needs
-
-same-length : tie.Need-same-length
-same-length c = search needs
-
-same-length-2 : tie.Need-same-length-2
-same-length-2 c = search needs
-
-same-length-3 : tie.Need-same-length-3
-same-length-3 c = search needs
-
-same-length-4 : tie.Need-same-length-4
-same-length-4 c = search needs
 
 returns : tie.Need-returns
 returns c =
@@ -37,13 +19,5 @@ returns c =
 
 pub decode-spec : {M : Type 1} → statement M
 decode-spec =
-    tie.close
-    (tie.spec
-    least-requires
-    slice-aggregate-decode-file
-    decode-file-requires
-    same-length
-    same-length-2
-    same-length-3
-    same-length-4
-    returns)
+    tie.close (tie.spec (λ c κs. search needs) slice-aggregate-decode-file (λ c κs. search needs) (λ c. search needs) (λ c. search needs)
+    (λ c. search needs) (λ c. search needs) returns)

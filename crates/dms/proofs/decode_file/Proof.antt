@@ -9,22 +9,10 @@ use Rattle.dms.proofs.Files.{refused-decode, done-decode, decode-sized,
 use Rattle.dms.proofs.decode_file.Statement.{statement}
 use Rattle.dms.proofs.decode_file.Tie as tie
 
-check-decode-requires : tie.Need-check-decode-requires
-check-decode-requires c κs = search needs
-
-enum-known-answer : tie.Need-enum-known-answer
-enum-known-answer c = search needs
-
-refused-requires : tie.Need-refused-requires
-refused-requires c κs = search needs
-
 returns : tie.Need-returns
 returns c =
     let t = c .before .before in
     refused-decode _ _ _ _ _ _ (c .refused .ensures) (sym (ap stated (t .answer .given .1)) ∙ t .before .before .check-decode .ensures)
-
-enum-told : tie.Need-enum-told
-enum-told c = search needs
 
 read-lists-requires : tie.Need-read-lists-requires
 read-lists-requires c κs =
@@ -35,9 +23,6 @@ vertex-count-requires : tie.Need-vertex-count-requires
 vertex-count-requires c κs =
     let t = c .before .before .before .before .before .before .before .before .before .before .before .before in
     decode-sized _ _ _ _ _ _ (passed _ (t .before .before .check-decode .ensures) (t .enum-told .given .1)) .header
-
-mul-t11 : tie.Need-mul-t11
-mul-t11 c = search needs
 
 face-count-requires : tie.Need-face-count-requires
 face-count-requires c κs =
@@ -54,21 +39,6 @@ corner-count-requires-2 c κs =
     let t = c .before .before .before .before .before .before .before .before .before .before .before .before .before .before .before in
     decode-sized _ _ _ _ _ _ (passed _ (t .before .before .check-decode .ensures) (t .enum-told .given .1)) .header
 
-mul-t25 : tie.Need-mul-t25
-mul-t25 c = search needs
-
-same-length : tie.Need-same-length
-same-length c = search needs
-
-same-length-2 : tie.Need-same-length-2
-same-length-2 c = search needs
-
-same-length-3 : tie.Need-same-length-3
-same-length-3 c = search needs
-
-same-length-4 : tie.Need-same-length-4
-same-length-4 c = search needs
-
 returns-2 : tie.Need-returns-2
 returns-2 c =
     let t = c .before .before .before .before .before .before .before .before .before .before .before .before .before .before .before .before in
@@ -79,22 +49,6 @@ returns-2 c =
 
 pub decode-file-spec : {M : Type 1} → statement M
 decode-file-spec =
-    tie.close
-    (tie.spec
-    check-decode-requires
-    enum-known-answer
-    refused-requires
-    returns
-    enum-told
-    read-lists-requires
-    vertex-count-requires
-    mul-t11
-    face-count-requires
-    corner-count-requires
-    corner-count-requires-2
-    mul-t25
-    same-length
-    same-length-2
-    same-length-3
-    same-length-4
-    returns-2)
+    tie.close (tie.spec (λ c κs. search needs) (λ c. search needs) (λ c κs. search needs) returns (λ c. search needs) read-lists-requires
+    vertex-count-requires (λ c. search needs) face-count-requires corner-count-requires corner-count-requires-2 (λ c. search needs) (λ c. search needs)
+    (λ c. search needs) (λ c. search needs) (λ c. search needs) returns-2)

@@ -10,14 +10,8 @@ use Rattle.dms.proofs.Files.{held-bytes}
 use Rattle.dms.proofs.survey.Statement.{statement}
 use Rattle.dms.proofs.survey.Tie as tie
 
-least-requires : tie.Need-least-requires
-least-requires c κs = search needs
-
 slice-aggregate-survey-file : tie.Need-slice-aggregate-survey-file
 slice-aggregate-survey-file c = sym (length-take-le _ (c .before .before .before .args .bytes .now) (c .before .least .ensures .0))
-
-survey-file-requires : tie.Need-survey-file-requires
-survey-file-requires c κs = search needs
 
 returns : tie.Need-returns
 returns c =
@@ -27,5 +21,4 @@ returns c =
     (held-bytes (s .args .bytes .now) _ (s .args .counted) (l .ensures .1 .0) (l .ensures .1 .1)) (c .survey-file .ensures)
 
 pub survey-spec : {M : Type 1} → statement M
-survey-spec =
-    tie.close (tie.spec least-requires slice-aggregate-survey-file survey-file-requires returns)
+survey-spec = tie.close (tie.spec (λ c κs. search needs) slice-aggregate-survey-file (λ c κs. search needs) returns)

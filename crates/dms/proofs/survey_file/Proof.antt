@@ -10,15 +10,6 @@ use Rattle.dms.proofs.Files.{later-survey}
 use Rattle.dms.proofs.survey_file.Statement.{statement}
 use Rattle.dms.proofs.survey_file.Tie as tie
 
-check-header-requires : tie.Need-check-header-requires
-check-header-requires c κs = search needs
-
-enum-known-header : tie.Need-enum-known-header
-enum-known-header c = search needs
-
-none-requires : tie.Need-none-requires
-none-requires c κs = search needs
-
 returns : tie.Need-returns
 unfolding fileVerdict
 returns c =
@@ -26,9 +17,6 @@ returns c =
     let M = fileMesh (s .args .file .now) in
     refused-survey M _ _ _ _ (stop _ (c .before .before .before .before .check-header .ensures) _ _ (c .before .before .header .given .1) (verdict M))
     (c .none .ensures)
-
-enum-told : tie.Need-enum-told
-enum-told c = search needs
 
 survey-lists-requires : tie.Need-survey-lists-requires
 survey-lists-requires c κs =
@@ -44,12 +32,4 @@ returns-2 c =
 
 pub survey-file-spec : {M : Type 1} → statement M
 survey-file-spec =
-    tie.close
-    (tie.spec
-    check-header-requires
-    enum-known-header
-    none-requires
-    returns
-    enum-told
-    survey-lists-requires
-    returns-2)
+    tie.close (tie.spec (λ c κs. search needs) (λ c. search needs) (λ c κs. search needs) returns (λ c. search needs) survey-lists-requires returns-2)

@@ -12,21 +12,6 @@ use borrow.Author.Needs.{needs}
 use Rattle.dms_output.proofs.put_coordinate.Statement.{statement}
 use Rattle.dms_output.proofs.put_coordinate.Tie as tie
 
-bits-requires : tie.Need-bits-requires
-bits-requires c κs = search needs
-
-cast-n : tie.Need-cast-n
-cast-n c = search needs
-
-put-half-requires : tie.Need-put-half-requires
-put-half-requires c κs = search needs
-
-put-half-requires-2 : tie.Need-put-half-requires-2
-put-half-requires-2 c κs = search needs
-
-same-length : tie.Need-same-length
-same-length c = search needs
-
 returns : tie.Need-returns
 returns c =
     let s = c .before .before .before .before .before .before .before .before .before .before .args in
@@ -39,5 +24,4 @@ returns c =
 
 pub put-coordinate-spec : {M : Type 1} → statement M
 put-coordinate-spec =
-    tie.close
-    (tie.spec bits-requires cast-n put-half-requires put-half-requires-2 same-length returns)
+    tie.close (tie.spec (λ c κs. search needs) (λ c. search needs) (λ c κs. search needs) (λ c κs. search needs) (λ c. search needs) returns)

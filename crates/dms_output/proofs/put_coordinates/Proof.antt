@@ -1,7 +1,7 @@
 -- After i turns the first i coordinates were put.
 -- Assumes nothing.
 use mathlib.Core.Path.{_≡_, refl, ap, _∙_}
-use Prim.Native.Nat.{ℕ, _+_, _-_, _≤_}
+use Prim.Native.Nat.{_-_, _≤_}
 use lib.ListN.{length, getD}
 use lib.IntN.{pos}
 use mir.Syntax.{w32}
@@ -25,21 +25,9 @@ abbrev μ-loop : tie.MeasureT-loop
 loop-holds : tie.Need-loop-holds Inv-loop μ-loop
 loop-holds c = (omega arith, refl, put-same (no-coordinates _) (put-none _ _))
 
-mul-put-coordinate : tie.Need-mul-put-coordinate Inv-loop μ-loop
-mul-put-coordinate c = search needs
-
 shared-slice-copy-out-put-coordinate :
     tie.Need-shared-slice-copy-out-put-coordinate Inv-loop μ-loop
 shared-slice-copy-out-put-coordinate c = search needs
-
-put-coordinate-requires : tie.Need-put-coordinate-requires Inv-loop μ-loop
-put-coordinate-requires c κs = search needs
-
-add-i : tie.Need-add-i Inv-loop μ-loop
-add-i c = search needs
-
-loop-less : tie.Need-loop-less Inv-loop μ-loop
-loop-less c = search needs
 
 loop-again : tie.Need-loop-again Inv-loop μ-loop
 loop-again c =
@@ -65,16 +53,5 @@ returns c =
 
 pub put-coordinates-spec : {M : Type 1} → statement M
 put-coordinates-spec =
-    tie.close
-    (tie.spec
-    Inv-loop
-    μ-loop
-    loop-holds
-    mul-put-coordinate
-    shared-slice-copy-out-put-coordinate
-    put-coordinate-requires
-    add-i
-    loop-less
-    loop-again
-    same-length
-    returns)
+    tie.close (tie.spec Inv-loop μ-loop loop-holds (λ c. search needs) shared-slice-copy-out-put-coordinate (λ c κs. search needs) (λ c. search needs)
+    (λ c. search needs) loop-again same-length returns)

@@ -1,7 +1,7 @@
 -- After c turns the first c corners were put.
 -- Assumes nothing.
 use mathlib.Core.Path.{_≡_, refl, ap, _∙_}
-use Prim.Native.Nat.{ℕ, _+_, _-_, _≤_}
+use Prim.Native.Nat.{_-_, _≤_}
 use lib.ListN.{length}
 use native.Mathlib.Omega.{arith}
 use Rattle.streams.specs.text.Text.{Put}
@@ -22,23 +22,8 @@ abbrev μ-loop : tie.MeasureT-loop
 loop-holds : tie.Need-loop-holds Inv-loop μ-loop
 loop-holds c = (omega arith, refl, put-same (no-corners _) (put-none _ _))
 
-mul-put-half : tie.Need-mul-put-half Inv-loop μ-loop
-mul-put-half c = search needs
-
-shared-slice-read-put-half : tie.Need-shared-slice-read-put-half Inv-loop μ-loop
-shared-slice-read-put-half c = search needs
-
 cast-put-half : tie.Need-cast-put-half Inv-loop μ-loop
 cast-put-half c = omega (arith, c .shared-slice-known2 .given (c .before .before .before .loop .c))
-
-put-half-requires : tie.Need-put-half-requires Inv-loop μ-loop
-put-half-requires c κs = search needs
-
-add-c : tie.Need-add-c Inv-loop μ-loop
-add-c c = search needs
-
-loop-less : tie.Need-loop-less Inv-loop μ-loop
-loop-less c = search needs
 
 loop-again : tie.Need-loop-again Inv-loop μ-loop
 loop-again c =
@@ -62,17 +47,5 @@ returns c =
 
 pub put-corners-spec : {M : Type 1} → statement M
 put-corners-spec =
-    tie.close
-    (tie.spec
-    Inv-loop
-    μ-loop
-    loop-holds
-    mul-put-half
-    shared-slice-read-put-half
-    cast-put-half
-    put-half-requires
-    add-c
-    loop-less
-    loop-again
-    same-length
-    returns)
+    tie.close (tie.spec Inv-loop μ-loop loop-holds (λ c. search needs) (λ c. search needs) cast-put-half (λ c κs. search needs) (λ c. search needs)
+    (λ c. search needs) loop-again same-length returns)

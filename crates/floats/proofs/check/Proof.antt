@@ -28,26 +28,11 @@ module _ (t : tie.After-enum-told2) where
   past-19 : lowestOf 19 (length (now (s19 .args .numbers))) (fault19 (now (s19 .args .numbers))) ≡ sound
   past-19 = passed (t .before .before .check-numbers .result) (t .before .before .check-numbers .ensures) (t .enum-told2 .given .1)
 
-refused-if-requires : tie.Need-refused-if-requires
-refused-if-requires c κs = search needs
-
-enum-known-a18 : tie.Need-enum-known-a18
-enum-known-a18 c = search needs
-
 returns : tie.Need-returns
 unfolding fault18
 returns c =
     let a = c .before .a18 .given in
     stop (c .before .before .before .refused-if .result) (c .before .before .before .refused-if .ensures) (a .0 .0) (a .0 .1 .0) (a .1) _ ∙ sym (chain _ _)
-
-enum-told : tie.Need-enum-told
-enum-told c = search needs
-
-check-numbers-requires : tie.Need-check-numbers-requires
-check-numbers-requires c κs = search needs
-
-enum-known-a19 : tie.Need-enum-known-a19
-enum-known-a19 c = search needs
 
 returns-2 : tie.Need-returns-2
 returns-2 c =
@@ -57,12 +42,6 @@ returns-2 c =
     (stop (c .before .before .before .check-numbers .result) (c .before .before .before .check-numbers .ensures) (a .0 .0) (a .0 .1 .0) (a .1) _)
     ∙ sym (chain _ _)
 
-enum-told-2 : tie.Need-enum-told-2
-enum-told-2 c = search needs
-
-refused-if-requires-2 : tie.Need-refused-if-requires-2
-refused-if-requires-2 c κs = search needs
-
 returns-3 : tie.Need-returns-3
 unfolding fault20
 returns-3 c =
@@ -71,15 +50,5 @@ returns-3 c =
 
 pub check-spec : {M : Type 1} → statement M
 check-spec =
-    tie.close
-    (tie.spec
-    refused-if-requires
-    enum-known-a18
-    returns
-    enum-told
-    check-numbers-requires
-    enum-known-a19
-    returns-2
-    enum-told-2
-    refused-if-requires-2
-    returns-3)
+    tie.close (tie.spec (λ c κs. search needs) (λ c. search needs) returns (λ c. search needs) (λ c κs. search needs) (λ c. search needs) returns-2
+    (λ c. search needs) (λ c κs. search needs) returns-3)

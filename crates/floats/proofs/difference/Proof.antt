@@ -1,12 +1,11 @@
 -- `floats::difference` meets its contract: 18 and 20 keep both places within the list, 19 keeps the difference within 32 bits.
 -- Assumes nothing.
-use lib.IntN.{ℤ, pos}
+use lib.IntN.{ℤ, pos, natAbs}
 use lib.ListN.{getD}
 use denote.Ref.{now}
 use native.Mathlib.Omega.{arith}
 use borrow.Author.Needs.{needs}
 use Prim.Native.Nat.{ℕ, _+_, _*_, _^_, _≤_, _<_}
-use lib.IntN.{natAbs}
 use Rattle.paper.specs.Floats.{difference}
 use Rattle.floats.proofs.Laws.{is-long, number-le, net-sound, point-le, less-fits, less-is, less-size}
 use Rattle.floats.proofs.difference.Statement.{statement}
@@ -38,9 +37,6 @@ mul-result-2 c = record { fits = omega (arith, at-most c, c .pre .1) }
 shared-slice-copy-out-result : tie.Need-shared-slice-copy-out-result
 shared-slice-copy-out-result c = omega (arith, at-most c, c .pre .1, is-long _ (net-sound _ _ (c .pre .0)))
 
-mul-result-3 : tie.Need-mul-result-3
-mul-result-3 c = search needs
-
 shared-slice-copy-out-result-2 : tie.Need-shared-slice-copy-out-result-2
 shared-slice-copy-out-result-2 c = omega (arith, c .before .pre .1, is-long _ (net-sound _ _ (c .before .pre .0)))
 
@@ -60,13 +56,5 @@ returns c =
 
 pub difference-spec : {M : Type 1} → statement M
 difference-spec =
-    tie.close
-    (tie.spec
-    mul-result
-    add-result
-    mul-result-2
-    shared-slice-copy-out-result
-    mul-result-3
-    shared-slice-copy-out-result-2
-    sub-result
+    tie.close (tie.spec mul-result add-result mul-result-2 shared-slice-copy-out-result (λ c. search needs) shared-slice-copy-out-result-2 sub-result
     returns)

@@ -11,12 +11,6 @@ int-to-float-result c = let s = c .before .before in near-in (s .args .d) (s .pr
 returns : tie.Need-returns
 returns c = let s = c .before .before in near-first (s .args .d) (s .pre .0) (s .args .near) (s .pre .1) (c .before .if1 .taken)
 
-multiple-requires : tie.Need-multiple-requires
-multiple-requires c κs = search needs
-
-int-to-float-result-2 : tie.Need-int-to-float-result-2
-int-to-float-result-2 c = search needs
-
 float-to-float-result : tie.Need-float-to-float-result
 float-to-float-result c =
     let s = c .before .before .before .before in
@@ -29,12 +23,4 @@ returns-2 c =
     (c .before .before .before .if1 .left)
 
 pub first-spec : {M : Type 1} → statement M
-first-spec =
-    tie.close
-    (tie.spec
-    int-to-float-result
-    returns
-    multiple-requires
-    int-to-float-result-2
-    float-to-float-result
-    returns-2)
+first-spec = tie.close (tie.spec int-to-float-result returns (λ c κs. search needs) (λ c. search needs) float-to-float-result returns-2)

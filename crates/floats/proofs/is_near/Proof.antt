@@ -5,17 +5,11 @@ use Rattle.floats.proofs.Laws.{x-far, y-far, z-decides}
 use Rattle.floats.proofs.is_near.Statement.{statement}
 use Rattle.floats.proofs.is_near.Tie as tie
 
-is-within-requires : tie.Need-is-within-requires
-is-within-requires c κs = search needs
-
 returns : tie.Need-returns
 returns c =
     let s = c .before .before in
     x-far (s .args .x) (s .args .y) (s .args .z) (s .fits .x) (s .fits .y) (s .fits .z) (c .before .is-within .result) (c .before .is-within .ensures)
     (c .if1 .taken)
-
-is-within-requires-2 : tie.Need-is-within-requires-2
-is-within-requires-2 c κs = search needs
 
 returns-2 : tie.Need-returns-2
 returns-2 c =
@@ -23,9 +17,6 @@ returns-2 c =
     let s = x .before in
     y-far (s .args .x) (s .args .y) (s .args .z) (s .fits .x) (s .fits .y) (s .fits .z) (x .is-within .result) (c .before .is-within2 .result)
     (x .is-within .ensures) (c .before .before .if1 .left) (c .before .is-within2 .ensures) (c .if2 .taken)
-
-is-within-requires-3 : tie.Need-is-within-requires-3
-is-within-requires-3 c κs = search needs
 
 returns-3 : tie.Need-returns-3
 returns-3 c =
@@ -36,6 +27,4 @@ returns-3 c =
     (c .is-within3 .result) (x .is-within .ensures) (y .before .if1 .left) (y .is-within2 .ensures) (c .before .if2 .left) (c .is-within3 .ensures)
 
 pub is-near-spec : {M : Type 1} → statement M
-is-near-spec =
-    tie.close
-    (tie.spec is-within-requires returns is-within-requires-2 returns-2 is-within-requires-3 returns-3)
+is-near-spec = tie.close (tie.spec (λ c κs. search needs) returns (λ c κs. search needs) returns-2 (λ c κs. search needs) returns-3)

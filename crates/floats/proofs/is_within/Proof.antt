@@ -9,9 +9,6 @@ use Rattle.floats.proofs.is_within.Tie as tie
 cast-w : tie.Need-cast-w
 cast-w c = wide-fits (c .args .z) (c .args .most) (c .fits .z) (c .fits .most .fits)
 
-cast-m : tie.Need-cast-m
-cast-m c = search needs
-
 sub-if1 : tie.Need-sub-if1
 sub-if1 c = minus-fits (c .args .z) (c .args .most) (c .fits .z) (c .fits .most .fits)
 
@@ -29,4 +26,4 @@ returns-2 c =
     is-between (s .args .z) (s .args .most) (s .fits .z) (s .fits .most .fits) (c .before .if1 .left) (c .if2 .left)
 
 pub is-within-spec : {M : Type 1} → statement M
-is-within-spec = tie.close (tie.spec cast-w cast-m sub-if1 returns returns-2)
+is-within-spec = tie.close (tie.spec cast-w (λ c. search needs) sub-if1 returns returns-2)

@@ -5,12 +5,6 @@ use Rattle.floats.proofs.Laws.{multiple-fits, multiple-is}
 use Rattle.floats.proofs.multiple.Statement.{statement}
 use Rattle.floats.proofs.multiple.Tie as tie
 
-cast-result : tie.Need-cast-result
-cast-result c = search needs
-
-shr-result : tie.Need-shr-result
-shr-result c = search needs
-
 mul-result : tie.Need-mul-result
 mul-result c = multiple-fits (c .args .d) (c .pre)
 
@@ -18,4 +12,4 @@ returns : tie.Need-returns
 returns c = multiple-is (c .args .d) (c .pre)
 
 pub multiple-spec : {M : Type 1} → statement M
-multiple-spec = tie.close (tie.spec cast-result shr-result mul-result returns)
+multiple-spec = tie.close (tie.spec (λ c. search needs) (λ c. search needs) mul-result returns)

@@ -19,19 +19,10 @@ module _ (t : tie.After-enum-told) where
   past-checks : pointVerdict (now (s .args .numbers)) (s .args .point) ≡ sound
   past-checks = passed (t .before .before .check .result) (t .before .before .check .ensures) (t .enum-told .given .1)
 
-check-requires : tie.Need-check-requires
-check-requires c κs = search needs
-
-enum-known-a : tie.Need-enum-known-a
-enum-known-a c = search needs
-
 returns : tie.Need-returns
 returns c =
     let a = c .before .a .given in
     point-refused _ _ (c .before .before .before .check .result) (c .before .before .before .check .ensures) (a .0 .0) (a .0 .1 .0) (a .1)
-
-enum-told : tie.Need-enum-told
-enum-told c = search needs
 
 difference-requires : tie.Need-difference-requires
 difference-requires c κs = (past-checks c, lit< tt)
@@ -41,9 +32,6 @@ difference-requires-2 c κs = (past-checks (c .before), lit< tt)
 
 difference-requires-3 : tie.Need-difference-requires-3
 difference-requires-3 c κs = (past-checks (c .before .before), lit< tt)
-
-split-requires : tie.Need-split-requires
-split-requires c κs = search needs
 
 returns-2 : tie.Need-returns-2
 returns-2 c =
@@ -56,14 +44,5 @@ returns-2 c =
 
 pub point-spec : {M : Type 1} → statement M
 point-spec =
-    tie.close
-    (tie.spec
-    check-requires
-    enum-known-a
-    returns
-    enum-told
-    difference-requires
-    difference-requires-2
-    difference-requires-3
-    split-requires
-    returns-2)
+    tie.close (tie.spec (λ c κs. search needs) (λ c. search needs) returns (λ c. search needs) difference-requires difference-requires-2
+    difference-requires-3 (λ c κs. search needs) returns-2)

@@ -5,9 +5,6 @@ use Rattle.floats.proofs.Laws.{rest-fits, rest-in, rest-float}
 use Rattle.floats.proofs.second.Statement.{statement}
 use Rattle.floats.proofs.second.Tie as tie
 
-multiple-requires : tie.Need-multiple-requires
-multiple-requires c κs = search needs
-
 sub-result : tie.Need-sub-result
 sub-result c = rest-fits (c .before .args .d) (c .before .pre) (c .multiple .result) (c .multiple .ensures)
 
@@ -18,4 +15,4 @@ returns : tie.Need-returns
 returns c = rest-float (c .before .before .args .d) (c .before .before .pre) (c .before .multiple .result) (c .before .multiple .ensures)
 
 pub second-spec : {M : Type 1} → statement M
-second-spec = tie.close (tie.spec multiple-requires sub-result int-to-float-result returns)
+second-spec = tie.close (tie.spec (λ c κs. search needs) sub-result int-to-float-result returns)

@@ -30,9 +30,6 @@ module _ (s : tie.Start) (b : Bool) where
         (rw z (s .pre .2), λ h. near-z _ _ _ (sym e ∙ h)),
       )
 
-is-near-requires : tie.Need-is-near-requires
-is-near-requires c κs = search needs
-
 first-requires : tie.Need-first-requires
 first-requires c κs = let s = c .before in asked s (c .is-near .result) (c .is-near .ensures) .0
 
@@ -49,15 +46,6 @@ returns c =
     near-split (s .args .x) (s .args .y) (s .args .z) (s .pre .0) (s .pre .1) (s .pre .2) (n .is-near .result) (n .is-near .ensures) _
     (c .before .before .before .first .ensures) (c .before .before .first2 .ensures) (c .before .first3 .ensures) (c .if1 .taken)
 
-second-requires : tie.Need-second-requires
-second-requires c κs = search needs
-
-second-requires-2 : tie.Need-second-requires-2
-second-requires-2 c κs = search needs
-
-second-requires-3 : tie.Need-second-requires-3
-second-requires-3 c κs = search needs
-
 returns-2 : tie.Need-returns-2
 returns-2 c =
     let f = c .before .before .before in
@@ -69,14 +57,5 @@ returns-2 c =
 
 pub split-spec : {M : Type 1} → statement M
 split-spec =
-    tie.close
-    (tie.spec
-    is-near-requires
-    first-requires
-    first-requires-2
-    first-requires-3
-    returns
-    second-requires
-    second-requires-2
-    second-requires-3
-    returns-2)
+    tie.close (tie.spec (λ c κs. search needs) first-requires first-requires-2 first-requires-3 returns (λ c κs. search needs) (λ c κs. search needs)
+    (λ c κs. search needs) returns-2)

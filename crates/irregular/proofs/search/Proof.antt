@@ -8,12 +8,6 @@ use borrow.Author.Needs.{needs}
 use Rattle.irregular.proofs.search.Statement.{statement}
 use Rattle.irregular.proofs.search.Tie as tie
 
-check-requires : tie.Need-check-requires
-check-requires c κs = search needs
-
-enum-known-answer : tie.Need-enum-known-answer
-enum-known-answer c = search needs
-
 returns : tie.Need-returns
 returns c =
     let s = c .before .before .before .before .before .before .before in
@@ -21,12 +15,6 @@ returns c =
     let r = c .before .answer .given in
     search-refused (meshOf (s .args .coordinates .now) (s .args .sides .now) (s .args .corners .now) (s .args .sharpness .now))
     (a .result) (r .0 .0) (r .0 .1 .0) (a .ensures) (r .1)
-
-enum-told : tie.Need-enum-told
-enum-told c = search needs
-
-search-faces-requires : tie.Need-search-faces-requires
-search-faces-requires c κs = search needs
 
 returns-2 : tie.Need-returns-2
 returns-2 c =
@@ -63,14 +51,5 @@ returns-4 c =
 
 pub search-spec : {M : Type 1} → statement M
 search-spec =
-    tie.close
-    (tie.spec
-    check-requires
-    enum-known-answer
-    returns
-    enum-told
-    search-faces-requires
-    returns-2
-    search-corners-requires
-    returns-3
-    returns-4)
+    tie.close (tie.spec (λ c κs. search needs) (λ c. search needs) returns (λ c. search needs) (λ c κs. search needs) returns-2 search-corners-requires
+    returns-3 returns-4)

@@ -24,12 +24,6 @@ loop-holds c = (omega arith, scan-start _ _)
 shared-slice-read-n : tie.Need-shared-slice-read-n Inv-loop μ-loop
 shared-slice-read-n c = let l = c .before .before .loop in omega (arith, l .inv .1 .bounded)
 
-add-read : tie.Need-add-read Inv-loop μ-loop
-add-read c = search needs
-
-add-f : tie.Need-add-f Inv-loop μ-loop
-add-f c = search needs
-
 loop-less : tie.Need-loop-less Inv-loop μ-loop
 loop-less c = let l = c .before .before .before .loop in omega (arith, l .inv .1 .bounded)
 
@@ -57,15 +51,4 @@ returns c =
     }
 
 pub search-faces-spec : {M : Type 1} → statement M
-search-faces-spec =
-    tie.close
-    (tie.spec
-    Inv-loop
-    μ-loop
-    loop-holds
-    shared-slice-read-n
-    add-read
-    add-f
-    loop-less
-    loop-again
-    returns)
+search-faces-spec = tie.close (tie.spec Inv-loop μ-loop loop-holds shared-slice-read-n (λ c. search needs) (λ c. search needs) loop-less loop-again returns)

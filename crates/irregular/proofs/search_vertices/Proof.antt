@@ -1,6 +1,6 @@
 -- `search_vertices` meets its contract: what is found is the lowest, by the counts of corners.
 -- Assumes nothing.
-use mathlib.Core.Path.{_≡_, sym, subst}
+use mathlib.Core.Path.{sym, subst}
 use mathlib.Core.Logic.{⊎-elim}
 use Prim.Native.Nat.{ℕ, _+_, _-_, _<_}
 use Rattle.paper.specs.Squares.{irregularVertex}
@@ -32,9 +32,6 @@ mul-n-2 c = omega (arith, c .before .loop .inv .within, c .before .before .pre .
 shared-slice-read-n : tie.Need-shared-slice-read-n Inv-loop μ-loop
 shared-slice-read-n c = omega (arith, c .before .before .loop .inv .bounded)
 
-add-u : tie.Need-add-u Inv-loop μ-loop
-add-u c = search needs
-
 loop-less : tie.Need-loop-less Inv-loop μ-loop
 loop-less c = omega (arith, c .before .before .before .loop .inv .bounded)
 
@@ -56,16 +53,4 @@ returns c = let l = c .before .loop in scan-end _ _ (l .lowest) (l .u) (l .inv) 
 
 pub search-vertices-spec : {M : Type 1} → statement M
 search-vertices-spec =
-    tie.close
-    (tie.spec
-    Inv-loop
-    μ-loop
-    loop-holds
-    mul-n
-    add-n
-    mul-n-2
-    shared-slice-read-n
-    add-u
-    loop-less
-    loop-again
-    returns)
+    tie.close (tie.spec Inv-loop μ-loop loop-holds mul-n add-n mul-n-2 shared-slice-read-n (λ c. search needs) loop-less loop-again returns)

@@ -12,53 +12,12 @@ use Rattle.linking.proofs.link.Tie as tie
 abbrev mesh : tie.Start → Mesh
 mesh s = meshOf (now (s .args .coordinates)) (now (s .args .sides)) (now (s .args .corners)) (now (s .args .sharpness))
 
-link-large-requires : tie.Need-link-large-requires
-link-large-requires c κs = search needs
-
-same-length : tie.Need-same-length
-same-length c = search needs
-
-returns : tie.Need-returns
-returns c = search needs
-
-link-large-requires-2 : tie.Need-link-large-requires-2
-link-large-requires-2 c κs = search needs
-
-same-length-2 : tie.Need-same-length-2
-same-length-2 c = search needs
-
-returns-2 : tie.Need-returns-2
-returns-2 c = search needs
-
-slice-aggregate-link-over : tie.Need-slice-aggregate-link-over
-slice-aggregate-link-over c = search needs
-
-slice-aggregate-link-over-2 : tie.Need-slice-aggregate-link-over-2
-slice-aggregate-link-over-2 c = search needs
-
 link-over-requires : tie.Need-link-over-requires
 link-over-requires c κs =
     let s = c .before .before .before .before .before .before .before .before .before in
     room (mesh s) smallMesh smallMesh (λ h. search needs) (λ h. search needs)
 
-same-length-3 : tie.Need-same-length-3
-same-length-3 c = search needs
-
-returns-3 : tie.Need-returns-3
-returns-3 c = search needs
-
 pub link-spec : {M : Type 1} → statement M
 link-spec =
-    tie.close
-    (tie.spec
-    link-large-requires
-    same-length
-    returns
-    link-large-requires-2
-    same-length-2
-    returns-2
-    slice-aggregate-link-over
-    slice-aggregate-link-over-2
-    link-over-requires
-    same-length-3
-    returns-3)
+    tie.close (tie.spec (λ c κs. search needs) (λ c. search needs) (λ c. search needs) (λ c κs. search needs) (λ c. search needs) (λ c. search needs)
+    (λ c. search needs) (λ c. search needs) link-over-requires (λ c. search needs) (λ c. search needs))

@@ -13,51 +13,17 @@ use Rattle.linking.proofs.link_large.Tie as tie
 abbrev mesh : tie.Start → Mesh
 mesh s = meshOf (now (s .args .coordinates)) (now (s .args .sides)) (now (s .args .corners)) (now (s .args .sharpness))
 
-slice-aggregate-link-over : tie.Need-slice-aggregate-link-over
-slice-aggregate-link-over c = search needs
-
-slice-aggregate-link-over-2 : tie.Need-slice-aggregate-link-over-2
-slice-aggregate-link-over-2 c = search needs
-
 link-over-requires : tie.Need-link-over-requires
 link-over-requires c κs =
     let s = c .before .before .before .before .before .before .before .before .before in
     room (mesh s) mediumMesh mediumMesh (λ h. search needs) (λ h. search needs)
-
-same-length : tie.Need-same-length
-same-length c = search needs
-
-returns : tie.Need-returns
-returns c = search needs
-
-slice-aggregate-link-over-3 : tie.Need-slice-aggregate-link-over-3
-slice-aggregate-link-over-3 c = search needs
-
-slice-aggregate-link-over-4 : tie.Need-slice-aggregate-link-over-4
-slice-aggregate-link-over-4 c = search needs
 
 link-over-requires-2 : tie.Need-link-over-requires-2
 link-over-requires-2 c κs =
     let s = c .before .before .before .before .before .before .before .before in
     room (mesh s) mostCorners mostVertices (λ h. h) (λ h. h)
 
-same-length-2 : tie.Need-same-length-2
-same-length-2 c = search needs
-
-returns-2 : tie.Need-returns-2
-returns-2 c = search needs
-
 pub link-large-spec : {M : Type 1} → statement M
 link-large-spec =
-    tie.close
-    (tie.spec
-    slice-aggregate-link-over
-    slice-aggregate-link-over-2
-    link-over-requires
-    same-length
-    returns
-    slice-aggregate-link-over-3
-    slice-aggregate-link-over-4
-    link-over-requires-2
-    same-length-2
-    returns-2)
+    tie.close (tie.spec (λ c. search needs) (λ c. search needs) link-over-requires (λ c. search needs) (λ c. search needs) (λ c. search needs)
+    (λ c. search needs) link-over-requires-2 (λ c. search needs) (λ c. search needs))

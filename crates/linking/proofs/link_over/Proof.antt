@@ -35,18 +35,6 @@ module _ (t : tie.After-enum-told2) where
       (length (now (start (t .before .before .before) .args .links))) ≡ sound
   fourteen = let a = t .before .before .check-length in passed (a .result) (a .ensures) (t .enum-told2 .given .1)
 
-check-within-requires : tie.Need-check-within-requires
-check-within-requires c κs = search needs
-
-enum-known-a : tie.Need-enum-known-a
-enum-known-a c = search needs
-
-same-length : tie.Need-same-length
-same-length c = search needs
-
-same-length-2 : tie.Need-same-length-2
-same-length-2 c = search needs
-
 returns : tie.Need-returns
 returns c =
     let a = c .before .before .before .before .before .before .before .check-within in
@@ -55,28 +43,10 @@ returns c =
     let M = meshOf (now (s .args .coordinates)) (now (s .args .sides)) (now (s .args .corners)) (now (s .args .sharpness)) in
     link-refused M (now (s .args .links)) (k .0 .0) (k .0 .1 .0) (sym (ap stated (k .1)) ∙ a .ensures .answers)
 
-enum-told : tie.Need-enum-told
-enum-told c = search needs
-
-check-length-requires : tie.Need-check-length-requires
-check-length-requires c κs = search needs
-
-enum-known-a14 : tie.Need-enum-known-a14
-enum-known-a14 c = search needs
-
-same-length-3 : tie.Need-same-length-3
-same-length-3 c = search needs
-
-same-length-4 : tie.Need-same-length-4
-same-length-4 c = search needs
-
 returns-2 : tie.Need-returns-2
 returns-2 c =
     let t = c .before .before .before .before in let a = c .before .before .before .check-length in let k = c .before .a14 .given in
     link-14 (mesh t) (now (start t .args .links)) (accepted t) (k .0 .0) (k .0 .1 .0) (sym (ap stated (k .1)) ∙ a .ensures)
-
-enum-told-2 : tie.Need-enum-told-2
-enum-told-2 c = search needs
 
 copy-requires : tie.Need-copy-requires
 copy-requires c κs =
@@ -85,15 +55,6 @@ copy-requires c κs =
     let few = few-corners (length (M .coordinates)) (length (M .sides)) (cornerCount M) (sound-of M (accepted t) .four) in
     let l = length-of (length (now (start t .args .links))) (cornerCount M) (fourteen t14) in
     (omega (arith, l, few), omega (arith, l, start t .pre .corners-fit few, a .kept .1 .1 .1 .1 .0))
-
-same-length-5 : tie.Need-same-length-5
-same-length-5 c = search needs
-
-same-length-6 : tie.Need-same-length-6
-same-length-6 c = search needs
-
-same-length-7 : tie.Need-same-length-7
-same-length-7 c = search needs
 
 returns-3 : tie.Need-returns-3
 returns-3 c =
@@ -105,22 +66,6 @@ returns-3 c =
 
 pub link-over-spec : {M : Type 1} → statement M
 link-over-spec =
-    tie.close
-    (tie.spec
-    check-within-requires
-    enum-known-a
-    same-length
-    same-length-2
-    returns
-    enum-told
-    check-length-requires
-    enum-known-a14
-    same-length-3
-    same-length-4
-    returns-2
-    enum-told-2
-    copy-requires
-    same-length-5
-    same-length-6
-    same-length-7
-    returns-3)
+    tie.close (tie.spec (λ c κs. search needs) (λ c. search needs) (λ c. search needs) (λ c. search needs) returns (λ c. search needs)
+    (λ c κs. search needs) (λ c. search needs) (λ c. search needs) (λ c. search needs) returns-2 (λ c. search needs) copy-requires (λ c. search needs)
+    (λ c. search needs) (λ c. search needs) returns-3)

@@ -25,17 +25,8 @@ abbrev μ-loop : tie.MeasureT-loop
 loop-holds : tie.Need-loop-holds Inv-loop μ-loop
 loop-holds c = (omega arith, λ e j h. absurd (omega arith))
 
-shared-slice-read-s : tie.Need-shared-slice-read-s Inv-loop μ-loop
-shared-slice-read-s c = search needs
-
 cast-s : tie.Need-cast-s Inv-loop μ-loop
 cast-s c = omega (arith, c .shared-slice-known .given (c .before .before .loop .f))
-
-add-f : tie.Need-add-f Inv-loop μ-loop
-add-f c = search needs
-
-loop-less : tie.Need-loop-less Inv-loop μ-loop
-loop-less c = search needs
 
 loop-again : tie.Need-loop-again Inv-loop μ-loop
 unfolding fault5
@@ -55,15 +46,4 @@ returns : tie.Need-returns Inv-loop μ-loop
 returns c = let l = c .before .loop in λ e j h. l .inv .1 e j (omega arith)
 
 pub all-sided-spec : {M : Type 1} → statement M
-all-sided-spec =
-    tie.close
-    (tie.spec
-    Inv-loop
-    μ-loop
-    loop-holds
-    shared-slice-read-s
-    cast-s
-    add-f
-    loop-less
-    loop-again
-    returns)
+all-sided-spec = tie.close (tie.spec Inv-loop μ-loop loop-holds (search needs) cast-s (search needs) (search needs) loop-again returns)

@@ -9,19 +9,10 @@ use borrow.Author.Needs.{needs}
 use Rattle.list_checks.proofs.check_coordinates.Statement.{statement}
 use Rattle.list_checks.proofs.check_coordinates.Tie as tie
 
-all-near-requires : tie.Need-all-near-requires
-all-near-requires c κs = search needs
-
 returns : tie.Need-returns
 returns c =
     let xs = now (c .before .before .args .coordinates) in
     sym (lowest-none 7 (length xs) (fault7 xs) (c .before .all-near .ensures (c .if1 .taken)))
 
-find-coordinate-requires : tie.Need-find-coordinate-requires
-find-coordinate-requires c κs = search needs
-
-returns-2 : tie.Need-returns-2
-returns-2 c = search needs
-
 pub check-coordinates-spec : {M : Type 1} → statement M
-check-coordinates-spec = tie.close (tie.spec all-near-requires returns find-coordinate-requires returns-2)
+check-coordinates-spec = tie.close (tie.spec (λ c κs. search needs) returns (λ c κs. search needs) (λ c. search needs))

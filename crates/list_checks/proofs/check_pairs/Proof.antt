@@ -1,13 +1,9 @@
 -- Check 27 meets its contract.
 -- Assumes nothing.
-use native.Mathlib.Omega.{arith}
 use borrow.Author.Needs.{needs}
 use Rattle.list_checks.proofs.Laws.{pairs-differ, pairs-fit}
 use Rattle.list_checks.proofs.check_pairs.Statement.{statement}
 use Rattle.list_checks.proofs.check_pairs.Tie as tie
-
-mul-if1 : tie.Need-mul-if1
-mul-if1 c = search needs
 
 returns : tie.Need-returns
 returns c = pairs-differ (c .before .args .sharpness) (c .before .args .corners) (c .if1 .taken)
@@ -16,4 +12,4 @@ returns-2 : tie.Need-returns-2
 returns-2 c = pairs-fit (c .before .args .sharpness) (c .before .args .corners) (c .if1 .left)
 
 pub check-pairs-spec : {M : Type 1} → statement M
-check-pairs-spec = tie.close (tie.spec mul-if1 returns returns-2)
+check-pairs-spec = tie.close (tie.spec (search needs) returns returns-2)

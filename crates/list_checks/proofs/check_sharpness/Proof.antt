@@ -11,19 +11,10 @@ use Rattle.list_checks.proofs.Laws.{not-too-sharp}
 use Rattle.list_checks.proofs.check_sharpness.Statement.{statement}
 use Rattle.list_checks.proofs.check_sharpness.Tie as tie
 
-highest-requires : tie.Need-highest-requires
-highest-requires c κs = search needs
-
 returns : tie.Need-returns
 returns c = let s = c .before .before .before in
     let xs = now (s .args .sharpness) in
     sym (lowest-none 28 (length xs) (fault28 xs) (λ j h. not-too-sharp xs j h (omega (arith, c .before .highest .ensures j h, c .if1 .taken))))
 
-find-sharpness-requires : tie.Need-find-sharpness-requires
-find-sharpness-requires c κs = search needs
-
-returns-2 : tie.Need-returns-2
-returns-2 c = search needs
-
 pub check-sharpness-spec : {M : Type 1} → statement M
-check-sharpness-spec = tie.close (tie.spec highest-requires returns find-sharpness-requires returns-2)
+check-sharpness-spec = tie.close (tie.spec (λ c κs. search needs) returns (λ c κs. search needs) (λ c. search needs))

@@ -9,19 +9,10 @@ use borrow.Author.Needs.{needs}
 use Rattle.list_checks.proofs.check_sides.Statement.{statement}
 use Rattle.list_checks.proofs.check_sides.Tie as tie
 
-all-sided-requires : tie.Need-all-sided-requires
-all-sided-requires c κs = search needs
-
 returns : tie.Need-returns
 returns c =
     let xs = now (c .before .before .before .args .sides) in
     sym (lowest-none 5 (length xs) (fault5 xs) (c .before .all-sided .ensures (c .if1 .taken)))
 
-find-sides-requires : tie.Need-find-sides-requires
-find-sides-requires c κs = search needs
-
-returns-2 : tie.Need-returns-2
-returns-2 c = search needs
-
 pub check-sides-spec : {M : Type 1} → statement M
-check-sides-spec = tie.close (tie.spec all-sided-requires returns find-sides-requires returns-2)
+check-sides-spec = tie.close (tie.spec (λ c κs. search needs) returns (λ c κs. search needs) (λ c. search needs))

@@ -24,27 +24,12 @@ abbrev μ-loop : tie.MeasureT-loop
 loop-holds : tie.Need-loop-holds Inv-loop μ-loop
 loop-holds c = (omega arith, λ j h. absurd (omega arith))
 
-mul-z : tie.Need-mul-z Inv-loop μ-loop
-mul-z c = search needs
-
-shared-slice-copy-out-z : tie.Need-shared-slice-copy-out-z Inv-loop μ-loop
-shared-slice-copy-out-z c = search needs
-
-sub-if1 : tie.Need-sub-if1 Inv-loop μ-loop
-sub-if1 c = search needs
-
 returns : tie.Need-returns Inv-loop μ-loop
 returns c = let s = c .before .before .before .before in let l = c .before .before .before .loop in
     let xs = now (s .args .coordinates) in
     sym (lowest-hit 7 (length xs) (fault7 xs) (l .i) (search needs)
     (⊎-elim (λ w. below xs (l .i) (c .before .z .given) (w .taken)) (λ w. above xs (l .i) (c .before .z .given) (w .1 .taken)) (c .if1 .came))
     (l .inv .1))
-
-add-i : tie.Need-add-i Inv-loop μ-loop
-add-i c = search needs
-
-loop-less : tie.Need-loop-less Inv-loop μ-loop
-loop-less c = search needs
 
 loop-again : tie.Need-loop-again Inv-loop μ-loop
 loop-again c = let s = c .before .before .before .before .before in let l = c .before .before .before .before .loop in
@@ -56,16 +41,4 @@ returns-2 c = let l = c .before .loop in sym (lowest-none 7 _ (fault7 (now (c .b
 
 pub find-coordinate-spec : {M : Type 1} → statement M
 find-coordinate-spec =
-    tie.close
-    (tie.spec
-    Inv-loop
-    μ-loop
-    loop-holds
-    mul-z
-    shared-slice-copy-out-z
-    sub-if1
-    returns
-    add-i
-    loop-less
-    loop-again
-    returns-2)
+    tie.close (tie.spec Inv-loop μ-loop loop-holds (search needs) (search needs) (search needs) returns (search needs) (search needs) loop-again returns-2)

@@ -23,12 +23,6 @@ abbrev μ-loop : tie.MeasureT-loop
 loop-holds : tie.Need-loop-holds Inv-loop μ-loop
 loop-holds c = (omega arith, λ j h. absurd (omega arith))
 
-mul-u : tie.Need-mul-u Inv-loop μ-loop
-mul-u c = search needs
-
-shared-slice-read-u : tie.Need-shared-slice-read-u Inv-loop μ-loop
-shared-slice-read-u c = search needs
-
 cast-u : tie.Need-cast-u Inv-loop μ-loop
 cast-u c = omega (arith, c .shared-slice-known .given (c .before .before .loop .c))
 
@@ -38,12 +32,6 @@ returns c = let s = c .before .before .before .before in let l = c .before .befo
     let xs = now (s .args .corners) in
     sym (lowest-hit 8 (length xs) (fault8 (s .args .vertices) xs) (l .c) (search needs) (le-leb (s .args .vertices) (getD xs (l .c) 0) (c .if1 .taken))
     (l .inv .1))
-
-add-c : tie.Need-add-c Inv-loop μ-loop
-add-c c = search needs
-
-loop-less : tie.Need-loop-less Inv-loop μ-loop
-loop-less c = search needs
 
 loop-again : tie.Need-loop-again Inv-loop μ-loop
 unfolding fault8
@@ -58,16 +46,4 @@ returns-2 c =
 
 pub find-name-spec : {M : Type 1} → statement M
 find-name-spec =
-    tie.close
-    (tie.spec
-    Inv-loop
-    μ-loop
-    loop-holds
-    mul-u
-    shared-slice-read-u
-    cast-u
-    returns
-    add-c
-    loop-less
-    loop-again
-    returns-2)
+    tie.close (tie.spec Inv-loop μ-loop loop-holds (search needs) (search needs) cast-u returns (search needs) (search needs) loop-again returns-2)

@@ -26,9 +26,6 @@ abbrev μ-loop : tie.MeasureT-loop
 loop-holds : tie.Need-loop-holds Inv-loop μ-loop
 loop-holds c = (omega arith, λ j h. absurd (omega arith))
 
-shared-slice-read-s : tie.Need-shared-slice-read-s Inv-loop μ-loop
-shared-slice-read-s c = search needs
-
 cast-s : tie.Need-cast-s Inv-loop μ-loop
 cast-s c = omega (arith, c .shared-slice-known .given (c .before .before .loop .f))
 
@@ -40,12 +37,6 @@ returns c = let s = c .before .before .before .before in let l = c .before .befo
     (⊎-elim (λ w. outside-low leastSides mostSides (getD xs (l .f) 0) (w .taken))
     (λ w. outside-high leastSides mostSides (getD xs (l .f) 0) (ltb-true _ _ (w .1 .taken))) (c .if1 .came))
     (l .inv .1))
-
-add-f : tie.Need-add-f Inv-loop μ-loop
-add-f c = search needs
-
-loop-less : tie.Need-loop-less Inv-loop μ-loop
-loop-less c = search needs
 
 loop-again : tie.Need-loop-again Inv-loop μ-loop
 unfolding fault5
@@ -60,16 +51,4 @@ returns-2 : tie.Need-returns-2 Inv-loop μ-loop
 returns-2 c = let l = c .before .loop in sym (lowest-none 5 _ (fault5 (now (c .before .before .args .sides))) (λ j h. l .inv .1 j (omega arith)))
 
 pub find-sides-spec : {M : Type 1} → statement M
-find-sides-spec =
-    tie.close
-    (tie.spec
-    Inv-loop
-    μ-loop
-    loop-holds
-    shared-slice-read-s
-    cast-s
-    returns
-    add-f
-    loop-less
-    loop-again
-    returns-2)
+find-sides-spec = tie.close (tie.spec Inv-loop μ-loop loop-holds (search needs) cast-s returns (search needs) (search needs) loop-again returns-2)

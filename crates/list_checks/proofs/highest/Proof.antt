@@ -18,18 +18,6 @@ abbrev μ-loop : tie.MeasureT-loop
 loop-holds : tie.Need-loop-holds Inv-loop μ-loop
 loop-holds c = (omega arith, λ j h. absurd (omega arith))
 
-shared-slice-read-greater : tie.Need-shared-slice-read-greater Inv-loop μ-loop
-shared-slice-read-greater c = search needs
-
-greater-requires : tie.Need-greater-requires Inv-loop μ-loop
-greater-requires c κs = search needs
-
-add-i : tie.Need-add-i Inv-loop μ-loop
-add-i c = search needs
-
-loop-less : tie.Need-loop-less Inv-loop μ-loop
-loop-less c = search needs
-
 loop-again : tie.Need-loop-again Inv-loop μ-loop
 loop-again c = let s = c .before .before .before .before .before in let l = c .before .before .before .loop in
     let f : ℕ → ℕ = λ j. getD (now (s .args .list)) j 0 in
@@ -39,15 +27,4 @@ returns : tie.Need-returns Inv-loop μ-loop
 returns c = let l = c .before .loop in λ j h. l .inv .1 j (omega arith)
 
 pub highest-spec : {M : Type 1} → statement M
-highest-spec =
-    tie.close
-    (tie.spec
-    Inv-loop
-    μ-loop
-    loop-holds
-    shared-slice-read-greater
-    greater-requires
-    add-i
-    loop-less
-    loop-again
-    returns)
+highest-spec = tie.close (tie.spec Inv-loop μ-loop loop-holds (search needs) (λ c κs. search needs) (search needs) (search needs) loop-again returns)

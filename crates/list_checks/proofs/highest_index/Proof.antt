@@ -18,21 +18,6 @@ abbrev μ-loop : tie.MeasureT-loop
 loop-holds : tie.Need-loop-holds Inv-loop μ-loop
 loop-holds c = (omega arith, λ j h. absurd (omega arith))
 
-mul-greater-index : tie.Need-mul-greater-index Inv-loop μ-loop
-mul-greater-index c = search needs
-
-shared-slice-read-greater-index : tie.Need-shared-slice-read-greater-index Inv-loop μ-loop
-shared-slice-read-greater-index c = search needs
-
-greater-index-requires : tie.Need-greater-index-requires Inv-loop μ-loop
-greater-index-requires c κs = search needs
-
-add-c : tie.Need-add-c Inv-loop μ-loop
-add-c c = search needs
-
-loop-less : tie.Need-loop-less Inv-loop μ-loop
-loop-less c = search needs
-
 loop-again : tie.Need-loop-again Inv-loop μ-loop
 loop-again c = let s = c .before .before .before .before .before in let l = c .before .before .before .loop in (
   search needs,
@@ -45,15 +30,4 @@ returns c = let l = c .before .loop in λ j h. l .inv .1 j (omega arith)
 
 pub highest-index-spec : {M : Type 1} → statement M
 highest-index-spec =
-    tie.close
-    (tie.spec
-    Inv-loop
-    μ-loop
-    loop-holds
-    mul-greater-index
-    shared-slice-read-greater-index
-    greater-index-requires
-    add-c
-    loop-less
-    loop-again
-    returns)
+    tie.close (tie.spec Inv-loop μ-loop loop-holds (search needs) (search needs) (λ c κs. search needs) (search needs) (search needs) loop-again returns)

@@ -6,48 +6,6 @@ use borrow.Author.Needs.{needs}
 use Rattle.mahunopi.proofs.mahunopi_floats.Statement.{statement}
 use Rattle.mahunopi.proofs.mahunopi_floats.Tie as tie
 
-point-requires : tie.Need-point-requires
-point-requires c κs = search needs
-
-enum-known-a : tie.Need-enum-known-a
-enum-known-a c = search needs
-
-element-write-floats : tie.Need-element-write-floats
-element-write-floats c = search needs
-
-element-write-floats-2 : tie.Need-element-write-floats-2
-element-write-floats-2 c = search needs
-
-element-write-floats-3 : tie.Need-element-write-floats-3
-element-write-floats-3 c = search needs
-
-enum-known-a-2 : tie.Need-enum-known-a-2
-enum-known-a-2 c = search needs
-
-element-write-floats-4 : tie.Need-element-write-floats-4
-element-write-floats-4 c = search needs
-
-element-write-floats-5 : tie.Need-element-write-floats-5
-element-write-floats-5 c = search needs
-
-element-write-floats-6 : tie.Need-element-write-floats-6
-element-write-floats-6 c = search needs
-
-element-write-floats-7 : tie.Need-element-write-floats-7
-element-write-floats-7 c = search needs
-
-element-write-floats-8 : tie.Need-element-write-floats-8
-element-write-floats-8 c = search needs
-
-element-write-floats-9 : tie.Need-element-write-floats-9
-element-write-floats-9 c = search needs
-
-enum-known-a-3 : tie.Need-enum-known-a-3
-enum-known-a-3 c = search needs
-
-tell-requires : tie.Need-tell-requires
-tell-requires c κs = search needs
-
 returns : tie.Need-returns
 returns c =
     let k = c .before .before .before in
@@ -72,22 +30,6 @@ returns-3 c =
 
 pub mahunopi-floats-spec : {M : Type 1} → statement M
 mahunopi-floats-spec =
-    tie.close
-    (tie.spec
-    point-requires
-    enum-known-a
-    element-write-floats
-    element-write-floats-2
-    element-write-floats-3
-    enum-known-a-2
-    element-write-floats-4
-    element-write-floats-5
-    element-write-floats-6
-    element-write-floats-7
-    element-write-floats-8
-    element-write-floats-9
-    enum-known-a-3
-    tell-requires
-    returns
-    returns-2
-    returns-3)
+    tie.close (tie.spec (λ c κs. search needs) (λ c. search needs) (λ c. search needs) (λ c. search needs) (λ c. search needs) (λ c. search needs)
+    (λ c. search needs) (λ c. search needs) (λ c. search needs) (λ c. search needs) (λ c. search needs) (λ c. search needs) (λ c. search needs)
+    (λ c κs. search needs) returns returns-2 returns-3)

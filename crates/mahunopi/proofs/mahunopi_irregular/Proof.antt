@@ -7,24 +7,6 @@ use borrow.Author.Needs.{needs}
 use Rattle.mahunopi.proofs.mahunopi_irregular.Statement.{statement}
 use Rattle.mahunopi.proofs.mahunopi_irregular.Tie as tie
 
-search-requires : tie.Need-search-requires
-search-requires c κs = search needs
-
-enum-known-a : tie.Need-enum-known-a
-enum-known-a c = search needs
-
-enum-known-a-2 : tie.Need-enum-known-a-2
-enum-known-a-2 c = search needs
-
-enum-known-a-3 : tie.Need-enum-known-a-3
-enum-known-a-3 c = search needs
-
-enum-known-a-4 : tie.Need-enum-known-a-4
-enum-known-a-4 c = search needs
-
-tell-requires : tie.Need-tell-requires
-tell-requires c κs = search needs
-
 returns : tie.Need-returns
 returns c =
     let k = c .before .before .before in
@@ -59,15 +41,5 @@ returns-4 c =
 
 pub mahunopi-irregular-spec : {M : Type 1} → statement M
 mahunopi-irregular-spec =
-    tie.close
-    (tie.spec
-    search-requires
-    enum-known-a
-    enum-known-a-2
-    enum-known-a-3
-    enum-known-a-4
-    tell-requires
-    returns
-    returns-2
-    returns-3
-    returns-4)
+    tie.close (tie.spec (λ c κs. search needs) (λ c. search needs) (λ c. search needs) (λ c. search needs) (λ c. search needs) (λ c κs. search needs)
+    returns returns-2 returns-3 returns-4)

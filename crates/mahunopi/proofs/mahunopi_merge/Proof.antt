@@ -10,21 +10,6 @@ use borrow.Author.Needs.{needs}
 use Rattle.mahunopi.proofs.mahunopi_merge.Statement.{statement}
 use Rattle.mahunopi.proofs.mahunopi_merge.Tie as tie
 
-read-requires : tie.Need-read-requires
-read-requires c κs = search needs
-
-read-requires-2 : tie.Need-read-requires-2
-read-requires-2 c κs = search needs
-
-merge-requires : tie.Need-merge-requires
-merge-requires c κs = search needs
-
-enum-known-a : tie.Need-enum-known-a
-enum-known-a c = search needs
-
-tell-requires : tie.Need-tell-requires
-tell-requires c κs = search needs
-
 returns : tie.Need-returns
 returns c =
     let s = c .before .before .before .before .before .before .before .before .before in
@@ -37,12 +22,6 @@ returns c =
     merge-refused other old (r .result) (now (s .args .place))
     (subst (λ (Q : Page). MergedTo (pageIn old) Q (r .result)) (c .before .before .before .before .before .before .read2 .ensures) first) (a .0 .0)
     (a .0 .1 .0) _ _ (a .1) (c .tell .ensures)
-
-enum-told : tie.Need-enum-told
-enum-told c = search needs
-
-numbers-requires : tie.Need-numbers-requires
-numbers-requires c κs = search needs
 
 returns-2 : tie.Need-returns-2
 returns-2 c =
@@ -58,14 +37,5 @@ returns-2 c =
 
 pub mahunopi-merge-spec : {M : Type 1} → statement M
 mahunopi-merge-spec =
-    tie.close
-    (tie.spec
-    read-requires
-    read-requires-2
-    merge-requires
-    enum-known-a
-    tell-requires
-    returns
-    enum-told
-    numbers-requires
-    returns-2)
+    tie.close (tie.spec (λ c κs. search needs) (λ c κs. search needs) (λ c κs. search needs) (λ c. search needs) (λ c κs. search needs) returns
+    (λ c. search needs) (λ c κs. search needs) returns-2)

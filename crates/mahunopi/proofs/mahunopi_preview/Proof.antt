@@ -8,15 +8,6 @@ use Rattle.mahunopi.proofs.Laws.{preview-call}
 use Rattle.mahunopi.proofs.mahunopi_preview.Statement.{statement}
 use Rattle.mahunopi.proofs.mahunopi_preview.Tie as tie
 
-preview-requires : tie.Need-preview-requires
-preview-requires c κs = search needs
-
-tell-requires : tie.Need-tell-requires
-tell-requires c κs = search needs
-
-same-length : tie.Need-same-length
-same-length c = search needs
-
 returns : tie.Need-returns
 returns c =
     let s = c .before .before .before .before .before .before .before .before .before in
@@ -27,4 +18,4 @@ returns c =
     (c .tell .ensures)
 
 pub mahunopi-preview-spec : {M : Type 1} → statement M
-mahunopi-preview-spec = tie.close (tie.spec preview-requires tell-requires same-length returns)
+mahunopi-preview-spec = tie.close (tie.spec (λ c κs. search needs) (λ c κs. search needs) (λ c. search needs) returns)

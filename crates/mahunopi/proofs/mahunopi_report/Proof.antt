@@ -9,18 +9,6 @@ use borrow.Author.Needs.{needs}
 use Rattle.mahunopi.proofs.mahunopi_report.Statement.{statement}
 use Rattle.mahunopi.proofs.mahunopi_report.Tie as tie
 
-read-requires : tie.Need-read-requires
-read-requires c κs = search needs
-
-report-requires : tie.Need-report-requires
-report-requires c κs = search needs
-
-enum-known-a : tie.Need-enum-known-a
-enum-known-a c = search needs
-
-tell-requires : tie.Need-tell-requires
-tell-requires c κs = search needs
-
 returns : tie.Need-returns
 returns c =
     let s = c .before .before .before .before .before .before .before .before .before in
@@ -30,12 +18,6 @@ returns c =
     report-refused F (now (s .args .page)) (r .result) (now (s .args .place))
     (subst (λ (P : Page). ReportedTo P F (r .result)) (c .before .before .before .before .before .before .read .ensures) (r .ensures)) (a .0 .0) (a
     .0 .1 .0) _ _ (a .1) (c .tell .ensures)
-
-enum-told : tie.Need-enum-told
-enum-told c = search needs
-
-numbers-requires : tie.Need-numbers-requires
-numbers-requires c κs = search needs
 
 returns-2 : tie.Need-returns-2
 returns-2 c =
@@ -49,13 +31,5 @@ returns-2 c =
 
 pub mahunopi-report-spec : {M : Type 1} → statement M
 mahunopi-report-spec =
-    tie.close
-    (tie.spec
-    read-requires
-    report-requires
-    enum-known-a
-    tell-requires
-    returns
-    enum-told
-    numbers-requires
-    returns-2)
+    tie.close (tie.spec (λ c κs. search needs) (λ c κs. search needs) (λ c. search needs) (λ c κs. search needs) returns (λ c. search needs)
+    (λ c κs. search needs) returns-2)

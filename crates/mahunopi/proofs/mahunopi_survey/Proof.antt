@@ -7,29 +7,11 @@ use borrow.Author.Needs.{needs}
 use Rattle.mahunopi.proofs.mahunopi_survey.Statement.{statement}
 use Rattle.mahunopi.proofs.mahunopi_survey.Tie as tie
 
-survey-requires : tie.Need-survey-requires
-survey-requires c κs = search needs
-
-enum-known-a : tie.Need-enum-known-a
-enum-known-a c = search needs
-
-tell-requires : tie.Need-tell-requires
-tell-requires c κs = search needs
-
 returns : tie.Need-returns
 returns c =
     let a = c .before .before .before .a .given in
     let s = c .before .before .before .before .before .survey .ensures in
     survey-refused _ _ _ _ _ s (a .0 .0) (a .0 .1 .0) _ _ (a .1) (c .tell .ensures)
-
-enum-told : tie.Need-enum-told
-enum-told c = search needs
-
-too-short-requires : tie.Need-too-short-requires
-too-short-requires c κs = search needs
-
-tell-requires-2 : tie.Need-tell-requires-2
-tell-requires-2 c κs = search needs
 
 returns-2 : tie.Need-returns-2
 returns-2 c =
@@ -48,12 +30,6 @@ tell-counts-requires c κs =
       fits-second (f .result .counts .sided) (length (a .cornered .now)) (length (a .sided .now)) (n .1) room,
     )
 
-same-length : tie.Need-same-length
-same-length c = search needs
-
-same-length-2 : tie.Need-same-length-2
-same-length-2 c = search needs
-
 returns-3 : tie.Need-returns-3
 returns-3 c =
     let s = c .before .before .before .before .before .before .before .before .before .before .before in
@@ -62,17 +38,5 @@ returns-3 c =
 
 pub mahunopi-survey-spec : {M : Type 1} → statement M
 mahunopi-survey-spec =
-    tie.close
-    (tie.spec
-    survey-requires
-    enum-known-a
-    tell-requires
-    returns
-    enum-told
-    too-short-requires
-    tell-requires-2
-    returns-2
-    tell-counts-requires
-    same-length
-    same-length-2
-    returns-3)
+    tie.close (tie.spec (λ c κs. search needs) (λ c. search needs) (λ c κs. search needs) returns (λ c. search needs) (λ c κs. search needs)
+    (λ c κs. search needs) returns-2 tell-counts-requires (λ c. search needs) (λ c. search needs) returns-3)

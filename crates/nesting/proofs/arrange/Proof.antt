@@ -21,15 +21,6 @@ abbrev μ-loop : tie.MeasureT-loop
 loop-holds : tie.Need-loop-holds Inv-loop μ-loop
 loop-holds c = (omega arith, refl, refl, filling-none _ _ _ (c .before .before .before .pre .blank))
 
-next-body-requires : tie.Need-next-body-requires Inv-loop μ-loop
-next-body-requires c κs = search needs
-
-same-length : tie.Need-same-length Inv-loop μ-loop
-same-length c = search needs
-
-same-length-2 : tie.Need-same-length-2 Inv-loop μ-loop
-same-length-2 c = search needs
-
 returns : tie.Need-returns Inv-loop μ-loop
 returns c =
     let s = c .before .before .before .before .before .before .before .before in let l = c .before .before .before .before .loop in
@@ -39,21 +30,6 @@ returns c =
 
 cast-order : tie.Need-cast-order Inv-loop μ-loop
 cast-order c = let s = c .before .before .before .before .before .before .before .before in omega (arith, s .pre .few, c .if1 .left)
-
-mul-order : tie.Need-mul-order Inv-loop μ-loop
-mul-order c = search needs
-
-slice-write-order : tie.Need-slice-write-order Inv-loop μ-loop
-slice-write-order c = search needs
-
-slice-write-marks : tie.Need-slice-write-marks Inv-loop μ-loop
-slice-write-marks c = search needs
-
-add-k : tie.Need-add-k Inv-loop μ-loop
-add-k c = search needs
-
-loop-less : tie.Need-loop-less Inv-loop μ-loop
-loop-less c = search needs
 
 loop-again : tie.Need-loop-again Inv-loop μ-loop
 loop-again c =
@@ -68,12 +44,6 @@ loop-again c =
           (omega (arith, s .pre .marks-room, c .if1 .left)) (omega (arith, s .pre .order-room)),
     )
 
-same-length-3 : tie.Need-same-length-3 Inv-loop μ-loop
-same-length-3 c = search needs
-
-same-length-4 : tie.Need-same-length-4 Inv-loop μ-loop
-same-length-4 c = search needs
-
 returns-2 : tie.Need-returns-2 Inv-loop μ-loop
 returns-2 c =
     let s = c .before .before .before .before .before in let l = c .before .loop in
@@ -81,22 +51,5 @@ returns-2 c =
 
 pub arrange-spec : {M : Type 1} → statement M
 arrange-spec =
-    tie.close
-    (tie.spec
-    Inv-loop
-    μ-loop
-    loop-holds
-    next-body-requires
-    same-length
-    same-length-2
-    returns
-    cast-order
-    mul-order
-    slice-write-order
-    slice-write-marks
-    add-k
-    loop-less
-    loop-again
-    same-length-3
-    same-length-4
-    returns-2)
+    tie.close (tie.spec Inv-loop μ-loop loop-holds (λ c κs. search needs) (search needs) (search needs) returns cast-order (search needs) (search needs)
+    (search needs) (search needs) (search needs) loop-again (search needs) (search needs) returns-2)

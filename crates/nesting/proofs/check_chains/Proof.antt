@@ -23,21 +23,12 @@ abbrev μ-loop : tie.MeasureT-loop
 loop-holds : tie.Need-loop-holds Inv-loop μ-loop
 loop-holds c = (omega arith, λ j h. absurd (omega arith))
 
-shared-slice-read-if1 : tie.Need-shared-slice-read-if1 Inv-loop μ-loop
-shared-slice-read-if1 c = search needs
-
 returns : tie.Need-returns Inv-loop μ-loop
 returns c =
     let s = c .before .before .before .before in let l = c .before .before .before .loop in
     let xs = now (s .args .holders) in
     let h : l .b < length xs = search needs in
     sym (lowest-hit 23 (length xs) (fault23 xs) (l .b) h (no-end xs (now (s .args .marks)) (s .pre .1) (l .b) h (c .if1 .taken)) (l .inv .1))
-
-add-b : tie.Need-add-b Inv-loop μ-loop
-add-b c = search needs
-
-loop-less : tie.Need-loop-less Inv-loop μ-loop
-loop-less c = search needs
 
 loop-again : tie.Need-loop-again Inv-loop μ-loop
 loop-again c =
@@ -52,15 +43,4 @@ returns-2 c =
     sym (lowest-none 23 _ (fault23 (now (c .before .before .args .holders))) (λ j h. l .inv .1 j (omega arith)))
 
 pub check-chains-spec : {M : Type 1} → statement M
-check-chains-spec =
-    tie.close
-    (tie.spec
-    Inv-loop
-    μ-loop
-    loop-holds
-    shared-slice-read-if1
-    returns
-    add-b
-    loop-less
-    loop-again
-    returns-2)
+check-chains-spec = tie.close (tie.spec Inv-loop μ-loop loop-holds (search needs) returns (search needs) (search needs) loop-again returns-2)

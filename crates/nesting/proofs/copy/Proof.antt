@@ -19,24 +19,6 @@ abbrev μ-loop : tie.MeasureT-loop
 loop-holds : tie.Need-loop-holds Inv-loop μ-loop
 loop-holds c = (omega arith, refl, refl)
 
-mul-listing : tie.Need-mul-listing Inv-loop μ-loop
-mul-listing c = search needs
-
-shared-slice-read-listing : tie.Need-shared-slice-read-listing Inv-loop μ-loop
-shared-slice-read-listing c = search needs
-
-mul-listing-2 : tie.Need-mul-listing-2 Inv-loop μ-loop
-mul-listing-2 c = search needs
-
-slice-write-listing : tie.Need-slice-write-listing Inv-loop μ-loop
-slice-write-listing c = search needs
-
-add-i : tie.Need-add-i Inv-loop μ-loop
-add-i c = search needs
-
-loop-less : tie.Need-loop-less Inv-loop μ-loop
-loop-less c = search needs
-
 loop-again : tie.Need-loop-again Inv-loop μ-loop
 loop-again c =
     let s = c .before .before .before in let l = c .before .before .loop in
@@ -46,9 +28,6 @@ loop-again c =
       copy-step order (l .listing) (l .i) (l .inv .2) (omega arith) (omega arith),
     )
 
-same-length : tie.Need-same-length Inv-loop μ-loop
-same-length c = search needs
-
 returns : tie.Need-returns Inv-loop μ-loop
 returns c =
     let s = c .before .before in let l = c .before .loop in
@@ -56,17 +35,5 @@ returns c =
 
 pub copy-spec : {M : Type 1} → statement M
 copy-spec =
-    tie.close
-    (tie.spec
-    Inv-loop
-    μ-loop
-    loop-holds
-    mul-listing
-    shared-slice-read-listing
-    mul-listing-2
-    slice-write-listing
-    add-i
-    loop-less
-    loop-again
-    same-length
-    returns)
+    tie.close (tie.spec Inv-loop μ-loop loop-holds (search needs) (search needs) (search needs) (search needs) (search needs) (search needs) loop-again
+    (search needs) returns)

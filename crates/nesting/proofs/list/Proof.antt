@@ -9,42 +9,12 @@ use borrow.Author.Needs.{needs}
 use Rattle.nesting.proofs.list.Statement.{statement}
 use Rattle.nesting.proofs.list.Tie as tie
 
-arrange-requires : tie.Need-arrange-requires
-arrange-requires c κs = search needs
-
-check-chains-requires : tie.Need-check-chains-requires
-check-chains-requires c κs = search needs
-
-enum-known-a23 : tie.Need-enum-known-a23
-enum-known-a23 c = search needs
-
-same-length : tie.Need-same-length
-same-length c = search needs
-
-same-length-2 : tie.Need-same-length-2
-same-length-2 c = search needs
-
 returns : tie.Need-returns
 returns c =
     let s = c .before .before .before .before .before .before .before .before .before .before .before .before .before .before .before .before in
     let r = c .before .a23 .given in
     list-refused (now (s .args .holders)) (now (s .args .listing)) (r .0 .0) (r .0 .1 .0)
     (ap stated (sym (r .1)) ∙ c .before .before .before .check-chains .ensures)
-
-enum-told : tie.Need-enum-told
-enum-told c = search needs
-
-copy-requires : tie.Need-copy-requires
-copy-requires c κs = search needs
-
-same-length-3 : tie.Need-same-length-3
-same-length-3 c = search needs
-
-same-length-4 : tie.Need-same-length-4
-same-length-4 c = search needs
-
-same-length-5 : tie.Need-same-length-5
-same-length-5 c = search needs
 
 returns-2 : tie.Need-returns-2
 returns-2 c =
@@ -59,17 +29,5 @@ returns-2 c =
 
 pub list-spec : {M : Type 1} → statement M
 list-spec =
-    tie.close
-    (tie.spec
-    arrange-requires
-    check-chains-requires
-    enum-known-a23
-    same-length
-    same-length-2
-    returns
-    enum-told
-    copy-requires
-    same-length-3
-    same-length-4
-    same-length-5
-    returns-2)
+    tie.close (tie.spec (λ c κs. search needs) (λ c κs. search needs) (search needs) (search needs) (search needs) returns (search needs)
+    (λ c κs. search needs) (search needs) (search needs) (search needs) returns-2)

@@ -8,9 +8,6 @@ use borrow.Author.Needs.{needs}
 use Rattle.nesting.proofs.may_follow.Statement.{statement}
 use Rattle.nesting.proofs.may_follow.Tie as tie
 
-shared-slice-read-if1 : tie.Need-shared-slice-read-if1
-shared-slice-read-if1 c = search needs
-
 returns : tie.Need-returns
 returns c holders list e m =
     let s = c .before .before in
@@ -20,9 +17,6 @@ returns-2 : tie.Need-returns-2
 returns-2 c holders list e m =
     let s = c .before .before .before in
     under-sun holders list (now (s .args .marks)) m (s .args .b) (s .args .holder) e (c .before .if1 .left) (c .if2 .taken)
-
-shared-slice-read-result : tie.Need-shared-slice-read-result
-shared-slice-read-result c = search needs
 
 returns-3 : tie.Need-returns-3
 returns-3 c holders list e m =
@@ -36,6 +30,4 @@ returns-4 c holders list e m =
     ∙ under-none holders list (now (s .args .marks)) m (s .args .b) (s .args .holder) e (c .before .before .if1 .left) (c .before .if2 .left) (c .if3 .left)
 
 pub may-follow-spec : {M : Type 1} → statement M
-may-follow-spec =
-    tie.close
-    (tie.spec shared-slice-read-if1 returns returns-2 shared-slice-read-result returns-3 returns-4)
+may-follow-spec = tie.close (tie.spec (search needs) returns returns-2 (search needs) returns-3 returns-4)

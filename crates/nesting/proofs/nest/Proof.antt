@@ -7,27 +7,12 @@ use borrow.Author.Needs.{needs}
 use Rattle.nesting.proofs.nest.Statement.{statement}
 use Rattle.nesting.proofs.nest.Tie as tie
 
-check-lengths-requires : tie.Need-check-lengths-requires
-check-lengths-requires c κs = search needs
-
-enum-known-a21 : tie.Need-enum-known-a21
-enum-known-a21 c = search needs
-
 returns : tie.Need-returns
 returns c =
     let a = c .before .before .before .check-lengths in
     let s = c .before .before .before .before .before .before in
     let r = c .before .a21 .given in
     nest-refused (now (s .args .holders)) (now (s .args .listing)) (r .0 .0) (r .0 .1 .0) (stop (a .result) (a .ensures) (r .0 .0) (r .0 .1 .0) (r .1) _)
-
-enum-told : tie.Need-enum-told
-enum-told c = search needs
-
-check-holders-requires : tie.Need-check-holders-requires
-check-holders-requires c κs = search needs
-
-enum-known-a22 : tie.Need-enum-known-a22
-enum-known-a22 c = search needs
 
 returns-2 : tie.Need-returns-2
 returns-2 c =
@@ -39,15 +24,6 @@ returns-2 c =
     nest-refused (now (s .args .holders)) (now (s .args .listing)) (r .0 .0) (r .0 .1 .0)
     (past e21 _ (stop (a .result) (a .ensures) (r .0 .0) (r .0 .1 .0) (r .1) _))
 
-enum-told-2 : tie.Need-enum-told-2
-enum-told-2 c = search needs
-
-slice-aggregate-list : tie.Need-slice-aggregate-list
-slice-aggregate-list c = search needs
-
-slice-aggregate-list-2 : tie.Need-slice-aggregate-list-2
-slice-aggregate-list-2 c = search needs
-
 list-requires : tie.Need-list-requires
 list-requires c κs =
     let t22 = c .before .before .before in
@@ -57,9 +33,6 @@ list-requires c κs =
     let e22 = passed (t22 .before .before .check-holders .result) (t22 .before .before .check-holders .ensures) (t22 .enum-told2 .given .1) in
     let old = now (s .args .listing) in
     (arrangeable (now (s .args .holders)) old e21 e22, same-room (now (s .args .holders)) old e21)
-
-same-length : tie.Need-same-length
-same-length c = search needs
 
 returns-3 : tie.Need-returns-3
 returns-3 c =
@@ -73,18 +46,5 @@ returns-3 c =
 
 pub nest-spec : {M : Type 1} → statement M
 nest-spec =
-    tie.close
-    (tie.spec
-    check-lengths-requires
-    enum-known-a21
-    returns
-    enum-told
-    check-holders-requires
-    enum-known-a22
-    returns-2
-    enum-told-2
-    slice-aggregate-list
-    slice-aggregate-list-2
-    list-requires
-    same-length
-    returns-3)
+    tie.close (tie.spec (λ c κs. search needs) (search needs) returns (search needs) (λ c κs. search needs) (search needs) returns-2 (search needs)
+    (search needs) (search needs) list-requires (search needs) returns-3)

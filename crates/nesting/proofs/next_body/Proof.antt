@@ -24,15 +24,6 @@ abbrev μ-loop : tie.MeasureT-loop
 loop-holds : tie.Need-loop-holds Inv-loop μ-loop
 loop-holds c = (omega arith, λ list m j h. absurd (omega arith))
 
-mul-may-follow : tie.Need-mul-may-follow Inv-loop μ-loop
-mul-may-follow c = search needs
-
-shared-slice-read-may-follow : tie.Need-shared-slice-read-may-follow Inv-loop μ-loop
-shared-slice-read-may-follow c = search needs
-
-may-follow-requires : tie.Need-may-follow-requires Inv-loop μ-loop
-may-follow-requires c κs = search needs
-
 returns : tie.Need-returns Inv-loop μ-loop
 unfolding nextBody
 returns c list m =
@@ -41,12 +32,6 @@ returns c list m =
     let h : l .b < length xs = search needs in
     let f = c .before .may-follow .ensures xs list (sym (holder-is xs (l .b) h)) m in
     sym (first-at (length xs) (mayFollow xs list) (l .b) h (sym f ∙ c .if1 .taken) (l .inv .1 list m))
-
-add-b : tie.Need-add-b Inv-loop μ-loop
-add-b c = search needs
-
-loop-less : tie.Need-loop-less Inv-loop μ-loop
-loop-less c = search needs
 
 loop-again : tie.Need-loop-again Inv-loop μ-loop
 loop-again c =
@@ -68,16 +53,5 @@ returns-2 c list m =
 
 pub next-body-spec : {M : Type 1} → statement M
 next-body-spec =
-    tie.close
-    (tie.spec
-    Inv-loop
-    μ-loop
-    loop-holds
-    mul-may-follow
-    shared-slice-read-may-follow
-    may-follow-requires
-    returns
-    add-b
-    loop-less
-    loop-again
+    tie.close (tie.spec Inv-loop μ-loop loop-holds (search needs) (search needs) (λ c κs. search needs) returns (search needs) (search needs) loop-again
     returns-2)

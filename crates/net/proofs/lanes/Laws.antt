@@ -1,16 +1,14 @@
 -- The lanes, one after the other, and the face of a ring in a lane.
 -- Assumes nothing.
-use mathlib.Core.Path.{_≡_, refl, sym, ap, _∙_, subst}
+use mathlib.Core.Path.{_≡_, refl, _∙_, subst}
 use mathlib.Core.Bool.{Bool, true, false, not}
 use mathlib.Core.Logic.{_⊎_, inl, inr}
 use mathlib.Core.List.{List}
-use Prim.Native.Nat.{ℕ, zero, suc, _+_, _*_, _≤_, _<_}
+use Prim.Native.Nat.{ℕ, zero, suc, _+_, _≤_, _<_}
 use native.Mathlib.Omega.{arith}
-use lib.Dec.{T, ltb, ltb→lt, nltb→le, lit<}
-use lib.ListN.{length, getD}
-use lib.IntN.{ℤ, pos}
-use Rattle.paper.specs.Net.{netPoints}
-use Rattle.surface.specs.Sizes.{RefinedSize}
+use lib.Dec.{T, ltb, ltb→lt, nltb→le}
+use lib.ListN.{length}
+use lib.IntN.{ℤ}
 use Rattle.refine.specs.declared.faces.Face.{Face}
 use Rattle.net.specs.declared.sides.Edge.{Edge}
 use Rattle.net.specs.declared.sides.NetSides.{NetSides}

@@ -2,14 +2,14 @@
 -- Assumes nothing.
 use mathlib.Core.Path.{_≡_, refl, sym, ap, _∙_, subst}
 use mathlib.Core.List.{List}
-use Prim.Native.Nat.{ℕ, zero, suc, _+_, _-_, _≤_, _<_}
+use Prim.Native.Nat.{ℕ, zero, suc, _-_, _<_}
 use native.Mathlib.Omega.{arith}
 use lib.Dec.{lit<, lit≤}
 use lib.IntN.{ℤ, pos}
 use Rattle.paper.specs.Numbers.{rounded}
 use Rattle.paper.specs.Face.{centre, toward}
 use Rattle.surface.specs.Points.{pointAt}
-use Rattle.surface.specs.Sizes.{RefinedSize, FaceSize}
+use Rattle.surface.specs.Sizes.{FaceSize}
 use Rattle.surface.proofs.Border.{ring-H, ring-X}
 use Rattle.walk.specs.Table.{toNext, toPrevious, sidesHere, entry}
 use Rattle.refine.specs.declared.faces.Ahead.{Ahead}

@@ -20,15 +20,12 @@ use Rattle.refine.proofs.faces.Laws.{plain}
 use Rattle.paper.specs.Numbers.{rounded}
 use Rattle.paper.specs.Refined.{RefinedMesh}
 use Rattle.paper.specs.Net.{side0, side1, side2, side3, net, netPoints, rows, bGrid, aGrid}
-use Rattle.surface.specs.Sound.{Sound, Small}
-use Rattle.surface.proofs.Sizes.{net-size}
 use Rattle.net.specs.declared.sides.NetSides.{NetSides}
 use Rattle.net.specs.sides.Values.{FourSides}
 use Rattle.net.specs.declared.rows.RowValues.{RowValues}
-use Rattle.net.specs.rows.Rows.{RowsOf, AllRows, AllSized, IsAGrid, IsBGrid}
+use Rattle.net.specs.rows.Rows.{RowsOf, AllRows, AllSized, IsAGrid, IsBGrid, Square}
 use Rattle.net.proofs.rows.Laws.{value-is}
-use Rattle.net.specs.rows.Rows.{Square}
-use Rattle.net.specs.points.Placed.{Placed, FourSized, LaneLaid}
+use Rattle.net.specs.points.Placed.{Placed}
 
 pub placed-none : (old : List ℤ) (from : ℕ) → Placed old old from []
 placed-none old from = record { same = refl; points-are = λ p h. absurd (omega arith); others = λ i n. refl }
@@ -111,10 +108,7 @@ pub grid-row : (old out : List ℤ) (from at : ℕ) (g : List (List ℤ)) (n i :
 grid-row old out from at g n i q l e room p =
     let h : i + 1 ≤ n = omega arith in
     let m = mul-le-mul-left n h in
-    let k : length (getD g i []) ≡ n = q .long i l in (
-      omega (arith, m, k, p .1 .same),
-      λ j h. q .written i j l (omega (arith, k)),
-    )
+    let k : length (getD g i []) ≡ n = q .long i l in (omega (arith, m, k, p .1 .same), λ j h. q .written i j l (omega (arith, k)))
 
 pub grid-end : (old new : List ℤ) (from : ℕ) (g : List (List ℤ)) (n i : ℕ) → length g ≤ i → Rowed old new from g n i → Placed old new from (rows g)
 grid-end old new from g n i l p = subst (λ (h : List (List ℤ)). Placed old new from (rows h)) (take-all i g l) (p .1)

@@ -1,19 +1,14 @@
 -- `net::put_net` meets its contract: the rows hold what the net is made from, each lane makes the net of its axis, and the points are copied.
 -- Assumes nothing.
-use mathlib.Core.Path.{_≡_, _∙_, sym, subst}
-use mathlib.Core.List.{List}
-use Prim.Native.Nat.{ℕ, _+_, _*_, _≤_, _<_}
+use mathlib.Core.Path.{_≡_, subst}
+use Prim.Native.Nat.{ℕ, _≤_}
 use native.Mathlib.Omega.{arith}
 use borrow.Author.Needs.{needs}
-use lib.Dec.{lit<}
-use lib.ListN.{length, getD}
 use lib.IntN.{ℤ}
 use Rattle.paper.specs.Mesh.{leastSides, mostSides}
 use Rattle.paper.specs.Cosines.{cosine}
-use Rattle.surface.specs.Points.{pointRow, pointAt}
-use Rattle.surface.specs.Sizes.{FaceSize}
 use Rattle.walk.specs.Table.{toNext, tabled}
-use Rattle.refine.proofs.faces.Laws.{plain, cosine-plain}
+use Rattle.refine.proofs.faces.Laws.{cosine-plain}
 use Rattle.net.proofs.sides.Laws.{vertex-ring, face-ring}
 use Rattle.refine.specs.faces.Ring.{around}
 use Rattle.net.specs.near.Near.{PointsTaken, FaceHeld, near}
@@ -49,21 +44,12 @@ module _ (a : tie.After-take-points) where
       (a .before .before .before .before .take-next .last .1 .1 .1 .1 .1 .1 .0) (a .take-points .last .1 .1 .0)
   taken = rw (a .before .before .corners-near .ensures) at (a .take-points .ensures)
 
-valence-requires : tie.Need-valence-requires
-valence-requires c κs = search needs
-
-sides-requires : tie.Need-sides-requires
-sides-requires c κs = search needs
-
 take-ring-requires : tie.Need-take-ring-requires
 take-ring-requires c κs =
     let s = c .before .before .before .before in (
       λ a l. vertex-ring _ _ _ _ a (s .pre .0 .0, s .pre .0 .1, l) _ (c .before .before .valence .ensures .read),
       (s .pre .1 .1 .1 .0, omega (arith, s .pre .1 .0 .0)),
     )
-
-follows-requires : tie.Need-follows-requires
-follows-requires c κs = search needs
 
 take-next-requires : tie.Need-take-next-requires
 take-next-requires c κs =
@@ -79,9 +65,6 @@ take-next-requires c κs =
             (held-kept _ _ (s .args .near .now) _ (λ j k l m. v .above j k l (omega arith)) (s .pre .1 .1 .1 .1 (w .later) (w .some))) _ n f),
       ),
     )
-
-corners-near-requires : tie.Need-corners-near-requires
-corners-near-requires c κs = search needs
 
 take-points-requires : tie.Need-take-points-requires
 take-points-requires c κs =
@@ -121,15 +104,6 @@ copy-requires c κs =
     let s = start (f .before .before .before .before .before .before) in
     (f .fill-lanes .ensures .long, s .pre .1 .1 .0)
 
-same-length : tie.Need-same-length
-same-length c = search needs
-
-same-length-2 : tie.Need-same-length-2
-same-length-2 c = search needs
-
-same-length-3 : tie.Need-same-length-3
-same-length-3 c = search needs
-
 returns : tie.Need-returns
 returns c =
     let f = c .before .before .before .before .before in
@@ -149,20 +123,6 @@ returns c =
 
 pub put-net-spec : {M : Type 1} → statement M
 put-net-spec =
-    tie.close
-    (tie.spec
-    valence-requires
-    sides-requires
-    take-ring-requires
-    follows-requires
-    take-next-requires
-    corners-near-requires
-    take-points-requires
-    cosine-requires
-    cosine-requires-2
-    fill-lanes-requires
-    copy-requires
-    same-length
-    same-length-2
-    same-length-3
+    tie.close (tie.spec (λ c κs. search needs) (λ c κs. search needs) take-ring-requires (λ c κs. search needs) take-next-requires (λ c κs. search needs)
+    take-points-requires cosine-requires cosine-requires-2 fill-lanes-requires copy-requires (λ c. search needs) (λ c. search needs) (λ c. search needs)
     returns)

@@ -20,14 +20,13 @@ use Rattle.refine.proofs.faces.Laws.{plain, corner-plain}
 use Rattle.paper.specs.Scan.{iterate}
 use Rattle.paper.specs.Mesh.{leastSides, mostSides}
 use Rattle.paper.specs.Numbers.{rounded}
-use Rattle.paper.specs.Refined.{Corners, RefinedMesh}
+use Rattle.paper.specs.Refined.{RefinedMesh}
 use Rattle.paper.specs.Net.{leaving, arriving, Side, side0, side1, side2, side3, neighbour, quad, points, H, T, X, Y, N, C}
 use Rattle.surface.specs.Points.{pointAt}
-use Rattle.surface.specs.Sound.{Sound, Small}
 use Rattle.surface.proofs.Rings.{points-cyclic}
 use Rattle.surface.proofs.Faces.{toward-same}
 use Rattle.surface.proofs.Sizes.{C-cosine}
-use Rattle.walk.specs.Table.{rowLength, toNext, toLink, entry, tabled}
+use Rattle.walk.specs.Table.{rowLength, toNext, toLink, entry}
 use Rattle.net.specs.sides.Drawn.{drawn, Drawn, Ringed}
 use Rattle.net.specs.sides.Values.{Through, IsLeaving, IsArriving, IsSide, Sized, Made, FaceSized, EdgeSized, MadeFour, FourSides}
 use Rattle.net.specs.declared.sides.Edge.{Edge}

@@ -7,33 +7,12 @@ use borrow.Author.Needs.{needs}
 use Rattle.off.proofs.read_through.Statement.{statement}
 use Rattle.off.proofs.read_through.Tie as tie
 
-read-checked-requires : tie.Need-read-checked-requires
-read-checked-requires c κs = search needs
-
-enum-known-answer : tie.Need-enum-known-answer
-enum-known-answer c = search needs
-
-refused-requires : tie.Need-refused-requires
-refused-requires c κs = search needs
-
-same-length : tie.Need-same-length
-same-length c = search needs
-
-same-length-2 : tie.Need-same-length-2
-same-length-2 c = search needs
-
-same-length-3 : tie.Need-same-length-3
-same-length-3 c = search needs
-
 returns : tie.Need-returns
 returns c =
     let d = c .before .before .before .before .before .before .before .before .before .read-checked in
     let a = c .before .before .answer .given in
     let r = c .refused .ensures in
     copied-none _ _ _ _ _ (d .result) (d .ensures) (a .0 .0) (a .0 .1 .0) (a .1) _ (r .0) (r .1) (r .2) (r .3) (r .4)
-
-enum-told : tie.Need-enum-told
-enum-told c = search needs
 
 slice-reshare-prefix-copy-coordinates : tie.Need-slice-reshare-prefix-copy-coordinates
 slice-reshare-prefix-copy-coordinates c =
@@ -169,27 +148,6 @@ fill-plain-requires c κs =
     .before .enum-told .given .1 in
     omega (arith, few-pairs _ _ _ _ (d .result) (d .ensures) done, s .pre .3)
 
-same-length-4 : tie.Need-same-length-4
-same-length-4 c = search needs
-
-same-length-5 : tie.Need-same-length-5
-same-length-5 c = search needs
-
-same-length-6 : tie.Need-same-length-6
-same-length-6 c = search needs
-
-same-length-7 : tie.Need-same-length-7
-same-length-7 c = search needs
-
-same-length-8 : tie.Need-same-length-8
-same-length-8 c = search needs
-
-same-length-9 : tie.Need-same-length-9
-same-length-9 c = search needs
-
-same-length-10 : tie.Need-same-length-10
-same-length-10 c = search needs
-
 returns-2 : tie.Need-returns-2
 returns-2 c =
     let s = c .before .before .before .before .before .before .before .before .before .before .before .before .before .before .before
@@ -210,32 +168,8 @@ returns-2 c =
 
 pub read-through-spec : {M : Type 1} → statement M
 read-through-spec =
-    tie.close
-    (tie.spec
-    read-checked-requires
-    enum-known-answer
-    refused-requires
-    same-length
-    same-length-2
-    same-length-3
-    returns
-    enum-told
-    slice-reshare-prefix-copy-coordinates
-    slice-aggregate-copy-coordinates
-    copy-coordinates-requires
-    slice-reshare-prefix-copy-sides
-    slice-aggregate-copy-sides
-    copy-sides-requires
-    slice-reshare-prefix-copy-corners
-    slice-aggregate-copy-corners
-    copy-corners-requires
-    mul-pairs
-    fill-plain-requires
-    same-length-4
-    same-length-5
-    same-length-6
-    same-length-7
-    same-length-8
-    same-length-9
-    same-length-10
-    returns-2)
+    tie.close (tie.spec (λ c κs. search needs) (λ c. search needs) (λ c κs. search needs) (λ c. search needs) (λ c. search needs) (λ c. search needs)
+    returns (λ c. search needs) slice-reshare-prefix-copy-coordinates slice-aggregate-copy-coordinates copy-coordinates-requires
+    slice-reshare-prefix-copy-sides slice-aggregate-copy-sides copy-sides-requires slice-reshare-prefix-copy-corners slice-aggregate-copy-corners
+    copy-corners-requires mul-pairs fill-plain-requires (λ c. search needs) (λ c. search needs) (λ c. search needs) (λ c. search needs) (λ c. search needs)
+    (λ c. search needs) (λ c. search needs) returns-2)

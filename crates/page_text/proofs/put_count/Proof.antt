@@ -8,18 +8,6 @@ use borrow.Author.Needs.{needs}
 use Rattle.page_text.proofs.put_count.Statement.{statement}
 use Rattle.page_text.proofs.put_count.Tie as tie
 
-put-word-requires : tie.Need-put-word-requires
-put-word-requires c κs = search needs
-
-put-number-requires : tie.Need-put-number-requires
-put-number-requires c κs = search needs
-
-put-byte-requires : tie.Need-put-byte-requires
-put-byte-requires c κs = search needs
-
-same-length : tie.Need-same-length
-same-length c = search needs
-
 returns : tie.Need-returns
 returns c =
     let s = c .before .before .before .before .before .before .before .before .before .before .before .before .before .before .args in
@@ -28,6 +16,4 @@ returns c =
     put-three (s .word .now) (decimal (s .n)) (feed ∷ []) (w .kept .0) (p .kept .0) (w .ensures) (p .ensures) (c .before .before .put-byte .ensures)
 
 pub put-count-spec : {M : Type 1} → statement M
-put-count-spec =
-    tie.close
-    (tie.spec put-word-requires put-number-requires put-byte-requires same-length returns)
+put-count-spec = tie.close (tie.spec (λ c κs. search needs) (λ c κs. search needs) (λ c κs. search needs) (λ c. search needs) returns)

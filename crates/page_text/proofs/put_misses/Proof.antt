@@ -21,27 +21,6 @@ abbrev μ-loop : tie.MeasureT-loop
 loop-holds : tie.Need-loop-holds Inv-loop μ-loop
 loop-holds c = (omega arith, refl, put-same (join-none _) (put-none _ _))
 
-add-put-miss : tie.Need-add-put-miss Inv-loop μ-loop
-add-put-miss c = search needs
-
-add-put-miss-2 : tie.Need-add-put-miss-2 Inv-loop μ-loop
-add-put-miss-2 c = search needs
-
-mul-put-miss : tie.Need-mul-put-miss Inv-loop μ-loop
-mul-put-miss c = search needs
-
-element-copy-out-put-miss : tie.Need-element-copy-out-put-miss Inv-loop μ-loop
-element-copy-out-put-miss c = search needs
-
-put-miss-requires : tie.Need-put-miss-requires Inv-loop μ-loop
-put-miss-requires c κs = search needs
-
-add-j : tie.Need-add-j Inv-loop μ-loop
-add-j c = search needs
-
-loop-less : tie.Need-loop-less Inv-loop μ-loop
-loop-less c = search needs
-
 loop-again : tie.Need-loop-again Inv-loop μ-loop
 loop-again c =
     let numbers = c .before .before .before .before .before .before .before .before .args .numbers .now in
@@ -63,18 +42,5 @@ returns c =
 
 pub put-misses-spec : {M : Type 1} → statement M
 put-misses-spec =
-    tie.close
-    (tie.spec
-    Inv-loop
-    μ-loop
-    loop-holds
-    add-put-miss
-    add-put-miss-2
-    mul-put-miss
-    element-copy-out-put-miss
-    put-miss-requires
-    add-j
-    loop-less
-    loop-again
-    same-length
-    returns)
+    tie.close (tie.spec Inv-loop μ-loop loop-holds (λ c. search needs) (λ c. search needs) (λ c. search needs) (λ c. search needs) (λ c κs. search needs)
+    (λ c. search needs) (λ c. search needs) loop-again same-length returns)

@@ -7,21 +7,6 @@ use borrow.Author.Needs.{needs}
 use Rattle.page_text.proofs.put_numbers.Statement.{statement}
 use Rattle.page_text.proofs.put_numbers.Tie as tie
 
-slice-aggregate-put-word : tie.Need-slice-aggregate-put-word
-slice-aggregate-put-word c = search needs
-
-put-word-requires : tie.Need-put-word-requires
-put-word-requires c κs = search needs
-
-put-all-requires : tie.Need-put-all-requires
-put-all-requires c κs = search needs
-
-put-byte-requires : tie.Need-put-byte-requires
-put-byte-requires c κs = search needs
-
-same-length : tie.Need-same-length
-same-length c = search needs
-
 returns : tie.Need-returns
 returns c =
     let numbers = c .before .before .before .before .before .before .before .before .before .before .before .before .before .before .args .numbers .now in
@@ -31,12 +16,4 @@ returns c =
     (w .kept .0) (p .kept .0) (w .ensures) (p .ensures) (c .before .before .put-byte .ensures)
 
 pub put-numbers-spec : {M : Type 1} → statement M
-put-numbers-spec =
-    tie.close
-    (tie.spec
-    slice-aggregate-put-word
-    put-word-requires
-    put-all-requires
-    put-byte-requires
-    same-length
-    returns)
+put-numbers-spec = tie.close (tie.spec (λ c. search needs) (λ c κs. search needs) (λ c κs. search needs) (λ c κs. search needs) (λ c. search needs) returns)

@@ -9,51 +9,6 @@ use borrow.Author.Needs.{needs}
 use Rattle.page_text.proofs.put_page.Statement.{statement}
 use Rattle.page_text.proofs.put_page.Tie as tie
 
-slice-aggregate-put-count : tie.Need-slice-aggregate-put-count
-slice-aggregate-put-count c = search needs
-
-element-copy-out-put-count : tie.Need-element-copy-out-put-count
-element-copy-out-put-count c = search needs
-
-put-count-requires : tie.Need-put-count-requires
-put-count-requires c κs = search needs
-
-slice-aggregate-put-count-2 : tie.Need-slice-aggregate-put-count-2
-slice-aggregate-put-count-2 c = search needs
-
-element-copy-out-put-count-2 : tie.Need-element-copy-out-put-count-2
-element-copy-out-put-count-2 c = search needs
-
-put-count-requires-2 : tie.Need-put-count-requires-2
-put-count-requires-2 c κs = search needs
-
-slice-aggregate-put-count-3 : tie.Need-slice-aggregate-put-count-3
-slice-aggregate-put-count-3 c = search needs
-
-element-copy-out-put-count-3 : tie.Need-element-copy-out-put-count-3
-element-copy-out-put-count-3 c = search needs
-
-put-count-requires-3 : tie.Need-put-count-requires-3
-put-count-requires-3 c κs = search needs
-
-put-refusals-requires : tie.Need-put-refusals-requires
-put-refusals-requires c κs = search needs
-
-element-copy-out-put-refused : tie.Need-element-copy-out-put-refused
-element-copy-out-put-refused c = search needs
-
-put-refused-requires : tie.Need-put-refused-requires
-put-refused-requires c κs = search needs
-
-put-misses-requires : tie.Need-put-misses-requires
-put-misses-requires c κs = search needs
-
-put-numbers-requires : tie.Need-put-numbers-requires
-put-numbers-requires c κs = search needs
-
-same-length : tie.Need-same-length
-same-length c = search needs
-
 returns : tie.Need-returns
 unfolding pageLines
 returns c =
@@ -84,21 +39,6 @@ returns c =
 
 pub put-page-spec : {M : Type 1} → statement M
 put-page-spec =
-    tie.close
-    (tie.spec
-    slice-aggregate-put-count
-    element-copy-out-put-count
-    put-count-requires
-    slice-aggregate-put-count-2
-    element-copy-out-put-count-2
-    put-count-requires-2
-    slice-aggregate-put-count-3
-    element-copy-out-put-count-3
-    put-count-requires-3
-    put-refusals-requires
-    element-copy-out-put-refused
-    put-refused-requires
-    put-misses-requires
-    put-numbers-requires
-    same-length
-    returns)
+    tie.close (tie.spec (λ c. search needs) (λ c. search needs) (λ c κs. search needs) (λ c. search needs) (λ c. search needs) (λ c κs. search needs)
+    (λ c. search needs) (λ c. search needs) (λ c κs. search needs) (λ c κs. search needs) (λ c. search needs) (λ c κs. search needs) (λ c κs. search needs)
+    (λ c κs. search needs) (λ c. search needs) returns)

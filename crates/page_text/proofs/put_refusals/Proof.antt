@@ -21,27 +21,6 @@ abbrev μ-loop : tie.MeasureT-loop
 loop-holds : tie.Need-loop-holds Inv-loop μ-loop
 loop-holds c = (omega arith, refl, put-same (join-none _) (put-none _ _))
 
-add-put-refused : tie.Need-add-put-refused Inv-loop μ-loop
-add-put-refused c = search needs
-
-add-put-refused-2 : tie.Need-add-put-refused-2 Inv-loop μ-loop
-add-put-refused-2 c = search needs
-
-mul-put-refused : tie.Need-mul-put-refused Inv-loop μ-loop
-mul-put-refused c = search needs
-
-element-copy-out-put-refused : tie.Need-element-copy-out-put-refused Inv-loop μ-loop
-element-copy-out-put-refused c = search needs
-
-put-refused-requires : tie.Need-put-refused-requires Inv-loop μ-loop
-put-refused-requires c κs = search needs
-
-add-l : tie.Need-add-l Inv-loop μ-loop
-add-l c = search needs
-
-loop-less : tie.Need-loop-less Inv-loop μ-loop
-loop-less c = search needs
-
 loop-again : tie.Need-loop-again Inv-loop μ-loop
 loop-again c =
     let numbers = c .before .before .before .before .before .before .before .before .args .numbers .now in
@@ -63,18 +42,5 @@ returns c =
 
 pub put-refusals-spec : {M : Type 1} → statement M
 put-refusals-spec =
-    tie.close
-    (tie.spec
-    Inv-loop
-    μ-loop
-    loop-holds
-    add-put-refused
-    add-put-refused-2
-    mul-put-refused
-    element-copy-out-put-refused
-    put-refused-requires
-    add-l
-    loop-less
-    loop-again
-    same-length
-    returns)
+    tie.close (tie.spec Inv-loop μ-loop loop-holds (λ c. search needs) (λ c. search needs) (λ c. search needs) (λ c. search needs) (λ c κs. search needs)
+    (λ c. search needs) (λ c. search needs) loop-again same-length returns)

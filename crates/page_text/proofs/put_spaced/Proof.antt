@@ -7,15 +7,6 @@ use borrow.Author.Needs.{needs}
 use Rattle.page_text.proofs.put_spaced.Statement.{statement}
 use Rattle.page_text.proofs.put_spaced.Tie as tie
 
-put-byte-requires : tie.Need-put-byte-requires
-put-byte-requires c κs = search needs
-
-put-number-requires : tie.Need-put-number-requires
-put-number-requires c κs = search needs
-
-same-length : tie.Need-same-length
-same-length c = search needs
-
 returns : tie.Need-returns
 returns c =
     let p = c .before .before .before .before .before .before .put-byte in
@@ -23,4 +14,4 @@ returns c =
     put-then {s = 32 ∷ []} {t = decimal n} (p .kept .0) (p .ensures) (c .before .before .put-number .ensures)
 
 pub put-spaced-spec : {M : Type 1} → statement M
-put-spaced-spec = tie.close (tie.spec put-byte-requires put-number-requires same-length returns)
+put-spaced-spec = tie.close (tie.spec (λ c κs. search needs) (λ c κs. search needs) (λ c. search needs) returns)

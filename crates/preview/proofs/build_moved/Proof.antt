@@ -7,30 +7,14 @@ use denote.Ref.{now}
 use Rattle.paper.specs.Mesh.{meshOf}
 use Rattle.paper.specs.Calls.{Built}
 use Rattle.preview.proofs.Laws.{moved-back, back-length}
-use native.Mathlib.Omega.{arith}
 use borrow.Author.Needs.{needs}
 use Rattle.preview.proofs.build_moved.Statement.{statement}
 use Rattle.preview.proofs.build_moved.Tie as tie
-
-copy-moved-requires : tie.Need-copy-moved-requires
-copy-moved-requires c κs = search needs
-
-slice-reshare-prefix-build : tie.Need-slice-reshare-prefix-build
-slice-reshare-prefix-build c = search needs
 
 slice-aggregate-build : tie.Need-slice-aggregate-build
 slice-aggregate-build c =
     let s = c .before .before .before .before .before .before .before .before in
     back-length (now (s .args .coordinates)) (s .args .to) (now (s .args .copy)) _ (c .before .before .copy-moved .ensures)
-
-build-requires : tie.Need-build-requires
-build-requires c κs = search needs
-
-same-length : tie.Need-same-length
-same-length c = search needs
-
-same-length-2 : tie.Need-same-length-2
-same-length-2 c = search needs
 
 returns : tie.Need-returns
 returns c =
@@ -44,12 +28,5 @@ returns c =
 
 pub build-moved-spec : {M : Type 1} → statement M
 build-moved-spec =
-    tie.close
-    (tie.spec
-    copy-moved-requires
-    slice-reshare-prefix-build
-    slice-aggregate-build
-    build-requires
-    same-length
-    same-length-2
+    tie.close (tie.spec (λ c κs. search needs) (λ c. search needs) slice-aggregate-build (λ c κs. search needs) (λ c. search needs) (λ c. search needs)
     returns)

@@ -10,28 +10,9 @@ use mir.Val.{toZ, ofZ}
 use denote.Ref.{now}
 use Rattle.paper.specs.File.{begins}
 use Rattle.preview.proofs.Laws.{moved-begins}
-use native.Mathlib.Omega.{arith}
 use borrow.Author.Needs.{needs}
 use Rattle.preview.proofs.copy_moved.Statement.{statement}
 use Rattle.preview.proofs.copy_moved.Tie as tie
-
-fill-requires : tie.Need-fill-requires
-fill-requires c κs = search needs
-
-mul-at : tie.Need-mul-at
-mul-at c = search needs
-
-mul-x : tie.Need-mul-x
-mul-x c = search needs
-
-slice-set-from-x : tie.Need-slice-set-from-x
-slice-set-from-x c = search needs
-
-add-y : tie.Need-add-y
-add-y c = search needs
-
-mul-y : tie.Need-mul-y
-mul-y c = search needs
 
 slice-set-from-y : tie.Need-slice-set-from-y
 slice-set-from-y c =
@@ -39,20 +20,11 @@ slice-set-from-y c =
     let h : 3 * m .vertex + 1 < length (c .before .before .before .before .before .fill .last .1 .0) = search needs in
     simp length-set h
 
-add-z : tie.Need-add-z
-add-z c = search needs
-
-mul-z : tie.Need-mul-z
-mul-z c = search needs
-
 slice-set-from-z : tie.Need-slice-set-from-z
 slice-set-from-z c =
     let m = c .before .before .before .before .before .before .before .args .to in
     let h : 3 * m .vertex + 2 < length (c .before .before .before .before .before .fill .last .1 .0) = search needs in
     simp length-set h
-
-same-length : tie.Need-same-length
-same-length c = search needs
 
 returns : tie.Need-returns
 returns c =
@@ -73,17 +45,5 @@ returns c =
 
 pub copy-moved-spec : {M : Type 1} → statement M
 copy-moved-spec =
-    tie.close
-    (tie.spec
-    fill-requires
-    mul-at
-    mul-x
-    slice-set-from-x
-    add-y
-    mul-y
-    slice-set-from-y
-    add-z
-    mul-z
-    slice-set-from-z
-    same-length
-    returns)
+    tie.close (tie.spec (λ c κs. search needs) (λ c. search needs) (λ c. search needs) (λ c. search needs) (λ c. search needs) (λ c. search needs)
+    slice-set-from-y (λ c. search needs) (λ c. search needs) slice-set-from-z (λ c. search needs) returns)

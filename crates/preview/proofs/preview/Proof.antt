@@ -3,7 +3,6 @@
 use denote.Ref.{now}
 use Rattle.paper.specs.Mesh.{Mesh, meshOf}
 use Rattle.preview.proofs.Laws.{preview-none, preview-long, preview-built}
-use native.Mathlib.Omega.{arith}
 use borrow.Author.Needs.{needs}
 use Rattle.preview.proofs.preview.Statement.{statement}
 use Rattle.preview.proofs.preview.Tie as tie
@@ -19,28 +18,10 @@ returns-2 c =
     let s = c .before .before .before .before .before .before in
     preview-long (mesh s) (s .args .to) _ _ _ _ (search needs) (search needs)
 
-slice-aggregate-build-moved : tie.Need-slice-aggregate-build-moved
-slice-aggregate-build-moved c = search needs
-
-build-moved-requires : tie.Need-build-moved-requires
-build-moved-requires c κs = search needs
-
-same-length : tie.Need-same-length
-same-length c = search needs
-
 returns-3 : tie.Need-returns-3
 returns-3 c =
     let s = c .before .before .before .before .before .before .before .before .before .before .before .before in
     preview-built (mesh s) (s .args .to) _ _ _ _ (search needs) _ _ (c .before .before .build-moved .ensures)
-
-slice-aggregate-build-moved-2 : tie.Need-slice-aggregate-build-moved-2
-slice-aggregate-build-moved-2 c = search needs
-
-build-moved-requires-2 : tie.Need-build-moved-requires-2
-build-moved-requires-2 c κs = search needs
-
-same-length-2 : tie.Need-same-length-2
-same-length-2 c = search needs
 
 returns-4 : tie.Need-returns-4
 returns-4 c =
@@ -49,15 +30,5 @@ returns-4 c =
 
 pub preview-spec : {M : Type 1} → statement M
 preview-spec =
-    tie.close
-    (tie.spec
-    returns
-    returns-2
-    slice-aggregate-build-moved
-    build-moved-requires
-    same-length
-    returns-3
-    slice-aggregate-build-moved-2
-    build-moved-requires-2
-    same-length-2
-    returns-4)
+    tie.close (tie.spec returns returns-2 (λ c. search needs) (λ c κs. search needs) (λ c. search needs) returns-3 (λ c. search needs)
+    (λ c κs. search needs) (λ c. search needs) returns-4)

@@ -10,12 +10,6 @@ use borrow.Author.Needs.{needs}
 use Rattle.rearrange.proofs.restore.Statement.{statement}
 use Rattle.rearrange.proofs.restore.Tie as tie
 
-check-lengths-requires : tie.Need-check-lengths-requires
-check-lengths-requires c κs = search needs
-
-enum-known-a : tie.Need-enum-known-a
-enum-known-a c = search needs
-
 returns : tie.Need-returns
 returns c =
     let s = c .before .before .before .before .before in
@@ -23,17 +17,11 @@ returns c =
     let r = c .before .a .given in
     restore-refused (now (s .args .bytes)) (now (s .args .numbers)) (r .0 .0) (r .0 .1 .0) (ap stated (sym (r .1)) ∙ a .ensures)
 
-enum-told : tie.Need-enum-told
-enum-told c = search needs
-
 fill-numbers-requires : tie.Need-fill-numbers-requires
 fill-numbers-requires c κs =
     let t = c .before in
     let e = passed (t .before .before .check-lengths .result) (t .before .before .check-lengths .ensures) (t .enum-told .given .1) in
     (thirds _ _ e, four-times _ _ e)
-
-same-length : tie.Need-same-length
-same-length c = search needs
 
 returns-2 : tie.Need-returns-2
 returns-2 c =
@@ -45,12 +33,4 @@ returns-2 c =
 
 pub restore-spec : {M : Type 1} → statement M
 restore-spec =
-    tie.close
-    (tie.spec
-    check-lengths-requires
-    enum-known-a
-    returns
-    enum-told
-    fill-numbers-requires
-    same-length
-    returns-2)
+    tie.close (tie.spec (λ c κs. search needs) (λ c. search needs) returns (λ c. search needs) fill-numbers-requires (λ c. search needs) returns-2)

@@ -8,7 +8,7 @@ use native.Mathlib.Nat.{le-trans, mul-le-mul-right}
 use native.Mathlib.Numerals.{add-one}
 use lib.Dec.{lit<, lit≤}
 use lib.IntN.{ℤ, pos, negℤ, natAbs, _+ℤ_, _*ℤ_}
-use lib.Signed.{_<ℤ_, _≤ℤ_, ltZ-yes}
+use lib.Signed.{_≤ℤ_, ltZ-yes}
 use mir.Syntax.{w64}
 use mir.Val.{SFits, ofZ, toZ}
 use mir.Facts.{toZ-ofZ, toZ-pos}
@@ -19,7 +19,7 @@ use Rattle.paper.specs.Cosines.{unit, table, cosine}
 use Rattle.paper.specs.Face.{centre, weight, toward}
 use Rattle.numbers.proofs.Diff.{as-diff, diff}
 use Rattle.numbers.proofs.Poly.{over, poly}
-use Rattle.numbers.proofs.Laws.{abs-mul-le, abs-add-le, zero-add, mul-le, nonneg}
+use Rattle.numbers.proofs.Laws.{abs-mul-le, zero-add, mul-le, nonneg}
 use Rattle.numbers.proofs.Machine.{abs-fits}
 use Rattle.numbers.proofs.Sum.{Cyclic, sum-same, sum-abs, sum-zero, cycle-one, sum-more, cycle}
 use Rattle.mesh.proofs.Rings.{iterate-suc}

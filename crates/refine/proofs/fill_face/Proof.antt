@@ -1,7 +1,7 @@
 -- `refine::fill_face` meets its contract: those of the corners below `c` are put in.
 -- Assumes nothing.
 use mathlib.Core.Path.{_≡_}
-use Prim.Native.Nat.{ℕ, _+_, _-_, _*_, _≤_, _<_}
+use Prim.Native.Nat.{ℕ, _+_, _-_, _≤_, _<_}
 use native.Mathlib.Omega.{arith}
 use borrow.Author.Needs.{needs}
 use lib.ListN.{length}
@@ -9,7 +9,6 @@ use denote.Ref.{now}
 use Rattle.paper.specs.Mesh.{leastSides, mostCorners, Mesh, meshOf}
 use Rattle.paper.specs.Corners.{sumOf, faceOf, sidesOf}
 use Rattle.mesh.proofs.Faces.{first-ends, face-same}
-use Rattle.surface.specs.Points.{pointRow}
 use Rattle.refine.specs.sums.Sources.{Filled}
 use Rattle.refine.proofs.Laws.{filled-none, filled-more}
 use Rattle.refine.proofs.fill_face.Statement.{statement}
@@ -87,9 +86,6 @@ fill-marked-requires c κs =
 add-c : tie.Need-add-c Inv-loop μ-loop
 add-c c = let l = c .before .before .before .loop in omega (arith, l .inv .1, l .inv .2)
 
-loop-less : tie.Need-loop-less Inv-loop μ-loop
-loop-less c = search needs
-
 loop-again : tie.Need-loop-again Inv-loop μ-loop
 loop-again c =
     let s = c .before .before .before .before .before .before .before .before .before .before .before in
@@ -100,9 +96,6 @@ loop-again c =
       filled-more (mesh s) (now (s .args .marked)) (s .args .start) (l .c) _ _ _ _ (l .inv .0) (omega arith) (l .inv .3)
           (c .before .before .fill-marked .ensures),
     )
-
-same-length : tie.Need-same-length Inv-loop μ-loop
-same-length c = search needs
 
 returns : tie.Need-returns Inv-loop μ-loop
 returns c =
@@ -115,16 +108,4 @@ returns c =
 
 pub fill-face-spec : {M : Type 1} → statement M
 fill-face-spec =
-    tie.close
-    (tie.spec
-    Inv-loop
-    μ-loop
-    cast-end
-    add-end
-    loop-holds
-    fill-marked-requires
-    add-c
-    loop-less
-    loop-again
-    same-length
-    returns)
+    tie.close (tie.spec Inv-loop μ-loop cast-end add-end loop-holds fill-marked-requires add-c (λ c. search needs) loop-again (λ c. search needs) returns)

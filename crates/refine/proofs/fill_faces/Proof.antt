@@ -1,10 +1,10 @@
 -- `refine::fill_faces` meets its contract: those of the faces before `f` are filled.
 -- Assumes nothing.
-use mathlib.Core.Path.{_≡_, refl, ap, _∙_, sym, subst}
+use mathlib.Core.Path.{_≡_, ap, _∙_, sym, subst}
 use mathlib.Core.Logic.{⊎-elim}
 use mathlib.Core.List.{List}
 use lib.IntN.{ℤ}
-use Prim.Native.Nat.{ℕ, _+_, _-_, _*_, _≤_, _<_}
+use Prim.Native.Nat.{ℕ, _+_, _-_, _≤_, _<_}
 use native.Mathlib.Omega.{arith}
 use borrow.Author.Needs.{needs}
 use lib.ListN.{length, getD}
@@ -77,17 +77,8 @@ fill-face-requires c κs =
     let face = face-of (mesh s) (s .pre .0) (l .f) h _ sums (c .before .read-face .result) r in
     let a = at-start s (l .f) (l .start) h (i .1) in (
       s .pre .0,
-      (
-        s .pre .1 .0,
-        (
-          s .pre .1 .1 .0 .0,
-          ((a .0, a .2, rw (a .1) face), (omega (arith, i .2 .same, s .pre .1 .1 .1 .1 .1 .0), i .2 .small)),
-        ),
-      ),
+      (s .pre .1 .0, (s .pre .1 .1 .0 .0, ((a .0, a .2, rw (a .1) face), (omega (arith, i .2 .same, s .pre .1 .1 .1 .1 .1 .0), i .2 .small)))),
     )
-
-shared-slice-read-start : tie.Need-shared-slice-read-start Inv-loop μ-loop
-shared-slice-read-start c = search needs
 
 cast-start : tie.Need-cast-start Inv-loop μ-loop
 cast-start c =
@@ -100,12 +91,6 @@ add-start c =
     let s = c .before .before .before .before .before .before .before .before .before .before .before in
     let l = c .before .before .before .before .loop in
     omega (arith, l .inv .1, s .pre .0 .faces .few, start-ends (now (s .args .sides)) (l .f) (search needs))
-
-add-f : tie.Need-add-f Inv-loop μ-loop
-add-f c = search needs
-
-loop-less : tie.Need-loop-less Inv-loop μ-loop
-loop-less c = search needs
 
 -- what a face is filled with: up to where the next starts
 filled-to : (s : tie.Start Inv-loop μ-loop) (f start : ℕ) → f < length (now (s .args .sides)) → start ≡ startOf (now (s .args .sides)) f
@@ -148,19 +133,5 @@ returns c =
 
 pub fill-faces-spec : {M : Type 1} → statement M
 fill-faces-spec =
-    tie.close
-    (tie.spec
-    Inv-loop
-    μ-loop
-    loop-holds
-    shared-slice-read-if1
-    read-face-requires
-    fill-face-requires
-    shared-slice-read-start
-    cast-start
-    add-start
-    add-f
-    loop-less
-    loop-again
-    same-length
-    returns)
+    tie.close (tie.spec Inv-loop μ-loop loop-holds shared-slice-read-if1 read-face-requires fill-face-requires (λ c. search needs) cast-start add-start
+    (λ c. search needs) (λ c. search needs) loop-again same-length returns)

@@ -33,12 +33,6 @@ cast-v c = omega (arith, c .shared-slice-known6 .given (c .before .before .befor
 shared-slice-read-if1 : tie.Need-shared-slice-read-if1
 shared-slice-read-if1 c = let s = c .before .before .before .before .before .before .before in s .pre .1 .1 .0 (s .args .c) (here s)
 
-fill-corner-requires : tie.Need-fill-corner-requires
-fill-corner-requires c κs = search needs
-
-same-length : tie.Need-same-length
-same-length c = search needs
-
 returns : tie.Need-returns
 returns c =
     let i = c .before .before .before in
@@ -54,14 +48,4 @@ returns-2 c =
     omega (arith, c .if1 .left)) (s .pre .1 .1 .1 .1 .1)
 
 pub fill-marked-spec : {M : Type 1} → statement M
-fill-marked-spec =
-    tie.close
-    (tie.spec
-    mul-v
-    shared-slice-read-v
-    cast-v
-    shared-slice-read-if1
-    fill-corner-requires
-    same-length
-    returns
-    returns-2)
+fill-marked-spec = tie.close (tie.spec mul-v shared-slice-read-v cast-v shared-slice-read-if1 (λ c κs. search needs) (λ c. search needs) returns returns-2)

@@ -1,6 +1,5 @@
 -- `refine::fill_over` meets its contract: the sums are in the table when the loop over corners takes them.
 -- Assumes nothing.
-use native.Mathlib.Omega.{arith}
 use borrow.Author.Needs.{needs}
 use denote.Ref.{now}
 use Rattle.paper.specs.Mesh.{Mesh, meshOf}
@@ -22,15 +21,5 @@ fill-faces-requires c κs =
     let sums = sums-of (softened (mesh s)) (now (s .args .wanted)) _ _ (s .pre .1 .1 .1 .1 .0) (c .before .before .before .fill-sums .ensures) in
     (s .pre .0, (s .pre .1 .0, (s .pre .1 .1 .0, (s .pre .1 .1 .1 .0, (sums-soft (mesh s) (now (s .args .wanted)) _ sums, s .pre .1 .1 .1 .1 .1)))))
 
-same-length : tie.Need-same-length
-same-length c = search needs
-
-same-length-2 : tie.Need-same-length-2
-same-length-2 c = search needs
-
-returns : tie.Need-returns
-returns c = search needs
-
 pub fill-over-spec : {M : Type 1} → statement M
-fill-over-spec =
-    tie.close (tie.spec fill-sums-requires fill-faces-requires same-length same-length-2 returns)
+fill-over-spec = tie.close (tie.spec fill-sums-requires fill-faces-requires (λ c. search needs) (λ c. search needs) (λ c. search needs))

@@ -15,16 +15,10 @@ mesh s = meshOf (now (s .args .coordinates)) (now (s .args .sides)) (now (s .arg
 mul-if1 : tie.Need-mul-if1
 mul-if1 c = let s = c .before .before .before .before .before .before in omega (arith, sums-fit (mesh s) (s .pre .0))
 
-slice-aggregate-fill-over : tie.Need-slice-aggregate-fill-over
-slice-aggregate-fill-over c = search needs
-
 fill-over-requires : tie.Need-fill-over-requires
 fill-over-requires c κs =
     let s = c .before .before .before .before .before .before .before .before .before in
     (s .pre .0, (s .pre .1 .0, (s .pre .1 .1 .0, (s .pre .1 .1 .1 .0, (sum-room (now (s .args .sides)) smallMesh (search needs), s .pre .1 .1 .1 .1)))))
-
-slice-aggregate-fill-over-2 : tie.Need-slice-aggregate-fill-over-2
-slice-aggregate-fill-over-2 c = search needs
 
 fill-over-requires-2 : tie.Need-fill-over-requires-2
 fill-over-requires-2 c κs =
@@ -32,28 +26,7 @@ fill-over-requires-2 c κs =
     let room = sum-room (now (s .args .sides)) mostCorners (sums-fit (mesh s) (s .pre .0)) in
     (s .pre .0, (s .pre .1 .0, (s .pre .1 .1 .0, (s .pre .1 .1 .1 .0, (room, s .pre .1 .1 .1 .1)))))
 
-same-length : tie.Need-same-length
-same-length c = search needs
-
-returns : tie.Need-returns
-returns c = search needs
-
-same-length-2 : tie.Need-same-length-2
-same-length-2 c = search needs
-
-returns-2 : tie.Need-returns-2
-returns-2 c = search needs
-
 pub fill-points-spec : {M : Type 1} → statement M
 fill-points-spec =
-    tie.close
-    (tie.spec
-    mul-if1
-    slice-aggregate-fill-over
-    fill-over-requires
-    slice-aggregate-fill-over-2
-    fill-over-requires-2
-    same-length
-    returns
-    same-length-2
-    returns-2)
+    tie.close (tie.spec mul-if1 (λ c. search needs) fill-over-requires (λ c. search needs) fill-over-requires-2 (λ c. search needs) (λ c. search needs)
+    (λ c. search needs) (λ c. search needs))

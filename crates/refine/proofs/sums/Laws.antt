@@ -124,12 +124,7 @@ sums-before sides h (suc f) l =
 
 pub sums-fit : (M : Mesh) → Refinable M → sumRow * faceCount M ≤ mostCorners
 sums-fit M R =
-    omega (
-      arith,
-      sums-before (M .sides) (R .faces) (faceCount M) (omega arith),
-      start-all (M .sides) (faceCount M) (omega arith),
-      R .faces .few,
-    )
+    omega (arith, sums-before (M .sides) (R .faces) (faceCount M) (omega arith), start-all (M .sides) (faceCount M) (omega arith), R .faces .few)
 
 -- a new table that is long enough
 pub sum-room : (sides : List ℕ) (n : ℕ) → sumRow * length sides ≤ n → SumRoom sides (replicate n (pos 0))

@@ -1,7 +1,7 @@
 -- The turns of the loops that find the faces of a range, over lists.
 -- Assumes nothing.
-use mathlib.Core.Path.{_≡_, refl, ap, _∙_, sym, subst}
-use mathlib.Core.Logic.{_⊎_, inl, inr, ⊎-elim}
+use mathlib.Core.Path.{_≡_, ap, _∙_, sym, subst}
+use mathlib.Core.Logic.{⊎-elim}
 use mathlib.Core.List.{List}
 use Prim.Native.Nat.{ℕ, _+_, _<_, _≤_}
 use native.Mathlib.Omega.{arith}
@@ -12,10 +12,9 @@ use borrow.Author.Count.{below-more}
 use borrow.Author.Tests.{eqb-true, eqb-false, ltb-true, ltb-false}
 use Rattle.paper.specs.Corners.{startOf}
 use Rattle.paper.specs.Links.{vertexOf}
-use Rattle.mesh.specs.Tables.{Named}
 use Rattle.mesh.proofs.Scans.{ways}
-use Rattle.mesh.proofs.Faces.{start-next, start-ends}
-use Rattle.refine.specs.wanted.Tables.{SomeIn, Tells, Asked, Near, Marked, Wanted}
+use Rattle.mesh.proofs.Faces.{start-next}
+use Rattle.refine.specs.wanted.Tables.{SomeIn, Tells, Near, Marked, Wanted}
 
 -- ---- a range, one number longer
 module _ (P : ℕ → Type 0) (start end more : ℕ) (e : more ≡ end + 1) where

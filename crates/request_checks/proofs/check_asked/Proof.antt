@@ -17,12 +17,6 @@ module _ (t : tie.After-enum-told) where
   in-range : (0 < s16 .args .count) × (s16 .args .first + s16 .args .count ≤ s16 .args .corners)
   in-range = range-of _ _ _ (passed (t .before .before .check-range .result) (t .before .before .check-range .ensures) (t .enum-told .given .1))
 
-check-range-requires : tie.Need-check-range-requires
-check-range-requires c κs = search needs
-
-enum-known-a16 : tie.Need-enum-known-a16
-enum-known-a16 c = search needs
-
 returns : tie.Need-returns
 unfolding rangeFaults
 returns c =
@@ -30,9 +24,6 @@ returns c =
     let a = c .before .before .before .check-range in
     λ M e. stop (a .result) (as-16 M (s .args .corners) e (s .args .first) (s .args .count) (a .ensures))
     (c .before .a16 .given .0 .0) (c .before .a16 .given .0 .1 .0) (c .before .a16 .given .1) _
-
-enum-told : tie.Need-enum-told
-enum-told c = search needs
 
 check-room-requires : tie.Need-check-room-requires
 check-room-requires c κs = omega (arith, in-range c .1, s16 c .pre)
@@ -47,4 +38,4 @@ returns-2 c =
     (c .check-room .ensures)
 
 pub check-asked-spec : {M : Type 1} → statement M
-check-asked-spec = tie.close (tie.spec check-range-requires enum-known-a16 returns enum-told check-room-requires returns-2)
+check-asked-spec = tie.close (tie.spec (λ c κs. search needs) (search needs) returns (search needs) check-room-requires returns-2)

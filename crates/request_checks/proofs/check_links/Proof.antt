@@ -19,12 +19,6 @@ module _ (t : tie.After-enum-told) where
   same-length : length (now (s14 .args .links)) ≡ s14 .args .corners
   same-length = length-of _ _ (passed (t .before .before .check-length .result) (t .before .before .check-length .ensures) (t .enum-told .given .1))
 
-check-length-requires : tie.Need-check-length-requires
-check-length-requires c κs = search needs
-
-enum-known-a14 : tie.Need-enum-known-a14
-enum-known-a14 c = search needs
-
 returns : tie.Need-returns
 unfolding linksFaults
 returns c =
@@ -32,9 +26,6 @@ returns c =
     let a = c .before .before .before .check-length in
     λ M e t. stop (a .result) (as-14 M (s .args .corners) e (length (now (s .args .links))) (a .ensures))
     (c .before .a14 .given .0 .0) (c .before .a14 .given .0 .1 .0) (c .before .a14 .given .1) _
-
-enum-told : tie.Need-enum-told
-enum-told c = search needs
 
 find-link-requires : tie.Need-find-link-requires
 find-link-requires c κs = let s = s14 c in (omega (arith, same-length c, s .pre .0), omega (arith, same-length c, s .pre .1))
@@ -49,4 +40,4 @@ returns-2 c =
     (c .find-link .ensures M (e ∙ sym (same-length t14)) t)
 
 pub check-links-spec : {M : Type 1} → statement M
-check-links-spec = tie.close (tie.spec check-length-requires enum-known-a14 returns enum-told find-link-requires returns-2)
+check-links-spec = tie.close (tie.spec (λ c κs. search needs) (search needs) returns (search needs) find-link-requires returns-2)

@@ -7,9 +7,6 @@ use borrow.Author.Needs.{needs}
 use Rattle.request_checks.proofs.check_room.Statement.{statement}
 use Rattle.request_checks.proofs.check_room.Tie as tie
 
-mul-if1 : tie.Need-mul-if1
-mul-if1 c = search needs
-
 returns : tie.Need-returns
 returns c = sym (single-hit 17 _ (room-differs _ _ (c .if1 .taken)))
 
@@ -17,4 +14,4 @@ returns-2 : tie.Need-returns-2
 returns-2 c = sym (single-miss 17 _ (room-fits _ _ (c .if1 .left)))
 
 pub check-room-spec : {M : Type 1} → statement M
-check-room-spec = tie.close (tie.spec mul-if1 returns returns-2)
+check-room-spec = tie.close (tie.spec (search needs) returns returns-2)

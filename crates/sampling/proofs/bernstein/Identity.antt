@@ -1,8 +1,8 @@
 -- The polynomial that the code evaluates is the Bernstein sum: differences of the rows turn the first weight into the sum of the first two, those of the
 -- columns turn that into the sum of all three.
 -- Assumes nothing.
-use mathlib.Core.Path.{_≡_, refl, sym, ap, _∙_}
-use Prim.Native.Nat.{ℕ, _+_, _*_}
+use mathlib.Core.Path.{_≡_, refl, sym, _∙_}
+use Prim.Native.Nat.{ℕ, _+_}
 use native.Mathlib.Omega.{arith}
 use lib.IntN.{ℤ, pos, _+ℤ_, _-ℤ_, _*ℤ_}
 use Rattle.numbers.proofs.Poly.{over, poly}
@@ -14,7 +14,7 @@ use Rattle.sampling.specs.bernstein.Sums.{polynomialOf, valueOf, stateOf
 
 -- ---- one more weight in the first: x + y for x
 linear-turn : (a b x y : ℤ) → linear a b x y ≡ linear a (b -ℤ a) (x +ℤ y) y
-linear-turn = over 4 _ λ ρ. simp (poly, ρ) (omega arith)
+linear-turn = over 4 _ λ ρ. simp poly (omega arith)
 
 quadratic-turn : (a b c x y : ℤ) → quadratic a b c x y ≡ quadratic a (b -ℤ a) (c -ℤ b -ℤ (b -ℤ a)) (x +ℤ y) y
 quadratic-turn = over 5 _ λ ρ. simp (poly, ρ) (omega arith)

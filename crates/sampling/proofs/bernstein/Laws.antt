@@ -1,13 +1,13 @@
 -- Sizes of differences, products and states, and what the code's structs hold by their bits.
 -- Assumes nothing.
-use mathlib.Core.Path.{_≡_, refl, sym, ap, _∙_}
+use mathlib.Core.Path.{_≡_, sym, ap, _∙_}
 use Prim.Native.Nat.{ℕ, _+_, _*_, _^_, _≤_}
 use native.Mathlib.Nat.{mul-le-mul, le-trans}
 use native.Mathlib.Omega.{arith}
 use lib.Dec.{lit<, lit≤}
 use lib.IntN.{ℤ, pos, negℤ, natAbs, _+ℤ_, _-ℤ_, _*ℤ_}
 use lib.Signed.{_≤ℤ_, _<ℤ_}
-use mir.Syntax.{w32, w64}
+use mir.Syntax.{w64}
 use mir.Val.{SFits, toZ, ofZ}
 use mir.Facts.{toZ-ofZ}
 use Rattle.paper.specs.Numbers.{round}
@@ -20,7 +20,7 @@ use Rattle.numbers.specs.Near.{Near}
 use Rattle.numbers.proofs.Nearest.{round-near}
 use Rattle.sampling.specs.declared.bernstein.Five.{Five}
 use Rattle.sampling.specs.declared.bernstein.Rows.{Rows}
-use Rattle.sampling.specs.bernstein.Sums.{five, Sized, AllSized, Tapered, AllTapered, differencesOf, slopesOf, columnsOf, weightedOf, weightsOf, scaledOf}
+use Rattle.sampling.specs.bernstein.Sums.{Sized, AllSized, Tapered, AllTapered, differencesOf, slopesOf, columnsOf, weightedOf, weightsOf, scaledOf}
 use Rattle.sampling.specs.bernstein.Sums.{polynomialOf, valueOf, stateOf, statesOf, rowOf}
 
 -- ---- numbers by their bits
@@ -60,7 +60,7 @@ pub bounds-abs : (z : ℤ) (k : ℕ) → negℤ (pos k) ≤ℤ z → z ≤ℤ po
 bounds-abs z k = as-diff z λ p n e. simp (diff, e) (λ f t. omega arith)
 
 scaled-bounds : (d b s : ℤ) → negℤ (b *ℤ d) ≤ℤ s → s ≤ℤ (b *ℤ d) → ((d *ℤ negℤ b) ≤ℤ s) × (s ≤ℤ (d *ℤ b))
-scaled-bounds = over 3 _ λ ρ. simp (poly, ρ) (omega arith)
+scaled-bounds = over 3 _ λ ρ. simp poly (omega arith)
 
 pub round-size : (s : ℤ) (d B : ℕ) → pos 0 <ℤ pos d → natAbs s ≤ B * d → natAbs (round s (pos d)) ≤ B
 round-size s d B o h =
@@ -178,13 +178,7 @@ module _ (p : Rows) (n : ℕ) (h : AllSized (2 ^ 27) p) (l : n ≤ 16) where
 
   col3 : Sized (2 ^ 30) (col .r3)
   unfolding columnsOf slopesOf
-  col3 = (
-    fourth-size (p .r0) (2 ^ 27) (h .0),
-    fourth-size (p .r1) (2 ^ 27) (h .1),
-    zero-size (2 ^ 30),
-    zero-size (2 ^ 30),
-    zero-size (2 ^ 30),
-  )
+  col3 = (fourth-size (p .r0) (2 ^ 27) (h .0), fourth-size (p .r1) (2 ^ 27) (h .1), zero-size (2 ^ 30), zero-size (2 ^ 30), zero-size (2 ^ 30))
 
   col4 : Sized (2 ^ 31) (col .r4)
   unfolding columnsOf slopesOf

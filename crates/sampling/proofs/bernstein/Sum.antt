@@ -1,6 +1,6 @@
 -- The Bernstein sum of the definition, over whole numbers: what it is, between which bounds it lies, and what is left of it where a weight is zero.
 -- Assumes nothing.
-use mathlib.Core.Path.{_≡_, refl, sym, ap, _∙_, subst}
+use mathlib.Core.Path.{_≡_, sym, ap, _∙_, subst}
 use Prim.Native.Nat.{ℕ, zero, suc, _+_, _-_, _*_, _/_, _^_, _≤_, _<_}
 use native.Mathlib.Nat.{pow-zero, pow-suc}
 use native.Mathlib.Omega.{arith}
@@ -12,7 +12,6 @@ use Rattle.paper.specs.Sampling.{control, factorial, bernstein, bernsteinSum}
 use Rattle.numbers.proofs.Poly.{over, poly}
 use Rattle.numbers.proofs.Laws.{zero-add, mul-le, nonneg, le-antisym}
 use Rattle.numbers.proofs.Sum.{sum-same}
-use Rattle.sampling.specs.declared.bernstein.Five.{Five}
 use Rattle.sampling.specs.declared.bernstein.Rows.{Rows}
 use Rattle.sampling.specs.bernstein.Sums.{five, linear, quadratic, cubic, quartic, quarticSum, rowsOf}
 use Rattle.sampling.proofs.bernstein.Laws.{round-between, bounds-abs}
@@ -82,7 +81,7 @@ bernstein-is p s i j k = sum-is (control p s) i j k
 
 -- ---- bounds: the weights are not negative, and sum to N^4
 add-le : (a b c d : ℤ) → a ≤ℤ b → c ≤ℤ d → (a +ℤ c) ≤ℤ (b +ℤ d)
-add-le = over 4 _ λ ρ. simp (poly, ρ) (omega arith)
+add-le = over 4 _ λ ρ. simp poly (omega arith)
 
 sum-le : (f g : ℕ → ℤ) (n : ℕ) → ((m : ℕ) → m < n → f m ≤ℤ g m) → sum f n ≤ℤ sum g n
 unfolding sumBy
@@ -111,10 +110,10 @@ module _ (p : ℕ → ℤ) (s : Side) (i j k : ℕ) (low high : ℤ) (h : (n m :
 
 -- a sum of numbers within B
 less : (d b : ℤ) → d *ℤ negℤ b ≡ negℤ (b *ℤ d)
-less = over 2 _ λ ρ. simp (poly, ρ) (omega arith)
+less = over 2 _ λ ρ. simp poly (omega arith)
 
 more : (d b : ℤ) → d *ℤ b ≡ b *ℤ d
-more = over 2 _ λ ρ. simp (poly, ρ) (omega arith)
+more = over 2 _ λ ρ. simp poly (omega arith)
 
 pub sum-size : (p : ℕ → ℤ) (s : Side) (i j k B : ℕ)
     → ((n m : ℕ) → n + m ≤ 4 → (negℤ (pos B) ≤ℤ control p s n m) × (control p s n m ≤ℤ pos B)) → natAbs (bernsteinSum p s i j k) ≤ B * (i + j + k) ^ 4
@@ -209,7 +208,7 @@ module _ (p : Rows) (n : ℕ) where
 
 -- a multiple is not changed by rounding
 le-refl : (a : ℤ) → a ≤ℤ a
-le-refl = over 1 _ λ ρ. simp (poly, ρ) (omega arith)
+le-refl = over 1 _ λ ρ. simp poly (omega arith)
 
 pub round-multiple : (d z : ℤ) → pos 0 <ℤ d → round (d *ℤ z) d ≡ z
 round-multiple d z o =

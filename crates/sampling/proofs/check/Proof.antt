@@ -20,12 +20,6 @@ module _ (t : tie.After-enum-told) where
   net-sound =
       passed (t .before .before .check .result) (t .before .before .check .ensures ∙ first-point (now (s .args .numbers))) (t .enum-told .given .1)
 
-check-requires : tie.Need-check-requires
-check-requires c κs = search needs
-
-enum-known-a : tie.Need-enum-known-a
-enum-known-a c = search needs
-
 returns : tie.Need-returns
 returns c =
     let a = c .before .a .given in
@@ -34,17 +28,11 @@ returns c =
     net-refused (now (s .args .numbers)) (s .args .side) (weights (s .args .i) (s .args .j) (s .args .k) (s .args .n)) (a .0 .0) (a .0 .1 .0)
     (sym (sym (ap stated (a .1)) ∙ k .ensures ∙ first-point (now (s .args .numbers))))
 
-enum-told : tie.Need-enum-told
-enum-told c = search needs
-
 returns-2 : tie.Need-returns-2
 returns-2 c =
     let t = c .before in
     let s = t .before .before .before in
     side-refused (now (s .args .numbers)) (s .args .side) (weights (s .args .i) (s .args .j) (s .args .k) (s .args .n)) (net-sound t) (c .if1 .taken)
-
-is-whole-requires : tie.Need-is-whole-requires
-is-whole-requires c κs = search needs
 
 returns-3 : tie.Need-returns-3
 returns-3 c =
@@ -61,4 +49,5 @@ returns-4 c =
     (c .before .before .if1 .left) (sym (c .before .is-whole .ensures) ∙ c .if2 .left)
 
 pub check-spec : {M : Type 1} → statement M
-check-spec = tie.close (tie.spec check-requires enum-known-a returns enum-told returns-2 is-whole-requires returns-3 returns-4)
+check-spec =
+    tie.close (tie.spec (λ c κs. search needs) (λ c. search needs) returns (λ c. search needs) returns-2 (λ c κs. search needs) returns-3 returns-4)

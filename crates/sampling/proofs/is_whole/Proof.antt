@@ -26,9 +26,6 @@ returns-3 c =
     let s = c .before .before .before .before in
     parts-differ (s .args .i) (s .args .j) (s .args .k) (s .args .n) (λ e. omega arith)
 
-sub-result : tie.Need-sub-result
-sub-result c = search needs
-
 returns-4 : tie.Need-returns-4
 returns-4 c =
     let s = c .before .before .before .before in
@@ -36,4 +33,4 @@ returns-4 c =
     (ltb-false 16 (s .args .n) (c .before .before .if2 .left)) (c .before .if3 .left) (c .if4 .left)
 
 pub is-whole-spec : {M : Type 1} → statement M
-is-whole-spec = tie.close (tie.spec returns returns-2 returns-3 sub-result returns-4)
+is-whole-spec = tie.close (tie.spec returns returns-2 returns-3 (λ c. search needs) returns-4)

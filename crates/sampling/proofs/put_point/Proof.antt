@@ -7,20 +7,8 @@ use Rattle.sampling.proofs.Laws.{point-set}
 use Rattle.sampling.proofs.put_point.Statement.{statement}
 use Rattle.sampling.proofs.put_point.Tie as tie
 
-slice-set-from-x : tie.Need-slice-set-from-x
-slice-set-from-x c = search needs
-
-slice-set-from-y : tie.Need-slice-set-from-y
-slice-set-from-y c = search needs
-
-slice-set-from-z : tie.Need-slice-set-from-z
-slice-set-from-z c = search needs
-
-same-length : tie.Need-same-length
-same-length c = search needs
-
 returns : tie.Need-returns
 returns c = simp (toZ-ofZ, c .fits .x, c .fits .y, c .fits .z) (point-set (now (c .args .point)) (c .args .x) (c .args .y) (c .args .z) (c .pre))
 
 pub put-point-spec : {M : Type 1} → statement M
-put-point-spec = tie.close (tie.spec slice-set-from-x slice-set-from-y slice-set-from-z same-length returns)
+put-point-spec = tie.close (tie.spec (λ c. search needs) (λ c. search needs) (λ c. search needs) (λ c. search needs) returns)

@@ -86,12 +86,6 @@ slice-set-from-v c = room (c .before .before)
 step-requires : tie.Need-step-requires Inv-loop μ-loop
 step-requires c κs = sized (c .before .before)
 
-add-j : tie.Need-add-j Inv-loop μ-loop
-add-j c = search needs
-
-loop-less : tie.Need-loop-less Inv-loop μ-loop
-loop-less c = search needs
-
 loop-again : tie.Need-loop-again Inv-loop μ-loop
 loop-again c =
     let t = c .before .before .before in
@@ -121,5 +115,5 @@ returns c =
 
 pub put-row-spec : {M : Type 1} → statement M
 put-row-spec =
-    tie.close (tie.spec Inv-loop μ-loop ahead-requires loop-holds rounded-requires mul-v add-v mul-v-2 slice-set-from-v step-requires add-j loop-less
-    loop-again same-length returns)
+    tie.close (tie.spec Inv-loop μ-loop ahead-requires loop-holds rounded-requires mul-v add-v mul-v-2 slice-set-from-v step-requires (λ c. search needs)
+    (λ c. search needs) loop-again same-length returns)

@@ -18,9 +18,6 @@ use Rattle.sampling.proofs.put_triangle.Tie as tie
 moved : {p q : Rows} {n axis rows : ℕ} {old new : List ℤ} → p ≡ q → RowsPut p n axis rows old new → RowsPut q n axis rows old new
 moved {p} {q} {n} {axis} {rows} {old} {new} e r = subst (λ (x : Rows). RowsPut x n axis rows old new) e r
 
-control-points-requires : tie.Need-control-points-requires
-control-points-requires c κs = search needs
-
 put-axis-requires : tie.Need-put-axis-requires
 put-axis-requires c κs =
     let s = c .before .before in (
@@ -30,9 +27,6 @@ put-axis-requires c κs =
       omega (arith, count-is (s .args .n), s .pre .1 .2),
     )
 
-control-points-requires-2 : tie.Need-control-points-requires-2
-control-points-requires-2 c κs = search needs
-
 put-axis-requires-2 : tie.Need-put-axis-requires-2
 put-axis-requires-2 c κs =
     let s = c .before .before .before .before .before .before in (
@@ -41,9 +35,6 @@ put-axis-requires-2 c κs =
       lit< tt,
       omega (arith, count-is (s .args .n), s .pre .1 .2, c .before .before .before .put-axis .ensures .same),
     )
-
-control-points-requires-3 : tie.Need-control-points-requires-3
-control-points-requires-3 c κs = search needs
 
 put-axis-requires-3 : tie.Need-put-axis-requires-3
 put-axis-requires-3 c κs =
@@ -60,9 +51,6 @@ put-axis-requires-3 c κs =
       ),
     )
 
-same-length : tie.Need-same-length
-same-length c = search needs
-
 returns : tie.Need-returns
 returns c =
     let s = c .before .before .before .before .before .before .before .before .before .before .before .before in
@@ -77,5 +65,5 @@ returns c =
 
 pub put-triangle-spec : {M : Type 1} → statement M
 put-triangle-spec =
-    tie.close (tie.spec control-points-requires put-axis-requires control-points-requires-2 put-axis-requires-2 control-points-requires-3
-    put-axis-requires-3 same-length returns)
+    tie.close (tie.spec (λ c κs. search needs) put-axis-requires (λ c κs. search needs) put-axis-requires-2 (λ c κs. search needs) put-axis-requires-3
+    (λ c. search needs) returns)

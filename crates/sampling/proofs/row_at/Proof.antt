@@ -40,12 +40,6 @@ loop-holds c = (omega arith, λ p e. e)
 next-requires : tie.Need-next-requires Inv-loop μ-loop
 next-requires c κs = sized (c .before)
 
-add-x : tie.Need-add-x Inv-loop μ-loop
-add-x c = search needs
-
-loop-less : tie.Need-loop-less Inv-loop μ-loop
-loop-less c = search needs
-
 loop-again : tie.Need-loop-again Inv-loop μ-loop
 loop-again c =
     let l = c .before .before .loop in
@@ -62,4 +56,5 @@ returns c =
     c .row .ensures ∙ ap firstsOf (is t) ∙ firsts-row e (t .loop .x) ∙ ap (rowOf e) (omega (arith, t .loop .inv .0))
 
 pub row-at-spec : {M : Type 1} → statement M
-row-at-spec = tie.close (tie.spec Inv-loop μ-loop start-requires loop-holds next-requires add-x loop-less loop-again row-requires returns)
+row-at-spec =
+    tie.close (tie.spec Inv-loop μ-loop start-requires loop-holds next-requires (λ c. search needs) (λ c. search needs) loop-again row-requires returns)

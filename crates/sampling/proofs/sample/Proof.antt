@@ -38,12 +38,6 @@ module _ (t : tie.After-enum-told) where
   sums : s .args .i + s .args .j + s .args .k ≡ s .args .n
   sums = parts-sum (now (s .args .numbers)) (s .args .side) (s .args .i) (s .args .j) (s .args .k) (s .args .n) is-sound
 
-check-requires : tie.Need-check-requires
-check-requires c κs = search needs
-
-enum-known-a : tie.Need-enum-known-a
-enum-known-a c = search needs
-
 returns : tie.Need-returns
 returns c =
     let a = c .before .a .given in
@@ -51,9 +45,6 @@ returns c =
     let s = c .before .before .before .before in
     sample-refused (now (s .args .numbers)) (s .args .side) (weights (s .args .i) (s .args .j) (s .args .k) (s .args .n)) (now (s .args .point))
     (k .result) (k .ensures) (a .0 .0) (a .0 .1 .0) (a .1)
-
-enum-told : tie.Need-enum-told
-enum-told c = search needs
 
 sample-on-requires : tie.Need-sample-on-requires
 sample-on-requires t κs =
@@ -68,9 +59,6 @@ sample-on-requires-3 : tie.Need-sample-on-requires-3
 sample-on-requires-3 c κs =
     let t = c .before .before in
     ((net t, low t, lit< tt), (some t, few t, omega (arith, sums t)))
-
-put-point-requires : tie.Need-put-point-requires
-put-point-requires c κs = search needs
 
 returns-2 : tie.Need-returns-2
 returns-2 c =
@@ -87,5 +75,5 @@ returns-2 c =
 
 pub sample-spec : {M : Type 1} → statement M
 sample-spec =
-    tie.close (tie.spec check-requires enum-known-a returns enum-told sample-on-requires sample-on-requires-2 sample-on-requires-3 put-point-requires
-    returns-2)
+    tie.close (tie.spec (λ c κs. search needs) (λ c. search needs) returns (λ c. search needs) sample-on-requires sample-on-requires-2 sample-on-requires-3
+    (λ c κs. search needs) returns-2)

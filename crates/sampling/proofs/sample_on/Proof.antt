@@ -7,9 +7,6 @@ use Rattle.sampling.proofs.Laws.{p-sized, r-tapers, v-small, v-sample}
 use Rattle.sampling.proofs.sample_on.Statement.{statement}
 use Rattle.sampling.proofs.sample_on.Tie as tie
 
-control-points-requires : tie.Need-control-points-requires
-control-points-requires c κs = search needs
-
 row-at-requires : tie.Need-row-at-requires
 row-at-requires c κs =
     let s = c .before in (
@@ -45,4 +42,4 @@ returns c =
     (c .rounded .result) (search needs) (c .rounded .ensures)
 
 pub sample-on-spec : {M : Type 1} → statement M
-sample-on-spec = tie.close (tie.spec control-points-requires row-at-requires value-at-requires rounded-requires returns)
+sample-on-spec = tie.close (tie.spec (λ c κs. search needs) row-at-requires value-at-requires rounded-requires returns)

@@ -23,21 +23,12 @@ module _ (t : tie.After-enum-told) where
 few : (t : tie.After-enum-told) → s t .args .n ≤ 16
 few t = few-parts (now (s t .args .numbers)) (s t .args .side) (s t .args .n) 0 0 (s t .args .n) (is-sound t)
 
-check-requires : tie.Need-check-requires
-check-requires c κs = search needs
-
-enum-known-a : tie.Need-enum-known-a
-enum-known-a c = search needs
-
 returns : tie.Need-returns
 returns c =
     let a = c .before .a .given in
     let k = c .before .before .before .check in
     let s = c .before .before .before .before in
     triangle-refused (now (s .args .numbers)) (s .args .side) (s .args .n) (now (s .args .points)) (k .result) (k .ensures) (a .0 .0) (a .0 .1 .0) (a .1)
-
-enum-told : tie.Need-enum-told
-enum-told c = search needs
 
 add-needed : tie.Need-add-needed
 add-needed t = let h = few t in search needs
@@ -71,9 +62,6 @@ put-triangle-requires c κs =
       ),
     )
 
-same-length : tie.Need-same-length
-same-length c = search needs
-
 returns-3 : tie.Need-returns-3
 returns-3 c =
     let t = c .before .before .before .before in
@@ -82,5 +70,5 @@ returns-3 c =
 
 pub sample-triangle-spec : {M : Type 1} → statement M
 sample-triangle-spec =
-    tie.close (tie.spec check-requires enum-known-a returns enum-told add-needed add-needed-2 mul-needed mul-needed-2 returns-2 put-triangle-requires
-    same-length returns-3)
+    tie.close (tie.spec (λ c κs. search needs) (λ c. search needs) returns (λ c. search needs) add-needed add-needed-2 mul-needed mul-needed-2 returns-2
+    put-triangle-requires (λ c. search needs) returns-3)

@@ -39,12 +39,6 @@ loop-holds c = (omega arith, λ e h. h)
 step-requires : tie.Need-step-requires Inv-loop μ-loop
 step-requires c κs = sized (c .before)
 
-add-x : tie.Need-add-x Inv-loop μ-loop
-add-x c = search needs
-
-loop-less : tie.Need-loop-less Inv-loop μ-loop
-loop-less c = search needs
-
 loop-again : tie.Need-loop-again Inv-loop μ-loop
 loop-again c =
     let l = c .before .before .loop in
@@ -61,4 +55,4 @@ returns c =
     ∙ value-same (t .before .before .args .e) (t .loop .g) (t .loop .x) (t .before .before .args .j) (is t) (omega (arith, t .loop .inv .0))
 
 pub value-at-spec : {M : Type 1} → statement M
-value-at-spec = tie.close (tie.spec Inv-loop μ-loop ahead-requires loop-holds step-requires add-x loop-less loop-again returns)
+value-at-spec = tie.close (tie.spec Inv-loop μ-loop ahead-requires loop-holds step-requires (λ c. search needs) (λ c. search needs) loop-again returns)

@@ -1,14 +1,12 @@
 -- `short_range::fill_corners` meets its contract: the points of the corners before the i-th are filled.
 -- Assumes nothing.
-use mathlib.Core.Path.{_≡_, refl, sym, _∙_}
-use Prim.Native.Nat.{ℕ, _+_, _-_, _*_, _≤_, _<_}
+use mathlib.Core.Path.{_≡_, refl}
+use Prim.Native.Nat.{ℕ, _-_, _≤_, _<_}
 use lib.ListN.{length, getD}
 use denote.Ref.{now}
 use Rattle.paper.specs.Mesh.{Mesh, meshOf, leastSides, mostSides, mostCorners}
 use Rattle.paper.specs.Corners.{sumOf, sidesOf}
 use Rattle.mesh.proofs.Faces.{held}
-use Rattle.walk.specs.Table.{entry, sidesHere}
-use Rattle.paper.specs.Refined.{cornersOf}
 use Rattle.short_range.specs.Near.{RowOf, ListPointed}
 use Rattle.short_range.proofs.Laws.{face-of-row, list-more}
 use native.Mathlib.Omega.{arith}
@@ -59,9 +57,6 @@ loop-holds c =
 
 mul-d : tie.Need-mul-d Inv-loop μ-loop
 mul-d c = let s = c .before .before .before .before .before .before .before .before in omega (arith, c .loop-test .taken, s .pre .1 .1 .0 .0)
-
-shared-slice-read-d : tie.Need-shared-slice-read-d Inv-loop μ-loop
-shared-slice-read-d c = search needs
 
 cast-d : tie.Need-cast-d Inv-loop μ-loop
 cast-d c =
@@ -115,12 +110,6 @@ fill-corner-requires c κs =
       (s .pre .1 .0, ((here s (l .i) t, face), (omega (arith, l .inv .1 .same, s .pre .1 .1 .1 .1 .1 .0), l .inv .1 .small))),
     )
 
-add-i : tie.Need-add-i Inv-loop μ-loop
-add-i c = search needs
-
-loop-less : tie.Need-loop-less Inv-loop μ-loop
-loop-less c = search needs
-
 loop-again : tie.Need-loop-again Inv-loop μ-loop
 loop-again c =
     let s = c .before .before .before .before .before .before .before .before .before .before .before .before .before .before in
@@ -128,9 +117,6 @@ loop-again c =
       omega (arith, c .before .before .before .before .before .before .loop-test .taken),
       list-more (mesh s) (now (s .args .near)) (l .i) _ _ _ _ refl (l .inv .1) (c .before .fill-corner .ensures),
     )
-
-same-length : tie.Need-same-length Inv-loop μ-loop
-same-length c = search needs
 
 returns : tie.Need-returns Inv-loop μ-loop
 returns c =
@@ -141,22 +127,5 @@ returns c =
 
 pub fill-corners-spec : {M : Type 1} → statement M
 fill-corners-spec =
-    tie.close
-    (tie.spec
-    Inv-loop
-    μ-loop
-    loop-holds
-    mul-d
-    shared-slice-read-d
-    cast-d
-    mul-k
-    shared-slice-read-k
-    cast-k
-    sub-k
-    read-row-requires
-    fill-corner-requires
-    add-i
-    loop-less
-    loop-again
-    same-length
-    returns)
+    tie.close (tie.spec Inv-loop μ-loop loop-holds mul-d (λ c. search needs) cast-d mul-k shared-slice-read-k cast-k sub-k read-row-requires
+    fill-corner-requires (λ c. search needs) (λ c. search needs) loop-again (λ c. search needs) returns)

@@ -1,10 +1,9 @@
 -- `short_range::fill_listed` meets its contract: the rows are filled, then the points.
 -- Assumes nothing.
-use mathlib.Core.Path.{_≡_, refl, sym, ap, subst, _∙_}
-use Prim.Native.Nat.{ℕ, _+_, _-_, _*_, _≤_, _<_}
+use Prim.Native.Nat.{_*_}
 use native.Mathlib.Omega.{arith}
 use borrow.Author.Needs.{needs}
-use lib.ListN.{length, getD, replicate, length-replicate}
+use lib.ListN.{length-replicate}
 use denote.Ref.{now}
 use lib.IntN.{ℤ, pos}
 use Rattle.refine.specs.sums.Sources.{sumRow}
@@ -18,18 +17,12 @@ use Rattle.short_range.proofs.fill_listed.Tie as tie
 abbrev mesh : tie.Start → Mesh
 mesh s = meshOf (now (s .args .coordinates)) (now (s .args .sides)) (now (s .args .corners)) (now (s .args .sharpness))
 
-slice-aggregate-sum-faces : tie.Need-slice-aggregate-sum-faces
-slice-aggregate-sum-faces c = search needs
-
 sum-faces-requires : tie.Need-sum-faces-requires
 sum-faces-requires c κs =
     let s = c .before .before .before .before .before .before .before .before in (
       soft-refinable (mesh s) (s .pre .0),
       (s .pre .1 .0, (s .pre .1 .1 .0, (s .pre .1 .1 .1 .0, omega (arith, s .pre .1 .1 .0 .0, length-replicate {A = ℤ} (sumRow * mostNear) (pos 0))))),
     )
-
-slice-aggregate-fill-corners : tie.Need-slice-aggregate-fill-corners
-slice-aggregate-fill-corners c = search needs
 
 fill-corners-requires : tie.Need-fill-corners-requires
 fill-corners-requires c κs =
@@ -54,23 +47,7 @@ fill-corners-requires c κs =
       ),
     )
 
-same-length : tie.Need-same-length
-same-length c = search needs
-
-same-length-2 : tie.Need-same-length-2
-same-length-2 c = search needs
-
-returns : tie.Need-returns
-returns c = search needs
-
 pub fill-listed-spec : {M : Type 1} → statement M
 fill-listed-spec =
-    tie.close
-    (tie.spec
-    slice-aggregate-sum-faces
-    sum-faces-requires
-    slice-aggregate-fill-corners
-    fill-corners-requires
-    same-length
-    same-length-2
-    returns)
+    tie.close (tie.spec (λ c. search needs) sum-faces-requires (λ c. search needs) fill-corners-requires (λ c. search needs) (λ c. search needs)
+    (λ c. search needs))

@@ -1,10 +1,10 @@
 -- `short_range::fill_near` meets its contract: the rings of the range are listed, and meet every corner at its vertices.
 -- Assumes nothing.
-use mathlib.Core.Path.{_≡_, refl, sym, ap, subst, _∙_}
-use Prim.Native.Nat.{ℕ, _+_, _-_, _*_, _≤_, _<_}
+use mathlib.Core.Path.{refl, sym}
+use Prim.Native.Nat.{ℕ, _≤_}
 use native.Mathlib.Omega.{arith}
 use borrow.Author.Needs.{needs}
-use lib.ListN.{length, getD, replicate, length-replicate}
+use lib.ListN.{length, length-replicate}
 use denote.Ref.{now}
 use mathlib.Core.List.{List}
 use lib.Seq.{length-take-le}
@@ -32,9 +32,6 @@ room n m = omega (arith, n .list-near .kept .1 .1 .1 .1 .0, length-replicate {A 
 returns : tie.Need-returns
 returns c = ((λ e. absurd (clash e refl)), λ e. refl)
 
-slice-aggregate-list-near : tie.Need-slice-aggregate-list-near
-slice-aggregate-list-near c = search needs
-
 list-near-requires : tie.Need-list-near-requires
 list-near-requires c κs =
     let s = c .before .before .before .before .before .before in (
@@ -59,17 +56,8 @@ fill-rows-requires c κs =
     let r = room n m in
     let cut = length-take-le (n .list-near .result) (list n) r in (
       refinable-of (mesh s) (s .pre .0),
-      (
-        s .pre .1 .0,
-        (
-          (omega (arith, cut, m), cut-below (length (now (s .args .corners))) _ _ _ _ (list n) r (n .list-near .ensures m)),
-          s .pre .1 .1 .1,
-        ),
-      ),
+      (s .pre .1 .0, ((omega (arith, cut, m), cut-below (length (now (s .args .corners))) _ _ _ _ (list n) r (n .list-near .ensures m)), s .pre .1 .1 .1)),
     )
-
-same-length : tie.Need-same-length
-same-length c = search needs
 
 returns-3 : tie.Need-returns-3
 returns-3 c =
@@ -84,14 +72,5 @@ returns-3 c =
 
 pub fill-near-spec : {M : Type 1} → statement M
 fill-near-spec =
-    tie.close
-    (tie.spec
-    returns
-    slice-aggregate-list-near
-    list-near-requires
-    returns-2
-    array-share-prefix-list
-    slice-aggregate-fill-rows
-    fill-rows-requires
-    same-length
-    returns-3)
+    tie.close (tie.spec returns (λ c. search needs) list-near-requires returns-2 array-share-prefix-list slice-aggregate-fill-rows fill-rows-requires
+    (λ c. search needs) returns-3)

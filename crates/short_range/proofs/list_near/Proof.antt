@@ -1,8 +1,8 @@
 -- `short_range::list_near` meets its contract: the rings of the first k corners are listed.
 -- Assumes nothing.
 use mathlib.Core.Path.{_≡_, refl, _∙_}
-use Prim.Native.Nat.{ℕ, _+_, _-_, _*_, _≤_, _<_}
-use lib.ListN.{length, getD}
+use Prim.Native.Nat.{_+_, _-_, _≤_, _<_}
+use lib.ListN.{length}
 use denote.Ref.{now}
 use native.Mathlib.Omega.{arith}
 use borrow.Author.Needs.{needs}
@@ -41,11 +41,7 @@ add-if1 c =
       arith,
       l .inv .1,
       c .valence .ensures .read,
-      s .pre .0 .0 .valence-most (s .args .first + l .k) (omega (
-        arith,
-        c .before .loop-test .taken,
-        s .pre .1 .0,
-      )),
+      s .pre .0 .0 .valence-most (s .args .first + l .k) (omega (arith, c .before .loop-test .taken, s .pre .1 .0)),
     )
 
 add-result : tie.Need-add-result Inv-loop μ-loop
@@ -111,21 +107,5 @@ returns-2 c =
 
 pub list-near-spec : {M : Type 1} → statement M
 list-near-spec =
-    tie.close
-    (tie.spec
-    Inv-loop
-    μ-loop
-    loop-holds
-    add-c
-    valence-requires
-    add-if1
-    add-result
-    same-length
-    returns
-    list-ring-requires
-    add-m
-    add-k
-    loop-less
-    loop-again
-    same-length-2
-    returns-2)
+    tie.close (tie.spec Inv-loop μ-loop loop-holds add-c valence-requires add-if1 add-result same-length returns list-ring-requires add-m add-k loop-less
+    loop-again same-length-2 returns-2)

@@ -1,8 +1,8 @@
 -- `short_range::list_ring` meets its contract: the corners of the ring before the j-th are listed, and d is the j-th.
 -- Assumes nothing.
 use mathlib.Core.Path.{_≡_, refl, ap, _∙_, sym}
-use Prim.Native.Nat.{ℕ, _+_, _-_, _*_, _≤_, _<_}
-use lib.ListN.{length, getD, length-set}
+use Prim.Native.Nat.{_-_, _≤_, _<_}
+use lib.ListN.{length, length-set}
 use denote.Ref.{now}
 use Rattle.paper.specs.Scan.{iterate}
 use Rattle.walk.specs.Table.{toLink, entry}
@@ -27,23 +27,8 @@ loop-holds c = let s = c .before .before in (omega arith, s .pre .1 .0, sym (ite
 cast-list : tie.Need-cast-list Inv-loop μ-loop
 cast-list c = let s = c .before .before .before .before in let l = c .before .loop in omega (arith, l .inv .1, s .pre .0 .1)
 
-add-list : tie.Need-add-list Inv-loop μ-loop
-add-list c = search needs
-
-mul-list : tie.Need-mul-list Inv-loop μ-loop
-mul-list c = search needs
-
-slice-write-list : tie.Need-slice-write-list Inv-loop μ-loop
-slice-write-list c = search needs
-
 linked-requires : tie.Need-linked-requires Inv-loop μ-loop
 linked-requires c κs = let s = c .before .before .before .before in let l = c .before .loop in omega (arith, l .inv .1, s .pre .0 .2)
-
-add-j : tie.Need-add-j Inv-loop μ-loop
-add-j c = search needs
-
-loop-less : tie.Need-loop-less Inv-loop μ-loop
-loop-less c = search needs
 
 loop-again : tie.Need-loop-again Inv-loop μ-loop
 loop-again c =
@@ -58,9 +43,6 @@ loop-again c =
       ring-more (now (s .args .table)) (s .args .c) (s .args .m) (l .j) (l .d) _ (l .list) (i .2) (omega (arith, i .3, s .pre .1 .1)) (i .4),
     )
 
-same-length : tie.Need-same-length Inv-loop μ-loop
-same-length c = search needs
-
 returns : tie.Need-returns Inv-loop μ-loop
 returns c =
     let s = c .before .before .before .before in
@@ -70,18 +52,5 @@ returns c =
 
 pub list-ring-spec : {M : Type 1} → statement M
 list-ring-spec =
-    tie.close
-    (tie.spec
-    Inv-loop
-    μ-loop
-    loop-holds
-    cast-list
-    add-list
-    mul-list
-    slice-write-list
-    linked-requires
-    add-j
-    loop-less
-    loop-again
-    same-length
-    returns)
+    tie.close (tie.spec Inv-loop μ-loop loop-holds cast-list (λ c. search needs) (λ c. search needs) (λ c. search needs) linked-requires (λ c. search needs)
+    (λ c. search needs) loop-again (λ c. search needs) returns)

@@ -1,8 +1,8 @@
 -- `short_range::mark_round` meets its contract: the corners of the face before the j-th are marked, and c is the j-th.
 -- Assumes nothing.
 use mathlib.Core.Path.{_≡_, refl, ap, _∙_, sym}
-use Prim.Native.Nat.{ℕ, _+_, _-_, _*_, _≤_, _<_}
-use lib.ListN.{length, getD, length-set}
+use Prim.Native.Nat.{_-_, _≤_, _<_}
+use lib.ListN.{length, length-set}
 use denote.Ref.{now}
 use Rattle.paper.specs.Scan.{iterate}
 use Rattle.paper.specs.Corners.{next}
@@ -27,26 +27,11 @@ loop-holds c =
     let s = c .before .before .before .before in
     (omega arith, s .pre .1 .1 .0, sym (iterate-zero _ _), refl, marks-none _ _ _ _)
 
-cast-rows : tie.Need-cast-rows Inv-loop μ-loop
-cast-rows c = search needs
-
-mul-rows : tie.Need-mul-rows Inv-loop μ-loop
-mul-rows c = search needs
-
-slice-write-rows : tie.Need-slice-write-rows Inv-loop μ-loop
-slice-write-rows c = search needs
-
 next-requires : tie.Need-next-requires Inv-loop μ-loop
 next-requires c κs =
     let s = c .before .before .before .before .before .before in
     let l = c .before .loop in
     omega (arith, l .inv .1, s .pre .0 .2)
-
-add-j : tie.Need-add-j Inv-loop μ-loop
-add-j c = search needs
-
-loop-less : tie.Need-loop-less Inv-loop μ-loop
-loop-less c = search needs
 
 loop-again : tie.Need-loop-again Inv-loop μ-loop
 loop-again c =
@@ -61,9 +46,6 @@ loop-again c =
       marks-more (now (s .args .sides)) (s .args .d) (s .args .x) (l .j) (l .c) _ (l .rows) (i .2) (omega (arith, i .1, i .3, s .pre .1 .1 .2)) (i .4),
     )
 
-same-length : tie.Need-same-length Inv-loop μ-loop
-same-length c = search needs
-
 returns : tie.Need-returns Inv-loop μ-loop
 returns c =
     let s = c .before .before .before .before .before .before in
@@ -73,17 +55,5 @@ returns c =
 
 pub mark-round-spec : {M : Type 1} → statement M
 mark-round-spec =
-    tie.close
-    (tie.spec
-    Inv-loop
-    μ-loop
-    loop-holds
-    cast-rows
-    mul-rows
-    slice-write-rows
-    next-requires
-    add-j
-    loop-less
-    loop-again
-    same-length
-    returns)
+    tie.close (tie.spec Inv-loop μ-loop loop-holds (λ c. search needs) (λ c. search needs) (λ c. search needs) next-requires (λ c. search needs)
+    (λ c. search needs) loop-again (λ c. search needs) returns)

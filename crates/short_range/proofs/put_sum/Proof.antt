@@ -7,8 +7,8 @@ use mir.Val.{SFits, toZ, ofZ}
 use mir.Facts.{toZ-ofZ}
 use Rattle.refine.specs.sums.Sources.{stepSum}
 use Rattle.short_range.specs.Near.{roundSum, RoundMarked}
-use Prim.Native.Nat.{ℕ, _+_, _-_, _*_, _≤_, _<_}
-use lib.ListN.{length, getD, length-set}
+use Prim.Native.Nat.{ℕ, _+_, _≤_, _<_}
+use lib.ListN.{length, length-set}
 use denote.Ref.{now}
 use native.Mathlib.Omega.{arith}
 use borrow.Author.Needs.{needs}
@@ -58,14 +58,7 @@ mark-round-requires : tie.Need-mark-round-requires
 mark-round-requires c κs =
     let s = c .before .before .before .before .before .before .before in (
       (s .pre .0 .sums, few s, s .pre .1 .0 .long),
-      (
-        (λ d h. s .pre .1 .0 .nexts d h),
-        (
-          here s,
-          omega (arith, s .pre .1 .1 .0 .1),
-          s .pre .1 .1 .1 .0,
-        ),
-      ),
+      ((λ d h. s .pre .1 .0 .nexts d h), (here s, omega (arith, s .pre .1 .1 .0 .1), s .pre .1 .1 .1 .0)),
     )
 
 mul-x : tie.Need-mul-x
@@ -143,23 +136,5 @@ returns c =
 
 pub put-sum-spec : {M : Type 1} → statement M
 put-sum-spec =
-    tie.close
-    (tie.spec
-    sides-requires
-    sum-round-requires
-    add-mark-round
-    mark-round-requires
-    mul-x
-    mul-x-2
-    slice-set-from-x
-    mul-y
-    add-y
-    mul-y-2
-    slice-set-from-y
-    mul-z
-    add-z
-    mul-z-2
-    slice-set-from-z
-    same-length
-    same-length-2
-    returns)
+    tie.close (tie.spec sides-requires sum-round-requires add-mark-round mark-round-requires mul-x mul-x-2 slice-set-from-x mul-y add-y mul-y-2
+    slice-set-from-y mul-z add-z mul-z-2 slice-set-from-z same-length same-length-2 returns)

@@ -1,13 +1,13 @@
 -- `short_range::sum_faces` meets its contract: the faces of the corners before the i-th have their rows, which are k at most.
 -- Assumes nothing.
-use mathlib.Core.Path.{_≡_, refl, _∙_}
+use mathlib.Core.Path.{_≡_, refl}
 use mathlib.Core.Logic.{⊎-elim}
-use Prim.Native.Nat.{ℕ, _+_, _-_, _*_, _≤_, _<_}
-use lib.ListN.{length, getD}
+use Prim.Native.Nat.{_-_, _≤_}
+use lib.ListN.{length}
 use denote.Ref.{now}
 use native.Mathlib.Omega.{arith}
 use borrow.Author.Needs.{needs}
-use Rattle.paper.specs.Mesh.{Mesh, plainMesh, mostCorners}
+use Rattle.paper.specs.Mesh.{plainMesh}
 use Rattle.short_range.specs.Near.{RowsHold, RowsCover}
 use Rattle.short_range.proofs.Laws.{rows-up, cover-more, cover-kept}
 use Rattle.short_range.proofs.sum_faces.Statement.{statement}
@@ -123,21 +123,5 @@ returns c =
 
 pub sum-faces-spec : {M : Type 1} → statement M
 sum-faces-spec =
-    tie.close
-    (tie.spec
-    Inv-loop
-    μ-loop
-    loop-holds
-    mul-d
-    shared-slice-read-d
-    cast-d
-    mul-if1
-    slice-read-if1
-    put-sum-requires
-    add-k
-    add-i
-    loop-less
-    loop-again
-    same-length
-    same-length-2
-    returns)
+    tie.close (tie.spec Inv-loop μ-loop loop-holds mul-d shared-slice-read-d cast-d mul-if1 slice-read-if1 put-sum-requires add-k add-i loop-less loop-again
+    same-length same-length-2 returns)

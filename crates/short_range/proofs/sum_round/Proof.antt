@@ -1,15 +1,15 @@
 -- `short_range::sum_round` meets its contract: `x`, `y` and `z` are the sums of the vertices before the j-th, and c is the j-th corner.
 -- Assumes nothing.
-use mathlib.Core.Path.{_≡_, refl, ap, _∙_, sym}
-use Prim.Native.Nat.{ℕ, _+_, _-_, _*_, _≤_, _<_}
-use lib.ListN.{length, getD, length-set}
+use mathlib.Core.Path.{_≡_, ap, _∙_, sym}
+use Prim.Native.Nat.{ℕ, _+_, _-_, _≤_, _<_}
+use lib.ListN.{length}
 use denote.Ref.{now}
 use Rattle.paper.specs.Scan.{iterate}
 use lib.Dec.{lit<}
 use lib.IntN.{ℤ, _+ℤ_}
 use mir.Syntax.{w32}
 use mir.Val.{SFits, toZ, ofZ}
-use Rattle.paper.specs.Mesh.{Mesh, plainMesh, mostSides}
+use Rattle.paper.specs.Mesh.{plainMesh}
 use Rattle.paper.specs.Corners.{next}
 use Rattle.paper.specs.Refined.{cornersOf}
 use Rattle.numbers.proofs.Sum.{sum-zero}
@@ -107,12 +107,6 @@ add-z c = on-z c .0
 next-requires : tie.Need-next-requires Inv-loop μ-loop
 next-requires c κs = let i = c .before .before .before in omega (arith, here i, i .before .before .before .before .before .pre .1 .0 .long)
 
-add-j : tie.Need-add-j Inv-loop μ-loop
-add-j c = search needs
-
-loop-less : tie.Need-loop-less Inv-loop μ-loop
-loop-less c = search needs
-
 loop-again : tie.Need-loop-again Inv-loop μ-loop
 loop-again c =
     let i = c .before .before .before .before in
@@ -141,19 +135,5 @@ returns c =
 
 pub sum-round-spec : {M : Type 1} → statement M
 sum-round-spec =
-    tie.close
-    (tie.spec
-    Inv-loop
-    μ-loop
-    loop-holds
-    coordinate-requires
-    add-x
-    coordinate-requires-2
-    add-y
-    coordinate-requires-3
-    add-z
-    next-requires
-    add-j
-    loop-less
-    loop-again
-    returns)
+    tie.close (tie.spec Inv-loop μ-loop loop-holds coordinate-requires add-x coordinate-requires-2 add-y coordinate-requires-3 add-z next-requires
+    (λ c. search needs) (λ c. search needs) loop-again returns)

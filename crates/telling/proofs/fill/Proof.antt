@@ -18,24 +18,6 @@ abbrev μ-loop : tie.MeasureT-loop
 loop-holds : tie.Need-loop-holds Inv-loop μ-loop
 loop-holds c = (omega arith, refl, copied-none (c .args .values .now) (c .args .lent .now))
 
-mul-lent : tie.Need-mul-lent Inv-loop μ-loop
-mul-lent c = search needs
-
-shared-slice-read-lent : tie.Need-shared-slice-read-lent Inv-loop μ-loop
-shared-slice-read-lent c = search needs
-
-mul-lent-2 : tie.Need-mul-lent-2 Inv-loop μ-loop
-mul-lent-2 c = search needs
-
-slice-write-lent : tie.Need-slice-write-lent Inv-loop μ-loop
-slice-write-lent c = search needs
-
-add-i : tie.Need-add-i Inv-loop μ-loop
-add-i c = search needs
-
-loop-less : tie.Need-loop-less Inv-loop μ-loop
-loop-less c = search needs
-
 loop-again : tie.Need-loop-again Inv-loop μ-loop
 loop-again c =
     let s = c .before .before .before in
@@ -46,9 +28,6 @@ loop-again c =
           (l .inv .2),
     )
 
-same-length : tie.Need-same-length Inv-loop μ-loop
-same-length c = search needs
-
 returns : tie.Need-returns Inv-loop μ-loop
 returns c =
     let s = c .before .before in
@@ -57,17 +36,5 @@ returns c =
 
 pub fill-spec : {M : Type 1} → statement M
 fill-spec =
-    tie.close
-    (tie.spec
-    Inv-loop
-    μ-loop
-    loop-holds
-    mul-lent
-    shared-slice-read-lent
-    mul-lent-2
-    slice-write-lent
-    add-i
-    loop-less
-    loop-again
-    same-length
-    returns)
+    tie.close (tie.spec Inv-loop μ-loop loop-holds (search needs) (search needs) (search needs) (search needs) (search needs) (search needs) loop-again
+    (search needs) returns)

@@ -16,15 +16,6 @@ done a before e = rw e (record { number = refl; place = refl })
 refused : (a : Answer) (number place before : ℕ) → a ≡ Refused number place → States (stated a) before number place
 refused a number place before e = rw e (record { number = refl; place = refl })
 
-enum-told : tie.Need-enum-told
-enum-told c = search needs
-
-enum-known-a : tie.Need-enum-known-a
-enum-known-a c = search needs
-
-cast-n : tie.Need-cast-n
-cast-n c = search needs
-
 returns : tie.Need-returns
 returns c = done _ _ (c .enum-told .given .1)
 
@@ -32,4 +23,4 @@ returns-2 : tie.Need-returns-2
 returns-2 c = let a = c .before .a .given in refused _ (a .0 .0) (a .0 .1 .0) _ (a .1)
 
 pub tell-spec : {M : Type 1} → statement M
-tell-spec = tie.close (tie.spec enum-told enum-known-a cast-n returns returns-2)
+tell-spec = tie.close (tie.spec (search needs) (search needs) (search needs) returns returns-2)

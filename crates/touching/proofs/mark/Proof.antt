@@ -11,24 +11,12 @@ use borrow.Author.Needs.{needs}
 use Rattle.touching.proofs.mark.Statement.{statement}
 use Rattle.touching.proofs.mark.Tie as tie
 
-slice-aggregate-mark-vertices : tie.Need-slice-aggregate-mark-vertices
-slice-aggregate-mark-vertices c = search needs
-
-mark-vertices-requires : tie.Need-mark-vertices-requires
-mark-vertices-requires c κs = search needs
-
-slice-aggregate-mark-corners : tie.Need-slice-aggregate-mark-corners
-slice-aggregate-mark-corners c = search needs
-
 mark-corners-requires : tie.Need-mark-corners-requires
 mark-corners-requires c κs =
     let s = c .before .before .before .before .before .before .before .before in
     let v = c .before .before .before .mark-vertices in
     let e : length (v .last .1 .1 .1 .0) ≡ mostVertices = v .kept .1 .1 .1 .0 ∙ length-replicate {A = ℕ} mostVertices 0 in
     (λ d h. omega (arith, s .pre .1 .0 d h, e), s .pre .1 .1)
-
-same-length : tie.Need-same-length
-same-length c = search needs
 
 returns : tie.Need-returns
 returns c =
@@ -40,12 +28,4 @@ returns c =
     (λ d h. omega (arith, s .pre .1 .0 d h, e)) (k .kept .1 .1 .0 ∙ s .pre .1 .1) (k .ensures)
 
 pub mark-spec : {M : Type 1} → statement M
-mark-spec =
-    tie.close
-    (tie.spec
-    slice-aggregate-mark-vertices
-    mark-vertices-requires
-    slice-aggregate-mark-corners
-    mark-corners-requires
-    same-length
-    returns)
+mark-spec = tie.close (tie.spec (λ c. search needs) (λ c κs. search needs) (λ c. search needs) mark-corners-requires (λ c. search needs) returns)

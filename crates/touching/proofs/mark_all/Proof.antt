@@ -20,15 +20,6 @@ abbrev μ-loop : tie.MeasureT-loop
 loop-holds : tie.Need-loop-holds Inv-loop μ-loop
 loop-holds c = (omega arith, refl, all-none (now (c .args .corners)) (c .args .start) (now (c .args .near)))
 
-add-u : tie.Need-add-u Inv-loop μ-loop
-add-u c = search needs
-
-mul-u : tie.Need-mul-u Inv-loop μ-loop
-mul-u c = search needs
-
-shared-slice-read-u : tie.Need-shared-slice-read-u Inv-loop μ-loop
-shared-slice-read-u c = search needs
-
 cast-u : tie.Need-cast-u Inv-loop μ-loop
 cast-u c = let l = c .before .before .loop in omega (arith, c .shared-slice-known .given (c .before .before .before .args .start + l .j))
 
@@ -37,12 +28,6 @@ slice-write-near c =
     let s = c .before .before .before in
     let l = c .before .before .loop in
     omega (arith, l .inv .1, s .pre .1 (s .args .start + l .j) (omega (arith, s .pre .0)))
-
-add-j : tie.Need-add-j Inv-loop μ-loop
-add-j c = search needs
-
-loop-less : tie.Need-loop-less Inv-loop μ-loop
-loop-less c = search needs
 
 loop-again : tie.Need-loop-again Inv-loop μ-loop
 loop-again c =
@@ -54,9 +39,6 @@ loop-again c =
           (omega (arith, l .inv .1, s .pre .1 (s .args .start + l .j) (omega (arith, s .pre .0)))) (l .inv .2),
     )
 
-same-length : tie.Need-same-length Inv-loop μ-loop
-same-length c = search needs
-
 returns : tie.Need-returns Inv-loop μ-loop
 returns c =
     let s = c .before .before in
@@ -66,18 +48,5 @@ returns c =
 
 pub mark-all-spec : {M : Type 1} → statement M
 mark-all-spec =
-    tie.close
-    (tie.spec
-    Inv-loop
-    μ-loop
-    loop-holds
-    add-u
-    mul-u
-    shared-slice-read-u
-    cast-u
-    slice-write-near
-    add-j
-    loop-less
-    loop-again
-    same-length
-    returns)
+    tie.close (tie.spec Inv-loop μ-loop loop-holds (λ c. search needs) (λ c. search needs) (λ c. search needs) cast-u slice-write-near (λ c. search needs)
+    (λ c. search needs) loop-again (λ c. search needs) returns)

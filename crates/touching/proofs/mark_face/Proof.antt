@@ -3,19 +3,9 @@
 use mathlib.Core.Path.{sym, _∙_}
 use denote.Ref.{now}
 use Rattle.touching.proofs.Laws.{face-has, face-has-not}
-use native.Mathlib.Omega.{arith}
 use borrow.Author.Needs.{needs}
 use Rattle.touching.proofs.mark_face.Statement.{statement}
 use Rattle.touching.proofs.mark_face.Tie as tie
-
-has-vertex-requires : tie.Need-has-vertex-requires
-has-vertex-requires c κs = search needs
-
-mark-all-requires : tie.Need-mark-all-requires
-mark-all-requires c κs = search needs
-
-same-length : tie.Need-same-length
-same-length c = search needs
 
 returns : tie.Need-returns
 returns c =
@@ -31,5 +21,4 @@ returns-2 c =
     (sym (c .before .has-vertex .ensures) ∙ c .if1 .left)
 
 pub mark-face-spec : {M : Type 1} → statement M
-mark-face-spec =
-    tie.close (tie.spec has-vertex-requires mark-all-requires same-length returns returns-2)
+mark-face-spec = tie.close (tie.spec (λ c κs. search needs) (λ c κs. search needs) (λ c. search needs) returns returns-2)

@@ -1,8 +1,8 @@
 -- `mark_vertices` meets its contract: the vertices of the first f faces that have this one are marked.
 -- Assumes nothing.
 use mathlib.Core.Path.{_≡_, refl, sym, _∙_}
-use Prim.Native.Nat.{_+_, _-_, _<_, _≤_}
-use lib.ListN.{length, getD}
+use Prim.Native.Nat.{_-_, _<_, _≤_}
+use lib.ListN.{length}
 use denote.Ref.{now}
 use Rattle.paper.specs.Corners.{startOf}
 use Rattle.mesh.proofs.Faces.{start-zero, start-next, start-ends}
@@ -25,9 +25,6 @@ loop-holds c =
     let s = c .before .before .before in
     (omega arith, sym (start-zero _), refl, near-none (now (s .args .sides)) (now (s .args .corners)) (s .args .vertex) (now (s .args .near)) (s .pre .1 .1))
 
-shared-slice-read-n : tie.Need-shared-slice-read-n Inv-loop μ-loop
-shared-slice-read-n c = search needs
-
 cast-n : tie.Need-cast-n Inv-loop μ-loop
 cast-n c =
     let s = c .before .before .before .before .before .before in
@@ -47,12 +44,6 @@ add-start c =
     let l = c .before .before .before .before .before .before .loop in
     omega (arith, l .inv .1, s .pre .0 .0 .few, start-ends (now (s .args .sides)) (l .f) (search needs))
 
-add-f : tie.Need-add-f Inv-loop μ-loop
-add-f c = search needs
-
-loop-less : tie.Need-loop-less Inv-loop μ-loop
-loop-less c = search needs
-
 loop-again : tie.Need-loop-again Inv-loop μ-loop
 loop-again c =
     let s = c .before .before .before .before .before .before .before .before .before .before in
@@ -68,9 +59,6 @@ loop-again c =
           (rw (← l .inv .1) (k .ensures)),
     )
 
-same-length : tie.Need-same-length Inv-loop μ-loop
-same-length c = search needs
-
 returns : tie.Need-returns Inv-loop μ-loop
 returns c =
     let s = c .before .before .before .before .before in
@@ -80,17 +68,5 @@ returns c =
 
 pub mark-vertices-spec : {M : Type 1} → statement M
 mark-vertices-spec =
-    tie.close
-    (tie.spec
-    Inv-loop
-    μ-loop
-    loop-holds
-    shared-slice-read-n
-    cast-n
-    mark-face-requires
-    add-start
-    add-f
-    loop-less
-    loop-again
-    same-length
-    returns)
+    tie.close (tie.spec Inv-loop μ-loop loop-holds (λ c. search needs) cast-n mark-face-requires add-start (λ c. search needs) (λ c. search needs)
+    loop-again (λ c. search needs) returns)

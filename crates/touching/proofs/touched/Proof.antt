@@ -5,7 +5,6 @@ use Rattle.paper.specs.Mesh.{Mesh, meshOf}
 use Rattle.paper.specs.Faults.{Accepted}
 use Rattle.mesh.proofs.Verdicts.{passed}
 use Rattle.touching.proofs.Laws.{sums, names-few, faces, touched-none, touched-refused, touched-no-room, touched-done}
-use native.Mathlib.Omega.{arith}
 use borrow.Author.Needs.{needs}
 use Rattle.touching.proofs.touched.Statement.{statement}
 use Rattle.touching.proofs.touched.Tie as tie
@@ -20,21 +19,12 @@ accepts t = passed _ (t .before .before .check .ensures) (t .enum-told .given .1
 returns : tie.Need-returns
 returns c = let s = c .before .before .before .before .before in touched-none (mesh s) (s .args .vertex) (now (s .args .marks)) (search needs)
 
-check-requires : tie.Need-check-requires
-check-requires c κs = search needs
-
-enum-known-a : tie.Need-enum-known-a
-enum-known-a c = search needs
-
 returns-2 : tie.Need-returns-2
 returns-2 c =
     let s = c .before .before .before .before .before .before .before .before .before in
     let k = c .before .before .before .check in
     let a = c .before .a .given in
     touched-refused (mesh s) (s .args .vertex) (now (s .args .marks)) (search needs) (k .result) (a .0 .0) (a .0 .1 .0) (k .ensures) (a .1)
-
-enum-told : tie.Need-enum-told
-enum-told c = search needs
 
 returns-3 : tie.Need-returns-3
 returns-3 c =
@@ -47,9 +37,6 @@ mark-requires c κs =
     let a = accepts (c .before .before) in
     ((faces (mesh s) a, sums (mesh s) a), (names-few (mesh s) a, search needs))
 
-same-length : tie.Need-same-length
-same-length c = search needs
-
 returns-4 : tie.Need-returns-4
 returns-4 c =
     let t = c .before .before .before .before .before in
@@ -58,14 +45,5 @@ returns-4 c =
 
 pub touched-spec : {M : Type 1} → statement M
 touched-spec =
-    tie.close
-    (tie.spec
-    returns
-    check-requires
-    enum-known-a
-    returns-2
-    enum-told
-    returns-3
-    mark-requires
-    same-length
+    tie.close (tie.spec returns (λ c κs. search needs) (λ c. search needs) returns-2 (λ c. search needs) returns-3 mark-requires (λ c. search needs)
     returns-4)

@@ -14,17 +14,8 @@ use Rattle.turning.proofs.choose.Tie as tie
 abbrev mesh : tie.Start → Mesh
 mesh s = meshOf (now (s .args .coordinates)) (now (s .args .sides)) (now (s .args .corners)) (now (s .args .sharpness))
 
-slice-aggregate-check-lists : tie.Need-slice-aggregate-check-lists
-slice-aggregate-check-lists c = search needs
-
-slice-aggregate-check-lists-2 : tie.Need-slice-aggregate-check-lists-2
-slice-aggregate-check-lists-2 c = search needs
-
 check-lists-requires : tie.Need-check-lists-requires
 check-lists-requires c κs = room (mesh (c .before .before .before .before .before .before)) mostCorners mostVertices (λ h. h) (λ h. h)
-
-enum-known-a : tie.Need-enum-known-a
-enum-known-a c = search needs
 
 returns : tie.Need-returns
 returns c =
@@ -32,12 +23,6 @@ returns c =
     let a = c .before .before .before .before .before .check-lists in
     let k = c .before .a .given in
     lists-refused (mesh s) (a .result) (a .ensures .answers) (k .0 .0) (k .0 .1 .0) (now (s .args .states)) (k .1)
-
-enum-told : tie.Need-enum-told
-enum-told c = search needs
-
-slice-aggregate-find-turns : tie.Need-slice-aggregate-find-turns
-slice-aggregate-find-turns c = search needs
 
 find-turns-requires : tie.Need-find-turns-requires
 find-turns-requires c κs =
@@ -54,9 +39,6 @@ find-turns-requires c κs =
       (omega (arith, z .few-faces, s .pre .0), s .pre .1),
     )
 
-same-length : tie.Need-same-length
-same-length c = search needs
-
 returns-2 : tie.Need-returns-2
 returns-2 c =
     let e = c .before .before .before .before .before in
@@ -68,15 +50,5 @@ returns-2 c =
 
 pub choose-spec : {M : Type 1} → statement M
 choose-spec =
-    tie.close
-    (tie.spec
-    slice-aggregate-check-lists
-    slice-aggregate-check-lists-2
-    check-lists-requires
-    enum-known-a
-    returns
-    enum-told
-    slice-aggregate-find-turns
-    find-turns-requires
-    same-length
-    returns-2)
+    tie.close (tie.spec (λ c. search needs) (λ c. search needs) check-lists-requires (λ c. search needs) returns (λ c. search needs) (λ c. search needs)
+    find-turns-requires (λ c. search needs) returns-2)

@@ -22,20 +22,8 @@ returns c =
     turned-refused (mesh s) (now (s .args .listing)) 36 (length (now (s .args .listing)))
     (length-refused (mesh s) (now (s .args .listing)) (c .if1 .taken))
 
-slice-aggregate-choose : tie.Need-slice-aggregate-choose
-slice-aggregate-choose c = search needs
-
 choose-requires : tie.Need-choose-requires
 choose-requires c κs = (omega arith, blank 4096)
-
-enum-known-a : tie.Need-enum-known-a
-enum-known-a c = search needs
-
-same-length : tie.Need-same-length
-same-length c = search needs
-
-same-length-2 : tie.Need-same-length-2
-same-length-2 c = search needs
 
 returns-2 : tie.Need-returns-2
 returns-2 c =
@@ -46,12 +34,6 @@ returns-2 c =
     turned-refused (mesh s) (now (s .args .listing)) (k .0 .0) (k .0 .1 .0)
     (verdict-is (mesh s) (now (s .args .listing)) (h .before .before .before .before .if1 .left) (a .result) (a .last .1 .1 .1 .1 .0) (a .ensures)
     ∙ ap stated (k .1))
-
-enum-told : tie.Need-enum-told
-enum-told c = search needs
-
-slice-aggregate-turn-sharpness : tie.Need-slice-aggregate-turn-sharpness
-slice-aggregate-turn-sharpness c = search needs
 
 turn-sharpness-requires : tie.Need-turn-sharpness-requires
 turn-sharpness-requires c κs =
@@ -69,9 +51,6 @@ turn-sharpness-requires c κs =
       sums = omega (arith, long-of (mesh s) e);
       states-long = omega (arith, a .kept .1 .1 .1 .1 .0, z .few-faces);
     }
-
-slice-aggregate-turn-faces : tie.Need-slice-aggregate-turn-faces
-slice-aggregate-turn-faces c = search needs
 
 turn-faces-requires : tie.Need-turn-faces-requires
 turn-faces-requires c κs =
@@ -91,15 +70,6 @@ turn-faces-requires c κs =
       listing-long = q;
     }
 
-same-length-3 : tie.Need-same-length-3
-same-length-3 c = search needs
-
-same-length-4 : tie.Need-same-length-4
-same-length-4 c = search needs
-
-same-length-5 : tie.Need-same-length-5
-same-length-5 c = search needs
-
 returns-3 : tie.Need-returns-3
 returns-3 c =
     let k = c .before .before .before .before in
@@ -116,21 +86,6 @@ returns-3 c =
 
 pub turn-spec : {M : Type 1} → statement M
 turn-spec =
-    tie.close
-    (tie.spec
-    returns
-    slice-aggregate-choose
-    choose-requires
-    enum-known-a
-    same-length
-    same-length-2
-    returns-2
-    enum-told
-    slice-aggregate-turn-sharpness
-    turn-sharpness-requires
-    slice-aggregate-turn-faces
-    turn-faces-requires
-    same-length-3
-    same-length-4
-    same-length-5
-    returns-3)
+    tie.close (tie.spec returns (λ c. search needs) choose-requires (λ c. search needs) (λ c. search needs) (λ c. search needs) returns-2
+    (λ c. search needs) (λ c. search needs) turn-sharpness-requires (λ c. search needs) turn-faces-requires (λ c. search needs) (λ c. search needs)
+    (λ c. search needs) returns-3)

@@ -277,10 +277,7 @@ module _ (sides corners : List ℕ) (k : FacesListed sides corners) (two : (c : 
             settled = λ x l m o.
                 ⊎-elim
                 (λ e. let q : x ≡ c = eqb-true x c e in
-                rw q (
-                  rw is-g (λ y. rt .some (sym z ∙ y)),
-                  rw (is-g, z, own, rt .says) (xor-undo (turnsBy states f) (label sides corners c)),
-                ))
+                rw q (rw is-g (λ y. rt .some (sym z ∙ y)), rw (is-g, z, own, rt .says) (xor-undo (turnsBy states f) (label sides corners c))))
                 (λ e. v .settled x (lower x l (eqb-false x c e)) m o)
                 (ways (eqb x c));
           }

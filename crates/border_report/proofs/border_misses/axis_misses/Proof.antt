@@ -21,9 +21,6 @@ row-requires-2 c κs = let p = c .before .before .pre .1 in ((p .1, p .0), (lit<
 row-requires-3 : tie.Need-row-requires-3
 row-requires-3 c κs = let p = c .before .before .before .pre .1 in ((p .2, p .0), (lit< tt, lit< tt, lit< tt, lit< tt))
 
-side-misses-requires : tie.Need-side-misses-requires
-side-misses-requires c κs = search needs
-
 row-requires-4 : tie.Need-row-requires-4
 row-requires-4 c κs = let p = c .before .before .before .before .before .before .pre .1 in ((p .1, p .0), (lit< tt, lit< tt, lit< tt, lit< tt))
 
@@ -37,9 +34,6 @@ side-misses-requires-2 : tie.Need-side-misses-requires-2
 side-misses-requires-2 c κs =
     let s = c .before .before .before .before .before .before .before .before .before in
     (s .pre .0 .1, c .before .before .row4 .ensures .1, c .before .row5 .ensures .1, c .row6 .ensures .1)
-
-larger-of-requires : tie.Need-larger-of-requires
-larger-of-requires c κs = search needs
 
 returns : tie.Need-returns
 returns c K e four held-here held-linked held-next j few =
@@ -59,15 +53,5 @@ returns c K e four held-here held-linked held-next j few =
 
 pub axis-misses-spec : {M : Type 1} → statement M
 axis-misses-spec =
-    tie.close
-    (tie.spec
-    row-requires
-    row-requires-2
-    row-requires-3
-    side-misses-requires
-    row-requires-4
-    row-requires-5
-    row-requires-6
-    side-misses-requires-2
-    larger-of-requires
-    returns)
+    tie.close (tie.spec row-requires row-requires-2 row-requires-3 (λ c κs. search needs) row-requires-4 row-requires-5 row-requires-6
+    side-misses-requires-2 (λ c κs. search needs) returns)

@@ -29,12 +29,6 @@ axis-misses-requires-3 c κs =
     let r = c .before .before .net-sides .ensures .z in
     ((r .side0 .1, r .side1 .1), (lit< tt, p .0 2 (lit< tt) .small, p .1 .0 2 (lit< tt) .small, p .1 .1 2 (lit< tt) .small))
 
-larger-of-requires : tie.Need-larger-of-requires
-larger-of-requires c κs = search needs
-
-larger-of-requires-2 : tie.Need-larger-of-requires-2
-larger-of-requires-2 c κs = search needs
-
 returns : tie.Need-returns
 returns c j few =
     let s = c .before .before .before .before .before .before .before in
@@ -49,12 +43,5 @@ returns c j few =
 
 pub corner-misses-spec : {M : Type 1} → statement M
 corner-misses-spec =
-    tie.close
-    (tie.spec
-    net-sides-requires
-    axis-misses-requires
-    axis-misses-requires-2
-    axis-misses-requires-3
-    larger-of-requires
-    larger-of-requires-2
+    tie.close (tie.spec net-sides-requires axis-misses-requires axis-misses-requires-2 axis-misses-requires-3 (λ c κs. search needs) (λ c κs. search needs)
     returns)

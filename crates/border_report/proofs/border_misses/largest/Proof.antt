@@ -32,9 +32,6 @@ nothing (suc zero) = refl
 nothing (suc (suc zero)) = refl
 nothing (suc (suc (suc j))) = refl
 
-rows-requires : tie.Need-rows-requires Inv-loop μ-loop
-rows-requires c κs = search needs
-
 loop-holds : tie.Need-loop-holds Inv-loop μ-loop
 loop-holds c =
     (omega arith, λ l. absurd (omega arith), λ j few. nothing j ∙ sym (none-so-far _ j))
@@ -105,9 +102,6 @@ corner-misses-requires c κs =
       ),
     )
 
-larger-of-requires : tie.Need-larger-of-requires Inv-loop μ-loop
-larger-of-requires c κs = search needs
-
 add-c : tie.Need-add-c Inv-loop μ-loop
 add-c c = let d = c .before .before .before .before .before .before .before .before .before .before .before .before .before .before .before in
     omega (arith, d .loop-test .taken, d .before .before .before .before .fits .n)
@@ -135,20 +129,5 @@ returns c j few =
 
 pub largest-spec : {M : Type 1} → statement M
 largest-spec =
-    tie.close
-    (tie.spec
-    Inv-loop
-    μ-loop
-    rows-requires
-    loop-holds
-    write-net-requires
-    linked-requires
-    next-requires
-    write-net-requires-2
-    write-net-requires-3
-    corner-misses-requires
-    larger-of-requires
-    add-c
-    loop-less
-    loop-again
-    returns)
+    tie.close (tie.spec Inv-loop μ-loop (λ c κs. search needs) loop-holds write-net-requires linked-requires next-requires write-net-requires-2
+    write-net-requires-3 corner-misses-requires (λ c κs. search needs) add-c loop-less loop-again returns)

@@ -9,21 +9,6 @@ use borrow.Author.Needs.{needs}
 use Rattle.border_report.proofs.border_misses.point.Statement.{statement}
 use Rattle.border_report.proofs.border_misses.point.Tie as tie
 
-mul-wide : tie.Need-mul-wide
-mul-wide c = search needs
-
-add-wide : tie.Need-add-wide
-add-wide c = search needs
-
-mul-wide-2 : tie.Need-mul-wide-2
-mul-wide-2 c = search needs
-
-element-copy-out-wide : tie.Need-element-copy-out-wide
-element-copy-out-wide c = search needs
-
-wide-requires : tie.Need-wide-requires
-wide-requires c κs = search needs
-
 returns : tie.Need-returns
 returns c =
     let f : SFits w64 (c .wide .result) = search needs in
@@ -34,5 +19,4 @@ returns c =
     (e, rw e (s .pre .0 (a .k) (s .pre .2)))
 
 pub point-spec : {M : Type 1} → statement M
-point-spec =
-    tie.close (tie.spec mul-wide add-wide mul-wide-2 element-copy-out-wide wide-requires returns)
+point-spec = tie.close (tie.spec (λ c. search needs) (λ c. search needs) (λ c. search needs) (λ c. search needs) (λ c κs. search needs) returns)

@@ -16,18 +16,6 @@ use borrow.Author.Needs.{needs}
 use Rattle.border_report.proofs.border_misses.row.Statement.{statement}
 use Rattle.border_report.proofs.border_misses.row.Tie as tie
 
-point-requires : tie.Need-point-requires
-point-requires c κs = search needs
-
-point-requires-2 : tie.Need-point-requires-2
-point-requires-2 c κs = search needs
-
-point-requires-3 : tie.Need-point-requires-3
-point-requires-3 c κs = search needs
-
-point-requires-4 : tie.Need-point-requires-4
-point-requires-4 c κs = search needs
-
 -- a written number is as it was after it is copied
 plain : (z : ℤ) → WrittenSize z → toZ w64 (ofZ w64 z) ≡ z
 plain z h = toZ-ofZ (abs-fits w64 z (2 ^ 26) (omega arith) (lit< tt))
@@ -60,5 +48,4 @@ returns c =
     )
 
 pub row-spec : {M : Type 1} → statement M
-row-spec =
-    tie.close (tie.spec point-requires point-requires-2 point-requires-3 point-requires-4 returns)
+row-spec = tie.close (tie.spec (λ c κs. search needs) (λ c κs. search needs) (λ c κs. search needs) (λ c κs. search needs) returns)

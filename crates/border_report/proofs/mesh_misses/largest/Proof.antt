@@ -12,12 +12,6 @@ use Rattle.border_report.proofs.mesh_misses.largest.Tie as tie
 abbrev mesh : tie.Start → Mesh
 mesh s = meshOf (now (s .args .coordinates)) (now (s .args .sides)) (now (s .args .corners)) (now (s .args .sharpness))
 
-slice-aggregate-fill-points : tie.Need-slice-aggregate-fill-points
-slice-aggregate-fill-points c = search needs
-
-slice-aggregate-fill-points-2 : tie.Need-slice-aggregate-fill-points-2
-slice-aggregate-fill-points-2 c = search needs
-
 fill-points-requires : tie.Need-fill-points-requires
 fill-points-requires c κs =
     let s = c .before .before .before .before .before .before .before in
@@ -29,9 +23,6 @@ largest-requires c κs =
     let s = c .before .before .before .before .before .before .before .before .before .before in
     drawn-all (mesh s) (s .pre .0) (now (s .args .table)) (now (s .args .points)) _ (s .pre .1 .0) (s .pre .1 .1 .0) (c .before .before .fill-points .ensures)
 
-same-length : tie.Need-same-length
-same-length c = search needs
-
 returns : tie.Need-returns
 returns c j few =
     let s = c .before .before .before .before .before .before .before .before .before .before .before in
@@ -40,12 +31,4 @@ returns c j few =
     (c .before .before .before .fill-points .ensures) j few
 
 pub largest-spec : {M : Type 1} → statement M
-largest-spec =
-    tie.close
-    (tie.spec
-    slice-aggregate-fill-points
-    slice-aggregate-fill-points-2
-    fill-points-requires
-    largest-requires
-    same-length
-    returns)
+largest-spec = tie.close (tie.spec (λ c. search needs) (λ c. search needs) fill-points-requires largest-requires (λ c. search needs) returns)

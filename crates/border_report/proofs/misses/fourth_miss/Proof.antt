@@ -28,12 +28,6 @@ facts s = fits (s .args .bent) (s .args .t) (s .args .y) (s .pre .2) (s .pre .0)
 sub-magnitude : tie.Need-sub-magnitude
 sub-magnitude c = simp (toZ-ofZ, c .fits .t, c .fits .y) (facts c .0)
 
-mul-magnitude : tie.Need-mul-magnitude
-mul-magnitude c = let k = facts c in simp (toZ-ofZ, c .fits .t, c .fits .y, k .0) (k .1)
-
-sub-magnitude-2 : tie.Need-sub-magnitude-2
-sub-magnitude-2 c = let k = facts c in simp (toZ-ofZ, c .fits .bent, c .fits .t, c .fits .y, k .0, k .1) (k .2)
-
 magnitude-requires : tie.Need-magnitude-requires
 magnitude-requires c κs = let k = facts c in simp (toZ-ofZ, c .fits .bent, c .fits .t, c .fits .y, k .0, k .1, k .2) (k .3)
 
@@ -44,4 +38,4 @@ returns c =
     simp (toZ-ofZ, s .fits .bent, s .fits .t, s .fits .y, k .0, k .1, k .2) at (c .magnitude .ensures)
 
 pub fourth-miss-spec : {M : Type 1} → statement M
-fourth-miss-spec = tie.close (tie.spec sub-magnitude mul-magnitude sub-magnitude-2 magnitude-requires returns)
+fourth-miss-spec = tie.close (tie.spec sub-magnitude (λ c. search (toZ-ofZ, facts c)) (λ c. search (toZ-ofZ, facts c)) magnitude-requires returns)

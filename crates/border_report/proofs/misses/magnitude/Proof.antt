@@ -3,7 +3,7 @@
 use mathlib.Core.Path.{_≡_}
 use Prim.Native.Nat.{ℕ, _^_, _≤_}
 use lib.Dec.{lit<}
-use lib.IntN.{ℤ, pos, natAbs, _*ℤ_}
+use lib.IntN.{pos, natAbs, _*ℤ_}
 use mir.Syntax.{w64}
 use mir.Val.{SFits, Fits, toZ, ofZ}
 use mir.Facts.{toZ-ofZ}
@@ -12,9 +12,6 @@ use native.Mathlib.Omega.{arith}
 use borrow.Author.Needs.{needs}
 use Rattle.border_report.proofs.misses.magnitude.Statement.{statement}
 use Rattle.border_report.proofs.misses.magnitude.Tie as tie
-
-sign-of-requires : tie.Need-sign-of-requires
-sign-of-requires c κs = search needs
 
 magnitude-fits : (n : ℕ) → n ≤ 2 ^ 62 → SFits w64 (pos n)
 magnitude-fits n h = abs-fits w64 (pos n) (2 ^ 62) h (lit< tt)
@@ -43,4 +40,4 @@ returns c =
     rw (product c, toZ-ofZ (magnitude-fits n (c .before .pre)))
 
 pub magnitude-spec : {M : Type 1} → statement M
-magnitude-spec = tie.close (tie.spec sign-of-requires mul-result cast-result returns)
+magnitude-spec = tie.close (tie.spec (λ c κs. search needs) mul-result cast-result returns)

@@ -36,20 +36,11 @@ facts c =
     let s = c .before in
     fits (s .args .bent) (c .lean .result) (s .args .h) (s .args .x) (s .pre .4) (c .lean .ensures .1) (s .pre .1) (s .pre .2)
 
-lean-requires : tie.Need-lean-requires
-lean-requires c κs = search needs
-
 mul-magnitude : tie.Need-mul-magnitude
 mul-magnitude c = simp (toZ-ofZ, leans c) (facts c .0)
 
-sub-magnitude : tie.Need-sub-magnitude
-sub-magnitude c = let k = facts c in simp (toZ-ofZ, c .before .fits .bent, leans c, k .0) (k .1)
-
 sub-magnitude-2 : tie.Need-sub-magnitude-2
 sub-magnitude-2 c = simp (toZ-ofZ, c .before .fits .x, c .before .fits .h) (facts c .2)
-
-mul-magnitude-2 : tie.Need-mul-magnitude-2
-mul-magnitude-2 c = let k = facts c in simp (toZ-ofZ, c .before .fits .x, c .before .fits .h, k .2) (k .3)
 
 sub-magnitude-3 : tie.Need-sub-magnitude-3
 sub-magnitude-3 c =
@@ -75,5 +66,5 @@ returns c =
 
 pub second-miss-spec : {M : Type 1} → statement M
 second-miss-spec =
-    tie.close
-    (tie.spec lean-requires mul-magnitude sub-magnitude sub-magnitude-2 mul-magnitude-2 sub-magnitude-3 magnitude-requires returns)
+    tie.close (tie.spec (λ c κs. search needs) mul-magnitude (λ c. search (toZ-ofZ, facts c)) sub-magnitude-2 (λ c. search (toZ-ofZ, facts c))
+    sub-magnitude-3 magnitude-requires returns)

@@ -82,15 +82,6 @@ module _ (v : SideValues) (h : Sized v) (b a o d : ℤ) (hb : WrittenSize b) (ha
       ≡ natAbs (fourth (v .head) (v .tail) (v .x) (v .y) (v .cosine) b a o)
   fourth-is = rw (bent-is, tail-same v h, y-same v h)
 
-bend-requires : tie.Need-bend-requires
-bend-requires c κs = search needs
-
-bend-requires-2 : tie.Need-bend-requires-2
-bend-requires-2 c κs = search needs
-
-bend-requires-3 : tie.Need-bend-requires-3
-bend-requires-3 c κs = search needs
-
 bend-requires-4 : tie.Need-bend-requires-4
 bend-requires-4 c κs =
     let s = c .before .before .before .before .before .before .before .before .before .before .before .before .before .before .before in
@@ -170,14 +161,5 @@ returns c (suc (suc (suc (suc j)))) few = absurd (omega arith)
 
 pub side-misses-spec : {M : Type 1} → statement M
 side-misses-spec =
-    tie.close
-    (tie.spec
-    bend-requires
-    bend-requires-2
-    bend-requires-3
-    bend-requires-4
-    first-miss-requires
-    second-miss-requires
-    third-miss-requires
-    fourth-miss-requires
-    returns)
+    tie.close (tie.spec (λ c κs. search needs) (λ c κs. search needs) (λ c κs. search needs) bend-requires-4 first-miss-requires second-miss-requires
+    third-miss-requires fourth-miss-requires returns)

@@ -35,17 +35,11 @@ facts c =
     let s = c .before in
     fits (s .args .bent) (c .lean .result) (s .args .x) (s .args .y) (s .pre .4) (c .lean .ensures .1) (s .pre .2) (s .pre .3)
 
-lean-requires : tie.Need-lean-requires
-lean-requires c κs = search needs
-
 sub-magnitude : tie.Need-sub-magnitude
 sub-magnitude c = simp (toZ-ofZ, c .before .fits .bent, leans c) (facts c .0)
 
 sub-magnitude-2 : tie.Need-sub-magnitude-2
 sub-magnitude-2 c = simp (toZ-ofZ, c .before .fits .x, c .before .fits .y) (facts c .1)
-
-mul-magnitude : tie.Need-mul-magnitude
-mul-magnitude c = let k = facts c in simp (toZ-ofZ, c .before .fits .x, c .before .fits .y, k .1) (k .2)
 
 sub-magnitude-3 : tie.Need-sub-magnitude-3
 sub-magnitude-3 c =
@@ -71,5 +65,4 @@ returns c =
 
 pub third-miss-spec : {M : Type 1} → statement M
 third-miss-spec =
-    tie.close
-    (tie.spec lean-requires sub-magnitude sub-magnitude-2 mul-magnitude sub-magnitude-3 magnitude-requires returns)
+    tie.close (tie.spec (λ c κs. search needs) sub-magnitude sub-magnitude-2 (λ c. search (toZ-ofZ, facts c)) sub-magnitude-3 magnitude-requires returns)

@@ -7,21 +7,6 @@ use borrow.Author.Needs.{needs}
 use Rattle.border_report.proofs.page_numbers.read.Statement.{statement}
 use Rattle.border_report.proofs.page_numbers.read.Tie as tie
 
-read-lines-requires : tie.Need-read-lines-requires
-read-lines-requires c κs = search needs
-
-read-misses-requires : tie.Need-read-misses-requires
-read-misses-requires c κs = search needs
-
-element-copy-out-t6 : tie.Need-element-copy-out-t6
-element-copy-out-t6 c = search needs
-
-element-copy-out-t9 : tie.Need-element-copy-out-t9
-element-copy-out-t9 c = search needs
-
-element-copy-out-t12 : tie.Need-element-copy-out-t12
-element-copy-out-t12 c = search needs
-
 returns : tie.Need-returns
 returns c =
     let n = c .before .before .before .before .before .args .numbers .now in
@@ -29,12 +14,4 @@ returns c =
     .before .before .read-misses .ensures)
 
 pub read-spec : {M : Type 1} → statement M
-read-spec =
-    tie.close
-    (tie.spec
-    read-lines-requires
-    read-misses-requires
-    element-copy-out-t6
-    element-copy-out-t9
-    element-copy-out-t12
-    returns)
+read-spec = tie.close (tie.spec (λ c κs. search needs) (λ c κs. search needs) (λ c. search needs) (λ c. search needs) (λ c. search needs) returns)

@@ -20,27 +20,6 @@ abbrev μ-loop : tie.MeasureT-loop
 loop-holds : tie.Need-loop-holds Inv-loop μ-loop
 loop-holds c = (omega arith, filled-none _ (replicate lines 0))
 
-add-refusals : tie.Need-add-refusals Inv-loop μ-loop
-add-refusals c = search needs
-
-mul-refusals : tie.Need-mul-refusals Inv-loop μ-loop
-mul-refusals c = search needs
-
-element-copy-out-refusals : tie.Need-element-copy-out-refusals Inv-loop μ-loop
-element-copy-out-refusals c = search needs
-
-mul-refusals-2 : tie.Need-mul-refusals-2 Inv-loop μ-loop
-mul-refusals-2 c = search needs
-
-array-write-refusals : tie.Need-array-write-refusals Inv-loop μ-loop
-array-write-refusals c = search needs
-
-add-l : tie.Need-add-l Inv-loop μ-loop
-add-l c = search needs
-
-loop-less : tie.Need-loop-less Inv-loop μ-loop
-loop-less c = search needs
-
 loop-again : tie.Need-loop-again Inv-loop μ-loop
 loop-again c =
     let l = c .before .before .loop in
@@ -51,17 +30,5 @@ returns c = let l = c .before .loop in all-lines _ (l .l) (l .refusals) (omega a
 
 pub read-lines-spec : {M : Type 1} → statement M
 read-lines-spec =
-    tie.close
-    (tie.spec
-    Inv-loop
-    μ-loop
-    loop-holds
-    add-refusals
-    mul-refusals
-    element-copy-out-refusals
-    mul-refusals-2
-    array-write-refusals
-    add-l
-    loop-less
-    loop-again
-    returns)
+    tie.close (tie.spec Inv-loop μ-loop loop-holds (λ c. search needs) (λ c. search needs) (λ c. search needs) (λ c. search needs) (λ c. search needs)
+    (λ c. search needs) (λ c. search needs) loop-again returns)

@@ -20,27 +20,6 @@ abbrev μ-loop : tie.MeasureT-loop
 loop-holds : tie.Need-loop-holds Inv-loop μ-loop
 loop-holds c = (omega arith, filled-none _ (replicate conditions 0))
 
-add-misses : tie.Need-add-misses Inv-loop μ-loop
-add-misses c = search needs
-
-mul-misses : tie.Need-mul-misses Inv-loop μ-loop
-mul-misses c = search needs
-
-element-copy-out-misses : tie.Need-element-copy-out-misses Inv-loop μ-loop
-element-copy-out-misses c = search needs
-
-mul-misses-2 : tie.Need-mul-misses-2 Inv-loop μ-loop
-mul-misses-2 c = search needs
-
-array-write-misses : tie.Need-array-write-misses Inv-loop μ-loop
-array-write-misses c = search needs
-
-add-j : tie.Need-add-j Inv-loop μ-loop
-add-j c = search needs
-
-loop-less : tie.Need-loop-less Inv-loop μ-loop
-loop-less c = search needs
-
 loop-again : tie.Need-loop-again Inv-loop μ-loop
 loop-again c =
     let l = c .before .before .loop in
@@ -51,17 +30,5 @@ returns c = let l = c .before .loop in all-conditions _ (l .j) (l .misses) (omeg
 
 pub read-misses-spec : {M : Type 1} → statement M
 read-misses-spec =
-    tie.close
-    (tie.spec
-    Inv-loop
-    μ-loop
-    loop-holds
-    add-misses
-    mul-misses
-    element-copy-out-misses
-    mul-misses-2
-    array-write-misses
-    add-j
-    loop-less
-    loop-again
-    returns)
+    tie.close (tie.spec Inv-loop μ-loop loop-holds (λ c. search needs) (λ c. search needs) (λ c. search needs) (λ c. search needs) (λ c. search needs)
+    (λ c. search needs) (λ c. search needs) loop-again returns)

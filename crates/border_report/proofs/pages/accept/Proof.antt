@@ -10,17 +10,11 @@ use borrow.Author.Needs.{needs}
 use Rattle.border_report.proofs.pages.accept.Statement.{statement}
 use Rattle.border_report.proofs.pages.accept.Tie as tie
 
-larger-misses-requires : tie.Need-larger-misses-requires
-larger-misses-requires c κs = search needs
-
 add-t7 : tie.Need-add-t7
 add-t7 c = let s = c .before .before .before .before in omega (arith, page-small (s .args .page) (s .pre .0) .0)
 
 add-t9 : tie.Need-add-t9
 add-t9 c = let s = c .before .before .before .before .before in omega (arith, page-small (s .args .page) (s .pre .0) .1 .corners-small, s .pre .1)
-
-mul-t11 : tie.Need-mul-t11
-mul-t11 c = search needs
 
 add-t12 : tie.Need-add-t12
 add-t12 c = let s = c .before .before .before .before .before .before in omega (arith, page-small (s .args .page) (s .pre .0) .1 .borders-small, s .pre .1)
@@ -33,4 +27,4 @@ returns c =
     .larger-misses .ensures)
 
 pub accept-spec : {M : Type 1} → statement M
-accept-spec = tie.close (tie.spec larger-misses-requires add-t7 add-t9 mul-t11 add-t12 returns)
+accept-spec = tie.close (tie.spec (λ c κs. search needs) add-t7 add-t9 (λ c. search needs) add-t12 returns)

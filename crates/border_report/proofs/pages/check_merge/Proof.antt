@@ -12,22 +12,13 @@ returns c = let a = c .before .before .args in many-both (a .page) (a .other) (s
 returns-2 : tie.Need-returns-2
 returns-2 c = let a = c .before .before .before .before .args in many-both (a .page) (a .other) (search needs)
 
-add-if3 : tie.Need-add-if3
-add-if3 c = search needs
-
 returns-3 : tie.Need-returns-3
 returns-3 c = let a = c .before .before .before .before .before .before .before .args in many-both (a .page) (a .other) (search needs)
-
-is-above-requires : tie.Need-is-above-requires
-is-above-requires c κs = search needs
 
 returns-4 : tie.Need-returns-4
 returns-4 c =
     let a = c .before .before .before .before .before .before .before .before .before .args in
     large-first (a .page) (a .other) (search needs) (sym (c .if4 .taken) ∙ c .before .is-above .ensures)
-
-is-above-requires-2 : tie.Need-is-above-requires-2
-is-above-requires-2 c κs = search needs
 
 returns-5 : tie.Need-returns-5
 returns-5 c =
@@ -43,14 +34,4 @@ returns-6 c =
 
 pub check-merge-spec : {M : Type 1} → statement M
 check-merge-spec =
-    tie.close
-    (tie.spec
-    returns
-    returns-2
-    add-if3
-    returns-3
-    is-above-requires
-    returns-4
-    is-above-requires-2
-    returns-5
-    returns-6)
+    tie.close (tie.spec returns returns-2 (λ c. search needs) returns-3 (λ c κs. search needs) returns-4 (λ c κs. search needs) returns-5 returns-6)

@@ -15,22 +15,10 @@ returns-2 c = above-corners (c .before .before .before .before .before .before .
 returns-3 : tie.Need-returns-3
 returns-3 c = above-borders (c .before .before .before .before .before .before .before .before .args .page) (search needs) (search needs) (search needs)
 
-slice-aggregate-some-above : tie.Need-slice-aggregate-some-above
-slice-aggregate-some-above c = search needs
-
-some-above-requires : tie.Need-some-above-requires
-some-above-requires c κs = search needs
-
 returns-4 : tie.Need-returns-4
 returns-4 c =
     above-refusals (c .before .before .before .before .before .before .before .before .before .before .before .args .page) (search needs) (search
     needs) (search needs) (sym (c .if4 .taken) ∙ c .before .some-above .ensures)
-
-slice-aggregate-some-above-2 : tie.Need-slice-aggregate-some-above-2
-slice-aggregate-some-above-2 c = search needs
-
-some-above-requires-2 : tie.Need-some-above-requires-2
-some-above-requires-2 c κs = search needs
 
 returns-5 : tie.Need-returns-5
 returns-5 c =
@@ -41,14 +29,5 @@ returns-5 c =
 
 pub is-above-spec : {M : Type 1} → statement M
 is-above-spec =
-    tie.close
-    (tie.spec
-    returns
-    returns-2
-    returns-3
-    slice-aggregate-some-above
-    some-above-requires
-    returns-4
-    slice-aggregate-some-above-2
-    some-above-requires-2
+    tie.close (tie.spec returns returns-2 returns-3 (λ c. search needs) (λ c κs. search needs) returns-4 (λ c. search needs) (λ c κs. search needs)
     returns-5)

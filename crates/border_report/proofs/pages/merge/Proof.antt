@@ -8,19 +8,10 @@ use borrow.Author.Needs.{needs}
 use Rattle.border_report.proofs.pages.merge.Statement.{statement}
 use Rattle.border_report.proofs.pages.merge.Tie as tie
 
-check-merge-requires : tie.Need-check-merge-requires
-check-merge-requires c κs = search needs
-
-enum-known-a : tie.Need-enum-known-a
-enum-known-a c = search needs
-
 returns : tie.Need-returns
 returns c =
     let a = c .before .before .before .before .args in
     refused-merge (a .page) (a .other) _ _ (sym (ap stated (c .before .a .given .1)) ∙ c .before .before .before .check-merge .ensures)
-
-enum-told : tie.Need-enum-told
-enum-told c = search needs
 
 sum-pages-requires : tie.Need-sum-pages-requires
 sum-pages-requires c κs = passed (c .before .before .check-merge .result) (c .before .before .check-merge .ensures) (c .enum-told .given .1)
@@ -32,6 +23,4 @@ returns-2 c =
     done-merge (a .page) (a .other) _ (passed (m .result) (m .ensures) (c .before .enum-told .given .1)) (c .sum-pages .ensures)
 
 pub merge-spec : {M : Type 1} → statement M
-merge-spec =
-    tie.close
-    (tie.spec check-merge-requires enum-known-a returns enum-told sum-pages-requires returns-2)
+merge-spec = tie.close (tie.spec (λ c κs. search needs) (λ c. search needs) returns (λ c. search needs) sum-pages-requires returns-2)

@@ -10,12 +10,6 @@ use borrow.Author.Needs.{needs}
 use Rattle.border_report.proofs.pages.number_of.Statement.{statement}
 use Rattle.border_report.proofs.pages.number_of.Tie as tie
 
-cast-result : tie.Need-cast-result
-cast-result c = search needs
-
-add-result : tie.Need-add-result
-add-result c = search needs
-
 returns : tie.Need-returns
 returns c = number-at (c .before .args .l) (search needs)
 
@@ -23,4 +17,4 @@ returns-2 : tie.Need-returns-2
 returns-2 c = let e : c .before .args .l ≡ 13 = omega arith in ap (λ (l : ℕ). getD lineNumbers l 0) (sym e)
 
 pub number-of-spec : {M : Type 1} → statement M
-number-of-spec = tie.close (tie.spec cast-result add-result returns returns-2)
+number-of-spec = tie.close (tie.spec (λ c. search needs) (λ c. search needs) returns returns-2)

@@ -3,12 +3,11 @@
 use Prim.Native.Nat.{ℕ, _+_, _-_, _≤_}
 use mathlib.Core.Path.{ap}
 use lib.ListN.{getD, replicate}
-use Rattle.paper.specs.Report.{lines}
+use Rattle.paper.specs.Report.{lines, lineNumbers}
 use Rattle.mesh.proofs.Fills.{Filled, filled-none, filled-step}
 use Rattle.border_report.proofs.pages.Lists.{all-lines}
 use lib.Dec.{eqb}
 use Rattle.paper.specs.Scan.{pickN}
-use Rattle.paper.specs.Report.{lineNumbers}
 use native.Mathlib.Omega.{arith}
 use borrow.Author.Needs.{needs}
 use Rattle.border_report.proofs.pages.one_more.Statement.{statement}
@@ -24,29 +23,8 @@ abbrev μ-loop : tie.MeasureT-loop
 loop-holds : tie.Need-loop-holds Inv-loop μ-loop
 loop-holds c = (omega arith, filled-none _ (replicate lines 0))
 
-under-requires : tie.Need-under-requires Inv-loop μ-loop
-under-requires c κs = search needs
-
-mul-new : tie.Need-mul-new Inv-loop μ-loop
-mul-new c = search needs
-
-array-read-new : tie.Need-array-read-new Inv-loop μ-loop
-array-read-new c = search needs
-
 add-new : tie.Need-add-new Inv-loop μ-loop
 add-new c = omega (arith, c .before .before .before .pre (c .before .before .loop .l), c .under .ensures .1)
-
-mul-new-2 : tie.Need-mul-new-2 Inv-loop μ-loop
-mul-new-2 c = search needs
-
-array-write-new : tie.Need-array-write-new Inv-loop μ-loop
-array-write-new c = search needs
-
-add-l : tie.Need-add-l Inv-loop μ-loop
-add-l c = search needs
-
-loop-less : tie.Need-loop-less Inv-loop μ-loop
-loop-less c = search needs
 
 loop-again : tie.Need-loop-again Inv-loop μ-loop
 loop-again c =
@@ -61,18 +39,5 @@ returns c = let l = c .before .loop in all-lines _ (l .l) (l .new) (omega arith)
 
 pub one-more-spec : {M : Type 1} → statement M
 one-more-spec =
-    tie.close
-    (tie.spec
-    Inv-loop
-    μ-loop
-    loop-holds
-    under-requires
-    mul-new
-    array-read-new
-    add-new
-    mul-new-2
-    array-write-new
-    add-l
-    loop-less
-    loop-again
-    returns)
+    tie.close (tie.spec Inv-loop μ-loop loop-holds (λ c κs. search needs) (λ c. search needs) (λ c. search needs) add-new (λ c. search needs)
+    (λ c. search needs) (λ c. search needs) (λ c. search needs) loop-again returns)

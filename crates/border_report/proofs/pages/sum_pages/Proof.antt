@@ -16,21 +16,6 @@ sums-requires c κs l =
     let b = both-small (s .args .page) (s .args .other) (s .pre) in
     (b .1 .refusals-small l, b .2 .refusals-small l)
 
-array-read-t12 : tie.Need-array-read-t12
-array-read-t12 c = search needs
-
-array-read-t15 : tie.Need-array-read-t15
-array-read-t15 c = search needs
-
-array-read-t18 : tie.Need-array-read-t18
-array-read-t18 c = search needs
-
-array-read-t21 : tie.Need-array-read-t21
-array-read-t21 c = search needs
-
-larger-misses-requires : tie.Need-larger-misses-requires
-larger-misses-requires c κs = search needs
-
 add-t12 : tie.Need-add-t12
 add-t12 c =
     let s = c .before .before .before .before .before .before .before .before in
@@ -60,15 +45,5 @@ returns c =
 
 pub sum-pages-spec : {M : Type 1} → statement M
 sum-pages-spec =
-    tie.close
-    (tie.spec
-    sums-requires
-    array-read-t12
-    array-read-t15
-    array-read-t18
-    array-read-t21
-    larger-misses-requires
-    add-t12
-    add-t21
-    add-t18
-    returns)
+    tie.close (tie.spec sums-requires (λ c. search needs) (λ c. search needs) (λ c. search needs) (λ c. search needs) (λ c κs. search needs) add-t12 add-t21
+    add-t18 returns)

@@ -20,32 +20,8 @@ abbrev μ-loop : tie.MeasureT-loop
 loop-holds : tie.Need-loop-holds Inv-loop μ-loop
 loop-holds c = (omega arith, filled-none _ (replicate lines 0))
 
-mul-new : tie.Need-mul-new Inv-loop μ-loop
-mul-new c = search needs
-
-array-read-new : tie.Need-array-read-new Inv-loop μ-loop
-array-read-new c = search needs
-
-mul-new-2 : tie.Need-mul-new-2 Inv-loop μ-loop
-mul-new-2 c = search needs
-
-array-read-new-2 : tie.Need-array-read-new-2 Inv-loop μ-loop
-array-read-new-2 c = search needs
-
 add-new : tie.Need-add-new Inv-loop μ-loop
 add-new c = let l = c .before .loop .l in omega (arith, c .before .before .pre l .0, c .before .before .pre l .1)
-
-mul-new-3 : tie.Need-mul-new-3 Inv-loop μ-loop
-mul-new-3 c = search needs
-
-array-write-new : tie.Need-array-write-new Inv-loop μ-loop
-array-write-new c = search needs
-
-add-l : tie.Need-add-l Inv-loop μ-loop
-add-l c = search needs
-
-loop-less : tie.Need-loop-less Inv-loop μ-loop
-loop-less c = search needs
 
 loop-again : tie.Need-loop-again Inv-loop μ-loop
 loop-again c =
@@ -57,19 +33,5 @@ returns c = let l = c .before .loop in all-lines _ (l .l) (l .new) (omega arith)
 
 pub sums-spec : {M : Type 1} → statement M
 sums-spec =
-    tie.close
-    (tie.spec
-    Inv-loop
-    μ-loop
-    loop-holds
-    mul-new
-    array-read-new
-    mul-new-2
-    array-read-new-2
-    add-new
-    mul-new-3
-    array-write-new
-    add-l
-    loop-less
-    loop-again
-    returns)
+    tie.close (tie.spec Inv-loop μ-loop loop-holds (λ c. search needs) (λ c. search needs) (λ c. search needs) (λ c. search needs) add-new
+    (λ c. search needs) (λ c. search needs) (λ c. search needs) (λ c. search needs) loop-again returns)

@@ -9,9 +9,6 @@ use borrow.Author.Needs.{needs}
 use Rattle.border_report.proofs.pages.under.Statement.{statement}
 use Rattle.border_report.proofs.pages.under.Tie as tie
 
-number-of-requires : tie.Need-number-of-requires
-number-of-requires c κs = search needs
-
 returns : tie.Need-returns
 returns c =
     let s = c .before .before in
@@ -25,4 +22,4 @@ returns-2 c =
     (rw (ne-eqb (getD lineNumbers (s .args .l) 0) (s .args .number) n), omega arith)
 
 pub under-spec : {M : Type 1} → statement M
-under-spec = tie.close (tie.spec number-of-requires returns returns-2)
+under-spec = tie.close (tie.spec (λ c κs. search needs) returns returns-2)

@@ -55,6 +55,4 @@ returns c =
     walk-end (now (s .args .sides)) (s .args .c) (l .end) (s .pre .1) (l .inv .0) (l .inv .1) (λ q. c .if1 .taken (e ∙ q))
 
 pub face-end-spec : {M : Type 1} → statement M
-face-end-spec =
-    tie.close
-    (tie.spec Inv-loop μ-loop loop-holds next-requires add-end loop-less loop-again returns)
+face-end-spec = tie.close (tie.spec Inv-loop μ-loop loop-holds next-requires add-end loop-less loop-again returns)

@@ -25,9 +25,6 @@ module _ (c : tie.After-face-end) where
       let l = first-ends (now (s .args .sides)) (s .args .c) (s .pre .1) in
       (omega arith, omega arith, omega arith, omega arith)
 
-face-end-requires : tie.Need-face-end-requires
-face-end-requires c κs = search needs
-
 sub-t7 : tie.Need-sub-t7
 sub-t7 c = last c .0
 
@@ -44,4 +41,4 @@ returns c =
     ∙ walk-round (now (t .args .sides)) (t .args .c) d (t .pre .1) (last b .2) (last b .3) (omega (arith, b .face-end .ensures, last b .0))
 
 pub face-start-spec : {M : Type 1} → statement M
-face-start-spec = tie.close (tie.spec face-end-requires sub-t7 next-requires returns)
+face-start-spec = tie.close (tie.spec (λ c κs. search needs) sub-t7 next-requires returns)

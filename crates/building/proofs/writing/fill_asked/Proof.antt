@@ -1,8 +1,8 @@
 -- `building::writing::fill_asked` meets its contract: where the rings of the range are not taken, its vertices are marked, and the corners there are filled.
 -- Assumes nothing.
-use mathlib.Core.Path.{_≡_, refl, subst, sym, _∙_}
+use mathlib.Core.Path.{_≡_}
 use mathlib.Core.List.{List}
-use Prim.Native.Nat.{ℕ, _+_, _-_, _*_, _≤_, _<_}
+use Prim.Native.Nat.{ℕ}
 use native.Mathlib.Omega.{arith}
 use borrow.Author.Needs.{needs}
 use lib.ListN.{length}
@@ -24,20 +24,8 @@ module _ (s : tie.Start) where
   sums : sumOf (now (s .args .sides)) ≡ length (now (s .args .corners))
   sums = refinable-of mesh (s .pre .0) .sums
 
-fill-near-requires : tie.Need-fill-near-requires
-fill-near-requires c κs = search needs
-
-same-length : tie.Need-same-length
-same-length c = search needs
-
 returns : tie.Need-returns
 returns c = c .before .before .fill-near .ensures .0 (c .if1 .taken)
-
-slice-aggregate-fill-wanted : tie.Need-slice-aggregate-fill-wanted
-slice-aggregate-fill-wanted c = search needs
-
-slice-aggregate-fill-wanted-2 : tie.Need-slice-aggregate-fill-wanted-2
-slice-aggregate-fill-wanted-2 c = search needs
 
 fill-wanted-requires : tie.Need-fill-wanted-requires
 fill-wanted-requires c κs =
@@ -70,12 +58,6 @@ module _ (w : tie.After-fill-wanted) where
   left : w .before .before .before .before .before .fill-near .last .1 .1 .1 .1 .1 .1 .1 .0 ≡ now (start .args .points)
   left = w .before .before .before .before .before .fill-near .ensures .1 (w .before .before .before .if1 .left)
 
-slice-aggregate-fill-points : tie.Need-slice-aggregate-fill-points
-slice-aggregate-fill-points c = search needs
-
-slice-aggregate-fill-points-2 : tie.Need-slice-aggregate-fill-points-2
-slice-aggregate-fill-points-2 c = search needs
-
 fill-points-requires : tie.Need-fill-points-requires
 fill-points-requires c κs =
     let w = c .before .before .before .before .before in
@@ -83,18 +65,9 @@ fill-points-requires c κs =
       refinable-of (mesh s) (s .pre .0),
       (
         s .pre .1 .0,
-        (
-          (named w, covered w),
-          (
-            omega (arith, faces-in (mesh s) (s .pre .0), w .fill-wanted .kept .1 .1 .1 .1 .1 .0),
-            rw (left w) (s .pre .1 .1 .1),
-          ),
-        ),
+        ((named w, covered w), (omega (arith, faces-in (mesh s) (s .pre .0), w .fill-wanted .kept .1 .1 .1 .1 .1 .0), rw (left w) (s .pre .1 .1 .1))),
       ),
     )
-
-same-length-2 : tie.Need-same-length-2
-same-length-2 c = search needs
 
 returns-2 : tie.Need-returns-2
 returns-2 c =
@@ -105,16 +78,5 @@ returns-2 c =
 
 pub fill-asked-spec : {M : Type 1} → statement M
 fill-asked-spec =
-    tie.close
-    (tie.spec
-    fill-near-requires
-    same-length
-    returns
-    slice-aggregate-fill-wanted
-    slice-aggregate-fill-wanted-2
-    fill-wanted-requires
-    slice-aggregate-fill-points
-    slice-aggregate-fill-points-2
-    fill-points-requires
-    same-length-2
-    returns-2)
+    tie.close (tie.spec (λ c κs. search needs) (λ c. search needs) returns (λ c. search needs) (λ c. search needs) fill-wanted-requires (λ c. search needs)
+    (λ c. search needs) fill-points-requires (λ c. search needs) returns-2)

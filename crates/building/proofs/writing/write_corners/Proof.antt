@@ -35,12 +35,6 @@ mesh s = drawn (s .args .n) (now (s .args .table)) (now (s .args .points))
 loop-holds : tie.Need-loop-holds Inv-loop μ-loop
 loop-holds c = let s = c .before in (search needs, s .pre .1 .0 .2, written-none (mesh s) _ _, refl, refl, λ z. absurd (z refl))
 
-add-c : tie.Need-add-c Inv-loop μ-loop
-add-c c = search needs
-
-mul-at : tie.Need-mul-at Inv-loop μ-loop
-mul-at c = search needs
-
 slice-aggregate-put-net : tie.Need-slice-aggregate-put-net Inv-loop μ-loop
 slice-aggregate-put-net c = sym (c .before .before .loop .inv .3)
 
@@ -53,13 +47,7 @@ put-net-requires c κs =
     let l = c .before .before .before .before .loop in
     let h : l .k < s .args .count = search needs in (
       (s .pre .0, omega (arith, s .pre .1 .0 .1)),
-      (
-        (l .inv .3, l .inv .4),
-        (
-          omega (arith, l .inv .1),
-          (s .pre .1 .1, (λ z w. l .inv .5 (λ e. z (omega arith)))),
-        ),
-      ),
+      ((l .inv .3, l .inv .4), (omega (arith, l .inv .1), (s .pre .1 .1, (λ z w. l .inv .5 (λ e. z (omega arith)))))),
     )
 
 add-k : tie.Need-add-k Inv-loop μ-loop
@@ -68,9 +56,6 @@ add-k c =
     let s = in-loop .before .before .before in
     let f : Fits w64 (in-loop .before .loop .k + 1) = omega (arith, in-loop .loop-test .taken, s .fits .count, s .pre .1 .0 .0) in
     f
-
-loop-less : tie.Need-loop-less Inv-loop μ-loop
-loop-less c = search needs
 
 loop-again : tie.Need-loop-again Inv-loop μ-loop
 loop-again c =
@@ -88,9 +73,6 @@ loop-again c =
           (p .last .1 .1 .1 .1 .1 .0)) q (p .ensures .1)),
     )
 
-same-length : tie.Need-same-length Inv-loop μ-loop
-same-length c = search needs
-
 returns : tie.Need-returns Inv-loop μ-loop
 returns c =
     let s = c .before .before .before in
@@ -99,18 +81,5 @@ returns c =
 
 pub write-corners-spec : {M : Type 1} → statement M
 write-corners-spec =
-    tie.close
-    (tie.spec
-    Inv-loop
-    μ-loop
-    loop-holds
-    add-c
-    mul-at
-    slice-aggregate-put-net
-    slice-aggregate-put-net-2
-    put-net-requires
-    add-k
-    loop-less
-    loop-again
-    same-length
-    returns)
+    tie.close (tie.spec Inv-loop μ-loop loop-holds (λ c. search needs) (λ c. search needs) slice-aggregate-put-net slice-aggregate-put-net-2
+    put-net-requires add-k (λ c. search needs) loop-again (λ c. search needs) returns)

@@ -2,8 +2,7 @@
 -- draw the mesh as far as the nets look.
 -- Assumes nothing.
 use mathlib.Core.Path.{_≡_, _∙_}
-use mathlib.Core.List.{List}
-use Prim.Native.Nat.{ℕ, _+_, _-_, _≤_, _<_}
+use Prim.Native.Nat.{_+_, _-_, _≤_, _<_}
 use native.Mathlib.Omega.{arith}
 use borrow.Author.Needs.{needs}
 use lib.ListN.{length}
@@ -54,12 +53,6 @@ module _ (c : tie.After-face-end) where
 face-start-requires : tie.Need-face-start-requires
 face-start-requires c κs = let s = c .before .before .before .before in (rounds s, ends s .0)
 
-add-face-end : tie.Need-add-face-end
-add-face-end c = search needs
-
-sub-face-end : tie.Need-sub-face-end
-sub-face-end c = search needs
-
 face-end-requires : tie.Need-face-end-requires
 face-end-requires c κs = let s = c .before .before .before .before .before in (rounds s, ends s .1)
 
@@ -82,9 +75,6 @@ fill-asked-requires c κs =
     let s = t b in
     (s .pre .0, (s .pre .1 .0, (omega (arith, whole b), s .pre .1 .1 .1)))
 
-rows-requires : tie.Need-rows-requires
-rows-requires c κs = search needs
-
 write-corners-requires : tie.Need-write-corners-requires
 write-corners-requires c κs =
     let b = c .before .before .before .before .before .before .before in
@@ -94,12 +84,6 @@ write-corners-requires c κs =
           (r .0) (r .1) (at-first b) (at-last b) (s .pre .1 .1 .1 .0) (c .before .before .before .before .before .fill-asked .ensures),
       ((r .0, r .1, r .2), c .before .before .before .rows .ensures),
     )
-
-same-length : tie.Need-same-length
-same-length c = search needs
-
-same-length-2 : tie.Need-same-length-2
-same-length-2 c = search needs
 
 returns : tie.Need-returns
 returns c =
@@ -113,16 +97,5 @@ returns c =
 
 pub write-nets-spec : {M : Type 1} → statement M
 write-nets-spec =
-    tie.close
-    (tie.spec
-    face-start-requires
-    add-face-end
-    sub-face-end
-    face-end-requires
-    sub-all
-    fill-asked-requires
-    rows-requires
-    write-corners-requires
-    same-length
-    same-length-2
-    returns)
+    tie.close (tie.spec face-start-requires (λ c. search needs) (λ c. search needs) face-end-requires sub-all fill-asked-requires (λ c κs. search needs)
+    write-corners-requires (λ c. search needs) (λ c. search needs) returns)

@@ -19,15 +19,6 @@ abbrev μ-loop : tie.MeasureT-loop
 loop-holds : tie.Need-loop-holds Inv-loop μ-loop
 loop-holds c = (omega arith, refl, counted-start _ _ (c .pre .clear))
 
-sub-c : tie.Need-sub-c Inv-loop μ-loop
-sub-c c = search needs
-
-mul-u : tie.Need-mul-u Inv-loop μ-loop
-mul-u c = search needs
-
-shared-slice-read-u : tie.Need-shared-slice-read-u Inv-loop μ-loop
-shared-slice-read-u c = search needs
-
 cast-u : tie.Need-cast-u Inv-loop μ-loop
 cast-u c = omega (arith, c .shared-slice-known .given (c .before .before .loop .c - 1))
 
@@ -66,9 +57,6 @@ mul-vertices-2 c = omega (arith, c .before .shared-slice-known .given (c .before
 slice-write-vertices : tie.Need-slice-write-vertices Inv-loop μ-loop
 slice-write-vertices c = omega (arith, c .before .before .before .before .pre .rowed (c .before .before .before .loop .c - 1) (search needs))
 
-cast-vertices : tie.Need-cast-vertices Inv-loop μ-loop
-cast-vertices c = search needs
-
 mul-vertices-3 : tie.Need-mul-vertices-3 Inv-loop μ-loop
 mul-vertices-3 c = omega (arith, c .before .shared-slice-known .given (c .before .before .before .loop .c - 1))
 
@@ -82,9 +70,6 @@ slice-write-vertices-2 : tie.Need-slice-write-vertices-2 Inv-loop μ-loop
 slice-write-vertices-2 c =
     simp length-set (omega (arith, c .before .before .before .before .pre .rowed (c .before .before .before .loop .c - 1) (search needs)))
 
-loop-less : tie.Need-loop-less Inv-loop μ-loop
-loop-less c = search needs
-
 loop-again : tie.Need-loop-again Inv-loop μ-loop
 loop-again c =
     let s = c .before .before .before .before in let l = c .before .before .before .loop in
@@ -94,38 +79,11 @@ loop-again c =
       counted-step (now (s .args .corners)) (l .vertices) (l .c) (l .c - 1) _ (l .inv .2) (omega arith) h refl (omega (arith, s .pre .rowed (l .c - 1) h)),
     )
 
-same-length : tie.Need-same-length Inv-loop μ-loop
-same-length c = search needs
-
 returns : tie.Need-returns Inv-loop μ-loop
 returns c = let l = c .before .loop in counted-done _ _ (l .c) (search needs) (l .inv .2)
 
 pub count-corners-spec : {M : Type 1} → statement M
 count-corners-spec =
-    tie.close
-    (tie.spec
-    Inv-loop
-    μ-loop
-    loop-holds
-    sub-c
-    mul-u
-    shared-slice-read-u
-    cast-u
-    mul-count
-    add-count
-    mul-count-2
-    slice-read-count
-    add-vertices
-    mul-vertices
-    add-vertices-2
-    mul-vertices-2
-    slice-write-vertices
-    cast-vertices
-    mul-vertices-3
-    add-vertices-3
-    mul-vertices-4
-    slice-write-vertices-2
-    loop-less
-    loop-again
-    same-length
-    returns)
+    tie.close (tie.spec Inv-loop μ-loop loop-holds (λ c. search needs) (λ c. search needs) (λ c. search needs) cast-u mul-count add-count mul-count-2
+    slice-read-count add-vertices mul-vertices add-vertices-2 mul-vertices-2 slice-write-vertices (λ c. search needs) mul-vertices-3 add-vertices-3
+    mul-vertices-4 slice-write-vertices-2 (λ c. search needs) loop-again (λ c. search needs) returns)

@@ -10,24 +10,12 @@ use Rattle.checks.proofs.edges.check_entries.Tie as tie
 returns : tie.Need-returns
 returns c = let s = c .before .before .before in edges-passed _ _ (s .pre .0 .0) (s .args .most) (c .if1 .taken) (s .pre .1)
 
-check-repeats-requires : tie.Need-check-repeats-requires
-check-repeats-requires c κs = search needs
-
-enum-known-a10 : tie.Need-enum-known-a10
-enum-known-a10 c = search needs
-
 returns-2 : tie.Need-returns-2
 returns-2 c =
     let s = c .before .before .before .before .before .before .before in
     let a = c .before .before .before .check-repeats in
     let k = c .before .a10 .given in
     repeats-refused _ _ (s .pre .0 .0) (a .result) (k .0 .0) (k .0 .1 .0) (k .1) (a .ensures)
-
-enum-told : tie.Need-enum-told
-enum-told c = search needs
-
-check-reverses-requires : tie.Need-check-reverses-requires
-check-reverses-requires c κs = search needs
 
 returns-3 : tie.Need-returns-3
 returns-3 c =
@@ -37,13 +25,4 @@ returns-3 c =
     edges-checked _ _ (s .pre .0 .0) (c .check-reverses .result) (λ sides t. sym (ap stated q) ∙ a .ensures sides t) (c .check-reverses .ensures)
 
 pub check-entries-spec : {M : Type 1} → statement M
-check-entries-spec =
-    tie.close
-    (tie.spec
-    returns
-    check-repeats-requires
-    enum-known-a10
-    returns-2
-    enum-told
-    check-reverses-requires
-    returns-3)
+check-entries-spec = tie.close (tie.spec returns (λ c κs. search needs) (λ c. search needs) returns-2 (λ c. search needs) (λ c κs. search needs) returns-3)

@@ -29,9 +29,6 @@ loop-holds c =
       subst (CollectedFrom cs _ _ u (s .args .n)) q (collected-none cs _ u (s .args .n)),
     )
 
-sub-c : tie.Need-sub-c Inv-loop μ-loop
-sub-c c = search needs
-
 cast-c : tie.Need-cast-c Inv-loop μ-loop
 cast-c c = let t = c .before in omega (arith, t .loop .inv .0 .inside, t .before .before .before .before .pre .0 .0 .small)
 
@@ -137,9 +134,6 @@ loop-again c =
       subst (CollectedFrom cs ts _ (s .args .u) (s .args .n)) (sym q) m,
     )
 
-same-length : tie.Need-same-length Inv-loop μ-loop
-same-length c = search needs
-
 returns : tie.Need-returns Inv-loop μ-loop
 returns c =
     let l = c .before .loop in let s = c .before .before .before .before .before in
@@ -147,27 +141,5 @@ returns c =
 
 pub collect-spec : {M : Type 1} → statement M
 collect-spec =
-    tie.close
-    (tie.spec
-    Inv-loop
-    μ-loop
-    loop-holds
-    sub-c
-    cast-c
-    entry-requires
-    mul-at
-    add-at
-    mul-at-2
-    slice-read-at
-    mul-table
-    add-table
-    mul-table-2
-    slice-write-table
-    mul-table-3
-    add-table-2
-    mul-table-4
-    slice-write-table-2
-    loop-less
-    loop-again
-    same-length
-    returns)
+    tie.close (tie.spec Inv-loop μ-loop loop-holds (λ c. search needs) cast-c entry-requires mul-at add-at mul-at-2 slice-read-at mul-table add-table
+    mul-table-2 slice-write-table mul-table-3 add-table-2 mul-table-4 slice-write-table-2 loop-less loop-again (λ c. search needs) returns)

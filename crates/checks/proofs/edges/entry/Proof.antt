@@ -12,18 +12,6 @@ use borrow.Author.Needs.{needs}
 use Rattle.checks.proofs.edges.entry.Statement.{statement}
 use Rattle.checks.proofs.edges.entry.Tie as tie
 
-mul-next : tie.Need-mul-next
-mul-next c = search needs
-
-add-next : tie.Need-add-next
-add-next c = search needs
-
-mul-next-2 : tie.Need-mul-next-2
-mul-next-2 c = search needs
-
-shared-slice-read-next : tie.Need-shared-slice-read-next
-shared-slice-read-next c = search needs
-
 cast-next : tie.Need-cast-next
 cast-next c = let s = c .before in omega (arith, s .pre .0 .2 .nexts-in (s .args .c) (s .pre .0 .0), s .pre .0 .2 .small)
 
@@ -54,9 +42,6 @@ cast-first : tie.Need-cast-first
 cast-first c =
     let s = c .before .before .before in
     omega (arith, c .shared-slice-known3 .given (vertexRow * to (now (s .args .corners)) (now (s .args .table)) (s .args .c) + leavingHere))
-
-add-if1 : tie.Need-add-if1
-add-if1 c = search needs
 
 returns : tie.Need-returns
 returns c =
@@ -89,9 +74,6 @@ returns-2 c =
     let s = c .before .before .before .before .before .before in λ sides e.
     entry-single (now (s .args .corners)) (now (s .args .table)) (now (s .args .vertices)) (s .args .u) (s .args .c) (s .pre .0 .0)
     (s .pre .0 .1) (s .pre .1) sides e (c .before .before .if1 .left) (λ n v. n (c .if2 .taken))
-
-sub-d : tie.Need-sub-d
-sub-d c = search needs
 
 cast-if3 : tie.Need-cast-if3
 cast-if3 c =
@@ -128,32 +110,6 @@ returns-4 c =
 
 pub entry-spec : {M : Type 1} → statement M
 entry-spec =
-    tie.close
-    (tie.spec
-    mul-next
-    add-next
-    mul-next-2
-    shared-slice-read-next
-    cast-next
-    mul-to
-    shared-slice-read-to
-    cast-to
-    mul-first
-    add-first
-    mul-first-2
-    shared-slice-read-first
-    cast-first
-    add-if1
-    returns
-    mul-e
-    add-e
-    mul-e-2
-    shared-slice-read-e
-    returns-2
-    sub-d
-    cast-if3
-    mul-if3
-    shared-slice-read-if3
-    cast-if3-2
-    returns-3
-    returns-4)
+    tie.close (tie.spec (λ c. search needs) (λ c. search needs) (λ c. search needs) (λ c. search needs) cast-next mul-to shared-slice-read-to cast-to
+    mul-first add-first mul-first-2 shared-slice-read-first cast-first (λ c. search needs) returns mul-e add-e mul-e-2 shared-slice-read-e returns-2
+    (λ c. search needs) cast-if3 mul-if3 shared-slice-read-if3 cast-if3-2 returns-3 returns-4)

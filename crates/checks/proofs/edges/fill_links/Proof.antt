@@ -38,18 +38,6 @@ loop-holds c =
       s .pre .0 .2,
     )
 
-mul-last : tie.Need-mul-last Inv-loop μ-loop
-mul-last c = search needs
-
-add-last : tie.Need-add-last Inv-loop μ-loop
-add-last c = search needs
-
-mul-last-2 : tie.Need-mul-last-2 Inv-loop μ-loop
-mul-last-2 c = search needs
-
-slice-read-last : tie.Need-slice-read-last Inv-loop μ-loop
-slice-read-last c = search needs
-
 mark-requires : tie.Need-mark-requires Inv-loop μ-loop
 mark-requires c κs =
     let l = c .before .before .before .before .loop in let s = c .before .before .before .before .before .before .before .before in
@@ -62,12 +50,6 @@ collect-requires c κs =
     let l = c .before .before .before .before .before .before .before .before .before .loop in
     let k = searchable-on _ (l .table) (l .table) (faces-same (l .table)) (l .vertices) _ refl (m .kept .1 .1 .1 .1 .0) (l .inv .3) in
     ((k, l .inv .5, l .inv .10 (l .u) (omega arith)), (m .ensures .0, m .ensures .1 .0 .0))
-
-add-u : tie.Need-add-u Inv-loop μ-loop
-add-u c = search needs
-
-loop-less : tie.Need-loop-less Inv-loop μ-loop
-loop-less c = search needs
 
 loop-again : tie.Need-loop-again Inv-loop μ-loop
 loop-again c =
@@ -90,12 +72,6 @@ loop-again c =
       heads-more (now (s .args .corners)) (l .vertices) _ (l .u) (m .ensures .1 .1) (l .inv .10),
     )
 
-same-length : tie.Need-same-length Inv-loop μ-loop
-same-length c = search needs
-
-same-length-2 : tie.Need-same-length-2 Inv-loop μ-loop
-same-length-2 c = search needs
-
 returns : tie.Need-returns Inv-loop μ-loop
 returns c =
     let l = c .before .loop in let s = c .before .before .before .before .before in
@@ -103,20 +79,5 @@ returns c =
 
 pub fill-links-spec : {M : Type 1} → statement M
 fill-links-spec =
-    tie.close
-    (tie.spec
-    Inv-loop
-    μ-loop
-    loop-holds
-    mul-last
-    add-last
-    mul-last-2
-    slice-read-last
-    mark-requires
-    collect-requires
-    add-u
-    loop-less
-    loop-again
-    same-length
-    same-length-2
-    returns)
+    tie.close (tie.spec Inv-loop μ-loop loop-holds (λ c. search needs) (λ c. search needs) (λ c. search needs) (λ c. search needs) mark-requires
+    collect-requires (λ c. search needs) (λ c. search needs) loop-again (λ c. search needs) (λ c. search needs) returns)

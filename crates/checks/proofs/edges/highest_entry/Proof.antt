@@ -18,27 +18,6 @@ abbrev μ-loop : tie.MeasureT-loop
 loop-holds : tie.Need-loop-holds Inv-loop μ-loop
 loop-holds c = (omega arith, λ j h. absurd (omega arith))
 
-mul-greater-index : tie.Need-mul-greater-index Inv-loop μ-loop
-mul-greater-index c = search needs
-
-add-greater-index : tie.Need-add-greater-index Inv-loop μ-loop
-add-greater-index c = search needs
-
-mul-greater-index-2 : tie.Need-mul-greater-index-2 Inv-loop μ-loop
-mul-greater-index-2 c = search needs
-
-shared-slice-read-greater-index : tie.Need-shared-slice-read-greater-index Inv-loop μ-loop
-shared-slice-read-greater-index c = search needs
-
-greater-index-requires : tie.Need-greater-index-requires Inv-loop μ-loop
-greater-index-requires c κs = search needs
-
-add-c : tie.Need-add-c Inv-loop μ-loop
-add-c c = search needs
-
-loop-less : tie.Need-loop-less Inv-loop μ-loop
-loop-less c = search needs
-
 loop-again : tie.Need-loop-again Inv-loop μ-loop
 loop-again c =
     let s = c .before .before .before .before .before in let l = c .before .before .before .loop in (
@@ -51,17 +30,5 @@ returns c = let l = c .before .loop in λ j h. l .inv .1 j (omega arith)
 
 pub highest-entry-spec : {M : Type 1} → statement M
 highest-entry-spec =
-    tie.close
-    (tie.spec
-    Inv-loop
-    μ-loop
-    loop-holds
-    mul-greater-index
-    add-greater-index
-    mul-greater-index-2
-    shared-slice-read-greater-index
-    greater-index-requires
-    add-c
-    loop-less
-    loop-again
-    returns)
+    tie.close (tie.spec Inv-loop μ-loop loop-holds (λ c. search needs) (λ c. search needs) (λ c. search needs) (λ c. search needs) (λ c κs. search needs)
+    (λ c. search needs) (λ c. search needs) loop-again returns)

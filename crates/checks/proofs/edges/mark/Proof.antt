@@ -38,12 +38,6 @@ loop-holds c =
 add-n : tie.Need-add-n Inv-loop μ-loop
 add-n c = let t = c .before in omega (arith, passed-few _ _ _ _ _ (t .loop .inv .4), t .before .pre .0 .0 .small)
 
-sub-lowest : tie.Need-sub-lowest Inv-loop μ-loop
-sub-lowest c = search needs
-
-sub-d : tie.Need-sub-d Inv-loop μ-loop
-sub-d c = search needs
-
 cast-d : tie.Need-cast-d Inv-loop μ-loop
 cast-d c = let t = c .before in omega (arith, t .loop .inv .0 .inside, t .before .pre .0 .0 .small)
 
@@ -218,34 +212,10 @@ loop-again c =
       subst (λ (x : ℕ). Passed cs u x (l .n + 1) (l .at - 1)) q (passed-more cs u (l .at) (l .n) (l .lowest) n (l .inv .0) (l .inv .4)),
     )
 
-mul-vertices-5 : tie.Need-mul-vertices-5 Inv-loop μ-loop
-mul-vertices-5 c = search needs
-
-add-vertices-3 : tie.Need-add-vertices-3 Inv-loop μ-loop
-add-vertices-3 c = search needs
-
-mul-vertices-6 : tie.Need-mul-vertices-6 Inv-loop μ-loop
-mul-vertices-6 c = search needs
-
-slice-write-vertices-3 : tie.Need-slice-write-vertices-3 Inv-loop μ-loop
-slice-write-vertices-3 c = search needs
-
-mul-vertices-7 : tie.Need-mul-vertices-7 Inv-loop μ-loop
-mul-vertices-7 c = search needs
-
-add-vertices-4 : tie.Need-add-vertices-4 Inv-loop μ-loop
-add-vertices-4 c = search needs
-
-mul-vertices-8 : tie.Need-mul-vertices-8 Inv-loop μ-loop
-mul-vertices-8 c = search needs
-
 slice-write-vertices-4 : tie.Need-slice-write-vertices-4 Inv-loop μ-loop
 slice-write-vertices-4 c =
     let l = c .before .loop in let s = c .before .before in
     simp length-set (omega (arith, s .pre .0 .1, l .inv .1))
-
-same-length : tie.Need-same-length Inv-loop μ-loop
-same-length c = search needs
 
 returns : tie.Need-returns Inv-loop μ-loop
 returns c =
@@ -263,52 +233,8 @@ returns c =
 
 pub mark-spec : {M : Type 1} → statement M
 mark-spec =
-    tie.close
-    (tie.spec
-    Inv-loop
-    μ-loop
-    loop-holds
-    add-n
-    sub-lowest
-    sub-d
-    cast-d
-    mul-next
-    add-next
-    mul-next-2
-    shared-slice-read-next
-    cast-next
-    mul-to
-    shared-slice-read-to
-    cast-to
-    mul-vertices
-    add-vertices
-    mul-vertices-2
-    slice-write-vertices
-    mul-previous
-    add-previous
-    mul-previous-2
-    shared-slice-read-previous
-    cast-previous
-    mul-from
-    shared-slice-read-from
-    cast-from
-    mul-vertices-3
-    add-vertices-2
-    mul-vertices-4
-    slice-write-vertices-2
-    mul-at
-    add-at
-    mul-at-2
-    shared-slice-read-at
-    loop-less
-    loop-again
-    mul-vertices-5
-    add-vertices-3
-    mul-vertices-6
-    slice-write-vertices-3
-    mul-vertices-7
-    add-vertices-4
-    mul-vertices-8
-    slice-write-vertices-4
-    same-length
-    returns)
+    tie.close (tie.spec Inv-loop μ-loop loop-holds add-n (λ c. search needs) (λ c. search needs) cast-d mul-next add-next mul-next-2 shared-slice-read-next
+    cast-next mul-to shared-slice-read-to cast-to mul-vertices add-vertices mul-vertices-2 slice-write-vertices mul-previous add-previous mul-previous-2
+    shared-slice-read-previous cast-previous mul-from shared-slice-read-from cast-from mul-vertices-3 add-vertices-2 mul-vertices-4 slice-write-vertices-2
+    mul-at add-at mul-at-2 shared-slice-read-at loop-less loop-again (λ c. search needs) (λ c. search needs) (λ c. search needs) (λ c. search needs)
+    (λ c. search needs) (λ c. search needs) (λ c. search needs) slice-write-vertices-4 (λ c. search needs) returns)

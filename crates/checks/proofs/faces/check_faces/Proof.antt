@@ -43,9 +43,6 @@ loop-holds c =
     let s = c .before .before .before .before in
     (omega arith, sym (start-zero _), refl, refl, passed-none _ _ _ _ (s .pre .1 .2), subst (FacesTo _ _) (start-zero _) (faces-none _ _))
 
-shared-slice-read-count : tie.Need-shared-slice-read-count Inv-loop2 μ-loop2 Inv-loop μ-loop
-shared-slice-read-count c = search needs
-
 cast-count : tie.Need-cast-count Inv-loop2 μ-loop2 Inv-loop μ-loop
 cast-count c = omega (arith, c .shared-slice-known3 .given (c .before .before .loop .f))
 
@@ -79,12 +76,6 @@ loop2-holds c =
       (omega (arith, e, n, o .inv .1), (λ z. rw (o .inv .1) (sym (previous-start sides (o .f) h (omega arith)))), o .inv .5),
     )
 
-mul-u : tie.Need-mul-u Inv-loop2 μ-loop2 Inv-loop μ-loop
-mul-u c = search needs
-
-shared-slice-read-u : tie.Need-shared-slice-read-u Inv-loop2 μ-loop2 Inv-loop μ-loop
-shared-slice-read-u c = search needs
-
 cast-u : tie.Need-cast-u Inv-loop2 μ-loop2 Inv-loop μ-loop
 cast-u c = omega (arith, c .shared-slice-known4 .given (c .before .before .loop2 .c))
 
@@ -109,12 +100,6 @@ cast-if1 c =
     let s = c .before .before .before .before .before .before .before .before .before .before .before in
     omega (arith, c .slice-known3 .given (vertexRow * getD (now (s .args .corners)) (c .before .before .before .loop2 .c) 0 + lastHere))
 
-same-length : tie.Need-same-length Inv-loop2 μ-loop2 Inv-loop μ-loop
-same-length c = search needs
-
-same-length-2 : tie.Need-same-length-2 Inv-loop2 μ-loop2 Inv-loop μ-loop
-same-length-2 c = search needs
-
 returns : tie.Need-returns Inv-loop2 μ-loop2 Inv-loop μ-loop
 returns c =
     let s = c .before .before .before .before .before .before .before .before .before .before .before .before in
@@ -137,15 +122,6 @@ put-corner-requires c κs =
       omega (arith, l .inv .2, l .inv .3, s .pre .0 .1),
     )
 
-mul-table : tie.Need-mul-table Inv-loop2 μ-loop2 Inv-loop μ-loop
-mul-table c = search needs
-
-add-table : tie.Need-add-table Inv-loop2 μ-loop2 Inv-loop μ-loop
-add-table c = search needs
-
-mul-table-2 : tie.Need-mul-table-2 Inv-loop2 μ-loop2 Inv-loop μ-loop
-mul-table-2 c = search needs
-
 slice-write-table : tie.Need-slice-write-table Inv-loop2 μ-loop2 Inv-loop μ-loop
 slice-write-table c =
     let s = c .before .before .before .before .before .before .before .before .before .before .before .before .before .before .before .before in
@@ -153,12 +129,6 @@ slice-write-table c =
     let l = c .before .before .before .before .before .before .before .before .loop2 in
     let k = c .before .before .put-corner in
     omega (arith, o .inv .2, l .inv .6, l .inv .3, s .pre .1 .0, k .kept .0)
-
-add-vertices : tie.Need-add-vertices Inv-loop2 μ-loop2 Inv-loop μ-loop
-add-vertices c = search needs
-
-cast-vertices : tie.Need-cast-vertices Inv-loop2 μ-loop2 Inv-loop μ-loop
-cast-vertices c = search needs
 
 mul-vertices : tie.Need-mul-vertices Inv-loop2 μ-loop2 Inv-loop μ-loop
 mul-vertices c =
@@ -182,12 +152,6 @@ slice-write-vertices c =
     let l = c .before .before .before .before .before .before .before .before .loop2 in
     let k = c .before .before .put-corner in
     omega (arith, o .inv .3, l .inv .7, s .pre .1 .1 (l .c) (omega (arith, l .inv .3)))
-
-add-c : tie.Need-add-c Inv-loop2 μ-loop2 Inv-loop μ-loop
-add-c c = search needs
-
-loop2-less : tie.Need-loop2-less Inv-loop2 μ-loop2 Inv-loop μ-loop
-loop2-less c = search needs
 
 loop2-again : tie.Need-loop2-again Inv-loop2 μ-loop2 Inv-loop μ-loop
 loop2-again c =
@@ -229,12 +193,6 @@ loop2-again c =
       ),
     )
 
-add-f : tie.Need-add-f Inv-loop2 μ-loop2 Inv-loop μ-loop
-add-f c = search needs
-
-loop-less : tie.Need-loop-less Inv-loop2 μ-loop2 Inv-loop μ-loop
-loop-less c = search needs
-
 loop-again : tie.Need-loop-again Inv-loop2 μ-loop2 Inv-loop μ-loop
 loop-again c =
     let s = c .before .before .before .before .before .before .before .before .before in
@@ -248,12 +206,6 @@ loop-again c =
       subst (Passed (now (s .args .sides)) (now (s .args .corners)) (l .table) (l .vertices)) q (l .inv .8),
       subst (FacesTo (now (s .args .sides)) (l .table)) q (l .inv .9 .2),
     )
-
-same-length-3 : tie.Need-same-length-3 Inv-loop2 μ-loop2 Inv-loop μ-loop
-same-length-3 c = search needs
-
-same-length-4 : tie.Need-same-length-4 Inv-loop2 μ-loop2 Inv-loop μ-loop
-same-length-4 c = search needs
 
 returns-2 : tie.Need-returns-2 Inv-loop2 μ-loop2 Inv-loop μ-loop
 returns-2 c =
@@ -271,46 +223,8 @@ returns-2 c =
 
 pub check-faces-spec : {M : Type 1} → statement M
 check-faces-spec =
-    tie.close
-    (tie.spec
-    Inv-loop2
-    μ-loop2
-    Inv-loop
-    μ-loop
-    loop-holds
-    shared-slice-read-count
-    cast-count
-    add-end
-    sub-before
-    loop2-holds
-    mul-u
-    shared-slice-read-u
-    cast-u
-    mul-last
-    add-last
-    mul-last-2
-    slice-read-last
-    cast-if1
-    same-length
-    same-length-2
-    returns
-    put-corner-requires
-    mul-table
-    add-table
-    mul-table-2
-    slice-write-table
-    add-vertices
-    cast-vertices
-    mul-vertices
-    add-vertices-2
-    mul-vertices-2
-    slice-write-vertices
-    add-c
-    loop2-less
-    loop2-again
-    add-f
-    loop-less
-    loop-again
-    same-length-3
-    same-length-4
-    returns-2)
+    tie.close (tie.spec Inv-loop2 μ-loop2 Inv-loop μ-loop loop-holds (λ c. search needs) cast-count add-end sub-before loop2-holds (λ c. search needs)
+    (λ c. search needs) cast-u mul-last add-last mul-last-2 slice-read-last cast-if1 (λ c. search needs) (λ c. search needs) returns put-corner-requires
+    (λ c. search needs) (λ c. search needs) (λ c. search needs) slice-write-table (λ c. search needs) (λ c. search needs) mul-vertices add-vertices-2
+    mul-vertices-2 slice-write-vertices (λ c. search needs) (λ c. search needs) loop2-again (λ c. search needs) (λ c. search needs) loop-again
+    (λ c. search needs) (λ c. search needs) returns-2)

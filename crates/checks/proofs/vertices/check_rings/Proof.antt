@@ -18,32 +18,8 @@ abbrev μ-loop : tie.MeasureT-loop
 loop-holds : tie.Need-loop-holds Inv-loop μ-loop
 loop-holds c = (omega arith, whole-none _ _)
 
-mul-n : tie.Need-mul-n Inv-loop μ-loop
-mul-n c = search needs
-
-add-n : tie.Need-add-n Inv-loop μ-loop
-add-n c = search needs
-
-mul-n-2 : tie.Need-mul-n-2 Inv-loop μ-loop
-mul-n-2 c = search needs
-
-shared-slice-read-n : tie.Need-shared-slice-read-n Inv-loop μ-loop
-shared-slice-read-n c = search needs
-
 cast-n : tie.Need-cast-n Inv-loop μ-loop
 cast-n c = omega (arith, c .shared-slice-known4 .given (vertexRow * c .before .before .loop .u + countHere))
-
-mul-lowest : tie.Need-mul-lowest Inv-loop μ-loop
-mul-lowest c = search needs
-
-add-lowest : tie.Need-add-lowest Inv-loop μ-loop
-add-lowest c = search needs
-
-mul-lowest-2 : tie.Need-mul-lowest-2 Inv-loop μ-loop
-mul-lowest-2 c = search needs
-
-shared-slice-read-lowest : tie.Need-shared-slice-read-lowest Inv-loop μ-loop
-shared-slice-read-lowest c = search needs
 
 cast-lowest : tie.Need-cast-lowest Inv-loop μ-loop
 cast-lowest c = omega (arith, c .shared-slice-known5 .given (vertexRow * c .before .before .before .loop .u + lowestHere))
@@ -62,12 +38,6 @@ returns c =
     whole-torn (now (s .args .corners)) (now (s .args .table)) (l .u) (s .args .count) (l .inv .1) (s .pre .1 .1) h (now (s .args .vertices)) (s .pre .0 .2)
     (c .before .ring .result) (c .before .ring .ensures) (c .if1 .taken)
 
-add-u : tie.Need-add-u Inv-loop μ-loop
-add-u c = search needs
-
-loop-less : tie.Need-loop-less Inv-loop μ-loop
-loop-less c = search needs
-
 loop-again : tie.Need-loop-again Inv-loop μ-loop
 loop-again c =
     let s = c .before .before .before .before .before .before .before .before .before in let l = c .before .before .before .before .before .loop in
@@ -84,24 +54,6 @@ returns-2 c =
 
 pub check-rings-spec : {M : Type 1} → statement M
 check-rings-spec =
-    tie.close
-    (tie.spec
-    Inv-loop
-    μ-loop
-    loop-holds
-    mul-n
-    add-n
-    mul-n-2
-    shared-slice-read-n
-    cast-n
-    mul-lowest
-    add-lowest
-    mul-lowest-2
-    shared-slice-read-lowest
-    cast-lowest
-    ring-requires
-    returns
-    add-u
-    loop-less
-    loop-again
-    returns-2)
+    tie.close (tie.spec Inv-loop μ-loop loop-holds (λ c. search needs) (λ c. search needs) (λ c. search needs) (λ c. search needs) cast-n
+    (λ c. search needs) (λ c. search needs) (λ c. search needs) (λ c. search needs) cast-lowest ring-requires returns (λ c. search needs)
+    (λ c. search needs) loop-again returns-2)

@@ -17,20 +17,11 @@ module _ (t : tie.After-enum-told) where
   twelve : lowestOf 12 (start .args .count) (fault12 (now (start .args .corners))) ≡ sound
   twelve = passed (t .before .before .check-valences .result) (t .before .before .check-valences .ensures) (t .enum-told .given .1)
 
-check-valences-requires : tie.Need-check-valences-requires
-check-valences-requires c κs = search needs
-
-enum-known-a12 : tie.Need-enum-known-a12
-enum-known-a12 c = search needs
-
 returns : tie.Need-returns
 returns c =
     let s = c .before .before .before .before .before .before .before in
     let a = c .before .before .before .check-valences in let k = c .before .a12 .given in
     valences-refused (now (s .args .corners)) (s .args .count) (now (s .args .table)) (a .result) (k .0 .0) (k .0 .1 .0) (k .1) (a .ensures)
-
-enum-told : tie.Need-enum-told
-enum-told c = search needs
 
 check-rings-requires : tie.Need-check-rings-requires
 check-rings-requires c κs =
@@ -43,12 +34,4 @@ returns-2 c =
     vertices-checked (now (s .args .corners)) (s .args .count) (now (s .args .table)) (c .check-rings .result) (twelve (c .before)) (c .check-rings .ensures)
 
 pub check-vertices-spec : {M : Type 1} → statement M
-check-vertices-spec =
-    tie.close
-    (tie.spec
-    check-valences-requires
-    enum-known-a12
-    returns
-    enum-told
-    check-rings-requires
-    returns-2)
+check-vertices-spec = tie.close (tie.spec (λ c κs. search needs) (λ c. search needs) returns (λ c. search needs) check-rings-requires returns-2)

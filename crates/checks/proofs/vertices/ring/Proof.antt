@@ -20,15 +20,6 @@ loop-holds c = around-start _ _ _ _ (c .before .pre .0)
 linked-requires : tie.Need-linked-requires Inv-loop μ-loop
 linked-requires c κs = let s = c .before .before .before in let l = c .before .loop in omega (arith, l .inv .within, s .pre .1 .long)
 
-sub-left : tie.Need-sub-left Inv-loop μ-loop
-sub-left c = search needs
-
-add-len : tie.Need-add-len Inv-loop μ-loop
-add-len c = search needs
-
-loop-less : tie.Need-loop-less Inv-loop μ-loop
-loop-less c = search needs
-
 loop-again : tie.Need-loop-again Inv-loop μ-loop
 loop-again c =
     let s = c .before .before .before .before .before in let l = c .before .before .before .loop in
@@ -48,15 +39,4 @@ returns-2 c =
 
 pub ring-spec : {M : Type 1} → statement M
 ring-spec =
-    tie.close
-    (tie.spec
-    Inv-loop
-    μ-loop
-    loop-holds
-    linked-requires
-    sub-left
-    add-len
-    loop-less
-    loop-again
-    returns
-    returns-2)
+    tie.close (tie.spec Inv-loop μ-loop loop-holds linked-requires (λ c. search needs) (λ c. search needs) (λ c. search needs) loop-again returns returns-2)

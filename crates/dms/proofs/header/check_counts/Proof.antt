@@ -4,21 +4,6 @@ use borrow.Author.Needs.{needs}
 use Rattle.dms.proofs.header.check_counts.Statement.{statement}
 use Rattle.dms.proofs.header.check_counts.Tie as tie
 
-vertex-count-requires : tie.Need-vertex-count-requires
-vertex-count-requires c κs = search needs
-
-mul-check-lengths : tie.Need-mul-check-lengths
-mul-check-lengths c = search needs
-
-face-count-requires : tie.Need-face-count-requires
-face-count-requires c κs = search needs
-
-corner-count-requires : tie.Need-corner-count-requires
-corner-count-requires c κs = search needs
-
-check-lengths-requires : tie.Need-check-lengths-requires
-check-lengths-requires c κs = search needs
-
 returns : tie.Need-returns
 returns c =
     let v = c .before .before .before .vertex-count .ensures .0 in
@@ -28,11 +13,4 @@ returns c =
 
 pub check-counts-spec : {M : Type 1} → statement M
 check-counts-spec =
-    tie.close
-    (tie.spec
-    vertex-count-requires
-    mul-check-lengths
-    face-count-requires
-    corner-count-requires
-    check-lengths-requires
-    returns)
+    tie.close (tie.spec (λ c κs. search needs) (λ c. search needs) (λ c κs. search needs) (λ c κs. search needs) (λ c κs. search needs) returns)

@@ -10,12 +10,6 @@ use Rattle.dms.proofs.header.Headers.{has-header, not-held, all-held}
 use Rattle.dms.proofs.header.check_header.Statement.{statement}
 use Rattle.dms.proofs.header.check_header.Tie as tie
 
-check-length-requires : tie.Need-check-length-requires
-check-length-requires c κs = search needs
-
-enum-known-length : tie.Need-enum-known-length
-enum-known-length c = search needs
-
 returns : tie.Need-returns
 unfolding headerVerdict
 returns c =
@@ -23,16 +17,10 @@ returns c =
     stop _ (c .before .before .before .check-length .ensures) _ _ (c .before .length .given .1)
     (countsVerdict (s .args .file .now) orElse single 3 (ltb (length (s .args .file .now)) (s .args .counted)) 0)
 
-enum-told : tie.Need-enum-told
-enum-told c = search needs
-
 check-counts-requires : tie.Need-check-counts-requires
 check-counts-requires c κs =
     let s = c .before .before .before .before in
     has-header (s .args .file .now) (s .args .counted) (passed _ (c .before .before .check-length .ensures) (c .enum-told .given .1))
-
-enum-known-counts : tie.Need-enum-known-counts
-enum-known-counts c = search needs
 
 returns-2 : tie.Need-returns-2
 unfolding headerVerdict
@@ -41,9 +29,6 @@ returns-2 c =
     past (passed _ (c .before .before .before .before .before .before .check-length .ensures) (c .before .before .before .before .enum-told .given .1)) _
     (stop _ (c .before .before .before .check-counts .ensures) _ _ (c .before .counts .given .1)
     (single 3 (ltb (length (s .args .file .now)) (s .args .counted)) 0))
-
-enum-told-2 : tie.Need-enum-told-2
-enum-told-2 c = search needs
 
 returns-3 : tie.Need-returns-3
 unfolding headerVerdict
@@ -63,15 +48,5 @@ returns-4 c =
 
 pub check-header-spec : {M : Type 1} → statement M
 check-header-spec =
-    tie.close
-    (tie.spec
-    check-length-requires
-    enum-known-length
-    returns
-    enum-told
-    check-counts-requires
-    enum-known-counts
-    returns-2
-    enum-told-2
-    returns-3
-    returns-4)
+    tie.close (tie.spec (λ c κs. search needs) (λ c. search needs) returns (λ c. search needs) check-counts-requires (λ c. search needs) returns-2
+    (λ c. search needs) returns-3 returns-4)

@@ -12,16 +12,10 @@ returns c =
     let s = c .before .before in
     too-short (s .args .file .now) (s .args .counted) (c .if1 .taken)
 
-has-mark-requires : tie.Need-has-mark-requires
-has-mark-requires c κs = search needs
-
 returns-2 : tie.Need-returns-2
 returns-2 c =
     let s = c .before .before .before .before in
     no-mark (s .args .file .now) (s .args .counted) (c .before .before .if1 .left) (sym (c .before .has-mark .ensures) ∙ not-true _ (c .if2 .taken))
-
-has-version-requires : tie.Need-has-version-requires
-has-version-requires c κs = search needs
 
 returns-3 : tie.Need-returns-3
 returns-3 c =
@@ -29,9 +23,6 @@ returns-3 c =
     no-version (s .args .file .now) (s .args .counted) (c .before .before .before .before .if1 .left)
     (sym (c .before .before .before .has-mark .ensures) ∙ not-false _ (c .before .before .if2 .left))
     (sym (c .before .has-version .ensures) ∙ not-true _ (c .if3 .taken))
-
-expected-length-requires : tie.Need-expected-length-requires
-expected-length-requires c κs = search needs
 
 returns-4 : tie.Need-returns-4
 returns-4 c =
@@ -51,13 +42,4 @@ returns-5 c =
 
 pub check-length-spec : {M : Type 1} → statement M
 check-length-spec =
-    tie.close
-    (tie.spec
-    returns
-    has-mark-requires
-    returns-2
-    has-version-requires
-    returns-3
-    expected-length-requires
-    returns-4
-    returns-5)
+    tie.close (tie.spec returns (λ c κs. search needs) returns-2 (λ c κs. search needs) returns-3 (λ c κs. search needs) returns-4 returns-5)

@@ -6,24 +6,15 @@ use Rattle.paper.specs.File.{byteAt, marked}
 use Rattle.dms.proofs.header.has_mark.Statement.{statement}
 use Rattle.dms.proofs.header.has_mark.Tie as tie
 
-shared-slice-read-if1 : tie.Need-shared-slice-read-if1
-shared-slice-read-if1 c = search needs
-
 returns : tie.Need-returns
 unfolding marked
 returns c = let f = c .before .before .args .file .now in rw (ne-eqb (byteAt f 0) 68 (c .if1 .taken))
-
-shared-slice-read-if2 : tie.Need-shared-slice-read-if2
-shared-slice-read-if2 c = search needs
 
 returns-2 : tie.Need-returns-2
 unfolding marked
 returns-2 c =
     let f = c .before .before .before .before .args .file .now in
     rw (eq-eqb (byteAt f 0) 68 (c .before .before .if1 .left), ne-eqb (byteAt f 1) 77 (c .if2 .taken))
-
-shared-slice-read-result : tie.Need-shared-slice-read-result
-shared-slice-read-result c = search needs
 
 returns-3 : tie.Need-returns-3
 unfolding marked
@@ -32,12 +23,4 @@ returns-3 c =
     rw (eq-eqb (byteAt f 0) 68 (c .before .before .before .if1 .left), eq-eqb (byteAt f 1) 77 (c .before .if2 .left))
 
 pub has-mark-spec : {M : Type 1} → statement M
-has-mark-spec =
-    tie.close
-    (tie.spec
-    shared-slice-read-if1
-    returns
-    shared-slice-read-if2
-    returns-2
-    shared-slice-read-result
-    returns-3)
+has-mark-spec = tie.close (tie.spec (λ c. search needs) returns (λ c. search needs) returns-2 (λ c. search needs) returns-3)

@@ -5,9 +5,6 @@ use Rattle.dms.proofs.header.Headers.{first-version, other-version}
 use Rattle.dms.proofs.header.has_version.Statement.{statement}
 use Rattle.dms.proofs.header.has_version.Tie as tie
 
-half-requires : tie.Need-half-requires
-half-requires c κs = search needs
-
 returns : tie.Need-returns
 returns c = first-version (c .before .before .before .args .file .now) _ (c .before .half .ensures .0) (c .if1 .taken)
 
@@ -15,4 +12,4 @@ returns-2 : tie.Need-returns-2
 returns-2 c = other-version (c .before .before .before .args .file .now) _ (c .before .half .ensures .0) (c .if1 .left)
 
 pub has-version-spec : {M : Type 1} → statement M
-has-version-spec = tie.close (tie.spec half-requires returns returns-2)
+has-version-spec = tie.close (tie.spec (λ c κs. search needs) returns returns-2)

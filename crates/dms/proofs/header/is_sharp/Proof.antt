@@ -8,12 +8,9 @@ use Rattle.paper.specs.File.{sharp}
 use Rattle.dms.proofs.header.is_sharp.Statement.{statement}
 use Rattle.dms.proofs.header.is_sharp.Tie as tie
 
-half-requires : tie.Need-half-requires
-half-requires c κs = search needs
-
 returns : tie.Need-returns
 unfolding sharp
 returns c = ap (λ (n : ℕ). eqb n 2) (c .half .ensures .0)
 
 pub is-sharp-spec : {M : Type 1} → statement M
-is-sharp-spec = tie.close (tie.spec half-requires returns)
+is-sharp-spec = tie.close (tie.spec (λ c κs. search needs) returns)

@@ -7,15 +7,6 @@ use Rattle.dms.proofs.header.Headers.{sharp-bytes, plain-bytes}
 use Rattle.dms.proofs.header.sharpness_bytes.Statement.{statement}
 use Rattle.dms.proofs.header.sharpness_bytes.Tie as tie
 
-corner-count-requires : tie.Need-corner-count-requires
-corner-count-requires c κs = search needs
-
-mul-count : tie.Need-mul-count
-mul-count c = search needs
-
-is-sharp-requires : tie.Need-is-sharp-requires
-is-sharp-requires c κs = search needs
-
 returns : tie.Need-returns
 returns c =
     let count = c .before .before .corner-count .ensures in
@@ -26,5 +17,4 @@ returns-2 : tie.Need-returns-2
 returns-2 c = (omega (arith, plain-bytes (c .before .before .before .before .args .file .now) (sym (c .before .is-sharp .ensures) ∙ c .if1 .left)), omega arith)
 
 pub sharpness-bytes-spec : {M : Type 1} → statement M
-sharpness-bytes-spec =
-    tie.close (tie.spec corner-count-requires mul-count is-sharp-requires returns returns-2)
+sharpness-bytes-spec = tie.close (tie.spec (λ c κs. search needs) (λ c. search needs) (λ c κs. search needs) returns returns-2)

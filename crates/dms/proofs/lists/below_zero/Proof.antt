@@ -8,9 +8,6 @@ use Rattle.dms.proofs.lists.Lists.{minus-from-one}
 use Rattle.dms.proofs.lists.below_zero.Statement.{statement}
 use Rattle.dms.proofs.lists.below_zero.Tie as tie
 
-cast-result : tie.Need-cast-result
-cast-result c = search needs
-
 sub-result : tie.Need-sub-result
 sub-result c = rw (toZ-pos w32 (c .args .n) (c .pre), minus-from-one (c .args .n)) (record { sfits = c .pre })
 
@@ -18,4 +15,4 @@ returns : tie.Need-returns
 returns c = rw (toZ-pos w32 (c .args .n) (c .pre), minus-from-one (c .args .n)) (toZ-ofZ w32 (negsuc (c .args .n)) (record { sfits = c .pre }))
 
 pub below-zero-spec : {M : Type 1} → statement M
-below-zero-spec = tie.close (tie.spec cast-result sub-result returns)
+below-zero-spec = tie.close (tie.spec (λ c. search needs) sub-result returns)

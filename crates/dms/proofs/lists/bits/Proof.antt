@@ -43,5 +43,4 @@ returns-2 c =
     simp (toZ-ofZ, s .fits .z) (b .2)
 
 pub bits-spec : {M : Type 1} → statement M
-bits-spec =
-    tie.close (tie.spec sub-result cast-result sub-result-2 cast-result-2 returns returns-2)
+bits-spec = tie.close (tie.spec sub-result cast-result sub-result-2 cast-result-2 returns returns-2)

@@ -8,14 +8,8 @@ use borrow.Author.Needs.{needs}
 use Rattle.dms.proofs.lists.coordinate.Statement.{statement}
 use Rattle.dms.proofs.lists.coordinate.Tie as tie
 
-word-requires : tie.Need-word-requires
-word-requires c κs = search needs
-
-signed-requires : tie.Need-signed-requires
-signed-requires c κs = search needs
-
 returns : tie.Need-returns
 returns c = toZ-ofZ w32 (c .signed .result) (record { sfits = c .signed .ok }) ∙ c .signed .ensures ∙ ap (toZ w32) (c .before .word .ensures)
 
 pub coordinate-spec : {M : Type 1} → statement M
-coordinate-spec = tie.close (tie.spec word-requires signed-requires returns)
+coordinate-spec = tie.close (tie.spec (λ c κs. search needs) (λ c κs. search needs) returns)

@@ -22,24 +22,12 @@ loop-holds c =
     let f : ℕ → ℕ = λ k. plain in
     (search needs, (refl, filled-none f (s .args .out .now)))
 
-slice-write-out : tie.Need-slice-write-out Inv-loop μ-loop
-slice-write-out c = search needs
-
-add-i : tie.Need-add-i Inv-loop μ-loop
-add-i c = search needs
-
-loop-less : tie.Need-loop-less Inv-loop μ-loop
-loop-less c = search needs
-
 loop-again : tie.Need-loop-again Inv-loop μ-loop
 loop-again c =
     let s = c .before .before in
     let f : ℕ → ℕ = λ k. plain in
     let l = c .before .loop in
     (search needs, (rw length-set (l .inv .1 .0), filled-step f (s .args .out .now) (l .i) (l .out) _ 0 (omega arith) (l .inv .1 .1) (refl)))
-
-same-length : tie.Need-same-length Inv-loop μ-loop
-same-length c = search needs
 
 returns : tie.Need-returns Inv-loop μ-loop
 returns c =
@@ -51,14 +39,4 @@ returns c =
 
 pub fill-plain-spec : {M : Type 1} → statement M
 fill-plain-spec =
-    tie.close
-    (tie.spec
-    Inv-loop
-    μ-loop
-    loop-holds
-    slice-write-out
-    add-i
-    loop-less
-    loop-again
-    same-length
-    returns)
+    tie.close (tie.spec Inv-loop μ-loop loop-holds (λ c. search needs) (λ c. search needs) (λ c. search needs) loop-again (λ c. search needs) returns)

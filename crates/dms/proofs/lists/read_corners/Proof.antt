@@ -22,36 +22,12 @@ loop-holds c =
     let f = cornerIn (s .args .file .now) (s .args .start) in
     (search needs, (refl, filled-none f (s .args .out .now)))
 
-mul-half : tie.Need-mul-half Inv-loop μ-loop
-mul-half c = search needs
-
-add-half : tie.Need-add-half Inv-loop μ-loop
-add-half c = search needs
-
-half-requires : tie.Need-half-requires Inv-loop μ-loop
-half-requires c κs = search needs
-
-mul-out : tie.Need-mul-out Inv-loop μ-loop
-mul-out c = search needs
-
-slice-write-out : tie.Need-slice-write-out Inv-loop μ-loop
-slice-write-out c = search needs
-
-add-c : tie.Need-add-c Inv-loop μ-loop
-add-c c = search needs
-
-loop-less : tie.Need-loop-less Inv-loop μ-loop
-loop-less c = search needs
-
 loop-again : tie.Need-loop-again Inv-loop μ-loop
 loop-again c =
     let s = c .before .before .before .before .before in
     let f = cornerIn (s .args .file .now) (s .args .start) in
     let l = c .before .before .loop in
     (search needs, (rw length-set (l .inv .1 .0), filled-step f (s .args .out .now) (l .c) (l .out) _ 0 (omega arith) (l .inv .1 .1) (c .half .ensures .0)))
-
-same-length : tie.Need-same-length Inv-loop μ-loop
-same-length c = search needs
 
 returns : tie.Need-returns Inv-loop μ-loop
 returns c =
@@ -62,18 +38,5 @@ returns c =
 
 pub read-corners-spec : {M : Type 1} → statement M
 read-corners-spec =
-    tie.close
-    (tie.spec
-    Inv-loop
-    μ-loop
-    loop-holds
-    mul-half
-    add-half
-    half-requires
-    mul-out
-    slice-write-out
-    add-c
-    loop-less
-    loop-again
-    same-length
-    returns)
+    tie.close (tie.spec Inv-loop μ-loop loop-holds (λ c. search needs) (λ c. search needs) (λ c κs. search needs) (λ c. search needs) (λ c. search needs)
+    (λ c. search needs) (λ c. search needs) loop-again (λ c. search needs) returns)

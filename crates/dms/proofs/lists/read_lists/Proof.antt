@@ -7,48 +7,6 @@ use Rattle.dms.proofs.lists.Lists.{coordinates-read, sides-read, corner
 use Rattle.dms.proofs.lists.read_lists.Statement.{statement}
 use Rattle.dms.proofs.lists.read_lists.Tie as tie
 
-vertex-count-requires : tie.Need-vertex-count-requires
-vertex-count-requires c κs = search needs
-
-mul-read-coordinates : tie.Need-mul-read-coordinates
-mul-read-coordinates c = search needs
-
-read-coordinates-requires : tie.Need-read-coordinates-requires
-read-coordinates-requires c κs = search needs
-
-sides-start-requires : tie.Need-sides-start-requires
-sides-start-requires c κs = search needs
-
-face-count-requires : tie.Need-face-count-requires
-face-count-requires c κs = search needs
-
-read-bytes-requires : tie.Need-read-bytes-requires
-read-bytes-requires c κs = search needs
-
-corners-start-requires : tie.Need-corners-start-requires
-corners-start-requires c κs = search needs
-
-corner-count-requires : tie.Need-corner-count-requires
-corner-count-requires c κs = search needs
-
-read-corners-requires : tie.Need-read-corners-requires
-read-corners-requires c κs = search needs
-
-read-sharpness-requires : tie.Need-read-sharpness-requires
-read-sharpness-requires c κs = search needs
-
-same-length : tie.Need-same-length
-same-length c = search needs
-
-same-length-2 : tie.Need-same-length-2
-same-length-2 c = search needs
-
-same-length-3 : tie.Need-same-length-3
-same-length-3 c = search needs
-
-same-length-4 : tie.Need-same-length-4
-same-length-4 c = search needs
-
 returns : tie.Need-returns
 returns c =
     let k = c .before .before .before .before .before .before in
@@ -66,20 +24,6 @@ returns c =
 
 pub read-lists-spec : {M : Type 1} → statement M
 read-lists-spec =
-    tie.close
-    (tie.spec
-    vertex-count-requires
-    mul-read-coordinates
-    read-coordinates-requires
-    sides-start-requires
-    face-count-requires
-    read-bytes-requires
-    corners-start-requires
-    corner-count-requires
-    read-corners-requires
-    read-sharpness-requires
-    same-length
-    same-length-2
-    same-length-3
-    same-length-4
-    returns)
+    tie.close (tie.spec (λ c κs. search needs) (λ c. search needs) (λ c κs. search needs) (λ c κs. search needs) (λ c κs. search needs)
+    (λ c κs. search needs) (λ c κs. search needs) (λ c κs. search needs) (λ c κs. search needs) (λ c κs. search needs) (λ c. search needs)
+    (λ c. search needs) (λ c. search needs) (λ c. search needs) returns)

@@ -9,18 +9,6 @@ use Rattle.dms.proofs.header.Headers.{sharp-bytes}
 use Rattle.dms.proofs.lists.read_sharpness.Statement.{statement}
 use Rattle.dms.proofs.lists.read_sharpness.Tie as tie
 
-corner-count-requires : tie.Need-corner-count-requires
-corner-count-requires c κs = search needs
-
-mul-count : tie.Need-mul-count
-mul-count c = search needs
-
-is-sharp-requires : tie.Need-is-sharp-requires
-is-sharp-requires c κs = search needs
-
-sharpness-start-requires : tie.Need-sharpness-start-requires
-sharpness-start-requires c κs = search needs
-
 read-bytes-requires : tie.Need-read-bytes-requires
 read-bytes-requires c κs =
     let s = c .before .before .before .before .before .before .before in
@@ -28,21 +16,12 @@ read-bytes-requires c κs =
     let bytes = sharp-bytes (s .args .file .now) (sym (c .before .before .before .is-sharp .ensures) ∙ c .before .before .if1 .taken) in
     (omega (arith, bytes, count, c .before .sharpness-start .ensures .0, s .pre .1), omega (arith, count, s .pre .2))
 
-fill-plain-requires : tie.Need-fill-plain-requires
-fill-plain-requires c κs = search needs
-
-same-length : tie.Need-same-length
-same-length c = search needs
-
 returns : tie.Need-returns
 returns c =
     bytes-read (c .before .before .before .before .before .before .before .before .before .before .args .file .now) _ _ _ _
     (sym (c .before .before .before .before .before .before .is-sharp .ensures) ∙ c .before .before .before .before .before .if1 .taken)
     (c .before .before .before .before .sharpness-start .ensures .0)
     (ap (λ (n : ℕ). 2 * n) (c .before .before .before .before .before .before .before .corner-count .ensures .0)) (c .before .before .read-bytes .ensures)
-
-same-length-2 : tie.Need-same-length-2
-same-length-2 c = search needs
 
 returns-2 : tie.Need-returns-2
 returns-2 c =
@@ -52,15 +31,5 @@ returns-2 c =
 
 pub read-sharpness-spec : {M : Type 1} → statement M
 read-sharpness-spec =
-    tie.close
-    (tie.spec
-    corner-count-requires
-    mul-count
-    is-sharp-requires
-    sharpness-start-requires
-    read-bytes-requires
-    fill-plain-requires
-    same-length
-    returns
-    same-length-2
-    returns-2)
+    tie.close (tie.spec (λ c κs. search needs) (λ c. search needs) (λ c κs. search needs) (λ c κs. search needs) read-bytes-requires (λ c κs. search needs)
+    (λ c. search needs) returns (λ c. search needs) returns-2)

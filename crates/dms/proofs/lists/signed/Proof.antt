@@ -8,22 +8,10 @@ use borrow.Author.Needs.{needs}
 use Rattle.dms.proofs.lists.signed.Statement.{statement}
 use Rattle.dms.proofs.lists.signed.Tie as tie
 
-cast-result : tie.Need-cast-result
-cast-result c = search needs
-
-sub-below-zero : tie.Need-sub-below-zero
-sub-below-zero c = search needs
-
-below-zero-requires : tie.Need-below-zero-requires
-below-zero-requires c κs = search needs
-
-returns : tie.Need-returns
-returns c = search needs
-
 returns-2 : tie.Need-returns-2
 returns-2 c =
     let h : ofZ w32 (c .below-zero .result) ≡ c .before .before .args .bits = rw (c .below-zero .ensures) (omega arith) in
     ap (toZ w32) h
 
 pub signed-spec : {M : Type 1} → statement M
-signed-spec = tie.close (tie.spec cast-result sub-below-zero below-zero-requires returns returns-2)
+signed-spec = tie.close (tie.spec (λ c. search needs) (λ c. search needs) (λ c κs. search needs) (λ c. search needs) returns-2)

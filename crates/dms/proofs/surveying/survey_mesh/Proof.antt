@@ -9,24 +9,12 @@ use Rattle.dms.proofs.surveying.Surveys.{refused-survey, done-survey, l
 use Rattle.dms.proofs.surveying.survey_mesh.Statement.{statement}
 use Rattle.dms.proofs.surveying.survey_mesh.Tie as tie
 
-none-requires : tie.Need-none-requires
-none-requires c κs = search needs
-
-check-mesh-requires : tie.Need-check-mesh-requires
-check-mesh-requires c κs = search needs
-
-enum-known-answer : tie.Need-enum-known-answer
-enum-known-answer c = search needs
-
 returns : tie.Need-returns
 returns c =
     let s = c .before .before .before .before .before .before .before .before in
     let M = meshOf (s .args .coordinates .now) (s .args .sides .now) (s .args .corners .now) (s .args .sharpness .now) in
     refused-survey M (verdict M) _ _ _ (sym (ap stated (c .before .answer .given .1)) ∙ c .before .before .before .check-mesh .ensures)
     (c .before .before .before .before .none .ensures)
-
-enum-told : tie.Need-enum-told
-enum-told c = search needs
 
 count-requires : tie.Need-count-requires
 count-requires c κs = limits _ (passed _ (c .before .before .check-mesh .ensures) (c .enum-told .given .1))
@@ -40,12 +28,4 @@ returns-2 c =
 
 pub survey-mesh-spec : {M : Type 1} → statement M
 survey-mesh-spec =
-    tie.close
-    (tie.spec
-    none-requires
-    check-mesh-requires
-    enum-known-answer
-    returns
-    enum-told
-    count-requires
-    returns-2)
+    tie.close (tie.spec (λ c κs. search needs) (λ c κs. search needs) (λ c. search needs) returns (λ c. search needs) count-requires returns-2)

@@ -14,10 +14,6 @@ use Rattle.net.proofs.copy.Copies.{copied-none, copied-more, copied-joi
 use borrow.Author.Needs.{needs}
 use Rattle.net.proofs.copy.copy.Statement.{statement}
 use Rattle.net.proofs.copy.copy.Tie as tie
-use Rattle.net.proofs.copy.copy.Reads as reads
-use Rattle.net.proofs.copy.copy.Lts as lts
-use Rattle.net.proofs.copy.copy_run.Reads as copy-run-reads
-use Rattle.net.proofs.copy.put_three.Reads as put-three-reads
 
 abbrev Inv-loop : tie.InvT-loop
 Inv-loop lanes out₀ at i₀ out i = (i ≤ 5) × Copied lanes at 0 (8 * i) out₀ out
@@ -31,20 +27,11 @@ eight-more i = omega arith
 loop-holds : tie.Need-loop-holds Inv-loop μ-loop
 loop-holds c = (search needs, copied-none _ _ _ _)
 
-mul-copy-run : tie.Need-mul-copy-run Inv-loop μ-loop
-mul-copy-run c = search needs
-
 copy-run-requires : tie.Need-copy-run-requires Inv-loop μ-loop
 copy-run-requires c κs =
     let l = c .before in
     let s = l .before .before in
     (omega (arith, l .loop-test .taken), s .pre .0, omega (arith, s .pre .1, l .before .loop .inv .1 .same))
-
-add-i : tie.Need-add-i Inv-loop μ-loop
-add-i c = search needs
-
-loop-less : tie.Need-loop-less Inv-loop μ-loop
-loop-less c = search needs
 
 loop-again : tie.Need-loop-again Inv-loop μ-loop
 loop-again c =
@@ -90,20 +77,5 @@ returns c =
 
 pub copy-spec : {M : Type 1} → statement M
 copy-spec =
-    tie.close
-    (tie.spec
-    Inv-loop
-    μ-loop
-    loop-holds
-    mul-copy-run
-    copy-run-requires
-    add-i
-    loop-less
-    loop-again
-    shared-slice-copy-out-x
-    shared-slice-copy-out-y
-    shared-slice-copy-out-z
-    add-put-three
-    put-three-requires
-    same-length
-    returns)
+    tie.close (tie.spec Inv-loop μ-loop loop-holds (λ c. search needs) copy-run-requires (λ c. search needs) (λ c. search needs) loop-again
+    shared-slice-copy-out-x shared-slice-copy-out-y shared-slice-copy-out-z add-put-three put-three-requires same-length returns)

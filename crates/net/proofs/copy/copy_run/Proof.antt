@@ -13,9 +13,6 @@ use Rattle.net.proofs.copy.Copies.{copied-none, copied-more}
 use borrow.Author.Needs.{needs}
 use Rattle.net.proofs.copy.copy_run.Statement.{statement}
 use Rattle.net.proofs.copy.copy_run.Tie as tie
-use Rattle.net.proofs.copy.copy_run.Reads as reads
-use Rattle.net.proofs.copy.copy_run.Lts as lts
-use Rattle.net.proofs.copy.put_four.Reads as put-four-reads
 
 abbrev Inv-loop : tie.InvT-loop
 Inv-loop lanes point count out₀ at j₀ out j = (j ≤ count) × Copied lanes at point (point + j) out₀ out
@@ -88,12 +85,6 @@ add-put-four c = let l = c .before .before .before .before .before in search (ne
 put-four-requires : tie.Need-put-four-requires Inv-loop μ-loop
 put-four-requires c κs = let l = c .before .before .before .before .before in omega (arith, below l, l .before .before .pre .2, l .before .loop .inv .1 .same)
 
-add-j : tie.Need-add-j Inv-loop μ-loop
-add-j c = search needs
-
-loop-less : tie.Need-loop-less Inv-loop μ-loop
-loop-less c = search needs
-
 loop-again : tie.Need-loop-again Inv-loop μ-loop
 loop-again c =
     let l = c .before .before .before .before .before .before .before in
@@ -121,29 +112,6 @@ returns c =
 
 pub copy-run-spec : {M : Type 1} → statement M
 copy-run-spec =
-    tie.close
-    (tie.spec
-    Inv-loop
-    μ-loop
-    loop-holds
-    add-p
-    mul-from
-    mul-x
-    shared-slice-copy-out-x
-    add-y
-    mul-y
-    shared-slice-copy-out-y
-    add-z
-    mul-z
-    shared-slice-copy-out-z
-    add-w
-    mul-w
-    shared-slice-copy-out-w
-    mul-put-four
-    add-put-four
-    put-four-requires
-    add-j
-    loop-less
-    loop-again
-    same-length
-    returns)
+    tie.close (tie.spec Inv-loop μ-loop loop-holds add-p mul-from mul-x shared-slice-copy-out-x add-y mul-y shared-slice-copy-out-y add-z mul-z
+    shared-slice-copy-out-z add-w mul-w shared-slice-copy-out-w mul-put-four add-put-four put-four-requires (λ c. search needs) (λ c. search needs)
+    loop-again same-length returns)

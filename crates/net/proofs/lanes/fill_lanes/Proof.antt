@@ -1,5 +1,5 @@
 use mathlib.Core.Path.{_≡_, _∙_, sym, subst}
-use Prim.Native.Nat.{ℕ, _+_, _-_, _≤_}
+use Prim.Native.Nat.{ℕ, _-_, _≤_}
 use native.Mathlib.Omega.{arith}
 use mir.Syntax.{w64}
 use mir.Val.{toZ, ofZ}
@@ -9,10 +9,6 @@ use Rattle.net.proofs.lanes.Laws.{sized-four, filled-none, filled-more}
 use borrow.Author.Needs.{needs}
 use Rattle.net.proofs.lanes.fill_lanes.Statement.{statement}
 use Rattle.net.proofs.lanes.fill_lanes.Tie as tie
-use Rattle.net.proofs.lanes.fill_lanes.Reads as reads
-use Rattle.net.proofs.lanes.fill_lanes.Lts as lts
-use Rattle.net.proofs.lanes.lane_sides.Reads as lane-sides-reads
-use Rattle.net.proofs.points.put_lane.Reads as put-lane-reads
 
 abbrev Inv-loop : tie.InvT-loop
 Inv-loop near m n v w lanes₀ k₀ lanes k = (k ≤ 4) × Filled near m n (toZ w64 v) (toZ w64 w) k lanes
@@ -32,12 +28,6 @@ put-lane-requires : tie.Need-put-lane-requires Inv-loop μ-loop
 put-lane-requires c κs =
     let l = c .before .before in
     (sized-four _ _ _ _ _ _ _ (c .before .lane-sides .ensures), l .loop-test .taken, l .before .loop .inv .1 .long)
-
-add-k : tie.Need-add-k Inv-loop μ-loop
-add-k c = search needs
-
-loop-less : tie.Need-loop-less Inv-loop μ-loop
-loop-less c = search needs
 
 loop-again : tie.Need-loop-again Inv-loop μ-loop
 loop-again c =
@@ -61,15 +51,5 @@ returns c =
 
 pub fill-lanes-spec : {M : Type 1} → statement M
 fill-lanes-spec =
-    tie.close
-    (tie.spec
-    Inv-loop
-    μ-loop
-    loop-holds
-    lane-sides-requires
-    put-lane-requires
-    add-k
-    loop-less
-    loop-again
-    same-length
+    tie.close (tie.spec Inv-loop μ-loop loop-holds lane-sides-requires put-lane-requires (λ c. search needs) (λ c. search needs) loop-again same-length
     returns)

@@ -1,10 +1,8 @@
 -- `net::lanes::lane_sides` meets its contract: the edges' and the rings' faces from the rows, and the sides made from them.
 -- Assumes nothing.
 use native.Mathlib.Omega.{arith}
-use borrow.Author.Needs.{needs}
 use lib.Dec.{lit<}
 use mir.Facts.{toZ-ofZ}
-use Rattle.net.specs.sides.Values.{EdgeSized}
 use Rattle.net.proofs.sides.Laws.{through-sized}
 use Rattle.net.proofs.lanes.Laws.{ring-sized}
 use Rattle.net.proofs.lanes.lane_sides.Statement.{statement}
@@ -94,13 +92,5 @@ returns c =
 
 pub lane-sides-spec : {M : Type 1} → statement M
 lane-sides-spec =
-    tie.close
-    (tie.spec
-    edge-through-requires
-    edge-through-requires-2
-    edge-through-requires-3
-    edge-through-requires-4
-    ring-face-requires
-    ring-face-requires-2
-    sides-of-requires
-    returns)
+    tie.close (tie.spec edge-through-requires edge-through-requires-2 edge-through-requires-3 edge-through-requires-4 ring-face-requires
+    ring-face-requires-2 sides-of-requires returns)

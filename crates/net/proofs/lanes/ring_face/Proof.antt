@@ -1,37 +1,12 @@
 -- `net::lanes::ring_face` meets its contract, number by number.
 -- Assumes nothing.
-use mathlib.Core.Path.{_≡_, _∙_}
-use native.Mathlib.Omega.{arith}
+use mathlib.Core.Path.{_∙_}
 use borrow.Author.Needs.{needs}
 use mir.Syntax.{w64}
 use mir.Val.{SFits}
 use mir.Facts.{toZ-ofZ}
 use Rattle.net.proofs.lanes.ring_face.Statement.{statement}
 use Rattle.net.proofs.lanes.ring_face.Tie as tie
-
-point-requires : tie.Need-point-requires
-point-requires c κs = search needs
-
-add-point : tie.Need-add-point
-add-point c = search needs
-
-point-requires-2 : tie.Need-point-requires-2
-point-requires-2 c κs = search needs
-
-add-point-2 : tie.Need-add-point-2
-add-point-2 c = search needs
-
-point-requires-3 : tie.Need-point-requires-3
-point-requires-3 c κs = search needs
-
-choose-requires : tie.Need-choose-requires
-choose-requires c κs = search needs
-
-choose-requires-2 : tie.Need-choose-requires-2
-choose-requires-2 c κs = search needs
-
-choose-requires-3 : tie.Need-choose-requires-3
-choose-requires-3 c κs = search needs
 
 returns : tie.Need-returns
 returns c =
@@ -61,5 +36,6 @@ returns c =
     )
 
 pub ring-face-spec : {M : Type 1} → statement M
-ring-face-spec = tie.close (tie.spec point-requires add-point point-requires-2 add-point-2 point-requires-3 choose-requires choose-requires-2
-    choose-requires-3 returns)
+ring-face-spec =
+    tie.close (tie.spec (λ c κs. search needs) (λ c. search needs) (λ c κs. search needs) (λ c. search needs) (λ c κs. search needs) (λ c κs. search needs)
+    (λ c κs. search needs) (λ c κs. search needs) returns)

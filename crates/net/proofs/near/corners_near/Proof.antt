@@ -2,7 +2,7 @@
 -- Assumes nothing.
 use mathlib.Core.Path.{_≡_, _∙_, ap}
 use mathlib.Core.List.{List}
-use Prim.Native.Nat.{ℕ, _<_}
+use Prim.Native.Nat.{ℕ}
 use borrow.Author.Needs.{needs}
 use lib.Dec.{lit<}
 use Rattle.walk.specs.Table.{toNext, toPrevious, toLink, entry}
@@ -58,20 +58,11 @@ is-next3 : (a : tie.After-next3) → let s = a .before .before .before .before .
 is-next3 a = onward (a .before .before .before .before .before .before .before .before .before .before .before .args .table .now) toNext _ _ _ (a
     .next3 .ensures .read) (is-next2 (a .before))
 
-next-requires : tie.Need-next-requires
-next-requires c κs = search needs
-
-linked-requires : tie.Need-linked-requires
-linked-requires c κs = search needs
-
 previous-requires : tie.Need-previous-requires
 previous-requires c κs =
     let s = c .before .before .before in
     rw (is-linked c) (in-table (s .args .table .now) (s .args .count) toPrevious (entry (s .args .table .now) toLink (s .args .c)) (s .pre .1) (lit<
     tt) (s .pre .0 .link-in _ (s .pre .2)))
-
-previous-requires-2 : tie.Need-previous-requires-2
-previous-requires-2 c κs = search needs
 
 linked-requires-2 : tie.Need-linked-requires-2
 linked-requires-2 c κs =
@@ -126,16 +117,5 @@ returns c =
 
 pub corners-near-spec : {M : Type 1} → statement M
 corners-near-spec =
-    tie.close
-    (tie.spec
-    next-requires
-    linked-requires
-    previous-requires
-    previous-requires-2
-    linked-requires-2
-    previous-requires-3
-    linked-requires-3
-    linked-requires-4
-    next-requires-2
-    next-requires-3
-    returns)
+    tie.close (tie.spec (λ c κs. search needs) (λ c κs. search needs) previous-requires (λ c κs. search needs) linked-requires-2 previous-requires-3
+    linked-requires-3 linked-requires-4 next-requires-2 next-requires-3 returns)

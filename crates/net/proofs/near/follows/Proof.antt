@@ -12,12 +12,6 @@ returns c = λ e. absurd (subst T (sym e) tt)
 returns-2 : tie.Need-returns-2
 returns-2 c = λ e. absurd (subst T (sym e) tt)
 
-previous-requires : tie.Need-previous-requires
-previous-requires c κs = search needs
-
-sub-result : tie.Need-sub-result
-sub-result c = search needs
-
 returns-3 : tie.Need-returns-3
 returns-3 c = λ e.
     record {
@@ -27,4 +21,4 @@ returns-3 c = λ e.
     }
 
 pub follows-spec : {M : Type 1} → statement M
-follows-spec = tie.close (tie.spec returns returns-2 previous-requires sub-result returns-3)
+follows-spec = tie.close (tie.spec returns returns-2 (λ c κs. search needs) (λ c. search needs) returns-3)

@@ -5,33 +5,6 @@ use borrow.Author.Needs.{needs}
 use Rattle.net.proofs.near.take_ahead.Statement.{statement}
 use Rattle.net.proofs.near.take_ahead.Tie as tie
 
-add-point : tie.Need-add-point
-add-point c = search needs
-
-point-requires : tie.Need-point-requires
-point-requires c κs = search needs
-
-add-point-2 : tie.Need-add-point-2
-add-point-2 c = search needs
-
-point-requires-2 : tie.Need-point-requires-2
-point-requires-2 c κs = search needs
-
-add-point-3 : tie.Need-add-point-3
-add-point-3 c = search needs
-
-point-requires-3 : tie.Need-point-requires-3
-point-requires-3 c κs = search needs
-
-add-point-4 : tie.Need-add-point-4
-add-point-4 c = search needs
-
-point-requires-4 : tie.Need-point-requires-4
-point-requires-4 c κs = search needs
-
-add-take-row : tie.Need-add-take-row
-add-take-row c = search needs
-
 take-row-requires : tie.Need-take-row-requires
 take-row-requires c κs =
     let s = c .before .before .before .before .before .before .before .before .before in
@@ -42,15 +15,6 @@ take-row-requires c κs =
       moved-size _ _ (c .before .point4 .ensures) (size 3 (lit< tt)),
       s .pre .0 .3,
     )
-
-add-take-row-2 : tie.Need-add-take-row-2
-add-take-row-2 c = search needs
-
-take-row-requires-2 : tie.Need-take-row-requires-2
-take-row-requires-2 c κs = search needs
-
-same-length : tie.Need-same-length
-same-length c = search needs
 
 returns : tie.Need-returns
 returns c =
@@ -67,19 +31,5 @@ returns c =
 
 pub take-ahead-spec : {M : Type 1} → statement M
 take-ahead-spec =
-    tie.close
-    (tie.spec
-    add-point
-    point-requires
-    add-point-2
-    point-requires-2
-    add-point-3
-    point-requires-3
-    add-point-4
-    point-requires-4
-    add-take-row
-    take-row-requires
-    add-take-row-2
-    take-row-requires-2
-    same-length
-    returns)
+    tie.close (tie.spec (λ c. search needs) (λ c κs. search needs) (λ c. search needs) (λ c κs. search needs) (λ c. search needs) (λ c κs. search needs)
+    (λ c. search needs) (λ c κs. search needs) (λ c. search needs) take-row-requires (λ c. search needs) (λ c κs. search needs) (λ c. search needs) returns)

@@ -1,6 +1,5 @@
 -- `net::near::take_face` meets its contract, row by row.
 -- Assumes nothing.
-use Prim.Native.Nat.{_+_, _*_}
 use native.Mathlib.Omega.{arith}
 use borrow.Author.Needs.{needs}
 use lib.Dec.{lit≤}
@@ -19,9 +18,6 @@ take-row-requires c κs =
       omega (arith, s .pre .3),
     )
 
-add-take-row : tie.Need-add-take-row
-add-take-row c = search needs
-
 take-row-requires-2 : tie.Need-take-row-requires-2
 take-row-requires-2 c κs =
     let s = c .before .before .before .before .before .before .before .before .before .before in (
@@ -32,9 +28,6 @@ take-row-requires-2 c κs =
       lit≤ tt,
       omega (arith, s .pre .3, c .before .before .before .before .before .take-row .ensures .same),
     )
-
-add-take-row-2 : tie.Need-add-take-row-2
-add-take-row-2 c = search needs
 
 take-row-requires-3 : tie.Need-take-row-requires-3
 take-row-requires-3 c κs =
@@ -52,9 +45,6 @@ take-row-requires-3 c κs =
       ),
     )
 
-same-length : tie.Need-same-length
-same-length c = search needs
-
 returns : tie.Need-returns
 returns c =
     let s = c .before .before .before .before .before .before .before .before .before .before .before .before .before .before .before .before .before
@@ -64,4 +54,5 @@ returns c =
     .before .before .before .before .before .take-row2 .ensures) (c .before .take-row3 .ensures)
 
 pub take-face-spec : {M : Type 1} → statement M
-take-face-spec = tie.close (tie.spec take-row-requires add-take-row take-row-requires-2 add-take-row-2 take-row-requires-3 same-length returns)
+take-face-spec =
+    tie.close (tie.spec take-row-requires (λ c. search needs) take-row-requires-2 (λ c. search needs) take-row-requires-3 (λ c. search needs) returns)

@@ -13,9 +13,6 @@ returns c =
     let s = c .before .before in
     ring-left (λ (a : ℕ). around (s .args .points .now) a (s .args .table .now) toNext (s .args .c)) (s .args .m) 14 (s .args .near .now) (c .if1 .taken)
 
-ring-ahead-requires : tie.Need-ring-ahead-requires
-ring-ahead-requires c κs = search needs
-
 take-ahead-requires : tie.Need-take-ahead-requires
 take-ahead-requires c κs =
     let r = c .before .before .before .before .ring-ahead in
@@ -26,9 +23,6 @@ take-ahead-requires c κs =
       g .behind-size,
     )
 
-same-length : tie.Need-same-length
-same-length c = search needs
-
 returns-2 : tie.Need-returns-2
 returns-2 c =
     let r = c .before .before .before .before .before .before .ring-ahead in
@@ -36,15 +30,6 @@ returns-2 c =
     let g = s .pre .1 .1 (search needs) (search needs) in
     shared-taken (λ (a : ℕ). around (s .args .points .now) a (s .args .table .now) toNext (s .args .c)) (s .args .m) (r .result) (r .ensures)
     (s .args .near .now) _ g (c .before .take-ahead .ensures)
-
-ring-faces-requires : tie.Need-ring-faces-requires
-ring-faces-requires c κs = search needs
-
-take-face-requires : tie.Need-take-face-requires
-take-face-requires c κs = search needs
-
-same-length-2 : tie.Need-same-length-2
-same-length-2 c = search needs
 
 returns-3 : tie.Need-returns-3
 returns-3 c =
@@ -56,14 +41,5 @@ returns-3 c =
 
 pub take-next-spec : {M : Type 1} → statement M
 take-next-spec =
-    tie.close
-    (tie.spec
-    returns
-    ring-ahead-requires
-    take-ahead-requires
-    same-length
-    returns-2
-    ring-faces-requires
-    take-face-requires
-    same-length-2
-    returns-3)
+    tie.close (tie.spec returns (λ c κs. search needs) take-ahead-requires (λ c. search needs) returns-2 (λ c κs. search needs) (λ c κs. search needs)
+    (λ c. search needs) returns-3)

@@ -12,10 +12,6 @@ use Rattle.net.proofs.near.Rows.{plain-is, plain-size, points-none, poi
 use borrow.Author.Needs.{needs}
 use Rattle.net.proofs.near.take_points.Statement.{statement}
 use Rattle.net.proofs.near.take_points.Tie as tie
-use Rattle.net.proofs.near.take_points.Reads as reads
-use Rattle.net.proofs.near.take_points.Lts as lts
-use Rattle.net.proofs.near.take_row.Reads as take-row-reads
-use Rattle.refine.proofs.faces.point.Reads as point-reads
 
 abbrev Inv-loop : tie.InvT-loop
 Inv-loop points near₀ corners i₀ near i = (i ≤ 11) × PointsTaken points corners i near₀ near
@@ -36,12 +32,6 @@ module _ (c : tie.In-loop Inv-loop μ-loop) (a : ℕ) (l : a < 4) where
 
 loop-holds : tie.Need-loop-holds Inv-loop μ-loop
 loop-holds c = (search needs, points-none _ _ _)
-
-mul-c : tie.Need-mul-c Inv-loop μ-loop
-mul-c c = search needs
-
-array-read-c : tie.Need-array-read-c Inv-loop μ-loop
-array-read-c c = search needs
 
 point-requires : tie.Need-point-requires Inv-loop μ-loop
 point-requires c κs = fine c 0 (lit< tt) .0
@@ -64,12 +54,6 @@ take-row-requires c κs =
       read l 3 (lit< tt) _ (c .before .point4 .ensures) .0,
       omega (arith, l .before .loop .inv .1 .same, l .before .before .pre .1, l .loop-test .taken),
     )
-
-add-i : tie.Need-add-i Inv-loop μ-loop
-add-i c = search needs
-
-loop-less : tie.Need-loop-less Inv-loop μ-loop
-loop-less c = search needs
 
 loop-again : tie.Need-loop-again Inv-loop μ-loop
 loop-again c =
@@ -95,20 +79,5 @@ returns c =
 
 pub take-points-spec : {M : Type 1} → statement M
 take-points-spec =
-    tie.close
-    (tie.spec
-    Inv-loop
-    μ-loop
-    loop-holds
-    mul-c
-    array-read-c
-    point-requires
-    point-requires-2
-    point-requires-3
-    point-requires-4
-    take-row-requires
-    add-i
-    loop-less
-    loop-again
-    same-length
-    returns)
+    tie.close (tie.spec Inv-loop μ-loop loop-holds (λ c. search needs) (λ c. search needs) point-requires point-requires-2 point-requires-3 point-requires-4
+    take-row-requires (λ c. search needs) (λ c. search needs) loop-again same-length returns)

@@ -17,9 +17,6 @@ take-face-requires c κs =
     let s = c .before .before .before .before in
     (sized-of _ _ _ _ _ (f .x), sized-of _ _ _ _ _ (f .y), sized-of _ _ _ _ _ (f .z), s .pre .1 .1)
 
-same-length : tie.Need-same-length
-same-length c = search needs
-
 returns : tie.Need-returns
 returns c =
     let v = c .before .before .before in
@@ -35,4 +32,4 @@ returns-2 c =
     (s .args .near .now) (c .if1 .left)
 
 pub take-ring-spec : {M : Type 1} → statement M
-take-ring-spec = tie.close (tie.spec ring-faces-requires take-face-requires same-length returns returns-2)
+take-ring-spec = tie.close (tie.spec ring-faces-requires take-face-requires (λ c. search needs) returns returns-2)

@@ -1,33 +1,17 @@
 -- `net::near::take_row` meets its contract: four numbers are written, one after the other.
 -- Assumes nothing.
-use Prim.Native.Nat.{_+_, _*_}
 use native.Mathlib.Omega.{arith}
 use borrow.Author.Needs.{needs}
-use lib.ListN.{length-set, set}
+use lib.ListN.{length-set}
 use Rattle.net.proofs.near.Rows.{face-number, row-taken}
 use Rattle.net.proofs.near.take_row.Statement.{statement}
 use Rattle.net.proofs.near.take_row.Tie as tie
 
-mul-from : tie.Need-mul-from
-mul-from c = search needs
-
 cast-near : tie.Need-cast-near
 cast-near c = face-number (c .args .x) (c .pre .0) .0
 
-mul-near : tie.Need-mul-near
-mul-near c = search needs
-
-slice-set-from-near : tie.Need-slice-set-from-near
-slice-set-from-near c = search needs
-
 cast-near-2 : tie.Need-cast-near-2
 cast-near-2 c = face-number (c .args .y) (c .pre .1) .0
-
-add-near : tie.Need-add-near
-add-near c = search needs
-
-mul-near-2 : tie.Need-mul-near-2
-mul-near-2 c = search needs
 
 slice-set-from-near-2 : tie.Need-slice-set-from-near-2
 slice-set-from-near-2 c = simp length-set (omega (arith, c .pre .4))
@@ -35,29 +19,14 @@ slice-set-from-near-2 c = simp length-set (omega (arith, c .pre .4))
 cast-near-3 : tie.Need-cast-near-3
 cast-near-3 c = face-number (c .args .z) (c .pre .2) .0
 
-add-near-2 : tie.Need-add-near-2
-add-near-2 c = search needs
-
-mul-near-3 : tie.Need-mul-near-3
-mul-near-3 c = search needs
-
 slice-set-from-near-3 : tie.Need-slice-set-from-near-3
 slice-set-from-near-3 c = simp length-set (omega (arith, c .pre .4))
 
 cast-near-4 : tie.Need-cast-near-4
 cast-near-4 c = face-number (c .args .w) (c .pre .3) .0
 
-add-t9 : tie.Need-add-t9
-add-t9 c = search needs
-
-mul-t11 : tie.Need-mul-t11
-mul-t11 c = search needs
-
 slice-set-from-near-4 : tie.Need-slice-set-from-near-4
 slice-set-from-near-4 c = simp length-set (omega (arith, c .pre .4))
-
-same-length : tie.Need-same-length
-same-length c = search needs
 
 returns : tie.Need-returns
 returns c =
@@ -71,23 +40,6 @@ returns c =
 
 pub take-row-spec : {M : Type 1} → statement M
 take-row-spec =
-    tie.close
-    (tie.spec
-    mul-from
-    cast-near
-    mul-near
-    slice-set-from-near
-    cast-near-2
-    add-near
-    mul-near-2
-    slice-set-from-near-2
-    cast-near-3
-    add-near-2
-    mul-near-3
-    slice-set-from-near-3
-    cast-near-4
-    add-t9
-    mul-t11
-    slice-set-from-near-4
-    same-length
-    returns)
+    tie.close (tie.spec (λ c. search needs) cast-near (λ c. search needs) (λ c. search needs) cast-near-2 (λ c. search needs) (λ c. search needs)
+    slice-set-from-near-2 cast-near-3 (λ c. search needs) (λ c. search needs) slice-set-from-near-3 cast-near-4 (λ c. search needs) (λ c. search needs)
+    slice-set-from-near-4 (λ c. search needs) returns)

@@ -17,20 +17,8 @@ abbrev μ-loop : tie.MeasureT-loop
 loop-holds : tie.Need-loop-holds Inv-loop μ-loop
 loop-holds c = (search needs, grid-start (c .args .out .now) (c .args .from) 5 (c .args .t1))
 
-mul-row : tie.Need-mul-row Inv-loop μ-loop
-mul-row c = search needs
-
-array-copy-out-row : tie.Need-array-copy-out-row Inv-loop μ-loop
-array-copy-out-row c = search needs
-
 slice-aggregate-put-row : tie.Need-slice-aggregate-put-row Inv-loop μ-loop
 slice-aggregate-put-row c = let a = c .before .before .before in sym (a .before .pre .1 .long (a .loop .i) (c .before .before .loop-test .taken))
-
-mul-put-row : tie.Need-mul-put-row Inv-loop μ-loop
-mul-put-row c = search needs
-
-add-put-row : tie.Need-add-put-row Inv-loop μ-loop
-add-put-row c = search needs
 
 put-row-requires : tie.Need-put-row-requires Inv-loop μ-loop
 put-row-requires c κs =
@@ -38,12 +26,6 @@ put-row-requires c κs =
     let s = a .before in
     let l = c .before .before .before .loop-test .taken in
     grid-row (s .args .out .now) (a .loop .out) (s .args .from) _ (s .args .t1) 5 (a .loop .i) (s .pre .1) l (omega arith) (s .pre .0) (a .loop .inv .1)
-
-add-i : tie.Need-add-i Inv-loop μ-loop
-add-i c = search needs
-
-loop-less : tie.Need-loop-less Inv-loop μ-loop
-loop-less c = search needs
 
 loop-again : tie.Need-loop-again Inv-loop μ-loop
 loop-again c =
@@ -66,19 +48,5 @@ returns c =
 
 pub put-b-spec : {M : Type 1} → statement M
 put-b-spec =
-    tie.close
-    (tie.spec
-    Inv-loop
-    μ-loop
-    loop-holds
-    mul-row
-    array-copy-out-row
-    slice-aggregate-put-row
-    mul-put-row
-    add-put-row
-    put-row-requires
-    add-i
-    loop-less
-    loop-again
-    same-length
-    returns)
+    tie.close (tie.spec Inv-loop μ-loop loop-holds (λ c. search needs) (λ c. search needs) slice-aggregate-put-row (λ c. search needs) (λ c. search needs)
+    put-row-requires (λ c. search needs) (λ c. search needs) loop-again same-length returns)

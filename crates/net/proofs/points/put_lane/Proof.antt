@@ -1,6 +1,6 @@
 -- `net::points::put_lane` meets its contract: the rows and grids are those of whichever net has these sides, and the two grids are placed one after the other.
 -- Assumes nothing.
-use mathlib.Core.Path.{_≡_, _∙_, subst}
+use mathlib.Core.Path.{_∙_, subst}
 use mathlib.Core.List.{List}
 use Prim.Native.Nat.{_+_}
 use native.Mathlib.Omega.{arith}
@@ -13,21 +13,6 @@ use Rattle.net.specs.points.Placed.{Placed}
 use Rattle.net.proofs.points.Laws.{a-is, b-is, lane-laid, other-lanes}
 use Rattle.net.proofs.points.put_lane.Statement.{statement}
 use Rattle.net.proofs.points.put_lane.Tie as tie
-
-side-rows-requires : tie.Need-side-rows-requires
-side-rows-requires c κs = search needs
-
-side-rows-requires-2 : tie.Need-side-rows-requires-2
-side-rows-requires-2 c κs = search needs
-
-side-rows-requires-3 : tie.Need-side-rows-requires-3
-side-rows-requires-3 c κs = search needs
-
-side-rows-requires-4 : tie.Need-side-rows-requires-4
-side-rows-requires-4 c κs = search needs
-
-a-grid-requires : tie.Need-a-grid-requires
-a-grid-requires c κs = search needs
 
 b-grid-requires : tie.Need-b-grid-requires
 b-grid-requires c κs =
@@ -69,9 +54,6 @@ put-a-requires c κs =
           .before .a-grid .ensures .square,
     )
 
-same-length : tie.Need-same-length
-same-length c = search needs
-
 returns : tie.Need-returns
 returns c =
     let s = c .before .before .before .before .before .before .before .before .before .before .before .before .before .before .before .before .before
@@ -98,16 +80,5 @@ returns c =
 
 pub put-lane-spec : {M : Type 1} → statement M
 put-lane-spec =
-    tie.close
-    (tie.spec
-    side-rows-requires
-    side-rows-requires-2
-    side-rows-requires-3
-    side-rows-requires-4
-    a-grid-requires
-    b-grid-requires
-    put-b-requires
-    add-put-a
-    put-a-requires
-    same-length
-    returns)
+    tie.close (tie.spec (λ c κs. search needs) (λ c κs. search needs) (λ c κs. search needs) (λ c κs. search needs) (λ c κs. search needs) b-grid-requires
+    put-b-requires add-put-a put-a-requires (λ c. search needs) returns)

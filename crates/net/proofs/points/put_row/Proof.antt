@@ -26,12 +26,6 @@ room c = omega (arith, c .before .before .before .pre .0, c .before .before .loo
 loop-holds : tie.Need-loop-holds Inv-loop μ-loop
 loop-holds c = (search needs, placed-none (c .args .out .now) (c .args .from))
 
-mul-v : tie.Need-mul-v Inv-loop μ-loop
-mul-v c = search needs
-
-shared-slice-copy-out-v : tie.Need-shared-slice-copy-out-v Inv-loop μ-loop
-shared-slice-copy-out-v c = search needs
-
 cast-out : tie.Need-cast-out Inv-loop μ-loop
 cast-out c = let s = c .before .before .before in number (getD (s .args .row .now) (c .before .before .loop .j) (pos 0)) (s .pre .1 _
     (c .before .loop-test .taken)) .0
@@ -47,12 +41,6 @@ mul-t12 c = omega (arith, room c)
 
 slice-set-from-out : tie.Need-slice-set-from-out Inv-loop μ-loop
 slice-set-from-out c = room c
-
-add-j : tie.Need-add-j Inv-loop μ-loop
-add-j c = search needs
-
-loop-less : tie.Need-loop-less Inv-loop μ-loop
-loop-less c = search needs
 
 loop-again : tie.Need-loop-again Inv-loop μ-loop
 loop-again c =
@@ -75,20 +63,5 @@ returns c =
 
 pub put-row-spec : {M : Type 1} → statement M
 put-row-spec =
-    tie.close
-    (tie.spec
-    Inv-loop
-    μ-loop
-    loop-holds
-    mul-v
-    shared-slice-copy-out-v
-    cast-out
-    mul-t6
-    add-t11
-    mul-t12
-    slice-set-from-out
-    add-j
-    loop-less
-    loop-again
-    same-length
-    returns)
+    tie.close (tie.spec Inv-loop μ-loop loop-holds (λ c. search needs) (λ c. search needs) cast-out mul-t6 add-t11 mul-t12 slice-set-from-out
+    (λ c. search needs) (λ c. search needs) loop-again same-length returns)

@@ -64,14 +64,5 @@ returns c =
 
 pub a-grid-spec : {M : Type 1} → statement M
 a-grid-spec =
-    tie.close
-    (tie.spec
-    half-requires
-    half-requires-2
-    half-requires-3
-    half-requires-4
-    half-requires-5
-    half-requires-6
-    half-requires-7
-    half-requires-8
+    tie.close (tie.spec half-requires half-requires-2 half-requires-3 half-requires-4 half-requires-5 half-requires-6 half-requires-7 half-requires-8
     returns)

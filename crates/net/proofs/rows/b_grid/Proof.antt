@@ -28,18 +28,6 @@ half-requires-4 c κs =
     let s = c .before .before .before .before .before .before .before .before .before .before .before in
     (written (s .args .r2 .a1) (s .pre .0 .rows2 .a1), written (s .args .r1 .a1) (s .pre .0 .rows1 .a1))
 
-index-1-half : tie.Need-index-1-half
-index-1-half c = search needs
-
-index-2-half : tie.Need-index-2-half
-index-2-half c = search needs
-
-index-1-half-2 : tie.Need-index-1-half-2
-index-1-half-2 c = search needs
-
-index-2-half-2 : tie.Need-index-2-half-2
-index-2-half-2 c = search needs
-
 half-requires-5 : tie.Need-half-requires-5
 half-requires-5 c κs =
     let s = c .before .before .before .before .before .before .before .before .before .before .before .before .before .before in
@@ -64,15 +52,5 @@ returns c =
 
 pub b-grid-spec : {M : Type 1} → statement M
 b-grid-spec =
-    tie.close
-    (tie.spec
-    half-requires
-    half-requires-2
-    half-requires-3
-    half-requires-4
-    index-1-half
-    index-2-half
-    index-1-half-2
-    index-2-half-2
-    half-requires-5
-    returns)
+    tie.close (tie.spec half-requires half-requires-2 half-requires-3 half-requires-4 (λ c. search needs) (λ c. search needs) (λ c. search needs)
+    (λ c. search needs) half-requires-5 returns)

@@ -68,13 +68,4 @@ returns c =
     (c .before .before .second .ensures) (c .before .third .ensures) (c .middle .ensures)
 
 pub side-rows-spec : {M : Type 1} → statement M
-side-rows-spec =
-    tie.close
-    (tie.spec
-    quarter-requires
-    half-requires
-    quarter-requires-2
-    second-requires
-    third-requires
-    middle-requires
-    returns)
+side-rows-spec = tie.close (tie.spec quarter-requires half-requires quarter-requires-2 second-requires third-requires middle-requires returns)

@@ -19,9 +19,6 @@ across-is : (a : tie.After-previous2)
     a .previous2 .result .corner ≡ entry (x .table .now) toPrevious (entry (x .table .now) toLink (entry (x .table .now) toPrevious (x .c)))
 across-is a = a .previous2 .ensures .read ∙ ap (entry (a .before .before .before .before .args .table .now) toPrevious) (far-is (a .before))
 
-previous-requires : tie.Need-previous-requires
-previous-requires c κs = search needs
-
 linked-requires : tie.Need-linked-requires
 linked-requires c κs =
     let s = c .before .before in
@@ -54,6 +51,4 @@ returns c =
     rw (across-is p, far-is (p .before), p .before .before .previous .ensures .read) at (c .edge-through .ensures)
 
 pub arriving-edge-spec : {M : Type 1} → statement M
-arriving-edge-spec =
-    tie.close
-    (tie.spec previous-requires linked-requires previous-requires-2 edge-through-requires returns)
+arriving-edge-spec = tie.close (tie.spec (λ c κs. search needs) linked-requires previous-requires-2 edge-through-requires returns)

@@ -6,12 +6,6 @@ use Rattle.net.proofs.sides.Laws.{sized-of, row-plain, rings-sized, lea
 use Rattle.net.proofs.sides.axis_sides.Statement.{statement}
 use Rattle.net.proofs.sides.axis_sides.Tie as tie
 
-leaving-edge-requires : tie.Need-leaving-edge-requires
-leaving-edge-requires c κs = search needs
-
-arriving-edge-requires : tie.Need-arriving-edge-requires
-arriving-edge-requires c κs = search needs
-
 sides-of-requires : tie.Need-sides-of-requires
 sides-of-requires c κs =
     let s = c .before .before .before in
@@ -33,4 +27,4 @@ returns c =
     (rw (row-plain _ _ refl (k .0) .0, row-plain _ _ refl (k .1) .0) at (c .sides-of .ensures))
 
 pub axis-sides-spec : {M : Type 1} → statement M
-axis-sides-spec = tie.close (tie.spec leaving-edge-requires arriving-edge-requires sides-of-requires returns)
+axis-sides-spec = tie.close (tie.spec (λ c κs. search needs) (λ c κs. search needs) sides-of-requires returns)

@@ -8,18 +8,6 @@ use Rattle.net.proofs.sides.Laws.{edge-plain}
 use Rattle.net.proofs.sides.edge_through.Statement.{statement}
 use Rattle.net.proofs.sides.edge_through.Tie as tie
 
-point-requires : tie.Need-point-requires
-point-requires c κs = search needs
-
-point-requires-2 : tie.Need-point-requires-2
-point-requires-2 c κs = search needs
-
-point-requires-3 : tie.Need-point-requires-3
-point-requires-3 c κs = search needs
-
-point-requires-4 : tie.Need-point-requires-4
-point-requires-4 c κs = search needs
-
 edge-face-requires : tie.Need-edge-face-requires
 edge-face-requires c κs =
     let k = c .before .before .before .before .pre in (
@@ -51,11 +39,4 @@ returns c =
 
 pub edge-through-spec : {M : Type 1} → statement M
 edge-through-spec =
-    tie.close
-    (tie.spec
-    point-requires
-    point-requires-2
-    point-requires-3
-    point-requires-4
-    edge-face-requires
-    returns)
+    tie.close (tie.spec (λ c κs. search needs) (λ c κs. search needs) (λ c κs. search needs) (λ c κs. search needs) edge-face-requires returns)

@@ -14,12 +14,6 @@ far-is : (a : tie.After-previous)
     a .previous .result .corner ≡ entry (x .table .now) toPrevious (entry (x .table .now) toLink (x .c))
 far-is a = a .previous .ensures .read ∙ ap (entry (a .before .before .before .before .args .table .now) toPrevious) (a .before .linked .ensures .read)
 
-next-requires : tie.Need-next-requires
-next-requires c κs = search needs
-
-linked-requires : tie.Need-linked-requires
-linked-requires c κs = search needs
-
 previous-requires : tie.Need-previous-requires
 previous-requires c κs =
     let s = c .before .before .before in
@@ -45,6 +39,4 @@ returns c =
     rw (far-is p, p .before .linked .ensures .read, p .before .before .next .ensures .read) at (c .edge-through .ensures)
 
 pub leaving-edge-spec : {M : Type 1} → statement M
-leaving-edge-spec =
-    tie.close
-    (tie.spec next-requires linked-requires previous-requires edge-through-requires returns)
+leaving-edge-spec = tie.close (tie.spec (λ c κs. search needs) (λ c κs. search needs) previous-requires edge-through-requires returns)

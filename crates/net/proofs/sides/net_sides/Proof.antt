@@ -1,13 +1,12 @@
 -- `net::sides::net_sides` meets its contract: the two rings of the corner are the mesh's, on each axis.
 -- Assumes nothing.
-use mathlib.Core.Path.{_≡_, _∙_, ap, subst}
+use mathlib.Core.Path.{_∙_, ap, subst}
 use Prim.Native.Nat.{ℕ, _-_, _<_, _≤_}
 use native.Mathlib.Omega.{arith}
-use borrow.Author.Needs.{needs}
 use lib.Dec.{lit<}
 use Rattle.paper.specs.Mesh.{leastSides, mostSides}
 use Rattle.paper.specs.Cosines.{cosine}
-use Rattle.walk.specs.Table.{toNext, toLink, tabled}
+use Rattle.walk.specs.Table.{toNext, toLink}
 use Rattle.refine.specs.faces.Ring.{around, IsFace}
 use Rattle.refine.specs.declared.faces.Face.{Face}
 use Rattle.refine.proofs.faces.Laws.{plain, cosine-plain}
@@ -104,15 +103,5 @@ returns c = record { x = c .before .before .axis-sides .ensures; y = c .before .
 
 pub net-sides-spec : {M : Type 1} → statement M
 net-sides-spec =
-    tie.close
-    (tie.spec
-    valence-requires
-    sides-requires
-    four-or-ring-faces-requires
-    four-or-ring-faces-requires-2
-    cosine-requires
-    cosine-requires-2
-    axis-sides-requires
-    axis-sides-requires-2
-    axis-sides-requires-3
-    returns)
+    tie.close (tie.spec valence-requires sides-requires four-or-ring-faces-requires four-or-ring-faces-requires-2 cosine-requires cosine-requires-2
+    axis-sides-requires axis-sides-requires-2 axis-sides-requires-3 returns)

@@ -13,9 +13,6 @@ use Rattle.surface.specs.Sizes.{FaceSize, ValueSize}
 use Rattle.net.proofs.sides.side.Statement.{statement}
 use Rattle.net.proofs.sides.side.Tie as tie
 
-inner-requires : tie.Need-inner-requires
-inner-requires c κs = search needs
-
 wider : (z y : ℤ) → z ≡ y → natAbs y ≤ 2 ^ 24 + 2 ^ 21 → ValueSize z
 wider z y e h = rw e (omega arith)
 
@@ -48,4 +45,4 @@ returns c =
     }
 
 pub side-spec : {M : Type 1} → statement M
-side-spec = tie.close (tie.spec inner-requires returns)
+side-spec = tie.close (tie.spec (λ c κs. search needs) returns)

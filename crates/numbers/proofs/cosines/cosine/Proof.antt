@@ -12,21 +12,6 @@ use borrow.Author.Needs.{needs}
 use Rattle.numbers.proofs.cosines.cosine.Statement.{statement}
 use Rattle.numbers.proofs.cosines.cosine.Tie as tie
 
-sub-result : tie.Need-sub-result
-sub-result c = search needs
-
-mul-result : tie.Need-mul-result
-mul-result c = search needs
-
-mul-result-2 : tie.Need-mul-result-2
-mul-result-2 c = search needs
-
-index-1-result : tie.Need-index-1-result
-index-1-result c = search needs
-
-index-2-result : tie.Need-index-2-result
-index-2-result c = search needs
-
 returns : tie.Need-returns
 returns c =
     let s = c .before in
@@ -37,5 +22,4 @@ returns c =
     ∙ stored-is m (s .pre .1) (s .pre .2) k (s .pre .3)
 
 pub cosine-spec : {M : Type 1} → statement M
-cosine-spec =
-    tie.close (tie.spec sub-result mul-result mul-result-2 index-1-result index-2-result returns)
+cosine-spec = tie.close (tie.spec (search needs) (search needs) (search needs) (search needs) (search needs) returns)

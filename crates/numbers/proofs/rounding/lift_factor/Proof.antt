@@ -1,6 +1,5 @@
 -- `rounding::lift_factor` meets its contract: the sum is not below zero, and fits.
 -- Assumes nothing.
-use mathlib.Core.Path.{_≡_}
 use Prim.Native.Nat.{_*_, _^_, _≤_}
 use native.Mathlib.Omega.{arith}
 use lib.IntN.{ℤ, pos, natAbs, _+ℤ_}

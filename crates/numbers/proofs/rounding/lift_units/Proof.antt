@@ -1,10 +1,10 @@
 -- `rounding::lift_units` meets its contract: every step fits, and the last is not below zero.
 -- Assumes nothing.
-use mathlib.Core.Path.{_≡_, _∙_}
-use Prim.Native.Nat.{_^_, _≤_}
+use mathlib.Core.Path.{_≡_}
+use Prim.Native.Nat.{_^_}
 use native.Mathlib.Omega.{arith}
 use borrow.Author.Needs.{needs}
-use lib.IntN.{ℤ, pos, natAbs, _+ℤ_, _*ℤ_}
+use lib.IntN.{pos}
 use lib.Signed.{shrZ, ltZ-yes}
 use mir.Syntax.{w64}
 use mir.Val.{SFits}

@@ -19,7 +19,7 @@ fits : (n h s : ℤ) → (natAbs n ≤ 2 ^ 61) × (natAbs h ≤ 2 ^ 36) → (neg
 fits = over 3 _ λ ρ. simp (poly, ρ) (omega arith)
 
 sum : (n h s t : ℤ) → s ≡ t → n +ℤ h +ℤ s ≡ n +ℤ h +ℤ t
-sum = over 4 _ λ ρ. simp (poly, ρ) (omega arith)
+sum = over 4 _ λ ρ. simp poly (omega arith)
 
 module _ (c : tie.After-sign) where
   both : SFits w64 (c .before .args .n +ℤ c .before .args .half) × SFits w64 (c .before .args .n +ℤ c .before .args .half +ℤ c .sign .result)
@@ -27,9 +27,6 @@ module _ (c : tie.After-sign) where
 
 add-result : tie.Need-add-result
 add-result c = rw (toZ-ofZ (c .fits .n), toZ-ofZ (c .fits .half)) (fits (c .args .n) (c .args .half) (sign (c .args .n)) (c .pre) (sign-bounds (c .args .n)) .0)
-
-sign-requires : tie.Need-sign-requires
-sign-requires c κs = search needs
 
 add-result-2 : tie.Need-add-result-2
 add-result-2 c =
@@ -44,4 +41,4 @@ returns c =
     (simp (toZ-ofZ, c .before .fits .n, c .before .fits .half) at (c .sign .ensures .0)))
 
 pub raised-spec : {M : Type 1} → statement M
-raised-spec = tie.close (tie.spec add-result sign-requires add-result-2 returns)
+raised-spec = tie.close (tie.spec add-result (λ c κs. search needs) add-result-2 returns)

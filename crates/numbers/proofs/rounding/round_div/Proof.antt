@@ -1,7 +1,7 @@
 -- `rounding::round_div` meets its contract. Each step's value fits by the bounds on n and d; the lifted dividend is not negative, so the quotient
 -- of the machine is the floor; and with the sign s the floor of 2n + d + s + l·m is the floor of 2n + d + s, plus l.
 -- Assumes nothing.
-use mathlib.Core.Path.{_≡_, refl, sym, ap, _∙_}
+use mathlib.Core.Path.{_≡_, sym, ap, _∙_}
 use Prim.Native.Nat.{_+_, _-_, _/_, _^_, _<_, _≤_}
 use native.Mathlib.Nat.{le-trans, div-le-self}
 use native.Mathlib.Omega.{arith}
@@ -153,14 +153,14 @@ add-t c =
     let p = plainly-at (c .before .before) in
     let k = known c in
     let f : SFits w64 (c .before .lift .result) = search needs in
-    simp (is-raised c, toZ-ofZ, c .before .before .fits .n, c .before .before .fits .d, p .0, p .1, p .5, f, k .sums .0) (k .sums .1)
+    simp (is-raised c, toZ-ofZ, c .before .before .fits .d, p .1, p .5, f, k .sums .0) (k .sums .1)
 
 cast-q : tie.Need-cast-q
 cast-q c =
     let p = plainly-at (c .before .before) in
     let k = known c in
     let f : SFits w64 (c .before .lift .result) = search needs in
-    simp (is-raised c, toZ-ofZ, c .before .before .fits .n, c .before .before .fits .d, p .0, p .1, p .5, f, k .sums .0, k .sums .1) (k .raised)
+    simp (is-raised c, toZ-ofZ, c .before .before .fits .d, p .1, p .5, f, k .sums .0, k .sums .1) (k .raised)
 
 cast-q-2 : tie.Need-cast-q-2
 cast-q-2 c = search (needs, plainly-at (c .before .before), known c)
@@ -173,24 +173,22 @@ cast-result c =
     let p = plainly-at (c .before .before) in
     let k = known c in
     let f : SFits w64 (c .before .lift .result) = search needs in
-    simp (is-raised c, toZ-ofZ, c .before .before .fits .n, c .before .before .fits .d, p .0, p .1, p .5, f, k .sums .0, k .sums .1) (k .quotient)
+    simp (is-raised c, toZ-ofZ, c .before .before .fits .d, p .1, p .5, f, k .sums .0, k .sums .1) (k .quotient)
 
 sub-result : tie.Need-sub-result
 sub-result c =
     let p = plainly-at (c .before .before) in
     let k = known c in
     let f : SFits w64 (c .before .lift .result) = search needs in
-    simp (is-raised c, toZ-ofZ, c .before .before .fits .n, c .before .before .fits .d, p .0, p .1, p .5, f, k .sums .0, k .sums .1, k .read) (k .result)
+    simp (is-raised c, toZ-ofZ, c .before .before .fits .d, p .1, p .5, f, k .sums .0, k .sums .1, k .read) (k .result)
 
 returns : tie.Need-returns
 returns c =
     let p = plainly-at (c .before .before) in
     let k = known c in
     let f : SFits w64 (c .before .lift .result) = search needs in
-    simp (is-raised c, toZ-ofZ, c .before .before .fits .n, c .before .before .fits .d, p .0, p .1, p .5, f, k .sums .0, k .sums .1, k .read)
+    simp (is-raised c, toZ-ofZ, c .before .before .fits .d, p .1, p .5, f, k .sums .0, k .sums .1, k .read)
     (toZ-ofZ (k .result) ∙ k .value)
 
 pub round-div-spec : {M : Type 1} → statement M
-round-div-spec =
-    tie.close
-    (tie.spec mul-m lift-requires mul-raised raised-requires mul-t add-t cast-q cast-q-2 div-q cast-result sub-result returns)
+round-div-spec = tie.close (tie.spec mul-m lift-requires mul-raised raised-requires mul-t add-t cast-q cast-q-2 div-q cast-result sub-result returns)

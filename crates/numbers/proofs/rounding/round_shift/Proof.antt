@@ -50,24 +50,9 @@ sizes n k l h =
 at-call : (c : tie.Start) → Sizes (c .args .n) (c .args .k)
 at-call c = sizes (c .args .n) (c .args .k) (c .pre .1) (c .pre .2)
 
-sub-raised : tie.Need-sub-raised
-sub-raised c = search needs
-
-cast-raised : tie.Need-cast-raised
-cast-raised c = search needs
-
-shl-raised : tie.Need-shl-raised
-shl-raised c = search needs
-
 raised-requires : tie.Need-raised-requires
 raised-requires c κs =
     rw (toZ-ofZ (c .fits .n), half-is (c .args .k) (c .pre .1)) (omega (arith, c .pre .2), omega (arith, at-most (c .args .k) (c .pre .1)))
-
-cast-result : tie.Need-cast-result
-cast-result c = search needs
-
-shr-result : tie.Need-shr-result
-shr-result c = search needs
 
 returns : tie.Need-returns
 returns c =
@@ -77,4 +62,4 @@ returns c =
     rw (toZ-ofZ f, e, toZ-ofZ (k .last)) (round-by-shift (c .before .args .n) (c .before .args .k) (c .before .pre .0))
 
 pub round-shift-spec : {M : Type 1} → statement M
-round-shift-spec = tie.close (tie.spec sub-raised cast-raised shl-raised raised-requires cast-result shr-result returns)
+round-shift-spec = tie.close (tie.spec (search needs) (search needs) (search needs) raised-requires (search needs) (search needs) returns)

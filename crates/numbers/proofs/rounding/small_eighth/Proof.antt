@@ -1,19 +1,18 @@
 -- `rounding::small_eighth` meets its contract: the sums fit, and what is shifted is what `eighth-is` tells of.
 -- Assumes nothing.
-use mathlib.Core.Path.{_≡_, refl, sym, ap, _∙_}
-use Prim.Native.Nat.{ℕ, _+_, _-_, _*_, _/_, _%_, _^_, _≤_, _<_}
-use native.Mathlib.Nat.{mul-le-mul, mul-comm}
+use mathlib.Core.Path.{_≡_}
+use Prim.Native.Nat.{ℕ, _+_, _-_, _*_, _/_, _^_, _≤_, _<_}
+use native.Mathlib.Nat.{mul-le-mul}
 use native.Mathlib.Omega.{arith}
 use borrow.Author.Needs.{needs}
 use lib.Dec.{lit<}
 use lib.IntN.{ℤ, pos, negsuc, natAbs, _+ℤ_, _-ℤ_}
 use lib.Signed.{_≤ℤ_, shrZ}
-use mir.Syntax.{w32, w64}
-use mir.Val.{Fits, SFits}
+use mir.Syntax.{w32}
+use mir.Val.{SFits}
 use mir.Facts.{toZ-ofZ}
 use Rattle.numbers.proofs.Machine.{abs-fits}
 use Rattle.numbers.proofs.Poly.{over, poly}
-use Rattle.numbers.specs.Sign.{tie as tied}
 use Rattle.numbers.proofs.Nearest.{shift-size}
 use Rattle.numbers.proofs.Small.{eighth-is}
 use Rattle.numbers.proofs.rounding.small_eighth.Statement.{statement}
@@ -50,18 +49,6 @@ module _ (c : tie.After-whole-part) where
   none : (negsuc 0 ≤ℤ pos 0) × (pos 0 ≤ℤ pos 0)
   none = (record { le = tt }, record { le = tt })
 
-lift-cosine-requires : tie.Need-lift-cosine-requires
-lift-cosine-requires c κs = search needs
-
-lift-factor-requires : tie.Need-lift-factor-requires
-lift-factor-requires c κs = search needs
-
-cast-p : tie.Need-cast-p
-cast-p c = search needs
-
-cast-p-2 : tie.Need-cast-p-2
-cast-p-2 c = search needs
-
 mul-p : tie.Need-mul-p
 mul-p c = record { fits = known c .2 }
 
@@ -77,9 +64,6 @@ add-result : tie.Need-add-result
 add-result c =
     let f = fine c (pos 0) (none c) in
     rw (toZ-ofZ (fits-whole c), toZ-ofZ (c .before .before .before .fits .b), toZ-ofZ (f .0)) (f .1)
-
-tie-requires : tie.Need-tie-requires
-tie-requires c κs = search needs
 
 add-result-2 : tie.Need-add-result-2
 add-result-2 c =
@@ -103,16 +87,5 @@ returns c =
 
 pub small-eighth-spec : {M : Type 1} → statement M
 small-eighth-spec =
-    tie.close
-    (tie.spec
-    lift-cosine-requires
-    lift-factor-requires
-    cast-p
-    cast-p-2
-    mul-p
-    whole-part-requires
-    add-m
-    add-result
-    tie-requires
-    add-result-2
-    returns)
+    tie.close (tie.spec (λ c κs. search needs) (λ c κs. search needs) (search needs) (search needs) mul-p whole-part-requires add-m add-result
+    (λ c κs. search needs) add-result-2 returns)

@@ -4,12 +4,11 @@ use mathlib.Core.Path.{_≡_}
 use Prim.Native.Nat.{_*_, _/_, _^_, _≤_}
 use native.Mathlib.Omega.{arith}
 use borrow.Author.Needs.{needs}
-use lib.IntN.{ℤ, pos, _-ℤ_, _*ℤ_}
+use lib.IntN.{pos, _-ℤ_, _*ℤ_}
 use lib.Signed.{_≤ℤ_, ltZ-yes}
 use mir.Syntax.{w32}
 use mir.Val.{toZ}
 use mir.Facts.{toZ-ofZ, toZ-pos}
-use Rattle.numbers.proofs.Poly.{poly}
 use Rattle.paper.specs.Numbers.{round}
 use Rattle.numbers.specs.Small.{lift}
 use Rattle.numbers.proofs.Small.{fraction-is, at-most-lift, lift-off}
@@ -34,9 +33,6 @@ module _ (c : tie.After-upper) where
 lift-dividend-requires : tie.Need-lift-dividend-requires
 lift-dividend-requires c κs = rw (toZ-ofZ (c .fits .n), toZ-ofZ (c .fits .h)) (c .pre .0)
 
-upper-requires : tie.Need-upper-requires
-upper-requires c κs = search needs
-
 cast-result : tie.Need-cast-result
 cast-result c = record { sfits = omega (arith, value c .0) }
 
@@ -47,4 +43,4 @@ returns : tie.Need-returns
 returns c = rw (plain c, toZ-ofZ (lift-off _ (value c .0))) (value c .1)
 
 pub small-product-spec : {M : Type 1} → statement M
-small-product-spec = tie.close (tie.spec lift-dividend-requires upper-requires cast-result sub-result returns)
+small-product-spec = tie.close (tie.spec lift-dividend-requires (λ c κs. search needs) cast-result sub-result returns)

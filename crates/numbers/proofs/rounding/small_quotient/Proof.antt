@@ -32,9 +32,6 @@ module _ (c : tie.After-lift-dividend) where
       (simp (toZ-ofZ, s .fits .t, sides s) at (c .lift-dividend .ensures)) in
       (at-most-lift _ (k .0), k .1)
 
-cast-lift-dividend : tie.Need-cast-lift-dividend
-cast-lift-dividend c = search needs
-
 lift-dividend-requires : tie.Need-lift-dividend-requires
 lift-dividend-requires c κs = rw (toZ-ofZ (c .fits .t), sides c) (shared c .0)
 
@@ -59,4 +56,4 @@ returns : tie.Need-returns
 returns c = rw (plain c, toZ-ofZ (lift-off _ (value c .0))) (value c .1)
 
 pub small-quotient-spec : {M : Type 1} → statement M
-small-quotient-spec = tie.close (tie.spec cast-lift-dividend lift-dividend-requires scaled-requires cast-result sub-result returns)
+small-quotient-spec = tie.close (tie.spec (search needs) lift-dividend-requires scaled-requires cast-result sub-result returns)

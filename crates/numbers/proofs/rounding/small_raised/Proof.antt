@@ -19,7 +19,7 @@ fits : (n h s : ℤ) → (natAbs n ≤ 2 ^ 30) × (natAbs h ≤ 2 ^ 5) → (negs
 fits = over 3 _ λ ρ. simp (poly, ρ) (omega arith)
 
 sum : (n h s t : ℤ) → s ≡ t → n +ℤ h +ℤ s ≡ n +ℤ h +ℤ t
-sum = over 4 _ λ ρ. simp (poly, ρ) (omega arith)
+sum = over 4 _ λ ρ. simp poly (omega arith)
 
 module _ (c : tie.After-small-sign) where
   both : SFits w32 (c .before .args .n +ℤ c .before .args .h) × SFits w32 (c .before .args .n +ℤ c .before .args .h +ℤ c .small-sign .result)
@@ -43,8 +43,6 @@ returns c =
     (sum (c .before .args .n) (c .before .args .h) (c .small-sign .result) (sign (c .before .args .n)) (simp (
       toZ-ofZ,
       c .before .fits .n,
-      c .before
-          .fits .h,
     ) at (c .small-sign .ensures .0)))
 
 pub small-raised-spec : {M : Type 1} → statement M

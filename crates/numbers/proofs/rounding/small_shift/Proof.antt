@@ -63,12 +63,6 @@ raised-requires : tie.Need-small-raised-requires
 raised-requires c κs =
     rw (toZ-ofZ (c .fits .n), half-is (c .args .k) (c .pre .1)) (omega (arith, c .pre .2), omega (arith, at-most (c .args .k) (c .pre .1)))
 
-cast-result : tie.Need-cast-result
-cast-result c = search needs
-
-shr-result : tie.Need-shr-result
-shr-result c = search needs
-
 returns : tie.Need-returns
 returns c =
     let k = at-call (c .before) in
@@ -77,4 +71,4 @@ returns c =
     rw (toZ-ofZ f, e, toZ-ofZ (k .last)) (round-by-shift (c .before .args .n) (c .before .args .k) (c .before .pre .0))
 
 pub small-shift-spec : {M : Type 1} → statement M
-small-shift-spec = tie.close (tie.spec sub-raised cast-raised shl-raised raised-requires cast-result shr-result returns)
+small-shift-spec = tie.close (tie.spec sub-raised cast-raised shl-raised raised-requires (search needs) (search needs) returns)

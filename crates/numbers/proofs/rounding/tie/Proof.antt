@@ -3,22 +3,17 @@
 use mathlib.Core.Path.{_≡_, refl, sym, ap, _∙_}
 use Prim.Native.Nat.{ℕ, zero, suc, _%_, _^_}
 use borrow.Author.Needs.{needs}
-use lib.IntN.{ℤ, pos, negsuc}
-use lib.Signed.{_≤ℤ_}
+use lib.IntN.{ℤ, pos}
 use mir.Syntax.{w32}
 use mir.Val.{SFits}
 use mir.Facts.{toZ-ofZ}
-use Rattle.numbers.specs.Sign.{sign, tie as tied}
-use Rattle.numbers.proofs.Nearest.{sign-bounds}
+use Rattle.numbers.specs.Sign.{tie as tied}
 use Rattle.numbers.proofs.rounding.tie.Statement.{statement}
 use Rattle.numbers.proofs.rounding.tie.Tie as tie
 
 rest : (r : ℕ) (n : ℤ) → (r ≡ 0 → ⊥) → pos 0 ≡ tied r n
 rest zero n h = absurd (h refl)
 rest (suc r) n h = refl
-
-small-sign-requires : tie.Need-small-sign-requires
-small-sign-requires c κs = search needs
 
 returns : tie.Need-returns
 returns c =
@@ -31,4 +26,4 @@ returns-2 : tie.Need-returns-2
 returns-2 c = (rest (c .before .args .p % 2 ^ 30) (c .before .args .m) (c .if1 .left), record { le = tt }, record { le = tt })
 
 pub tie-spec : {M : Type 1} → statement M
-tie-spec = tie.close (tie.spec small-sign-requires returns returns-2)
+tie-spec = tie.close (tie.spec (λ c κs. search needs) returns returns-2)

@@ -1,6 +1,6 @@
 -- `rounding::unit_quotient` meets its contract, by `unit-is`.
 -- Assumes nothing.
-use mathlib.Core.Path.{_≡_, _∙_}
+use mathlib.Core.Path.{_≡_}
 use Prim.Native.Nat.{ℕ, _*_, _/_, _^_, _<_, _≤_}
 use native.Mathlib.Omega.{arith}
 use borrow.Author.Needs.{needs}
@@ -39,9 +39,6 @@ module _ (c : tie.After-lift-units) where
   plain : toZ w64 (c .lift-units .result * c .before .args .f / 2 ^ 37) ≡ pos (c .lift-units .result * c .before .args .f / 2 ^ 37)
   plain = toZ-pos w64 (omega (arith, small))
 
-lift-units-requires : tie.Need-lift-units-requires
-lift-units-requires c κs = search needs
-
 mul-result : tie.Need-mul-result
 mul-result c = record { fits = omega (arith, fits c) }
 
@@ -55,4 +52,4 @@ returns : tie.Need-returns
 returns c = rw (plain c, toZ-ofZ (less _ (small c))) (value c)
 
 pub unit-quotient-spec : {M : Type 1} → statement M
-unit-quotient-spec = tie.close (tie.spec lift-units-requires mul-result cast-result sub-result returns)
+unit-quotient-spec = tie.close (tie.spec (λ c κs. search needs) mul-result cast-result sub-result returns)

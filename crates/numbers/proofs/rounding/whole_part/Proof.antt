@@ -1,7 +1,7 @@
 -- `rounding::whole_part` meets its contract: half of u is no more than the quotient, and the other half is taken off with the sign.
 -- Assumes nothing.
 use mathlib.Core.Path.{refl}
-use Prim.Native.Nat.{_+_, _-_, _*_, _/_, _^_, _<_, _≤_}
+use Prim.Native.Nat.{_+_, _-_, _/_, _^_, _<_, _≤_}
 use borrow.Author.Needs.{needs}
 use lib.Dec.{lit<}
 use lib.IntN.{pos, natAbs, _-ℤ_}
@@ -27,21 +27,6 @@ module _ (c : tie.Start) where
   last : SFits w32 (pos (c .args .p / 2 ^ 30) -ℤ pos (c .args .u) -ℤ c .args .d)
   last = abs-fits w32 _ (2 ^ 30 + 2 ^ 29) (fine .1) (lit< tt)
 
-cast-q : tie.Need-cast-q
-cast-q c = search needs
-
-sub-q : tie.Need-sub-q
-sub-q c = search needs
-
-cast-result : tie.Need-cast-result
-cast-result c = search needs
-
-sub-result : tie.Need-sub-result
-sub-result c = search needs
-
-cast-result-2 : tie.Need-cast-result-2
-cast-result-2 c = search needs
-
 sub-result-2 : tie.Need-sub-result-2
 sub-result-2 c = rw (toZ-pos w32 (sizes c .0), toZ-pos w32 (sizes c .1), whole-is (c .args .p) (c .args .u) (c .pre .2)) (first c)
 
@@ -61,4 +46,4 @@ returns c =
     ) (refl, fine c .1)
 
 pub whole-part-spec : {M : Type 1} → statement M
-whole-part-spec = tie.close (tie.spec cast-q sub-q cast-result sub-result cast-result-2 sub-result-2 sub-result-3 returns)
+whole-part-spec = tie.close (tie.spec (search needs) (search needs) (search needs) (search needs) (search needs) sub-result-2 sub-result-3 returns)

@@ -8,21 +8,12 @@ use borrow.Author.Needs.{needs}
 use Rattle.off.proofs.checking.check.Statement.{statement}
 use Rattle.off.proofs.checking.check.Tie as tie
 
-check-lengths-requires : tie.Need-check-lengths-requires
-check-lengths-requires c κs = search needs
-
-enum-known-lengths : tie.Need-enum-known-lengths
-enum-known-lengths c = search needs
-
 returns : tie.Need-returns
 returns c =
     let a = c .before .before .before .check-lengths in
     let s = c .before .before .before .before .before .before in
     let q = c .before .lengths .given in
     check-four (s .args .d) _ _ _ (a .result) (q .0 .0) (q .0 .1 .0) (a .ensures) (q .1)
-
-enum-told : tie.Need-enum-told
-enum-told c = search needs
 
 slice-aggregate-check-plain : tie.Need-slice-aggregate-check-plain
 slice-aggregate-check-plain c =
@@ -60,14 +51,5 @@ returns-2 c =
 
 pub check-spec : {M : Type 1} → statement M
 check-spec =
-    tie.close
-    (tie.spec
-    check-lengths-requires
-    enum-known-lengths
-    returns
-    enum-told
-    slice-aggregate-check-plain
-    slice-aggregate-check-plain-2
-    slice-aggregate-check-plain-3
-    check-plain-requires
-    returns-2)
+    tie.close (tie.spec (λ c κs. search needs) (λ c. search needs) returns (λ c. search needs) slice-aggregate-check-plain slice-aggregate-check-plain-2
+    slice-aggregate-check-plain-3 check-plain-requires returns-2)

@@ -12,20 +12,11 @@ use borrow.Author.Needs.{needs}
 use Rattle.off.proofs.checking.check_plain.Statement.{statement}
 use Rattle.off.proofs.checking.check_plain.Tie as tie
 
-mul-pairs : tie.Need-mul-pairs
-mul-pairs c = search needs
-
-array-share-prefix-eights : tie.Need-array-share-prefix-eights
-array-share-prefix-eights c = search needs
-
 slice-aggregate-check : tie.Need-slice-aggregate-check
 slice-aggregate-check c =
     let s = c .before .before .before in
     let n = 2 * length (s .args .corners .now) in
     sym (ap {B = ℕ} length (eights n 16384 (omega (arith, s .pre))) ∙ length-replicate n plain)
-
-check-requires : tie.Need-check-requires
-check-requires c κs = search needs
 
 returns : tie.Need-returns
 returns c =
@@ -35,6 +26,4 @@ returns c =
     (omega (arith, s .pre)))
 
 pub check-plain-spec : {M : Type 1} → statement M
-check-plain-spec =
-    tie.close
-    (tie.spec mul-pairs array-share-prefix-eights slice-aggregate-check check-requires returns)
+check-plain-spec = tie.close (tie.spec (λ c. search needs) (λ c. search needs) slice-aggregate-check (λ c κs. search needs) returns)

@@ -23,9 +23,6 @@ loop-holds c =
     let s = c .before in
     (omega arith, omega (arith, s .pre .0), s .pre .2, refl, tens-start (s .args .from - s .args .from) (omega arith))
 
-shared-slice-read-with-digit : tie.Need-shared-slice-read-with-digit Inv-loop μ-loop
-shared-slice-read-with-digit c = search needs
-
 with-digit-requires : tie.Need-with-digit-requires Inv-loop μ-loop
 with-digit-requires c κs =
     let s = c .before .before .before .before in
@@ -33,12 +30,6 @@ with-digit-requires c κs =
     let h : l .i < length (s .args .word .now) = search needs in
     let d = digit-here (s .args .word .now) (l .i) h (l .inv .2) in
     (below-eight (l .n) (l .i - s .args .from) (l .inv .4) (omega (arith, s .pre .1)), d .0, d .1)
-
-add-i : tie.Need-add-i Inv-loop μ-loop
-add-i c = search needs
-
-loop-less : tie.Need-loop-less Inv-loop μ-loop
-loop-less c = search needs
 
 loop-again : tie.Need-loop-again Inv-loop μ-loop
 loop-again c =
@@ -65,14 +56,4 @@ returns c =
 
 pub decimal-spec : {M : Type 1} → statement M
 decimal-spec =
-    tie.close
-    (tie.spec
-    Inv-loop
-    μ-loop
-    loop-holds
-    shared-slice-read-with-digit
-    with-digit-requires
-    add-i
-    loop-less
-    loop-again
-    returns)
+    tie.close (tie.spec Inv-loop μ-loop loop-holds (λ c. search needs) with-digit-requires (λ c. search needs) (λ c. search needs) loop-again returns)

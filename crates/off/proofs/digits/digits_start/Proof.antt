@@ -9,9 +9,6 @@ use Rattle.off.proofs.digits.digits_start.Tie as tie
 returns : tie.Need-returns
 returns c = start-none _ (c .if1 .taken)
 
-shared-slice-read-if2 : tie.Need-shared-slice-read-if2
-shared-slice-read-if2 c = search needs
-
 returns-2 : tie.Need-returns-2
 returns-2 c = start-minus _ (omega arith) (c .if2 .taken)
 
@@ -19,4 +16,4 @@ returns-3 : tie.Need-returns-3
 returns-3 c = start-plain _ (omega arith) (c .if2 .left)
 
 pub digits-start-spec : {M : Type 1} → statement M
-digits-start-spec = tie.close (tie.spec returns shared-slice-read-if2 returns-2 returns-3)
+digits-start-spec = tie.close (tie.spec returns (λ c. search needs) returns-2 returns-3)

@@ -7,22 +7,10 @@ use borrow.Author.Needs.{needs}
 use Rattle.off.proofs.digits.is_number.Statement.{statement}
 use Rattle.off.proofs.digits.is_number.Tie as tie
 
-digits-start-requires : tie.Need-digits-start-requires
-digits-start-requires c κs = search needs
-
-sub-may-have : tie.Need-sub-may-have
-sub-may-have c = search needs
-
-may-have-requires : tie.Need-may-have-requires
-may-have-requires c κs = search needs
-
 returns : tie.Need-returns
 returns c =
     let s = c .before .before .digits-start in
     too-many _ (s .result) (s .ensures) (sym (c .before .may-have .ensures) ∙ not-true _ (c .if1 .taken))
-
-all-digits-requires : tie.Need-all-digits-requires
-all-digits-requires c κs = search needs
 
 returns-2 : tie.Need-returns-2
 returns-2 c =
@@ -30,12 +18,4 @@ returns-2 c =
     number-is _ (s .result) (s .ensures) (sym (c .before .before .may-have .ensures) ∙ not-false _ (c .before .if1 .left)) _ (c .all-digits .ensures)
 
 pub is-number-spec : {M : Type 1} → statement M
-is-number-spec =
-    tie.close
-    (tie.spec
-    digits-start-requires
-    sub-may-have
-    may-have-requires
-    returns
-    all-digits-requires
-    returns-2)
+is-number-spec = tie.close (tie.spec (λ c κs. search needs) (λ c. search needs) (λ c κs. search needs) returns (λ c κs. search needs) returns-2)

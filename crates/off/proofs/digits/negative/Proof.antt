@@ -8,9 +8,6 @@ use borrow.Author.Needs.{needs}
 use Rattle.off.proofs.digits.negative.Statement.{statement}
 use Rattle.off.proofs.digits.negative.Tie as tie
 
-cast-result : tie.Need-cast-result
-cast-result c = search needs
-
 sub-result : tie.Need-sub-result
 sub-result c =
     rw (toZ-pos w32 (c .args .size) (omega arith), zero-minus (c .args .size)) (negative-fits (c .args .size) (c .pre))
@@ -20,4 +17,4 @@ returns c =
     rw (toZ-pos w32 (c .args .size) (omega arith), zero-minus (c .args .size)) (toZ-ofZ w32 _ (negative-fits (c .args .size) (c .pre)))
 
 pub negative-spec : {M : Type 1} → statement M
-negative-spec = tie.close (tie.spec cast-result sub-result returns)
+negative-spec = tie.close (tie.spec (λ c. search needs) sub-result returns)

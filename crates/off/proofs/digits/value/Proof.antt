@@ -10,17 +10,11 @@ use borrow.Author.Needs.{needs}
 use Rattle.off.proofs.digits.value.Statement.{statement}
 use Rattle.off.proofs.digits.value.Tie as tie
 
-digits-start-requires : tie.Need-digits-start-requires
-digits-start-requires c κs = search needs
-
 decimal-requires : tie.Need-decimal-requires
 decimal-requires c κs =
     let s = c .digits-start in
     let e = c .before .before .pre in
     (s .ensures .inside, value-few _ (s .result) (s .ensures) e, value-digits _ (s .result) (s .ensures) e)
-
-negative-requires : tie.Need-negative-requires
-negative-requires c κs = search needs
 
 returns : tie.Need-returns
 returns c =
@@ -28,9 +22,6 @@ returns c =
     let s = d .before .digits-start in
     toZ-ofZ w32 (c .negative .result) (record { sfits = c .negative .ok }) ∙ c .negative .ensures
     ∙ negative-is _ (s .result) (s .ensures) (eq-eqb _ _ (c .before .if1 .taken)) _ (d .decimal .ensures .0)
-
-cast-result : tie.Need-cast-result
-cast-result c = search needs
 
 returns-2 : tie.Need-returns-2
 returns-2 c =
@@ -40,12 +31,4 @@ returns-2 c =
     ∙ positive-is _ (s .result) (s .ensures) (ne-eqb _ _ (c .if1 .left)) _ (d .decimal .ensures .0)
 
 pub value-spec : {M : Type 1} → statement M
-value-spec =
-    tie.close
-    (tie.spec
-    digits-start-requires
-    decimal-requires
-    negative-requires
-    returns
-    cast-result
-    returns-2)
+value-spec = tie.close (tie.spec (λ c κs. search needs) decimal-requires (λ c κs. search needs) returns (λ c. search needs) returns-2)

@@ -6,21 +6,8 @@ use borrow.Author.Needs.{needs}
 use Rattle.off.proofs.lists.put_coordinate.Statement.{statement}
 use Rattle.off.proofs.lists.put_coordinate.Tie as tie
 
-mul-value : tie.Need-mul-value
-mul-value c = search needs
-
-slice-set-from-value : tie.Need-slice-set-from-value
-slice-set-from-value c = search needs
-
-same-length : tie.Need-same-length
-same-length c = search needs
-
-returns : tie.Need-returns
-returns c = search needs
-
 returns-2 : tie.Need-returns-2
 returns-2 c = sym (set-out _ _ _ (c .if1 .left))
 
 pub put-coordinate-spec : {M : Type 1} → statement M
-put-coordinate-spec =
-    tie.close (tie.spec mul-value slice-set-from-value same-length returns returns-2)
+put-coordinate-spec = tie.close (tie.spec (λ c. search needs) (λ c. search needs) (λ c. search needs) (λ c. search needs) returns-2)

@@ -6,17 +6,8 @@ use borrow.Author.Needs.{needs}
 use Rattle.off.proofs.lists.put_side.Statement.{statement}
 use Rattle.off.proofs.lists.put_side.Tie as tie
 
-slice-write-list : tie.Need-slice-write-list
-slice-write-list c = search needs
-
-same-length : tie.Need-same-length
-same-length c = search needs
-
-returns : tie.Need-returns
-returns c = search needs
-
 returns-2 : tie.Need-returns-2
 returns-2 c = sym (set-out _ _ _ (c .if1 .left))
 
 pub put-side-spec : {M : Type 1} → statement M
-put-side-spec = tie.close (tie.spec slice-write-list same-length returns returns-2)
+put-side-spec = tie.close (tie.spec (λ c. search needs) (λ c. search needs) (λ c. search needs) returns-2)

@@ -4,10 +4,9 @@ use borrow.Author.Tests.{not-true, not-false}
 use mir.Syntax.{w32}
 use mir.ValLaws.{toZ-ofZ}
 use Rattle.off.proofs.lists.Naturals.{own}
-use Rattle.off.proofs.lists.Rows.{coordinate-bad, coordinate-step}
+use Rattle.off.proofs.lists.Rows.{coordinate-bad, coordinate-step, Reading, reading-none, reading-stop, reading-all}
 use Prim.Native.Nat.{_≤_, _-_}
 use Rattle.paper.specs.Off.{coordinate, wordsOf, valueAt}
-use Rattle.off.proofs.lists.Rows.{Reading, reading-none, reading-stop, reading-all}
 use native.Mathlib.Omega.{arith}
 use borrow.Author.Needs.{needs}
 use Rattle.off.proofs.lists.read_coordinates.Statement.{statement}
@@ -38,15 +37,6 @@ returns c =
     reading-stop _ coordinate _ _ _ 0 _ (l .list) (l .i) (l .next) (l .inv .1) (search needs)
     (coordinate-bad _ (l .next) _ (l .inv .1 .before) (n .result) (n .ensures) (not-true _ (c .if1 .taken)))
 
-put-coordinate-requires : tie.Need-put-coordinate-requires Inv-loop μ-loop
-put-coordinate-requires c κs = search needs
-
-add-i : tie.Need-add-i Inv-loop μ-loop
-add-i c = search needs
-
-loop-less : tie.Need-loop-less Inv-loop μ-loop
-loop-less c = search needs
-
 loop-again : tie.Need-loop-again Inv-loop μ-loop
 loop-again c =
     let s = c .before .before .before .before .before .before .before .before .before .before .before in
@@ -69,17 +59,5 @@ returns-2 c =
 
 pub read-coordinates-spec : {M : Type 1} → statement M
 read-coordinates-spec =
-    tie.close
-    (tie.spec
-    Inv-loop
-    μ-loop
-    loop-holds
-    number-requires
-    same-length
-    returns
-    put-coordinate-requires
-    add-i
-    loop-less
-    loop-again
-    same-length-2
-    returns-2)
+    tie.close (tie.spec Inv-loop μ-loop loop-holds number-requires same-length returns (λ c κs. search needs) (λ c. search needs) (λ c. search needs)
+    loop-again same-length-2 returns-2)

@@ -2,10 +2,9 @@
 -- Assumes nothing.
 use borrow.Author.Tests.{not-true, not-false}
 use Rattle.off.proofs.lists.Naturals.{own}
-use Rattle.off.proofs.lists.Rows.{corner-bad, corner-step}
+use Rattle.off.proofs.lists.Rows.{corner-bad, corner-step, Reading, reading-none, reading-stop, reading-all}
 use Prim.Native.Nat.{_≤_, _-_}
 use Rattle.paper.specs.Off.{vertexNumber, wordsOf, naturalAt}
-use Rattle.off.proofs.lists.Rows.{Reading, reading-none, reading-stop, reading-all}
 use native.Mathlib.Omega.{arith}
 use borrow.Author.Needs.{needs}
 use Rattle.off.proofs.lists.read_corners.Statement.{statement}
@@ -46,15 +45,6 @@ cast-put-corner : tie.Need-cast-put-corner Inv-loop μ-loop
 cast-put-corner c =
     let n = c .before .before .before .before .read-natural in record { fits = omega (arith, n .ensures .within) }
 
-put-corner-requires : tie.Need-put-corner-requires Inv-loop μ-loop
-put-corner-requires c κs = search needs
-
-add-i : tie.Need-add-i Inv-loop μ-loop
-add-i c = search needs
-
-loop-less : tie.Need-loop-less Inv-loop μ-loop
-loop-less c = search needs
-
 loop-again : tie.Need-loop-again Inv-loop μ-loop
 loop-again c =
     let s = c .before .before .before .before .before .before .before .before .before .before .before .before .before in
@@ -75,19 +65,5 @@ returns-2 c =
 
 pub read-corners-spec : {M : Type 1} → statement M
 read-corners-spec =
-    tie.close
-    (tie.spec
-    Inv-loop
-    μ-loop
-    loop-holds
-    read-natural-requires
-    same-length
-    returns
-    add-put-corner
-    cast-put-corner
-    put-corner-requires
-    add-i
-    loop-less
-    loop-again
-    same-length-2
-    returns-2)
+    tie.close (tie.spec Inv-loop μ-loop loop-holds read-natural-requires same-length returns add-put-corner cast-put-corner (λ c κs. search needs)
+    (λ c. search needs) (λ c. search needs) loop-again same-length-2 returns-2)

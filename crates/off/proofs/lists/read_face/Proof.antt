@@ -8,20 +8,11 @@ use borrow.Author.Needs.{needs}
 use Rattle.off.proofs.lists.read_face.Statement.{statement}
 use Rattle.off.proofs.lists.read_face.Tie as tie
 
-read-natural-requires : tie.Need-read-natural-requires
-read-natural-requires c κs = search needs
-
 returns : tie.Need-returns
 returns c =
     let n = c .before .before .read-natural in
     let s = c .before .before .before .before .before .before in
     face-none _ (s .args .c) _ _ _ _ _ _ (n .result) (n .ensures) (not-true _ (c .if1 .taken))
-
-cast-put-side : tie.Need-cast-put-side
-cast-put-side c = search needs
-
-put-side-requires : tie.Need-put-side-requires
-put-side-requires c κs = search needs
 
 read-corners-requires : tie.Need-read-corners-requires
 read-corners-requires c κs =
@@ -31,12 +22,6 @@ read-corners-requires c κs =
       omega
           (arith, s .pre .1, n .ensures .within),
     )
-
-same-length : tie.Need-same-length
-same-length c = search needs
-
-same-length-2 : tie.Need-same-length-2
-same-length-2 c = search needs
 
 returns-2 : tie.Need-returns-2
 returns-2 c =
@@ -49,13 +34,5 @@ returns-2 c =
 
 pub read-face-spec : {M : Type 1} → statement M
 read-face-spec =
-    tie.close
-    (tie.spec
-    read-natural-requires
-    returns
-    cast-put-side
-    put-side-requires
-    read-corners-requires
-    same-length
-    same-length-2
-    returns-2)
+    tie.close (tie.spec (λ c κs. search needs) returns (λ c. search needs) (λ c κs. search needs) read-corners-requires (λ c. search needs)
+    (λ c. search needs) returns-2)

@@ -28,12 +28,6 @@ read-face-requires c κs =
     let l = c .before .before .before .loop in
     (l .inv .3 .before, omega (arith, l .inv .3 .few, s .pre .1, l .inv .0))
 
-same-length : tie.Need-same-length Inv-loop μ-loop
-same-length c = search needs
-
-same-length-2 : tie.Need-same-length-2 Inv-loop μ-loop
-same-length-2 c = search needs
-
 returns : tie.Need-returns Inv-loop μ-loop
 returns c =
     let s = c .before .before .before .before .before .before .before .before .before .before .before .before .before .before .before in
@@ -50,12 +44,6 @@ add-k c =
     let r = c .before .before .before .before .before .before .before .before .read-face in
     record { fits = omega (arith, l .inv .3 .few, s .pre .1, l .inv .0, r .ensures .within) }
 
-add-f : tie.Need-add-f Inv-loop μ-loop
-add-f c = search needs
-
-loop-less : tie.Need-loop-less Inv-loop μ-loop
-loop-less c = search needs
-
 loop-again : tie.Need-loop-again Inv-loop μ-loop
 loop-again c =
     let s = c .before .before .before .before .before .before .before .before .before .before .before .before .before .before .before .before in
@@ -68,12 +56,6 @@ loop-again c =
     h (r .result) (r .last .1 .1 .0) (r .last .1 .1 .1 .1 .0) (r .ensures) (not-false _ (c .before .if1 .left)) in
     (omega (arith, h), n .sides-same, n .corners-same, n)
 
-same-length-3 : tie.Need-same-length-3 Inv-loop μ-loop
-same-length-3 c = search needs
-
-same-length-4 : tie.Need-same-length-4 Inv-loop μ-loop
-same-length-4 c = search needs
-
 returns-2 : tie.Need-returns-2 Inv-loop μ-loop
 returns-2 c =
     let l = c .before .loop in
@@ -81,19 +63,5 @@ returns-2 c =
 
 pub read-faces-spec : {M : Type 1} → statement M
 read-faces-spec =
-    tie.close
-    (tie.spec
-    Inv-loop
-    μ-loop
-    loop-holds
-    read-face-requires
-    same-length
-    same-length-2
-    returns
-    add-k
-    add-f
-    loop-less
-    loop-again
-    same-length-3
-    same-length-4
-    returns-2)
+    tie.close (tie.spec Inv-loop μ-loop loop-holds read-face-requires (λ c. search needs) (λ c. search needs) returns add-k (λ c. search needs)
+    (λ c. search needs) loop-again (λ c. search needs) (λ c. search needs) returns-2)

@@ -9,9 +9,6 @@ use Rattle.off.proofs.lists.read_header.Tie as tie
 read-natural-requires : tie.Need-read-natural-requires
 read-natural-requires c κs = own _ _ _ (c .before .pre)
 
-no-header-requires : tie.Need-no-header-requires
-no-header-requires c κs = search needs
-
 returns : tie.Need-returns
 returns c =
     let s = c .before .before .before .before .before in
@@ -23,9 +20,6 @@ returns c =
 read-natural-requires-2 : tie.Need-read-natural-requires-2
 read-natural-requires-2 c κs =
     let v = c .before .before .before .read-natural in own _ _ _ (v .ensures .next (not-false _ (c .before .if1 .left)))
-
-no-header-requires-2 : tie.Need-no-header-requires-2
-no-header-requires-2 c κs = search needs
 
 returns-2 : tie.Need-returns-2
 returns-2 c =
@@ -41,9 +35,6 @@ returns-2 c =
 read-natural-requires-3 : tie.Need-read-natural-requires-3
 read-natural-requires-3 c κs =
     let f = c .before .before .before .read-natural2 in own _ _ _ (f .ensures .next (not-false _ (c .before .if2 .left)))
-
-no-header-requires-3 : tie.Need-no-header-requires-3
-no-header-requires-3 c κs = search needs
 
 returns-3 : tie.Need-returns-3
 returns-3 c =
@@ -75,15 +66,5 @@ returns-4 c =
 
 pub read-header-spec : {M : Type 1} → statement M
 read-header-spec =
-    tie.close
-    (tie.spec
-    read-natural-requires
-    no-header-requires
-    returns
-    read-natural-requires-2
-    no-header-requires-2
-    returns-2
-    read-natural-requires-3
-    no-header-requires-3
-    returns-3
-    returns-4)
+    tie.close (tie.spec read-natural-requires (λ c κs. search needs) returns read-natural-requires-2 (λ c κs. search needs) returns-2
+    read-natural-requires-3 (λ c κs. search needs) returns-3 returns-4)

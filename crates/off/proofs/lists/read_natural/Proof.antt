@@ -9,19 +9,10 @@ use borrow.Author.Needs.{needs}
 use Rattle.off.proofs.lists.read_natural.Statement.{statement}
 use Rattle.off.proofs.lists.read_natural.Tie as tie
 
-number-requires : tie.Need-number-requires
-number-requires c κs = search needs
-
-no-natural-requires : tie.Need-no-natural-requires
-no-natural-requires c κs = search needs
-
 returns : tie.Need-returns
 returns c =
     let m = c .before .before .before .number in
     natural-none _ _ _ (m .result) (m .ensures) (not-true _ (c .before .if1 .taken)) _ (c .no-natural .ensures .0) (c .no-natural .ensures .1)
-
-no-natural-requires-2 : tie.Need-no-natural-requires-2
-no-natural-requires-2 c κs = search needs
 
 returns-2 : tie.Need-returns-2
 returns-2 c =
@@ -35,9 +26,6 @@ cast-size c =
     let m = c .before .before .before .before .number in
     let z = toZ-ofZ w32 (m .result .value) (record { sfits = c .before .struct-told .given .1 .0 .1 }) in
     rw z (from-zero (m .result .value) (record { sfits = c .before .struct-told .given .1 .0 .1 }) (rw z at (c .if2 .left)))
-
-no-natural-requires-3 : tie.Need-no-natural-requires-3
-no-natural-requires-3 c κs = search needs
 
 returns-3 : tie.Need-returns-3
 returns-3 c =
@@ -56,14 +44,5 @@ returns-4 c =
 
 pub read-natural-spec : {M : Type 1} → statement M
 read-natural-spec =
-    tie.close
-    (tie.spec
-    number-requires
-    no-natural-requires
-    returns
-    no-natural-requires-2
-    returns-2
-    cast-size
-    no-natural-requires-3
-    returns-3
+    tie.close (tie.spec (λ c κs. search needs) (λ c κs. search needs) returns (λ c κs. search needs) returns-2 cast-size (λ c κs. search needs) returns-3
     returns-4)

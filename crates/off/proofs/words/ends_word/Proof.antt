@@ -7,9 +7,6 @@ use Rattle.off.proofs.words.Cursors.{ends-separator, ends-hash, ends-no
 use Rattle.off.proofs.words.ends_word.Statement.{statement}
 use Rattle.off.proofs.words.ends_word.Tie as tie
 
-separates-requires : tie.Need-separates-requires
-separates-requires c κs = search needs
-
 returns : tie.Need-returns
 returns c = ends-separator _ (sym (c .before .separates .ensures) ∙ c .if1 .taken)
 
@@ -20,4 +17,4 @@ returns-3 : tie.Need-returns-3
 returns-3 c = sym (ends-none _ (sym (c .before .before .separates .ensures) ∙ c .before .if1 .left) (λ e. c .if2 .left (omega arith)))
 
 pub ends-word-spec : {M : Type 1} → statement M
-ends-word-spec = tie.close (tie.spec separates-requires returns returns-2 returns-3)
+ends-word-spec = tie.close (tie.spec (λ c κs. search needs) returns returns-2 returns-3)

@@ -12,17 +12,11 @@ unfolding isOff
 returns c =
     let w = c .before .args .word .now in rw (ne-eqb (length w) 3 (c .if1 .taken))
 
-shared-slice-read-if2 : tie.Need-shared-slice-read-if2
-shared-slice-read-if2 c = search needs
-
 returns-2 : tie.Need-returns-2
 unfolding isOff
 returns-2 c =
     let w = c .before .before .before .args .word .now in
     rw (eq-eqb (length w) 3 (c .before .before .if1 .left), ne-eqb (getD w 0 0) 79 (c .if2 .taken))
-
-shared-slice-read-if3 : tie.Need-shared-slice-read-if3
-shared-slice-read-if3 c = search needs
 
 returns-3 : tie.Need-returns-3
 unfolding isOff
@@ -33,9 +27,6 @@ returns-3 c =
       eq-eqb (getD w 0 0) 79 (c .before .before .if2 .left),
       ne-eqb (getD w 1 0) 70 (c .if3 .taken),
     )
-
-shared-slice-read-result : tie.Need-shared-slice-read-result
-shared-slice-read-result c = search needs
 
 returns-4 : tie.Need-returns-4
 unfolding isOff
@@ -48,13 +39,4 @@ returns-4 c =
     )
 
 pub is-off-spec : {M : Type 1} → statement M
-is-off-spec =
-    tie.close
-    (tie.spec
-    returns
-    shared-slice-read-if2
-    returns-2
-    shared-slice-read-if3
-    returns-3
-    shared-slice-read-result
-    returns-4)
+is-off-spec = tie.close (tie.spec returns (λ c. search needs) returns-2 (λ c. search needs) returns-3 (λ c. search needs) returns-4)

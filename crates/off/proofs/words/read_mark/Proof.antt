@@ -9,26 +9,8 @@ use borrow.Author.Needs.{needs}
 use Rattle.off.proofs.words.read_mark.Statement.{statement}
 use Rattle.off.proofs.words.read_mark.Tie as tie
 
-start-requires : tie.Need-start-requires
-start-requires c κs = search needs
-
 to-word-requires : tie.Need-to-word-requires
 to-word-requires c κs = own _ _ _ (c .start .ensures)
-
-word-end-requires : tie.Need-word-end-requires
-word-end-requires c κs = search needs
-
-sub-is-off : tie.Need-sub-is-off
-sub-is-off c = search needs
-
-part-is-off-start : tie.Need-part-is-off-start
-part-is-off-start c = search needs
-
-part-is-off-end : tie.Need-part-is-off-end
-part-is-off-end c = search needs
-
-is-off-requires : tie.Need-is-off-requires
-is-off-requires c κs = search needs
 
 returns : tie.Need-returns
 returns c =
@@ -62,15 +44,5 @@ returns-2 c =
 
 pub read-mark-spec : {M : Type 1} → statement M
 read-mark-spec =
-    tie.close
-    (tie.spec
-    start-requires
-    to-word-requires
-    word-end-requires
-    sub-is-off
-    part-is-off-start
-    part-is-off-end
-    is-off-requires
-    returns
-    moved-requires
-    returns-2)
+    tie.close (tie.spec (λ c κs. search needs) to-word-requires (λ c κs. search needs) (λ c. search needs) (λ c. search needs) (λ c. search needs)
+    (λ c κs. search needs) returns moved-requires returns-2)

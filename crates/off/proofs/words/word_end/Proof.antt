@@ -20,22 +20,10 @@ abbrev μ-loop : tie.MeasureT-loop
 loop-holds : tie.Need-loop-holds Inv-loop μ-loop
 loop-holds c = (omega arith, omega arith, λ j a b. absurd (omega arith))
 
-shared-slice-read-ends-word : tie.Need-shared-slice-read-ends-word Inv-loop μ-loop
-shared-slice-read-ends-word c = search needs
-
-ends-word-requires : tie.Need-ends-word-requires Inv-loop μ-loop
-ends-word-requires c κs = search needs
-
 returns : tie.Need-returns Inv-loop μ-loop
 returns c =
     let l = c .before .before .before .before .loop in
     record { forward = l .inv .0; inside = l .inv .1; whole = l .inv .2; stops = λ h. sym (c .before .ends-word .ensures) ∙ c .if1 .taken }
-
-add-at : tie.Need-add-at Inv-loop μ-loop
-add-at c = search needs
-
-loop-less : tie.Need-loop-less Inv-loop μ-loop
-loop-less c = search needs
 
 loop-again : tie.Need-loop-again Inv-loop μ-loop
 loop-again c =
@@ -53,15 +41,5 @@ returns-2 c =
 
 pub word-end-spec : {M : Type 1} → statement M
 word-end-spec =
-    tie.close
-    (tie.spec
-    Inv-loop
-    μ-loop
-    loop-holds
-    shared-slice-read-ends-word
-    ends-word-requires
-    returns
-    add-at
-    loop-less
-    loop-again
+    tie.close (tie.spec Inv-loop μ-loop loop-holds (λ c. search needs) (λ c κs. search needs) returns (λ c. search needs) (λ c. search needs) loop-again
     returns-2)

@@ -14,23 +14,8 @@ Inv-loop fd held size counted₀ ok₀ most counted ok = (length held ≤ counte
 abbrev μ-loop : tie.MeasureT-loop
 μ-loop fd held size counted₀ ok₀ most counted ok = most - counted
 
-expected-length-requires : tie.Need-expected-length-requires Inv-loop μ-loop
-expected-length-requires c κs = search needs
-
-add-most : tie.Need-add-most Inv-loop μ-loop
-add-most c = search needs
-
 loop-holds : tie.Need-loop-holds Inv-loop μ-loop
 loop-holds c = (omega arith, λ l. absurd (omega arith))
-
-sub-skip : tie.Need-sub-skip Inv-loop μ-loop
-sub-skip c = search needs
-
-skip-requires : tie.Need-skip-requires Inv-loop μ-loop
-skip-requires c κs = search needs
-
-add-counted : tie.Need-add-counted Inv-loop μ-loop
-add-counted c = search needs
 
 loop-less : tie.Need-loop-less Inv-loop μ-loop
 loop-less c = let e = c .before .skip .ensures in omega arith
@@ -54,18 +39,5 @@ returns-3 c = measured-short _ _
 
 pub count-on-spec : {M : Type 1} → statement M
 count-on-spec =
-    tie.close
-    (tie.spec
-    Inv-loop
-    μ-loop
-    expected-length-requires
-    add-most
-    loop-holds
-    sub-skip
-    skip-requires
-    add-counted
-    loop-less
-    loop-again
-    returns
-    returns-2
-    returns-3)
+    tie.close (tie.spec Inv-loop μ-loop (λ c κs. search needs) (λ c. search needs) loop-holds (λ c. search needs) (λ c κs. search needs) (λ c. search needs)
+    loop-less loop-again returns returns-2 returns-3)

@@ -9,24 +9,12 @@ use native.Mathlib.Omega.{arith}
 use Rattle.print.proofs.file_input.skip.Statement.{statement}
 use Rattle.print.proofs.file_input.skip.Tie as tie
 
-buffer-requires : tie.Need-buffer-requires
-buffer-requires c κs = search needs
-
-least-requires : tie.Need-least-requires
-least-requires c κs = search needs
-
-array-borrow-prefix-spill : tie.Need-array-borrow-prefix-spill
-array-borrow-prefix-spill c = search needs
-
 slice-aggregate-read-some : tie.Need-slice-aggregate-read-some
 slice-aggregate-read-some c =
     let l = c .before .least in
     let s = c .before .before .buffer in
     let h : l .result ≤ length (s .result) = omega (arith, l .ensures .1, s .ensures) in
     sym (length-take-le _ _ h)
-
-read-some-requires : tie.Need-read-some-requires
-read-some-requires c κs = search needs
 
 returns : tie.Need-returns
 returns c =
@@ -36,12 +24,4 @@ returns c =
     omega arith
 
 pub skip-spec : {M : Type 1} → statement M
-skip-spec =
-    tie.close
-    (tie.spec
-    buffer-requires
-    least-requires
-    array-borrow-prefix-spill
-    slice-aggregate-read-some
-    read-some-requires
-    returns)
+skip-spec = tie.close (tie.spec (λ c κs. search needs) (λ c κs. search needs) (λ c. search needs) slice-aggregate-read-some (λ c κs. search needs) returns)

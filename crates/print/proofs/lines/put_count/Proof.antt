@@ -6,20 +6,11 @@ use borrow.Author.Needs.{needs}
 use Rattle.print.proofs.lines.put_count.Statement.{statement}
 use Rattle.print.proofs.lines.put_count.Tie as tie
 
-add-if1 : tie.Need-add-if1
-add-if1 c = search needs
-
 returns : tie.Need-returns
 returns c = put-same (no-line _ _ _ (c .if1 .taken)) (put-none _ _)
-
-put-three-requires : tie.Need-put-three-requires
-put-three-requires c κs = search needs
-
-same-length : tie.Need-same-length
-same-length c = search needs
 
 returns-2 : tie.Need-returns-2
 returns-2 c = put-same (a-line _ _ _ (c .before .before .before .before .if1 .left)) (c .before .before .put-three .ensures)
 
 pub put-count-spec : {M : Type 1} → statement M
-put-count-spec = tie.close (tie.spec add-if1 returns put-three-requires same-length returns-2)
+put-count-spec = tie.close (tie.spec (λ c. search needs) returns (λ c κs. search needs) (λ c. search needs) returns-2)

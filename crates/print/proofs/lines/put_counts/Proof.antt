@@ -23,27 +23,6 @@ abbrev μ-loop : tie.MeasureT-loop
 loop-holds : tie.Need-loop-holds Inv-loop μ-loop
 loop-holds c = (omega arith, refl, put-same (no-lines _ _) (put-none _ _))
 
-mul-put-count : tie.Need-mul-put-count Inv-loop μ-loop
-mul-put-count c = search needs
-
-element-copy-out-put-count : tie.Need-element-copy-out-put-count Inv-loop μ-loop
-element-copy-out-put-count c = search needs
-
-mul-put-count-2 : tie.Need-mul-put-count-2 Inv-loop μ-loop
-mul-put-count-2 c = search needs
-
-element-copy-out-put-count-2 : tie.Need-element-copy-out-put-count-2 Inv-loop μ-loop
-element-copy-out-put-count-2 c = search needs
-
-put-count-requires : tie.Need-put-count-requires Inv-loop μ-loop
-put-count-requires c κs = search needs
-
-add-m : tie.Need-add-m Inv-loop μ-loop
-add-m c = search needs
-
-loop-less : tie.Need-loop-less Inv-loop μ-loop
-loop-less c = search needs
-
 loop-again : tie.Need-loop-again Inv-loop μ-loop
 loop-again c =
     let s = c .before .before .before .before .before .before .before .before .before in
@@ -67,18 +46,5 @@ returns c =
 
 pub put-counts-spec : {M : Type 1} → statement M
 put-counts-spec =
-    tie.close
-    (tie.spec
-    Inv-loop
-    μ-loop
-    loop-holds
-    mul-put-count
-    element-copy-out-put-count
-    mul-put-count-2
-    element-copy-out-put-count-2
-    put-count-requires
-    add-m
-    loop-less
-    loop-again
-    same-length
-    returns)
+    tie.close (tie.spec Inv-loop μ-loop loop-holds (λ c. search needs) (λ c. search needs) (λ c. search needs) (λ c. search needs) (λ c κs. search needs)
+    (λ c. search needs) (λ c. search needs) loop-again same-length returns)

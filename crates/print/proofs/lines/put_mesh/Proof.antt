@@ -8,21 +8,6 @@ use borrow.Author.Needs.{needs}
 use Rattle.print.proofs.lines.put_mesh.Statement.{statement}
 use Rattle.print.proofs.lines.put_mesh.Tie as tie
 
-slice-aggregate-put-word : tie.Need-slice-aggregate-put-word
-slice-aggregate-put-word c = search needs
-
-put-word-requires : tie.Need-put-word-requires
-put-word-requires c κs = search needs
-
-put-three-requires : tie.Need-put-three-requires
-put-three-requires c κs = search needs
-
-put-counts-requires : tie.Need-put-counts-requires
-put-counts-requires c κs = search needs
-
-same-length : tie.Need-same-length
-same-length c = search needs
-
 returns : tie.Need-returns
 returns c =
     let s = c .before .before .before .before .before .before .before .before .before .before .before .before .before .before .before .before .before .before in
@@ -34,12 +19,4 @@ returns c =
     (c .before .before .before .before .before .before .before .before .before .before .put-three .ensures) (c .before .before .put-counts .ensures)
 
 pub put-mesh-spec : {M : Type 1} → statement M
-put-mesh-spec =
-    tie.close
-    (tie.spec
-    slice-aggregate-put-word
-    put-word-requires
-    put-three-requires
-    put-counts-requires
-    same-length
-    returns)
+put-mesh-spec = tie.close (tie.spec (λ c. search needs) (λ c κs. search needs) (λ c κs. search needs) (λ c κs. search needs) (λ c. search needs) returns)

@@ -6,18 +6,6 @@ use borrow.Author.Needs.{needs}
 use Rattle.print.proofs.lines.put_three.Statement.{statement}
 use Rattle.print.proofs.lines.put_three.Tie as tie
 
-put-ended-requires : tie.Need-put-ended-requires
-put-ended-requires c κs = search needs
-
-put-ended-requires-2 : tie.Need-put-ended-requires-2
-put-ended-requires-2 c κs = search needs
-
-put-ended-requires-3 : tie.Need-put-ended-requires-3
-put-ended-requires-3 c κs = search needs
-
-same-length : tie.Need-same-length
-same-length c = search needs
-
 returns : tie.Need-returns
 returns c =
     let s = c .before .before .before .before .before .before .before .before .before .before .before .before .before in
@@ -28,6 +16,4 @@ returns c =
     (c .before .before .before .before .before .before .put-ended2 .ensures) (c .before .before .put-ended3 .ensures)
 
 pub put-three-spec : {M : Type 1} → statement M
-put-three-spec =
-    tie.close
-    (tie.spec put-ended-requires put-ended-requires-2 put-ended-requires-3 same-length returns)
+put-three-spec = tie.close (tie.spec (λ c κs. search needs) (λ c κs. search needs) (λ c κs. search needs) (λ c. search needs) returns)

@@ -32,12 +32,6 @@ add-loop c = record { fits = omega (arith, c .loop .inv .3 .long) }
 put-four-requires : tie.Need-put-four-requires Inv-loop μ-loop
 put-four-requires c κs = let l = c .before .before .loop in (l .inv .0, omega arith, l .inv .3)
 
-add-i : tie.Need-add-i Inv-loop μ-loop
-add-i c = search needs
-
-loop-less : tie.Need-loop-less Inv-loop μ-loop
-loop-less c = omega arith
-
 loop-again : tie.Need-loop-again Inv-loop μ-loop
 loop-again c =
     let l = c .before .before .before .before .before .loop in
@@ -56,15 +50,4 @@ returns c =
 
 pub fill-fours-spec : {M : Type 1} → statement M
 fill-fours-spec =
-    tie.close
-    (tie.spec
-    Inv-loop
-    μ-loop
-    loop-holds
-    add-loop
-    put-four-requires
-    add-i
-    loop-less
-    loop-again
-    same-length
-    returns)
+    tie.close (tie.spec Inv-loop μ-loop loop-holds add-loop put-four-requires (λ c. search needs) (λ c. omega arith) loop-again same-length returns)

@@ -51,9 +51,6 @@ put-next-requires c κs =
 add-k : tie.Need-add-k Inv-loop μ-loop
 add-k c = record { fits = omega (arith, few (length (now (c .before .before .before .before .before .before .before .args .numbers)))) }
 
-loop-less : tie.Need-loop-less Inv-loop μ-loop
-loop-less c = omega arith
-
 loop-again : tie.Need-loop-again Inv-loop μ-loop
 loop-again c =
     let s = c .before .before .before .before .before .before .before in
@@ -74,17 +71,5 @@ returns c =
 
 pub fill-rest-spec : {M : Type 1} → statement M
 fill-rest-spec =
-    tie.close
-    (tie.spec
-    Inv-loop
-    μ-loop
-    sub-rest
-    loop-holds
-    sub-put-next
-    add-put-next
-    put-next-requires
-    add-k
-    loop-less
-    loop-again
-    same-length
+    tie.close (tie.spec Inv-loop μ-loop sub-rest loop-holds sub-put-next add-put-next put-next-requires add-k (λ c. omega arith) loop-again same-length
     returns)

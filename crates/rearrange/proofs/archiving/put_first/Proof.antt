@@ -9,36 +9,6 @@ use borrow.Author.Needs.{needs}
 use Rattle.rearrange.proofs.archiving.put_first.Statement.{statement}
 use Rattle.rearrange.proofs.archiving.put_first.Tie as tie
 
-shared-slice-copy-out-bits : tie.Need-shared-slice-copy-out-bits
-shared-slice-copy-out-bits c = search needs
-
-bits-requires : tie.Need-bits-requires
-bits-requires c κs = search needs
-
-put-number-requires : tie.Need-put-number-requires
-put-number-requires c κs = search needs
-
-shared-slice-copy-out-bits-2 : tie.Need-shared-slice-copy-out-bits-2
-shared-slice-copy-out-bits-2 c = search needs
-
-bits-requires-2 : tie.Need-bits-requires-2
-bits-requires-2 c κs = search needs
-
-put-number-requires-2 : tie.Need-put-number-requires-2
-put-number-requires-2 c κs = search needs
-
-shared-slice-copy-out-bits-3 : tie.Need-shared-slice-copy-out-bits-3
-shared-slice-copy-out-bits-3 c = search needs
-
-bits-requires-3 : tie.Need-bits-requires-3
-bits-requires-3 c κs = search needs
-
-put-number-requires-3 : tie.Need-put-number-requires-3
-put-number-requires-3 c κs = search needs
-
-same-length : tie.Need-same-length
-same-length c = search needs
-
 returns : tie.Need-returns
 returns c =
     let p3 = c .before .before in
@@ -57,16 +27,5 @@ returns c =
 
 pub put-first-spec : {M : Type 1} → statement M
 put-first-spec =
-    tie.close
-    (tie.spec
-    shared-slice-copy-out-bits
-    bits-requires
-    put-number-requires
-    shared-slice-copy-out-bits-2
-    bits-requires-2
-    put-number-requires-2
-    shared-slice-copy-out-bits-3
-    bits-requires-3
-    put-number-requires-3
-    same-length
-    returns)
+    tie.close (tie.spec (λ c. search needs) (λ c κs. search needs) (λ c κs. search needs) (λ c. search needs) (λ c κs. search needs) (λ c κs. search needs)
+    (λ c. search needs) (λ c κs. search needs) (λ c κs. search needs) (λ c. search needs) returns)

@@ -8,14 +8,8 @@ use borrow.Author.Needs.{needs}
 use Rattle.rearrange.proofs.archiving.put_next.Statement.{statement}
 use Rattle.rearrange.proofs.archiving.put_next.Tie as tie
 
-delta-at-requires : tie.Need-delta-at-requires
-delta-at-requires c κs = search needs
-
 put-number-requires : tie.Need-put-number-requires
 put-number-requires c κs = omega (arith, c .before .before .before .pre .2 .long)
-
-same-length : tie.Need-same-length
-same-length c = search needs
 
 returns : tie.Need-returns
 returns c =
@@ -25,4 +19,4 @@ returns c =
     planed-one (now (s .args .numbers)) _ (s .args .i) (d .result) _ _ refl (s .pre .1) (d .ensures) (s .pre .2) (p .put-number .ensures)
 
 pub put-next-spec : {M : Type 1} → statement M
-put-next-spec = tie.close (tie.spec delta-at-requires put-number-requires same-length returns)
+put-next-spec = tie.close (tie.spec (λ c κs. search needs) put-number-requires (λ c. search needs) returns)

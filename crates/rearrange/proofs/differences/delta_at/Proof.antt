@@ -8,30 +8,6 @@ use borrow.Author.Needs.{needs}
 use Rattle.rearrange.proofs.differences.delta_at.Statement.{statement}
 use Rattle.rearrange.proofs.differences.delta_at.Tie as tie
 
-mul-bits : tie.Need-mul-bits
-mul-bits c = search needs
-
-shared-slice-copy-out-bits : tie.Need-shared-slice-copy-out-bits
-shared-slice-copy-out-bits c = search needs
-
-bits-requires : tie.Need-bits-requires
-bits-requires c κs = search needs
-
-sub-bits : tie.Need-sub-bits
-sub-bits c = search needs
-
-mul-bits-2 : tie.Need-mul-bits-2
-mul-bits-2 c = search needs
-
-shared-slice-copy-out-bits-2 : tie.Need-shared-slice-copy-out-bits-2
-shared-slice-copy-out-bits-2 c = search needs
-
-bits-requires-2 : tie.Need-bits-requires-2
-bits-requires-2 c κs = search needs
-
-difference-requires : tie.Need-difference-requires
-difference-requires c κs = search needs
-
 returns : tie.Need-returns
 returns c =
     let s = c .before .before .before .before .before in
@@ -45,14 +21,5 @@ returns c =
 
 pub delta-at-spec : {M : Type 1} → statement M
 delta-at-spec =
-    tie.close
-    (tie.spec
-    mul-bits
-    shared-slice-copy-out-bits
-    bits-requires
-    sub-bits
-    mul-bits-2
-    shared-slice-copy-out-bits-2
-    bits-requires-2
-    difference-requires
-    returns)
+    tie.close (tie.spec (λ c. search needs) (λ c. search needs) (λ c κs. search needs) (λ c. search needs) (λ c. search needs) (λ c. search needs)
+    (λ c κs. search needs) (λ c κs. search needs) returns)

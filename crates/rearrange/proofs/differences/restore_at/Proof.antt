@@ -9,24 +9,6 @@ use borrow.Author.Needs.{needs}
 use Rattle.rearrange.proofs.differences.restore_at.Statement.{statement}
 use Rattle.rearrange.proofs.differences.restore_at.Tie as tie
 
-stored-requires : tie.Need-stored-requires
-stored-requires c κs = search needs
-
-wrapping-add-u32-requires : tie.Need-wrapping-add-u32-requires
-wrapping-add-u32-requires c κs = search needs
-
-signed-requires : tie.Need-signed-requires
-signed-requires c κs = search needs
-
-mul-t9 : tie.Need-mul-t9
-mul-t9 c = search needs
-
-slice-set-from-numbers : tie.Need-slice-set-from-numbers
-slice-set-from-numbers c = search needs
-
-same-length : tie.Need-same-length
-same-length c = search needs
-
 returns : tie.Need-returns
 returns c =
     let d = c .before .before .stored in
@@ -40,12 +22,5 @@ returns c =
 
 pub restore-at-spec : {M : Type 1} → statement M
 restore-at-spec =
-    tie.close
-    (tie.spec
-    stored-requires
-    wrapping-add-u32-requires
-    signed-requires
-    mul-t9
-    slice-set-from-numbers
-    same-length
+    tie.close (tie.spec (λ c κs. search needs) (λ c κs. search needs) (λ c κs. search needs) (λ c. search needs) (λ c. search needs) (λ c. search needs)
     returns)

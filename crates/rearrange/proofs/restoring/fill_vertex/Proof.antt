@@ -11,18 +11,6 @@ use borrow.Author.Needs.{needs}
 use Rattle.rearrange.proofs.restoring.fill_vertex.Statement.{statement}
 use Rattle.rearrange.proofs.restoring.fill_vertex.Tie as tie
 
-restore-at-requires : tie.Need-restore-at-requires
-restore-at-requires c κs = search needs
-
-restore-at-requires-2 : tie.Need-restore-at-requires-2
-restore-at-requires-2 c κs = search needs
-
-restore-at-requires-3 : tie.Need-restore-at-requires-3
-restore-at-requires-3 c κs = search needs
-
-same-length : tie.Need-same-length
-same-length c = search needs
-
 returns : tie.Need-returns
 returns c =
     let c3 = c .before in
@@ -46,6 +34,4 @@ returns c =
     restored-all b old o3 3 (sym (s .pre .0)) (subst (λ (n : ℕ). Filled (restoredAt b n) old 3 o3) (sym (s .pre .0)) f3)
 
 pub fill-vertex-spec : {M : Type 1} → statement M
-fill-vertex-spec =
-    tie.close
-    (tie.spec restore-at-requires restore-at-requires-2 restore-at-requires-3 same-length returns)
+fill-vertex-spec = tie.close (tie.spec (λ c κs. search needs) (λ c κs. search needs) (λ c κs. search needs) (λ c. search needs) returns)

@@ -46,14 +46,7 @@ loop-holds c =
     let s = c .before in
     let b = now (s .args .bytes) in
     let l = now (s .args .numbers) in
-    let n = length l in (
-      omega arith,
-      refl,
-      filled-none (restoredAt b n) l,
-      sym (before-first b n 0),
-      sym (before-first b n 1),
-      sym (before-first b n 2),
-    )
+    let n = length l in (omega arith, refl, filled-none (restoredAt b n) l, sym (before-first b n 0), sym (before-first b n 1), sym (before-first b n 2))
 
 mul-restore-at : tie.Need-mul-restore-at Inv-loop μ-loop
 mul-restore-at c = record { fits = omega (arith, room (c .before .before .before .before)) }
@@ -85,9 +78,6 @@ restore-at-requires-3 c κs =
 
 add-v : tie.Need-add-v Inv-loop μ-loop
 add-v c = record { fits = omega (arith, room (c .before .before .before .before .before .before .before .before .before .before .before .before)) }
-
-loop-less : tie.Need-loop-less Inv-loop μ-loop
-loop-less c = omega arith
 
 loop-again : tie.Need-loop-again Inv-loop μ-loop
 loop-again c =
@@ -126,21 +116,5 @@ returns c =
 
 pub fill-vertices-spec : {M : Type 1} → statement M
 fill-vertices-spec =
-    tie.close
-    (tie.spec
-    Inv-loop
-    μ-loop
-    loop-holds
-    mul-restore-at
-    restore-at-requires
-    mul-restore-at-2
-    add-restore-at
-    restore-at-requires-2
-    mul-restore-at-3
-    add-restore-at-2
-    restore-at-requires-3
-    add-v
-    loop-less
-    loop-again
-    same-length
-    returns)
+    tie.close (tie.spec Inv-loop μ-loop loop-holds mul-restore-at restore-at-requires mul-restore-at-2 add-restore-at restore-at-requires-2 mul-restore-at-3
+    add-restore-at-2 restore-at-requires-3 add-v (λ c. omega arith) loop-again same-length returns)

@@ -163,9 +163,6 @@ mul-z-2 c = let t = s (c .before .before .before .before .before .before) in ome
 slice-set-from-z : tie.Need-slice-set-from-z
 slice-set-from-z c = simp length-set (omega (arith, room (s (c .before .before .before .before .before .before)) 2 (lit< tt)))
 
-same-length : tie.Need-same-length
-same-length c = search needs
-
 returns : tie.Need-returns
 returns c =
     let b = c .before .before .before .before .before .before in
@@ -184,24 +181,5 @@ returns c =
 
 pub fill-corner-spec : {M : Type 1} → statement M
 fill-corner-spec =
-    tie.close
-    (tie.spec
-    previous-requires
-    next-requires
-    weigh-requires
-    on-axis-requires
-    on-axis-requires-2
-    on-axis-requires-3
-    mul-x
-    mul-x-2
-    slice-set-from-x
-    mul-y
-    add-y
-    mul-y-2
-    slice-set-from-y
-    mul-z
-    add-z
-    mul-z-2
-    slice-set-from-z
-    same-length
-    returns)
+    tie.close (tie.spec previous-requires next-requires weigh-requires on-axis-requires on-axis-requires-2 on-axis-requires-3 mul-x mul-x-2 slice-set-from-x
+    mul-y add-y mul-y-2 slice-set-from-y mul-z add-z mul-z-2 slice-set-from-z (λ c. search needs) returns)

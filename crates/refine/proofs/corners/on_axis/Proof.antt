@@ -19,15 +19,6 @@ size-at : (s : tie.Start) (d : ℕ) → d < length (now (s .args .corners))
     → natAbs (stepsOf (now (s .args .coordinates)) (now (s .args .corners)) (s .args .axis) d) ≤ mostCoordinate
 size-at s d h = steps-size (now (s .args .coordinates)) (now (s .args .corners)) (s .pre .0) (s .args .axis) d (s .pre .1 .0 .0) h
 
-coordinate-requires : tie.Need-coordinate-requires
-coordinate-requires c κs = search needs
-
-coordinate-requires-2 : tie.Need-coordinate-requires-2
-coordinate-requires-2 c κs = search needs
-
-coordinate-requires-3 : tie.Need-coordinate-requires-3
-coordinate-requires-3 c κs = search needs
-
 refined-requires : tie.Need-refined-requires
 refined-requires c κs =
     let s = c .before .before .before .before in
@@ -57,6 +48,4 @@ returns c =
     toZ-ofZ f ∙ c .refined .ensures ∙ rw (toZ-ofZ (s .fits .total), eB, eH, eA)
 
 pub on-axis-spec : {M : Type 1} → statement M
-on-axis-spec =
-    tie.close
-    (tie.spec coordinate-requires coordinate-requires-2 coordinate-requires-3 refined-requires returns)
+on-axis-spec = tie.close (tie.spec (λ c κs. search needs) (λ c κs. search needs) (λ c κs. search needs) refined-requires returns)

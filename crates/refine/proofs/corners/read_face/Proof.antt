@@ -23,45 +23,6 @@ in-width (negsuc a) h = record { sfits = omega (arith, h .sfits, div-le-self a 2
 steps : (z : ℤ) → SFits w32 z → toZ w32 (ofZ w32 (shrZ (toZ w32 (ofZ w32 z)) 256)) ≡ floor z (pos ticksPerStep)
 steps z f = rw (toZ-ofZ f, toZ-ofZ (in-width z f)) (shift-floor z 256)
 
-shared-slice-read-n : tie.Need-shared-slice-read-n
-shared-slice-read-n c = search needs
-
-side-reciprocal-requires : tie.Need-side-reciprocal-requires
-side-reciprocal-requires c κs = search needs
-
-mul-x : tie.Need-mul-x
-mul-x c = search needs
-
-mul-x-2 : tie.Need-mul-x-2
-mul-x-2 c = search needs
-
-shared-slice-copy-out-x : tie.Need-shared-slice-copy-out-x
-shared-slice-copy-out-x c = search needs
-
-mul-y : tie.Need-mul-y
-mul-y c = search needs
-
-add-y : tie.Need-add-y
-add-y c = search needs
-
-mul-y-2 : tie.Need-mul-y-2
-mul-y-2 c = search needs
-
-shared-slice-copy-out-y : tie.Need-shared-slice-copy-out-y
-shared-slice-copy-out-y c = search needs
-
-mul-z : tie.Need-mul-z
-mul-z c = search needs
-
-add-z : tie.Need-add-z
-add-z c = search needs
-
-mul-z-2 : tie.Need-mul-z-2
-mul-z-2 c = search needs
-
-shared-slice-copy-out-z : tie.Need-shared-slice-copy-out-z
-shared-slice-copy-out-z c = search needs
-
 returns : tie.Need-returns
 returns c =
     let s = c .before .before .before .before .before .before in
@@ -75,19 +36,5 @@ returns c =
 
 pub read-face-spec : {M : Type 1} → statement M
 read-face-spec =
-    tie.close
-    (tie.spec
-    shared-slice-read-n
-    side-reciprocal-requires
-    mul-x
-    mul-x-2
-    shared-slice-copy-out-x
-    mul-y
-    add-y
-    mul-y-2
-    shared-slice-copy-out-y
-    mul-z
-    add-z
-    mul-z-2
-    shared-slice-copy-out-z
-    returns)
+    tie.close (tie.spec (λ c. search needs) (λ c κs. search needs) (λ c. search needs) (λ c. search needs) (λ c. search needs) (λ c. search needs)
+    (λ c. search needs) (λ c. search needs) (λ c. search needs) (λ c. search needs) (λ c. search needs) (λ c. search needs) (λ c. search needs) returns)

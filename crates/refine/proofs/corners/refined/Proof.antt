@@ -1,7 +1,6 @@
 -- A refined point meets its contract: every step fits by the sizes of the coordinates.
 -- Assumes nothing.
 use mathlib.Core.Path.{_∙_}
-use Prim.Native.Nat.{_*_, _<_}
 use borrow.Author.Needs.{needs}
 use mir.Syntax.{w32}
 use mir.Val.{SFits}
@@ -13,58 +12,29 @@ use Rattle.refine.proofs.corners.refined.Tie as tie
 facts : (s : tie.Start) → Sizes (s .args .w) (s .args .total) (s .args .before) (s .args .here) (s .args .after) (s .args .face .sides)
 facts s = sizes (s .args .w) (s .pre .1) (s .args .total) (s .args .before) (s .args .here) (s .args .after) (s .args .face) (s .pre .0)
 
-cast-three : tie.Need-cast-three
-cast-three c = search needs
-
 mul-three : tie.Need-mul-three
 mul-three c =
     let s = c .before in
     let k = facts s in
-    simp (
-      toZ-ofZ,
-      s .fits .before,
-      k .read-before,
-    ) (k .on-before)
-
-cast-three-2 : tie.Need-cast-three-2
-cast-three-2 c = search needs
+    simp (toZ-ofZ, s .fits .before, k .read-before) (k .on-before)
 
 mul-three-2 : tie.Need-mul-three-2
 mul-three-2 c =
     let s = c .before .before in
     let k = facts s in
-    simp (
-      toZ-ofZ,
-      s .fits .here,
-      k .read-here,
-    ) (k .on-here)
+    simp (toZ-ofZ, s .fits .here, k .read-here) (k .on-here)
 
 add-three : tie.Need-add-three
 add-three c =
     let s = c .before .before in
     let k = facts s in
-    simp (
-      toZ-ofZ,
-      s .fits .before,
-      k .read-before,
-      s .fits .here,
-      k .read-here,
-      k .on-before,
-      k .on-here,
-    ) (k .two)
-
-cast-three-3 : tie.Need-cast-three-3
-cast-three-3 c = search needs
+    simp (toZ-ofZ, s .fits .before, k .read-before, s .fits .here, k .read-here, k .on-before, k .on-here) (k .two)
 
 mul-three-3 : tie.Need-mul-three-3
 mul-three-3 c =
     let s = c .before .before .before in
     let k = facts s in
-    simp (
-      toZ-ofZ,
-      s .fits .after,
-      k .read-after,
-    ) (k .on-after)
+    simp (toZ-ofZ, s .fits .after, k .read-after) (k .on-after)
 
 add-three-2 : tie.Need-add-three-2
 add-three-2 c =
@@ -84,21 +54,11 @@ add-three-2 c =
       k .two,
     ) (k .three)
 
-cast-t : tie.Need-cast-t
-cast-t c = search needs
-
 mul-t : tie.Need-mul-t
 mul-t c =
     let s = c .before .before .before .before in
     let k = facts s in
-    simp (
-      toZ-ofZ,
-      s .fits .total,
-      k .read-face,
-    ) (k .on-face)
-
-cast-t-2 : tie.Need-cast-t-2
-cast-t-2 c = search needs
+    simp (toZ-ofZ, s .fits .total, k .read-face) (k .on-face)
 
 mul-t-2 : tie.Need-mul-t-2
 mul-t-2 c =
@@ -198,20 +158,5 @@ returns c =
 
 pub refined-spec : {M : Type 1} → statement M
 refined-spec =
-    tie.close
-    (tie.spec
-    cast-three
-    mul-three
-    cast-three-2
-    mul-three-2
-    add-three
-    cast-three-3
-    mul-three-3
-    add-three-2
-    cast-t
-    mul-t
-    cast-t-2
-    mul-t-2
-    add-t
-    small-quotient-requires
-    returns)
+    tie.close (tie.spec (λ c. search needs) mul-three (λ c. search needs) mul-three-2 add-three (λ c. search needs) mul-three-3 add-three-2
+    (λ c. search needs) mul-t (λ c. search needs) mul-t-2 add-t small-quotient-requires returns)

@@ -1,7 +1,7 @@
 -- `refine::weigh` meets its contract: every product is small.
 -- Assumes nothing.
 use mathlib.Core.Path.{_≡_}
-use Prim.Native.Nat.{ℕ, _+_, _-_, _*_, _<_, _≤_}
+use Prim.Native.Nat.{ℕ, _+_, _-_, _*_, _≤_}
 use native.Mathlib.Nat.{mul-le-mul}
 use native.Mathlib.Omega.{arith}
 use borrow.Author.Needs.{needs}
@@ -44,23 +44,8 @@ weights-are : (u v x y : ℕ) → u ≡ x → v ≡ y
     → WeightsOf x y (record { face = 2 * (16 - u) * (16 - v); before = (16 - u) * v; here = 16 * (u + v); after = u * (16 - v) })
 weights-are u v x y e f = record { face = rw (e, f); before = rw (e, f); here = rw (e, f); after = rw (e, f) }
 
-mul-u : tie.Need-mul-u
-mul-u c = search needs
-
-shared-slice-read-u : tie.Need-shared-slice-read-u
-shared-slice-read-u c = search needs
-
 cast-u : tie.Need-cast-u
 cast-u c = omega (arith, limits (c .before))
-
-mul-v : tie.Need-mul-v
-mul-v c = search needs
-
-add-v : tie.Need-add-v
-add-v c = search needs
-
-shared-slice-read-v : tie.Need-shared-slice-read-v
-shared-slice-read-v c = search needs
 
 cast-v : tie.Need-cast-v
 cast-v c = omega (arith, limits (c .before .before))
@@ -70,9 +55,6 @@ sub-to-u c = omega (arith, limits (c .before .before))
 
 sub-to-v : tie.Need-sub-to-v
 sub-to-v c = omega (arith, limits (c .before .before))
-
-mul-t12 : tie.Need-mul-t12
-mul-t12 c = search needs
 
 mul-t13 : tie.Need-mul-t13
 mul-t13 c = twice-in-width _ _ (omega (arith, limits (c .before .before))) (omega (arith, limits (c .before .before)))
@@ -94,21 +76,5 @@ returns c = let s = c .before .before in weights-are (u s) (v s) _ _ (u-is s) (v
 
 pub weigh-spec : {M : Type 1} → statement M
 weigh-spec =
-    tie.close
-    (tie.spec
-    mul-u
-    shared-slice-read-u
-    cast-u
-    mul-v
-    add-v
-    shared-slice-read-v
-    cast-v
-    sub-to-u
-    sub-to-v
-    mul-t12
-    mul-t13
-    mul-t14
-    add-t15
-    mul-t16
-    mul-t17
-    returns)
+    tie.close (tie.spec (λ c. search needs) (λ c. search needs) cast-u (λ c. search needs) (λ c. search needs) (λ c. search needs) cast-v sub-to-u sub-to-v
+    (λ c. search needs) mul-t13 mul-t14 add-t15 mul-t16 mul-t17 returns)

@@ -76,12 +76,4 @@ returns c =
     }
 
 pub ahead-of-three-spec : {M : Type 1} → statement M
-ahead-of-three-spec =
-    tie.close
-    (tie.spec
-    by-requires
-    by-requires-2
-    three-on-requires
-    three-on-requires-2
-    three-on-requires-3
-    returns)
+ahead-of-three-spec = tie.close (tie.spec by-requires by-requires-2 three-on-requires three-on-requires-2 three-on-requires-3 returns)

@@ -1,7 +1,7 @@
 -- `refine::faces::ahead_sums` meets its contract: before the turn at j the walk stands j steps from c, the sums are those of the places below j, and the
 -- last cosine is that of the place before.
 -- Assumes nothing.
-use mathlib.Core.Path.{_≡_, refl, sym, ap, _∙_}
+use mathlib.Core.Path.{_≡_, sym, ap, _∙_}
 use Prim.Native.Nat.{ℕ, _+_, _-_, _*_, _^_, _≤_, _<_}
 use native.Mathlib.Omega.{arith}
 use borrow.Author.Needs.{needs}
@@ -173,22 +173,5 @@ returns c =
 
 pub ahead-sums-spec : {M : Type 1} → statement M
 ahead-sums-spec =
-    tie.close
-    (tie.spec
-    Inv-loop
-    μ-loop
-    sub-cosine
-    cosine-requires
-    loop-holds
-    weight-at-requires
-    point-requires
-    add-ahead-requires
-    point-requires-2
-    add-ahead-requires-2
-    point-requires-3
-    add-ahead-requires-3
-    by-requires
-    add-j
-    loop-less
-    loop-again
-    returns)
+    tie.close (tie.spec Inv-loop μ-loop sub-cosine cosine-requires loop-holds weight-at-requires point-requires add-ahead-requires point-requires-2
+    add-ahead-requires-2 point-requires-3 add-ahead-requires-3 by-requires add-j loop-less loop-again returns)

@@ -15,9 +15,6 @@ by s = divisor (s .args .m) (s .pre .0 .0) (s .pre .0 .1)
 reciprocal-is : (c : tie.After-reciprocal) → Reciprocal (pos (3 * c .before .args .m)) (c .reciprocal .result)
 reciprocal-is c = rw (by (c .before) .count-is, toZ-ofZ (by (c .before) .fits)) at (c .reciprocal .ensures)
 
-cast-reciprocal : tie.Need-cast-reciprocal
-cast-reciprocal c = search needs
-
 mul-reciprocal : tie.Need-mul-reciprocal
 mul-reciprocal c = rw (by c .count-is) (by c .fits)
 
@@ -33,17 +30,7 @@ quotients-requires-2 c κs = let p = c .before .before .pre in ((p .0 .0, p .0 .
 quotients-requires-3 : tie.Need-quotients-requires-3
 quotients-requires-3 c κs = let p = c .before .before .before .pre in ((p .0 .0, p .0 .1, reciprocal-is (c .before .before)), p .1 .z)
 
-returns : tie.Need-returns
-returns c = search needs
-
 pub divide-spec : {M : Type 1} → statement M
 divide-spec =
-    tie.close
-    (tie.spec
-    cast-reciprocal
-    mul-reciprocal
-    reciprocal-requires
-    quotients-requires
-    quotients-requires-2
-    quotients-requires-3
-    returns)
+    tie.close (tie.spec (λ c. search needs) mul-reciprocal reciprocal-requires quotients-requires quotients-requires-2 quotients-requires-3
+    (λ c. search needs))

@@ -1,6 +1,6 @@
 -- `refine::faces::divide_ahead` meets its contract: one reciprocal serves the three axes.
 -- Assumes nothing.
-use mathlib.Core.Path.{_≡_, _∙_}
+use mathlib.Core.Path.{_∙_}
 use Prim.Native.Nat.{_*_}
 use borrow.Author.Needs.{needs}
 use lib.IntN.{pos}
@@ -24,9 +24,6 @@ module _ (s : tie.Start) where
 
   z-fits : SFits w64 (s .args .s .z)
   z-fits = units-fit _ _ (s .pre .1 .z)
-
-cast-d : tie.Need-cast-d
-cast-d c = search needs
 
 mul-d : tie.Need-mul-d
 mul-d c = rw (by c .count-is) (by c .fits)
@@ -68,12 +65,4 @@ returns c =
 
 pub divide-ahead-spec : {M : Type 1} → statement M
 divide-ahead-spec =
-    tie.close
-    (tie.spec
-    cast-d
-    mul-d
-    reciprocal-requires
-    unit-quotient-requires
-    unit-quotient-requires-2
-    unit-quotient-requires-3
-    returns)
+    tie.close (tie.spec (λ c. search needs) mul-d reciprocal-requires unit-quotient-requires unit-quotient-requires-2 unit-quotient-requires-3 returns)

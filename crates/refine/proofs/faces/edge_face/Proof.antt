@@ -11,15 +11,6 @@ use Rattle.refine.proofs.faces.Laws.{edge-is}
 use Rattle.refine.proofs.faces.edge_face.Statement.{statement}
 use Rattle.refine.proofs.faces.edge_face.Tie as tie
 
-mean-requires : tie.Need-mean-requires
-mean-requires c κs = search needs
-
-toward-requires : tie.Need-toward-requires
-toward-requires c κs = search needs
-
-toward-requires-2 : tie.Need-toward-requires-2
-toward-requires-2 c κs = search needs
-
 returns : tie.Need-returns
 returns c =
     let s = c .before .before .before in
@@ -41,4 +32,4 @@ returns c =
     (rw (toZ-ofZ g) (t .ensures .1)) (rw (toZ-ofZ h) (u .ensures .1))
 
 pub edge-face-spec : {M : Type 1} → statement M
-edge-face-spec = tie.close (tie.spec mean-requires toward-requires toward-requires-2 returns)
+edge-face-spec = tie.close (tie.spec (λ c κs. search needs) (λ c κs. search needs) (λ c κs. search needs) returns)

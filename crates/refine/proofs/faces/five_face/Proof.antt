@@ -1,18 +1,15 @@
 -- `refine::faces::five_face` meets its contract: the sum fits, and the two points are formed as the centre is.
 -- Assumes nothing.
-use mathlib.Core.Path.{_≡_, refl, ap, _∙_}
-use Prim.Native.Nat.{_+_, _*_, _^_, _≤_}
+use mathlib.Core.Path.{_∙_}
 use native.Mathlib.Omega.{arith}
 use borrow.Author.Needs.{needs}
 use lib.Dec.{lit≤}
-use lib.IntN.{ℤ, pos, negℤ, natAbs, _+ℤ_, _-ℤ_, _*ℤ_}
-use lib.Signed.{_≤ℤ_, _<ℤ_, leZ-yes, ltZ-yes}
+use lib.IntN.{ℤ, pos, negℤ, _+ℤ_, _*ℤ_}
+use lib.Signed.{_≤ℤ_, leZ-yes, ltZ-yes}
 use mir.Syntax.{w64}
 use mir.Val.{SFits}
 use mir.Facts.{toZ-ofZ}
 use Rattle.numbers.proofs.Poly.{over, poly}
-use Rattle.paper.specs.Numbers.{round}
-use Rattle.paper.specs.Cosines.{unit}
 use Rattle.surface.specs.Sizes.{RefinedSize}
 use Rattle.numbers.specs.Small.{lift}
 use Rattle.refine.proofs.faces.five_face.Statement.{statement}
@@ -32,29 +29,11 @@ fits = over 5 _ λ ρ. simp (poly, ρ) (omega arith)
 facts : (s : tie.Start) → Fine (s .args .v) (s .args .w) (s .args .x) (s .args .y) (s .args .z)
 facts s = fits (s .args .v) (s .args .w) (s .args .x) (s .args .y) (s .args .z) (s .pre)
 
-add-odd-product : tie.Need-add-odd-product
-add-odd-product c = let k = facts c in simp (toZ-ofZ, c .fits .v, c .fits .w) (k .0)
-
-add-odd-product-2 : tie.Need-add-odd-product-2
-add-odd-product-2 c = let k = facts c in simp (toZ-ofZ, c .fits .v, c .fits .w, c .fits .x, k .0) (k .1)
-
-add-odd-product-3 : tie.Need-add-odd-product-3
-add-odd-product-3 c = let k = facts c in simp (toZ-ofZ, c .fits .v, c .fits .w, c .fits .x, c .fits .y, k .0, k .1) (k .2)
-
-add-odd-product-4 : tie.Need-add-odd-product-4
-add-odd-product-4 c = let k = facts c in simp (toZ-ofZ, c .fits .v, c .fits .w, c .fits .x, c .fits .y, c .fits .z, k .0, k .1, k .2) (k .3)
-
 odd-product-requires : tie.Need-odd-product-requires
 odd-product-requires c κs =
     let k = facts c in
     simp (toZ-ofZ, c .fits .v, c .fits .w, c .fits .x, c .fits .y, c .fits .z, k .0, k .1, k .2, k .3)
     (((leZ-yes tt, leZ-yes tt), (k .4, k .5)), (leZ-yes tt, lit≤ tt, ltZ-yes tt))
-
-toward-of-five-requires : tie.Need-toward-of-five-requires
-toward-of-five-requires c κs = search needs
-
-toward-of-five-requires-2 : tie.Need-toward-of-five-requires-2
-toward-of-five-requires-2 c κs = search needs
 
 returns : tie.Need-returns
 returns c =
@@ -82,13 +61,5 @@ returns c =
 
 pub five-face-spec : {M : Type 1} → statement M
 five-face-spec =
-    tie.close
-    (tie.spec
-    add-odd-product
-    add-odd-product-2
-    add-odd-product-3
-    add-odd-product-4
-    odd-product-requires
-    toward-of-five-requires
-    toward-of-five-requires-2
-    returns)
+    tie.close (tie.spec (λ c. search (toZ-ofZ, facts c)) (λ c. search (toZ-ofZ, facts c)) (λ c. search (toZ-ofZ, facts c)) (λ c. search (toZ-ofZ, facts c))
+    odd-product-requires (λ c κs. search needs) (λ c κs. search needs) returns)

@@ -5,21 +5,6 @@ use Rattle.refine.proofs.faces.Laws.{corner-plain}
 use Rattle.refine.proofs.faces.five_on.Statement.{statement}
 use Rattle.refine.proofs.faces.five_on.Tie as tie
 
-point-requires : tie.Need-point-requires
-point-requires c κs = search needs
-
-point-requires-2 : tie.Need-point-requires-2
-point-requires-2 c κs = search needs
-
-point-requires-3 : tie.Need-point-requires-3
-point-requires-3 c κs = search needs
-
-point-requires-4 : tie.Need-point-requires-4
-point-requires-4 c κs = search needs
-
-point-requires-5 : tie.Need-point-requires-5
-point-requires-5 c κs = search needs
-
 five-face-requires : tie.Need-five-face-requires
 five-face-requires c κs =
     let k = c .before .before .before .before .before .pre in (
@@ -44,12 +29,5 @@ returns c =
 
 pub five-on-spec : {M : Type 1} → statement M
 five-on-spec =
-    tie.close
-    (tie.spec
-    point-requires
-    point-requires-2
-    point-requires-3
-    point-requires-4
-    point-requires-5
-    five-face-requires
-    returns)
+    tie.close (tie.spec (λ c κs. search needs) (λ c κs. search needs) (λ c κs. search needs) (λ c κs. search needs) (λ c κs. search needs)
+    five-face-requires returns)

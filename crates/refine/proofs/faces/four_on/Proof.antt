@@ -5,18 +5,6 @@ use Rattle.refine.proofs.faces.Laws.{corner-plain}
 use Rattle.refine.proofs.faces.four_on.Statement.{statement}
 use Rattle.refine.proofs.faces.four_on.Tie as tie
 
-point-requires : tie.Need-point-requires
-point-requires c κs = search needs
-
-point-requires-2 : tie.Need-point-requires-2
-point-requires-2 c κs = search needs
-
-point-requires-3 : tie.Need-point-requires-3
-point-requires-3 c κs = search needs
-
-point-requires-4 : tie.Need-point-requires-4
-point-requires-4 c κs = search needs
-
 edge-face-requires : tie.Need-edge-face-requires
 edge-face-requires c κs =
     let k = c .before .before .before .before .pre in (
@@ -38,12 +26,4 @@ returns c =
     ) (c .edge-face .ensures)
 
 pub four-on-spec : {M : Type 1} → statement M
-four-on-spec =
-    tie.close
-    (tie.spec
-    point-requires
-    point-requires-2
-    point-requires-3
-    point-requires-4
-    edge-face-requires
-    returns)
+four-on-spec = tie.close (tie.spec (λ c κs. search needs) (λ c κs. search needs) (λ c κs. search needs) (λ c κs. search needs) edge-face-requires returns)

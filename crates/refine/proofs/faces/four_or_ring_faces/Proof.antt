@@ -1,6 +1,6 @@
 -- `refine::faces::four_or_ring_faces` meets its contract: the arm of four is given a ring of four.
 -- Assumes nothing.
-use mathlib.Core.Path.{_≡_, subst}
+use mathlib.Core.Path.{subst}
 use Prim.Native.Nat.{ℕ}
 use borrow.Author.Needs.{needs}
 use Rattle.refine.specs.faces.Ring.{Rings}
@@ -12,14 +12,8 @@ ring-of-four-requires c κs =
     let s = c .before .before in
     subst (λ (n : ℕ). Rings (s .args .points .now) (s .args .table .now) (s .args .column) (s .args .c) n) (c .match .keys1) (s .pre .0)
 
-ring-faces-requires : tie.Need-ring-faces-requires
-ring-faces-requires c κs = search needs
-
 returns : tie.Need-returns
 returns c = rw (c .before .match .keys1) (c .ring-of-four .ensures)
 
-returns-2 : tie.Need-returns-2
-returns-2 c = search needs
-
 pub four-or-ring-faces-spec : {M : Type 1} → statement M
-four-or-ring-faces-spec = tie.close (tie.spec ring-of-four-requires ring-faces-requires returns returns-2)
+four-or-ring-faces-spec = tie.close (tie.spec ring-of-four-requires (λ c κs. search needs) returns (λ c. search needs))

@@ -9,21 +9,6 @@ use Rattle.surface.specs.Points.{pointAt}
 use Rattle.refine.proofs.faces.point.Statement.{statement}
 use Rattle.refine.proofs.faces.point.Tie as tie
 
-mul-wide : tie.Need-mul-wide
-mul-wide c = search needs
-
-add-wide : tie.Need-add-wide
-add-wide c = search needs
-
-mul-wide-2 : tie.Need-mul-wide-2
-mul-wide-2 c = search needs
-
-shared-slice-copy-out-wide : tie.Need-shared-slice-copy-out-wide
-shared-slice-copy-out-wide c = search needs
-
-wide-requires : tie.Need-wide-requires
-wide-requires c κs = search needs
-
 returns : tie.Need-returns
 returns c =
     let f : SFits w64 (c .wide .result) = search needs in
@@ -32,6 +17,4 @@ returns c =
     toZ-ofZ f ∙ c .wide .ensures ∙ toZ-ofZ g
 
 pub point-spec : {M : Type 1} → statement M
-point-spec =
-    tie.close
-    (tie.spec mul-wide add-wide mul-wide-2 shared-slice-copy-out-wide wide-requires returns)
+point-spec = tie.close (tie.spec (λ c. search needs) (λ c. search needs) (λ c. search needs) (λ c. search needs) (λ c κs. search needs) returns)

@@ -1,9 +1,9 @@
 -- `refine::faces::quotients` meets its contract: three divisions with the same rounding, that of the points scaled by what the weights sum to.
 -- Assumes nothing.
-use mathlib.Core.Path.{_≡_, _∙_}
-use Prim.Native.Nat.{ℕ, _*_}
+use mathlib.Core.Path.{_∙_}
+use Prim.Native.Nat.{_*_}
 use borrow.Author.Needs.{needs}
-use lib.IntN.{ℤ, pos, _*ℤ_}
+use lib.IntN.{pos, _*ℤ_}
 use mir.Syntax.{w64}
 use mir.Val.{SFits}
 use mir.Facts.{toZ-ofZ}
@@ -25,9 +25,6 @@ module _ (s : tie.Start) where
 
   behind : SFits w64 (s .args .s .behind)
   behind = units-fit _ _ (s .pre .1 .behind)
-
-cast-d : tie.Need-cast-d
-cast-d c = search needs
 
 mul-d : tie.Need-mul-d
 mul-d c = rw (by c .count-is) (by c .fits)
@@ -70,5 +67,4 @@ returns c =
 
 pub quotients-spec : {M : Type 1} → statement M
 quotients-spec =
-    tie.close
-    (tie.spec cast-d mul-d mul-unit-quotient unit-quotient-requires unit-quotient-requires-2 unit-quotient-requires-3 returns)
+    tie.close (tie.spec (λ c. search needs) mul-d mul-unit-quotient unit-quotient-requires unit-quotient-requires-2 unit-quotient-requires-3 returns)

@@ -25,9 +25,6 @@ ahead-of-five-requires c κs = let s = c .before .before in keyed s 5 (c .match 
 ahead-of-six-requires : tie.Need-ahead-of-six-requires
 ahead-of-six-requires c κs = let s = c .before .before in keyed s 6 (c .match .keys3)
 
-ahead-sums-requires : tie.Need-ahead-sums-requires
-ahead-sums-requires c κs = search needs
-
 divide-ahead-requires : tie.Need-divide-ahead-requires
 divide-ahead-requires c κs =
     let s = c .before .before .before in
@@ -63,14 +60,5 @@ returns-4 c =
 
 pub ring-ahead-spec : {M : Type 1} → statement M
 ring-ahead-spec =
-    tie.close
-    (tie.spec
-    ahead-of-three-requires
-    ahead-of-five-requires
-    ahead-of-six-requires
-    ahead-sums-requires
-    divide-ahead-requires
-    returns
-    returns-2
-    returns-3
-    returns-4)
+    tie.close (tie.spec ahead-of-three-requires ahead-of-five-requires ahead-of-six-requires (λ c κs. search needs) divide-ahead-requires returns returns-2
+    returns-3 returns-4)

@@ -25,9 +25,6 @@ ring-of-five-requires c κs = let s = c .before .before in keyed s 5 (c .match .
 ring-of-six-requires : tie.Need-ring-of-six-requires
 ring-of-six-requires c κs = let s = c .before .before in keyed s 6 (c .match .keys3)
 
-ring-sums-requires : tie.Need-ring-sums-requires
-ring-sums-requires c κs = search needs
-
 divide-requires : tie.Need-divide-requires
 divide-requires c κs =
     let s = c .before .before .before in
@@ -63,14 +60,5 @@ returns-4 c =
 
 pub ring-faces-spec : {M : Type 1} → statement M
 ring-faces-spec =
-    tie.close
-    (tie.spec
-    ring-of-three-requires
-    ring-of-five-requires
-    ring-of-six-requires
-    ring-sums-requires
-    divide-requires
-    returns
-    returns-2
-    returns-3
+    tie.close (tie.spec ring-of-three-requires ring-of-five-requires ring-of-six-requires (λ c κs. search needs) divide-requires returns returns-2 returns-3
     returns-4)

@@ -85,13 +85,4 @@ returns c =
     }
 
 pub ring-of-four-spec : {M : Type 1} → statement M
-ring-of-four-spec =
-    tie.close
-    (tie.spec
-    by-requires
-    by-requires-2
-    by-requires-3
-    four-on-requires
-    four-on-requires-2
-    four-on-requires-3
-    returns)
+ring-of-four-spec = tie.close (tie.spec by-requires by-requires-2 by-requires-3 four-on-requires four-on-requires-2 four-on-requires-3 returns)

@@ -74,12 +74,4 @@ returns c =
     }
 
 pub ring-of-three-spec : {M : Type 1} → statement M
-ring-of-three-spec =
-    tie.close
-    (tie.spec
-    by-requires
-    by-requires-2
-    three-on-requires
-    three-on-requires-2
-    three-on-requires-3
-    returns)
+ring-of-three-spec = tie.close (tie.spec by-requires by-requires-2 three-on-requires three-on-requires-2 three-on-requires-3 returns)

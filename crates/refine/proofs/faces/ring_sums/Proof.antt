@@ -167,24 +167,5 @@ returns c =
 
 pub ring-sums-spec : {M : Type 1} → statement M
 ring-sums-spec =
-    tie.close
-    (tie.spec
-    Inv-loop
-    μ-loop
-    sub-weight-after
-    sub-cosine
-    cosine-requires
-    weight-after-requires
-    loop-holds
-    weight-after-requires-2
-    point-requires
-    add-place-requires
-    point-requires-2
-    add-place-requires-2
-    point-requires-3
-    add-place-requires-3
-    by-requires
-    add-j
-    loop-less
-    loop-again
-    returns)
+    tie.close (tie.spec Inv-loop μ-loop sub-weight-after sub-cosine cosine-requires weight-after-requires loop-holds weight-after-requires-2 point-requires
+    add-place-requires point-requires-2 add-place-requires-2 point-requires-3 add-place-requires-3 by-requires add-j loop-less loop-again returns)

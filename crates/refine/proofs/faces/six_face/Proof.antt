@@ -1,18 +1,15 @@
 -- `refine::faces::six_face` meets its contract: the sums fit, and the code gathers the terms of two.
 -- Assumes nothing.
-use mathlib.Core.Path.{_≡_, refl, ap, _∙_}
-use Prim.Native.Nat.{_+_, _*_, _^_, _≤_}
+use mathlib.Core.Path.{_≡_, ap, _∙_}
+use Prim.Native.Nat.{_*_, _^_, _≤_}
 use native.Mathlib.Omega.{arith}
 use borrow.Author.Needs.{needs}
-use lib.Dec.{lit≤}
-use lib.IntN.{ℤ, pos, negℤ, natAbs, _+ℤ_, _-ℤ_, _*ℤ_}
-use lib.Signed.{_≤ℤ_, _<ℤ_, leZ-yes, ltZ-yes}
+use lib.IntN.{ℤ, pos, natAbs, _+ℤ_, _*ℤ_}
 use mir.Syntax.{w64}
 use mir.Val.{SFits}
 use mir.Facts.{toZ-ofZ}
 use Rattle.numbers.proofs.Poly.{over, poly}
 use Rattle.paper.specs.Numbers.{round}
-use Rattle.paper.specs.Cosines.{unit}
 use Rattle.surface.specs.Sizes.{RefinedSize}
 use Rattle.refine.proofs.faces.six_face.Statement.{statement}
 use Rattle.refine.proofs.faces.six_face.Tie as tie
@@ -54,21 +51,6 @@ module _ (s : tie.Start) where
   behind : Toward (s .args .z) (s .args .u) (s .args .v) (s .args .y)
   behind = toward-fits (s .args .z) (s .args .u) (s .args .v) (s .args .y) (s .pre .5, s .pre .0, s .pre .1, s .pre .4)
 
-add-sixth : tie.Need-add-sixth
-add-sixth c = let k = total c in simp (toZ-ofZ, c .fits .u, c .fits .v) (k .0)
-
-add-sixth-2 : tie.Need-add-sixth-2
-add-sixth-2 c = let k = total c in simp (toZ-ofZ, c .fits .u, c .fits .v, c .fits .w, k .0) (k .1)
-
-add-sixth-3 : tie.Need-add-sixth-3
-add-sixth-3 c = let k = total c in simp (toZ-ofZ, c .fits .u, c .fits .v, c .fits .w, c .fits .x, k .0, k .1) (k .2)
-
-add-sixth-4 : tie.Need-add-sixth-4
-add-sixth-4 c = let k = total c in simp (toZ-ofZ, c .fits .u, c .fits .v, c .fits .w, c .fits .x, c .fits .y, k .0, k .1, k .2) (k .3)
-
-add-sixth-5 : tie.Need-add-sixth-5
-add-sixth-5 c = let k = total c in simp (toZ-ofZ, c .fits .u, c .fits .v, c .fits .w, c .fits .x, c .fits .y, c .fits .z, k .0, k .1, k .2, k .3) (k .4)
-
 sixth-requires : tie.Need-sixth-requires
 sixth-requires c κs = let k = total c in simp (
   toZ-ofZ,
@@ -86,16 +68,16 @@ sixth-requires c κs = let k = total c in simp (
 ) (k .5)
 
 add-sixth-6 : tie.Need-add-sixth-6
-add-sixth-6 c = let s = c .before in let k = ahead s in simp (toZ-ofZ, s .fits .u, s .fits .v) (k .0)
+add-sixth-6 c = let s = c .before in search (toZ-ofZ, ahead s)
 
 mul-sixth : tie.Need-mul-sixth
-mul-sixth c = let s = c .before in let k = ahead s in simp (toZ-ofZ, s .fits .u, s .fits .v, k .0) (k .1)
+mul-sixth c = let s = c .before in search (toZ-ofZ, ahead s)
 
 add-sixth-7 : tie.Need-add-sixth-7
-add-sixth-7 c = let s = c .before in let k = ahead s in simp (toZ-ofZ, s .fits .u, s .fits .v, s .fits .w, k .0, k .1) (k .2)
+add-sixth-7 c = let s = c .before in search (toZ-ofZ, ahead s)
 
 add-sixth-8 : tie.Need-add-sixth-8
-add-sixth-8 c = let s = c .before in let k = ahead s in simp (toZ-ofZ, s .fits .u, s .fits .v, s .fits .w, s .fits .z, k .0, k .1, k .2) (k .3)
+add-sixth-8 c = let s = c .before in search (toZ-ofZ, ahead s)
 
 sixth-requires-2 : tie.Need-sixth-requires-2
 sixth-requires-2 c κs = let s = c .before in let k = ahead s in simp (
@@ -111,16 +93,16 @@ sixth-requires-2 c κs = let s = c .before in let k = ahead s in simp (
 ) (k .4)
 
 add-sixth-9 : tie.Need-add-sixth-9
-add-sixth-9 c = let s = c .before .before in let k = behind s in simp (toZ-ofZ, s .fits .u, s .fits .z) (k .0)
+add-sixth-9 c = let s = c .before .before in search (toZ-ofZ, behind s)
 
 mul-sixth-2 : tie.Need-mul-sixth-2
-mul-sixth-2 c = let s = c .before .before in let k = behind s in simp (toZ-ofZ, s .fits .u, s .fits .z, k .0) (k .1)
+mul-sixth-2 c = let s = c .before .before in search (toZ-ofZ, behind s)
 
 add-sixth-10 : tie.Need-add-sixth-10
-add-sixth-10 c = let s = c .before .before in let k = behind s in simp (toZ-ofZ, s .fits .u, s .fits .v, s .fits .z, k .0, k .1) (k .2)
+add-sixth-10 c = let s = c .before .before in search (toZ-ofZ, behind s)
 
 add-sixth-11 : tie.Need-add-sixth-11
-add-sixth-11 c = let s = c .before .before in let k = behind s in simp (toZ-ofZ, s .fits .u, s .fits .v, s .fits .y, s .fits .z, k .0, k .1, k .2) (k .3)
+add-sixth-11 c = let s = c .before .before in search (toZ-ofZ, behind s)
 
 sixth-requires-3 : tie.Need-sixth-requires-3
 sixth-requires-3 c κs = let s = c .before .before in let k = behind s in simp (
@@ -167,22 +149,6 @@ returns c =
 
 pub six-face-spec : {M : Type 1} → statement M
 six-face-spec =
-    tie.close
-    (tie.spec
-    add-sixth
-    add-sixth-2
-    add-sixth-3
-    add-sixth-4
-    add-sixth-5
-    sixth-requires
-    add-sixth-6
-    mul-sixth
-    add-sixth-7
-    add-sixth-8
-    sixth-requires-2
-    add-sixth-9
-    mul-sixth-2
-    add-sixth-10
-    add-sixth-11
-    sixth-requires-3
-    returns)
+    tie.close (tie.spec (λ c. search (toZ-ofZ, total c)) (λ c. search (toZ-ofZ, total c)) (λ c. search (toZ-ofZ, total c)) (λ c. search (toZ-ofZ, total c))
+    (λ c. search (toZ-ofZ, total c)) sixth-requires add-sixth-6 mul-sixth add-sixth-7 add-sixth-8 sixth-requires-2 add-sixth-9 mul-sixth-2 add-sixth-10
+    add-sixth-11 sixth-requires-3 returns)

@@ -5,24 +5,6 @@ use Rattle.refine.proofs.faces.Laws.{corner-plain}
 use Rattle.refine.proofs.faces.six_on.Statement.{statement}
 use Rattle.refine.proofs.faces.six_on.Tie as tie
 
-point-requires : tie.Need-point-requires
-point-requires c κs = search needs
-
-point-requires-2 : tie.Need-point-requires-2
-point-requires-2 c κs = search needs
-
-point-requires-3 : tie.Need-point-requires-3
-point-requires-3 c κs = search needs
-
-point-requires-4 : tie.Need-point-requires-4
-point-requires-4 c κs = search needs
-
-point-requires-5 : tie.Need-point-requires-5
-point-requires-5 c κs = search needs
-
-point-requires-6 : tie.Need-point-requires-6
-point-requires-6 c κs = search needs
-
 six-face-requires : tie.Need-six-face-requires
 six-face-requires c κs =
     let k = c .before .before .before .before .before .before .pre in (
@@ -49,13 +31,5 @@ returns c =
 
 pub six-on-spec : {M : Type 1} → statement M
 six-on-spec =
-    tie.close
-    (tie.spec
-    point-requires
-    point-requires-2
-    point-requires-3
-    point-requires-4
-    point-requires-5
-    point-requires-6
-    six-face-requires
-    returns)
+    tie.close (tie.spec (λ c κs. search needs) (λ c κs. search needs) (λ c κs. search needs) (λ c κs. search needs) (λ c κs. search needs)
+    (λ c κs. search needs) six-face-requires returns)

@@ -1,6 +1,6 @@
 -- `refine::faces::three_on` meets its contract: the points are read, and the two formulas give the face.
 -- Assumes nothing.
-use mathlib.Core.Path.{_≡_, _∙_}
+use mathlib.Core.Path.{_∙_}
 use borrow.Author.Needs.{needs}
 use mir.Syntax.{w64}
 use mir.Val.{SFits}
@@ -8,15 +8,6 @@ use mir.Facts.{toZ-ofZ}
 use Rattle.refine.proofs.faces.Laws.{corner-plain}
 use Rattle.refine.proofs.faces.three_on.Statement.{statement}
 use Rattle.refine.proofs.faces.three_on.Tie as tie
-
-point-requires : tie.Need-point-requires
-point-requires c κs = search needs
-
-point-requires-2 : tie.Need-point-requires-2
-point-requires-2 c κs = search needs
-
-point-requires-3 : tie.Need-point-requires-3
-point-requires-3 c κs = search needs
 
 mean-of-three-requires : tie.Need-mean-of-three-requires
 mean-of-three-requires c κs =
@@ -50,12 +41,5 @@ returns c =
 
 pub three-on-spec : {M : Type 1} → statement M
 three-on-spec =
-    tie.close
-    (tie.spec
-    point-requires
-    point-requires-2
-    point-requires-3
-    mean-of-three-requires
-    toward-of-three-requires
-    toward-of-three-requires-2
-    returns)
+    tie.close (tie.spec (λ c κs. search needs) (λ c κs. search needs) (λ c κs. search needs) mean-of-three-requires toward-of-three-requires
+    toward-of-three-requires-2 returns)

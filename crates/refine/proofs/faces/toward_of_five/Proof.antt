@@ -1,12 +1,11 @@
 -- `refine::faces::toward_of_five` meets its contract: the sums fit, and the code gathers the terms of two.
 -- Assumes nothing.
 use mathlib.Core.Path.{_≡_, refl, ap, _∙_}
-use Prim.Native.Nat.{_+_, _*_, _^_, _≤_}
+use Prim.Native.Nat.{_*_, _^_}
 use native.Mathlib.Omega.{arith}
 use borrow.Author.Needs.{needs}
-use lib.Dec.{lit≤}
-use lib.IntN.{ℤ, pos, negℤ, natAbs, _+ℤ_, _-ℤ_, _*ℤ_}
-use lib.Signed.{_≤ℤ_, _<ℤ_, leZ-yes, ltZ-yes}
+use lib.IntN.{ℤ, pos, negℤ, _+ℤ_, _-ℤ_, _*ℤ_}
+use lib.Signed.{_≤ℤ_, leZ-yes, ltZ-yes}
 use mir.Syntax.{w64}
 use mir.Val.{SFits}
 use mir.Facts.{toZ-ofZ}
@@ -52,56 +51,6 @@ same v w x y z = ap (λ (n : ℤ). round n (pos (15 * unit))) (sums v w x y z)
     sums : (v w x y z : ℤ) → total v w x y z ≡ fiveSum v w x y z
     sums = over 5 _ λ ρ. simp (poly, ρ) (omega arith)
 
-add-near : tie.Need-add-near
-add-near c = let k = facts c in simp (toZ-ofZ, c .fits .v, c .fits .w) (k .0)
-
-mul-n : tie.Need-mul-n
-mul-n c = let k = facts c in simp (toZ-ofZ, c .fits .v, c .fits .w, k .0) (k .1)
-
-add-n : tie.Need-add-n
-add-n c = let k = facts c in simp (toZ-ofZ, c .fits .x, c .fits .z) (k .2)
-
-mul-n-2 : tie.Need-mul-n-2
-mul-n-2 c = let k = facts c in simp (toZ-ofZ, c .fits .x, c .fits .z, k .2) (k .3)
-
-add-n-2 : tie.Need-add-n-2
-add-n-2 c = let k = facts c in simp (toZ-ofZ, c .fits .v, c .fits .w, c .fits .x, c .fits .z, k .0, k .1, k .2, k .3) (k .4)
-
-add-n-3 : tie.Need-add-n-3
-add-n-3 c = let k = facts c in simp (toZ-ofZ, c .fits .v, c .fits .w, c .fits .x, c .fits .y, c .fits .z, k .0, k .1, k .2, k .3, k .4) (k .5)
-
-mul-n-3 : tie.Need-mul-n-3
-mul-n-3 c = let k = facts c in simp (toZ-ofZ, c .fits .v, c .fits .w, c .fits .x, c .fits .y, c .fits .z, k .0, k .1, k .2, k .3, k .4, k .5) (k .6)
-
-mul-n-4 : tie.Need-mul-n-4
-mul-n-4 c = let k = facts c in simp (toZ-ofZ, c .fits .y) (k .7)
-
-sub-n : tie.Need-sub-n
-sub-n c = let k = facts c in simp (toZ-ofZ, c .fits .v, c .fits .w, c .fits .y, k .0, k .7) (k .8)
-
-mul-n-5 : tie.Need-mul-n-5
-mul-n-5 c = let k = facts c in simp (toZ-ofZ, c .fits .v, c .fits .w, c .fits .y, k .0, k .7, k .8) (k .9)
-
-add-n-4 : tie.Need-add-n-4
-add-n-4 c = let k = facts c in simp (
-  toZ-ofZ,
-  c .fits .v,
-  c .fits .w,
-  c .fits .x,
-  c .fits .y,
-  c .fits .z,
-  k .0,
-  k .1,
-  k .2,
-  k .3,
-  k .4,
-  k .5,
-  k .6,
-  k .7,
-  k .8,
-  k .9,
-) (k .10)
-
 unit-quotient-requires : tie.Need-unit-quotient-requires
 unit-quotient-requires c κs =
     let k = facts c in
@@ -137,18 +86,6 @@ returns c =
 
 pub toward-of-five-spec : {M : Type 1} → statement M
 toward-of-five-spec =
-    tie.close
-    (tie.spec
-    add-near
-    mul-n
-    add-n
-    mul-n-2
-    add-n-2
-    add-n-3
-    mul-n-3
-    mul-n-4
-    sub-n
-    mul-n-5
-    add-n-4
-    unit-quotient-requires
-    returns)
+    tie.close (tie.spec (λ c. search (toZ-ofZ, facts c)) (λ c. search (toZ-ofZ, facts c)) (λ c. search (toZ-ofZ, facts c)) (λ c. search (toZ-ofZ, facts c))
+    (λ c. search (toZ-ofZ, facts c)) (λ c. search (toZ-ofZ, facts c)) (λ c. search (toZ-ofZ, facts c)) (λ c. search (toZ-ofZ, facts c))
+    (λ c. search (toZ-ofZ, facts c)) (λ c. search (toZ-ofZ, facts c)) (λ c. search (toZ-ofZ, facts c)) unit-quotient-requires returns)

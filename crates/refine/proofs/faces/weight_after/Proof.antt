@@ -45,12 +45,6 @@ chosen c =
     (λ w. again (s .args .m) (s .args .j) (c .if1 .k) (s .pre .0 .2) (omega (arith, w .0 .left)) (w .1))
     (c .if1 .came)
 
-add-if1 : tie.Need-add-if1
-add-if1 c = search needs
-
-add-k : tie.Need-add-k
-add-k c = search needs
-
 weight-at-requires : tie.Need-weight-at-requires
 weight-at-requires c κs =
     let s = c .before in
@@ -61,4 +55,4 @@ returns : tie.Need-returns
 returns c = let k = chosen (c .before) in (c .weight-at .ensures .0 ∙ k .weight-is, c .weight-at .ensures .1 ∙ k .cosine-is)
 
 pub weight-after-spec : {M : Type 1} → statement M
-weight-after-spec = tie.close (tie.spec add-if1 add-k weight-at-requires returns)
+weight-after-spec = tie.close (tie.spec (λ c. search needs) (λ c. search needs) weight-at-requires returns)

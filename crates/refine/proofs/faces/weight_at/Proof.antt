@@ -62,9 +62,6 @@ two c = let s = c .before in rw (s .pre .1) (cosine-size (s .args .m) (s .pre .0
 facts : (c : tie.After-cosine) → Fine (c .cosine .result) (c .before .args .last)
 facts c = fits (c .cosine .result) (c .before .args .last) (one c) (two c)
 
-cosine-requires : tie.Need-cosine-requires
-cosine-requires c κs = search needs
-
 mul-t6 : tie.Need-mul-t6
 mul-t6 c = let x = c .cosine .result in product-fits 0 _ 0 x x (lit≤ tt) (lit≤ tt) (lit≤ tt) (one c) (one c)
 
@@ -88,4 +85,4 @@ returns c =
     simp (toZ-ofZ, k .0, k .1, k .2, k .3, k .4, k .5) (weight-of (s .args .m) (s .args .j) _ _ (c .cosine .ensures) (s .pre .1), c .cosine .ensures)
 
 pub weight-at-spec : {M : Type 1} → statement M
-weight-at-spec = tie.close (tie.spec cosine-requires mul-t6 add-t7 mul-t8 add-t9 returns)
+weight-at-spec = tie.close (tie.spec (λ c κs. search needs) mul-t6 add-t7 mul-t8 add-t9 returns)

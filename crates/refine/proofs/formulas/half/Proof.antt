@@ -1,12 +1,10 @@
 -- `refine::formulas::half` meets its contract: the sum fits, and half of it is no larger than the larger of the two.
 -- Assumes nothing.
-use mathlib.Core.Path.{_≡_, ap, _∙_}
-use Prim.Native.Nat.{_+_, _-_, _*_, _^_, _≤_}
+use Prim.Native.Nat.{_^_, _≤_}
 use native.Mathlib.Omega.{arith}
 use borrow.Author.Needs.{needs}
 use lib.Dec.{lit≤}
-use lib.IntN.{ℤ, pos, negℤ, natAbs, _+ℤ_, _-ℤ_, _*ℤ_}
-use lib.Signed.{_≤ℤ_, _<ℤ_, leZ-yes}
+use lib.IntN.{ℤ, pos, natAbs, _+ℤ_}
 use mir.Syntax.{w32}
 use mir.Val.{SFits}
 use mir.Facts.{toZ-ofZ}
@@ -30,15 +28,6 @@ fits = over 2 _ λ ρ. simp (poly, ρ) (omega arith)
 facts : (s : tie.Start) → Fine (s .args .a) (s .args .b)
 facts s = fits (s .args .a) (s .args .b) (s .pre)
 
-cast-small-shift : tie.Need-cast-small-shift
-cast-small-shift c = let k = facts c in simp (toZ-ofZ, c .fits .a, c .fits .b) (k .0)
-
-cast-small-shift-2 : tie.Need-cast-small-shift-2
-cast-small-shift-2 c = let k = facts c in simp (toZ-ofZ, c .fits .a, c .fits .b, k .0) (k .1)
-
-add-small-shift : tie.Need-add-small-shift
-add-small-shift c = let k = facts c in simp (toZ-ofZ, c .fits .a, c .fits .b, k .0, k .1) (k .2)
-
 small-shift-requires : tie.Need-small-shift-requires
 small-shift-requires c κs = let k = facts c in simp (toZ-ofZ, c .fits .a, c .fits .b, k .0, k .1, k .2) (lit≤ tt, lit≤ tt, k .3)
 
@@ -55,11 +44,5 @@ returns c =
 
 pub half-spec : {M : Type 1} → statement M
 half-spec =
-    tie.close
-    (tie.spec
-    cast-small-shift
-    cast-small-shift-2
-    add-small-shift
-    small-shift-requires
-    cast-result
+    tie.close (tie.spec (λ c. search (toZ-ofZ, facts c)) (λ c. search (toZ-ofZ, facts c)) (λ c. search (toZ-ofZ, facts c)) small-shift-requires cast-result
     returns)

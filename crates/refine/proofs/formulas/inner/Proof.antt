@@ -1,11 +1,10 @@
 -- `refine::formulas::inner` meets its contract: the sums fit, and a sixth of the last one is bounded by its terms.
 -- Assumes nothing.
 use mathlib.Core.Path.{_≡_, ap, _∙_}
-use Prim.Native.Nat.{_+_, _-_, _*_, _^_, _≤_}
+use Prim.Native.Nat.{_*_, _^_}
 use native.Mathlib.Omega.{arith}
 use borrow.Author.Needs.{needs}
-use lib.Dec.{lit≤}
-use lib.IntN.{ℤ, pos, negℤ, natAbs, _+ℤ_, _-ℤ_, _*ℤ_}
+use lib.IntN.{ℤ, pos, negℤ, _+ℤ_, _-ℤ_, _*ℤ_}
 use lib.Signed.{_≤ℤ_, _<ℤ_, leZ-yes}
 use mir.Syntax.{w32}
 use mir.Val.{SFits}
@@ -41,30 +40,6 @@ same x y v w = ap (λ (n : ℤ). round n (pos 6)) (sums x y v w)
     sums : (x y v w : ℤ) → pos 3 *ℤ (x +ℤ y) +ℤ v -ℤ w ≡ pos 3 *ℤ x +ℤ pos 3 *ℤ y +ℤ v -ℤ w
     sums = over 4 _ λ ρ. simp (poly, ρ) (omega arith)
 
-cast-small-product : tie.Need-cast-small-product
-cast-small-product c = let k = facts c in simp (toZ-ofZ, c .fits .x, c .fits .y, c .fits .v, c .fits .w) (k .0)
-
-cast-small-product-2 : tie.Need-cast-small-product-2
-cast-small-product-2 c = let k = facts c in simp (toZ-ofZ, c .fits .x, c .fits .y, c .fits .v, c .fits .w, k .0) (k .1)
-
-add-small-product : tie.Need-add-small-product
-add-small-product c = let k = facts c in simp (toZ-ofZ, c .fits .x, c .fits .y, c .fits .v, c .fits .w, k .0, k .1) (k .2)
-
-mul-small-product : tie.Need-mul-small-product
-mul-small-product c = let k = facts c in simp (toZ-ofZ, c .fits .x, c .fits .y, c .fits .v, c .fits .w, k .0, k .1, k .2) (k .3)
-
-cast-small-product-3 : tie.Need-cast-small-product-3
-cast-small-product-3 c = let k = facts c in simp (toZ-ofZ, c .fits .x, c .fits .y, c .fits .v, c .fits .w, k .0, k .1, k .2, k .3) (k .4)
-
-add-small-product-2 : tie.Need-add-small-product-2
-add-small-product-2 c = let k = facts c in simp (toZ-ofZ, c .fits .x, c .fits .y, c .fits .v, c .fits .w, k .0, k .1, k .2, k .3, k .4) (k .5)
-
-cast-small-product-4 : tie.Need-cast-small-product-4
-cast-small-product-4 c = let k = facts c in simp (toZ-ofZ, c .fits .x, c .fits .y, c .fits .v, c .fits .w, k .0, k .1, k .2, k .3, k .4, k .5) (k .6)
-
-sub-small-product : tie.Need-sub-small-product
-sub-small-product c = let k = facts c in simp (toZ-ofZ, c .fits .x, c .fits .y, c .fits .v, c .fits .w, k .0, k .1, k .2, k .3, k .4, k .5, k .6) (k .7)
-
 small-product-requires : tie.Need-small-product-requires
 small-product-requires c κs = let k = facts c in simp (
   toZ-ofZ,
@@ -98,16 +73,6 @@ returns c =
 
 pub inner-spec : {M : Type 1} → statement M
 inner-spec =
-    tie.close
-    (tie.spec
-    cast-small-product
-    cast-small-product-2
-    add-small-product
-    mul-small-product
-    cast-small-product-3
-    add-small-product-2
-    cast-small-product-4
-    sub-small-product
-    small-product-requires
-    cast-result
-    returns)
+    tie.close (tie.spec (λ c. search (toZ-ofZ, facts c)) (λ c. search (toZ-ofZ, facts c)) (λ c. search (toZ-ofZ, facts c)) (λ c. search (toZ-ofZ, facts c))
+    (λ c. search (toZ-ofZ, facts c)) (λ c. search (toZ-ofZ, facts c)) (λ c. search (toZ-ofZ, facts c)) (λ c. search (toZ-ofZ, facts c))
+    small-product-requires cast-result returns)

@@ -1,12 +1,10 @@
 -- `refine::formulas::quarter` meets its contract: the sum fits, and a quarter of it is bounded by its terms.
 -- Assumes nothing.
-use mathlib.Core.Path.{_≡_, ap, _∙_}
-use Prim.Native.Nat.{_+_, _-_, _*_, _^_, _≤_}
+use Prim.Native.Nat.{_^_, _≤_}
 use native.Mathlib.Omega.{arith}
 use borrow.Author.Needs.{needs}
 use lib.Dec.{lit≤}
-use lib.IntN.{ℤ, pos, negℤ, natAbs, _+ℤ_, _-ℤ_, _*ℤ_}
-use lib.Signed.{_≤ℤ_, _<ℤ_, leZ-yes}
+use lib.IntN.{ℤ, pos, natAbs, _+ℤ_, _*ℤ_}
 use mir.Syntax.{w32}
 use mir.Val.{SFits}
 use mir.Facts.{toZ-ofZ}
@@ -30,18 +28,6 @@ fits = over 2 _ λ ρ. simp (poly, ρ) (omega arith)
 facts : (s : tie.Start) → Fine (s .args .e) (s .args .x)
 facts s = fits (s .args .e) (s .args .x) (s .pre)
 
-cast-small-shift : tie.Need-cast-small-shift
-cast-small-shift c = let k = facts c in simp (toZ-ofZ, c .fits .e, c .fits .x) (k .0)
-
-cast-small-shift-2 : tie.Need-cast-small-shift-2
-cast-small-shift-2 c = let k = facts c in simp (toZ-ofZ, c .fits .e, c .fits .x, k .0) (k .1)
-
-mul-small-shift : tie.Need-mul-small-shift
-mul-small-shift c = let k = facts c in simp (toZ-ofZ, c .fits .e, c .fits .x, k .0, k .1) (k .2)
-
-add-small-shift : tie.Need-add-small-shift
-add-small-shift c = let k = facts c in simp (toZ-ofZ, c .fits .e, c .fits .x, k .0, k .1, k .2) (k .3)
-
 small-shift-requires : tie.Need-small-shift-requires
 small-shift-requires c κs = let k = facts c in simp (toZ-ofZ, c .fits .e, c .fits .x, k .0, k .1, k .2, k .3) (lit≤ tt, lit≤ tt, k .4)
 
@@ -58,12 +44,5 @@ returns c =
 
 pub quarter-spec : {M : Type 1} → statement M
 quarter-spec =
-    tie.close
-    (tie.spec
-    cast-small-shift
-    cast-small-shift-2
-    mul-small-shift
-    add-small-shift
-    small-shift-requires
-    cast-result
-    returns)
+    tie.close (tie.spec (λ c. search (toZ-ofZ, facts c)) (λ c. search (toZ-ofZ, facts c)) (λ c. search (toZ-ofZ, facts c)) (λ c. search (toZ-ofZ, facts c))
+    small-shift-requires cast-result returns)

@@ -1,12 +1,10 @@
 -- `refine::formulas::second` meets its contract: the sums fit, and the rounded quotient is bounded by its terms.
 -- Assumes nothing.
 use mathlib.Core.Path.{_≡_, ap, _∙_}
-use Prim.Native.Nat.{_+_, _-_, _*_, _^_, _≤_}
+use Prim.Native.Nat.{_*_, _^_, _≤_}
 use native.Mathlib.Omega.{arith}
 use borrow.Author.Needs.{needs}
-use lib.Dec.{lit≤}
-use lib.IntN.{ℤ, pos, negℤ, natAbs, _+ℤ_, _-ℤ_, _*ℤ_}
-use lib.Signed.{_≤ℤ_, _<ℤ_, leZ-yes}
+use lib.IntN.{ℤ, pos, natAbs, _+ℤ_, _-ℤ_, _*ℤ_}
 use mir.Syntax.{w32}
 use mir.Val.{SFits}
 use mir.Facts.{toZ-ofZ}
@@ -307,22 +305,5 @@ returns c =
 
 pub second-spec : {M : Type 1} → statement M
 second-spec =
-    tie.close
-    (tie.spec
-    cast-turned
-    cast-turned-2
-    mul-turned
-    sub-turned
-    cast-turned-3
-    mul-turned-2
-    add-turned
-    cast-plain
-    mul-plain
-    cast-plain-2
-    add-plain
-    cast-plain-3
-    mul-plain-2
-    add-plain-2
-    small-eighth-requires
-    cast-result
-    returns)
+    tie.close (tie.spec cast-turned cast-turned-2 mul-turned sub-turned cast-turned-3 mul-turned-2 add-turned cast-plain mul-plain cast-plain-2 add-plain
+    cast-plain-3 mul-plain-2 add-plain-2 small-eighth-requires cast-result returns)

@@ -1,12 +1,10 @@
 -- `refine::formulas::third` meets its contract: the sums fit, and the rounded quotient is bounded by its terms.
 -- Assumes nothing.
 use mathlib.Core.Path.{_≡_, ap, _∙_}
-use Prim.Native.Nat.{_+_, _-_, _*_, _^_, _≤_}
+use Prim.Native.Nat.{_*_, _^_, _≤_}
 use native.Mathlib.Omega.{arith}
 use borrow.Author.Needs.{needs}
-use lib.Dec.{lit≤}
-use lib.IntN.{ℤ, pos, negℤ, natAbs, _+ℤ_, _-ℤ_, _*ℤ_}
-use lib.Signed.{_≤ℤ_, _<ℤ_, leZ-yes}
+use lib.IntN.{ℤ, pos, natAbs, _+ℤ_, _-ℤ_, _*ℤ_}
 use mir.Syntax.{w32}
 use mir.Val.{SFits}
 use mir.Facts.{toZ-ofZ}
@@ -41,82 +39,6 @@ same c t y s n = ap (λ (n : ℤ). round n (pos (8 * unit))) (sums (pos unit) c 
     sums : (a c t y s n : ℤ) → a *ℤ (pos 3 *ℤ y +ℤ s +ℤ pos 4 *ℤ n) +ℤ c *ℤ (t -ℤ y)
         ≡ (pos 3 *ℤ a -ℤ c) *ℤ y +ℤ c *ℤ t +ℤ pos 4 *ℤ a *ℤ n +ℤ a *ℤ s
     sums = over 6 _ λ ρ. simp (poly, ρ) (omega arith)
-
-cast-turned : tie.Need-cast-turned
-cast-turned c = let k = facts c in simp (toZ-ofZ, c .fits .c, c .fits .t, c .fits .y, c .fits .s, c .fits .n) (k .0)
-
-cast-turned-2 : tie.Need-cast-turned-2
-cast-turned-2 c = let k = facts c in simp (toZ-ofZ, c .fits .c, c .fits .t, c .fits .y, c .fits .s, c .fits .n, k .0) (k .1)
-
-sub-turned : tie.Need-sub-turned
-sub-turned c = let k = facts c in simp (toZ-ofZ, c .fits .c, c .fits .t, c .fits .y, c .fits .s, c .fits .n, k .0, k .1) (k .2)
-
-cast-plain : tie.Need-cast-plain
-cast-plain c = let k = facts c in simp (toZ-ofZ, c .fits .c, c .fits .t, c .fits .y, c .fits .s, c .fits .n, k .0, k .1, k .2) (k .3)
-
-mul-plain : tie.Need-mul-plain
-mul-plain c = let k = facts c in simp (toZ-ofZ, c .fits .c, c .fits .t, c .fits .y, c .fits .s, c .fits .n, k .0, k .1, k .2, k .3) (k .4)
-
-cast-plain-2 : tie.Need-cast-plain-2
-cast-plain-2 c = let k = facts c in simp (toZ-ofZ, c .fits .c, c .fits .t, c .fits .y, c .fits .s, c .fits .n, k .0, k .1, k .2, k .3, k .4) (k .5)
-
-add-plain : tie.Need-add-plain
-add-plain c = let k = facts c in simp (toZ-ofZ, c .fits .c, c .fits .t, c .fits .y, c .fits .s, c .fits .n, k .0, k .1, k .2, k .3, k .4, k .5) (k .6)
-
-cast-plain-3 : tie.Need-cast-plain-3
-cast-plain-3 c = let k = facts c in simp (
-  toZ-ofZ,
-  c .fits .c,
-  c .fits .t,
-  c .fits .y,
-  c .fits .s,
-  c .fits .n,
-  k .0,
-  k .1,
-  k .2,
-  k .3,
-  k .4,
-  k .5,
-  k
-      .6,
-) (k .7)
-
-mul-plain-2 : tie.Need-mul-plain-2
-mul-plain-2 c = let k = facts c in simp (
-  toZ-ofZ,
-  c .fits .c,
-  c .fits .t,
-  c .fits .y,
-  c .fits .s,
-  c .fits .n,
-  k .0,
-  k .1,
-  k .2,
-  k .3,
-  k .4,
-  k .5,
-  k .6,
-  k .7,
-) (k .8)
-
-add-plain-2 : tie.Need-add-plain-2
-add-plain-2 c = let k = facts c in simp (
-  toZ-ofZ,
-  c .fits .c,
-  c .fits .t,
-  c .fits .y,
-  c .fits .s,
-  c .fits .n,
-  k .0,
-  k .1,
-  k .2,
-  k .3,
-  k .4,
-  k .5,
-  k .6,
-  k .7,
-  k .8,
-) (k .9)
 
 small-eighth-requires : tie.Need-small-eighth-requires
 small-eighth-requires c κs = let k = facts c in simp (
@@ -154,18 +76,6 @@ returns c =
 
 pub third-spec : {M : Type 1} → statement M
 third-spec =
-    tie.close
-    (tie.spec
-    cast-turned
-    cast-turned-2
-    sub-turned
-    cast-plain
-    mul-plain
-    cast-plain-2
-    add-plain
-    cast-plain-3
-    mul-plain-2
-    add-plain-2
-    small-eighth-requires
-    cast-result
-    returns)
+    tie.close (tie.spec (λ c. search (toZ-ofZ, facts c)) (λ c. search (toZ-ofZ, facts c)) (λ c. search (toZ-ofZ, facts c)) (λ c. search (toZ-ofZ, facts c))
+    (λ c. search (toZ-ofZ, facts c)) (λ c. search (toZ-ofZ, facts c)) (λ c. search (toZ-ofZ, facts c)) (λ c. search (toZ-ofZ, facts c))
+    (λ c. search (toZ-ofZ, facts c)) (λ c. search (toZ-ofZ, facts c)) small-eighth-requires cast-result returns)

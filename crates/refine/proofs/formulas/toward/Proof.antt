@@ -1,11 +1,10 @@
 -- `refine::formulas::toward` meets its contract: the sums fit, and the weights sum to twelve.
 -- Assumes nothing.
 use mathlib.Core.Path.{_≡_, ap, _∙_}
-use Prim.Native.Nat.{_+_, _-_, _*_, _^_, _≤_}
+use Prim.Native.Nat.{_*_, _^_}
 use native.Mathlib.Omega.{arith}
 use borrow.Author.Needs.{needs}
-use lib.Dec.{lit≤}
-use lib.IntN.{ℤ, pos, negℤ, natAbs, _+ℤ_, _-ℤ_, _*ℤ_}
+use lib.IntN.{ℤ, pos, negℤ, _+ℤ_, _-ℤ_, _*ℤ_}
 use lib.Signed.{_≤ℤ_, _<ℤ_, leZ-yes}
 use mir.Syntax.{w32}
 use mir.Val.{SFits}
@@ -41,30 +40,6 @@ same a b c d = ap (λ (n : ℤ). round n (pos 12)) (sums a b c d)
     sums : (a b c d : ℤ) → pos 5 *ℤ (a +ℤ b) +ℤ c +ℤ d ≡ pos 5 *ℤ a +ℤ pos 5 *ℤ b +ℤ c +ℤ d
     sums = over 4 _ λ ρ. simp (poly, ρ) (omega arith)
 
-cast-small-product : tie.Need-cast-small-product
-cast-small-product c = let k = facts c in simp (toZ-ofZ, c .fits .a, c .fits .b, c .fits .c, c .fits .d) (k .0)
-
-cast-small-product-2 : tie.Need-cast-small-product-2
-cast-small-product-2 c = let k = facts c in simp (toZ-ofZ, c .fits .a, c .fits .b, c .fits .c, c .fits .d, k .0) (k .1)
-
-add-small-product : tie.Need-add-small-product
-add-small-product c = let k = facts c in simp (toZ-ofZ, c .fits .a, c .fits .b, c .fits .c, c .fits .d, k .0, k .1) (k .2)
-
-mul-small-product : tie.Need-mul-small-product
-mul-small-product c = let k = facts c in simp (toZ-ofZ, c .fits .a, c .fits .b, c .fits .c, c .fits .d, k .0, k .1, k .2) (k .3)
-
-cast-small-product-3 : tie.Need-cast-small-product-3
-cast-small-product-3 c = let k = facts c in simp (toZ-ofZ, c .fits .a, c .fits .b, c .fits .c, c .fits .d, k .0, k .1, k .2, k .3) (k .4)
-
-add-small-product-2 : tie.Need-add-small-product-2
-add-small-product-2 c = let k = facts c in simp (toZ-ofZ, c .fits .a, c .fits .b, c .fits .c, c .fits .d, k .0, k .1, k .2, k .3, k .4) (k .5)
-
-cast-small-product-4 : tie.Need-cast-small-product-4
-cast-small-product-4 c = let k = facts c in simp (toZ-ofZ, c .fits .a, c .fits .b, c .fits .c, c .fits .d, k .0, k .1, k .2, k .3, k .4, k .5) (k .6)
-
-add-small-product-3 : tie.Need-add-small-product-3
-add-small-product-3 c = let k = facts c in simp (toZ-ofZ, c .fits .a, c .fits .b, c .fits .c, c .fits .d, k .0, k .1, k .2, k .3, k .4, k .5, k .6) (k .7)
-
 small-product-requires : tie.Need-small-product-requires
 small-product-requires c κs = let k = facts c in simp (
   toZ-ofZ,
@@ -98,16 +73,6 @@ returns c =
 
 pub toward-spec : {M : Type 1} → statement M
 toward-spec =
-    tie.close
-    (tie.spec
-    cast-small-product
-    cast-small-product-2
-    add-small-product
-    mul-small-product
-    cast-small-product-3
-    add-small-product-2
-    cast-small-product-4
-    add-small-product-3
-    small-product-requires
-    cast-result
-    returns)
+    tie.close (tie.spec (λ c. search (toZ-ofZ, facts c)) (λ c. search (toZ-ofZ, facts c)) (λ c. search (toZ-ofZ, facts c)) (λ c. search (toZ-ofZ, facts c))
+    (λ c. search (toZ-ofZ, facts c)) (λ c. search (toZ-ofZ, facts c)) (λ c. search (toZ-ofZ, facts c)) (λ c. search (toZ-ofZ, facts c))
+    small-product-requires cast-result returns)

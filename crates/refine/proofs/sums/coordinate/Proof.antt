@@ -13,12 +13,6 @@ use Rattle.refine.proofs.sums.Laws.{place-in, steps-size}
 use Rattle.refine.proofs.sums.coordinate.Statement.{statement}
 use Rattle.refine.proofs.sums.coordinate.Tie as tie
 
-mul-v : tie.Need-mul-v
-mul-v c = search needs
-
-shared-slice-read-v : tie.Need-shared-slice-read-v
-shared-slice-read-v c = search needs
-
 cast-v : tie.Need-cast-v
 cast-v c = omega (arith, c .shared-slice-known .given (c .before .args .c))
 
@@ -44,13 +38,4 @@ returns c =
 
 pub coordinate-spec : {M : Type 1} → statement M
 coordinate-spec =
-    tie.close
-    (tie.spec
-    mul-v
-    shared-slice-read-v
-    cast-v
-    mul-result
-    add-result
-    mul-result-2
-    shared-slice-copy-out-result
-    returns)
+    tie.close (tie.spec (λ c. search needs) (λ c. search needs) cast-v mul-result add-result mul-result-2 shared-slice-copy-out-result returns)

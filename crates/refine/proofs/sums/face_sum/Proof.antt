@@ -75,9 +75,6 @@ module _ (c : tie.After-coordinate3 Inv-loop μ-loop) where
 loop-holds : tie.Need-loop-holds Inv-loop μ-loop
 loop-holds c = (search needs, sym (sum-zero _), sym (sum-zero _), sym (sum-zero _))
 
-add-c : tie.Need-add-c Inv-loop μ-loop
-add-c c = search needs
-
 coordinate-requires : tie.Need-coordinate-requires Inv-loop μ-loop
 coordinate-requires c κs = let i = c in (i .before .before .before .pre .0, (lit< tt, omega (arith, here i .0)))
 
@@ -96,12 +93,6 @@ coordinate-requires-3 c κs = let i = c .before .before in (i .before .before .b
 add-z : tie.Need-add-z Inv-loop μ-loop
 add-z c = on-z c .0
 
-add-j : tie.Need-add-j Inv-loop μ-loop
-add-j c = search needs
-
-loop-less : tie.Need-loop-less Inv-loop μ-loop
-loop-less c = search needs
-
 loop-again : tie.Need-loop-again Inv-loop μ-loop
 loop-again c = (search needs, on-x (c .before .before) .1, on-y (c .before) .1, on-z c .1)
 
@@ -119,19 +110,5 @@ returns c =
 
 pub face-sum-spec : {M : Type 1} → statement M
 face-sum-spec =
-    tie.close
-    (tie.spec
-    Inv-loop
-    μ-loop
-    loop-holds
-    add-c
-    coordinate-requires
-    add-x
-    coordinate-requires-2
-    add-y
-    coordinate-requires-3
-    add-z
-    add-j
-    loop-less
-    loop-again
-    returns)
+    tie.close (tie.spec Inv-loop μ-loop loop-holds (λ c. search needs) coordinate-requires add-x coordinate-requires-2 add-y coordinate-requires-3 add-z
+    (λ c. search needs) (λ c. search needs) loop-again returns)

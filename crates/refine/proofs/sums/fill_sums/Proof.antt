@@ -1,9 +1,9 @@
 -- `refine::fill_sums` meets its contract: the sums of the faces before `f` are put in.
 -- Assumes nothing.
-use mathlib.Core.Path.{_≡_, refl, _∙_, sym, subst}
+use mathlib.Core.Path.{_≡_, sym, subst}
 use mathlib.Core.List.{List}
 use mathlib.Core.Logic.{⊎-elim}
-use Prim.Native.Nat.{ℕ, _-_, _*_, _≤_, _<_}
+use Prim.Native.Nat.{ℕ, _-_, _≤_, _<_}
 use native.Mathlib.Omega.{arith}
 use borrow.Author.Needs.{needs}
 use lib.IntN.{ℤ}
@@ -41,9 +41,6 @@ sum-face-requires c κs =
     let i = c .before .before .before .before .loop .inv in
     (s .pre .0, ((search needs, i .1), (omega (arith, i .2 .same, s .pre .1 .1 .0), i .2 .small)))
 
-shared-slice-read-start : tie.Need-shared-slice-read-start Inv-loop μ-loop
-shared-slice-read-start c = search needs
-
 cast-start : tie.Need-cast-start Inv-loop μ-loop
 cast-start c =
     let s = c .before .before .before .before .before .before .before .before in
@@ -55,12 +52,6 @@ add-start c =
     let s = c .before .before .before .before .before .before .before .before in
     let l = c .before .before .before .before .loop in
     omega (arith, l .inv .1, s .pre .0 .faces .few, start-ends (now (s .args .sides)) (l .f) (search needs))
-
-add-f : tie.Need-add-f Inv-loop μ-loop
-add-f c = search needs
-
-loop-less : tie.Need-loop-less Inv-loop μ-loop
-loop-less c = search needs
 
 loop-again : tie.Need-loop-again Inv-loop μ-loop
 loop-again c =
@@ -90,18 +81,5 @@ returns c =
 
 pub fill-sums-spec : {M : Type 1} → statement M
 fill-sums-spec =
-    tie.close
-    (tie.spec
-    Inv-loop
-    μ-loop
-    loop-holds
-    shared-slice-read-if1
-    sum-face-requires
-    shared-slice-read-start
-    cast-start
-    add-start
-    add-f
-    loop-less
-    loop-again
-    same-length
-    returns)
+    tie.close (tie.spec Inv-loop μ-loop loop-holds shared-slice-read-if1 sum-face-requires (λ c. search needs) cast-start add-start (λ c. search needs)
+    (λ c. search needs) loop-again same-length returns)

@@ -49,9 +49,6 @@ module _ (c : tie.After-face-sum) where
       ≡ faceSum (mesh start) 2 (start .args .f))
   on-z = in-ticks start 2 (c .face-sum .result .z) (lit< tt) (search needs) (c .face-sum .ensures .zs)
 
-shared-slice-read-n : tie.Need-shared-slice-read-n
-shared-slice-read-n c = search needs
-
 cast-n : tie.Need-cast-n
 cast-n c = let s = c .before .before .before in omega (arith, s .pre .0 .faces .most (s .args .f) (s .pre .1 .0 .0))
 
@@ -61,32 +58,11 @@ face-sum-requires c κs =
     let f = s .pre .1 .0 in
     (s .pre .0 .placed, (omega (arith, end-in (mesh s) (s .pre .0) (s .args .f) (f .0), f .1), s .pre .0 .faces .most (s .args .f) (f .0)))
 
-cast-ticks : tie.Need-cast-ticks
-cast-ticks c = search needs
-
 mul-sums : tie.Need-mul-sums
 mul-sums c = on-x (c .before .before) .0
 
-mul-sums-2 : tie.Need-mul-sums-2
-mul-sums-2 c = search needs
-
-mul-sums-3 : tie.Need-mul-sums-3
-mul-sums-3 c = search needs
-
-slice-set-from-sums : tie.Need-slice-set-from-sums
-slice-set-from-sums c = search needs
-
 mul-sums-4 : tie.Need-mul-sums-4
 mul-sums-4 c = on-y (c .before .before .before .before) .0
-
-mul-sums-5 : tie.Need-mul-sums-5
-mul-sums-5 c = search needs
-
-add-sums : tie.Need-add-sums
-add-sums c = search needs
-
-mul-sums-6 : tie.Need-mul-sums-6
-mul-sums-6 c = search needs
 
 slice-set-from-sums-2 : tie.Need-slice-set-from-sums-2
 slice-set-from-sums-2 c = let s = start (c .before .before .before .before) in simp length-set (omega (arith, s .pre .1 .0 .0, s .pre .1 .1 .0))
@@ -94,20 +70,8 @@ slice-set-from-sums-2 c = let s = start (c .before .before .before .before) in s
 mul-sums-7 : tie.Need-mul-sums-7
 mul-sums-7 c = on-z (c .before .before .before .before .before .before) .0
 
-mul-t16 : tie.Need-mul-t16
-mul-t16 c = search needs
-
-add-t13 : tie.Need-add-t13
-add-t13 c = search needs
-
-mul-t14 : tie.Need-mul-t14
-mul-t14 c = search needs
-
 slice-set-from-sums-3 : tie.Need-slice-set-from-sums-3
 slice-set-from-sums-3 c = let s = start (c .before .before .before .before .before .before) in simp length-set (omega (arith, s .pre .1 .0 .0, s .pre .1 .1 .0))
-
-same-length : tie.Need-same-length
-same-length c = search needs
 
 returns : tie.Need-returns
 returns c =
@@ -122,25 +86,6 @@ returns c =
 
 pub sum-face-spec : {M : Type 1} → statement M
 sum-face-spec =
-    tie.close
-    (tie.spec
-    shared-slice-read-n
-    cast-n
-    face-sum-requires
-    cast-ticks
-    mul-sums
-    mul-sums-2
-    mul-sums-3
-    slice-set-from-sums
-    mul-sums-4
-    mul-sums-5
-    add-sums
-    mul-sums-6
-    slice-set-from-sums-2
-    mul-sums-7
-    mul-t16
-    add-t13
-    mul-t14
-    slice-set-from-sums-3
-    same-length
-    returns)
+    tie.close (tie.spec (λ c. search needs) cast-n face-sum-requires (λ c. search needs) mul-sums (λ c. search needs) (λ c. search needs)
+    (λ c. search needs) mul-sums-4 (λ c. search needs) (λ c. search needs) (λ c. search needs) slice-set-from-sums-2 mul-sums-7 (λ c. search needs)
+    (λ c. search needs) (λ c. search needs) slice-set-from-sums-3 (λ c. search needs) returns)

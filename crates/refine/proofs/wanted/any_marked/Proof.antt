@@ -2,7 +2,7 @@
 -- Assumes nothing.
 use mathlib.Core.Path.{_≡_, refl}
 use mathlib.Core.Logic.{⊎-elim}
-use Prim.Native.Nat.{ℕ, _+_, _-_, _<_, _≤_}
+use Prim.Native.Nat.{_+_, _-_, _<_, _≤_}
 use lib.ListN.{getD}
 use Rattle.paper.specs.Links.{vertexOf}
 use Rattle.refine.specs.wanted.Tables.{SomeIn, Tells}
@@ -22,15 +22,6 @@ abbrev μ-loop : tie.MeasureT-loop
 loop-holds : tie.Need-loop-holds Inv-loop μ-loop
 loop-holds c = (omega arith, tells-none _ _ _ _ (omega arith) refl)
 
-add-u : tie.Need-add-u Inv-loop μ-loop
-add-u c = search needs
-
-mul-u : tie.Need-mul-u Inv-loop μ-loop
-mul-u c = search needs
-
-shared-slice-read-u : tie.Need-shared-slice-read-u Inv-loop μ-loop
-shared-slice-read-u c = search needs
-
 cast-u : tie.Need-cast-u Inv-loop μ-loop
 cast-u c = let l = c .before .before .loop in omega (arith, c .shared-slice-known .given (c .before .before .before .args .start + l .j))
 
@@ -39,12 +30,6 @@ shared-slice-read-if1 c =
     let s = c .before .before .before .before in
     let l = c .before .before .before .loop in
     omega (arith, s .pre .0 (s .args .start + l .j) (omega (arith, s .pre .1)))
-
-add-j : tie.Need-add-j Inv-loop μ-loop
-add-j c = search needs
-
-loop-less : tie.Need-loop-less Inv-loop μ-loop
-loop-less c = search needs
 
 loop-again : tie.Need-loop-again Inv-loop μ-loop
 loop-again c =
@@ -68,17 +53,5 @@ returns c =
 
 pub any-marked-spec : {M : Type 1} → statement M
 any-marked-spec =
-    tie.close
-    (tie.spec
-    Inv-loop
-    μ-loop
-    loop-holds
-    add-u
-    mul-u
-    shared-slice-read-u
-    cast-u
-    shared-slice-read-if1
-    add-j
-    loop-less
-    loop-again
-    returns)
+    tie.close (tie.spec Inv-loop μ-loop loop-holds (λ c. search needs) (λ c. search needs) (λ c. search needs) cast-u shared-slice-read-if1
+    (λ c. search needs) (λ c. search needs) loop-again returns)

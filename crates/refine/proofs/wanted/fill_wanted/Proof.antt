@@ -27,9 +27,6 @@ loop-holds : tie.Need-loop-holds Inv-loop μ-loop
 loop-holds c =
     (omega arith, sym (start-zero _), refl, λ g h. absurd (omega arith))
 
-shared-slice-read-n : tie.Need-shared-slice-read-n Inv-loop μ-loop
-shared-slice-read-n c = search needs
-
 cast-n : tie.Need-cast-n Inv-loop μ-loop
 cast-n c =
     let s = c .before .before .before .before .before .before .before .before .before .before .before in
@@ -56,12 +53,6 @@ add-start c =
     let l = c .before .before .before .before .loop in
     omega (arith, l .inv .1, s .pre .0 .0 .few, start-ends (now (s .args .sides)) (l .f) (search needs))
 
-add-f : tie.Need-add-f Inv-loop μ-loop
-add-f c = search needs
-
-loop-less : tie.Need-loop-less Inv-loop μ-loop
-loop-less c = search needs
-
 loop-again : tie.Need-loop-again Inv-loop μ-loop
 loop-again c =
     let s = c .before .before .before .before .before .before .before .before .before .before .before .before .before in
@@ -78,12 +69,6 @@ loop-again c =
           (m .ensures) (rw (← l .inv .1) (c .any-marked .ensures)) (l .inv .3),
     )
 
-same-length : tie.Need-same-length Inv-loop μ-loop
-same-length c = search needs
-
-same-length-2 : tie.Need-same-length-2 Inv-loop μ-loop
-same-length-2 c = search needs
-
 returns : tie.Need-returns Inv-loop μ-loop
 returns c =
     let s = c .before .before .before .before .before .before .before .before .before .before in
@@ -92,20 +77,5 @@ returns c =
 
 pub fill-wanted-spec : {M : Type 1} → statement M
 fill-wanted-spec =
-    tie.close
-    (tie.spec
-    Inv-loop
-    μ-loop
-    mark-vertices-requires
-    loop-holds
-    shared-slice-read-n
-    cast-n
-    any-marked-requires
-    slice-write-wanted
-    add-start
-    add-f
-    loop-less
-    loop-again
-    same-length
-    same-length-2
-    returns)
+    tie.close (tie.spec Inv-loop μ-loop mark-vertices-requires loop-holds (λ c. search needs) cast-n any-marked-requires slice-write-wanted add-start
+    (λ c. search needs) (λ c. search needs) loop-again (λ c. search needs) (λ c. search needs) returns)

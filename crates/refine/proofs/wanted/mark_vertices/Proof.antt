@@ -21,15 +21,6 @@ abbrev μ-loop : tie.MeasureT-loop
 loop-holds : tie.Need-loop-holds Inv-loop μ-loop
 loop-holds c = (omega arith, refl, marked-none (now (c .args .corners)) (now (c .args .marked)) (c .args .first) (c .pre .0 .1))
 
-add-u : tie.Need-add-u Inv-loop μ-loop
-add-u c = search needs
-
-mul-u : tie.Need-mul-u Inv-loop μ-loop
-mul-u c = search needs
-
-shared-slice-read-u : tie.Need-shared-slice-read-u Inv-loop μ-loop
-shared-slice-read-u c = search needs
-
 cast-u : tie.Need-cast-u Inv-loop μ-loop
 cast-u c = let l = c .before .before .loop in omega (arith, c .shared-slice-known .given (c .before .before .before .args .first + l .k))
 
@@ -38,12 +29,6 @@ slice-write-marked c =
     let s = c .before .before .before in
     let l = c .before .before .loop in
     omega (arith, l .inv .1, s .pre .0 .0 (s .args .first + l .k) (omega (arith, s .pre .1)))
-
-add-k : tie.Need-add-k Inv-loop μ-loop
-add-k c = search needs
-
-loop-less : tie.Need-loop-less Inv-loop μ-loop
-loop-less c = search needs
 
 loop-again : tie.Need-loop-again Inv-loop μ-loop
 loop-again c =
@@ -55,9 +40,6 @@ loop-again c =
           (omega (arith, l .inv .1, s .pre .0 .0 (s .args .first + l .k) (omega (arith, s .pre .1)))),
     )
 
-same-length : tie.Need-same-length Inv-loop μ-loop
-same-length c = search needs
-
 returns : tie.Need-returns Inv-loop μ-loop
 returns c =
     let s = c .before .before in
@@ -67,18 +49,5 @@ returns c =
 
 pub mark-vertices-spec : {M : Type 1} → statement M
 mark-vertices-spec =
-    tie.close
-    (tie.spec
-    Inv-loop
-    μ-loop
-    loop-holds
-    add-u
-    mul-u
-    shared-slice-read-u
-    cast-u
-    slice-write-marked
-    add-k
-    loop-less
-    loop-again
-    same-length
-    returns)
+    tie.close (tie.spec Inv-loop μ-loop loop-holds (λ c. search needs) (λ c. search needs) (λ c. search needs) cast-u slice-write-marked (λ c. search needs)
+    (λ c. search needs) loop-again (λ c. search needs) returns)

@@ -2,8 +2,7 @@
 -- Assumes nothing.
 use Prim.Native.Nat.{_^_, _≤_}
 use native.Mathlib.Omega.{arith}
-use lib.Dec.{lit≤}
-use lib.IntN.{ℤ, pos, natAbs, _+ℤ_, _-ℤ_, _*ℤ_}
+use lib.IntN.{ℤ, pos, natAbs, _+ℤ_, _*ℤ_}
 use mir.Syntax.{w64}
 use mir.Val.{SFits}
 use mir.Facts.{toZ-ofZ}
@@ -25,76 +24,47 @@ fits = over 5 _ λ ρ. simp (poly, ρ) (omega arith)
 facts : (s : tie.Start) → Fine (s .args .f .a) (s .args .f .b) (s .args .f .c) (s .args .f .d) (s .args .f .e)
 facts s = fits (s .args .f .a) (s .args .f .b) (s .args .f .c) (s .args .f .d) (s .args .f .e) (s .pre .0) (s .pre .1) (s .pre .2) (s .pre .3) (s .pre .4)
 
-add-t2 : tie.Need-add-t2
-add-t2 c =
-    let k = facts (c .before .before) in
-    simp (toZ-ofZ, k .0, k .1, k .2, k .3, k .4, k .5, k .6, k .7, k .8, k .9, k .10, k .11, k .12, k .13, k .14, k .15, k .16) (k .5)
-
 add-t3 : tie.Need-add-t3
-add-t3 c =
-    let k = facts (c .before .before .before .before) in
-    simp (toZ-ofZ, k .0, k .1, k .2, k .3, k .4, k .5, k .6, k .7, k .8, k .9, k .10, k .11, k .12, k .13, k .14, k .15, k .16) (k .6)
+add-t3 c = search (toZ-ofZ, facts (c .before .before .before .before))
 
 add-t4 : tie.Need-add-t4
-add-t4 c =
-    let k = facts (c .before .before .before .before .before .before) in
-    simp (toZ-ofZ, k .0, k .1, k .2, k .3, k .4, k .5, k .6, k .7, k .8, k .9, k .10, k .11, k .12, k .13, k .14, k .15, k .16) (k .7)
+add-t4 c = search (toZ-ofZ, facts (c .before .before .before .before .before .before))
 
 mul-t5 : tie.Need-mul-t5
-mul-t5 c =
-    let k = facts (c .before .before .before .before .before .before .before .before) in
-    simp (toZ-ofZ, k .0, k .1, k .2, k .3, k .4, k .5, k .6, k .7, k .8, k .9, k .10, k .11, k .12, k .13, k .14, k .15, k .16) (k .8)
+mul-t5 c = search (toZ-ofZ, facts (c .before .before .before .before .before .before .before .before))
 
 mul-t6 : tie.Need-mul-t6
-mul-t6 c =
-    let k = facts (c .before .before .before .before .before .before .before .before .before .before) in
-    simp (toZ-ofZ, k .0, k .1, k .2, k .3, k .4, k .5, k .6, k .7, k .8, k .9, k .10, k .11, k .12, k .13, k .14, k .15, k .16) (k .9)
+mul-t6 c = search (toZ-ofZ, facts (c .before .before .before .before .before .before .before .before .before .before))
 
 add-t7 : tie.Need-add-t7
-add-t7 c =
-    let k = facts (c .before .before .before .before .before .before .before .before .before .before) in
-    simp (toZ-ofZ, k .0, k .1, k .2, k .3, k .4, k .5, k .6, k .7, k .8, k .9, k .10, k .11, k .12, k .13, k .14, k .15, k .16) (k .10)
+add-t7 c = search (toZ-ofZ, facts (c .before .before .before .before .before .before .before .before .before .before))
 
 mul-t8 : tie.Need-mul-t8
-mul-t8 c =
-    let k = facts (c .before .before .before .before .before .before .before .before .before .before .before .before) in
-    simp (toZ-ofZ, k .0, k .1, k .2, k .3, k .4, k .5, k .6, k .7, k .8, k .9, k .10, k .11, k .12, k .13, k .14, k .15, k .16) (k .11)
+mul-t8 c = search (toZ-ofZ, facts (c .before .before .before .before .before .before .before .before .before .before .before .before))
 
 add-t9 : tie.Need-add-t9
-add-t9 c =
-    let k = facts (c .before .before .before .before .before .before .before .before .before .before .before .before) in
-    simp (toZ-ofZ, k .0, k .1, k .2, k .3, k .4, k .5, k .6, k .7, k .8, k .9, k .10, k .11, k .12, k .13, k .14, k .15, k .16) (k .12)
+add-t9 c = search (toZ-ofZ, facts (c .before .before .before .before .before .before .before .before .before .before .before .before))
 
 mul-t10 : tie.Need-mul-t10
-mul-t10 c =
-    let t = c .before .before .before .before .before .before .before .before in
-    let k = facts (t .before .before .before .before .before .before) in
-    simp (toZ-ofZ, k .0, k .1, k .2, k .3, k .4, k .5, k .6, k .7, k .8, k .9, k .10, k .11, k .12, k .13, k .14, k .15, k .16) (k .13)
+mul-t10 c = let t = c .before .before .before .before .before .before .before .before in search (toZ-ofZ, facts (t .before .before .before .before .before .before))
 
 mul-t11 : tie.Need-mul-t11
-mul-t11 c =
-    let t = c .before .before .before .before .before .before .before .before in
-    let k = facts (t .before .before .before .before .before .before .before .before) in
-    simp (toZ-ofZ, k .0, k .1, k .2, k .3, k .4, k .5, k .6, k .7, k .8, k .9, k .10, k .11, k .12, k .13, k .14, k .15, k .16) (k .14)
+mul-t11 c = let t = c .before .before .before .before .before .before .before .before in search (toZ-ofZ, facts (t .before .before .before .before .before .before .before .before))
 
 add-t12 : tie.Need-add-t12
-add-t12 c =
-    let t = c .before .before .before .before .before .before .before .before in
-    let k = facts (t .before .before .before .before .before .before .before .before) in
-    simp (toZ-ofZ, k .0, k .1, k .2, k .3, k .4, k .5, k .6, k .7, k .8, k .9, k .10, k .11, k .12, k .13, k .14, k .15, k .16) (k .15)
+add-t12 c = let t = c .before .before .before .before .before .before .before .before in search (toZ-ofZ, facts (t .before .before .before .before .before .before .before .before))
 
 mul-t13 : tie.Need-mul-t13
-mul-t13 c =
-    let t = c .before .before .before .before .before .before .before .before in
-    let k = facts (t .before .before .before .before .before .before .before .before .before .before) in
-    simp (toZ-ofZ, k .0, k .1, k .2, k .3, k .4, k .5, k .6, k .7, k .8, k .9, k .10, k .11, k .12, k .13, k .14, k .15, k .16) (k .16)
+mul-t13 c = let t = c .before .before .before .before .before .before .before .before in search (toZ-ofZ, facts (t .before .before .before .before .before .before .before .before .before .before))
 
 returns : tie.Need-returns
 returns c =
     let t = c .before .before .before .before .before .before .before .before in
     let k = facts (t .before .before .before .before .before .before .before .before .before .before .before) in
-    simp (toZ-ofZ, k .0, k .1, k .2, k .3, k .4, k .5, k .6, k .7, k .8, k .9, k .10, k .11, k .12, k .13, k .14, k .15, k .16)
+    simp (toZ-ofZ, k .0, k .1, k .2, k .3, k .4, k .5, k .6, k .7, k .8, k .9, k .10, k .11, k .12, k .14, k .15, k .16)
     (state-start (t .before .before .before .before .before .before .before .before .before .before .before .args .f))
 
 pub ahead-spec : {M : Type 1} → statement M
-ahead-spec = tie.close (tie.spec add-t2 add-t3 add-t4 mul-t5 mul-t6 add-t7 mul-t8 add-t9 mul-t10 mul-t11 add-t12 mul-t13 returns)
+ahead-spec =
+    tie.close (tie.spec (λ c. search (toZ-ofZ, facts (c .before .before))) add-t3 add-t4 mul-t5 mul-t6 add-t7 mul-t8 add-t9 mul-t10 mul-t11 add-t12 mul-t13
+    returns)

@@ -5,21 +5,6 @@ use Rattle.sampling.specs.bernstein.Sums.{stepsOf}
 use Rattle.sampling.proofs.bernstein.next.Statement.{statement}
 use Rattle.sampling.proofs.bernstein.next.Tie as tie
 
-step-requires : tie.Need-step-requires
-step-requires c κs = search needs
-
-step-requires-2 : tie.Need-step-requires-2
-step-requires-2 c κs = search needs
-
-step-requires-3 : tie.Need-step-requires-3
-step-requires-3 c κs = search needs
-
-step-requires-4 : tie.Need-step-requires-4
-step-requires-4 c κs = search needs
-
-step-requires-5 : tie.Need-step-requires-5
-step-requires-5 c κs = search needs
-
 returns : tie.Need-returns
 unfolding stepsOf
 returns c =
@@ -32,4 +17,4 @@ returns c =
     )
 
 pub next-spec : {M : Type 1} → statement M
-next-spec = tie.close (tie.spec step-requires step-requires-2 step-requires-3 step-requires-4 step-requires-5 returns)
+next-spec = tie.close (tie.spec (λ c κs. search needs) (λ c κs. search needs) (λ c κs. search needs) (λ c κs. search needs) (λ c κs. search needs) returns)

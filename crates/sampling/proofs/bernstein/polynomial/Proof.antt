@@ -1,6 +1,6 @@
 -- `sampling::bernstein::polynomial` meets its contract: sixteenfold twice, the differences fit.
 -- Assumes nothing.
-use mathlib.Core.Path.{_≡_, sym, subst}
+use mathlib.Core.Path.{sym, subst}
 use Prim.Native.Nat.{_^_}
 use borrow.Author.Needs.{needs}
 use Rattle.sampling.specs.declared.bernstein.Rows.{Rows}
@@ -17,17 +17,11 @@ module _ (c : tie.After-columns) where
   turned : AllSized (2 ^ 31) (c .columns .result)
   turned = subst (λ (r : Rows). AllSized (2 ^ 31) r) (sym (c .columns .ensures)) (columns-size (c .before .slopes .result) (2 ^ 31) (sloped (c .before)))
 
-slopes-requires : tie.Need-slopes-requires
-slopes-requires c κs = search needs
-
 columns-requires : tie.Need-columns-requires
 columns-requires c κs = sloped c
 
 slopes-requires-2 : tie.Need-slopes-requires-2
 slopes-requires-2 c κs = turned c
-
-weights-requires : tie.Need-weights-requires
-weights-requires c κs = search needs
 
 scaled-requires : tie.Need-scaled-requires
 scaled-requires c κs =
@@ -44,4 +38,4 @@ returns c =
     (c .before .weights .ensures) (c .scaled .ensures)
 
 pub polynomial-spec : {M : Type 1} → statement M
-polynomial-spec = tie.close (tie.spec slopes-requires columns-requires slopes-requires-2 weights-requires scaled-requires returns)
+polynomial-spec = tie.close (tie.spec (λ c κs. search needs) columns-requires slopes-requires-2 (λ c κs. search needs) scaled-requires returns)

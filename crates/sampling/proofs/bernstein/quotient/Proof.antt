@@ -1,12 +1,10 @@
 -- `sampling::bernstein::quotient` meets its contract: each arm divides by the fourth power of its own key.
 -- Assumes nothing.
-use mathlib.Core.Path.{_≡_, refl}
-use Prim.Native.Nat.{ℕ, _^_, _≤_}
+use mathlib.Core.Path.{refl}
+use Prim.Native.Nat.{_^_, _≤_}
 use native.Mathlib.Omega.{arith}
 use borrow.Author.Needs.{needs}
-use lib.Dec.{lit≤}
-use lib.IntN.{ℤ, natAbs}
-use lib.Signed.{ltZ-yes, ltZ-no}
+use lib.IntN.{natAbs}
 use mir.Facts.{toZ-ofZ}
 use Rattle.sampling.proofs.bernstein.Laws.{bits, arm, above, is-last}
 use Rattle.sampling.proofs.bernstein.quotient.Statement.{statement}

@@ -1,14 +1,12 @@
 -- `sampling::bernstein::rounded` meets its contract: the quotient is no larger than the control points.
 -- Assumes nothing.
-use mathlib.Core.Path.{_≡_, _∙_, sym, ap}
-use Prim.Native.Nat.{ℕ, _*_, _^_, _≤_}
+use mathlib.Core.Path.{_≡_, _∙_, ap}
+use Prim.Native.Nat.{ℕ, _^_, _≤_}
 use native.Mathlib.Nat.{pow-le-pow-left, mul-le-mul-left, le-trans, one-le-pow}
 use native.Mathlib.Omega.{arith}
-use borrow.Author.Needs.{needs}
-use lib.Dec.{lit<, lit≤}
+use lib.Dec.{lit<}
 use lib.IntN.{ℤ, pos, natAbs}
-use mir.Syntax.{w32, w64}
-use mir.Val.{SFits}
+use mir.Syntax.{w32}
 use mir.Facts.{toZ-ofZ}
 use Rattle.paper.specs.Numbers.{round}
 use Rattle.numbers.proofs.Diff.{diff}

@@ -5,21 +5,6 @@ use Rattle.sampling.specs.bernstein.Sums.{scaledOf}
 use Rattle.sampling.proofs.bernstein.scaled.Statement.{statement}
 use Rattle.sampling.proofs.bernstein.scaled.Tie as tie
 
-weighted-requires : tie.Need-weighted-requires
-weighted-requires c κs = search needs
-
-weighted-requires-2 : tie.Need-weighted-requires-2
-weighted-requires-2 c κs = search needs
-
-weighted-requires-3 : tie.Need-weighted-requires-3
-weighted-requires-3 c κs = search needs
-
-weighted-requires-4 : tie.Need-weighted-requires-4
-weighted-requires-4 c κs = search needs
-
-weighted-requires-5 : tie.Need-weighted-requires-5
-weighted-requires-5 c κs = search needs
-
 returns : tie.Need-returns
 unfolding scaledOf
 returns c =
@@ -32,4 +17,5 @@ returns c =
     )
 
 pub scaled-spec : {M : Type 1} → statement M
-scaled-spec = tie.close (tie.spec weighted-requires weighted-requires-2 weighted-requires-3 weighted-requires-4 weighted-requires-5 returns)
+scaled-spec =
+    tie.close (tie.spec (λ c κs. search needs) (λ c κs. search needs) (λ c κs. search needs) (λ c κs. search needs) (λ c κs. search needs) returns)

@@ -1,12 +1,11 @@
 -- `sampling::bernstein::start` meets its contract: the coefficients taper, so they fit.
 -- Assumes nothing.
-use mathlib.Core.Path.{_≡_, sym, ap, _∙_, subst}
+use mathlib.Core.Path.{sym, ap, _∙_, subst}
 use Prim.Native.Nat.{_^_}
 use lib.Dec.{lit≤}
 use borrow.Author.Needs.{needs}
-use lib.IntN.{pos}
 use Rattle.sampling.specs.declared.bernstein.Rows.{Rows}
-use Rattle.sampling.specs.bernstein.Sums.{AllTapered, polynomialOf, statesOf}
+use Rattle.sampling.specs.bernstein.Sums.{AllTapered, statesOf}
 use Rattle.sampling.proofs.bernstein.Laws.{polynomial-tapers, tapered-size, states-are}
 use Rattle.sampling.proofs.bernstein.start.Statement.{statement}
 use Rattle.sampling.proofs.bernstein.start.Tie as tie
@@ -17,9 +16,6 @@ module _ (c : tie.After-polynomial) where
   tapers =
       subst (λ (r : Rows). AllTapered r) (sym (c .polynomial .ensures))
       (polynomial-tapers (c .before .args .p) (c .before .args .n) (c .before .pre .0) (c .before .pre .1))
-
-polynomial-requires : tie.Need-polynomial-requires
-polynomial-requires c κs = search needs
 
 ahead-requires : tie.Need-ahead-requires
 ahead-requires c κs = tapered-size (c .polynomial .result .r0) (2 ^ 34) (tapers (c) .t0) (lit≤ tt)
@@ -44,4 +40,4 @@ returns c =
     ∙ ap (λ (r : Rows). statesOf r 0) (c .before .before .before .before .before .polynomial .ensures)
 
 pub start-spec : {M : Type 1} → statement M
-start-spec = tie.close (tie.spec polynomial-requires ahead-requires ahead-requires-2 ahead-requires-3 ahead-requires-4 ahead-requires-5 returns)
+start-spec = tie.close (tie.spec (λ c κs. search needs) ahead-requires ahead-requires-2 ahead-requires-3 ahead-requires-4 ahead-requires-5 returns)

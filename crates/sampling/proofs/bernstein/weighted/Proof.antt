@@ -1,6 +1,5 @@
 -- `sampling::bernstein::weighted` meets its contract: the products fit.
 -- Assumes nothing.
-use mathlib.Core.Path.{_≡_}
 use Prim.Native.Nat.{_^_, _≤_}
 use lib.Dec.{lit<, lit≤}
 use lib.IntN.{ℤ, natAbs, _*ℤ_}
@@ -38,7 +37,7 @@ mul-t3 c =
     let k = fits (s .args .v) (2 ^ 35) (s .pre .0) (lit≤ tt) in
     let m = fits (s .args .w) (2 ^ 16) (s .pre .1) (lit≤ tt) in
     let p = products s in
-    simp (toZ-ofZ, k .0, k .1, k .2, k .3, k .4, m .0, m .1, m .2, m .3, m .4) (p .0)
+    simp (toZ-ofZ, k .0, m .0) (p .0)
 
 mul-t4 : tie.Need-mul-t4
 mul-t4 c =
@@ -46,7 +45,7 @@ mul-t4 c =
     let k = fits (s .args .v) (2 ^ 35) (s .pre .0) (lit≤ tt) in
     let m = fits (s .args .w) (2 ^ 16) (s .pre .1) (lit≤ tt) in
     let p = products s in
-    simp (toZ-ofZ, k .0, k .1, k .2, k .3, k .4, m .0, m .1, m .2, m .3, m .4) (p .1)
+    simp (toZ-ofZ, k .1, m .1) (p .1)
 
 mul-t5 : tie.Need-mul-t5
 mul-t5 c =
@@ -54,7 +53,7 @@ mul-t5 c =
     let k = fits (s .args .v) (2 ^ 35) (s .pre .0) (lit≤ tt) in
     let m = fits (s .args .w) (2 ^ 16) (s .pre .1) (lit≤ tt) in
     let p = products s in
-    simp (toZ-ofZ, k .0, k .1, k .2, k .3, k .4, m .0, m .1, m .2, m .3, m .4) (p .2)
+    simp (toZ-ofZ, k .2, m .2) (p .2)
 
 mul-t6 : tie.Need-mul-t6
 mul-t6 c =
@@ -62,7 +61,7 @@ mul-t6 c =
     let k = fits (s .args .v) (2 ^ 35) (s .pre .0) (lit≤ tt) in
     let m = fits (s .args .w) (2 ^ 16) (s .pre .1) (lit≤ tt) in
     let p = products s in
-    simp (toZ-ofZ, k .0, k .1, k .2, k .3, k .4, m .0, m .1, m .2, m .3, m .4) (p .3)
+    simp (toZ-ofZ, k .3, m .3) (p .3)
 
 mul-t7 : tie.Need-mul-t7
 mul-t7 c =
@@ -71,7 +70,7 @@ mul-t7 c =
     let k = fits (s .args .v) (2 ^ 35) (s .pre .0) (lit≤ tt) in
     let m = fits (s .args .w) (2 ^ 16) (s .pre .1) (lit≤ tt) in
     let p = products s in
-    simp (toZ-ofZ, k .0, k .1, k .2, k .3, k .4, m .0, m .1, m .2, m .3, m .4) (p .4)
+    simp (toZ-ofZ, k .4, m .4) (p .4)
 
 returns : tie.Need-returns
 unfolding weightedOf

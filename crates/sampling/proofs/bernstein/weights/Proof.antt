@@ -41,84 +41,84 @@ mul-m2 c =
     let n = c .args .n in
     let l = c .pre in
     let k = fine n l in
-    simp (plain n l, toZ-ofZ, k .0, k .1, k .2, k .3, k .4, k .5, k .6, k .7) (k .0)
+    simp (plain n l, toZ-ofZ) (k .0)
 
 mul-m3 : tie.Need-mul-m3
 mul-m3 c =
     let n = c .args .n in
     let l = c .pre in
     let k = fine n l in
-    simp (plain n l, toZ-ofZ, k .0, k .1, k .2, k .3, k .4, k .5, k .6, k .7) (k .1)
+    simp (plain n l, toZ-ofZ, k .0) (k .1)
 
 mul-m4 : tie.Need-mul-m4
 mul-m4 c =
     let n = c .args .n in
     let l = c .pre in
     let k = fine n l in
-    simp (plain n l, toZ-ofZ, k .0, k .1, k .2, k .3, k .4, k .5, k .6, k .7) (k .2)
+    simp (plain n l, toZ-ofZ, k .0, k .1) (k .2)
 
 mul-t6 : tie.Need-mul-t6
 mul-t6 c =
     let n = c .args .n in
     let l = c .pre in
     let k = fine n l in
-    simp (plain n l, toZ-ofZ, k .0, k .1, k .2, k .3, k .4, k .5, k .6, k .7) (k .3)
+    simp (plain n l, toZ-ofZ, k .0, k .1) (k .3)
 
 mul-t7 : tie.Need-mul-t7
 mul-t7 c =
     let n = c .args .n in
     let l = c .pre in
     let k = fine n l in
-    simp (plain n l, toZ-ofZ, k .0, k .1, k .2, k .3, k .4, k .5, k .6, k .7) (k .4)
+    simp (plain n l, toZ-ofZ, k .0) (k .4)
 
 mul-t8 : tie.Need-mul-t8
 mul-t8 c =
     let n = c .args .n in
     let l = c .pre in
     let k = fine n l in
-    simp (plain n l, toZ-ofZ, k .0, k .1, k .2, k .3, k .4, k .5, k .6, k .7) (k .5)
+    simp (plain n l, toZ-ofZ) (k .5)
 
 mul-t10 : tie.Need-mul-t10
 mul-t10 c =
     let n = c .args .n in
     let l = c .pre in
     let k = fine n l in
-    simp (plain n l, toZ-ofZ, k .0, k .1, k .2, k .3, k .4, k .5, k .6, k .7) (k .3)
+    simp (plain n l, toZ-ofZ, k .0, k .1) (k .3)
 
 mul-t11 : tie.Need-mul-t11
 mul-t11 c =
     let n = c .args .n in
     let l = c .pre in
     let k = fine n l in
-    simp (plain n l, toZ-ofZ, k .0, k .1, k .2, k .3, k .4, k .5, k .6, k .7) (k .6)
+    simp (plain n l, toZ-ofZ, k .0) (k .6)
 
 mul-t12 : tie.Need-mul-t12
 mul-t12 c =
     let n = c .args .n in
     let l = c .pre in
     let k = fine n l in
-    simp (plain n l, toZ-ofZ, k .0, k .1, k .2, k .3, k .4, k .5, k .6, k .7) (k .7)
+    simp (plain n l, toZ-ofZ) (k .7)
 
 mul-t14 : tie.Need-mul-t14
 mul-t14 c =
     let n = c .args .n in
     let l = c .pre in
     let k = fine n l in
-    simp (plain n l, toZ-ofZ, k .0, k .1, k .2, k .3, k .4, k .5, k .6, k .7) (k .4)
+    simp (plain n l, toZ-ofZ, k .0) (k .4)
 
 mul-t15 : tie.Need-mul-t15
 mul-t15 c =
     let n = c .args .n in
     let l = c .pre in
     let k = fine n l in
-    simp (plain n l, toZ-ofZ, k .0, k .1, k .2, k .3, k .4, k .5, k .6, k .7) (k .7)
+    simp (plain n l, toZ-ofZ) (k .7)
 
 mul-t17 : tie.Need-mul-t17
 mul-t17 c =
     let n = c .args .n in
     let l = c .pre in
     let k = fine n l in
-    simp (plain n l, toZ-ofZ, k .0, k .1, k .2, k .3, k .4, k .5, k .6, k .7) (k .5)
+    simp (plain n l, toZ-ofZ) (k .5)
 
 returns : tie.Need-returns
 unfolding weightsOf
@@ -128,8 +128,5 @@ returns c =
     let k = fine n l in
     simp (plain n l, toZ-ofZ, k .0, k .1, k .2, k .3, k .4, k .5, k .6, k .7)
 
-cast-m : tie.Need-cast-m
-cast-m c = search needs
-
 pub weights-spec : {M : Type 1} → statement M
-weights-spec = tie.close (tie.spec cast-m mul-m2 mul-m3 mul-m4 mul-t6 mul-t7 mul-t8 mul-t10 mul-t11 mul-t12 mul-t14 mul-t15 mul-t17 returns)
+weights-spec = tie.close (tie.spec (λ c. search needs) mul-m2 mul-m3 mul-m4 mul-t6 mul-t7 mul-t8 mul-t10 mul-t11 mul-t12 mul-t14 mul-t15 mul-t17 returns)

@@ -1,6 +1,6 @@
 -- `sampling::points::a_point` meets its contract.
 -- Assumes nothing.
-use mathlib.Core.Path.{_≡_, ap, _∙_}
+use mathlib.Core.Path.{ap, _∙_}
 use Prim.Native.Nat.{ℕ}
 use borrow.Author.Needs.{needs}
 use lib.Dec.{lit≤}
@@ -9,12 +9,6 @@ use Rattle.paper.specs.Sampling.{onAxis}
 use Rattle.sampling.proofs.bernstein.Laws.{sized-bits}
 use Rattle.sampling.proofs.points.a_point.Statement.{statement}
 use Rattle.sampling.proofs.points.a_point.Tie as tie
-
-a-place-requires : tie.Need-a-place-requires
-a-place-requires c κs = search needs
-
-number-requires : tie.Need-number-requires
-number-requires c κs = search needs
 
 returns : tie.Need-returns
 returns c =
@@ -25,4 +19,4 @@ returns c =
     )
 
 pub a-point-spec : {M : Type 1} → statement M
-a-point-spec = tie.close (tie.spec a-place-requires number-requires returns)
+a-point-spec = tie.close (tie.spec (λ c κs. search needs) (λ c κs. search needs) returns)

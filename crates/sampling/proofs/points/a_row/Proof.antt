@@ -1,6 +1,6 @@
 -- `sampling::points::a_row` meets its contract, point by point.
 -- Assumes nothing.
-use mathlib.Core.Path.{_≡_, refl, sym, _∙_}
+use mathlib.Core.Path.{refl, sym, _∙_}
 use borrow.Author.Needs.{needs}
 use lib.Dec.{lit≤}
 use denote.Ref.{now}
@@ -9,18 +9,6 @@ use Rattle.sampling.proofs.bernstein.Identity.{five-same}
 use Rattle.sampling.proofs.points.Laws.{by-bits, a-place}
 use Rattle.sampling.proofs.points.a_row.Statement.{statement}
 use Rattle.sampling.proofs.points.a_row.Tie as tie
-
-a-point-requires : tie.Need-a-point-requires
-a-point-requires c κs = search needs
-
-a-point-requires-2 : tie.Need-a-point-requires-2
-a-point-requires-2 c κs = search needs
-
-a-point-requires-3 : tie.Need-a-point-requires-3
-a-point-requires-3 c κs = search needs
-
-a-point-requires-4 : tie.Need-a-point-requires-4
-a-point-requires-4 c κs = search needs
 
 returns : tie.Need-returns
 returns c =
@@ -36,4 +24,4 @@ returns c =
     refl
 
 pub a-row-spec : {M : Type 1} → statement M
-a-row-spec = tie.close (tie.spec a-point-requires a-point-requires-2 a-point-requires-3 a-point-requires-4 returns)
+a-row-spec = tie.close (tie.spec (λ c κs. search needs) (λ c κs. search needs) (λ c κs. search needs) (λ c κs. search needs) returns)

@@ -1,6 +1,6 @@
 -- `sampling::points::b_point` meets its contract.
 -- Assumes nothing.
-use mathlib.Core.Path.{_≡_, ap, _∙_}
+use mathlib.Core.Path.{ap, _∙_}
 use Prim.Native.Nat.{ℕ}
 use borrow.Author.Needs.{needs}
 use lib.Dec.{lit≤}
@@ -9,12 +9,6 @@ use Rattle.paper.specs.Sampling.{onAxis}
 use Rattle.sampling.proofs.bernstein.Laws.{sized-bits}
 use Rattle.sampling.proofs.points.b_point.Statement.{statement}
 use Rattle.sampling.proofs.points.b_point.Tie as tie
-
-b-place-requires : tie.Need-b-place-requires
-b-place-requires c κs = search needs
-
-number-requires : tie.Need-number-requires
-number-requires c κs = search needs
 
 returns : tie.Need-returns
 returns c =
@@ -25,4 +19,4 @@ returns c =
     )
 
 pub b-point-spec : {M : Type 1} → statement M
-b-point-spec = tie.close (tie.spec b-place-requires number-requires returns)
+b-point-spec = tie.close (tie.spec (λ c κs. search needs) (λ c κs. search needs) returns)

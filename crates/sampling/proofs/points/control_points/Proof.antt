@@ -4,31 +4,13 @@ use mathlib.Core.Path.{_≡_, refl, sym, _∙_}
 use borrow.Author.Needs.{needs}
 use lib.Dec.{lit≤}
 use denote.Ref.{now}
-use Rattle.paper.specs.Sampling.{onAxis, control, sideAt}
+use Rattle.paper.specs.Sampling.{onAxis}
 use Rattle.sampling.specs.declared.bernstein.Five.{Five}
 use Rattle.sampling.specs.declared.bernstein.Rows.{Rows}
 use Rattle.sampling.proofs.bernstein.Identity.{five-same}
 use Rattle.sampling.proofs.points.Laws.{by-bits, inner-a-place, centre-place}
 use Rattle.sampling.proofs.points.control_points.Statement.{statement}
 use Rattle.sampling.proofs.points.control_points.Tie as tie
-
-outer-row-requires : tie.Need-outer-row-requires
-outer-row-requires c κs = search needs
-
-a-row-requires : tie.Need-a-row-requires
-a-row-requires c κs = search needs
-
-inner-row-requires : tie.Need-inner-row-requires
-inner-row-requires c κs = search needs
-
-a-point-requires : tie.Need-a-point-requires
-a-point-requires c κs = search needs
-
-a-point-requires-2 : tie.Need-a-point-requires-2
-a-point-requires-2 c κs = search needs
-
-b-point-requires : tie.Need-b-point-requires
-b-point-requires c κs = search needs
 
 rows-same : {r0 r1 r2 r3 r4 q0 q1 q2 q3 q4 : Five} → r0 ≡ q0 → r1 ≡ q1 → r2 ≡ q2 → r3 ≡ q3 → r4 ≡ q4
     → _≡_ {A = Rows} (record { r0 = r0; r1 = r1; r2 = r2; r3 = r3; r4 = r4 }) (record { r0 = q0; r1 = q1; r2 = q2; r3 = q3; r4 = q4 })
@@ -45,4 +27,6 @@ returns c =
     (five-same (by-bits (c .b-point .result) _ (c .b-point .ensures) ∙ sym (centre-place p (s .args .side))) refl refl refl refl)
 
 pub control-points-spec : {M : Type 1} → statement M
-control-points-spec = tie.close (tie.spec outer-row-requires a-row-requires inner-row-requires a-point-requires a-point-requires-2 b-point-requires returns)
+control-points-spec =
+    tie.close (tie.spec (λ c κs. search needs) (λ c κs. search needs) (λ c κs. search needs) (λ c κs. search needs) (λ c κs. search needs)
+    (λ c κs. search needs) returns)

@@ -1,6 +1,6 @@
 -- `sampling::points::inner_row` meets its contract, point by point.
 -- Assumes nothing.
-use mathlib.Core.Path.{_≡_, refl, sym, _∙_}
+use mathlib.Core.Path.{refl, sym, _∙_}
 use borrow.Author.Needs.{needs}
 use lib.Dec.{lit≤}
 use denote.Ref.{now}
@@ -9,15 +9,6 @@ use Rattle.sampling.proofs.bernstein.Identity.{five-same}
 use Rattle.sampling.proofs.points.Laws.{by-bits, inner-place}
 use Rattle.sampling.proofs.points.inner_row.Statement.{statement}
 use Rattle.sampling.proofs.points.inner_row.Tie as tie
-
-b-point-requires : tie.Need-b-point-requires
-b-point-requires c κs = search needs
-
-b-point-requires-2 : tie.Need-b-point-requires-2
-b-point-requires-2 c κs = search needs
-
-b-point-requires-3 : tie.Need-b-point-requires-3
-b-point-requires-3 c κs = search needs
 
 returns : tie.Need-returns
 returns c =
@@ -32,4 +23,4 @@ returns c =
     refl
 
 pub inner-row-spec : {M : Type 1} → statement M
-inner-row-spec = tie.close (tie.spec b-point-requires b-point-requires-2 b-point-requires-3 returns)
+inner-row-spec = tie.close (tie.spec (λ c κs. search needs) (λ c κs. search needs) (λ c κs. search needs) returns)

@@ -8,15 +8,6 @@ use Rattle.sampling.proofs.points.Laws.{number-fits, number-is, number-
 use Rattle.sampling.proofs.points.number.Statement.{statement}
 use Rattle.sampling.proofs.points.number.Tie as tie
 
-mul-z : tie.Need-mul-z
-mul-z c = search needs
-
-add-z : tie.Need-add-z
-add-z c = search needs
-
-mul-z-2 : tie.Need-mul-z-2
-mul-z-2 c = search needs
-
 shared-slice-copy-out-z : tie.Need-shared-slice-copy-out-z
 shared-slice-copy-out-z c = omega (arith, is-long _ (c .pre .0), c .pre .1, c .pre .2)
 
@@ -32,4 +23,4 @@ returns c =
     (e, rw e (number-size (now (s .args .numbers)) (s .pre .0) (s .args .point) (s .args .axis) (s .pre .1) (s .pre .2)))
 
 pub number-spec : {M : Type 1} → statement M
-number-spec = tie.close (tie.spec mul-z add-z mul-z-2 shared-slice-copy-out-z cast-result returns)
+number-spec = tie.close (tie.spec (λ c. search needs) (λ c. search needs) (λ c. search needs) shared-slice-copy-out-z cast-result returns)

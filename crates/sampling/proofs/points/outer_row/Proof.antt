@@ -1,6 +1,6 @@
 -- `sampling::points::outer_row` meets its contract, point by point.
 -- Assumes nothing.
-use mathlib.Core.Path.{_≡_, refl, sym, _∙_}
+use mathlib.Core.Path.{sym, _∙_}
 use borrow.Author.Needs.{needs}
 use lib.Dec.{lit≤}
 use denote.Ref.{now}
@@ -9,21 +9,6 @@ use Rattle.sampling.proofs.bernstein.Identity.{five-same}
 use Rattle.sampling.proofs.points.Laws.{by-bits, outer-place}
 use Rattle.sampling.proofs.points.outer_row.Statement.{statement}
 use Rattle.sampling.proofs.points.outer_row.Tie as tie
-
-b-point-requires : tie.Need-b-point-requires
-b-point-requires c κs = search needs
-
-b-point-requires-2 : tie.Need-b-point-requires-2
-b-point-requires-2 c κs = search needs
-
-b-point-requires-3 : tie.Need-b-point-requires-3
-b-point-requires-3 c κs = search needs
-
-b-point-requires-4 : tie.Need-b-point-requires-4
-b-point-requires-4 c κs = search needs
-
-b-point-requires-5 : tie.Need-b-point-requires-5
-b-point-requires-5 c κs = search needs
 
 returns : tie.Need-returns
 returns c =
@@ -40,4 +25,5 @@ returns c =
     (by-bits (c .b-point5 .result) _ (c .b-point5 .ensures) ∙ sym (outer-place (onAxis (now (s .args .numbers)) (s .args .axis)) (s .args .side) 4 (lit≤ tt)))
 
 pub outer-row-spec : {M : Type 1} → statement M
-outer-row-spec = tie.close (tie.spec b-point-requires b-point-requires-2 b-point-requires-3 b-point-requires-4 b-point-requires-5 returns)
+outer-row-spec =
+    tie.close (tie.spec (λ c κs. search needs) (λ c κs. search needs) (λ c κs. search needs) (λ c κs. search needs) (λ c κs. search needs) returns)

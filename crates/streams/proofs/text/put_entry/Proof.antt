@@ -9,15 +9,6 @@ use borrow.Author.Needs.{needs}
 use Rattle.streams.proofs.text.put_entry.Statement.{statement}
 use Rattle.streams.proofs.text.put_entry.Tie as tie
 
-put-signed-requires : tie.Need-put-signed-requires
-put-signed-requires c κs = search needs
-
-put-byte-requires : tie.Need-put-byte-requires
-put-byte-requires c κs = search needs
-
-same-length : tie.Need-same-length
-same-length c = search needs
-
 returns : tie.Need-returns
 returns c = put-then (c .before .before .before .before .before .before .put-signed .kept .0)
     (put-same
@@ -27,4 +18,4 @@ returns c = put-then (c .before .before .before .before .before .before .put-sig
     (c .before .before .before .before .before .before .put-signed .ensures)) (c .before .before .put-byte .ensures)
 
 pub put-entry-spec : {M : Type 1} → statement M
-put-entry-spec = tie.close (tie.spec put-signed-requires put-byte-requires same-length returns)
+put-entry-spec = tie.close (tie.spec (λ c κs. search needs) (λ c κs. search needs) (λ c. search needs) returns)

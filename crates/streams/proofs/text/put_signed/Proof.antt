@@ -14,18 +14,6 @@ use borrow.Author.Needs.{needs}
 use Rattle.streams.proofs.text.put_signed.Statement.{statement}
 use Rattle.streams.proofs.text.put_signed.Tie as tie
 
-put-byte-requires : tie.Need-put-byte-requires
-put-byte-requires c κs = search needs
-
-size-requires : tie.Need-size-requires
-size-requires c κs = search needs
-
-put-number-requires : tie.Need-put-number-requires
-put-number-requires c κs = search needs
-
-same-length : tie.Need-same-length
-same-length c = search needs
-
 returns : tie.Need-returns
 returns c =
     let s = c .before .before .before .before .before .before .before .before .before .before .before in
@@ -34,15 +22,6 @@ returns c =
     (simp (toZ-ofZ, s .fits .z) at (c .before .before .before .before .before .before .before .before .before .if1 .taken)))
     (put-then (c .before .before .before .before .before .before .before .put-byte .kept .0)
     (c .before .before .before .before .before .before .before .put-byte .ensures) (c .before .before .put-number .ensures))
-
-size-requires-2 : tie.Need-size-requires-2
-size-requires-2 c κs = search needs
-
-put-number-requires-2 : tie.Need-put-number-requires-2
-put-number-requires-2 c κs = search needs
-
-same-length-2 : tie.Need-same-length-2
-same-length-2 c = search needs
 
 returns-2 : tie.Need-returns-2
 returns-2 c =
@@ -53,14 +32,5 @@ returns-2 c =
 
 pub put-signed-spec : {M : Type 1} → statement M
 put-signed-spec =
-    tie.close
-    (tie.spec
-    put-byte-requires
-    size-requires
-    put-number-requires
-    same-length
-    returns
-    size-requires-2
-    put-number-requires-2
-    same-length-2
-    returns-2)
+    tie.close (tie.spec (λ c κs. search needs) (λ c κs. search needs) (λ c κs. search needs) (λ c. search needs) returns (λ c κs. search needs)
+    (λ c κs. search needs) (λ c. search needs) returns-2)

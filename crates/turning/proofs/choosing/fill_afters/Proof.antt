@@ -1,16 +1,9 @@
 -- `fill_afters` meets its contract: the chains are those of the lower ends. Assumes nothing.
 use borrow.Author.Needs.{needs}
-use Prim.Native.Nat.{_-_}
 use native.Mathlib.Omega.{arith}
 use Rattle.walk.proofs.Table.{blank}
 use Rattle.turning.proofs.choosing.fill_afters.Statement.{statement}
 use Rattle.turning.proofs.choosing.fill_afters.Tie as tie
-
-slice-aggregate-fill-earliers : tie.Need-slice-aggregate-fill-earliers
-slice-aggregate-fill-earliers c = search needs
-
-slice-aggregate-fill-earliers-2 : tie.Need-slice-aggregate-fill-earliers-2
-slice-aggregate-fill-earliers-2 c = search needs
 
 fill-earliers-requires : tie.Need-fill-earliers-requires
 fill-earliers-requires c κs = let s = c .before .before .before .before .before in
@@ -21,15 +14,6 @@ fill-earliers-requires c κs = let s = c .before .before .before .before .before
       heads-long = omega (arith, s .pre .0 .few-vertices);
       blank = blank 2048;
     }
-
-slice-aggregate-fill-afters : tie.Need-slice-aggregate-fill-afters
-slice-aggregate-fill-afters c = search needs
-
-slice-aggregate-fill-afters-2 : tie.Need-slice-aggregate-fill-afters-2
-slice-aggregate-fill-afters-2 c = search needs
-
-slice-aggregate-fill-afters-3 : tie.Need-slice-aggregate-fill-afters-3
-slice-aggregate-fill-afters-3 c = search needs
 
 fill-afters-requires : tie.Need-fill-afters-requires
 fill-afters-requires c κs = let s = c .before .before .before .before .before .before .before .before .before .before .before .before in
@@ -46,22 +30,7 @@ fill-afters-requires c κs = let s = c .before .before .before .before .before .
       (omega (arith, s .pre .0 .few-vertices), blank 2048, s .pre .1),
     )
 
-same-length : tie.Need-same-length
-same-length c = search needs
-
-returns : tie.Need-returns
-returns c = search needs
-
 pub fill-afters-spec : {M : Type 1} → statement M
 fill-afters-spec =
-    tie.close
-    (tie.spec
-    slice-aggregate-fill-earliers
-    slice-aggregate-fill-earliers-2
-    fill-earliers-requires
-    slice-aggregate-fill-afters
-    slice-aggregate-fill-afters-2
-    slice-aggregate-fill-afters-3
-    fill-afters-requires
-    same-length
-    returns)
+    tie.close (tie.spec (λ c. search needs) (λ c. search needs) fill-earliers-requires (λ c. search needs) (λ c. search needs) (λ c. search needs)
+    fill-afters-requires (λ c. search needs) (λ c. search needs))

@@ -1,7 +1,6 @@
 -- `find_partners` meets its contract: the ends are cut to the corner count, and their pairs are the partners. Assumes nothing.
 use borrow.Author.Needs.{needs}
 use mathlib.Core.Path.{_≡_, sym}
-use Prim.Native.Nat.{_-_}
 use lib.ListN.{length, take}
 use denote.Ref.{now}
 use native.Mathlib.Omega.{arith}
@@ -10,20 +9,11 @@ use Rattle.turning.proofs.choosing.Laws.{keyable-of, keys-taken, low-be
 use Rattle.turning.proofs.choosing.find_partners.Statement.{statement}
 use Rattle.turning.proofs.choosing.find_partners.Tie as tie
 
-slice-aggregate-fill-keys : tie.Need-slice-aggregate-fill-keys
-slice-aggregate-fill-keys c = search needs
-
-slice-aggregate-fill-keys-2 : tie.Need-slice-aggregate-fill-keys-2
-slice-aggregate-fill-keys-2 c = search needs
-
 fill-keys-requires : tie.Need-fill-keys-requires
 fill-keys-requires c κs =
     let s = c .before .before .before .before .before .before in
     keyable-of (s .args .vertices) (now (s .args .sides)) (now (s .args .corners)) (now (s .args .table)) _ _ (s .pre .0 .0) (s .pre .0 .1)
     (omega (arith, s .pre .0 .0 .few-corners)) (omega (arith, s .pre .0 .0 .few-corners))
-
-array-share-prefix-lows : tie.Need-array-share-prefix-lows
-array-share-prefix-lows c = search needs
 
 slice-aggregate-low : tie.Need-slice-aggregate-low
 slice-aggregate-low c =
@@ -35,9 +25,6 @@ slice-aggregate-low c =
     (length (now (s .args .corners))) (v .last .1 .1 .1 .0) (omega (arith, v .kept .1 .1 .1 .0, s .pre .0 .0 .few-corners)) in
     sym tl
 
-array-share-prefix-highs : tie.Need-array-share-prefix-highs
-array-share-prefix-highs c = search needs
-
 slice-aggregate-high : tie.Need-slice-aggregate-high
 slice-aggregate-high c =
     let s = c .before .before .before .before .before .before .before .before .before .before .before in
@@ -47,9 +34,6 @@ slice-aggregate-high c =
     let th : length (take (length (now (s .args .corners))) (v .last .1 .1 .1 .0)) ≡ length (now (s .args .corners)) = length-take-le
     (length (now (s .args .corners))) (v .last .1 .1 .1 .0) (omega (arith, v .kept .1 .1 .1 .0, s .pre .0 .0 .few-corners)) in
     sym th
-
-slice-aggregate-fill-afters : tie.Need-slice-aggregate-fill-afters
-slice-aggregate-fill-afters c = search needs
 
 fill-afters-requires : tie.Need-fill-afters-requires
 fill-afters-requires c κs =
@@ -73,9 +57,6 @@ fill-afters-requires c κs =
       omega (arith, tl, s .pre .0 .0 .few-corners),
     )
 
-slice-aggregate-pair : tie.Need-slice-aggregate-pair
-slice-aggregate-pair c = search needs
-
 pair-requires : tie.Need-pair-requires
 pair-requires c κs =
     let m = c .before .before .before .before .before .before .before .before .before .before .before .before in
@@ -90,9 +71,6 @@ pair-requires c κs =
       omega (arith, tl, s .pre .0 .0 .few-corners),
       ((omega (arith, tl, w .kept .1 .1 .1 .0, s .pre .0 .0 .few-corners), w .ensures), (omega (arith, tl, s .pre .1 .0), s .pre .1 .1)),
     )
-
-same-length : tie.Need-same-length
-same-length c = search needs
 
 returns : tie.Need-returns
 returns c =
@@ -109,18 +87,5 @@ returns c =
 
 pub find-partners-spec : {M : Type 1} → statement M
 find-partners-spec =
-    tie.close
-    (tie.spec
-    slice-aggregate-fill-keys
-    slice-aggregate-fill-keys-2
-    fill-keys-requires
-    array-share-prefix-lows
-    slice-aggregate-low
-    array-share-prefix-highs
-    slice-aggregate-high
-    slice-aggregate-fill-afters
-    fill-afters-requires
-    slice-aggregate-pair
-    pair-requires
-    same-length
-    returns)
+    tie.close (tie.spec (λ c. search needs) (λ c. search needs) fill-keys-requires (λ c. search needs) slice-aggregate-low (λ c. search needs)
+    slice-aggregate-high (λ c. search needs) fill-afters-requires (λ c. search needs) pair-requires (λ c. search needs) returns)

@@ -1,6 +1,5 @@
 -- `find_turns` meets its contract: 34 stops it, or the partners are right and 35 decides. Assumes nothing.
 use borrow.Author.Needs.{needs}
-use Prim.Native.Nat.{_-_}
 use denote.Ref.{now}
 use native.Mathlib.Omega.{arith}
 use Rattle.walk.proofs.Table.{blank}
@@ -8,16 +7,10 @@ use Rattle.turning.proofs.choosing.Laws.{chosen-refused, chosen-spread,
 use Rattle.turning.proofs.choosing.find_turns.Statement.{statement}
 use Rattle.turning.proofs.choosing.find_turns.Tie as tie
 
-slice-aggregate-find-partners : tie.Need-slice-aggregate-find-partners
-slice-aggregate-find-partners c = search needs
-
 find-partners-requires : tie.Need-find-partners-requires
 find-partners-requires c κs =
     let s = c .before .before .before .before .before in
     (s .pre .0, (omega (arith, s .pre .0 .0 .few-corners), blank 8192))
-
-enum-known-a : tie.Need-enum-known-a
-enum-known-a c = search needs
 
 returns : tie.Need-returns
 returns c =
@@ -26,30 +19,6 @@ returns c =
     let k = c .before .a .given in
     chosen-refused (now (s .args .sides)) (now (s .args .corners)) (v .result) (v .last .1 .1 .1 .1 .0) (now (s .args .states)) (k .0 .0) (k .0 .1 .0)
     (v .ensures) (k .1)
-
-enum-told : tie.Need-enum-told
-enum-told c = search needs
-
-slice-aggregate-fill-starts : tie.Need-slice-aggregate-fill-starts
-slice-aggregate-fill-starts c = search needs
-
-slice-aggregate-fill-starts-2 : tie.Need-slice-aggregate-fill-starts-2
-slice-aggregate-fill-starts-2 c = search needs
-
-fill-starts-requires : tie.Need-fill-starts-requires
-fill-starts-requires c κs = search needs
-
-slice-aggregate-spread : tie.Need-slice-aggregate-spread
-slice-aggregate-spread c = search needs
-
-slice-aggregate-spread-2 : tie.Need-slice-aggregate-spread-2
-slice-aggregate-spread-2 c = search needs
-
-slice-aggregate-spread-3 : tie.Need-slice-aggregate-spread-3
-slice-aggregate-spread-3 c = search needs
-
-slice-aggregate-spread-4 : tie.Need-slice-aggregate-spread-4
-slice-aggregate-spread-4 c = search needs
 
 spread-requires : tie.Need-spread-requires
 spread-requires c κs =
@@ -65,9 +34,6 @@ spread-requires c κs =
       (s .pre .1 .0, omega (arith, s .pre .0 .0 .few-faces), s .pre .1 .1),
     )
 
-same-length : tie.Need-same-length
-same-length c = search needs
-
 returns-2 : tie.Need-returns-2
 returns-2 c =
     let m = c .before .before .before .before .before .before .before .before .before .before .before .before in
@@ -79,20 +45,5 @@ returns-2 c =
 
 pub find-turns-spec : {M : Type 1} → statement M
 find-turns-spec =
-    tie.close
-    (tie.spec
-    slice-aggregate-find-partners
-    find-partners-requires
-    enum-known-a
-    returns
-    enum-told
-    slice-aggregate-fill-starts
-    slice-aggregate-fill-starts-2
-    fill-starts-requires
-    slice-aggregate-spread
-    slice-aggregate-spread-2
-    slice-aggregate-spread-3
-    slice-aggregate-spread-4
-    spread-requires
-    same-length
-    returns-2)
+    tie.close (tie.spec (λ c. search needs) find-partners-requires (λ c. search needs) returns (λ c. search needs) (λ c. search needs) (λ c. search needs)
+    (λ c κs. search needs) (λ c. search needs) (λ c. search needs) (λ c. search needs) (λ c. search needs) spread-requires (λ c. search needs) returns-2)

@@ -56,16 +56,4 @@ returns c = let t = c .before in let s = t .before .before .before .before .befo
     l .inv .1 x h (omega (arith, s .pre .0 .lows-in x h, c .loop-test .left))
 
 pub fill-afters-spec : {M : Type 1} → statement M
-fill-afters-spec =
-    tie.close
-    (tie.spec
-    Inv-loop
-    μ-loop
-    loop-holds
-    follow-requires
-    add-u
-    loop-less
-    loop-again
-    same-length
-    same-length-2
-    returns)
+fill-afters-spec = tie.close (tie.spec Inv-loop μ-loop loop-holds follow-requires add-u loop-less loop-again same-length same-length-2 returns)

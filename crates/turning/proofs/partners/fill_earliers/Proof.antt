@@ -20,12 +20,6 @@ abbrev μ-loop : tie.MeasureT-loop
 loop-holds : tie.Need-loop-holds Inv-loop μ-loop
 loop-holds c = (search needs, refl, refl, chains-none _ _ _ (c .pre .blank))
 
-mul-u : tie.Need-mul-u Inv-loop μ-loop
-mul-u c = search needs
-
-shared-slice-read-u : tie.Need-shared-slice-read-u Inv-loop μ-loop
-shared-slice-read-u c = search needs
-
 cast-u : tie.Need-cast-u Inv-loop μ-loop
 cast-u c = let s = c .before .before .before in let l = c .before .before .loop in
     omega (arith, s .pre .lows-in (l .c) (search needs), s .pre .heads-long)
@@ -38,18 +32,6 @@ slice-read-head : tie.Need-slice-read-head Inv-loop μ-loop
 slice-read-head c = let s = c .before .before .before .before in let l = c .before .before .before .loop in
     omega (arith, s .pre .lows-in (l .c) (search needs), s .pre .heads-long)
 
-mul-earliers : tie.Need-mul-earliers Inv-loop μ-loop
-mul-earliers c = search needs
-
-slice-write-earliers : tie.Need-slice-write-earliers Inv-loop μ-loop
-slice-write-earliers c = search needs
-
-add-heads : tie.Need-add-heads Inv-loop μ-loop
-add-heads c = search needs
-
-cast-heads : tie.Need-cast-heads Inv-loop μ-loop
-cast-heads c = search needs
-
 mul-heads : tie.Need-mul-heads Inv-loop μ-loop
 mul-heads c = let s = c .before .before .before .before in let l = c .before .before .before .loop in
     omega (arith, s .pre .lows-in (l .c) (search needs), s .pre .heads-long)
@@ -57,12 +39,6 @@ mul-heads c = let s = c .before .before .before .before in let l = c .before .be
 slice-write-heads : tie.Need-slice-write-heads Inv-loop μ-loop
 slice-write-heads c = let s = c .before .before .before .before in let l = c .before .before .before .loop in
     omega (arith, s .pre .lows-in (l .c) (search needs), s .pre .heads-long)
-
-add-c : tie.Need-add-c Inv-loop μ-loop
-add-c c = search needs
-
-loop-less : tie.Need-loop-less Inv-loop μ-loop
-loop-less c = search needs
 
 loop-again : tie.Need-loop-again Inv-loop μ-loop
 loop-again c = let s = c .before .before .before .before in let l = c .before .before .before .loop in
@@ -74,37 +50,12 @@ loop-again c = let s = c .before .before .before .before in let l = c .before .b
       chains-step (now (s .args .lows)) (l .earliers) (l .heads) (l .c) (l .inv .3) (omega (arith, s .pre .earliers-long)) b,
     )
 
-same-length : tie.Need-same-length Inv-loop μ-loop
-same-length c = search needs
-
-same-length-2 : tie.Need-same-length-2 Inv-loop μ-loop
-same-length-2 c = search needs
-
 returns : tie.Need-returns Inv-loop μ-loop
 returns c = let s = c .before .before in let l = c .before .loop in
     chains-all (now (s .args .lows)) (l .earliers) (l .heads) (l .c) (omega arith) (l .inv .3)
 
 pub fill-earliers-spec : {M : Type 1} → statement M
 fill-earliers-spec =
-    tie.close
-    (tie.spec
-    Inv-loop
-    μ-loop
-    loop-holds
-    mul-u
-    shared-slice-read-u
-    cast-u
-    mul-head
-    slice-read-head
-    mul-earliers
-    slice-write-earliers
-    add-heads
-    cast-heads
-    mul-heads
-    slice-write-heads
-    add-c
-    loop-less
-    loop-again
-    same-length
-    same-length-2
-    returns)
+    tie.close (tie.spec Inv-loop μ-loop loop-holds (λ c. search needs) (λ c. search needs) cast-u mul-head slice-read-head (λ c. search needs)
+    (λ c. search needs) (λ c. search needs) (λ c. search needs) mul-heads slice-write-heads (λ c. search needs) (λ c. search needs) loop-again
+    (λ c. search needs) (λ c. search needs) returns)

@@ -61,9 +61,6 @@ shared-slice-read-b : tie.Need-shared-slice-read-b Inv-loop μ-loop
 shared-slice-read-b c = let i = c .before .before .before in let t = i .before in let s = t .before .before .before .before .before in let l = t .loop in
     omega (arith, s .pre .nexts-in (l .c) (i .loop-test .taken))
 
-lower-requires : tie.Need-lower-requires Inv-loop μ-loop
-lower-requires c κs = search needs
-
 mul-lows : tie.Need-mul-lows Inv-loop μ-loop
 mul-lows c = let i = c .before .before .before .before in let t = i .before in let s = t .before .before .before .before .before in let l = t .loop in
     omega (arith, i .loop-test .taken, s .pre .small)
@@ -71,9 +68,6 @@ mul-lows c = let i = c .before .before .before .before in let t = i .before in l
 slice-write-lows : tie.Need-slice-write-lows Inv-loop μ-loop
 slice-write-lows c = let i = c .before .before .before .before in let t = i .before in let s = t .before .before .before .before .before in let l = t .loop in
     omega (arith, i .loop-test .taken, s .pre .lows-long, l .inv .1)
-
-higher-requires : tie.Need-higher-requires Inv-loop μ-loop
-higher-requires c κs = search needs
 
 mul-highs : tie.Need-mul-highs Inv-loop μ-loop
 mul-highs c = let i = c .before .before .before .before .before in let t = i .before in let s = t .before .before .before .before .before in let l = t .loop in
@@ -115,29 +109,6 @@ returns c = let t = c .before in let s = t .before .before .before .before .befo
 
 pub fill-keys-spec : {M : Type 1} → statement M
 fill-keys-spec =
-    tie.close
-    (tie.spec
-    Inv-loop
-    μ-loop
-    loop-holds
-    mul-a
-    shared-slice-read-a
-    mul-e
-    add-e
-    mul-e-2
-    shared-slice-read-e
-    cast-e
-    mul-b
-    shared-slice-read-b
-    lower-requires
-    mul-lows
-    slice-write-lows
-    higher-requires
-    mul-highs
-    slice-write-highs
-    add-c
-    loop-less
-    loop-again
-    same-length
-    same-length-2
+    tie.close (tie.spec Inv-loop μ-loop loop-holds mul-a shared-slice-read-a mul-e add-e mul-e-2 shared-slice-read-e cast-e mul-b shared-slice-read-b
+    (λ c κs. search needs) mul-lows slice-write-lows (λ c κs. search needs) mul-highs slice-write-highs add-c loop-less loop-again same-length same-length-2
     returns)

@@ -205,29 +205,6 @@ returns c = let t = c .before in let s = t .before .before .before .before .befo
 
 pub follow-spec : {M : Type 1} → statement M
 follow-spec =
-    tie.close
-    (tie.spec
-    Inv-loop
-    μ-loop
-    mul-at
-    shared-slice-read-at
-    loop-holds
-    sub-c
-    cast-c
-    mul-w
-    shared-slice-read-w
-    cast-w
-    mul-own
-    slice-read-own
-    own-requires
-    mul-afters
-    slice-write-afters
-    mul-table
-    slice-write-table
-    mul-at-2
-    shared-slice-read-at-2
-    loop-less
-    loop-again
-    same-length
-    same-length-2
+    tie.close (tie.spec Inv-loop μ-loop mul-at shared-slice-read-at loop-holds sub-c cast-c mul-w shared-slice-read-w cast-w mul-own slice-read-own
+    own-requires mul-afters slice-write-afters mul-table slice-write-table mul-at-2 shared-slice-read-at-2 loop-less loop-again same-length same-length-2
     returns)

@@ -11,18 +11,6 @@ use Rattle.turning.proofs.partners.own.Tie as tie
 returns : tie.Need-returns
 returns c = let s = c .before in rw (eq-eqb (s .args .e) 0 (c .if1 .taken))
 
-sub-d : tie.Need-sub-d
-sub-d c = search needs
-
-cast-d : tie.Need-cast-d
-cast-d c = search needs
-
-mul-v : tie.Need-mul-v
-mul-v c = search needs
-
-shared-slice-read-v : tie.Need-shared-slice-read-v
-shared-slice-read-v c = search needs
-
 cast-v : tie.Need-cast-v
 cast-v c = let s = c .before .before in omega (arith, c .shared-slice-known .given (s .args .e - 1))
 
@@ -35,5 +23,4 @@ returns-3 c = let s = c .before .before .before in
     rw (ne-eqb (s .args .e) 0 (c .before .before .if1 .left), ne-eqb (getD (now (s .args .lows)) (s .args .e - 1) 0) (s .args .u) (c .if2 .left))
 
 pub own-spec : {M : Type 1} → statement M
-own-spec =
-    tie.close (tie.spec returns sub-d cast-d mul-v shared-slice-read-v cast-v returns-2 returns-3)
+own-spec = tie.close (tie.spec returns (λ c. search needs) (λ c. search needs) (λ c. search needs) (λ c. search needs) cast-v returns-2 returns-3)

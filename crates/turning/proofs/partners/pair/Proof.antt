@@ -140,31 +140,6 @@ returns-3 c = let t = c .before in let s = t .before in let l = t .loop in λ si
 
 pub pair-spec : {M : Type 1} → statement M
 pair-spec =
-    tie.close
-    (tie.spec
-    Inv-loop
-    μ-loop
-    loop-holds
-    mul-if1
-    slice-read-if1
-    mul-e
-    shared-slice-read-e
-    same-length
-    returns
-    sub-second
-    cast-second
-    mul-if3
-    shared-slice-read-if3
-    same-length-2
-    returns-2
-    mul-partners
-    slice-write-partners
-    add-partners
-    cast-partners
-    mul-partners-2
-    slice-write-partners-2
-    add-c
-    loop-less
-    loop-again
-    same-length-3
-    returns-3)
+    tie.close (tie.spec Inv-loop μ-loop loop-holds mul-if1 slice-read-if1 mul-e shared-slice-read-e same-length returns sub-second cast-second mul-if3
+    shared-slice-read-if3 same-length-2 returns-2 mul-partners slice-write-partners add-partners cast-partners mul-partners-2 slice-write-partners-2 add-c
+    loop-less loop-again same-length-3 returns-3)

@@ -18,37 +18,13 @@ abbrev μ-loop : tie.MeasureT-loop
 loop-holds : tie.Need-loop-holds Inv-loop μ-loop
 loop-holds c = reversing-none (c .args .from) (c .args .to) (now (c .args .list)) (c .pre .0)
 
-add-loop : tie.Need-add-loop Inv-loop μ-loop
-add-loop c = search needs
-
-sub-high : tie.Need-sub-high Inv-loop μ-loop
-sub-high c = search needs
-
-slice-read-first : tie.Need-slice-read-first Inv-loop μ-loop
-slice-read-first c = search needs
-
-slice-read-last : tie.Need-slice-read-last Inv-loop μ-loop
-slice-read-last c = search needs
-
-slice-write-list : tie.Need-slice-write-list Inv-loop μ-loop
-slice-write-list c = search needs
-
 slice-write-list-2 : tie.Need-slice-write-list-2 Inv-loop μ-loop
 slice-write-list-2 c = let t = c .before .before .before in let s = t .before in let l = t .loop in
     simp length-set (omega (arith, l .inv .even, l .inv .first, l .inv .same-length, s .pre .1, c .before .before .loop-test .taken))
 
-add-low : tie.Need-add-low Inv-loop μ-loop
-add-low c = search needs
-
-loop-less : tie.Need-loop-less Inv-loop μ-loop
-loop-less c = search needs
-
 loop-again : tie.Need-loop-again Inv-loop μ-loop
 loop-again c = let t = c .before .before .before in let s = t .before in let l = t .loop in
     reversing-step (s .args .from) (s .args .to) (now (s .args .list)) (l .list) (l .low) (l .high) (s .pre .1) (l .inv) (c .before .before .loop-test .taken)
-
-same-length : tie.Need-same-length Inv-loop μ-loop
-same-length c = search needs
 
 returns : tie.Need-returns Inv-loop μ-loop
 returns c = let t = c .before in let s = t .before in let l = t .loop in
@@ -56,19 +32,5 @@ returns c = let t = c .before in let s = t .before in let l = t .loop in
 
 pub reverse-bytes-spec : {M : Type 1} → statement M
 reverse-bytes-spec =
-    tie.close
-    (tie.spec
-    Inv-loop
-    μ-loop
-    loop-holds
-    add-loop
-    sub-high
-    slice-read-first
-    slice-read-last
-    slice-write-list
-    slice-write-list-2
-    add-low
-    loop-less
-    loop-again
-    same-length
-    returns)
+    tie.close (tie.spec Inv-loop μ-loop loop-holds (λ c. search needs) (λ c. search needs) (λ c. search needs) (λ c. search needs) (λ c. search needs)
+    slice-write-list-2 (λ c. search needs) (λ c. search needs) loop-again (λ c. search needs) returns)

@@ -5,18 +5,9 @@ use Rattle.turning.proofs.reversing.Laws.{face-turned}
 use Rattle.turning.proofs.reversing.turn_face.Statement.{statement}
 use Rattle.turning.proofs.reversing.turn_face.Tie as tie
 
-add-reverse : tie.Need-add-reverse
-add-reverse c = search needs
-
-reverse-requires : tie.Need-reverse-requires
-reverse-requires c κs = search needs
-
-same-length : tie.Need-same-length
-same-length c = search needs
-
 returns : tie.Need-returns
 returns c = let s = c .before .before .before .before .before in let v = c .before .before .reverse in
     face-turned (s .args .start) (s .args .end) (now (s .args .corners)) (v .last .0) (s .pre .0) (v .ensures)
 
 pub turn-face-spec : {M : Type 1} → statement M
-turn-face-spec = tie.close (tie.spec add-reverse reverse-requires same-length returns)
+turn-face-spec = tie.close (tie.spec (λ c. search needs) (λ c κs. search needs) (λ c. search needs) returns)

@@ -123,23 +123,5 @@ returns c = let t = c .before in let s = t .before .before .before .before .befo
 
 pub turn-faces-spec : {M : Type 1} → statement M
 turn-faces-spec =
-    tie.close
-    (tie.spec
-    Inv-loop
-    μ-loop
-    loop-holds
-    shared-slice-read-end
-    cast-end
-    add-end
-    shared-slice-read-if1
-    turn-face-requires
-    cast-listing
-    mul-listing
-    slice-write-listing
-    add-count
-    add-f
-    loop-less
-    loop-again
-    same-length
-    same-length-2
-    returns)
+    tie.close (tie.spec Inv-loop μ-loop loop-holds shared-slice-read-end cast-end add-end shared-slice-read-if1 turn-face-requires cast-listing mul-listing
+    slice-write-listing add-count add-f loop-less loop-again same-length same-length-2 returns)

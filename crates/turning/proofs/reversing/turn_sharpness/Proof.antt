@@ -89,18 +89,5 @@ returns c = let t = c .before in let s = t .before .before .before .before in le
 
 pub turn-sharpness-spec : {M : Type 1} → statement M
 turn-sharpness-spec =
-    tie.close
-    (tie.spec
-    Inv-loop
-    μ-loop
-    loop-holds
-    shared-slice-read-end
-    cast-end
-    add-end
-    shared-slice-read-if1
-    turn-pairs-requires
-    add-f
-    loop-less
-    loop-again
-    same-length
-    returns)
+    tie.close (tie.spec Inv-loop μ-loop loop-holds shared-slice-read-end cast-end add-end shared-slice-read-if1 turn-pairs-requires add-f loop-less
+    loop-again same-length returns)

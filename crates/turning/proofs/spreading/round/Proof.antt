@@ -84,12 +84,6 @@ visit-requires c κs = let i = c .before .before .before in let t = i .before in
     let m = tail-most (length (now (s .args .sides))) (l .states) (l .queue) (l .tail) (d .queued) in
     (s .pre .0, ((d .queued .inside (l .head) (i .loop-test .taken), d .queued .reached (l .head) (i .loop-test .taken)), d .queued))
 
-enum-known-reach : tie.Need-enum-known-reach Inv-loop μ-loop
-enum-known-reach c = search needs
-
-enum-told : tie.Need-enum-told Inv-loop μ-loop
-enum-told c = search needs
-
 same-length : tie.Need-same-length Inv-loop μ-loop
 same-length c = let v = c .before .before .before .before .before .before .visit in
     let l = c .before .before .before .before .before .before .before .before .before .before .before .loop in
@@ -160,28 +154,6 @@ returns-2 c = let t = c .before in let s = t .before .before .before .before .be
 
 pub round-spec : {M : Type 1} → statement M
 round-spec =
-    tie.close
-    (tie.spec
-    Inv-loop
-    μ-loop
-    slice-write-states
-    cast-queue
-    mul-queue
-    slice-write-queue
-    add-tail
-    loop-holds
-    mul-f
-    slice-read-f
-    cast-f
-    visit-requires
-    enum-known-reach
-    enum-told
-    same-length
-    same-length-2
-    returns
-    add-head
-    loop-less
-    loop-again
-    same-length-3
-    same-length-4
+    tie.close (tie.spec Inv-loop μ-loop slice-write-states cast-queue mul-queue slice-write-queue add-tail loop-holds mul-f slice-read-f cast-f
+    visit-requires (λ c. search needs) (λ c. search needs) same-length same-length-2 returns add-head loop-less loop-again same-length-3 same-length-4
     returns-2)

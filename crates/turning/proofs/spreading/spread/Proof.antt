@@ -37,12 +37,6 @@ round-requires c κs = let i = c .before .before .before .before in let t = i .b
     let s = t .before .before .before .before .before .before .before .before in let l = t .loop in
     (s .pre .0, ((i .loop-test .taken, c .before .before .if1 .taken), (l .inv .0 .settled, l .inv .0 .queued)))
 
-enum-known-reach : tie.Need-enum-known-reach Inv-loop μ-loop
-enum-known-reach c = search needs
-
-enum-told : tie.Need-enum-told Inv-loop μ-loop
-enum-told c = search needs
-
 same-length : tie.Need-same-length Inv-loop μ-loop
 same-length c = let i = c .before .before .before .before .before .before .before .before .before .before .before in let t = i .before in
     let s = t .before .before .before .before .before .before .before .before in let l = t .loop in
@@ -106,21 +100,5 @@ returns-2 c = let t = c .before in let s = t .before .before .before .before .be
 
 pub spread-spec : {M : Type 1} → statement M
 spread-spec =
-    tie.close
-    (tie.spec
-    Inv-loop
-    μ-loop
-    loop-holds
-    slice-read-if1
-    round-requires
-    enum-known-reach
-    enum-told
-    same-length
-    same-length-2
-    returns
-    add-r
-    loop-less
-    loop-again
-    same-length-3
-    same-length-4
-    returns-2)
+    tie.close (tie.spec Inv-loop μ-loop loop-holds slice-read-if1 round-requires (λ c. search needs) (λ c. search needs) same-length same-length-2 returns
+    add-r loop-less loop-again same-length-3 same-length-4 returns-2)

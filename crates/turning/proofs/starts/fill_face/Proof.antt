@@ -17,24 +17,6 @@ Inv-loop faces₀ f start end c₀ faces c =
 abbrev μ-loop : tie.MeasureT-loop
 μ-loop faces₀ f start end c₀ faces c = end - c
 
-loop-holds : tie.Need-loop-holds Inv-loop μ-loop
-loop-holds c = search needs
-
-cast-faces : tie.Need-cast-faces Inv-loop μ-loop
-cast-faces c = search needs
-
-mul-faces : tie.Need-mul-faces Inv-loop μ-loop
-mul-faces c = search needs
-
-slice-write-faces : tie.Need-slice-write-faces Inv-loop μ-loop
-slice-write-faces c = search needs
-
-add-c : tie.Need-add-c Inv-loop μ-loop
-add-c c = search needs
-
-loop-less : tie.Need-loop-less Inv-loop μ-loop
-loop-less c = search needs
-
 loop-again : tie.Need-loop-again Inv-loop μ-loop
 loop-again c = let t = c .before in let s = t .before in let l = t .loop in (
   faced-step (s .args .f) (s .args .start) (now (s .args .faces)) (l .faces) (l .c) (l .inv .1) (omega (arith, c .loop-test .taken, s .pre .3, l .inv .3))
@@ -44,25 +26,11 @@ loop-again c = let t = c .before in let s = t .before in let l = t .loop in (
   length-set (l .faces) (l .c) (s .args .f) ∙ l .inv .3,
 )
 
-same-length : tie.Need-same-length Inv-loop μ-loop
-same-length c = search needs
-
 returns : tie.Need-returns Inv-loop μ-loop
 returns c = let t = c .before in let l = t .loop in
     subst (Faced _ _ _ _) (omega (arith, l .inv .2, c .loop-test .left)) (l .inv .0)
 
 pub fill-face-spec : {M : Type 1} → statement M
 fill-face-spec =
-    tie.close
-    (tie.spec
-    Inv-loop
-    μ-loop
-    loop-holds
-    cast-faces
-    mul-faces
-    slice-write-faces
-    add-c
-    loop-less
-    loop-again
-    same-length
-    returns)
+    tie.close (tie.spec Inv-loop μ-loop (λ c. search needs) (λ c. search needs) (λ c. search needs) (λ c. search needs) (λ c. search needs)
+    (λ c. search needs) loop-again (λ c. search needs) returns)

@@ -95,21 +95,5 @@ returns c = let t = c .before in let l = t .loop in
 
 pub fill-starts-spec : {M : Type 1} → statement M
 fill-starts-spec =
-    tie.close
-    (tie.spec
-    Inv-loop
-    μ-loop
-    loop-holds
-    shared-slice-read-end
-    cast-end
-    add-end
-    cast-starts
-    mul-starts
-    slice-write-starts
-    fill-face-requires
-    add-f
-    loop-less
-    loop-again
-    same-length
-    same-length-2
-    returns)
+    tie.close (tie.spec Inv-loop μ-loop loop-holds shared-slice-read-end cast-end add-end cast-starts mul-starts slice-write-starts fill-face-requires add-f
+    loop-less loop-again same-length same-length-2 returns)

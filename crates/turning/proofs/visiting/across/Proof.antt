@@ -3,9 +3,6 @@ use borrow.Author.Needs.{needs}
 use Rattle.turning.proofs.visiting.across.Statement.{statement}
 use Rattle.turning.proofs.visiting.across.Tie as tie
 
-sub-result : tie.Need-sub-result
-sub-result c = search needs
-
 returns : tie.Need-returns
 returns c = rw (c .if1 .taken)
 
@@ -13,4 +10,4 @@ returns-2 : tie.Need-returns-2
 returns-2 c = rw (c .if1 .left)
 
 pub across-spec : {M : Type 1} → statement M
-across-spec = tie.close (tie.spec sub-result returns returns-2)
+across-spec = tie.close (tie.spec (λ c. search needs) returns returns-2)

@@ -8,8 +8,7 @@ use native.Mathlib.Omega.{arith}
 use borrow.Author.Needs.{needs}
 use Rattle.paper.specs.Corners.{startOf}
 use Rattle.turning.specs.visiting.Visit.{Visiting}
-use Rattle.turning.proofs.visiting.Laws.{turn-new, turn-old, turn-clash, corner-at, start-is, visiting-none, visiting-all}
-use Rattle.turning.proofs.visiting.Laws.{tail-below}
+use Rattle.turning.proofs.visiting.Laws.{turn-new, turn-old, turn-clash, corner-at, start-is, visiting-none, visiting-all, tail-below}
 use Rattle.turning.proofs.visiting.visit.Statement.{statement}
 use Rattle.turning.proofs.visiting.visit.Tie as tie
 
@@ -21,20 +20,8 @@ abbrev μ-loop : tie.MeasureT-loop
 μ-loop sides corners partners faces starts f states₀ queue₀ tail state c₀ end next₀ states queue c next =
     end - c
 
-slice-read-state : tie.Need-slice-read-state Inv-loop μ-loop
-slice-read-state c = search needs
-
-mul-c : tie.Need-mul-c Inv-loop μ-loop
-mul-c c = search needs
-
-shared-slice-read-c : tie.Need-shared-slice-read-c Inv-loop μ-loop
-shared-slice-read-c c = search needs
-
 cast-c : tie.Need-cast-c Inv-loop μ-loop
 cast-c c = let s = c .before .before .before .before .before .before .before .before .before in omega (arith, c .shared-slice-known6 .given (s .args .f))
-
-shared-slice-read-end : tie.Need-shared-slice-read-end Inv-loop μ-loop
-shared-slice-read-end c = search needs
 
 cast-end : tie.Need-cast-end Inv-loop μ-loop
 cast-end c = let s = c .before .before .before .before .before .before .before .before .before .before in
@@ -205,9 +192,6 @@ add-c c = let i = c .before .before .before .before .before .before .before in l
     (s .args .f) (s .pre .1 .0 .0) (t .loop .c) (t .loop .inv .1) (i .loop-test .taken) in
     omega (arith, a .inside, s .pre .0 .few-corners)
 
-loop-less : tie.Need-loop-less Inv-loop μ-loop
-loop-less c = search needs
-
 loop-again : tie.Need-loop-again Inv-loop μ-loop
 loop-again c = let i = c .before .before .before .before .before .before .before in let t = i .before in
     let s = t .before .before .before .before .before .before .before .before .before .before .before in let x = c .before .before .across in (
@@ -242,42 +226,7 @@ returns-2 c = let t = c .before in let s = t .before .before .before .before .be
 
 pub visit-spec : {M : Type 1} → statement M
 visit-spec =
-    tie.close
-    (tie.spec
-    Inv-loop
-    μ-loop
-    slice-read-state
-    mul-c
-    shared-slice-read-c
-    cast-c
-    shared-slice-read-end
-    cast-end
-    add-end
-    loop-holds
-    mul-d
-    shared-slice-read-d
-    sub-d
-    cast-d
-    mul-g
-    shared-slice-read-g
-    cast-g
-    mul-across
-    shared-slice-read-across
-    mul-across-2
-    shared-slice-read-across-2
-    across-requires
-    slice-read-found
-    slice-write-states
-    cast-queue
-    mul-queue
-    slice-write-queue
-    add-next
-    same-length
-    same-length-2
-    returns
-    add-c
-    loop-less
-    loop-again
-    same-length-3
-    same-length-4
-    returns-2)
+    tie.close (tie.spec Inv-loop μ-loop (λ c. search needs) (λ c. search needs) (λ c. search needs) cast-c (λ c. search needs) cast-end add-end loop-holds
+    mul-d shared-slice-read-d sub-d cast-d mul-g shared-slice-read-g cast-g mul-across shared-slice-read-across mul-across-2 shared-slice-read-across-2
+    across-requires slice-read-found slice-write-states cast-queue mul-queue slice-write-queue add-next same-length same-length-2 returns add-c
+    (λ c. search needs) loop-again same-length-3 same-length-4 returns-2)

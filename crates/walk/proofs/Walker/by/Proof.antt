@@ -4,11 +4,8 @@ use borrow.Author.Needs.{needs}
 use Rattle.walk.proofs.Walker.by.Statement.{statement}
 use Rattle.walk.proofs.Walker.by.Tie as tie
 
-read-requires : tie.Need-read-requires
-read-requires c κs = search needs
-
 returns : tie.Need-returns
 returns c = c .read .ensures
 
 pub by-spec : {M : Type 1} → statement M
-by-spec = tie.close (tie.spec read-requires returns)
+by-spec = tie.close (tie.spec (search needs) returns)

@@ -5,11 +5,8 @@ use Rattle.walk.proofs.Table.{led}
 use Rattle.walk.proofs.Walker.next.Statement.{statement}
 use Rattle.walk.proofs.Walker.next.Tie as tie
 
-read-requires : tie.Need-read-requires
-read-requires c κs = search needs
-
 returns : tie.Need-returns
 returns c = led _ _ _ _ _ (λ K T l. T .nexts _ l) (c .read .ensures)
 
 pub next-spec : {M : Type 1} → statement M
-next-spec = tie.close (tie.spec read-requires returns)
+next-spec = tie.close (tie.spec (search needs) returns)

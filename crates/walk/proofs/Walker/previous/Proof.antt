@@ -5,11 +5,8 @@ use Rattle.walk.proofs.Table.{led}
 use Rattle.walk.proofs.Walker.previous.Statement.{statement}
 use Rattle.walk.proofs.Walker.previous.Tie as tie
 
-read-requires : tie.Need-read-requires
-read-requires c κs = search needs
-
 returns : tie.Need-returns
 returns c = led _ _ _ _ _ (λ K T l. T .previouses _ l) (c .read .ensures)
 
 pub previous-spec : {M : Type 1} → statement M
-previous-spec = tie.close (tie.spec read-requires returns)
+previous-spec = tie.close (tie.spec (search needs) returns)

@@ -10,34 +10,16 @@ use Rattle.dms.proofs.surveying.Each.{prefix-length, cornered-is, sided
 use Rattle.dms.proofs.surveying.counting.count.Statement.{statement}
 use Rattle.dms.proofs.surveying.counting.count.Tie as tie
 
-slice-aggregate-tally : tie.Need-slice-aggregate-tally
-slice-aggregate-tally c = search needs
-
-tally-requires : tie.Need-tally-requires
-tally-requires c κs = search needs
-
-array-share-prefix-valences : tie.Need-array-share-prefix-valences
-array-share-prefix-valences c = search needs
-
 slice-aggregate-tally-2 : tie.Need-slice-aggregate-tally-2
 slice-aggregate-tally-2 c =
     let s = c .before .before .before .before .before .before in
     prefix-length _ _ mostVertices _ (c .before .before .tally .ensures) (s .pre .0)
-
-slice-aggregate-tally-3 : tie.Need-slice-aggregate-tally-3
-slice-aggregate-tally-3 c = search needs
 
 tally-requires-2 : tie.Need-tally-requires-2
 tally-requires-2 c κs =
     let s = c .before .before .before .before .before .before .before in
     let few = s .pre .0 in
     (omega (arith, prefix-length _ _ mostVertices (length (s .args .coordinates .now) / 3) (c .before .before .before .tally .ensures) few), refl)
-
-slice-aggregate-tally-bytes : tie.Need-slice-aggregate-tally-bytes
-slice-aggregate-tally-bytes c = search needs
-
-tally-bytes-requires : tie.Need-tally-bytes-requires
-tally-bytes-requires c κs = search needs
 
 returns : tie.Need-returns
 returns c =
@@ -55,14 +37,5 @@ returns c =
 
 pub count-spec : {M : Type 1} → statement M
 count-spec =
-    tie.close
-    (tie.spec
-    slice-aggregate-tally
-    tally-requires
-    array-share-prefix-valences
-    slice-aggregate-tally-2
-    slice-aggregate-tally-3
-    tally-requires-2
-    slice-aggregate-tally-bytes
-    tally-bytes-requires
-    returns)
+    tie.close (tie.spec (λ c. search needs) (λ c κs. search needs) (λ c. search needs) slice-aggregate-tally-2 (λ c. search needs) tally-requires-2
+    (λ c. search needs) (λ c κs. search needs) returns)

@@ -5,11 +5,8 @@ use borrow.Author.Needs.{needs}
 use Rattle.off.proofs.words.Cursor.has_word.Statement.{statement}
 use Rattle.off.proofs.words.Cursor.has_word.Tie as tie
 
-to-word-requires : tie.Need-to-word-requires
-to-word-requires c κs = search needs
-
 returns : tie.Need-returns
 returns c = word-left _ _ (c .before .to-word .result) (c .before .to-word .ensures)
 
 pub has-word-spec : {M : Type 1} → statement M
-has-word-spec = tie.close (tie.spec to-word-requires returns)
+has-word-spec = tie.close (tie.spec (λ c κs. search needs) returns)

@@ -11,24 +11,6 @@ use borrow.Author.Needs.{needs}
 use Rattle.off.proofs.words.Cursor.number.Statement.{statement}
 use Rattle.off.proofs.words.Cursor.number.Tie as tie
 
-to-word-requires : tie.Need-to-word-requires
-to-word-requires c κs = search needs
-
-word-end-requires : tie.Need-word-end-requires
-word-end-requires c κs = search needs
-
-sub-is-number : tie.Need-sub-is-number
-sub-is-number c = search needs
-
-part-is-number-start : tie.Need-part-is-number-start
-part-is-number-start c = search needs
-
-part-is-number-end : tie.Need-part-is-number-end
-part-is-number-end c = search needs
-
-is-number-requires : tie.Need-is-number-requires
-is-number-requires c κs = search needs
-
 returns : tie.Need-returns
 returns c =
     let e = c .before .before .before .word-end in
@@ -39,15 +21,6 @@ returns c =
       value = λ z. absurd (clash z refl);
       next = λ z. absurd (clash z refl);
     }
-
-sub-value : tie.Need-sub-value
-sub-value c = search needs
-
-part-value-start : tie.Need-part-value-start
-part-value-start c = search needs
-
-part-value-end : tie.Need-part-value-end
-part-value-end c = search needs
 
 value-requires : tie.Need-value-requires
 value-requires c κs = sym (c .before .before .is-number .ensures) ∙ not-false _ (c .before .if1 .left)
@@ -75,18 +48,5 @@ returns-2 c =
 
 pub number-spec : {M : Type 1} → statement M
 number-spec =
-    tie.close
-    (tie.spec
-    to-word-requires
-    word-end-requires
-    sub-is-number
-    part-is-number-start
-    part-is-number-end
-    is-number-requires
-    returns
-    sub-value
-    part-value-start
-    part-value-end
-    value-requires
-    moved-requires
-    returns-2)
+    tie.close (tie.spec (λ c κs. search needs) (λ c κs. search needs) (λ c. search needs) (λ c. search needs) (λ c. search needs) (λ c κs. search needs)
+    returns (λ c. search needs) (λ c. search needs) (λ c. search needs) value-requires moved-requires returns-2)

@@ -7,15 +7,6 @@ use borrow.Author.Needs.{needs}
 use Rattle.off.proofs.words.Cursor.past_comment.Statement.{statement}
 use Rattle.off.proofs.words.Cursor.past_comment.Tie as tie
 
-add-comment-end : tie.Need-add-comment-end
-add-comment-end c = search needs
-
-comment-end-requires : tie.Need-comment-end-requires
-comment-end-requires c κs = search needs
-
-moved-requires : tie.Need-moved-requires
-moved-requires c κs = search needs
-
 returns : tie.Need-returns
 returns c =
     let s = c .before .before .before in
@@ -27,5 +18,4 @@ returns c =
     )
 
 pub past-comment-spec : {M : Type 1} → statement M
-past-comment-spec =
-    tie.close (tie.spec add-comment-end comment-end-requires moved-requires returns)
+past-comment-spec = tie.close (tie.spec (λ c. search needs) (λ c κs. search needs) (λ c κs. search needs) returns)

@@ -6,12 +6,6 @@ use borrow.Author.Needs.{needs}
 use Rattle.off.proofs.words.Cursor.past_separator.Statement.{statement}
 use Rattle.off.proofs.words.Cursor.past_separator.Tie as tie
 
-add-moved : tie.Need-add-moved
-add-moved c = search needs
-
-moved-requires : tie.Need-moved-requires
-moved-requires c κs = search needs
-
 returns : tie.Need-returns
 returns c =
     let s = c .before .before in
@@ -22,4 +16,4 @@ returns c =
     )
 
 pub past-separator-spec : {M : Type 1} → statement M
-past-separator-spec = tie.close (tie.spec add-moved moved-requires returns)
+past-separator-spec = tie.close (tie.spec (λ c. search needs) (λ c κs. search needs) returns)

@@ -20,17 +20,11 @@ abbrev μ-loop : tie.MeasureT-loop
 loop-holds : tie.Need-loop-holds Inv-loop μ-loop
 loop-holds c = (refl, c .before .pre)
 
-shared-slice-read-byte : tie.Need-shared-slice-read-byte Inv-loop μ-loop
-shared-slice-read-byte c = search needs
-
 past-comment-requires : tie.Need-past-comment-requires Inv-loop μ-loop
 past-comment-requires c κs =
     let l = c .before .before .before .loop in
     let e = l .inv .0 in
     (search needs, rw e (c .if1 .taken), own _ _ _ (l .inv .1))
-
-separates-requires : tie.Need-separates-requires Inv-loop μ-loop
-separates-requires c κs = search needs
 
 returns : tie.Need-returns Inv-loop μ-loop
 returns c =
@@ -69,18 +63,5 @@ returns-2 c =
 
 pub to-word-spec : {M : Type 1} → statement M
 to-word-spec =
-    tie.close
-    (tie.spec
-    Inv-loop
-    μ-loop
-    loop-holds
-    shared-slice-read-byte
-    past-comment-requires
-    separates-requires
-    returns
-    past-separator-requires
-    loop-less
-    loop-again
-    loop-less-2
-    loop-again-2
-    returns-2)
+    tie.close (tie.spec Inv-loop μ-loop loop-holds (λ c. search needs) past-comment-requires (λ c κs. search needs) returns past-separator-requires
+    loop-less loop-again loop-less-2 loop-again-2 returns-2)
