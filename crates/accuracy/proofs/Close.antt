@@ -1,6 +1,5 @@
 -- A whole number beside a fraction that it stands for, and how far the two are apart, in hundredths of a tick. Sums, differences and multiples
 -- add up what their parts are off, and a division rounds by at most half: one law for each thing that the construction does with numbers.
--- Assumes nothing.
 use Prim.Native.Nat.{ℕ, zero, suc, _+_, _*_, _<_, _≤_}
 use native.Mathlib.Nat.{mul-le-mul, mul-le-mul-right}
 use native.Mathlib.Omega.{arith}

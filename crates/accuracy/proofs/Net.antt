@@ -1,5 +1,4 @@
 -- The 41 points of a corner, over refined points that are off by at most half a tick: each value is one term in the shape of its formula.
--- Assumes nothing.
 use mathlib.Core.List.{List, [], _∷_}
 use Prim.Native.Nat.{ℕ, zero, suc, _*_, _^_, _<_, _≤_}
 use native.Mathlib.Omega.{arith}

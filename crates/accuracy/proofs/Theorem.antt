@@ -1,5 +1,4 @@
 -- L10: every number that building writes for an accepted mesh is within 5 ticks of the true surface.
--- Assumes nothing.
 use mathlib.Core.Bool.{Bool}
 use Prim.Native.Nat.{ℕ, _*_, _<_, _≤_}
 use native.Mathlib.Nat.{mul-le-mul-right}

@@ -1,6 +1,5 @@
 -- The four conditions of the values of a border, from its two rules and from roundings that are off by at most half.
 -- Each is one linear argument over the products of the values (notes of the budget: 12.6, 11.6, 11 and 11 ticks are the worst that can be).
--- Assumes nothing.
 use mathlib.Core.Path.{_≡_, refl}
 use Prim.Native.Nat.{ℕ, _*_}
 use native.Mathlib.Omega.{arith}

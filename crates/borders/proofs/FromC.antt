@@ -1,5 +1,4 @@
 -- A call of `mahunopi_build` that answers 0 is a call of building that is not refused: no fault of 4 to 17, nor 27 or 28, has the number 0.
--- Assumes nothing.
 use mathlib.Core.Path.{_≡_, refl, sym, ap, _∙_}
 use mathlib.Core.Bool.{Bool, true, false}
 use mathlib.Core.List.{List}

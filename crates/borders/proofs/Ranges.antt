@@ -1,6 +1,5 @@
 -- Demand 3 speaks of every border of every accepted mesh: with the link table that linking writes and an output of the right length,
 -- no range of its corners is refused.
--- Assumes nothing.
 use mathlib.Core.Path.{_≡_, refl, sym, ap, _∙_}
 use mathlib.Core.Bool.{false, not}
 use Prim.Native.Nat.{ℕ, _+_, _*_, _≤_, _<_}

@@ -1,6 +1,5 @@
 -- Demand 3: across every border of two outputs that calls of building left, the common curve is the same and the four conditions are kept.
 -- The points read in an output are those of the net; along a side these are the values that a border relates.
--- Assumes nothing.
 use mathlib.Core.Path.{_≡_, refl, sym, ap, _∙_}
 use Prim.Native.Nat.{ℕ, zero, suc, _+_, _-_, _*_, _<_}
 use native.Mathlib.Omega.{arith}

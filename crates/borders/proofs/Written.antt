@@ -1,6 +1,5 @@
 -- What a call of building that is not refused tells: the mesh is accepted, its range lies within the corners,
 -- and point k of corner c on an axis, read in the output, is that of the corner's net.
--- Assumes nothing.
 use mathlib.Core.Path.{_≡_, refl, ap, _∙_}
 use Prim.Native.Nat.{ℕ, _+_, _-_, _*_, _/_, _%_, _≤_, _<_}
 use native.Mathlib.Omega.{arith}

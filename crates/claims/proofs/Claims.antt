@@ -1,5 +1,4 @@
 -- Every theorem that paper's Claims states, from the crate that proves it.
--- Assumes nothing.
 use Rattle.paper.specs.Claims.{Claims}
 use Rattle.numbers.proofs.Rules.{rules}
 use Rattle.numbers.proofs.Fractions.{no-rounding}

@@ -1,5 +1,4 @@
 -- L8: with 8 and 8 throughout neither 27 nor 28 applies.
--- Assumes nothing.
 use mathlib.Core.Path.{_≡_, refl, ap, _∙_}
 use mathlib.Core.Bool.{not}
 use Prim.Native.Nat.{ℕ, zero, suc, _*_}

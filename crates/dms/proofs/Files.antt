@@ -1,5 +1,4 @@
 -- The ways out of surveying and decoding, as laws over lists: what each answers, and what the spaces then hold.
--- Assumes nothing.
 use mathlib.Core.Path.{_≡_, ap, _∙_, sym, subst}
 use mathlib.Core.Logic.{⊎-elim}
 use mathlib.Core.List.{List}

@@ -1,5 +1,4 @@
 -- A file of version 1 has 8 and 8 throughout.
--- Assumes nothing.
 use mathlib.Core.Path.{_≡_, ap, _∙_}
 use mathlib.Core.Bool.{false}
 use mathlib.Core.List.{List}

@@ -1,5 +1,4 @@
 -- A list whose numbers are all 8 so far, at its end and at a number that is another.
--- Assumes nothing.
 use mathlib.Core.Path.{_≡_, refl, sym, ap, _∙_}
 use mathlib.Core.Bool.{true, false, true≢false}
 use mathlib.Core.List.{List}

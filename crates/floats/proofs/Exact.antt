@@ -1,6 +1,5 @@
 -- Whole numbers up to 2^24, and multiples of 4,096 up to 2^31, are values of an f32: the float of such a number has its value, reads back as
 -- it, and is the number's f64 as well.
--- Assumes nothing.
 use mathlib.Core.Path.{_≡_, refl, sym, ap, _∙_, subst}
 use mathlib.Core.Bool.{Bool, true, false, not, _&&_}
 use Prim.Native.Nat.{ℕ, zero, suc, _+_, _-_, _*_, _/_, _^_, _≤_, _<_, min}

@@ -1,6 +1,5 @@
 -- What the owner is told of an answer: a far pair is what 02 says of it, the whole-number sum of what comes back is the difference, and there is
 -- one answer, to the bit.
--- Assumes nothing.
 use mathlib.Core.Path.{_≡_, refl, sym, ap, _∙_}
 use mathlib.Core.Bool.{Bool, true, false}
 use mathlib.Core.List.{List, [], _∷_}

@@ -1,5 +1,4 @@
 -- The ways out of the search, as laws over a mesh; and what an accepted mesh gives to the counting of corners.
--- Assumes nothing.
 use mathlib.Core.Path.{_≡_, refl, ap, _∙_, sym}
 use mathlib.Core.Bool.{Bool, true, false, not}
 use mathlib.Core.List.{List}

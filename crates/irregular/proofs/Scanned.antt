@@ -1,5 +1,4 @@
 -- A search that stops at what it finds: n numbers, a test, the lowest found so far (n where there is none), and the number looked at next.
--- Assumes nothing.
 use mathlib.Core.Path.{_≡_, sym}
 use mathlib.Core.Bool.{Bool, true, false}
 use mathlib.Core.Logic.{⊎-elim}

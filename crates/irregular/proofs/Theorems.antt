@@ -1,6 +1,5 @@
 -- The answer agrees with the lines of `inspect`. A number of sides other than 4 stands among the faces exactly when a line other than 4's
 -- counts faces, since all numbers of sides have a line; so for the vertices.
--- Assumes nothing.
 use mathlib.Core.Path.{_≡_, refl, sym, ap, _∙_}
 use mathlib.Core.Bool.{Bool, true, false, not, _&&_}
 use mathlib.Core.Logic.{⊎-elim}

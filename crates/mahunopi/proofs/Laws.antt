@@ -1,5 +1,4 @@
 -- A wrapped call's answer, as number and place; a list copied into the beginning of a lent one.
--- Assumes nothing.
 use mathlib.Core.Path.{_≡_, refl, sym, ap, _∙_, subst}
 use mathlib.Core.Bool.{true, false, _||_}
 use mathlib.Core.List.{List}

@@ -1,6 +1,5 @@
 -- What each fault's absence says, and the rings of an accepted mesh: as many links as a vertex has corners lead back, and fewer do not;
 -- likewise for the steps around a face.
--- Assumes nothing.
 use mathlib.Core.Path.{_≡_, refl, ap, _∙_, sym, subst}
 use mathlib.Core.Bool.{true, false, not, _||_}
 use mathlib.Core.Logic.{⊎-elim}

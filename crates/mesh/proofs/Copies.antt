@@ -1,5 +1,4 @@
 -- A list copied to the beginning of a lent one, value by value.
--- Assumes nothing.
 use mathlib.Core.Path.{_≡_, refl}
 use mathlib.Core.List.{List, _++_}
 use Prim.Native.Nat.{ℕ, suc, _+_, _<_}

@@ -1,5 +1,4 @@
 -- A corner's face, and its next and previous corner: both stay in the face and undo each other; where the faces start.
--- Assumes nothing.
 use mathlib.Core.Path.{_≡_, refl, ap, _∙_, sym, subst}
 use mathlib.Core.Logic.{⊎-elim}
 use mathlib.Core.List.{List, [], _∷_}

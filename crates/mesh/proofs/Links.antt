@@ -1,6 +1,5 @@
 -- Links of closed tables, those with no fault of 6, 10 and 11: since an edge leaves one corner, the link is the next corner of the
 -- reverse, and links are a permutation. At the end, the link table entry by entry.
--- Assumes nothing.
 use mathlib.Core.Path.{_≡_, refl, ap, _∙_, sym}
 use mathlib.Core.Bool.{true}
 use mathlib.Core.Logic.{⊎-elim}

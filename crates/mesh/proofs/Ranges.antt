@@ -1,5 +1,4 @@
 -- Tests joined by "or", and a number's place in a range.
--- Assumes nothing.
 use mathlib.Core.Path.{_≡_, refl}
 use mathlib.Core.Bool.{Bool, true, false, _||_, true≢false}
 use Prim.Native.Nat.{ℕ, _<_, _≤_}

@@ -1,6 +1,5 @@
 -- A step that keeps a finite set and is injective on it, followed from a member: it comes back, and it meets every member
 -- where it comes back after as many steps as there are members. Met members are counted one at a time.
--- Assumes nothing.
 use mathlib.Core.Path.{_≡_, refl, ap, _∙_, sym, subst}
 use mathlib.Core.Bool.{Bool, true, false, not, _&&_}
 use mathlib.Core.Logic.{⊎-elim}

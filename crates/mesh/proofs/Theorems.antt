@@ -1,6 +1,5 @@
 -- Each corner of an accepted mesh has what `Manifold` says: next and previous from the faces, links from the absence of 10 and 11,
 -- rings from that of 13.
--- Assumes nothing.
 use mathlib.Core.Path.{ap}
 use Prim.Native.Nat.{_<_}
 use native.Mathlib.Omega.{arith}

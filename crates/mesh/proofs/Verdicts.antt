@@ -1,5 +1,4 @@
 -- Steps of a chain of checks: what a verdict says of its checks, and how the answer of one check joins the chain.
--- Assumes nothing.
 use mathlib.Core.Path.{_≡_, refl, ap, _∙_, sym}
 use mathlib.Core.Bool.{Bool, true, false}
 use Prim.Native.Nat.{ℕ, _<_}

@@ -1,5 +1,4 @@
 -- What the mirror of a list is, computed: two points on each axis, and no other axis.
--- Assumes nothing.
 use mathlib.Core.Path.{_≡_, refl}
 use mathlib.Core.List.{List, [], _∷_}
 use lib.IntN.{ℤ, pos, negsuc}

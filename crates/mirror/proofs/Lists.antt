@@ -1,5 +1,4 @@
 -- A list with one axis negated, number by number, and the values of a function with one axis negated.
--- Assumes nothing.
 use mathlib.Core.Path.{_≡_, refl, sym, ap, _∙_}
 use mathlib.Core.Bool.{Bool, true, false, not}
 use mathlib.Core.List.{List}

@@ -1,5 +1,4 @@
 -- Where the refined points of an axis are turned, so is every value of a quad-net, formula by formula in the order of 01, and so its 41 points.
--- Assumes nothing.
 use mathlib.Core.Path.{_≡_, sym, ap, _∙_}
 use mathlib.Core.List.{List, map}
 use Prim.Native.Nat.{ℕ, zero, suc, _+_, _*_}

@@ -1,5 +1,4 @@
 -- The mirror theorem. Of coordinates the checks read the number and, by 7, the size, which a sign does not alter; the construction turns with the sign.
--- Assumes nothing.
 use mathlib.Core.Path.{_≡_, refl, sym, ap, _∙_}
 use mathlib.Core.Bool.{Bool, true, false, _||_}
 use mathlib.Core.List.{List}

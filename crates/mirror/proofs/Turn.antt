@@ -1,6 +1,5 @@
 -- What negating an axis, or leaving it, does to numbers: it goes through sums, differences, multiples and r. One law for both, so that every
 -- axis is treated at once.
--- Assumes nothing.
 use mathlib.Core.Path.{_≡_, refl}
 use mathlib.Core.Bool.{Bool, true, false}
 use Prim.Native.Nat.{ℕ}

@@ -1,5 +1,4 @@
 -- Small tables with answers worked out apart, computed from the definitions: the order of the checks, their places, and listings.
--- Assumes nothing.
 use mathlib.Core.Path.{_≡_, refl}
 use mathlib.Core.List.{[], _∷_}
 use lib.ListN.{replicate}

@@ -1,5 +1,4 @@
 -- What each test of the code says of the table, what the marks tell, and the turns of the loops that list and copy.
--- Assumes nothing.
 use mathlib.Core.Path.{_≡_, refl, sym, ap, _∙_, subst}
 use mathlib.Core.Bool.{Bool, true, false, not, _&&_}
 use mathlib.Core.Logic.{⊎-elim}

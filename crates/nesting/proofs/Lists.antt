@@ -1,5 +1,4 @@
 -- A body's place in a list, a list with one body more, and how often a body stands in it.
--- Assumes nothing.
 use mathlib.Core.Path.{_≡_, refl, sym, ap, _∙_}
 use mathlib.Core.Bool.{Bool, true, false}
 use mathlib.Core.Logic.{⊎-elim}

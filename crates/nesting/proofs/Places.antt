@@ -1,6 +1,5 @@
 -- The listing as it is filled. While a body is unlisted whose chain leads to the Sun, some body of that chain may follow; and a listed
 -- body's chain goes through listed ones to the Sun. So a filling that stops has listed exactly the bodies whose chains end at the Sun.
--- Assumes nothing.
 use mathlib.Core.Path.{_≡_, refl, sym, ap, _∙_, subst}
 use mathlib.Core.Bool.{Bool, true, false, not, _||_}
 use mathlib.Core.Logic.{⊎-elim}

@@ -1,6 +1,5 @@
 -- L4's theorems: a table is accepted exactly when every chain ends at the Sun; the listing of an accepted table holds each body once,
 -- after the one it hangs in, with none lower possible, and is the only such list.
--- Assumes nothing.
 use mathlib.Core.Path.{_≡_, refl, sym, ap, _∙_, subst}
 use mathlib.Core.Bool.{Bool, true, false, not}
 use mathlib.Core.Logic.{⊎-elim}

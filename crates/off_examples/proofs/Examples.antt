@@ -1,6 +1,5 @@
 -- Examples of L6, with values worked out apart: words (each word's bytes, then -1), numbers (none where a word is no number), and
 -- texts: number and place, marked by -1 before them, or the four lengths and then the four lists.
--- Assumes nothing.
 use mathlib.Core.Bool.{cond}
 use mathlib.Core.List.{List, [], _∷_, _++_}
 use Prim.Native.Nat.{ℕ}

@@ -1,5 +1,4 @@
 -- L6's theorems. Words are read in order, so all words before one that is read are there, and a missing word's number is the number of words.
--- Assumes nothing.
 use mathlib.Core.Path.{_≡_, refl, sym, ap, _∙_, subst}
 use mathlib.Core.Bool.{Bool, true, false, not}
 use mathlib.Core.List.{List, [], _∷_}

@@ -1,5 +1,4 @@
 -- The moved list in the beginning of a lent one; the ways out of a preview, as laws over a mesh.
--- Assumes nothing.
 use mathlib.Core.Path.{_≡_, refl, sym, ap, _∙_}
 use mathlib.Core.Bool.{Bool, true, false, not, _||_, true≢false}
 use mathlib.Core.Logic.{⊎-elim}

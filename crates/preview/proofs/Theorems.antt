@@ -1,5 +1,4 @@
 -- What is said of building holds of previews: where the vertex is one, a preview is building on the moved lists.
--- Assumes nothing.
 use mathlib.Core.Path.{_≡_, ap, _∙_, subst}
 use mathlib.Core.Logic.{⊎-elim}
 use native.Mathlib.Omega.{arith}

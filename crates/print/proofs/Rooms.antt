@@ -1,5 +1,4 @@
 -- The lines of a file have room in the answer, 64 bytes for each; the line of m by the sum of its numbers.
--- Assumes nothing.
 use mathlib.Core.Path.{_≡_, refl, sym, ap, _∙_}
 use mathlib.Core.Bool.{true, false, _&&_}
 use mathlib.Core.List.{List, [], _∷_, _++_}

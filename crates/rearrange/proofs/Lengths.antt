@@ -1,5 +1,4 @@
 -- Checks 30 and 31, from the tests of the code; and what a call then answers and holds.
--- Assumes nothing.
 use mathlib.Core.Path.{_≡_, refl, sym, ap, _∙_}
 use mathlib.Core.Bool.{not}
 use mathlib.Core.List.{List}

@@ -1,6 +1,5 @@
 -- Two descriptions of a mesh that agree at each corner give the same net of a corner where they have the same refined points in its rings:
 -- the construction looks at no others. The laws of one hold of the other.
--- Assumes nothing.
 use mathlib.Core.Path.{_≡_, refl, sym, ap, _∙_}
 use Prim.Native.Nat.{ℕ, zero, suc, _+_, _-_, _<_}
 use native.Mathlib.Omega.{arith}

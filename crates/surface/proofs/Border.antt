@@ -1,6 +1,5 @@
 -- A border: what the two sides have in common, and the two rules that the table gives across it.
 -- Sides 0 and 1 are shown; a border seen from its other side is one too (`turn`), which gives sides 2 and 3.
--- Assumes nothing.
 use mathlib.Core.Path.{_≡_, refl, sym, ap, _∙_, subst}
 use Prim.Native.Nat.{ℕ, _+_, _-_, _*_, _^_, _<_, _≤_}
 use native.Mathlib.Omega.{arith}

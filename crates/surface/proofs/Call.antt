@@ -1,5 +1,4 @@
 -- What a call of building that is not refused tells: the mesh is accepted, its range lies within the corners, and what its output holds.
--- Assumes nothing.
 use mathlib.Core.Path.{_≡_, sym, ap, _∙_}
 use mathlib.Core.Bool.{Bool, true, false, _||_, true≢false}
 use mathlib.Core.List.{List}

@@ -1,5 +1,4 @@
 -- With 8 and 8 throughout, the refined points are those of 01: dividend and divisor have the factor 64 in common.
--- Assumes nothing.
 use mathlib.Core.Path.{_≡_, refl, ap, fun-ext}
 use Prim.Native.Nat.{ℕ, zero, suc, _+_, _*_}
 use native.Mathlib.Omega.{arith}

@@ -1,6 +1,5 @@
 -- One refined face: where its ring starts does not matter, and how far three neighbouring face points are from the rule of the cosine table.
 -- Of rounding it is used that it is off by at most half; of the table its fourth rule, that C(m,1) is not below -1/2, and that row 4 is exact.
--- Assumes nothing.
 use mathlib.Core.Path.{_≡_, sym, ap, _∙_}
 use mathlib.Core.Logic.{⊎-elim}
 use Prim.Native.Nat.{ℕ, zero, suc, _+_, _-_, _*_, _^_, _<_, _≤_}

@@ -1,6 +1,5 @@
 -- The refined point of a corner is a rounded mean of vertices, so it stays within their size: 2^24 ticks.
 -- The corners of an accepted mesh then have all laws of `Sound`: the absence of faults gives them (mesh: `manifold`).
--- Assumes nothing.
 use mathlib.Core.Path.{_≡_, refl, ap}
 use mathlib.Core.Bool.{Bool, true, false, _||_, true≢false}
 use mathlib.Core.Logic.{⊎-elim}

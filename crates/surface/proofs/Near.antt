@@ -1,6 +1,5 @@
 -- The rings of a corner of an accepted mesh lie in the faces at its vertex (`ring-near`), and each of their corners is at a vertex of its own face
 -- (`ring-seen`), so its net looks at the refined points of these corners only.
--- Assumes nothing.
 use mathlib.Core.Path.{_≡_, refl, sym, ap, _∙_}
 use Prim.Native.Nat.{ℕ, zero, suc, _%_, _<_}
 use Rattle.paper.specs.Scan.{iterate}

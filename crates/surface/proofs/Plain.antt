@@ -1,6 +1,5 @@
 -- What each formula of a quad-net gives for numbers of the sizes it is given, q the rounded value: cited where a formula is computed and where its
 -- value at a corner is told.
--- Assumes nothing.
 use Prim.Native.Nat.{_*_, _^_, _≤_}
 use native.Mathlib.Omega.{arith}
 use lib.IntN.{ℤ, pos, natAbs, _+ℤ_, _-ℤ_, _*ℤ_}

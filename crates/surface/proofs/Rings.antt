@@ -1,5 +1,4 @@
 -- The refined faces round a corner as rings of corners: they close, and the leaving edge's is the same seen from the corner across.
--- Assumes nothing.
 use mathlib.Core.Path.{_≡_, refl, sym, ap, _∙_}
 use Prim.Native.Nat.{ℕ, zero, suc, _+_, _%_, _^_, _<_, _≤_}
 use native.Mathlib.Nat.{add-mod-right, mod-add-mod, mod-lt}

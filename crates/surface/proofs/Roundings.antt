@@ -1,6 +1,5 @@
 -- Each value of a net is the rounding of a sum over a divisor (`outer1-is` ..); `near-is` of rounding makes of it that the value is off by at most half.
 -- Nothing else of rounding is used for sizes and borders.
--- Assumes nothing.
 use mathlib.Core.Path.{_≡_, refl}
 use Prim.Native.Nat.{ℕ, _*_}
 use lib.IntN.{ℤ, pos, _+ℤ_, _-ℤ_, _*ℤ_}

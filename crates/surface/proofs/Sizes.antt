@@ -1,6 +1,5 @@
 -- Sizes at a corner of an accepted mesh: the ends, the face points with their sums before the division, the inner points and all 41 points.
 -- The weights of a face point add up, signs dropped, to at most 10/9 of its divisor: one computed test over all rows (`heavy`).
--- Assumes nothing.
 use mathlib.Core.Path.{_≡_, _∙_, ap, refl, subst}
 use mathlib.Core.Bool.{Bool}
 use mathlib.Core.List.{List, [], _∷_}

@@ -1,5 +1,4 @@
 -- Bounds on both sides of zero: multiplied by a number that is not negative, divided by a positive one, and from sizes.
--- Assumes nothing.
 use Prim.Native.Nat.{ℕ, _*_, _<_, _≤_}
 use native.Mathlib.Omega.{arith}
 use lib.IntN.{ℤ, pos, _+ℤ_, _*ℤ_, negℤ, natAbs}

@@ -1,5 +1,4 @@
 -- Marks one corner and one face further; a vertex stands with u in some face exactly when u touches its corners; the ways out.
--- Assumes nothing.
 use mathlib.Core.Path.{_≡_, refl, sym, ap, _∙_, subst}
 use mathlib.Core.Bool.{Bool, true, false, not, _&&_, _||_}
 use mathlib.Core.Logic.{⊎-elim}

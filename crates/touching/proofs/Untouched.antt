@@ -1,6 +1,5 @@
 -- A corner that the vertex does not touch has the same numbers before and after the move: its net looks at the refined points of the faces at its
 -- vertex, and none of these faces has the moved vertex.
--- Assumes nothing.
 use mathlib.Core.Path.{_≡_, refl, sym, ap, _∙_}
 use mathlib.Core.Bool.{Bool, true, false, _&&_}
 use mathlib.Core.List.{List}

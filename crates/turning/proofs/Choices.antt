@@ -1,5 +1,4 @@
 -- Laws of choices: a search over all of them finds one where there is one.
--- Assumes nothing.
 use mathlib.Core.Path.{_≡_, refl, ap, _∙_}
 use mathlib.Core.Bool.{Bool, true, false}
 use mathlib.Core.Logic.{⊎-elim}

@@ -1,7 +1,6 @@
 -- Edges and turned edges, as tests on two corners: d's edge is c's, and d's edge is the reverse of c's. Where each edge, direction
 -- ignored, has two corners, a corner's turned edge has a reverse exactly when the two corners are turned unlike if and only if they had
 -- the same direction; and then it is not repeated. Where all turned edges are unrepeated and reversed, each edge has two corners.
--- Assumes nothing.
 use mathlib.Core.Path.{_≡_, refl, ap, _∙_, sym, subst}
 use mathlib.Core.Bool.{Bool, true, false, cond, _||_}
 use mathlib.Core.Logic.{_⊎_, inl, inr, ⊎-elim}

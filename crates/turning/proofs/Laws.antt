@@ -1,5 +1,4 @@
 -- The steps of the call: what each check leaves for the next, and what the call answers and writes.
--- Assumes nothing.
 use mathlib.Core.Path.{_≡_, refl, ap, _∙_, sym}
 use mathlib.Core.Bool.{not}
 use mathlib.Core.List.{List}

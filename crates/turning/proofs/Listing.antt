@@ -1,5 +1,4 @@
 -- The faces of a choice as a list: each higher than the one before, and those that are turned and no others.
--- Assumes nothing.
 use mathlib.Core.Path.{_≡_, ap, _∙_, sym, subst}
 use mathlib.Core.Bool.{Bool, true, false}
 use mathlib.Core.Logic.{⊎-elim}

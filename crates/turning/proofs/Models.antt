@@ -1,5 +1,4 @@
 -- Turned models, list by list: choices that agree on the faces turn them alike, turning twice gives a model back, and turning no face leaves it.
--- Assumes nothing.
 use mathlib.Core.Path.{_≡_, refl, ap, _∙_, sym, subst}
 use mathlib.Core.Bool.{Bool, true, false}
 use mathlib.Core.Logic.{⊎-elim}

@@ -1,5 +1,4 @@
 -- A test that two numbers below a bound pass: from one of them the other is found, and the other way round.
--- Assumes nothing.
 use mathlib.Core.Path.{_≡_, refl, _∙_, sym, subst}
 use mathlib.Core.Bool.{Bool, true, false, _&&_}
 use mathlib.Core.Logic.{_⊎_, inl, inr, ⊎-elim}

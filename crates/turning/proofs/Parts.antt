@@ -1,7 +1,6 @@
 -- Constraints between faces: a corner has a partner in another face, and a label says whether the two faces are to be turned unlike.
 -- Faces are connected where no closed set of faces parts them. A choice that meets every constraint of a part is fixed by its value at
 -- one face, and choices for the parts join to one choice for all.
--- Assumes nothing.
 use mathlib.Core.Path.{_≡_, refl, ap, _∙_, sym}
 use mathlib.Core.Bool.{Bool, true, false, not, xor}
 use mathlib.Core.Logic.{⊎-elim}

@@ -1,5 +1,4 @@
 -- Steps over shared edges: the faces that k steps lead to grow with k until nothing is new, which takes at most as many steps as there are faces.
--- Assumes nothing.
 use mathlib.Core.Path.{_≡_, refl, ap, subst}
 use mathlib.Core.Bool.{Bool, true, false, not, _&&_}
 use mathlib.Core.Logic.{_⊎_, inl, inr, ⊎-elim}

@@ -1,6 +1,5 @@
 -- Which models can be turned. Lists that pass 4 to 9 have a choice of turns that serves exactly when no corner has fault 34 and no face
 -- fault 35; then the choice that keeps the lowest face of each part is the only one.
--- Assumes nothing.
 use mathlib.Core.Path.{_≡_, refl, ap, _∙_, sym, subst}
 use mathlib.Core.Bool.{Bool, true, false, not, _&&_, _||_}
 use mathlib.Core.Logic.{⊎-elim}

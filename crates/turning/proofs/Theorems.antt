@@ -1,5 +1,4 @@
 -- The theorems of L13, over the call's record: they follow from which models can be turned, and hold of every call whatever its code.
--- Assumes nothing.
 use mathlib.Core.Path.{_≡_, refl, ap, _∙_, sym, subst}
 use mathlib.Core.Bool.{Bool, true, false, not}
 use mathlib.Core.List.{List}

@@ -1,6 +1,5 @@
 -- A turned face, corner by corner: its corner c has the leaving edge of another corner of the face, reversed. The corner is the one as
 -- far from the face's last corner as c is from its first.
--- Assumes nothing.
 use mathlib.Core.Path.{_≡_, refl, ap, _∙_, sym}
 use mathlib.Core.Bool.{Bool, true, false, cond, xor, _&&_, and-comm}
 use mathlib.Core.Logic.{⊎-elim}

@@ -1,6 +1,5 @@
 -- Laws of the table of corners: where a step leads, that a table with n rows is the table of the corners that it tells, and what stands
 -- in a table after a store.
--- Assumes nothing.
 use mathlib.Core.Path.{_≡_, refl, _∙_}
 use mathlib.Core.Bool.{Bool, true, false}
 use mathlib.Core.List.{List}

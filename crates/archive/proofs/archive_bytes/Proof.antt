@@ -1,11 +1,9 @@
 -- The lent list has a number for each four bytes.
--- Assumes nothing.
 use lib.ListN.{length, length-take}
 use denote.Ref.{now}
 use native.Mathlib.Nat.{div-add-mod}
 use native.Mathlib.Omega.{arith}
 use borrow.Author.Needs.{needs}
-use Rattle.archive.proofs.archive_bytes.Statement.{statement}
 use Rattle.archive.proofs.archive_bytes.Tie as tie
 
 slice-aggregate-archive-numbers : tie.Need-slice-aggregate-archive-numbers
@@ -16,7 +14,7 @@ archive-numbers-requires c κs =
     let n = length (now (c .before .before .before .before .before .args .bytes)) in
     simp length-take (omega (arith, c .before .before .least .ensures, div-add-mod n 4))
 
-pub archive-bytes-spec : {M : Type 1} → statement M
+pub archive-bytes-spec : {M : Type 1} → Rattle.archive.proofs.archive_bytes.Statement.statement M
 archive-bytes-spec =
     tie.close (tie.spec (λ c κs. search needs) (λ c κs. search needs) (λ c. search needs) slice-aggregate-archive-numbers archive-numbers-requires
     (λ c. search needs) (λ c. search needs))

@@ -1,10 +1,8 @@
 -- A refusal of the file decides; else the room does.
--- Assumes nothing.
 use borrow.Author.Needs.{needs}
 use Rattle.mesh.proofs.Verdicts.{passed, stop, past}
 use Rattle.paper.specs.File.{decodeVerdict}
 use Rattle.dms.proofs.Files.{file-sized}
-use Rattle.dms.proofs.check_decode.Statement.{statement}
 use Rattle.dms.proofs.check_decode.Tie as tie
 
 returns : tie.Need-returns
@@ -18,5 +16,5 @@ returns-2 : tie.Need-returns-2
 unfolding decodeVerdict
 returns-2 c = past (passed _ (c .before .before .before .survey-file .ensures .answers) (c .before .enum-told .given .1)) _ (c .check-room .ensures)
 
-pub check-decode-spec : {M : Type 1} → statement M
+pub check-decode-spec : {M : Type 1} → Rattle.dms.proofs.check_decode.Statement.statement M
 check-decode-spec = tie.close (tie.spec (λ c κs. search needs) (λ c. search needs) returns (λ c. search needs) check-room-requires returns-2)

@@ -1,12 +1,10 @@
 -- A refusal writes nothing. Else the header passes and there is room, so the lists are read into the spaces.
--- Assumes nothing.
 use mathlib.Core.Path.{sym, ap, _∙_}
 use Prim.Native.Nat.{ℕ, _*_}
 use borrow.Author.Needs.{needs}
 use Rattle.mesh.proofs.Verdicts.{passed}
 use Rattle.paper.specs.Faults.{stated}
 use Rattle.dms.proofs.Files.{refused-decode, done-decode, decode-sized, decode-room}
-use Rattle.dms.proofs.decode_file.Statement.{statement}
 use Rattle.dms.proofs.decode_file.Tie as tie
 
 returns : tie.Need-returns
@@ -47,7 +45,7 @@ returns-2 c =
     (sym (ap stated (t .enum-told .given .1)) ∙ t .before .before .check-decode .ensures)
     (c .before .before .before .before .before .before .before .before .before .before .before .read-lists .ensures)
 
-pub decode-file-spec : {M : Type 1} → statement M
+pub decode-file-spec : {M : Type 1} → Rattle.dms.proofs.decode_file.Statement.statement M
 decode-file-spec =
     tie.close (tie.spec (λ c κs. search needs) (λ c. search needs) (λ c κs. search needs) returns (λ c. search needs) read-lists-requires
     vertex-count-requires (λ c. search needs) face-count-requires corner-count-requires corner-count-requires-2 (λ c. search needs) (λ c. search needs)

@@ -1,5 +1,4 @@
 -- The ways out of the header's check, and what a header that passes says of the file.
--- Assumes nothing.
 use mathlib.Core.Path.{_≡_, sym}
 use mathlib.Core.Bool.{true, false, not}
 use mathlib.Core.List.{List}

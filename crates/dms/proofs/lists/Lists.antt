@@ -1,6 +1,5 @@
 -- Numbers below zero by their bits; the lengths of a file's lists;
 -- the sharpness list of either version.
--- Assumes nothing.
 use mathlib.Core.Path.{_≡_, refl, ap, _∙_, sym}
 use mathlib.Core.Bool.{true, false}
 use mathlib.Core.List.{List}

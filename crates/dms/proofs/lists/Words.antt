@@ -1,5 +1,4 @@
 -- The 32 bits of a number on both sides of zero.
--- Assumes nothing.
 use mathlib.Core.Path.{_≡_, refl, ap}
 use mathlib.Core.Bool.{true, false, true≢false}
 use Prim.Native.Nat.{ℕ, suc, _-_, _<_, _≤_}

@@ -1,5 +1,4 @@
 -- The lists that were read are those of the file's mesh, so what is answered of them is answered of it.
--- Assumes nothing.
 use mathlib.Core.Path.{ap, subst, _∙_}
 use Prim.Native.Nat.{ℕ, _*_}
 use borrow.Author.Needs.{needs}
@@ -8,7 +7,6 @@ use Rattle.paper.specs.Faults.{verdict}
 use Rattle.paper.specs.File.{fileMesh, Surveyed}
 use Rattle.dms.proofs.lists.Lists.{read-length, file-coordinates, file-faces, file-corners, file-sharpness}
 use Rattle.dms.proofs.Files.{mesh-read}
-use Rattle.dms.proofs.survey_lists.Statement.{statement}
 use Rattle.dms.proofs.survey_lists.Tie as tie
 
 slice-aggregate-survey-mesh : tie.Need-slice-aggregate-survey-mesh
@@ -49,7 +47,7 @@ returns c =
     in
     subst (λ (M : Mesh). Surveyed M (verdict M) (c .survey-mesh .result)) read (c .survey-mesh .ensures)
 
-pub survey-lists-spec : {M : Type 1} → statement M
+pub survey-lists-spec : {M : Type 1} → Rattle.dms.proofs.survey_lists.Statement.statement M
 survey-lists-spec =
     tie.close (tie.spec (λ c. search needs) (λ c. search needs) (λ c. search needs) (λ c. search needs) (λ c κs. search needs) (λ c κs. search needs)
     (λ c. search needs) (λ c κs. search needs) (λ c κs. search needs) (λ c. search needs) slice-aggregate-survey-mesh (λ c. search needs)

@@ -1,5 +1,4 @@
 -- The tally of the corner list holds each vertex's corners; the tallies of those and of the side counts are the counts for each m.
--- Assumes nothing.
 use mathlib.Core.Path.{_≡_, ap, _∙_, sym, fun-ext}
 use mathlib.Core.List.{List}
 use Prim.Native.Nat.{ℕ, _+_, _<_, _≤_}

@@ -1,5 +1,4 @@
 -- The ways out of surveying, as laws: what each answers.
--- Assumes nothing.
 use mathlib.Core.Path.{_≡_}
 use Prim.Native.Nat.{ℕ, _≤_}
 use native.Mathlib.Omega.{arith}

@@ -1,5 +1,4 @@
 -- A tally grows by one number: its own entry by one, no other.
--- Assumes nothing.
 use mathlib.Core.Path.{_≡_, ap, _∙_, sym}
 use mathlib.Core.Logic.{⊎-elim}
 use mathlib.Core.List.{List}

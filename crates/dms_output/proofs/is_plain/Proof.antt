@@ -1,11 +1,9 @@
 -- After i turns the first i numbers are 8.
--- Assumes nothing.
 use Prim.Native.Nat.{_-_, _≤_}
 use lib.ListN.{length}
 use native.Mathlib.Omega.{arith}
 use borrow.Author.Needs.{needs}
 use Rattle.dms_output.proofs.Plainness.{PlainTo, plain-step, plain-whole, plain-not}
-use Rattle.dms_output.proofs.is_plain.Statement.{statement}
 use Rattle.dms_output.proofs.is_plain.Tie as tie
 
 abbrev Inv-loop : tie.InvT-loop
@@ -28,5 +26,5 @@ loop-again c =
 returns-2 : tie.Need-returns-2 Inv-loop μ-loop
 returns-2 c = plain-whole (c .before .before .args .sharpness .now) (c .before .loop .i) (omega arith) (c .before .loop .inv .1)
 
-pub is-plain-spec : {M : Type 1} → statement M
+pub is-plain-spec : {M : Type 1} → Rattle.dms_output.proofs.is_plain.Statement.statement M
 is-plain-spec = tie.close (tie.spec Inv-loop μ-loop loop-holds (λ c. search needs) returns (λ c. search needs) (λ c. search needs) loop-again returns-2)

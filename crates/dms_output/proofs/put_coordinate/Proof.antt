@@ -1,5 +1,4 @@
 -- The low half of the bits, and after it the high one.
--- Assumes nothing.
 use mathlib.Core.Path.{_≡_, ap, _∙_}
 use mathlib.Core.List.{_++_}
 use Prim.Native.Nat.{ℕ, _/_}
@@ -9,7 +8,6 @@ use mir.ValLaws.{toZ-ofZ}
 use Rattle.dms_output.specs.Bytes.{halfBytes}
 use Rattle.streams.proofs.text.Putting.{put-then, put-same}
 use borrow.Author.Needs.{needs}
-use Rattle.dms_output.proofs.put_coordinate.Statement.{statement}
 use Rattle.dms_output.proofs.put_coordinate.Tie as tie
 
 returns : tie.Need-returns
@@ -22,6 +20,6 @@ returns c =
     (put-then (c .before .before .before .before .before .before .put-half .kept .0)
     (c .before .before .before .before .before .before .put-half .ensures) (c .before .before .put-half2 .ensures))
 
-pub put-coordinate-spec : {M : Type 1} → statement M
+pub put-coordinate-spec : {M : Type 1} → Rattle.dms_output.proofs.put_coordinate.Statement.statement M
 put-coordinate-spec =
     tie.close (tie.spec (λ c κs. search needs) (λ c. search needs) (λ c κs. search needs) (λ c κs. search needs) (λ c. search needs) returns)

@@ -1,5 +1,4 @@
 -- After i turns the first i coordinates were put.
--- Assumes nothing.
 use mathlib.Core.Path.{_≡_, refl, ap, _∙_}
 use Prim.Native.Nat.{_-_, _≤_}
 use lib.ListN.{length, getD}
@@ -12,7 +11,6 @@ use Rattle.streams.proofs.text.Putting.{put-none, put-then, put-same}
 use Rattle.dms_output.specs.Bytes.{wordBytes, coordinateBytes}
 use Rattle.dms_output.proofs.Steps.{no-coordinates, next-coordinate}
 use borrow.Author.Needs.{needs}
-use Rattle.dms_output.proofs.put_coordinates.Statement.{statement}
 use Rattle.dms_output.proofs.put_coordinates.Tie as tie
 
 abbrev Inv-loop : tie.InvT-loop
@@ -51,7 +49,7 @@ returns c =
     let q : l .i ≡ length list = omega arith in
     put-same (ap (coordinateBytes list) q) (l .inv .2)
 
-pub put-coordinates-spec : {M : Type 1} → statement M
+pub put-coordinates-spec : {M : Type 1} → Rattle.dms_output.proofs.put_coordinates.Statement.statement M
 put-coordinates-spec =
     tie.close (tie.spec Inv-loop μ-loop loop-holds (λ c. search needs) shared-slice-copy-out-put-coordinate (λ c κs. search needs) (λ c. search needs)
     (λ c. search needs) loop-again same-length returns)

@@ -1,5 +1,4 @@
 -- After c turns the first c corners were put.
--- Assumes nothing.
 use mathlib.Core.Path.{_≡_, refl, ap, _∙_}
 use Prim.Native.Nat.{_-_, _≤_}
 use lib.ListN.{length}
@@ -9,7 +8,6 @@ use Rattle.streams.proofs.text.Putting.{put-none, put-then, put-same}
 use Rattle.dms_output.specs.Bytes.{cornerBytes}
 use Rattle.dms_output.proofs.Steps.{no-corners, next-corner}
 use borrow.Author.Needs.{needs}
-use Rattle.dms_output.proofs.put_corners.Statement.{statement}
 use Rattle.dms_output.proofs.put_corners.Tie as tie
 
 abbrev Inv-loop : tie.InvT-loop
@@ -45,7 +43,7 @@ returns c =
     let q : l .c ≡ length list = omega arith in
     put-same (ap (cornerBytes list) q) (l .inv .2)
 
-pub put-corners-spec : {M : Type 1} → statement M
+pub put-corners-spec : {M : Type 1} → Rattle.dms_output.proofs.put_corners.Statement.statement M
 put-corners-spec =
     tie.close (tie.spec Inv-loop μ-loop loop-holds (λ c. search needs) (λ c. search needs) cast-put-half (λ c κs. search needs) (λ c. search needs)
     (λ c. search needs) loop-again same-length returns)

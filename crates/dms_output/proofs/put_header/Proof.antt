@@ -1,8 +1,6 @@
 -- Mark, version and counts, one after the other.
--- Assumes nothing.
 use Rattle.streams.proofs.text.Putting.{put-then}
 use borrow.Author.Needs.{needs}
-use Rattle.dms_output.proofs.put_header.Statement.{statement}
 use Rattle.dms_output.proofs.put_header.Tie as tie
 
 returns : tie.Need-returns
@@ -17,7 +15,7 @@ returns c =
     (put-then (c .before .before .before .before .before .before .put-half3 .kept .0) (c .before .before .before .before .before .before .put-half3 .ensures)
     (c .before .before .put-half4 .ensures))))
 
-pub put-header-spec : {M : Type 1} → statement M
+pub put-header-spec : {M : Type 1} → Rattle.dms_output.proofs.put_header.Statement.statement M
 put-header-spec =
     tie.close (tie.spec (λ c. search needs) (λ c κs. search needs) (λ c κs. search needs) (λ c κs. search needs) (λ c κs. search needs)
     (λ c κs. search needs) (λ c. search needs) returns)

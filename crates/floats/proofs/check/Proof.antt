@@ -1,5 +1,4 @@
 -- Checks 18 to 20 meet their contract: each stops the chain with its fault or is passed.
--- Assumes nothing.
 use mathlib.Core.Path.{_≡_, sym, _∙_}
 use lib.ListN.{length}
 use denote.Ref.{now}
@@ -8,7 +7,6 @@ use Rattle.paper.specs.Faults.{sound, single, lowestOf}
 use Rattle.paper.specs.Floats.{fault18, fault19, fault20}
 use Rattle.mesh.proofs.Verdicts.{stop, passed, past}
 use Rattle.floats.proofs.Laws.{chain}
-use Rattle.floats.proofs.check.Statement.{statement}
 use Rattle.floats.proofs.check.Tie as tie
 
 -- after check 18
@@ -48,7 +46,7 @@ returns-3 c =
     let t = c .before in
     past (past-18 (t .before .before .before)) _ (past (past-19 t) _ (c .refused-if2 .ensures)) ∙ sym (chain _ _)
 
-pub check-spec : {M : Type 1} → statement M
+pub check-spec : {M : Type 1} → Rattle.floats.proofs.check.Statement.statement M
 check-spec =
     tie.close (tie.spec (λ c κs. search needs) (λ c. search needs) returns (λ c. search needs) (λ c κs. search needs) (λ c. search needs) returns-2
     (λ c. search needs) (λ c κs. search needs) returns-3)

@@ -1,5 +1,4 @@
 -- `floats::difference` meets its contract: 18 and 20 keep both places within the list, 19 keeps the difference within 32 bits.
--- Assumes nothing.
 use lib.IntN.{ℤ, pos, natAbs}
 use lib.ListN.{getD}
 use denote.Ref.{now}
@@ -8,7 +7,6 @@ use borrow.Author.Needs.{needs}
 use Prim.Native.Nat.{ℕ, _+_, _*_, _^_, _≤_, _<_}
 use Rattle.paper.specs.Floats.{difference}
 use Rattle.floats.proofs.Laws.{is-long, number-le, net-sound, point-le, less-fits, less-is, less-size}
-use Rattle.floats.proofs.difference.Statement.{statement}
 use Rattle.floats.proofs.difference.Tie as tie
 
 module _ (s : tie.Start) where
@@ -24,15 +22,6 @@ module _ (s : tie.Start) where
 
   small : (i : ℕ) → i < 123 → natAbs (getD (now (s .args .numbers)) i (pos 0)) ≤ 2 ^ 27
   small = number-le _ (net-sound _ _ (s .pre .0))
-
-mul-result : tie.Need-mul-result
-mul-result c = record { fits = omega (arith, at-most c) }
-
-add-result : tie.Need-add-result
-add-result c = record { fits = omega (arith, at-most c, c .pre .1) }
-
-mul-result-2 : tie.Need-mul-result-2
-mul-result-2 c = record { fits = omega (arith, at-most c, c .pre .1) }
 
 shared-slice-copy-out-result : tie.Need-shared-slice-copy-out-result
 shared-slice-copy-out-result c = omega (arith, at-most c, c .pre .1, is-long _ (net-sound _ _ (c .pre .0)))
@@ -54,7 +43,8 @@ returns c =
     let b = small s (s .args .axis) (omega (arith, s .pre .1)) in
     (less-is (there s) (here s) a b, less-size (there s) (here s) a b)
 
-pub difference-spec : {M : Type 1} → statement M
+pub difference-spec : {M : Type 1} → Rattle.floats.proofs.difference.Statement.statement M
 difference-spec =
-    tie.close (tie.spec mul-result add-result mul-result-2 shared-slice-copy-out-result (λ c. search needs) shared-slice-copy-out-result-2 sub-result
+    tie.close (tie.spec (λ c. record { fits = omega (arith, at-most c) }) (λ c. record { fits = omega (arith, at-most c, c .pre .1) })
+    (λ c. record { fits = omega (arith, at-most c, c .pre .1) }) shared-slice-copy-out-result (λ c. search needs) shared-slice-copy-out-result-2 sub-result
     returns)

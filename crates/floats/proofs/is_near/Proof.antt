@@ -1,8 +1,6 @@
 -- `floats::is_near` meets its contract: the first test that fails decides, and after two that pass the third does.
--- Assumes nothing.
 use borrow.Author.Needs.{needs}
 use Rattle.floats.proofs.Laws.{x-far, y-far, z-decides}
-use Rattle.floats.proofs.is_near.Statement.{statement}
 use Rattle.floats.proofs.is_near.Tie as tie
 
 returns : tie.Need-returns
@@ -26,5 +24,5 @@ returns-3 c =
     z-decides (s .args .x) (s .args .y) (s .args .z) (s .fits .x) (s .fits .y) (s .fits .z) (x .is-within .result) (y .is-within2 .result)
     (c .is-within3 .result) (x .is-within .ensures) (y .before .if1 .left) (y .is-within2 .ensures) (c .before .if2 .left) (c .is-within3 .ensures)
 
-pub is-near-spec : {M : Type 1} → statement M
+pub is-near-spec : {M : Type 1} → Rattle.floats.proofs.is_near.Statement.statement M
 is-near-spec = tie.close (tie.spec (λ c κs. search needs) returns (λ c κs. search needs) returns-2 (λ c κs. search needs) returns-3)

@@ -1,9 +1,7 @@
 -- `floats::is_within` meets its contract: both tests are made at 64 bits, where nothing overflows.
--- Assumes nothing.
 use mathlib.Core.Logic.{⊎-elim}
 use borrow.Author.Needs.{needs}
 use Rattle.floats.proofs.Laws.{wide-fits, minus-fits, is-below, is-above, is-between}
-use Rattle.floats.proofs.is_within.Statement.{statement}
 use Rattle.floats.proofs.is_within.Tie as tie
 
 cast-w : tie.Need-cast-w
@@ -25,5 +23,5 @@ returns-2 c =
     let s = c .before .before in
     is-between (s .args .z) (s .args .most) (s .fits .z) (s .fits .most .fits) (c .before .if1 .left) (c .if2 .left)
 
-pub is-within-spec : {M : Type 1} → statement M
+pub is-within-spec : {M : Type 1} → Rattle.floats.proofs.is_within.Statement.statement M
 is-within-spec = tie.close (tie.spec cast-w (λ c. search needs) sub-if1 returns returns-2)

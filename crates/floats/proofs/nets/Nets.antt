@@ -1,5 +1,4 @@
 -- Every net that building writes passes 18 and 19: it has 123 numbers, each below 2^26.
--- Assumes nothing.
 use mathlib.Core.Path.{_≡_, ap, _∙_, subst, sym}
 use mathlib.Core.Bool.{false, not}
 use mathlib.Core.List.{List}

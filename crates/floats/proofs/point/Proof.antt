@@ -1,5 +1,4 @@
 -- `floats::point` meets its contract: the checks' refusal, or the floats of the three differences.
--- Assumes nothing.
 use lib.Dec.{lit<}
 use borrow.Author.Needs.{needs}
 use mathlib.Core.Path.{_≡_}
@@ -8,7 +7,6 @@ use Rattle.paper.specs.Faults.{sound}
 use Rattle.paper.specs.Floats.{pointVerdict}
 use Rattle.mesh.proofs.Verdicts.{passed}
 use Rattle.floats.proofs.Laws.{point-refused, point-split}
-use Rattle.floats.proofs.point.Statement.{statement}
 use Rattle.floats.proofs.point.Tie as tie
 
 -- after the checks
@@ -42,7 +40,7 @@ returns-2 c =
     point-split _ _ (t .before .before .check .result) (t .before .before .check .ensures) (t .enum-told .given .1) (x .result) (y .result) (z .result)
     (x .ensures .1) (y .ensures .1) (z .ensures .1) (x .ensures .0) (y .ensures .0) (z .ensures .0) (c .split .result) (c .split .ensures)
 
-pub point-spec : {M : Type 1} → statement M
+pub point-spec : {M : Type 1} → Rattle.floats.proofs.point.Statement.statement M
 point-spec =
     tie.close (tie.spec (λ c κs. search needs) (λ c. search needs) returns (λ c. search needs) difference-requires difference-requires-2
     difference-requires-3 (λ c κs. search needs) returns-2)

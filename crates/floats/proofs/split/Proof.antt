@@ -1,5 +1,4 @@
 -- `floats::split` meets its contract: the test picks the case, and each float carries its part.
--- Assumes nothing.
 use borrow.Author.Needs.{needs}
 use mathlib.Core.Path.{_≡_, sym, _∙_}
 use mathlib.Core.Bool.{Bool, true}
@@ -9,7 +8,6 @@ use mir.Syntax.{w32}
 use mir.Val.{toZ, ofZ}
 use Rattle.paper.specs.Floats.{isNear}
 use Rattle.floats.proofs.Laws.{d-bits, near-x, near-y, near-z, near-split, far-split}
-use Rattle.floats.proofs.split.Statement.{statement}
 use Rattle.floats.proofs.split.Tie as tie
 
 -- what `first` asks of each difference
@@ -55,7 +53,7 @@ returns-2 c =
     (f .before .before .before .first .ensures) (f .before .before .first2 .ensures) (f .before .first3 .ensures) _
     (c .before .before .second .ensures) (c .before .second2 .ensures) (c .second3 .ensures) (f .if1 .left)
 
-pub split-spec : {M : Type 1} → statement M
+pub split-spec : {M : Type 1} → Rattle.floats.proofs.split.Statement.statement M
 split-spec =
     tie.close (tie.spec (λ c κs. search needs) first-requires first-requires-2 first-requires-3 returns (λ c κs. search needs) (λ c κs. search needs)
     (λ c κs. search needs) returns-2)

@@ -1,5 +1,4 @@
 -- `search_faces` meets its contract: what is found is the lowest, and as many side counts were read as faces looked at.
--- Assumes nothing.
 use mathlib.Core.Path.{_≡_, sym, subst}
 use mathlib.Core.Logic.{⊎-elim}
 use Prim.Native.Nat.{ℕ, _+_, _-_, _<_, _≤_}
@@ -9,7 +8,6 @@ use Rattle.irregular.proofs.Laws.{face-odd, face-square}
 use Rattle.irregular.proofs.Scanned.{Scanned, scan-start, scan-hit, scan-miss, scan-end, scan-all}
 use native.Mathlib.Omega.{arith}
 use borrow.Author.Needs.{needs}
-use Rattle.irregular.proofs.search_faces.Statement.{statement}
 use Rattle.irregular.proofs.search_faces.Tie as tie
 
 abbrev Inv-loop : tie.InvT-loop
@@ -50,5 +48,5 @@ returns c =
       read-all = λ h. omega (arith, scan-all _ _ (l .lowest) (l .f) (l .inv .1) over h);
     }
 
-pub search-faces-spec : {M : Type 1} → statement M
+pub search-faces-spec : {M : Type 1} → Rattle.irregular.proofs.search_faces.Statement.statement M
 search-faces-spec = tie.close (tie.spec Inv-loop μ-loop loop-holds shared-slice-read-n (λ c. search needs) (λ c. search needs) loop-less loop-again returns)

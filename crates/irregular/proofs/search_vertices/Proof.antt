@@ -1,5 +1,4 @@
 -- `search_vertices` meets its contract: what is found is the lowest, by the counts of corners.
--- Assumes nothing.
 use mathlib.Core.Path.{sym, subst}
 use mathlib.Core.Logic.{⊎-elim}
 use Prim.Native.Nat.{ℕ, _+_, _-_, _<_}
@@ -8,7 +7,6 @@ use Rattle.irregular.proofs.Laws.{vertex-odd, vertex-square}
 use Rattle.irregular.proofs.Scanned.{Scanned, scan-start, scan-hit, scan-miss, scan-end}
 use native.Mathlib.Omega.{arith}
 use borrow.Author.Needs.{needs}
-use Rattle.irregular.proofs.search_vertices.Statement.{statement}
 use Rattle.irregular.proofs.search_vertices.Tie as tie
 
 abbrev Inv-loop : tie.InvT-loop
@@ -29,15 +27,12 @@ add-n c = omega (arith, c .before .loop .inv .within, c .before .before .pre .0)
 mul-n-2 : tie.Need-mul-n-2 Inv-loop μ-loop
 mul-n-2 c = omega (arith, c .before .loop .inv .within, c .before .before .pre .0)
 
-shared-slice-read-n : tie.Need-shared-slice-read-n Inv-loop μ-loop
-shared-slice-read-n c = omega (arith, c .before .before .loop .inv .bounded)
-
 loop-less : tie.Need-loop-less Inv-loop μ-loop
 loop-less c = omega (arith, c .before .before .before .loop .inv .bounded)
 
 loop-again : tie.Need-loop-again Inv-loop μ-loop
 loop-again c =
-    let s = c .before .before .before .before in
+    let s : tie.Start Inv-loop μ-loop = search in
     let l = c .before .before .before .loop in
     let corners = s .args .corners .now in
     let count-is = s .pre .2 .count-is (l .u) in
@@ -51,6 +46,7 @@ loop-again c =
 returns : tie.Need-returns Inv-loop μ-loop
 returns c = let l = c .before .loop in scan-end _ _ (l .lowest) (l .u) (l .inv) (omega arith)
 
-pub search-vertices-spec : {M : Type 1} → statement M
+pub search-vertices-spec : {M : Type 1} → Rattle.irregular.proofs.search_vertices.Statement.statement M
 search-vertices-spec =
-    tie.close (tie.spec Inv-loop μ-loop loop-holds mul-n add-n mul-n-2 shared-slice-read-n (λ c. search needs) loop-less loop-again returns)
+    tie.close (tie.spec Inv-loop μ-loop loop-holds mul-n add-n mul-n-2 (λ c. omega (arith, c .before .before .loop .inv .bounded)) (λ c. search needs)
+    loop-less loop-again returns)

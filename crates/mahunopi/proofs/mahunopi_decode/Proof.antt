@@ -1,8 +1,6 @@
 -- `mahunopi::mahunopi_decode` meets its contract: it tells what `dms::decode` answers, and its lengths.
--- Assumes nothing.
 use borrow.Author.Needs.{needs}
 use Rattle.mahunopi.proofs.Laws.{decode-done, decode-refused}
-use Rattle.mahunopi.proofs.mahunopi_decode.Statement.{statement}
 use Rattle.mahunopi.proofs.mahunopi_decode.Tie as tie
 
 returns : tie.Need-returns
@@ -16,7 +14,7 @@ returns-2 c =
     let d = c .before .before .before .before .before .before .before .before .before .decode .ensures in
     decode-done _ _ _ _ _ _ _ _ _ _ _ _ _ d (c .enum-told .given .1)
 
-pub mahunopi-decode-spec : {M : Type 1} → statement M
+pub mahunopi-decode-spec : {M : Type 1} → Rattle.mahunopi.proofs.mahunopi_decode.Statement.statement M
 mahunopi-decode-spec =
     tie.close (tie.spec (λ c κs. search needs) (λ c. search needs) (λ c κs. search needs) (λ c. search needs) (λ c. search needs) (λ c. search needs)
     (λ c. search needs) returns (λ c. search needs) (λ c. search needs) (λ c. search needs) (λ c. search needs) (λ c. search needs) returns-2)

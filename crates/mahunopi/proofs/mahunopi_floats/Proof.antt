@@ -1,9 +1,7 @@
 -- `mahunopi::mahunopi_floats` meets its contract: it tells what `floats::point` answers, and lays its floats out.
--- Assumes nothing.
 use denote.Ref.{now}
 use Rattle.mahunopi.proofs.Laws.{floats-near, floats-far, floats-refused}
 use borrow.Author.Needs.{needs}
-use Rattle.mahunopi.proofs.mahunopi_floats.Statement.{statement}
 use Rattle.mahunopi.proofs.mahunopi_floats.Tie as tie
 
 returns : tie.Need-returns
@@ -28,7 +26,7 @@ returns-3 c =
     floats-refused _ _ (k .point .result) (k .point .ensures) (now (s .args .floats)) (now (s .args .pairs)) (now (s .args .place)) (a .0 .0) (a .0 .1 .0) _ _
     (a .1) (c .tell .ensures)
 
-pub mahunopi-floats-spec : {M : Type 1} → statement M
+pub mahunopi-floats-spec : {M : Type 1} → Rattle.mahunopi.proofs.mahunopi_floats.Statement.statement M
 mahunopi-floats-spec =
     tie.close (tie.spec (λ c κs. search needs) (λ c. search needs) (λ c. search needs) (λ c. search needs) (λ c. search needs) (λ c. search needs)
     (λ c. search needs) (λ c. search needs) (λ c. search needs) (λ c. search needs) (λ c. search needs) (λ c. search needs) (λ c. search needs)

@@ -1,5 +1,4 @@
 -- `mahunopi::mahunopi_merge` meets its contract: it tells what `border_report::merge` answers, and leaves the numbers of the two pages as one.
--- Assumes nothing.
 use mathlib.Core.Path.{subst}
 use denote.Ref.{now}
 use Rattle.paper.specs.Report.{MergedTo}
@@ -7,12 +6,11 @@ use Rattle.paper.specs.CFace.{pageIn}
 use Rattle.paper.specs.declared.Page.{Page}
 use Rattle.border_report.proofs.page_numbers.Calls.{merge-refused, merge-done}
 use borrow.Author.Needs.{needs}
-use Rattle.mahunopi.proofs.mahunopi_merge.Statement.{statement}
 use Rattle.mahunopi.proofs.mahunopi_merge.Tie as tie
 
 returns : tie.Need-returns
 returns c =
-    let s = c .before .before .before .before .before .before .before .before .before in
+    let s : tie.Start = search in
     let r = c .before .before .before .before .before .merge in
     let a = c .before .before .before .a .given in
     let old = now (s .args .page) in
@@ -25,7 +23,7 @@ returns c =
 
 returns-2 : tie.Need-returns-2
 returns-2 c =
-    let s = c .before .before .before .before .before .before .before .before in
+    let s : tie.Start = search in
     let r = c .before .before .before .before .merge in
     let old = now (s .args .page) in
     let other = now (s .args .other) in
@@ -35,7 +33,7 @@ returns-2 c =
     .before .before .read2 .ensures) first)
     (c .numbers .result) (c .before .before .enum-told .given .1) (c .numbers .ensures)
 
-pub mahunopi-merge-spec : {M : Type 1} → statement M
+pub mahunopi-merge-spec : {M : Type 1} → Rattle.mahunopi.proofs.mahunopi_merge.Statement.statement M
 mahunopi-merge-spec =
     tie.close (tie.spec (λ c κs. search needs) (λ c κs. search needs) (λ c κs. search needs) (λ c. search needs) (λ c κs. search needs) returns
     (λ c. search needs) (λ c κs. search needs) returns-2)

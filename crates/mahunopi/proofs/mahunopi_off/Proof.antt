@@ -1,8 +1,6 @@
 -- `mahunopi::mahunopi_off` meets its contract: it tells what `off::read` answers, and its lengths.
--- Assumes nothing.
 use borrow.Author.Needs.{needs}
 use Rattle.mahunopi.proofs.Laws.{off-done, off-refused}
-use Rattle.mahunopi.proofs.mahunopi_off.Statement.{statement}
 use Rattle.mahunopi.proofs.mahunopi_off.Tie as tie
 
 returns : tie.Need-returns
@@ -16,7 +14,7 @@ returns-2 c =
     let d = c .before .before .before .before .before .before .before .before .before .read .ensures in
     off-done _ _ _ _ _ _ d (c .enum-told .given .1)
 
-pub mahunopi-off-spec : {M : Type 1} → statement M
+pub mahunopi-off-spec : {M : Type 1} → Rattle.mahunopi.proofs.mahunopi_off.Statement.statement M
 mahunopi-off-spec =
     tie.close (tie.spec (λ c κs. search needs) (λ c. search needs) (λ c κs. search needs) (λ c. search needs) (λ c. search needs) (λ c. search needs)
     (λ c. search needs) returns (λ c. search needs) (λ c. search needs) (λ c. search needs) (λ c. search needs) (λ c. search needs) returns-2)

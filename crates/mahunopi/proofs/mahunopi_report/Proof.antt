@@ -1,17 +1,15 @@
 -- `mahunopi::mahunopi_report` meets its contract: it tells what `border_report::report` answers, and leaves the next page's numbers.
--- Assumes nothing.
 use mathlib.Core.Path.{subst}
 use denote.Ref.{now}
 use Rattle.paper.specs.Report.{offered, ReportedTo}
 use Rattle.paper.specs.declared.Page.{Page}
 use Rattle.border_report.proofs.page_numbers.Calls.{report-refused, report-done}
 use borrow.Author.Needs.{needs}
-use Rattle.mahunopi.proofs.mahunopi_report.Statement.{statement}
 use Rattle.mahunopi.proofs.mahunopi_report.Tie as tie
 
 returns : tie.Need-returns
 returns c =
-    let s = c .before .before .before .before .before .before .before .before .before in
+    let s : tie.Start = search in
     let r = c .before .before .before .before .before .report in
     let a = c .before .before .before .a .given in
     let F = offered (now (s .args .bytes)) (s .args .length) in
@@ -21,7 +19,7 @@ returns c =
 
 returns-2 : tie.Need-returns-2
 returns-2 c =
-    let s = c .before .before .before .before .before .before .before .before in
+    let s : tie.Start = search in
     let r = c .before .before .before .before .report in
     let F = offered (now (s .args .bytes)) (s .args .length) in
     report-done F (now (s .args .page)) (r .result) (now (s .args .place))
@@ -29,7 +27,7 @@ returns-2 c =
     (c .before .before .enum-told .given .1)
     (c .numbers .ensures)
 
-pub mahunopi-report-spec : {M : Type 1} → statement M
+pub mahunopi-report-spec : {M : Type 1} → Rattle.mahunopi.proofs.mahunopi_report.Statement.statement M
 mahunopi-report-spec =
     tie.close (tie.spec (λ c κs. search needs) (λ c κs. search needs) (λ c. search needs) (λ c κs. search needs) returns (λ c. search needs)
     (λ c κs. search needs) returns-2)

@@ -1,10 +1,8 @@
 -- `mahunopi::mahunopi_survey` meets its contract: it answers what `dms::survey` states, and tells the counts where the lent lists have room.
--- Assumes nothing.
 use mathlib.Core.Path.{sym, _∙_}
 use Rattle.mahunopi.proofs.Laws.{fits-first, fits-second, numbered, survey-refused, survey-no-room, survey-done}
 use lib.ListN.{length}
 use borrow.Author.Needs.{needs}
-use Rattle.mahunopi.proofs.mahunopi_survey.Statement.{statement}
 use Rattle.mahunopi.proofs.mahunopi_survey.Tie as tie
 
 returns : tie.Need-returns
@@ -36,7 +34,7 @@ returns-3 c =
     survey-done _ _ _ _ _ (s .before .before .before .before .survey .ensures) (s .before .before .enum-told .given .1)
     (sym (s .before .too-short .ensures) ∙ s .if1 .left) _ (c .before .before .before .before .tell-counts .ensures)
 
-pub mahunopi-survey-spec : {M : Type 1} → statement M
+pub mahunopi-survey-spec : {M : Type 1} → Rattle.mahunopi.proofs.mahunopi_survey.Statement.statement M
 mahunopi-survey-spec =
     tie.close (tie.spec (λ c κs. search needs) (λ c. search needs) (λ c κs. search needs) returns (λ c. search needs) (λ c κs. search needs)
     (λ c κs. search needs) returns-2 tell-counts-requires (λ c. search needs) (λ c. search needs) returns-3)

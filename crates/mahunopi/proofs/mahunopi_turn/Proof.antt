@@ -1,8 +1,6 @@
 -- `mahunopi::mahunopi_turn` meets its contract: it tells what `turning::turn` answers, and how many faces it turned.
--- Assumes nothing.
 use borrow.Author.Needs.{needs}
 use Rattle.mahunopi.proofs.Laws.{turn-done, turn-refused}
-use Rattle.mahunopi.proofs.mahunopi_turn.Statement.{statement}
 use Rattle.mahunopi.proofs.mahunopi_turn.Tie as tie
 
 returns : tie.Need-returns
@@ -16,7 +14,7 @@ returns-2 c =
     let t = c .before .before .before .before .before .before .before .before .turn .ensures in
     turn-done _ _ _ _ _ _ _ t (c .enum-told .given .1)
 
-pub mahunopi-turn-spec : {M : Type 1} → statement M
+pub mahunopi-turn-spec : {M : Type 1} → Rattle.mahunopi.proofs.mahunopi_turn.Statement.statement M
 mahunopi-turn-spec =
     tie.close (tie.spec (λ c κs. search needs) (λ c. search needs) (λ c κs. search needs) (λ c. search needs) (λ c. search needs) (λ c. search needs)
     returns (λ c. search needs) (λ c. search needs) (λ c. search needs) (λ c. search needs) returns-2)

@@ -1,15 +1,13 @@
 -- The table lies in its space.
--- Assumes nothing.
 use mathlib.Core.Path.{sym}
 use lib.Seq.{length-take-le}
 use borrow.Author.Needs.{needs}
-use Rattle.nest.proofs.main.Statement.{statement}
 use Rattle.nest.proofs.main.Tie as tie
 
 slice-aggregate-print-table : tie.Need-slice-aggregate-print-table
 slice-aggregate-print-table c = sym (length-take-le _ _ (search needs))
 
-pub main-spec : {M : Type 1} → statement M
+pub main-spec : {M : Type 1} → Rattle.nest.proofs.main.Statement.statement M
 main-spec =
     tie.close (tie.spec (λ c. search needs) (λ c κs. search needs) (λ c. search needs) (λ c. search needs) (λ c. search needs) (λ c κs. search needs)
     (λ c. search needs) (λ c κs. search needs) (λ c. search needs) (λ c κs. search needs) (λ c. search needs) slice-aggregate-print-table

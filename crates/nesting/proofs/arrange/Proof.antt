@@ -1,5 +1,4 @@
 -- `arrange` meets its contract: before each turn k bodies are listed and marked; it stops where all are, or where none may come next.
--- Assumes nothing.
 use mathlib.Core.Path.{_≡_, refl, _∙_}
 use Prim.Native.Nat.{_≤_, _-_}
 use lib.ListN.{length, length-set}
@@ -8,7 +7,6 @@ use Rattle.paper.specs.Nesting.{places}
 use Rattle.nesting.proofs.Laws.{Filling, filling-none, filling-step, filled}
 use native.Mathlib.Omega.{arith}
 use borrow.Author.Needs.{needs}
-use Rattle.nesting.proofs.arrange.Statement.{statement}
 use Rattle.nesting.proofs.arrange.Tie as tie
 
 abbrev Inv-loop : tie.InvT-loop
@@ -23,17 +21,17 @@ loop-holds c = (omega arith, refl, refl, filling-none _ _ _ (c .before .before .
 
 returns : tie.Need-returns Inv-loop μ-loop
 returns c =
-    let s = c .before .before .before .before .before .before .before .before in let l = c .before .before .before .before .loop in
+    let s : tie.Start Inv-loop μ-loop = search in let l = c .before .before .before .before .loop in
     let f = l .inv .3 in
     filled (now (s .args .holders)) (l .marks) (l .order) (l .k) f (s .pre .few) (s .pre .held)
     (λ z. let e = c .before .next-body .ensures (places (now (s .args .holders)) (l .k)) (f .marks-are) in omega (arith, c .if1 .taken))
 
 cast-order : tie.Need-cast-order Inv-loop μ-loop
-cast-order c = let s = c .before .before .before .before .before .before .before .before in omega (arith, s .pre .few, c .if1 .left)
+cast-order c = let s : tie.Start Inv-loop μ-loop = search in omega (arith, s .pre .few, c .if1 .left)
 
 loop-again : tie.Need-loop-again Inv-loop μ-loop
 loop-again c =
-    let s = c .before .before .before .before .before .before .before .before in let l = c .before .before .before .before .loop in
+    let s : tie.Start Inv-loop μ-loop = search in let l = c .before .before .before .before .loop in
     let b = c .before .next-body .result in
     let f = l .inv .3 in
     let e = c .before .next-body .ensures (places (now (s .args .holders)) (l .k)) (f .marks-are) in (
@@ -46,10 +44,10 @@ loop-again c =
 
 returns-2 : tie.Need-returns-2 Inv-loop μ-loop
 returns-2 c =
-    let s = c .before .before .before .before .before in let l = c .before .loop in
+    let s : tie.Start Inv-loop μ-loop = search in let l = c .before .loop in
     filled (now (s .args .holders)) (l .marks) (l .order) (l .k) (l .inv .3) (s .pre .few) (s .pre .held) (λ z. absurd (omega arith))
 
-pub arrange-spec : {M : Type 1} → statement M
+pub arrange-spec : {M : Type 1} → Rattle.nesting.proofs.arrange.Statement.statement M
 arrange-spec =
     tie.close (tie.spec Inv-loop μ-loop loop-holds (λ c κs. search needs) (search needs) (search needs) returns cast-order (search needs) (search needs)
     (search needs) (search needs) (search needs) loop-again (search needs) (search needs) returns-2)

@@ -1,5 +1,4 @@
 -- Check 22 meets its contract: no body before `b` is at fault.
--- Assumes nothing.
 use mathlib.Core.Path.{_≡_, sym}
 use mathlib.Core.Bool.{false}
 use mathlib.Core.Logic.{⊎-elim}
@@ -13,7 +12,6 @@ use Rattle.mesh.proofs.Verdicts.{lowest-hit, lowest-none}
 use Rattle.nesting.proofs.Laws.{no-holder, a-body, the-sun}
 use native.Mathlib.Omega.{arith}
 use borrow.Author.Needs.{needs}
-use Rattle.nesting.proofs.check_holders.Statement.{statement}
 use Rattle.nesting.proofs.check_holders.Tie as tie
 
 abbrev Inv-loop : tie.InvT-loop
@@ -30,7 +28,7 @@ cast-if1 c = omega (arith, c .shared-slice-known .given (c .before .before .loop
 
 returns : tie.Need-returns Inv-loop μ-loop
 returns c =
-    let s = c .before .before .before .before .before in let l = c .before .before .before .before .loop in
+    let s : tie.Start Inv-loop μ-loop = search in let l = c .before .before .before .before .loop in
     let xs = now (s .args .holders) in
     let h : l .b < length xs = search needs in
     sym (lowest-hit 22 (length xs) (fault22 xs) (l .b) h
@@ -38,7 +36,7 @@ returns c =
 
 loop-again : tie.Need-loop-again Inv-loop μ-loop
 loop-again c =
-    let s = c .before .before .before .before in let l = c .before .before .before .loop in
+    let s : tie.Start Inv-loop μ-loop = search in let l = c .before .before .before .loop in
     let xs = now (s .args .holders) in
     let h : l .b < length xs = search needs in (
       search needs,
@@ -51,6 +49,6 @@ returns-2 c =
     let l = c .before .loop in
     sym (lowest-none 22 _ (fault22 (now (c .before .before .args .holders))) (λ j h. l .inv .1 j (omega arith)))
 
-pub check-holders-spec : {M : Type 1} → statement M
+pub check-holders-spec : {M : Type 1} → Rattle.nesting.proofs.check_holders.Statement.statement M
 check-holders-spec =
     tie.close (tie.spec Inv-loop μ-loop loop-holds (search needs) (search needs) cast-if1 returns (search needs) (search needs) loop-again returns-2)

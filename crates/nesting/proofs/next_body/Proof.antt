@@ -1,5 +1,4 @@
 -- `next_body` meets its contract: no body before `b` may come next, for any list that the marks belong to.
--- Assumes nothing.
 use mathlib.Core.Path.{_≡_, sym, _∙_}
 use mathlib.Core.Bool.{false}
 use mathlib.Core.List.{List}
@@ -12,7 +11,6 @@ use Rattle.nesting.specs.Marks.{Marks}
 use Rattle.nesting.proofs.Laws.{holder-is}
 use native.Mathlib.Omega.{arith}
 use borrow.Author.Needs.{needs}
-use Rattle.nesting.proofs.next_body.Statement.{statement}
 use Rattle.nesting.proofs.next_body.Tie as tie
 
 abbrev Inv-loop : tie.InvT-loop
@@ -27,7 +25,7 @@ loop-holds c = (omega arith, λ list m j h. absurd (omega arith))
 returns : tie.Need-returns Inv-loop μ-loop
 unfolding nextBody
 returns c list m =
-    let s = c .before .before .before .before .before .before .before in let l = c .before .before .before .before .loop in
+    let s : tie.Start Inv-loop μ-loop = search in let l = c .before .before .before .before .loop in
     let xs = now (s .args .holders) in
     let h : l .b < length xs = search needs in
     let f = c .before .may-follow .ensures xs list (sym (holder-is xs (l .b) h)) m in
@@ -35,7 +33,7 @@ returns c list m =
 
 loop-again : tie.Need-loop-again Inv-loop μ-loop
 loop-again c =
-    let s = c .before .before .before .before .before .before .before in let l = c .before .before .before .before .loop in
+    let s : tie.Start Inv-loop μ-loop = search in let l = c .before .before .before .before .loop in
     let xs = now (s .args .holders) in
     let h : l .b < length xs = search needs in (
       search needs,
@@ -46,12 +44,12 @@ loop-again c =
 returns-2 : tie.Need-returns-2 Inv-loop μ-loop
 unfolding nextBody
 returns-2 c list m =
-    let s = c .before .before .before .before in let l = c .before .loop in
+    let s : tie.Start Inv-loop μ-loop = search in let l = c .before .loop in
     let xs = now (s .args .holders) in
     let e : l .b ≡ length xs = omega arith in
     e ∙ sym (first-none (length xs) (mayFollow xs list) (λ j h. l .inv .1 list m j (omega arith)))
 
-pub next-body-spec : {M : Type 1} → statement M
+pub next-body-spec : {M : Type 1} → Rattle.nesting.proofs.next_body.Statement.statement M
 next-body-spec =
     tie.close (tie.spec Inv-loop μ-loop loop-holds (search needs) (search needs) (λ c κs. search needs) returns (search needs) (search needs) loop-again
     returns-2)

@@ -1,10 +1,8 @@
 -- Every sum fits, every place is within its list.
--- Assumes nothing.
 use borrow.Author.Needs.{needs}
 use mathlib.Core.Path.{_≡_}
 use Prim.Native.Nat.{_+_, _-_, _≤_}
 use lib.ListN.{length}
-use Rattle.obj.proofs.put_row.Statement.{statement}
 use Rattle.obj.proofs.put_row.Tie as tie
 
 abbrev Inv-loop : tie.InvT-loop
@@ -19,7 +17,7 @@ Inv-loop2 lines₀ from index n k against lower upper count at₀ j i₀ lines a
 abbrev μ-loop2 : tie.MeasureT-loop2
 μ-loop2 lines₀ from index n k against lower upper count at₀ j i₀ lines at i = count + 1 - i
 
-pub put-row-spec : {M : Type 1} → statement M
+pub put-row-spec : {M : Type 1} → Rattle.obj.proofs.put_row.Statement.statement M
 put-row-spec =
     tie.close (tie.spec Inv-loop μ-loop Inv-loop2 μ-loop2 (λ c κs. search needs) (λ c. search needs) (λ c κs. search needs) (λ c. search needs)
     (λ c κs. search needs) (λ c. search needs) (λ c. search needs) (λ c. search needs) (λ c κs. search needs) (λ c. search needs) (λ c. search needs)

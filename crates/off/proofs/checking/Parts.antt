@@ -1,5 +1,4 @@
 -- The parts of a call, as laws over lists: 25 and 26 of the words, 4 to 13 of the lists, and what is copied.
--- Assumes nothing.
 use mathlib.Core.Path.{_≡_, refl, sym, ap, _∙_, subst}
 use mathlib.Core.Bool.{Bool, true, false, not, _||_}
 use mathlib.Core.List.{List, _∷_}

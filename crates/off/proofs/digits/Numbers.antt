@@ -1,5 +1,4 @@
 -- A word's digits: where they begin, whether all are digits, and their value, which nine of them keep below 10^9.
--- Assumes nothing.
 use mathlib.Core.Path.{_≡_, refl, sym, ap, _∙_}
 use mathlib.Core.Bool.{Bool, true, false, not, _&&_}
 use mathlib.Core.List.{List, [], _∷_}

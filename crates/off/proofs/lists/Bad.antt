@@ -1,5 +1,4 @@
 -- Needed words: when one is bad, and the lowest bad one of a row.
--- Assumes nothing.
 use mathlib.Core.Path.{_≡_, refl, sym, ap, _∙_}
 use mathlib.Core.Bool.{true, false}
 use mathlib.Core.Logic.{⊎-elim}

@@ -1,10 +1,8 @@
 -- A refusal writes nothing to the lent lists. Else the own lists are those of the text, and are copied.
--- Assumes nothing.
 use Rattle.off.proofs.checking.Parts.{within-limits, room-kept, coordinates-fit, sides-fit, corners-fit}
 use Rattle.off.proofs.checking.Parts.{taken, taken-fits, few-pairs, copied-none, copied-all}
 use native.Mathlib.Omega.{arith}
 use borrow.Author.Needs.{needs}
-use Rattle.off.proofs.read_through.Statement.{statement}
 use Rattle.off.proofs.read_through.Tie as tie
 
 returns : tie.Need-returns
@@ -16,8 +14,7 @@ returns c =
 
 slice-reshare-prefix-copy-coordinates : tie.Need-slice-reshare-prefix-copy-coordinates
 slice-reshare-prefix-copy-coordinates c =
-    let s = c .before .before .before .before .before .before .before .before .before .before .before .before .before .before .before
-    .before .before in
+    let s : tie.Start = search in
     let d = c .before .before .before .before .before .before .before .read-checked in
     let done = c .enum-told .given .1 in
     let four = within-limits _ _ _ _ (d .result) (d .ensures) done in
@@ -28,8 +25,7 @@ slice-reshare-prefix-copy-coordinates c =
 
 slice-aggregate-copy-coordinates : tie.Need-slice-aggregate-copy-coordinates
 slice-aggregate-copy-coordinates c =
-    let s = c .before .before .before .before .before .before .before .before .before .before .before .before .before .before .before
-    .before .before .before in
+    let s : tie.Start = search in
     let d = c .before .before .before .before .before .before .before .before .read-checked in
     let done = c .before .enum-told .given .1 in
     let four = within-limits _ _ _ _ (d .result) (d .ensures) done in
@@ -40,8 +36,7 @@ slice-aggregate-copy-coordinates c =
 
 copy-coordinates-requires : tie.Need-copy-coordinates-requires
 copy-coordinates-requires c κs =
-    let s = c .before .before .before .before .before .before .before .before .before .before .before .before .before .before .before
-    .before .before .before .before in
+    let s : tie.Start = search in
     let d = c .before .before .before .before .before .before .before .before .before .read-checked in
     let done = c .before .before .enum-told .given .1 in
     let four = within-limits _ _ _ _ (d .result) (d .ensures) done in
@@ -53,8 +48,7 @@ copy-coordinates-requires c κs =
 
 slice-reshare-prefix-copy-sides : tie.Need-slice-reshare-prefix-copy-sides
 slice-reshare-prefix-copy-sides c =
-    let s = c .before .before .before .before .before .before .before .before .before .before .before .before .before .before .before
-    .before .before .before .before .before .before in
+    let s : tie.Start = search in
     let d = c .before .before .before .before .before .before .before .before .before .before .before .read-checked in
     let done = c .before .before .before .before .enum-told .given .1 in
     let four = within-limits _ _ _ _ (d .result) (d .ensures) done in
@@ -65,8 +59,7 @@ slice-reshare-prefix-copy-sides c =
 
 slice-aggregate-copy-sides : tie.Need-slice-aggregate-copy-sides
 slice-aggregate-copy-sides c =
-    let s = c .before .before .before .before .before .before .before .before .before .before .before .before .before .before .before
-    .before .before .before .before .before .before .before in
+    let s : tie.Start = search in
     let d = c .before .before .before .before .before .before .before .before .before .before .before .before .read-checked in
     let done = c .before .before .before .before .before .enum-told .given .1 in
     let four = within-limits _ _ _ _ (d .result) (d .ensures) done in
@@ -77,8 +70,7 @@ slice-aggregate-copy-sides c =
 
 copy-sides-requires : tie.Need-copy-sides-requires
 copy-sides-requires c κs =
-    let s = c .before .before .before .before .before .before .before .before .before .before .before .before .before .before .before
-    .before .before .before .before .before .before .before .before in
+    let s : tie.Start = search in
     let d = c .before .before .before .before .before .before .before .before .before .before .before .before .before .read-checked in
     let done = c .before .before .before .before .before .before .enum-told .given .1 in
     let four = within-limits _ _ _ _ (d .result) (d .ensures) done in
@@ -90,8 +82,7 @@ copy-sides-requires c κs =
 
 slice-reshare-prefix-copy-corners : tie.Need-slice-reshare-prefix-copy-corners
 slice-reshare-prefix-copy-corners c =
-    let s = c .before .before .before .before .before .before .before .before .before .before .before .before .before .before .before
-    .before .before .before .before .before .before .before .before .before .before .before in
+    let s : tie.Start = search in
     let d = c .before .before .before .before .before .before .before .before .before .before .before .before .before .before .before
     .before .read-checked in
     let done = c .before .before .before .before .before .before .before .before .before .enum-told .given .1 in
@@ -103,8 +94,7 @@ slice-reshare-prefix-copy-corners c =
 
 slice-aggregate-copy-corners : tie.Need-slice-aggregate-copy-corners
 slice-aggregate-copy-corners c =
-    let s = c .before .before .before .before .before .before .before .before .before .before .before .before .before .before .before
-    .before .before .before .before .before .before .before .before .before .before .before .before in
+    let s : tie.Start = search in
     let d = c .before .before .before .before .before .before .before .before .before .before .before .before .before .before .before
     .before .before .read-checked in
     let done = c .before .before .before .before .before .before .before .before .before .before .enum-told .given .1 in
@@ -116,8 +106,7 @@ slice-aggregate-copy-corners c =
 
 copy-corners-requires : tie.Need-copy-corners-requires
 copy-corners-requires c κs =
-    let s = c .before .before .before .before .before .before .before .before .before .before .before .before .before .before .before
-    .before .before .before .before .before .before .before .before .before .before .before .before .before in
+    let s : tie.Start = search in
     let d = c .before .before .before .before .before .before .before .before .before .before .before .before .before .before .before
     .before .before .before .read-checked in
     let done = c .before .before .before .before .before .before .before .before .before .before .before .enum-told .given .1 in
@@ -140,8 +129,7 @@ mul-pairs c =
 
 fill-plain-requires : tie.Need-fill-plain-requires
 fill-plain-requires c κs =
-    let s = c .before .before .before .before .before .before .before .before .before .before .before .before .before .before .before
-    .before .before .before .before .before .before .before .before .before .before .before .before .before .before .before .before .before in
+    let s : tie.Start = search in
     let d = c .before .before .before .before .before .before .before .before .before .before .before .before .before .before .before
     .before .before .before .before .before .before .before .read-checked in
     let done = c .before .before .before .before .before .before .before .before .before .before .before .before .before .before
@@ -150,9 +138,7 @@ fill-plain-requires c κs =
 
 returns-2 : tie.Need-returns-2
 returns-2 c =
-    let s = c .before .before .before .before .before .before .before .before .before .before .before .before .before .before .before
-    .before .before .before .before .before .before .before .before .before .before .before .before .before .before .before .before .before
-    .before .before .before in
+    let s : tie.Start = search in
     let d = c .before .before .before .before .before .before .before .before .before .before .before .before .before .before .before
     .before .before .before .before .before .before .before .before .before .before .read-checked in
     let done = c .before .before .before .before .before .before .before .before .before .before .before .before .before .before .before
@@ -166,7 +152,7 @@ returns-2 c =
     .before .before .before .before .copy-sides .ensures) (c .before .before .before .before .before .before .copy-corners .ensures) (c
     .before .before .fill-plain .ensures)
 
-pub read-through-spec : {M : Type 1} → statement M
+pub read-through-spec : {M : Type 1} → Rattle.off.proofs.read_through.Statement.statement M
 read-through-spec =
     tie.close (tie.spec (λ c κs. search needs) (λ c. search needs) (λ c κs. search needs) (λ c. search needs) (λ c. search needs) (λ c. search needs)
     returns (λ c. search needs) slice-reshare-prefix-copy-coordinates slice-aggregate-copy-coordinates copy-coordinates-requires

@@ -1,5 +1,4 @@
 -- A cursor before a word, moved past separators and comments, and the word that it then stands at.
--- Assumes nothing.
 use mathlib.Core.Path.{_≡_, refl, sym, ap, _∙_, subst}
 use mathlib.Core.Bool.{true, false}
 use mathlib.Core.Logic.{⊎-elim}

@@ -1,5 +1,4 @@
 -- Words at the front of a text: a separator and a comment are passed over, and a run of other bytes up to one that ends it is the first word.
--- Assumes nothing.
 use mathlib.Core.Path.{_≡_, refl, sym, ap, _∙_, subst}
 use mathlib.Core.Bool.{true, false}
 use mathlib.Core.Logic.{⊎-elim}

@@ -1,9 +1,7 @@
 -- The lengths are cut to the lists, so each part lies in its list.
--- Assumes nothing.
 use mathlib.Core.Path.{sym}
 use lib.Seq.{length-take-le}
 use borrow.Author.Needs.{needs}
-use Rattle.off2dms.proofs.read_drawn.Statement.{statement}
 use Rattle.off2dms.proofs.read_drawn.Tie as tie
 
 slice-aggregate-say-file : tie.Need-slice-aggregate-say-file
@@ -15,7 +13,7 @@ slice-aggregate-say-file-2 c = sym (length-take-le _ _ (search needs))
 slice-aggregate-say-file-3 : tie.Need-slice-aggregate-say-file-3
 slice-aggregate-say-file-3 c = sym (length-take-le _ _ (search needs))
 
-pub read-drawn-spec : {M : Type 1} → statement M
+pub read-drawn-spec : {M : Type 1} → Rattle.off2dms.proofs.read_drawn.Statement.statement M
 read-drawn-spec =
     tie.close (tie.spec (λ c. search needs) (λ c. search needs) (λ c. search needs) (λ c κs. search needs) (λ c κs. search needs) (λ c. search needs)
     (λ c κs. search needs) (λ c κs. search needs) (λ c κs. search needs) (λ c. search needs) (λ c κs. search needs) (λ c. search needs) (λ c. search needs)

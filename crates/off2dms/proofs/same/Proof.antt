@@ -1,9 +1,7 @@
 -- One turn for each byte.
--- Assumes nothing.
 use Prim.Native.Nat.{_-_}
 use lib.ListN.{length}
 use borrow.Author.Needs.{needs}
-use Rattle.off2dms.proofs.same.Statement.{statement}
 use Rattle.off2dms.proofs.same.Tie as tie
 
 abbrev Inv-loop : tie.InvT-loop
@@ -12,7 +10,7 @@ Inv-loop a b i₀ i = Unit {0}
 abbrev μ-loop : tie.MeasureT-loop
 μ-loop a b i₀ i = length a - i
 
-pub same-spec : {M : Type 1} → statement M
+pub same-spec : {M : Type 1} → Rattle.off2dms.proofs.same.Statement.statement M
 same-spec =
     tie.close (tie.spec Inv-loop μ-loop (λ c. search needs) (λ c. search needs) (λ c. search needs) (λ c. search needs) (λ c. search needs)
     (λ c. search needs) (λ c. search needs) (λ c. search needs) (λ c. search needs))

@@ -1,12 +1,10 @@
 -- The lines, one after the other.
--- Assumes nothing.
 use mathlib.Core.List.{_++_}
 use lib.ListN.{getD}
 use Rattle.page_text.specs.Lines.{meshesWord, cornersWord, bordersWord}
 use Rattle.page_text.specs.Lines.{textsBelow, namedLine, refusedByLine, refusalsLine, conditionLine, pageLine, pageLines}
 use Rattle.streams.proofs.text.Putting.{put-three}
 use borrow.Author.Needs.{needs}
-use Rattle.page_text.proofs.put_page.Statement.{statement}
 use Rattle.page_text.proofs.put_page.Tie as tie
 
 returns : tie.Need-returns
@@ -37,7 +35,7 @@ returns c =
     (namedLine bordersWord (getD numbers 2 0) ++ (refused-text ++ (last-text ++ (misses-text ++ pageLine numbers)))) (meshes .kept .0) (corners .kept .0)
     (meshes .ensures) (corners .ensures) middle
 
-pub put-page-spec : {M : Type 1} → statement M
+pub put-page-spec : {M : Type 1} → Rattle.page_text.proofs.put_page.Statement.statement M
 put-page-spec =
     tie.close (tie.spec (λ c. search needs) (λ c. search needs) (λ c κs. search needs) (λ c. search needs) (λ c. search needs) (λ c κs. search needs)
     (λ c. search needs) (λ c. search needs) (λ c κs. search needs) (λ c κs. search needs) (λ c. search needs) (λ c κs. search needs) (λ c κs. search needs)

@@ -1,10 +1,8 @@
 -- The word, the number, and a colon with the count.
--- Assumes nothing.
 use Rattle.streams.specs.text.Text.{decimal}
 use Rattle.page_text.specs.Lines.{refusedWord, colon, namedLine}
 use Rattle.streams.proofs.text.Putting.{put-three}
 use borrow.Author.Needs.{needs}
-use Rattle.page_text.proofs.put_refused.Statement.{statement}
 use Rattle.page_text.proofs.put_refused.Tie as tie
 
 returns : tie.Need-returns
@@ -15,7 +13,7 @@ returns c =
     put-three refusedWord (decimal (s .number)) (namedLine colon (s .n))
     (w .kept .0) (p .kept .0) (w .ensures) (p .ensures) (c .before .before .put-count .ensures)
 
-pub put-refused-spec : {M : Type 1} → statement M
+pub put-refused-spec : {M : Type 1} → Rattle.page_text.proofs.put_refused.Statement.statement M
 put-refused-spec =
     tie.close (tie.spec (λ c. search needs) (λ c κs. search needs) (λ c κs. search needs) (λ c. search needs) (λ c κs. search needs) (λ c. search needs)
     returns)

@@ -1,5 +1,4 @@
 -- The whole ticks, the point and three digits.
--- Assumes nothing.
 use mathlib.Core.Path.{ap}
 use mathlib.Core.List.{[], _∷_, _++_}
 use Prim.Native.Nat.{_/_, _%_}
@@ -7,7 +6,6 @@ use Rattle.streams.specs.text.Text.{decimal}
 use Rattle.page_text.specs.Lines.{digit, inTicks}
 use Rattle.streams.proofs.text.Putting.{put-three, put-same}
 use borrow.Author.Needs.{needs}
-use Rattle.page_text.proofs.put_ticks.Statement.{statement}
 use Rattle.page_text.proofs.put_ticks.Tie as tie
 
 returns : tie.Need-returns
@@ -29,7 +27,7 @@ returns c =
     (put-three (decimal (n / 1000)) (46 ∷ []) (digit (n / 100 % 10) ++ (digit (n / 10 % 10) ++ digit (n % 10))) (w .kept .0) (p .kept .0) (w .ensures)
     (p .ensures) tail)
 
-pub put-ticks-spec : {M : Type 1} → statement M
+pub put-ticks-spec : {M : Type 1} → Rattle.page_text.proofs.put_ticks.Statement.statement M
 put-ticks-spec =
     tie.close (tie.spec (λ c κs. search needs) (λ c κs. search needs) (λ c κs. search needs) (λ c κs. search needs) (λ c κs. search needs)
     (λ c κs. search needs) (λ c. search needs) returns)

@@ -1,5 +1,4 @@
 -- `copy_moved` meets its contract: three stores to the copy of the list are those to the list.
--- Assumes nothing.
 use mathlib.Core.Path.{_≡_, ap, _∙_}
 use mathlib.Core.List.{List}
 use Prim.Native.Nat.{_+_, _*_, _<_}
@@ -11,7 +10,6 @@ use denote.Ref.{now}
 use Rattle.paper.specs.File.{begins}
 use Rattle.preview.proofs.Laws.{moved-begins}
 use borrow.Author.Needs.{needs}
-use Rattle.preview.proofs.copy_moved.Statement.{statement}
 use Rattle.preview.proofs.copy_moved.Tie as tie
 
 slice-set-from-y : tie.Need-slice-set-from-y
@@ -28,7 +26,7 @@ slice-set-from-z c =
 
 returns : tie.Need-returns
 returns c =
-    let s = c .before .before .before .before .before .before .before in
+    let s : tie.Start = search in
     let m = s .args .to in
     let old = now (s .args .copy) in
     let l = now (s .args .coordinates) in
@@ -43,7 +41,7 @@ returns c =
     ∙ ap (λ (v : ℤ). set (set (set (begins l old) i (m .x)) (i + 1) (m .y)) (i + 2) v) z
     ∙ moved-begins l m (s .pre .0) old
 
-pub copy-moved-spec : {M : Type 1} → statement M
+pub copy-moved-spec : {M : Type 1} → Rattle.preview.proofs.copy_moved.Statement.statement M
 copy-moved-spec =
     tie.close (tie.spec (λ c κs. search needs) (λ c. search needs) (λ c. search needs) (λ c. search needs) (λ c. search needs) (λ c. search needs)
     slice-set-from-y (λ c. search needs) (λ c. search needs) slice-set-from-z (λ c. search needs) returns)

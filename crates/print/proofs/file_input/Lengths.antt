@@ -1,5 +1,4 @@
 -- The length counted of a file, where the buffer is full and where it is not.
--- Assumes nothing.
 use mathlib.Core.Path.{_≡_, refl, subst}
 use mathlib.Core.List.{List}
 use Prim.Native.Nat.{ℕ, _+_, _<_, _≤_}

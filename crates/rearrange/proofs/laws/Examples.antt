@@ -1,5 +1,4 @@
 -- Small lists with bytes worked out apart, computed from the definitions, both ways; and the order of the checks, with their places.
--- Assumes nothing.
 use mathlib.Core.Path.{_≡_, refl}
 use mathlib.Core.List.{[], _∷_}
 use lib.IntN.{pos, negsuc}

@@ -1,5 +1,4 @@
 -- Checks 30 and 31: lengths that pass, and what is left of them.
--- Assumes nothing.
 use mathlib.Core.Path.{_≡_, ap, _∙_}
 use mathlib.Core.Bool.{not}
 use Prim.Native.Nat.{ℕ, _*_, _%_}

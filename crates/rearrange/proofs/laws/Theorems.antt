@@ -1,6 +1,5 @@
 -- L11's theorems, of two calls: every list of 32-bit numbers whose length is a multiple of three comes back, and so does every list of
 -- bytes of such a length. The four bytes of a difference make it up again, and the differences up to a vertex add up to its bits.
--- Assumes nothing.
 use mathlib.Core.Path.{_≡_, refl, sym, ap, _∙_}
 use mathlib.Core.List.{List}
 use Prim.Native.Nat.{ℕ, zero, suc, _+_, _-_, _*_, _/_, _%_, _^_, _<_}

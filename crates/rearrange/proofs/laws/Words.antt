@@ -1,5 +1,4 @@
 -- Four bytes and the number that they make.
--- Assumes nothing.
 use mathlib.Core.Path.{_≡_, ap, _∙_}
 use Prim.Native.Nat.{ℕ, _+_, _-_, _*_, _/_, _%_, _^_, _<_}
 use native.Mathlib.Nat.{mod-eq-of-lt, add-mod-mod, mod-add-mod, add-mod-right, add-mul-mod-self-left, div-add-mod, div-div-eq-div-mul, div-eq-of-lt-le, div-one}

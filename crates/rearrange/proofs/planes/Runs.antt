@@ -1,5 +1,4 @@
 -- Bytes that are stored one after the other: what they are, and every other place as it was.
--- Assumes nothing.
 use mathlib.Core.Path.{_≡_, refl, sym, ap, _∙_, subst}
 use mathlib.Core.Logic.{⊎-elim}
 use mathlib.Core.List.{List}

@@ -1,5 +1,4 @@
 -- Restoring: the sums of a vertex are those of the vertex before and its differences; and how the loop fills the numbers.
--- Assumes nothing.
 use mathlib.Core.Path.{_≡_, refl, sym, ap, _∙_}
 use mathlib.Core.List.{List}
 use Prim.Native.Nat.{ℕ, zero, suc, _+_, _*_, _%_, _^_, _<_}

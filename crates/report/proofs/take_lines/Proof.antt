@@ -1,10 +1,8 @@
 -- Each turn takes a line; what is held lies within the buffer.
--- Assumes nothing.
 use mathlib.Core.Path.{_≡_}
 use Prim.Native.Nat.{_≤_, _-_}
 use lib.ListN.{length}
 use borrow.Author.Needs.{needs}
-use Rattle.report.proofs.take_lines.Statement.{statement}
 use Rattle.report.proofs.take_lines.Tie as tie
 
 abbrev Inv-loop : tie.InvT-loop
@@ -14,7 +12,7 @@ Inv-loop buffer₀ numbers₀ merging shown held₀ i₀ t10 buffer numbers held
 abbrev μ-loop : tie.MeasureT-loop
 μ-loop buffer₀ numbers₀ merging shown held₀ i₀ t10 buffer numbers held i = 4294967296 - i
 
-pub take-lines-spec : {M : Type 1} → statement M
+pub take-lines-spec : {M : Type 1} → Rattle.report.proofs.take_lines.Statement.statement M
 take-lines-spec =
     tie.close (tie.spec Inv-loop μ-loop (λ c κs. search needs) (λ c. search needs) (λ c. search needs) (λ c κs. search needs) (λ c. search needs)
     (λ c. search needs) (λ c. search needs) (λ c. search needs) (λ c. search needs) (λ c. search needs) (λ c κs. search needs) (λ c. search needs)

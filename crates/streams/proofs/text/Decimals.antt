@@ -1,5 +1,4 @@
 -- The digits that `io` gives are the decimal number, which has at most as many digits as it may; a signed number by its size.
--- Assumes nothing.
 use mathlib.Core.Path.{_≡_, refl, sym, ap, subst, _∙_}
 use mathlib.Core.Bool.{true, false, true≢false}
 use mathlib.Core.List.{[], _∷_}

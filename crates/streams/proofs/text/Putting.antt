@@ -1,5 +1,4 @@
 -- Text put into a buffer: nothing, one byte, a text after a text, a word byte by byte, and a text that has room.
--- Assumes nothing.
 use mathlib.Core.Path.{_≡_, refl, sym, ap, subst, _∙_}
 use mathlib.Core.List.{List, [], _∷_, _++_, append-assoc, append-nil}
 use Prim.Native.Nat.{ℕ, zero, suc, _+_, _<_, _≤_}

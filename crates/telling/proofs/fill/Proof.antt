@@ -1,12 +1,10 @@
 -- After i turns the first i values stand in the lent list and the others are as they were.
--- Assumes nothing.
 use mathlib.Core.Path.{_≡_, refl}
 use Prim.Native.Nat.{_≤_, _-_}
 use native.Mathlib.Omega.{arith}
 use lib.ListN.{length, getD, length-set}
 use borrow.Author.Needs.{needs}
 use Rattle.mesh.proofs.Copies.{Copied, copied-none, copied-step, copied-all}
-use Rattle.telling.proofs.fill.Statement.{statement}
 use Rattle.telling.proofs.fill.Tie as tie
 
 abbrev Inv-loop : tie.InvT-loop
@@ -20,7 +18,7 @@ loop-holds c = (omega arith, refl, copied-none (c .args .values .now) (c .args .
 
 loop-again : tie.Need-loop-again Inv-loop μ-loop
 loop-again c =
-    let s = c .before .before .before in
+    let s : tie.Start Inv-loop μ-loop = search in
     let l = c .before .before .loop in (
       search needs,
       rw length-set (l .inv .1),
@@ -34,7 +32,7 @@ returns c =
     let l = c .before .loop in
     copied-all (s .args .values .now) (s .args .lent .now) (l .i) (l .lent) (omega arith) (l .inv .2)
 
-pub fill-spec : {M : Type 1} → statement M
+pub fill-spec : {M : Type 1} → Rattle.telling.proofs.fill.Statement.statement M
 fill-spec =
     tie.close (tie.spec Inv-loop μ-loop loop-holds (search needs) (search needs) (search needs) (search needs) (search needs) (search needs) loop-again
     (search needs) returns)

@@ -1,5 +1,4 @@
 -- `has_vertex` meets its contract: what is found is whether the vertex is among the corners looked at.
--- Assumes nothing.
 use mathlib.Core.Path.{_≡_, _∙_}
 use mathlib.Core.Logic.{⊎-elim}
 use Prim.Native.Nat.{_+_, _-_, _≤_}
@@ -8,7 +7,6 @@ use Rattle.touching.specs.Near.{among}
 use Rattle.touching.proofs.Laws.{found-none, found-here, found-not}
 use native.Mathlib.Omega.{arith}
 use borrow.Author.Needs.{needs}
-use Rattle.touching.proofs.has_vertex.Statement.{statement}
 use Rattle.touching.proofs.has_vertex.Tie as tie
 
 abbrev Inv-loop : tie.InvT-loop
@@ -25,7 +23,7 @@ cast-u c = let l = c .before .before .loop in omega (arith, c .shared-slice-know
 
 loop-again : tie.Need-loop-again Inv-loop μ-loop
 loop-again c =
-    let s = c .before .before .before .before in
+    let s : tie.Start Inv-loop μ-loop = search in
     let l = c .before .before .before .loop in
     let corners = now (s .args .corners) in (
       omega arith,
@@ -42,7 +40,7 @@ returns c =
     let e : l .j ≡ s .args .n = omega (arith, l .inv .0) in
     rw (← e) (l .inv .1)
 
-pub has-vertex-spec : {M : Type 1} → statement M
+pub has-vertex-spec : {M : Type 1} → Rattle.touching.proofs.has_vertex.Statement.statement M
 has-vertex-spec =
     tie.close (tie.spec Inv-loop μ-loop loop-holds (λ c. search needs) (λ c. search needs) (λ c. search needs) cast-u (λ c. search needs)
     (λ c. search needs) loop-again returns)

@@ -1,5 +1,4 @@
 -- `mark_all` meets its contract: the vertices of the first j corners are marked.
--- Assumes nothing.
 use mathlib.Core.Path.{_≡_, refl}
 use Prim.Native.Nat.{_+_, _-_, _≤_}
 use lib.ListN.{length, length-set}
@@ -8,7 +7,6 @@ use Rattle.touching.specs.Near.{AllMarked}
 use Rattle.touching.proofs.Laws.{all-none, all-step}
 use native.Mathlib.Omega.{arith}
 use borrow.Author.Needs.{needs}
-use Rattle.touching.proofs.mark_all.Statement.{statement}
 use Rattle.touching.proofs.mark_all.Tie as tie
 
 abbrev Inv-loop : tie.InvT-loop
@@ -25,13 +23,13 @@ cast-u c = let l = c .before .before .loop in omega (arith, c .shared-slice-know
 
 slice-write-near : tie.Need-slice-write-near Inv-loop μ-loop
 slice-write-near c =
-    let s = c .before .before .before in
+    let s : tie.Start Inv-loop μ-loop = search in
     let l = c .before .before .loop in
     omega (arith, l .inv .1, s .pre .1 (s .args .start + l .j) (omega (arith, s .pre .0)))
 
 loop-again : tie.Need-loop-again Inv-loop μ-loop
 loop-again c =
-    let s = c .before .before .before in
+    let s : tie.Start Inv-loop μ-loop = search in
     let l = c .before .before .loop in (
       omega arith,
       simp length-set (l .inv .1),
@@ -46,7 +44,7 @@ returns c =
     let e : l .j ≡ s .args .n = omega (arith, l .inv .0) in
     rw (← e) (l .inv .2)
 
-pub mark-all-spec : {M : Type 1} → statement M
+pub mark-all-spec : {M : Type 1} → Rattle.touching.proofs.mark_all.Statement.statement M
 mark-all-spec =
     tie.close (tie.spec Inv-loop μ-loop loop-holds (λ c. search needs) (λ c. search needs) (λ c. search needs) cast-u slice-write-near (λ c. search needs)
     (λ c. search needs) loop-again (λ c. search needs) returns)

@@ -1,5 +1,4 @@
 -- `mark_vertices` meets its contract: the vertices of the first f faces that have this one are marked.
--- Assumes nothing.
 use mathlib.Core.Path.{_≡_, refl, sym, _∙_}
 use Prim.Native.Nat.{_-_, _<_, _≤_}
 use lib.ListN.{length}
@@ -10,7 +9,6 @@ use Rattle.touching.specs.Near.{NearMarked}
 use Rattle.touching.proofs.Laws.{near-none, near-step}
 use native.Mathlib.Omega.{arith}
 use borrow.Author.Needs.{needs}
-use Rattle.touching.proofs.mark_vertices.Statement.{statement}
 use Rattle.touching.proofs.mark_vertices.Tie as tie
 
 abbrev Inv-loop : tie.InvT-loop
@@ -22,17 +20,17 @@ abbrev μ-loop : tie.MeasureT-loop
 
 loop-holds : tie.Need-loop-holds Inv-loop μ-loop
 loop-holds c =
-    let s = c .before .before .before in
+    let s : tie.Start Inv-loop μ-loop = search in
     (omega arith, sym (start-zero _), refl, near-none (now (s .args .sides)) (now (s .args .corners)) (s .args .vertex) (now (s .args .near)) (s .pre .1 .1))
 
 cast-n : tie.Need-cast-n Inv-loop μ-loop
 cast-n c =
-    let s = c .before .before .before .before .before .before in
+    let s : tie.Start Inv-loop μ-loop = search in
     omega (arith, s .pre .0 .0 .most (c .before .before .loop .f) (search needs))
 
 mark-face-requires : tie.Need-mark-face-requires Inv-loop μ-loop
 mark-face-requires c κs =
-    let s = c .before .before .before .before .before .before .before in
+    let s : tie.Start Inv-loop μ-loop = search in
     let l = c .before .before .before .loop in (
       omega (arith, l .inv .1, start-ends (now (s .args .sides)) (l .f) (search needs), s .pre .0 .1),
       λ d h. omega (arith, s .pre .1 .0 d h, l .inv .2),
@@ -40,13 +38,13 @@ mark-face-requires c κs =
 
 add-start : tie.Need-add-start Inv-loop μ-loop
 add-start c =
-    let s = c .before .before .before .before .before .before .before .before .before .before in
+    let s : tie.Start Inv-loop μ-loop = search in
     let l = c .before .before .before .before .before .before .loop in
     omega (arith, l .inv .1, s .pre .0 .0 .few, start-ends (now (s .args .sides)) (l .f) (search needs))
 
 loop-again : tie.Need-loop-again Inv-loop μ-loop
 loop-again c =
-    let s = c .before .before .before .before .before .before .before .before .before .before in
+    let s : tie.Start Inv-loop μ-loop = search in
     let l = c .before .before .before .before .before .before .loop in
     let k = c .before .before .mark-face in
     let sides = now (s .args .sides) in
@@ -61,12 +59,12 @@ loop-again c =
 
 returns : tie.Need-returns Inv-loop μ-loop
 returns c =
-    let s = c .before .before .before .before .before in
+    let s : tie.Start Inv-loop μ-loop = search in
     let l = c .before .loop in
     let e : l .f ≡ length (now (s .args .sides)) = omega (arith, l .inv .0) in
     rw (← e) (l .inv .3)
 
-pub mark-vertices-spec : {M : Type 1} → statement M
+pub mark-vertices-spec : {M : Type 1} → Rattle.touching.proofs.mark_vertices.Statement.statement M
 mark-vertices-spec =
     tie.close (tie.spec Inv-loop μ-loop loop-holds (λ c. search needs) cast-n mark-face-requires add-start (λ c. search needs) (λ c. search needs)
     loop-again (λ c. search needs) returns)

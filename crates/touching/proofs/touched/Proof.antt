@@ -1,12 +1,10 @@
 -- `touched` meets its contract: 29, the fault of 4 to 13 with 27 and 28, no room, or the marks.
--- Assumes nothing.
 use denote.Ref.{now}
 use Rattle.paper.specs.Mesh.{Mesh, meshOf}
 use Rattle.paper.specs.Faults.{Accepted}
 use Rattle.mesh.proofs.Verdicts.{passed}
 use Rattle.touching.proofs.Laws.{sums, names-few, faces, touched-none, touched-refused, touched-no-room, touched-done}
 use borrow.Author.Needs.{needs}
-use Rattle.touching.proofs.touched.Statement.{statement}
 use Rattle.touching.proofs.touched.Tie as tie
 
 abbrev mesh : tie.Start → Mesh
@@ -17,18 +15,18 @@ accepts : (t : tie.After-enum-told) → Accepted (mesh (t .before .before .befor
 accepts t = passed _ (t .before .before .check .ensures) (t .enum-told .given .1)
 
 returns : tie.Need-returns
-returns c = let s = c .before .before .before .before .before in touched-none (mesh s) (s .args .vertex) (now (s .args .marks)) (search needs)
+returns c = let s : tie.Start = search in touched-none (mesh s) (s .args .vertex) (now (s .args .marks)) (search needs)
 
 returns-2 : tie.Need-returns-2
 returns-2 c =
-    let s = c .before .before .before .before .before .before .before .before .before in
+    let s : tie.Start = search in
     let k = c .before .before .before .check in
     let a = c .before .a .given in
     touched-refused (mesh s) (s .args .vertex) (now (s .args .marks)) (search needs) (k .result) (a .0 .0) (a .0 .1 .0) (k .ensures) (a .1)
 
 returns-3 : tie.Need-returns-3
 returns-3 c =
-    let s = c .before .before .before .before .before .before .before .before .before in
+    let s : tie.Start = search in
     touched-no-room (mesh s) (s .args .vertex) (now (s .args .marks)) (search needs) (accepts (c .before)) (search needs)
 
 mark-requires : tie.Need-mark-requires
@@ -40,10 +38,10 @@ mark-requires c κs =
 returns-4 : tie.Need-returns-4
 returns-4 c =
     let t = c .before .before .before .before .before in
-    let s = t .before .before .before .before .before .before .before .before in
+    let s : tie.Start = search in
     touched-done (mesh s) (s .args .vertex) (now (s .args .marks)) (search needs) (accepts t) (search needs) _ (c .before .before .mark .ensures)
 
-pub touched-spec : {M : Type 1} → statement M
+pub touched-spec : {M : Type 1} → Rattle.touching.proofs.touched.Statement.statement M
 touched-spec =
     tie.close (tie.spec returns (λ c κs. search needs) (λ c. search needs) returns-2 (λ c. search needs) returns-3 mark-requires (λ c. search needs)
     returns-4)

@@ -1,17 +1,15 @@
 -- A header that passes gives lists that lie within the file.
--- Assumes nothing.
 use borrow.Author.Needs.{needs}
 use Rattle.mesh.proofs.Verdicts.{passed}
 use Rattle.dms.proofs.header.Headers.{header-sized}
-use Rattle.turn.proofs.turn_file.Statement.{statement}
 use Rattle.turn.proofs.turn_file.Tie as tie
 
 turn-lists-requires : tie.Need-turn-lists-requires
 turn-lists-requires c κs =
-    let s = c .before .before .before .before in
+    let s : tie.Start = search in
     header-sized (s .args .file .now) (s .args .counted) (passed _ (c .before .before .check-header .ensures) (c .enum-told .given .1))
 
-pub turn-file-spec : {M : Type 1} → statement M
+pub turn-file-spec : {M : Type 1} → Rattle.turn.proofs.turn_file.Statement.statement M
 turn-file-spec =
     tie.close (tie.spec (λ c κs. search needs) (λ c. search needs) (λ c κs. search needs) (λ c. search needs) (λ c. search needs) turn-lists-requires
     (λ c. search needs))

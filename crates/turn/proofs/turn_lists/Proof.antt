@@ -1,9 +1,7 @@
 -- A header that passes gives lists within the limits, so each part lies in its list.
--- Assumes nothing.
 use mathlib.Core.Path.{sym}
 use lib.Seq.{length-take-le}
 use borrow.Author.Needs.{needs}
-use Rattle.turn.proofs.turn_lists.Statement.{statement}
 use Rattle.turn.proofs.turn_lists.Tie as tie
 
 slice-aggregate-turn-mesh : tie.Need-slice-aggregate-turn-mesh
@@ -18,7 +16,7 @@ slice-aggregate-turn-mesh-3 c = sym (length-take-le _ _ (search needs))
 slice-aggregate-turn-mesh-4 : tie.Need-slice-aggregate-turn-mesh-4
 slice-aggregate-turn-mesh-4 c = sym (length-take-le _ _ (search needs))
 
-pub turn-lists-spec : {M : Type 1} → statement M
+pub turn-lists-spec : {M : Type 1} → Rattle.turn.proofs.turn_lists.Statement.statement M
 turn-lists-spec =
     tie.close (tie.spec (λ c. search needs) (λ c. search needs) (λ c. search needs) (λ c. search needs) (λ c κs. search needs) (λ c κs. search needs)
     (λ c κs. search needs) (λ c. search needs) (λ c κs. search needs) (λ c κs. search needs) (λ c κs. search needs) (λ c κs. search needs)

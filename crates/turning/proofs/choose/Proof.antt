@@ -1,4 +1,4 @@
--- `choose` meets its contract: 4 to 9 stop it, or 34 and 35 decide. Assumes nothing.
+-- `choose` meets its contract: 4 to 9 stop it, or 34 and 35 decide.
 use native.Mathlib.Omega.{arith}
 use denote.Ref.{now}
 use mathlib.Core.Path.{ap}
@@ -7,7 +7,6 @@ use borrow.Author.Needs.{needs}
 use Rattle.paper.specs.Mesh.{Mesh, meshOf, vertexCount, mostVertices, mostCorners}
 use Rattle.checks.proofs.Laws.{room}
 use Rattle.turning.proofs.Laws.{sized-of, nexted-of, lists-refused, lists-sound, lists-passed}
-use Rattle.turning.proofs.choose.Statement.{statement}
 use Rattle.turning.proofs.choose.Tie as tie
 
 -- the mesh of a call
@@ -19,7 +18,7 @@ check-lists-requires c κs = room (mesh (c .before .before .before .before .befo
 
 returns : tie.Need-returns
 returns c =
-    let s = c .before .before .before .before .before .before .before .before .before .before .before .before in
+    let s : tie.Start = search in
     let a = c .before .before .before .before .before .check-lists in
     let k = c .before .a .given in
     lists-refused (mesh s) (a .result) (a .ensures .answers) (k .0 .0) (k .0 .1 .0) (now (s .args .states)) (k .1)
@@ -28,7 +27,7 @@ find-turns-requires : tie.Need-find-turns-requires
 find-turns-requires c κs =
     let e = c .before .before in
     let h = e .before .before .before .before in
-    let s = h .before .before .before .before .before .before .before in
+    let s : tie.Start = search in
     let a = h .check-lists in
     let z = sized-of (mesh s) (lists-sound (mesh s) (a .result) (a .ensures .answers) (e .enum-told .given .1)) in (
       (
@@ -48,7 +47,7 @@ returns-2 c =
     let w = c .before .before .find-turns in
     lists-passed (mesh s) (a .result) (a .ensures .answers) (e .enum-told .given .1) (w .result) (w .last .1 .1 .1 .1 .0) (w .ensures)
 
-pub choose-spec : {M : Type 1} → statement M
+pub choose-spec : {M : Type 1} → Rattle.turning.proofs.choose.Statement.statement M
 choose-spec =
     tie.close (tie.spec (λ c. search needs) (λ c. search needs) check-lists-requires (λ c. search needs) returns (λ c. search needs) (λ c. search needs)
     find-turns-requires (λ c. search needs) returns-2)

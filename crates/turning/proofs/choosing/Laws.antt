@@ -1,5 +1,4 @@
 -- What check 34 leaves for check 35, and what the two answer.
--- Assumes nothing.
 use mathlib.Core.Path.{_≡_, ap, _∙_, sym}
 use mathlib.Core.List.{List}
 use Prim.Native.Nat.{ℕ, _<_, _≤_}

@@ -1,5 +1,4 @@
 -- The chains by lower ends: how they grow by a corner, and the places on one.
--- Assumes nothing.
 use mathlib.Core.Path.{_≡_, _∙_, sym, subst}
 use mathlib.Core.List.{List}
 use Prim.Native.Nat.{ℕ, _+_, _<_}

@@ -1,5 +1,4 @@
 -- The turns of the loops over the ends of edges, and the pairs that come out of them.
--- Assumes nothing.
 use mathlib.Core.Path.{_≡_, ap, _∙_, sym, subst}
 use mathlib.Core.Bool.{true, false, not, _||_}
 use mathlib.Core.Logic.{_⊎_, inl, inr, ⊎-elim}

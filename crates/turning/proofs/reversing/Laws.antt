@@ -1,5 +1,4 @@
 -- Turned faces, written in place: the turns of the loops.
--- Assumes nothing.
 use mathlib.Core.Path.{_≡_, refl, ap, _∙_, sym}
 use mathlib.Core.Bool.{Bool, true, false}
 use mathlib.Core.Logic.{⊎-elim}

@@ -1,5 +1,4 @@
 -- The tables of the faces, filled face by face.
--- Assumes nothing.
 use mathlib.Core.Path.{_≡_, refl, ap, _∙_, sym}
 use mathlib.Core.Logic.{⊎-elim}
 use mathlib.Core.List.{List}

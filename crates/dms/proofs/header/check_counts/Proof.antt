@@ -1,7 +1,5 @@
 -- The counts read are the header's, so the check of their lengths is the verdict on them.
--- Assumes nothing.
 use borrow.Author.Needs.{needs}
-use Rattle.dms.proofs.header.check_counts.Statement.{statement}
 use Rattle.dms.proofs.header.check_counts.Tie as tie
 
 returns : tie.Need-returns
@@ -11,6 +9,6 @@ returns c =
     let k = c .before .corner-count .ensures .0 in
     rw (← v, ← f, ← k) (c .check-lengths .ensures)
 
-pub check-counts-spec : {M : Type 1} → statement M
+pub check-counts-spec : {M : Type 1} → Rattle.dms.proofs.header.check_counts.Statement.statement M
 check-counts-spec =
     tie.close (tie.spec (λ c κs. search needs) (λ c. search needs) (λ c κs. search needs) (λ c κs. search needs) (λ c κs. search needs) returns)

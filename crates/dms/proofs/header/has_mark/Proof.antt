@@ -1,9 +1,7 @@
 -- Each byte decides, or leaves it to the next.
--- Assumes nothing.
 use borrow.Author.Tests.{eq-eqb, ne-eqb}
 use borrow.Author.Needs.{needs}
 use Rattle.paper.specs.File.{byteAt, marked}
-use Rattle.dms.proofs.header.has_mark.Statement.{statement}
 use Rattle.dms.proofs.header.has_mark.Tie as tie
 
 returns : tie.Need-returns
@@ -22,5 +20,5 @@ returns-3 c =
     let f = c .before .before .before .before .before .args .file .now in
     rw (eq-eqb (byteAt f 0) 68 (c .before .before .before .if1 .left), eq-eqb (byteAt f 1) 77 (c .before .if2 .left))
 
-pub has-mark-spec : {M : Type 1} → statement M
+pub has-mark-spec : {M : Type 1} → Rattle.dms.proofs.header.has_mark.Statement.statement M
 has-mark-spec = tie.close (tie.spec (λ c. search needs) returns (λ c. search needs) returns-2 (λ c. search needs) returns-3)

@@ -1,10 +1,8 @@
 -- Twice the corners in the version that has the list, else none.
--- Assumes nothing.
 use mathlib.Core.Path.{sym, _∙_}
 use native.Mathlib.Omega.{arith}
 use borrow.Author.Needs.{needs}
 use Rattle.dms.proofs.header.Headers.{sharp-bytes, plain-bytes}
-use Rattle.dms.proofs.header.sharpness_bytes.Statement.{statement}
 use Rattle.dms.proofs.header.sharpness_bytes.Tie as tie
 
 returns : tie.Need-returns
@@ -16,5 +14,5 @@ returns c =
 returns-2 : tie.Need-returns-2
 returns-2 c = (omega (arith, plain-bytes (c .before .before .before .before .args .file .now) (sym (c .before .is-sharp .ensures) ∙ c .if1 .left)), omega arith)
 
-pub sharpness-bytes-spec : {M : Type 1} → statement M
+pub sharpness-bytes-spec : {M : Type 1} → Rattle.dms.proofs.header.sharpness_bytes.Statement.statement M
 sharpness-bytes-spec = tie.close (tie.spec (λ c κs. search needs) (λ c. search needs) (λ c κs. search needs) returns returns-2)

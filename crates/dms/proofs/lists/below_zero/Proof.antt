@@ -1,11 +1,9 @@
 -- A number below zero is -1 less n; n is below 2 ^ 31, so the difference is exact and its bits give it back.
--- Assumes nothing.
 use lib.IntN.{negsuc}
 use mir.Syntax.{w32}
 use mir.ValLaws.{toZ-pos, toZ-ofZ}
 use borrow.Author.Needs.{needs}
 use Rattle.dms.proofs.lists.Lists.{minus-from-one}
-use Rattle.dms.proofs.lists.below_zero.Statement.{statement}
 use Rattle.dms.proofs.lists.below_zero.Tie as tie
 
 sub-result : tie.Need-sub-result
@@ -14,5 +12,5 @@ sub-result c = rw (toZ-pos w32 (c .args .n) (c .pre), minus-from-one (c .args .n
 returns : tie.Need-returns
 returns c = rw (toZ-pos w32 (c .args .n) (c .pre), minus-from-one (c .args .n)) (toZ-ofZ w32 (negsuc (c .args .n)) (record { sfits = c .pre }))
 
-pub below-zero-spec : {M : Type 1} → statement M
+pub below-zero-spec : {M : Type 1} → Rattle.dms.proofs.lists.below_zero.Statement.statement M
 below-zero-spec = tie.close (tie.spec (λ c. search needs) sub-result returns)

@@ -1,9 +1,7 @@
 -- A number that is not below zero is its bits. One below zero is as far below -1 as its bits are below 2 ^ 32 - 1.
--- Assumes nothing.
 use native.Mathlib.Omega.{arith}
 use mir.Facts.{toZ-ofZ}
 use Rattle.dms.proofs.lists.Words.{below, plain}
-use Rattle.dms.proofs.lists.bits.Statement.{statement}
 use Rattle.dms.proofs.lists.bits.Tie as tie
 
 sub-result : tie.Need-sub-result
@@ -42,5 +40,5 @@ returns-2 c =
     let b = plain (s .args .z) (s .fits .z) (simp (toZ-ofZ, s .fits .z) at (c .if1 .left)) in
     simp (toZ-ofZ, s .fits .z) (b .2)
 
-pub bits-spec : {M : Type 1} → statement M
+pub bits-spec : {M : Type 1} → Rattle.dms.proofs.lists.bits.Statement.statement M
 bits-spec = tie.close (tie.spec sub-result cast-result sub-result-2 cast-result-2 returns returns-2)

@@ -1,5 +1,4 @@
 -- After i turns the first i entries are 8 and the others are as they were.
--- Assumes nothing.
 use mathlib.Core.Path.{_≡_, refl}
 use Prim.Native.Nat.{ℕ, _-_, _≤_}
 use native.Mathlib.Omega.{arith}
@@ -7,7 +6,6 @@ use lib.ListN.{length, length-set}
 use borrow.Author.Needs.{needs}
 use Rattle.paper.specs.Mesh.{plain}
 use Rattle.mesh.proofs.Fills.{values-all, Filled, filled-none, filled-step, filled-all}
-use Rattle.dms.proofs.lists.fill_plain.Statement.{statement}
 use Rattle.dms.proofs.lists.fill_plain.Tie as tie
 
 abbrev Inv-loop : tie.InvT-loop
@@ -37,6 +35,6 @@ returns c =
     rw (← values-all f plain 0 (s .args .count) (λ k. refl))
     (filled-all f (s .args .out .now) (l .i) (s .args .count) (l .out) (omega arith) (l .inv .1 .1))
 
-pub fill-plain-spec : {M : Type 1} → statement M
+pub fill-plain-spec : {M : Type 1} → Rattle.dms.proofs.lists.fill_plain.Statement.statement M
 fill-plain-spec =
     tie.close (tie.spec Inv-loop μ-loop loop-holds (λ c. search needs) (λ c. search needs) (λ c. search needs) loop-again (λ c. search needs) returns)

@@ -1,5 +1,4 @@
 -- After i turns the first i values stand in the space and the others are as they were.
--- Assumes nothing.
 use mathlib.Core.Path.{_≡_, refl, _∙_}
 use Prim.Native.Nat.{_-_, _≤_}
 use native.Mathlib.Omega.{arith}
@@ -10,7 +9,6 @@ use mir.ValLaws.{toZ-ofZ}
 use borrow.Author.Needs.{needs}
 use Rattle.paper.specs.File.{coordinateIn}
 use Rattle.mesh.proofs.Fills.{Filled, filled-none, filled-step, filled-all}
-use Rattle.dms.proofs.lists.read_coordinates.Statement.{statement}
 use Rattle.dms.proofs.lists.read_coordinates.Tie as tie
 
 abbrev Inv-loop : tie.InvT-loop
@@ -27,7 +25,7 @@ loop-holds c =
 
 loop-again : tie.Need-loop-again Inv-loop μ-loop
 loop-again c =
-    let s = c .before .before .before .before in
+    let s : tie.Start Inv-loop μ-loop = search in
     let f = coordinateIn (s .args .file .now) in
     let l = c .before .before .loop in (
       search needs,
@@ -40,12 +38,12 @@ loop-again c =
 
 returns : tie.Need-returns Inv-loop μ-loop
 returns c =
-    let s = c .before .before .before in
+    let s : tie.Start Inv-loop μ-loop = search in
     let f = coordinateIn (s .args .file .now) in
     let l = c .before .loop in
     filled-all f (s .args .out .now) (l .i) (s .args .count) (l .out) (omega arith) (l .inv .1 .1)
 
-pub read-coordinates-spec : {M : Type 1} → statement M
+pub read-coordinates-spec : {M : Type 1} → Rattle.dms.proofs.lists.read_coordinates.Statement.statement M
 read-coordinates-spec =
     tie.close (tie.spec Inv-loop μ-loop loop-holds (λ c. search needs) (λ c. search needs) (λ c κs. search needs) (λ c. search needs) (λ c. search needs)
     (λ c. search needs) (λ c. search needs) loop-again (λ c. search needs) returns)

@@ -1,10 +1,8 @@
 -- Each list is read from where it starts, as many values as the header counts.
--- Assumes nothing.
 use mathlib.Core.Path.{ap}
 use Prim.Native.Nat.{ℕ, _*_}
 use borrow.Author.Needs.{needs}
 use Rattle.dms.proofs.lists.Lists.{coordinates-read, sides-read, corners-read, sharpness-read}
-use Rattle.dms.proofs.lists.read_lists.Statement.{statement}
 use Rattle.dms.proofs.lists.read_lists.Tie as tie
 
 returns : tie.Need-returns
@@ -22,7 +20,7 @@ returns c =
       sharpness-hold = sharpness-read file _ _ (c .before .before .read-sharpness .ensures);
     }
 
-pub read-lists-spec : {M : Type 1} → statement M
+pub read-lists-spec : {M : Type 1} → Rattle.dms.proofs.lists.read_lists.Statement.statement M
 read-lists-spec =
     tie.close (tie.spec (λ c κs. search needs) (λ c. search needs) (λ c κs. search needs) (λ c κs. search needs) (λ c κs. search needs)
     (λ c κs. search needs) (λ c κs. search needs) (λ c κs. search needs) (λ c κs. search needs) (λ c κs. search needs) (λ c. search needs)

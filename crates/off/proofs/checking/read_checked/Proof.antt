@@ -1,8 +1,6 @@
 -- 25 and 26 decide, or 4 to 13 do.
--- Assumes nothing.
 use Rattle.off.proofs.checking.Parts.{checked-words, checked-lists, checked-all}
 use borrow.Author.Needs.{needs}
-use Rattle.off.proofs.checking.read_checked.Statement.{statement}
 use Rattle.off.proofs.checking.read_checked.Tie as tie
 
 returns : tie.Need-returns
@@ -26,7 +24,7 @@ returns-3 c =
     checked-all _ _ _ _ (w .result) (w .ensures) (c .before .before .before .before .before .before .enum-told .given .1) (k .result) (k .ensures)
     (c .enum-told2 .given .1)
 
-pub read-checked-spec : {M : Type 1} → statement M
+pub read-checked-spec : {M : Type 1} → Rattle.off.proofs.checking.read_checked.Statement.statement M
 read-checked-spec =
     tie.close (tie.spec (λ c κs. search needs) (λ c. search needs) (λ c κs. search needs) (λ c. search needs) (λ c. search needs) (λ c. search needs)
     returns (λ c. search needs) (λ c κs. search needs) (λ c. search needs) (λ c κs. search needs) (λ c. search needs) (λ c. search needs)

@@ -1,11 +1,9 @@
 -- Each part ends the reading or leaves the cursor where the next part begins.
--- Assumes nothing.
 use mathlib.Core.Path.{sym, _∙_}
 use borrow.Author.Tests.{not-true, not-false}
 use Rattle.off.proofs.lists.Naturals.{own}
 use Rattle.off.proofs.checking.Parts.{header-refused, vertices-refused, faces-refused, more-refused, words-done}
 use borrow.Author.Needs.{needs}
-use Rattle.off.proofs.checking.read_words.Statement.{statement}
 use Rattle.off.proofs.checking.read_words.Tie as tie
 
 returns : tie.Need-returns
@@ -81,7 +79,7 @@ returns-5 c =
     (c .before .before .if3 .left))
     (sym (c .before .has-word .ensures) ∙ c .if4 .left)
 
-pub read-words-spec : {M : Type 1} → statement M
+pub read-words-spec : {M : Type 1} → Rattle.off.proofs.checking.read_words.Statement.statement M
 read-words-spec =
     tie.close (tie.spec (λ c κs. search needs) (λ c κs. search needs) returns (λ c. search needs) read-coordinates-requires (λ c κs. search needs)
     (λ c. search needs) returns-2 read-faces-requires (λ c κs. search needs) (λ c. search needs) (λ c. search needs) (λ c. search needs) returns-3

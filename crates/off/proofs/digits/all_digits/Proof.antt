@@ -1,5 +1,4 @@
 -- All bytes up to `i` are digits.
--- Assumes nothing.
 use mathlib.Core.Path.{_≡_, refl, sym, _∙_}
 use Prim.Native.Nat.{_≤_, _-_}
 use lib.ListN.{length, drop}
@@ -8,7 +7,6 @@ use Rattle.paper.specs.Off.{allDigits}
 use Rattle.off.proofs.digits.Numbers.{all-on, all-stop, all-none}
 use native.Mathlib.Omega.{arith}
 use borrow.Author.Needs.{needs}
-use Rattle.off.proofs.digits.all_digits.Statement.{statement}
 use Rattle.off.proofs.digits.all_digits.Tie as tie
 
 abbrev Inv-loop : tie.InvT-loop
@@ -34,7 +32,7 @@ returns-2 : tie.Need-returns-2 Inv-loop μ-loop
 returns-2 c =
     let l = c .before .loop in all-none _ (l .i) (omega arith) ∙ sym (l .inv .1)
 
-pub all-digits-spec : {M : Type 1} → statement M
+pub all-digits-spec : {M : Type 1} → Rattle.off.proofs.digits.all_digits.Statement.statement M
 all-digits-spec =
     tie.close (tie.spec Inv-loop μ-loop loop-holds (λ c. search needs) (λ c κs. search needs) returns (λ c. search needs) (λ c. search needs) loop-again
     returns-2)

@@ -1,5 +1,4 @@
 -- The value of all digits is that of those after `i`, continued from `n`, which so many digits keep below a power of ten.
--- Assumes nothing.
 use mathlib.Core.Path.{_≡_, refl, sym, ap, _∙_}
 use mathlib.Core.Bool.{true}
 use Prim.Native.Nat.{ℕ, _+_, _≤_, _<_, _-_}
@@ -8,7 +7,6 @@ use Rattle.paper.specs.Off.{allDigits, decimal}
 use Rattle.off.proofs.digits.Numbers.{digit-here, digits-on, decimal-on, decimal-none, tens, tens-start, tens-on, below-eight, below-nine}
 use native.Mathlib.Omega.{arith}
 use borrow.Author.Needs.{needs}
-use Rattle.off.proofs.digits.decimal.Statement.{statement}
 use Rattle.off.proofs.digits.decimal.Tie as tie
 
 abbrev Inv-loop : tie.InvT-loop
@@ -25,7 +23,7 @@ loop-holds c =
 
 with-digit-requires : tie.Need-with-digit-requires Inv-loop μ-loop
 with-digit-requires c κs =
-    let s = c .before .before .before .before in
+    let s : tie.Start Inv-loop μ-loop = search in
     let l = c .before .before .loop in
     let h : l .i < length (s .args .word .now) = search needs in
     let d = digit-here (s .args .word .now) (l .i) h (l .inv .2) in
@@ -33,7 +31,7 @@ with-digit-requires c κs =
 
 loop-again : tie.Need-loop-again Inv-loop μ-loop
 loop-again c =
-    let s = c .before .before .before .before .before in
+    let s : tie.Start Inv-loop μ-loop = search in
     let l = c .before .before .before .loop in
     let w = s .args .word .now in
     let h : l .i < length w = search needs in
@@ -48,12 +46,12 @@ loop-again c =
 
 returns : tie.Need-returns Inv-loop μ-loop
 returns c =
-    let s = c .before .before .before in
+    let s : tie.Start Inv-loop μ-loop = search in
     let l = c .before .loop in (
       sym (l .inv .3 ∙ decimal-none (l .n) (s .args .word .now) (l .i) (omega arith)),
       below-nine (l .n) (l .i - s .args .from) (l .inv .4) (omega (arith, s .pre .1)),
     )
 
-pub decimal-spec : {M : Type 1} → statement M
+pub decimal-spec : {M : Type 1} → Rattle.off.proofs.digits.decimal.Statement.statement M
 decimal-spec =
     tie.close (tie.spec Inv-loop μ-loop loop-holds (λ c. search needs) with-digit-requires (λ c. search needs) (λ c. search needs) loop-again returns)

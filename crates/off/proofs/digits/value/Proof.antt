@@ -1,5 +1,4 @@
 -- The digits after the minus give the size, and the minus the sign.
--- Assumes nothing.
 use mathlib.Core.Path.{_∙_}
 use mir.Syntax.{w32}
 use mir.ValLaws.{toZ-pos, toZ-ofZ}
@@ -7,7 +6,6 @@ use borrow.Author.Tests.{eq-eqb, ne-eqb}
 use Rattle.off.proofs.digits.Numbers.{value-digits, value-few, negative-is, positive-is}
 use native.Mathlib.Omega.{arith}
 use borrow.Author.Needs.{needs}
-use Rattle.off.proofs.digits.value.Statement.{statement}
 use Rattle.off.proofs.digits.value.Tie as tie
 
 decimal-requires : tie.Need-decimal-requires
@@ -30,5 +28,5 @@ returns-2 c =
     toZ-pos w32 (d .decimal .result) (omega (arith, d .decimal .ensures .1))
     ∙ positive-is _ (s .result) (s .ensures) (ne-eqb _ _ (c .if1 .left)) _ (d .decimal .ensures .0)
 
-pub value-spec : {M : Type 1} → statement M
+pub value-spec : {M : Type 1} → Rattle.off.proofs.digits.value.Statement.statement M
 value-spec = tie.close (tie.spec (λ c κs. search needs) decimal-requires (λ c κs. search needs) returns (λ c. search needs) returns-2)

@@ -1,5 +1,4 @@
 -- Each word is a number and is stored where there is room, or ends the reading.
--- Assumes nothing.
 use borrow.Author.Tests.{not-true, not-false}
 use mir.Syntax.{w32}
 use mir.ValLaws.{toZ-ofZ}
@@ -9,7 +8,6 @@ use Prim.Native.Nat.{_≤_, _-_}
 use Rattle.paper.specs.Off.{coordinate, wordsOf, valueAt}
 use native.Mathlib.Omega.{arith}
 use borrow.Author.Needs.{needs}
-use Rattle.off.proofs.lists.read_coordinates.Statement.{statement}
 use Rattle.off.proofs.lists.read_coordinates.Tie as tie
 
 abbrev Inv-loop : tie.InvT-loop
@@ -39,7 +37,7 @@ returns c =
 
 loop-again : tie.Need-loop-again Inv-loop μ-loop
 loop-again c =
-    let s = c .before .before .before .before .before .before .before .before .before .before .before in
+    let s : tie.Start Inv-loop μ-loop = search in
     let l = c .before .before .before .before .before .before .before .before .before .loop in
     let n = c .before .before .before .before .before .before .before .number in
     let ok = not-false _ (c .before .before .before .before .before .if1 .left) in
@@ -57,7 +55,7 @@ returns-2 : tie.Need-returns-2 Inv-loop μ-loop
 returns-2 c =
     let l = c .before .loop in reading-all _ coordinate _ _ _ 0 _ (l .list) (l .i) (l .next) (l .inv .1) (omega arith)
 
-pub read-coordinates-spec : {M : Type 1} → statement M
+pub read-coordinates-spec : {M : Type 1} → Rattle.off.proofs.lists.read_coordinates.Statement.statement M
 read-coordinates-spec =
     tie.close (tie.spec Inv-loop μ-loop loop-holds number-requires same-length returns (λ c κs. search needs) (λ c. search needs) (λ c. search needs)
     loop-again same-length-2 returns-2)

@@ -1,5 +1,4 @@
 -- Each word is a vertex number and is stored where there is room, or ends the reading.
--- Assumes nothing.
 use borrow.Author.Tests.{not-true, not-false}
 use Rattle.off.proofs.lists.Naturals.{own}
 use Rattle.off.proofs.lists.Rows.{corner-bad, corner-step, Reading, reading-none, reading-stop, reading-all}
@@ -7,7 +6,6 @@ use Prim.Native.Nat.{_≤_, _-_}
 use Rattle.paper.specs.Off.{vertexNumber, wordsOf, naturalAt}
 use native.Mathlib.Omega.{arith}
 use borrow.Author.Needs.{needs}
-use Rattle.off.proofs.lists.read_corners.Statement.{statement}
 use Rattle.off.proofs.lists.read_corners.Tie as tie
 
 abbrev Inv-loop : tie.InvT-loop
@@ -37,7 +35,7 @@ returns c =
 
 add-put-corner : tie.Need-add-put-corner Inv-loop μ-loop
 add-put-corner c =
-    let s = c .before .before .before .before .before .before .before .before in
+    let s : tie.Start Inv-loop μ-loop = search in
     let l = c .before .before .before .before .before .loop in
     record { fits = omega (arith, s .pre .1) }
 
@@ -47,7 +45,7 @@ cast-put-corner c =
 
 loop-again : tie.Need-loop-again Inv-loop μ-loop
 loop-again c =
-    let s = c .before .before .before .before .before .before .before .before .before .before .before .before .before in
+    let s : tie.Start Inv-loop μ-loop = search in
     let l = c .before .before .before .before .before .before .before .before .before .before .loop in
     let n = c .before .before .before .before .before .before .before .before .read-natural in (
       search needs,
@@ -63,7 +61,7 @@ returns-2 : tie.Need-returns-2 Inv-loop μ-loop
 returns-2 c =
     let l = c .before .loop in reading-all _ vertexNumber _ _ _ _ _ (l .list) (l .i) (l .next) (l .inv .1) (omega arith)
 
-pub read-corners-spec : {M : Type 1} → statement M
+pub read-corners-spec : {M : Type 1} → Rattle.off.proofs.lists.read_corners.Statement.statement M
 read-corners-spec =
     tie.close (tie.spec Inv-loop μ-loop loop-holds read-natural-requires same-length returns add-put-corner cast-put-corner (λ c κs. search needs)
     (λ c. search needs) (λ c. search needs) loop-again same-length-2 returns-2)

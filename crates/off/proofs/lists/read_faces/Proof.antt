@@ -1,5 +1,4 @@
 -- Each face is read whole, or ends the reading.
--- Assumes nothing.
 use borrow.Author.Tests.{not-true, not-false}
 use mathlib.Core.Path.{_≡_, refl}
 use Prim.Native.Nat.{_≤_, _<_, _-_}
@@ -7,7 +6,6 @@ use lib.ListN.{length}
 use Rattle.off.proofs.lists.Facing.{Facing, facing-none, facing-step, facing-stop, facing-all}
 use native.Mathlib.Omega.{arith}
 use borrow.Author.Needs.{needs}
-use Rattle.off.proofs.lists.read_faces.Statement.{statement}
 use Rattle.off.proofs.lists.read_faces.Tie as tie
 
 abbrev Inv-loop : tie.InvT-loop
@@ -19,18 +17,18 @@ abbrev μ-loop : tie.MeasureT-loop
 
 loop-holds : tie.Need-loop-holds Inv-loop μ-loop
 loop-holds c =
-    let s = c .before .before .before in
+    let s : tie.Start Inv-loop μ-loop = search in
     (omega arith, refl, refl, facing-none _ (s .args .c .word) (s .args .count) (s .args .sides .now) (s .args .corners .now) (s .args .c) refl (s .pre .0))
 
 read-face-requires : tie.Need-read-face-requires Inv-loop μ-loop
 read-face-requires c κs =
-    let s = c .before .before .before .before .before .before .before in
+    let s : tie.Start Inv-loop μ-loop = search in
     let l = c .before .before .before .loop in
     (l .inv .3 .before, omega (arith, l .inv .3 .few, s .pre .1, l .inv .0))
 
 returns : tie.Need-returns Inv-loop μ-loop
 returns c =
-    let s = c .before .before .before .before .before .before .before .before .before .before .before .before .before .before .before in
+    let s : tie.Start Inv-loop μ-loop = search in
     let l = c .before .before .before .before .before .before .before .before .before .before .before .loop in
     let r = c .before .before .before .before .before .before .before .read-face in
     facing-stop _ (s .args .c .word) (s .args .count) (s .args .sides .now) (s .args .corners .now) (l .sides) (l .corners) (l .f) (l .k) (l .next)
@@ -39,14 +37,14 @@ returns c =
 
 add-k : tie.Need-add-k Inv-loop μ-loop
 add-k c =
-    let s = c .before .before .before .before .before .before .before .before .before .before .before .before .before .before .before .before in
+    let s : tie.Start Inv-loop μ-loop = search in
     let l = c .before .before .before .before .before .before .before .before .before .before .before .before .loop in
     let r = c .before .before .before .before .before .before .before .before .read-face in
     record { fits = omega (arith, l .inv .3 .few, s .pre .1, l .inv .0, r .ensures .within) }
 
 loop-again : tie.Need-loop-again Inv-loop μ-loop
 loop-again c =
-    let s = c .before .before .before .before .before .before .before .before .before .before .before .before .before .before .before .before in
+    let s : tie.Start Inv-loop μ-loop = search in
     let l = c .before .before .before .before .before .before .before .before .before .before .before .before .loop in
     let r = c .before .before .before .before .before .before .before .before .read-face in
     let h : l .f < s .args .count = omega
@@ -61,7 +59,7 @@ returns-2 c =
     let l = c .before .loop in
     facing-all _ _ _ _ _ (l .sides) (l .corners) (l .f) (l .k) (l .next) (l .inv .3) (omega arith)
 
-pub read-faces-spec : {M : Type 1} → statement M
+pub read-faces-spec : {M : Type 1} → Rattle.off.proofs.lists.read_faces.Statement.statement M
 read-faces-spec =
     tie.close (tie.spec Inv-loop μ-loop loop-holds read-face-requires (λ c. search needs) (λ c. search needs) returns add-k (λ c. search needs)
     (λ c. search needs) loop-again (λ c. search needs) (λ c. search needs) returns-2)

@@ -1,9 +1,7 @@
 -- Words 1, 2 and 3 as counts; the first that is none ends the reading.
--- Assumes nothing.
 use borrow.Author.Tests.{not-true, not-false}
 use Rattle.off.proofs.lists.Naturals.{own, natural-at, header-first, header-second, header-third, header-read}
 use borrow.Author.Needs.{needs}
-use Rattle.off.proofs.lists.read_header.Statement.{statement}
 use Rattle.off.proofs.lists.read_header.Tie as tie
 
 read-natural-requires : tie.Need-read-natural-requires
@@ -11,7 +9,7 @@ read-natural-requires c κs = own _ _ _ (c .before .pre)
 
 returns : tie.Need-returns
 returns c =
-    let s = c .before .before .before .before .before in
+    let s : tie.Start = search in
     let v = c .before .before .before .read-natural in
     let e = natural-at _ 1 _ _ _ (s .pre .number) (v .ensures) in
     let n = c .no-header .ensures in
@@ -23,7 +21,7 @@ read-natural-requires-2 c κs =
 
 returns-2 : tie.Need-returns-2
 returns-2 c =
-    let s = c .before .before .before .before .before .before .before .before .before in
+    let s : tie.Start = search in
     let v = c .before .before .before .before .before .before .before .read-natural in
     let e = natural-at _ 1 _ _ _ (s .pre .number) (v .ensures) in
     let good = not-false _ (c .before .before .before .before .before .if1 .left) in
@@ -38,7 +36,7 @@ read-natural-requires-3 c κs =
 
 returns-3 : tie.Need-returns-3
 returns-3 c =
-    let s = c .before .before .before .before .before .before .before .before .before .before .before .before .before in
+    let s : tie.Start = search in
     let v = c .before .before .before .before .before .before .before .before .before .before .before .read-natural in
     let e = natural-at _ 1 _ _ _ (s .pre .number) (v .ensures) in
     let good = not-false _ (c .before .before .before .before .before .before .before .before .before .if1 .left) in
@@ -53,7 +51,7 @@ returns-3 c =
 
 returns-4 : tie.Need-returns-4
 returns-4 c =
-    let s = c .before .before .before .before .before .before .before .before .before .before .before .before .before in
+    let s : tie.Start = search in
     let v = c .before .before .before .before .before .before .before .before .before .before .before .read-natural in
     let e = natural-at _ 1 _ _ _ (s .pre .number) (v .ensures) in
     let good = not-false _ (c .before .before .before .before .before .before .before .before .before .if1 .left) in
@@ -64,7 +62,7 @@ returns-4 c =
     let h = natural-at _ 3 _ _ _ (g .next fine .number) (k .ensures) in
     header-read _ (s .args .c) (s .pre) (v .result) e good (f .result) g fine (k .result) h (not-false _ (c .before .if3 .left))
 
-pub read-header-spec : {M : Type 1} → statement M
+pub read-header-spec : {M : Type 1} → Rattle.off.proofs.lists.read_header.Statement.statement M
 read-header-spec =
     tie.close (tie.spec read-natural-requires (λ c κs. search needs) returns read-natural-requires-2 (λ c κs. search needs) returns-2
     read-natural-requires-3 (λ c κs. search needs) returns-3 returns-4)

@@ -1,12 +1,10 @@
 -- A number, not below zero, not above the largest.
--- Assumes nothing.
 use mir.Syntax.{w32}
 use mir.ValLaws.{toZ-ofZ}
 use borrow.Author.Tests.{not-true, not-false}
 use Rattle.off.proofs.lists.Bad.{from-zero}
 use Rattle.off.proofs.lists.Naturals.{natural-none, natural-below, natural-above, natural-read}
 use borrow.Author.Needs.{needs}
-use Rattle.off.proofs.lists.read_natural.Statement.{statement}
 use Rattle.off.proofs.lists.read_natural.Tie as tie
 
 returns : tie.Need-returns
@@ -42,7 +40,7 @@ returns-4 c =
     natural-read _ _ _ (m .result) (m .ensures) (not-false _ (c .before .before .before .before .if1 .left)) _ z (c .before .before .if2 .left)
     (c .before .if3 .left)
 
-pub read-natural-spec : {M : Type 1} → statement M
+pub read-natural-spec : {M : Type 1} → Rattle.off.proofs.lists.read_natural.Statement.statement M
 read-natural-spec =
     tie.close (tie.spec (λ c κs. search needs) (λ c κs. search needs) returns (λ c κs. search needs) returns-2 cast-size (λ c κs. search needs) returns-3
     returns-4)

@@ -1,5 +1,4 @@
 -- Up to `at` there is no line feed, so the words after the comment are those after its rest.
--- Assumes nothing.
 use mathlib.Core.Path.{_≡_, refl, _∙_}
 use Prim.Native.Nat.{_≤_, _-_}
 use lib.ListN.{length, drop}
@@ -8,7 +7,6 @@ use Rattle.off.specs.words.Cursor.{commentWords}
 use Rattle.off.proofs.words.Cursors.{comment-next, comment-feed, comment-last}
 use native.Mathlib.Omega.{arith}
 use borrow.Author.Needs.{needs}
-use Rattle.off.proofs.words.comment_end.Statement.{statement}
 use Rattle.off.proofs.words.comment_end.Tie as tie
 
 abbrev Inv-loop : tie.InvT-loop
@@ -35,5 +33,5 @@ returns-2 c =
     let l = c .before .loop in
     (l .inv .0, l .inv .1, l .inv .2 ∙ comment-last _ (l .at) (omega arith))
 
-pub comment-end-spec : {M : Type 1} → statement M
+pub comment-end-spec : {M : Type 1} → Rattle.off.proofs.words.comment_end.Statement.statement M
 comment-end-spec = tie.close (tie.spec Inv-loop μ-loop loop-holds (λ c. search needs) returns (λ c. search needs) (λ c. search needs) loop-again returns-2)

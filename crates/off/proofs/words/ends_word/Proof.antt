@@ -1,10 +1,8 @@
 -- A separator or #.
--- Assumes nothing.
 use mathlib.Core.Path.{sym, _∙_}
 use native.Mathlib.Omega.{arith}
 use borrow.Author.Needs.{needs}
 use Rattle.off.proofs.words.Cursors.{ends-separator, ends-hash, ends-none}
-use Rattle.off.proofs.words.ends_word.Statement.{statement}
 use Rattle.off.proofs.words.ends_word.Tie as tie
 
 returns : tie.Need-returns
@@ -16,5 +14,5 @@ returns-2 c = ends-hash _ (omega (arith, c .if2 .taken))
 returns-3 : tie.Need-returns-3
 returns-3 c = sym (ends-none _ (sym (c .before .before .separates .ensures) ∙ c .before .if1 .left) (λ e. c .if2 .left (omega arith)))
 
-pub ends-word-spec : {M : Type 1} → statement M
+pub ends-word-spec : {M : Type 1} → Rattle.off.proofs.words.ends_word.Statement.statement M
 ends-word-spec = tie.close (tie.spec (λ c κs. search needs) returns returns-2 returns-3)

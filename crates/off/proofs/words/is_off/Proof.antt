@@ -1,10 +1,8 @@
 -- The length, and each byte, decides or leaves it to the next.
--- Assumes nothing.
 use borrow.Author.Tests.{eq-eqb, ne-eqb}
 use lib.ListN.{length, getD}
 use Rattle.paper.specs.Off.{isOff}
 use borrow.Author.Needs.{needs}
-use Rattle.off.proofs.words.is_off.Statement.{statement}
 use Rattle.off.proofs.words.is_off.Tie as tie
 
 returns : tie.Need-returns
@@ -38,5 +36,5 @@ returns-4 c =
       eq-eqb (getD w 1 0) 70 (c .before .if3 .left),
     )
 
-pub is-off-spec : {M : Type 1} → statement M
+pub is-off-spec : {M : Type 1} → Rattle.off.proofs.words.is_off.Statement.statement M
 is-off-spec = tie.close (tie.spec returns (λ c. search needs) returns-2 (λ c. search needs) returns-3 (λ c. search needs) returns-4)

@@ -1,12 +1,10 @@
 -- The run of bytes at the cursor is the first word, or there is none and the run is empty.
--- Assumes nothing.
 use mathlib.Core.Path.{refl, sym, ap, _∙_}
 use borrow.Author.Tests.{not-true, not-false}
 use Rattle.mesh.proofs.Scans.{clash}
 use Rattle.paper.specs.Off.{isOff}
 use Rattle.off.proofs.words.Cursors.{own, same-at, word-here, off-there, room, before-next}
 use borrow.Author.Needs.{needs}
-use Rattle.off.proofs.words.read_mark.Statement.{statement}
 use Rattle.off.proofs.words.read_mark.Tie as tie
 
 to-word-requires : tie.Need-to-word-requires
@@ -42,7 +40,7 @@ returns-2 c =
       next = λ z. before-next _ _ (t .result) (e .result) a (e .ensures) (off-there _ there) _ (c .moved .ensures .0) (c .moved .ensures .1);
     }
 
-pub read-mark-spec : {M : Type 1} → statement M
+pub read-mark-spec : {M : Type 1} → Rattle.off.proofs.words.read_mark.Statement.statement M
 read-mark-spec =
     tie.close (tie.spec (λ c κs. search needs) to-word-requires (λ c κs. search needs) (λ c. search needs) (λ c. search needs) (λ c. search needs)
     (λ c κs. search needs) returns moved-requires returns-2)

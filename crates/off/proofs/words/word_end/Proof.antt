@@ -1,5 +1,4 @@
 -- No byte up to `at` ends the word.
--- Assumes nothing.
 use mathlib.Core.Path.{_≡_, sym, _∙_}
 use mathlib.Core.Bool.{false}
 use Prim.Native.Nat.{ℕ, _≤_, _<_, _-_}
@@ -8,7 +7,6 @@ use Rattle.off.specs.words.Cursor.{ends}
 use Rattle.off.proofs.words.Cursors.{run-on}
 use native.Mathlib.Omega.{arith}
 use borrow.Author.Needs.{needs}
-use Rattle.off.proofs.words.word_end.Statement.{statement}
 use Rattle.off.proofs.words.word_end.Tie as tie
 
 abbrev Inv-loop : tie.InvT-loop
@@ -39,7 +37,7 @@ returns-2 c =
     let l = c .before .loop in
     record { forward = l .inv .0; inside = l .inv .1; whole = l .inv .2; stops = λ h. absurd (omega arith) }
 
-pub word-end-spec : {M : Type 1} → statement M
+pub word-end-spec : {M : Type 1} → Rattle.off.proofs.words.word_end.Statement.statement M
 word-end-spec =
     tie.close (tie.spec Inv-loop μ-loop loop-holds (λ c. search needs) (λ c κs. search needs) returns (λ c. search needs) (λ c. search needs) loop-again
     returns-2)

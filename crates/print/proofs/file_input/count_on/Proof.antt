@@ -1,11 +1,9 @@
 -- Each turn reads at least a byte, and there are turns only up to one byte past the length expected.
--- Assumes nothing.
 use Prim.Native.Nat.{_-_, _<_, _≤_}
 use lib.ListN.{length}
 use Rattle.print.proofs.file_input.Lengths.{measured-short, measured-long}
 use borrow.Author.Needs.{needs}
 use native.Mathlib.Omega.{arith}
-use Rattle.print.proofs.file_input.count_on.Statement.{statement}
 use Rattle.print.proofs.file_input.count_on.Tie as tie
 
 abbrev Inv-loop : tie.InvT-loop
@@ -37,7 +35,7 @@ returns-2 c =
 returns-3 : tie.Need-returns-3 Inv-loop μ-loop
 returns-3 c = measured-short _ _
 
-pub count-on-spec : {M : Type 1} → statement M
+pub count-on-spec : {M : Type 1} → Rattle.print.proofs.file_input.count_on.Statement.statement M
 count-on-spec =
     tie.close (tie.spec Inv-loop μ-loop (λ c κs. search needs) (λ c. search needs) loop-holds (λ c. search needs) (λ c κs. search needs) (λ c. search needs)
     loop-less loop-again returns returns-2 returns-3)

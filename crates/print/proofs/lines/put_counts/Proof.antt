@@ -1,5 +1,4 @@
 -- After m turns the lines below m were put.
--- Assumes nothing.
 use mathlib.Core.Path.{_≡_, refl, ap, _∙_}
 use Prim.Native.Nat.{_+_, _-_, _≤_}
 use lib.ListN.{length}
@@ -10,7 +9,6 @@ use Rattle.streams.proofs.text.Putting.{put-none, put-then, put-same}
 use Rattle.print.proofs.Rooms.{no-lines, next-lines}
 use borrow.Author.Needs.{needs}
 use native.Mathlib.Omega.{arith}
-use Rattle.print.proofs.lines.put_counts.Statement.{statement}
 use Rattle.print.proofs.lines.put_counts.Tie as tie
 
 abbrev Inv-loop : tie.InvT-loop
@@ -25,7 +23,7 @@ loop-holds c = (omega arith, refl, put-same (no-lines _ _) (put-none _ _))
 
 loop-again : tie.Need-loop-again Inv-loop μ-loop
 loop-again c =
-    let s = c .before .before .before .before .before .before .before .before .before in
+    let s : tie.Start Inv-loop μ-loop = search in
     let l = c .before .before .before .before .before .before .before .loop in
     let p = c .before .before .put-count in (
       omega arith,
@@ -39,12 +37,12 @@ same-length c = c .before .loop .inv .1
 
 returns : tie.Need-returns Inv-loop μ-loop
 returns c =
-    let s = c .before .before .before in
+    let s : tie.Start Inv-loop μ-loop = search in
     let l = c .before .loop in
     let q : l .m ≡ mostSides + 1 = omega arith in
     put-same (ap (countLines (s .args .cornered .now) (s .args .sided .now)) q) (l .inv .2)
 
-pub put-counts-spec : {M : Type 1} → statement M
+pub put-counts-spec : {M : Type 1} → Rattle.print.proofs.lines.put_counts.Statement.statement M
 put-counts-spec =
     tie.close (tie.spec Inv-loop μ-loop loop-holds (λ c. search needs) (λ c. search needs) (λ c. search needs) (λ c. search needs) (λ c κs. search needs)
     (λ c. search needs) (λ c. search needs) loop-again same-length returns)

@@ -1,5 +1,4 @@
 -- After each turn every plane holds a first vertex and some fours.
--- Assumes nothing.
 use mathlib.Core.Path.{_≡_, refl, subst}
 use Prim.Native.Nat.{ℕ, _+_, _-_, _%_, _<_, _≤_}
 use native.Mathlib.Nat.{div-add-mod, mod-lt}
@@ -8,7 +7,6 @@ use lib.ListN.{length}
 use denote.Ref.{now}
 use Rattle.rearrange.specs.planes.Planes.{Planed}
 use borrow.Author.Needs.{needs}
-use Rattle.rearrange.proofs.archiving.fill_fours.Statement.{statement}
 use Rattle.rearrange.proofs.archiving.fill_fours.Tie as tie
 
 more : (i : ℕ) → 3 ≤ i → (i - 3) % 4 ≡ 0 → (i + 4 - 3) % 4 ≡ 0
@@ -26,9 +24,6 @@ abbrev μ-loop : tie.MeasureT-loop
 loop-holds : tie.Need-loop-holds Inv-loop μ-loop
 loop-holds c = let s = c .before in (omega arith, s .pre .0, refl, s .pre .1)
 
-add-loop : tie.Need-add-loop Inv-loop μ-loop
-add-loop c = record { fits = omega (arith, c .loop .inv .3 .long) }
-
 put-four-requires : tie.Need-put-four-requires Inv-loop μ-loop
 put-four-requires c κs = let l = c .before .before .loop in (l .inv .0, omega arith, l .inv .3)
 
@@ -39,15 +34,16 @@ loop-again c =
     (omega (arith, l .inv .0), omega arith, more i (l .inv .0) (l .inv .2), c .before .before .put-four .ensures)
 
 same-length : tie.Need-same-length Inv-loop μ-loop
-same-length c = let s = c .before .before .before in omega (arith, c .before .loop .inv .3 .long, s .pre .1 .long)
+same-length c = let s : tie.Start Inv-loop μ-loop = search in omega (arith, c .before .loop .inv .3 .long, s .pre .1 .long)
 
 returns : tie.Need-returns Inv-loop μ-loop
 returns c =
-    let s = c .before .before .before in
+    let s : tie.Start Inv-loop μ-loop = search in
     let l = c .before .loop in
     let list = now (s .args .numbers) in
     subst (λ (k : ℕ). Planed list k (l .bytes)) (end (l .i) (length list) (l .inv .0) (l .inv .1) (omega arith) (l .inv .2)) (l .inv .3)
 
-pub fill-fours-spec : {M : Type 1} → statement M
+pub fill-fours-spec : {M : Type 1} → Rattle.rearrange.proofs.archiving.fill_fours.Statement.statement M
 fill-fours-spec =
-    tie.close (tie.spec Inv-loop μ-loop loop-holds add-loop put-four-requires (λ c. search needs) (λ c. omega arith) loop-again same-length returns)
+    tie.close (tie.spec Inv-loop μ-loop loop-holds (λ c. record { fits = omega (arith, c .loop .inv .3 .long) }) put-four-requires (λ c. search needs)
+    (λ c. omega arith) loop-again same-length returns)

@@ -1,10 +1,8 @@
 -- No vertex, one vertex, or the first one, the fours and the rest.
--- Assumes nothing.
 use denote.Ref.{now}
 use Rattle.rearrange.proofs.archiving.Planes.{planed-none, planed-all}
 use native.Mathlib.Omega.{arith}
 use borrow.Author.Needs.{needs}
-use Rattle.rearrange.proofs.archiving.fill_planes.Statement.{statement}
 use Rattle.rearrange.proofs.archiving.fill_planes.Tie as tie
 
 returns : tie.Need-returns
@@ -18,7 +16,7 @@ returns-2 c =
     let p = c .before .before in
     planed-all (now (p .before .before .before .before .before .args .numbers)) 3 _ (omega arith) (p .put-first .ensures)
 
-pub fill-planes-spec : {M : Type 1} → statement M
+pub fill-planes-spec : {M : Type 1} → Rattle.rearrange.proofs.archiving.fill_planes.Statement.statement M
 fill-planes-spec =
     tie.close (tie.spec returns (λ c κs. search needs) (λ c. search needs) returns-2 (λ c κs. search needs) (λ c κs. search needs) (λ c κs. search needs)
     (λ c. search needs) (λ c. search needs))

@@ -1,5 +1,4 @@
 -- After k turns every plane holds all but the last of the rest, and k of these.
--- Assumes nothing.
 use mathlib.Core.Path.{_≡_, subst}
 use Prim.Native.Nat.{ℕ, _+_, _-_, _%_, _<_, _≤_}
 use native.Mathlib.Nat.{div-add-mod, mod-lt}
@@ -8,7 +7,6 @@ use lib.ListN.{length}
 use denote.Ref.{now}
 use Rattle.rearrange.specs.planes.Planes.{Planed}
 use Rattle.rearrange.proofs.archiving.Planes.{planed-all}
-use Rattle.rearrange.proofs.archiving.fill_rest.Statement.{statement}
 use Rattle.rearrange.proofs.archiving.fill_rest.Tie as tie
 
 few : (n : ℕ) → ((n - 3) % 4 ≤ n - 3) × ((n - 3) % 4 < 4)
@@ -36,14 +34,14 @@ loop-holds c =
     (omega arith, subst (λ (i : ℕ). Planed list i (now (s .args .bytes))) (plus-none (length list - (length list - 3) % 4)) (s .pre .1))
 
 sub-put-next : tie.Need-sub-put-next Inv-loop μ-loop
-sub-put-next c = let s = c .before .before .before .before in omega (arith, s .pre .0, few (length (now (s .args .numbers))))
+sub-put-next c = let s : tie.Start Inv-loop μ-loop = search in omega (arith, s .pre .0, few (length (now (s .args .numbers))))
 
 add-put-next : tie.Need-add-put-next Inv-loop μ-loop
-add-put-next c = let s = c .before .before .before .before in record { fits = omega (arith, s .pre .0, few (length (now (s .args .numbers))), s .pre .1 .long) }
+add-put-next c = let s : tie.Start Inv-loop μ-loop = search in record { fits = omega (arith, s .pre .0, few (length (now (s .args .numbers))), s .pre .1 .long) }
 
 put-next-requires : tie.Need-put-next-requires Inv-loop μ-loop
 put-next-requires c κs =
-    let s = c .before .before .before .before in
+    let s : tie.Start Inv-loop μ-loop = search in
     let l = c .before .before .loop in
     let r = few (length (now (s .args .numbers))) in
     (omega (arith, s .pre .0, r), omega (arith, s .pre .0, r), l .inv .1)
@@ -53,23 +51,23 @@ add-k c = record { fits = omega (arith, few (length (now (c .before .before .bef
 
 loop-again : tie.Need-loop-again Inv-loop μ-loop
 loop-again c =
-    let s = c .before .before .before .before .before .before .before in
+    let s : tie.Start Inv-loop μ-loop = search in
     let list = now (s .args .numbers) in
     let k = c .before .before .before .before .before .loop .k in
     let p = c .before .before .put-next in
     (omega arith, subst (λ (i : ℕ). Planed list i (p .last .1 .0)) (plus-one (length list - (length list - 3) % 4) k) (p .ensures))
 
 same-length : tie.Need-same-length Inv-loop μ-loop
-same-length c = let s = c .before .before .before in omega (arith, c .before .loop .inv .1 .long, s .pre .1 .long)
+same-length c = let s : tie.Start Inv-loop μ-loop = search in omega (arith, c .before .loop .inv .1 .long, s .pre .1 .long)
 
 returns : tie.Need-returns Inv-loop μ-loop
 returns c =
-    let s = c .before .before .before in
+    let s : tie.Start Inv-loop μ-loop = search in
     let l = c .before .loop in
     let list = now (s .args .numbers) in
     planed-all list _ (l .bytes) (omega (arith, s .pre .0, few (length list))) (l .inv .1)
 
-pub fill-rest-spec : {M : Type 1} → statement M
+pub fill-rest-spec : {M : Type 1} → Rattle.rearrange.proofs.archiving.fill_rest.Statement.statement M
 fill-rest-spec =
     tie.close (tie.spec Inv-loop μ-loop sub-rest loop-holds sub-put-next add-put-next put-next-requires add-k (λ c. omega arith) loop-again same-length
     returns)

@@ -1,5 +1,4 @@
 -- After i turns the first i numbers are read.
--- Assumes nothing.
 use mathlib.Core.Path.{_≡_, refl, _∙_}
 use Prim.Native.Nat.{_-_, _≤_}
 use lib.IntN.{pos}
@@ -11,7 +10,6 @@ use Rattle.mesh.proofs.Fills.{Filled, filled-none, filled-step, filled-whole}
 use Rattle.rearrange.specs.four_bytes.Words.{numberIn}
 use native.Mathlib.Omega.{arith}
 use borrow.Author.Needs.{needs}
-use Rattle.rearrange.proofs.four_bytes.read_numbers.Statement.{statement}
 use Rattle.rearrange.proofs.four_bytes.read_numbers.Tie as tie
 
 abbrev Inv-loop : tie.InvT-loop
@@ -25,7 +23,7 @@ loop-holds c = let s = c .before in (omega arith, refl, filled-none (numberIn (n
 
 loop-again : tie.Need-loop-again Inv-loop μ-loop
 loop-again c =
-    let s = c .before .before .before .before in
+    let s : tie.Start Inv-loop μ-loop = search in
     let f = numberIn (now (s .args .bytes)) in
     let l = c .before .before .loop in (
       search needs,
@@ -36,11 +34,11 @@ loop-again c =
 
 returns : tie.Need-returns Inv-loop μ-loop
 returns c =
-    let s = c .before .before .before in
+    let s : tie.Start Inv-loop μ-loop = search in
     let l = c .before .loop in
     filled-whole (numberIn (now (s .args .bytes))) (now (s .args .numbers)) (l .numbers) (l .i) (omega arith) (l .inv .2)
 
-pub read-numbers-spec : {M : Type 1} → statement M
+pub read-numbers-spec : {M : Type 1} → Rattle.rearrange.proofs.four_bytes.read_numbers.Statement.statement M
 read-numbers-spec =
     tie.close (tie.spec Inv-loop μ-loop loop-holds (λ c. search needs) (λ c κs. search needs) (λ c. search needs) (λ c. search needs) (λ c. search needs)
     (λ c. search needs) loop-again (λ c. search needs) returns)

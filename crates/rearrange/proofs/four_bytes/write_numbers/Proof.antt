@@ -1,5 +1,4 @@
 -- After i turns the first i numbers stand in the bytes.
--- Assumes nothing.
 use mathlib.Core.Path.{_≡_, sym, _∙_, subst}
 use Prim.Native.Nat.{ℕ, _+_, _-_, _≤_}
 use lib.ListN.{length}
@@ -9,7 +8,6 @@ use Rattle.rearrange.proofs.differences.Deltas.{read-bits}
 use Rattle.rearrange.proofs.four_bytes.Lists.{worded-none, worded-step}
 use native.Mathlib.Omega.{arith}
 use borrow.Author.Needs.{needs}
-use Rattle.rearrange.proofs.four_bytes.write_numbers.Statement.{statement}
 use Rattle.rearrange.proofs.four_bytes.write_numbers.Tie as tie
 
 abbrev Inv-loop : tie.InvT-loop
@@ -29,7 +27,7 @@ loop-again c =
     let p = c .before .before in
     let b = p .before .before in
     let l = b .before .before .before .loop in
-    let s = b .before .before .before .before .before in
+    let s : tie.Start Inv-loop μ-loop = search in
     let list = now (s .args .numbers) in
     let d = b .bits .ensures ∙ read-bits list (l .i) (record { sfits = b .before .bits-arg .given }) in (
       omega arith,
@@ -38,16 +36,16 @@ loop-again c =
     )
 
 same-length : tie.Need-same-length Inv-loop μ-loop
-same-length c = let s = c .before .before .before in omega (arith, c .before .loop .inv .1 .long, s .pre)
+same-length c = let s : tie.Start Inv-loop μ-loop = search in omega (arith, c .before .loop .inv .1 .long, s .pre)
 
 returns : tie.Need-returns Inv-loop μ-loop
 returns c =
-    let s = c .before .before .before in
+    let s : tie.Start Inv-loop μ-loop = search in
     let l = c .before .loop in
     let e : l .i ≡ length (now (s .args .numbers)) = omega arith in
     subst (λ (k : ℕ). Worded (now (s .args .numbers)) k (l .bytes)) e (l .inv .1)
 
-pub write-numbers-spec : {M : Type 1} → statement M
+pub write-numbers-spec : {M : Type 1} → Rattle.rearrange.proofs.four_bytes.write_numbers.Statement.statement M
 write-numbers-spec =
     tie.close (tie.spec Inv-loop μ-loop loop-holds (λ c. search needs) (λ c. search needs) (λ c κs. search needs) (λ c. search needs) put-requires
     (λ c. search needs) (λ c. search needs) loop-again same-length returns)

@@ -1,11 +1,9 @@
 -- `put` meets its contract, store by store.
--- Assumes nothing.
 use mathlib.Core.Path.{refl}
 use lib.ListN.{length-set}
 use Rattle.rearrange.specs.planes.Planes.{spaced}
 use native.Mathlib.Omega.{arith}
 use borrow.Author.Needs.{needs}
-use Rattle.rearrange.proofs.planes.put.Statement.{statement}
 use Rattle.rearrange.proofs.planes.put.Tie as tie
 
 slice-write-bytes-2 : tie.Need-slice-write-bytes-2
@@ -21,7 +19,7 @@ returns : tie.Need-returns
 unfolding spaced
 returns c = refl
 
-pub put-spec : {M : Type 1} → statement M
+pub put-spec : {M : Type 1} → Rattle.rearrange.proofs.planes.put.Statement.statement M
 put-spec =
     tie.close (tie.spec (λ c. search needs) (λ c. search needs) (λ c. search needs) (λ c. search needs) slice-write-bytes-2 (λ c. search needs)
     (λ c. search needs) (λ c. search needs) slice-write-bytes-3 (λ c. search needs) (λ c. search needs) (λ c. search needs) slice-write-bytes-4

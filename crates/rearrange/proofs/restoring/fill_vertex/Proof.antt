@@ -1,5 +1,4 @@
 -- The sums of the first vertex start from 0.
--- Assumes nothing.
 use mathlib.Core.Path.{sym, subst}
 use Prim.Native.Nat.{ℕ}
 use denote.Ref.{now}
@@ -8,7 +7,6 @@ use Rattle.paper.specs.Archive.{restoredAt}
 use Rattle.rearrange.proofs.restoring.Sums.{before-first, turned-fills, restored-all}
 use native.Mathlib.Omega.{arith}
 use borrow.Author.Needs.{needs}
-use Rattle.rearrange.proofs.restoring.fill_vertex.Statement.{statement}
 use Rattle.rearrange.proofs.restoring.fill_vertex.Tie as tie
 
 returns : tie.Need-returns
@@ -16,7 +14,7 @@ returns c =
     let c3 = c .before in
     let c2 = c3 .before .before .before in
     let c1 = c2 .before .before .before in
-    let s = c1 .before .before .before in
+    let s : tie.Start = search in
     let b = now (s .args .bytes) in
     let old = now (s .args .numbers) in
     let r1 = c1 .restore-at in
@@ -33,5 +31,5 @@ returns c =
     old 3 (omega (arith, s .pre .0)) (omega arith) f2 in
     restored-all b old o3 3 (sym (s .pre .0)) (subst (λ (n : ℕ). Filled (restoredAt b n) old 3 o3) (sym (s .pre .0)) f3)
 
-pub fill-vertex-spec : {M : Type 1} → statement M
+pub fill-vertex-spec : {M : Type 1} → Rattle.rearrange.proofs.restoring.fill_vertex.Statement.statement M
 fill-vertex-spec = tie.close (tie.spec (λ c κs. search needs) (λ c κs. search needs) (λ c κs. search needs) (λ c. search needs) returns)

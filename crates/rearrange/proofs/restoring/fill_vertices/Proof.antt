@@ -1,5 +1,4 @@
 -- After v turns the numbers of the first v vertices are restored, and x, y, z are the sums of the last of them.
--- Assumes nothing.
 use mathlib.Core.Path.{_≡_, refl, sym}
 use Prim.Native.Nat.{ℕ, _+_, _-_, _*_, _/_, _%_, _≤_}
 use native.Mathlib.Nat.{div-add-mod}
@@ -10,7 +9,6 @@ use Rattle.paper.specs.Archive.{restoredAt}
 use Rattle.rearrange.specs.restoring.Sums.{before}
 use Rattle.rearrange.proofs.restoring.Sums.{before-first, turned-next, turned-fills, turned-length, restored-all}
 use native.Mathlib.Omega.{arith}
-use Rattle.rearrange.proofs.restoring.fill_vertices.Statement.{statement}
 use Rattle.rearrange.proofs.restoring.fill_vertices.Tie as tie
 
 abbrev Inv-loop : tie.InvT-loop
@@ -52,7 +50,7 @@ mul-restore-at : tie.Need-mul-restore-at Inv-loop μ-loop
 mul-restore-at c = record { fits = omega (arith, room (c .before .before .before .before)) }
 
 restore-at-requires : tie.Need-restore-at-requires Inv-loop μ-loop
-restore-at-requires c κs = let s = c .before .before .before .before in (omega (arith, room s), c .before .before .loop .inv .1, s .pre .1)
+restore-at-requires c κs = let s : tie.Start Inv-loop μ-loop = search in (omega (arith, room s), c .before .before .loop .inv .1, s .pre .1)
 
 mul-restore-at-2 : tie.Need-mul-restore-at-2 Inv-loop μ-loop
 mul-restore-at-2 c = record { fits = omega (arith, room (c .before .before .before .before .before .before .before)) }
@@ -62,7 +60,7 @@ add-restore-at c = record { fits = omega (arith, room (c .before .before .before
 
 restore-at-requires-2 : tie.Need-restore-at-requires-2 Inv-loop μ-loop
 restore-at-requires-2 c κs =
-    let s = c .before .before .before .before .before .before .before in
+    let s : tie.Start Inv-loop μ-loop = search in
     (omega (arith, room s), length1 (c .before .before), s .pre .1)
 
 mul-restore-at-3 : tie.Need-mul-restore-at-3 Inv-loop μ-loop
@@ -73,7 +71,7 @@ add-restore-at-2 c = record { fits = omega (arith, room (c .before .before .befo
 
 restore-at-requires-3 : tie.Need-restore-at-requires-3 Inv-loop μ-loop
 restore-at-requires-3 c κs =
-    let s = c .before .before .before .before .before .before .before .before .before .before in
+    let s : tie.Start Inv-loop μ-loop = search in
     (omega (arith, room s), length2 (c .before .before), s .pre .1)
 
 add-v : tie.Need-add-v Inv-loop μ-loop
@@ -81,7 +79,7 @@ add-v c = record { fits = omega (arith, room (c .before .before .before .before 
 
 loop-again : tie.Need-loop-again Inv-loop μ-loop
 loop-again c =
-    let s = c .before .before .before .before .before .before .before .before .before .before .before .before in
+    let s : tie.Start Inv-loop μ-loop = search in
     let b = now (s .args .bytes) in
     let old = now (s .args .numbers) in
     let n = length old in
@@ -110,11 +108,11 @@ same-length c = c .before .loop .inv .1
 
 returns : tie.Need-returns Inv-loop μ-loop
 returns c =
-    let s = c .before .before .before in
+    let s : tie.Start Inv-loop μ-loop = search in
     let l = c .before .loop in
     restored-all (now (s .args .bytes)) (now (s .args .numbers)) (l .numbers) (3 * l .v) (omega (arith, room s, s .pre .0)) (l .inv .2)
 
-pub fill-vertices-spec : {M : Type 1} → statement M
+pub fill-vertices-spec : {M : Type 1} → Rattle.rearrange.proofs.restoring.fill_vertices.Statement.statement M
 fill-vertices-spec =
     tie.close (tie.spec Inv-loop μ-loop loop-holds mul-restore-at restore-at-requires mul-restore-at-2 add-restore-at restore-at-requires-2 mul-restore-at-3
     add-restore-at-2 restore-at-requires-3 add-v (λ c. omega arith) loop-again same-length returns)

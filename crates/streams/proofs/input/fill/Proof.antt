@@ -1,12 +1,10 @@
 -- Each turn reads at least a byte; the bytes held lie in the buffer.
--- Assumes nothing.
 use mathlib.Core.Path.{_≡_, refl, sym, subst, _∙_}
 use Prim.Native.Nat.{ℕ, _-_, _≤_}
 use lib.ListN.{length}
 use lib.Seq.{length-take-le}
 use borrow.Author.Needs.{needs}
 use native.Mathlib.Omega.{arith}
-use Rattle.streams.proofs.input.fill.Statement.{statement}
 use Rattle.streams.proofs.input.fill.Tie as tie
 
 abbrev Inv-loop : tie.InvT-loop
@@ -46,7 +44,7 @@ returns-2 c =
     (sym (c .before .before .before .read-at .kept .1 .0)) (l .inv .0) in
     (h, sym (length-take-le (l .done) (c .before .before .before .read-at .last .1 .0) h))
 
-pub fill-spec : {M : Type 1} → statement M
+pub fill-spec : {M : Type 1} → Rattle.streams.proofs.input.fill.Statement.statement M
 fill-spec =
     tie.close (tie.spec Inv-loop μ-loop loop-holds (λ c κs. search needs) (λ c. search needs) loop-less loop-again same-length returns same-length-2
     returns-2)

@@ -1,10 +1,8 @@
 -- Each turn leaves fewer tries; what a read answers is counted within the space.
--- Assumes nothing.
 use mathlib.Core.Path.{_≡_, _∙_}
 use lib.ListN.{length}
 use native.Mathlib.Omega.{arith}
 use borrow.Author.Needs.{needs}
-use Rattle.streams.proofs.input.read_some.Statement.{statement}
 use Rattle.streams.proofs.input.read_some.Tie as tie
 
 abbrev Inv-loop : tie.InvT-loop
@@ -23,7 +21,7 @@ returns-2 c =
     let f = c .before .before .before .before .before .before .read .kept .1 .0 in
     omega arith
 
-pub read-some-spec : {M : Type 1} → statement M
+pub read-some-spec : {M : Type 1} → Rattle.streams.proofs.input.read_some.Statement.statement M
 read-some-spec =
     tie.close (tie.spec Inv-loop μ-loop (λ c κs. search needs) (λ c. search needs) (λ c κs. search needs) (λ c. search needs) (λ c. search needs)
     (λ c κs. search needs) (λ c. search needs) (λ c. search needs) loop-again (λ c κs. search needs) (λ c. search needs) returns-2)

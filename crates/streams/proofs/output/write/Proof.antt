@@ -1,10 +1,8 @@
 -- Each turn writes at least a byte.
--- Assumes nothing.
 use Prim.Native.Nat.{_-_, _≤_}
 use lib.ListN.{length}
 use borrow.Author.Needs.{needs}
 use native.Mathlib.Omega.{arith}
-use Rattle.streams.proofs.output.write.Statement.{statement}
 use Rattle.streams.proofs.output.write.Tie as tie
 
 abbrev Inv-loop : tie.InvT-loop
@@ -19,7 +17,7 @@ loop-less c = let e = c .before .write-from .ensures in omega arith
 loop-again : tie.Need-loop-again Inv-loop μ-loop
 loop-again c = let e = c .before .write-from .ensures in omega arith
 
-pub write-spec : {M : Type 1} → statement M
+pub write-spec : {M : Type 1} → Rattle.streams.proofs.output.write.Statement.statement M
 write-spec =
     tie.close (tie.spec Inv-loop μ-loop (λ c. omega arith) (λ c κs. search needs) (λ c. search needs) (λ c. search needs) loop-less loop-again
     (λ c. search needs))

@@ -1,5 +1,4 @@
 -- A minus sign and the size, or the size alone.
--- Assumes nothing.
 use mathlib.Core.Path.{ap, _∙_}
 use mathlib.Core.List.{_∷_}
 use Prim.Native.Nat.{ℕ}
@@ -11,12 +10,11 @@ use Rattle.streams.specs.text.Text.{decimal}
 use Rattle.streams.proofs.text.Putting.{put-then, put-same}
 use Rattle.streams.proofs.text.Decimals.{signed-below, signed-above}
 use borrow.Author.Needs.{needs}
-use Rattle.streams.proofs.text.put_signed.Statement.{statement}
 use Rattle.streams.proofs.text.put_signed.Tie as tie
 
 returns : tie.Need-returns
 returns c =
-    let s = c .before .before .before .before .before .before .before .before .before .before .before in
+    let s : tie.Start = search in
     put-same
     (ap (λ (n : ℕ). 45 ∷ decimal n) (c .before .before .before .size .ensures ∙ ap natAbs (exact w32 (s .args .z) (s .fits .z))) ∙ signed-below (s .args .z)
     (simp (toZ-ofZ, s .fits .z) at (c .before .before .before .before .before .before .before .before .before .if1 .taken)))
@@ -25,12 +23,12 @@ returns c =
 
 returns-2 : tie.Need-returns-2
 returns-2 c =
-    let s = c .before .before .before .before .before .before .before in
+    let s : tie.Start = search in
     put-same
     (ap decimal (c .before .before .before .size2 .ensures ∙ ap natAbs (exact w32 (s .args .z) (s .fits .z))) ∙ signed-above (s .args .z)
     (simp (toZ-ofZ, s .fits .z) at (c .before .before .before .before .before .if1 .left))) (c .before .before .put-number2 .ensures)
 
-pub put-signed-spec : {M : Type 1} → statement M
+pub put-signed-spec : {M : Type 1} → Rattle.streams.proofs.text.put_signed.Statement.statement M
 put-signed-spec =
     tie.close (tie.spec (λ c κs. search needs) (λ c κs. search needs) (λ c κs. search needs) (λ c. search needs) returns (λ c κs. search needs)
     (λ c κs. search needs) (λ c. search needs) returns-2)

@@ -1,5 +1,4 @@
 -- After i turns the first i bytes of the word were put.
--- Assumes nothing.
 use mathlib.Core.Path.{_≡_, refl, _∙_}
 use Prim.Native.Nat.{_≤_, _-_}
 use lib.ListN.{length, take}
@@ -7,7 +6,6 @@ use Rattle.streams.specs.text.Text.{Put}
 use Rattle.streams.proofs.text.Putting.{put-none, put-next, put-whole}
 use native.Mathlib.Omega.{arith}
 use borrow.Author.Needs.{needs}
-use Rattle.streams.proofs.text.put_word.Statement.{statement}
 use Rattle.streams.proofs.text.put_word.Tie as tie
 
 abbrev Inv-loop : tie.InvT-loop
@@ -32,7 +30,7 @@ loop-again c =
 returns : tie.Need-returns Inv-loop μ-loop
 returns c = put-whole (c .before .before .before .before .args .word .now) (c .before .loop .i) (omega arith) (c .before .loop .inv .2)
 
-pub put-word-spec : {M : Type 1} → statement M
+pub put-word-spec : {M : Type 1} → Rattle.streams.proofs.text.put_word.Statement.statement M
 put-word-spec =
     tie.close (tie.spec Inv-loop μ-loop loop-holds (λ c. search needs) (λ c κs. search needs) (λ c. search needs) (λ c. search needs) loop-again
     (λ c. search needs) returns)

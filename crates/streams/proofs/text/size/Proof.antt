@@ -1,9 +1,7 @@
 -- A number of 32 bits has its negative in 64 bits, so its size is exact on both sides of zero.
--- Assumes nothing.
 use mir.Syntax.{w32, w64}
 use mir.Facts.{toZ-ofZ, sfits-widen}
 use Rattle.streams.proofs.text.Decimals.{negated, plain, negated-size}
-use Rattle.streams.proofs.text.size.Statement.{statement}
 use Rattle.streams.proofs.text.size.Tie as tie
 
 cast-wide : tie.Need-cast-wide
@@ -42,5 +40,5 @@ returns-2 c =
     let f = sfits-widen {w = w32} {w′ = w64} tt (s .fits .z) in
     simp (toZ-ofZ, s .fits .z, f)
 
-pub size-spec : {M : Type 1} → statement M
+pub size-spec : {M : Type 1} → Rattle.streams.proofs.text.size.Statement.statement M
 size-spec = tie.close (tie.spec cast-wide sub-result cast-result returns cast-result-2 returns-2)

@@ -1,12 +1,11 @@
--- `fill_afters` meets its contract: the chains are those of the lower ends. Assumes nothing.
+-- `fill_afters` meets its contract: the chains are those of the lower ends.
 use borrow.Author.Needs.{needs}
 use native.Mathlib.Omega.{arith}
 use Rattle.walk.proofs.Table.{blank}
-use Rattle.turning.proofs.choosing.fill_afters.Statement.{statement}
 use Rattle.turning.proofs.choosing.fill_afters.Tie as tie
 
 fill-earliers-requires : tie.Need-fill-earliers-requires
-fill-earliers-requires c κs = let s = c .before .before .before .before .before in
+fill-earliers-requires c κs = let s : tie.Start = search in
     record {
       small = s .pre .0 .few-corners;
       lows-in = s .pre .0 .lows-in;
@@ -16,7 +15,7 @@ fill-earliers-requires c κs = let s = c .before .before .before .before .before
     }
 
 fill-afters-requires : tie.Need-fill-afters-requires
-fill-afters-requires c κs = let s = c .before .before .before .before .before .before .before .before .before .before .before .before in
+fill-afters-requires c κs = let s : tie.Start = search in
     let v = c .before .before .before .before .before .before .fill-earliers in (
       record {
         small = s .pre .0 .few-corners;
@@ -30,7 +29,7 @@ fill-afters-requires c κs = let s = c .before .before .before .before .before .
       (omega (arith, s .pre .0 .few-vertices), blank 2048, s .pre .1),
     )
 
-pub fill-afters-spec : {M : Type 1} → statement M
+pub fill-afters-spec : {M : Type 1} → Rattle.turning.proofs.choosing.fill_afters.Statement.statement M
 fill-afters-spec =
     tie.close (tie.spec (λ c. search needs) (λ c. search needs) fill-earliers-requires (λ c. search needs) (λ c. search needs) (λ c. search needs)
     fill-afters-requires (λ c. search needs) (λ c. search needs))

@@ -1,11 +1,10 @@
--- `fill_afters` meets its contract: the corners whose lower end is below `u` have their entries. Assumes nothing.
+-- `fill_afters` meets its contract: the corners whose lower end is below `u` have their entries.
 use mathlib.Core.Path.{_≡_, refl, _∙_}
 use Prim.Native.Nat.{_-_, _≤_}
 use lib.ListN.{length}
 use native.Mathlib.Omega.{arith}
 use Rattle.turning.specs.partners.Keys.{LatestBelow, AftersBelow}
 use Rattle.turning.proofs.partners.Laws.{below-none}
-use Rattle.turning.proofs.partners.fill_afters.Statement.{statement}
 use Rattle.turning.proofs.partners.fill_afters.Tie as tie
 
 abbrev Inv-loop : tie.InvT-loop
@@ -17,16 +16,16 @@ abbrev μ-loop : tie.MeasureT-loop
 μ-loop lows highs earliers heads vertices table₀ afters₀ u₀ table afters u = vertices - u
 
 loop-holds : tie.Need-loop-holds Inv-loop μ-loop
-loop-holds c = let s = c .before .before .before .before .before .before in
+loop-holds c = let s : tie.Start Inv-loop μ-loop = search in
     (below-none _ _ _ _ (s .pre .1 .0) (s .pre .1 .1), (λ x l b. absurd (omega arith)), refl, refl, omega arith)
 
 follow-requires : tie.Need-follow-requires Inv-loop μ-loop
-follow-requires c κs = let i = c .before .before in let t = i .before in let s = t .before .before .before .before .before .before .before in let l = t .loop in
+follow-requires c κs = let i = c .before .before in let t = i .before in let s : tie.Start Inv-loop μ-loop = search in let l = t .loop in
     ((i .loop-test .taken, s .pre .0), (l .inv .0, (omega (arith, s .pre .1 .2, l .inv .3), l .inv .1)))
 
 add-u : tie.Need-add-u Inv-loop μ-loop
 add-u c = let i = c .before .before .before .before .before .before .before in let t = i .before in
-    let s = t .before .before .before .before .before .before .before in let l = t .loop in
+    let s : tie.Start Inv-loop μ-loop = search in let l = t .loop in
     omega (arith, i .loop-test .taken, s .fits .vertices)
 
 loop-less : tie.Need-loop-less Inv-loop μ-loop
@@ -52,8 +51,8 @@ same-length-2 : tie.Need-same-length-2 Inv-loop μ-loop
 same-length-2 c = c .before .loop .inv .3
 
 returns : tie.Need-returns Inv-loop μ-loop
-returns c = let t = c .before in let s = t .before .before .before .before .before .before .before in let l = t .loop in λ x h.
+returns c = let t = c .before in let s : tie.Start Inv-loop μ-loop = search in let l = t .loop in λ x h.
     l .inv .1 x h (omega (arith, s .pre .0 .lows-in x h, c .loop-test .left))
 
-pub fill-afters-spec : {M : Type 1} → statement M
+pub fill-afters-spec : {M : Type 1} → Rattle.turning.proofs.partners.fill_afters.Statement.statement M
 fill-afters-spec = tie.close (tie.spec Inv-loop μ-loop loop-holds follow-requires add-u loop-less loop-again same-length same-length-2 returns)

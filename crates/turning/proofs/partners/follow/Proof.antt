@@ -1,14 +1,14 @@
--- `follow` meets its contract: the corners of the chain from `at` on are entered, the lowest last. The chain falls. Assumes nothing.
+-- `follow` meets its contract: the corners of the chain from `at` on are entered, the lowest last. The chain falls.
 use mathlib.Core.Path.{_≡_, refl, _∙_, subst}
-use Prim.Native.Nat.{_-_, _<_}
+use Prim.Native.Nat.{_-_, _<_, _≤_}
 use lib.ListN.{length, getD, length-set}
 use denote.Ref.{now}
 use native.Mathlib.Omega.{arith}
 use borrow.Author.Needs.{needs}
+use Rattle.paper.specs.Mesh.{mostCorners}
 use Rattle.checks.proofs.columns.Chains.{On, on-head, on-next, on-falls, at-in}
 use Rattle.turning.specs.partners.Keys.{Latest, AftersTo}
 use Rattle.turning.proofs.partners.Laws.{latest-none, latest-step, latest-all, afters-none, afters-step, afters-all}
-use Rattle.turning.proofs.partners.follow.Statement.{statement}
 use Rattle.turning.proofs.partners.follow.Tie as tie
 
 abbrev Inv-loop : tie.InvT-loop
@@ -18,193 +18,93 @@ Inv-loop lows highs earliers heads vertices u table₀ afters₀ at₀ table aft
 abbrev μ-loop : tie.MeasureT-loop
 μ-loop lows highs earliers heads vertices u table₀ afters₀ at₀ table afters at = at
 
-mul-at : tie.Need-mul-at Inv-loop μ-loop
-mul-at c = let s = c .before .before .before .before .before .before in omega (arith, s .pre .0 .0, s .pre .0 .1 .heads-long)
-
-shared-slice-read-at : tie.Need-shared-slice-read-at Inv-loop μ-loop
-shared-slice-read-at c = let s = c .before .before .before .before .before .before .before in omega (arith, s .pre .0 .0, s .pre .0 .1 .heads-long)
+-- the vertex has a head
+head-in : (s : tie.Start Inv-loop μ-loop) → s .args .u < length (now (s .args .heads))
+head-in s = omega (arith, s .pre .0 .0, s .pre .0 .1 .heads-long)
 
 loop-holds : tie.Need-loop-holds Inv-loop μ-loop
-loop-holds c = let s = c .before .before .before .before .before .before .before in
-    let hu : s .args .u < length (now (s .args .heads)) = omega (arith, s .pre .0 .0, s .pre .0 .1 .heads-long) in (
-      on-head (now (s .args .lows)) (λ c. getD (now (s .args .earliers)) c 0) (λ u. getD (now (s .args .heads)) u 0) (s .pre .0 .1 .chained) (s .args .u),
-      latest-none (s .args .vertices) (now (s .args .lows)) (now (s .args .highs)) (now (s .args .earliers)) (now (s .args .heads)) (s .pre .0 .1)
-          (s .args .u) (now (s .args .table)) (s .pre .1 .0),
-      afters-none (s .args .vertices) (now (s .args .lows)) (now (s .args .highs)) (now (s .args .earliers)) (now (s .args .heads)) (s .pre .0 .1)
-          (s .args .u) (now (s .args .afters)) (s .pre .1 .1 .1),
+loop-holds c = let s : tie.Start Inv-loop μ-loop = search in
+    let hu = head-in s in (
+      on-head _ _ _ (s .pre .0 .1 .chained) (s .args .u),
+      latest-none _ _ _ _ _ (s .pre .0 .1) (s .args .u) (now (s .args .table)) (s .pre .1 .0),
+      afters-none _ _ _ _ _ (s .pre .0 .1) (s .args .u) (now (s .args .afters)) (s .pre .1 .1 .1),
       refl,
       refl,
     )
 
-sub-c : tie.Need-sub-c Inv-loop μ-loop
-sub-c c = let i = c in let t = i .before in let s = t .before .before .before .before .before .before .before .before in let l = t .loop in
-    let n : l .at ≡ 0 → ⊥ = i .loop-test .taken in
-    let ci = at-in (now (s .args .lows)) (λ c. getD (now (s .args .earliers)) c 0) (λ u. getD (now (s .args .heads)) u 0) (s .pre .0 .1 .chained) (s .args .u)
-    (l .at) (l .inv .0) n in
-    let wi = s .pre .0 .1 .highs-in (l .at - 1) ci in
-    omega (arith, n)
+-- In the loop: the chain's entry is not 0, so its corner is one of the list, and the other end of the corner's edge is a vertex.
+module _ (i : tie.In-loop Inv-loop μ-loop) where
+  corner-in : let s : tie.Start Inv-loop μ-loop = search in i .before .loop .at - 1 < length (now (s .args .lows))
+  corner-in =
+      let s : tie.Start Inv-loop μ-loop = search in
+      at-in _ _ _ (s .pre .0 .1 .chained) (s .args .u) (i .before .loop .at) (i .before .loop .inv .0) (i .loop-test .taken)
 
-cast-c : tie.Need-cast-c Inv-loop μ-loop
-cast-c c = let i = c in let t = i .before in let s = t .before .before .before .before .before .before .before .before in let l = t .loop in
-    let n : l .at ≡ 0 → ⊥ = i .loop-test .taken in
-    let ci = at-in (now (s .args .lows)) (λ c. getD (now (s .args .earliers)) c 0) (λ u. getD (now (s .args .heads)) u 0) (s .pre .0 .1 .chained) (s .args .u)
-    (l .at) (l .inv .0) n in
-    let wi = s .pre .0 .1 .highs-in (l .at - 1) ci in
-    omega (arith, ci, s .pre .0 .1 .small)
+  inside : let s : tie.Start Inv-loop μ-loop = search in
+      let l = i .before .loop in
+      (l .at ≡ 0 → ⊥)
+      × (l .at - 1 < mostCorners)
+      × (l .at - 1 < length (now (s .args .highs)))
+      × (l .at - 1 < length (now (s .args .earliers)))
+      × (l .at - 1 < length (l .afters))
+      × (getD (now (s .args .highs)) (l .at - 1) 0 < length (l .table))
+  inside =
+      let s : tie.Start Inv-loop μ-loop = search in
+      let l = i .before .loop in
+      let k = s .pre .0 .1 in
+      let high = k .highs-in (l .at - 1) corner-in in (
+        i .loop-test .taken,
+        omega (arith, corner-in, k .small),
+        omega (arith, corner-in, k .highs-long),
+        omega (arith, corner-in, k .earliers-long),
+        omega (arith, corner-in, s .pre .1 .1 .0, l .inv .4),
+        omega (arith, high, l .inv .1 .room),
+      )
 
-mul-w : tie.Need-mul-w Inv-loop μ-loop
-mul-w c = let i = c in let t = i .before in let s = t .before .before .before .before .before .before .before .before in let l = t .loop in
-    let n : l .at ≡ 0 → ⊥ = i .loop-test .taken in
-    let ci = at-in (now (s .args .lows)) (λ c. getD (now (s .args .earliers)) c 0) (λ u. getD (now (s .args .heads)) u 0) (s .pre .0 .1 .chained) (s .args .u)
-    (l .at) (l .inv .0) n in
-    let wi = s .pre .0 .1 .highs-in (l .at - 1) ci in
-    omega (arith, ci, s .pre .0 .1 .small)
-
-shared-slice-read-w : tie.Need-shared-slice-read-w Inv-loop μ-loop
-shared-slice-read-w c = let i = c .before in let t = i .before in let s = t .before .before .before .before .before .before .before .before in
-    let l = t .loop in
-    let n : l .at ≡ 0 → ⊥ = i .loop-test .taken in
-    let ci = at-in (now (s .args .lows)) (λ c. getD (now (s .args .earliers)) c 0) (λ u. getD (now (s .args .heads)) u 0) (s .pre .0 .1 .chained) (s .args .u)
-    (l .at) (l .inv .0) n in
-    let wi = s .pre .0 .1 .highs-in (l .at - 1) ci in
-    omega (arith, ci, s .pre .0 .1 .highs-long)
-
-cast-w : tie.Need-cast-w Inv-loop μ-loop
-cast-w c = let i = c .before in let t = i .before in let s = t .before .before .before .before .before .before .before .before in let l = t .loop in
-    let n : l .at ≡ 0 → ⊥ = i .loop-test .taken in
-    let ci = at-in (now (s .args .lows)) (λ c. getD (now (s .args .earliers)) c 0) (λ u. getD (now (s .args .heads)) u 0) (s .pre .0 .1 .chained) (s .args .u)
-    (l .at) (l .inv .0) n in
-    let wi = s .pre .0 .1 .highs-in (l .at - 1) ci in
-    omega (arith, c .shared-slice-known6 .given (l .at - 1))
-
-mul-own : tie.Need-mul-own Inv-loop μ-loop
-mul-own c = let i = c .before in let t = i .before in let s = t .before .before .before .before .before .before .before .before in let l = t .loop in
-    let n : l .at ≡ 0 → ⊥ = i .loop-test .taken in
-    let ci = at-in (now (s .args .lows)) (λ c. getD (now (s .args .earliers)) c 0) (λ u. getD (now (s .args .heads)) u 0) (s .pre .0 .1 .chained) (s .args .u)
-    (l .at) (l .inv .0) n in
-    let wi = s .pre .0 .1 .highs-in (l .at - 1) ci in
-    omega (arith, c .shared-slice-known6 .given (l .at - 1))
-
-slice-read-own : tie.Need-slice-read-own Inv-loop μ-loop
-slice-read-own c = let i = c .before .before in let t = i .before in let s = t .before .before .before .before .before .before .before .before in
-    let l = t .loop in
-    let n : l .at ≡ 0 → ⊥ = i .loop-test .taken in
-    let ci = at-in (now (s .args .lows)) (λ c. getD (now (s .args .earliers)) c 0) (λ u. getD (now (s .args .heads)) u 0) (s .pre .0 .1 .chained) (s .args .u)
-    (l .at) (l .inv .0) n in
-    let wi = s .pre .0 .1 .highs-in (l .at - 1) ci in
-    omega (arith, wi, l .inv .1 .room)
+-- that vertex has 16 bits
+high-fits : (k : tie.After-shared-slice-known6 Inv-loop μ-loop) → let s : tie.Start Inv-loop μ-loop = search in
+    let i : tie.In-loop Inv-loop μ-loop = search in getD (now (s .args .highs)) (i .before .loop .at - 1) 0 < 65536
+high-fits k = let i : tie.In-loop Inv-loop μ-loop = search in omega (arith, k .shared-slice-known6 .given (i .before .loop .at - 1))
 
 own-requires : tie.Need-own-requires Inv-loop μ-loop
-own-requires c κs = let i = c .before .before in let t = i .before in let s = t .before .before .before .before .before .before .before .before in
-    let l = t .loop in
-    let n : l .at ≡ 0 → ⊥ = i .loop-test .taken in
-    let ci = at-in (now (s .args .lows)) (λ c. getD (now (s .args .earliers)) c 0) (λ u. getD (now (s .args .heads)) u 0) (s .pre .0 .1 .chained) (s .args .u)
-    (l .at) (l .inv .0) n in
-    let wi = s .pre .0 .1 .highs-in (l .at - 1) ci in
-    l .inv .1 .inside (getD (now (s .args .highs)) (l .at - 1) 0)
-
-mul-afters : tie.Need-mul-afters Inv-loop μ-loop
-mul-afters c = let i = c .before .before .before in let t = i .before in let s = t .before .before .before .before .before .before .before .before in
-    let l = t .loop in
-    let n : l .at ≡ 0 → ⊥ = i .loop-test .taken in
-    let ci = at-in (now (s .args .lows)) (λ c. getD (now (s .args .earliers)) c 0) (λ u. getD (now (s .args .heads)) u 0) (s .pre .0 .1 .chained) (s .args .u)
-    (l .at) (l .inv .0) n in
-    let wi = s .pre .0 .1 .highs-in (l .at - 1) ci in
-    omega (arith, ci, s .pre .0 .1 .small)
-
-slice-write-afters : tie.Need-slice-write-afters Inv-loop μ-loop
-slice-write-afters c = let i = c .before .before .before in let t = i .before in let s = t .before .before .before .before .before .before .before .before in
-    let l = t .loop in
-    let n : l .at ≡ 0 → ⊥ = i .loop-test .taken in
-    let ci = at-in (now (s .args .lows)) (λ c. getD (now (s .args .earliers)) c 0) (λ u. getD (now (s .args .heads)) u 0) (s .pre .0 .1 .chained) (s .args .u)
-    (l .at) (l .inv .0) n in
-    let wi = s .pre .0 .1 .highs-in (l .at - 1) ci in
-    omega (arith, ci, s .pre .1 .1 .0, l .inv .4)
-
-mul-table : tie.Need-mul-table Inv-loop μ-loop
-mul-table c = let i = c .before .before .before in let t = i .before in let s = t .before .before .before .before .before .before .before .before in
-    let l = t .loop in
-    let n : l .at ≡ 0 → ⊥ = i .loop-test .taken in
-    let ci = at-in (now (s .args .lows)) (λ c. getD (now (s .args .earliers)) c 0) (λ u. getD (now (s .args .heads)) u 0) (s .pre .0 .1 .chained) (s .args .u)
-    (l .at) (l .inv .0) n in
-    let wi = s .pre .0 .1 .highs-in (l .at - 1) ci in
-    omega (arith, c .before .before .shared-slice-known6 .given (l .at - 1))
-
-slice-write-table : tie.Need-slice-write-table Inv-loop μ-loop
-slice-write-table c = let i = c .before .before .before in let t = i .before in let s = t .before .before .before .before .before .before .before .before in
-    let l = t .loop in
-    let n : l .at ≡ 0 → ⊥ = i .loop-test .taken in
-    let ci = at-in (now (s .args .lows)) (λ c. getD (now (s .args .earliers)) c 0) (λ u. getD (now (s .args .heads)) u 0) (s .pre .0 .1 .chained) (s .args .u)
-    (l .at) (l .inv .0) n in
-    let wi = s .pre .0 .1 .highs-in (l .at - 1) ci in
-    omega (arith, wi, l .inv .1 .room)
-
-mul-at-2 : tie.Need-mul-at-2 Inv-loop μ-loop
-mul-at-2 c = let i = c .before .before .before in let t = i .before in let s = t .before .before .before .before .before .before .before .before in
-    let l = t .loop in
-    let n : l .at ≡ 0 → ⊥ = i .loop-test .taken in
-    let ci = at-in (now (s .args .lows)) (λ c. getD (now (s .args .earliers)) c 0) (λ u. getD (now (s .args .heads)) u 0) (s .pre .0 .1 .chained) (s .args .u)
-    (l .at) (l .inv .0) n in
-    let wi = s .pre .0 .1 .highs-in (l .at - 1) ci in
-    omega (arith, ci, s .pre .0 .1 .small)
-
-shared-slice-read-at-2 : tie.Need-shared-slice-read-at-2 Inv-loop μ-loop
-shared-slice-read-at-2 c = let i = c .before .before .before .before in let t = i .before in
-    let s = t .before .before .before .before .before .before .before .before in let l = t .loop in
-    let n : l .at ≡ 0 → ⊥ = i .loop-test .taken in
-    let ci = at-in (now (s .args .lows)) (λ c. getD (now (s .args .earliers)) c 0) (λ u. getD (now (s .args .heads)) u 0) (s .pre .0 .1 .chained) (s .args .u)
-    (l .at) (l .inv .0) n in
-    let wi = s .pre .0 .1 .highs-in (l .at - 1) ci in
-    omega (arith, ci, s .pre .0 .1 .earliers-long)
+own-requires c κs = let i : tie.In-loop Inv-loop μ-loop = search in i .before .loop .inv .1 .inside _
 
 loop-less : tie.Need-loop-less Inv-loop μ-loop
-loop-less c = let i = c .before .before .before .before in let t = i .before in let s = t .before .before .before .before .before .before .before .before in
-    let l = t .loop in
-    let n : l .at ≡ 0 → ⊥ = i .loop-test .taken in
-    let ci = at-in (now (s .args .lows)) (λ c. getD (now (s .args .earliers)) c 0) (λ u. getD (now (s .args .heads)) u 0) (s .pre .0 .1 .chained) (s .args .u)
-    (l .at) (l .inv .0) n in
-    let wi = s .pre .0 .1 .highs-in (l .at - 1) ci in
-    on-falls (now (s .args .lows)) (λ c. getD (now (s .args .earliers)) c 0) (λ u. getD (now (s .args .heads)) u 0) (s .pre .0 .1 .chained) (s .args .u)
-    (l .at) (l .inv .0) n
+loop-less c =
+    let s : tie.Start Inv-loop μ-loop = search in
+    let i : tie.In-loop Inv-loop μ-loop = search in
+    on-falls _ _ _ (s .pre .0 .1 .chained) (s .args .u) (i .before .loop .at) (i .before .loop .inv .0) (i .loop-test .taken)
 
 loop-again : tie.Need-loop-again Inv-loop μ-loop
-loop-again c = let i = c .before .before .before .before in let t = i .before in let s = t .before .before .before .before .before .before .before .before in
-    let l = t .loop in
-    let n : l .at ≡ 0 → ⊥ = i .loop-test .taken in
-    let ci = at-in (now (s .args .lows)) (λ c. getD (now (s .args .earliers)) c 0) (λ u. getD (now (s .args .heads)) u 0) (s .pre .0 .1 .chained) (s .args .u)
-    (l .at) (l .inv .0) n in
-    let wi = s .pre .0 .1 .highs-in (l .at - 1) ci in
-    let hu : s .args .u < length (now (s .args .heads)) = omega (arith, s .pre .0 .0, s .pre .0 .1 .heads-long) in
+loop-again c =
+    let s : tie.Start Inv-loop μ-loop = search in
+    let i : tie.In-loop Inv-loop μ-loop = search in
+    let l = i .before .loop in
+    let n = i .loop-test .taken in
+    let hu = head-in s in
     let x = c .before .own in (
-      on-next (now (s .args .lows)) (λ c. getD (now (s .args .earliers)) c 0) (λ u. getD (now (s .args .heads)) u 0) (s .pre .0 .1 .chained) (s .args .u)
-          (l .at) (l .inv .0) n,
-      latest-step (s .args .vertices) (now (s .args .lows)) (now (s .args .highs)) (now (s .args .earliers)) (now (s .args .heads)) (s .pre .0 .1)
-          (s .args .u) (l .at) (l .inv .0) n (l .table) (l .inv .1),
-      afters-step (s .args .vertices) (now (s .args .lows)) (now (s .args .highs)) (now (s .args .earliers)) (now (s .args .heads)) (s .pre .0 .1)
-          (s .args .u) (l .at) (l .inv .0) n (l .table) (l .inv .1) (x .result) (x .ensures) (l .afters) (omega (arith, ci, s .pre .1 .1 .0, l .inv .4))
-          (l .inv .2),
-      length-set (l .table) (getD (now (s .args .highs)) (l .at - 1) 0) (l .at) ∙ l .inv .3,
+      on-next _ _ _ (s .pre .0 .1 .chained) (s .args .u) (l .at) (l .inv .0) n,
+      latest-step _ _ _ _ _ (s .pre .0 .1) (s .args .u) (l .at) (l .inv .0) n (l .table) (l .inv .1),
+      afters-step _ _ _ _ _ (s .pre .0 .1) (s .args .u) (l .at) (l .inv .0) n (l .table) (l .inv .1) (x .result) (x .ensures) (l .afters)
+          (inside i .4) (l .inv .2),
+      length-set (l .table) _ (l .at) ∙ l .inv .3,
       length-set (l .afters) (l .at - 1) (x .result) ∙ l .inv .4,
     )
 
-same-length : tie.Need-same-length Inv-loop μ-loop
-same-length c = c .before .loop .inv .3
-
-same-length-2 : tie.Need-same-length-2 Inv-loop μ-loop
-same-length-2 c = c .before .loop .inv .4
-
 returns : tie.Need-returns Inv-loop μ-loop
-returns c = let t = c .before in let s = t .before .before .before .before .before .before .before .before in let l = t .loop in
+returns c =
+    let s : tie.Start Inv-loop μ-loop = search in
+    let l = c .before .loop in
     let z : l .at ≡ 0 = search needs in
-    let hu : s .args .u < length (now (s .args .heads)) = omega (arith, s .pre .0 .0, s .pre .0 .1 .heads-long) in (
-      latest-all (s .args .vertices) (now (s .args .lows)) (now (s .args .highs)) (now (s .args .earliers)) (now (s .args .heads)) (s .pre .0 .1) (s .args .u)
-          (l .table) (subst (Latest _ _ _ _ _) z (l .inv .1)),
-      afters-all (s .args .vertices) (now (s .args .lows)) (now (s .args .highs)) (now (s .args .earliers)) (now (s .args .heads)) (s .pre .0 .1) (s .args .u)
-          (l .afters) (subst (AftersTo (now (s .args .lows)) (now (s .args .highs)) (l .afters) (s .args .u)) z (l .inv .2)),
+    let hu = head-in s in (
+      latest-all _ _ _ _ _ (s .pre .0 .1) (s .args .u) (l .table) (subst (Latest _ _ _ _ _) z (l .inv .1)),
+      afters-all _ _ _ _ _ (s .pre .0 .1) (s .args .u) (l .afters) (subst (AftersTo _ _ (l .afters) (s .args .u)) z (l .inv .2)),
     )
 
-pub follow-spec : {M : Type 1} → statement M
+pub follow-spec : {M : Type 1} → Rattle.turning.proofs.partners.follow.Statement.statement M
 follow-spec =
-    tie.close (tie.spec Inv-loop μ-loop mul-at shared-slice-read-at loop-holds sub-c cast-c mul-w shared-slice-read-w cast-w mul-own slice-read-own
-    own-requires mul-afters slice-write-afters mul-table slice-write-table mul-at-2 shared-slice-read-at-2 loop-less loop-again same-length same-length-2
-    returns)
+    tie.close (tie.spec Inv-loop μ-loop (λ c. omega (arith, head-in search)) (λ c. omega (arith, head-in search)) loop-holds
+    (λ c. omega (arith, inside search)) (λ c. omega (arith, inside search)) (λ c. omega (arith, inside search)) (λ c. omega (arith, inside search))
+    (λ c. omega (arith, high-fits search)) (λ c. omega (arith, high-fits search)) (λ c. omega (arith, inside search))
+    own-requires (λ c. omega (arith, inside search)) (λ c. omega (arith, inside search))
+    (λ c. omega (arith, high-fits search)) (λ c. omega (arith, inside search)) (λ c. omega (arith, inside search))
+    (λ c. omega (arith, inside search)) loop-less loop-again (λ c. c .before .loop .inv .3) (λ c. c .before .loop .inv .4) returns)

@@ -1,4 +1,4 @@
--- `pair` meets its contract: the corners below `c` have their partners, and no corner without one shares an edge with them. Assumes nothing.
+-- `pair` meets its contract: the corners below `c` have their partners, and no corner without one shares an edge with them.
 use mathlib.Core.Path.{_≡_, refl, ap, _∙_, sym}
 use mathlib.Core.Logic.{⊎-elim}
 use mathlib.Core.List.{List}
@@ -10,7 +10,6 @@ use Rattle.turning.specs.Constraints.{FacesListed}
 use Rattle.turning.specs.partners.Keys.{KeysTo}
 use Rattle.turning.proofs.partners.Laws.{Pairing, pairing-none, pairing-old, pairing-alone, pairing-third, pairing-new, pairing-all}
 use Rattle.mesh.proofs.Verdicts.{unsound}
-use Rattle.turning.proofs.partners.pair.Statement.{statement}
 use Rattle.turning.proofs.partners.pair.Tie as tie
 
 abbrev Inv-loop : tie.InvT-loop
@@ -138,7 +137,7 @@ returns-3 c = let t = c .before in let s = t .before in let l = t .loop in λ si
     let z = pairing-all sides corners k (l .partners) (l .c) (omega (arith, e, c .loop-test .left)) (l .inv .0 sides corners k e k') in
     record { answers = sym (z .0); partners-are = λ q. z .1 }
 
-pub pair-spec : {M : Type 1} → statement M
+pub pair-spec : {M : Type 1} → Rattle.turning.proofs.partners.pair.Statement.statement M
 pair-spec =
     tie.close (tie.spec Inv-loop μ-loop loop-holds mul-if1 slice-read-if1 mul-e shared-slice-read-e same-length returns sub-second cast-second mul-if3
     shared-slice-read-if3 same-length-2 returns-2 mul-partners slice-write-partners add-partners cast-partners mul-partners-2 slice-write-partners-2 add-c

@@ -1,11 +1,10 @@
--- `reverse_bytes` meets its contract: outside `low` to `high` the entries stand in reverse order. Assumes nothing.
+-- `reverse_bytes` meets its contract: outside `low` to `high` the entries stand in reverse order.
 use Prim.Native.Nat.{_-_}
 use lib.ListN.{length-set}
 use denote.Ref.{now}
 use native.Mathlib.Omega.{arith}
 use borrow.Author.Needs.{needs}
 use Rattle.turning.proofs.reversing.Laws.{Reversing, reversing-none, reversing-step, reversing-all}
-use Rattle.turning.proofs.reversing.reverse_bytes.Statement.{statement}
 use Rattle.turning.proofs.reversing.reverse_bytes.Tie as tie
 
 abbrev Inv-loop : tie.InvT-loop
@@ -30,7 +29,7 @@ returns : tie.Need-returns Inv-loop μ-loop
 returns c = let t = c .before in let s = t .before in let l = t .loop in
     reversing-all (s .args .from) (s .args .to) (now (s .args .list)) (l .list) (l .low) (l .high) (l .inv) (c .loop-test .left)
 
-pub reverse-bytes-spec : {M : Type 1} → statement M
+pub reverse-bytes-spec : {M : Type 1} → Rattle.turning.proofs.reversing.reverse_bytes.Statement.statement M
 reverse-bytes-spec =
     tie.close (tie.spec Inv-loop μ-loop loop-holds (λ c. search needs) (λ c. search needs) (λ c. search needs) (λ c. search needs) (λ c. search needs)
     slice-write-list-2 (λ c. search needs) (λ c. search needs) loop-again (λ c. search needs) returns)

@@ -1,13 +1,12 @@
 use borrow.Author.Needs.{needs}
--- `turn_face` meets its contract: all corners but the first are reversed. Assumes nothing.
+-- `turn_face` meets its contract: all corners but the first are reversed.
 use denote.Ref.{now}
 use Rattle.turning.proofs.reversing.Laws.{face-turned}
-use Rattle.turning.proofs.reversing.turn_face.Statement.{statement}
 use Rattle.turning.proofs.reversing.turn_face.Tie as tie
 
 returns : tie.Need-returns
-returns c = let s = c .before .before .before .before .before in let v = c .before .before .reverse in
+returns c = let s : tie.Start = search in let v = c .before .before .reverse in
     face-turned (s .args .start) (s .args .end) (now (s .args .corners)) (v .last .0) (s .pre .0) (v .ensures)
 
-pub turn-face-spec : {M : Type 1} → statement M
+pub turn-face-spec : {M : Type 1} → Rattle.turning.proofs.reversing.turn_face.Statement.statement M
 turn-face-spec = tie.close (tie.spec (λ c. search needs) (λ c κs. search needs) (λ c. search needs) returns)

@@ -1,4 +1,4 @@
--- `turn_sharpness` meets its contract: the pairs of the faces below `f` are written, the others stay. Assumes nothing.
+-- `turn_sharpness` meets its contract: the pairs of the faces below `f` are written, the others stay.
 use mathlib.Core.Path.{_≡_, sym, subst}
 use mathlib.Core.Logic.{⊎-elim}
 use Prim.Native.Nat.{ℕ, _+_, _-_, _≤_}
@@ -11,7 +11,6 @@ use Rattle.mesh.proofs.Faces.{start-zero, start-next, start-ends}
 use Rattle.turning.specs.States.{turnsBy}
 use Rattle.turning.specs.reversing.Written.{PairsTurned}
 use Rattle.turning.proofs.reversing.Laws.{PairsTo, pairs-none, pairs-kept, pairs-step, pairs-all}
-use Rattle.turning.proofs.reversing.turn_sharpness.Statement.{statement}
 use Rattle.turning.proofs.reversing.turn_sharpness.Tie as tie
 
 abbrev Inv-loop : tie.InvT-loop
@@ -22,31 +21,31 @@ abbrev μ-loop : tie.MeasureT-loop
 μ-loop sides states pairs₀ start₀ f₀ pairs start f = length sides - f
 
 loop-holds : tie.Need-loop-holds Inv-loop μ-loop
-loop-holds c = let s = c .before .before .before in
+loop-holds c = let s : tie.Start Inv-loop μ-loop = search in
     (pairs-none (turnsBy (now (s .args .states))) (now (s .args .sides)) (now (s .args .pairs)), sym (start-zero (now (s .args .sides))), omega arith)
 
 shared-slice-read-end : tie.Need-shared-slice-read-end Inv-loop μ-loop
-shared-slice-read-end c = let i = c .before in let t = i .before in let s = t .before .before .before .before in let l = t .loop in
+shared-slice-read-end c = let i = c .before in let t = i .before in let s : tie.Start Inv-loop μ-loop = search in let l = t .loop in
     let e = start-ends (now (s .args .sides)) (l .f) (i .loop-test .taken) in
     omega (arith, i .loop-test .taken)
 
 cast-end : tie.Need-cast-end Inv-loop μ-loop
-cast-end c = let i = c .before in let t = i .before in let s = t .before .before .before .before in let l = t .loop in
+cast-end c = let i = c .before in let t = i .before in let s : tie.Start Inv-loop μ-loop = search in let l = t .loop in
     let e = start-ends (now (s .args .sides)) (l .f) (i .loop-test .taken) in
     omega (arith, e, s .pre .few-corners)
 
 add-end : tie.Need-add-end Inv-loop μ-loop
-add-end c = let i = c .before in let t = i .before in let s = t .before .before .before .before in let l = t .loop in
+add-end c = let i = c .before in let t = i .before in let s : tie.Start Inv-loop μ-loop = search in let l = t .loop in
     let e = start-ends (now (s .args .sides)) (l .f) (i .loop-test .taken) in
     omega (arith, e, l .inv .1, s .pre .few-corners)
 
 shared-slice-read-if1 : tie.Need-shared-slice-read-if1 Inv-loop μ-loop
-shared-slice-read-if1 c = let i = c .before .before in let t = i .before in let s = t .before .before .before .before in let l = t .loop in
+shared-slice-read-if1 c = let i = c .before .before in let t = i .before in let s : tie.Start Inv-loop μ-loop = search in let l = t .loop in
     let e = start-ends (now (s .args .sides)) (l .f) (i .loop-test .taken) in
     omega (arith, i .loop-test .taken, s .pre .states-long)
 
 turn-pairs-requires : tie.Need-turn-pairs-requires Inv-loop μ-loop
-turn-pairs-requires c κs = let i = c .before .before .before .before in let t = i .before in let s = t .before .before .before .before in let l = t .loop in
+turn-pairs-requires c κs = let i = c .before .before .before .before in let t = i .before in let s : tie.Start Inv-loop μ-loop = search in let l = t .loop in
     let e = start-ends (now (s .args .sides)) (l .f) (i .loop-test .taken) in (
       omega (arith, s .pre .least (l .f) (i .loop-test .taken)),
       omega (arith, e, l .inv .1, s .pre .sums, l .inv .0 .same-length),
@@ -55,17 +54,17 @@ turn-pairs-requires c κs = let i = c .before .before .before .before in let t =
     )
 
 add-f : tie.Need-add-f Inv-loop μ-loop
-add-f c = let i = c .before .before .before in let t = i .before in let s = t .before .before .before .before in let l = t .loop in
+add-f c = let i = c .before .before .before in let t = i .before in let s : tie.Start Inv-loop μ-loop = search in let l = t .loop in
     let e = start-ends (now (s .args .sides)) (l .f) (i .loop-test .taken) in
     omega (arith, i .loop-test .taken, s .pre .few-faces)
 
 loop-less : tie.Need-loop-less Inv-loop μ-loop
-loop-less c = let i = c .before .before .before in let t = i .before in let s = t .before .before .before .before in let l = t .loop in
+loop-less c = let i = c .before .before .before in let t = i .before in let s : tie.Start Inv-loop μ-loop = search in let l = t .loop in
     let e = start-ends (now (s .args .sides)) (l .f) (i .loop-test .taken) in
     omega (arith, i .loop-test .taken)
 
 loop-again : tie.Need-loop-again Inv-loop μ-loop
-loop-again c = let i = c .before .before .before in let t = i .before in let s = t .before .before .before .before in let l = t .loop in
+loop-again c = let i = c .before .before .before in let t = i .before in let s : tie.Start Inv-loop μ-loop = search in let l = t .loop in
     let e = start-ends (now (s .args .sides)) (l .f) (i .loop-test .taken) in (
       ⊎-elim
           (λ u. let v = u .2 in
@@ -83,11 +82,11 @@ same-length : tie.Need-same-length Inv-loop μ-loop
 same-length c = c .before .loop .inv .0 .same-length
 
 returns : tie.Need-returns Inv-loop μ-loop
-returns c = let t = c .before in let s = t .before .before .before .before in let l = t .loop in
+returns c = let t = c .before in let s : tie.Start Inv-loop μ-loop = search in let l = t .loop in
     pairs-all (turnsBy (now (s .args .states))) (now (s .args .sides)) (now (s .args .pairs)) (s .pre .sums) (l .f) (l .pairs)
     (omega (arith, l .inv .2, c .loop-test .left)) (l .inv .0)
 
-pub turn-sharpness-spec : {M : Type 1} → statement M
+pub turn-sharpness-spec : {M : Type 1} → Rattle.turning.proofs.reversing.turn_sharpness.Statement.statement M
 turn-sharpness-spec =
     tie.close (tie.spec Inv-loop μ-loop loop-holds shared-slice-read-end cast-end add-end shared-slice-read-if1 turn-pairs-requires add-f loop-less
     loop-again same-length returns)

@@ -1,4 +1,4 @@
--- `spread` meets its contract: the faces below `r` are reached and settled, and the lowest of each part is kept. Assumes nothing.
+-- `spread` meets its contract: the faces below `r` are reached and settled, and the lowest of each part is kept.
 use mathlib.Core.Path.{_≡_, refl, ap, _∙_, sym, subst}
 use mathlib.Core.Logic.{⊎-elim}
 use Prim.Native.Nat.{_-_, _≤_}
@@ -9,7 +9,6 @@ use borrow.Author.Needs.{needs}
 use Rattle.turning.specs.spreading.Spread.{Wandered}
 use Rattle.turning.proofs.spreading.Laws.{Spreading, spreading-none, spreading-old, spreading-new, spreading-clash, spreading-sound, spreading-chosen}
 use Rattle.mesh.proofs.Verdicts.{unsound}
-use Rattle.turning.proofs.spreading.spread.Statement.{statement}
 use Rattle.turning.proofs.spreading.spread.Tie as tie
 
 abbrev Inv-loop : tie.InvT-loop
@@ -20,7 +19,7 @@ abbrev μ-loop : tie.MeasureT-loop
 μ-loop sides corners partners faces starts states₀ queue₀ tail₀ r₀ states queue tail r = length sides - r
 
 loop-holds : tie.Need-loop-holds Inv-loop μ-loop
-loop-holds c = let s = c .before .before .before .before .before .before .before in (
+loop-holds c = let s : tie.Start Inv-loop μ-loop = search in (
   spreading-none (now (s .args .sides)) (now (s .args .corners)) (s .pre .0 .listed) (s .pre .0 .two) (now (s .args .states)) (now (s .args .queue))
       (s .pre .1 .0) (s .pre .1 .1) (s .pre .1 .2),
   omega arith,
@@ -34,7 +33,7 @@ slice-read-if1 c = let i = c .before in let t = i .before in let s = t .before .
 
 round-requires : tie.Need-round-requires Inv-loop μ-loop
 round-requires c κs = let i = c .before .before .before .before in let t = i .before in
-    let s = t .before .before .before .before .before .before .before .before in let l = t .loop in
+    let s : tie.Start Inv-loop μ-loop = search in let l = t .loop in
     (s .pre .0, ((i .loop-test .taken, c .before .before .if1 .taken), (l .inv .0 .settled, l .inv .0 .queued)))
 
 same-length : tie.Need-same-length Inv-loop μ-loop
@@ -49,7 +48,7 @@ same-length-2 c = let i = c .before .before .before .before .before .before .bef
 
 returns : tie.Need-returns Inv-loop μ-loop
 returns c = let i = c .before .before .before .before .before .before .before .before .before .before .before in let t = i .before in
-    let s = t .before .before .before .before .before .before .before .before in let l = t .loop in
+    let s : tie.Start Inv-loop μ-loop = search in let l = t .loop in
     let v = c .before .before .before .before .before .before .round in
     let e = spreading-clash (now (s .args .sides)) (now (s .args .corners)) (s .pre .0 .listed) (s .pre .0 .two) (l .r) (l .states) (l .queue) (l .tail)
     (l .inv .0) (i .loop-test .taken)
@@ -58,7 +57,7 @@ returns c = let i = c .before .before .before .before .before .before .before .b
     record { answers = sym e; turns = λ q. (unsound 35 (l .r) (sym e ∙ q)) }
 
 add-r : tie.Need-add-r Inv-loop μ-loop
-add-r c = let i = c .before .before in let t = i .before in let s = t .before .before .before .before .before .before .before .before in let l = t .loop in
+add-r c = let i = c .before .before in let t = i .before in let s : tie.Start Inv-loop μ-loop = search in let l = t .loop in
     omega (arith, i .loop-test .taken, s .pre .0 .few-faces)
 
 loop-less : tie.Need-loop-less Inv-loop μ-loop
@@ -66,7 +65,7 @@ loop-less c = let i = c .before .before in let t = i .before in let s = t .befor
     omega (arith, i .loop-test .taken)
 
 loop-again : tie.Need-loop-again Inv-loop μ-loop
-loop-again c = let i = c .before .before in let t = i .before in let s = t .before .before .before .before .before .before .before .before in
+loop-again c = let i = c .before .before in let t = i .before in let s : tie.Start Inv-loop μ-loop = search in
     let l = t .loop in (
       ⊎-elim
           (λ u. let v = u .3 in let k = u .9 .given in
@@ -89,7 +88,7 @@ same-length-4 : tie.Need-same-length-4 Inv-loop μ-loop
 same-length-4 c = c .before .loop .inv .3
 
 returns-2 : tie.Need-returns-2 Inv-loop μ-loop
-returns-2 c = let t = c .before in let s = t .before .before .before .before .before .before .before .before in let l = t .loop in
+returns-2 c = let t = c .before in let s : tie.Start Inv-loop μ-loop = search in let l = t .loop in
     let e : l .r ≡ length (now (s .args .sides)) = omega (arith, c .loop-test .left, l .inv .1) in
     record {
       answers = sym (spreading-sound (now (s .args .sides)) (now (s .args .corners)) (s .pre .0 .listed) (s .pre .0 .two) (l .r) (l .states) (l .queue)
@@ -98,7 +97,7 @@ returns-2 c = let t = c .before in let s = t .before .before .before .before .be
           (l .tail) (l .inv .0) e;
     }
 
-pub spread-spec : {M : Type 1} → statement M
+pub spread-spec : {M : Type 1} → Rattle.turning.proofs.spreading.spread.Statement.statement M
 spread-spec =
     tie.close (tie.spec Inv-loop μ-loop loop-holds slice-read-if1 round-requires (λ c. search needs) (λ c. search needs) same-length same-length-2 returns
     add-r loop-less loop-again same-length-3 same-length-4 returns-2)

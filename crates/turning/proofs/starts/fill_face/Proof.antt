@@ -1,4 +1,4 @@
--- `fill_face` meets its contract: the corners below `c` have the face's number. Assumes nothing.
+-- `fill_face` meets its contract: the corners below `c` have the face's number.
 use mathlib.Core.Path.{_≡_, _∙_, subst}
 use Prim.Native.Nat.{_-_, _≤_}
 use lib.ListN.{length, length-set}
@@ -7,7 +7,6 @@ use native.Mathlib.Omega.{arith}
 use borrow.Author.Needs.{needs}
 use Rattle.turning.specs.starts.Starts.{Faced}
 use Rattle.turning.proofs.starts.Laws.{faced-step}
-use Rattle.turning.proofs.starts.fill_face.Statement.{statement}
 use Rattle.turning.proofs.starts.fill_face.Tie as tie
 
 abbrev Inv-loop : tie.InvT-loop
@@ -30,7 +29,7 @@ returns : tie.Need-returns Inv-loop μ-loop
 returns c = let t = c .before in let l = t .loop in
     subst (Faced _ _ _ _) (omega (arith, l .inv .2, c .loop-test .left)) (l .inv .0)
 
-pub fill-face-spec : {M : Type 1} → statement M
+pub fill-face-spec : {M : Type 1} → Rattle.turning.proofs.starts.fill_face.Statement.statement M
 fill-face-spec =
     tie.close (tie.spec Inv-loop μ-loop (λ c. search needs) (λ c. search needs) (λ c. search needs) (λ c. search needs) (λ c. search needs)
     (λ c. search needs) loop-again (λ c. search needs) returns)

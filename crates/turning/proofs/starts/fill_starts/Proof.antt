@@ -1,4 +1,4 @@
--- `fill_starts` meets its contract: the faces below `f` are entered. Assumes nothing.
+-- `fill_starts` meets its contract: the faces below `f` are entered.
 use mathlib.Core.Path.{_≡_, refl, _∙_, sym, subst}
 use Prim.Native.Nat.{_-_, _≤_}
 use lib.ListN.{length, length-set}
@@ -8,7 +8,6 @@ use Rattle.paper.specs.Corners.{startOf}
 use Rattle.mesh.proofs.Faces.{start-zero, start-next, start-ends}
 use Rattle.turning.specs.starts.Starts.{Started}
 use Rattle.turning.proofs.starts.Laws.{started-none, started-step}
-use Rattle.turning.proofs.starts.fill_starts.Statement.{statement}
 use Rattle.turning.proofs.starts.fill_starts.Tie as tie
 
 abbrev Inv-loop : tie.InvT-loop
@@ -19,40 +18,40 @@ abbrev μ-loop : tie.MeasureT-loop
 μ-loop sides faces₀ starts₀ start₀ f₀ faces starts start f = length sides - f
 
 loop-holds : tie.Need-loop-holds Inv-loop μ-loop
-loop-holds c = let s = c .before .before .before in (started-none _ _ _, sym (start-zero (now (s .args .sides))), omega arith, refl, refl)
+loop-holds c = let s : tie.Start Inv-loop μ-loop = search in (started-none _ _ _, sym (start-zero (now (s .args .sides))), omega arith, refl, refl)
 
 shared-slice-read-end : tie.Need-shared-slice-read-end Inv-loop μ-loop
-shared-slice-read-end c = let i = c .before in let t = i .before in let s = t .before .before .before .before in let l = t .loop in
+shared-slice-read-end c = let i = c .before in let t = i .before in let s : tie.Start Inv-loop μ-loop = search in let l = t .loop in
     let e = start-ends (now (s .args .sides)) (l .f) (i .loop-test .taken) in
     omega (arith, i .loop-test .taken)
 
 cast-end : tie.Need-cast-end Inv-loop μ-loop
-cast-end c = let i = c .before in let t = i .before in let s = t .before .before .before .before in let l = t .loop in
+cast-end c = let i = c .before in let t = i .before in let s : tie.Start Inv-loop μ-loop = search in let l = t .loop in
     let e = start-ends (now (s .args .sides)) (l .f) (i .loop-test .taken) in
     omega (arith, e, s .pre .few-corners)
 
 add-end : tie.Need-add-end Inv-loop μ-loop
-add-end c = let i = c .before in let t = i .before in let s = t .before .before .before .before in let l = t .loop in
+add-end c = let i = c .before in let t = i .before in let s : tie.Start Inv-loop μ-loop = search in let l = t .loop in
     let e = start-ends (now (s .args .sides)) (l .f) (i .loop-test .taken) in
     omega (arith, e, l .inv .1, s .pre .few-corners)
 
 cast-starts : tie.Need-cast-starts Inv-loop μ-loop
-cast-starts c = let i = c .before in let t = i .before in let s = t .before .before .before .before in let l = t .loop in
+cast-starts c = let i = c .before in let t = i .before in let s : tie.Start Inv-loop μ-loop = search in let l = t .loop in
     let e = start-ends (now (s .args .sides)) (l .f) (i .loop-test .taken) in
     omega (arith, e, l .inv .1, s .pre .few-corners)
 
 mul-starts : tie.Need-mul-starts Inv-loop μ-loop
-mul-starts c = let i = c .before in let t = i .before in let s = t .before .before .before .before in let l = t .loop in
+mul-starts c = let i = c .before in let t = i .before in let s : tie.Start Inv-loop μ-loop = search in let l = t .loop in
     let e = start-ends (now (s .args .sides)) (l .f) (i .loop-test .taken) in
     omega (arith, i .loop-test .taken, s .pre .few-faces)
 
 slice-write-starts : tie.Need-slice-write-starts Inv-loop μ-loop
-slice-write-starts c = let i = c .before in let t = i .before in let s = t .before .before .before .before in let l = t .loop in
+slice-write-starts c = let i = c .before in let t = i .before in let s : tie.Start Inv-loop μ-loop = search in let l = t .loop in
     let e = start-ends (now (s .args .sides)) (l .f) (i .loop-test .taken) in
     omega (arith, i .loop-test .taken, s .pre .starts-long, l .inv .4)
 
 fill-face-requires : tie.Need-fill-face-requires Inv-loop μ-loop
-fill-face-requires c κs = let i = c .before .before in let t = i .before in let s = t .before .before .before .before in let l = t .loop in
+fill-face-requires c κs = let i = c .before .before in let t = i .before in let s : tie.Start Inv-loop μ-loop = search in let l = t .loop in
     let e = start-ends (now (s .args .sides)) (l .f) (i .loop-test .taken) in (
       omega (arith, i .loop-test .taken, s .pre .few-faces),
       omega arith,
@@ -62,17 +61,17 @@ fill-face-requires c κs = let i = c .before .before in let t = i .before in let
     )
 
 add-f : tie.Need-add-f Inv-loop μ-loop
-add-f c = let i = c .before .before .before .before .before in let t = i .before in let s = t .before .before .before .before in let l = t .loop in
+add-f c = let i = c .before .before .before .before .before in let t = i .before in let s : tie.Start Inv-loop μ-loop = search in let l = t .loop in
     let e = start-ends (now (s .args .sides)) (l .f) (i .loop-test .taken) in
     omega (arith, i .loop-test .taken, s .pre .few-faces)
 
 loop-less : tie.Need-loop-less Inv-loop μ-loop
-loop-less c = let i = c .before .before .before .before .before in let t = i .before in let s = t .before .before .before .before in let l = t .loop in
+loop-less c = let i = c .before .before .before .before .before in let t = i .before in let s : tie.Start Inv-loop μ-loop = search in let l = t .loop in
     let e = start-ends (now (s .args .sides)) (l .f) (i .loop-test .taken) in
     omega (arith, i .loop-test .taken)
 
 loop-again : tie.Need-loop-again Inv-loop μ-loop
-loop-again c = let i = c .before .before .before .before .before in let t = i .before in let s = t .before .before .before .before in let l = t .loop in
+loop-again c = let i = c .before .before .before .before .before in let t = i .before in let s : tie.Start Inv-loop μ-loop = search in let l = t .loop in
     let e = start-ends (now (s .args .sides)) (l .f) (i .loop-test .taken) in
     let v = c .before .before .fill-face in (
       started-step (now (s .args .sides)) (l .faces) (l .starts) (v .last .0) (l .f) (l .start) (i .loop-test .taken)
@@ -93,7 +92,7 @@ returns : tie.Need-returns Inv-loop μ-loop
 returns c = let t = c .before in let l = t .loop in
     subst (Started _ _ _) (omega (arith, l .inv .2, c .loop-test .left)) (l .inv .0)
 
-pub fill-starts-spec : {M : Type 1} → statement M
+pub fill-starts-spec : {M : Type 1} → Rattle.turning.proofs.starts.fill_starts.Statement.statement M
 fill-starts-spec =
     tie.close (tie.spec Inv-loop μ-loop loop-holds shared-slice-read-end cast-end add-end cast-starts mul-starts slice-write-starts fill-face-requires add-f
     loop-less loop-again same-length same-length-2 returns)

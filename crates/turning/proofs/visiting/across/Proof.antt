@@ -1,6 +1,5 @@
--- `across` meets its contract: it goes by the test. Assumes nothing.
+-- `across` meets its contract: it goes by the test.
 use borrow.Author.Needs.{needs}
-use Rattle.turning.proofs.visiting.across.Statement.{statement}
 use Rattle.turning.proofs.visiting.across.Tie as tie
 
 returns : tie.Need-returns
@@ -9,5 +8,5 @@ returns c = rw (c .if1 .taken)
 returns-2 : tie.Need-returns-2
 returns-2 c = rw (c .if1 .left)
 
-pub across-spec : {M : Type 1} → statement M
+pub across-spec : {M : Type 1} → Rattle.turning.proofs.visiting.across.Statement.statement M
 across-spec = tie.close (tie.spec (λ c. search needs) returns returns-2)

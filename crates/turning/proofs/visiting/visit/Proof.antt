@@ -1,15 +1,15 @@
--- `visit` meets its contract: the invariant is that the corners below `c` are settled. Assumes nothing.
+-- `visit` meets its contract: the invariant is that the corners below `c` are settled.
 use mathlib.Core.Path.{_≡_, refl, ap, _∙_, sym, subst}
 use mathlib.Core.Logic.{⊎-elim}
-use Prim.Native.Nat.{_-_, _≤_}
-use lib.ListN.{length, length-set}
+use Prim.Native.Nat.{_-_, _≤_, _<_}
+use lib.ListN.{length, getD, length-set}
 use denote.Ref.{now}
 use native.Mathlib.Omega.{arith}
 use borrow.Author.Needs.{needs}
+use Rattle.paper.specs.Mesh.{mostFaces, mostCorners}
 use Rattle.paper.specs.Corners.{startOf}
 use Rattle.turning.specs.visiting.Visit.{Visiting}
-use Rattle.turning.proofs.visiting.Laws.{turn-new, turn-old, turn-clash, corner-at, start-is, visiting-none, visiting-all, tail-below}
-use Rattle.turning.proofs.visiting.visit.Statement.{statement}
+use Rattle.turning.proofs.visiting.Laws.{Corner, turn-new, turn-old, turn-clash, corner-at, start-is, visiting-none, visiting-all, tail-below}
 use Rattle.turning.proofs.visiting.visit.Tie as tie
 
 abbrev Inv-loop : tie.InvT-loop
@@ -21,155 +21,80 @@ abbrev μ-loop : tie.MeasureT-loop
     end - c
 
 cast-c : tie.Need-cast-c Inv-loop μ-loop
-cast-c c = let s = c .before .before .before .before .before .before .before .before .before in omega (arith, c .shared-slice-known6 .given (s .args .f))
+cast-c c = let s : tie.Start Inv-loop μ-loop = search in omega (arith, c .shared-slice-known6 .given (s .args .f))
 
 cast-end : tie.Need-cast-end Inv-loop μ-loop
-cast-end c = let s = c .before .before .before .before .before .before .before .before .before .before in
+cast-end c = let s : tie.Start Inv-loop μ-loop = search in
     omega (arith, c .shared-slice-known7 .given (s .args .f))
 
 add-end : tie.Need-add-end Inv-loop μ-loop
-add-end c = let s = c .before .before .before .before .before .before .before .before .before .before in
+add-end c = let s : tie.Start Inv-loop μ-loop = search in
     omega (arith, c .shared-slice-known7 .given (s .args .f), c .before .shared-slice-known6 .given (s .args .f))
 
 loop-holds : tie.Need-loop-holds Inv-loop μ-loop
-loop-holds c = let s = c .before .before .before .before .before .before .before .before .before .before in
-    let e = start-is (now (s .args .sides)) (now (s .args .corners)) (now (s .args .partners)) (now (s .args .faces)) (now (s .args .starts)) (s .pre .0)
-    (s .args .f) (s .pre .1 .0 .0) in (
+loop-holds c =
+    let s : tie.Start Inv-loop μ-loop = search in
+    let e = start-is _ _ _ _ _ (s .pre .0) (s .args .f) (s .pre .1 .0 .0) in (
       subst (Visiting _ _ _ _ _ _ _ _ _) (sym e)
-          (visiting-none (now (s .args .sides)) (now (s .args .corners)) (s .pre .0 .listed) (s .pre .0 .two) (s .args .f) (now (s .args .states))
-          (now (s .args .queue)) (s .args .tail) (s .pre .1 .1)),
+          (visiting-none _ _ (s .pre .0 .listed) (s .pre .0 .two) (s .args .f) (now (s .args .states)) (now (s .args .queue)) (s .args .tail) (s .pre .1 .1)),
       omega (arith, e),
       refl,
       refl,
     )
 
-mul-d : tie.Need-mul-d Inv-loop μ-loop
-mul-d c = let i = c in let t = i .before in let s = t .before .before .before .before .before .before .before .before .before .before .before in
-    let a = corner-at (now (s .args .sides)) (now (s .args .corners)) (now (s .args .partners)) (now (s .args .faces)) (now (s .args .starts)) (s .pre .0)
-    (s .args .f) (s .pre .1 .0 .0) (t .loop .c) (t .loop .inv .1) (i .loop-test .taken) in
-    omega (arith, a .inside, s .pre .0 .few-corners)
+-- In the loop: c is a corner of the face, its partner d one of the mesh, and g, the face of d, one of its faces.
+module _ (i : tie.In-loop Inv-loop μ-loop) where
+  here : let s : tie.Start Inv-loop μ-loop = search in Corner (now (s .args .sides)) (now (s .args .corners)) (now (s .args .partners))
+      (now (s .args .faces)) (s .args .f) (i .before .loop .c)
+  here =
+      let s : tie.Start Inv-loop μ-loop = search in
+      corner-at _ _ _ _ _ (s .pre .0) (s .args .f) (s .pre .1 .0 .0) (i .before .loop .c) (i .before .loop .inv .1) (i .loop-test .taken)
 
-shared-slice-read-d : tie.Need-shared-slice-read-d Inv-loop μ-loop
-shared-slice-read-d c = let i = c .before in let t = i .before in
-    let s = t .before .before .before .before .before .before .before .before .before .before .before in
-    let a = corner-at (now (s .args .sides)) (now (s .args .corners)) (now (s .args .partners)) (now (s .args .faces)) (now (s .args .starts)) (s .pre .0)
-    (s .args .f) (s .pre .1 .0 .0) (t .loop .c) (t .loop .inv .1) (i .loop-test .taken) in
-    omega (arith, a .inside, s .pre .0 .partners-long)
+  inside : let s : tie.Start Inv-loop μ-loop = search in
+      let c = i .before .loop .c in
+      let d = getD (now (s .args .partners)) c 0 in
+      let g = getD (now (s .args .faces)) (d - 1) 0 in
+      (c < mostCorners)
+      × (c < length (now (s .args .partners)))
+      × (c < length (now (s .args .corners)))
+      × (d ≡ 0 → ⊥)
+      × (d - 1 < mostCorners)
+      × (d - 1 < length (now (s .args .faces)))
+      × (d - 1 < length (now (s .args .corners)))
+      × (g < mostFaces)
+      × (g < length (i .before .loop .states))
+  inside =
+      let s : tie.Start Inv-loop μ-loop = search in
+      let k = s .pre .0 in
+      let a = here in
+      let q = i .before .loop .inv .0 .queued in (
+        omega (arith, a .inside, k .few-corners),
+        omega (arith, a .inside, k .partners-long),
+        a .inside,
+        a .some,
+        omega (arith, a .across-in, k .few-corners),
+        omega (arith, a .across-in, k .faces-long),
+        a .across-in,
+        omega (arith, a .face-below, k .few-faces),
+        omega (arith, a .face-below, q .states-long),
+      )
 
-sub-d : tie.Need-sub-d Inv-loop μ-loop
-sub-d c = let i = c .before in let t = i .before in let s = t .before .before .before .before .before .before .before .before .before .before .before in
-    let a = corner-at (now (s .args .sides)) (now (s .args .corners)) (now (s .args .partners)) (now (s .args .faces)) (now (s .args .starts)) (s .pre .0)
-    (s .args .f) (s .pre .1 .0 .0) (t .loop .c) (t .loop .inv .1) (i .loop-test .taken) in
-    omega (arith, a .some)
+-- where the state of g is 0, the queue has room
+room : (t : tie.Then1 Inv-loop μ-loop) → let s : tie.Start Inv-loop μ-loop = search in
+    let i : tie.In-loop Inv-loop μ-loop = search in
+    (i .before .loop .next < mostFaces) × (i .before .loop .next < length (i .before .loop .queue))
+room t =
+    let s : tie.Start Inv-loop μ-loop = search in
+    let i : tie.In-loop Inv-loop μ-loop = search in
+    let q = i .before .loop .inv .0 .queued in
+    let b = tail-below _ _ _ _ q _ 1 (here i .face-below) (t .if1 .taken) (λ z. omega arith) in
+    (omega (arith, b, s .pre .0 .few-faces), omega (arith, b, q .queue-long))
 
 cast-d : tie.Need-cast-d Inv-loop μ-loop
-cast-d c = let i = c .before in let t = i .before in let s = t .before .before .before .before .before .before .before .before .before .before .before in
-    let a = corner-at (now (s .args .sides)) (now (s .args .corners)) (now (s .args .partners)) (now (s .args .faces)) (now (s .args .starts)) (s .pre .0)
-    (s .args .f) (s .pre .1 .0 .0) (t .loop .c) (t .loop .inv .1) (i .loop-test .taken) in
-    omega (arith, c .shared-slice-known8 .given (t .loop .c))
-
-mul-g : tie.Need-mul-g Inv-loop μ-loop
-mul-g c = let i = c .before in let t = i .before in let s = t .before .before .before .before .before .before .before .before .before .before .before in
-    let a = corner-at (now (s .args .sides)) (now (s .args .corners)) (now (s .args .partners)) (now (s .args .faces)) (now (s .args .starts)) (s .pre .0)
-    (s .args .f) (s .pre .1 .0 .0) (t .loop .c) (t .loop .inv .1) (i .loop-test .taken) in
-    omega (arith, a .across-in, s .pre .0 .few-corners)
-
-shared-slice-read-g : tie.Need-shared-slice-read-g Inv-loop μ-loop
-shared-slice-read-g c = let i = c .before .before in let t = i .before in
-    let s = t .before .before .before .before .before .before .before .before .before .before .before in
-    let a = corner-at (now (s .args .sides)) (now (s .args .corners)) (now (s .args .partners)) (now (s .args .faces)) (now (s .args .starts)) (s .pre .0)
-    (s .args .f) (s .pre .1 .0 .0) (t .loop .c) (t .loop .inv .1) (i .loop-test .taken) in
-    omega (arith, a .across-in, s .pre .0 .faces-long)
-
-cast-g : tie.Need-cast-g Inv-loop μ-loop
-cast-g c = let i = c .before .before in let t = i .before in
-    let s = t .before .before .before .before .before .before .before .before .before .before .before in
-    let a = corner-at (now (s .args .sides)) (now (s .args .corners)) (now (s .args .partners)) (now (s .args .faces)) (now (s .args .starts)) (s .pre .0)
-    (s .args .f) (s .pre .1 .0 .0) (t .loop .c) (t .loop .inv .1) (i .loop-test .taken) in
-    omega (arith, a .face-below, s .pre .0 .few-faces)
-
-mul-across : tie.Need-mul-across Inv-loop μ-loop
-mul-across c = let i = c .before .before in let t = i .before in
-    let s = t .before .before .before .before .before .before .before .before .before .before .before in
-    let a = corner-at (now (s .args .sides)) (now (s .args .corners)) (now (s .args .partners)) (now (s .args .faces)) (now (s .args .starts)) (s .pre .0)
-    (s .args .f) (s .pre .1 .0 .0) (t .loop .c) (t .loop .inv .1) (i .loop-test .taken) in
-    omega (arith, a .inside, s .pre .0 .few-corners)
-
-shared-slice-read-across : tie.Need-shared-slice-read-across Inv-loop μ-loop
-shared-slice-read-across c = let i = c .before .before .before in let t = i .before in
-    let s = t .before .before .before .before .before .before .before .before .before .before .before in
-    let a = corner-at (now (s .args .sides)) (now (s .args .corners)) (now (s .args .partners)) (now (s .args .faces)) (now (s .args .starts)) (s .pre .0)
-    (s .args .f) (s .pre .1 .0 .0) (t .loop .c) (t .loop .inv .1) (i .loop-test .taken) in
-    omega (arith, a .inside)
-
-mul-across-2 : tie.Need-mul-across-2 Inv-loop μ-loop
-mul-across-2 c = let i = c .before .before .before in let t = i .before in
-    let s = t .before .before .before .before .before .before .before .before .before .before .before in
-    let a = corner-at (now (s .args .sides)) (now (s .args .corners)) (now (s .args .partners)) (now (s .args .faces)) (now (s .args .starts)) (s .pre .0)
-    (s .args .f) (s .pre .1 .0 .0) (t .loop .c) (t .loop .inv .1) (i .loop-test .taken) in
-    omega (arith, a .across-in, s .pre .0 .few-corners)
-
-shared-slice-read-across-2 : tie.Need-shared-slice-read-across-2 Inv-loop μ-loop
-shared-slice-read-across-2 c = let i = c .before .before .before .before in let t = i .before in
-    let s = t .before .before .before .before .before .before .before .before .before .before .before in
-    let a = corner-at (now (s .args .sides)) (now (s .args .corners)) (now (s .args .partners)) (now (s .args .faces)) (now (s .args .starts)) (s .pre .0)
-    (s .args .f) (s .pre .1 .0 .0) (t .loop .c) (t .loop .inv .1) (i .loop-test .taken) in
-    omega (arith, a .across-in)
+cast-d c = let i : tie.In-loop Inv-loop μ-loop = search in omega (arith, c .shared-slice-known8 .given (i .before .loop .c))
 
 across-requires : tie.Need-across-requires Inv-loop μ-loop
-across-requires c κs = let i = c .before .before .before .before in let t = i .before in
-    let s = t .before .before .before .before .before .before .before .before .before .before .before in
-    let a = corner-at (now (s .args .sides)) (now (s .args .corners)) (now (s .args .partners)) (now (s .args .faces)) (now (s .args .starts)) (s .pre .0)
-    (s .args .f) (s .pre .1 .0 .0) (t .loop .c) (t .loop .inv .1) (i .loop-test .taken) in
-    omega (arith, s .pre .1 .1 .small (s .args .f))
-
-slice-read-found : tie.Need-slice-read-found Inv-loop μ-loop
-slice-read-found c = let i = c .before .before .before .before .before .before in let t = i .before in
-    let s = t .before .before .before .before .before .before .before .before .before .before .before in
-    let a = corner-at (now (s .args .sides)) (now (s .args .corners)) (now (s .args .partners)) (now (s .args .faces)) (now (s .args .starts)) (s .pre .0)
-    (s .args .f) (s .pre .1 .0 .0) (t .loop .c) (t .loop .inv .1) (i .loop-test .taken) in
-    omega (arith, a .face-below, t .loop .inv .0 .queued .states-long)
-
-slice-write-states : tie.Need-slice-write-states Inv-loop μ-loop
-slice-write-states c = let i = c .before .before .before .before .before .before .before in let t = i .before in
-    let s = t .before .before .before .before .before .before .before .before .before .before .before in
-    let a = corner-at (now (s .args .sides)) (now (s .args .corners)) (now (s .args .partners)) (now (s .args .faces)) (now (s .args .starts)) (s .pre .0)
-    (s .args .f) (s .pre .1 .0 .0) (t .loop .c) (t .loop .inv .1) (i .loop-test .taken) in
-    omega (arith, a .face-below, t .loop .inv .0 .queued .states-long)
-
-cast-queue : tie.Need-cast-queue Inv-loop μ-loop
-cast-queue c = let i = c .before .before .before .before .before .before .before in let t = i .before in
-    let s = t .before .before .before .before .before .before .before .before .before .before .before in
-    let a = corner-at (now (s .args .sides)) (now (s .args .corners)) (now (s .args .partners)) (now (s .args .faces)) (now (s .args .starts)) (s .pre .0)
-    (s .args .f) (s .pre .1 .0 .0) (t .loop .c) (t .loop .inv .1) (i .loop-test .taken) in
-    omega (arith, a .face-below, s .pre .0 .few-faces)
-
-mul-queue : tie.Need-mul-queue Inv-loop μ-loop
-mul-queue c = let i = c .before .before .before .before .before .before .before in let t = i .before in
-    let s = t .before .before .before .before .before .before .before .before .before .before .before in
-    let a = corner-at (now (s .args .sides)) (now (s .args .corners)) (now (s .args .partners)) (now (s .args .faces)) (now (s .args .starts)) (s .pre .0)
-    (s .args .f) (s .pre .1 .0 .0) (t .loop .c) (t .loop .inv .1) (i .loop-test .taken) in
-    let b = tail-below (length (now (s .args .sides))) (t .loop .states) (t .loop .queue) (t .loop .next) (t .loop .inv .0 .queued) _ 1 (a .face-below)
-    (c .if1 .taken) (λ q. omega arith) in
-    omega (arith, b, s .pre .0 .few-faces)
-
-slice-write-queue : tie.Need-slice-write-queue Inv-loop μ-loop
-slice-write-queue c = let i = c .before .before .before .before .before .before .before in let t = i .before in
-    let s = t .before .before .before .before .before .before .before .before .before .before .before in
-    let a = corner-at (now (s .args .sides)) (now (s .args .corners)) (now (s .args .partners)) (now (s .args .faces)) (now (s .args .starts)) (s .pre .0)
-    (s .args .f) (s .pre .1 .0 .0) (t .loop .c) (t .loop .inv .1) (i .loop-test .taken) in
-    let b = tail-below (length (now (s .args .sides))) (t .loop .states) (t .loop .queue) (t .loop .next) (t .loop .inv .0 .queued) _ 1 (a .face-below)
-    (c .if1 .taken) (λ q. omega arith) in
-    omega (arith, b, t .loop .inv .0 .queued .queue-long)
-
-add-next : tie.Need-add-next Inv-loop μ-loop
-add-next c = let i = c .before .before .before .before .before .before .before in let t = i .before in
-    let s = t .before .before .before .before .before .before .before .before .before .before .before in
-    let a = corner-at (now (s .args .sides)) (now (s .args .corners)) (now (s .args .partners)) (now (s .args .faces)) (now (s .args .starts)) (s .pre .0)
-    (s .args .f) (s .pre .1 .0 .0) (t .loop .c) (t .loop .inv .1) (i .loop-test .taken) in
-    let b = tail-below (length (now (s .args .sides))) (t .loop .states) (t .loop .queue) (t .loop .next) (t .loop .inv .0 .queued) _ 1 (a .face-below)
-    (c .if1 .taken) (λ q. omega arith) in
-    omega (arith, b, s .pre .0 .few-faces)
+across-requires c κs = let s : tie.Start Inv-loop μ-loop = search in omega (arith, s .pre .1 .1 .small (s .args .f))
 
 same-length : tie.Need-same-length Inv-loop μ-loop
 same-length c = let t = c .before .before .before .before .before .before .before .before .before in t .loop .inv .2
@@ -178,29 +103,22 @@ same-length-2 : tie.Need-same-length-2 Inv-loop μ-loop
 same-length-2 c = let t = c .before .before .before .before .before .before .before .before .before in t .loop .inv .3
 
 returns : tie.Need-returns Inv-loop μ-loop
-returns c = let i = c .before .before .before .before .before .before .before .before in let t = i .before in
-    let s = t .before .before .before .before .before .before .before .before .before .before .before in let x = c .before .before .before .across in
-    turn-clash (now (s .args .sides)) (now (s .args .corners)) (now (s .args .partners)) (now (s .args .faces)) (now (s .args .starts)) (s .pre .0)
+returns c = let i : tie.In-loop Inv-loop μ-loop = search in let t = i .before in
+    let s : tie.Start Inv-loop μ-loop = search in let x = c .before .before .before .across in
+    turn-clash _ _ _ _ _ (s .pre .0)
     (s .args .f) (s .pre .1 .0 .0) (now (s .args .states)) (now (s .args .queue)) (s .args .tail) (s .pre .1 .0 .1) (s .pre .1 .1) (t .loop .states)
     (t .loop .queue) (t .loop .next) (t .loop .c) (t .loop .inv .0) (t .loop .inv .1) (i .loop-test .taken)
     (x .result) (x .ensures) (c .before .if1 .left) (c .if2 .taken)
 
-add-c : tie.Need-add-c Inv-loop μ-loop
-add-c c = let i = c .before .before .before .before .before .before .before in let t = i .before in
-    let s = t .before .before .before .before .before .before .before .before .before .before .before in
-    let a = corner-at (now (s .args .sides)) (now (s .args .corners)) (now (s .args .partners)) (now (s .args .faces)) (now (s .args .starts)) (s .pre .0)
-    (s .args .f) (s .pre .1 .0 .0) (t .loop .c) (t .loop .inv .1) (i .loop-test .taken) in
-    omega (arith, a .inside, s .pre .0 .few-corners)
-
 loop-again : tie.Need-loop-again Inv-loop μ-loop
-loop-again c = let i = c .before .before .before .before .before .before .before in let t = i .before in
-    let s = t .before .before .before .before .before .before .before .before .before .before .before in let x = c .before .before .across in (
+loop-again c = let i : tie.In-loop Inv-loop μ-loop = search in let t = i .before in
+    let s : tie.Start Inv-loop μ-loop = search in let x = c .before .before .across in (
       ⊎-elim
-          (λ u. turn-new (now (s .args .sides)) (now (s .args .corners)) (now (s .args .partners)) (now (s .args .faces)) (now (s .args .starts)) (s .pre .0)
+          (λ u. turn-new _ _ _ _ _ (s .pre .0)
           (s .args .f) (s .pre .1 .0 .0) (now (s .args .states)) (now (s .args .queue)) (s .args .tail) (s .pre .1 .0 .1) (s .pre .1 .1) (t .loop .states)
           (t .loop .queue) (t .loop .next) (t .loop .c) (t .loop .inv .0) (t .loop .inv .1) (i .loop-test .taken) (x .result) (x .ensures) (c .if1 .states)
           (c .if1 .queue) (c .if1 .next) (u .0 .taken) (u .1) (u .2) (u .3))
-          (λ u. turn-old (now (s .args .sides)) (now (s .args .corners)) (now (s .args .partners)) (now (s .args .faces)) (now (s .args .starts)) (s .pre .0)
+          (λ u. turn-old _ _ _ _ _ (s .pre .0)
           (s .args .f) (s .pre .1 .0 .0) (now (s .args .states)) (now (s .args .queue)) (s .args .tail) (s .pre .1 .0 .1) (s .pre .1 .1) (t .loop .states)
           (t .loop .queue) (t .loop .next) (t .loop .c) (t .loop .inv .0) (t .loop .inv .1) (i .loop-test .taken) (x .result) (x .ensures) (c .if1 .states)
           (c .if1 .queue) (c .if1 .next) (u .1 .left) (u .2) (u .3) (u .4))
@@ -217,16 +135,15 @@ same-length-4 : tie.Need-same-length-4 Inv-loop μ-loop
 same-length-4 c = c .before .loop .inv .3
 
 returns-2 : tie.Need-returns-2 Inv-loop μ-loop
-returns-2 c = let t = c .before in let s = t .before .before .before .before .before .before .before .before .before .before .before in
-    let e = start-is (now (s .args .sides)) (now (s .args .corners)) (now (s .args .partners)) (now (s .args .faces)) (now (s .args .starts)) (s .pre .0)
+returns-2 c = let t = c .before in let s : tie.Start Inv-loop μ-loop = search in
+    let e = start-is _ _ _ _ _ (s .pre .0)
     (s .args .f) (s .pre .1 .0 .0) in
     visiting-all (now (s .args .sides)) (now (s .args .corners)) (s .pre .0 .listed) (s .pre .0 .two) (s .args .f) (now (s .args .states))
     (now (s .args .queue)) (s .args .tail) (t .loop .states) (t .loop .queue) (t .loop .next) (t .loop .c)
     (omega (arith, e, c .loop-test .left)) (t .loop .inv .0)
 
-pub visit-spec : {M : Type 1} → statement M
+pub visit-spec : {M : Type 1} → Rattle.turning.proofs.visiting.visit.Statement.statement M
 visit-spec =
     tie.close (tie.spec Inv-loop μ-loop (λ c. search needs) (λ c. search needs) (λ c. search needs) cast-c (λ c. search needs) cast-end add-end loop-holds
-    mul-d shared-slice-read-d sub-d cast-d mul-g shared-slice-read-g cast-g mul-across shared-slice-read-across mul-across-2 shared-slice-read-across-2
-    across-requires slice-read-found slice-write-states cast-queue mul-queue slice-write-queue add-next same-length same-length-2 returns add-c
+    (λ c. omega (arith, inside search)) (λ c. omega (arith, inside search)) (λ c. omega (arith, inside search)) cast-d (λ c. omega (arith, inside search)) (λ c. omega (arith, inside search)) (λ c. omega (arith, inside search)) (λ c. omega (arith, inside search)) (λ c. omega (arith, inside search)) (λ c. omega (arith, inside search)) (λ c. omega (arith, inside search)) across-requires (λ c. omega (arith, inside search)) (λ c. omega (arith, inside search)) (λ c. omega (arith, inside search)) (λ c. omega (arith, room search)) (λ c. omega (arith, room search)) (λ c. omega (arith, room search)) same-length same-length-2 returns (λ c. omega (arith, inside search))
     (λ c. search needs) loop-again same-length-3 same-length-4 returns-2)

@@ -1,5 +1,4 @@
 -- The run of bytes at the cursor is the word, or there is none and the run is empty.
--- Assumes nothing.
 use mathlib.Core.Path.{refl, sym, ap, _∙_}
 use mir.Syntax.{w32}
 use mir.ValLaws.{toZ-ofZ}
@@ -8,7 +7,6 @@ use Rattle.mesh.proofs.Scans.{clash}
 use Rattle.paper.specs.Off.{isNumber, valueOf}
 use Rattle.off.proofs.words.Cursors.{word-here, number-there, room, before-next}
 use borrow.Author.Needs.{needs}
-use Rattle.off.proofs.words.Cursor.number.Statement.{statement}
 use Rattle.off.proofs.words.Cursor.number.Tie as tie
 
 returns : tie.Need-returns
@@ -46,7 +44,7 @@ returns-2 c =
       next = λ z. before-next _ _ (t .result) (e .result) (t .ensures) (e .ensures) (number-there _ there) _ (c .moved .ensures .0) (c .moved .ensures .1);
     }
 
-pub number-spec : {M : Type 1} → statement M
+pub number-spec : {M : Type 1} → Rattle.off.proofs.words.Cursor.number.Statement.statement M
 number-spec =
     tie.close (tie.spec (λ c κs. search needs) (λ c κs. search needs) (λ c. search needs) (λ c. search needs) (λ c. search needs) (λ c κs. search needs)
     returns (λ c. search needs) (λ c. search needs) (λ c. search needs) value-requires moved-requires returns-2)

@@ -1,9 +1,7 @@
 -- A separator parts words and is none.
--- Assumes nothing.
 use Rattle.off.proofs.words.Cursors.{before-on, separator-words}
 use native.Mathlib.Omega.{arith}
 use borrow.Author.Needs.{needs}
-use Rattle.off.proofs.words.Cursor.past_separator.Statement.{statement}
 use Rattle.off.proofs.words.Cursor.past_separator.Tie as tie
 
 returns : tie.Need-returns
@@ -15,5 +13,5 @@ returns c =
           (separator-words _ (self .at) (s .pre .0) (s .pre .1)) (c .moved .ensures .0) (c .moved .ensures .1) (omega arith),
     )
 
-pub past-separator-spec : {M : Type 1} → statement M
+pub past-separator-spec : {M : Type 1} → Rattle.off.proofs.words.Cursor.past_separator.Statement.statement M
 past-separator-spec = tie.close (tie.spec (λ c. search needs) (λ c κs. search needs) returns)

@@ -1,5 +1,4 @@
 -- What is passed over leaves the cursor before the same word; it stops where no separator and no comment stands.
--- Assumes nothing.
 use mathlib.Core.Path.{_≡_, refl, sym, _∙_}
 use Prim.Native.Nat.{_-_}
 use lib.ListN.{length}
@@ -8,7 +7,6 @@ use Rattle.off.specs.words.Cursor.{Before}
 use Rattle.off.proofs.words.Cursors.{own, same, ends-none}
 use native.Mathlib.Omega.{arith}
 use borrow.Author.Needs.{needs}
-use Rattle.off.proofs.words.Cursor.to_word.Statement.{statement}
 use Rattle.off.proofs.words.Cursor.to_word.Tie as tie
 
 abbrev Inv-loop : tie.InvT-loop
@@ -61,7 +59,7 @@ returns-2 : tie.Need-returns-2 Inv-loop μ-loop
 returns-2 c =
     let l = c .before .loop in record { before = l .inv .1; first = λ h. absurd (omega (arith, l .inv .0)) }
 
-pub to-word-spec : {M : Type 1} → statement M
+pub to-word-spec : {M : Type 1} → Rattle.off.proofs.words.Cursor.to_word.Statement.statement M
 to-word-spec =
     tie.close (tie.spec Inv-loop μ-loop loop-holds (λ c. search needs) past-comment-requires (λ c κs. search needs) returns past-separator-requires
     loop-less loop-again loop-less-2 loop-again-2 returns-2)
