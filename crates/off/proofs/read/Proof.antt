@@ -39,7 +39,8 @@ returns-3 : tie.Need-returns-3
 returns-3 c =
     let m = c .before .before .before .before .before .before .before .before .before .before .before .before .before .before .before
     .before .before .before .before .before .read-mark in
-    let s : tie.Start = search in
+    let s = c .before .before .before .before .before .before .before .before .before .before .before .before .before .before .before
+    .before .before .before .before .before .before .before .before .before .before .before .before .before .before .before .before in
     let t = c .before .before .before .before .before .before .before .before .before .before .read-through in
     let lent = meshOf (s .args .coordinates .now) (s .args .sides .now) (s .args .corners .now) (s .args .sharpness .now) in
     read-all _ lent (marked _ lent (sym (c .before .before .before .before .before .before .before .before .before .before .before .before
