@@ -24,21 +24,9 @@ abbrev μ-loop : tie.MeasureT-loop
 loop-holds : tie.Need-loop-holds Inv-loop μ-loop
 loop-holds c = (λ sides corners k e t. pairing-none sides corners _ (c .pre .1 .1 .1), refl)
 
-mul-if1 : tie.Need-mul-if1 Inv-loop μ-loop
-mul-if1 c = let i = c in let t = i .before in let s = t .before in let l = t .loop in
-    omega (arith, i .loop-test .taken, s .pre .0)
-
-slice-read-if1 : tie.Need-slice-read-if1 Inv-loop μ-loop
-slice-read-if1 c = let i = c .before in let t = i .before in let s = t .before in let l = t .loop in
-    omega (arith, i .loop-test .taken, s .pre .1 .1 .0, l .inv .1)
-
-mul-e : tie.Need-mul-e Inv-loop μ-loop
-mul-e c = let i = c .before .before in let t = i .before in let s = t .before in let l = t .loop in
-    omega (arith, i .loop-test .taken, s .pre .0)
-
-shared-slice-read-e : tie.Need-shared-slice-read-e Inv-loop μ-loop
-shared-slice-read-e c = let i = c .before .before .before in let t = i .before in let s = t .before in let l = t .loop in
-    omega (arith, i .loop-test .taken, s .pre .1 .0 .0)
+-- the place in the loop, and the function's entry
+near : tie.In-loop Inv-loop μ-loop → tie.In-loop Inv-loop μ-loop × tie.Start Inv-loop μ-loop
+near i = (i, search)
 
 same-length : tie.Need-same-length Inv-loop μ-loop
 same-length c = let i = c .before .before .before .before in let t = i .before in let s = t .before in let l = t .loop in
@@ -82,22 +70,6 @@ returns-2 c = let i = c .before .before .before .before .before .before in let t
     (c .before .before .if2 .left) (c .if3 .taken) in
     record { answers = sym z; partners-are = λ q. unsound 34 (l .c) (sym z ∙ q) }
 
-mul-partners : tie.Need-mul-partners Inv-loop μ-loop
-mul-partners c = let i = c .before .before .before .before .before .before in let t = i .before in let s = t .before in let l = t .loop in
-    omega (arith, i .loop-test .taken, s .pre .0)
-
-slice-write-partners : tie.Need-slice-write-partners Inv-loop μ-loop
-slice-write-partners c = let i = c .before .before .before .before .before .before in let t = i .before in let s = t .before in let l = t .loop in
-    omega (arith, i .loop-test .taken, s .pre .1 .1 .0, l .inv .1)
-
-add-partners : tie.Need-add-partners Inv-loop μ-loop
-add-partners c = let i = c .before .before .before .before .before .before in let t = i .before in let s = t .before in let l = t .loop in
-    omega (arith, i .loop-test .taken, s .pre .0)
-
-cast-partners : tie.Need-cast-partners Inv-loop μ-loop
-cast-partners c = let i = c .before .before .before .before .before .before in let t = i .before in let s = t .before in let l = t .loop in
-    omega (arith, i .loop-test .taken, s .pre .0)
-
 mul-partners-2 : tie.Need-mul-partners-2 Inv-loop μ-loop
 mul-partners-2 c = let i = c .before .before .before .before .before .before in let t = i .before in let s = t .before in let l = t .loop in
     let a = s .pre .1 .0 .1 (l .c) (i .loop-test .taken) in
@@ -107,14 +79,6 @@ slice-write-partners-2 : tie.Need-slice-write-partners-2 Inv-loop μ-loop
 slice-write-partners-2 c = let i = c .before .before .before .before .before .before in let t = i .before in let s = t .before in let l = t .loop in
     let a = s .pre .1 .0 .1 (l .c) (i .loop-test .taken) in
     simp length-set (omega (arith, a .inside, a .above (c .before .before .if2 .left), s .pre .1 .1 .0, l .inv .1))
-
-add-c : tie.Need-add-c Inv-loop μ-loop
-add-c c = let i = c .before .before in let t = i .before in let s = t .before in let l = t .loop in
-    omega (arith, i .loop-test .taken, s .pre .0)
-
-loop-less : tie.Need-loop-less Inv-loop μ-loop
-loop-less c = let i = c .before .before in let t = i .before in let s = t .before in let l = t .loop in
-    omega (arith, i .loop-test .taken)
 
 loop-again : tie.Need-loop-again Inv-loop μ-loop
 loop-again c = let i = c .before .before in let t = i .before in let s = t .before in let l = t .loop in (
@@ -139,6 +103,6 @@ returns-3 c = let t = c .before in let s = t .before in let l = t .loop in λ si
 
 pub pair-spec : {M : Type 1} → Rattle.turning.proofs.partners.pair.Statement.statement M
 pair-spec =
-    tie.close (tie.spec Inv-loop μ-loop loop-holds mul-if1 slice-read-if1 mul-e shared-slice-read-e same-length returns sub-second cast-second mul-if3
-    shared-slice-read-if3 same-length-2 returns-2 mul-partners slice-write-partners add-partners cast-partners mul-partners-2 slice-write-partners-2 add-c
-    loop-less loop-again same-length-3 returns-3)
+    tie.close (tie.spec Inv-loop μ-loop loop-holds (λ c. omega (arith, near search)) (λ c. omega (arith, near search)) (λ c. omega (arith, near search)) (λ c. omega (arith, near search)) same-length returns sub-second cast-second mul-if3
+    shared-slice-read-if3 same-length-2 returns-2 (λ c. omega (arith, near search)) (λ c. omega (arith, near search)) (λ c. omega (arith, near search)) (λ c. omega (arith, near search)) mul-partners-2 slice-write-partners-2 (λ c. omega (arith, near search))
+    (λ c. omega (arith, near search)) loop-again same-length-3 returns-3)
