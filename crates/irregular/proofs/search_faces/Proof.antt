@@ -16,14 +16,12 @@ Inv-loop sides lowest₀ read₀ f₀ lowest read f = (read ≡ f) × Scanned (l
 abbrev μ-loop : tie.MeasureT-loop
 μ-loop sides lowest₀ read₀ f₀ lowest read f = length sides - f
 
+-- the place in the loop, and the function's entry
+near : tie.In-loop Inv-loop μ-loop → tie.In-loop Inv-loop μ-loop × tie.Start Inv-loop μ-loop
+near i = (i, search)
+
 loop-holds : tie.Need-loop-holds Inv-loop μ-loop
 loop-holds c = (omega arith, scan-start _ _)
-
-shared-slice-read-n : tie.Need-shared-slice-read-n Inv-loop μ-loop
-shared-slice-read-n c = let l = c .before .before .loop in omega (arith, l .inv .1 .bounded)
-
-loop-less : tie.Need-loop-less Inv-loop μ-loop
-loop-less c = let l = c .before .before .before .loop in omega (arith, l .inv .1 .bounded)
 
 loop-again : tie.Need-loop-again Inv-loop μ-loop
 loop-again c =
@@ -49,4 +47,6 @@ returns c =
     }
 
 pub search-faces-spec : {M : Type 1} → Rattle.irregular.proofs.search_faces.Statement.statement M
-search-faces-spec = tie.close (tie.spec Inv-loop μ-loop loop-holds shared-slice-read-n (λ c. search needs) (λ c. search needs) loop-less loop-again returns)
+search-faces-spec =
+    tie.close (tie.spec Inv-loop μ-loop loop-holds (λ c. omega (arith, near search)) (λ c. search needs) (λ c. search needs)
+    (λ c. omega (arith, near search)) loop-again returns)

@@ -15,20 +15,12 @@ Inv-loop corners vertices count lowest₀ u₀ lowest u = Scanned count (irregul
 abbrev μ-loop : tie.MeasureT-loop
 μ-loop corners vertices count lowest₀ u₀ lowest u = count - u
 
+-- the place in the loop, and the function's entry
+near : tie.In-loop Inv-loop μ-loop → tie.In-loop Inv-loop μ-loop × tie.Start Inv-loop μ-loop
+near i = (i, search)
+
 loop-holds : tie.Need-loop-holds Inv-loop μ-loop
 loop-holds c = scan-start _ _
-
-mul-n : tie.Need-mul-n Inv-loop μ-loop
-mul-n c = omega (arith, c .before .loop .inv .within, c .before .before .pre .0)
-
-add-n : tie.Need-add-n Inv-loop μ-loop
-add-n c = omega (arith, c .before .loop .inv .within, c .before .before .pre .0)
-
-mul-n-2 : tie.Need-mul-n-2 Inv-loop μ-loop
-mul-n-2 c = omega (arith, c .before .loop .inv .within, c .before .before .pre .0)
-
-loop-less : tie.Need-loop-less Inv-loop μ-loop
-loop-less c = omega (arith, c .before .before .before .loop .inv .bounded)
 
 loop-again : tie.Need-loop-again Inv-loop μ-loop
 loop-again c =
@@ -48,5 +40,5 @@ returns c = let l = c .before .loop in scan-end _ _ (l .lowest) (l .u) (l .inv) 
 
 pub search-vertices-spec : {M : Type 1} → Rattle.irregular.proofs.search_vertices.Statement.statement M
 search-vertices-spec =
-    tie.close (tie.spec Inv-loop μ-loop loop-holds mul-n add-n mul-n-2 (λ c. omega (arith, c .before .before .loop .inv .bounded)) (λ c. search needs)
-    loop-less loop-again returns)
+    tie.close (tie.spec Inv-loop μ-loop loop-holds (λ c. omega (arith, near search)) (λ c. omega (arith, near search)) (λ c. omega (arith, near search))
+    (λ c. omega (arith, c .before .before .loop .inv .bounded)) (λ c. search needs) (λ c. omega (arith, near search)) loop-again returns)

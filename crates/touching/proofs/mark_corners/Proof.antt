@@ -17,9 +17,6 @@ abbrev μ-loop : tie.MeasureT-loop
 loop-holds : tie.Need-loop-holds Inv-loop μ-loop
 loop-holds c = (λ d h. absurd (omega arith), omega arith, refl)
 
-cast-u : tie.Need-cast-u Inv-loop μ-loop
-cast-u c = omega (arith, c .shared-slice-known .given (c .before .before .loop .c))
-
 shared-slice-read-marks : tie.Need-shared-slice-read-marks Inv-loop μ-loop
 shared-slice-read-marks c =
     let s : tie.Start Inv-loop μ-loop = search in
@@ -40,5 +37,6 @@ returns c = let l = c .before .loop in λ d h. l .inv .0 d (omega (arith, h, l .
 
 pub mark-corners-spec : {M : Type 1} → Rattle.touching.proofs.mark_corners.Statement.statement M
 mark-corners-spec =
-    tie.close (tie.spec Inv-loop μ-loop loop-holds (λ c. search needs) (λ c. search needs) cast-u shared-slice-read-marks (λ c. search needs)
-    (λ c. search needs) (λ c. search needs) loop-again (λ c. search needs) returns)
+    tie.close (tie.spec Inv-loop μ-loop loop-holds (λ c. search needs) (λ c. search needs)
+    (λ c. omega (arith, c .shared-slice-known .given (c .before .before .loop .c))) shared-slice-read-marks (λ c. search needs) (λ c. search needs)
+    (λ c. search needs) loop-again (λ c. search needs) returns)

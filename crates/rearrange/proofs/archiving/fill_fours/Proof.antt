@@ -33,9 +33,6 @@ loop-again c =
     let i = l .i in
     (omega (arith, l .inv .0), omega arith, more i (l .inv .0) (l .inv .2), c .before .before .put-four .ensures)
 
-same-length : tie.Need-same-length Inv-loop μ-loop
-same-length c = let s : tie.Start Inv-loop μ-loop = search in omega (arith, c .before .loop .inv .3 .long, s .pre .1 .long)
-
 returns : tie.Need-returns Inv-loop μ-loop
 returns c =
     let s : tie.Start Inv-loop μ-loop = search in
@@ -46,4 +43,4 @@ returns c =
 pub fill-fours-spec : {M : Type 1} → Rattle.rearrange.proofs.archiving.fill_fours.Statement.statement M
 fill-fours-spec =
     tie.close (tie.spec Inv-loop μ-loop loop-holds (λ c. record { fits = omega (arith, c .loop .inv .3 .long) }) put-four-requires (λ c. search needs)
-    (λ c. omega arith) loop-again same-length returns)
+    (λ c. omega arith) loop-again (λ c. let s : tie.Start Inv-loop μ-loop = search in omega arith) returns)

@@ -24,6 +24,10 @@ Inv-loop numbers bytes₀ n rest k₀ bytes k = (k ≤ (length numbers - 3) % 4)
 abbrev μ-loop : tie.MeasureT-loop
 μ-loop numbers bytes₀ n rest k₀ bytes k = (length numbers - 3) % 4 - k
 
+-- the place in the loop, and the function's entry
+near : tie.In-loop Inv-loop μ-loop → tie.In-loop Inv-loop μ-loop × tie.Start Inv-loop μ-loop
+near i = (i, search)
+
 sub-rest : tie.Need-sub-rest Inv-loop μ-loop
 sub-rest c = c .before .pre .0
 
@@ -33,21 +37,12 @@ loop-holds c =
     let list = now (s .args .numbers) in
     (omega arith, subst (λ (i : ℕ). Planed list i (now (s .args .bytes))) (plus-none (length list - (length list - 3) % 4)) (s .pre .1))
 
-sub-put-next : tie.Need-sub-put-next Inv-loop μ-loop
-sub-put-next c = let s : tie.Start Inv-loop μ-loop = search in omega (arith, s .pre .0, few (length (now (s .args .numbers))))
-
-add-put-next : tie.Need-add-put-next Inv-loop μ-loop
-add-put-next c = let s : tie.Start Inv-loop μ-loop = search in record { fits = omega (arith, s .pre .0, few (length (now (s .args .numbers))), s .pre .1 .long) }
-
 put-next-requires : tie.Need-put-next-requires Inv-loop μ-loop
 put-next-requires c κs =
     let s : tie.Start Inv-loop μ-loop = search in
     let l = c .before .before .loop in
     let r = few (length (now (s .args .numbers))) in
     (omega (arith, s .pre .0, r), omega (arith, s .pre .0, r), l .inv .1)
-
-add-k : tie.Need-add-k Inv-loop μ-loop
-add-k c = record { fits = omega (arith, few (length (now (c .before .before .before .before .before .before .before .args .numbers)))) }
 
 loop-again : tie.Need-loop-again Inv-loop μ-loop
 loop-again c =
@@ -56,9 +51,6 @@ loop-again c =
     let k = c .before .before .before .before .before .loop .k in
     let p = c .before .before .put-next in
     (omega arith, subst (λ (i : ℕ). Planed list i (p .last .1 .0)) (plus-one (length list - (length list - 3) % 4) k) (p .ensures))
-
-same-length : tie.Need-same-length Inv-loop μ-loop
-same-length c = let s : tie.Start Inv-loop μ-loop = search in omega (arith, c .before .loop .inv .1 .long, s .pre .1 .long)
 
 returns : tie.Need-returns Inv-loop μ-loop
 returns c =
@@ -69,5 +61,6 @@ returns c =
 
 pub fill-rest-spec : {M : Type 1} → Rattle.rearrange.proofs.archiving.fill_rest.Statement.statement M
 fill-rest-spec =
-    tie.close (tie.spec Inv-loop μ-loop sub-rest loop-holds sub-put-next add-put-next put-next-requires add-k (λ c. omega arith) loop-again same-length
-    returns)
+    tie.close (tie.spec Inv-loop μ-loop sub-rest loop-holds (λ c. omega (arith, near search)) (λ c. record { fits = omega (arith, near search) })
+    put-next-requires (λ c. record { fits = omega (arith, near search) }) (λ c. omega arith) loop-again
+    (λ c. let s : tie.Start Inv-loop μ-loop = search in omega arith) returns)

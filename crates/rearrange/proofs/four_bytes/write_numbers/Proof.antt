@@ -16,11 +16,12 @@ Inv-loop numbers bytes₀ i₀ bytes i = (i ≤ length numbers) × Worded number
 abbrev μ-loop : tie.MeasureT-loop
 μ-loop numbers bytes₀ i₀ bytes i = length numbers - i
 
+-- the place in the loop, and the function's entry
+near : tie.In-loop Inv-loop μ-loop → tie.In-loop Inv-loop μ-loop × tie.Start Inv-loop μ-loop
+near i = (i, search)
+
 loop-holds : tie.Need-loop-holds Inv-loop μ-loop
 loop-holds c = let s = c .before in (omega arith, worded-none (now (s .args .numbers)) (now (s .args .bytes)) (s .pre))
-
-put-requires : tie.Need-put-requires Inv-loop μ-loop
-put-requires c κs = omega (arith, c .before .before .before .before .loop .inv .1 .long)
 
 loop-again : tie.Need-loop-again Inv-loop μ-loop
 loop-again c =
@@ -35,9 +36,6 @@ loop-again c =
           (worded-step list (l .i) (b .bits .result) (l .bytes) (omega arith) (b .bits .ok) d (l .inv .1)),
     )
 
-same-length : tie.Need-same-length Inv-loop μ-loop
-same-length c = let s : tie.Start Inv-loop μ-loop = search in omega (arith, c .before .loop .inv .1 .long, s .pre)
-
 returns : tie.Need-returns Inv-loop μ-loop
 returns c =
     let s : tie.Start Inv-loop μ-loop = search in
@@ -47,5 +45,6 @@ returns c =
 
 pub write-numbers-spec : {M : Type 1} → Rattle.rearrange.proofs.four_bytes.write_numbers.Statement.statement M
 write-numbers-spec =
-    tie.close (tie.spec Inv-loop μ-loop loop-holds (λ c. search needs) (λ c. search needs) (λ c κs. search needs) (λ c. search needs) put-requires
-    (λ c. search needs) (λ c. search needs) loop-again same-length returns)
+    tie.close (tie.spec Inv-loop μ-loop loop-holds (λ c. search needs) (λ c. search needs) (λ c κs. search needs) (λ c. search needs)
+    (λ c κs. omega (arith, near search)) (λ c. search needs) (λ c. search needs) loop-again (λ c. let s : tie.Start Inv-loop μ-loop = search in omega arith)
+    returns)

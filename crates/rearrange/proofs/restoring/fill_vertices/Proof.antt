@@ -19,6 +19,10 @@ Inv-loop bytes numbers₀ n x₀ y₀ z₀ v₀ numbers x y z v =
 abbrev μ-loop : tie.MeasureT-loop
 μ-loop bytes numbers₀ n x₀ y₀ z₀ v₀ numbers x y z v = length numbers₀ / 3 - v
 
+-- the place in the loop, and the function's entry
+near : tie.In-loop Inv-loop μ-loop → tie.In-loop Inv-loop μ-loop × tie.Start Inv-loop μ-loop
+near i = (i, search)
+
 -- all vertices, three numbers each
 abbrev count : tie.Start Inv-loop μ-loop → ℕ
 count s = length (now (s .args .numbers))
@@ -46,36 +50,18 @@ loop-holds c =
     let l = now (s .args .numbers) in
     let n = length l in (omega arith, refl, filled-none (restoredAt b n) l, sym (before-first b n 0), sym (before-first b n 1), sym (before-first b n 2))
 
-mul-restore-at : tie.Need-mul-restore-at Inv-loop μ-loop
-mul-restore-at c = record { fits = omega (arith, room (c .before .before .before .before)) }
-
 restore-at-requires : tie.Need-restore-at-requires Inv-loop μ-loop
 restore-at-requires c κs = let s : tie.Start Inv-loop μ-loop = search in (omega (arith, room s), c .before .before .loop .inv .1, s .pre .1)
-
-mul-restore-at-2 : tie.Need-mul-restore-at-2 Inv-loop μ-loop
-mul-restore-at-2 c = record { fits = omega (arith, room (c .before .before .before .before .before .before .before)) }
-
-add-restore-at : tie.Need-add-restore-at Inv-loop μ-loop
-add-restore-at c = record { fits = omega (arith, room (c .before .before .before .before .before .before .before)) }
 
 restore-at-requires-2 : tie.Need-restore-at-requires-2 Inv-loop μ-loop
 restore-at-requires-2 c κs =
     let s : tie.Start Inv-loop μ-loop = search in
     (omega (arith, room s), length1 (c .before .before), s .pre .1)
 
-mul-restore-at-3 : tie.Need-mul-restore-at-3 Inv-loop μ-loop
-mul-restore-at-3 c = record { fits = omega (arith, room (c .before .before .before .before .before .before .before .before .before .before)) }
-
-add-restore-at-2 : tie.Need-add-restore-at-2 Inv-loop μ-loop
-add-restore-at-2 c = record { fits = omega (arith, room (c .before .before .before .before .before .before .before .before .before .before)) }
-
 restore-at-requires-3 : tie.Need-restore-at-requires-3 Inv-loop μ-loop
 restore-at-requires-3 c κs =
     let s : tie.Start Inv-loop μ-loop = search in
     (omega (arith, room s), length2 (c .before .before), s .pre .1)
-
-add-v : tie.Need-add-v Inv-loop μ-loop
-add-v c = record { fits = omega (arith, room (c .before .before .before .before .before .before .before .before .before .before .before .before)) }
 
 loop-again : tie.Need-loop-again Inv-loop μ-loop
 loop-again c =
@@ -114,5 +100,7 @@ returns c =
 
 pub fill-vertices-spec : {M : Type 1} → Rattle.rearrange.proofs.restoring.fill_vertices.Statement.statement M
 fill-vertices-spec =
-    tie.close (tie.spec Inv-loop μ-loop loop-holds mul-restore-at restore-at-requires mul-restore-at-2 add-restore-at restore-at-requires-2 mul-restore-at-3
-    add-restore-at-2 restore-at-requires-3 add-v (λ c. omega arith) loop-again same-length returns)
+    tie.close (tie.spec Inv-loop μ-loop loop-holds (λ c. record { fits = omega (arith, near search) }) restore-at-requires
+    (λ c. record { fits = omega (arith, near search) }) (λ c. record { fits = omega (arith, near search) }) restore-at-requires-2
+    (λ c. record { fits = omega (arith, near search) }) (λ c. record { fits = omega (arith, near search) }) restore-at-requires-3
+    (λ c. record { fits = omega (arith, near search) }) (λ c. omega arith) loop-again same-length returns)

@@ -15,6 +15,10 @@ Inv-loop lows highs earliers heads vertices table₀ afters₀ u₀ table afters
 abbrev μ-loop : tie.MeasureT-loop
 μ-loop lows highs earliers heads vertices table₀ afters₀ u₀ table afters u = vertices - u
 
+-- the place in the loop, and the function's entry
+near : tie.In-loop Inv-loop μ-loop → tie.In-loop Inv-loop μ-loop × tie.Start Inv-loop μ-loop
+near i = (i, search)
+
 loop-holds : tie.Need-loop-holds Inv-loop μ-loop
 loop-holds c = let s : tie.Start Inv-loop μ-loop = search in
     (below-none _ _ _ _ (s .pre .1 .0) (s .pre .1 .1), (λ x l b. absurd (omega arith)), refl, refl, omega arith)
@@ -22,16 +26,6 @@ loop-holds c = let s : tie.Start Inv-loop μ-loop = search in
 follow-requires : tie.Need-follow-requires Inv-loop μ-loop
 follow-requires c κs = let i = c .before .before in let t = i .before in let s : tie.Start Inv-loop μ-loop = search in let l = t .loop in
     ((i .loop-test .taken, s .pre .0), (l .inv .0, (omega (arith, s .pre .1 .2, l .inv .3), l .inv .1)))
-
-add-u : tie.Need-add-u Inv-loop μ-loop
-add-u c = let i = c .before .before .before .before .before .before .before in let t = i .before in
-    let s : tie.Start Inv-loop μ-loop = search in let l = t .loop in
-    omega (arith, i .loop-test .taken, s .fits .vertices)
-
-loop-less : tie.Need-loop-less Inv-loop μ-loop
-loop-less c = let i = c .before .before .before .before .before .before .before in let t = i .before in
-    let s = t .before .before .before .before .before .before .before in let l = t .loop in
-    omega (arith, i .loop-test .taken)
 
 loop-again : tie.Need-loop-again Inv-loop μ-loop
 loop-again c = let i = c .before .before .before .before .before .before .before in let t = i .before in
@@ -55,4 +49,6 @@ returns c = let t = c .before in let s : tie.Start Inv-loop μ-loop = search in 
     l .inv .1 x h (omega (arith, s .pre .0 .lows-in x h, c .loop-test .left))
 
 pub fill-afters-spec : {M : Type 1} → Rattle.turning.proofs.partners.fill_afters.Statement.statement M
-fill-afters-spec = tie.close (tie.spec Inv-loop μ-loop loop-holds follow-requires add-u loop-less loop-again same-length same-length-2 returns)
+fill-afters-spec =
+    tie.close (tie.spec Inv-loop μ-loop loop-holds follow-requires (λ c. omega (arith, near search)) (λ c. omega (arith, near search)) loop-again
+    same-length same-length-2 returns)

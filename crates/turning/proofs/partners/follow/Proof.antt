@@ -1,6 +1,6 @@
 -- `follow` meets its contract: the corners of the chain from `at` on are entered, the lowest last. The chain falls.
 use mathlib.Core.Path.{_≡_, refl, _∙_, subst}
-use Prim.Native.Nat.{_-_, _<_, _≤_}
+use Prim.Native.Nat.{_-_, _<_}
 use lib.ListN.{length, getD, length-set}
 use denote.Ref.{now}
 use native.Mathlib.Omega.{arith}

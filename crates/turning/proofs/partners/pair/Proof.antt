@@ -39,10 +39,6 @@ returns c = let i = c .before .before .before .before in let t = i .before in le
     (c .before .before .if1 .taken) (now (s .args .lows)) (now (s .args .highs)) (now (s .args .afters)) e k' (s .pre .1 .0 .1) (c .if2 .taken) in
     record { answers = sym z; partners-are = λ q. unsound 34 (l .c) (sym z ∙ q) }
 
-sub-second : tie.Need-sub-second Inv-loop μ-loop
-sub-second c = let i = c .before .before .before .before in let t = i .before in let s = t .before in let l = t .loop in
-    omega (arith, c .if2 .left)
-
 cast-second : tie.Need-cast-second Inv-loop μ-loop
 cast-second c = let i = c .before .before .before .before in let t = i .before in let s = t .before in let l = t .loop in
     let a = s .pre .1 .0 .1 (l .c) (i .loop-test .taken) in
@@ -103,6 +99,7 @@ returns-3 c = let t = c .before in let s = t .before in let l = t .loop in λ si
 
 pub pair-spec : {M : Type 1} → Rattle.turning.proofs.partners.pair.Statement.statement M
 pair-spec =
-    tie.close (tie.spec Inv-loop μ-loop loop-holds (λ c. omega (arith, near search)) (λ c. omega (arith, near search)) (λ c. omega (arith, near search)) (λ c. omega (arith, near search)) same-length returns sub-second cast-second mul-if3
-    shared-slice-read-if3 same-length-2 returns-2 (λ c. omega (arith, near search)) (λ c. omega (arith, near search)) (λ c. omega (arith, near search)) (λ c. omega (arith, near search)) mul-partners-2 slice-write-partners-2 (λ c. omega (arith, near search))
-    (λ c. omega (arith, near search)) loop-again same-length-3 returns-3)
+    tie.close (tie.spec Inv-loop μ-loop loop-holds (λ c. omega (arith, near search)) (λ c. omega (arith, near search)) (λ c. omega (arith, near search))
+    (λ c. omega (arith, near search)) same-length returns (λ c. omega (arith, near search)) cast-second mul-if3 shared-slice-read-if3 same-length-2
+    returns-2 (λ c. omega (arith, near search)) (λ c. omega (arith, near search)) (λ c. omega (arith, near search)) (λ c. omega (arith, near search))
+    mul-partners-2 slice-write-partners-2 (λ c. omega (arith, near search)) (λ c. omega (arith, near search)) loop-again same-length-3 returns-3)

@@ -20,14 +20,13 @@ Inv-loop sides states pairs₀ start₀ f₀ pairs start f =
 abbrev μ-loop : tie.MeasureT-loop
 μ-loop sides states pairs₀ start₀ f₀ pairs start f = length sides - f
 
+-- the place in the loop, and the function's entry
+near : tie.In-loop Inv-loop μ-loop → tie.In-loop Inv-loop μ-loop × tie.Start Inv-loop μ-loop
+near i = (i, search)
+
 loop-holds : tie.Need-loop-holds Inv-loop μ-loop
 loop-holds c = let s : tie.Start Inv-loop μ-loop = search in
     (pairs-none (turnsBy (now (s .args .states))) (now (s .args .sides)) (now (s .args .pairs)), sym (start-zero (now (s .args .sides))), omega arith)
-
-shared-slice-read-end : tie.Need-shared-slice-read-end Inv-loop μ-loop
-shared-slice-read-end c = let i = c .before in let t = i .before in let s : tie.Start Inv-loop μ-loop = search in let l = t .loop in
-    let e = start-ends (now (s .args .sides)) (l .f) (i .loop-test .taken) in
-    omega (arith, i .loop-test .taken)
 
 cast-end : tie.Need-cast-end Inv-loop μ-loop
 cast-end c = let i = c .before in let t = i .before in let s : tie.Start Inv-loop μ-loop = search in let l = t .loop in
@@ -39,11 +38,6 @@ add-end c = let i = c .before in let t = i .before in let s : tie.Start Inv-loop
     let e = start-ends (now (s .args .sides)) (l .f) (i .loop-test .taken) in
     omega (arith, e, l .inv .1, s .pre .few-corners)
 
-shared-slice-read-if1 : tie.Need-shared-slice-read-if1 Inv-loop μ-loop
-shared-slice-read-if1 c = let i = c .before .before in let t = i .before in let s : tie.Start Inv-loop μ-loop = search in let l = t .loop in
-    let e = start-ends (now (s .args .sides)) (l .f) (i .loop-test .taken) in
-    omega (arith, i .loop-test .taken, s .pre .states-long)
-
 turn-pairs-requires : tie.Need-turn-pairs-requires Inv-loop μ-loop
 turn-pairs-requires c κs = let i = c .before .before .before .before in let t = i .before in let s : tie.Start Inv-loop μ-loop = search in let l = t .loop in
     let e = start-ends (now (s .args .sides)) (l .f) (i .loop-test .taken) in (
@@ -52,16 +46,6 @@ turn-pairs-requires c κs = let i = c .before .before .before .before in let t =
       omega
           (arith, s .pre .few-corners, s .pre .sums, l .inv .0 .same-length),
     )
-
-add-f : tie.Need-add-f Inv-loop μ-loop
-add-f c = let i = c .before .before .before in let t = i .before in let s : tie.Start Inv-loop μ-loop = search in let l = t .loop in
-    let e = start-ends (now (s .args .sides)) (l .f) (i .loop-test .taken) in
-    omega (arith, i .loop-test .taken, s .pre .few-faces)
-
-loop-less : tie.Need-loop-less Inv-loop μ-loop
-loop-less c = let i = c .before .before .before in let t = i .before in let s : tie.Start Inv-loop μ-loop = search in let l = t .loop in
-    let e = start-ends (now (s .args .sides)) (l .f) (i .loop-test .taken) in
-    omega (arith, i .loop-test .taken)
 
 loop-again : tie.Need-loop-again Inv-loop μ-loop
 loop-again c = let i = c .before .before .before in let t = i .before in let s : tie.Start Inv-loop μ-loop = search in let l = t .loop in
@@ -88,5 +72,5 @@ returns c = let t = c .before in let s : tie.Start Inv-loop μ-loop = search in 
 
 pub turn-sharpness-spec : {M : Type 1} → Rattle.turning.proofs.reversing.turn_sharpness.Statement.statement M
 turn-sharpness-spec =
-    tie.close (tie.spec Inv-loop μ-loop loop-holds shared-slice-read-end cast-end add-end shared-slice-read-if1 turn-pairs-requires add-f loop-less
-    loop-again same-length returns)
+    tie.close (tie.spec Inv-loop μ-loop loop-holds (λ c. omega (arith, near search)) cast-end add-end (λ c. omega (arith, near search)) turn-pairs-requires
+    (λ c. omega (arith, near search)) (λ c. omega (arith, near search)) loop-again same-length returns)

@@ -18,6 +18,10 @@ Inv-loop sides corners partners faces starts states₀ queue₀ tail₀ r₀ sta
 abbrev μ-loop : tie.MeasureT-loop
 μ-loop sides corners partners faces starts states₀ queue₀ tail₀ r₀ states queue tail r = length sides - r
 
+-- the place in the loop, and the function's entry
+near : tie.In-loop Inv-loop μ-loop → tie.In-loop Inv-loop μ-loop × tie.Start Inv-loop μ-loop
+near i = (i, search)
+
 loop-holds : tie.Need-loop-holds Inv-loop μ-loop
 loop-holds c = let s : tie.Start Inv-loop μ-loop = search in (
   spreading-none (now (s .args .sides)) (now (s .args .corners)) (s .pre .0 .listed) (s .pre .0 .two) (now (s .args .states)) (now (s .args .queue))
@@ -26,10 +30,6 @@ loop-holds c = let s : tie.Start Inv-loop μ-loop = search in (
   refl,
   refl,
 )
-
-slice-read-if1 : tie.Need-slice-read-if1 Inv-loop μ-loop
-slice-read-if1 c = let i = c .before in let t = i .before in let s = t .before .before .before .before .before .before .before .before in let l = t .loop in
-    omega (arith, i .loop-test .taken, l .inv .0 .queued .states-long)
 
 round-requires : tie.Need-round-requires Inv-loop μ-loop
 round-requires c κs = let i = c .before .before .before .before in let t = i .before in
@@ -55,14 +55,6 @@ returns c = let i = c .before .before .before .before .before .before .before .b
     (subst (λ x. Wandered (now (s .args .sides)) (now (s .args .corners)) (l .r) (l .states) x (v .last .1 .1 .1 .1 .1 .1 .0)
     (v .last .1 .1 .1 .1 .1 .1 .1 .0)) (c .enum-told .given .1) (v .ensures)) in
     record { answers = sym e; turns = λ q. (unsound 35 (l .r) (sym e ∙ q)) }
-
-add-r : tie.Need-add-r Inv-loop μ-loop
-add-r c = let i = c .before .before in let t = i .before in let s : tie.Start Inv-loop μ-loop = search in let l = t .loop in
-    omega (arith, i .loop-test .taken, s .pre .0 .few-faces)
-
-loop-less : tie.Need-loop-less Inv-loop μ-loop
-loop-less c = let i = c .before .before in let t = i .before in let s = t .before .before .before .before .before .before .before .before in let l = t .loop in
-    omega (arith, i .loop-test .taken)
 
 loop-again : tie.Need-loop-again Inv-loop μ-loop
 loop-again c = let i = c .before .before in let t = i .before in let s : tie.Start Inv-loop μ-loop = search in
@@ -99,5 +91,5 @@ returns-2 c = let t = c .before in let s : tie.Start Inv-loop μ-loop = search i
 
 pub spread-spec : {M : Type 1} → Rattle.turning.proofs.spreading.spread.Statement.statement M
 spread-spec =
-    tie.close (tie.spec Inv-loop μ-loop loop-holds slice-read-if1 round-requires (λ c. search needs) (λ c. search needs) same-length same-length-2 returns
-    add-r loop-less loop-again same-length-3 same-length-4 returns-2)
+    tie.close (tie.spec Inv-loop μ-loop loop-holds (λ c. omega (arith, near search)) round-requires (λ c. search needs) (λ c. search needs) same-length
+    same-length-2 returns (λ c. omega (arith, near search)) (λ c. omega (arith, near search)) loop-again same-length-3 same-length-4 returns-2)

@@ -17,13 +17,12 @@ Inv-loop sides faces₀ starts₀ start₀ f₀ faces starts start f =
 abbrev μ-loop : tie.MeasureT-loop
 μ-loop sides faces₀ starts₀ start₀ f₀ faces starts start f = length sides - f
 
+-- the place in the loop, and the function's entry
+near : tie.In-loop Inv-loop μ-loop → tie.In-loop Inv-loop μ-loop × tie.Start Inv-loop μ-loop
+near i = (i, search)
+
 loop-holds : tie.Need-loop-holds Inv-loop μ-loop
 loop-holds c = let s : tie.Start Inv-loop μ-loop = search in (started-none _ _ _, sym (start-zero (now (s .args .sides))), omega arith, refl, refl)
-
-shared-slice-read-end : tie.Need-shared-slice-read-end Inv-loop μ-loop
-shared-slice-read-end c = let i = c .before in let t = i .before in let s : tie.Start Inv-loop μ-loop = search in let l = t .loop in
-    let e = start-ends (now (s .args .sides)) (l .f) (i .loop-test .taken) in
-    omega (arith, i .loop-test .taken)
 
 cast-end : tie.Need-cast-end Inv-loop μ-loop
 cast-end c = let i = c .before in let t = i .before in let s : tie.Start Inv-loop μ-loop = search in let l = t .loop in
@@ -40,16 +39,6 @@ cast-starts c = let i = c .before in let t = i .before in let s : tie.Start Inv-
     let e = start-ends (now (s .args .sides)) (l .f) (i .loop-test .taken) in
     omega (arith, e, l .inv .1, s .pre .few-corners)
 
-mul-starts : tie.Need-mul-starts Inv-loop μ-loop
-mul-starts c = let i = c .before in let t = i .before in let s : tie.Start Inv-loop μ-loop = search in let l = t .loop in
-    let e = start-ends (now (s .args .sides)) (l .f) (i .loop-test .taken) in
-    omega (arith, i .loop-test .taken, s .pre .few-faces)
-
-slice-write-starts : tie.Need-slice-write-starts Inv-loop μ-loop
-slice-write-starts c = let i = c .before in let t = i .before in let s : tie.Start Inv-loop μ-loop = search in let l = t .loop in
-    let e = start-ends (now (s .args .sides)) (l .f) (i .loop-test .taken) in
-    omega (arith, i .loop-test .taken, s .pre .starts-long, l .inv .4)
-
 fill-face-requires : tie.Need-fill-face-requires Inv-loop μ-loop
 fill-face-requires c κs = let i = c .before .before in let t = i .before in let s : tie.Start Inv-loop μ-loop = search in let l = t .loop in
     let e = start-ends (now (s .args .sides)) (l .f) (i .loop-test .taken) in (
@@ -59,16 +48,6 @@ fill-face-requires c κs = let i = c .before .before in let t = i .before in let
       omega
           (arith, e, l .inv .1, s .pre .faces-long, l .inv .3),
     )
-
-add-f : tie.Need-add-f Inv-loop μ-loop
-add-f c = let i = c .before .before .before .before .before in let t = i .before in let s : tie.Start Inv-loop μ-loop = search in let l = t .loop in
-    let e = start-ends (now (s .args .sides)) (l .f) (i .loop-test .taken) in
-    omega (arith, i .loop-test .taken, s .pre .few-faces)
-
-loop-less : tie.Need-loop-less Inv-loop μ-loop
-loop-less c = let i = c .before .before .before .before .before in let t = i .before in let s : tie.Start Inv-loop μ-loop = search in let l = t .loop in
-    let e = start-ends (now (s .args .sides)) (l .f) (i .loop-test .taken) in
-    omega (arith, i .loop-test .taken)
 
 loop-again : tie.Need-loop-again Inv-loop μ-loop
 loop-again c = let i = c .before .before .before .before .before in let t = i .before in let s : tie.Start Inv-loop μ-loop = search in let l = t .loop in
@@ -94,5 +73,6 @@ returns c = let t = c .before in let l = t .loop in
 
 pub fill-starts-spec : {M : Type 1} → Rattle.turning.proofs.starts.fill_starts.Statement.statement M
 fill-starts-spec =
-    tie.close (tie.spec Inv-loop μ-loop loop-holds shared-slice-read-end cast-end add-end cast-starts mul-starts slice-write-starts fill-face-requires add-f
-    loop-less loop-again same-length same-length-2 returns)
+    tie.close (tie.spec Inv-loop μ-loop loop-holds (λ c. omega (arith, near search)) cast-end add-end cast-starts (λ c. omega (arith, near search))
+    (λ c. omega (arith, near search)) fill-face-requires (λ c. omega (arith, near search)) (λ c. omega (arith, near search)) loop-again same-length
+    same-length-2 returns)
