@@ -6,6 +6,7 @@ use native.Mathlib.Omega.{arith}
 use borrow.Author.Needs.{needs}
 use lib.IntN.{ℤ, pos, _+ℤ_, _-ℤ_, _*ℤ_}
 use lib.Signed.{leZ-yes, ltZ-yes}
+use mir.Syntax.{w32}
 use Rattle.numbers.proofs.Poly.{over, poly}
 use Rattle.surface.specs.Sizes.{ValueSize}
 use Rattle.surface.proofs.Plain.{inner-value}
@@ -17,8 +18,8 @@ module _ (c : tie.Start) where
   abbrev sum : Sum
   sum = 3 ⊗ (arg (c .args .x) ⊕ arg (c .args .y)) ⊕ arg (c .args .v) ⊖ arg (c .args .w)
 
-  fine : Held (2 ^ 25) sum
-  fine = holds (2 ^ 25) sum (omega arith) (omega arith)
+  fine : Held w32 (2 ^ 25) sum
+  fine = holds w32 (2 ^ 25) sum (omega arith) (omega arith)
 
 same : (x y v w : ℤ) → pos 3 *ℤ (x +ℤ y) +ℤ v -ℤ w ≡ pos 3 *ℤ x +ℤ pos 3 *ℤ y +ℤ v -ℤ w
 same = over 4 _ λ ρ. simp (poly, ρ) (omega arith)

@@ -6,6 +6,7 @@ use native.Mathlib.Omega.{arith}
 use borrow.Author.Needs.{needs}
 use lib.IntN.{pos}
 use lib.Signed.{leZ-yes, ltZ-yes}
+use mir.Syntax.{w32}
 use Rattle.surface.specs.Sizes.{RefinedSize}
 use Rattle.surface.proofs.Plain.{mean-of-three-refined}
 use Rattle.faces.proofs.Sums.{Sum, arg, _⊕_, Held, holds, small-answers}
@@ -16,8 +17,8 @@ module _ (c : tie.Start) where
   abbrev sum : Sum
   sum = arg (c .args .a) ⊕ arg (c .args .b) ⊕ arg (c .args .c)
 
-  fine : Held (2 ^ 24) sum
-  fine = holds (2 ^ 24) sum (omega arith) (omega arith)
+  fine : Held w32 (2 ^ 24) sum
+  fine = holds w32 (2 ^ 24) sum (omega arith) (omega arith)
 
 round-small-requires : tie.Need-round-small-requires
 round-small-requires c κs = (ltZ-yes tt, leZ-yes tt, omega (arith, fine c .sized))

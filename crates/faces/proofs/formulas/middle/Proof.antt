@@ -6,6 +6,7 @@ use native.Mathlib.Omega.{arith}
 use borrow.Author.Needs.{needs}
 use lib.IntN.{ℤ, pos, _+ℤ_, _-ℤ_, _*ℤ_}
 use lib.Signed.{leZ-yes, ltZ-yes}
+use mir.Syntax.{w32}
 use Rattle.numbers.proofs.Poly.{over, poly}
 use Rattle.surface.specs.Sizes.{WrittenSize}
 use Rattle.surface.proofs.Plain.{middle-written}
@@ -17,8 +18,8 @@ module _ (c : tie.Start) where
   abbrev sum : Sum
   sum = 3 ⊗ (arg (c .args .x) ⊕ arg (c .args .y) ⊕ 4 ⊗ arg (c .args .n)) ⊕ 2 ⊗ (arg (c .args .n) ⊕ arg (c .args .o) ⊖ (arg (c .args .g) ⊕ arg (c .args .l))) ⊖ (arg (c .args .h) ⊕ arg (c .args .t))
 
-  fine : Held (2 ^ 25) sum
-  fine = holds (2 ^ 25) sum (omega arith) (omega arith)
+  fine : Held w32 (2 ^ 25) sum
+  fine = holds w32 (2 ^ 25) sum (omega arith) (omega arith)
 
 same : (n o g l x y h t : ℤ) → pos 3 *ℤ (x +ℤ y +ℤ pos 4 *ℤ n) +ℤ pos 2 *ℤ (n +ℤ o -ℤ (g +ℤ l)) -ℤ (h +ℤ t) ≡ pos 14 *ℤ n +ℤ pos 2 *ℤ (o -ℤ g -ℤ l) +ℤ pos 3 *ℤ (x +ℤ y) -ℤ h -ℤ t
 same = over 8 _ λ ρ. simp (poly, ρ) (omega arith)

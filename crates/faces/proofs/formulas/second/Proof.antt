@@ -5,6 +5,7 @@ use Prim.Native.Nat.{_^_}
 use native.Mathlib.Omega.{arith}
 use borrow.Author.Needs.{needs}
 use lib.IntN.{ℤ, pos, _+ℤ_, _-ℤ_, _*ℤ_}
+use mir.Syntax.{w32}
 use mir.Facts.{toZ-ofZ}
 use Rattle.numbers.proofs.Poly.{over, poly}
 use Rattle.paper.specs.Cosines.{unit}
@@ -21,8 +22,8 @@ module _ (c : tie.Start) where
   abbrev plain : Sum
   plain = 3 ⊗ arg (c .args .x) ⊕ arg (c .args .s) ⊕ 4 ⊗ arg (c .args .n)
 
-  fine : Held (2 ^ 25) turned × Held (2 ^ 25) plain
-  fine = (holds (2 ^ 25) turned (omega arith) (omega arith), holds (2 ^ 25) plain (omega arith) (omega arith))
+  fine : Held w32 (2 ^ 25) turned × Held w32 (2 ^ 25) plain
+  fine = (holds w32 (2 ^ 25) turned (omega arith) (omega arith), holds w32 (2 ^ 25) plain (omega arith) (omega arith))
 
 same : (a c h x y s n : ℤ) → a *ℤ (pos 3 *ℤ x +ℤ s +ℤ pos 4 *ℤ n) +ℤ c *ℤ (h -ℤ pos 3 *ℤ x +ℤ pos 2 *ℤ y) ≡ c *ℤ h +ℤ pos 3 *ℤ (a -ℤ c) *ℤ x +ℤ pos 2 *ℤ c *ℤ y +ℤ a *ℤ s +ℤ pos 4 *ℤ a *ℤ n
 same = over 7 _ λ ρ. simp (poly, ρ) (omega arith)
