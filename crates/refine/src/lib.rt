@@ -1,8 +1,6 @@
 // The refined points of the corners at the vertices that are marked, on the three axes: a row for each corner. The sums of their faces are formed
 // first, once for each face and axis, and put into a table; the loop over the corners takes them from there.
 pub mod corners;
-pub mod faces;
-pub mod formulas;
 pub mod sums;
 pub mod wanted;
 

@@ -8,7 +8,7 @@ use lib.IntN.{ℤ, pos, natAbs, _+ℤ_, _*ℤ_}
 use Rattle.paper.specs.Mesh.{leastSides, mostSides, mostCoordinate, mostSharpness, plain, Mesh, faceCount}
 use Rattle.paper.specs.Numbers.{floor, round}
 use Rattle.paper.specs.Refined.{ticksPerStep, faceSum}
-use Rattle.numbers.specs.Small.{SideReciprocal}
+use Rattle.numbers.specs.Units.{Reciprocal}
 use Rattle.refine.specs.sums.Sources.{stepsOf, sumRow}
 use Rattle.refine.specs.declared.corners.Around.{Around}
 use Rattle.refine.specs.declared.corners.CornerWeights.{CornerWeights}
@@ -33,6 +33,10 @@ Weighted sharpness c w = WeightsOf (getD sharpness (2 * c) plain) (getD sharpnes
 -- they sum to 512
 abbrev pub Balanced : CornerWeights → Type 0
 Balanced w = w .face + w .before + w .here + w .after ≡ 512
+
+-- m is the reciprocal of twice the n sides of a face
+abbrev pub SideReciprocal : ℕ → ℕ → Type 0
+SideReciprocal n m = Reciprocal (pos 2 *ℤ pos n) m
 
 -- the sizes of what one refined point is computed from: coordinates within their limit, and as many of them in the sum as the face has sides
 pub record Known (total : ℤ) (face : FaceSums) : Type 0 where
