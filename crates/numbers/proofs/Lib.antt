@@ -4,7 +4,6 @@
 --     Laws      the ring, the order, sizes of sums and products
 --     Floor     the quotient rounded down
 --     Sum       finite sums, and sums over a ring
---     Below     what one computed test shows of every number below a bound
 --     Machine   what the machine's signed operations ask and tell
 pub mod Diff
 pub mod Poly
@@ -15,5 +14,6 @@ pub mod Machine
 pub mod Nearest
 pub mod Rules
 pub mod Fractions
+pub mod Lift
 pub mod Small
 pub mod Units
