@@ -5,6 +5,7 @@ pub mod partners;
 pub mod reversing;
 pub mod spreading;
 pub mod starts;
+pub mod states;
 pub mod visiting;
 
 use checks::columns::VERTEX_ROW;

@@ -1,5 +1,6 @@
 // Turned faces written in place: the corners of each turned face after its first one reversed, its sharpness pairs reversed and each exchanged,
 // and the turned faces listed in rising order.
+use crate::states::TURNED;
 ghost use mathlib.Core.Path.{_≡_};
 ghost use Prim.Native.Nat.{_*_, _≤_, _<_};
 ghost use lib.ListN.{length};
@@ -7,8 +8,6 @@ ghost use Rattle.paper.specs.Mesh.{mostCorners};
 ghost use Rattle.paper.specs.Turning.{turnedPairs};
 ghost use Rattle.turning.specs.States.{turnsBy};
 ghost use Rattle.turning.specs.reversing.Written.{Reversed, PairsTurned, Sharpenable, FaceTurned, Writable, Written};
-
-const TURNED: u8 = 2;
 
 // Turns one face in place: its first corner stays, and after it the corners stand in reverse order.
 fn turn_face(corners: &mut [u16], start: usize, end: usize)

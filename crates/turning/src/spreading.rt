@@ -1,5 +1,7 @@
 // Turns spread over the faces of a model: from the lowest face of each part, which is kept, over shared edges, until a face is asked to
 // be both kept and turned, or every face of the part has its turn.
+use crate::states::KEPT;
+use crate::states::UNSEEN;
 use crate::visiting::Reach;
 use crate::visiting::visit;
 use paper::Answer;
@@ -9,8 +11,6 @@ ghost use lib.ListN.{length, getD};
 ghost use Rattle.turning.specs.visiting.Visit.{Spreadable, AllSettled, Queued};
 ghost use Rattle.turning.specs.spreading.Spread.{Wandered, SpreadOver};
 ghost use Rattle.walk.specs.Table.{Blank};
-
-const KEPT: u8 = 1;
 
 // A round over the part of r, which is kept. The queue up to `from` holds the faces of earlier parts.
 fn round(
@@ -73,7 +73,7 @@ pub fn spread(
     let mut tail = 0;
     let mut r = 0;
     while r < sides.len() {
-        if states[r] == 0 {
+        if states[r] == UNSEEN {
             let reach = round(
                 sides,
                 corners,

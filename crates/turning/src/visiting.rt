@@ -1,21 +1,15 @@
 // One face of a model that is turned: the faces across its edges get their states, or one of them is asked to be both kept and turned.
+use crate::states::UNSEEN;
+use crate::states::across;
 ghost use mathlib.Core.Path.{_≡_};
-ghost use Prim.Native.Nat.{_≤_, _<_};
+ghost use Prim.Native.Nat.{_<_};
 ghost use lib.ListN.{length};
-ghost use Rattle.turning.specs.visiting.Visit.{stateAcross, Seen, Spreadable, Queued, Visited};
+ghost use Rattle.turning.specs.visiting.Visit.{Seen, Spreadable, Queued, Visited};
 
 // How far the queue reaches, or that a face is asked to be both kept and turned.
 pub enum Reach {
     To(usize),
     Clash,
-}
-
-// The state of a face across an edge from one in `state`: the other one where the two corners leave in the same direction.
-fn across(state: u8, same: bool) -> u8
-    requires { ⌜ state ≤ 2 ⌝ }
-    ensures { λ r. ⌜ r ≡ stateAcross state same ⌝ }
-{
-    if same { 3 - state } else { state }
 }
 
 // One face: the faces across its edges get their states.
@@ -44,7 +38,7 @@ pub fn visit(
         let g = faces[d] as usize;
         let wanted = across(state, corners[c] == corners[d]);
         let found = states[g];
-        if found == 0 {
+        if found == UNSEEN {
             states[g] = wanted;
             queue[next] = g as u16;
             next += 1;

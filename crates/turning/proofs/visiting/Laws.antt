@@ -23,8 +23,8 @@ use Rattle.turning.specs.Constraints.{FacesListed, partner, label}
 use Rattle.turning.proofs.Parts.{xor-move, xor-assoc, xor-cancel, joined-same, joined-across}
 use Rattle.turning.proofs.Turned.{ends-apart, face-in}
 use Rattle.turning.proofs.Theorem.{partnered, partner-in, partner-partner}
-use Rattle.turning.specs.visiting.Visit.{Seen, seen, stateAcross, Spreadable, Grown, Settled, AllSettled, Forced, Round, Queued, Visiting, Unturnable}
-use Rattle.turning.specs.States.{turnsBy}
+use Rattle.turning.specs.States.{turnsBy, stateAcross}
+use Rattle.turning.specs.visiting.Visit.{Seen, seen, Spreadable, Grown, Settled, AllSettled, Forced, Round, Queued, Visiting, Unturnable}
 
 -- states: 1 and 2
 pub two-ways : (s : ℕ) → (s ≡ 0 → ⊥) → s ≤ 2 → (s ≡ 1) ⊎ (s ≡ 2)

@@ -3,11 +3,11 @@
 use mathlib.Core.Path.{_≡_}
 use mathlib.Core.Bool.{Bool, false, not, xor}
 use mathlib.Core.List.{List}
-use Prim.Native.Nat.{ℕ, _+_, _-_, _<_, _≤_}
+use Prim.Native.Nat.{ℕ, _+_, _<_, _≤_}
 use lib.Dec.{eqb}
 use lib.ListN.{length, getD}
 use Rattle.paper.specs.Mesh.{mostFaces, mostCorners}
-use Rattle.paper.specs.Scan.{pickN, countBelow}
+use Rattle.paper.specs.Scan.{countBelow}
 use Rattle.paper.specs.Corners.{faceOf, startOf}
 use Rattle.paper.specs.Turning.{fault34}
 use Rattle.turning.specs.States.{turnsBy}
@@ -21,10 +21,6 @@ Seen states f = getD states f 0 ≡ 0 → ⊥
 
 abbrev pub seen : List ℕ → ℕ → Bool
 seen states f = not (eqb (getD states f 0) 0)
-
--- the state across an edge: the other one where its two corners leave in the same direction
-abbrev pub stateAcross : ℕ → Bool → ℕ
-stateAcross state same = pickN same (3 - state) state
 
 -- the tables that turns spread by: partners plus one, the face of each corner, the first corner of each face
 pub record Spreadable (sides corners partners faces starts : List ℕ) : Type 0 where
