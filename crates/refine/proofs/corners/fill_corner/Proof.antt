@@ -73,16 +73,16 @@ module _ (w : tie.After-weigh) where
 
 on-axis-requires : tie.Need-on-axis-requires
 on-axis-requires c κs =
-    let b = c .before in (s b .pre .0 .placed, ((lit< tt, bounds b .0, bounds b .1, bounds b .2), (known b 0 (lit< tt), weights-balanced b)))
+    let b = c .before in (s b .pre .0 .placed, ((lit< tt, omega (arith, bounds b), omega (arith, bounds b), omega (arith, bounds b)), (known b 0 (lit< tt), weights-balanced b)))
 
 on-axis-requires-2 : tie.Need-on-axis-requires-2
 on-axis-requires-2 c κs =
-    let b = c .before .before .before in (s b .pre .0 .placed, ((lit< tt, bounds b .0, bounds b .1, bounds b .2), (known b 1 (lit< tt), weights-balanced b)))
+    let b = c .before .before .before in (s b .pre .0 .placed, ((lit< tt, omega (arith, bounds b), omega (arith, bounds b), omega (arith, bounds b)), (known b 1 (lit< tt), weights-balanced b)))
 
 on-axis-requires-3 : tie.Need-on-axis-requires-3
 on-axis-requires-3 c κs =
     let b = c .before .before .before .before .before in
-    (s b .pre .0 .placed, ((lit< tt, bounds b .0, bounds b .1, bounds b .2), (known b 2 (lit< tt), weights-balanced b)))
+    (s b .pre .0 .placed, ((lit< tt, omega (arith, bounds b), omega (arith, bounds b), omega (arith, bounds b)), (known b 2 (lit< tt), weights-balanced b)))
 
 -- where the three numbers go
 module _ (c : tie.After-on-axis3) where
