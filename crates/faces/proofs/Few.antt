@@ -2,12 +2,12 @@
 -- answer is the centre, or the point towards a side, of every ring that has the points in turn.
 -- Assumes nothing.
 use mathlib.Core.Path.{_≡_, sym, ap, _∙_}
-use Prim.Native.Nat.{ℕ, _+_, _*_, _^_, _≤_}
+use Prim.Native.Nat.{ℕ, _+_, _*_, _^_}
 use native.Mathlib.Omega.{arith}
-use lib.IntN.{ℤ, pos, natAbs, _+ℤ_, _*ℤ_}
+use lib.IntN.{ℤ, pos, _+ℤ_, _*ℤ_}
 use lib.Signed.{ltZ-yes}
 use mir.Syntax.{w32}
-use mir.Val.{SFits, toZ, ofZ}
+use mir.Val.{toZ, ofZ}
 use mir.Facts.{toZ-ofZ}
 use lib.Dec.{lit<}
 use Rattle.paper.specs.Numbers.{sum, sumBy, rounded, round}
@@ -20,7 +20,7 @@ use Rattle.numbers.proofs.Nearest.{round-scale}
 use Rattle.numbers.proofs.Sum.{Cyclic, cycle}
 use Rattle.surface.specs.Sizes.{RefinedSize, FaceSize}
 use Rattle.surface.proofs.Faces.{toward-is}
-use Rattle.faces.specs.Ring.{IsCentre, IsToward, ThreeRing, FourRing, ThreeCentre, ThreeToward, FourCentre, FourToward}
+use Rattle.faces.specs.Ring.{ThreeCentre, ThreeToward, FourCentre, FourToward}
 
 -- ---- a refined point that was read, in the machine's numbers
 pub read : (z y : ℤ) → z ≡ y → RefinedSize y → (toZ w32 (ofZ w32 z) ≡ y) × RefinedSize (toZ w32 (ofZ w32 z))

@@ -22,7 +22,7 @@ use Rattle.numbers.specs.Near.{Near}
 use Rattle.numbers.specs.Units.{Units}
 use Rattle.numbers.proofs.Diff.{as-diff, diff}
 use Rattle.numbers.proofs.Poly.{over, poly}
-use Rattle.numbers.proofs.Laws.{abs-mul-le, mul-comm, mul-le, nonneg}
+use Rattle.numbers.proofs.Laws.{abs-mul-le, mul-le, nonneg}
 use Rattle.numbers.proofs.Machine.{abs-fits}
 use Rattle.numbers.proofs.Nearest.{round-near, round-scale}
 use Rattle.numbers.proofs.Rules.{cosine-size}

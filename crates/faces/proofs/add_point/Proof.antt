@@ -1,6 +1,6 @@
 -- `faces::add_point` meets its contract: the product and the sum fit.
 -- Assumes nothing.
-use mathlib.Core.Path.{_≡_, _∙_}
+use mathlib.Core.Path.{_≡_}
 use Prim.Native.Nat.{_+_, _*_, _^_}
 use borrow.Author.Needs.{needs}
 use lib.Dec.{lit<}
@@ -13,7 +13,6 @@ use Rattle.numbers.proofs.Laws.{abs-mul-le, abs-add-le}
 use Rattle.numbers.proofs.Machine.{abs-fits}
 use Rattle.surface.specs.Points.{pointAt}
 use Rattle.faces.proofs.Few.{read}
-use Rattle.faces.proofs.Round.{plain}
 use Rattle.faces.proofs.add_point.Statement.{statement}
 use Rattle.faces.proofs.add_point.Tie as tie
 

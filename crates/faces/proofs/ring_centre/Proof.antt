@@ -3,7 +3,6 @@
 use Prim.Native.Nat.{_-_}
 use mathlib.Core.Path.{_≡_, refl}
 use native.Mathlib.Omega.{arith}
-use borrow.Author.Needs.{needs}
 use lib.Dec.{lit<}
 use Rattle.faces.proofs.Round.{Turn, turn-first, turn-next, asks, place-in, point-ring, equal, equal-size, centre-units, centre-end}
 use Rattle.faces.proofs.ring_centre.Statement.{statement}

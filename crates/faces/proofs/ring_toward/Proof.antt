@@ -4,7 +4,6 @@
 use mathlib.Core.Path.{_≡_, sym, ap, _∙_}
 use Prim.Native.Nat.{ℕ, _+_, _-_, _*_, _<_, _≤_}
 use native.Mathlib.Omega.{arith}
-use borrow.Author.Needs.{needs}
 use lib.Dec.{lit<}
 use lib.IntN.{natAbs}
 use mir.Syntax.{w64}
@@ -63,10 +62,10 @@ weigh-requires c κs =
 -- once the place is weighed
 module _ (w : tie.After-weigh Inv-loop μ-loop) where
   abbrev start : tie.Start Inv-loop μ-loop
-  start = search
+  start = w .before .before .before .before .before .before
 
   abbrev turn : tie.At-loop Inv-loop μ-loop
-  turn = search
+  turn = w .before .before .before
 
   weighs : plain (w .weigh .result) ≡ weight (start .args .m) (turn .loop .j)
   weighs =
