@@ -17,7 +17,7 @@ use Rattle.walk.specs.Table.{Tabled}
 use Rattle.surface.specs.Points.{pointRow}
 use Rattle.refine.specs.sums.Sources.{Small}
 use Rattle.refine.proofs.sums.Laws.{small-zeros}
-use Rattle.request_checks.specs.Request.{linksFaults}
+use Rattle.checks.specs.Request.{linksFaults}
 use Rattle.building.specs.Answered.{LinksChecked}
 
 pub point-room : (n p : ℕ) → n ≤ p → (pointRow * n ≤ length (replicate (pointRow * p) (pos 0))) × Small (replicate (pointRow * p) (pos 0))

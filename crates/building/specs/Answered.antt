@@ -11,7 +11,7 @@ use Rattle.paper.specs.Faults.{sound, _orElse_, verdict, stated, kept}
 use Rattle.paper.specs.Calls.{nets}
 use Rattle.paper.specs.declared.Answer.{Answer}
 use Rattle.walk.specs.Table.{Tabled}
-use Rattle.request_checks.specs.Request.{linksFaults, rangeFaults}
+use Rattle.checks.specs.Request.{linksFaults, rangeFaults}
 
 -- the checks 4 to 15, of any mesh and links; where they pass, the table is that of the mesh's corners
 pub record LinksChecked (M : Mesh) (links : List ℕ) (r : Answer) (table : List ℕ) : Type 0 where

@@ -18,7 +18,7 @@ ghost use Rattle.paper.specs.Faults.{Accepted};
 ghost use Rattle.paper.specs.Refined.{cornersOf};
 ghost use Rattle.paper.specs.Calls.{perCorner, nets, Built};
 ghost use Rattle.walk.specs.Table.{rowLength, toLink, entry, Tabled};
-ghost use Rattle.request_checks.specs.Request.{SameLinks};
+ghost use Rattle.checks.specs.Request.{SameLinks};
 ghost use Rattle.checks.specs.Checked.{RoomFor};
 ghost use Rattle.building.specs.Answered.{LinksChecked, Answered};
 
@@ -153,7 +153,7 @@ fn check_linked(
     if let Answer::Refused(k, p) = a {
         return Answer::Refused(k, p);
     }
-    let same = request_checks::same_links(corners.len(), table, links);
+    let same = checks::requests::same_links(corners.len(), table, links);
     let most = highest(same, links, table, corners.len());
     let b = checks::check_filled(
         coordinates,
@@ -170,7 +170,7 @@ fn check_linked(
     if same {
         return Answer::Done;
     }
-    request_checks::check_links(corners.len(), table, links)
+    checks::requests::check_links(corners.len(), table, links)
 }
 
 // A number that no entry is above: of the links, where they are the same.
@@ -180,7 +180,7 @@ fn highest(same: bool, links: &[u16], table: &[u16], count: usize) -> u16
     ensures { λ r. ⌜ ((c : ℕ) → c < count → entry (now (table .entry)) toLink c ≤ r) ⌝ }
 {
     if same {
-        return list_checks::highest_index(links);
+        return checks::lists::highest_index(links);
     }
     checks::edges::highest_entry(table, count)
 }
@@ -201,7 +201,7 @@ fn answer(
 {
     let first = range.first;
     let count = range.count;
-    let a = request_checks::check_asked(corners.len(), first, count, out.len());
+    let a = checks::requests::check_asked(corners.len(), first, count, out.len());
     if let Answer::Refused(k, p) = a {
         return Answer::Refused(k, p);
     }

@@ -142,7 +142,7 @@ pub fn highest_entry(table: &[u16], count: usize) -> u16
     let mut most: u16 = 0;
     let mut c = 0;
     while c < count {
-        most = list_checks::greater_index(most, table[ROW * c + LINK]);
+        most = crate::lists::greater_index(most, table[ROW * c + LINK]);
         c += 1;
     }
     most

@@ -1,8 +1,10 @@
-// The checks that the file, linking and building share: 4 to 13 of a mesh with 27 and 28. Each number is tried over the whole input before the
-// next. Those of what is asked besides, 14 to 17, are in crate request_checks.
+// The checks that the file, linking and building share: 4 to 13 of a mesh with 27 and 28, and 14 to 17 of what is asked besides (`requests`).
+// Each number is tried over the whole input before the next.
 pub mod columns;
 pub mod edges;
 pub mod faces;
+pub mod lists;
+pub mod requests;
 pub mod vertices;
 
 use crate::columns::VERTEX_ROW;
@@ -153,28 +155,28 @@ pub fn check_lists(
     requires { ⌜ RoomFor (meshOf (now coordinates) (now sides) (now corners) (now sharpness)) (now table) (now vertices) ⌝ }
     ensures { λ r. ⌜ ListsChecked (meshOf (now (coordinates .entry)) (now (sides .entry)) (now (corners .entry)) (now (sharpness .entry))) r (now (table .exit)) (now (vertices .exit)) ⌝ }
 {
-    let a4 = list_checks::check_lengths(coordinates.len(), sides.len(), corners.len());
+    let a4 = crate::lists::check_lengths(coordinates.len(), sides.len(), corners.len());
     if let Answer::Refused(k, p) = a4 {
         return Answer::Refused(k, p);
     }
-    let a27 = list_checks::check_pairs(sharpness.len(), corners.len());
+    let a27 = crate::lists::check_pairs(sharpness.len(), corners.len());
     if let Answer::Refused(k, p) = a27 {
         return Answer::Refused(k, p);
     }
-    let a5 = list_checks::check_sides(sides);
+    let a5 = crate::lists::check_sides(sides);
     if let Answer::Refused(k, p) = a5 {
         return Answer::Refused(k, p);
     }
-    let a6 = list_checks::check_sum(sides, corners.len());
+    let a6 = crate::lists::check_sum(sides, corners.len());
     if let Answer::Refused(k, p) = a6 {
         return Answer::Refused(k, p);
     }
-    let a7 = list_checks::check_coordinates(coordinates);
+    let a7 = crate::lists::check_coordinates(coordinates);
     if let Answer::Refused(k, p) = a7 {
         return Answer::Refused(k, p);
     }
-    let a8 = list_checks::check_names(coordinates.len() / 3, corners);
-    let a28 = list_checks::check_sharpness(sharpness);
+    let a8 = crate::lists::check_names(coordinates.len() / 3, corners);
+    let a28 = crate::lists::check_sharpness(sharpness);
     let entries = first_of(a8, a28);
     if let Answer::Refused(k, p) = entries {
         return Answer::Refused(k, p);

@@ -18,7 +18,7 @@ use Rattle.paper.specs.Refined.{cornersOf}
 use Rattle.mesh.proofs.Links.{link-table-is}
 use Rattle.mesh.proofs.Verdicts.{orElse-fault, past}
 use Rattle.walk.specs.Table.{toLink, entry, Tabled}
-use Rattle.request_checks.proofs.Requests.{length-of}
+use Rattle.checks.proofs.requests.Laws.{length-of}
 
 -- the links below c are copied
 pub Copied : List ℕ → List ℕ → ℕ → Type 0

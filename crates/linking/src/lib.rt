@@ -98,7 +98,7 @@ fn link_over(
     if let Answer::Refused(k, p) = a {
         return Answer::Refused(k, p);
     }
-    let a14 = request_checks::check_length(links.len(), corners.len());
+    let a14 = checks::requests::check_length(links.len(), corners.len());
     if let Answer::Refused(k, p) = a14 {
         return Answer::Refused(k, p);
     }

@@ -86,7 +86,7 @@ fn check(d: Decoded, coordinates: &[i32], sides: &[u8], corners: &[u16]) -> Answ
     let n = d.coordinates;
     let f = d.sides;
     let k = d.corners;
-    let lengths = list_checks::check_lengths(n, f, k);
+    let lengths = checks::lists::check_lengths(n, f, k);
     if let Answer::Refused(number, place) = lengths {
         return Answer::Refused(number, place);
     }

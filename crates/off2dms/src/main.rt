@@ -158,7 +158,7 @@ fn check_counts(d: Decoded) -> Answer {
     if let Answer::Refused(number, place) = answer {
         return Answer::Refused(number, place);
     }
-    list_checks::check_lengths(d.coordinates, d.sides, d.corners)
+    checks::lists::check_lengths(d.coordinates, d.sides, d.corners)
 }
 
 // The lesser of two numbers.

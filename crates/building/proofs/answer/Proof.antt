@@ -7,8 +7,8 @@ use denote.Ref.{now}
 use Rattle.paper.specs.Mesh.{Mesh, meshOf}
 use Rattle.paper.specs.Faults.{stated, sound}
 use Rattle.mesh.proofs.Verdicts.{passed}
-use Rattle.request_checks.specs.Request.{rangeFaults}
-use Rattle.request_checks.proofs.Requests.{Granted, granted}
+use Rattle.checks.specs.Request.{rangeFaults}
+use Rattle.checks.proofs.requests.Laws.{Granted, granted}
 use Rattle.building.proofs.Laws.{few}
 use Rattle.building.proofs.answer.Statement.{statement}
 use Rattle.building.proofs.answer.Tie as tie

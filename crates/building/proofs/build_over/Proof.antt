@@ -7,8 +7,8 @@ use denote.Ref.{now}
 use Rattle.paper.specs.Mesh.{Mesh, meshOf}
 use Rattle.paper.specs.Faults.{Verdict, sound, _orElse_, verdict, stated}
 use Rattle.mesh.proofs.Verdicts.{passed, stop, past, sound-left}
-use Rattle.request_checks.specs.Request.{linksFaults}
-use Rattle.request_checks.proofs.Requests.{verdict-is}
+use Rattle.checks.specs.Request.{linksFaults}
+use Rattle.checks.proofs.requests.Laws.{verdict-is}
 use Rattle.building.proofs.build_over.Statement.{statement}
 use Rattle.building.proofs.build_over.Tie as tie
 

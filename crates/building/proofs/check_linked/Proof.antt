@@ -10,7 +10,7 @@ use Rattle.mesh.proofs.Verdicts.{passed}
 use Rattle.walk.specs.Table.{Tabled}
 use Rattle.checks.specs.Checked.{FilledFor}
 use Rattle.checks.proofs.Laws.{listed, stopped-lists}
-use Rattle.request_checks.proofs.Requests.{links-granted}
+use Rattle.checks.proofs.requests.Laws.{links-granted}
 use borrow.Author.Needs.{needs}
 use Rattle.building.proofs.Laws.{mesh-refused, links-checked}
 use Rattle.building.proofs.check_linked.Statement.{statement}

@@ -9,7 +9,7 @@ use Rattle.paper.specs.Mesh.{Mesh, meshOf, cornerCount}
 use Rattle.paper.specs.Faults.{sound, single, verdict, stated}
 use Rattle.mesh.proofs.Verdicts.{passed}
 use Rattle.mesh.proofs.Accepted.{sound-of, few-corners}
-use Rattle.request_checks.proofs.Requests.{length-of}
+use Rattle.checks.proofs.requests.Laws.{length-of}
 use Rattle.linking.proofs.Laws.{link-refused, link-14, link-done}
 use native.Mathlib.Omega.{arith}
 use borrow.Author.Needs.{needs}
