@@ -31,14 +31,12 @@ const REPEATED: u16 = 8193;
 
 const ALONE: u16 = 8192;
 
-// Checks 10 and 11, of entries that are found and none of which is above `most`: where both have passed, they are the links. Nearly every
-// mesh passes by that number alone.
-pub fn check_entries(corners: &[u16], table: &[u16], most: u16) -> Answer
-    requires table { ⌜ (length (now corners) ≤ mostCorners) × (rowLength * length (now corners) ≤ length (now table)) ⌝ }
-    requires most { ⌜ ((c : ℕ) → c < length (now corners) → entry (now table) toLink c ≤ most) ⌝ }
+// Checks 10 and 11, of entries that are found: where both have passed, they are the links. Nearly every mesh passes by the highest entry alone.
+pub fn check_entries(corners: &[u16], table: &[u16]) -> Answer
+    requires { ⌜ (length (now corners) ≤ mostCorners) × (rowLength * length (now corners) ≤ length (now table)) ⌝ }
     ensures { λ r. ⌜ EdgesChecked (now (corners .entry)) (now (table .entry)) r ⌝ }
 {
-    if most < ALONE {
+    if highest_entry(table, corners.len()) < ALONE {
         return Answer::Done;
     }
     let a10 = check_repeats(corners, table);
@@ -135,7 +133,7 @@ fn entry(corners: &[u16], table: &[u16], vertices: &[u16], u: usize, c: usize) -
 }
 
 // A number that no entry is above.
-pub fn highest_entry(table: &[u16], count: usize) -> u16
+fn highest_entry(table: &[u16], count: usize) -> u16
     requires { ⌜ (count ≤ mostCorners) × (rowLength * count ≤ length (now table)) ⌝ }
     ensures { λ r. ⌜ ((c : ℕ) → c < count → entry (now (table .entry)) toLink c ≤ r) ⌝ }
 {

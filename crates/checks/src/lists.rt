@@ -157,8 +157,8 @@ pub fn check_names(vertices: usize, corners: &[u16]) -> Answer
     find_name(vertices, corners)
 }
 
-// A number that none of the list is above; of the corners a vertex, of the links a corner.
-pub fn highest_index(list: &[u16]) -> u16
+// A number that none of the list is above.
+fn highest_index(list: &[u16]) -> u16
     ensures { λ r. ⌜ ((j : ℕ) → j < length (now (list .entry)) → getD (now (list .entry)) j 0 ≤ r) ⌝ }
 {
     let mut most: u16 = 0;
@@ -170,7 +170,7 @@ pub fn highest_index(list: &[u16]) -> u16
     most
 }
 
-// The greater of two such numbers.
+// The greater of two numbers.
 pub fn greater_index(a: u16, b: u16) -> u16
     ensures { λ r. ⌜ (a ≤ r) × (b ≤ r) ⌝ }
 {
@@ -215,7 +215,7 @@ fn highest(list: &[u8]) -> u8
     most
 }
 
-// The greater of two numbers.
+// The greater of two bytes.
 fn greater(a: u8, b: u8) -> u8
     ensures { λ r. ⌜ (a ≤ r) × (b ≤ r) ⌝ }
 {

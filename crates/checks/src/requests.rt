@@ -4,7 +4,7 @@ use paper::NUMBERS_PER_CORNER;
 use walk::LINK;
 use walk::ROW;
 ghost use mathlib.Core.Path.{_≡_};
-ghost use mathlib.Core.Bool.{true, not, _||_};
+ghost use mathlib.Core.Bool.{not, _||_};
 ghost use Prim.Native.Nat.{_+_, _*_, _≤_};
 ghost use lib.Dec.{eqb, ltb};
 ghost use lib.ListN.{length};
@@ -13,7 +13,7 @@ ghost use Rattle.paper.specs.Links.{link};
 ghost use Rattle.paper.specs.Faults.{single, lowestOf, stated};
 ghost use Rattle.paper.specs.Calls.{fault15, fault17};
 ghost use Rattle.walk.specs.Table.{rowLength, toLink, Column};
-ghost use Rattle.checks.specs.Request.{linksFaults, rangeFaults, SameLinks};
+ghost use Rattle.checks.specs.Request.{linksFaults, rangeFaults};
 
 // Checks 14 and 15; `table` is the mesh's table of corners.
 pub fn check_links(corners: usize, table: &[u16], links: &[u16]) -> Answer
@@ -47,26 +47,6 @@ pub fn check_length(links: usize, corners: usize) -> Answer
         return Answer::Refused(14, links);
     }
     Answer::Done
-}
-
-// Whether there is a link for each corner and each is the table's. Nearly every link table is the mesh's own: it is gone over without an
-// early end, and only another one by 14 and 15.
-pub fn same_links(corners: usize, table: &[u16], links: &[u16]) -> bool
-    requires { ⌜ (corners ≤ mostCorners) × (rowLength * corners ≤ length (now table)) ⌝ }
-    ensures { λ r. ⌜ (r ≡ true → SameLinks corners (now (table .entry)) (now (links .entry))) ⌝ }
-{
-    if links.len() != corners {
-        return false;
-    }
-    let mut same = true;
-    let mut c = 0;
-    while c < links.len() {
-        if links[c] != table[ROW * c + LINK] {
-            same = false;
-        }
-        c += 1;
-    }
-    same
 }
 
 // Check 15: the lowest corner whose link is another.

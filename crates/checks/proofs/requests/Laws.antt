@@ -15,7 +15,7 @@ use Rattle.paper.specs.Calls.{perCorner, fault15, fault16, fault17, buildVerdic
 use Rattle.walk.specs.Table.{toLink, entry, Column}
 use Rattle.mesh.proofs.Ranges.{or-left, or-right, or-none, none-left, none-right}
 use Rattle.mesh.proofs.Verdicts.{single-sound, single-miss, lowest-none, sound-left, sound-right, orElse-sound, orElse-assoc}
-use Rattle.checks.specs.Request.{linksFaults, rangeFaults, SameLinks}
+use Rattle.checks.specs.Request.{linksFaults, rangeFaults}
 
 -- 15, by the table of the mesh's links
 module _ (M : Mesh) (table links : List ℕ) (t : Column table toLink (link (M .sides) (M .corners)) (cornerCount M)) (c : ℕ) (h : c < cornerCount M)
@@ -70,21 +70,11 @@ module _ (M : Mesh) (corners : ℕ) (e : cornerCount M ≡ corners) where
   unfolding fault16
   as-16 first count h = rw e h
 
--- a table's own links have no fault
-pub links-granted : (M : Mesh) (table links : List ℕ) → Column table toLink (link (M .sides) (M .corners)) (cornerCount M)
-    → SameLinks (cornerCount M) table links → linksFaults M links ≡ sound
-unfolding linksFaults
-links-granted M table links t s =
-    orElse-sound _ (single-miss 14 _ (ap not (eq-eqb _ _ (s .as-many))))
-    ∙ lowest-none 15 (cornerCount M) (fault15 M links) (λ c h. links-agree M table links t c h (s .same c h))
-
 -- building's verdict is that of the mesh, then that of the links, then that of the range
 pub verdict-is : (M : Mesh) (links : List ℕ) (first count n : ℕ)
-    → buildVerdict M links first count n ≡ (verdict M orElse linksFaults M links) orElse rangeFaults M first count n
+    → buildVerdict M links first count n ≡ verdict M orElse linksFaults M links orElse rangeFaults M first count n
 unfolding buildVerdict linkVerdict linksFaults rangeFaults
-verdict-is M links first count n =
-    sym (orElse-assoc (verdict M orElse single 14 (not (eqb (length links) (cornerCount M))) (length links)) _ _)
-    ∙ ap (λ (v : Verdict). v orElse rangeFaults M first count n) (orElse-assoc (verdict M) _ _)
+verdict-is M links first count n = simp orElse-assoc
 
 -- a range with no fault
 pub record Granted (M : Mesh) (first count n : ℕ) : Type 0 where
