@@ -1,5 +1,4 @@
 -- A table of zeros has room for the refined points of as many corners as it has rows; how the answers make up the verdict.
--- Assumes nothing.
 use mathlib.Core.Path.{_≡_, refl, _∙_, sym}
 use mathlib.Core.List.{List}
 use Prim.Native.Nat.{ℕ, _*_, _≤_}

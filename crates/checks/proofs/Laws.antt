@@ -1,6 +1,5 @@
 -- What each passed check gives to the later ones: rooms, sums and names for filling the tables, unique edges with reverses for the links;
 -- and how the answers make up the verdict.
--- Assumes nothing.
 use mathlib.Core.Path.{_≡_, ap, _∙_, sym}
 use mathlib.Core.Bool.{false}
 use mathlib.Core.List.{List}

@@ -37,7 +37,7 @@ pub fn check_lengths(coordinates: usize, faces: usize, corners: usize) -> Answer
 }
 
 // Check 27, of the sharpness list's length: two numbers for each corner.
-pub fn check_pairs(sharpness: usize, corners: usize) -> Answer
+pub(crate) fn check_pairs(sharpness: usize, corners: usize) -> Answer
     requires { ⌜ corners ≤ mostCorners ⌝ }
     ensures { λ r. ⌜ stated r ≡ single 27 (fault27 sharpness corners) sharpness ⌝ }
 {
@@ -48,7 +48,7 @@ pub fn check_pairs(sharpness: usize, corners: usize) -> Answer
 }
 
 // Check 5, of the faces' side counts. Nearly every list passes: it is gone over without an early end first, as in checks 7, 8 and 28.
-pub fn check_sides(sides: &[u8]) -> Answer
+pub(crate) fn check_sides(sides: &[u8]) -> Answer
     ensures { λ r. ⌜ stated r ≡ lowestOf 5 (length (now (sides .entry))) (fault5 (now (sides .entry))) ⌝ }
 {
     if all_sided(sides) {
@@ -89,7 +89,7 @@ fn find_sides(sides: &[u8]) -> Answer
 }
 
 // Check 6: the side counts sum to the corner count.
-pub fn check_sum(sides: &[u8], corners: usize) -> Answer
+pub(crate) fn check_sum(sides: &[u8], corners: usize) -> Answer
     requires { ⌜ length (now sides) ≤ mostFaces ⌝ }
     ensures { λ r. ⌜ stated r ≡ single 6 (fault6 (now (sides .entry)) corners) (sumOf (now (sides .entry))) ⌝ }
 {
@@ -106,7 +106,7 @@ pub fn check_sum(sides: &[u8], corners: usize) -> Answer
 }
 
 // Check 7, of the coordinates.
-pub fn check_coordinates(coordinates: &[i32]) -> Answer
+pub(crate) fn check_coordinates(coordinates: &[i32]) -> Answer
     ensures { λ r. ⌜ stated r ≡ lowestOf 7 (length (now (coordinates .entry))) (fault7 (now (coordinates .entry))) ⌝ }
 {
     if all_near(coordinates) {
@@ -147,7 +147,7 @@ fn find_coordinate(coordinates: &[i32]) -> Answer
 }
 
 // Check 8: each corner names a vertex. Nearly every list passes: it is gone over without an early end first, several numbers at a time.
-pub fn check_names(vertices: usize, corners: &[u16]) -> Answer
+pub(crate) fn check_names(vertices: usize, corners: &[u16]) -> Answer
     ensures { λ r. ⌜ stated r ≡ lowestOf 8 (length (now (corners .entry))) (fault8 vertices (now (corners .entry))) ⌝ }
 {
     let highest = highest_index(corners) as usize;
@@ -171,7 +171,7 @@ fn highest_index(list: &[u16]) -> u16
 }
 
 // The greater of two numbers.
-pub fn greater_index(a: u16, b: u16) -> u16
+pub(crate) fn greater_index(a: u16, b: u16) -> u16
     ensures { λ r. ⌜ (a ≤ r) × (b ≤ r) ⌝ }
 {
     if a < b { b } else { a }
@@ -193,7 +193,7 @@ fn find_name(vertices: usize, corners: &[u16]) -> Answer
 }
 
 // Check 28, of the sharpness numbers. Nearly every list passes: it is gone over without an early end first, sixteen bytes at a time.
-pub fn check_sharpness(sharpness: &[u8]) -> Answer
+pub(crate) fn check_sharpness(sharpness: &[u8]) -> Answer
     ensures { λ r. ⌜ stated r ≡ lowestOf 28 (length (now (sharpness .entry))) (fault28 (now (sharpness .entry))) ⌝ }
 {
     if highest(sharpness) <= MOST_SHARPNESS {

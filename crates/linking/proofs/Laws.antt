@@ -1,5 +1,4 @@
 -- Copying a table entry by entry, and linking, way by way.
--- Assumes nothing.
 use mathlib.Core.Path.{_≡_, ap, _∙_, sym}
 use mathlib.Core.Bool.{not}
 use mathlib.Core.List.{List}

@@ -1,5 +1,4 @@
 -- `building::build_over` meets its contract: the checks of the mesh, of its links and of the range refuse, or the table serves the writing.
--- Assumes nothing.
 use mathlib.Core.Path.{_≡_, refl, ap, _∙_, sym}
 use lib.ListN.{length}
 use denote.Ref.{now}
@@ -13,7 +12,6 @@ use Rattle.checks.proofs.requests.Laws.{granted}
 use Rattle.building.proofs.Laws.{few, mesh-refused, links-refused, range-refused, built}
 use native.Mathlib.Omega.{arith}
 use borrow.Author.Needs.{needs}
-use Rattle.building.proofs.build_over.Statement.{statement}
 use Rattle.building.proofs.build_over.Tie as tie
 
 abbrev mesh : tie.Start → Mesh
@@ -101,7 +99,7 @@ returns-4 c =
     let t = accepted (linked u) in
     built (mesh (start t)) _ _ _ _ (accepts t) (links-sound (linked u)) (range-sound u) _ (w .write-nets .ensures)
 
-pub build-over-spec : {M : Type 1} → statement M
+pub build-over-spec : {M : Type 1} → Rattle.building.proofs.build_over.Statement.statement M
 build-over-spec =
     tie.close (tie.spec (λ c κs. search needs) (λ c. search needs) (λ c. search needs) returns (λ c. search needs) check-links-requires (λ c. search needs)
     (λ c. search needs) returns-2 (λ c. search needs) check-asked-requires (λ c. search needs) (λ c. search needs) returns-3 (λ c. search needs)

@@ -1,5 +1,4 @@
 -- `building::build_sized` meets its contract: the tables have as many rows as the mesh has corners, where these are not too many.
--- Assumes nothing.
 use Prim.Native.Nat.{_≤_}
 use lib.ListN.{length}
 use denote.Ref.{now}
@@ -9,7 +8,6 @@ use Rattle.checks.proofs.Laws.{rows-for}
 use Rattle.building.proofs.Laws.{point-room}
 use native.Mathlib.Omega.{arith}
 use borrow.Author.Needs.{needs}
-use Rattle.building.proofs.build_sized.Statement.{statement}
 use Rattle.building.proofs.build_sized.Tie as tie
 
 build-over-requires : tie.Need-build-over-requires
@@ -34,7 +32,7 @@ build-over-requires-3 c κs =
     let n = length (now (s .args .corners)) in
     (rows-for n mostCorners (λ h. h), point-room n mostCorners (λ h. h))
 
-pub build-sized-spec : {M : Type 1} → statement M
+pub build-sized-spec : {M : Type 1} → Rattle.building.proofs.build_sized.Statement.statement M
 build-sized-spec =
     tie.close (tie.spec (λ c κs. search needs) (λ c. search needs) (λ c. search needs) build-over-requires (λ c. search needs) (λ c. search needs)
     build-over-requires-2 (λ c. search needs) (λ c. search needs) build-over-requires-3 (λ c. search needs) (λ c. search needs) (λ c. search needs)

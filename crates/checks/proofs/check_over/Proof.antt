@@ -1,6 +1,5 @@
 -- The check over both tables meets its contract: a fault of the lists is the verdict; else the columns of the faces and the chains let the search
 -- find the entries, after 10 and 11 these are the links, and 12 and 13 complete the verdict.
--- Assumes nothing.
 use mathlib.Core.Path.{_≡_, ap, _∙_, sym}
 use Prim.Native.Nat.{_*_, _≤_}
 use lib.ListN.{length}
@@ -19,7 +18,6 @@ use Rattle.checks.proofs.Laws.{listed, searchable, chains, heads, Fille
 use Rattle.checks.proofs.Laws.{stopped-edges, checked}
 use native.Mathlib.Omega.{arith}
 use borrow.Author.Needs.{needs}
-use Rattle.checks.proofs.check_over.Statement.{statement}
 use Rattle.checks.proofs.check_over.Tie as tie
 
 -- the mesh of a call
@@ -127,7 +125,7 @@ returns-3 c =
     checked (M t) _ (f .passed) (v .check-vertices .result) (edges-sound t) (v .check-vertices .ensures (M t .sides) (closes t) (links t))
     (λ z. tabled (M t) _ _ f (links t))
 
-pub check-over-spec : {M : Type 1} → statement M
+pub check-over-spec : {M : Type 1} → Rattle.checks.proofs.check_over.Statement.statement M
 check-over-spec =
     tie.close (tie.spec (λ c κs. search needs) (λ c. search needs) (λ c. search needs) (λ c. search needs) returns (λ c. search needs)
     fill-links-requires check-entries-requires (λ c. search needs) (λ c. search needs) (λ c. search needs) returns-2 (λ c. search needs)

@@ -1,12 +1,10 @@
 -- The check over a lent table meets its contract: the table of vertices has a row for each, where these are not too many.
--- Assumes nothing.
 use denote.Ref.{now}
 use Rattle.paper.specs.Mesh.{Mesh, meshOf, mostVertices}
 use Rattle.mesh.specs.Tables.{smallMesh}
 use Rattle.checks.proofs.Laws.{room}
 use native.Mathlib.Omega.{arith}
 use borrow.Author.Needs.{needs}
-use Rattle.checks.proofs.check_within.Statement.{statement}
 use Rattle.checks.proofs.check_within.Tie as tie
 
 -- the mesh of a call
@@ -22,7 +20,7 @@ check-over-requires c κs =
 check-over-requires-2 : tie.Need-check-over-requires-2
 check-over-requires-2 c κs = let s : tie.Start = search in room (mesh s) (now (s .args .table)) mostVertices (s .pre) (λ h. h)
 
-pub check-within-spec : {M : Type 1} → statement M
+pub check-within-spec : {M : Type 1} → Rattle.checks.proofs.check_within.Statement.statement M
 check-within-spec =
     tie.close (tie.spec (λ c κs. search needs) (λ c. search needs) check-over-requires (λ c. search needs) check-over-requires-2 (λ c. search needs)
     (λ c. search needs) (λ c. search needs) (λ c. search needs))

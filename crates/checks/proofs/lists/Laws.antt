@@ -1,5 +1,4 @@
 -- What each test of the code says of the fault at its place.
--- Assumes nothing.
 use mathlib.Core.Path.{_≡_, ap, _∙_, sym}
 use mathlib.Core.Bool.{true, false, not}
 use mathlib.Core.List.{List}

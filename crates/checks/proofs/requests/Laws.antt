@@ -1,12 +1,11 @@
 -- What each test of the code says of its fault.
--- Assumes nothing.
 use mathlib.Core.Path.{_≡_, ap, _∙_, sym}
 use mathlib.Core.Bool.{true, false, not, _||_}
 use mathlib.Core.List.{List}
 use Prim.Native.Nat.{ℕ, _+_, _*_, _<_, _≤_}
 use native.Mathlib.Omega.{arith}
 use lib.Dec.{eqb, ltb}
-use lib.ListN.{length, getD}
+use lib.ListN.{getD}
 use borrow.Author.Tests.{eqb-true, eqb-false, eq-eqb, ne-eqb, lt-ltb, le-ltb, ltb-false, not-false}
 use Rattle.paper.specs.Mesh.{Mesh, cornerCount}
 use Rattle.paper.specs.Links.{link}
@@ -14,7 +13,7 @@ use Rattle.paper.specs.Faults.{Verdict, sound, _orElse_, single, verdict, linkV
 use Rattle.paper.specs.Calls.{perCorner, fault15, fault16, fault17, buildVerdict}
 use Rattle.walk.specs.Table.{toLink, entry, Column}
 use Rattle.mesh.proofs.Ranges.{or-left, or-right, or-none, none-left, none-right}
-use Rattle.mesh.proofs.Verdicts.{single-sound, single-miss, lowest-none, sound-left, sound-right, orElse-sound, orElse-assoc}
+use Rattle.mesh.proofs.Verdicts.{single-sound, sound-left, sound-right, orElse-assoc}
 use Rattle.checks.specs.Request.{linksFaults, rangeFaults}
 
 -- 15, by the table of the mesh's links

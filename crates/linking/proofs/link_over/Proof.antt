@@ -1,5 +1,4 @@
 -- Linking meets its contract: the shared check refuses or leaves the links in a table of its own, then 14, then the column is copied.
--- Assumes nothing.
 use mathlib.Core.Path.{_≡_, ap, _∙_, sym}
 use mathlib.Core.Bool.{not}
 use lib.Dec.{eqb}
@@ -13,7 +12,6 @@ use Rattle.checks.proofs.requests.Laws.{length-of}
 use Rattle.linking.proofs.Laws.{link-refused, link-14, link-done}
 use native.Mathlib.Omega.{arith}
 use borrow.Author.Needs.{needs}
-use Rattle.linking.proofs.link_over.Statement.{statement}
 use Rattle.linking.proofs.link_over.Tie as tie
 
 -- after checks 4 to 13 with 27 and 28
@@ -71,7 +69,7 @@ returns-3 c =
     link-done (mesh (checked t)) (now (start (checked t) .args .links)) (accepted (checked t)) _ _ (fourteen t) (k .copy .kept .1 .0)
     (a .check-within .ensures .tabled (accepted (checked t))) (k .copy .ensures)
 
-pub link-over-spec : {M : Type 1} → statement M
+pub link-over-spec : {M : Type 1} → Rattle.linking.proofs.link_over.Statement.statement M
 link-over-spec =
     tie.close (tie.spec (λ c κs. search needs) (λ c. search needs) (λ c. search needs) returns (λ c. search needs) (λ c κs. search needs)
     (λ c. search needs) (λ c. search needs) returns-2 (λ c. search needs) copy-requires (λ c. search needs) (λ c. search needs) returns-3)

@@ -1,5 +1,4 @@
 -- `all_near` meets its contract: where no number at fault was met, none before `i` is.
--- Assumes nothing.
 use mathlib.Core.Path.{_≡_, _∙_, sym}
 use mathlib.Core.Bool.{true, false}
 use mathlib.Core.Logic.{⊎-elim}
@@ -11,7 +10,6 @@ use Rattle.mesh.proofs.Scans.{clash, fails-step}
 use Rattle.checks.proofs.lists.Laws.{between}
 use native.Mathlib.Omega.{arith}
 use borrow.Author.Needs.{needs}
-use Rattle.checks.proofs.lists.all_near.Statement.{statement}
 use Rattle.checks.proofs.lists.all_near.Tie as tie
 
 abbrev Inv-loop : tie.InvT-loop
@@ -20,12 +18,9 @@ Inv-loop coordinates near₀ i₀ near i = (i ≤ length coordinates) × (near �
 abbrev μ-loop : tie.MeasureT-loop
 μ-loop coordinates near₀ i₀ near i = length coordinates - i
 
-loop-holds : tie.Need-loop-holds Inv-loop μ-loop
-loop-holds c = (omega arith, λ e j h. absurd (omega arith))
-
 loop-again : tie.Need-loop-again Inv-loop μ-loop
 loop-again c =
-    let s = c .before .before .before .before in
+    let s : tie.Start Inv-loop μ-loop = search in
     let l = c .before .before .before .loop in
     let xs = now (s .args .coordinates) in (
       search needs,
@@ -38,6 +33,7 @@ loop-again c =
 returns : tie.Need-returns Inv-loop μ-loop
 returns c = let l = c .before .loop in λ e j h. l .inv .1 e j (omega arith)
 
-pub all-near-spec : {M : Type 1} → statement M
+pub all-near-spec : {M : Type 1} → Rattle.checks.proofs.lists.all_near.Statement.statement M
 all-near-spec =
-    tie.close (tie.spec Inv-loop μ-loop loop-holds (search needs) (search needs) (search needs) (search needs) (search needs) loop-again returns)
+    tie.close (tie.spec Inv-loop μ-loop (λ c. (omega arith, λ e j h. absurd (omega arith))) (search needs) (search needs) (search needs)
+    (search needs) (search needs) loop-again returns)

@@ -1,5 +1,4 @@
 -- `all_sided` meets its contract: where no number at fault was met, none before `f` is.
--- Assumes nothing.
 use mathlib.Core.Path.{_≡_, _∙_, sym}
 use mathlib.Core.Bool.{true, false}
 use mathlib.Core.Logic.{⊎-elim}
@@ -13,7 +12,6 @@ use Rattle.mesh.proofs.Ranges.{inside}
 use Rattle.mesh.proofs.Scans.{clash, fails-step}
 use native.Mathlib.Omega.{arith}
 use borrow.Author.Needs.{needs}
-use Rattle.checks.proofs.lists.all_sided.Statement.{statement}
 use Rattle.checks.proofs.lists.all_sided.Tie as tie
 
 abbrev Inv-loop : tie.InvT-loop
@@ -22,16 +20,10 @@ Inv-loop sides sided₀ f₀ sided f = (f ≤ length sides) × (sided ≡ true �
 abbrev μ-loop : tie.MeasureT-loop
 μ-loop sides sided₀ f₀ sided f = length sides - f
 
-loop-holds : tie.Need-loop-holds Inv-loop μ-loop
-loop-holds c = (omega arith, λ e j h. absurd (omega arith))
-
-cast-s : tie.Need-cast-s Inv-loop μ-loop
-cast-s c = omega (arith, c .shared-slice-known .given (c .before .before .loop .f))
-
 loop-again : tie.Need-loop-again Inv-loop μ-loop
 unfolding fault5
 loop-again c =
-    let s = c .before .before .before .before in
+    let s : tie.Start Inv-loop μ-loop = search in
     let l = c .before .before .before .loop in
     let xs = now (s .args .sides) in (
       search needs,
@@ -45,5 +37,7 @@ loop-again c =
 returns : tie.Need-returns Inv-loop μ-loop
 returns c = let l = c .before .loop in λ e j h. l .inv .1 e j (omega arith)
 
-pub all-sided-spec : {M : Type 1} → statement M
-all-sided-spec = tie.close (tie.spec Inv-loop μ-loop loop-holds (search needs) cast-s (search needs) (search needs) loop-again returns)
+pub all-sided-spec : {M : Type 1} → Rattle.checks.proofs.lists.all_sided.Statement.statement M
+all-sided-spec =
+    tie.close (tie.spec Inv-loop μ-loop (λ c. (omega arith, λ e j h. absurd (omega arith))) (search needs)
+    (λ c. omega (arith, c .shared-slice-known .given (c .before .before .loop .f))) (search needs) (search needs) loop-again returns)

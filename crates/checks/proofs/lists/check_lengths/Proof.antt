@@ -1,5 +1,4 @@
 -- Check 4 meets its contract: each test is one of the parts of fault 4.
--- Assumes nothing.
 use mathlib.Core.Path.{sym}
 use mathlib.Core.Logic.{⊎-elim}
 use Prim.Native.Nat.{_/_}
@@ -8,7 +7,6 @@ use Rattle.paper.specs.Mesh.{mostVertices, mostFaces, mostCorners}
 use Rattle.mesh.proofs.Ranges.{outside-low, outside-high, inside}
 use Rattle.mesh.proofs.Verdicts.{single-hit, single-miss}
 use Rattle.checks.proofs.lists.Laws.{no-thirds, vertices-out, faces-out, corners-out, lengths-fit}
-use Rattle.checks.proofs.lists.check_lengths.Statement.{statement}
 use Rattle.checks.proofs.lists.check_lengths.Tie as tie
 
 returns : tie.Need-returns
@@ -34,11 +32,11 @@ returns-4 c =
 
 returns-5 : tie.Need-returns-5
 returns-5 c =
-    let s = c .before .before .before .before .before .before .before in
+    let s : tie.Start = search in
     sym (single-miss 4 0 (lengths-fit (s .args .coordinates) (s .args .faces) (s .args .corners) (c .before .before .before .before .before .before .if1 .left)
     (inside 1 mostVertices _ (c .before .before .before .before .before .if2 .left) (ltb-false _ _ (c .before .before .before .before .if3 .left)))
     (inside 1 mostFaces _ (c .before .before .before .if4 .left) (ltb-false _ _ (c .before .before .if5 .left)))
     (inside 1 mostCorners _ (c .before .if6 .left) (ltb-false _ _ (c .if7 .left)))))
 
-pub check-lengths-spec : {M : Type 1} → statement M
+pub check-lengths-spec : {M : Type 1} → Rattle.checks.proofs.lists.check_lengths.Statement.statement M
 check-lengths-spec = tie.close (tie.spec returns returns-2 returns-3 returns-4 returns-5)

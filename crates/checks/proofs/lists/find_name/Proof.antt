@@ -1,5 +1,4 @@
 -- The search of 8 meets its contract: no corner before `c` is at fault.
--- Assumes nothing.
 use mathlib.Core.Path.{_≡_, sym}
 use mathlib.Core.Bool.{false}
 use Prim.Native.Nat.{ℕ, _≤_, _<_, _-_}
@@ -11,7 +10,6 @@ use Rattle.mesh.proofs.Scans.{fails-step}
 use Rattle.mesh.proofs.Verdicts.{lowest-hit, lowest-none}
 use native.Mathlib.Omega.{arith}
 use borrow.Author.Needs.{needs}
-use Rattle.checks.proofs.lists.find_name.Statement.{statement}
 use Rattle.checks.proofs.lists.find_name.Tie as tie
 
 abbrev Inv-loop : tie.InvT-loop
@@ -20,22 +18,16 @@ Inv-loop vertices corners c₀ c = (c ≤ length corners) × ((j : ℕ) → j < 
 abbrev μ-loop : tie.MeasureT-loop
 μ-loop vertices corners c₀ c = length corners - c
 
-loop-holds : tie.Need-loop-holds Inv-loop μ-loop
-loop-holds c = (omega arith, λ j h. absurd (omega arith))
-
-cast-u : tie.Need-cast-u Inv-loop μ-loop
-cast-u c = omega (arith, c .shared-slice-known .given (c .before .before .loop .c))
-
 returns : tie.Need-returns Inv-loop μ-loop
 unfolding fault8
-returns c = let s = c .before .before .before .before in let l = c .before .before .before .loop in
+returns c = let s : tie.Start Inv-loop μ-loop = search in let l = c .before .before .before .loop in
     let xs = now (s .args .corners) in
     sym (lowest-hit 8 (length xs) (fault8 (s .args .vertices) xs) (l .c) (search needs) (le-leb (s .args .vertices) (getD xs (l .c) 0) (c .if1 .taken))
     (l .inv .1))
 
 loop-again : tie.Need-loop-again Inv-loop μ-loop
 unfolding fault8
-loop-again c = let s = c .before .before .before .before in let l = c .before .before .before .loop in
+loop-again c = let s : tie.Start Inv-loop μ-loop = search in let l = c .before .before .before .loop in
     let xs = now (s .args .corners) in
     (search needs, fails-step (fault8 (s .args .vertices) xs) (l .c) (l .inv .1) (lt-leb (s .args .vertices) (getD xs (l .c) 0) (c .if1 .left)))
 
@@ -44,6 +36,7 @@ returns-2 c =
     let l = c .before .loop in
     sym (lowest-none 8 _ (fault8 (c .before .before .args .vertices) (now (c .before .before .args .corners))) (λ j h. l .inv .1 j (omega arith)))
 
-pub find-name-spec : {M : Type 1} → statement M
+pub find-name-spec : {M : Type 1} → Rattle.checks.proofs.lists.find_name.Statement.statement M
 find-name-spec =
-    tie.close (tie.spec Inv-loop μ-loop loop-holds (search needs) (search needs) cast-u returns (search needs) (search needs) loop-again returns-2)
+    tie.close (tie.spec Inv-loop μ-loop (λ c. (omega arith, λ j h. absurd (omega arith))) (search needs) (search needs)
+    (λ c. omega (arith, c .shared-slice-known .given (c .before .before .loop .c))) returns (search needs) (search needs) loop-again returns-2)

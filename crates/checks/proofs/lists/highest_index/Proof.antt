@@ -1,12 +1,10 @@
 -- No number before `c` is above the greatest met.
--- Assumes nothing.
 use Prim.Native.Nat.{ℕ, _≤_, _<_, _-_}
 use lib.ListN.{length, getD}
 use denote.Ref.{now}
 use native.Mathlib.Omega.{arith}
 use borrow.Author.Needs.{needs}
 use Rattle.mesh.proofs.Scans.{all-below-step}
-use Rattle.checks.proofs.lists.highest_index.Statement.{statement}
 use Rattle.checks.proofs.lists.highest_index.Tie as tie
 
 abbrev Inv-loop : tie.InvT-loop
@@ -15,11 +13,8 @@ Inv-loop list most₀ c₀ most c = (c ≤ length list) × ((j : ℕ) → j < c 
 abbrev μ-loop : tie.MeasureT-loop
 μ-loop list most₀ c₀ most c = length list - c
 
-loop-holds : tie.Need-loop-holds Inv-loop μ-loop
-loop-holds c = (omega arith, λ j h. absurd (omega arith))
-
 loop-again : tie.Need-loop-again Inv-loop μ-loop
-loop-again c = let s = c .before .before .before .before .before in let l = c .before .before .before .loop in (
+loop-again c = let s : tie.Start Inv-loop μ-loop = search in let l = c .before .before .before .loop in (
   search needs,
   all-below-step (λ j. getD (now (s .args .list)) j 0) (l .c) (l .most) (c .greater-index .result) (l .inv .1) (c .greater-index .ensures .0)
       (c .greater-index .ensures .1),
@@ -28,6 +23,7 @@ loop-again c = let s = c .before .before .before .before .before in let l = c .b
 returns : tie.Need-returns Inv-loop μ-loop
 returns c = let l = c .before .loop in λ j h. l .inv .1 j (omega arith)
 
-pub highest-index-spec : {M : Type 1} → statement M
+pub highest-index-spec : {M : Type 1} → Rattle.checks.proofs.lists.highest_index.Statement.statement M
 highest-index-spec =
-    tie.close (tie.spec Inv-loop μ-loop loop-holds (search needs) (search needs) (λ c κs. search needs) (search needs) (search needs) loop-again returns)
+    tie.close (tie.spec Inv-loop μ-loop (λ c. (omega arith, λ j h. absurd (omega arith))) (search needs) (search needs) (λ c κs. search needs)
+    (search needs) (search needs) loop-again returns)

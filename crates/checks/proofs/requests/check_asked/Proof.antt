@@ -1,12 +1,10 @@
 -- Checks 16 and 17 meet their contract: the first stops the chain with its fault or is passed.
--- Assumes nothing.
 use Prim.Native.Nat.{_+_, _≤_, _<_}
 use Rattle.mesh.proofs.Verdicts.{stop, passed, past}
 use Rattle.checks.specs.Request.{rangeFaults}
 use Rattle.checks.proofs.requests.Laws.{range-of, as-16}
 use native.Mathlib.Omega.{arith}
 use borrow.Author.Needs.{needs}
-use Rattle.checks.proofs.requests.check_asked.Statement.{statement}
 use Rattle.checks.proofs.requests.check_asked.Tie as tie
 
 -- after check 16
@@ -20,13 +18,10 @@ module _ (t : tie.After-enum-told) where
 returns : tie.Need-returns
 unfolding rangeFaults
 returns c =
-    let s = c .before .before .before .before in
+    let s : tie.Start = search in
     let a = c .before .before .before .check-range in
     λ M e. stop (a .result) (as-16 M (s .args .corners) e (s .args .first) (s .args .count) (a .ensures))
     (c .before .a16 .given .0 .0) (c .before .a16 .given .0 .1 .0) (c .before .a16 .given .1) _
-
-check-room-requires : tie.Need-check-room-requires
-check-room-requires c κs = omega (arith, in-range c .1, s16 c .pre)
 
 returns-2 : tie.Need-returns-2
 unfolding rangeFaults
@@ -37,5 +32,6 @@ returns-2 c =
     λ M e. past (passed (a .result) (as-16 M (s .args .corners) e (s .args .first) (s .args .count) (a .ensures)) (t16 .enum-told .given .1)) _
     (c .check-room .ensures)
 
-pub check-asked-spec : {M : Type 1} → statement M
-check-asked-spec = tie.close (tie.spec (λ c κs. search needs) (search needs) returns (search needs) check-room-requires returns-2)
+pub check-asked-spec : {M : Type 1} → Rattle.checks.proofs.requests.check_asked.Statement.statement M
+check-asked-spec =
+    tie.close (tie.spec (λ c κs. search needs) (search needs) returns (search needs) (λ c κs. omega (arith, in-range c .1, s16 c .pre)) returns-2)

@@ -1,5 +1,4 @@
 -- Checks 14 and 15 meet their contract: the first stops the chain with its fault or is passed.
--- Assumes nothing.
 use mathlib.Core.Path.{_≡_, _∙_, sym}
 use lib.ListN.{length}
 use denote.Ref.{now}
@@ -8,7 +7,6 @@ use Rattle.checks.specs.Request.{linksFaults}
 use Rattle.checks.proofs.requests.Laws.{length-of, as-14}
 use native.Mathlib.Omega.{arith}
 use borrow.Author.Needs.{needs}
-use Rattle.checks.proofs.requests.check_links.Statement.{statement}
 use Rattle.checks.proofs.requests.check_links.Tie as tie
 
 -- after check 14
@@ -22,7 +20,7 @@ module _ (t : tie.After-enum-told) where
 returns : tie.Need-returns
 unfolding linksFaults
 returns c =
-    let s = c .before .before .before .before .before .before in
+    let s : tie.Start = search in
     let a = c .before .before .before .check-length in
     λ M e t. stop (a .result) (as-14 M (s .args .corners) e (length (now (s .args .links))) (a .ensures))
     (c .before .a14 .given .0 .0) (c .before .a14 .given .0 .1 .0) (c .before .a14 .given .1) _
@@ -39,5 +37,5 @@ returns-2 c =
     λ M e t. past (passed (a .result) (as-14 M (s .args .corners) e (length (now (s .args .links))) (a .ensures)) (t14 .enum-told .given .1)) _
     (c .find-link .ensures M (e ∙ sym (same-length t14)) t)
 
-pub check-links-spec : {M : Type 1} → statement M
+pub check-links-spec : {M : Type 1} → Rattle.checks.proofs.requests.check_links.Statement.statement M
 check-links-spec = tie.close (tie.spec (λ c κs. search needs) (search needs) returns (search needs) find-link-requires returns-2)

@@ -1,5 +1,4 @@
 -- `find_link` meets its contract: the tables agree below `c`, and an entry that differs is the lowest fault.
--- Assumes nothing.
 use mathlib.Core.Path.{_≡_, sym}
 use Rattle.mesh.proofs.Verdicts.{lowest-hit, lowest-none}
 use Prim.Native.Nat.{ℕ, _-_, _≤_, _<_}
@@ -12,7 +11,6 @@ use Rattle.walk.specs.Table.{toLink, entry}
 use Rattle.checks.proofs.requests.Laws.{links-differ, links-agree}
 use native.Mathlib.Omega.{arith}
 use borrow.Author.Needs.{needs}
-use Rattle.checks.proofs.requests.find_link.Statement.{statement}
 use Rattle.checks.proofs.requests.find_link.Tie as tie
 
 abbrev Inv-loop : tie.InvT-loop
@@ -21,12 +19,9 @@ Inv-loop table links c₀ c = (c ≤ length links) × ((j : ℕ) → j < c → g
 abbrev μ-loop : tie.MeasureT-loop
 μ-loop table links c₀ c = length links - c
 
-loop-holds : tie.Need-loop-holds Inv-loop μ-loop
-loop-holds c = (omega arith, λ j h. absurd (omega arith))
-
 returns : tie.Need-returns Inv-loop μ-loop
 returns c =
-    let s = c .before .before .before .before .before in
+    let s : tie.Start Inv-loop μ-loop = search in
     let l = c .before .before .before .before .loop in
     λ M e t. let h : l .c < cornerCount M = omega arith in
     sym (lowest-hit 15 (cornerCount M) (fault15 M (now (s .args .links))) (l .c) h
@@ -35,7 +30,7 @@ returns c =
 
 loop-again : tie.Need-loop-again Inv-loop μ-loop
 loop-again c =
-    let s = c .before .before .before .before .before in
+    let s : tie.Start Inv-loop μ-loop = search in
     let l = c .before .before .before .before .loop in
     (search needs, below-more (λ j. getD (now (s .args .links)) j 0 ≡ entry (now (s .args .table)) toLink j) (l .c) (l .inv .1) (c .if1 .left))
 
@@ -46,7 +41,7 @@ returns-2 c =
     λ M e t. sym (lowest-none 15 (cornerCount M) (fault15 M (now (s .args .links)))
     (λ j k. links-agree M (now (s .args .table)) (now (s .args .links)) t j k (l .inv .1 j (omega arith))))
 
-pub find-link-spec : {M : Type 1} → statement M
+pub find-link-spec : {M : Type 1} → Rattle.checks.proofs.requests.find_link.Statement.statement M
 find-link-spec =
-    tie.close (tie.spec Inv-loop μ-loop loop-holds (search needs) (search needs) (search needs) (search needs) (search needs) (omega arith) returns
-    (search needs) (search needs) loop-again returns-2)
+    tie.close (tie.spec Inv-loop μ-loop (λ c. (omega arith, λ j h. absurd (omega arith))) (search needs) (search needs) (search needs) (search needs)
+    (search needs) (omega arith) returns (search needs) (search needs) loop-again returns-2)
