@@ -9,10 +9,12 @@ pub mod page_numbers;
 pub mod pages;
 
 use mesh::SMALL_MESH;
+use mesh::least;
 use paper::Answer;
 use paper::MOST_CORNERS;
 use paper::MOST_FACES;
-use paper::MOST_VERTICES;
+use paper::MOST_NUMBERS;
+use paper::MOST_PAIRS;
 use paper::Page;
 use paper::Reported;
 use surface::POINT_ROW;
@@ -28,11 +30,6 @@ ghost use Rattle.surface.specs.Points.{pointRow};
 ghost use Rattle.refine.specs.sums.Sources.{Small};
 ghost use Rattle.dms.specs.header.Sized.{Sized};
 ghost use Rattle.checks.specs.Checked.{RowsFor};
-
-// The numbers of the longest coordinate list and of the longest sharpness list.
-const MOST_NUMBERS: usize = 3 * MOST_VERTICES;
-
-const MOST_PAIRS: usize = 2 * MOST_CORNERS;
 
 // The page after one file more, from the bytes read and the length counted, or the page as it was.
 pub fn report(bytes: &[u8], counted: usize, page: Page) -> Reported
@@ -58,13 +55,6 @@ pub fn merge(page: Page, other: Page) -> Reported
     ensures { λ r. ⌜ MergedTo page other r ⌝ }
 {
     crate::pages::merge(page, other)
-}
-
-// The lesser of two numbers.
-fn least(a: usize, b: usize) -> usize
-    ensures { λ r. ⌜ (r ≤ a) × ((r < b → r ≡ a) × (r ≤ b)) ⌝ }
-{
-    if a < b { a } else { b }
 }
 
 // The page after the file itself: its header is checked first.

@@ -2,10 +2,10 @@
 use mathlib.Core.Path.{_≡_, refl}
 use Prim.Native.Nat.{_≤_, _-_}
 use lib.ListN.{length, getD, length-set}
 use Rattle.mesh.proofs.Copies.{Copied, copied-none, copied-step, copied-all}
 use native.Mathlib.Omega.{arith}
 use borrow.Author.Needs.{needs}
-use Rattle.off.proofs.copy_sides.Tie as tie
+use Rattle.mesh.proofs.copy_bytes.Tie as tie
 
 abbrev Inv-loop : tie.InvT-loop
 Inv-loop list lent₀ i₀ lent i = (i ≤ length list) × (length lent ≡ length lent₀) × Copied list lent₀ i lent
@@ -32,7 +32,7 @@ returns c =
     let l = c .before .loop in
     copied-all (s .args .list .now) (s .args .lent .now) (l .i) (l .lent) (omega arith) (l .inv .2)
 
-pub copy-sides-spec : {M : Type 1} → Rattle.off.proofs.copy_sides.Statement.statement M
-copy-sides-spec =
+pub copy-bytes-spec : {M : Type 1} → Rattle.mesh.proofs.copy_bytes.Statement.statement M
+copy-bytes-spec =
     tie.close (tie.spec Inv-loop μ-loop loop-holds (λ c. search needs) (λ c. search needs) (λ c. search needs) (λ c. search needs) loop-again
     (λ c. search needs) returns)
