@@ -44,8 +44,5 @@ module _ (P : Page) (F : Offered) where
   done-report N e n = record { answers = sym e; holds = rw e n }
 
 -- tables of zeros with p rows, for n corners
-pub table-room : (n p : ℕ) → (n ≤ mostCorners → n ≤ p) → n ≤ mostCorners → rowLength * n ≤ length {A = ℕ} (replicate (rowLength * p) 0)
-table-room n p few h = rw (length-replicate {A = ℕ} (rowLength * p) 0) (omega (arith, few h))
-
 pub point-room : (n p : ℕ) → (n ≤ mostCorners → n ≤ p) → n ≤ mostCorners → pointRow * n ≤ length (replicate (pointRow * p) (pos 0))
 point-room n p few h = rw (length-replicate {A = ℤ} (pointRow * p) (pos 0)) (omega (arith, few h))

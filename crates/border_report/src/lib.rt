@@ -8,12 +8,13 @@ pub mod page_laws;
 pub mod page_numbers;
 pub mod pages;
 
-use checks::columns::VERTEX_ROW;
 use mesh::SMALL_MESH;
+use mesh::least;
 use paper::Answer;
 use paper::MOST_CORNERS;
 use paper::MOST_FACES;
-use paper::MOST_VERTICES;
+use paper::MOST_NUMBERS;
+use paper::MOST_PAIRS;
 use paper::Page;
 use paper::Reported;
 use surface::POINT_ROW;
@@ -26,15 +27,9 @@ ghost use Rattle.paper.specs.Faults.{sound, verdict};
 ghost use Rattle.paper.specs.File.{fileMesh, fileVerdict};
 ghost use Rattle.paper.specs.Report.{added, pageVerdict, offered, ReportedTo, MergedTo};
 ghost use Rattle.surface.specs.Points.{pointRow};
-ghost use Rattle.walk.specs.Table.{rowLength};
 ghost use Rattle.refine.specs.sums.Sources.{Small};
 ghost use Rattle.dms.specs.header.Sized.{Sized};
-ghost use Rattle.checks.specs.Checked.{Checked};
-
-// The numbers of the longest coordinate list and of the longest sharpness list.
-const MOST_NUMBERS: usize = 3 * MOST_VERTICES;
-
-const MOST_PAIRS: usize = 2 * MOST_CORNERS;
+ghost use Rattle.checks.specs.Checked.{RowsFor};
 
 // The page after one file more, from the bytes read and the length counted, or the page as it was.
 pub fn report(bytes: &[u8], counted: usize, page: Page) -> Reported
@@ -60,13 +55,6 @@ pub fn merge(page: Page, other: Page) -> Reported
     ensures { λ r. ⌜ MergedTo page other r ⌝ }
 {
     crate::pages::merge(page, other)
-}
-
-// The lesser of two numbers.
-fn least(a: usize, b: usize) -> usize
-    ensures { λ r. ⌜ (r ≤ a) × ((r < b → r ≡ a) × (r ≤ b)) ⌝ }
-{
-    if a < b { a } else { b }
 }
 
 // The page after the file itself: its header is checked first.
@@ -120,7 +108,7 @@ fn with_mesh(
     requires { ⌜ pageVerdict page ≡ sound ⌝ }
     ensures { λ r. ⌜ r ≡ added page (meshOf (now (coordinates .entry)) (now (sides .entry)) (now (corners .entry)) (now (sharpness .entry))) (verdict (meshOf (now (coordinates .entry)) (now (sides .entry)) (now (corners .entry)) (now (sharpness .entry)))) ⌝ }
 {
-    if corners.len() <= SMALL_MESH {
+    if mesh::table_rows(corners.len()) == SMALL_MESH {
         let mut table = [0u16; ROW * SMALL_MESH];
         let mut points = [0i32; POINT_ROW * SMALL_MESH];
         return over(
@@ -157,11 +145,11 @@ fn over(
     points: &mut [i32],
 ) -> Page
     requires page { ⌜ pageVerdict page ≡ sound ⌝ }
-    requires table { ⌜ (length (now corners) ≤ mostCorners → rowLength * length (now corners) ≤ length (now table)) ⌝ }
+    requires table { ⌜ RowsFor (length (now corners)) (now table) ⌝ }
     requires points { ⌜ (length (now corners) ≤ mostCorners → pointRow * length (now corners) ≤ length (now points)) × Small (now points) ⌝ }
     ensures { λ r. ⌜ r ≡ added page (meshOf (now (coordinates .entry)) (now (sides .entry)) (now (corners .entry)) (now (sharpness .entry))) (verdict (meshOf (now (coordinates .entry)) (now (sides .entry)) (now (corners .entry)) (now (sharpness .entry)))) ⌝ }
 {
-    let a = check_mesh(coordinates, sides, corners, sharpness, table);
+    let a = checks::check_within(coordinates, sides, corners, sharpness, table);
     if let Answer::Refused(number, place) = a {
         return crate::pages::refuse(page, number);
     }
@@ -174,19 +162,4 @@ fn over(
         points,
     );
     crate::pages::accept(page, corners.len(), largest)
-}
-
-// Checks 4 to 13 with 27 and 28, which fill the table of corners.
-fn check_mesh(
-    coordinates: &[i32],
-    sides: &[u8],
-    corners: &[u16],
-    sharpness: &[u8],
-    table: &mut [u16],
-) -> Answer
-    requires { ⌜ (length (now corners) ≤ mostCorners → rowLength * length (now corners) ≤ length (now table)) ⌝ }
-    ensures { λ r. ⌜ Checked (meshOf (now (coordinates .entry)) (now (sides .entry)) (now (corners .entry)) (now (sharpness .entry))) r (now (table .exit)) ⌝ }
-{
-    let mut vertices = [0u16; VERTEX_ROW * MOST_VERTICES];
-    checks::check_within(coordinates, sides, corners, sharpness, table, &mut vertices)
 }

@@ -1,34 +1,43 @@
--- A table of zeros has room for the refined points of as many corners as it has rows; the ways out of checks 4 to 15.
--- Assumes nothing.
-use mathlib.Core.Path.{_≡_, sym}
+-- A table of zeros has room for the refined points of as many corners as it has rows; how the answers make up the verdict.
+use mathlib.Core.Path.{_≡_, refl, _∙_, sym}
 use mathlib.Core.List.{List}
 use Prim.Native.Nat.{ℕ, _*_, _≤_}
 use native.Mathlib.Omega.{arith}
 use lib.ListN.{length, replicate, length-replicate}
 use lib.IntN.{ℤ, pos}
 use Rattle.paper.specs.Mesh.{mostCorners, Mesh, cornerCount, faceCount}
-use Rattle.paper.specs.Faults.{fault, verdict, Accepted, stated}
-use Rattle.paper.specs.Refined.{cornersOf}
-use Rattle.paper.specs.declared.Answer.{Answer}
-use Rattle.paper.specs.declared.Answer.the-variants.{Refused}
+use Rattle.paper.specs.Faults.{sound, fault, Accepted, verdict}
+use Rattle.paper.specs.Calls.{Built, nets}
+use Rattle.paper.specs.declared.Answer.the-variants.{Done, Refused}
 use Rattle.mesh.proofs.Accepted.{sound-of, few-corners}
-use Rattle.mesh.proofs.Verdicts.{orElse-fault, past, unsound}
-use Rattle.walk.specs.Table.{Tabled}
+use Rattle.mesh.proofs.Verdicts.{orElse-fault, past}
 use Rattle.surface.specs.Points.{pointRow}
 use Rattle.refine.specs.sums.Sources.{Small}
 use Rattle.refine.proofs.sums.Laws.{small-zeros}
-use Rattle.request_checks.specs.Request.{linksFaults}
-use Rattle.building.specs.Answered.{LinksChecked}
+use Rattle.checks.specs.Request.{linksFaults, rangeFaults}
+use Rattle.checks.proofs.requests.Laws.{verdict-is}
 
-pub point-room : (n p : ℕ) → n ≤ p → (pointRow * n ≤ length (replicate (pointRow * p) (pos 0))) × Small (replicate (pointRow * p) (pos 0))
-point-room n p h = (rw (length-replicate {A = ℤ} (pointRow * p) (pos 0)) (omega arith), small-zeros (pointRow * p))
+pub point-room : (n p : ℕ) → (n ≤ mostCorners → n ≤ p)
+    → (n ≤ mostCorners → pointRow * n ≤ length (replicate (pointRow * p) (pos 0))) × Small (replicate (pointRow * p) (pos 0))
+point-room n p few = (λ h. rw (length-replicate {A = ℤ} (pointRow * p) (pos 0)) (omega (arith, few h)), small-zeros (pointRow * p))
 
 pub few : (M : Mesh) → Accepted M → cornerCount M ≤ mostCorners
 few M a = few-corners (length (M .coordinates)) (faceCount M) (cornerCount M) (sound-of M a .four)
 
-module _ (M : Mesh) (links table : List ℕ) where
-  pub mesh-refused : (k p : ℕ) → fault k p ≡ verdict M → LinksChecked M links (Refused k p) table
-  mesh-refused k p e = record { answers = sym (orElse-fault k p (linksFaults M links) (sym e)); tabled = unsound k p }
+-- ---- the ways out of building
+module _ (M : Mesh) (links : List ℕ) (first count : ℕ) (old : List ℤ) where
+  pub mesh-refused : (k p : ℕ) → fault k p ≡ verdict M → Built M links first count old (Refused k p) old
+  mesh-refused k p e =
+      record { answers = sym (orElse-fault k p _ (sym e)) ∙ sym (verdict-is M links first count (length old)); holds = refl }
 
-  pub links-checked : (r : Answer) → Accepted M → Tabled (cornersOf M) table → stated r ≡ linksFaults M links → LinksChecked M links r table
-  links-checked r a t e = record { answers = past a (linksFaults M links) e; tabled = λ z. t }
+  module _ (a : Accepted M) where
+    pub links-refused : (k p : ℕ) → fault k p ≡ linksFaults M links → Built M links first count old (Refused k p) old
+    links-refused k p e =
+        record { answers = past a _ (sym (orElse-fault k p _ (sym e))) ∙ sym (verdict-is M links first count (length old)); holds = refl }
+
+    module _ (b : linksFaults M links ≡ sound) where
+      pub range-refused : (k p : ℕ) → fault k p ≡ rangeFaults M first count (length old) → Built M links first count old (Refused k p) old
+      range-refused k p e = record { answers = past a _ (past b _ e) ∙ sym (verdict-is M links first count (length old)); holds = refl }
+
+      pub built : rangeFaults M first count (length old) ≡ sound → (out : List ℤ) → out ≡ nets M first count → Built M links first count old Done out
+      built e out w = record { answers = past a _ (past b _ (sym e)) ∙ sym (verdict-is M links first count (length old)); holds = w }

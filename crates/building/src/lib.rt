@@ -1,26 +1,19 @@
 // Building: writes the control points of a range of corners, or answers why the call is refused and leaves the output as it was.
 pub mod writing;
 
-use checks::columns::VERTEX_ROW;
 use mesh::LARGE_MESH;
 use mesh::SMALL_MESH;
 use paper::Answer;
 use paper::MOST_CORNERS;
-use paper::MOST_VERTICES;
 use surface::POINT_ROW;
 use walk::ROW;
-ghost use mathlib.Core.Path.{_≡_};
-ghost use mathlib.Core.Bool.{true};
-ghost use Prim.Native.Nat.{ℕ, _+_, _*_, _<_, _≤_};
+ghost use Prim.Native.Nat.{_*_, _≤_};
 ghost use lib.ListN.{length};
 ghost use Rattle.paper.specs.Mesh.{mostCorners, meshOf};
-ghost use Rattle.paper.specs.Faults.{Accepted};
-ghost use Rattle.paper.specs.Refined.{cornersOf};
-ghost use Rattle.paper.specs.Calls.{perCorner, nets, Built};
-ghost use Rattle.walk.specs.Table.{rowLength, toLink, entry, Tabled};
-ghost use Rattle.request_checks.specs.Request.{SameLinks};
-ghost use Rattle.checks.specs.Checked.{RoomFor};
-ghost use Rattle.building.specs.Answered.{LinksChecked, Answered};
+ghost use Rattle.paper.specs.Calls.{Built};
+ghost use Rattle.surface.specs.Points.{pointRow};
+ghost use Rattle.refine.specs.sums.Sources.{Small};
+ghost use Rattle.checks.specs.Checked.{RowsFor};
 
 // What is asked for: `count` corners from `first` on.
 struct Range {
@@ -60,9 +53,10 @@ fn build_sized(
 ) -> Answer
     ensures { λ r. ⌜ Built (meshOf (now (coordinates .entry)) (now (sides .entry)) (now (corners .entry)) (now (sharpness .entry))) (now (links .entry)) (range .first) (range .count) (now (out .entry)) r (now (out .exit)) ⌝ }
 {
-    if corners.len() <= SMALL_MESH && coordinates.len() / 3 <= SMALL_MESH {
+    let rows = mesh::table_rows(corners.len());
+    if rows == SMALL_MESH {
         let mut table = [0u16; ROW * SMALL_MESH];
-        let mut vertices = [0u16; VERTEX_ROW * SMALL_MESH];
+        let mut points = [0i32; POINT_ROW * SMALL_MESH];
         build_over(
             coordinates,
             sides,
@@ -71,12 +65,12 @@ fn build_sized(
             links,
             range,
             &mut table,
-            &mut vertices,
+            &mut points,
             out,
         )
-    } else if corners.len() <= LARGE_MESH {
+    } else if rows == LARGE_MESH {
         let mut table = [0u16; ROW * LARGE_MESH];
-        let mut vertices = [0u16; VERTEX_ROW * MOST_VERTICES];
+        let mut points = [0i32; POINT_ROW * LARGE_MESH];
         build_over(
             coordinates,
             sides,
@@ -85,12 +79,12 @@ fn build_sized(
             links,
             range,
             &mut table,
-            &mut vertices,
+            &mut points,
             out,
         )
     } else {
         let mut table = [0u16; ROW * MOST_CORNERS];
-        let mut vertices = [0u16; VERTEX_ROW * MOST_VERTICES];
+        let mut points = [0i32; POINT_ROW * MOST_CORNERS];
         build_over(
             coordinates,
             sides,
@@ -99,13 +93,13 @@ fn build_sized(
             links,
             range,
             &mut table,
-            &mut vertices,
+            &mut points,
             out,
         )
     }
 }
 
-// The same over tables of its own, which the checks fill.
+// The same over tables of its own: the checks fill that of the corners, and the refined points are put into the other.
 fn build_over(
     coordinates: &[i32],
     sides: &[u8],
@@ -114,154 +108,37 @@ fn build_over(
     links: &[u16],
     range: Range,
     table: &mut [u16],
-    vertices: &mut [u16],
+    points: &mut [i32],
     out: &mut [i32],
 ) -> Answer
-    requires { ⌜ RoomFor (meshOf (now coordinates) (now sides) (now corners) (now sharpness)) (now table) (now vertices) ⌝ }
+    requires table { ⌜ RowsFor (length (now corners)) (now table) ⌝ }
+    requires points { ⌜ (length (now corners) ≤ mostCorners → pointRow * length (now corners) ≤ length (now points)) × Small (now points) ⌝ }
     ensures { λ r. ⌜ Built (meshOf (now (coordinates .entry)) (now (sides .entry)) (now (corners .entry)) (now (sharpness .entry))) (now (links .entry)) (range .first) (range .count) (now (out .entry)) r (now (out .exit)) ⌝ }
 {
-    let a = check_linked(
-        coordinates,
-        sides,
-        corners,
-        sharpness,
-        links,
-        table,
-        vertices,
-    );
+    let a = checks::check_within(coordinates, sides, corners, sharpness, table);
     if let Answer::Refused(k, p) = a {
         return Answer::Refused(k, p);
     }
-    answer(coordinates, sides, corners, sharpness, range, table, out)
-}
-
-// Checks 4 to 15. Nearly every call lends the links of its mesh, which are the table's entries: how high these are is then seen in the lent
-// list, whose numbers lie side by side, and the entries are gone over once.
-fn check_linked(
-    coordinates: &[i32],
-    sides: &[u8],
-    corners: &[u16],
-    sharpness: &[u8],
-    links: &[u16],
-    table: &mut [u16],
-    vertices: &mut [u16],
-) -> Answer
-    requires { ⌜ RoomFor (meshOf (now coordinates) (now sides) (now corners) (now sharpness)) (now table) (now vertices) ⌝ }
-    ensures { λ r. ⌜ LinksChecked (meshOf (now (coordinates .entry)) (now (sides .entry)) (now (corners .entry)) (now (sharpness .entry))) (now (links .entry)) r (now (table .exit)) ⌝ }
-{
-    let a = checks::fill_tables(coordinates, sides, corners, sharpness, table, vertices);
-    if let Answer::Refused(k, p) = a {
+    let a15 = checks::requests::check_links(corners.len(), table, links);
+    if let Answer::Refused(k, p) = a15 {
         return Answer::Refused(k, p);
     }
-    let same = request_checks::same_links(corners.len(), table, links);
-    let most = highest(same, links, table, corners.len());
-    let b = checks::check_filled(
-        coordinates,
-        sides,
-        corners,
-        sharpness,
-        table,
-        vertices,
-        most,
-    );
-    if let Answer::Refused(k, p) = b {
-        return Answer::Refused(k, p);
-    }
-    if same {
-        return Answer::Done;
-    }
-    request_checks::check_links(corners.len(), table, links)
-}
-
-// A number that no entry is above: of the links, where they are the same.
-fn highest(same: bool, links: &[u16], table: &[u16], count: usize) -> u16
-    requires table { ⌜ (count ≤ mostCorners) × (rowLength * count ≤ length (now table)) ⌝ }
-    requires links { ⌜ (same ≡ true → SameLinks count (now table) (now links)) ⌝ }
-    ensures { λ r. ⌜ ((c : ℕ) → c < count → entry (now (table .entry)) toLink c ≤ r) ⌝ }
-{
-    if same {
-        return list_checks::highest_index(links);
-    }
-    checks::edges::highest_entry(table, count)
-}
-
-// The same for an accepted mesh and its links, over the table of its corners: checks 16 and 17, then the control points.
-fn answer(
-    coordinates: &[i32],
-    sides: &[u8],
-    corners: &[u16],
-    sharpness: &[u8],
-    range: Range,
-    table: &[u16],
-    out: &mut [i32],
-) -> Answer
-    requires mesh { ⌜ Accepted (meshOf (now coordinates) (now sides) (now corners) (now sharpness)) ⌝ }
-    requires table { ⌜ Tabled (cornersOf (meshOf (now coordinates) (now sides) (now corners) (now sharpness))) (now table) ⌝ }
-    ensures { λ r. ⌜ Answered (meshOf (now (coordinates .entry)) (now (sides .entry)) (now (corners .entry)) (now (sharpness .entry))) (range .first) (range .count) (now (out .entry)) r (now (out .exit)) ⌝ }
-{
     let first = range.first;
     let count = range.count;
-    let a = request_checks::check_asked(corners.len(), first, count, out.len());
-    if let Answer::Refused(k, p) = a {
+    let a17 = checks::requests::check_asked(corners.len(), first, count, out.len());
+    if let Answer::Refused(k, p) = a17 {
         return Answer::Refused(k, p);
     }
-    write_range(coordinates, sides, corners, sharpness, table, range, out);
+    crate::writing::write_nets(
+        coordinates,
+        sides,
+        corners,
+        sharpness,
+        table,
+        first,
+        count,
+        points,
+        out,
+    );
     Answer::Done
-}
-
-// The control points of a range, over a table of refined points of its own.
-fn write_range(
-    coordinates: &[i32],
-    sides: &[u8],
-    corners: &[u16],
-    sharpness: &[u8],
-    table: &[u16],
-    range: Range,
-    out: &mut [i32],
-)
-    requires mesh { ⌜ Accepted (meshOf (now coordinates) (now sides) (now corners) (now sharpness)) ⌝ }
-    requires table { ⌜ Tabled (cornersOf (meshOf (now coordinates) (now sides) (now corners) (now sharpness))) (now table) ⌝ }
-    requires range { ⌜ (0 < range .count) × (range .first + range .count ≤ length (now corners)) × (length (now out) ≡ perCorner * range .count) ⌝ }
-    ensures { λ _. ⌜ now (out .exit) ≡ nets (meshOf (now (coordinates .entry)) (now (sides .entry)) (now (corners .entry)) (now (sharpness .entry))) (range .first) (range .count) ⌝ }
-{
-    if corners.len() <= SMALL_MESH {
-        let mut points = [0i32; POINT_ROW * SMALL_MESH];
-        crate::writing::write_nets(
-            coordinates,
-            sides,
-            corners,
-            sharpness,
-            table,
-            range.first,
-            range.count,
-            &mut points,
-            out,
-        );
-    } else if corners.len() <= LARGE_MESH {
-        let mut points = [0i32; POINT_ROW * LARGE_MESH];
-        crate::writing::write_nets(
-            coordinates,
-            sides,
-            corners,
-            sharpness,
-            table,
-            range.first,
-            range.count,
-            &mut points,
-            out,
-        );
-    } else {
-        let mut points = [0i32; POINT_ROW * MOST_CORNERS];
-        crate::writing::write_nets(
-            coordinates,
-            sides,
-            corners,
-            sharpness,
-            table,
-            range.first,
-            range.count,
-            &mut points,
-            out,
-        );
-    }
 }

@@ -1,6 +1,5 @@
 -- What each passed check gives to the later ones: rooms, sums and names for filling the tables, unique edges with reverses for the links;
 -- and how the answers make up the verdict.
--- Assumes nothing.
 use mathlib.Core.Path.{_≡_, ap, _∙_, sym}
 use mathlib.Core.Bool.{false}
 use mathlib.Core.List.{List}
@@ -23,17 +22,20 @@ use Rattle.walk.specs.Table.{rowLength, toLink, Column, Tabled}
 use Rattle.walk.proofs.Table.{blank}
 use Rattle.checks.specs.columns.Vertices.{vertexRow, Rowed}
 use Rattle.checks.specs.columns.Chain.{EarliersTo, EarliersFrom, LastsTo, Ready}
-use Rattle.checks.specs.columns.Filled.{FacesFilled}
-use Rattle.checks.specs.edges.Entries.{Searchable, ChainsFrom, HeadsFrom, Ends, Found}
+use Rattle.checks.specs.columns.Filled.{FacesFilled, CornersCounted}
+use Rattle.checks.specs.edges.Entries.{Entries, Valences, Searchable, ChainsFrom, HeadsFrom, Ends, Found}
 use Rattle.checks.specs.vertices.Ring.{Linking}
-use Rattle.checks.specs.Checked.{RoomFor, Checked, ListsChecked, Listed, FilledFor, ListsFilled}
+use Rattle.checks.specs.Checked.{RowsFor, RoomFor, Checked, ListsChecked, Listed}
 
--- tables of p and q rows, of zeros
-pub room : (M : Mesh) (p q : ℕ) → (cornerCount M ≤ mostCorners → cornerCount M ≤ p) → (vertexCount M ≤ mostVertices → vertexCount M ≤ q)
-    → RoomFor M (replicate (rowLength * p) 0) (replicate (vertexRow * q) 0)
-room M p q a b =
+-- a table of p rows, and beside it one of q rows for the vertices, of zeros
+pub rows-for : (n p : ℕ) → (n ≤ mostCorners → n ≤ p) → RowsFor n (replicate (rowLength * p) 0)
+rows-for n p a h = rw (length-replicate {A = ℕ} (rowLength * p) 0) (omega (arith, a h))
+
+pub room : (M : Mesh) (table : List ℕ) (q : ℕ) → RowsFor (cornerCount M) table → (vertexCount M ≤ mostVertices → vertexCount M ≤ q)
+    → RoomFor M table (replicate (vertexRow * q) 0)
+room M table q a b =
     record {
-      corners-fit = λ h. rw (length-replicate {A = ℕ} (rowLength * p) 0) (omega (arith, a h));
+      corners-fit = a;
       vertices-fit = λ h. rw (length-replicate {A = ℕ} (vertexRow * q) 0) (omega (arith, b h));
       blank = blank (vertexRow * q);
     }
@@ -50,9 +52,6 @@ joined {a = a} {w = w} e f = ap (λ (x : Verdict). a orElse x) f ∙ ap (λ (x :
 
 pub lists-refused : (M : Mesh) (table vertices : List ℕ) (k p : ℕ) → fault k p ≡ listFaults M → ListsChecked M (Refused k p) table vertices
 lists-refused M table vertices k p e = record { answers = e; ready = unsound k p; faced = unsound k p }
-
-pub fill-refused : (M : Mesh) (table vertices : List ℕ) (k p : ℕ) → fault k p ≡ listFaults M → ListsFilled M (Refused k p) table vertices
-fill-refused M table vertices k p e = record { answers = e; filled = unsound k p }
 
 -- after 4 to 9 with 27 and 28
 pub listed : (M : Mesh) → listFaults M ≡ sound → Listed M
@@ -98,6 +97,17 @@ module _ (corners table vertices : List ℕ) (r : Ready corners table vertices) 
   pub heads : HeadsFrom corners vertices 0
   unfolding LastsTo
   heads v l = r .chained .lasts-are v
+
+-- tables that are filled for checks 10 to 13, of lists that have passed 4 to 9: an entry for the link of each corner, its valence, and the
+-- vertices are counted
+pub record FilledFor (M : Mesh) (table vertices : List ℕ) : Type 0 where
+  pub passed : listFaults M ≡ sound
+  pub long : rowLength * cornerCount M ≤ length table
+  pub long-vertices : vertexRow * vertexCount M ≤ length vertices
+  pub faces : FacesFilled (M .sides) table
+  pub entries : Entries (M .sides) (M .corners) table
+  pub valences : Valences (M .corners) table
+  pub counted : CornersCounted (M .corners) vertices
 
 -- after the search, which leaves the columns of the faces as they were
 pub filled-for : (M : Mesh) → listFaults M ≡ sound → (old table vertices : List ℕ) → rowLength * cornerCount M ≤ length table

@@ -13,12 +13,15 @@ use Rattle.mesh.specs.Tables.{Named}
 use Rattle.walk.specs.Table.{rowLength, Blank, Tabled}
 use Rattle.checks.specs.columns.Vertices.{vertexRow}
 use Rattle.checks.specs.columns.Chain.{Ready}
-use Rattle.checks.specs.columns.Filled.{FacesFilled, CornersCounted}
-use Rattle.checks.specs.edges.Entries.{Entries, Valences}
+use Rattle.checks.specs.columns.Filled.{FacesFilled}
 
--- a table of corners and a table of vertices with a row for each, where there are not too many; the second is of zeros
+-- a table with a row for each of n corners, where these are not too many
+abbrev pub RowsFor : ℕ → List ℕ → Type 0
+RowsFor n table = n ≤ mostCorners → rowLength * n ≤ length table
+
+-- such a table and a table of vertices with a row for each; the second is of zeros
 pub record RoomFor (M : Mesh) (table vertices : List ℕ) : Type 0 where
-  pub corners-fit : cornerCount M ≤ mostCorners → rowLength * cornerCount M ≤ length table
+  pub corners-fit : RowsFor (cornerCount M) table
   pub vertices-fit : vertexCount M ≤ mostVertices → vertexRow * vertexCount M ≤ length vertices
   pub blank : Blank vertices
 
@@ -40,19 +43,3 @@ pub record Listed (M : Mesh) : Type 0 where
   pub sums : sumOf (M .sides) ≡ cornerCount M
   pub sided : (f : ℕ) → f < faceCount M → leastSides ≤ getD (M .sides) f 0
   pub named : Named (M .corners) (vertexCount M)
-
--- tables that are filled for checks 10 to 13, of lists that have passed 4 to 9: an entry for the link of each corner, its valence, and the
--- vertices are counted
-pub record FilledFor (M : Mesh) (table vertices : List ℕ) : Type 0 where
-  pub passed : listFaults M ≡ sound
-  pub long : rowLength * cornerCount M ≤ length table
-  pub long-vertices : vertexRow * vertexCount M ≤ length vertices
-  pub faces : FacesFilled (M .sides) table
-  pub entries : Entries (M .sides) (M .corners) table
-  pub valences : Valences (M .corners) table
-  pub counted : CornersCounted (M .corners) vertices
-
--- the checks 4 to 9 with 27 and 28, then the search for the links
-pub record ListsFilled (M : Mesh) (r : Answer) (table vertices : List ℕ) : Type 0 where
-  pub answers : stated r ≡ listFaults M
-  pub filled : stated r ≡ sound → FilledFor M table vertices

@@ -1,4 +1,5 @@
 pub mod Checked
+pub mod Request
 pub mod columns
 pub mod edges
 pub mod vertices

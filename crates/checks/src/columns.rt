@@ -24,7 +24,7 @@ pub const COUNT: usize = 3;
 pub const LOWEST: usize = 0;
 
 // The row of corner c, which comes after `last` in a face of n sides: its previous corner and the sides, and the next of that corner.
-pub fn put_corner(table: &mut [u16], c: usize, last: usize, n: usize)
+pub(crate) fn put_corner(table: &mut [u16], c: usize, last: usize, n: usize)
     requires { ⌜ RowAt (now table) c × RowAt (now table) last × (n ≤ mostCorners) ⌝ }
     ensures { λ _. ⌜ now (table .exit) ≡ filled (now (table .entry)) c last n ⌝ }
 {

@@ -21,9 +21,9 @@ ghost use Rattle.paper.specs.Links.{vertexOf, valence};
 ghost use Rattle.paper.specs.Faults.{lowestOf, stated};
 ghost use Rattle.mesh.specs.Tables.{Named};
 ghost use Rattle.walk.specs.Table.{rowLength, toLink, entry};
-ghost use Rattle.checks.specs.columns.Vertices.{vertexRow, leavingHere, arrivingHere, countHere};
+ghost use Rattle.checks.specs.columns.Vertices.{vertexRow, leavingHere, arrivingHere, countHere, Row};
 ghost use Rattle.checks.specs.columns.Chain.{lastOf, Clear};
-ghost use Rattle.checks.specs.edges.Entries.{has, Unrepeated, Reversed, Searchable, ChainsFrom, HeadsFrom, Row, BothKeyed};
+ghost use Rattle.checks.specs.edges.Entries.{has, Searchable, ChainsFrom, HeadsFrom, BothKeyed};
 ghost use Rattle.checks.specs.edges.Entries.{MarkedFrom, CountedAt, Unmarked, EntryFor, Collected, Found, EdgesChecked};
 
 // The entry of a corner whose leaving edge already left an earlier one, and of a corner whose leaving edge has no reverse.
@@ -31,26 +31,24 @@ const REPEATED: u16 = 8193;
 
 const ALONE: u16 = 8192;
 
-// Checks 10 and 11, of entries that are found and none of which is above `most`: where both have passed, they are the links. Nearly every
-// mesh passes by that number alone.
-pub fn check_entries(corners: &[u16], table: &[u16], most: u16) -> Answer
-    requires table { ⌜ (length (now corners) ≤ mostCorners) × (rowLength * length (now corners) ≤ length (now table)) ⌝ }
-    requires most { ⌜ ((c : ℕ) → c < length (now corners) → entry (now table) toLink c ≤ most) ⌝ }
+// Checks 10 and 11, of entries that are found: where both have passed, they are the links. Nearly every mesh passes by the highest entry alone.
+pub(crate) fn check_entries(corners: &[u16], table: &[u16]) -> Answer
+    requires { ⌜ (length (now corners) ≤ mostCorners) × (rowLength * length (now corners) ≤ length (now table)) ⌝ }
     ensures { λ r. ⌜ EdgesChecked (now (corners .entry)) (now (table .entry)) r ⌝ }
 {
-    if most < ALONE {
+    if highest_entry(table, corners.len()) < ALONE {
         return Answer::Done;
     }
-    let a10 = check_repeats(corners, table);
+    let a10 = refuse(table, corners.len(), REPEATED, 10);
     if let Answer::Refused(k, p) = a10 {
         return Answer::Refused(k, p);
     }
-    check_reverses(corners, table)
+    refuse(table, corners.len(), ALONE, 11)
 }
 
 // The entry and the valence of every corner, vertex by vertex, in the columns of links and valences; the second held the chains. The
 // columns of edges are never cleared: an entry of another vertex is known by its corner.
-pub fn fill_links(corners: &[u16], count: usize, table: &mut [u16], vertices: &mut [u16])
+pub(crate) fn fill_links(corners: &[u16], count: usize, table: &mut [u16], vertices: &mut [u16])
     requires walk { ⌜ Searchable (now corners) (now table) (now vertices) × ChainsFrom (now corners) (now table) 0 × HeadsFrom (now corners) (now vertices) 0 ⌝ }
     requires vertices { ⌜ Named (now corners) count × (vertexRow * count ≤ length (now vertices)) ⌝ }
     requires clear { ⌜ Clear (now vertices) leavingHere × Clear (now vertices) arrivingHere × Clear (now vertices) countHere ⌝ }
@@ -135,33 +133,17 @@ fn entry(corners: &[u16], table: &[u16], vertices: &[u16], u: usize, c: usize) -
 }
 
 // A number that no entry is above.
-pub fn highest_entry(table: &[u16], count: usize) -> u16
+fn highest_entry(table: &[u16], count: usize) -> u16
     requires { ⌜ (count ≤ mostCorners) × (rowLength * count ≤ length (now table)) ⌝ }
     ensures { λ r. ⌜ ((c : ℕ) → c < count → entry (now (table .entry)) toLink c ≤ r) ⌝ }
 {
     let mut most: u16 = 0;
     let mut c = 0;
     while c < count {
-        most = list_checks::greater_index(most, table[ROW * c + LINK]);
+        most = crate::lists::greater_index(most, table[ROW * c + LINK]);
         c += 1;
     }
     most
-}
-
-// Check 10: no leaving edge already left an earlier corner.
-fn check_repeats(corners: &[u16], table: &[u16]) -> Answer
-    requires { ⌜ (length (now corners) ≤ mostCorners) × (rowLength * length (now corners) ≤ length (now table)) ⌝ }
-    ensures { λ r. ⌜ Unrepeated (now (corners .entry)) (now (table .entry)) r ⌝ }
-{
-    refuse(table, corners.len(), REPEATED, 10)
-}
-
-// Check 11, after check 10: each leaving edge has a reverse.
-fn check_reverses(corners: &[u16], table: &[u16]) -> Answer
-    requires { ⌜ (length (now corners) ≤ mostCorners) × (rowLength * length (now corners) ≤ length (now table)) ⌝ }
-    ensures { λ r. ⌜ Reversed (now (corners .entry)) (now (table .entry)) r ⌝ }
-{
-    refuse(table, corners.len(), ALONE, 11)
 }
 
 // The lowest corner that has the entry, as the place of a fault.

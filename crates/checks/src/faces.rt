@@ -18,7 +18,12 @@ ghost use Rattle.checks.specs.columns.Filled.{FacesFilled};
 // Check 9: no corner names the vertex of an earlier corner of its face. The table of vertices holds one more than the last corner met of
 // each vertex: that corner is in the face if the entry is above the face's first corner. It is kept for the corner, so that the corners
 // of a vertex form a falling chain. On the way the columns of the faces are filled. A refused mesh leaves the two tables with any contents.
-pub fn check_faces(sides: &[u8], corners: &[u16], table: &mut [u16], vertices: &mut [u16]) -> Answer
+pub(crate) fn check_faces(
+    sides: &[u8],
+    corners: &[u16],
+    table: &mut [u16],
+    vertices: &mut [u16],
+) -> Answer
     requires mesh { ⌜ (sumOf (now sides) ≡ length (now corners)) × (length (now corners) ≤ mostCorners) × ((f : ℕ) → f < length (now sides) → leastSides ≤ getD (now sides) f 0) ⌝ }
     requires room { ⌜ (rowLength * length (now corners) ≤ length (now table)) × Rowed (now corners) (now vertices) × Blank (now vertices) ⌝ }
     ensures answer { λ r. ⌜ stated r ≡ lowestOf 9 (length (now (corners .entry))) (fault9 (now (sides .entry)) (now (corners .entry))) ⌝ }

@@ -17,7 +17,12 @@ ghost use Rattle.checks.specs.columns.Filled.{CornersCounted};
 ghost use Rattle.checks.specs.vertices.Ring.{ringWithin, Linking, Cornered, Ringed, VerticesChecked};
 
 // Checks 12 and 13, of vertices that are counted.
-pub fn check_vertices(corners: &[u16], count: usize, table: &[u16], vertices: &[u16]) -> Answer
+pub(crate) fn check_vertices(
+    corners: &[u16],
+    count: usize,
+    table: &[u16],
+    vertices: &[u16],
+) -> Answer
     requires counted { ⌜ (count ≤ mostVertices) × (vertexRow * count ≤ length (now vertices)) × CornersCounted (now corners) (now vertices) ⌝ }
     requires links { ⌜ Linking (now table) (length (now corners)) ⌝ }
     ensures { λ r. ⌜ VerticesChecked (now (corners .entry)) count (now (table .entry)) r ⌝ }

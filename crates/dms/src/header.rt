@@ -123,7 +123,7 @@ fn check_counts(file: &[u8]) -> Answer
     requires { ⌜ headerLength ≤ length (now file) ⌝ }
     ensures { λ r. ⌜ stated r ≡ countsVerdict (now (file .entry)) ⌝ }
 {
-    list_checks::check_lengths(3 * vertex_count(file), face_count(file), corner_count(file))
+    checks::lists::check_lengths(3 * vertex_count(file), face_count(file), corner_count(file))
 }
 
 // Checks 1, 2 and 3 of a file of `counted` bytes.

@@ -6,11 +6,13 @@ pub mod surveying;
 
 use crate::surveying::none;
 pub use crate::surveying::survey_mesh;
+use mesh::least;
 use paper::Answer;
 use paper::Decoded;
 use paper::MOST_CORNERS;
 use paper::MOST_FACES;
-use paper::MOST_VERTICES;
+use paper::MOST_NUMBERS;
+use paper::MOST_PAIRS;
 use paper::Summary;
 ghost use mathlib.Core.Path.{_≡_};
 ghost use Prim.Native.Nat.{_<_, _≤_};
@@ -19,12 +21,6 @@ ghost use Rattle.paper.specs.Mesh.{meshOf};
 ghost use Rattle.paper.specs.Faults.{verdict, stated};
 ghost use Rattle.paper.specs.File.{headerLength, fileMesh, fileOf, Surveyed, FileSurveyed, roomVerdict, decodeVerdict, DecodedTo};
 ghost use Rattle.dms.specs.header.Sized.{Sized};
-
-// The numbers of the longest coordinate list.
-const MOST_NUMBERS: usize = 3 * MOST_VERTICES;
-
-// The numbers of the longest sharpness list.
-const MOST_PAIRS: usize = 2 * MOST_CORNERS;
 
 // Our own number, outside 01's list: a lent space is shorter than its list.
 pub const NO_ROOM: u8 = 255;
@@ -57,13 +53,6 @@ pub fn decode(
         corners,
         sharpness,
     )
-}
-
-// The lesser of two numbers.
-fn least(a: usize, b: usize) -> usize
-    ensures { λ r. ⌜ (r ≤ a) × ((r < b → r ≡ a) × (r ≤ b)) ⌝ }
-{
-    if a < b { a } else { b }
 }
 
 // A refusal of decoding.

@@ -1,5 +1,4 @@
 -- Copying a table entry by entry, and linking, way by way.
--- Assumes nothing.
 use mathlib.Core.Path.{_≡_, ap, _∙_, sym}
 use mathlib.Core.Bool.{not}
 use mathlib.Core.List.{List}
@@ -18,7 +17,7 @@ use Rattle.paper.specs.Refined.{cornersOf}
 use Rattle.mesh.proofs.Links.{link-table-is}
 use Rattle.mesh.proofs.Verdicts.{orElse-fault, past}
 use Rattle.walk.specs.Table.{toLink, entry, Tabled}
-use Rattle.request_checks.proofs.Requests.{length-of}
+use Rattle.checks.proofs.requests.Laws.{length-of}
 
 -- the links below c are copied
 pub Copied : List ℕ → List ℕ → ℕ → Type 0

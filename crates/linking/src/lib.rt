@@ -1,10 +1,7 @@
 // Linking: fills a lent link table, or answers why the mesh is turned down and leaves the table as it was.
-use checks::columns::VERTEX_ROW;
-use mesh::MEDIUM_MESH;
 use mesh::SMALL_MESH;
 use paper::Answer;
 use paper::MOST_CORNERS;
-use paper::MOST_VERTICES;
 use walk::LINK;
 use walk::ROW;
 ghost use mathlib.Core.Path.{_≡_};
@@ -13,7 +10,7 @@ ghost use lib.ListN.{length, getD};
 ghost use Rattle.paper.specs.Mesh.{mostCorners, meshOf};
 ghost use Rattle.paper.specs.Calls.{Linked};
 ghost use Rattle.walk.specs.Table.{rowLength, toLink, entry};
-ghost use Rattle.checks.specs.Checked.{RoomFor};
+ghost use Rattle.checks.specs.Checked.{RowsFor};
 
 // Checks 4 to 14 with 27 and 28, then the link of every corner. Nothing is written to the lent table before the last check has passed.
 pub fn link(
@@ -25,80 +22,32 @@ pub fn link(
 ) -> Answer
     ensures { λ r. ⌜ Linked (meshOf (now (coordinates .entry)) (now (sides .entry)) (now (corners .entry)) (now (sharpness .entry))) (now (links .entry)) r (now (links .exit)) ⌝ }
 {
-    if SMALL_MESH < corners.len() {
-        return link_large(coordinates, sides, corners, sharpness, links);
+    if mesh::table_rows(corners.len()) == SMALL_MESH {
+        let mut table = [0u16; ROW * SMALL_MESH];
+        link_over(coordinates, sides, corners, sharpness, &mut table, links)
+    } else {
+        let mut table = [0u16; ROW * MOST_CORNERS];
+        link_over(coordinates, sides, corners, sharpness, &mut table, links)
     }
-    if SMALL_MESH < coordinates.len() / 3 {
-        return link_large(coordinates, sides, corners, sharpness, links);
-    }
-    let mut table = [0u16; ROW * SMALL_MESH];
-    let mut vertices = [0u16; VERTEX_ROW * SMALL_MESH];
-    link_over(
-        coordinates,
-        sides,
-        corners,
-        sharpness,
-        &mut table,
-        &mut vertices,
-        links,
-    )
 }
 
-// The same of a mesh that is not small. A function of its own, with two callers, so that the compiler does not reserve its long tables
-// for a small mesh too: reserving them touches every page of them.
-fn link_large(
-    coordinates: &[i32],
-    sides: &[u8],
-    corners: &[u16],
-    sharpness: &[u8],
-    links: &mut [u16],
-) -> Answer
-    ensures { λ r. ⌜ Linked (meshOf (now (coordinates .entry)) (now (sides .entry)) (now (corners .entry)) (now (sharpness .entry))) (now (links .entry)) r (now (links .exit)) ⌝ }
-{
-    if corners.len() <= MEDIUM_MESH && coordinates.len() / 3 <= MEDIUM_MESH {
-        let mut table = [0u16; ROW * MEDIUM_MESH];
-        let mut vertices = [0u16; VERTEX_ROW * MEDIUM_MESH];
-        return link_over(
-            coordinates,
-            sides,
-            corners,
-            sharpness,
-            &mut table,
-            &mut vertices,
-            links,
-        );
-    }
-    let mut table = [0u16; ROW * MOST_CORNERS];
-    let mut vertices = [0u16; VERTEX_ROW * MOST_VERTICES];
-    link_over(
-        coordinates,
-        sides,
-        corners,
-        sharpness,
-        &mut table,
-        &mut vertices,
-        links,
-    )
-}
-
-// The same over tables of its own: the checks fill them, and the links are copied once they have passed.
+// The same over a table of its own: the checks fill it, and the links are copied once they have passed.
 fn link_over(
     coordinates: &[i32],
     sides: &[u8],
     corners: &[u16],
     sharpness: &[u8],
     table: &mut [u16],
-    vertices: &mut [u16],
     links: &mut [u16],
 ) -> Answer
-    requires { ⌜ RoomFor (meshOf (now coordinates) (now sides) (now corners) (now sharpness)) (now table) (now vertices) ⌝ }
+    requires { ⌜ RowsFor (length (now corners)) (now table) ⌝ }
     ensures { λ r. ⌜ Linked (meshOf (now (coordinates .entry)) (now (sides .entry)) (now (corners .entry)) (now (sharpness .entry))) (now (links .entry)) r (now (links .exit)) ⌝ }
 {
-    let a = checks::check_within(coordinates, sides, corners, sharpness, table, vertices);
+    let a = checks::check_within(coordinates, sides, corners, sharpness, table);
     if let Answer::Refused(k, p) = a {
         return Answer::Refused(k, p);
     }
-    let a14 = request_checks::check_length(links.len(), corners.len());
+    let a14 = checks::requests::check_length(links.len(), corners.len());
     if let Answer::Refused(k, p) = a14 {
         return Answer::Refused(k, p);
     }

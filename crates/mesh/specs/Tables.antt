@@ -7,13 +7,9 @@ use lib.ListN.{length, getD}
 use Rattle.paper.specs.Corners.{next}
 use Rattle.paper.specs.Links.{vertexOf, link}
 
--- a mesh with at most so many vertices, faces and corners is small, and has short tables
+-- the rows of the short tables, and of the longer ones of a large mesh
 abbrev pub smallMesh : ℕ
 smallMesh = 256
-
--- with at most so many it is of medium size, and large
-abbrev pub mediumMesh : ℕ
-mediumMesh = 512
 
 abbrev pub largeMesh : ℕ
 largeMesh = 4096

@@ -1,9 +1,66 @@
-// Meshes: what holds of every accepted mesh, for the crates that check, link and build one.
+// Meshes: what holds of every accepted mesh, for the crates that check, link and build one; how long the tables of a call are; a list copied.
+use paper::MOST_CORNERS;
+ghost use mathlib.Core.Path.{_≡_};
+ghost use Prim.Native.Nat.{_≤_, _<_};
+ghost use lib.ListN.{length};
+ghost use Rattle.paper.specs.Mesh.{mostCorners};
+ghost use Rattle.paper.specs.File.{begins};
 
-// A mesh with at most so many vertices, faces and corners is small: calls use short tables for it, which are sooner cleared.
+// The lengths of a call's tables, in rows: short tables are sooner cleared. The longest have MOST_CORNERS rows.
 pub const SMALL_MESH: usize = 256;
 
-// The same for a mesh of medium size, and for a large one, in building, which has more tables.
-pub const MEDIUM_MESH: usize = 512;
-
 pub const LARGE_MESH: usize = 4096;
+
+// How many rows a table has that holds a row for each of `count` corners or vertices. Every call that has tables of its own asks here.
+pub fn table_rows(count: usize) -> usize
+    ensures { λ r. ⌜ (count ≤ mostCorners → count ≤ r) ⌝ }
+{
+    if count <= SMALL_MESH {
+        SMALL_MESH
+    } else if count <= LARGE_MESH {
+        LARGE_MESH
+    } else {
+        MOST_CORNERS
+    }
+}
+
+// The lesser of two numbers.
+pub fn least(a: usize, b: usize) -> usize
+    ensures { λ r. ⌜ (r ≤ a) × ((r < b → r ≡ a) × (r ≤ b)) ⌝ }
+{
+    if a < b { a } else { b }
+}
+
+// Copies a list into the beginning of a lent one, for each width of its numbers.
+pub fn copy_words(list: &[i32], lent: &mut [i32])
+    requires { ⌜ length (now list) ≤ length (now lent) ⌝ }
+    ensures { λ _. ⌜ now (lent .exit) ≡ begins (now (list .entry)) (now (lent .entry)) ⌝ }
+{
+    let mut i = 0;
+    while i < list.len() {
+        lent[i] = list[i];
+        i += 1;
+    }
+}
+
+pub fn copy_halves(list: &[u16], lent: &mut [u16])
+    requires { ⌜ length (now list) ≤ length (now lent) ⌝ }
+    ensures { λ _. ⌜ now (lent .exit) ≡ begins (now (list .entry)) (now (lent .entry)) ⌝ }
+{
+    let mut i = 0;
+    while i < list.len() {
+        lent[i] = list[i];
+        i += 1;
+    }
+}
+
+pub fn copy_bytes(list: &[u8], lent: &mut [u8])
+    requires { ⌜ length (now list) ≤ length (now lent) ⌝ }
+    ensures { λ _. ⌜ now (lent .exit) ≡ begins (now (list .entry)) (now (lent .entry)) ⌝ }
+{
+    let mut i = 0;
+    while i < list.len() {
+        lent[i] = list[i];
+        i += 1;
+    }
+}

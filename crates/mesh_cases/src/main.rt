@@ -4,6 +4,7 @@
 // not keep would show as `changed`.
 use libc::STDIN_FILENO;
 use libc::STDOUT_FILENO;
+use mesh::least;
 use paper::Answer;
 use std::num::wrapping_add_u64;
 ghost use Prim.Native.Nat.{_≤_};
@@ -278,13 +279,6 @@ fn name(text: &[u8], start: usize, end: usize) {
     let e = least(end, text.len());
     let s = least(start, e);
     words(&text[s..e]);
-}
-
-// The lesser of two numbers.
-fn least(n: usize, most: usize) -> usize
-    ensures { λ r. ⌜ r ≤ most ⌝ }
-{
-    if n < most { n } else { most }
 }
 
 // Gives the table the contents that a refusal must keep.

@@ -3,6 +3,7 @@
 // turned down gets the line `refused`, with number and place; a line that is neither gets a line that names it.
 use libc::STDIN_FILENO;
 use libc::STDOUT_FILENO;
+use mesh::least;
 use paper::Answer;
 use paper::MOST_BODIES;
 use paper::SUN;
@@ -219,11 +220,4 @@ fn text(bytes: &[u8]) {
 
 fn wide(x: u16) -> usize {
     x as usize
-}
-
-// The lesser of two numbers.
-fn least(a: usize, b: usize) -> usize
-    ensures { λ r. ⌜ (r ≤ a) × (r ≤ b) ⌝ }
-{
-    if a < b { a } else { b }
 }

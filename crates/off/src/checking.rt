@@ -3,7 +3,7 @@
 use crate::words::Cursor;
 use paper::Answer;
 use paper::Decoded;
-use paper::MOST_CORNERS;
+use paper::MOST_PAIRS;
 use paper::PLAIN;
 ghost use mathlib.Core.Path.{_≡_};
 ghost use Prim.Native.Nat.{_*_, _≤_};
@@ -12,9 +12,6 @@ ghost use Rattle.paper.specs.Mesh.{Mesh, plainMesh, mostCorners};
 ghost use Rattle.paper.specs.Faults.{verdict, stated};
 ghost use Rattle.off.specs.words.Cursor.{Before};
 ghost use Rattle.off.specs.checking.Call.{Lists, Room, WordsRead, Checked};
-
-// The numbers of the longest sharpness list.
-const MOST_PAIRS: usize = 2 * MOST_CORNERS;
 
 // Checks 25, 26 and 4 to 13, with the lists in own ones.
 pub fn read_checked(
@@ -86,7 +83,7 @@ fn check(d: Decoded, coordinates: &[i32], sides: &[u8], corners: &[u16]) -> Answ
     let n = d.coordinates;
     let f = d.sides;
     let k = d.corners;
-    let lengths = list_checks::check_lengths(n, f, k);
+    let lengths = checks::lists::check_lengths(n, f, k);
     if let Answer::Refused(number, place) = lengths {
         return Answer::Refused(number, place);
     }

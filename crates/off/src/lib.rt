@@ -12,22 +12,16 @@ use paper::Answer;
 use paper::Decoded;
 use paper::MOST_CORNERS;
 use paper::MOST_FACES;
-use paper::MOST_VERTICES;
+use paper::MOST_NUMBERS;
+use paper::MOST_PAIRS;
 ghost use mathlib.Core.Path.{_≡_};
 ghost use mathlib.Core.Bool.{true};
 ghost use Prim.Native.Nat.{_*_, _<_, _≤_};
 ghost use lib.ListN.{length};
 ghost use Rattle.paper.specs.Mesh.{meshOf, four, mostCorners};
-ghost use Rattle.paper.specs.File.{begins};
 ghost use Rattle.paper.specs.Off.{short, OffRead};
 ghost use Rattle.off.specs.words.Cursor.{Before};
 ghost use Rattle.off.specs.checking.Call.{Room, Copied};
-
-// The numbers of the longest coordinate list.
-const MOST_NUMBERS: usize = 3 * MOST_VERTICES;
-
-// The numbers of the longest sharpness list.
-const MOST_PAIRS: usize = 2 * MOST_CORNERS;
 
 // The lists of an OFF text, into the beginnings of the lent ones.
 pub fn read(
@@ -101,9 +95,9 @@ fn read_through(
     let n = d.coordinates;
     let f = d.sides;
     let k = d.corners;
-    copy_coordinates(&numbers[..n], coordinates);
-    copy_sides(&sizes[..f], sides);
-    copy_corners(&names[..k], corners);
+    mesh::copy_words(&numbers[..n], coordinates);
+    mesh::copy_bytes(&sizes[..f], sides);
+    mesh::copy_halves(&names[..k], corners);
     let pairs = 2 * k;
     dms::lists::fill_plain(pairs, sharpness);
     Decoded {
@@ -112,39 +106,5 @@ fn read_through(
         sides: f,
         corners: k,
         sharpness: pairs,
-    }
-}
-
-// Copies a list into the beginning of a lent one.
-fn copy_coordinates(list: &[i32], lent: &mut [i32])
-    requires { ⌜ length (now list) ≤ length (now lent) ⌝ }
-    ensures { λ _. ⌜ now (lent .exit) ≡ begins (now (list .entry)) (now (lent .entry)) ⌝ }
-{
-    let mut i = 0;
-    while i < list.len() {
-        lent[i] = list[i];
-        i += 1;
-    }
-}
-
-fn copy_sides(list: &[u8], lent: &mut [u8])
-    requires { ⌜ length (now list) ≤ length (now lent) ⌝ }
-    ensures { λ _. ⌜ now (lent .exit) ≡ begins (now (list .entry)) (now (lent .entry)) ⌝ }
-{
-    let mut i = 0;
-    while i < list.len() {
-        lent[i] = list[i];
-        i += 1;
-    }
-}
-
-fn copy_corners(list: &[u16], lent: &mut [u16])
-    requires { ⌜ length (now list) ≤ length (now lent) ⌝ }
-    ensures { λ _. ⌜ now (lent .exit) ≡ begins (now (list .entry)) (now (lent .entry)) ⌝ }
-{
-    let mut i = 0;
-    while i < list.len() {
-        lent[i] = list[i];
-        i += 1;
     }
 }

@@ -2,12 +2,14 @@
 // with number and place, on standard error, and nothing on standard output; so does one that is longer than 1 MiB, with another line. With the
 // argument `as-drawn` the lists are written as the text has them, checked by 24, 25, 26 and 4 alone, for `turn` to check the rest.
 use libc::STDIN_FILENO;
+use mesh::least;
 use off::words::Cursor;
 use paper::Answer;
 use paper::Decoded;
 use paper::MOST_CORNERS;
 use paper::MOST_FACES;
-use paper::MOST_VERTICES;
+use paper::MOST_NUMBERS;
+use paper::MOST_PAIRS;
 use print::complain_refusal;
 use streams::output::complain;
 ghost use Prim.Native.Nat.{_≤_};
@@ -92,10 +94,10 @@ fn read_and_convert(text: &mut [u8], drawn: bool) {
 
 // Reads the text, and writes the file when every check has passed.
 fn convert(text: &[u8]) {
-    let mut coordinates = [0i32; 3 * MOST_VERTICES];
+    let mut coordinates = [0i32; MOST_NUMBERS];
     let mut sides = [0u8; MOST_FACES];
     let mut corners = [0u16; MOST_CORNERS];
-    let mut sharpness = [0u8; 2 * MOST_CORNERS];
+    let mut sharpness = [0u8; MOST_PAIRS];
     let d = off::read(
         text,
         &mut coordinates,
@@ -104,10 +106,10 @@ fn convert(text: &[u8]) {
         &mut sharpness,
     );
     let answer = d.answer;
-    let n = least(d.coordinates, 3 * MOST_VERTICES);
+    let n = least(d.coordinates, MOST_NUMBERS);
     let f = least(d.sides, MOST_FACES);
     let k = least(d.corners, MOST_CORNERS);
-    let p = least(d.sharpness, 2 * MOST_CORNERS);
+    let p = least(d.sharpness, MOST_PAIRS);
     match answer {
         Answer::Refused(number, place) => complain_refusal(number, place),
         Answer::Done => {
@@ -136,12 +138,12 @@ fn convert_drawn(text: &[u8]) {
 fn read_drawn(text: &[u8], c: Cursor)
     requires { ⌜ Before (now text) 1 c ⌝ }
 {
-    let mut coordinates = [0i32; 3 * MOST_VERTICES];
+    let mut coordinates = [0i32; MOST_NUMBERS];
     let mut sides = [0u8; MOST_FACES];
     let mut corners = [0u16; MOST_CORNERS];
     let d = off::checking::read_words(text, c, &mut coordinates, &mut sides, &mut corners);
     let answer = check_counts(d);
-    let n = least(d.coordinates, 3 * MOST_VERTICES);
+    let n = least(d.coordinates, MOST_NUMBERS);
     let f = least(d.sides, MOST_FACES);
     let k = least(d.corners, MOST_CORNERS);
     match answer {
@@ -158,12 +160,5 @@ fn check_counts(d: Decoded) -> Answer {
     if let Answer::Refused(number, place) = answer {
         return Answer::Refused(number, place);
     }
-    list_checks::check_lengths(d.coordinates, d.sides, d.corners)
-}
-
-// The lesser of two numbers.
-fn least(a: usize, b: usize) -> usize
-    ensures { λ r. ⌜ (r ≤ a) × (r ≤ b) ⌝ }
-{
-    if a < b { a } else { b }
+    checks::lists::check_lengths(d.coordinates, d.sides, d.corners)
 }

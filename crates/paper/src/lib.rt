@@ -20,6 +20,11 @@ pub const PLAIN: u8 = 8;
 
 pub const SHARPNESS_PER_CORNER: usize = 2;
 
+// The numbers of the longest coordinate list, and of the longest sharpness list.
+pub const MOST_NUMBERS: usize = 3 * MOST_VERTICES;
+
+pub const MOST_PAIRS: usize = SHARPNESS_PER_CORNER * MOST_CORNERS;
+
 // What stands for 1 in the cosine table.
 pub const UNIT: i64 = 1073741824;
 

@@ -1,11 +1,12 @@
 // Prints the control points of every corner of the mesh file on standard input, in ticks: a line `corner N`, then 41 lines of
 // x, y, z, the b points row by row and then the a points; or why the file is turned down, as `inspect` does.
+use mesh::least;
 use paper::Answer;
 use paper::MOST_CORNERS;
 use paper::MOST_FACES;
+use paper::MOST_NUMBERS;
+use paper::MOST_PAIRS;
 use paper::NUMBERS_PER_CORNER;
-use print::mesh_input::MOST_NUMBERS;
-use print::mesh_input::MOST_PAIRS;
 use print::mesh_input::read_mesh;
 use print::say_refusal;
 use streams::output::say_up_to;
@@ -166,11 +167,4 @@ fn put_points(lines: &mut [u8], from: usize, output: &[i32; NUMBERS], place: usi
         i += 1;
     }
     at
-}
-
-// The lesser of two numbers.
-fn least(a: usize, b: usize) -> usize
-    ensures { λ r. ⌜ (r ≤ a) × (r ≤ b) ⌝ }
-{
-    if a < b { a } else { b }
 }

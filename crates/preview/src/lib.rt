@@ -1,7 +1,7 @@
 // L9, try a vertex before moving it: check 29, then building on a copy of the coordinate list in which the vertex has its new place.
 use mesh::SMALL_MESH;
 use paper::Answer;
-use paper::MOST_VERTICES;
+use paper::MOST_NUMBERS;
 use paper::Move;
 ghost use mathlib.Core.Path.{_≡_};
 ghost use Prim.Native.Nat.{_/_, _<_, _≤_};
@@ -16,9 +16,7 @@ const NO_VERTEX: u8 = 29;
 
 const LENGTHS: u8 = 4;
 
-// The numbers of the longest coordinate list, and of a small mesh's.
-const MOST_NUMBERS: usize = 3 * MOST_VERTICES;
-
+// The numbers of a small mesh's coordinate list.
 const FEW_NUMBERS: usize = 3 * SMALL_MESH;
 
 // What is asked for: `count` corners from `first` on.
@@ -118,7 +116,7 @@ fn copy_moved(coordinates: &[i32], to: Move, copy: &mut [i32])
     requires room { ⌜ length (now coordinates) ≤ length (now copy) ⌝ }
     ensures { λ _. ⌜ now (copy .exit) ≡ begins (movedList (now (coordinates .entry)) to) (now (copy .entry)) ⌝ }
 {
-    fill(coordinates, copy);
+    mesh::copy_words(coordinates, copy);
     let at = 3 * to.vertex;
     let x = to.x;
     let y = to.y;
@@ -126,16 +124,4 @@ fn copy_moved(coordinates: &[i32], to: Move, copy: &mut [i32])
     copy[at] = x;
     copy[at + 1] = y;
     copy[at + 2] = z;
-}
-
-// Copies a list into the beginning of a lent one.
-fn fill(values: &[i32], lent: &mut [i32])
-    requires { ⌜ length (now values) ≤ length (now lent) ⌝ }
-    ensures { λ _. ⌜ now (lent .exit) ≡ begins (now (values .entry)) (now (lent .entry)) ⌝ }
-{
-    let mut i = 0;
-    while i < values.len() {
-        lent[i] = values[i];
-        i += 1;
-    }
 }

@@ -5,6 +5,7 @@ ghost use lib.ListN.{length, take};
 ghost use Rattle.io.specs.Counts.{Counts};
 ghost use Rattle.paper.specs.File.{headerLength};
 ghost use Rattle.print.specs.file_input.Measured.{Measured};
+use mesh::least;
 use streams::input::Got;
 use streams::input::fill;
 use streams::input::read_some;
@@ -74,11 +75,4 @@ fn skip(fd: i32, most: usize) -> Got
     let mut spill = io::buffer();
     let n = least(most, SPILL);
     read_some(fd, &mut spill[..n])
-}
-
-// The lesser of two numbers.
-fn least(a: usize, b: usize) -> usize
-    ensures { λ r. ⌜ (r ≤ a) × (r ≤ b) ⌝ }
-{
-    if a < b { a } else { b }
 }

@@ -6,17 +6,14 @@ use crate::file_input::read_file;
 use crate::say_refusal;
 use dms::decode;
 use libc::STDIN_FILENO;
+use mesh::least;
 use paper::Answer;
 use paper::MOST_CORNERS;
 use paper::MOST_FACES;
-use paper::MOST_VERTICES;
+use paper::MOST_NUMBERS;
+use paper::MOST_PAIRS;
 ghost use Prim.Native.Nat.{_≤_};
 ghost use Rattle.print.specs.mesh_input.Fitting.{Fitting};
-
-// The numbers of the longest coordinate list, and of the longest sharpness list.
-pub const MOST_NUMBERS: usize = 3 * MOST_VERTICES;
-
-pub const MOST_PAIRS: usize = 2 * MOST_CORNERS;
 
 // The lengths of a mesh's lists, if there is a mesh.
 pub struct Lengths {
@@ -100,11 +97,4 @@ fn no_mesh() -> Lengths
         corners: 0,
         pairs: 0,
     }
-}
-
-// The lesser of two numbers.
-fn least(a: usize, b: usize) -> usize
-    ensures { λ r. ⌜ (r ≤ a) × (r ≤ b) ⌝ }
-{
-    if a < b { a } else { b }
 }

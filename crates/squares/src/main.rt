@@ -3,9 +3,9 @@
 use paper::Irregular;
 use paper::MOST_CORNERS;
 use paper::MOST_FACES;
+use paper::MOST_NUMBERS;
+use paper::MOST_PAIRS;
 use print::lines::put_ended;
-use print::mesh_input::MOST_NUMBERS;
-use print::mesh_input::MOST_PAIRS;
 use print::mesh_input::read_mesh;
 use print::say_refusal;
 use streams::output::say_up_to;

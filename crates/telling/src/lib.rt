@@ -38,19 +38,7 @@ pub fn tell_counts(
     *faces = counts.faces as u64;
     *corners = counts.corners as u64;
     let by_corners = counts.cornered;
-    fill(&by_corners, cornered);
+    mesh::copy_halves(&by_corners, cornered);
     let by_sides = counts.sided;
-    fill(&by_sides, sided);
-}
-
-// Copies a list into the beginning of a lent one.
-fn fill(values: &[u16], lent: &mut [u16])
-    requires { ⌜ length (now values) ≤ length (now lent) ⌝ }
-    ensures { λ _. ⌜ now (lent .exit) ≡ begins (now (values .entry)) (now (lent .entry)) ⌝ }
-{
-    let mut i = 0;
-    while i < values.len() {
-        lent[i] = values[i];
-        i += 1;
-    }
+    mesh::copy_halves(&by_sides, sided);
 }

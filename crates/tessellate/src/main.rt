@@ -5,6 +5,7 @@
 // Corner by corner the file has the ends E0, E1 and E2 that no earlier corner had, then the corner's own points: the curves of its sides 0 and 1
 // without their ends, the rays from E0, E1, E2 and E3 to the centre without theirs, the centre, and the inside of the four triangles. The
 // curve of side 2 is that of the previous corner's side 1, the curve of side 3 that of side 0 of the corner whose link this is.
+use mesh::least;
 use obj::SAMPLES;
 use obj::own_count;
 use obj::points::OWN;
@@ -24,11 +25,11 @@ use obj::wide;
 use paper::Answer;
 use paper::MOST_CORNERS;
 use paper::MOST_FACES;
+use paper::MOST_NUMBERS;
+use paper::MOST_PAIRS;
 use paper::MOST_PARTS;
 use paper::NUMBERS_PER_CORNER;
 use print::complain_refusal;
-use print::mesh_input::MOST_NUMBERS;
-use print::mesh_input::MOST_PAIRS;
 use print::mesh_input::read_mesh;
 use streams::output::complain;
 use streams::output::say_up_to;
@@ -398,11 +399,4 @@ fn put_side(
     let mut index = [0u32; SAMPLES];
     fill_index(c, s, n, table, points, &mut index);
     put_rows(lines, from, &index, n, s % 2 == 1)
-}
-
-// The lesser of two numbers.
-fn least(a: usize, b: usize) -> usize
-    ensures { λ r. ⌜ (r ≤ a) × (r ≤ b) ⌝ }
-{
-    if a < b { a } else { b }
 }

@@ -2,10 +2,12 @@
 // standard output, and the turned faces to standard error, one number a line. A file that is turned down gets the line `refused`, with number and
 // place, on standard error, and nothing on standard output.
 use libc::STDIN_FILENO;
+use mesh::least;
 use paper::Answer;
 use paper::MOST_CORNERS;
 use paper::MOST_FACES;
-use paper::MOST_VERTICES;
+use paper::MOST_NUMBERS;
+use paper::MOST_PAIRS;
 use print::complain_refusal;
 use print::file_input::BUFFER;
 use print::file_input::read_file;
@@ -16,11 +18,6 @@ use streams::output::say_up_to;
 ghost use Prim.Native.Nat.{_≤_};
 ghost use lib.ListN.{length};
 ghost use Rattle.dms.specs.header.Sized.{Sized};
-
-// The numbers of the longest coordinate list and of the longest sharpness list.
-const MOST_NUMBERS: usize = 3 * MOST_VERTICES;
-
-const MOST_PAIRS: usize = 2 * MOST_CORNERS;
 
 // Room for a line for each face, its number of at most four digits.
 const LINES: usize = 5 * MOST_FACES;
@@ -158,11 +155,4 @@ fn put_listing(lines: &mut [u8], listing: &[u16], count: usize) -> usize
 
 fn wide(n: u16) -> u64 {
     n as u64
-}
-
-// The lesser of two numbers.
-fn least(a: usize, b: usize) -> usize
-    ensures { λ r. ⌜ (r ≤ a) × (r ≤ b) ⌝ }
-{
-    if a < b { a } else { b }
 }

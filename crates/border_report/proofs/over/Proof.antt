@@ -19,21 +19,21 @@ abbrev start : tie.After-enum-told → tie.Start
 start t = t .before .before .before .before .before .before .before .before .before .before
 
 accepts : (t : tie.After-enum-told) → Accepted (mesh (start t))
-accepts t = let a = t .before .before .before .before .check-mesh in passed (a .result) (a .ensures .answers) (t .enum-told .given .1)
+accepts t = let a = t .before .before .before .before .check-within in passed (a .result) (a .ensures .answers) (t .enum-told .given .1)
 
 returns : tie.Need-returns
 returns c =
     let s = c .before .before .before .before .before .before .before .before .before .before .before .before in
     let a = c .before .before .a .given in
     refused-added (s .args .page) (mesh s) (verdict (mesh s)) (c .refuse .result) _ (a .0 .1 .0) (c .refuse .ensures)
-    (sym (ap stated (a .1)) ∙ c .before .before .before .before .before .before .check-mesh .ensures .answers)
+    (sym (ap stated (a .1)) ∙ c .before .before .before .before .before .before .check-within .ensures .answers)
 
 largest-requires : tie.Need-largest-requires
 largest-requires c κs =
     let t = c .before .before in
     let s = start t in
     let few = limits (mesh s) (accepts t) .1 .1 in
-    (accepts t, (t .before .before .before .before .check-mesh .ensures .tabled (accepts t), (s .pre .1 .1 .0 few, s .pre .1 .1 .1)))
+    (accepts t, (t .before .before .before .before .check-within .ensures .tabled (accepts t), (s .pre .1 .1 .0 few, s .pre .1 .1 .1)))
 
 accept-requires : tie.Need-accept-requires
 accept-requires c κs =

@@ -1,30 +1,34 @@
 -- `border_report::with_mesh` meets its contract: a small mesh fits the short tables, and every mesh that is not too large the long ones.
 -- Assumes nothing.
-use Prim.Native.Nat.{_*_}
+use Prim.Native.Nat.{_*_, _≤_}
 use denote.Ref.{now}
 use lib.ListN.{length}
 use Rattle.paper.specs.Mesh.{mostCorners}
 use Rattle.mesh.specs.Tables.{smallMesh}
 use Rattle.surface.specs.Points.{pointRow}
 use Rattle.refine.proofs.sums.Laws.{small-zeros}
-use Rattle.border_report.proofs.Laws.{table-room, point-room}
+use Rattle.checks.proofs.Laws.{rows-for}
+use Rattle.border_report.proofs.Laws.{point-room}
+use native.Mathlib.Omega.{arith}
 use borrow.Author.Needs.{needs}
 use Rattle.border_report.proofs.with_mesh.Statement.{statement}
 use Rattle.border_report.proofs.with_mesh.Tie as tie
 
 over-requires : tie.Need-over-requires
 over-requires c κs =
-    let s = c .before .before .before .before .before .before in
+    let s : tie.Start = search in
+    let r : tie.After-table-rows = search in
     let n = length (now (s .args .corners)) in
-    (s .pre, (table-room n smallMesh (λ h. search needs), (point-room n smallMesh (λ h. search needs), small-zeros (pointRow * smallMesh))))
+    let fits : n ≤ mostCorners → n ≤ smallMesh = λ h. omega (arith, r .table-rows .ensures h) in
+    (s .pre, (rows-for n smallMesh fits, (point-room n smallMesh fits, small-zeros (pointRow * smallMesh))))
 
 over-requires-2 : tie.Need-over-requires-2
 over-requires-2 c κs =
-    let s = c .before .before .before .before .before .before in
+    let s : tie.Start = search in
     let n = length (now (s .args .corners)) in
-    (s .pre, (table-room n mostCorners (λ h. h), (point-room n mostCorners (λ h. h), small-zeros (pointRow * mostCorners))))
+    (s .pre, (rows-for n mostCorners (λ h. h), (point-room n mostCorners (λ h. h), small-zeros (pointRow * mostCorners))))
 
 pub with-mesh-spec : {M : Type 1} → statement M
 with-mesh-spec =
-    tie.close (tie.spec (λ c. search needs) (λ c. search needs) over-requires (λ c. search needs) (λ c. search needs) (λ c. search needs) over-requires-2
-    (λ c. search needs))
+    tie.close (tie.spec (λ c κs. search needs) (λ c. search needs) (λ c. search needs) over-requires (λ c. search needs) (λ c. search needs)
+    (λ c. search needs) over-requires-2 (λ c. search needs))

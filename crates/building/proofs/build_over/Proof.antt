@@ -1,63 +1,106 @@
--- `building::build_over` meets its contract: the check of the mesh and its links refuses, or its table serves the writing.
--- Assumes nothing.
+-- `building::build_over` meets its contract: the checks of the mesh, of its links and of the range refuse, or the table serves the writing.
 use mathlib.Core.Path.{_≡_, refl, ap, _∙_, sym}
-use borrow.Author.Needs.{needs}
 use lib.ListN.{length}
 use denote.Ref.{now}
 use Rattle.paper.specs.Mesh.{Mesh, meshOf}
-use Rattle.paper.specs.Faults.{Verdict, sound, _orElse_, verdict, stated}
-use Rattle.mesh.proofs.Verdicts.{passed, stop, past, sound-left}
-use Rattle.request_checks.specs.Request.{linksFaults}
-use Rattle.request_checks.proofs.Requests.{verdict-is}
-use Rattle.building.proofs.build_over.Statement.{statement}
+use Rattle.paper.specs.Faults.{sound, verdict, Accepted, stated}
+use Rattle.paper.specs.Refined.{cornersOf}
+use Rattle.mesh.proofs.Verdicts.{passed}
+use Rattle.walk.specs.Table.{Tabled}
+use Rattle.checks.specs.Request.{linksFaults, rangeFaults}
+use Rattle.checks.proofs.requests.Laws.{granted}
+use Rattle.building.proofs.Laws.{few, mesh-refused, links-refused, range-refused, built}
+use native.Mathlib.Omega.{arith}
+use borrow.Author.Needs.{needs}
 use Rattle.building.proofs.build_over.Tie as tie
 
 abbrev mesh : tie.Start → Mesh
 mesh s = meshOf (now (s .args .coordinates)) (now (s .args .sides)) (now (s .args .corners)) (now (s .args .sharpness))
 
--- past the check of the mesh and its links
-abbrev start : tie.After-enum-told → tie.Start
-start t = t .before .before .before .before .before .before .before .before .before .before .before .before .before .before .before
+-- after the checks of the mesh
+module _ (t : tie.After-enum-told) where
+  abbrev start : tie.Start
+  start = search
 
--- what it answers
-abbrev checks : tie.Start → Verdict
-checks s = verdict (mesh s) orElse linksFaults (mesh s) (now (s .args .links))
+  abbrev at-mesh : tie.After-check-within
+  at-mesh = search
 
-accepts : (t : tie.After-enum-told) → checks (start t) ≡ sound
-accepts t =
-    let a = t .before .before .before .before .before .before .check-linked in
-    passed {v = checks (start t)} (a .result) (a .ensures .answers) (t .enum-told .given .1)
+  accepts : Accepted (mesh start)
+  accepts =
+      passed {v = verdict (mesh start)} (at-mesh .check-within .result) (at-mesh .check-within .ensures .answers) (t .enum-told .given .1)
+
+  tabled : Tabled (cornersOf (mesh start)) (at-mesh .check-within .last .1 .1 .1 .1 .0)
+  tabled = at-mesh .check-within .ensures .tabled accepts
+
+-- after those of the links
+module _ (t : tie.After-enum-told2) where
+  abbrev accepted : tie.After-enum-told
+  accepted = search
+
+  links-sound : linksFaults (mesh (start accepted)) (now (start accepted .args .links)) ≡ sound
+  links-sound =
+      let b : tie.After-check-links = search in
+      passed (b .check-links .result) (b .check-links .ensures (mesh (start accepted)) refl (tabled accepted .links)) (t .enum-told2 .given .1)
+
+-- after those of the range
+module _ (t : tie.After-enum-told3) where
+  abbrev linked : tie.After-enum-told2
+  linked = search
+
+  range-sound : let s = start (accepted linked) in
+      rangeFaults (mesh s) (s .args .range .first) (s .args .range .count) (length (now (s .args .out))) ≡ sound
+  range-sound =
+      let b : tie.After-check-asked = search in
+      passed (b .check-asked .result) (b .check-asked .ensures (mesh (start (accepted linked))) refl) (t .enum-told3 .given .1)
 
 returns : tie.Need-returns
 returns c =
-    let s = c .before .before .before .before .before .before .before .before .before .before .before .before .before .before .before .before in
-    let a = c .before .before .before .before .before .before .before .check-linked in
-    record {
-      answers =
-          stop (a .result) (a .ensures .answers) (c .before .a .given .0 .0) (c .before .a .given .0 .1 .0) (c .before .a .given .1) _
-          ∙ sym (verdict-is (mesh s) (now (s .args .links)) (s .args .range .first) (s .args .range .count) (length (now (s .args .out))));
-      holds = refl;
-    }
+    let s : tie.Start = search in
+    let a : tie.After-check-within = search in
+    let k = c .before .a .given in
+    mesh-refused (mesh s) _ _ _ _ (k .0 .0) (k .0 .1 .0) (sym (ap stated (k .1)) ∙ a .check-within .ensures .answers)
 
-answer-requires : tie.Need-answer-requires
-answer-requires c κs =
-    let t = c .before .before in
-    let a = t .before .before .before .before .before .before .check-linked in
-    (sound-left _ _ (accepts t), a .ensures .tabled (ap stated (t .enum-told .given .1)))
+check-links-requires : tie.Need-check-links-requires
+check-links-requires c κs =
+    let t : tie.After-enum-told = search in
+    (few (mesh (start t)) (accepts t), tabled t .long)
 
 returns-2 : tie.Need-returns-2
 returns-2 c =
-    let t = c .before .before .before .before in
-    let s = start t in
-    let r = c .before .answer in
-    record {
-      answers =
-          past (accepts t) _ (r .ensures .answers)
-          ∙ sym (verdict-is (mesh s) (now (s .args .links)) (s .args .range .first) (s .args .range .count) (length (now (s .args .out))));
-      holds = r .ensures .holds;
-    }
+    let t : tie.After-enum-told = search in
+    let b : tie.After-check-links = search in
+    let k = c .before .a15 .given in
+    links-refused (mesh (start t)) _ _ _ _ (accepts t) (k .0 .0) (k .0 .1 .0)
+    (sym (ap stated (k .1)) ∙ b .check-links .ensures (mesh (start t)) refl (tabled t .links))
 
-pub build-over-spec : {M : Type 1} → statement M
+check-asked-requires : tie.Need-check-asked-requires
+check-asked-requires c κs = let t : tie.After-enum-told = search in few (mesh (start t)) (accepts t)
+
+returns-3 : tie.Need-returns-3
+returns-3 c =
+    let t : tie.After-enum-told2 = search in
+    let b : tie.After-check-asked = search in
+    let k = c .before .a17 .given in
+    range-refused (mesh (start (accepted t))) _ _ _ _ (accepts (accepted t)) (links-sound t) (k .0 .0) (k .0 .1 .0)
+    (sym (ap stated (k .1)) ∙ b .check-asked .ensures (mesh (start (accepted t))) refl)
+
+write-nets-requires : tie.Need-write-nets-requires
+write-nets-requires c κs =
+    let u : tie.After-enum-told3 = search in
+    let t = accepted (linked u) in
+    let s = start t in
+    let g = granted (mesh s) (s .args .range .first) (s .args .range .count) (length (now (s .args .out))) (range-sound u) in
+    (accepts t, (tabled t, ((g .some, g .within, g .room), (s .pre .1 .0 (few (mesh s) (accepts t)), s .pre .1 .1))))
+
+returns-4 : tie.Need-returns-4
+returns-4 c =
+    let u : tie.After-enum-told3 = search in
+    let w : tie.After-write-nets = search in
+    let t = accepted (linked u) in
+    built (mesh (start t)) _ _ _ _ (accepts t) (links-sound (linked u)) (range-sound u) _ (w .write-nets .ensures)
+
+pub build-over-spec : {M : Type 1} → Rattle.building.proofs.build_over.Statement.statement M
 build-over-spec =
-    tie.close (tie.spec (λ c κs. search needs) (λ c. search needs) (λ c. search needs) (λ c. search needs) returns (λ c. search needs) answer-requires
-    (λ c. search needs) (λ c. search needs) (λ c. search needs) returns-2)
+    tie.close (tie.spec (λ c κs. search needs) (λ c. search needs) (λ c. search needs) returns (λ c. search needs) check-links-requires (λ c. search needs)
+    (λ c. search needs) returns-2 (λ c. search needs) check-asked-requires (λ c. search needs) (λ c. search needs) returns-3 (λ c. search needs)
+    write-nets-requires (λ c. search needs) (λ c. search needs) (λ c. search needs) returns-4)

@@ -1,5 +1,4 @@
 -- Checks 4 to 9 with 27 and 28 meet their contract: each stops the chain with its fault or is passed.
--- Assumes nothing.
 use mathlib.Core.Path.{_≡_, _∙_}
 use lib.ListN.{length}
 use denote.Ref.{now}
@@ -10,7 +9,6 @@ use Rattle.mesh.proofs.Verdicts.{stop, passed, past, single-sound, lowest-sound
 use Rattle.mesh.proofs.Accepted.{few-vertices, few-faces, few-corners, sides-within, sums-of}
 use Rattle.checks.proofs.Laws.{rowed, joined, lists-refused}
 use borrow.Author.Needs.{needs}
-use Rattle.checks.proofs.check_lists.Statement.{statement}
 use Rattle.checks.proofs.check_lists.Tie as tie
 
 -- the mesh of a call
@@ -140,7 +138,7 @@ check-faces-requires c κs =
     let t6 = t8 .before .before .before .before .before .before .before .before in
     let t5 = t6 .before .before .before in
     let t4 = t5 .before .before .before .before .before .before in
-    let s = t4 .before .before .before .before .before .before .before .before in
+    let s : tie.Start = search in
     let b = single-sound 4 _ 0 (four t4) in
     let few = few-vertices _ _ _ b in
     let small = few-corners _ _ _ b in (
@@ -169,7 +167,7 @@ returns-7 c =
       faced = f .ensures .1 .1;
     }
 
-pub check-lists-spec : {M : Type 1} → statement M
+pub check-lists-spec : {M : Type 1} → Rattle.checks.proofs.check_lists.Statement.statement M
 check-lists-spec =
     tie.close (tie.spec (λ c κs. search needs) (λ c. search needs) returns (λ c. search needs) check-pairs-requires (λ c. search needs) returns-2
     (λ c. search needs) (λ c κs. search needs) (λ c. search needs) returns-3 (λ c. search needs) check-sum-requires (λ c. search needs) returns-4

@@ -1,5 +1,4 @@
 -- The chains of the vertices: how they grow by a corner, and the places on one.
--- Assumes nothing.
 use mathlib.Core.Path.{_≡_, refl, ap, _∙_, sym, subst}
 use mathlib.Core.Bool.{Bool, true, false}
 use mathlib.Core.Logic.{⊎-elim}

@@ -1,5 +1,4 @@
 -- What stands in the table of vertices after a store in column k of vertex u.
--- Assumes nothing.
 use mathlib.Core.Path.{_≡_}
 use mathlib.Core.List.{List}
 use Prim.Native.Nat.{ℕ, _+_, _*_, _<_}

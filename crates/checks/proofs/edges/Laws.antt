@@ -1,5 +1,4 @@
 -- The columns of a vertex's edges give each of its corners the entry that the definitions ask for; what the entries say of faults and links.
--- Assumes nothing.
 use mathlib.Core.Path.{_≡_, refl, ap, _∙_, sym, subst}
 use mathlib.Core.Bool.{Bool, true, false, not}
 use mathlib.Core.Logic.{⊎-elim}
@@ -26,13 +25,13 @@ use Rattle.mesh.proofs.Links.{unique, reverse-in, reverse-vertex, reverse-to, l
 use Rattle.mesh.proofs.Verdicts.{lowest-hit, lowest-none, lowest-sound, orElse-fault, orElse-sound, unsound}
 use Rattle.walk.specs.Table.{rowLength, toNext, toPrevious, toLink, sidesHere, valenceHere, entry, Column}
 use Rattle.walk.proofs.Table.{put, kept-put}
-use Rattle.checks.specs.columns.Vertices.{vertexRow, lastHere, leavingHere, arrivingHere, countHere, lowestHere, noted, NotesKept}
+use Rattle.checks.specs.columns.Vertices.{vertexRow, lastHere, leavingHere, arrivingHere, countHere, lowestHere, noted, NotesKept, Row}
 use Rattle.checks.specs.columns.Chain.{earlierOf, EarliersFrom, lastOf, Chain, Chained, Clear}
 use Rattle.checks.specs.columns.Filled.{CornersCounted}
 use Rattle.checks.proofs.columns.Notes.{note-put, note-kept}
 use Rattle.checks.proofs.columns.Chains.{On, above-head, at-vertex, on-falls, on-from, chained-own}
-use Rattle.checks.specs.edges.Entries.{repeated, alone, Entry, again, single, joined, Entries, has, Unrepeated, Reversed, to, from, Searchable}
-use Rattle.checks.specs.edges.Entries.{ChainsFrom, HeadsFrom, Row, Keyed, BothKeyed, Hit, Marked, MarkedFrom, CountedAt, Unmarked, Ends, EntryFor}
+use Rattle.checks.specs.edges.Entries.{repeated, alone, Entry, again, single, joined, Entries, has, to, from, Searchable}
+use Rattle.checks.specs.edges.Entries.{ChainsFrom, HeadsFrom, Keyed, BothKeyed, Hit, Marked, MarkedFrom, CountedAt, Unmarked, Ends, EntryFor}
 use Rattle.checks.specs.edges.Entries.{FacesKept, Collected, Found, EdgesChecked}
 
 -- ---- marking
@@ -581,26 +580,34 @@ module _ (sides corners table : List ℕ) (small : length corners ≤ mostCorner
 
 -- ---- the ways out of 10 and 11
 module _ (corners table : List ℕ) (small : length corners ≤ mostCorners) where
-  pub repeats-refused : (r : Answer) (k p : ℕ) → r ≡ Refused k p → Unrepeated corners table r → EdgesChecked corners table (Refused k p)
+  pub repeats-refused : (r : Answer) (k p : ℕ) → r ≡ Refused k p → stated r ≡ lowestOf 10 (length corners) (has table repeated)
+      → EdgesChecked corners table (Refused k p)
   repeats-refused r k p q a =
-      record { answers = λ sides s t. sym (orElse-fault k p _ (sym (a sides t) ∙ ap stated q)); links = λ sides s t. unsound k p }
+      record {
+        answers = λ sides s t. sym (orElse-fault k p _ (sym (a ∙ ten-found sides corners table small t) ∙ ap stated q));
+        links = λ sides s t. unsound k p;
+      }
 
-  pub edges-checked : (r : Answer) → Unrepeated corners table Done → Reversed corners table r → EdgesChecked corners table r
+  pub edges-checked : (r : Answer) → sound ≡ lowestOf 10 (length corners) (has table repeated)
+      → stated r ≡ lowestOf 11 (length corners) (has table alone) → EdgesChecked corners table r
   edges-checked r a b =
       record {
-        answers = λ sides s t. let ten = sym (a sides t) in b sides s t ten ∙ sym (orElse-sound _ ten);
+        answers = λ sides s t. eleven sides s t ∙ sym (orElse-sound _ (ten sides t));
         links = λ sides s t e.
-            let ten = sym (a sides t) in
             links-found sides corners table small t
-            (record { sums = s; ten = lowest-sound _ _ _ ten; eleven = lowest-sound _ _ _ (sym (b sides s t ten) ∙ e) });
+            (record { sums = s; ten = lowest-sound _ _ _ (ten sides t); eleven = lowest-sound _ _ _ (sym (eleven sides s t) ∙ e) });
       }
+    where
+      ten : (sides : List ℕ) → Entries sides corners table → lowestOf 10 (length corners) (fault10 sides corners) ≡ sound
+      ten sides t = sym (a ∙ ten-found sides corners table small t)
+
+      eleven : (sides : List ℕ) → sumOf sides ≡ length corners → Entries sides corners table
+          → stated r ≡ lowestOf 11 (length corners) (fault11 sides corners)
+      eleven sides s t = b ∙ eleven-found sides corners table small t (ten sides t) s
 
   -- no entry is as high as one of a corner at fault
   pub edges-passed : (most : ℕ) → most < alone → ((c : ℕ) → c < length corners → entry table toLink c ≤ most) → EdgesChecked corners table Done
-  edges-passed most l h =
-      edges-checked Done
-      (λ sides t. sym (lowest-none 10 (length corners) (has table repeated) (other repeated (omega arith))) ∙ ten-found sides corners table small t)
-      (λ sides s t ten. sym (lowest-none 11 (length corners) (has table alone) (other alone (omega arith))) ∙ eleven-found sides corners table small t ten s)
+  edges-passed most l h = edges-checked Done (sym (lowest-none 10 _ _ (other repeated (omega arith)))) (sym (lowest-none 11 _ _ (other alone (omega arith))))
     where
       other : (x : ℕ) → most < x → (c : ℕ) → c < length corners → has table x c ≡ false
       other x m c b = ne-eqb (entry table toLink c) x (λ q. omega (arith, h c b))

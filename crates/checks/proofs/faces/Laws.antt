@@ -1,5 +1,4 @@
 -- What check 9 knows of the last corner of a vertex, and what it has filled before a corner.
--- Assumes nothing.
 use mathlib.Core.Path.{_≡_, ap, _∙_, sym}
 use mathlib.Core.Bool.{true, false}
 use mathlib.Core.Logic.{⊎-elim}

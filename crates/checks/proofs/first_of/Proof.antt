@@ -1,9 +1,7 @@
 -- The first refusal of two checks, way by way.
--- Assumes nothing.
 use mathlib.Core.Path.{refl}
 use Rattle.mesh.proofs.Verdicts.{stop, passed, past}
 use borrow.Author.Needs.{needs}
-use Rattle.checks.proofs.first_of.Statement.{statement}
 use Rattle.checks.proofs.first_of.Tie as tie
 
 returns : tie.Need-returns
@@ -14,5 +12,5 @@ returns c =
 returns-2 : tie.Need-returns-2
 returns-2 c = past (passed (c .before .before .args .first) refl (c .enum-told .given .1)) _ refl
 
-pub first-of-spec : {M : Type 1} → statement M
+pub first-of-spec : {M : Type 1} → Rattle.checks.proofs.first_of.Statement.statement M
 first-of-spec = tie.close (tie.spec (λ c. search needs) returns (λ c. search needs) returns-2)

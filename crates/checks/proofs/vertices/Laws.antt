@@ -1,5 +1,4 @@
 -- The ring of links from a vertex's lowest corner is as long as the vertex has corners exactly where fault 13 does not hold.
--- Assumes nothing.
 use mathlib.Core.Path.{_≡_, refl, ap, _∙_, sym}
 use mathlib.Core.Bool.{Bool, true, false}
 use mathlib.Core.Logic.{⊎-elim}

@@ -34,6 +34,10 @@ noted vertices k u = getD vertices (vertexRow * u + k) 0
 abbrev pub NotesKept : List ℕ → List ℕ → ℕ → Type 0
 NotesKept old new k = (u : ℕ) → noted new k u ≡ noted old k u
 
--- the vertex of every corner has a row
+-- vertex u has a row
+abbrev pub Row : List ℕ → ℕ → Type 0
+Row vertices u = vertexRow * u + vertexRow ≤ length vertices
+
+-- the vertex of every corner has one
 abbrev pub Rowed : List ℕ → List ℕ → Type 0
-Rowed corners vertices = (c : ℕ) → c < length corners → vertexRow * vertexOf corners c + vertexRow ≤ length vertices
+Rowed corners vertices = (c : ℕ) → c < length corners → Row vertices (vertexOf corners c)

@@ -12,7 +12,7 @@ use Rattle.paper.specs.Links.{vertexOf, linked, link, valence, lowest}
 use Rattle.paper.specs.Faults.{sound, _orElse_, lowestOf, fault10, fault11, stated}
 use Rattle.paper.specs.declared.Answer.{Answer}
 use Rattle.walk.specs.Table.{rowLength, toNext, toPrevious, toLink, sidesHere, valenceHere, entry, Column, Kept}
-use Rattle.checks.specs.columns.Vertices.{vertexRow, lastHere, leavingHere, arrivingHere, countHere, lowestHere, noted, Rowed}
+use Rattle.checks.specs.columns.Vertices.{lastHere, leavingHere, arrivingHere, countHere, lowestHere, noted, Rowed}
 use Rattle.checks.specs.columns.Chain.{EarliersFrom, lastOf}
 use Rattle.checks.specs.columns.Filled.{CornersCounted}
 
@@ -35,15 +35,6 @@ Entries sides corners table = (c : ℕ) → c < length corners → Entry sides c
 -- corner c has this entry
 abbrev pub has : List ℕ → ℕ → ℕ → Bool
 has table x c = eqb (entry table toLink c) x
-
--- what checks 10 and 11 answer, for all side counts that the entries belong to; check 11 comes after check 10
-abbrev pub Unrepeated : List ℕ → List ℕ → Answer → Type 0
-Unrepeated corners table r = (sides : List ℕ) → Entries sides corners table → stated r ≡ lowestOf 10 (length corners) (fault10 sides corners)
-
-abbrev pub Reversed : List ℕ → List ℕ → Answer → Type 0
-Reversed corners table r =
-    (sides : List ℕ) → sumOf sides ≡ length corners → Entries sides corners table → lowestOf 10 (length corners) (fault10 sides corners) ≡ sound
-    → stated r ≡ lowestOf 11 (length corners) (fault11 sides corners)
 
 -- ---- the search
 -- the far ends of a corner's edges, by the table
@@ -68,10 +59,6 @@ ChainsFrom corners table u = EarliersFrom corners (entry table valenceHere) u
 -- and the heads of these chains in that where the lowest corners of those before it stand
 abbrev pub HeadsFrom : List ℕ → List ℕ → ℕ → Type 0
 HeadsFrom corners vertices u = (v : ℕ) → u ≤ v → noted vertices lastHere v ≡ lastOf corners v
-
--- vertex u has a row
-abbrev pub Row : List ℕ → ℕ → Type 0
-Row vertices u = vertexRow * u + vertexRow ≤ length vertices
 
 -- a column of corners by their key, the far end of an edge: each entry is 0, or one more than a corner that has the key
 pub record Keyed (corners : List ℕ) (key column : ℕ → ℕ) : Type 0 where

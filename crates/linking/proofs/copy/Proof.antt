@@ -1,5 +1,4 @@
 -- `copy` meets its contract: the links below `c` are copied.
--- Assumes nothing.
 use mathlib.Core.Path.{_≡_, refl}
 use Prim.Native.Nat.{_≤_, _-_}
 use lib.ListN.{length, length-set}
@@ -7,7 +6,6 @@ use denote.Ref.{now}
 use Rattle.linking.proofs.Laws.{Copied, copied-none, copied-step, copied-all}
 use native.Mathlib.Omega.{arith}
 use borrow.Author.Needs.{needs}
-use Rattle.linking.proofs.copy.Statement.{statement}
 use Rattle.linking.proofs.copy.Tie as tie
 
 abbrev Inv-loop : tie.InvT-loop
@@ -21,7 +19,7 @@ loop-holds c = (omega arith, refl, copied-none _ _)
 
 loop-again : tie.Need-loop-again Inv-loop μ-loop
 loop-again c =
-    let s = c .before .before .before in let l = c .before .before .loop in
+    let s : tie.Start Inv-loop μ-loop = search in let l = c .before .before .loop in
     (search needs, simp length-set (l .inv .1), copied-step (now (s .args .table)) (l .links) (l .c) (omega arith) (l .inv .2))
 
 returns : tie.Need-returns Inv-loop μ-loop
@@ -29,7 +27,7 @@ returns c =
     let s = c .before .before in let l = c .before .loop in
     copied-all (now (s .args .table)) (l .links) (l .c) (length (now (s .args .links))) (omega arith) (l .inv .2)
 
-pub copy-spec : {M : Type 1} → statement M
+pub copy-spec : {M : Type 1} → Rattle.linking.proofs.copy.Statement.statement M
 copy-spec =
     tie.close (tie.spec Inv-loop μ-loop loop-holds (λ c. search needs) (λ c. search needs) (λ c. search needs) (λ c. search needs) (λ c. search needs)
     (λ c. search needs) (λ c. search needs) (λ c. search needs) loop-again (λ c. search needs) returns)

@@ -1,23 +1,23 @@
--- Linking over tables of its own meets its contract: a small mesh fits the short ones, and any other is left to `link_large`.
--- Assumes nothing.
+-- Linking over a table of its own meets its contract: a mesh of few corners fits the short one, and every mesh that is not too large the long one.
+use lib.ListN.{length}
 use denote.Ref.{now}
-use Rattle.paper.specs.Mesh.{Mesh, meshOf}
+use Rattle.paper.specs.Mesh.{mostCorners}
 use Rattle.mesh.specs.Tables.{smallMesh}
-use Rattle.checks.proofs.Laws.{room}
+use Rattle.checks.proofs.Laws.{rows-for}
+use native.Mathlib.Omega.{arith}
 use borrow.Author.Needs.{needs}
-use Rattle.linking.proofs.link.Statement.{statement}
 use Rattle.linking.proofs.link.Tie as tie
-
--- the mesh of a call
-abbrev mesh : tie.Start → Mesh
-mesh s = meshOf (now (s .args .coordinates)) (now (s .args .sides)) (now (s .args .corners)) (now (s .args .sharpness))
 
 link-over-requires : tie.Need-link-over-requires
 link-over-requires c κs =
-    let s = c .before .before .before .before .before .before .before .before .before in
-    room (mesh s) smallMesh smallMesh (λ h. search needs) (λ h. search needs)
+    let s : tie.Start = search in
+    let r : tie.After-table-rows = search in
+    rows-for (length (now (s .args .corners))) smallMesh (λ h. omega (arith, r .table-rows .ensures h))
 
-pub link-spec : {M : Type 1} → statement M
+link-over-requires-2 : tie.Need-link-over-requires-2
+link-over-requires-2 c κs = let s : tie.Start = search in rows-for (length (now (s .args .corners))) mostCorners (λ h. h)
+
+pub link-spec : {M : Type 1} → Rattle.linking.proofs.link.Statement.statement M
 link-spec =
-    tie.close (tie.spec (λ c κs. search needs) (λ c. search needs) (λ c. search needs) (λ c κs. search needs) (λ c. search needs) (λ c. search needs)
-    (λ c. search needs) (λ c. search needs) link-over-requires (λ c. search needs) (λ c. search needs))
+    tie.close (tie.spec (λ c κs. search needs) (λ c. search needs) link-over-requires (λ c. search needs) link-over-requires-2 (λ c. search needs)
+    (λ c. search needs) (λ c. search needs) (λ c. search needs))

@@ -66,8 +66,8 @@ returns-2 c =
     let x = y .before .before .before .before in
     let t = x .before .before .before in
     let d = read t .read-checked in
-    copied-all _ _ _ _ _ (d .result) (d .ensures) (t .enum-told .given .1) (own t) _ (x .copy-coordinates .ensures) (y .copy-sides .ensures)
-    (z .copy-corners .ensures) (p .fill-plain .ensures)
+    copied-all _ _ _ _ _ (d .result) (d .ensures) (t .enum-told .given .1) (own t) _ (x .copy-words .ensures) (y .copy-bytes .ensures)
+    (z .copy-halves .ensures) (p .fill-plain .ensures)
 
 pub read-through-spec : {M : Type 1} → Rattle.off.proofs.read_through.Statement.statement M
 read-through-spec =

@@ -18,8 +18,7 @@ slice-aggregate-say-file-4 c = sym (length-take-le _ _ (search needs))
 
 pub convert-spec : {M : Type 1} → Rattle.off2dms.proofs.convert.Statement.statement M
 convert-spec =
-    tie.close (tie.spec (λ c. search needs) (λ c. search needs) (λ c. search needs) (λ c. search needs) (λ c κs. search needs) (λ c. search needs)
+    tie.close (tie.spec (λ c. search needs) (λ c. search needs) (λ c. search needs) (λ c. search needs) (λ c κs. search needs) (λ c κs. search needs)
     (λ c κs. search needs) (λ c κs. search needs) (λ c κs. search needs) (λ c. search needs) (λ c κs. search needs) (λ c. search needs)
-    (λ c κs. search needs) (λ c. search needs) (λ c. search needs) slice-aggregate-say-file (λ c. search needs) slice-aggregate-say-file-2
-    (λ c. search needs) slice-aggregate-say-file-3 (λ c. search needs) slice-aggregate-say-file-4 (λ c κs. search needs) (λ c. search needs)
-    (λ c. search needs))
+    (λ c. search needs) slice-aggregate-say-file (λ c. search needs) slice-aggregate-say-file-2 (λ c. search needs) slice-aggregate-say-file-3
+    (λ c. search needs) slice-aggregate-say-file-4 (λ c κs. search needs) (λ c. search needs) (λ c. search needs))

@@ -15,13 +15,13 @@ use Rattle.preview.proofs.copy_moved.Tie as tie
 slice-set-from-y : tie.Need-slice-set-from-y
 slice-set-from-y c =
     let m = c .before .before .before .before .before .before .before .args .to in
-    let h : 3 * m .vertex + 1 < length (c .before .before .before .before .before .fill .last .1 .0) = search needs in
+    let h : 3 * m .vertex + 1 < length (c .before .before .before .before .before .copy-words .last .1 .0) = search needs in
     simp length-set h
 
 slice-set-from-z : tie.Need-slice-set-from-z
 slice-set-from-z c =
     let m = c .before .before .before .before .before .before .before .args .to in
-    let h : 3 * m .vertex + 2 < length (c .before .before .before .before .before .fill .last .1 .0) = search needs in
+    let h : 3 * m .vertex + 2 < length (c .before .before .before .before .before .copy-words .last .1 .0) = search needs in
     simp length-set h
 
 returns : tie.Need-returns
@@ -35,7 +35,7 @@ returns c =
     let y : toZ w32 (ofZ w32 (m .y)) ≡ m .y = search needs in
     let z : toZ w32 (ofZ w32 (m .z)) ≡ m .z = search needs in
     ap (λ (k : List ℤ). set (set (set k i (toZ w32 (ofZ w32 (m .x)))) (i + 1) (toZ w32 (ofZ w32 (m .y)))) (i + 2) (toZ w32 (ofZ w32 (m .z))))
-    (c .before .before .before .before .before .fill .ensures)
+    (c .before .before .before .before .before .copy-words .ensures)
     ∙ ap (λ (v : ℤ). set (set (set (begins l old) i v) (i + 1) (toZ w32 (ofZ w32 (m .y)))) (i + 2) (toZ w32 (ofZ w32 (m .z)))) x
     ∙ ap (λ (v : ℤ). set (set (set (begins l old) i (m .x)) (i + 1) v) (i + 2) (toZ w32 (ofZ w32 (m .z)))) y
     ∙ ap (λ (v : ℤ). set (set (set (begins l old) i (m .x)) (i + 1) (m .y)) (i + 2) v) z

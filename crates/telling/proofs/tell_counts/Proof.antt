@@ -10,7 +10,7 @@ told : (v f c : ℕ) (a b a′ b′ : List ℕ) → a ≡ a′ → b ≡ b′ �
 told v f c a b a′ b′ p q = rw (p, q)
 
 returns : tie.Need-returns
-returns c = told _ _ _ _ _ _ _ (c .before .before .before .before .before .before .before .before .fill .ensures) (c .before .before .fill2 .ensures)
+returns c = told _ _ _ _ _ _ _ (c .before .before .before .before .before .before .before .before .copy-halves .ensures) (c .before .before .copy-halves2 .ensures)
 
 pub tell-counts-spec : {M : Type 1} → Rattle.telling.proofs.tell_counts.Statement.statement M
 tell-counts-spec =

@@ -4,8 +4,8 @@ use denote.Ref.{now}
 use mathlib.Core.Path.{ap}
 use Rattle.paper.specs.Faults.{stated}
 use borrow.Author.Needs.{needs}
-use Rattle.paper.specs.Mesh.{Mesh, meshOf, vertexCount, mostVertices, mostCorners}
-use Rattle.checks.proofs.Laws.{room}
+use Rattle.paper.specs.Mesh.{Mesh, meshOf, vertexCount, cornerCount, mostVertices, mostCorners}
+use Rattle.checks.proofs.Laws.{rows-for, room}
 use Rattle.turning.proofs.Laws.{sized-of, nexted-of, lists-refused, lists-sound, lists-passed}
 use Rattle.turning.proofs.choose.Tie as tie
 
@@ -14,7 +14,9 @@ abbrev mesh : tie.Start → Mesh
 mesh s = meshOf (now (s .args .coordinates)) (now (s .args .sides)) (now (s .args .corners)) (now (s .args .sharpness))
 
 check-lists-requires : tie.Need-check-lists-requires
-check-lists-requires c κs = room (mesh (c .before .before .before .before .before .before)) mostCorners mostVertices (λ h. h) (λ h. h)
+check-lists-requires c κs =
+    let s : tie.Start = search in
+    room (mesh s) _ mostVertices (rows-for (cornerCount (mesh s)) mostCorners (λ h. h)) (λ h. h)
 
 returns : tie.Need-returns
 returns c =

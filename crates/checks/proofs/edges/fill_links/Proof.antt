@@ -1,5 +1,4 @@
 -- `fill_links` meets its contract: the corners of the vertices below `u` have their entries and valences, and those vertices are counted.
--- Assumes nothing.
 use mathlib.Core.Path.{_≡_, refl, _∙_}
 use Prim.Native.Nat.{_≤_, _-_}
 use lib.ListN.{length}
@@ -9,7 +8,6 @@ use Rattle.checks.proofs.edges.Laws.{EntriesBelow, ValencesBelow, Count
 use Rattle.checks.proofs.edges.Laws.{below-none, valences-none, counted-none, below-more, valences-more, chains-more, heads-more, counted-more, found}
 use native.Mathlib.Omega.{arith}
 use borrow.Author.Needs.{needs}
-use Rattle.checks.proofs.edges.fill_links.Statement.{statement}
 use Rattle.checks.proofs.edges.fill_links.Tie as tie
 
 abbrev Inv-loop : tie.InvT-loop
@@ -23,7 +21,7 @@ abbrev μ-loop : tie.MeasureT-loop
 
 loop-holds : tie.Need-loop-holds Inv-loop μ-loop
 loop-holds c =
-    let s = c .before .before .before in
+    let s : tie.Start Inv-loop μ-loop = search in
     let z = s .pre .1 .1 in (
       omega arith,
       refl,
@@ -40,7 +38,7 @@ loop-holds c =
 
 mark-requires : tie.Need-mark-requires Inv-loop μ-loop
 mark-requires c κs =
-    let l = c .before .before .before .before .loop in let s = c .before .before .before .before .before .before .before .before in
+    let l = c .before .before .before .before .loop in let s : tie.Start Inv-loop μ-loop = search in
     let taken = c .before .before .before .loop-test .taken in
     ((l .inv .3, omega (arith, s .pre .1 .0 .1, l .inv .2, taken), l .inv .5), (l .inv .10 (l .u) (omega arith), l .inv .4))
 
@@ -57,7 +55,7 @@ loop-again c =
     let m = c .before .before .before .before .before .before .before .mark in
     let taken = c .before .before .before .before .before .before .before .before .before .before .before .loop-test .taken in
     let t = c .before .before .before .before .before .before .before .before .before .before .before .before in
-    let l = t .loop in let s = t .before .before .before .before in
+    let l = t .loop in let s : tie.Start Inv-loop μ-loop = search in
     let e = k .ensures .faces in (
       omega (arith, taken),
       k .kept .1 .1 .1 .1 .1 .0 ∙ l .inv .1,
@@ -74,10 +72,10 @@ loop-again c =
 
 returns : tie.Need-returns Inv-loop μ-loop
 returns c =
-    let l = c .before .loop in let s = c .before .before .before .before .before in
+    let l = c .before .loop in let s : tie.Start Inv-loop μ-loop = search in
     found _ (l .u) (s .args .count) (c .loop-test .left) (s .pre .1 .0 .0) _ _ _ (l .inv .6) (l .inv .7) (l .inv .8) (l .inv .9)
 
-pub fill-links-spec : {M : Type 1} → statement M
+pub fill-links-spec : {M : Type 1} → Rattle.checks.proofs.edges.fill_links.Statement.statement M
 fill-links-spec =
     tie.close (tie.spec Inv-loop μ-loop loop-holds (λ c. search needs) (λ c. search needs) (λ c. search needs) (λ c. search needs) mark-requires
     collect-requires (λ c. search needs) (λ c. search needs) loop-again (λ c. search needs) (λ c. search needs) returns)

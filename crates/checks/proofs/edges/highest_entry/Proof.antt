@@ -1,12 +1,10 @@
 -- No entry before `c` is above the greatest met.
--- Assumes nothing.
 use Prim.Native.Nat.{ℕ, _≤_, _<_, _-_}
 use denote.Ref.{now}
 use Rattle.mesh.proofs.Scans.{all-below-step}
 use Rattle.walk.specs.Table.{toLink, entry}
 use native.Mathlib.Omega.{arith}
 use borrow.Author.Needs.{needs}
-use Rattle.checks.proofs.edges.highest_entry.Statement.{statement}
 use Rattle.checks.proofs.edges.highest_entry.Tie as tie
 
 abbrev Inv-loop : tie.InvT-loop
@@ -15,12 +13,9 @@ Inv-loop table count most₀ c₀ most c = (c ≤ count) × ((j : ℕ) → j < c
 abbrev μ-loop : tie.MeasureT-loop
 μ-loop table count most₀ c₀ most c = count - c
 
-loop-holds : tie.Need-loop-holds Inv-loop μ-loop
-loop-holds c = (omega arith, λ j h. absurd (omega arith))
-
 loop-again : tie.Need-loop-again Inv-loop μ-loop
 loop-again c =
-    let s = c .before .before .before .before .before in let l = c .before .before .before .loop in (
+    let s : tie.Start Inv-loop μ-loop = search in let l = c .before .before .before .loop in (
       search needs,
       all-below-step (entry (now (s .args .table)) toLink) (l .c) (l .most) (c .greater-index .result) (l .inv .1) (c .greater-index .ensures .0) (c .greater-index .ensures .1),
     )
@@ -28,7 +23,7 @@ loop-again c =
 returns : tie.Need-returns Inv-loop μ-loop
 returns c = let l = c .before .loop in λ j h. l .inv .1 j (omega arith)
 
-pub highest-entry-spec : {M : Type 1} → statement M
+pub highest-entry-spec : {M : Type 1} → Rattle.checks.proofs.edges.highest_entry.Statement.statement M
 highest-entry-spec =
-    tie.close (tie.spec Inv-loop μ-loop loop-holds (λ c. search needs) (λ c. search needs) (λ c. search needs) (λ c. search needs) (λ c κs. search needs)
-    (λ c. search needs) (λ c. search needs) loop-again returns)
+    tie.close (tie.spec Inv-loop μ-loop (λ c. (omega arith, λ j h. absurd (omega arith))) (λ c. search needs) (λ c. search needs) (λ c. search needs)
+    (λ c. search needs) (λ c κs. search needs) (λ c. search needs) (λ c. search needs) loop-again returns)

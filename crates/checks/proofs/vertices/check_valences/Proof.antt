@@ -1,5 +1,4 @@
 -- Check 12 meets its contract: no vertex before `u` is at fault.
--- Assumes nothing.
 use mathlib.Core.Path.{_≡_, sym}
 use mathlib.Core.Bool.{false}
 use mathlib.Core.Logic.{⊎-elim}
@@ -15,7 +14,6 @@ use Rattle.mesh.proofs.Verdicts.{lowest-hit, lowest-none}
 use Rattle.checks.specs.columns.Vertices.{vertexRow, countHere, noted}
 use native.Mathlib.Omega.{arith}
 use borrow.Author.Needs.{needs}
-use Rattle.checks.proofs.vertices.check_valences.Statement.{statement}
 use Rattle.checks.proofs.vertices.check_valences.Tie as tie
 
 abbrev Inv-loop : tie.InvT-loop
@@ -24,16 +22,10 @@ Inv-loop corners vertices count u₀ u = (u ≤ count) × ((j : ℕ) → j < u �
 abbrev μ-loop : tie.MeasureT-loop
 μ-loop corners vertices count u₀ u = count - u
 
-loop-holds : tie.Need-loop-holds Inv-loop μ-loop
-loop-holds c = (omega arith, λ j l. absurd (omega arith))
-
-cast-n : tie.Need-cast-n Inv-loop μ-loop
-cast-n c = omega (arith, c .shared-slice-known .given (vertexRow * c .before .before .loop .u + countHere))
-
 returns : tie.Need-returns Inv-loop μ-loop
 unfolding fault12
 returns c =
-    let s = c .before .before .before .before in let l = c .before .before .before .loop in
+    let s : tie.Start Inv-loop μ-loop = search in let l = c .before .before .before .loop in
     let v = valence (now (s .args .corners)) (l .u) in
     let n = noted (now (s .args .vertices)) countHere (l .u) in
     sym (lowest-hit 12 (s .args .count) (fault12 (now (s .args .corners))) (l .u) (search needs)
@@ -46,7 +38,7 @@ returns c =
 loop-again : tie.Need-loop-again Inv-loop μ-loop
 unfolding fault12
 loop-again c =
-    let s = c .before .before .before .before .before in let l = c .before .before .before .before .loop in
+    let s : tie.Start Inv-loop μ-loop = search in let l = c .before .before .before .before .loop in
     let v = valence (now (s .args .corners)) (l .u) in
     let n = noted (now (s .args .vertices)) countHere (l .u) in (
       search needs,
@@ -60,7 +52,8 @@ returns-2 c =
     let s = c .before .before in let l = c .before .loop in
     sym (lowest-none 12 (s .args .count) (fault12 (now (s .args .corners))) (λ j h. l .inv .1 j (omega arith)))
 
-pub check-valences-spec : {M : Type 1} → statement M
+pub check-valences-spec : {M : Type 1} → Rattle.checks.proofs.vertices.check_valences.Statement.statement M
 check-valences-spec =
-    tie.close (tie.spec Inv-loop μ-loop loop-holds (λ c. search needs) (λ c. search needs) (λ c. search needs) (λ c. search needs) cast-n returns
+    tie.close (tie.spec Inv-loop μ-loop (λ c. (omega arith, λ j l. absurd (omega arith))) (λ c. search needs) (λ c. search needs) (λ c. search needs)
+    (λ c. search needs) (λ c. omega (arith, c .shared-slice-known .given (vertexRow * c .before .before .loop .u + countHere))) returns
     (λ c. search needs) (λ c. search needs) loop-again returns-2)

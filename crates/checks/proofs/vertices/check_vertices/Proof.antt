@@ -1,12 +1,10 @@
 -- Checks 12 and 13 meet their contract: the first stops the chain or is passed.
--- Assumes nothing.
 use mathlib.Core.Path.{_≡_}
 use denote.Ref.{now}
 use Rattle.paper.specs.Faults.{sound, lowestOf, fault12}
 use Rattle.mesh.proofs.Verdicts.{passed}
 use Rattle.checks.proofs.vertices.Laws.{cornered, valences-refused, vertices-checked}
 use borrow.Author.Needs.{needs}
-use Rattle.checks.proofs.vertices.check_vertices.Statement.{statement}
 use Rattle.checks.proofs.vertices.check_vertices.Tie as tie
 
 -- after check 12
@@ -19,7 +17,7 @@ module _ (t : tie.After-enum-told) where
 
 returns : tie.Need-returns
 returns c =
-    let s = c .before .before .before .before .before .before .before in
+    let s : tie.Start = search in
     let a = c .before .before .before .check-valences in let k = c .before .a12 .given in
     valences-refused (now (s .args .corners)) (s .args .count) (now (s .args .table)) (a .result) (k .0 .0) (k .0 .1 .0) (k .1) (a .ensures)
 
@@ -33,5 +31,5 @@ returns-2 c =
     let s = start (c .before) in
     vertices-checked (now (s .args .corners)) (s .args .count) (now (s .args .table)) (c .check-rings .result) (twelve (c .before)) (c .check-rings .ensures)
 
-pub check-vertices-spec : {M : Type 1} → statement M
+pub check-vertices-spec : {M : Type 1} → Rattle.checks.proofs.vertices.check_vertices.Statement.statement M
 check-vertices-spec = tie.close (tie.spec (λ c κs. search needs) (λ c. search needs) returns (λ c. search needs) check-rings-requires returns-2)

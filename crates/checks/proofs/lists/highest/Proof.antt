@@ -1,0 +1,27 @@
+-- No number before `i` is above the greatest met.
+use Prim.Native.Nat.{ℕ, _≤_, _<_, _-_}
+use lib.ListN.{length, getD}
+use denote.Ref.{now}
+use native.Mathlib.Omega.{arith}
+use borrow.Author.Needs.{needs}
+use Rattle.mesh.proofs.Scans.{all-below-step}
+use Rattle.checks.proofs.lists.highest.Tie as tie
+
+abbrev Inv-loop : tie.InvT-loop
+Inv-loop list most₀ i₀ most i = (i ≤ length list) × ((j : ℕ) → j < i → getD list j 0 ≤ most)
+
+abbrev μ-loop : tie.MeasureT-loop
+μ-loop list most₀ i₀ most i = length list - i
+
+loop-again : tie.Need-loop-again Inv-loop μ-loop
+loop-again c = let s : tie.Start Inv-loop μ-loop = search in let l = c .before .before .before .loop in
+    let f : ℕ → ℕ = λ j. getD (now (s .args .list)) j 0 in
+    (search needs, all-below-step f (l .i) (l .most) (c .greater .result) (l .inv .1) (c .greater .ensures .0) (c .greater .ensures .1))
+
+returns : tie.Need-returns Inv-loop μ-loop
+returns c = let l = c .before .loop in λ j h. l .inv .1 j (omega arith)
+
+pub highest-spec : {M : Type 1} → Rattle.checks.proofs.lists.highest.Statement.statement M
+highest-spec =
+    tie.close (tie.spec Inv-loop μ-loop (λ c. (omega arith, λ j h. absurd (omega arith))) (search needs) (λ c κs. search needs) (search needs)
+    (search needs) loop-again returns)
