@@ -1,12 +1,12 @@
 // The numbers that building writes: the refined points of the corners at the vertices of the range's faces are computed once, and then the
 // quad-nets are written corner by corner, so that each part of the output is gone over once.
 use numbers::cosines;
-use paper::MOST_FACES;
 use paper::MOST_VERTICES;
 use paper::NUMBERS_PER_CORNER;
 use walk::Walker;
 ghost use mathlib.Core.Path.{_≡_};
-ghost use Prim.Native.Nat.{_+_, _*_, _≤_, _<_};
+ghost use Prim.Native.Nat.{ℕ, _+_, _*_, _≤_, _<_};
+ghost use mathlib.Core.List.{List};
 ghost use lib.ListN.{length};
 ghost use Rattle.paper.specs.Mesh.{meshOf};
 ghost use Rattle.paper.specs.Corners.{sumOf, firstOf, sidesOf};
@@ -18,8 +18,7 @@ ghost use Rattle.surface.specs.Points.{pointRow};
 ghost use Rattle.walk.specs.Table.{Tabled};
 ghost use Rattle.refine.specs.sums.Sources.{Small};
 ghost use Rattle.net.specs.sides.Drawn.{drawn, Drawn};
-ghost use Rattle.short_range.specs.Near.{NearPointed};
-ghost use Rattle.building.specs.writing.Written.{Rounds, NetsWritten};
+ghost use Rattle.building.specs.writing.Written.{NearPointed, Rounds, InFace, NetsWritten};
 
 // The numbers of `count` corners from `first` on, by the table of the mesh's corners. The refined points are put into `points`.
 pub fn write_nets(
@@ -39,8 +38,8 @@ pub fn write_nets(
     requires points { ⌜ (pointRow * length (now corners) ≤ length (now points)) × Small (now points) ⌝ }
     ensures { λ _. ⌜ now (out .exit) ≡ nets (meshOf (now (coordinates .entry)) (now (sides .entry)) (now (corners .entry)) (now (sharpness .entry))) first count ⌝ }
 {
-    let start = face_start(sides, table, first);
-    let end = face_end(sides, table, first + count - 1);
+    let start = face_start(table, first);
+    let end = face_end(table, first + count - 1);
     let all = end - start;
     fill_asked(
         coordinates,
@@ -56,8 +55,7 @@ pub fn write_nets(
     write_corners(points, table, &rows, corners.len(), first, count, out);
 }
 
-// The refined points of the corners at the vertices of `count` corners from `first` on: by the rings of links where these are a small part of the
-// mesh, else by one pass over all faces.
+// The refined points of the corners at the vertices of `count` corners from `first` on.
 fn fill_asked(
     coordinates: &[i32],
     sides: &[u8],
@@ -74,21 +72,8 @@ fn fill_asked(
     requires points { ⌜ (pointRow * length (now corners) ≤ length (now points)) × Small (now points) ⌝ }
     ensures { λ _. ⌜ NearPointed (meshOf (now (coordinates .entry)) (now (sides .entry)) (now (corners .entry)) (now (sharpness .entry))) first count (now (points .entry)) (now (points .exit)) ⌝ }
 {
-    if short_range::fill_near(
-        coordinates,
-        sides,
-        corners,
-        sharpness,
-        table,
-        first,
-        count,
-        points,
-    ) {
-        return;
-    }
     let mut marked = [0u8; MOST_VERTICES];
-    let mut wanted = [0u8; MOST_FACES];
-    refine::wanted::fill_wanted(sides, corners, first, count, &mut marked, &mut wanted);
+    refine::mark_vertices(corners, first, count, &mut marked);
     refine::fill_points(
         coordinates,
         sides,
@@ -96,37 +81,35 @@ fn fill_asked(
         sharpness,
         table,
         &marked,
-        &wanted,
         points,
     );
 }
 
-// The first corner of a corner's face: next to its last one.
-fn face_start(sides: &[u8], table: &[u16], c: usize) -> usize
-    requires { ⌜ Rounds (now sides) (now table) × (c < sumOf (now sides)) ⌝ }
-    ensures { λ r. ⌜ r ≡ firstOf (now (sides .entry)) c ⌝ }
+// The first corner of a corner's face: there the previous corner is not the one before it in the list.
+fn face_start(table: &[u16], c: usize) -> usize
+    requires { ⌜ InFace (now table) c ⌝ }
+    ensures { λ r. ⌜ ((sides : List ℕ) → Rounds sides (now (table .entry)) → c < sumOf sides → r ≡ firstOf sides c) ⌝ }
 {
-    let end = face_end(sides, table, c);
-    let last = Walker { corner: end - 1 };
-    let start = last.next(table);
-    start.corner
-}
-
-// The corner after the last one of a corner's face: there the next corner is not the one that follows in the list.
-fn face_end(sides: &[u8], table: &[u16], c: usize) -> usize
-    requires { ⌜ Rounds (now sides) (now table) × (c < sumOf (now sides)) ⌝ }
-    ensures { λ r. ⌜ r ≡ firstOf (now (sides .entry)) c + sidesOf (now (sides .entry)) c ⌝ }
-{
-    let mut end = c;
+    let mut start = c;
     loop {
-        let at = Walker { corner: end };
-        let to = at.next(table);
-        end += 1;
-        if to.corner != end {
+        let at = Walker { corner: start };
+        let back = at.previous(table);
+        if start < back.corner {
             break;
         }
+        start = back.corner;
     }
-    end
+    start
+}
+
+// The corner after the last one of a corner's face.
+fn face_end(table: &[u16], c: usize) -> usize
+    requires { ⌜ InFace (now table) c ⌝ }
+    ensures { λ r. ⌜ ((sides : List ℕ) → Rounds sides (now (table .entry)) → c < sumOf sides → r ≡ firstOf sides c + sidesOf sides c) ⌝ }
+{
+    let start = face_start(table, c);
+    let at = Walker { corner: start };
+    start + at.sides(table)
 }
 
 // The numbers of each corner of the range. The tables are those of n corners.

@@ -10,13 +10,10 @@ use walk::Walker;
 ghost use mathlib.Core.Path.{_≡_};
 ghost use Prim.Native.Nat.{_+_, _*_, _≤_, _<_};
 ghost use lib.ListN.{length, getD};
-ghost use Rattle.paper.specs.Mesh.{leastSides, mostSides, meshOf};
-ghost use Rattle.paper.specs.Corners.{faceOf};
-ghost use Rattle.paper.specs.Refined.{cornersOf};
+ghost use Rattle.paper.specs.Mesh.{leastSides, mostSides};
 ghost use Rattle.surface.specs.Points.{pointRow};
-ghost use Rattle.walk.specs.Table.{Tabled};
-ghost use Rattle.refine.specs.sums.Sources.{Placed, Refinable, Small, Added, sumRow};
-ghost use Rattle.refine.specs.corners.Mean.{Pair, Weighted, Balanced, Steps, Known, mean, MeanOf, FaceRead, FaceOf};
+ghost use Rattle.refine.specs.sums.Sources.{Placed, Small, sumRow};
+ghost use Rattle.refine.specs.corners.Mean.{Pair, weightsOf, Balanced, Steps, Known, mean, MeanOf, CornerLists, FaceRead, FaceKnown, CornerPointed};
 
 // What the corners of a face share: its sides with their reciprocal, and Σ in grid steps.
 pub struct FaceSums {
@@ -42,31 +39,26 @@ struct CornerWeights {
     after: u32,
 }
 
-// What the corners of face f share, from the table of sums, which is in ticks.
-pub fn read_face(sides: &[u8], sums: &[i32], f: usize) -> FaceSums
+// What the corners of face f share, from its row of the table of sums. Nothing else of a sum reaches the corners.
+pub(crate) fn read_face(sides: &[u8], sums: &[i32], f: usize) -> FaceSums
     requires sides { ⌜ (f < length (now sides)) × (leastSides ≤ getD (now sides) f 0) × (getD (now sides) f 0 ≤ mostSides) ⌝ }
     requires sums { ⌜ sumRow * f + sumRow ≤ length (now sums) ⌝ }
     ensures { λ r. ⌜ FaceRead (now (sides .entry)) (now (sums .entry)) f r ⌝ }
 {
     let n = sides[f];
-    let m = side_reciprocal(n);
-    let x = sums[SUM_ROW * f] >> 8;
-    let y = sums[SUM_ROW * f + 1] >> 8;
-    let z = sums[SUM_ROW * f + 2] >> 8;
     FaceSums {
         sides: n,
-        reciprocal: m,
-        x: x,
-        y: y,
-        z: z,
+        reciprocal: side_reciprocal(n),
+        x: sums[SUM_ROW * f],
+        y: sums[SUM_ROW * f + 1],
+        z: sums[SUM_ROW * f + 2],
     }
 }
 
 // The refined point of one corner of a face, on the three axes. All three are computed before one is put into the table: the compiler does not
 // know that this leaves the lists as they are.
-pub fn fill_corner(
+pub(crate) fn fill_corner(
     coordinates: &[i32],
-    sides: &[u8],
     corners: &[u16],
     sharpness: &[u8],
     table: &[u16],
@@ -74,11 +66,10 @@ pub fn fill_corner(
     c: usize,
     points: &mut [i32],
 )
-    requires mesh { ⌜ Refinable (meshOf (now coordinates) (now sides) (now corners) (now sharpness)) ⌝ }
-    requires table { ⌜ Tabled (cornersOf (meshOf (now coordinates) (now sides) (now corners) (now sharpness))) (now table) ⌝ }
-    requires face { ⌜ (c < length (now corners)) × FaceOf (meshOf (now coordinates) (now sides) (now corners) (now sharpness)) (faceOf (now sides) c) face ⌝ }
+    requires lists { ⌜ CornerLists (now coordinates) (now corners) (now sharpness) (now table) ⌝ }
+    requires face { ⌜ (c < length (now corners)) × FaceKnown face ⌝ }
     requires points { ⌜ (pointRow * length (now corners) ≤ length (now points)) × Small (now points) ⌝ }
-    ensures { λ _. ⌜ Added (meshOf (now (coordinates .entry)) (now (sides .entry)) (now (corners .entry)) (now (sharpness .entry))) 3 c (c + 1) (now (points .entry)) (now (points .exit)) ⌝ }
+    ensures { λ _. ⌜ CornerPointed (now (coordinates .entry)) (now (corners .entry)) (now (sharpness .entry)) (now (table .entry)) face c (now (points .entry)) (now (points .exit)) ⌝ }
 {
     let at = Walker { corner: c };
     let p = at.previous(table);
@@ -100,7 +91,7 @@ pub fn fill_corner(
 // The weights of a corner, by its sharpness.
 fn weigh(sharpness: &[u8], c: usize) -> CornerWeights
     requires { ⌜ Pair (now sharpness) c ⌝ }
-    ensures { λ r. ⌜ Weighted (now (sharpness .entry)) c r ⌝ }
+    ensures { λ r. ⌜ r ≡ weightsOf (now (sharpness .entry)) c ⌝ }
 {
     let u = sharpness[SHARPNESS_PER_CORNER * c] as u32;
     let v = sharpness[SHARPNESS_PER_CORNER * c + 1] as u32;

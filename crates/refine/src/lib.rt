@@ -1,10 +1,9 @@
-// The refined points of the corners at the vertices that are marked, on the three axes: a row for each corner. The sums of their faces are formed
-// first, once for each face and axis, and put into a table; the loop over the corners takes them from there.
+// The refined points of the corners at the vertices that are marked: a row for each corner. The sums of their faces are formed first, once for each
+// face, and put into a table; the loop over the corners takes them from there.
 pub mod corners;
 pub mod faces;
 pub mod formulas;
 pub mod sums;
-pub mod wanted;
 
 use crate::corners::FaceSums;
 use crate::corners::fill_corner;
@@ -13,19 +12,34 @@ use crate::sums::SUM_ROW;
 use crate::sums::fill_sums;
 use mesh::SMALL_MESH;
 use paper::MOST_CORNERS;
+use paper::MOST_FACES;
 ghost use mathlib.Core.Path.{_≡_};
-ghost use Prim.Native.Nat.{_+_, _*_, _≤_, _<_};
-ghost use lib.ListN.{length};
+ghost use Prim.Native.Nat.{_+_, _*_, _≤_};
+ghost use lib.ListN.{length, replicate};
 ghost use Rattle.paper.specs.Mesh.{meshOf};
-ghost use Rattle.paper.specs.Corners.{firstOf, faceOf};
 ghost use Rattle.paper.specs.Refined.{cornersOf};
 ghost use Rattle.mesh.specs.Tables.{Named};
 ghost use Rattle.surface.specs.Points.{pointRow};
 ghost use Rattle.walk.specs.Table.{Tabled};
-ghost use Rattle.refine.specs.sums.Sources.{Refinable, Small, Filled, Pointed, Covered, SumRoom, SumsAre};
-ghost use Rattle.refine.specs.corners.Mean.{FaceOf};
+ghost use Rattle.refine.specs.Marks.{Marked};
+ghost use Rattle.refine.specs.sums.Sources.{Refinable, Small, Covered, SumsFit};
+ghost use Rattle.refine.specs.corners.Mean.{CornerLists, FaceKnown, FacePointed, TablePointed, MarkedPointed};
 
-// The refined points of the corners whose vertex has a nonzero entry in `marked`. A face with such a corner has one in `wanted`.
+// Marks the vertices of `count` corners from `first` on, in a table of zeros.
+pub fn mark_vertices(corners: &[u16], first: usize, count: usize, marked: &mut [u8])
+    requires named { ⌜ Named (now corners) (length (now marked)) × (now marked ≡ replicate (length (now marked)) 0) ⌝ }
+    requires range { ⌜ first + count ≤ length (now corners) ⌝ }
+    ensures { λ _. ⌜ Marked (now (corners .entry)) first count (now (marked .exit)) ⌝ }
+{
+    let mut k = 0;
+    while k < count {
+        let u = corners[first + k] as usize;
+        marked[u] = 1;
+        k += 1;
+    }
+}
+
+// The refined points of the corners whose vertex has a nonzero entry in `marked`.
 pub fn fill_points(
     coordinates: &[i32],
     sides: &[u8],
@@ -33,80 +47,49 @@ pub fn fill_points(
     sharpness: &[u8],
     table: &[u16],
     marked: &[u8],
-    wanted: &[u8],
     points: &mut [i32],
 )
     requires mesh { ⌜ Refinable (meshOf (now coordinates) (now sides) (now corners) (now sharpness)) ⌝ }
     requires table { ⌜ Tabled (cornersOf (meshOf (now coordinates) (now sides) (now corners) (now sharpness))) (now table) ⌝ }
-    requires marked { ⌜ Named (now corners) (length (now marked)) × Covered (meshOf (now coordinates) (now sides) (now corners) (now sharpness)) (now marked) (now wanted) ⌝ }
-    requires wanted { ⌜ length (now sides) ≤ length (now wanted) ⌝ }
+    requires marked { ⌜ Named (now corners) (length (now marked)) ⌝ }
     requires points { ⌜ (pointRow * length (now corners) ≤ length (now points)) × Small (now points) ⌝ }
-    ensures { λ _. ⌜ Pointed (meshOf (now (coordinates .entry)) (now (sides .entry)) (now (corners .entry)) (now (sharpness .entry))) (now (marked .entry)) (length (now (corners .entry))) (now (points .entry)) (now (points .exit)) ⌝ }
+    ensures { λ _. ⌜ MarkedPointed (meshOf (now (coordinates .entry)) (now (sides .entry)) (now (corners .entry)) (now (sharpness .entry))) (now (marked .entry)) (now (points .entry)) (now (points .exit)) ⌝ }
 {
     if SUM_ROW * sides.len() <= SMALL_MESH {
         let mut sums = [0i32; SMALL_MESH];
-        fill_over(
+        let mut wanted = [0u8; SMALL_MESH];
+        fill_sums(coordinates, sides, corners, marked, &mut wanted, &mut sums);
+        fill_faces(
             coordinates,
             sides,
             corners,
             sharpness,
             table,
             marked,
-            wanted,
-            &mut sums,
+            &wanted,
+            &sums,
             points,
         );
     } else {
         let mut sums = [0i32; MOST_CORNERS];
-        fill_over(
+        let mut wanted = [0u8; MOST_FACES];
+        fill_sums(coordinates, sides, corners, marked, &mut wanted, &mut sums);
+        fill_faces(
             coordinates,
             sides,
             corners,
             sharpness,
             table,
             marked,
-            wanted,
-            &mut sums,
+            &wanted,
+            &sums,
             points,
         );
     }
 }
 
-// The same over a table of its own, which is filled first.
-fn fill_over(
-    coordinates: &[i32],
-    sides: &[u8],
-    corners: &[u16],
-    sharpness: &[u8],
-    table: &[u16],
-    marked: &[u8],
-    wanted: &[u8],
-    sums: &mut [i32],
-    points: &mut [i32],
-)
-    requires mesh { ⌜ Refinable (meshOf (now coordinates) (now sides) (now corners) (now sharpness)) ⌝ }
-    requires table { ⌜ Tabled (cornersOf (meshOf (now coordinates) (now sides) (now corners) (now sharpness))) (now table) ⌝ }
-    requires marked { ⌜ Named (now corners) (length (now marked)) × Covered (meshOf (now coordinates) (now sides) (now corners) (now sharpness)) (now marked) (now wanted) ⌝ }
-    requires wanted { ⌜ length (now sides) ≤ length (now wanted) ⌝ }
-    requires sums { ⌜ SumRoom (now sides) (now sums) ⌝ }
-    requires points { ⌜ (pointRow * length (now corners) ≤ length (now points)) × Small (now points) ⌝ }
-    ensures { λ _. ⌜ Pointed (meshOf (now (coordinates .entry)) (now (sides .entry)) (now (corners .entry)) (now (sharpness .entry))) (now (marked .entry)) (length (now (corners .entry))) (now (points .entry)) (now (points .exit)) ⌝ }
-{
-    fill_sums(coordinates, sides, corners, wanted, sums);
-    fill_faces(
-        coordinates,
-        sides,
-        corners,
-        sharpness,
-        table,
-        marked,
-        wanted,
-        sums,
-        points,
-    );
-}
-
-// The same with the sums of the faces that have a nonzero entry in `wanted`.
+// The same by a table of sums. A face that has such a corner has a nonzero entry in `wanted`. Of the sums nothing is known but their sizes: the points
+// are those of the table's rows, whatever these hold.
 fn fill_faces(
     coordinates: &[i32],
     sides: &[u8],
@@ -120,11 +103,10 @@ fn fill_faces(
 )
     requires mesh { ⌜ Refinable (meshOf (now coordinates) (now sides) (now corners) (now sharpness)) ⌝ }
     requires table { ⌜ Tabled (cornersOf (meshOf (now coordinates) (now sides) (now corners) (now sharpness))) (now table) ⌝ }
-    requires marked { ⌜ Named (now corners) (length (now marked)) × Covered (meshOf (now coordinates) (now sides) (now corners) (now sharpness)) (now marked) (now wanted) ⌝ }
-    requires wanted { ⌜ length (now sides) ≤ length (now wanted) ⌝ }
-    requires sums { ⌜ SumsAre (meshOf (now coordinates) (now sides) (now corners) (now sharpness)) (now wanted) (now sums) ⌝ }
+    requires marked { ⌜ Named (now corners) (length (now marked)) × Covered (now sides) (now corners) (now marked) (now wanted) ⌝ }
+    requires sums { ⌜ SumsFit (now sides) (now wanted) (now sums) ⌝ }
     requires points { ⌜ (pointRow * length (now corners) ≤ length (now points)) × Small (now points) ⌝ }
-    ensures { λ _. ⌜ Pointed (meshOf (now (coordinates .entry)) (now (sides .entry)) (now (corners .entry)) (now (sharpness .entry))) (now (marked .entry)) (length (now (corners .entry))) (now (points .entry)) (now (points .exit)) ⌝ }
+    ensures { λ _. ⌜ TablePointed (meshOf (now (coordinates .entry)) (now (sides .entry)) (now (corners .entry)) (now (sharpness .entry))) (now (sums .entry)) (now (marked .entry)) (length (now (corners .entry))) (now (points .entry)) (now (points .exit)) ⌝ }
 {
     let mut start = 0;
     let mut f = 0;
@@ -133,7 +115,6 @@ fn fill_faces(
             let face = read_face(sides, sums, f);
             fill_face(
                 coordinates,
-                sides,
                 corners,
                 sharpness,
                 table,
@@ -148,11 +129,10 @@ fn fill_faces(
     }
 }
 
-// The refined points of one face, whose first corner is `start`. A face has corners, so the end is looked for last: in front of a loop that may not
-// begin, the compiler makes jumps of the table of reciprocals.
+// The same of one face, whose first corner is `start`. A face has corners, so the end is looked for last: in front of a loop that may not begin,
+// the compiler makes jumps of the table of reciprocals.
 fn fill_face(
     coordinates: &[i32],
-    sides: &[u8],
     corners: &[u16],
     sharpness: &[u8],
     table: &[u16],
@@ -161,64 +141,22 @@ fn fill_face(
     start: usize,
     points: &mut [i32],
 )
-    requires mesh { ⌜ Refinable (meshOf (now coordinates) (now sides) (now corners) (now sharpness)) ⌝ }
-    requires table { ⌜ Tabled (cornersOf (meshOf (now coordinates) (now sides) (now corners) (now sharpness))) (now table) ⌝ }
+    requires lists { ⌜ CornerLists (now coordinates) (now corners) (now sharpness) (now table) ⌝ }
     requires marked { ⌜ Named (now corners) (length (now marked)) ⌝ }
-    requires face { ⌜ (start < length (now corners)) × (start ≡ firstOf (now sides) start) × FaceOf (meshOf (now coordinates) (now sides) (now corners) (now sharpness)) (faceOf (now sides) start) face ⌝ }
+    requires face { ⌜ (start + face .sides ≤ length (now corners)) × FaceKnown face ⌝ }
     requires points { ⌜ (pointRow * length (now corners) ≤ length (now points)) × Small (now points) ⌝ }
-    ensures { λ _. ⌜ Filled (meshOf (now (coordinates .entry)) (now (sides .entry)) (now (corners .entry)) (now (sharpness .entry))) (now (marked .entry)) start (start + face .sides) (now (points .entry)) (now (points .exit)) ⌝ }
+    ensures { λ _. ⌜ FacePointed (now (coordinates .entry)) (now (corners .entry)) (now (sharpness .entry)) (now (table .entry)) (now (marked .entry)) face start (start + face .sides) (now (points .entry)) (now (points .exit)) ⌝ }
 {
     let end = start + face.sides as usize;
     let mut c = start;
     loop {
-        fill_marked(
-            coordinates,
-            sides,
-            corners,
-            sharpness,
-            table,
-            marked,
-            face,
-            c,
-            points,
-        );
+        let u = corners[c] as usize;
+        if marked[u] != 0 {
+            fill_corner(coordinates, corners, sharpness, table, face, c, points);
+        }
         c += 1;
         if end <= c {
             break;
         }
-    }
-}
-
-// The refined point of one corner, where its vertex is marked.
-fn fill_marked(
-    coordinates: &[i32],
-    sides: &[u8],
-    corners: &[u16],
-    sharpness: &[u8],
-    table: &[u16],
-    marked: &[u8],
-    face: FaceSums,
-    c: usize,
-    points: &mut [i32],
-)
-    requires mesh { ⌜ Refinable (meshOf (now coordinates) (now sides) (now corners) (now sharpness)) ⌝ }
-    requires table { ⌜ Tabled (cornersOf (meshOf (now coordinates) (now sides) (now corners) (now sharpness))) (now table) ⌝ }
-    requires marked { ⌜ Named (now corners) (length (now marked)) ⌝ }
-    requires face { ⌜ (c < length (now corners)) × FaceOf (meshOf (now coordinates) (now sides) (now corners) (now sharpness)) (faceOf (now sides) c) face ⌝ }
-    requires points { ⌜ (pointRow * length (now corners) ≤ length (now points)) × Small (now points) ⌝ }
-    ensures { λ _. ⌜ Filled (meshOf (now (coordinates .entry)) (now (sides .entry)) (now (corners .entry)) (now (sharpness .entry))) (now (marked .entry)) c (c + 1) (now (points .entry)) (now (points .exit)) ⌝ }
-{
-    let v = corners[c] as usize;
-    if marked[v] != 0 {
-        fill_corner(
-            coordinates,
-            sides,
-            corners,
-            sharpness,
-            table,
-            face,
-            c,
-            points,
-        );
     }
 }

@@ -1,76 +1,78 @@
-// The sums of the faces that are wanted, once for each face and axis, in a table; and a vertex on an axis.
-use paper::TICKS_PER_STEP;
+// The sums of the faces that are needed, once for each face, in a table with a row for each face; and a vertex on an axis.
 ghost use mathlib.Core.Path.{_≡_};
-ghost use Prim.Native.Nat.{_+_, _≤_, _<_};
+ghost use Prim.Native.Nat.{_+_, _*_, _≤_, _<_};
 ghost use lib.ListN.{length};
 ghost use Rattle.paper.specs.Mesh.{mostSides, plainMesh};
-ghost use Rattle.paper.specs.Corners.{startOf};
-ghost use Rattle.refine.specs.sums.Sources.{Placed, Refinable, stepsOf, Totals, SumRoom, Summed, SummedFace};
+ghost use Rattle.paper.specs.Corners.{sumOf};
+ghost use Rattle.mesh.specs.Tables.{Named};
+ghost use Rattle.refine.specs.Marks.{SomeIn, Tells, AtMark};
+ghost use Rattle.refine.specs.sums.Sources.{Faces, Placed, stepsOf, sumRow, RowSummed, SumsAre};
 
 // The numbers in a row of the table, one for each axis. A face has at least three corners, so the table has no more numbers than the mesh has
 // corners.
 pub const SUM_ROW: usize = 3;
 
-// Sums on the three axes, in grid steps.
-pub struct StepSums {
-    pub x: i32,
-    pub y: i32,
-    pub z: i32,
-}
-
-// Σ of the faces that have a nonzero entry in `wanted`, on the three axes, in ticks. Sums do not depend on sharpness, so the contract is
-// said of the mesh with 8 and 8 throughout.
-pub fn fill_sums(
+// Σ of the faces that have a corner at a marked vertex, on the three axes, in grid steps. These get an entry in `wanted` that is not zero. Sums do not
+// depend on sharpness, so the contract is said of the mesh with 8 and 8 throughout.
+pub(crate) fn fill_sums(
     coordinates: &[i32],
     sides: &[u8],
     corners: &[u16],
-    wanted: &[u8],
+    marked: &[u8],
+    wanted: &mut [u8],
     sums: &mut [i32],
 )
-    requires mesh { ⌜ Refinable (plainMesh (now coordinates) (now sides) (now corners)) ⌝ }
-    requires wanted { ⌜ length (now sides) ≤ length (now wanted) ⌝ }
-    requires sums { ⌜ SumRoom (now sides) (now sums) ⌝ }
-    ensures { λ _. ⌜ Summed (plainMesh (now (coordinates .entry)) (now (sides .entry)) (now (corners .entry))) (now (wanted .entry)) (length (now (sides .entry))) (now (sums .entry)) (now (sums .exit)) ⌝ }
+    requires mesh { ⌜ Faces (now sides) × (sumOf (now sides) ≡ length (now corners)) × Placed (now coordinates) (now corners) ⌝ }
+    requires marked { ⌜ Named (now corners) (length (now marked)) ⌝ }
+    requires room { ⌜ (length (now sides) ≤ length (now wanted)) × (sumRow * length (now sides) ≤ length (now sums)) ⌝ }
+    ensures { λ _. ⌜ SumsAre (plainMesh (now (coordinates .entry)) (now (sides .entry)) (now (corners .entry))) (now (marked .entry)) (length (now (sides .entry))) (now (wanted .exit)) (now (sums .exit)) ⌝ }
 {
-    let faces = sides.len();
     let mut start = 0;
     let mut f = 0;
-    while f < faces {
-        if 0 < wanted[f] {
-            sum_face(coordinates, sides, corners, f, start, sums);
+    while f < sides.len() {
+        let n = sides[f] as usize;
+        let any = any_marked(corners, marked, start, n);
+        wanted[f] = any;
+        if any != 0 {
+            sum_face(coordinates, corners, start, n, f, sums);
         }
-        start += sides[f] as usize;
+        start += n;
         f += 1;
     }
 }
 
-// Σ of one face, whose first corner is `start`.
-fn sum_face(
-    coordinates: &[i32],
-    sides: &[u8],
-    corners: &[u16],
-    f: usize,
-    start: usize,
-    sums: &mut [i32],
-)
-    requires mesh { ⌜ Refinable (plainMesh (now coordinates) (now sides) (now corners)) ⌝ }
-    requires face { ⌜ (f < length (now sides)) × (start ≡ startOf (now sides) f) ⌝ }
-    requires sums { ⌜ SumRoom (now sides) (now sums) ⌝ }
-    ensures { λ _. ⌜ SummedFace (plainMesh (now (coordinates .entry)) (now (sides .entry)) (now (corners .entry))) 3 f (now (sums .entry)) (now (sums .exit)) ⌝ }
+// Not zero where one of `n` corners from `start` on has its vertex marked. It looks at all of them: that is no slower than to stop at the
+// first, which the processor cannot foresee.
+fn any_marked(corners: &[u16], marked: &[u8], start: usize, n: usize) -> u8
+    requires named { ⌜ Named (now corners) (length (now marked)) ⌝ }
+    requires range { ⌜ start + n ≤ length (now corners) ⌝ }
+    ensures { λ r. ⌜ Tells r (SomeIn (AtMark (now (corners .entry)) (now (marked .entry))) start (start + n)) ⌝ }
 {
-    let n = sides[f] as usize;
-    let t = face_sum(coordinates, corners, start, n);
-    let ticks = TICKS_PER_STEP as i32;
-    sums[SUM_ROW * f] = ticks * t.x;
-    sums[SUM_ROW * f + 1] = ticks * t.y;
-    sums[SUM_ROW * f + 2] = ticks * t.z;
+    let mut any = 0;
+    let mut j = 0;
+    while j < n {
+        let u = corners[start + j] as usize;
+        if marked[u] != 0 {
+            any = 1;
+        }
+        j += 1;
+    }
+    any
 }
 
-// The sum of the vertices of `n` corners from `start` on, in grid steps: one pass for the three axes.
-fn face_sum(coordinates: &[i32], corners: &[u16], start: usize, n: usize) -> StepSums
+// Σ of face f, whose n corners begin at `start`: one pass for the three axes.
+fn sum_face(
+    coordinates: &[i32],
+    corners: &[u16],
+    start: usize,
+    n: usize,
+    f: usize,
+    sums: &mut [i32],
+)
     requires placed { ⌜ Placed (now coordinates) (now corners) ⌝ }
     requires face { ⌜ (start + n ≤ length (now corners)) × (n ≤ mostSides) ⌝ }
-    ensures { λ r. ⌜ Totals (now (coordinates .entry)) (now (corners .entry)) start n r ⌝ }
+    requires sums { ⌜ sumRow * f + sumRow ≤ length (now sums) ⌝ }
+    ensures { λ _. ⌜ RowSummed (now (coordinates .entry)) (now (corners .entry)) start n f (now (sums .entry)) (now (sums .exit)) ⌝ }
 {
     let mut x = 0;
     let mut y = 0;
@@ -83,11 +85,13 @@ fn face_sum(coordinates: &[i32], corners: &[u16], start: usize, n: usize) -> Ste
         z += coordinate(coordinates, corners, 2, c);
         j += 1;
     }
-    StepSums { x: x, y: y, z: z }
+    sums[SUM_ROW * f] = x;
+    sums[SUM_ROW * f + 1] = y;
+    sums[SUM_ROW * f + 2] = z;
 }
 
 // The vertex of a corner on an axis, in grid steps.
-pub fn coordinate(coordinates: &[i32], corners: &[u16], axis: usize, c: usize) -> i32
+pub(crate) fn coordinate(coordinates: &[i32], corners: &[u16], axis: usize, c: usize) -> i32
     requires placed { ⌜ Placed (now coordinates) (now corners) ⌝ }
     requires corner { ⌜ (axis < 3) × (c < length (now corners)) ⌝ }
     ensures { λ r. ⌜ r ≡ stepsOf (now (coordinates .entry)) (now (corners .entry)) axis c ⌝ }

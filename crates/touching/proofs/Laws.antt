@@ -26,8 +26,8 @@ use Rattle.mesh.proofs.Faces.{Held, held, face-at, start-ends}
 use Rattle.mesh.proofs.Links.{values-length, values-at}
 use Rattle.mesh.proofs.Verdicts.{orElse-fault, orElse-sound, single-hit, single-miss}
 use Rattle.mesh.proofs.Accepted.{sound-of, few-vertices, sums-of}
-use Rattle.refine.specs.wanted.Tables.{Faces}
-use Rattle.refine.proofs.wanted.Accepted.{faces-of, vertex-in}
+use Rattle.refine.specs.sums.Sources.{Faces}
+use Rattle.refine.proofs.Accepted.{faces-of, vertex-in}
 use Rattle.touching.specs.Near.{among, AllMarked, FaceMarked, inFace, NearMarked}
 
 -- ---- scans, one number longer

@@ -8,7 +8,7 @@ ghost use Rattle.paper.specs.Mesh.{meshOf, mostVertices};
 ghost use Rattle.paper.specs.Corners.{sumOf};
 ghost use Rattle.paper.specs.Links.{vertexOf};
 ghost use Rattle.mesh.specs.Tables.{Named};
-ghost use Rattle.refine.specs.wanted.Tables.{Faces};
+ghost use Rattle.refine.specs.sums.Sources.{Faces};
 ghost use Rattle.paper.specs.Preview.{touchMarks, Touched};
 ghost use Rattle.touching.specs.Near.{among, AllMarked, FaceMarked, NearMarked};
 
@@ -80,7 +80,7 @@ fn mark_face(corners: &[u16], vertex: usize, start: usize, n: usize, near: &mut 
     }
 }
 
-// Whether one of n corners from `start` on is at the vertex. It looks at all of them, as `refine::wanted::any_marked` does.
+// Whether one of n corners from `start` on is at the vertex. It looks at all of them: that is no slower than to stop at the first.
 fn has_vertex(corners: &[u16], vertex: usize, start: usize, n: usize) -> bool
     requires { ⌜ start + n ≤ length (now corners) ⌝ }
     ensures { λ r. ⌜ r ≡ among (now (corners .entry)) start n vertex ⌝ }

@@ -1,14 +1,13 @@
--- With all vertices marked and all faces wanted the tables draw the whole mesh, and the misses of its nets are those of the numbers that building
+-- With all vertices marked the tables draw the whole mesh, and the misses of its nets are those of the numbers that building
 -- writes for all corners.
 -- Assumes nothing.
-use mathlib.Core.Path.{_≡_, refl, sym, ap, _∙_}
+use mathlib.Core.Path.{_≡_, sym, ap, _∙_}
 use mathlib.Core.List.{List}
 use Prim.Native.Nat.{ℕ, zero, suc, _*_, _<_, _≤_, max}
 use native.Mathlib.Omega.{arith}
 use lib.ListN.{length, getD, replicate, length-replicate}
 use lib.IntN.{ℤ, pos, natAbs}
-use Rattle.paper.specs.Mesh.{Mesh, faceCount, cornerCount, mostVertices, mostFaces}
-use Rattle.paper.specs.Corners.{faceOf}
+use Rattle.paper.specs.Mesh.{Mesh, faceCount, cornerCount, mostVertices}
 use Rattle.paper.specs.Links.{vertexOf, linkTable}
 use Rattle.paper.specs.Faults.{Accepted}
 use Rattle.paper.specs.Numbers.{rounded}
@@ -17,18 +16,17 @@ use Rattle.paper.specs.Net.{End, Side, side0, side1, neighbour, across, ring, H
 use Rattle.paper.specs.Calls.{perCorner, numberAt, nets}
 use Rattle.paper.specs.Borders.{Output, outputOf, Wrote, written, beside}
 use Rattle.paper.specs.Report.{conditions, condition, missOn, missAt, largestBelow, largestMiss}
-use Rattle.mesh.proofs.Accepted.{sound-of, few-vertices, few-faces}
-use Rattle.mesh.proofs.Faces.{held}
+use Rattle.mesh.proofs.Accepted.{sound-of, few-vertices}
 use Rattle.mesh.proofs.Links.{values-length}
 use Rattle.surface.specs.Sound.{Agree}
 use Rattle.surface.specs.Points.{pointRow, pointAt}
 use Rattle.surface.proofs.Hull.{corners-sound}
 use Rattle.surface.proofs.Rings.{ring-in, neighbour-in}
-use Rattle.surface.proofs.Agree.{neighbour-same, H-same, T-same, X-same, Y-same, C-same, net-same, sound-same}
+use Rattle.surface.proofs.Agree.{neighbour-same, H-same, T-same, X-same, Y-same, C-same, net-same}
 use Rattle.walk.specs.Table.{Tabled, tabled}
 use Rattle.mesh.specs.Tables.{Named}
-use Rattle.refine.specs.sums.Sources.{Pointed, Covered}
-use Rattle.refine.proofs.sums.Accepted.{refinable-of}
+use Rattle.refine.specs.corners.Mean.{MarkedPointed}
+use Rattle.refine.proofs.Accepted.{vertex-in, table-agrees, table-sound}
 use Rattle.borders.proofs.Ranges.{ranges}
 use Rattle.borders.proofs.Theorem.{same-outer, same-a}
 use Rattle.borders.proofs.Written.{written-is}
@@ -51,7 +49,7 @@ condition-same : (j : ℕ) (H T X Y C b a â H′ T′ X′ Y′ C′ b′ a′ 
     → natAbs (condition j H T X Y C b a â) ≡ natAbs (condition j H′ T′ X′ Y′ C′ b′ a′ â′)
 condition-same j H T X Y C b a â H′ T′ X′ Y′ C′ b′ a′ â′ eH eT eX eY eC eb ea eâ = rw (eH, eT, eX, eY, eC, eb, ea, eâ)
 
--- ---- every vertex is marked, and every face wanted
+-- ---- every vertex is marked
 abbrev ones : ℕ → List ℕ
 ones n = replicate n 1
 
@@ -60,26 +58,16 @@ one-at zero i h = absurd (omega arith)
 one-at (suc n) zero h = omega arith
 one-at (suc n) (suc i) h = one-at n i (omega arith)
 
-pub ones-long : (M : Mesh) → Accepted M → faceCount M ≤ length {A = ℕ} (replicate mostFaces 1)
-ones-long M ok =
-    omega (arith, length-replicate {A = ℕ} mostFaces 1, few-faces (length (M .coordinates)) (faceCount M) (cornerCount M) (sound-of M ok .four))
-
 module _ (M : Mesh) (ok : Accepted M) where
   named-in : (c : ℕ) → c < cornerCount M → vertexOf (M .corners) c < mostVertices
   named-in c h =
-      omega (arith, refinable-of M ok .placed .named c h, few-vertices (length (M .coordinates)) (faceCount M) (cornerCount M) (sound-of M ok .four))
+      omega (arith, vertex-in M ok c h, few-vertices (length (M .coordinates)) (faceCount M) (cornerCount M) (sound-of M ok .four))
 
   pub ones-named : Named (M .corners) (length {A = ℕ} (replicate mostVertices 1))
   ones-named c h = omega (arith, named-in c h, length-replicate {A = ℕ} mostVertices 1)
 
-  pub ones-covered : Covered M (ones mostVertices) (ones mostFaces)
-  ones-covered c h m =
-      let i = held (M .sides) c (omega (arith, refinable-of M ok .sums)) in
-      one-at mostFaces (faceOf (M .sides) c)
-      (omega (arith, i .exists, few-faces (length (M .coordinates)) (faceCount M) (cornerCount M) (sound-of M ok .four)))
-
 module _ (M : Mesh) (ok : Accepted M) (table : List ℕ) (old points : List ℤ) (t : Tabled (cornersOf M) table)
-    (long : pointRow * cornerCount M ≤ length old) (v : Pointed M (ones mostVertices) (cornerCount M) old points) where
+    (long : pointRow * cornerCount M ≤ length old) (v : MarkedPointed M (ones mostVertices) old points) where
   abbrev n : ℕ
   n = cornerCount M
 
@@ -87,18 +75,11 @@ module _ (M : Mesh) (ok : Accepted M) (table : List ℕ) (old points : List ℤ)
   told = tabled n table
 
   agree : Agree (cornersOf M) told
-  agree = record {
-    count = refl;
-    next = λ c h. sym (t .nexts c h);
-    previous = λ c h. sym (t .previouses c h);
-    link = λ c h. sym (t .links c h);
-    sides = λ c h. sym (t .sides c h);
-    valence = λ c h. sym (t .valences c h);
-  }
+  agree = table-agrees M table t
 
   pub drawn-all : Drawn n table points
   drawn-all = record {
-    sound = sound-same (cornersOf M) told agree (corners-sound M ok);
+    sound = table-sound M table t ok;
     table-long = t .long;
     points-long = omega (arith, v .same);
     small = λ axis l c h. v .small _;
@@ -106,7 +87,7 @@ module _ (M : Mesh) (ok : Accepted M) (table : List ℕ) (old points : List ℤ)
   }
 
   point-is : (axis c : ℕ) → axis < 3 → c < n → refinedPoint rounded M axis c ≡ pointAt points axis c
-  point-is axis c a h = sym (v .entries-are axis c (a, omega arith, h, one-at mostVertices (vertexOf (M .corners) c) (named-in M ok c h)))
+  point-is axis c a h = sym (v .points-are axis c a (omega arith, h, one-at mostVertices (vertexOf (M .corners) c) (named-in M ok c h)))
 
   -- what a call of building for all corners leaves
   whole : 0 < n → Wrote M (outputOf M 0 n)

@@ -5,13 +5,13 @@ use mathlib.Core.Logic.{⊎-elim}
 use mathlib.Core.List.{List}
 use Prim.Native.Nat.{ℕ, _+_, _-_, _*_, _/_, _%_, _<_, _≤_}
 use native.Mathlib.Omega.{arith}
-use lib.Dec.{ltb}
-use borrow.Author.Tests.{ltb-true, ltb-false}
+use lib.Dec.{ltb, eqb}
+use borrow.Author.Tests.{ltb-true, ltb-false, eqb-true, eqb-false}
 use lib.ListN.{length, getD, replicate, length-replicate}
 use lib.Seq.{ext-getD}
 use lib.IntN.{ℤ, pos}
-use Rattle.paper.specs.Mesh.{Mesh, faceCount, cornerCount, mostVertices, mostFaces}
-use Rattle.paper.specs.Corners.{sumOf, faceOf, firstOf, sidesOf, positionOf, next}
+use Rattle.paper.specs.Mesh.{Mesh, faceCount, cornerCount, mostVertices}
+use Rattle.paper.specs.Corners.{sumOf, faceOf, firstOf, sidesOf, positionOf, previous}
 use Rattle.paper.specs.Links.{vertexOf}
 use Rattle.paper.specs.Faults.{Accepted}
 use Rattle.paper.specs.Numbers.{rounded}
@@ -19,8 +19,8 @@ use Rattle.paper.specs.Refined.{RefinedMesh, cornersOf, refinedOf}
 use Rattle.paper.specs.Net.{ring, net, netPoints}
 use Rattle.paper.specs.Calls.{perCorner, numberAt, nets}
 use Rattle.mesh.specs.Tables.{Named}
-use Rattle.mesh.proofs.Accepted.{sound-of, few-vertices, few-faces}
-use Rattle.mesh.proofs.Faces.{held, first-from, first-to, first-same, sides-same, next-inner, next-last, start-next}
+use Rattle.mesh.proofs.Accepted.{sound-of, few-vertices}
+use Rattle.mesh.proofs.Faces.{held, first-from, first-to, first-same, sides-same, previous-first, previous-inner}
 use Rattle.mesh.proofs.Links.{values-length, values-at}
 use Rattle.mesh.proofs.Scans.{ways, compared}
 use Rattle.surface.specs.Points.{pointRow}
@@ -29,15 +29,14 @@ use Rattle.surface.proofs.Rings.{ring-in}
 use Rattle.surface.proofs.Near.{Seen, ring-seen}
 use Rattle.surface.proofs.Agree.{net-same}
 use Rattle.walk.specs.Table.{Tabled}
-use Rattle.refine.specs.wanted.Tables.{Asked, Marked, Wanted}
-use Rattle.short_range.specs.Near.{NearPointed}
-use Rattle.short_range.proofs.Laws.{table-agrees, table-sound}
-use Rattle.refine.proofs.wanted.Accepted.{vertex-in}
-use Rattle.refine.specs.sums.Sources.{Pointed, Covered}
-use Rattle.refine.proofs.sums.Accepted.{refinable-of}
+use Rattle.refine.specs.Marks.{Asked, Marked}
+use Rattle.refine.specs.sums.Sources.{Faces}
+use Rattle.refine.specs.corners.Mean.{MarkedPointed}
+use Rattle.refine.proofs.Accepted.{vertex-in, refinable-of, table-agrees, table-sound}
+use Rattle.refine.proofs.Points.{put-choice}
 use Rattle.net.specs.sides.Drawn.{drawn, Drawn}
 use Rattle.net.specs.Put.{Put}
-use Rattle.building.specs.writing.Written.{NetsWritten}
+use Rattle.building.specs.writing.Written.{NearPointed, NetsWritten}
 
 -- ---- place i of the output holds point `i % perCorner / 3` of corner `i / perCorner` on axis `i % 3`
 place : (i : ℕ) → perCorner * (i / perCorner) + 3 * (i % perCorner / 3) + i % 3 ≡ i
@@ -79,7 +78,7 @@ written-step K first k old new w x a j p h hj hp =
     x .before (perCorner * j + 3 * p + a) (omega arith) ∙ w a j p h l hp)
     (compared j k)
 
--- ---- new tables of zeros, for the vertices and for the faces
+-- ---- a new table of zeros, for the vertices
 pub zeros : (n : ℕ) → replicate {A = ℕ} n 0 ≡ replicate {A = ℕ} (length {A = ℕ} (replicate n 0)) 0
 zeros n = ap (λ (k : ℕ). replicate {A = ℕ} k 0) (sym (length-replicate {A = ℕ} n 0))
 
@@ -94,36 +93,31 @@ module _ (M : Mesh) (accepted : Accepted M) where
             (cornerCount M) (sound-of M accepted .four),
       )
 
-  pub faces-in : faceCount M ≤ length {A = ℕ} (replicate mostFaces 0)
-  faces-in = omega (
-    arith,
-    length-replicate {A = ℕ} mostFaces 0,
-    few-faces (length (M .coordinates)) (faceCount M) (cornerCount M) (sound-of M accepted
-        .four),
-  )
+-- ---- the walk back to the first corner of c's face, at its corner d
+pub sides-some : (sides : List ℕ) → Faces sides → (c : ℕ) → c < sumOf sides → 1 < sidesOf sides c
+unfolding sidesOf
+sides-some sides F c h = omega (arith, F .least (faceOf sides c) (held sides c h .exists))
 
--- ---- the walk to the end of c's face, at its corner d
-module _ (sides : List ℕ) (c d : ℕ) (h : c < sumOf sides) (a : c ≤ d) (b : d < firstOf sides c + sidesOf sides c) where
+module _ (sides : List ℕ) (c d : ℕ) (h : c < sumOf sides) (a : firstOf sides c ≤ d) (b : d ≤ c) where
   same-face : (firstOf sides d ≡ firstOf sides c) × (sidesOf sides d ≡ sidesOf sides c)
-  same-face = let f = first-from sides c h in (first-same sides c h d (omega arith) b, sides-same sides c h d (omega arith) b)
+  same-face =
+      let t = first-to sides c h in (first-same sides c h d a (omega arith), sides-same sides c h d a (omega arith))
 
-  pub walk-on : next sides d ≡ d + 1 → d + 1 < firstOf sides c + sidesOf sides c
-  walk-on e =
+  pub walk-back : previous sides d ≤ d → 1 < sidesOf sides c → (firstOf sides c ≤ previous sides d) × (previous sides d < d)
+  walk-back l s =
       ⊎-elim
-      (λ l. omega (arith, ltb-true (positionOf sides d + 1) (sidesOf sides d) l, same-face))
-      (λ l. absurd (omega (arith, next-last sides d (ltb-false _ _ l), same-face, first-from sides c h)))
-      (ways (ltb (positionOf sides d + 1) (sidesOf sides d)))
+      (λ (e : d ≡ firstOf sides c). absurd (omega (arith, previous-first sides d (let q : positionOf sides d ≡ 0 = omega (arith, same-face) in q), same-face)))
+      (λ o. let n : firstOf sides c < d = ⊎-elim (λ (k : d < firstOf sides c). absurd (omega arith)) (λ (k : firstOf sides c < d). k) o in
+      let p = previous-inner sides d (λ q. omega (arith, same-face)) in
+      (omega arith, omega arith))
+      (compared d (firstOf sides c))
 
-  pub walk-end : (next sides d ≡ d + 1 → ⊥) → d + 1 ≡ firstOf sides c + sidesOf sides c
-  walk-end n =
+  pub walk-start : d < previous sides d → d ≡ firstOf sides c
+  walk-start l =
       ⊎-elim
-      (λ l. absurd (n (next-inner sides d (ltb-true _ _ l))))
-      (λ l. omega (arith, ltb-false (positionOf sides d + 1) (sidesOf sides d) l, same-face, first-from sides c h))
-      (ways (ltb (positionOf sides d + 1) (sidesOf sides d)))
-
-  -- and from there to its first corner
-  pub walk-round : d + 1 ≡ firstOf sides c + sidesOf sides c → next sides d ≡ firstOf sides c
-  walk-round e = next-last sides d (omega (arith, same-face, first-from sides c h)) ∙ same-face .0
+      (λ k. omega (arith, eqb-true (positionOf sides d) 0 k, same-face))
+      (λ k. absurd (omega (arith, previous-inner sides d (eqb-false _ _ k))))
+      (ways (eqb (positionOf sides d) 0))
 
 -- ---- the faces of the range: their corners are one range too
 module _ (sides : List ℕ) (first last c d : ℕ) (a : first ≤ c) (b : c ≤ last) (l : last < sumOf sides) (h : d < sumOf sides)
@@ -160,26 +154,12 @@ module _ (sides : List ℕ) (first last c d : ℕ) (a : first ≤ c) (b : c ≤ 
       )))
       (ways (ltb d (firstOf sides last + sidesOf sides last)))
 
--- ---- a face with a marked vertex is wanted
-pub covered-of : (M : Mesh) (accepted : Accepted M) (marked wanted : List ℕ) (start all : ℕ) → Named (M .corners) (length marked)
-    → Wanted (M .sides) (M .corners) start all wanted (faceCount M) → Marked (M .corners) start all marked → Covered M marked wanted
-covered-of M accepted marked wanted start all n w m c h k =
-    let i = held (M .sides) c (omega (arith, refinable-of M accepted .sums)) in
-    w (faceOf (M .sides) c) (i .exists) .yes (record {
-      at = c;
-      from = i .from;
-      to = omega (arith, i .to, start-next (M .sides) (faceOf (M .sides) c) (i .exists));
-      holds = m (vertexOf (M .corners) c) (n c h) .only k;
-    })
-
 -- ---- the corners at marked vertices are those at the vertices of the range
 pub near-of : (M : Mesh) (marked : List ℕ) (first count : ℕ) (old points : List ℤ) → Named (M .corners) (length marked)
-    → Marked (M .corners) first count marked → Pointed M marked (cornerCount M) old points → NearPointed M first count old points
-near-of M marked first count old points n m v = record {
-  points-are = λ axis c a h s. v .entries-are axis c (a, omega arith, h, m (vertexOf (M .corners) c) (n c h) .yes s);
-  same = v .same;
-  small = v .small;
-}
+    → Marked (M .corners) first count marked → MarkedPointed M marked old points → NearPointed M first count old points
+near-of M marked first count old points n m =
+    put-choice (λ c k. (k .1, m (vertexOf (M .corners) c) (n c (k .1)) .only (k .2)))
+    (λ c k. (omega arith, k .0, m (vertexOf (M .corners) c) (n c (k .0)) .yes (k .1)))
 
 -- ---- the tables draw the mesh, as far as the nets of the range look
 module _ (M : Mesh) (accepted : Accepted M) (table : List ℕ) (old points : List ℤ) (first count start all : ℕ) (t : Tabled (cornersOf M) table)
@@ -188,7 +168,7 @@ module _ (M : Mesh) (accepted : Accepted M) (table : List ℕ) (old points : Lis
     (long : pointRow * cornerCount M ≤ length old) (v : NearPointed M start all old points) where
   pub drawn-of : Drawn (cornerCount M) table points
   drawn-of = record {
-    sound = table-sound M accepted table t;
+    sound = table-sound M table t accepted;
     table-long = t .long;
     points-long = omega (arith, v .same);
     small = λ axis l c h. v .small _;
@@ -215,9 +195,9 @@ module _ (M : Mesh) (accepted : Accepted M) (table : List ℕ) (old points : Lis
       let K = cornersOf M in
       let c = first + k in
       let ok = corners-sound M accepted in
-      net-same (refinedOf rounded M axis) (drawn (cornerCount M) table points axis) (table-agrees M accepted table t) ok c h
+      net-same (refinedOf rounded M axis) (drawn (cornerCount M) table points axis) (table-agrees M table t) ok c h
       (λ e j. let d = ring-in K ok c h e j in
-      sym (v .points-are axis (ring K c e j) a d (asked k (ring K c e j) l d (ring-seen M accepted c h e j))))
+      sym (v .points-are axis (ring K c e j) a (d, asked k (ring K c e j) l d (ring-seen M accepted c h e j))))
 
   -- what is written from the tables is what the mesh has
   pub drawn-written : (out : List ℤ) → length out ≡ perCorner * count

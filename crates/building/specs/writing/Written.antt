@@ -1,23 +1,38 @@
--- What the walk round a face takes, and the output while it is written, corner by corner.
+-- The refined points of a range, what the walk to the ends of a face takes, and the output while it is written, corner by corner.
 -- Assumes nothing.
 use mathlib.Core.Path.{_≡_}
 use mathlib.Core.List.{List}
 use Prim.Native.Nat.{ℕ, _+_, _*_, _<_, _≤_}
 use lib.ListN.{length, getD}
 use lib.IntN.{ℤ, pos}
-use Rattle.paper.specs.Mesh.{mostCorners}
-use Rattle.paper.specs.Corners.{sumOf, next}
+use Rattle.paper.specs.Mesh.{Mesh, cornerCount}
+use Rattle.paper.specs.Corners.{sumOf, sidesOf, previous}
+use Rattle.paper.specs.Links.{vertexOf}
 use Rattle.paper.specs.Numbers.{rounded}
-use Rattle.paper.specs.Refined.{RefinedMesh}
+use Rattle.paper.specs.Refined.{RefinedMesh, refinedPoint}
 use Rattle.paper.specs.Net.{net, netPoints}
 use Rattle.paper.specs.Calls.{perCorner}
-use Rattle.walk.specs.Table.{rowLength, toNext, Column}
+use Rattle.walk.specs.Table.{rowLength, toPrevious, sidesHere, Column}
+use Rattle.refine.specs.Marks.{Asked}
+use Rattle.refine.specs.sums.Sources.{Faces, PointsPut}
 
--- the table leads from each corner to the next of its face; there are not more corners than a mesh may have
+-- the table of refined points has those of the corners at the vertices of `count` corners from `first` on, and is otherwise as before
+abbrev pub NearPointed : Mesh → ℕ → ℕ → List ℤ → List ℤ → Type 0
+NearPointed M first count =
+    PointsPut (refinedPoint rounded M) (λ c. (c < cornerCount M) × Asked (M .corners) first count (vertexOf (M .corners) c))
+
+-- the table leads from each corner to the previous one of its face, and has the sides of the face
 pub record Rounds (sides table : List ℕ) : Type 0 where
-  pub few : sumOf sides ≤ mostCorners
+  pub faces : Faces sides
   pub long : rowLength * sumOf sides ≤ length table
-  pub nexts : Column table toNext (next sides) (sumOf sides)
+  pub previouses : Column table toPrevious (previous sides) (sumOf sides)
+  pub counts : Column table sidesHere (sidesOf sides) (sumOf sides)
+
+-- it does so for a list of sides, of which c is a corner
+pub record InFace (table : List ℕ) (c : ℕ) : Type 0 where
+  pub sides : List ℕ
+  pub rounds : Rounds sides table
+  pub here : c < sumOf sides
 
 -- the numbers of `count` corners from `first` on, of the mesh K on each axis
 unfoldable pub NetsWritten : (ℕ → RefinedMesh rounded) → ℕ → ℕ → List ℤ → Type 0

@@ -1,43 +1,44 @@
 -- The sizes on the way to a refined point, and the refined point from the values that the code has of a corner.
 -- Assumes nothing.
-use mathlib.Core.Path.{_≡_, refl, ap, _∙_, sym}
-use mathlib.Core.Logic.{inl, inr, ⊎-elim}
+use mathlib.Core.Path.{_≡_, ap, _∙_, sym}
 use mathlib.Core.List.{List}
 use Prim.Native.Nat.{ℕ, _+_, _*_, _^_, _<_, _≤_}
 use native.Mathlib.Nat.{le-trans}
 use native.Mathlib.Omega.{arith}
 use lib.Dec.{lit<}
-use lib.ListN.{length, getD, set}
+use lib.ListN.{length, getD}
 use lib.IntN.{ℤ, pos, natAbs, _+ℤ_, _*ℤ_}
 use lib.Signed.{_<ℤ_, ltZ-yes}
 use mir.Syntax.{w32}
 use mir.Val.{SFits, toZ}
 use mir.Facts.{toZ-pos}
-use Rattle.paper.specs.Mesh.{mostCoordinate, plain, Mesh, faceCount, cornerCount}
-use Rattle.paper.specs.Corners.{sumOf, faceOf, sidesOf, next, previous}
-use Rattle.paper.specs.Numbers.{floor, round, rounded}
-use Rattle.paper.specs.Refined.{ticksPerStep, ticks, faceSum, uOf, vOf, refinedPoint}
+use Rattle.paper.specs.Mesh.{mostCoordinate, plain, Mesh, plainMesh, faceCount, cornerCount}
+use Rattle.paper.specs.Links.{vertexOf}
+use Rattle.paper.specs.Corners.{startOf, faceOf, sidesOf, next, previous}
+use Rattle.paper.specs.Numbers.{round, rounded}
+use Rattle.paper.specs.Refined.{ticks, uOf, vOf, refinedPoint, cornersOf}
 use Rattle.numbers.proofs.Diff.{diff}
 use Rattle.numbers.proofs.Poly.{over, poly}
 use Rattle.numbers.proofs.Laws.{abs-mul-le, abs-add-le}
-use Rattle.numbers.proofs.Floor.{IsFloor, floor-unique}
 use Rattle.numbers.proofs.Machine.{abs-fits}
 use Rattle.numbers.proofs.Nearest.{round-scale}
-use Rattle.mesh.proofs.Scans.{compared}
-use Rattle.mesh.proofs.Faces.{held, next-below, previous-below}
+use Rattle.mesh.proofs.Faces.{held, face-at, start-next, start-ends, next-below, previous-below}
 use Rattle.surface.proofs.Hull.{blend-size, mean-size, weights-sum}
-use Rattle.surface.specs.Points.{pointRow}
-use Rattle.refine.specs.sums.Sources.{Refinable, Small, Added, stepsOf, sumRow, SumsOf}
-use Rattle.refine.proofs.sums.Laws.{steps-size, faceSteps, face-steps, face-steps-size, holds-none, holds-one, holds-more}
-use Rattle.refine.specs.corners.Mean.{Pair, Weighted, Balanced, Known, Steps, blend, mean, FaceRead, FaceOf}
+use Rattle.walk.specs.Table.{toNext, toPrevious, entry, Tabled}
+use Rattle.refine.specs.Marks.{MarkedIn, Needed}
+use Rattle.refine.specs.sums.Sources.{Refinable, stepsOf, faceSteps, sumRow, sumAt, SumsAre, SumsFit, Covered, PointsPut}
+use Rattle.refine.specs.corners.Mean.{Pair, weightsOf, Balanced, Steps, blend, mean, totalOn, FaceRead, FaceKnown, CornerLists}
+use Rattle.refine.specs.corners.Mean.{facePoint, tablePoint, FacePointed}
 use Rattle.refine.specs.declared.corners.CornerWeights.{CornerWeights}
 use Rattle.refine.specs.declared.corners.FaceSums.{FaceSums}
+use Rattle.refine.proofs.Points.{put-value}
+use Rattle.refine.proofs.sums.Laws.{by-axis, steps-size, face-steps, in-steps, face-steps-size}
 
 -- ---- weights
 -- those of a pair within its limits sum to 512
-pub balanced : (sharpness : List ℕ) (c : ℕ) (w : CornerWeights) → Pair sharpness c → Weighted sharpness c w → Balanced w
-balanced sharpness c w p h =
-    rw (h .face, h .before, h .here, h .after) (weights-sum (getD sharpness (2 * c) plain) (getD sharpness (2 * c + 1) plain) (p .u-most) (p .v-most))
+pub balanced : (sharpness : List ℕ) (c : ℕ) → Pair sharpness c → Balanced (weightsOf sharpness c)
+unfolding weightsOf
+balanced sharpness c p = weights-sum (getD sharpness (2 * c) plain) (getD sharpness (2 * c + 1) plain) (p .u-most) (p .v-most)
 
 -- ---- the sizes on the way to a refined point
 abbrev pub threefold : CornerWeights → ℤ → ℤ → ℤ → ℤ
@@ -122,117 +123,98 @@ module _ (w : CornerWeights) (total before here after : ℤ) (n : ℕ) (some : 0
       (rw (blend-scale (pos (w .face)) (pos (w .before)) (pos (w .here)) (pos (w .after)) (pos n) total before here after)
       (le-trans (abs-mul-le (pos 256) z 256 (n * 2 ^ 25) (omega arith) h) (omega arith))))
 
--- ---- what the corners of a face share
--- Σ in grid steps, from Σ in ticks
-cancel : (a b : ℤ) → pos ticksPerStep *ℤ a ≡ pos ticksPerStep *ℤ b → a ≡ b
-cancel = over 2 _ λ ρ. simp (poly, ρ) (omega arith)
+-- ---- a corner, by what the corners of its face share
+module _ (coordinates : List ℤ) (corners sharpness table : List ℕ) (L : CornerLists coordinates corners sharpness table) (c : ℕ) (h : c < length corners) where
+  pub pair-of : Pair sharpness c
+  pair-of = record { long = omega (arith, L .sharp .pairs); u-most = L .sharp .sixteenths (2 * c); v-most = L .sharp .sixteenths (2 * c + 1) }
 
-whole : (z : ℤ) → pos ticksPerStep *ℤ floor (pos ticksPerStep *ℤ z) (pos ticksPerStep) ≡ pos ticksPerStep *ℤ z
-whole z = ap (λ (q : ℤ). pos ticksPerStep *ℤ q) (sym (floor-unique (pos ticksPerStep *ℤ z) (pos ticksPerStep) z (ltZ-yes tt) (is z)))
-  where
-    is : (z : ℤ) → IsFloor (pos ticksPerStep *ℤ z) (pos ticksPerStep) z
-    is = over 1 _ λ ρ. simp (poly, ρ) (omega arith)
+  pub point-size : (face : FaceSums) → FaceKnown face → (axis : ℕ) → axis < 3 → natAbs (facePoint coordinates corners sharpness table face axis c) ≤ 2 ^ 24
+  point-size face k axis a =
+      let P = stepsOf coordinates corners axis in
+      let w = weightsOf sharpness c in
+      let s = sizes w (balanced sharpness c pair-of) (totalOn face axis) (P (entry table toPrevious c)) (P c) (P (entry table toNext c)) face (record {
+        known = k axis a;
+        before-size = steps-size coordinates corners (L .placed) axis (entry table toPrevious c) a (L .previous-in c h);
+        here-size = steps-size coordinates corners (L .placed) axis c a h;
+        after-size = steps-size coordinates corners (L .placed) axis (entry table toNext c) a (L .next-in c h);
+      }) in
+      result-size w (totalOn face axis) (P (entry table toPrevious c)) (P c) (P (entry table toNext c)) (face .sides) (omega (arith, k axis a .least)) (s .size)
 
-module _ (M : Mesh) (R : Refinable M) (f : ℕ) (l : f < faceCount M) (sums : List ℤ) (s : SumsOf M f sums) where
-  -- from the sum that stands in the table
-  on-axis : (axis at : ℕ) (x : ℤ) → axis < 3 → at ≡ sumRow * f + axis → x ≡ floor (getD sums at (pos 0)) (pos ticksPerStep)
-      → pos ticksPerStep *ℤ x ≡ faceSum M axis f
-  on-axis axis at x a e q =
-      let k : getD sums at (pos 0) ≡ pos ticksPerStep *ℤ faceSteps M f axis = rw e (s .sums-are axis a ∙ face-steps M f axis) in
-      rw (q, k) (whole (faceSteps M f axis)) ∙ sym (face-steps M f axis)
+-- ---- a face that is wanted, from its row
+module _ (M : Mesh) (R : Refinable M) (wanted : List ℕ) (sums : List ℤ) (t : SumsFit (M .sides) wanted sums) (f : ℕ) (l : f < faceCount M)
+    (w : 0 < getD wanted f 0) (face : FaceSums) (r : FaceRead (M .sides) sums f face) where
+  totals-are : (axis : ℕ) → axis < 3 → totalOn face axis ≡ sumAt sums f axis
+  totals-are = by-axis (λ axis. totalOn face axis ≡ sumAt sums f axis) (r .xs) (r .ys) (r .zs)
 
-  pub face-of : (face : FaceSums) → FaceRead (M .sides) sums f face → FaceOf M f face
-  face-of face r = record {
-    exists = l;
-    sides-are = r .sides-are;
+  pub face-known : FaceKnown face
+  face-known axis a = record {
+    least = rw (r .sides-are) (R .faces .least f l);
+    most = rw (r .sides-are) (R .faces .most f l);
     reciprocal-is = r .reciprocal-is;
-    xs = on-axis 0 (sumRow * f) (face .x) (lit< tt) (omega arith) (r .xs);
-    ys = on-axis 1 (sumRow * f + 1) (face .y) (lit< tt) refl (r .ys);
-    zs = on-axis 2 (sumRow * f + 2) (face .z) (lit< tt) refl (r .zs);
+    total-size = rw (totals-are axis a, r .sides-are) (t .sizes f axis l a w);
   }
 
-module _ (M : Mesh) (R : Refinable M) (f : ℕ) (face : FaceSums) (h : FaceOf M f face) where
-  pub steps-are : (axis : ℕ) (total : ℤ) → pos ticksPerStep *ℤ total ≡ faceSum M axis (f) → total ≡ faceSteps M (f) axis
-  steps-are axis total e = cancel total (faceSteps M (f) axis) (e ∙ face-steps M (f) axis)
+  -- its corners' points are those of the table of sums
+  pub face-point : (table : List ℕ) → Tabled (cornersOf M) table → (axis c : ℕ) → axis < 3 → startOf (M .sides) f ≤ c → c < startOf (M .sides) f + getD (M .sides) f 0
+      → facePoint (M .coordinates) (M .corners) (M .sharpness) table face axis c ≡ tablePoint M sums axis c
+  unfolding sidesOf
+  face-point table T axis c a from to =
+      let h : c < cornerCount M = omega (arith, start-ends (M .sides) f l, R .sums) in
+      let e : faceOf (M .sides) c ≡ f = face-at (M .sides) f c from to l in
+      rw (T .previouses c h, T .nexts c h, e, totals-are axis a, r .sides-are)
 
-  pub known : (axis : ℕ) (total : ℤ) → axis < 3 → pos ticksPerStep *ℤ total ≡ faceSum M axis (f) → Known total face
-  known axis total a e = record {
-    least = rw (h .sides-are) (R .faces .least (f) (h .exists));
-    most = rw (h .sides-are) (R .faces .most (f) (h .exists));
-    reciprocal-is = h .reciprocal-is;
-    total-size = rw (steps-are axis total e, h .sides-are) (face-steps-size M R (f) (h .exists) axis a);
-  }
+  pub face-put : (table marked : List ℕ) → Tabled (cornersOf M) table → (start : ℕ) → start ≡ startOf (M .sides) f → {old new : List ℤ}
+      → FacePointed (M .coordinates) (M .corners) (M .sharpness) table marked face start (start + face .sides) old new
+      → PointsPut (tablePoint M sums) (MarkedIn (M .corners) marked (startOf (M .sides) f) (startOf (M .sides) (f + 1))) old new
+  face-put table marked T start e h =
+      let n : startOf (M .sides) (f + 1) ≡ start + face .sides = omega (arith, start-next (M .sides) f l, r .sides-are) in
+      rw (← e, n) (put-value (λ axis c a m. face-point table T axis c a (omega (arith, m .0)) (omega (arith, m .1, r .sides-are))) h)
 
--- ---- the corners of a mesh
 module _ (M : Mesh) (R : Refinable M) where
-  pub pair-of : (c : ℕ) → c < cornerCount M → Pair (M .sharpness) c
-  pair-of c h = record { long = omega (arith, R .sharp .pairs); u-most = R .sharp .sixteenths (2 * c); v-most = R .sharp .sixteenths (2 * c + 1) }
+  pub lists-of : (table : List ℕ) → Tabled (cornersOf M) table → CornerLists (M .coordinates) (M .corners) (M .sharpness) table
+  lists-of table t = record {
+    placed = R .placed;
+    sharp = R .sharp;
+    few = omega (arith, R .sums, R .faces .few);
+    long = t .long;
+    previous-in = λ c h. rw (t .previouses c h) (omega (arith, previous-below (M .sides) c (omega (arith, R .sums)), R .sums));
+    next-in = λ c h. rw (t .nexts c h) (omega (arith, next-below (M .sides) c (omega (arith, R .sums)), R .sums));
+  }
 
--- ---- a corner, and its face
-module _ (M : Mesh) (R : Refinable M) (c : ℕ) (here : c < cornerCount M) where
-  inside : c < sumOf (M .sides)
-  inside = omega (arith, R .sums)
+  -- V, in grid steps
+  steps-mean : (axis c : ℕ) → c < cornerCount M → let P = stepsOf (M .coordinates) (M .corners) axis in refinedPoint rounded M axis c
+      ≡ mean (weightsOf (M .sharpness) c) (faceSteps M (faceOf (M .sides) c) axis) (P (previous (M .sides) c)) (P c) (P (next (M .sides) c)) (sidesOf (M .sides) c)
+  unfolding refinedPoint sidesOf uOf vOf ticks weightsOf
+  steps-mean axis c h =
+      let f = faceOf (M .sides) c in
+      let P = stepsOf (M .coordinates) (M .corners) axis in
+      rw (face-steps M f axis)
+      (in-ticks (weightsOf (M .sharpness) c) (faceSteps M f axis) (P (previous (M .sides) c)) (P c) (P (next (M .sides) c)) (getD (M .sides) f 0)
+      (omega (arith, R .faces .least f (held (M .sides) c (omega (arith, R .sums)) .exists))))
 
-  pub before-in : (p : ℕ) → p ≡ previous (M .sides) c → p < cornerCount M
-  before-in p e = omega (arith, previous-below (M .sides) c inside, R .sums)
+  -- ---- from the table that holds the sums of the faces that are needed
+  module _ (marked wanted : List ℕ) (sums : List ℤ)
+      (S : SumsAre (plainMesh (M .coordinates) (M .sides) (M .corners)) marked (faceCount M) wanted sums) where
+    -- the face of a corner at a marked vertex is
+    needs-face : (c : ℕ) → c < cornerCount M → 0 < getD marked (vertexOf (M .corners) c) 0
+        → (faceOf (M .sides) c < faceCount M) × Needed (M .sides) (M .corners) marked (faceOf (M .sides) c)
+    needs-face c h m =
+        let i = held (M .sides) c (omega (arith, R .sums)) in (i .exists, record { at = c; from = i .from; to = i .to; holds = m })
 
-  pub after-in : (q : ℕ) → q ≡ next (M .sides) c → q < cornerCount M
-  after-in q e = omega (arith, next-below (M .sides) c inside, R .sums)
+    row-is : (f axis : ℕ) → f < faceCount M → axis < 3 → Needed (M .sides) (M .corners) marked f → sumAt sums f axis ≡ faceSteps M f axis
+    row-is f axis l a n = in-steps (plainMesh (M .coordinates) (M .sides) (M .corners)) f axis (sumAt sums f axis) (S .sums-are f axis l a n)
 
-  abbrev f : ℕ
-  f = faceOf (M .sides) c
+    pub covered-of : Covered (M .sides) (M .corners) marked wanted
+    covered-of c h m = let n = needs-face c h m in S .told (faceOf (M .sides) c) (n .0) .yes (n .1)
 
-  mean-is : (axis : ℕ) (w : CornerWeights) → Weighted (M .sharpness) c w → refinedPoint rounded M axis c ≡ round (blend w (faceSum M axis f) (ticks M axis
-      (previous (M .sides) c)) (ticks M axis c) (ticks M axis (next (M .sides) c)) (getD (M .sides) f 0)) (pos 512 *ℤ pos (getD (M .sides) f 0))
-  unfolding refinedPoint sidesOf uOf vOf
-  mean-is axis w h = rw (h .face, h .before, h .here, h .after)
+    pub fits-of : faceCount M ≤ length wanted → sumRow * faceCount M ≤ length sums → SumsFit (M .sides) wanted sums
+    fits-of b d = record {
+      wanted-long = b;
+      sums-long = d;
+      sizes = λ f axis l a w. rw (row-is f axis l a (S .told f l .only w)) (face-steps-size M R f axis l a);
+    }
 
-  -- in grid steps
-  abbrev P : ℕ → ℕ → ℤ
-  P axis d = stepsOf (M .coordinates) (M .corners) axis d
-
-  steps-mean : (axis : ℕ) (w : CornerWeights) → Weighted (M .sharpness) c w
-      → refinedPoint rounded M axis c
-      ≡ mean w (faceSteps M f axis) (P axis (previous (M .sides) c)) (P axis c) (P axis (next (M .sides) c)) (getD (M .sides) f 0)
-  unfolding ticks
-  steps-mean axis w h =
-      mean-is axis w h
-      ∙ rw (face-steps M f axis) (in-ticks w (faceSteps M f axis) (P axis (previous (M .sides) c)) (P axis c) (P axis (next (M .sides) c))
-      (getD (M .sides) f 0) (omega (arith, R .faces .least f (held (M .sides) c inside .exists))))
-
-  -- from the values that the code has of it: the refined point, and its size
-  pub point-is : (face : FaceSums) → FaceOf M f face → (axis p q : ℕ) (w : CornerWeights) (total r : ℤ) → axis < 3 → Weighted (M .sharpness) c w
-      → p ≡ previous (M .sides) c → q ≡ next (M .sides) c → pos ticksPerStep *ℤ total ≡ faceSum M axis f
-      → r ≡ mean w total (P axis p) (P axis c) (P axis q) (face .sides) → (r ≡ refinedPoint rounded M axis c) × (natAbs r ≤ 2 ^ 24)
-  point-is face h axis p q w total r x weights ep eq et er =
-      let size = steps-size (M .coordinates) (M .corners) (R .placed) axis in
-      let k = sizes w (balanced (M .sharpness) c w (pair-of M R c here) weights) total (P axis p) (P axis c) (P axis q) face (record {
-        known = known M R f face h axis total x et;
-        before-size = size p x (before-in p ep);
-        here-size = size c x here;
-        after-size = size q x (after-in q eq);
-      }) in (
-        er ∙ rw (steps-are M R f face h axis total et, ep, eq, h .sides-are) (sym (steps-mean axis w weights)),
-        rw er (result-size w total (P axis p) (P axis c) (P axis q) (face .sides) (omega (arith, known M R f face h axis total x et .least)) (k .size)),
-      )
-
--- ---- the table of refined points, of one corner
--- no axis yet
-pub added-none : (M : Mesh) (start end : ℕ) (points : List ℤ) → Small points → Added M 0 start end points points
-added-none M start end points = holds-none pointRow (2 ^ 24) (refinedPoint rounded M) _ points (λ axis c q. omega (arith, q .0))
-
--- one axis more, at its place
-pub added-axis : (M : Mesh) (k c at : ℕ) (old mid : List ℤ) (v : ℤ) → k < 3 → at ≡ pointRow * c + k → at < length mid
-    → (v ≡ refinedPoint rounded M k c) × (natAbs v ≤ 2 ^ 24) → Added M k c (c + 1) old mid → Added M (k + 1) c (c + 1) old (set mid at v)
-added-axis M k c at old mid v l q b e h =
-    rw q
-    (holds-more pointRow (2 ^ 24) (refinedPoint rounded M) _ _ _ old mid _
-    (λ axis d r. ⊎-elim
-    (λ (i : axis ≡ k). inl (i, omega (arith, r .1, r .2)))
-    (λ o. inr (
-      (⊎-elim (λ (m : axis < k). m) (λ (m : k < axis). absurd (omega (arith, r .0))) o, r .1, r .2),
-      λ x g p i. ⊎-elim (λ (m : axis < k). omega (arith, p .0, p .1)) (λ (m : k < axis). omega (arith, p .0, p .1, r .0)) o,
-    ))
-    (compared axis k))
-    (λ axis d p. (omega (arith, p .0), p .1, p .2)) (λ axis d p. (omega (arith, p .0), omega (arith, p .1), omega (arith, p .1)))
-    h (holds-one pointRow (2 ^ 24) (refinedPoint rounded M) k c mid v (omega arith) (e .0) (e .1) (h .small)))
+    -- so that its points are V
+    pub table-point : (axis c : ℕ) → axis < 3 → MarkedIn (M .corners) marked 0 (cornerCount M) c → tablePoint M sums axis c ≡ refinedPoint rounded M axis c
+    table-point axis c a m =
+        let n = needs-face c (m .1) (m .2) in rw (row-is (faceOf (M .sides) c) axis (n .0) a (n .1)) (sym (steps-mean axis c (m .1)))

@@ -2,14 +2,17 @@
 -- Assumes nothing.
 use mathlib.Core.Path.{_≡_}
 use mathlib.Core.List.{List}
-use Prim.Native.Nat.{ℕ, _+_, _-_, _*_, _<_, _≤_}
+use Prim.Native.Nat.{ℕ, zero, suc, _+_, _-_, _*_, _<_, _≤_}
 use lib.ListN.{length, getD}
 use lib.IntN.{ℤ, pos, natAbs, _+ℤ_, _*ℤ_}
-use Rattle.paper.specs.Mesh.{leastSides, mostSides, mostCoordinate, mostSharpness, plain, Mesh, faceCount}
-use Rattle.paper.specs.Numbers.{floor, round}
-use Rattle.paper.specs.Refined.{ticksPerStep, faceSum}
+use Rattle.paper.specs.Mesh.{leastSides, mostSides, mostCorners, mostCoordinate, mostSharpness, plain, Mesh, cornerCount}
+use Rattle.paper.specs.Corners.{faceOf, sidesOf, next, previous}
+use Rattle.paper.specs.Numbers.{round, rounded}
+use Rattle.paper.specs.Refined.{refinedPoint}
 use Rattle.numbers.specs.Small.{SideReciprocal}
-use Rattle.refine.specs.sums.Sources.{stepsOf, sumRow}
+use Rattle.walk.specs.Table.{rowLength, toNext, toPrevious, entry}
+use Rattle.refine.specs.Marks.{MarkedIn}
+use Rattle.refine.specs.sums.Sources.{Placed, Sharp, stepsOf, sumAt, PointsPut}
 use Rattle.refine.specs.declared.corners.Around.{Around}
 use Rattle.refine.specs.declared.corners.CornerWeights.{CornerWeights}
 use Rattle.refine.specs.declared.corners.FaceSums.{FaceSums}
@@ -20,15 +23,12 @@ pub record Pair (sharpness : List ℕ) (c : ℕ) : Type 0 where
   pub u-most : getD sharpness (2 * c) plain ≤ mostSharpness
   pub v-most : getD sharpness (2 * c + 1) plain ≤ mostSharpness
 
--- the weights of u and v
-pub record WeightsOf (u v : ℕ) (w : CornerWeights) : Type 0 where
-  pub face : w .face ≡ 2 * (16 - u) * (16 - v)
-  pub before : w .before ≡ (16 - u) * v
-  pub here : w .here ≡ 16 * (u + v)
-  pub after : w .after ≡ u * (16 - v)
-
-abbrev pub Weighted : List ℕ → ℕ → CornerWeights → Type 0
-Weighted sharpness c w = WeightsOf (getD sharpness (2 * c) plain) (getD sharpness (2 * c + 1) plain) w
+-- the weights of its u and v
+unfoldable pub weightsOf : List ℕ → ℕ → CornerWeights
+weightsOf sharpness c =
+    let u = getD sharpness (2 * c) plain in
+    let v = getD sharpness (2 * c + 1) plain in
+    record { face = 2 * (16 - u) * (16 - v); before = (16 - u) * v; here = 16 * (u + v); after = u * (16 - v) }
 
 -- they sum to 512
 abbrev pub Balanced : CornerWeights → Type 0
@@ -60,18 +60,57 @@ abbrev pub MeanOf : List ℤ → List ℕ → ℕ → Around → CornerWeights �
 MeanOf coordinates corners axis around w total n r =
     let P = stepsOf coordinates corners axis in r ≡ mean w total (P (around .before)) (P (around .here)) (P (around .after)) n
 
--- ---- what the corners of a face share: as it is read from the lists, and what it is of face f of a mesh
+-- ---- what the corners of a face share: Σ on an axis, as it is read from the row of face f, and as large as it may be
+abbrev pub totalOn : FaceSums → ℕ → ℤ
+totalOn face zero = face .x
+totalOn face (suc zero) = face .y
+totalOn face (suc (suc axis)) = face .z
+
 pub record FaceRead (sides : List ℕ) (sums : List ℤ) (f : ℕ) (face : FaceSums) : Type 0 where
   pub sides-are : face .sides ≡ getD sides f 0
   pub reciprocal-is : SideReciprocal (face .sides) (face .reciprocal)
-  pub xs : face .x ≡ floor (getD sums (sumRow * f) (pos 0)) (pos ticksPerStep)
-  pub ys : face .y ≡ floor (getD sums (sumRow * f + 1) (pos 0)) (pos ticksPerStep)
-  pub zs : face .z ≡ floor (getD sums (sumRow * f + 2) (pos 0)) (pos ticksPerStep)
+  pub xs : face .x ≡ sumAt sums f 0
+  pub ys : face .y ≡ sumAt sums f 1
+  pub zs : face .z ≡ sumAt sums f 2
 
-pub record FaceOf (M : Mesh) (f : ℕ) (face : FaceSums) : Type 0 where
-  pub exists : f < faceCount M
-  pub sides-are : face .sides ≡ getD (M .sides) f 0
-  pub reciprocal-is : SideReciprocal (face .sides) (face .reciprocal)
-  pub xs : pos ticksPerStep *ℤ face .x ≡ faceSum M 0 f
-  pub ys : pos ticksPerStep *ℤ face .y ≡ faceSum M 1 f
-  pub zs : pos ticksPerStep *ℤ face .z ≡ faceSum M 2 f
+abbrev pub FaceKnown : FaceSums → Type 0
+FaceKnown face = (axis : ℕ) → axis < 3 → Known (totalOn face axis) face
+
+-- ---- the refined points of corners
+-- the other lists that they are computed from: the table leads from each corner to a previous and a next one
+pub record CornerLists (coordinates : List ℤ) (corners sharpness table : List ℕ) : Type 0 where
+  pub placed : Placed coordinates corners
+  pub sharp : Sharp sharpness (length corners)
+  pub few : length corners ≤ mostCorners
+  pub long : rowLength * length corners ≤ length table
+  pub previous-in : (c : ℕ) → c < length corners → entry table toPrevious c < length corners
+  pub next-in : (c : ℕ) → c < length corners → entry table toNext c < length corners
+
+-- by what the corners of its face share, and the table of corners
+abbrev pub facePoint : List ℤ → List ℕ → List ℕ → List ℕ → FaceSums → ℕ → ℕ → ℤ
+facePoint coordinates corners sharpness table face axis c =
+    let P = stepsOf coordinates corners axis in
+    mean (weightsOf sharpness c) (totalOn face axis) (P (entry table toPrevious c)) (P c) (P (entry table toNext c)) (face .sides)
+
+-- by the row of its face in the table of sums, whatever stands there
+abbrev pub tablePoint : Mesh → List ℤ → ℕ → ℕ → ℤ
+tablePoint M sums axis c =
+    let P = stepsOf (M .coordinates) (M .corners) axis in
+    mean (weightsOf (M .sharpness) c) (sumAt sums (faceOf (M .sides) c) axis) (P (previous (M .sides) c)) (P c) (P (next (M .sides) c)) (sidesOf (M .sides) c)
+
+-- that of one corner
+abbrev pub CornerPointed : List ℤ → List ℕ → List ℕ → List ℕ → FaceSums → ℕ → List ℤ → List ℤ → Type 0
+CornerPointed coordinates corners sharpness table face c = PointsPut (facePoint coordinates corners sharpness table face) (λ d. d ≡ c)
+
+-- those of the corners at marked vertices, from `start` to before `end`
+abbrev pub FacePointed : List ℤ → List ℕ → List ℕ → List ℕ → List ℕ → FaceSums → ℕ → ℕ → List ℤ → List ℤ → Type 0
+FacePointed coordinates corners sharpness table marked face start end =
+    PointsPut (facePoint coordinates corners sharpness table face) (MarkedIn corners marked start end)
+
+-- those before `end`, by the table of sums
+abbrev pub TablePointed : Mesh → List ℤ → List ℕ → ℕ → List ℤ → List ℤ → Type 0
+TablePointed M sums marked end = PointsPut (tablePoint M sums) (MarkedIn (M .corners) marked 0 end)
+
+-- V itself, of all of them
+abbrev pub MarkedPointed : Mesh → List ℕ → List ℤ → List ℤ → Type 0
+MarkedPointed M marked = PointsPut (refinedPoint rounded M) (MarkedIn (M .corners) marked 0 (cornerCount M))

@@ -3,8 +3,8 @@
 use mathlib.Core.Path.{_∙_}
 use denote.Ref.{now}
 use Rattle.paper.specs.Mesh.{Mesh, meshOf}
-use Rattle.refine.proofs.sums.Accepted.{refinable-of}
-use Rattle.border_report.proofs.mesh_misses.Laws.{ones-named, ones-covered, ones-long, drawn-all, largest-is}
+use Rattle.refine.proofs.Accepted.{refinable-of}
+use Rattle.border_report.proofs.mesh_misses.Laws.{ones-named, drawn-all, largest-is}
 use borrow.Author.Needs.{needs}
 use Rattle.border_report.proofs.mesh_misses.largest.Statement.{statement}
 use Rattle.border_report.proofs.mesh_misses.largest.Tie as tie
@@ -14,21 +14,21 @@ mesh s = meshOf (now (s .args .coordinates)) (now (s .args .sides)) (now (s .arg
 
 fill-points-requires : tie.Need-fill-points-requires
 fill-points-requires c κs =
-    let s = c .before .before .before .before .before .before .before in
+    let s = c .before .before .before .before .before .before in
     let M = mesh s in
-    (refinable-of M (s .pre .0), (s .pre .1 .0, ((ones-named M (s .pre .0), ones-covered M (s .pre .0)), (ones-long M (s .pre .0), s .pre .1 .1))))
+    (refinable-of M (s .pre .0), (s .pre .1 .0, (ones-named M (s .pre .0), s .pre .1 .1)))
 
 largest-requires : tie.Need-largest-requires
 largest-requires c κs =
-    let s = c .before .before .before .before .before .before .before .before .before .before in
+    let s = c .before .before .before .before .before .before .before .before .before in
     drawn-all (mesh s) (s .pre .0) (now (s .args .table)) (now (s .args .points)) _ (s .pre .1 .0) (s .pre .1 .1 .0) (c .before .before .fill-points .ensures)
 
 returns : tie.Need-returns
 returns c j few =
-    let s = c .before .before .before .before .before .before .before .before .before .before .before in
+    let s = c .before .before .before .before .before .before .before .before .before .before in
     c .largest .ensures j few
     ∙ largest-is (mesh s) (s .pre .0) (now (s .args .table)) (now (s .args .points)) _ (s .pre .1 .0) (s .pre .1 .1 .0)
     (c .before .before .before .fill-points .ensures) j few
 
 pub largest-spec : {M : Type 1} → statement M
-largest-spec = tie.close (tie.spec (λ c. search needs) (λ c. search needs) fill-points-requires largest-requires (λ c. search needs) returns)
+largest-spec = tie.close (tie.spec (λ c. search needs) fill-points-requires largest-requires (λ c. search needs) returns)

@@ -1,58 +1,43 @@
--- `building::writing::face_end` meets its contract: `end` is a corner of the face until the next one does not follow it.
+-- `building::writing::face_end` meets its contract: it is as far from the first corner as the face has sides.
 -- Assumes nothing.
-use mathlib.Core.Path.{sym, _∙_}
-use Prim.Native.Nat.{ℕ, _+_, _-_, _≤_, _<_}
+use mathlib.Core.Path.{_≡_}
+use mathlib.Core.List.{List}
+use Prim.Native.Nat.{ℕ, _+_, _<_}
 use native.Mathlib.Omega.{arith}
+use borrow.Author.Needs.{needs}
 use denote.Ref.{now}
-use Rattle.paper.specs.Corners.{sumOf, firstOf, sidesOf, next}
-use Rattle.mesh.proofs.Faces.{first-to, first-ends}
-use Rattle.building.proofs.writing.Laws.{walk-on, walk-end}
+use Rattle.paper.specs.Corners.{sumOf, firstOf, sidesOf}
+use Rattle.mesh.proofs.Faces.{first-from, first-to, first-ends, sides-same}
+use Rattle.building.specs.writing.Written.{Rounds}
 use Rattle.building.proofs.writing.face_end.Statement.{statement}
 use Rattle.building.proofs.writing.face_end.Tie as tie
 
-abbrev Inv-loop : tie.InvT-loop
-Inv-loop sides table c end₀ end = (c ≤ end) × (end < firstOf sides c + sidesOf sides c)
+-- the first corner of the face
+below : (c : tie.After-face-start) → let w = c .before .before .pre in c .face-start .result < sumOf (w .sides)
+below c =
+    let s = c .before .before in
+    let w = s .pre in
+    omega (arith, c .face-start .ensures (w .sides) (w .rounds) (w .here), first-from (w .sides) (s .args .c) (w .here), w .here)
 
-abbrev μ-loop : tie.MeasureT-loop
-μ-loop sides table c end₀ end = firstOf sides c + sidesOf sides c - end
+-- by any list of sides that the table is of
+ends : (c : tie.After-sides) (sides : List ℕ) → Rounds sides (now (c .before .before .before .args .table)) → let s = c .before .before .before in
+    s .args .c < sumOf sides → c .before .face-start .result + c .sides .result ≡ firstOf sides (s .args .c) + sidesOf sides (s .args .c)
+ends c sides r h =
+    let d = c .before .before .before .args .c in
+    let at = c .before .face-start .result in
+    let e : at ≡ firstOf sides d = c .before .face-start .ensures sides r h in
+    let a = first-from sides d h in
+    let b = first-to sides d h in
+    omega (arith, e, c .sides .ensures .read, r .counts at (omega arith), sides-same sides d h at (omega arith) (omega arith))
 
--- a corner of the face is one of the table
-below : (s : tie.Start Inv-loop μ-loop) (d : ℕ) → d < firstOf (now (s .args .sides)) (s .args .c) + sidesOf (now (s .args .sides)) (s .args .c)
-    → d < sumOf (now (s .args .sides))
-below s d h = omega (arith, first-ends (now (s .args .sides)) (s .args .c) (s .pre .1))
+sides-requires : tie.Need-sides-requires
+sides-requires c κs = omega (arith, below c, c .before .before .pre .rounds .long)
 
-loop-holds : tie.Need-loop-holds Inv-loop μ-loop
-loop-holds c = let s = c .before .before in (omega arith, first-to (now (s .args .sides)) (s .args .c) (s .pre .1))
-
-next-requires : tie.Need-next-requires Inv-loop μ-loop
-next-requires c κs =
+add-result : tie.Need-add-result
+add-result c =
     let s = c .before .before .before in
-    omega (arith, below s (c .loop .end) (c .loop .inv .1), s .pre .0 .long)
-
-add-end : tie.Need-add-end Inv-loop μ-loop
-add-end c =
-    let s = c .before .before .before .before in
-    let l = c .before .loop in
-    omega (arith, below s (l .end) (l .inv .1), s .pre .0 .few)
-
-loop-less : tie.Need-loop-less Inv-loop μ-loop
-loop-less c =
-    let l = c .before .before .before .loop in
-    omega (arith, l .inv .1)
-
-loop-again : tie.Need-loop-again Inv-loop μ-loop
-loop-again c =
-    let s = c .before .before .before .before .before .before in
-    let l = c .before .before .before .loop in
-    let e = c .before .before .next .ensures .read ∙ s .pre .0 .nexts (l .end) (below s (l .end) (l .inv .1)) in
-    (omega (arith, l .inv .0), walk-on (now (s .args .sides)) (s .args .c) (l .end) (s .pre .1) (l .inv .0) (l .inv .1) (sym e ∙ c .if1 .left))
-
-returns : tie.Need-returns Inv-loop μ-loop
-returns c =
-    let s = c .before .before .before .before .before .before in
-    let l = c .before .before .before .loop in
-    let e = c .before .before .next .ensures .read ∙ s .pre .0 .nexts (l .end) (below s (l .end) (l .inv .1)) in
-    walk-end (now (s .args .sides)) (s .args .c) (l .end) (s .pre .1) (l .inv .0) (l .inv .1) (λ q. c .if1 .taken (e ∙ q))
+    let w = s .pre in
+    omega (arith, ends c (w .sides) (w .rounds) (w .here), first-ends (w .sides) (s .args .c) (w .here), w .rounds .faces .few)
 
 pub face-end-spec : {M : Type 1} → statement M
-face-end-spec = tie.close (tie.spec Inv-loop μ-loop loop-holds next-requires add-end loop-less loop-again returns)
+face-end-spec = tie.close (tie.spec (λ c κs. search needs) sides-requires add-result (λ c. ends c))

@@ -1,44 +1,56 @@
--- `building::writing::face_start` meets its contract: the corner next to the last of a face is its first.
+-- `building::writing::face_start` meets its contract: `start` is a corner of the face until the one before it is none.
 -- Assumes nothing.
-use mathlib.Core.Path.{_∙_}
-use Prim.Native.Nat.{_+_, _-_, _≤_, _<_}
+use mathlib.Core.Path.{_≡_, _∙_}
+use mathlib.Core.List.{List}
+use Prim.Native.Nat.{ℕ, _≤_, _<_}
 use native.Mathlib.Omega.{arith}
-use borrow.Author.Needs.{needs}
 use denote.Ref.{now}
-use Rattle.paper.specs.Corners.{sumOf, firstOf, sidesOf}
-use Rattle.mesh.proofs.Faces.{first-to, first-ends}
-use Rattle.building.proofs.writing.Laws.{walk-round}
+use Rattle.paper.specs.Corners.{sumOf, firstOf, previous}
+use Rattle.mesh.proofs.Faces.{first-from}
+use Rattle.building.specs.writing.Written.{Rounds}
+use Rattle.building.proofs.writing.Laws.{sides-some, walk-back, walk-start}
 use Rattle.building.proofs.writing.face_start.Statement.{statement}
 use Rattle.building.proofs.writing.face_start.Tie as tie
 
--- the last corner of the face
-module _ (c : tie.After-face-end) where
-  abbrev s : tie.Start
-  s = c .before .before .before
+abbrev Inv-loop : tie.InvT-loop
+Inv-loop table c start₀ start = (start ≤ c) × ((sides : List ℕ) → Rounds sides table → c < sumOf sides → firstOf sides c ≤ start)
 
-  last : let d = c .face-end .result - 1 in
-      let sides = now (s .args .sides) in
-      (1 ≤ c .face-end .result) × (d < sumOf sides) × (s .args .c ≤ d) × (d < firstOf sides (s .args .c) + sidesOf sides (s .args .c))
-  last =
-      let e = c .face-end .ensures in
-      let t = first-to (now (s .args .sides)) (s .args .c) (s .pre .1) in
-      let l = first-ends (now (s .args .sides)) (s .args .c) (s .pre .1) in
-      (omega arith, omega arith, omega arith, omega arith)
+abbrev μ-loop : tie.MeasureT-loop
+μ-loop table c start₀ start = start
 
-sub-t7 : tie.Need-sub-t7
-sub-t7 c = last c .0
+-- a step back, by any list of sides that the table is of
+module _ (p : tie.After-previous Inv-loop μ-loop) (sides : List ℕ) (r : Rounds sides (now (p .before .before .before .args .table)))
+    (h : p .before .before .before .args .c < sumOf sides) where
+  abbrev d : ℕ
+  d = p .before .loop .start
 
-next-requires : tie.Need-next-requires
-next-requires c κs = omega (arith, last c .1, s c .pre .0 .long)
+  is-previous : p .previous .result .corner ≡ previous sides d
+  is-previous = p .previous .ensures .read ∙ r .previouses d (omega (arith, p .before .loop .inv .0, h))
 
-returns : tie.Need-returns
+  stepped : p .previous .result .corner ≤ d → (firstOf sides (p .before .before .before .args .c) ≤ p .previous .result .corner) × (p .previous .result .corner < d)
+  stepped l =
+      let c = p .before .before .before .args .c in
+      let b = walk-back sides c d h (p .before .loop .inv .1 sides r h) (p .before .loop .inv .0) (omega (arith, is-previous)) (sides-some sides (r .faces) c h) in
+      (omega (arith, is-previous, b .0), omega (arith, is-previous, b .1))
+
+loop-holds : tie.Need-loop-holds Inv-loop μ-loop
+loop-holds c = (omega arith, λ sides r h. first-from sides (c .before .args .c) h)
+
+previous-requires : tie.Need-previous-requires Inv-loop μ-loop
+previous-requires c κs = let w = c .before .before .pre in omega (arith, c .loop .inv .0, w .here, w .rounds .long)
+
+loop-less : tie.Need-loop-less Inv-loop μ-loop
+loop-less c = let p = c .before .before in let w = p .before .before .before .pre in stepped p (w .sides) (w .rounds) (w .here) (c .if1 .left) .1
+
+loop-again : tie.Need-loop-again Inv-loop μ-loop
+loop-again c = let p = c .before .before in (omega (arith, c .if1 .left, p .before .loop .inv .0), λ sides r h. stepped p sides r h (c .if1 .left) .0)
+
+returns : tie.Need-returns Inv-loop μ-loop
 returns c =
-    let b = c .before in
-    let t = s b in
-    let d = b .face-end .result - 1 in
-    c .next .ensures .read
-    ∙ t .pre .0 .nexts d (last b .1)
-    ∙ walk-round (now (t .args .sides)) (t .args .c) d (t .pre .1) (last b .2) (last b .3) (omega (arith, b .face-end .ensures, last b .0))
+    let p = c .before .before in
+    let l = p .before .loop in
+    λ sides r h. walk-start sides (p .before .before .before .args .c) (l .start) h (l .inv .1 sides r h) (l .inv .0)
+    (omega (arith, is-previous p sides r h, c .if1 .taken))
 
 pub face-start-spec : {M : Type 1} → statement M
-face-start-spec = tie.close (tie.spec (λ c κs. search needs) sub-t7 next-requires returns)
+face-start-spec = tie.close (tie.spec Inv-loop μ-loop loop-holds previous-requires loop-less loop-again returns)

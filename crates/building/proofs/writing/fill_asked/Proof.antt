@@ -1,6 +1,5 @@
--- `building::writing::fill_asked` meets its contract: where the rings of the range are not taken, its vertices are marked, and the corners there are filled.
+-- `building::writing::fill_asked` meets its contract: the vertices of the range are marked, and the corners there are filled.
 -- Assumes nothing.
-use mathlib.Core.Path.{_≡_}
 use mathlib.Core.List.{List}
 use Prim.Native.Nat.{ℕ}
 use native.Mathlib.Omega.{arith}
@@ -8,75 +7,41 @@ use borrow.Author.Needs.{needs}
 use lib.ListN.{length}
 use denote.Ref.{now}
 use Rattle.paper.specs.Mesh.{Mesh, meshOf, mostVertices}
-use Rattle.paper.specs.Corners.{sumOf}
 use Rattle.mesh.specs.Tables.{Named}
-use Rattle.refine.proofs.wanted.Accepted.{faces-of}
-use Rattle.refine.specs.sums.Sources.{Covered}
-use Rattle.refine.proofs.sums.Accepted.{refinable-of}
-use Rattle.building.proofs.writing.Laws.{zeros, named-in, faces-in, covered-of, near-of}
+use Rattle.refine.proofs.Accepted.{refinable-of}
+use Rattle.building.proofs.writing.Laws.{zeros, named-in, near-of}
 use Rattle.building.proofs.writing.fill_asked.Statement.{statement}
 use Rattle.building.proofs.writing.fill_asked.Tie as tie
 
-module _ (s : tie.Start) where
-  abbrev mesh : Mesh
-  mesh = meshOf (now (s .args .coordinates)) (now (s .args .sides)) (now (s .args .corners)) (now (s .args .sharpness))
+abbrev mesh : tie.Start → Mesh
+mesh s = meshOf (now (s .args .coordinates)) (now (s .args .sides)) (now (s .args .corners)) (now (s .args .sharpness))
 
-  sums : sumOf (now (s .args .sides)) ≡ length (now (s .args .corners))
-  sums = refinable-of mesh (s .pre .0) .sums
+abbrev entered : tie.After-marked → tie.Start
+entered c = c .before .before .before .before .before
 
-returns : tie.Need-returns
-returns c = c .before .before .fill-near .ensures .0 (c .if1 .taken)
+mark-vertices-requires : tie.Need-mark-vertices-requires
+mark-vertices-requires c κs = let s = entered c in ((named-in (mesh s) (s .pre .0), zeros mostVertices), s .pre .1 .1 .0)
 
-fill-wanted-requires : tie.Need-fill-wanted-requires
-fill-wanted-requires c κs =
-    let s = c .before .before .before .before .before .before .before .before .before .before in
-    let M = mesh s in (
-      (faces-of M (s .pre .0), omega (arith, sums s), faces-in M (s .pre .0)),
-      ((named-in M (s .pre .0), zeros mostVertices), s .pre .1 .1 .0),
-    )
-
--- what is marked then
-module _ (w : tie.After-fill-wanted) where
-  abbrev start : tie.Start
-  start = w .before .before .before .before .before .before .before .before .before .before .before
+-- the marks, and a place for each vertex
+module _ (c : tie.After-mark-vertices) where
+  abbrev s : tie.Start
+  s = entered (c .before)
 
   abbrev marked : List ℕ
-  marked = w .fill-wanted .last .1 .1 .1 .1 .0
+  marked = c .mark-vertices .last .1 .1 .1 .0
 
-  abbrev wanted : List ℕ
-  wanted = w .fill-wanted .last .1 .1 .1 .1 .1 .0
-
-  named : Named (now (start .args .corners)) (length marked)
-  named d h = omega (arith, named-in (mesh start) (start .pre .0) d h, w .fill-wanted .kept .1 .1 .1 .1 .0)
-
-  covered : Covered (mesh start) marked wanted
-  covered =
-      covered-of (mesh start) (start .pre .0) marked wanted (start .args .first) (start .args .count) named (w .fill-wanted .ensures .0)
-      (w .fill-wanted .ensures .1)
-
-  -- the points are as they were
-  left : w .before .before .before .before .before .fill-near .last .1 .1 .1 .1 .1 .1 .1 .0 ≡ now (start .args .points)
-  left = w .before .before .before .before .before .fill-near .ensures .1 (w .before .before .before .if1 .left)
+  named : Named (now (s .args .corners)) (length marked)
+  named d h = omega (arith, named-in (mesh s) (s .pre .0) d h, c .mark-vertices .kept .1 .1 .1 .0)
 
 fill-points-requires : tie.Need-fill-points-requires
 fill-points-requires c κs =
-    let w = c .before .before .before .before .before in
-    let s = start w in (
-      refinable-of (mesh s) (s .pre .0),
-      (
-        s .pre .1 .0,
-        ((named w, covered w), (omega (arith, faces-in (mesh s) (s .pre .0), w .fill-wanted .kept .1 .1 .1 .1 .1 .0), rw (left w) (s .pre .1 .1 .1))),
-      ),
-    )
+    let w = c .before .before .before in (refinable-of (mesh (s w)) (s w .pre .0), (s w .pre .1 .0, (named w, s w .pre .1 .1 .1)))
 
-returns-2 : tie.Need-returns-2
-returns-2 c =
-    let w = c .before .before .before .before .before .before .before in
-    let s = start w in
-    rw (← left w)
-    (near-of (mesh s) (marked w) (s .args .first) (s .args .count) _ _ (named w) (w .fill-wanted .ensures .1) (c .before .fill-points .ensures))
+returns : tie.Need-returns
+returns c =
+    let w = c .before .before .before .before .before in
+    near-of (mesh (s w)) (marked w) (s w .args .first) (s w .args .count) _ _ (named w) (w .mark-vertices .ensures) (c .before .fill-points .ensures)
 
 pub fill-asked-spec : {M : Type 1} → statement M
 fill-asked-spec =
-    tie.close (tie.spec (λ c κs. search needs) (λ c. search needs) returns (λ c. search needs) (λ c. search needs) fill-wanted-requires (λ c. search needs)
-    (λ c. search needs) fill-points-requires (λ c. search needs) returns-2)
+    tie.close (tie.spec (λ c. search needs) mark-vertices-requires (λ c. search needs) fill-points-requires (λ c. search needs) returns)

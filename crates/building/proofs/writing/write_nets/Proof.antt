@@ -10,8 +10,7 @@ use denote.Ref.{now}
 use Rattle.paper.specs.Mesh.{Mesh, meshOf}
 use Rattle.paper.specs.Corners.{sumOf, firstOf, sidesOf}
 use Rattle.mesh.proofs.Faces.{first-from, first-to, first-ends}
-use Rattle.refine.proofs.wanted.Accepted.{faces-of}
-use Rattle.refine.proofs.sums.Accepted.{refinable-of}
+use Rattle.refine.proofs.Accepted.{faces-of, refinable-of}
 use Rattle.building.specs.writing.Written.{Rounds}
 use Rattle.building.proofs.writing.Laws.{drawn-of, drawn-written}
 use Rattle.building.proofs.writing.write_nets.Statement.{statement}
@@ -26,9 +25,10 @@ module _ (s : tie.Start) where
 
   rounds : Rounds (now (s .args .sides)) (now (s .args .table))
   rounds = record {
-    few = faces-of mesh (s .pre .0) .few;
+    faces = faces-of mesh (s .pre .0);
     long = omega (arith, s .pre .1 .0 .long, sums);
-    nexts = λ c h. s .pre .1 .0 .nexts c (omega (arith, sums));
+    previouses = λ c h. s .pre .1 .0 .previouses c (omega (arith, sums));
+    counts = λ c h. s .pre .1 .0 .sides c (omega (arith, sums));
   }
 
   -- the first and the last corner of the range
@@ -40,34 +40,36 @@ module _ (c : tie.After-face-end) where
   abbrev t : tie.Start
   t = c .before .before .before .before .before .before
 
+  -- where they start and end
+  at-first : c .before .face-start .result ≡ firstOf (now (t .args .sides)) (t .args .first)
+  at-first = c .before .face-start .ensures (now (t .args .sides)) (rounds t) (ends t .0)
+
+  at-end : let last = t .args .first + t .args .count - 1 in
+      c .face-end .result ≡ firstOf (now (t .args .sides)) last + sidesOf (now (t .args .sides)) last
+  at-end = c .face-end .ensures (now (t .args .sides)) (rounds t) (ends t .1)
+
   whole : (c .before .face-start .result ≤ c .face-end .result) × (c .face-end .result ≤ length (now (t .args .corners)))
   whole =
-      let r = t .pre .1 .1 .0 in
       let e = ends t in
       let sides = now (t .args .sides) in
       let last = t .args .first + t .args .count - 1 in (
-        omega (arith, c .before .face-start .ensures, c .face-end .ensures, first-from sides (t .args .first) (e .0), first-to sides last (e .1), r .0),
-        omega (arith, c .face-end .ensures, first-ends sides last (e .1), sums t),
+        omega (arith, at-first, at-end, first-from sides (t .args .first) (e .0), first-to sides last (e .1), t .pre .1 .1 .0 .0),
+        omega (arith, at-end, first-ends sides last (e .1), sums t),
       )
 
+  at-last : let last = t .args .first + t .args .count - 1 in
+      c .before .face-start .result + (c .face-end .result - c .before .face-start .result)
+      ≡ firstOf (now (t .args .sides)) last + sidesOf (now (t .args .sides)) last
+  at-last = omega (arith, at-end, whole .0)
+
 face-start-requires : tie.Need-face-start-requires
-face-start-requires c κs = let s = c .before .before .before .before in (rounds s, ends s .0)
+face-start-requires c κs = let s = c .before .before .before .before in record { sides = now (s .args .sides); rounds = rounds s; here = ends s .0 }
 
 face-end-requires : tie.Need-face-end-requires
-face-end-requires c κs = let s = c .before .before .before .before .before in (rounds s, ends s .1)
+face-end-requires c κs = let s = c .before .before .before .before .before in record { sides = now (s .args .sides); rounds = rounds s; here = ends s .1 }
 
 sub-all : tie.Need-sub-all
 sub-all c = whole c .0
-
--- where the range's faces start and end
-module _ (b : tie.After-face-end) where
-  at-first : b .before .face-start .result ≡ firstOf (now (t b .args .sides)) (t b .args .first)
-  at-first = b .before .face-start .ensures
-
-  at-last : let last = t b .args .first + t b .args .count - 1 in
-      b .before .face-start .result + (b .face-end .result - b .before .face-start .result)
-      ≡ firstOf (now (t b .args .sides)) last + sidesOf (now (t b .args .sides)) last
-  at-last = omega (arith, b .face-end .ensures, whole b .0)
 
 fill-asked-requires : tie.Need-fill-asked-requires
 fill-asked-requires c κs =

@@ -1,37 +1,36 @@
--- `refine::corners::read_face` meets its contract: a shift by eight divides by 256, rounding down.
+-- `refine::corners::read_face` meets its contract: the numbers are those of the row.
 -- Assumes nothing.
 use mathlib.Core.Path.{_≡_, refl}
-use native.Mathlib.Nat.{div-le-self}
+use mathlib.Core.List.{List}
+use Prim.Native.Nat.{ℕ, _+_, _*_}
 use native.Mathlib.Omega.{arith}
 use borrow.Author.Needs.{needs}
-use lib.IntN.{ℤ, pos, negsuc}
-use lib.Signed.{shrZ}
+use lib.ListN.{getD}
+use lib.IntN.{ℤ, pos}
+use denote.Ref.{now}
 use mir.Syntax.{w32}
 use mir.Val.{SFits, toZ, ofZ}
 use mir.Facts.{toZ-ofZ}
-use Rattle.paper.specs.Numbers.{floor}
-use Rattle.paper.specs.Refined.{ticksPerStep}
-use Rattle.numbers.proofs.Nearest.{shift-floor}
+use Rattle.refine.specs.sums.Sources.{sumRow}
 use Rattle.refine.proofs.corners.read_face.Statement.{statement}
 use Rattle.refine.proofs.corners.read_face.Tie as tie
 
-in-width : (z : ℤ) → SFits w32 z → SFits w32 (shrZ z 256)
-in-width (pos a) h = record { sfits = omega (arith, h .sfits, div-le-self a 256) }
-in-width (negsuc a) h = record { sfits = omega (arith, h .sfits, div-le-self a 256) }
+read : (sums : List ℤ) (i j : ℕ) → i ≡ j → SFits w32 (getD sums i (pos 0)) → toZ w32 (ofZ w32 (getD sums i (pos 0))) ≡ getD sums j (pos 0)
+read sums i j e f = rw (← e) (toZ-ofZ f)
 
--- a number of the table, in grid steps
-steps : (z : ℤ) → SFits w32 z → toZ w32 (ofZ w32 (shrZ (toZ w32 (ofZ w32 z)) 256)) ≡ floor z (pos ticksPerStep)
-steps z f = rw (toZ-ofZ f, toZ-ofZ (in-width z f)) (shift-floor z 256)
+at-first : (n : ℕ) → n ≡ n + 0
+at-first n = omega arith
 
 returns : tie.Need-returns
 returns c =
     let s = c .before .before .before .before .before .before in
+    let at = sumRow * s .args .f in
     record {
       sides-are = refl;
-      reciprocal-is = c .before .before .before .side-reciprocal .ensures;
-      xs = steps _ (search needs);
-      ys = steps _ (search needs);
-      zs = steps _ (search needs);
+      reciprocal-is = search needs;
+      xs = read (now (s .args .sums)) at _ (at-first at) (search needs);
+      ys = read (now (s .args .sums)) (at + 1) _ refl (search needs);
+      zs = read (now (s .args .sums)) (at + 2) _ refl (search needs);
     }
 
 pub read-face-spec : {M : Type 1} → statement M

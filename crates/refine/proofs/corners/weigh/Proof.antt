@@ -11,7 +11,7 @@ use mir.Syntax.{w32}
 use mir.Val.{Fits}
 use Rattle.paper.specs.Mesh.{mostSharpness, plain}
 use Rattle.mesh.proofs.Accepted.{in-list}
-use Rattle.refine.specs.corners.Mean.{WeightsOf}
+use Rattle.refine.specs.corners.Mean.{weightsOf}
 use Rattle.refine.proofs.corners.weigh.Statement.{statement}
 use Rattle.refine.proofs.corners.weigh.Tie as tie
 
@@ -38,11 +38,6 @@ in-width a b ha hb = omega (arith, mul-le-mul ha hb)
 
 twice-in-width : (a b : ℕ) → a ≤ 16 → b ≤ 16 → Fits w32 (2 * a * b)
 twice-in-width a b ha hb = omega (arith, mul-le-mul ha hb)
-
--- the weights, from u and v as they are read
-weights-are : (u v x y : ℕ) → u ≡ x → v ≡ y
-    → WeightsOf x y (record { face = 2 * (16 - u) * (16 - v); before = (16 - u) * v; here = 16 * (u + v); after = u * (16 - v) })
-weights-are u v x y e f = record { face = rw (e, f); before = rw (e, f); here = rw (e, f); after = rw (e, f) }
 
 cast-u : tie.Need-cast-u
 cast-u c = omega (arith, limits (c .before))
@@ -72,7 +67,8 @@ mul-t17 : tie.Need-mul-t17
 mul-t17 c = in-width _ _ (omega (arith, limits (c .before .before))) (omega (arith, limits (c .before .before)))
 
 returns : tie.Need-returns
-returns c = let s = c .before .before in weights-are (u s) (v s) _ _ (u-is s) (v-is s)
+unfolding weightsOf
+returns c = let s = c .before .before in rw (u-is s, v-is s)
 
 pub weigh-spec : {M : Type 1} → statement M
 weigh-spec =

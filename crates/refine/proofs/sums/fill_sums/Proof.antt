@@ -1,85 +1,113 @@
--- `refine::fill_sums` meets its contract: the sums of the faces before `f` are put in.
+-- `refine::sums::fill_sums` meets its contract: the sums of the faces before `f` that are needed are put in.
 -- Assumes nothing.
-use mathlib.Core.Path.{_≡_, sym, subst}
+use mathlib.Core.Path.{_≡_, refl, sym, subst}
 use mathlib.Core.List.{List}
 use mathlib.Core.Logic.{⊎-elim}
-use Prim.Native.Nat.{ℕ, _-_, _≤_, _<_}
+use Prim.Native.Nat.{ℕ, _+_, _-_, _*_, _≤_, _<_}
 use native.Mathlib.Omega.{arith}
 use borrow.Author.Needs.{needs}
-use lib.IntN.{ℤ}
-use lib.ListN.{length}
+use lib.IntN.{ℤ, pos}
+use lib.ListN.{length, getD, set, length-set}
 use denote.Ref.{now}
 use Rattle.paper.specs.Mesh.{Mesh, plainMesh}
 use Rattle.paper.specs.Corners.{startOf}
 use Rattle.mesh.proofs.Faces.{start-zero, start-next, start-ends}
-use Rattle.refine.specs.sums.Sources.{Summed}
-use Rattle.refine.proofs.sums.Laws.{summed-none, summed-added, summed-passed}
+use Rattle.refine.specs.sums.Sources.{faceSteps, sumRow, sumAt, SumsAre}
+use Rattle.refine.proofs.sums.Laws.{sums-none, sums-more}
 use Rattle.refine.proofs.sums.fill_sums.Statement.{statement}
 use Rattle.refine.proofs.sums.fill_sums.Tie as tie
 
 abbrev Inv-loop : tie.InvT-loop
-Inv-loop coordinates sides corners wanted sums₀ faces start₀ f₀ sums start f =
-    (f ≤ length sides) × (start ≡ startOf sides f) × Summed (plainMesh coordinates sides corners) wanted f sums₀ sums
+Inv-loop coordinates sides corners marked wanted₀ sums₀ start₀ f₀ wanted sums start f =
+    (f ≤ length sides)
+    × (start ≡ startOf sides f)
+    × (length wanted ≡ length wanted₀)
+    × (length sums ≡ length sums₀)
+    × SumsAre (plainMesh coordinates sides corners) marked f wanted sums
 
 abbrev μ-loop : tie.MeasureT-loop
-μ-loop coordinates sides corners wanted sums₀ faces start₀ f₀ sums start f = length sides - f
+μ-loop coordinates sides corners marked wanted₀ sums₀ start₀ f₀ wanted sums start f = length sides - f
 
-abbrev mesh : tie.Start Inv-loop μ-loop → Mesh
-mesh s = plainMesh (now (s .args .coordinates)) (now (s .args .sides)) (now (s .args .corners))
+-- at face f
+module _ (i : tie.In-loop Inv-loop μ-loop) where
+  abbrev s : tie.Start Inv-loop μ-loop
+  s = i .before .before .before .before .before .before
+
+  abbrev sides : List ℕ
+  sides = now (s .args .sides)
+
+  abbrev mesh : Mesh
+  mesh = plainMesh (now (s .args .coordinates)) sides (now (s .args .corners))
+
+  here : i .before .loop .f < length sides
+  here = i .loop-test .taken
+
+  ends : let l = i .before .loop in (l .start + getD sides (l .f) 0 ≤ length (now (s .args .corners))) × (l .start + getD sides (l .f) 0 ≤ 8192) × (getD sides (l .f) 0 ≤ 16)
+  ends =
+      let l = i .before .loop in
+      let e = start-ends sides (l .f) here in
+      (omega (arith, l .inv .1, s .pre .0 .1), omega (arith, l .inv .1, s .pre .0 .0 .few), s .pre .0 .0 .most (l .f) here)
+
+  room : let l = i .before .loop in (l .f < length (l .wanted)) × (sumRow * l .f + sumRow ≤ length (l .sums))
+  room = let l = i .before .loop in (omega (arith, here, l .inv .2, s .pre .1 .1 .0), omega (arith, here, l .inv .3, s .pre .1 .1 .1))
+
+-- one face more: it is needed and summed, or not
+module _ (j : tie.Joined1 Inv-loop μ-loop) where
+  abbrev i : tie.In-loop Inv-loop μ-loop
+  i = j .before .before .before
+
+  abbrev f : ℕ
+  f = i .before .loop .f
+
+  abbrev any : ℕ
+  any = j .before .any-marked .result
+
+  abbrev Summed : List ℤ → Type 0
+  Summed new = SumsAre (mesh i) (now (s i .args .marked)) (f + 1) (set (i .before .loop .wanted) f any) new × (length new ≡ length (i .before .loop .sums))
+
+  more : (new : List ℤ) → ((k : ℕ) → k < sumRow * f → getD new k (pos 0) ≡ getD (i .before .loop .sums) k (pos 0))
+      → (0 < any → (axis : ℕ) → axis < 3 → sumAt new f axis ≡ faceSteps (mesh i) f axis) → length new ≡ length (i .before .loop .sums) → Summed new
+  more new b r e =
+      let l = i .before .loop in
+      (sums-more (mesh i) (now (s i .args .marked)) f any (l .wanted) (l .sums) new (room i .0) (rw (← l .inv .1) (j .before .any-marked .ensures)) b r (l .inv .4), e)
+
+  turn : Summed (j .if1 .sums)
+  turn =
+      ⊎-elim
+      (λ w. subst Summed (sym (w .4))
+      (more _ (w .2 .ensures .before) (λ o axis a. rw (← i .before .loop .inv .1) (w .2 .ensures .sums-are axis a)) (w .2 .kept .1 .1 .1 .1 .1 .0)))
+      (λ w. subst Summed (sym (w .1)) (more _ (λ k h. refl) (λ o. absurd (omega (arith, o, w .0 .left))) refl))
+      (j .if1 .came)
 
 loop-holds : tie.Need-loop-holds Inv-loop μ-loop
-loop-holds c =
-    let s = c .before .before .before in
-    (search needs, sym (start-zero _), summed-none (mesh s) (now (s .args .wanted)) _ (s .pre .1 .1 .1))
-
-shared-slice-read-if1 : tie.Need-shared-slice-read-if1 Inv-loop μ-loop
-shared-slice-read-if1 c = let s = c .before .before .before .before .before .before in omega (arith, s .pre .1 .0)
+loop-holds c = (omega arith, sym (start-zero _), refl, refl, sums-none _ _ _ _)
 
 sum-face-requires : tie.Need-sum-face-requires Inv-loop μ-loop
 sum-face-requires c κs =
-    let s = c .before .before .before .before .before .before .before .before in
-    let i = c .before .before .before .before .loop .inv in
-    (s .pre .0, ((search needs, i .1), (omega (arith, i .2 .same, s .pre .1 .1 .0), i .2 .small)))
-
-cast-start : tie.Need-cast-start Inv-loop μ-loop
-cast-start c =
-    let s = c .before .before .before .before .before .before .before .before in
-    let l = c .before .before .before .before .loop in
-    omega (arith, s .pre .0 .faces .most (l .f) (search needs))
-
-add-start : tie.Need-add-start Inv-loop μ-loop
-add-start c =
-    let s = c .before .before .before .before .before .before .before .before in
-    let l = c .before .before .before .before .loop in
-    omega (arith, l .inv .1, s .pre .0 .faces .few, start-ends (now (s .args .sides)) (l .f) (search needs))
+    let k = c .before .before .before .before in (s k .pre .0 .2, ((ends k .0, ends k .2), room k .1))
 
 loop-again : tie.Need-loop-again Inv-loop μ-loop
 loop-again c =
-    let s = c .before .before .before .before .before .before .before .before in
-    let l = c .before .before .before .before .loop in
-    let h : l .f < length (now (s .args .sides)) = search needs in (
-      omega arith,
-      omega (arith, start-next (now (s .args .sides)) (l .f) h, l .inv .1),
-      ⊎-elim
-          (λ w. rw (w .4) (summed-added (mesh s) (now (s .args .wanted)) (l .f) _ _ _ (omega (arith, w .0 .taken)) (l .inv .2) (w .2 .ensures)))
-          (λ w. rw (w .1) (summed-passed (mesh s) (now (s .args .wanted)) (l .f) _ _ (omega (arith, w .0 .left)) (l .inv .2)))
-          (c .before .if1 .came),
+    let l = i c .before .loop in
+    let t = turn c in (
+      omega (arith, here (i c)),
+      omega (arith, start-next (sides (i c)) (l .f) (here (i c)), l .inv .1),
+      simp length-set (l .inv .2),
+      omega (arith, t .1, l .inv .3),
+      t .0,
     )
-
-same-length : tie.Need-same-length Inv-loop μ-loop
-same-length c = c .before .loop .inv .2 .same
-
-up-to : (M : Mesh) (wanted : List ℕ) {n m : ℕ} (old new : List ℤ) → n ≡ m → Summed M wanted n old new → Summed M wanted m old new
-up-to M wanted old new e h = subst (λ (k : ℕ). Summed M wanted k old new) e h
 
 returns : tie.Need-returns Inv-loop μ-loop
 returns c =
-    let s = c .before .before .before .before .before in
+    let s = c .before .before .before .before .before .before in
     let l = c .before .loop in
-    let e : l .f ≡ length (now (s .args .sides)) = omega arith in
-    up-to (mesh s) (now (s .args .wanted)) _ _ e (l .inv .2)
+    let e : l .f ≡ length (now (s .args .sides)) = omega (arith, l .inv .0) in
+    subst (λ (k : ℕ). SumsAre (plainMesh (now (s .args .coordinates)) (now (s .args .sides)) (now (s .args .corners))) (now (s .args .marked)) k (l .wanted)
+    (l .sums)) e (l .inv .4)
 
 pub fill-sums-spec : {M : Type 1} → statement M
 fill-sums-spec =
-    tie.close (tie.spec Inv-loop μ-loop loop-holds shared-slice-read-if1 sum-face-requires (λ c. search needs) cast-start add-start (λ c. search needs)
-    (λ c. search needs) loop-again same-length returns)
+    tie.close (tie.spec Inv-loop μ-loop loop-holds (λ c. search needs) (λ c. omega (arith, ends (c .before)))
+    (λ c κs. (s (c .before) .pre .1 .0, ends (c .before) .0)) (λ c. room (c .before .before) .0) sum-face-requires
+    (λ c. omega (arith, ends (c .before .before .before))) (λ c. search needs) (λ c. search needs) loop-again
+    (λ c. c .before .loop .inv .2) (λ c. c .before .loop .inv .3) returns)

@@ -1,4 +1,4 @@
--- The turns of the loops that find the faces of a range, over lists.
+-- A range one number longer, and the marks of its vertices.
 -- Assumes nothing.
 use mathlib.Core.Path.{_≡_, ap, _∙_, sym, subst}
 use mathlib.Core.Logic.{⊎-elim}
@@ -8,13 +8,10 @@ use native.Mathlib.Omega.{arith}
 use lib.Dec.{ltb, eqb}
 use lib.ListN.{length, getD, set, length-set, replicate, getD-replicate}
 use lib.Seq.{getD-set-same, getD-set-other}
-use borrow.Author.Count.{below-more}
 use borrow.Author.Tests.{eqb-true, eqb-false, ltb-true, ltb-false}
-use Rattle.paper.specs.Corners.{startOf}
 use Rattle.paper.specs.Links.{vertexOf}
 use Rattle.mesh.proofs.Scans.{ways}
-use Rattle.mesh.proofs.Faces.{start-next}
-use Rattle.refine.specs.wanted.Tables.{SomeIn, Tells, Near, Marked, Wanted}
+use Rattle.refine.specs.Marks.{SomeIn, Tells, Marked}
 
 -- ---- a range, one number longer
 module _ (P : ℕ → Type 0) (start end more : ℕ) (e : more ≡ end + 1) where
@@ -61,27 +58,3 @@ marked-set corners marked first k h l u b =
     (λ e. tells-passed _ first (first + k) _ (omega arith) _ (λ q. eqb-false u v e (sym q))
     (rw (getD-set-other marked v u 1 0 (eqb-false u v e)) (h u inside)))
     (ways (eqb u v))
-
--- ---- one face more: r tells whether one of its vertices is marked
-module _ (sides corners marked wanted : List ℕ) (first count f r : ℕ) (l : f < length sides) (b : f < length wanted)
-    (n : (c : ℕ) → c < startOf sides (f + 1) → vertexOf corners c < length marked) (m : Marked corners first count marked)
-    (any : Tells r (SomeIn (λ c. 0 < getD marked (vertexOf corners c) 0) (startOf sides f) (startOf sides f + getD sides f 0))) where
-  near-told : Tells r (Near sides corners first count f)
-  near-told = record {
-    yes = λ s. any .yes (record {
-      at = s .at;
-      from = s .from;
-      to = omega (arith, s .to, start-next sides f l);
-      holds = m (vertexOf corners (s .at)) (n (s .at) (s .to)) .yes (s .holds);
-    });
-    only = λ o.
-        let s = any .only o in
-        let t : s .at < startOf sides (f + 1) = omega (arith, s .to, start-next sides f l) in
-        record { at = s .at; from = s .from; to = t; holds = m (vertexOf corners (s .at)) (n (s .at) t) .only (s .holds) };
-  }
-
-  pub wanted-set : Wanted sides corners first count wanted f → Wanted sides corners first count (set wanted f r) (f + 1)
-  wanted-set h =
-      below-more (λ g. Tells (getD (set wanted f r) g 0) (Near sides corners first count g)) f
-      (λ g k. rw (getD-set-other wanted f g r 0 (λ q. omega arith)) (h g k))
-      (rw (getD-set-same wanted f r 0 b) near-told)

@@ -1,20 +1,18 @@
--- `refine::wanted::any_marked` meets its contract: the answer tells whether one of the first `j` corners has its vertex marked.
+-- `refine::sums::any_marked` meets its contract: the answer tells whether one of the first `j` corners has its vertex marked.
 -- Assumes nothing.
 use mathlib.Core.Path.{_≡_, refl}
 use mathlib.Core.Logic.{⊎-elim}
-use Prim.Native.Nat.{_+_, _-_, _<_, _≤_}
-use lib.ListN.{getD}
-use Rattle.paper.specs.Links.{vertexOf}
-use Rattle.refine.specs.wanted.Tables.{SomeIn, Tells}
-use Rattle.refine.proofs.wanted.Laws.{tells-none, tells-set, tells-passed}
+use Prim.Native.Nat.{_+_, _-_, _≤_}
+use Rattle.refine.specs.Marks.{SomeIn, Tells, AtMark}
+use Rattle.refine.proofs.Marks.{tells-none, tells-set, tells-passed}
 use native.Mathlib.Omega.{arith}
 use borrow.Author.Needs.{needs}
-use Rattle.refine.proofs.wanted.any_marked.Statement.{statement}
-use Rattle.refine.proofs.wanted.any_marked.Tie as tie
+use Rattle.refine.proofs.sums.any_marked.Statement.{statement}
+use Rattle.refine.proofs.sums.any_marked.Tie as tie
 
 abbrev Inv-loop : tie.InvT-loop
 Inv-loop corners marked start n any₀ j₀ any j =
-    (j ≤ n) × Tells any (SomeIn (λ c. 0 < getD marked (vertexOf corners c) 0) start (start + j))
+    (j ≤ n) × Tells any (SomeIn (AtMark corners marked) start (start + j))
 
 abbrev μ-loop : tie.MeasureT-loop
 μ-loop corners marked start n any₀ j₀ any j = n - j

@@ -1,15 +1,15 @@
--- `refine::wanted::mark_vertices` meets its contract: the vertices of the first `k` corners of the range are marked.
+-- `refine::mark_vertices` meets its contract: the vertices of the first `k` corners of the range are marked.
 -- Assumes nothing.
 use mathlib.Core.Path.{_≡_, refl}
 use Prim.Native.Nat.{_+_, _-_, _≤_}
 use lib.ListN.{length, length-set}
 use denote.Ref.{now}
-use Rattle.refine.specs.wanted.Tables.{Marked}
-use Rattle.refine.proofs.wanted.Laws.{marked-none, marked-set}
+use Rattle.refine.specs.Marks.{Marked}
+use Rattle.refine.proofs.Marks.{marked-none, marked-set}
 use native.Mathlib.Omega.{arith}
 use borrow.Author.Needs.{needs}
-use Rattle.refine.proofs.wanted.mark_vertices.Statement.{statement}
-use Rattle.refine.proofs.wanted.mark_vertices.Tie as tie
+use Rattle.refine.proofs.mark_vertices.Statement.{statement}
+use Rattle.refine.proofs.mark_vertices.Tie as tie
 
 abbrev Inv-loop : tie.InvT-loop
 Inv-loop corners first count marked₀ k₀ marked k =

@@ -1,0 +1,40 @@
+-- Marks of vertices: those that a range of corners names, and the faces that are needed where a vertex is marked.
+-- Assumes nothing.
+use mathlib.Core.Path.{_≡_}
+use mathlib.Core.List.{List}
+use Prim.Native.Nat.{ℕ, _+_, _<_, _≤_}
+use lib.ListN.{length, getD}
+use Rattle.paper.specs.Corners.{startOf}
+use Rattle.paper.specs.Links.{vertexOf}
+
+-- P holds of a number from `start` to before `end`
+pub record SomeIn (P : ℕ → Type 0) (start end : ℕ) : Type 0 where
+  pub at : ℕ
+  pub from : start ≤ at
+  pub to : at < end
+  pub holds : P at
+
+-- the number r is not zero exactly when A holds
+pub record Tells (r : ℕ) (A : Type 0) : Type 0 where
+  pub yes : A → 0 < r
+  pub only : 0 < r → A
+
+-- u is the vertex of one of `count` corners from `first` on
+abbrev pub Asked : List ℕ → ℕ → ℕ → ℕ → Type 0
+Asked corners first count u = SomeIn (λ c. vertexOf corners c ≡ u) first (first + count)
+
+-- the table tells of each vertex whether a corner of the range names it
+abbrev pub Marked : List ℕ → ℕ → ℕ → List ℕ → Type 0
+Marked corners first count marked = (u : ℕ) → u < length marked → Tells (getD marked u 0) (Asked corners first count u)
+
+-- the vertex of corner c is marked
+abbrev pub AtMark : List ℕ → List ℕ → ℕ → Type 0
+AtMark corners marked c = 0 < getD marked (vertexOf corners c) 0
+
+-- the same of a corner from `start` to before `end`
+abbrev pub MarkedIn : List ℕ → List ℕ → ℕ → ℕ → ℕ → Type 0
+MarkedIn corners marked start end c = (start ≤ c) × (c < end) × AtMark corners marked c
+
+-- face f is needed: it has a corner whose vertex is marked
+abbrev pub Needed : List ℕ → List ℕ → List ℕ → ℕ → Type 0
+Needed sides corners marked f = SomeIn (AtMark corners marked) (startOf sides f) (startOf sides f + getD sides f 0)
