@@ -175,14 +175,14 @@ module _ (r0 r1 r2 r3 : RowValues) (z : AllSized r0 r1 r2 r3) (h00 h03 h30 h33 h
         let s2 = again K c side2 r2 (z .rows2) (i .rows2) in
         let s3 = again K c side3 r3 (z .rows3) (i .rows3) in
         cc (
-          half-is _ _ h00 e00,
-          half-is _ _ h03 e03,
-          half-is _ _ h30 e30,
-          half-is _ _ h33 e33,
-          half-is _ _ h11 e11,
-          half-is _ _ h12 e12,
-          half-is _ _ h21 e21,
-          half-is _ _ h22 e22,
+          half-is (r0 .outer1) (r3 .outer1) h00 e00,
+          half-is (r0 .outer3) (r1 .outer3) h03 e03,
+          half-is (r3 .outer3) (r2 .outer3) h30 e30,
+          half-is (r2 .outer1) (r1 .outer1) h33 e33,
+          half-is (r0 .middle) (r3 .middle) h11 e11,
+          half-is (r0 .middle) (r1 .middle) h12 e12,
+          half-is (r3 .middle) (r2 .middle) h21 e21,
+          half-is (r1 .middle) (r2 .middle) h22 e22,
         );
     square = each-of-four (λ (l : List ℤ). length l ≡ 4) [] _ _ _ _ refl refl refl refl;
     sized = (written h12 (e12 .1), written h21 (e21 .1));
@@ -212,11 +212,11 @@ module _ (c0 c1 c2 c3 : ℤ) (f0 : SFits w32 c0) (f1 : SFits w32 c1) (f2 : SFits
           toZ-ofZ f1,
           toZ-ofZ f2,
           toZ-ofZ f3,
-          half-is _ _ h11 e11,
-          half-is _ _ h13 e13,
-          half-is _ _ h31 e31,
-          half-is _ _ h33 e33,
-          half-is _ _ h22 e22,
+          half-is (r3 .a1) (r0 .a1) h11 e11,
+          half-is (r0 .a2) (r1 .a2) h13 e13,
+          half-is (r3 .a2) (r2 .a2) h31 e31,
+          half-is (r2 .a1) (r1 .a1) h33 e33,
+          half-is (a12 a) (a21 a) h22 e22,
           written-is (a12 a) (aTail K c side0) za (ap a12 ea),
           written-is (a21 a) (aTail K c side3) zb (ap a21 ea),
         );

@@ -77,4 +77,5 @@ returns c =
 pub take-corner-spec : {M : Type 1} → statement M
 take-corner-spec =
     tie.close (tie.spec Inv-loop μ-loop corners-near-requires (λ c. search needs) (λ c. search needs) take-vertex-requires loop-holds (λ c. search needs)
-    (λ c. search needs) take-whole-requires (λ c. search needs) (λ c. search needs) loop-again (λ c. c .before .loop .inv .1 .same) returns)
+    (λ c. search needs) take-whole-requires (λ c. search needs) (λ c. search needs) loop-again
+    (λ c. let v : tie.After-take-vertex Inv-loop μ-loop = search in c .before .loop .inv .1 .same ∙ v .take-vertex .ensures .same) returns)

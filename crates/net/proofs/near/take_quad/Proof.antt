@@ -6,6 +6,7 @@ use Prim.Native.Nat.{_+_, _-_, _≤_}
 use native.Mathlib.Omega.{arith}
 use borrow.Author.Needs.{needs}
 use lib.Dec.{lit<}
+use Rattle.paper.specs.Mesh.{mostSides}
 use Rattle.net.specs.sides.Drawn.{drawn}
 use Rattle.net.specs.near.Near.{FaceTaken}
 use Rattle.net.proofs.near.Rows.{row-at, face-none, face-more, face-end}
@@ -74,12 +75,22 @@ four-toward-requires c κs =
     let at = readable _ _ _ d in
     (at _ (q .0), at _ (q .1), at _ (q .2), at _ (q .3))
 
+-- r is at most the count of sides
+few : (l : tie.In-loop Inv-loop μ-loop) → l .before .loop .r ≤ mostSides
+few l = let s : tie.Start Inv-loop μ-loop = search in omega (arith, l .loop-test .taken, s .pre .1 .1)
+
+add-take-row : tie.Need-add-take-row-2 Inv-loop μ-loop
+add-take-row c = let l : tie.In-loop Inv-loop μ-loop = search in search (needs, few l)
+
+add-r : tie.Need-add-r Inv-loop μ-loop
+add-r c = let l : tie.In-loop Inv-loop μ-loop = search in search (needs, few l)
+
 take-row-requires-2 : tie.Need-take-row-requires-2 Inv-loop μ-loop
 take-row-requires-2 c κs =
     let l : tie.In-loop Inv-loop μ-loop = search in
     let r : tie.After-take-row Inv-loop μ-loop = search in
     let s : tie.Start Inv-loop μ-loop = search in
-    omega (arith, l .loop-test .taken, l .before .loop .inv .1 .same, r .take-row .ensures .same, s .pre .1 .0, s .pre .1 .1)
+    omega (arith, few l, l .before .loop .inv .1 .same, r .take-row .ensures .same, s .pre .1 .0)
 
 loop-again : tie.Need-loop-again Inv-loop μ-loop
 loop-again c =
@@ -111,4 +122,4 @@ returns c =
 pub take-quad-spec : {M : Type 1} → statement M
 take-quad-spec =
     tie.close (tie.spec Inv-loop μ-loop previous-requires next-requires next-requires-2 four-centre-requires take-row-requires loop-holds
-    four-toward-requires (λ c. search needs) (λ c. search needs) take-row-requires-2 (λ c. search needs) (λ c. search needs) loop-again same-length returns)
+    four-toward-requires (λ c. search needs) add-take-row take-row-requires-2 add-r (λ c. search needs) loop-again same-length returns)

@@ -9,6 +9,7 @@ use lib.Dec.{lit<}
 use lib.IntN.{pos}
 use mir.Facts.{toZ-ofZ}
 use Rattle.paper.specs.Scan.{iterate}
+use Rattle.paper.specs.Mesh.{mostSides}
 use Rattle.paper.specs.Net.{side1, X}
 use Rattle.numbers.specs.Units.{Reciprocal}
 use Rattle.walk.specs.Table.{toNext, toPrevious, sidesHere, entry}
@@ -77,6 +78,10 @@ module _ (l : tie.In-loop Inv-loop μ-loop) where
   abbrev start : tie.Start Inv-loop μ-loop
   start = l .before .before .before .before .before .before .before .before .before
 
+  -- r is at most the count of sides
+  few : l .before .loop .r ≤ mostSides
+  few = omega (arith, l .loop-test .taken, start .pre .1 .1)
+
   here : l .before .loop .at .corner < start .args .count
   here = walked-in _ _ _ (drawn-is start) _ (start .pre .0 .1) _ _ (l .before .loop .inv .2)
 
@@ -90,12 +95,18 @@ ring-toward-requires c κs =
     let s = start c in
     (face-ring _ _ _ (drawn-is s) _ _ (here c) (sides-here c), (s .pre .0 .3, reciprocal-is q))
 
+add-take-row : tie.Need-add-take-row-2 Inv-loop μ-loop
+add-take-row c = let l : tie.In-loop Inv-loop μ-loop = search in search (needs, few l)
+
+add-r : tie.Need-add-r Inv-loop μ-loop
+add-r c = let l : tie.In-loop Inv-loop μ-loop = search in search (needs, few l)
+
 take-row-requires-2 : tie.Need-take-row-requires-2 Inv-loop μ-loop
 take-row-requires-2 c κs =
     let l : tie.In-loop Inv-loop μ-loop = search in
     let r : tie.After-take-row Inv-loop μ-loop = search in
     let s = start l in
-    omega (arith, l .loop-test .taken, l .before .loop .inv .1 .same, r .take-row .ensures .same, s .pre .1 .0, s .pre .1 .1)
+    omega (arith, few l, l .before .loop .inv .1 .same, r .take-row .ensures .same, s .pre .1 .0)
 
 next-requires : tie.Need-next-requires Inv-loop μ-loop
 next-requires c κs = let l : tie.In-loop Inv-loop μ-loop = search in row-in _ _ _ (drawn-is (start l)) _ _ (lit< tt) (here l)
@@ -131,5 +142,4 @@ returns c =
 pub take-ring-spec : {M : Type 1} → statement M
 take-ring-spec =
     tie.close (tie.spec Inv-loop μ-loop cast-reciprocal mul-reciprocal reciprocal-requires ring-centre-requires take-row-requires previous-requires loop-holds
-    ring-toward-requires (λ c. search needs) (λ c. search needs) take-row-requires-2 next-requires (λ c. search needs) (λ c. search needs) loop-again
-    same-length returns)
+    ring-toward-requires (λ c. search needs) add-take-row take-row-requires-2 next-requires add-r (λ c. search needs) loop-again same-length returns)

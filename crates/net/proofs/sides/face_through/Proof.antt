@@ -37,7 +37,7 @@ toward-requires-2 c κs = let p = c .before .before in (fourth p .1, first p .1,
 returns : tie.Need-returns
 returns c =
     let p = c .before .before .before in
-    through _ _ _ _ _ _ _ _ _ _ _ _ (first p .0) (second p .0) (third p .0) (fourth p .0) (c .before .before .mean .ensures) (c .before .toward .ensures)
+    through _ _ _ _ _ (p .before .before .before .point .result) (p .before .before .point2 .result) (p .before .point3 .result) (p .point4 .result) _ _ _ (first p .0) (second p .0) (third p .0) (fourth p .0) (c .before .before .mean .ensures) (c .before .toward .ensures)
     (c .toward2 .ensures)
 
 pub face-through-spec : {M : Type 1} → statement M
