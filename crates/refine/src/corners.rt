@@ -2,8 +2,8 @@
 // It is computed in grid steps, and 32 bits hold every number on the way.
 use crate::sums::SUM_ROW;
 use crate::sums::coordinate;
-use numbers::rounding::side_reciprocal;
-use numbers::rounding::small_quotient;
+use numbers::rounding::reciprocal;
+use numbers::rounding::round_by;
 use paper::SHARPNESS_PER_CORNER;
 use surface::POINT_ROW;
 use walk::Walker;
@@ -15,7 +15,7 @@ ghost use Rattle.surface.specs.Points.{pointRow};
 ghost use Rattle.refine.specs.sums.Sources.{Placed, Small, sumRow};
 ghost use Rattle.refine.specs.corners.Mean.{Pair, weightsOf, Balanced, Steps, Known, mean, MeanOf, CornerLists, FaceRead, FaceKnown, CornerPointed};
 
-// What the corners of a face share: its sides with their reciprocal, and Σ in grid steps.
+// What the corners of a face share: its sides with the reciprocal of their double, and Σ in grid steps.
 pub struct FaceSums {
     pub sides: u8,
     pub reciprocal: u64,
@@ -46,9 +46,10 @@ pub(crate) fn read_face(sides: &[u8], sums: &[i32], f: usize) -> FaceSums
     ensures { λ r. ⌜ FaceRead (now (sides .entry)) (now (sums .entry)) f r ⌝ }
 {
     let n = sides[f];
+    let m = reciprocal(2 * n as i32);
     FaceSums {
         sides: n,
-        reciprocal: side_reciprocal(n),
+        reciprocal: m,
         x: sums[SUM_ROW * f],
         y: sums[SUM_ROW * f + 1],
         z: sums[SUM_ROW * f + 2],
@@ -135,5 +136,5 @@ fn refined(w: CornerWeights, total: i32, before: i32, here: i32, after: i32, fac
     let m = face.reciprocal;
     let three = w.before as i32 * before + w.here as i32 * here + w.after as i32 * after;
     let t = w.face as i32 * total + n as i32 * three;
-    small_quotient(t, n, m)
+    round_by(t, 2 * n as i32, m)
 }

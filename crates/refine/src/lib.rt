@@ -1,8 +1,6 @@
 // The refined points of the corners at the vertices that are marked: a row for each corner. The sums of their faces are formed first, once for each
 // face, and put into a table; the loop over the corners takes them from there.
 pub mod corners;
-pub mod faces;
-pub mod formulas;
 pub mod sums;
 
 use crate::corners::FaceSums;

@@ -12,12 +12,13 @@ use lib.Signed.{_<ℤ_, ltZ-yes}
 use mir.Syntax.{w32}
 use mir.Val.{SFits, toZ}
 use mir.Facts.{toZ-pos}
-use Rattle.paper.specs.Mesh.{mostCoordinate, plain, Mesh, plainMesh, faceCount, cornerCount}
+use Rattle.paper.specs.Mesh.{leastSides, mostSides, mostCoordinate, plain, Mesh, plainMesh, faceCount, cornerCount}
 use Rattle.paper.specs.Links.{vertexOf}
 use Rattle.paper.specs.Corners.{startOf, faceOf, sidesOf, next, previous}
 use Rattle.paper.specs.Numbers.{round, rounded}
 use Rattle.paper.specs.Refined.{ticks, uOf, vOf, refinedPoint, cornersOf}
-use Rattle.numbers.proofs.Diff.{diff}
+use Rattle.numbers.specs.Units.{Bounded}
+use Rattle.numbers.proofs.Diff.{as-diff, diff}
 use Rattle.numbers.proofs.Poly.{over, poly}
 use Rattle.numbers.proofs.Laws.{abs-mul-le, abs-add-le}
 use Rattle.numbers.proofs.Machine.{abs-fits}
@@ -59,6 +60,13 @@ pub record Sizes (w : CornerWeights) (total before here after : ℤ) (n : ℕ) :
   pub product : SFits w32 (pos n *ℤ threefold w before here after)
   pub all : SFits w32 (blend w total before here after n)
   pub size : natAbs (blend w total before here after n) ≤ n * 2 ^ 25
+  pub divisor-fits : SFits w32 (pos 2 *ℤ pos n)
+  pub bounded : Bounded (2 ^ 24) (blend w total before here after n) (pos 2 *ℤ pos n)
+
+-- what n · 2^25 bounds is at most 2^24 divisors of 2n
+divisors : (z : ℤ) (n : ℕ) → leastSides ≤ n → n ≤ mostSides → natAbs z ≤ n * 2 ^ 25 → Bounded (2 ^ 24) z (pos 2 *ℤ pos n)
+divisors z n l h k =
+    as-diff z λ a b e. let k′ = simp (diff, e) at k in simp (diff, e) (omega arith, omega arith, omega arith, omega arith)
 
 module _ (w : CornerWeights) (b : Balanced w) (total before here after : ℤ) (face : FaceSums) (t : Steps total before here after face) where
   pub sizes : Sizes w total before here after (face .sides)
@@ -89,6 +97,8 @@ module _ (w : CornerWeights) (b : Balanced w) (total before here after : ℤ) (f
         product = abs-fits w32 (pos n *ℤ threefold w before here after) (3 * 2 ^ 29) (le-trans p (omega (arith, t .known .most))) (lit< tt);
         all = abs-fits w32 (blend w total before here after n) (2 ^ 29) (le-trans e (omega (arith, t .known .most))) (lit< tt);
         size = le-trans e (omega arith);
+        divisor-fits = record { sfits = omega (arith, t .known .most) };
+        bounded = divisors (blend w total before here after n) n (t .known .least) (t .known .most) (le-trans e (omega arith));
       }
 
 -- ---- in ticks: 256 of them are a grid step, which leaves 2n of the divisor 512n

@@ -9,7 +9,7 @@ use Rattle.paper.specs.Mesh.{leastSides, mostSides, mostCorners, mostCoordinate
 use Rattle.paper.specs.Corners.{faceOf, sidesOf, next, previous}
 use Rattle.paper.specs.Numbers.{round, rounded}
 use Rattle.paper.specs.Refined.{refinedPoint}
-use Rattle.numbers.specs.Small.{SideReciprocal}
+use Rattle.numbers.specs.Units.{Reciprocal}
 use Rattle.walk.specs.Table.{rowLength, toNext, toPrevious, entry}
 use Rattle.refine.specs.Marks.{MarkedIn}
 use Rattle.refine.specs.sums.Sources.{Placed, Sharp, stepsOf, sumAt, PointsPut}
@@ -33,6 +33,10 @@ weightsOf sharpness c =
 -- they sum to 512
 abbrev pub Balanced : CornerWeights → Type 0
 Balanced w = w .face + w .before + w .here + w .after ≡ 512
+
+-- m is the reciprocal of twice the n sides of a face
+abbrev pub SideReciprocal : ℕ → ℕ → Type 0
+SideReciprocal n m = Reciprocal (pos 2 *ℤ pos n) m
 
 -- the sizes of what one refined point is computed from: coordinates within their limit, and as many of them in the sum as the face has sides
 pub record Known (total : ℤ) (face : FaceSums) : Type 0 where

@@ -104,8 +104,11 @@ add-t c =
       k .product,
     ) (k .all)
 
-small-quotient-requires : tie.Need-small-quotient-requires
-small-quotient-requires c κs =
+mul-round-by : tie.Need-mul-round-by
+mul-round-by c = let k = facts (c .before .before .before .before) in rw (k .read) (k .divisor-fits)
+
+round-by-requires : tie.Need-round-by-requires
+round-by-requires c κs =
     let s = c .before .before .before .before in
     let k = facts s in
     simp (
@@ -127,13 +130,14 @@ small-quotient-requires c κs =
       k .on-face,
       k .product,
       k .all,
-    ) (s .pre .0 .known .least, s .pre .0 .known .most, k .size, s .pre .0 .known .reciprocal-is)
+      k .divisor-fits,
+    ) (k .bounded, s .pre .0 .known .reciprocal-is)
 
 returns : tie.Need-returns
 returns c =
     let s = c .before .before .before .before .before in
     let k = facts s in
-    let f : SFits w32 (c .small-quotient .result) = search needs in
+    let f : SFits w32 (c .round-by .result) = search needs in
     toZ-ofZ f
     ∙ simp (
       toZ-ofZ,
@@ -154,9 +158,10 @@ returns c =
       k .on-face,
       k .product,
       k .all,
-    ) at (c .small-quotient .ensures)
+      k .divisor-fits,
+    ) at (c .round-by .ensures)
 
 pub refined-spec : {M : Type 1} → statement M
 refined-spec =
     tie.close (tie.spec (λ c. search needs) mul-three (λ c. search needs) mul-three-2 add-three (λ c. search needs) mul-three-3 add-three-2
-    (λ c. search needs) mul-t (λ c. search needs) mul-t-2 add-t small-quotient-requires returns)
+    (λ c. search needs) mul-t (λ c. search needs) mul-t-2 add-t (λ c. search needs) mul-round-by round-by-requires returns)
