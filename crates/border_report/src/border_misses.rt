@@ -3,14 +3,17 @@
 // is made besides.
 use crate::four::Misses;
 use crate::misses::Row;
+use crate::misses::wide;
 use net::NEAR;
 use numbers::cosines;
 use paper::MOST_SIDES;
 use paper::NUMBERS_PER_CORNER;
 use walk::Walker;
 ghost use mathlib.Core.Path.{_≡_};
-ghost use Prim.Native.Nat.{ℕ, _+_, _*_, _<_};
+ghost use Prim.Native.Nat.{ℕ, _+_, _*_, _<_, _≤_};
+ghost use lib.ListN.{length};
 ghost use Rattle.paper.specs.Net.{netPoints};
+ghost use Rattle.paper.specs.Calls.{perCorner};
 ghost use Rattle.paper.specs.Report.{conditions, largestBelow};
 ghost use Rattle.numbers.specs.Stored.{stored};
 ghost use Rattle.surface.specs.Sizes.{WrittenSize};
@@ -57,12 +60,12 @@ fn face_misses(
     n: usize,
     start: usize,
     k: usize,
-    face: &[i32; FACE_NUMBERS],
+    face: &[i32],
     before: Misses,
 ) -> Misses
     requires mesh { ⌜ Drawn n (now table) (now points) × Faced n (now table) × (now rows ≡ stored) ⌝ }
     requires face { ⌜ WholeFace (now table) n start k ⌝ }
-    requires numbers { ⌜ NetsWritten (drawn n (now table) (now points)) start k (now face) ⌝ }
+    requires numbers { ⌜ (perCorner * k ≤ length (now face)) × NetsWritten (drawn n (now table) (now points)) start k (now face) ⌝ }
     requires before { ⌜ ((j : ℕ) → j < conditions → inMisses before j ≡ largestBelow start (cornerMiss (drawn n (now table) (now points)) j)) ⌝ }
     ensures { λ r. ⌜ ((j : ℕ) → j < conditions → inMisses r j ≡ largestBelow (start + k) (cornerMiss (drawn n (now (table .entry)) (now (points .entry))) j)) ⌝ }
 {
@@ -78,7 +81,18 @@ fn face_misses(
         let q = if j + 1 < k { j + 1 } else { 0 };
         let here = NUMBERS_PER_CORNER * j;
         let next = NUMBERS_PER_CORNER * q;
-        let m = corner_misses(points, table, rows, n, c, face, here, &linked, next, &mut near);
+        let m = corner_misses(
+            points,
+            table,
+            rows,
+            n,
+            c,
+            face,
+            here,
+            &linked,
+            next,
+            &mut near,
+        );
         most = crate::four::larger_of(most, m);
         j += 1;
     }
@@ -92,13 +106,13 @@ fn corner_misses(
     rows: &cosines::Rows,
     n: usize,
     c: usize,
-    face: &[i32; FACE_NUMBERS],
+    face: &[i32],
     here: usize,
-    linked: &[i32; NUMBERS_PER_CORNER],
+    linked: &[i32],
     next: usize,
-    near: &mut [i32; NEAR],
+    near: &mut [i32],
 ) -> Misses
-    requires mesh { ⌜ Drawn n (now table) (now points) × (c < n) × (now rows ≡ stored) ⌝ }
+    requires mesh { ⌜ Drawn n (now table) (now points) × (c < n) × (now rows ≡ stored) × (length (now near) ≡ 128) ⌝ }
     requires here { ⌜ HeldAll (drawn n (now table) (now points)) c (now face) here ⌝ }
     requires linked { ⌜ HeldAll (drawn n (now table) (now points)) (entry (now table) toLink c) (now linked) 0 ⌝ }
     requires next { ⌜ HeldAll (drawn n (now table) (now points)) (entry (now table) toNext c) (now face) next ⌝ }
@@ -162,10 +176,4 @@ fn point(net: &[i32], at: usize, axis: usize, k: usize) -> i64
     ensures { λ r. ⌜ (r ≡ pointIn (now (net .entry)) at axis k) × WrittenSize r ⌝ }
 {
     wide(net[at + 3 * k + axis])
-}
-
-fn wide(z: i32) -> i64
-    ensures { λ r. ⌜ r ≡ z ⌝ }
-{
-    z as i64
 }

@@ -134,7 +134,18 @@ pub fn write_corners(
         let c = first + k;
         let run = least(face_end(table, c) - c, count - k);
         let at = NUMBERS_PER_CORNER * k;
-        net::put_run(points, table, rows, n, c, run, &mut near, &mut lanes, out, at);
+        net::put_run(
+            points,
+            table,
+            rows,
+            n,
+            c,
+            run,
+            &mut near,
+            &mut lanes,
+            out,
+            at,
+        );
         k += run;
     }
 }

@@ -5,7 +5,6 @@ use mathlib.Core.List.{List}
 use Prim.Native.Nat.{ℕ, zero, suc, _+_, _*_, _<_, _≤_, max}
 use lib.ListN.{length, getD}
 use lib.IntN.{ℤ, pos, natAbs}
-use Rattle.paper.specs.Mesh.{mostSides}
 use Rattle.paper.specs.Numbers.{rounded}
 use Rattle.paper.specs.Refined.{RefinedMesh}
 use Rattle.paper.specs.Net.{Side, side0, side1, neighbour, across, H, T, X, Y, C, net, netPoints, outerRow, aRow}
@@ -13,6 +12,7 @@ use Rattle.paper.specs.Calls.{perCorner}
 use Rattle.paper.specs.Report.{conditions, condition, largestBelow}
 use Rattle.surface.specs.Sizes.{WrittenSize}
 use Rattle.walk.specs.Table.{toNext, entry}
+use Rattle.net.specs.near.Near.{Run}
 use Rattle.net.specs.declared.sides.NetSides.{NetSides}
 use Rattle.net.specs.sides.Values.{FourSides}
 use Rattle.border_report.specs.declared.four.Misses.{Misses}
@@ -38,9 +38,8 @@ HeldAll K c numbers at = (axis : ℕ) → axis < 3 → Held (K axis) c axis numb
 -- the k corners from `start` on are those of a face, in turn
 pub record WholeFace (table : List ℕ) (n start k : ℕ) : Type 0 where
   pub some : 0 < k
-  pub most : k ≤ mostSides
   pub within : start + k ≤ n
-  pub along : (j : ℕ) → j + 1 < k → entry table toNext (start + j) ≡ start + (j + 1)
+  pub run : Run table start k
   pub round : (j : ℕ) → j + 1 ≡ k → entry table toNext (start + j) ≡ start
 
 -- four of a list's points

@@ -1,11 +1,11 @@
 -- The places of the output, the turns of the loop that writes it, and the mesh that the tables draw.
 -- Assumes nothing.
-use mathlib.Core.Path.{_≡_, ap, _∙_, sym, subst}
+use mathlib.Core.Path.{_≡_, refl, ap, _∙_, sym, subst}
 use mathlib.Core.Logic.{⊎-elim}
 use mathlib.Core.List.{List}
-use Prim.Native.Nat.{ℕ, _+_, _-_, _*_, _/_, _%_, _<_, _≤_}
+use Prim.Native.Nat.{ℕ, zero, suc, _+_, _-_, _*_, _/_, _%_, _<_, _≤_}
 use native.Mathlib.Omega.{arith}
-use lib.Dec.{ltb, eqb}
+use lib.Dec.{ltb, eqb, lit≤}
 use borrow.Author.Tests.{ltb-true, ltb-false, eqb-true, eqb-false}
 use lib.ListN.{length, getD, replicate, length-replicate}
 use lib.Seq.{ext-getD}
@@ -20,7 +20,7 @@ use Rattle.paper.specs.Net.{ring, net, netPoints}
 use Rattle.paper.specs.Calls.{perCorner, numberAt, nets}
 use Rattle.mesh.specs.Tables.{Named}
 use Rattle.mesh.proofs.Accepted.{sound-of, few-vertices}
-use Rattle.mesh.proofs.Faces.{held, first-from, first-to, first-same, sides-same, previous-first, previous-inner}
+use Rattle.mesh.proofs.Faces.{held, first-from, first-to, first-ends, first-same, sides-same, previous-first, previous-inner}
 use Rattle.mesh.proofs.Links.{values-length, values-at}
 use Rattle.mesh.proofs.Scans.{ways, compared}
 use Rattle.surface.specs.Points.{pointRow}
@@ -28,7 +28,7 @@ use Rattle.surface.proofs.Hull.{corners-sound}
 use Rattle.surface.proofs.Rings.{ring-in}
 use Rattle.surface.proofs.Near.{Seen, ring-seen}
 use Rattle.surface.proofs.Agree.{net-same}
-use Rattle.walk.specs.Table.{Tabled}
+use Rattle.walk.specs.Table.{toNext, toPrevious, entry, Tabled}
 use Rattle.refine.specs.Marks.{Asked, Marked}
 use Rattle.refine.specs.sums.Sources.{Faces}
 use Rattle.refine.specs.corners.Mean.{MarkedPointed}

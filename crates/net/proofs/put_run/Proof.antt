@@ -8,6 +8,7 @@ use mathlib.Core.List.{List}
 use lib.ListN.{length}
 use lib.IntN.{ℤ}
 use Rattle.paper.specs.Scan.{iterate}
+use Rattle.paper.specs.Mesh.{mostSides}
 use Rattle.walk.specs.Table.{toNext, entry}
 use Rattle.net.specs.sides.Drawn.{drawn, Drawn}
 use Rattle.net.specs.near.Near.{Quiet, FaceTaken}
@@ -55,6 +56,9 @@ module _ (l : tie.In-loop Inv-loop μ-loop) where
   mesh : Drawn (start .args .count) (start .args .table .now) (start .args .points .now)
   mesh = start .pre .0 .0
 
+  few : l .before .loop .r < mostSides
+  few = omega (arith, l .loop-test .taken, start .pre .0 .2 .short)
+
   first-in : start .args .c < start .args .count
   first-in = omega (arith, start .pre .0 .1, l .loop-test .taken)
 
@@ -81,9 +85,21 @@ fill-lanes-requires c κs =
     let i = l .before .loop .inv in
     let t = u .take-corner .ensures in (
       ready _ _ _ (mesh l) _ _ _ _ (first-in l) (here l) (place l) (omega (arith, l .loop-test .taken)) _ (g .rings-at .ensures) _ _ (i .1 .face) t
-          (t .same ∙ i .1 .long) (omega (arith, l .loop-test .taken, start l .pre .0 .2 .short)) (t .quiet (i .1 .quiet)),
+          (t .same ∙ i .1 .long) (few l) (t .quiet (i .1 .quiet)),
       i .1 .wide,
     )
+
+mul-copy : tie.Need-mul-copy Inv-loop μ-loop
+mul-copy c = let l : tie.In-loop Inv-loop μ-loop = search in search (needs, few l)
+
+add-copy : tie.Need-add-copy Inv-loop μ-loop
+add-copy c =
+    let l : tie.In-loop Inv-loop μ-loop = search in
+    let s = start l in
+    record { fits = omega (arith, s .good, s .pre .1 .1 .0 .1, l .loop-test .taken) }
+
+add-r : tie.Need-add-r Inv-loop μ-loop
+add-r c = let l : tie.In-loop Inv-loop μ-loop = search in search (needs, few l)
 
 copy-requires : tie.Need-copy-requires Inv-loop μ-loop
 copy-requires c κs =
@@ -122,6 +138,6 @@ returns c =
 pub put-run-spec : {M : Type 1} → statement M
 put-run-spec =
     tie.close (tie.spec Inv-loop μ-loop take-face-requires loop-holds (λ c. search needs) take-corner-requires (λ c. search needs) rings-at-requires
-    fill-lanes-requires (λ c. search needs) (λ c. search needs) copy-requires (λ c. search needs) (λ c. search needs) loop-again
+    fill-lanes-requires mul-copy add-copy copy-requires add-r (λ c. search needs) loop-again
     (λ c. let s : tie.Start Inv-loop μ-loop = search in c .before .loop .inv .1 .long ∙ sym (s .pre .1 .0 .0))
     (λ c. let s : tie.Start Inv-loop μ-loop = search in c .before .loop .inv .1 .wide ∙ sym (s .pre .1 .0 .1)) (λ c. c .before .loop .inv .2 .same) returns)
