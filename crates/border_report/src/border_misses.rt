@@ -1,95 +1,132 @@
 // L14: the largest misses across the borders of a mesh. Each border counts once: sides 0 and 1 of each corner. The output for all corners is too
-// large for the stack, so that the quad-nets are made one by one: for a corner its own, that of its link and that of the next corner. Going round a
-// face, the next corner's is then the corner's own.
+// large for the stack, so that the quad-nets are made face by face: those of a face's corners stand side by side, and for each corner that of its link
+// is made besides.
 use crate::four::Misses;
 use crate::misses::Row;
+use crate::misses::wide;
+use net::NEAR;
 use numbers::cosines;
+use paper::MOST_SIDES;
 use paper::NUMBERS_PER_CORNER;
 use walk::Walker;
 ghost use mathlib.Core.Path.{_≡_};
-ghost use Prim.Native.Nat.{ℕ, _+_, _*_, _<_};
+ghost use Prim.Native.Nat.{ℕ, _+_, _*_, _<_, _≤_};
+ghost use lib.ListN.{length};
 ghost use Rattle.paper.specs.Net.{netPoints};
+ghost use Rattle.paper.specs.Calls.{perCorner};
 ghost use Rattle.paper.specs.Report.{conditions, largestBelow};
 ghost use Rattle.numbers.specs.Stored.{stored};
 ghost use Rattle.surface.specs.Sizes.{WrittenSize};
 ghost use Rattle.walk.specs.Table.{toNext, toLink, entry};
 ghost use Rattle.net.specs.sides.Drawn.{drawn, Drawn};
 ghost use Rattle.net.specs.sides.Values.{Sized};
+ghost use Rattle.building.specs.writing.Written.{Faced, NetsWritten};
 ghost use Rattle.border_report.specs.four.Four.{inMisses};
 ghost use Rattle.border_report.specs.misses.Row.{inRow, SmallRow};
-ghost use Rattle.border_report.specs.border_misses.Held.{pointIn, SmallOn, HeldAll, cornerMiss, AxisMisses, fourOf};
+ghost use Rattle.border_report.specs.border_misses.Held.{pointIn, SmallOn, HeldAll, WholeFace, cornerMiss, AxisMisses, fourOf};
+
+// The numbers of the corners of a face, at most.
+const FACE_NUMBERS: usize = MOST_SIDES * NUMBERS_PER_CORNER;
 
 // The largest miss of each condition over all borders of n corners.
 pub fn largest(points: &[i32], table: &[u16], n: usize) -> Misses
-    requires { ⌜ Drawn n (now table) (now points) ⌝ }
+    requires { ⌜ Drawn n (now table) (now points) × Faced n (now table) ⌝ }
     ensures { λ r. ⌜ ((j : ℕ) → j < conditions → inMisses r j ≡ largestBelow n (cornerMiss (drawn n (now (table .entry)) (now (points .entry))) j)) ⌝ }
 {
     let rows = cosines::rows();
-    let mut here = [0i32; NUMBERS_PER_CORNER];
-    let mut linked = [0i32; NUMBERS_PER_CORNER];
-    let mut next = [0i32; NUMBERS_PER_CORNER];
-    let mut held = n;
+    let mut face = [0i32; FACE_NUMBERS];
     let mut most = Misses {
         first: 0,
         second: 0,
         third: 0,
         fourth: 0,
     };
-    let mut c = 0;
-    while c < n {
-        if held != c {
-            write_net(points, table, &rows, n, c, &mut here);
-        }
-        let at = Walker { corner: c };
-        let l = at.linked(table);
-        let q = at.next(table);
-        write_net(points, table, &rows, n, l.corner, &mut linked);
-        write_net(points, table, &rows, n, q.corner, &mut next);
-        let m = corner_misses(points, table, &rows, n, c, &here, &linked, &next);
-        most = crate::four::larger_of(most, m);
-        here = next;
-        held = q.corner;
-        c += 1;
+    let mut start = 0;
+    while start < n {
+        let first = Walker { corner: start };
+        let k = first.sides(table);
+        building::writing::write_corners(points, table, &rows, n, start, k, &mut face);
+        most = face_misses(points, table, &rows, n, start, k, &face, most);
+        start += k;
     }
     most
 }
 
-// The numbers of one corner.
-fn write_net(
+// The same over the borders of the k corners of a face from `start` on, and over those before: `face` has the numbers of these corners.
+fn face_misses(
     points: &[i32],
     table: &[u16],
     rows: &cosines::Rows,
     n: usize,
-    c: usize,
-    out: &mut [i32; 123],
-)
-    requires { ⌜ Drawn n (now table) (now points) × (c < n) × (now rows ≡ stored) ⌝ }
-    ensures { λ _. ⌜ HeldAll (drawn n (now (table .entry)) (now (points .entry))) c (now (out .exit)) ⌝ }
+    start: usize,
+    k: usize,
+    face: &[i32],
+    before: Misses,
+) -> Misses
+    requires mesh { ⌜ Drawn n (now table) (now points) × Faced n (now table) × (now rows ≡ stored) ⌝ }
+    requires face { ⌜ WholeFace (now table) n start k ⌝ }
+    requires numbers { ⌜ (perCorner * k ≤ length (now face)) × NetsWritten (drawn n (now table) (now points)) start k (now face) ⌝ }
+    requires before { ⌜ ((j : ℕ) → j < conditions → inMisses before j ≡ largestBelow start (cornerMiss (drawn n (now table) (now points)) j)) ⌝ }
+    ensures { λ r. ⌜ ((j : ℕ) → j < conditions → inMisses r j ≡ largestBelow (start + k) (cornerMiss (drawn n (now (table .entry)) (now (points .entry))) j)) ⌝ }
 {
-    building::writing::write_corners(points, table, rows, n, c, 1, out);
+    let mut linked = [0i32; NUMBERS_PER_CORNER];
+    let mut near = [0i32; NEAR];
+    let mut most = before;
+    let mut j = 0;
+    while j < k {
+        let c = start + j;
+        let at = Walker { corner: c };
+        let l = at.linked(table);
+        building::writing::write_corners(points, table, rows, n, l.corner, 1, &mut linked);
+        let q = if j + 1 < k { j + 1 } else { 0 };
+        let here = NUMBERS_PER_CORNER * j;
+        let next = NUMBERS_PER_CORNER * q;
+        let m = corner_misses(
+            points,
+            table,
+            rows,
+            n,
+            c,
+            face,
+            here,
+            &linked,
+            next,
+            &mut near,
+        );
+        most = crate::four::larger_of(most, m);
+        j += 1;
+    }
+    most
 }
 
-// The largest misses of sides 0 and 1 of a corner, from its numbers, those of its link and those of the next corner.
+// The largest misses of sides 0 and 1 of a corner, from its numbers and those of the next corner in its face's, and from those of its link.
 fn corner_misses(
     points: &[i32],
     table: &[u16],
     rows: &cosines::Rows,
     n: usize,
     c: usize,
-    here: &[i32; 123],
-    linked: &[i32; 123],
-    next: &[i32; 123],
+    face: &[i32],
+    here: usize,
+    linked: &[i32],
+    next: usize,
+    near: &mut [i32],
 ) -> Misses
-    requires mesh { ⌜ Drawn n (now table) (now points) × (c < n) × (now rows ≡ stored) ⌝ }
-    requires here { ⌜ HeldAll (drawn n (now table) (now points)) c (now here) ⌝ }
-    requires linked { ⌜ HeldAll (drawn n (now table) (now points)) (entry (now table) toLink c) (now linked) ⌝ }
-    requires next { ⌜ HeldAll (drawn n (now table) (now points)) (entry (now table) toNext c) (now next) ⌝ }
+    requires mesh { ⌜ Drawn n (now table) (now points) × (c < n) × (now rows ≡ stored) × (length (now near) ≡ 128) ⌝ }
+    requires here { ⌜ HeldAll (drawn n (now table) (now points)) c (now face) here ⌝ }
+    requires linked { ⌜ HeldAll (drawn n (now table) (now points)) (entry (now table) toLink c) (now linked) 0 ⌝ }
+    requires next { ⌜ HeldAll (drawn n (now table) (now points)) (entry (now table) toNext c) (now face) next ⌝ }
     ensures { λ r. ⌜ ((j : ℕ) → j < conditions → inMisses r j ≡ cornerMiss (drawn n (now (table .entry)) (now (points .entry))) j c) ⌝ }
 {
-    let sides = net::sides::net_sides(points, table, rows, n, c);
-    let x = axis_misses(sides.x, 0, here, linked, next);
-    let y = axis_misses(sides.y, 1, here, linked, next);
-    let z = axis_misses(sides.z, 2, here, linked, next);
+    net::near::take_face(points, table, rows, n, c, 1, near);
+    net::near::take_corner(points, table, rows, n, c, near);
+    let rings = net::rings_at(table, rows, n, c, 0);
+    let a = net::lanes::lane_sides(near, 0, rings);
+    let b = net::lanes::lane_sides(near, 1, rings);
+    let d = net::lanes::lane_sides(near, 2, rings);
+    let x = axis_misses(a, 0, face, here, linked, next);
+    let y = axis_misses(b, 1, face, here, linked, next);
+    let z = axis_misses(d, 2, face, here, linked, next);
     crate::four::larger_of(crate::four::larger_of(x, y), z)
 }
 
@@ -97,51 +134,46 @@ fn corner_misses(
 fn axis_misses(
     sides: net::sides::NetSides,
     axis: usize,
-    here: &[i32; 123],
-    linked: &[i32; 123],
-    next: &[i32; 123],
+    face: &[i32],
+    here: usize,
+    linked: &[i32],
+    next: usize,
 ) -> Misses
     requires sides { ⌜ Sized (sides .side0) × Sized (sides .side1) ⌝ }
-    requires numbers { ⌜ (axis < 3) × SmallOn (now here) axis × SmallOn (now linked) axis × SmallOn (now next) axis ⌝ }
-    ensures { λ r. ⌜ AxisMisses sides axis (now (here .entry)) (now (linked .entry)) (now (next .entry)) r ⌝ }
+    requires numbers { ⌜ (axis < 3) × SmallOn (now face) here axis × SmallOn (now linked) 0 axis × SmallOn (now face) next axis ⌝ }
+    ensures { λ r. ⌜ AxisMisses sides axis (now (face .entry)) here (now (linked .entry)) next r ⌝ }
 {
     let side0 = sides.side0;
-    let outer0 = row(here, axis, 0, 1, 2, 3);
-    let own0 = row(here, axis, 25, 26, 27, 28);
-    let other0 = row(linked, axis, 25, 29, 33, 37);
+    let outer0 = row(face, here, axis, 0, 1, 2, 3);
+    let own0 = row(face, here, axis, 25, 26, 27, 28);
+    let other0 = row(linked, 0, axis, 25, 29, 33, 37);
     let across_link = crate::misses::side_misses(side0, outer0, own0, other0);
     let side1 = sides.side1;
-    let outer1 = row(here, axis, 24, 19, 14, 9);
-    let own1 = row(here, axis, 40, 36, 32, 28);
-    let other1 = row(next, axis, 40, 39, 38, 37);
+    let outer1 = row(face, here, axis, 24, 19, 14, 9);
+    let own1 = row(face, here, axis, 40, 36, 32, 28);
+    let other1 = row(face, next, axis, 40, 39, 38, 37);
     let across_next = crate::misses::side_misses(side1, outer1, own1, other1);
     crate::four::larger_of(across_link, across_next)
 }
 
-// Four points of a corner's numbers, on an axis.
-fn row(net: &[i32; 123], axis: usize, p: usize, q: usize, r: usize, s: usize) -> Row
-    requires net { ⌜ SmallOn (now net) axis × (axis < 3) ⌝ }
+// Four points of a corner's numbers, from `at` on, on an axis.
+fn row(net: &[i32], at: usize, axis: usize, p: usize, q: usize, r: usize, s: usize) -> Row
+    requires net { ⌜ SmallOn (now net) at axis × (axis < 3) ⌝ }
     requires places { ⌜ (p < netPoints) × (q < netPoints) × (r < netPoints) × (s < netPoints) ⌝ }
-    ensures { λ t. ⌜ ((j : ℕ) → inRow t j ≡ fourOf (pointIn (now (net .entry)) axis) p q r s j) × SmallRow t ⌝ }
+    ensures { λ t. ⌜ ((j : ℕ) → inRow t j ≡ fourOf (pointIn (now (net .entry)) at axis) p q r s j) × SmallRow t ⌝ }
 {
     Row {
-        p0: point(net, axis, p),
-        p1: point(net, axis, q),
-        p2: point(net, axis, r),
-        p3: point(net, axis, s),
+        p0: point(net, at, axis, p),
+        p1: point(net, at, axis, q),
+        p2: point(net, at, axis, r),
+        p3: point(net, at, axis, s),
     }
 }
 
 // One of them.
-fn point(net: &[i32; 123], axis: usize, k: usize) -> i64
-    requires { ⌜ SmallOn (now net) axis × (axis < 3) × (k < netPoints) ⌝ }
-    ensures { λ r. ⌜ (r ≡ pointIn (now (net .entry)) axis k) × WrittenSize r ⌝ }
+fn point(net: &[i32], at: usize, axis: usize, k: usize) -> i64
+    requires { ⌜ SmallOn (now net) at axis × (axis < 3) × (k < netPoints) ⌝ }
+    ensures { λ r. ⌜ (r ≡ pointIn (now (net .entry)) at axis k) × WrittenSize r ⌝ }
 {
-    wide(net[3 * k + axis])
-}
-
-fn wide(z: i32) -> i64
-    ensures { λ r. ⌜ r ≡ z ⌝ }
-{
-    z as i64
+    wide(net[at + 3 * k + axis])
 }

@@ -33,16 +33,27 @@ pub fn side_misses(side: SideValues, outer: Row, own: Row, other: Row) -> Misses
     requires { ⌜ Sized side × SmallRow outer × SmallRow own × SmallRow other ⌝ }
     ensures { λ r. ⌜ ((j : ℕ) → j < conditions → inMisses r j ≡ natAbs (condition j (side .head) (side .tail) (side .x) (side .y) (side .cosine) (inRow outer j) (inRow own j) (inRow other j))) ⌝ }
 {
+    let h = wide(side.head);
+    let t = wide(side.tail);
+    let x = wide(side.x);
+    let y = wide(side.y);
     let b0 = bend(outer.p0, own.p0, other.p0);
     let b1 = bend(outer.p1, own.p1, other.p1);
     let b2 = bend(outer.p2, own.p2, other.p2);
     let b3 = bend(outer.p3, own.p3, other.p3);
     Misses {
-        first: first_miss(side.cosine, side.head, side.x, b0),
-        second: second_miss(side.cosine, side.head, side.x, side.y, b1),
-        third: third_miss(side.cosine, side.tail, side.x, side.y, b2),
-        fourth: fourth_miss(side.tail, side.y, b3),
+        first: first_miss(side.cosine, h, x, b0),
+        second: second_miss(side.cosine, h, x, y, b1),
+        third: third_miss(side.cosine, t, x, y, b2),
+        fourth: fourth_miss(t, y, b3),
     }
+}
+
+// A number in 64 bits.
+pub(crate) fn wide(z: i32) -> i64
+    ensures { λ r. ⌜ r ≡ z ⌝ }
+{
+    z as i64
 }
 
 // 4(a + â - 2b), times 2^30.

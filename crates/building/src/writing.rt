@@ -1,5 +1,5 @@
 // The numbers that building writes: the refined points of the corners at the vertices of the range's faces are computed once, and then the
-// quad-nets are written corner by corner, so that each part of the output is gone over once.
+// quad-nets are written face by face, so that each part of the output is gone over once.
 use numbers::cosines;
 use paper::MOST_VERTICES;
 use paper::NUMBERS_PER_CORNER;
@@ -18,7 +18,7 @@ ghost use Rattle.surface.specs.Points.{pointRow};
 ghost use Rattle.walk.specs.Table.{Tabled};
 ghost use Rattle.refine.specs.sums.Sources.{Small};
 ghost use Rattle.net.specs.sides.Drawn.{drawn, Drawn};
-ghost use Rattle.building.specs.writing.Written.{NearPointed, Rounds, InFace, NetsWritten};
+ghost use Rattle.building.specs.writing.Written.{NearPointed, Rounds, InFace, Faced, NetsWritten};
 
 // The numbers of `count` corners from `first` on, by the table of the mesh's corners. The refined points are put into `points`.
 pub fn write_nets(
@@ -112,7 +112,7 @@ fn face_end(table: &[u16], c: usize) -> usize
     start + at.sides(table)
 }
 
-// The numbers of each corner of the range. The tables are those of n corners.
+// The numbers of each corner of the range, a run of corners of one face at a time. The tables are those of n corners.
 pub fn write_corners(
     points: &[i32],
     table: &[u16],
@@ -122,8 +122,8 @@ pub fn write_corners(
     count: usize,
     out: &mut [i32],
 )
-    requires mesh { ⌜ Drawn n (now table) (now points) ⌝ }
-    requires range { ⌜ (0 < count) × (first + count ≤ n) × (length (now out) ≡ perCorner * count) ⌝ }
+    requires mesh { ⌜ Drawn n (now table) (now points) × Faced n (now table) ⌝ }
+    requires range { ⌜ (first + count ≤ n) × (perCorner * count ≤ length (now out)) ⌝ }
     requires rows { ⌜ now rows ≡ stored ⌝ }
     ensures { λ _. ⌜ NetsWritten (drawn n (now (table .entry)) (now (points .entry))) first count (now (out .exit)) ⌝ }
 {
@@ -132,8 +132,26 @@ pub fn write_corners(
     let mut k = 0;
     while k < count {
         let c = first + k;
+        let run = least(face_end(table, c) - c, count - k);
         let at = NUMBERS_PER_CORNER * k;
-        net::put_net(points, table, rows, n, c, &mut near, &mut lanes, out, at);
-        k += 1;
+        net::put_run(
+            points,
+            table,
+            rows,
+            n,
+            c,
+            run,
+            &mut near,
+            &mut lanes,
+            out,
+            at,
+        );
+        k += run;
     }
+}
+
+fn least(a: usize, b: usize) -> usize
+    ensures { λ r. ⌜ (r ≤ a) × (r ≤ b) × (0 < a → 0 < b → 0 < r) ⌝ }
+{
+    if a < b { a } else { b }
 }

@@ -1,12 +1,13 @@
 // The points of a quad-net from the lanes, four numbers to a point, to the corner's part of the output, three numbers to a point.
 ghost use mathlib.Core.Path.{_≡_};
 ghost use Prim.Native.Nat.{_+_, _≤_};
-ghost use lib.ListN.{length};
+ghost use lib.ListN.{length, getD};
+ghost use lib.IntN.{pos};
 ghost use Rattle.paper.specs.Calls.{perCorner};
 ghost use Rattle.net.specs.copy.Copy.{PointPut, Copied};
 
 // The three numbers of a point, to the output from `to` on.
-fn put_three(x: i32, y: i32, z: i32, out: &mut [i32], to: usize)
+pub(crate) fn put_three(x: i32, y: i32, z: i32, out: &mut [i32], to: usize)
     requires { ⌜ to + 3 ≤ length (now out) ⌝ }
     ensures { λ _. ⌜ PointPut x y z to 3 (now (out .entry)) (now (out .exit)) ⌝ }
 {
@@ -15,10 +16,10 @@ fn put_three(x: i32, y: i32, z: i32, out: &mut [i32], to: usize)
     out[to + 2] = z;
 }
 
-// The same and a fourth number, which the next point writes over: four numbers are stored in one step.
-fn put_four(x: i32, y: i32, z: i32, w: i32, out: &mut [i32], to: usize)
+// The same and a fourth number: four numbers are stored in one step. In the output the next point writes over it.
+pub(crate) fn put_four(x: i32, y: i32, z: i32, w: i32, out: &mut [i32], to: usize)
     requires { ⌜ to + 4 ≤ length (now out) ⌝ }
-    ensures { λ _. ⌜ PointPut x y z to 4 (now (out .entry)) (now (out .exit)) ⌝ }
+    ensures { λ _. ⌜ PointPut x y z to 4 (now (out .entry)) (now (out .exit)) × (getD (now (out .exit)) (to + 3) (pos 0) ≡ w) ⌝ }
 {
     put_three(x, y, z, out, to);
     out[to + 3] = w;
@@ -43,7 +44,7 @@ fn copy_run(lanes: &[i32], point: usize, count: usize, out: &mut [i32], at: usiz
 }
 
 // All 41, by runs that the compiler writes out.
-pub fn copy(lanes: &[i32], out: &mut [i32], at: usize)
+pub(crate) fn copy(lanes: &[i32], out: &mut [i32], at: usize)
     requires { ⌜ (length (now lanes) ≡ 164) × (at + perCorner ≤ length (now out)) ⌝ }
     ensures { λ _. ⌜ Copied (now (lanes .entry)) at 0 41 (now (out .entry)) (now (out .exit)) ⌝ }
 {

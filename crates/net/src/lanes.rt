@@ -2,58 +2,51 @@
 // turns it into steps on four numbers at once. The points stand in rows of four too.
 use crate::near::FACE;
 use crate::near::VERTEX;
-use refine::faces::Face;
+use crate::sides::Face;
+use faces::point;
 ghost use mathlib.Core.Path.{_≡_};
-ghost use Prim.Native.Nat.{ℕ, _+_, _*_, _≤_, _<_};
+ghost use Prim.Native.Nat.{ℕ, _+_, _*_, _<_};
 ghost use lib.ListN.{length};
-ghost use Rattle.surface.specs.Sizes.{CosineSize};
-ghost use Rattle.net.specs.near.Near.{rowsFace};
-ghost use Rattle.net.specs.lanes.Lanes.{edgeFace, LaneReady, LaneMade, Filled};
+ghost use Rattle.surface.specs.Points.{pointRow};
+ghost use Rattle.net.specs.lanes.Lanes.{rowsFace, LaneReady, LaneMade, LaneFilled};
 
-// One number for a ring of four, another for any other.
-fn choose(m: usize, f: i64, g: i64) -> i64
-    ensures { λ r. ⌜ (m ≡ 4 → r ≡ f) × ((m ≡ 4 → ⊥) → r ≡ g) ⌝ }
-{
-    if m == 4 { f } else { g }
+// What a net is made from beside the rows: C of the vertex's and of the face's ring, and the place of the corner in the run.
+pub struct Rings {
+    pub vertex: i64,
+    pub face: i64,
+    pub place: usize,
 }
 
-// The face of a ring of m in lane k: that of four corners, or what the rows from i on hold.
-fn ring_face(near: &[i32], k: usize, m: usize, e: crate::sides::Edge, i: usize) -> Face
-    requires { ⌜ (k < 4) × (4 * i + 12 ≤ length (now near)) ⌝ }
-    ensures { λ r. ⌜ (m ≡ 4 → r ≡ edgeFace e) × ((m ≡ 4 → ⊥) → r ≡ rowsFace (now (near .entry)) k i) ⌝ }
+// The face of a ring in lane k: the centre in row i, the points behind and ahead from row j on.
+fn ring_face(near: &[i32], k: usize, i: usize, j: usize) -> Face
+    requires { ⌜ (pointRow * i + k < length (now near)) × (pointRow * (j + 1) + k < length (now near)) ⌝ }
+    ensures { λ r. ⌜ r ≡ rowsFace (now (near .entry)) k i j ⌝ }
 {
-    let c = refine::faces::point(near, k, i);
-    let a = refine::faces::point(near, k, i + 1);
-    let b = refine::faces::point(near, k, i + 2);
     Face {
-        centre: choose(m, e.centre, c),
-        ahead: choose(m, e.ahead, a),
-        behind: choose(m, e.behind, b),
+        centre: point(near, k, i),
+        ahead: point(near, k, j + 1),
+        behind: point(near, k, j),
     }
 }
 
-// The four sides in lane k; m and n are the corners of the vertex's and of the face's ring, v and w C of these.
-fn lane_sides(near: &[i32], k: usize, m: usize, n: usize, v: i64, w: i64) -> crate::sides::NetSides
-    requires { ⌜ LaneReady (now near) k m n × CosineSize v × CosineSize w ⌝ }
-    ensures { λ r. ⌜ LaneMade (now (near .entry)) k m n v w r ⌝ }
+// The four sides in lane k.
+pub fn lane_sides(near: &[i32], k: usize, rings: Rings) -> crate::sides::NetSides
+    requires { ⌜ LaneReady (now near) k rings ⌝ }
+    ensures { λ r. ⌜ LaneMade (now (near .entry)) k rings r ⌝ }
 {
-    let leaving = crate::sides::edge_through(near, k, 0, 1, 2, 3);
-    let arriving = crate::sides::edge_through(near, k, 0, 4, 5, 6);
-    let linked = crate::sides::edge_through(near, k, 0, 3, 7, 8);
-    let inside = crate::sides::edge_through(near, k, 0, 1, 9, 10);
-    let vertex = ring_face(near, k, m, linked, VERTEX);
-    let face = ring_face(near, k, n, inside, FACE);
-    crate::sides::sides_of(vertex, face, leaving, arriving, v, w)
+    let vertex = ring_face(near, k, VERTEX, VERTEX + 1);
+    let face = ring_face(near, k, FACE, FACE + 1 + rings.place);
+    crate::sides::sides_of(near, k, vertex, face, rings.vertex, rings.face)
 }
 
 // The loop over the lanes.
-pub fn fill_lanes(near: &[i32], m: usize, n: usize, v: i64, w: i64, lanes: &mut [i32])
-    requires { ⌜ ((k : ℕ) → k < 4 → LaneReady (now near) k m n) × CosineSize v × CosineSize w × (length (now lanes) ≡ 164) ⌝ }
-    ensures { λ _. ⌜ Filled (now (near .entry)) m n v w 4 (now (lanes .exit)) ⌝ }
+pub(crate) fn fill_lanes(near: &[i32], rings: Rings, lanes: &mut [i32])
+    requires { ⌜ ((k : ℕ) → k < 4 → LaneReady (now near) k rings) × (length (now lanes) ≡ 164) ⌝ }
+    ensures { λ _. ⌜ ((k : ℕ) → k < 4 → LaneFilled (now (near .entry)) k rings (now (lanes .exit))) ⌝ }
 {
     let mut k: usize = 0;
     while k < 4 {
-        let four = lane_sides(near, k, m, n, v, w);
+        let four = lane_sides(near, k, rings);
         crate::points::put_lane(four, lanes, k);
         k += 1;
     }

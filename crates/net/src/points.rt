@@ -1,28 +1,27 @@
 // The 41 points of a quad-net into a lane, from its four sides: every fourth number.
 ghost use mathlib.Core.Path.{_≡_};
-ghost use Prim.Native.Nat.{ℕ, _+_, _*_, _≤_, _<_};
-ghost use lib.ListN.{length, getD};
-ghost use lib.IntN.{pos};
-ghost use Rattle.surface.specs.Sizes.{WrittenSize};
+ghost use Prim.Native.Nat.{_+_, _*_, _≤_, _<_};
+ghost use lib.ListN.{length};
 ghost use Rattle.paper.specs.Net.{rows};
 ghost use Rattle.net.specs.rows.Rows.{Square};
-ghost use Rattle.net.specs.points.Placed.{Placed, FourSized, LaneLaid};
+ghost use Rattle.net.specs.points.Placed.{Placed, LaneLaid};
+ghost use Rattle.net.specs.sides.Values.{FourSized};
 
 // A row of points, every fourth number from `from` on.
-fn put_row(row: &[i64], out: &mut [i32], from: usize)
-    requires { ⌜ (from + 4 * length (now row) ≤ length (now out) + 3) × ((j : ℕ) → j < length (now row) → WrittenSize (getD (now row) j (pos 0))) ⌝ }
+fn put_row(row: &[i32], out: &mut [i32], from: usize)
+    requires { ⌜ from + 4 * length (now row) ≤ length (now out) + 3 ⌝ }
     ensures { λ _. ⌜ Placed (now (out .entry)) (now (out .exit)) from (now (row .entry)) ⌝ }
 {
     let mut j: usize = 0;
     while j < row.len() {
         let v = row[j];
-        out[from + 4 * j] = v as i32;
+        out[from + 4 * j] = v;
         j += 1;
     }
 }
 
 // The five rows of five b points.
-fn put_b(g: [[i64; 5]; 5], out: &mut [i32], from: usize)
+fn put_b(g: [[i32; 5]; 5], out: &mut [i32], from: usize)
     requires { ⌜ (from + 4 * (5 * 5) ≤ length (now out) + 3) × Square 5 g ⌝ }
     ensures { λ _. ⌜ Placed (now (out .entry)) (now (out .exit)) from (rows g) ⌝ }
 {
@@ -35,7 +34,7 @@ fn put_b(g: [[i64; 5]; 5], out: &mut [i32], from: usize)
 }
 
 // The four rows of four a points.
-fn put_a(g: [[i64; 4]; 4], out: &mut [i32], from: usize)
+fn put_a(g: [[i32; 4]; 4], out: &mut [i32], from: usize)
     requires { ⌜ (from + 4 * (4 * 4) ≤ length (now out) + 3) × Square 4 g ⌝ }
     ensures { λ _. ⌜ Placed (now (out .entry)) (now (out .exit)) from (rows g) ⌝ }
 {
@@ -48,7 +47,7 @@ fn put_a(g: [[i64; 4]; 4], out: &mut [i32], from: usize)
 }
 
 // The 41 points of a net from its four sides, into lane k.
-pub fn put_lane(n: crate::sides::NetSides, lanes: &mut [i32], k: usize)
+pub(crate) fn put_lane(n: crate::sides::NetSides, lanes: &mut [i32], k: usize)
     requires { ⌜ FourSized n × (k < 4) × (length (now lanes) ≡ 164) ⌝ }
     ensures { λ _. ⌜ LaneLaid n k (now (lanes .entry)) (now (lanes .exit)) ⌝ }
 {

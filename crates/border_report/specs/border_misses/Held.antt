@@ -1,34 +1,46 @@
--- A corner's numbers in a list of 123, and the misses that are read from such lists.
+-- A corner's numbers in a list, and the misses that are read from such lists.
 -- Assumes nothing.
 use mathlib.Core.Path.{_≡_}
 use mathlib.Core.List.{List}
-use Prim.Native.Nat.{ℕ, zero, suc, _+_, _*_, _<_, max}
-use lib.ListN.{getD}
+use Prim.Native.Nat.{ℕ, zero, suc, _+_, _*_, _<_, _≤_, max}
+use lib.ListN.{length, getD}
 use lib.IntN.{ℤ, pos, natAbs}
 use Rattle.paper.specs.Numbers.{rounded}
 use Rattle.paper.specs.Refined.{RefinedMesh}
 use Rattle.paper.specs.Net.{Side, side0, side1, neighbour, across, H, T, X, Y, C, net, netPoints, outerRow, aRow}
+use Rattle.paper.specs.Calls.{perCorner}
 use Rattle.paper.specs.Report.{conditions, condition, largestBelow}
 use Rattle.surface.specs.Sizes.{WrittenSize}
+use Rattle.walk.specs.Table.{toNext, entry}
+use Rattle.net.specs.near.Near.{Run}
 use Rattle.net.specs.declared.sides.NetSides.{NetSides}
 use Rattle.net.specs.sides.Values.{FourSides}
 use Rattle.border_report.specs.declared.four.Misses.{Misses}
 use Rattle.border_report.specs.four.Four.{inMisses}
 
--- point k on an axis
-abbrev pub pointIn : List ℤ → ℕ → ℕ → ℤ
-pointIn numbers axis k = getD numbers (3 * k + axis) (pos 0)
+-- point k on an axis, of the numbers from `at` on
+abbrev pub pointIn : List ℤ → ℕ → ℕ → ℕ → ℤ
+pointIn numbers at axis k = getD numbers (at + 3 * k + axis) (pos 0)
 
-abbrev pub SmallOn : List ℤ → ℕ → Type 0
-SmallOn numbers axis = (k : ℕ) → k < netPoints → WrittenSize (pointIn numbers axis k)
+-- the list has that many numbers, and those on an axis are small
+pub record SmallOn (numbers : List ℤ) (at axis : ℕ) : Type 0 where
+  pub long : at + perCorner ≤ length numbers
+  pub small : (k : ℕ) → k < netPoints → WrittenSize (pointIn numbers at axis k)
 
 -- the points on an axis are those of corner c
-pub record Held (K : RefinedMesh rounded) (c axis : ℕ) (numbers : List ℤ) : Type 0 where
-  pub points-are : (k : ℕ) → k < netPoints → pointIn numbers axis k ≡ getD (net K c) k (pos 0)
-  pub small : SmallOn numbers axis
+pub record Held (K : RefinedMesh rounded) (c axis : ℕ) (numbers : List ℤ) (at : ℕ) : Type 0 where
+  pub points-are : (k : ℕ) → k < netPoints → pointIn numbers at axis k ≡ getD (net K c) k (pos 0)
+  pub small : SmallOn numbers at axis
 
-abbrev pub HeldAll : (ℕ → RefinedMesh rounded) → ℕ → List ℤ → Type 0
-HeldAll K c numbers = (axis : ℕ) → axis < 3 → Held (K axis) c axis numbers
+abbrev pub HeldAll : (ℕ → RefinedMesh rounded) → ℕ → List ℤ → ℕ → Type 0
+HeldAll K c numbers at = (axis : ℕ) → axis < 3 → Held (K axis) c axis numbers at
+
+-- the k corners from `start` on are those of a face, in turn
+pub record WholeFace (table : List ℕ) (n start k : ℕ) : Type 0 where
+  pub some : 0 < k
+  pub within : start + k ≤ n
+  pub run : Run table start k
+  pub round : (j : ℕ) → j + 1 ≡ k → entry table toNext (start + j) ≡ start
 
 -- four of a list's points
 abbrev pub fourOf : (ℕ → ℤ) → ℕ → ℕ → ℕ → ℕ → ℕ → ℤ
@@ -52,7 +64,7 @@ unfoldable pub cornerMiss : (ℕ → RefinedMesh rounded) → ℕ → ℕ → �
 cornerMiss K j c = largestBelow 3 (λ axis. max (netMiss (K axis) j c side0) (netMiss (K axis) j c side1))
 
 -- the misses of sides 0 and 1 on an axis, at whichever corner has these sides and these numbers
-abbrev pub AxisMisses : NetSides → ℕ → List ℤ → List ℤ → List ℤ → Misses → Type 0
-AxisMisses s axis here linked next r =
-    (K : RefinedMesh rounded) (c : ℕ) → FourSides K c s → Held K c axis here → Held K (K .corners .link c) axis linked
-    → Held K (K .corners .next c) axis next → (j : ℕ) → j < conditions → inMisses r j ≡ max (netMiss K j c side0) (netMiss K j c side1)
+abbrev pub AxisMisses : NetSides → ℕ → List ℤ → ℕ → List ℤ → ℕ → Misses → Type 0
+AxisMisses s axis face here linked next r =
+    (K : RefinedMesh rounded) (c : ℕ) → FourSides K c s → Held K c axis face here → Held K (K .corners .link c) axis linked 0
+    → Held K (K .corners .next c) axis face next → (j : ℕ) → j < conditions → inMisses r j ≡ max (netMiss K j c side0) (netMiss K j c side1)

@@ -1,11 +1,11 @@
 -- The places of the output, the turns of the loop that writes it, and the mesh that the tables draw.
 -- Assumes nothing.
-use mathlib.Core.Path.{_≡_, ap, _∙_, sym, subst}
+use mathlib.Core.Path.{_≡_, refl, ap, _∙_, sym, subst}
 use mathlib.Core.Logic.{⊎-elim}
 use mathlib.Core.List.{List}
-use Prim.Native.Nat.{ℕ, _+_, _-_, _*_, _/_, _%_, _<_, _≤_}
+use Prim.Native.Nat.{ℕ, zero, suc, _+_, _-_, _*_, _/_, _%_, _<_, _≤_}
 use native.Mathlib.Omega.{arith}
-use lib.Dec.{ltb, eqb}
+use lib.Dec.{ltb, eqb, lit≤}
 use borrow.Author.Tests.{ltb-true, ltb-false, eqb-true, eqb-false}
 use lib.ListN.{length, getD, replicate, length-replicate}
 use lib.Seq.{ext-getD}
@@ -20,7 +20,7 @@ use Rattle.paper.specs.Net.{ring, net, netPoints}
 use Rattle.paper.specs.Calls.{perCorner, numberAt, nets}
 use Rattle.mesh.specs.Tables.{Named}
 use Rattle.mesh.proofs.Accepted.{sound-of, few-vertices}
-use Rattle.mesh.proofs.Faces.{held, first-from, first-to, first-same, sides-same, previous-first, previous-inner}
+use Rattle.mesh.proofs.Faces.{held, first-from, first-to, first-ends, first-same, sides-same, previous-first, previous-inner}
 use Rattle.mesh.proofs.Links.{values-length, values-at}
 use Rattle.mesh.proofs.Scans.{ways, compared}
 use Rattle.surface.specs.Points.{pointRow}
@@ -28,15 +28,16 @@ use Rattle.surface.proofs.Hull.{corners-sound}
 use Rattle.surface.proofs.Rings.{ring-in}
 use Rattle.surface.proofs.Near.{Seen, ring-seen}
 use Rattle.surface.proofs.Agree.{net-same}
-use Rattle.walk.specs.Table.{Tabled}
+use Rattle.walk.specs.Table.{toNext, toPrevious, entry, Tabled}
 use Rattle.refine.specs.Marks.{Asked, Marked}
 use Rattle.refine.specs.sums.Sources.{Faces}
 use Rattle.refine.specs.corners.Mean.{MarkedPointed}
 use Rattle.refine.proofs.Accepted.{vertex-in, refinable-of, table-agrees, table-sound}
 use Rattle.refine.proofs.Points.{put-choice}
 use Rattle.net.specs.sides.Drawn.{drawn, Drawn}
-use Rattle.net.specs.Put.{Put}
-use Rattle.building.specs.writing.Written.{NearPointed, NetsWritten}
+use Rattle.net.specs.near.Near.{Run, Quiet}
+use Rattle.net.specs.Put.{RunPut}
+use Rattle.building.specs.writing.Written.{NearPointed, Faced, NetsWritten}
 
 -- ---- place i of the output holds point `i % perCorner / 3` of corner `i / perCorner` on axis `i % 3`
 place : (i : ℕ) → perCorner * (i / perCorner) + 3 * (i % perCorner / 3) + i % 3 ≡ i
@@ -62,21 +63,48 @@ written-all M first count out l w =
     (w (i % 3) (i / perCorner) (i % perCorner / 3) (axis-in i) (corner-of i count b) (point-of i))
     ∙ sym (values-at (numberAt rounded M first) (pos 0) 0 (perCorner * count) i b ∙ ap (numberAt rounded M first) (let q : 0 + i ≡ i = omega arith in q)))
 
--- one corner more
+-- nothing yet
 pub written-none : (K : ℕ → RefinedMesh rounded) (first : ℕ) (out : List ℤ) → NetsWritten K first 0 out
 unfolding NetsWritten
 written-none K first out a j p h l = absurd (omega arith)
 
-pub written-step : (K : ℕ → RefinedMesh rounded) (first k : ℕ) (old new : List ℤ) → NetsWritten K first k old
-    → Put K (first + k) (perCorner * k) old new → NetsWritten K first (k + 1) new
+-- a run of corners more
+pub written-run : (K : ℕ → RefinedMesh rounded) (first k run : ℕ) (old new : List ℤ) → NetsWritten K first k old
+    → RunPut K (first + k) run (perCorner * k) old new → NetsWritten K first (k + run) new
 unfolding NetsWritten
-written-step K first k old new w x a j p h hj hp =
+written-run K first k run old new w x a j p h hj hp =
     ⊎-elim
-    (λ (q : j ≡ k). rw q (x .points-are a p h hp))
-    (λ o.
-    let l : j < k = ⊎-elim (λ (l : j < k). l) (λ (l : k < j). absurd (omega arith)) o in
-    x .before (perCorner * j + 3 * p + a) (omega arith) ∙ w a j p h l hp)
-    (compared j k)
+    (λ l. let b = ltb-true j k l in x .before (perCorner * j + 3 * p + a) (omega arith) ∙ w a j p h b hp)
+    (λ l. let b = ltb-false j k l in
+    ap (λ (i : ℕ). getD new i (pos 0)) (let e : perCorner * j + 3 * p + a ≡ perCorner * k + perCorner * (j - k) + 3 * p + a = omega arith in e)
+    ∙ x .points-are (j - k) (omega arith) a p h hp
+    ∙ ap (λ (d : ℕ). getD (net (K a) d) p (pos 0)) (let e : first + k + (j - k) ≡ first + j = omega arith in e))
+    (ways (ltb j k))
+
+-- ---- the corners of c's face from c on are a run
+pub run-of : (n : ℕ) (table : List ℕ) (points : List ℤ) → Drawn n table points → (f : Faced n table) → (c run : ℕ) → c < n
+    → c + run ≤ firstOf (f .sides) c + sidesOf (f .sides) c → Run table c run
+run-of n table points d f c run h l =
+    let s = f .sides in
+    let hs : c < sumOf s = omega (arith, f .all) in
+    record {
+      short = omega (arith, first-from s c hs, f .rounds .counts c hs, d .sound .sides-most c h);
+      along = λ r k.
+          let e = c + r + 1 in
+          let he : e < sumOf s = omega (arith, first-ends s c hs) in
+          let p : previous s e ≡ e - 1 = previous-inner s e (λ q. omega (arith, first-same s c hs e (omega (arith, first-from s c hs)) (omega arith), first-from s c hs)) in
+          let q : entry table toPrevious e ≡ c + r = omega (arith, f .rounds .previouses e he, p) in
+          ap (entry table toNext) (sym q) ∙ d .sound .next-previous e (omega (arith, he, f .all));
+    }
+
+-- the rows of a new list of zeros
+pub quiet-zeros : (n : ℕ) → Quiet (replicate n (pos 0))
+quiet-zeros n i = rw (zero-at n (pointRow * i + 3)) (lit≤ tt)
+  where
+    zero-at : (n i : ℕ) → getD (replicate n (pos 0)) i (pos 0) ≡ pos 0
+    zero-at zero i = refl
+    zero-at (suc n) zero = refl
+    zero-at (suc n) (suc i) = zero-at n i
 
 -- ---- a new table of zeros, for the vertices
 pub zeros : (n : ℕ) → replicate {A = ℕ} n 0 ≡ replicate {A = ℕ} (length {A = ℕ} (replicate n 0)) 0

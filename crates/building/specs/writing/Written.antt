@@ -1,4 +1,4 @@
--- The refined points of a range, what the walk to the ends of a face takes, and the output while it is written, corner by corner.
+-- The refined points of a range, what the walk to the ends of a face takes, and the output while it is written, face by face.
 -- Assumes nothing.
 use mathlib.Core.Path.{_≡_}
 use mathlib.Core.List.{List}
@@ -33,6 +33,12 @@ pub record InFace (table : List ℕ) (c : ℕ) : Type 0 where
   pub sides : List ℕ
   pub rounds : Rounds sides table
   pub here : c < sumOf sides
+
+-- it does so for a list of sides with n corners
+pub record Faced (n : ℕ) (table : List ℕ) : Type 0 where
+  pub sides : List ℕ
+  pub rounds : Rounds sides table
+  pub all : sumOf sides ≡ n
 
 -- the numbers of `count` corners from `first` on, of the mesh K on each axis
 unfoldable pub NetsWritten : (ℕ → RefinedMesh rounded) → ℕ → ℕ → List ℤ → Type 0

@@ -1,193 +1,130 @@
--- The rows that a net is made from, as they are filled: one row, the three of a face, those of the corners around.
+-- The rows that a net is made from, as they are filled: one row, those of a face, of a vertex, of the corners around.
 -- Assumes nothing.
 use mathlib.Core.Path.{_≡_, refl, ap, _∙_}
 use mathlib.Core.Bool.{Bool, true, false, not}
-use mathlib.Core.List.{List, []}
-use Prim.Native.Nat.{ℕ, zero, suc, _+_, _-_, _*_, _^_, _≤_, _<_}
+use mathlib.Core.List.{List}
+use Prim.Native.Nat.{ℕ, zero, suc, _+_, _*_, _≤_, _<_}
 use native.Mathlib.Omega.{arith}
 use lib.Dec.{T, ltb, ltb→lt, nltb→le, lit<, lit≤}
-use lib.ListN.{length, getD, set, length-set}
-use lib.Seq.{getD-set-same, getD-set-other}
+use lib.ListN.{length, getD}
 use lib.IntN.{ℤ, pos}
-use mir.Syntax.{w32, w64}
-use mir.Val.{SFits, ofZ, toZ}
-use mir.Facts.{toZ-ofZ}
-use Rattle.numbers.proofs.Machine.{abs-fits}
+use borrow.Author.Count.{below-more}
+use Rattle.paper.specs.Scan.{iterate}
+use Rattle.paper.specs.Numbers.{rounded}
+use Rattle.paper.specs.Refined.{RefinedMesh}
+use Rattle.paper.specs.Net.{side0, side1, side3, H, X}
 use Rattle.surface.specs.Points.{pointRow, pointAt}
-use Rattle.surface.specs.Sizes.{RefinedSize, FaceSize}
-use Rattle.refine.specs.declared.faces.Face.{Face}
-use Rattle.refine.specs.faces.Ring.{IsFace}
-use Rattle.refine.proofs.faces.Laws.{plain}
-use Rattle.walk.specs.Table.{rowLength}
-use Rattle.net.specs.sides.Values.{FaceSized}
-use Rattle.net.specs.near.Near.{lane, rowsFace, RowTaken, FaceTaken, RingTaken, PointsTaken}
-
--- ---- a number of a face, in the machine
-pub plain-is : (z : ℤ) → FaceSize z → plain z ≡ z
-plain-is z h = toZ-ofZ (abs-fits w64 z (2 ^ 24 + 2 ^ 21) h (lit< tt))
-
-pub plain-size : (z : ℤ) → FaceSize z → FaceSize (plain z)
-plain-size z h = rw (plain-is z h) h
-
-pub as-face : (z : ℤ) → RefinedSize z → FaceSize z
-as-face z h = omega arith
-
-pub face-number : (z : ℤ) → FaceSize z → SFits w32 (plain z) × (toZ w32 (ofZ w32 (plain z)) ≡ z)
-face-number z h = let f = abs-fits w32 z (2 ^ 24 + 2 ^ 21) h (lit< tt) in rw (plain-is z h) (f, toZ-ofZ f)
+use Rattle.surface.specs.Sizes.{RefinedSize}
+use Rattle.faces.specs.declared.FacePoint.{FacePoint}
+use Rattle.faces.specs.Ring.{OnAxes}
+use Rattle.walk.specs.Table.{tabled}
+use Rattle.net.specs.sides.Drawn.{drawn, Drawn}
+use Rattle.net.specs.sides.Values.{near}
+use Rattle.net.specs.copy.Copy.{PointPut}
+use Rattle.net.specs.near.Near.{Quiet, FaceTaken, VertexTaken, WholeTaken, CornerTaken}
+use Rattle.net.proofs.near.Rings.{near-in}
 
 -- ---- one row
-abbrev filled : List ℤ → ℕ → ℤ → ℤ → ℤ → ℤ → List ℤ
-filled near i x y z w = set (set (set (set near (4 * i) x) (4 * i + 1) y) (4 * i + 2) z) (4 * i + 3) w
+-- row i has the numbers v of the three axes
+abbrev pub Row : (ℕ → ℤ) → ℕ → List ℤ → Type 0
+Row v i rows = (a : ℕ) → a < 3 → pointAt rows a i ≡ v a
 
-module _ (near : List ℤ) (i : ℕ) (x y z w : ℤ) (room : 4 * i + 4 ≤ length near) where
-  abbrev one : List ℤ
-  one = set near (4 * i) x
+module _ (p : FacePoint) (i : ℕ) (old new : List ℤ) (t : PointPut (p .x) (p .y) (p .z) (pointRow * i) 3 old new) where
+  pub row-at : (Is : ℕ → ℤ → Type 0) (v : ℕ → ℤ) → ((a : ℕ) → a < 3 → (r : ℤ) → Is a r → r ≡ v a) → OnAxes Is p → Row v i new
+  row-at Is v is o zero l = ap (λ (n : ℕ). getD new n (pos 0)) (omega arith) ∙ t .first ∙ is 0 l (p .x) (o .x)
+  row-at Is v is o (suc zero) l = t .second ∙ is 1 l (p .y) (o .y)
+  row-at Is v is o (suc (suc zero)) l = t .third ∙ is 2 l (p .z) (o .z)
+  row-at Is v is o (suc (suc (suc a))) l = absurd (omega arith)
 
-  abbrev two : List ℤ
-  two = set one (4 * i + 1) y
+  pub fourth-kept : (j : ℕ) → pointAt new 3 j ≡ pointAt old 3 j
+  fourth-kept j = which (ltb j i) (λ u. ltb→lt j i u) (λ u. nltb→le j i u)
+    where
+      which : (b : Bool) → (T b → j < i) → (T (not b) → i ≤ j) → pointAt new 3 j ≡ pointAt old 3 j
+      which true f g = let l = f tt in t .before (pointRow * j + 3) (omega arith)
+      which false f g = let l = g tt in t .after (pointRow * j + 3) (omega arith)
 
-  abbrev three : List ℤ
-  three = set two (4 * i + 2) z
+-- ---- the rows of a face's ring
+module _ (K : ℕ → RefinedMesh rounded) (c : ℕ) where
+  pub face-none : (rows : List ℤ) → Row (λ a. H (K a) c side1) 10 rows → FaceTaken K c 0 rows rows
+  face-none rows h = record { same = refl; centre = h; toward = λ r l. absurd (omega arith); fourth = λ i. refl }
 
-  long : (l : List ℤ) (n : ℕ) (v : ℤ) → length l ≡ length near → length (set l n v) ≡ length near
-  long l n v e = length-set l n v ∙ e
-
-  at : (l : List ℤ) (m n : ℕ) → m ≡ n → getD l m (pos 0) ≡ getD l n (pos 0)
-  at l m n e = ap (λ (k : ℕ). getD l k (pos 0)) e
-
-  other : (l : List ℤ) (n : ℕ) (v : ℤ) (k : ℕ) → (k ≡ n → ⊥) → getD (set l n v) k (pos 0) ≡ getD l k (pos 0)
-  other l n v k h = getD-set-other l n k v (pos 0) h
-
-  there : (l : List ℤ) (n : ℕ) (v : ℤ) (k : ℕ) → k ≡ n → n < length l → getD (set l n v) k (pos 0) ≡ v
-  there l n v k e h = at (set l n v) k n e ∙ getD-set-same l n v (pos 0) h
-
-  place : (k : ℕ) → k < 4 → pointAt (filled near i x y z w) k i ≡ lane x y z w k
-  place zero h =
-      other three (4 * i + 3) w (pointRow * i + 0) (λ e. omega arith)
-      ∙ other two (4 * i + 2) z (pointRow * i + 0) (λ e. omega arith)
-      ∙ other one (4 * i + 1) y (pointRow * i + 0) (λ e. omega arith)
-      ∙ there near (4 * i) x (pointRow * i + 0) (omega arith) (omega arith)
-  place (suc zero) h =
-      other three (4 * i + 3) w (pointRow * i + 1) (λ e. omega arith)
-      ∙ other two (4 * i + 2) z (pointRow * i + 1) (λ e. omega arith)
-      ∙ there one (4 * i + 1) y (pointRow * i + 1) (omega arith) (rw (length-set near (4 * i) x) (omega arith))
-  place (suc (suc zero)) h =
-      other three (4 * i + 3) w (pointRow * i + 2) (λ e. omega arith)
-      ∙ there two (4 * i + 2) z (pointRow * i + 2) (omega arith) (rw (length-set (set near (4 * i) x) (4 * i + 1) y, length-set near (4 * i) x) (omega arith))
-  place (suc (suc (suc zero))) h =
-      there three (4 * i + 3) w (pointRow * i + 3) (omega arith)
-      (rw (length-set (set (set near (4 * i) x) (4 * i + 1) y) (4 * i + 2) z, length-set (set near (4 * i) x) (4 * i + 1) y, length-set near (4 * i) x)
-      (omega arith))
-  place (suc (suc (suc (suc k)))) h = absurd (omega arith)
-
-  pub row-taken : RowTaken x y z w i near (filled near i x y z w)
-  row-taken = record {
-    same = long three (4 * i + 3) w (long two (4 * i + 2) z (long one (4 * i + 1) y (length-set near (4 * i) x)));
-    row = place;
-    kept = λ j k l n.
-        other three (4 * i + 3) w (pointRow * j + k) (λ e. n (omega arith))
-        ∙ other two (4 * i + 2) z (pointRow * j + k) (λ e. n (omega arith))
-        ∙ other one (4 * i + 1) y (pointRow * j + k) (λ e. n (omega arith))
-        ∙ other near (4 * i) x (pointRow * j + k) (λ e. n (omega arith));
+  -- one row more
+  pub face-more : (n : ℕ) (old mid new : List ℤ) (p : FacePoint) → FaceTaken K c n old mid
+      → PointPut (p .x) (p .y) (p .z) (pointRow * (11 + n)) 3 mid new
+      → Row (λ a. X (K a) (iterate n (K a .corners .next) (K a .corners .previous c)) side1) (11 + n) new → FaceTaken K c (n + 1) old new
+  face-more n old mid new p f t h = record {
+    same = t .same ∙ f .same;
+    centre = λ a l. t .before (pointRow * 10 + a) (omega arith) ∙ f .centre a l;
+    toward = below-more _ n (λ r l a k. t .before (pointRow * (11 + r) + a) (omega arith) ∙ f .toward r l a k) h;
+    fourth = λ i. fourth-kept p (11 + n) mid new t i ∙ f .fourth i;
   }
 
--- ---- the three rows of a face
-pub lane-plain : (x y z : ℤ) → FaceSize x → FaceSize y → FaceSize z → (k : ℕ)
-    → lane (plain x) (plain y) (plain z) (pos 0) k ≡ lane x y z (pos 0) k
-lane-plain x y z hx hy hz k = rw (plain-is x hx, plain-is y hy, plain-is z hz) refl
-
-module _ (f g h : Face) (zf : FaceSized f) (zg : FaceSized g) (zh : FaceSized h) (i : ℕ) (a b c d : List ℤ)
-    (p : RowTaken (plain (f .centre)) (plain (g .centre)) (plain (h .centre)) (pos 0) i a b)
-    (q : RowTaken (plain (f .ahead)) (plain (g .ahead)) (plain (h .ahead)) (pos 0) (i + 1) b c)
-    (r : RowTaken (plain (f .behind)) (plain (g .behind)) (plain (h .behind)) (pos 0) (i + 2) c d) where
-  pub face-taken : FaceTaken f g h i a d
-  face-taken = record {
-    same = r .same ∙ q .same ∙ p .same;
-    centre = λ k l.
-        r .kept i k l (λ e. omega arith) ∙ q .kept i k l (λ e. omega arith) ∙ p .row k l
-        ∙ lane-plain (f .centre) (g .centre) (h .centre) (as-face (f .centre) (zf .centre)) (as-face (g .centre) (zg .centre))
-        (as-face (h .centre) (zh .centre)) k;
-    ahead = λ k l. r .kept (i + 1) k l (λ e. omega arith) ∙ q .row k l ∙ lane-plain (f .ahead) (g .ahead) (h .ahead) (zf .ahead) (zg .ahead) (zh .ahead) k;
-    behind = λ k l. r .row k l ∙ lane-plain (f .behind) (g .behind) (h .behind) (zf .behind) (zg .behind) (zh .behind) k;
-    below = λ j k l m. r .kept j k l (λ e. omega arith) ∙ q .kept j k l (λ e. omega arith) ∙ p .kept j k l (λ e. omega arith);
-    above = λ j k l m. r .kept j k l (λ e. omega arith) ∙ q .kept j k l (λ e. omega arith) ∙ p .kept j k l (λ e. omega arith);
+  -- after the row of the centre
+  pub face-end : (n : ℕ) (old mid new : List ℤ) (p : FacePoint) → PointPut (p .x) (p .y) (p .z) (pointRow * 10) 3 old mid → FaceTaken K c n mid new
+      → FaceTaken K c n old new
+  face-end n old mid new p t f = record {
+    same = f .same ∙ t .same;
+    centre = f .centre;
+    toward = f .toward;
+    fourth = λ i. f .fourth i ∙ fourth-kept p 10 old mid t i;
   }
 
--- ---- a ring's face on the three axes
-pub lane-sized : (P : ℤ → Type 0) → P (pos 0) → (x y z : ℤ) → P x → P y → P z → (k : ℕ) → P (lane x y z (pos 0) k)
-lane-sized P p0 x y z px py pz zero = px
-lane-sized P p0 x y z px py pz (suc zero) = py
-lane-sized P p0 x y z px py pz (suc (suc zero)) = pz
-lane-sized P p0 x y z px py pz (suc (suc (suc k))) = p0
+  -- ---- the rows of a vertex's ring
+  pub vertex-taken : (p q r : FacePoint) (e f g h : List ℤ) → PointPut (p .x) (p .y) (p .z) (pointRow * 7) 3 e f
+      → PointPut (q .x) (q .y) (q .z) (pointRow * 8) 3 f g → PointPut (r .x) (r .y) (r .z) (pointRow * 9) 3 g h → Row (λ a. H (K a) c side0) 7 f
+      → Row (λ a. X (K a) c side3) 8 g → Row (λ a. X (K a) c side0) 9 h → VertexTaken K c e h
+  vertex-taken p q r e f g h t u v centre behind ahead = record {
+    same = v .same ∙ u .same ∙ t .same;
+    centre = λ a l. v .before (pointRow * 7 + a) (omega arith) ∙ u .before (pointRow * 7 + a) (omega arith) ∙ centre a l;
+    behind = λ a l. v .before (pointRow * 8 + a) (omega arith) ∙ behind a l;
+    ahead = ahead;
+    fourth = λ i. fourth-kept r 9 g h v i ∙ fourth-kept q 8 f g u i ∙ fourth-kept p 7 e f t i;
+    after = λ i l. v .after i (omega arith) ∙ u .after i (omega arith) ∙ t .after i (omega arith);
+  }
 
--- a face with the same numbers
-pub face-of : (p : ℕ → ℤ) (m i j : ℕ) (f r : Face) → r .centre ≡ f .centre → r .ahead ≡ f .ahead → r .behind ≡ f .behind → IsFace p m i j f → IsFace p m i j r
-face-of p m i j f r ec ea eb h = record {
-  centre = ec ∙ h .centre;
-  ahead = ea ∙ h .ahead;
-  behind = eb ∙ h .behind;
-  centre-size = rw ec (h .centre-size);
-  ahead-size = rw ea (h .ahead-size);
-  behind-size = rw eb (h .behind-size);
+-- ---- the rows of the corners around
+pub whole-taken : (points : List ℤ) (c i : ℕ) (x y z w : ℤ) (old new : List ℤ) → x ≡ pointAt points 0 c → y ≡ pointAt points 1 c → z ≡ pointAt points 2 c
+    → w ≡ pointAt points 3 c → PointPut x y z (pointRow * i) 4 old new → getD new (pointRow * i + 3) (pos 0) ≡ w → WholeTaken points c i old new
+whole-taken points c i x y z w old new ex ey ez ew t e = record { same = t .same; row = row; before = t .before; after = t .after }
+  where
+    row : (k : ℕ) → k < 4 → pointAt new k i ≡ pointAt points k c
+    row zero l = ap (λ (n : ℕ). getD new n (pos 0)) (omega arith) ∙ t .first ∙ ex
+    row (suc zero) l = t .second ∙ ey
+    row (suc (suc zero)) l = t .third ∙ ez
+    row (suc (suc (suc zero))) l = e ∙ ew
+    row (suc (suc (suc (suc k)))) l = absurd (omega arith)
+
+-- the first n rows are those of the first n corners; the rows after them are as before
+pub record RowsTaken (points : List ℤ) (corners : List ℕ) (n : ℕ) (old new : List ℤ) : Type 0 where
+  pub same : length new ≡ length old
+  pub rows : (i : ℕ) → i < n → (k : ℕ) → k < 4 → pointAt new k i ≡ pointAt points k (getD corners i 0)
+  pub after : (j : ℕ) → pointRow * n ≤ j → getD new j (pos 0) ≡ getD old j (pos 0)
+
+pub rows-none : (points : List ℤ) (corners : List ℕ) (old : List ℤ) → RowsTaken points corners 0 old old
+rows-none points corners old = record { same = refl; rows = λ i l. absurd (omega arith); after = λ j l. refl }
+
+pub rows-more : (points : List ℤ) (corners : List ℕ) (n : ℕ) (old mid new : List ℤ) → RowsTaken points corners n old mid
+    → WholeTaken points (getD corners n 0) n mid new → RowsTaken points corners (n + 1) old new
+rows-more points corners n old mid new r t = record {
+  same = t .same ∙ r .same;
+  rows = below-more _ n (λ i l k h. t .before (pointRow * i + k) (omega arith) ∙ r .rows i l k h) (t .row);
+  after = λ j l. t .after j (omega arith) ∙ r .after j (omega arith);
 }
 
-module _ (p : ℕ → ℕ → ℤ) (m i : ℕ) (f g h : Face) (hf : IsFace (p 0) m 0 (m - 1) f) (hg : IsFace (p 1) m 0 (m - 1) g) (hh : IsFace (p 2) m 0 (m - 1) h)
-    (old new : List ℤ) (t : FaceTaken f g h i old new) where
-  faces : (a : ℕ) → a < 3 → IsFace (p a) m 0 (m - 1) (rowsFace new a i)
-  faces zero l = face-of (p 0) m 0 (m - 1) f _ (t .centre 0 (lit< tt)) (t .ahead 0 (lit< tt)) (t .behind 0 (lit< tt)) hf
-  faces (suc zero) l = face-of (p 1) m 0 (m - 1) g _ (t .centre 1 (lit< tt)) (t .ahead 1 (lit< tt)) (t .behind 1 (lit< tt)) hg
-  faces (suc (suc zero)) l = face-of (p 2) m 0 (m - 1) h _ (t .centre 2 (lit< tt)) (t .ahead 2 (lit< tt)) (t .behind 2 (lit< tt)) hh
-  faces (suc (suc (suc a))) l = absurd (omega arith)
-
-  pub ring-taken : RingTaken p m i old new
-  ring-taken = record {
-    same = t .same;
-    face = λ n. faces;
-    sized = λ n k l. record {
-      centre = rw (t .centre k l) (lane-sized RefinedSize (lit≤ tt) _ _ _ (hf .centre-size) (hg .centre-size) (hh .centre-size) k);
-      ahead = rw (t .ahead k l) (lane-sized FaceSize (lit≤ tt) _ _ _ (hf .ahead-size) (hg .ahead-size) (hh .ahead-size) k);
-      behind = rw (t .behind k l) (lane-sized FaceSize (lit≤ tt) _ _ _ (hf .behind-size) (hg .behind-size) (hh .behind-size) k);
-    };
-    below = t .below;
-    above = t .above;
-  }
-
-pub ring-left : (p : ℕ → ℕ → ℤ) (m i : ℕ) (old : List ℤ) → m ≡ 4 → RingTaken p m i old old
-ring-left p m i old e = record {
-  same = refl;
-  face = λ n. absurd (n e);
-  sized = λ n. absurd (n e);
-  below = λ j k l h. refl;
-  above = λ j k l h. refl;
-}
-
--- ---- the corners around
-pub in-table : (table : List ℕ) (count k i : ℕ) → rowLength * count ≤ length table → k < rowLength → i < count → rowLength * i + k < length table
-in-table table count k i h l m = omega arith
-
-pub points-none : (points : List ℤ) (corners : List ℕ) (near : List ℤ) → PointsTaken points corners 0 near near
-points-none points corners near = record { same = refl; rows = λ i k h. absurd (omega arith); above = λ j k l h. refl }
-
--- one row more
-pub points-more : (points : List ℤ) (corners : List ℕ) (n : ℕ) (old mid new : List ℤ) (x y z w : ℤ) → PointsTaken points corners n old mid
-    → x ≡ pointAt points 0 (getD corners n 0) → y ≡ pointAt points 1 (getD corners n 0) → z ≡ pointAt points 2 (getD corners n 0)
-    → w ≡ pointAt points 3 (getD corners n 0) → RowTaken x y z w n mid new → PointsTaken points corners (n + 1) old new
-points-more points corners n old mid new x y z w t ex ey ez ew r = record {
-  same = r .same ∙ t .same;
-  rows = λ i k h l. which i k h l (ltb i n) (λ u. ltb→lt i n u) (λ u. nltb→le i n u);
-  above = λ j k l h. r .kept j k l (λ e. omega arith) ∙ t .above j k l (omega arith);
+-- then all the rows of corner c are taken
+pub corner-taken : (count : ℕ) (table : List ℕ) (points : List ℤ) (t : Drawn count table points) (c : ℕ) → c < count → (old mid new : List ℤ)
+    → VertexTaken (drawn count table points) c old mid → RowsTaken points (near (tabled count table) c) 7 mid new
+    → CornerTaken (drawn count table points) c old new
+corner-taken count table points t c h old mid new v r = record {
+  same = r .same ∙ v .same;
+  points = λ i l a k. r .rows i l a (omega arith);
+  centre = λ a l. r .after (pointRow * 7 + a) (omega arith) ∙ v .centre a l;
+  behind = λ a l. r .after (pointRow * 8 + a) (omega arith) ∙ v .behind a l;
+  ahead = λ a l. r .after (pointRow * 9 + a) (omega arith) ∙ v .ahead a l;
+  quiet = λ q i. which q i (ltb i 7) (λ u. ltb→lt i 7 u) (λ u. nltb→le i 7 u);
+  after = λ i l. r .after i (omega arith) ∙ v .after i l;
 }
   where
-    read : (k : ℕ) → k < 4 → lane x y z w k ≡ pointAt points k (getD corners n 0)
-    read zero h = ex
-    read (suc zero) h = ey
-    read (suc (suc zero)) h = ez
-    read (suc (suc (suc zero))) h = ew
-    read (suc (suc (suc (suc k)))) h = absurd (omega arith)
-
-    which : (i k : ℕ) → i < n + 1 → k < 4 → (b : Bool) → (T b → i < n) → (T (not b) → n ≤ i) → pointAt new k i ≡ pointAt points k (getD corners i 0)
-    which i k h l true f g = let m = f tt in r .kept i k l (λ e. omega arith) ∙ t .rows i k m l
-    which i k h l false f g =
-        let m = g tt in
-        let e : i ≡ n = omega arith in
-        rw e (r .row k l ∙ read k l)
+    which : Quiet old → (i : ℕ) → (b : Bool) → (T b → i < 7) → (T (not b) → 7 ≤ i) → RefinedSize (pointAt new 3 i)
+    which q i true f g = let l = f tt in rw (r .rows i l 3 (lit< tt)) (t .fourth _ (near-in count table points t c h i l))
+    which q i false f g = let l = g tt in rw (r .after (pointRow * i + 3) (omega arith), v .fourth i) (q i)

@@ -11,20 +11,14 @@ use lib.Dec.{T, ltb, ltb→lt, nltb→le, lit<}
 use lib.ListN.{length, getD, take, set, length-set, length-append, List·getD-append}
 use lib.Seq.{take-suc, take-all, getD-append-add, getD-set-same, getD-set-other, length-take-le}
 use lib.IntN.{ℤ, pos}
-use mir.Syntax.{w32, w64}
-use mir.Val.{SFits, ofZ, toZ}
-use mir.Facts.{toZ-ofZ}
-use Rattle.numbers.proofs.Machine.{abs-fits}
-use Rattle.surface.specs.Sizes.{WrittenSize}
-use Rattle.refine.proofs.faces.Laws.{plain}
 use Rattle.paper.specs.Numbers.{rounded}
 use Rattle.paper.specs.Refined.{RefinedMesh}
 use Rattle.paper.specs.Net.{side0, side1, side2, side3, net, netPoints, rows, bGrid, aGrid}
 use Rattle.net.specs.declared.sides.NetSides.{NetSides}
-use Rattle.net.specs.sides.Values.{FourSides}
+use Rattle.net.specs.sides.Values.{FourSides, FourSized}
 use Rattle.net.specs.declared.rows.RowValues.{RowValues}
 use Rattle.net.specs.rows.Rows.{RowsOf, AllRows, AllSized, IsAGrid, IsBGrid, Square}
-use Rattle.net.proofs.rows.Laws.{value-is}
+use Rattle.net.proofs.rows.Laws.{plain, value-is}
 use Rattle.net.specs.points.Placed.{Placed}
 
 pub placed-none : (old : List ℤ) (from : ℕ) → Placed old old from []
@@ -103,43 +97,16 @@ pub grid-start : (old : List ℤ) (from n : ℕ) (g : List (List ℤ)) → Rowed
 grid-start old from n g = (omega arith, placed-none old from)
 
 pub grid-row : (old out : List ℤ) (from at : ℕ) (g : List (List ℤ)) (n i : ℕ) → Square n g → i < n → at ≡ from + 4 * (n * i)
-    → from + 4 * (n * n) ≤ length old + 3 → Rowed old out from g n i
-    → (at + 4 * length (getD g i []) ≤ length out + 3) × ((j : ℕ) → j < length (getD g i []) → WrittenSize (getD (getD g i []) j (pos 0)))
+    → from + 4 * (n * n) ≤ length old + 3 → Rowed old out from g n i → at + 4 * length (getD g i []) ≤ length out + 3
 grid-row old out from at g n i q l e room p =
     let h : i + 1 ≤ n = omega arith in
-    let m = mul-le-mul-left n h in
-    let k : length (getD g i []) ≡ n = q .long i l in (omega (arith, m, k, p .1 .same), λ j h. q .written i j l (omega (arith, k)))
+    omega (arith, mul-le-mul-left n h, q i l, p .1 .same)
 
 pub grid-end : (old new : List ℤ) (from : ℕ) (g : List (List ℤ)) (n i : ℕ) → length g ≤ i → Rowed old new from g n i → Placed old new from (rows g)
 grid-end old new from g n i l p = subst (λ (h : List (List ℤ)). Placed old new from (rows h)) (take-all i g l) (p .1)
 
--- a number of a grid, in its row
-pub rows-at : (g : List (List ℤ)) (n : ℕ) → ((i : ℕ) → i < length g → length (getD g i []) ≡ n) → (i j : ℕ) → i < length g → j < n
-    → getD (rows g) (n * i + j) (pos 0) ≡ getD (getD g i []) j (pos 0)
-rows-at [] n h i j l m = absurd (omega arith)
-rows-at (r ∷ g) n h zero j l m =
-    let k : length r ≡ n = h 0 l in
-    ap (λ (x : ℕ). getD (r ++ rows g) x (pos 0)) (start n j) ∙ List·getD-append r (rows g) (pos 0) j (omega arith)
-  where
-    start : (n j : ℕ) → n * 0 + j ≡ j
-    start n j = omega arith
-rows-at (r ∷ g) n h (suc i) j l m =
-    let k : length r ≡ n = h 0 (omega arith) in
-    ap (λ (x : ℕ). getD (r ++ rows g) x (pos 0)) (next (length r) n i j k) ∙ getD-append-add r (rows g) (n * i + j) (pos 0)
-    ∙ rows-at g n (λ a b. h (suc a) (omega arith)) i j (omega arith) m
-  where
-    next : (s n i j : ℕ) → s ≡ n → n * suc i + j ≡ s + (n * i + j)
-    next s n i j e = omega arith
-
--- ---- a number that is written, in 32 bits
-pub number : (z : ℤ) → WrittenSize z → SFits w32 (plain z) × (toZ w32 (ofZ w32 (plain z)) ≡ z)
-number z h =
-    let e = toZ-ofZ (abs-fits w64 z (2 ^ 26 - 1) h (lit< tt)) in
-    let f = abs-fits w32 z (2 ^ 26 - 1) h (lit< tt) in
-    rw e (f, toZ-ofZ f)
-
 -- ---- the grids of a corner, as the calls give them
-module _ (K : RefinedMesh rounded) (c : ℕ) (n : NetSides) (f : FourSides K c n) (r0 r1 r2 r3 : RowValues)
+module _ (K : RefinedMesh rounded) (c : ℕ) (n : NetSides) (f : FourSides K c n) (z : FourSized n) (r0 r1 r2 r3 : RowValues)
     (o0 : RowsOf (n .side0) (n .side3) (n .side1) (n .side2) r0) (o1 : RowsOf (n .side1) (n .side2) (n .side0) (n .side3) r1)
     (o2 : RowsOf (n .side2) (n .side1) (n .side3) (n .side0) r2) (o3 : RowsOf (n .side3) (n .side0) (n .side2) (n .side1) r3) where
   pub all-sized : AllSized r0 r1 r2 r3
@@ -147,10 +114,10 @@ module _ (K : RefinedMesh rounded) (c : ℕ) (n : NetSides) (f : FourSides K c n
 
   all-rows : AllRows K c r0 r1 r2 r3
   all-rows =
-      let i0 = f .side0 .0 in
-      let i1 = f .side1 .0 in
-      let i2 = f .side2 .0 in
-      let i3 = f .side3 .0 in
+      let i0 = f .side0 in
+      let i1 = f .side1 in
+      let i2 = f .side2 in
+      let i3 = f .side3 in
       record {
         rows0 = o0 .rows K c side0 i0 i3 i1 i2;
         rows1 = o1 .rows K c side1 i1 i2 i0 i3;
@@ -166,10 +133,10 @@ module _ (K : RefinedMesh rounded) (c : ℕ) (n : NetSides) (f : FourSides K c n
   b-is a b ha hb =
       hb .grid K c
       (record {
-        end0 = value-is (n .side0 .head) _ (f .side0 .1 .head) (f .side0 .0 .head);
-        end1 = value-is (n .side0 .tail) _ (f .side0 .1 .tail) (f .side0 .0 .tail);
-        end2 = value-is (n .side2 .head) _ (f .side2 .1 .head) (f .side2 .0 .head);
-        end3 = value-is (n .side3 .tail) _ (f .side3 .1 .tail) (f .side3 .0 .tail);
+        end0 = value-is (n .side0 .head) _ (z .side0 .head) (f .side0 .head);
+        end1 = value-is (n .side0 .tail) _ (z .side0 .tail) (f .side0 .tail);
+        end2 = value-is (n .side2 .head) _ (z .side2 .head) (f .side2 .head);
+        end3 = value-is (n .side3 .tail) _ (z .side3 .tail) (f .side3 .tail);
       })
       all-rows (a-is a ha)
 

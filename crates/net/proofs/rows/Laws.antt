@@ -7,28 +7,38 @@ use native.Mathlib.Omega.{arith}
 use lib.Dec.{lit<}
 use lib.ListN.{length, getD}
 use lib.IntN.{ℤ, pos, _+ℤ_, _-ℤ_, _*ℤ_}
-use mir.Syntax.{w64}
-use mir.Val.{SFits}
+use mir.Syntax.{w32, w64}
+use mir.Val.{SFits, ofZ, toZ}
 use mir.Facts.{toZ-ofZ}
 use Rattle.numbers.proofs.Poly.{over, poly}
 use Rattle.numbers.proofs.Laws.{add-comm}
 use Rattle.numbers.proofs.Machine.{abs-fits}
-use Rattle.paper.specs.Numbers.{round}
+use Rattle.paper.specs.Numbers.{round, rounded}
+use Rattle.paper.specs.Refined.{RefinedMesh}
 use Rattle.paper.specs.Cosines.{unit}
-use Rattle.paper.specs.Net.{side0, side3, T, Y, outer1, outer2, outer3, a0, a1, a2, a3, middle, aHead, aTail, bHead, bTail, b22, bGrid, aGrid}
-use Rattle.surface.specs.Sizes.{ValueSize, WrittenSize, CosineSize}
-use Rattle.refine.proofs.faces.Laws.{plain}
+use Rattle.paper.specs.Net.{Side, side0, side1, side2, side3, T, Y, outer1, outer2, outer3, a0, a1, a2, a3, middle, aHead, aTail, bHead, bTail, b22, bGrid, aGrid}
+use Rattle.surface.specs.Sizes.{RefinedSize, ValueSize, WrittenSize, CosineSize}
 use Rattle.net.specs.declared.sides.SideValues.{SideValues}
 use Rattle.net.specs.sides.Values.{Sized}
 use Rattle.net.specs.declared.rows.RowValues.{RowValues}
-use Rattle.net.specs.rows.Rows.{RowsOf, AllSized, Square, IsAGrid, IsBGrid}
+use Rattle.net.specs.rows.Rows.{a12, a21, IsRows, RowsSized, RowsOf, AllSized, IsAGrid, IsBGrid}
 
 -- ---- the machine's number of a value is the value
-value-fits : (z : ℤ) → ValueSize z → SFits w64 z
-value-fits z h = abs-fits w64 z (2 ^ 25) h (lit< tt)
+abbrev pub plain : ℤ → ℤ
+plain z = toZ w32 (ofZ w32 z)
 
-written-fits : (z : ℤ) → WrittenSize z → SFits w64 z
-written-fits z h = abs-fits w64 z (2 ^ 26 - 1) h (lit< tt)
+-- a refined point y that is read as z
+abbrev pub Read : ℤ → ℤ → Type 0
+Read z y = (plain z ≡ y) × RefinedSize (plain z)
+
+abbrev pub wide : ℤ → ℤ
+wide z = toZ w64 (ofZ w64 z)
+
+value-fits : (z : ℤ) → ValueSize z → SFits w32 z
+value-fits z h = abs-fits w32 z (2 ^ 25) h (lit< tt)
+
+written-fits : (z : ℤ) → WrittenSize z → SFits w32 z
+written-fits z h = abs-fits w32 z (2 ^ 26 - 1) h (lit< tt)
 
 row-fits : (z : ℤ) → CosineSize z → SFits w64 z
 row-fits = over 1 _ λ ρ. simp (poly, ρ) (omega arith)
@@ -42,7 +52,7 @@ written z h = rw (toZ-ofZ (written-fits z h)) h
 pub value-written : (z : ℤ) → ValueSize z → WrittenSize (plain z)
 value-written z h = written z (omega arith)
 
-pub row : (z : ℤ) → CosineSize z → CosineSize (plain z)
+pub row : (z : ℤ) → CosineSize z → CosineSize (wide z)
 row z h = rw (toZ-ofZ (row-fits z h)) h
 
 pub value-is : (z y : ℤ) → ValueSize z → z ≡ y → plain z ≡ y
@@ -51,7 +61,7 @@ value-is z y h e = toZ-ofZ (value-fits z h) ∙ e
 written-is : (z y : ℤ) → WrittenSize z → z ≡ y → plain z ≡ y
 written-is z y h e = toZ-ofZ (written-fits z h) ∙ e
 
-row-is : (z y : ℤ) → CosineSize z → z ≡ y → plain z ≡ y
+pub row-is : (z y : ℤ) → CosineSize z → z ≡ y → wide z ≡ y
 row-is z y h e = toZ-ofZ (row-fits z h) ∙ e
 
 -- what a call gives: q is r of n / d
@@ -63,9 +73,9 @@ module _ (f g l o : SideValues) (z : Sized f × Sized g × Sized l × Sized o) (
     (e1 : Rounds (plain (f .head) +ℤ pos 3 *ℤ plain (f .x)) (pos 4) q1)
     (e2 : Rounds (plain (f .x) +ℤ plain (f .y)) (pos 2) q2)
     (e3 : Rounds (plain (f .tail) +ℤ pos 3 *ℤ plain (f .y)) (pos 4) q3)
-    (e4 : Rounds (plain (f .cosine) *ℤ plain (f .head) +ℤ pos 3 *ℤ (pos unit -ℤ plain (f .cosine)) *ℤ plain (f .x) +ℤ pos 2 *ℤ plain
+    (e4 : Rounds (wide (f .cosine) *ℤ plain (f .head) +ℤ pos 3 *ℤ (pos unit -ℤ wide (f .cosine)) *ℤ plain (f .x) +ℤ pos 2 *ℤ wide
     (f .cosine) *ℤ plain (f .y) +ℤ pos unit *ℤ plain (g .x) +ℤ pos (4 * unit) *ℤ plain (f .inner)) (pos (8 * unit)) q4)
-    (e5 : Rounds ((pos (3 * unit) -ℤ plain (f .cosine)) *ℤ plain (f .y) +ℤ plain (f .cosine) *ℤ plain (f .tail) +ℤ pos (4 * unit) *ℤ plain
+    (e5 : Rounds ((pos (3 * unit) -ℤ wide (f .cosine)) *ℤ plain (f .y) +ℤ wide (f .cosine) *ℤ plain (f .tail) +ℤ pos (4 * unit) *ℤ plain
     (f .inner) +ℤ pos unit *ℤ plain (l .y)) (pos (8 * unit)) q5)
     (e6 : Rounds (pos 14 *ℤ plain (f .inner) +ℤ pos 2 *ℤ (plain (o .inner) -ℤ plain (g .inner) -ℤ plain (l .inner)) +ℤ pos 3 *ℤ (plain
     (g .x) +ℤ plain (l .y)) -ℤ plain (f .head) -ℤ plain (f .tail)) (pos 16) q6)
@@ -103,7 +113,7 @@ module _ (f g l o : SideValues) (z : Sized f × Sized g × Sized l × Sized o) (
       };
     }
 
--- ---- the shape of a grid, and the sizes of its numbers: what holds of each of four, and of each of five
+-- ---- the shape of a grid: what holds of each of four, and of each of five
 each-of-four : {A : Type 0} (P : A → Type 0) (z a b c d : A) → P a → P b → P c → P d → (i : ℕ) → i < 4 → P (getD (a ∷ b ∷ c ∷ d ∷ []) i z)
 each-of-four P z a b c d pa pb pc pd zero h = pa
 each-of-four P z a b c d pa pb pc pd (suc zero) h = pb
@@ -120,32 +130,31 @@ each-of-five P z a b c d e pa pb pc pd pe (suc (suc (suc zero))) h = pd
 each-of-five P z a b c d e pa pb pc pd pe (suc (suc (suc (suc zero)))) h = pe
 each-of-five P z a b c d e pa pb pc pd pe (suc (suc (suc (suc (suc i))))) h = absurd (omega arith)
 
--- a row of n numbers that can be written
-abbrev Line : ℕ → List ℤ → Type 0
-Line n r = (length r ≡ n) × ((j : ℕ) → j < n → WrittenSize (getD r j (pos 0)))
-
-four-line : (a b c d : ℤ) → WrittenSize a → WrittenSize b → WrittenSize c → WrittenSize d → Line 4 (a ∷ b ∷ c ∷ d ∷ [])
-four-line a b c d ha hb hc hd = (refl, each-of-four WrittenSize (pos 0) a b c d ha hb hc hd)
-
-five-line : (a b c d e : ℤ) → WrittenSize a → WrittenSize b → WrittenSize c → WrittenSize d → WrittenSize e → Line 5 (a ∷ b ∷ c ∷ d ∷ e ∷ [])
-five-line a b c d e ha hb hc hd he = (refl, each-of-five WrittenSize (pos 0) a b c d e ha hb hc hd he)
-
-four-lines : (r s t u : List ℤ) → Line 4 r → Line 4 s → Line 4 t → Line 4 u → Square 4 (r ∷ s ∷ t ∷ u ∷ [])
-four-lines r s t u hr hs ht hu =
-    let each = each-of-four (Line 4) [] r s t u hr hs ht hu in
-    record { long = λ i h. each i h .0; written = λ i j h k. each i h .1 j k }
-
-five-lines : (r s t u v : List ℤ) → Line 5 r → Line 5 s → Line 5 t → Line 5 u → Line 5 v → Square 5 (r ∷ s ∷ t ∷ u ∷ v ∷ [])
-five-lines r s t u v hr hs ht hu hv =
-    let each = each-of-five (Line 5) [] r s t u v hr hs ht hu hv in
-    record { long = λ i h. each i h .0; written = λ i j h k. each i h .1 j k }
-
 -- ---- the grids
 abbrev pub Half : ℤ → ℤ → ℤ → Type 0
 Half p q r = Rounds (plain p +ℤ plain q) (pos 2) r
 
-half-is : (p q r x y : ℤ) → WrittenSize p → WrittenSize q → p ≡ x → q ≡ y → Half p q r → plain r ≡ round (x +ℤ y) (pos 2)
-half-is p q r x y hp hq ep eq e = written-is r _ (e .1) (e .0 ∙ cc (written-is p x hp ep, written-is q y hq eq))
+-- the rows of a side, as they are read again
+record Again (K : RefinedMesh rounded) (c : ℕ) (s : Side) (r : RowValues) : Type 0 where
+  outer1 : plain (r .outer1) ≡ outer1 K c s
+  outer2 : plain (r .outer2) ≡ outer2 K c s
+  outer3 : plain (r .outer3) ≡ outer3 K c s
+  a1 : plain (r .a1) ≡ a1 K c s
+  a2 : plain (r .a2) ≡ a2 K c s
+  middle : plain (r .middle) ≡ middle K c s
+
+again : (K : RefinedMesh rounded) (c : ℕ) (s : Side) (r : RowValues) → RowsSized r → IsRows K c s r → Again K c s r
+again K c s r z i = record {
+  outer1 = written-is (r .outer1) _ (z .outer1) (i .outer1);
+  outer2 = written-is (r .outer2) _ (z .outer2) (i .outer2);
+  outer3 = written-is (r .outer3) _ (z .outer3) (i .outer3);
+  a1 = written-is (r .a1) _ (z .a1) (i .a1);
+  a2 = written-is (r .a2) _ (z .a2) (i .a2);
+  middle = written-is (r .middle) _ (z .middle) (i .middle);
+}
+
+half-is : (p q r : ℤ) → Half p q r → plain r ≡ round (plain p +ℤ plain q) (pos 2)
+half-is p q r e = written-is r _ (e .1) (e .0)
 
 module _ (r0 r1 r2 r3 : RowValues) (z : AllSized r0 r1 r2 r3) (h00 h03 h30 h33 h11 h12 h21 h22 : ℤ)
     (e00 : Half (r0 .outer1) (r3 .outer1) h00) (e03 : Half (r0 .outer3) (r1 .outer3) h03)
@@ -161,50 +170,29 @@ module _ (r0 r1 r2 r3 : RowValues) (z : AllSized r0 r1 r2 r3) (h00 h03 h30 h33 h
   unfolding aGrid a0 a3 aHead aTail
   a-grid-is = record {
     grid = λ K c i.
-        let i0 = i .rows0 in
-        let i1 = i .rows1 in
-        let i2 = i .rows2 in
-        let i3 = i .rows3 in
-        let z0 = z .rows0 in
-        let z1 = z .rows1 in
-        let z2 = z .rows2 in
-        let z3 = z .rows3 in
+        let s0 = again K c side0 r0 (z .rows0) (i .rows0) in
+        let s1 = again K c side1 r1 (z .rows1) (i .rows1) in
+        let s2 = again K c side2 r2 (z .rows2) (i .rows2) in
+        let s3 = again K c side3 r3 (z .rows3) (i .rows3) in
         cc (
-          half-is (r0 .outer1) (r3 .outer1) h00 _ _ (z0 .outer1) (z3 .outer1) (i0 .outer1) (i3 .outer1) e00,
-          half-is (r0 .outer3) (r1 .outer3) h03 _ _ (z0 .outer3) (z1 .outer3) (i0 .outer3) (i1 .outer3) e03,
-          half-is (r3 .outer3) (r2 .outer3) h30 _ _ (z3 .outer3) (z2 .outer3) (i3 .outer3) (i2 .outer3) e30,
-          half-is (r2 .outer1) (r1 .outer1) h33 _ _ (z2 .outer1) (z1 .outer1) (i2 .outer1) (i1 .outer1) e33,
-          half-is (r0 .middle) (r3 .middle) h11 _ _ (z0 .middle) (z3 .middle) (i0 .middle) (i3 .middle) e11,
-          half-is (r0 .middle) (r1 .middle) h12 _ _ (z0 .middle) (z1 .middle) (i0 .middle) (i1 .middle) e12,
-          half-is (r3 .middle) (r2 .middle) h21 _ _ (z3 .middle) (z2 .middle) (i3 .middle) (i2 .middle) e21,
-          half-is (r1 .middle) (r2 .middle) h22 _ _ (z1 .middle) (z2 .middle) (i1 .middle) (i2 .middle) e22,
-          written-is (r0 .a1) _ (z0 .a1) (i0 .a1),
-          written-is (r0 .a2) _ (z0 .a2) (i0 .a2),
-          written-is (r1 .a1) _ (z1 .a1) (i1 .a1),
-          written-is (r1 .a2) _ (z1 .a2) (i1 .a2),
-          written-is (r2 .a1) _ (z2 .a1) (i2 .a1),
-          written-is (r2 .a2) _ (z2 .a2) (i2 .a2),
-          written-is (r3 .a1) _ (z3 .a1) (i3 .a1),
-          written-is (r3 .a2) _ (z3 .a2) (i3 .a2),
+          half-is (r0 .outer1) (r3 .outer1) h00 e00,
+          half-is (r0 .outer3) (r1 .outer3) h03 e03,
+          half-is (r3 .outer3) (r2 .outer3) h30 e30,
+          half-is (r2 .outer1) (r1 .outer1) h33 e33,
+          half-is (r0 .middle) (r3 .middle) h11 e11,
+          half-is (r0 .middle) (r1 .middle) h12 e12,
+          half-is (r3 .middle) (r2 .middle) h21 e21,
+          half-is (r1 .middle) (r2 .middle) h22 e22,
         );
-    square =
-        let z0 = z .rows0 in
-        let z1 = z .rows1 in
-        let z2 = z .rows2 in
-        let z3 = z .rows3 in
-        four-lines _ _ _ _
-        (four-line _ _ _ _ (written h00 (e00 .1)) (written (r0 .a1) (z0 .a1)) (written (r0 .a2) (z0 .a2)) (written h03 (e03 .1)))
-        (four-line _ _ _ _ (written (r3 .a1) (z3 .a1)) (written h11 (e11 .1)) (written h12 (e12 .1)) (written (r1 .a2) (z1 .a2)))
-        (four-line _ _ _ _ (written (r3 .a2) (z3 .a2)) (written h21 (e21 .1)) (written h22 (e22 .1)) (written (r1 .a1) (z1 .a1)))
-        (four-line _ _ _ _ (written h30 (e30 .1)) (written (r2 .a2) (z2 .a2)) (written (r2 .a1) (z2 .a1)) (written h33 (e33 .1)));
+    square = each-of-four (λ (l : List ℤ). length l ≡ 4) [] _ _ _ _ refl refl refl refl;
+    sized = (written h12 (e12 .1), written h21 (e21 .1));
   }
 
-module _ (c0 c1 c2 c3 : ℤ) (f0 : SFits w64 c0) (f1 : SFits w64 c1) (f2 : SFits w64 c2) (f3 : SFits w64 c3)
-    (w0 : WrittenSize c0) (w1 : WrittenSize c1) (w2 : WrittenSize c2) (w3 : WrittenSize c3)
+module _ (c0 c1 c2 c3 : ℤ) (f0 : SFits w32 c0) (f1 : SFits w32 c1) (f2 : SFits w32 c2) (f3 : SFits w32 c3)
     (r0 r1 r2 r3 : RowValues) (z : AllSized r0 r1 r2 r3) (a : List (List ℤ))
-    (za : WrittenSize (getD (getD a 1 []) 2 (pos 0))) (zb : WrittenSize (getD (getD a 2 []) 1 (pos 0))) (h11 h13 h31 h33 h22 : ℤ)
+    (za : WrittenSize (a12 a)) (zb : WrittenSize (a21 a)) (h11 h13 h31 h33 h22 : ℤ)
     (e11 : Half (r3 .a1) (r0 .a1) h11) (e13 : Half (r0 .a2) (r1 .a2) h13) (e31 : Half (r3 .a2) (r2 .a2) h31) (e33 : Half (r2 .a1) (r1 .a1) h33)
-    (e22 : Half (getD (getD a 1 []) 2 (pos 0)) (getD (getD a 2 []) 1 (pos 0)) h22) where
+    (e22 : Half (a12 a) (a21 a) h22) where
   pub b-grid-is : IsBGrid c0 c1 c2 c3 r0 r1 r2 r3 a
       ((plain c0 ∷ plain (r0 .outer1) ∷ plain (r0 .outer2) ∷ plain (r0 .outer3) ∷ plain c1 ∷ [])
       ∷ (plain (r3 .outer1) ∷ plain h11 ∷ plain (r0 .middle) ∷ plain h13 ∷ plain (r1 .outer3) ∷ [])
@@ -215,61 +203,22 @@ module _ (c0 c1 c2 c3 : ℤ) (f0 : SFits w64 c0) (f1 : SFits w64 c1) (f2 : SFits
   unfolding aGrid bGrid bHead bTail b22
   b-grid-is = record {
     grid = λ K c ends i ea.
-        let i0 = i .rows0 in
-        let i1 = i .rows1 in
-        let i2 = i .rows2 in
-        let i3 = i .rows3 in
-        let z0 = z .rows0 in
-        let z1 = z .rows1 in
-        let z2 = z .rows2 in
-        let z3 = z .rows3 in
-        let a12 : getD (getD a 1 []) 2 (pos 0) ≡ aTail K c side0 = ap (λ (g : List (List ℤ)). getD (getD g 1 []) 2 (pos 0)) ea in
-        let a21 : getD (getD a 2 []) 1 (pos 0) ≡ aTail K c side3 = ap (λ (g : List (List ℤ)). getD (getD g 2 []) 1 (pos 0)) ea in
+        let s0 = again K c side0 r0 (z .rows0) (i .rows0) in
+        let s1 = again K c side1 r1 (z .rows1) (i .rows1) in
+        let s2 = again K c side2 r2 (z .rows2) (i .rows2) in
+        let s3 = again K c side3 r3 (z .rows3) (i .rows3) in
         cc (
           toZ-ofZ f0,
           toZ-ofZ f1,
           toZ-ofZ f2,
           toZ-ofZ f3,
-          ends .end0,
-          ends .end1,
-          ends .end2,
-          ends .end3,
-          half-is (r3 .a1) (r0 .a1) h11 _ _ (z3 .a1) (z0 .a1) (i3 .a1) (i0 .a1) e11,
-          half-is (r0 .a2) (r1 .a2) h13 _ _ (z0 .a2) (z1 .a2) (i0 .a2) (i1 .a2) e13,
-          half-is (r3 .a2) (r2 .a2) h31 _ _ (z3 .a2) (z2 .a2) (i3 .a2) (i2 .a2) e31,
-          half-is (r2 .a1) (r1 .a1) h33 _ _ (z2 .a1) (z1 .a1) (i2 .a1) (i1 .a1) e33,
-          half-is (getD (getD a 1 []) 2 (pos 0)) (getD (getD a 2 []) 1 (pos 0)) h22 _ _ za zb a12 a21 e22,
-          written-is (r0 .outer1) _ (z0 .outer1) (i0 .outer1),
-          written-is (r0 .outer2) _ (z0 .outer2) (i0 .outer2),
-          written-is (r0 .outer3) _ (z0 .outer3) (i0 .outer3),
-          written-is (r0 .middle) _ (z0 .middle) (i0 .middle),
-          written-is (r1 .outer1) _ (z1 .outer1) (i1 .outer1),
-          written-is (r1 .outer2) _ (z1 .outer2) (i1 .outer2),
-          written-is (r1 .outer3) _ (z1 .outer3) (i1 .outer3),
-          written-is (r1 .middle) _ (z1 .middle) (i1 .middle),
-          written-is (r2 .outer1) _ (z2 .outer1) (i2 .outer1),
-          written-is (r2 .outer2) _ (z2 .outer2) (i2 .outer2),
-          written-is (r2 .outer3) _ (z2 .outer3) (i2 .outer3),
-          written-is (r2 .middle) _ (z2 .middle) (i2 .middle),
-          written-is (r3 .outer1) _ (z3 .outer1) (i3 .outer1),
-          written-is (r3 .outer2) _ (z3 .outer2) (i3 .outer2),
-          written-is (r3 .outer3) _ (z3 .outer3) (i3 .outer3),
-          written-is (r3 .middle) _ (z3 .middle) (i3 .middle),
+          half-is (r3 .a1) (r0 .a1) h11 e11,
+          half-is (r0 .a2) (r1 .a2) h13 e13,
+          half-is (r3 .a2) (r2 .a2) h31 e31,
+          half-is (r2 .a1) (r1 .a1) h33 e33,
+          half-is (a12 a) (a21 a) h22 e22,
+          written-is (a12 a) (aTail K c side0) za (ap a12 ea),
+          written-is (a21 a) (aTail K c side3) zb (ap a21 ea),
         );
-    square =
-        let z0 = z .rows0 in
-        let z1 = z .rows1 in
-        let z2 = z .rows2 in
-        let z3 = z .rows3 in
-        five-lines _ _ _ _ _
-        (five-line _ _ _ _ _ (written c0 w0) (written (r0 .outer1) (z0 .outer1)) (written (r0 .outer2) (z0 .outer2)) (written (r0 .outer3) (z0 .outer3))
-        (written c1 w1))
-        (five-line _ _ _ _ _ (written (r3 .outer1) (z3 .outer1)) (written h11 (e11 .1)) (written (r0 .middle) (z0 .middle)) (written h13 (e13 .1))
-        (written (r1 .outer3) (z1 .outer3)))
-        (five-line _ _ _ _ _ (written (r3 .outer2) (z3 .outer2)) (written (r3 .middle) (z3 .middle)) (written h22 (e22 .1))
-        (written (r1 .middle) (z1 .middle)) (written (r1 .outer2) (z1 .outer2)))
-        (five-line _ _ _ _ _ (written (r3 .outer3) (z3 .outer3)) (written h31 (e31 .1)) (written (r2 .middle) (z2 .middle)) (written h33 (e33 .1))
-        (written (r1 .outer1) (z1 .outer1)))
-        (five-line _ _ _ _ _ (written c3 w3) (written (r2 .outer3) (z2 .outer3)) (written (r2 .outer2) (z2 .outer2)) (written (r2 .outer1) (z2 .outer1))
-        (written c2 w2));
+    square = each-of-five (λ (l : List ℤ). length l ≡ 5) [] _ _ _ _ _ refl refl refl refl refl;
   }

@@ -1,55 +1,62 @@
--- What a lane makes of its rows, and the lanes that have been filled.
+-- What a lane makes of its rows.
 -- Assumes nothing.
 use mathlib.Core.Path.{_≡_}
 use mathlib.Core.List.{List}
-use Prim.Native.Nat.{ℕ, _<_}
-use lib.ListN.{length}
-use lib.IntN.{ℤ}
+use Prim.Native.Nat.{ℕ, _+_, _*_, _<_}
+use lib.ListN.{length, getD}
+use lib.IntN.{ℤ, pos}
+use Rattle.paper.specs.Mesh.{mostSides}
+use Rattle.paper.specs.Numbers.{rounded}
+use Rattle.paper.specs.Cosines.{cosine}
+use Rattle.paper.specs.Refined.{RefinedMesh}
+use Rattle.paper.specs.Net.{net, netPoints}
 use Rattle.surface.specs.Points.{pointAt}
-use Rattle.surface.specs.Sizes.{RefinedSize}
-use Rattle.refine.specs.declared.faces.Face.{Face}
-use Rattle.net.specs.declared.sides.Edge.{Edge}
+use Rattle.surface.specs.Sizes.{RefinedSize, CosineSize}
+use Rattle.walk.specs.Table.{sidesHere, valenceHere, entry}
+use Rattle.net.specs.declared.sides.Face.{Face}
 use Rattle.net.specs.declared.sides.NetSides.{NetSides}
-use Rattle.net.specs.sides.Values.{Through, FaceSized, MadeFour}
-use Rattle.net.specs.near.Near.{rowsFace}
-use Rattle.net.specs.points.Placed.{Lane}
+use Rattle.net.specs.declared.lanes.Rings.{Rings}
+use Rattle.net.specs.sides.Values.{FaceSized, FourSized, FourSides, Around, AtVertex, AtFace}
 
-abbrev pub edgeFace : Edge → Face
-edgeFace e = record { centre = e .centre; ahead = e .ahead; behind = e .behind }
+-- the face of a ring in lane k: its centre in row i, its points behind and ahead from row j on
+abbrev pub rowsFace : List ℤ → ℕ → ℕ → ℕ → Face
+rowsFace near k i j = record { centre = pointAt near k i; ahead = pointAt near k (j + 1); behind = pointAt near k j }
 
--- lane k has all that a net is made from
-pub record LaneReady (near : List ℤ) (k m n : ℕ) : Type 0 where
-  pub long : length near ≡ 68
+-- the rows of the vertex's ring, and those of the face's
+abbrev pub vertexFace : List ℤ → ℕ → Face
+vertexFace near k = rowsFace near k 7 8
+
+abbrev pub meshFace : List ℤ → ℕ → ℕ → Face
+meshFace near k place = rowsFace near k 10 (11 + place)
+
+-- C of the two rings at corner c, and its place in the run
+pub record RingsAt (table : List ℕ) (c place : ℕ) (g : Rings) : Type 0 where
+  pub at-vertex : g .vertex ≡ cosine (entry table valenceHere c) 1
+  pub at-face : g .face ≡ cosine (entry table sidesHere c) 1
+  pub place-is : g .place ≡ place
+
+-- lane k has numbers of the sizes that a net is made from
+pub record LaneReady (near : List ℤ) (k : ℕ) (g : Rings) : Type 0 where
+  pub long : length near ≡ 128
   pub lane : k < 4
-  pub points : (i : ℕ) → i < 11 → RefinedSize (pointAt near k i)
-  pub vertex : (m ≡ 4 → ⊥) → FaceSized (rowsFace near k 11)
-  pub face : (n ≡ 4 → ⊥) → FaceSized (rowsFace near k 14)
+  pub place : g .place < mostSides
+  pub points : (i : ℕ) → i < 7 → RefinedSize (pointAt near k i)
+  pub vertex : FaceSized (vertexFace near k)
+  pub face : FaceSized (meshFace near k (g .place))
+  pub cosines : CosineSize (g .vertex) × CosineSize (g .face)
 
--- a ring's face in a lane: that through four of the corners, where it is of four, else what the rows from i on hold
-pub record RingMade (near : List ℤ) (k m a b i : ℕ) (c : ℕ) (f : Face) : Type 0 where
-  pub four : Edge
-  pub through : Through (pointAt near k) 0 a b c four
-  pub of-four : m ≡ 4 → f ≡ edgeFace four
-  pub other : (m ≡ 4 → ⊥) → f ≡ rowsFace near k i
+-- lane k has what the net of corner c is made from
+pub record LaneHas (K : RefinedMesh rounded) (c : ℕ) (near : List ℤ) (k : ℕ) (g : Rings) : Type 0 where
+  pub around : Around K c (pointAt near k)
+  pub vertex : AtVertex K c (vertexFace near k) (g .vertex)
+  pub face : AtFace K c (meshFace near k (g .place)) (g .face)
 
--- the four sides that lane k makes
-pub record LaneMade (near : List ℤ) (k m n : ℕ) (v w : ℤ) (r : NetSides) : Type 0 where
-  pub leaving : Edge
-  pub arriving : Edge
-  pub vertex : Face
-  pub face : Face
-  pub is-leaving : Through (pointAt near k) 0 1 2 3 leaving
-  pub is-arriving : Through (pointAt near k) 0 4 5 6 arriving
-  pub is-vertex : RingMade near k m 3 7 11 8 vertex
-  pub is-face : RingMade near k n 1 9 14 10 face
-  pub made : MadeFour vertex face leaving arriving v w r
+-- the sides of whichever corner lane k has
+pub record LaneMade (near : List ℤ) (k : ℕ) (g : Rings) (r : NetSides) : Type 0 where
+  pub four : (K : RefinedMesh rounded) (c : ℕ) → LaneHas K c near k g → FourSides K c r
+  pub sized : FourSized r
 
--- one lane, and the first n
-pub record LaneFilled (near : List ℤ) (a b : ℕ) (v w : ℤ) (k : ℕ) (lanes : List ℤ) : Type 0 where
-  pub sides : NetSides
-  pub made : LaneMade near k a b v w sides
-  pub laid : Lane sides k lanes
-
-pub record Filled (near : List ℤ) (a b : ℕ) (v w : ℤ) (n : ℕ) (lanes : List ℤ) : Type 0 where
-  pub long : length lanes ≡ 164
-  pub each : (k : ℕ) → k < n → LaneFilled near a b v w k lanes
+-- the points of whichever corner's net lane k has
+abbrev pub LaneFilled : List ℤ → ℕ → Rings → List ℤ → Type 0
+LaneFilled near k g lanes =
+    (K : RefinedMesh rounded) (c : ℕ) → LaneHas K c near k g → (p : ℕ) → p < netPoints → getD lanes (k + 4 * p) (pos 0) ≡ getD (net K c) p (pos 0)

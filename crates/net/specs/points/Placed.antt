@@ -9,19 +9,13 @@ use Rattle.paper.specs.Numbers.{rounded}
 use Rattle.paper.specs.Refined.{RefinedMesh}
 use Rattle.paper.specs.Net.{net, netPoints}
 use Rattle.net.specs.declared.sides.NetSides.{NetSides}
-use Rattle.net.specs.sides.Values.{Sized, FourSides}
+use Rattle.net.specs.sides.Values.{FourSides}
 
 -- every fourth number from `from` on, as many as there are points, is a point's; the others are as before
 pub record Placed (old new : List ℤ) (from : ℕ) (points : List ℤ) : Type 0 where
   pub same : length new ≡ length old
   pub points-are : (p : ℕ) → p < length points → getD new (from + 4 * p) (pos 0) ≡ getD points p (pos 0)
   pub others : (i : ℕ) → ((p : ℕ) → p < length points → i ≡ from + 4 * p → ⊥) → getD new i (pos 0) ≡ getD old i (pos 0)
-
-pub record FourSized (n : NetSides) : Type 0 where
-  pub side0 : Sized (n .side0)
-  pub side1 : Sized (n .side1)
-  pub side2 : Sized (n .side2)
-  pub side3 : Sized (n .side3)
 
 -- lane k has the points of whichever net has these sides
 abbrev pub Lane : NetSides → ℕ → List ℤ → Type 0

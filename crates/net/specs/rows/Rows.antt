@@ -49,15 +49,22 @@ pub record AllSized (r0 r1 r2 r3 : RowValues) : Type 0 where
   pub rows2 : RowsSized r2
   pub rows3 : RowsSized r3
 
--- a grid of n rows of n numbers that can be written
-pub record Square (n : ℕ) (g : List (List ℤ)) : Type 0 where
-  pub long : (i : ℕ) → i < n → length (getD g i []) ≡ n
-  pub written : (i j : ℕ) → i < n → j < n → WrittenSize (getD (getD g i []) j (pos 0))
+-- a grid of n rows of n numbers
+abbrev pub Square : ℕ → List (List ℤ) → Type 0
+Square n g = (i : ℕ) → i < n → length (getD g i []) ≡ n
+
+-- the two a points that the centre of the b grid comes from
+abbrev pub a12 : List (List ℤ) → ℤ
+a12 g = getD (getD g 1 []) 2 (pos 0)
+
+abbrev pub a21 : List (List ℤ) → ℤ
+a21 g = getD (getD g 2 []) 1 (pos 0)
 
 -- the four rows of four a points of whichever net has these rows
 pub record IsAGrid (r0 r1 r2 r3 : RowValues) (g : List (List ℤ)) : Type 0 where
   pub grid : (K : RefinedMesh rounded) (c : ℕ) → AllRows K c r0 r1 r2 r3 → g ≡ aGrid K c
   pub square : Square 4 g
+  pub sized : WrittenSize (a12 g) × WrittenSize (a21 g)
 
 -- the ends, corner by corner of the grid
 pub record Ends (K : RefinedMesh rounded) (c : ℕ) (e0 e1 e2 e3 : ℤ) : Type 0 where
@@ -65,12 +72,6 @@ pub record Ends (K : RefinedMesh rounded) (c : ℕ) (e0 e1 e2 e3 : ℤ) : Type 0
   pub end1 : e1 ≡ T K c side0
   pub end2 : e2 ≡ H K c side2
   pub end3 : e3 ≡ T K c side3
-
-pub record EndsSized (e0 e1 e2 e3 : ℤ) : Type 0 where
-  pub end0 : WrittenSize e0
-  pub end1 : WrittenSize e1
-  pub end2 : WrittenSize e2
-  pub end3 : WrittenSize e3
 
 -- the five rows of five b points of whichever net has these ends and rows, and this grid of a points
 pub record IsBGrid (e0 e1 e2 e3 : ℤ) (r0 r1 r2 r3 : RowValues) (a g : List (List ℤ)) : Type 0 where

@@ -1,19 +1,15 @@
 -- A mesh as the code draws it: the table of its corners, and the table of their refined points on the three axes.
 -- Assumes nothing.
-use mathlib.Core.Path.{_≡_}
 use mathlib.Core.List.{List}
-use Prim.Native.Nat.{ℕ, _-_, _*_, _≤_, _<_}
+use Prim.Native.Nat.{ℕ, _*_, _≤_, _<_}
 use lib.ListN.{length}
 use lib.IntN.{ℤ}
 use Rattle.paper.specs.Numbers.{rounded}
-use Rattle.paper.specs.Cosines.{cosine}
 use Rattle.paper.specs.Refined.{RefinedMesh}
 use Rattle.surface.specs.Sound.{Sound, Small}
 use Rattle.surface.specs.Points.{pointRow, pointAt}
 use Rattle.surface.specs.Sizes.{RefinedSize}
-use Rattle.walk.specs.Table.{rowLength, toNext, toLink, tabled}
-use Rattle.refine.specs.faces.Ring.{around, IsFace}
-use Rattle.refine.specs.declared.faces.Face.{Face}
+use Rattle.walk.specs.Table.{rowLength, tabled}
 
 -- the mesh on an axis that the tables tell
 abbrev pub drawn : ℕ → List ℕ → List ℤ → ℕ → RefinedMesh rounded
@@ -28,9 +24,8 @@ pub record Drawn (count : ℕ) (table : List ℕ) (points : List ℤ) : Type 0 w
   pub small : (axis : ℕ) → axis < 3 → Small (drawn count table points axis)
   pub fourth : (c : ℕ) → c < count → RefinedSize (pointAt points 3 c)
 
--- the faces of the vertex and of the mesh face of c on an axis, and C of the two rings
-pub record Ringed (count : ℕ) (table : List ℕ) (points : List ℤ) (c axis : ℕ) (v f : Face) (k l : ℤ) : Type 0 where
-  pub vertex : let m = tabled count table .valence c in IsFace (around points axis table toLink c) m 0 (m - 1) v
-  pub face : let n = tabled count table .sides c in IsFace (around points axis table toNext c) n 0 (n - 1) f
-  pub at-vertex : k ≡ cosine (tabled count table .valence c) 1
-  pub at-face : l ≡ cosine (tabled count table .sides c) 1
+-- c is one of the `count` corners of an accepted mesh that the table has
+pub record CornerIn (count : ℕ) (table : List ℕ) (c : ℕ) : Type 0 where
+  pub sound : Sound (tabled count table)
+  pub table-long : rowLength * count ≤ length table
+  pub here : c < count

@@ -1,34 +1,59 @@
--- What the code has of an edge at a corner and of a side of its quad-net, against the definitions.
+-- What the code has of a refined face and of a side of a corner's quad-net, against the definitions.
 -- Assumes nothing.
 use mathlib.Core.Path.{_≡_}
-use Prim.Native.Nat.{ℕ}
+use mathlib.Core.List.{List, [], _∷_}
+use Prim.Native.Nat.{ℕ, _<_}
+use lib.ListN.{getD}
 use lib.IntN.{ℤ, pos, _+ℤ_, _-ℤ_, _*ℤ_}
 use Rattle.paper.specs.Numbers.{round, rounded}
-use Rattle.paper.specs.Refined.{RefinedMesh}
+use Rattle.paper.specs.Refined.{Corners, RefinedMesh}
 use Rattle.paper.specs.Net.{Side, side0, side1, side2, side3, H, T, X, Y, N, C}
+use Rattle.surface.specs.Sound.{Sound}
 use Rattle.surface.specs.Sizes.{RefinedSize, FaceSize, ValueSize, CosineSize}
-use Rattle.refine.specs.faces.Ring.{IsEdgeFace}
-use Rattle.refine.specs.declared.faces.Face.{Face}
-use Rattle.net.specs.declared.sides.Edge.{Edge}
+use Rattle.faces.specs.Ring.{FourCentre, FourToward}
+use Rattle.net.specs.declared.sides.Face.{Face}
 use Rattle.net.specs.declared.sides.SideValues.{SideValues}
 use Rattle.net.specs.declared.sides.NetSides.{NetSides}
-use Rattle.net.specs.declared.sides.ThreeSides.{ThreeSides}
 
--- the four-sided face through the corners a, b, c and d in turn, whose refined points are p, and three of these; a is the corner where the code
--- stands
-pub record Through (p : ℕ → ℤ) (a b c d : ℕ) (r : Edge) : Type 0 where
-  pub face : IsEdgeFace (p a) (p b) (p c) (p d) (record { centre = r .centre; ahead = r .ahead; behind = r .behind })
-  pub here : r .here ≡ p a
-  pub after : r .after ≡ p b
-  pub before : r .before ≡ p d
+-- ---- refined faces
+-- the numbers of a face that sides are made from
+pub record FaceSized (f : Face) : Type 0 where
+  pub centre : RefinedSize (f .centre)
+  pub ahead : FaceSize (f .ahead)
+  pub behind : FaceSize (f .behind)
 
--- the faces of the edge that leaves corner c and of the one that arrives there
-abbrev pub IsLeaving : RefinedMesh rounded → ℕ → Edge → Type 0
-IsLeaving K c = let k = K .corners in Through (K .point) c (k .next c) (k .previous (k .link c)) (k .link c)
+-- the four-sided face through a, b, c and d in turn, whose refined points are p, at a
+pub record Through (p : ℕ → ℤ) (a b c d : ℕ) (r : Face) : Type 0 where
+  pub centre : FourCentre (p a) (p b) (p c) (p d) (r .centre)
+  pub ahead : FourToward (p a) (p b) (p c) (p d) (r .ahead)
+  pub behind : FourToward (p d) (p a) (p b) (p c) (r .behind)
+  pub sized : FaceSized r
 
-abbrev pub IsArriving : RefinedMesh rounded → ℕ → Edge → Type 0
-IsArriving K c = let k = K .corners in Through (K .point) c (k .previous (k .link (k .previous c))) (k .link (k .previous c)) (k .previous c)
+-- the face of the vertex of c and C of its ring, and the same of the mesh face of c
+pub record AtVertex (K : RefinedMesh rounded) (c : ℕ) (f : Face) (v : ℤ) : Type 0 where
+  pub centre : f .centre ≡ H K c side0
+  pub ahead : f .ahead ≡ X K c side0
+  pub behind : f .behind ≡ X K c side3
+  pub cosine : v ≡ C K c side0
 
+pub record AtFace (K : RefinedMesh rounded) (c : ℕ) (f : Face) (v : ℤ) : Type 0 where
+  pub centre : f .centre ≡ H K c side1
+  pub ahead : f .ahead ≡ X K c side1
+  pub behind : f .behind ≡ X K c side2
+  pub cosine : v ≡ C K c side1
+
+-- ---- the corners around c, in the order of the rows: the rings of its leaving and of its arriving edge
+abbrev pub near : Corners → ℕ → List ℕ
+near K c =
+    c ∷ K .next c ∷ K .previous (K .link c) ∷ K .link c ∷ K .previous (K .link (K .previous c)) ∷ K .link (K .previous c) ∷ K .previous c ∷ []
+
+-- p has their refined points
+pub record Around (K : RefinedMesh rounded) (c : ℕ) (p : ℕ → ℤ) : Type 0 where
+  pub sound : Sound (K .corners)
+  pub here : c < K .corners .count
+  pub points : (i : ℕ) → i < 7 → p i ≡ K .point (getD (near (K .corners) c) i 0)
+
+-- ---- sides
 -- H, T, X, Y, N and C of a side
 pub record IsSide (K : RefinedMesh rounded) (c : ℕ) (s : Side) (r : SideValues) : Type 0 where
   pub head : r .head ≡ H K c s
@@ -56,36 +81,20 @@ pub record Made (h t p q v w k : ℤ) (r : SideValues) : Type 0 where
   pub cosine : r .cosine ≡ k
   pub sized : Sized r
 
--- the numbers of a face, and of an edge, that sides are made from
-pub record FaceSized (f : Face) : Type 0 where
-  pub centre : RefinedSize (f .centre)
-  pub ahead : FaceSize (f .ahead)
-  pub behind : FaceSize (f .behind)
-
-pub record EdgeSized (e : Edge) : Type 0 where
-  pub centre : RefinedSize (e .centre)
-  pub ahead : FaceSize (e .ahead)
-  pub behind : FaceSize (e .behind)
-  pub here : RefinedSize (e .here)
-  pub after : RefinedSize (e .after)
-  pub before : RefinedSize (e .before)
-
--- four sides made from the faces v of the vertex and f of the mesh face, e of the leaving and g of the arriving edge
-pub record MadeFour (v f : Face) (e g : Edge) (k l : ℤ) (r : NetSides) : Type 0 where
-  pub side0 : Made (v .centre) (e .centre) (v .ahead) (e .behind) (e .here) (e .before) k (r .side0)
-  pub side1 : Made (f .centre) (e .centre) (f .ahead) (e .ahead) (e .here) (e .after) l (r .side1)
-  pub side2 : Made (f .centre) (g .centre) (f .behind) (g .behind) (g .here) (g .before) l (r .side2)
-  pub side3 : Made (v .centre) (g .centre) (v .behind) (g .ahead) (g .here) (g .after) k (r .side3)
-
 -- all four
 pub record FourSides (K : RefinedMesh rounded) (c : ℕ) (r : NetSides) : Type 0 where
-  pub side0 : IsSide K c side0 (r .side0) × Sized (r .side0)
-  pub side1 : IsSide K c side1 (r .side1) × Sized (r .side1)
-  pub side2 : IsSide K c side2 (r .side2) × Sized (r .side2)
-  pub side3 : IsSide K c side3 (r .side3) × Sized (r .side3)
+  pub side0 : IsSide K c side0 (r .side0)
+  pub side1 : IsSide K c side1 (r .side1)
+  pub side2 : IsSide K c side2 (r .side2)
+  pub side3 : IsSide K c side3 (r .side3)
 
--- on the three axes
-pub record AllSides (K : ℕ → RefinedMesh rounded) (c : ℕ) (r : ThreeSides) : Type 0 where
-  pub x : FourSides (K 0) c (r .x)
-  pub y : FourSides (K 1) c (r .y)
-  pub z : FourSides (K 2) c (r .z)
+pub record FourSized (r : NetSides) : Type 0 where
+  pub side0 : Sized (r .side0)
+  pub side1 : Sized (r .side1)
+  pub side2 : Sized (r .side2)
+  pub side3 : Sized (r .side3)
+
+-- the sides of whichever corner has the points p around it, the face v at its vertex and the mesh face f, with C of these
+pub record SidesOf (p : ℕ → ℤ) (v f : Face) (k l : ℤ) (r : NetSides) : Type 0 where
+  pub four : (K : RefinedMesh rounded) (c : ℕ) → Around K c p → AtVertex K c v k → AtFace K c f l → FourSides K c r
+  pub sized : FourSized r

@@ -41,12 +41,12 @@ returns c K e four held-here held-linked held-next j few =
     let r = c .before .before .before .before .before .before .before in
     let across-link =
     c .before .before .before .before .before .before .side-misses .ensures j few
-    ∙ miss0 K e (a .axis) (now (a .here)) (now (a .linked)) held-here held-linked (a .sides .side0) (four .side0 .0) j few _ _ _
+    ∙ miss0 K e (a .axis) (now (a .face)) (now (a .linked)) (a .here) 0 held-here held-linked (a .sides .side0) (four .side0) j few _ _ _
     (r .before .before .row .ensures .0 j) (r .before .row2 .ensures .0 j) (r .row3 .ensures .0 j)
     in
     let across-next =
     c .before .side-misses2 .ensures j few
-    ∙ miss1 K e (a .axis) (now (a .here)) (now (a .next)) held-here held-next (a .sides .side1) (four .side1 .0) j few _ _ _
+    ∙ miss1 K e (a .axis) (now (a .face)) (now (a .face)) (a .here) (a .next) held-here held-next (a .sides .side1) (four .side1) j few _ _ _
     (c .before .before .before .before .row4 .ensures .0 j) (c .before .before .before .row5 .ensures .0 j) (c .before .before .row6 .ensures .0 j)
     in
     c .larger-of .ensures j ∙ both across-link across-next

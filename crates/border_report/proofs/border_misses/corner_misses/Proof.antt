@@ -1,47 +1,47 @@
--- `border_report::border_misses::corner_misses` meets its contract: the larger of the misses on the three axes.
+-- `border_report::border_misses::corner_misses` meets its contract: the rows have the corner's sides on the three axes, and the answer is the larger of
+-- the misses there.
 -- Assumes nothing.
-use lib.Dec.{lit<}
-use denote.Ref.{now}
-use Rattle.net.specs.sides.Drawn.{drawn}
-use Rattle.border_report.proofs.border_misses.Laws.{corner-is}
+use mathlib.Core.Path.{_≡_, refl, _∙_}
+use Prim.Native.Nat.{ℕ, _<_}
+use native.Mathlib.Omega.{arith}
 use borrow.Author.Needs.{needs}
+use lib.Dec.{lit<, lit≤}
+use denote.Ref.{now}
+use Rattle.paper.specs.Scan.{iterate}
+use Rattle.paper.specs.Numbers.{rounded}
+use Rattle.paper.specs.Refined.{RefinedMesh}
+use Rattle.net.specs.sides.Drawn.{drawn}
+use Rattle.net.specs.lanes.Lanes.{LaneReady, LaneHas}
+use Rattle.net.proofs.Run.{face-held, lane-has, ready-axis}
+use Rattle.border_report.proofs.border_misses.Laws.{corner-is}
 use Rattle.border_report.proofs.border_misses.corner_misses.Statement.{statement}
 use Rattle.border_report.proofs.border_misses.corner_misses.Tie as tie
 
-net-sides-requires : tie.Need-net-sides-requires
-net-sides-requires c κs = let p = c .before .pre .0 in ((p .0, p .1), p .2)
+-- the rows once they are taken
+module _ (g : tie.After-rings-at) where
+  abbrev corner : tie.After-take-corner
+  corner = g .before .before
 
-axis-misses-requires : tie.Need-axis-misses-requires
-axis-misses-requires c κs =
-    let p = c .before .before .pre .1 in
-    let r = c .net-sides .ensures .x in
-    ((r .side0 .1, r .side1 .1), (lit< tt, p .0 0 (lit< tt) .small, p .1 .0 0 (lit< tt) .small, p .1 .1 0 (lit< tt) .small))
+  abbrev face : tie.After-take-face
+  face = corner .before .before .before
 
-axis-misses-requires-2 : tie.Need-axis-misses-requires-2
-axis-misses-requires-2 c κs =
-    let p = c .before .before .before .pre .1 in
-    let r = c .before .net-sides .ensures .y in
-    ((r .side0 .1, r .side1 .1), (lit< tt, p .0 1 (lit< tt) .small, p .1 .0 1 (lit< tt) .small, p .1 .1 1 (lit< tt) .small))
+  abbrev start : tie.Start
+  start = face .before .before .before
 
-axis-misses-requires-3 : tie.Need-axis-misses-requires-3
-axis-misses-requires-3 c κs =
-    let p = c .before .before .before .before .pre .1 in
-    let r = c .before .before .net-sides .ensures .z in
-    ((r .side0 .1, r .side1 .1), (lit< tt, p .0 2 (lit< tt) .small, p .1 .0 2 (lit< tt) .small, p .1 .1 2 (lit< tt) .small))
+  abbrev mesh : ℕ → RefinedMesh rounded
+  mesh = drawn (start .args .n) (now (start .args .table)) (now (start .args .points))
 
-returns : tie.Need-returns
-returns c j few =
-    let s = c .before .before .before .before .before .before .before in
-    let a = s .args in
-    let p = s .pre .1 in
-    let r = c .before .before .before .before .before .net-sides .ensures in
-    let K = drawn (a .n) (now (a .table)) (now (a .points)) in
-    corner-is K j (a .c) _ _ _ _ _ (c .larger-of2 .ensures j) (c .before .larger-of .ensures j)
-    (c .before .before .before .before .axis-misses .ensures (K 0) (a .c) (r .x) (p .0 0 (lit< tt)) (p .1 .0 0 (lit< tt)) (p .1 .1 0 (lit< tt)) j few)
-    (c .before .before .before .axis-misses2 .ensures (K 1) (a .c) (r .y) (p .0 1 (lit< tt)) (p .1 .0 1 (lit< tt)) (p .1 .1 1 (lit< tt)) j few)
-    (c .before .before .axis-misses3 .ensures (K 2) (a .c) (r .z) (p .0 2 (lit< tt)) (p .1 .0 2 (lit< tt)) (p .1 .1 2 (lit< tt)) j few)
+  has : (a : ℕ) → a < 3 → LaneHas (mesh a) (start .args .c) (corner .take-corner .last .1 .1 .1 .1 .1 .0) a (g .rings-at .result)
+  unfolding iterate
+  has =
+      let p = start .pre .0 in
+      lane-has _ _ _ (p .0) (start .args .c) 0 2 (start .args .c) (p .1) (p .1) refl (lit< tt) (g .rings-at .result) (g .rings-at .ensures) _ _
+      (face-held _ _ _ _ _ (face .take-face .ensures)) (corner .take-corner .ensures)
 
-pub corner-misses-spec : {M : Type 1} → statement M
-corner-misses-spec =
-    tie.close (tie.spec net-sides-requires axis-misses-requires axis-misses-requires-2 axis-misses-requires-3 (λ c κs. search needs) (λ c κs. search needs)
-    returns)
+  sized : (a : ℕ) → a < 3 → LaneReady (corner .take-corner .last .1 .1 .1 .1 .1 .0) a (g .rings-at .result)
+  unfolding iterate
+  sized =
+      let p = start .pre .0 in
+      ready-axis _ _ _ (p .0) (start .args .c) 0 2 (start .args .c) (p .1) (p .1) refl (lit< tt) (g .rings-at .result) (g .rings-at .ensures) _ _
+      (face-held _ _ _ _ _ (face .take-face .ensures)) (corner .take-corner .ensures)
+      (corner .take-corner .ensures .same ∙ face .take-face .ensures .same ∙ p .3) (lit< tt)

@@ -14,9 +14,9 @@ returns c =
     let f : SFits w64 (c .wide .result) = search needs in
     let s = c .before .before in
     let a = s .args in
-    let g : SFits w32 (pointIn (a .net .now) (a .axis) (a .k)) = search needs in
+    let g : SFits w32 (pointIn (a .net .now) (a .at) (a .axis) (a .k)) = search needs in
     let e = toZ-ofZ f ∙ c .wide .ensures ∙ toZ-ofZ g in
-    (e, rw e (s .pre .0 (a .k) (s .pre .2)))
+    (e, rw e (s .pre .0 .small (a .k) (s .pre .2)))
 
 pub point-spec : {M : Type 1} → statement M
 point-spec = tie.close (tie.spec (λ c. search needs) (λ c. search needs) (λ c. search needs) (λ c. search needs) (λ c κs. search needs) returns)

@@ -37,7 +37,7 @@ returns c =
     let q = copied _ _ (c .before .before .point2 .ensures) in
     let r = copied _ _ (c .before .point3 .ensures) in
     let s = copied _ _ (c .point4 .ensures) in (
-      four-is (pointIn (a .net .now) (a .axis)) (a .p) (a .q) (a .r) (a .s) _ _ _ _ (p .0) (q .0) (r .0) (s .0),
+      four-is (pointIn (a .net .now) (a .at) (a .axis)) (a .p) (a .q) (a .r) (a .s) _ _ _ _ (p .0) (q .0) (r .0) (s .0),
       record {
         p0 = p .1;
         p1 = q .1;

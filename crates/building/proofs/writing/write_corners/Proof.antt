@@ -1,85 +1,132 @@
 -- `building::writing::write_corners` meets its contract: the corners below `k` of the range are written, on all three axes.
 -- Assumes nothing.
-use mathlib.Core.Path.{_≡_, refl, sym, _∙_, subst}
+use mathlib.Core.Path.{_≡_, refl, sym, _∙_}
 use Prim.Native.Nat.{ℕ, _+_, _-_, _*_, _<_, _≤_}
 use native.Mathlib.Omega.{arith}
+use borrow.Author.Needs.{needs}
 use lib.ListN.{length}
 use denote.Ref.{now}
-use mir.Syntax.{w64}
-use mir.Val.{Fits}
-use Rattle.paper.specs.Numbers.{rounded}
-use Rattle.paper.specs.Refined.{RefinedMesh}
+use Rattle.paper.specs.Corners.{sumOf, firstOf, sidesOf}
+use Rattle.paper.specs.Mesh.{mostSides}
 use Rattle.paper.specs.Calls.{perCorner}
-use Rattle.walk.specs.Table.{toNext, sidesHere, entry}
-use Rattle.refine.specs.faces.Ring.{around}
+use Rattle.mesh.proofs.Faces.{first-to, first-ends}
 use Rattle.net.specs.sides.Drawn.{drawn}
-use Rattle.net.specs.near.Near.{FaceHeld}
+use Rattle.net.specs.near.Near.{Run, Quiet}
 use Rattle.building.specs.writing.Written.{NetsWritten}
-use Rattle.building.proofs.writing.Laws.{written-none, written-step}
-use borrow.Author.Needs.{needs}
+use Rattle.building.proofs.writing.Laws.{written-none, written-run, run-of, quiet-zeros}
 use Rattle.building.proofs.writing.write_corners.Statement.{statement}
 use Rattle.building.proofs.writing.write_corners.Tie as tie
 
 abbrev Inv-loop : tie.InvT-loop
 Inv-loop points table rows n first count out₀ near₀ lanes₀ k₀ out near lanes k =
-    (k ≤ count) × (length out ≡ perCorner * count) × NetsWritten (drawn n table points) first k out × (length near ≡ 68) × (length lanes ≡ 164)
-    × ((k ≡ 0 → ⊥) → FaceHeld (λ (a : ℕ). around points a table toNext (first + k - 1)) (entry table sidesHere (first + k - 1)) near)
+    (k ≤ count) × (length out ≡ length out₀) × NetsWritten (drawn n table points) first k out × (length near ≡ 128) × (length lanes ≡ 164) × Quiet near
 
 abbrev μ-loop : tie.MeasureT-loop
 μ-loop points table rows n first count out₀ near₀ lanes₀ k₀ out near lanes k = count - k
 
--- the mesh that the tables draw, on each axis
-abbrev mesh : tie.Start Inv-loop μ-loop → ℕ → RefinedMesh rounded
-mesh s = drawn (s .args .n) (now (s .args .table)) (now (s .args .points))
-
 loop-holds : tie.Need-loop-holds Inv-loop μ-loop
-loop-holds c = let s = c .before in (search needs, s .pre .1 .0 .2, written-none (mesh s) _ _, refl, refl, λ z. absurd (z refl))
+loop-holds c = (search needs, refl, written-none _ _ _, refl, refl, quiet-zeros 128)
 
-slice-aggregate-put-net : tie.Need-slice-aggregate-put-net Inv-loop μ-loop
-slice-aggregate-put-net c = sym (c .before .before .loop .inv .3)
+-- the face of corner k of the range
+module _ (l : tie.In-loop Inv-loop μ-loop) where
+  abbrev start : tie.Start Inv-loop μ-loop
+  start = l .before .before .before
 
-slice-aggregate-put-net-2 : tie.Need-slice-aggregate-put-net-2 Inv-loop μ-loop
-slice-aggregate-put-net-2 c = sym (c .before .before .before .loop .inv .4)
+  abbrev corner : ℕ
+  corner = start .args .first + l .before .loop .k
 
-put-net-requires : tie.Need-put-net-requires Inv-loop μ-loop
-put-net-requires c κs =
-    let s = c .before .before .before .before .before .before in
-    let l = c .before .before .before .before .loop in
-    let h : l .k < s .args .count = search needs in (
-      (s .pre .0, omega (arith, s .pre .1 .0 .1)),
-      ((l .inv .3, l .inv .4), (omega (arith, l .inv .1), (s .pre .1 .1, (λ z w. l .inv .5 (λ e. z (omega arith)))))),
+  corner-in : corner < start .args .n
+  corner-in = omega (arith, start .pre .1 .0 .0, l .loop-test .taken)
+
+  listed : corner < sumOf (start .pre .0 .1 .sides)
+  listed = omega (arith, corner-in, start .pre .0 .1 .all)
+
+face-end-requires : tie.Need-face-end-requires Inv-loop μ-loop
+face-end-requires c κs =
+    let l : tie.In-loop Inv-loop μ-loop = search in
+    let f = start l .pre .0 .1 in record { sides = f .sides; rounds = f .rounds; here = listed l }
+
+-- where it ends
+module _ (e : tie.After-face-end Inv-loop μ-loop) where
+  abbrev turn : tie.In-loop Inv-loop μ-loop
+  turn = e .before
+
+  end-is : let s = start turn .pre .0 .1 .sides in e .face-end .result ≡ firstOf s (corner turn) + sidesOf s (corner turn)
+  end-is = let f = start turn .pre .0 .1 in e .face-end .ensures (f .sides) (f .rounds) (listed turn)
+
+  past : (corner turn < e .face-end .result) × (e .face-end .result ≤ start turn .args .n)
+  past =
+      let f = start turn .pre .0 .1 in
+      (omega (arith, end-is, first-to (f .sides) (corner turn) (listed turn)), omega (arith, end-is, first-ends (f .sides) (corner turn) (listed turn), f .all))
+
+-- the run
+module _ (r : tie.After-least Inv-loop μ-loop) where
+  abbrev ends : tie.After-face-end Inv-loop μ-loop
+  ends = r .before
+
+  run-is : let l = turn ends in
+      (0 < r .least .result) × (l .before .loop .k + r .least .result ≤ start l .args .count) × Run (now (start l .args .table)) (corner l) (r .least .result)
+  run-is =
+      let l = turn ends in
+      let s = start l in
+      let b = r .least .ensures in
+      let p = past ends in (
+        b .2 (omega (arith, p .0)) (omega (arith, l .loop-test .taken)),
+        omega (arith, b .1, l .loop-test .taken),
+        run-of _ _ _ (s .pre .0 .0) (s .pre .0 .1) _ _ (corner-in l) (omega (arith, b .0, p .0, end-is ends)),
+      )
+
+sub-least : tie.Need-sub-least Inv-loop μ-loop
+sub-least c = let p = past c in omega (arith, p .0)
+
+sub-least-2 : tie.Need-sub-least-2 Inv-loop μ-loop
+sub-least-2 c = omega (arith, turn c .loop-test .taken)
+
+put-run-requires : tie.Need-put-run-requires Inv-loop μ-loop
+put-run-requires c κs =
+    let r : tie.After-least Inv-loop μ-loop = search in
+    let l = turn (ends r) in
+    let s = start l in
+    let i = l .before .loop .inv in
+    let q = run-is r in (
+      (s .pre .0 .0, omega (arith, q .1, s .pre .1 .0 .0), q .2),
+      ((i .3, i .4, i .5), ((q .0, omega (arith, q .1, i .1, s .pre .1 .0 .1)), s .pre .1 .1)),
     )
 
 add-k : tie.Need-add-k Inv-loop μ-loop
 add-k c =
-    let in-loop = c .before .before .before .before .before .before .before in
-    let s = in-loop .before .before .before in
-    let f : Fits w64 (in-loop .before .loop .k + 1) = omega (arith, in-loop .loop-test .taken, s .fits .count, s .pre .1 .0 .0) in
-    f
+    let r : tie.After-least Inv-loop μ-loop = search in
+    let s = start (turn (ends r)) in
+    omega (arith, run-is r .1, s .fits .count)
+
+loop-less : tie.Need-loop-less Inv-loop μ-loop
+loop-less c =
+    let r : tie.After-least Inv-loop μ-loop = search in
+    omega (arith, run-is r .0, run-is r .1)
 
 loop-again : tie.Need-loop-again Inv-loop μ-loop
 loop-again c =
-    let in-loop = c .before .before .before .before .before .before .before in
-    let s = in-loop .before .before .before in
-    let l = in-loop .before .loop in
-    let p = c .before .before .before .put-net in (
-      omega (arith, in-loop .loop-test .taken, s .pre .1 .0 .0),
-      p .ensures .0 .same ∙ l .inv .1,
-      written-step (mesh s) (s .args .first) (l .k) (l .out) _ (l .inv .2) (p .ensures .0),
-      p .kept .1 .1 .1 .1 .1 .0 ∙ l .inv .3,
-      p .kept .1 .1 .1 .1 .1 .1 .0 ∙ l .inv .4,
-      (λ z. let q : s .args .first + l .k ≡ s .args .first + (l .k + 1) - 1 = omega arith in
-          subst (λ (c : ℕ). FaceHeld (λ (a : ℕ). around (now (s .args .points)) a (now (s .args .table)) toNext c) (entry (now (s .args .table)) sidesHere c)
-          (p .last .1 .1 .1 .1 .1 .0)) q (p .ensures .1)),
+    let p : tie.After-put-run Inv-loop μ-loop = search in
+    let r : tie.After-least Inv-loop μ-loop = search in
+    let l = turn (ends r) in
+    let i = l .before .loop .inv in (
+      run-is r .1,
+      p .put-run .ensures .0 .same ∙ i .1,
+      written-run _ _ _ _ _ _ (i .2) (p .put-run .ensures .0),
+      p .put-run .kept .1 .1 .1 .1 .1 .1 .0 ∙ i .3,
+      p .put-run .kept .1 .1 .1 .1 .1 .1 .1 .0 ∙ i .4,
+      p .put-run .ensures .1,
     )
 
 returns : tie.Need-returns Inv-loop μ-loop
 returns c =
-    let s = c .before .before .before in
+    let s : tie.Start Inv-loop μ-loop = search in
     let l = c .before .loop in
-    subst (λ (k : ℕ). NetsWritten (mesh s) (s .args .first) k (l .out)) (let q : l .k ≡ s .args .count = omega arith in q) (l .inv .2)
+    let e : l .k ≡ s .args .count = omega arith in
+    rw e at (l .inv .2)
 
 pub write-corners-spec : {M : Type 1} → statement M
 write-corners-spec =
-    tie.close (tie.spec Inv-loop μ-loop loop-holds (λ c. search needs) (λ c. search needs) slice-aggregate-put-net slice-aggregate-put-net-2
-    put-net-requires add-k (λ c. search needs) loop-again (λ c. search needs) returns)
+    tie.close (tie.spec Inv-loop μ-loop loop-holds (λ c. search needs) face-end-requires sub-least sub-least-2 (λ c κs. search needs) (λ c. search needs)
+    (λ c. sym (c .before .before .loop .inv .3)) (λ c. sym (c .before .before .before .loop .inv .4)) put-run-requires add-k loop-less loop-again
+    (λ c. c .before .loop .inv .1) returns)

@@ -82,9 +82,12 @@ write-corners-requires c κs =
     let b = c .before .before .before .before .before .before .before in
     let s = t b in
     let r = s .pre .1 .1 .0 in (
-      drawn-of (mesh s) (s .pre .0) (now (s .args .table)) (now (s .args .points)) _ (s .args .first) (s .args .count) _ _ (s .pre .1 .0)
-          (r .0) (r .1) (at-first b) (at-last b) (s .pre .1 .1 .1 .0) (c .before .before .before .before .before .fill-asked .ensures),
-      ((r .0, r .1, r .2), c .before .before .before .rows .ensures),
+      (
+        drawn-of (mesh s) (s .pre .0) (now (s .args .table)) (now (s .args .points)) _ (s .args .first) (s .args .count) _ _ (s .pre .1 .0)
+            (r .0) (r .1) (at-first b) (at-last b) (s .pre .1 .1 .1 .0) (c .before .before .before .before .before .fill-asked .ensures),
+        record { sides = now (s .args .sides); rounds = rounds s; all = sums s },
+      ),
+      ((r .1, omega (arith, r .2)), c .before .before .before .rows .ensures),
     )
 
 returns : tie.Need-returns

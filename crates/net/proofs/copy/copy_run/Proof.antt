@@ -37,51 +37,6 @@ loop-holds c = (
       (zero-more (c .args .point)) (copied-none _ _ _ _),
 )
 
-add-p : tie.Need-add-p Inv-loop μ-loop
-add-p c = record { fits = omega (arith, below (c)) }
-
-mul-from : tie.Need-mul-from Inv-loop μ-loop
-mul-from c = record { fits = omega (arith, below (c)) }
-
-mul-x : tie.Need-mul-x Inv-loop μ-loop
-mul-x c = record { fits = omega (arith, below (c)) }
-
-shared-slice-copy-out-x : tie.Need-shared-slice-copy-out-x Inv-loop μ-loop
-shared-slice-copy-out-x c = let l = c in omega (arith, below l, l .before .before .pre .1)
-
-add-y : tie.Need-add-y Inv-loop μ-loop
-add-y c = record { fits = omega (arith, below (c .before)) }
-
-mul-y : tie.Need-mul-y Inv-loop μ-loop
-mul-y c = record { fits = omega (arith, below (c .before)) }
-
-shared-slice-copy-out-y : tie.Need-shared-slice-copy-out-y Inv-loop μ-loop
-shared-slice-copy-out-y c = let l = c .before in omega (arith, below l, l .before .before .pre .1)
-
-add-z : tie.Need-add-z Inv-loop μ-loop
-add-z c = record { fits = omega (arith, below (c .before .before)) }
-
-mul-z : tie.Need-mul-z Inv-loop μ-loop
-mul-z c = record { fits = omega (arith, below (c .before .before)) }
-
-shared-slice-copy-out-z : tie.Need-shared-slice-copy-out-z Inv-loop μ-loop
-shared-slice-copy-out-z c = let l = c .before .before in omega (arith, below l, l .before .before .pre .1)
-
-add-w : tie.Need-add-w Inv-loop μ-loop
-add-w c = record { fits = omega (arith, below (c .before .before .before)) }
-
-mul-w : tie.Need-mul-w Inv-loop μ-loop
-mul-w c = record { fits = omega (arith, below (c .before .before .before)) }
-
-shared-slice-copy-out-w : tie.Need-shared-slice-copy-out-w Inv-loop μ-loop
-shared-slice-copy-out-w c = let l = c .before .before .before in omega (arith, below l, l .before .before .pre .1)
-
-mul-put-four : tie.Need-mul-put-four Inv-loop μ-loop
-mul-put-four c = record { fits = omega (arith, below (c .before .before .before .before .before)) }
-
-add-put-four : tie.Need-add-put-four Inv-loop μ-loop
-add-put-four c = let l = c .before .before .before .before .before in search (needs, below l, l .before .before .pre .2)
-
 put-four-requires : tie.Need-put-four-requires Inv-loop μ-loop
 put-four-requires c κs = let l = c .before .before .before .before .before in omega (arith, below l, l .before .before .pre .2, l .before .loop .inv .1 .same)
 
@@ -97,7 +52,7 @@ loop-again c =
       subst (λ (i : ℕ). Copied (s .args .lanes .now) (s .args .at) (s .args .point) i (s .args .out .now) (c .before .put-four .last .1 .1 .1 .1 .0))
           (one-more (s .args .point) (l .before .loop .j))
           (copied-more (s .args .lanes .now) (s .args .at) (s .args .point) n 4 (s .args .at + 3 * n) (s .args .out .now) (l .before .loop .out) _ _ _ _ refl
-          (omega arith) (omega (arith, below l)) (l .before .loop .inv .1) (toZ-ofZ fx) (toZ-ofZ fy) (toZ-ofZ fz) (c .before .put-four .ensures)),
+          (omega arith) (omega (arith, below l)) (l .before .loop .inv .1) (toZ-ofZ fx) (toZ-ofZ fy) (toZ-ofZ fz) (c .before .put-four .ensures .0)),
     )
 
 same-length : tie.Need-same-length Inv-loop μ-loop
@@ -112,6 +67,10 @@ returns c =
 
 pub copy-run-spec : {M : Type 1} → statement M
 copy-run-spec =
-    tie.close (tie.spec Inv-loop μ-loop loop-holds add-p mul-from mul-x shared-slice-copy-out-x add-y mul-y shared-slice-copy-out-y add-z mul-z
-    shared-slice-copy-out-z add-w mul-w shared-slice-copy-out-w mul-put-four add-put-four put-four-requires (λ c. search needs) (λ c. search needs)
-    loop-again same-length returns)
+    tie.close (tie.spec Inv-loop μ-loop loop-holds (λ c. search (needs, below c)) (λ c. search (needs, below c)) (λ c. search (needs, below c))
+    (λ c. search (needs, below c)) (λ c. search (needs, below (c .before))) (λ c. search (needs, below (c .before))) (λ c. search (needs, below (c .before)))
+    (λ c. search (needs, below (c .before .before))) (λ c. search (needs, below (c .before .before))) (λ c. search (needs, below (c .before .before)))
+    (λ c. search (needs, below (c .before .before .before))) (λ c. search (needs, below (c .before .before .before)))
+    (λ c. search (needs, below (c .before .before .before))) (λ c. search (needs, below (c .before .before .before .before .before)))
+    (λ c. search (needs, below (c .before .before .before .before .before))) put-four-requires (λ c. search needs) (λ c. search needs) loop-again same-length
+    returns)

@@ -1,58 +1,28 @@
--- `net::near::take_face` meets its contract, row by row.
+-- `net::near::take_face` meets its contract, by cases on the sides.
 -- Assumes nothing.
-use native.Mathlib.Omega.{arith}
+use mathlib.Core.Path.{sym, _∙_}
 use borrow.Author.Needs.{needs}
-use lib.Dec.{lit≤}
-use Rattle.net.proofs.near.Rows.{plain-size, as-face, face-taken}
+use lib.Dec.{lit<}
+use Rattle.net.proofs.near.Rings.{row-in}
 use Rattle.net.proofs.near.take_face.Statement.{statement}
 use Rattle.net.proofs.near.take_face.Tie as tie
 
-take-row-requires : tie.Need-take-row-requires
-take-row-requires c κs =
-    let s = c .before .before .before .before in (
-      plain-size (s .args .f .centre) (as-face (s .args .f .centre) (s .pre .0 .centre)),
-      plain-size (s .args .g .centre) (as-face (s .args .g .centre)
-          (s .pre .1 .centre)),
-      plain-size (s .args .h .centre) (as-face (s .args .h .centre) (s .pre .2 .centre)),
-      lit≤ tt,
-      omega (arith, s .pre .3),
-    )
+sides-requires : tie.Need-sides-requires
+sides-requires c κs = let p = c .before .pre .0 in row-in _ _ _ (p .0) _ _ (lit< tt) (p .1)
 
-take-row-requires-2 : tie.Need-take-row-requires-2
-take-row-requires-2 c κs =
-    let s = c .before .before .before .before .before .before .before .before .before .before in (
-      plain-size (s .args .f .ahead) (s .pre .0 .ahead),
-      plain-size (s .args .g .ahead) (s .pre .1 .ahead),
-      plain-size (s .args .h .ahead) (s .pre .2
-          .ahead),
-      lit≤ tt,
-      omega (arith, s .pre .3, c .before .before .before .before .before .take-row .ensures .same),
-    )
+take-quad-requires : tie.Need-take-quad-requires
+take-quad-requires c κs =
+    let n : tie.After-sides = search in
+    let s : tie.Start = search in
+    ((s .pre .0 .0, s .pre .0 .1, sym (n .sides .ensures .read) ∙ c .before .if1 .taken), s .pre .1)
 
-take-row-requires-3 : tie.Need-take-row-requires-3
-take-row-requires-3 c κs =
-    let s = c .before .before .before .before .before .before .before .before .before .before .before .before .before .before .before .before in (
-      plain-size (s .args .f .behind) (s .pre .0 .behind),
-      plain-size (s .args .g .behind) (s .pre .1 .behind),
-      plain-size (s .args .h .behind) (s .pre .2 .behind),
-      lit≤ tt,
-      omega (
-        arith,
-        s .pre .3,
-        c .before .before .before .before .before .take-row2 .ensures .same,
-        c .before .before .before .before .before .before
-            .before .before .before .before .before .take-row .ensures .same,
-      ),
-    )
-
-returns : tie.Need-returns
-returns c =
-    let s = c .before .before .before .before .before .before .before .before .before .before .before .before .before .before .before .before .before
-    .before in
-    face-taken (s .args .f) (s .args .g) (s .args .h) (s .pre .0) (s .pre .1) (s .pre .2) (s .args .i) (s .args .near .now) _ _ _
-    (c .before .before .before .before .before .before .before .before .before .before .before .before .before .take-row .ensures) (c .before .before
-    .before .before .before .before .before .take-row2 .ensures) (c .before .take-row3 .ensures)
+take-ring-requires : tie.Need-take-ring-requires
+take-ring-requires c κs =
+    let n : tie.After-sides = search in
+    let s : tie.Start = search in
+    ((s .pre .0 .0, s .pre .0 .1, sym (n .sides .ensures .read), s .pre .0 .2), s .pre .1)
 
 pub take-face-spec : {M : Type 1} → statement M
 take-face-spec =
-    tie.close (tie.spec take-row-requires (λ c. search needs) take-row-requires-2 (λ c. search needs) take-row-requires-3 (λ c. search needs) returns)
+    tie.close (tie.spec sides-requires take-quad-requires take-ring-requires (λ c. search needs) (λ c. c .before .take-quad .ensures) (λ c. search needs)
+    (λ c. c .before .take-ring .ensures))

@@ -5,10 +5,8 @@ use mathlib.Core.List.{List}
 use Prim.Native.Nat.{_+_}
 use native.Mathlib.Omega.{arith}
 use borrow.Author.Needs.{needs}
-use lib.Dec.{lit<}
 use lib.IntN.{ℤ}
 use Rattle.paper.specs.Net.{rows}
-use Rattle.net.proofs.rows.Laws.{value-written}
 use Rattle.net.specs.points.Placed.{Placed}
 use Rattle.net.proofs.points.Laws.{a-is, b-is, lane-laid, other-lanes}
 use Rattle.net.proofs.points.put_lane.Statement.{statement}
@@ -16,53 +14,47 @@ use Rattle.net.proofs.points.put_lane.Tie as tie
 
 b-grid-requires : tie.Need-b-grid-requires
 b-grid-requires c κs =
-    let s = c .before .before .before .before .before .before .before .before .before .before .before .before .before in
-    let a = c .before .before .before .before in
-    let r = a .before in
-    let w = a .a-grid .ensures .square .written in (
-      record {
-        rows0 = r .before .before .before .side-rows .ensures .sized;
-        rows1 = r .before .before .side-rows2 .ensures .sized;
-        rows2 = r .before .side-rows3 .ensures .sized;
-        rows3 = r .side-rows4 .ensures .sized;
-      },
-      w 1 2 (lit< tt) (lit< tt),
-      w 2 1 (lit< tt) (lit< tt),
-      record {
-        end0 = value-written (s .args .n .side0 .head) (s .pre .0 .side0 .head);
-        end1 = value-written (s .args .n .side0 .tail) (s .pre .0 .side0 .tail);
-        end2 = value-written (s .args .n .side2 .head) (s .pre .0 .side2 .head);
-        end3 = value-written (s .args .n .side3 .tail) (s .pre .0 .side3 .tail);
-      },
+    let a : tie.After-a-grid = search in
+    let v : tie.After-side-rows4 = search in
+    let u : tie.After-side-rows3 = search in
+    let t : tie.After-side-rows2 = search in
+    let r : tie.After-side-rows = search in (
+      record { rows0 = r .side-rows .ensures .sized; rows1 = t .side-rows2 .ensures .sized; rows2 = u .side-rows3 .ensures .sized; rows3 = v .side-rows4 .ensures .sized },
+      a .a-grid .ensures .sized .0,
+      a .a-grid .ensures .sized .1,
     )
 
 put-b-requires : tie.Need-put-b-requires
 put-b-requires c κs =
-    let s = c .before .before .before .before .before .before .before .before .before .before .before .before .before .before .before in
+    let a : tie.After-a-grid = search in
+    let r : tie.After-side-rows = search in
+    let s = r .before .before .before .before .before in
     (omega (arith, s .pre .1, s .pre .2), c .before .b-grid .ensures .square)
 
 add-put-a : tie.Need-add-put-a
-add-put-a c = let s = c .before .before .before .before .before .before .before .before .before .before .before .before .before .before .before .before
-    .before .before in record { fits = omega (arith, s .pre .1) }
+add-put-a c =
+    let a : tie.After-a-grid = search in
+    let r : tie.After-side-rows = search in
+    let s = r .before .before .before .before .before in
+    record { fits = omega (arith, s .pre .1) }
 
 put-a-requires : tie.Need-put-a-requires
 put-a-requires c κs =
-    let s = c .before .before .before .before .before .before .before .before .before .before .before .before .before .before .before .before .before
-    .before in (
-      omega (arith, s .pre .1, s .pre .2, c .before .before .put-b .ensures .same),
-      c .before .before .before .before .before .before .before .before
-          .before .a-grid .ensures .square,
-    )
+    let a : tie.After-a-grid = search in
+    let r : tie.After-side-rows = search in
+    let s = r .before .before .before .before .before in
+    (omega (arith, s .pre .1, s .pre .2, c .before .before .put-b .ensures .same), a .a-grid .ensures .square)
 
 returns : tie.Need-returns
 returns c =
-    let s = c .before .before .before .before .before .before .before .before .before .before .before .before .before .before .before .before .before
-    .before .before .before in
-    let b = c .before .before .before .before in
-    let g = b .before .before in
-    let a = c .before .before .before .before .before .before .before .before .before .before .before in
-    let r = a .before in
-    let n = s .args .n in
+    let b : tie.After-put-b = search in
+    let g : tie.After-b-grid = search in
+    let a : tie.After-a-grid = search in
+    let v : tie.After-side-rows4 = search in
+    let u : tie.After-side-rows3 = search in
+    let t : tie.After-side-rows2 = search in
+    let r : tie.After-side-rows = search in
+    let s = r .before .before .before .before .before in
     let mid = b .put-b .last .1 .0 in
     let new = c .before .put-a .last .1 .0 in
     record {
@@ -70,11 +62,11 @@ returns c =
       laid = λ K d f.
           lane-laid K d (s .args .k) (s .args .lanes .now) mid new
           (subst (λ (z : List (List ℤ)). Placed (s .args .lanes .now) mid (s .args .k) (rows z))
-          (b-is K d n f _ _ _ _ (r .before .before .before .side-rows .ensures) (r .before .before .side-rows2 .ensures) (r .before .side-rows3 .ensures)
-          (r .side-rows4 .ensures) _ _ (a .a-grid .ensures) (g .b-grid .ensures)) (b .put-b .ensures))
+          (b-is K d (s .args .n) f (s .pre .0) _ _ _ _ (r .side-rows .ensures) (t .side-rows2 .ensures) (u .side-rows3 .ensures) (v .side-rows4 .ensures) _ _
+          (a .a-grid .ensures) (g .b-grid .ensures)) (b .put-b .ensures))
           (subst (λ (z : List (List ℤ)). Placed mid new (s .args .k + 100) (rows z))
-          (a-is K d n f _ _ _ _ (r .before .before .before .side-rows .ensures) (r .before .before .side-rows2 .ensures) (r .before .side-rows3 .ensures)
-          (r .side-rows4 .ensures) _ (a .a-grid .ensures)) (c .before .put-a .ensures));
+          (a-is K d (s .args .n) f (s .pre .0) _ _ _ _ (r .side-rows .ensures) (t .side-rows2 .ensures) (u .side-rows3 .ensures) (v .side-rows4 .ensures) _
+          (a .a-grid .ensures)) (c .before .put-a .ensures));
       others = other-lanes (s .args .k) (s .args .lanes .now) mid new _ _ (s .pre .1) (b .put-b .ensures) (c .before .put-a .ensures);
     }
 

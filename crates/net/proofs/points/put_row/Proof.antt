@@ -8,8 +8,11 @@ use borrow.Author.Needs.{needs}
 use lib.ListN.{length, take, getD}
 use lib.Seq.{take-all}
 use lib.IntN.{ℤ, pos}
+use mir.Syntax.{w32}
+use mir.Val.{SFits}
+use mir.Facts.{toZ-ofZ}
 use Rattle.net.specs.points.Placed.{Placed}
-use Rattle.net.proofs.points.Laws.{placed-none, row-step, number}
+use Rattle.net.proofs.points.Laws.{placed-none, row-step}
 use Rattle.net.proofs.points.put_row.Statement.{statement}
 use Rattle.net.proofs.points.put_row.Tie as tie
 
@@ -21,39 +24,20 @@ abbrev μ-loop : tie.MeasureT-loop
 
 -- the place of number j
 room : (c : tie.After-v Inv-loop μ-loop) → c .before .before .before .args .from + 4 * c .before .before .loop .j < length (c .before .before .loop .out)
-room c = omega (arith, c .before .before .before .pre .0, c .before .before .loop .inv .1 .same, c .before .loop-test .taken)
+room c = omega (arith, c .before .before .before .pre, c .before .before .loop .inv .1 .same, c .before .loop-test .taken)
 
 loop-holds : tie.Need-loop-holds Inv-loop μ-loop
 loop-holds c = (search needs, placed-none (c .args .out .now) (c .args .from))
-
-cast-out : tie.Need-cast-out Inv-loop μ-loop
-cast-out c = let s = c .before .before .before in number (getD (s .args .row .now) (c .before .before .loop .j) (pos 0)) (s .pre .1 _
-    (c .before .loop-test .taken)) .0
-
-mul-t6 : tie.Need-mul-t6 Inv-loop μ-loop
-mul-t6 c = omega (arith, room c)
-
-add-t11 : tie.Need-add-t11 Inv-loop μ-loop
-add-t11 c = omega (arith, room c)
-
-mul-t12 : tie.Need-mul-t12 Inv-loop μ-loop
-mul-t12 c = omega (arith, room c)
-
-slice-set-from-out : tie.Need-slice-set-from-out Inv-loop μ-loop
-slice-set-from-out c = room c
 
 loop-again : tie.Need-loop-again Inv-loop μ-loop
 loop-again c =
     let s = c .before .before .before in
     let l = c .before .before .loop in
-    let n = number (getD (s .args .row .now) (l .j) (pos 0)) (s .pre .1 _ (c .before .loop-test .taken)) in (
+    let f : SFits w32 (getD (s .args .row .now) (l .j) (pos 0)) = search needs in (
       omega arith,
-      rw (n .1) (row-step (s .args .out .now) (l .out) (s .args .from) (s .args .from + 4 * l .j) (l .j) (s .args .row .now)
+      rw (toZ-ofZ f) (row-step (s .args .out .now) (l .out) (s .args .from) (s .args .from + 4 * l .j) (l .j) (s .args .row .now)
           (c .before .loop-test .taken) refl (room c) (l .inv .1)),
     )
-
-same-length : tie.Need-same-length Inv-loop μ-loop
-same-length c = c .before .loop .inv .1 .same
 
 returns : tie.Need-returns Inv-loop μ-loop
 returns c =
@@ -63,5 +47,6 @@ returns c =
 
 pub put-row-spec : {M : Type 1} → statement M
 put-row-spec =
-    tie.close (tie.spec Inv-loop μ-loop loop-holds (λ c. search needs) (λ c. search needs) cast-out mul-t6 add-t11 mul-t12 slice-set-from-out
-    (λ c. search needs) (λ c. search needs) loop-again same-length returns)
+    tie.close (tie.spec Inv-loop μ-loop loop-holds (λ c. search needs) (λ c. search needs) (λ c. omega (arith, room c)) (λ c. omega (arith, room c)) (λ c. omega (arith, room c)) room
+    (λ c. search needs)
+    (λ c. search needs) loop-again (λ c. c .before .loop .inv .1 .same) returns)

@@ -4,68 +4,38 @@ use Rattle.net.proofs.rows.Laws.{value, value-written, row, rows-of}
 use Rattle.net.proofs.rows.side_rows.Statement.{statement}
 use Rattle.net.proofs.rows.side_rows.Tie as tie
 
+-- before the sides' values are read
+abbrev start : tie.After-struct-told11 → tie.Start
+start c = c .before .before .before .before .before .before .before .before .before .before .before
+
 quarter-requires : tie.Need-quarter-requires
-quarter-requires c κs = let s = c .before .before .before .before .before .before .before .before .before .before .before in (
-  value
-      (s .args .f .head) (s .pre .0 .head),
-  value (s .args .f .x) (s .pre .0 .x),
-)
+quarter-requires c κs = let s = start c in search value
 
 half-requires : tie.Need-half-requires
-half-requires c κs = let s = c .before .before .before .before .before .before .before .before .before .before .before .before in (
-  value-written
-      (s .args .f .x) (s .pre .0 .x),
-  value-written (s .args .f .y) (s .pre .0 .y),
-)
+half-requires c κs = let s = start (c .before) in search value-written
 
 quarter-requires-2 : tie.Need-quarter-requires-2
-quarter-requires-2 c κs = let s = c .before .before .before .before .before .before .before .before .before .before .before .before .before in
-    (value (s .args .f .tail) (s .pre .0 .tail), value (s .args .f .y) (s .pre .0 .y))
+quarter-requires-2 c κs = let s = start (c .before .before) in search value
 
 second-requires : tie.Need-second-requires
-second-requires c κs =
-    let s = c .before .before .before .before .before .before .before .before .before .before .before .before .before .before in
-    let here = row (s .args .f .cosine) (s .pre .0 .cosine) in
-    let there = row (s .args .l .cosine) (s .pre .2 .cosine) in (
-      search (here, there),
-      value (s .args .f .head) (s .pre .0 .head),
-      value (s .args .f .x) (s .pre .0 .x),
-      value (s .args .f .y) (s .pre .0 .y),
-      value (s .args .g .x) (s .pre .1 .x),
-      value (s .args .f .inner) (s .pre .0 .inner),
-    )
+second-requires c κs = let s = start (c .before .before .before) in search (value, row)
 
 third-requires : tie.Need-third-requires
-third-requires c κs =
-    let s = c .before .before .before .before .before .before .before .before .before .before .before .before .before .before .before in
-    let here = row (s .args .f .cosine) (s .pre .0 .cosine) in
-    let there = row (s .args .l .cosine) (s .pre .2 .cosine) in (
-      search (here, there),
-      value (s .args .f .tail) (s .pre .0 .tail),
-      value (s .args .f .y) (s .pre .0 .y),
-      value (s .args .l .y) (s .pre .2 .y),
-      value (s .args .f .inner) (s .pre .0 .inner),
-    )
+third-requires c κs = let s = start (c .before .before .before .before) in search (value, row)
 
 middle-requires : tie.Need-middle-requires
-middle-requires c κs =
-    let s = c .before .before .before .before .before .before .before .before .before .before .before .before .before .before .before .before in (
-      value (s .args .f .inner) (s .pre .0 .inner),
-      value (s .args .o .inner) (s .pre .3 .inner),
-      value (s .args .g .inner) (s .pre .1 .inner),
-      value (s .args .l .inner) (s .pre .2 .inner),
-      value (s .args .g .x) (s .pre .1 .x),
-      value (s .args .l .y) (s .pre .2 .y),
-      value (s .args .f .head) (s .pre .0 .head),
-      value (s .args .f .tail) (s .pre .0 .tail),
-    )
+middle-requires c κs = let s = start (c .before .before .before .before .before) in search value
 
 returns : tie.Need-returns
 returns c =
-    let s = c .before .before .before .before .before .before .before .before .before .before .before .before .before .before .before .before .before in
-    rows-of (s .args .f) (s .args .g) (s .args .l) (s .args .o) (s .pre) _ _ _ _ _ _ (c .before .before .before .before .before .quarter .ensures)
-    (c .before .before .before .before .half .ensures) (c .before .before .before .quarter2 .ensures)
-    (c .before .before .second .ensures) (c .before .third .ensures) (c .middle .ensures)
+    let v : tie.After-third = search in
+    let u : tie.After-second = search in
+    let t : tie.After-quarter2 = search in
+    let q : tie.After-half = search in
+    let p : tie.After-quarter = search in
+    let s = start (p .before) in
+    rows-of (s .args .f) (s .args .g) (s .args .l) (s .args .o) (s .pre) _ _ _ _ _ _ (p .quarter .ensures) (q .half .ensures) (t .quarter2 .ensures)
+    (u .second .ensures) (v .third .ensures) (c .middle .ensures)
 
 pub side-rows-spec : {M : Type 1} → statement M
 side-rows-spec = tie.close (tie.spec quarter-requires half-requires quarter-requires-2 second-requires third-requires middle-requires returns)

@@ -5,7 +5,7 @@ use Prim.Native.Nat.{_+_, _^_, _≤_}
 use native.Mathlib.Omega.{arith}
 use borrow.Author.Needs.{needs}
 use lib.IntN.{ℤ, pos, natAbs, _+ℤ_, _-ℤ_, _*ℤ_}
-use mir.Syntax.{w64}
+use mir.Syntax.{w32}
 use mir.Val.{SFits}
 use mir.Facts.{toZ-ofZ}
 use Rattle.paper.specs.Numbers.{round}
@@ -25,7 +25,7 @@ returns c =
     let k = s .fits in
     let x = s .args in
     let q = c .inner .result in
-    let f : SFits w64 q = search needs in
+    let f : SFits w32 q = search needs in
     let e : q ≡ round (pos 3 *ℤ x .x +ℤ pos 3 *ℤ x .y +ℤ x .v -ℤ x .w) (pos 6) = simp (toZ-ofZ, k .x, k .y, k .v, k .w) at (c .inner .ensures .0) in
     record {
       head = toZ-ofZ (k .head);

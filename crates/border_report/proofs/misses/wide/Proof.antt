@@ -1,9 +1,9 @@
--- `border_report::border_misses::wide` meets its contract: 32 bits fit 64.
+-- `border_report::misses::wide` meets its contract: 32 bits fit 64.
 -- Assumes nothing.
 use mir.Syntax.{w32, w64}
 use mir.Facts.{toZ-ofZ, sfits-widen}
-use Rattle.border_report.proofs.border_misses.wide.Statement.{statement}
-use Rattle.border_report.proofs.border_misses.wide.Tie as tie
+use Rattle.border_report.proofs.misses.wide.Statement.{statement}
+use Rattle.border_report.proofs.misses.wide.Tie as tie
 
 cast-result : tie.Need-cast-result
 cast-result c = rw (toZ-ofZ (c .fits .z)) (sfits-widen {w = w32} {w′ = w64} tt (c .fits .z))
