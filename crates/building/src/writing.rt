@@ -1,5 +1,6 @@
 // The numbers that building writes: the refined points of the corners at the vertices of the range's faces are computed once, and then the
 // quad-nets are written face by face, so that each part of the output is gone over once.
+use mesh::least;
 use numbers::cosines;
 use paper::MOST_VERTICES;
 use paper::NUMBERS_PER_CORNER;
@@ -148,10 +149,4 @@ pub fn write_corners(
         );
         k += run;
     }
-}
-
-fn least(a: usize, b: usize) -> usize
-    ensures { λ r. ⌜ (r ≤ a) × (r ≤ b) × (0 < a → 0 < b → 0 < r) ⌝ }
-{
-    if a < b { a } else { b }
 }

@@ -73,9 +73,10 @@ module _ (r : tie.After-least Inv-loop μ-loop) where
       let l = turn ends in
       let s = start l in
       let b = r .least .ensures in
-      let p = past ends in (
-        b .2 (omega (arith, p .0)) (omega (arith, below l)),
-        omega (arith, b .1, below l),
+      let p = past ends in
+      let some : r .least .result ≡ 0 → ⊥ = λ e. omega (arith, b .1 .0 (omega (arith, below l)), p .0) in (
+        omega (arith, some),
+        omega (arith, b .1 .1, below l),
         run-of _ _ _ (s .pre .0 .0) (s .pre .0 .1) _ _ (corner-in l) (omega (arith, b .0, p .0, end-is ends)),
       )
 
