@@ -123,7 +123,7 @@ pub fn write_corners(
     out: &mut [i32],
 )
     requires mesh { ⌜ Drawn n (now table) (now points) × Faced n (now table) ⌝ }
-    requires range { ⌜ (first + count ≤ n) × (perCorner * count ≤ length (now out)) ⌝ }
+    requires range { ⌜ (0 < count) × (first + count ≤ n) × (perCorner * count ≤ length (now out)) ⌝ }
     requires rows { ⌜ now rows ≡ stored ⌝ }
     ensures { λ _. ⌜ NetsWritten (drawn n (now (table .entry)) (now (points .entry))) first count (now (out .exit)) ⌝ }
 {

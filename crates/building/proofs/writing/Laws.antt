@@ -32,12 +32,12 @@ use Rattle.walk.specs.Table.{toNext, toPrevious, entry, Tabled}
 use Rattle.refine.specs.Marks.{Asked, Marked}
 use Rattle.refine.specs.sums.Sources.{Faces}
 use Rattle.refine.specs.corners.Mean.{MarkedPointed}
-use Rattle.refine.proofs.Accepted.{vertex-in, refinable-of, table-agrees, table-sound}
+use Rattle.refine.proofs.Accepted.{vertex-in, faces-of, refinable-of, table-agrees, table-sound}
 use Rattle.refine.proofs.Points.{put-choice}
 use Rattle.net.specs.sides.Drawn.{drawn, Drawn}
 use Rattle.net.specs.near.Near.{Run, Quiet}
 use Rattle.net.specs.Put.{RunPut}
-use Rattle.building.specs.writing.Written.{NearPointed, Faced, NetsWritten}
+use Rattle.building.specs.writing.Written.{NearPointed, Rounds, Faced, NetsWritten}
 
 -- ---- place i of the output holds point `i % perCorner / 3` of corner `i / perCorner` on axis `i % 3`
 place : (i : ℕ) → perCorner * (i / perCorner) + 3 * (i % perCorner / 3) + i % 3 ≡ i
@@ -80,6 +80,21 @@ written-run K first k run old new w x a j p h hj hp =
     ∙ x .points-are (j - k) (omega arith) a p h hp
     ∙ ap (λ (d : ℕ). getD (net (K a) d) p (pos 0)) (let e : first + k + (j - k) ≡ first + j = omega arith in e))
     (ways (ltb j k))
+
+-- ---- the table of an accepted mesh has the rounds of its faces
+module _ (M : Mesh) (accepted : Accepted M) (table : List ℕ) (t : Tabled (cornersOf M) table) where
+  pub rounds-of : Rounds (M .sides) table
+  rounds-of =
+      let sums = refinable-of M accepted .sums in
+      record {
+        faces = faces-of M accepted;
+        long = omega (arith, t .long, sums);
+        previouses = λ c h. t .previouses c (omega (arith, sums));
+        counts = λ c h. t .sides c (omega (arith, sums));
+      }
+
+  pub faced-of : Faced (cornerCount M) table
+  faced-of = record { sides = M .sides; rounds = rounds-of; all = refinable-of M accepted .sums }
 
 -- ---- the corners of c's face from c on are a run
 pub run-of : (n : ℕ) (table : List ℕ) (points : List ℤ) → Drawn n table points → (f : Faced n table) → (c run : ℕ) → c < n

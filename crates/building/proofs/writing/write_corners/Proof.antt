@@ -35,8 +35,11 @@ module _ (l : tie.In-loop Inv-loop μ-loop) where
   abbrev corner : ℕ
   corner = start .args .first + l .before .loop .k
 
+  below : l .before .loop .k < start .args .count
+  below = omega (arith, l .loop-test .taken, start .pre .1 .0 .0)
+
   corner-in : corner < start .args .n
-  corner-in = omega (arith, start .pre .1 .0 .0, l .loop-test .taken)
+  corner-in = omega (arith, start .pre .1 .0 .1, below)
 
   listed : corner < sumOf (start .pre .0 .1 .sides)
   listed = omega (arith, corner-in, start .pre .0 .1 .all)
@@ -71,8 +74,8 @@ module _ (r : tie.After-least Inv-loop μ-loop) where
       let s = start l in
       let b = r .least .ensures in
       let p = past ends in (
-        b .2 (omega (arith, p .0)) (omega (arith, l .loop-test .taken)),
-        omega (arith, b .1, l .loop-test .taken),
+        b .2 (omega (arith, p .0)) (omega (arith, below l)),
+        omega (arith, b .1, below l),
         run-of _ _ _ (s .pre .0 .0) (s .pre .0 .1) _ _ (corner-in l) (omega (arith, b .0, p .0, end-is ends)),
       )
 
@@ -80,7 +83,7 @@ sub-least : tie.Need-sub-least Inv-loop μ-loop
 sub-least c = let p = past c in omega (arith, p .0)
 
 sub-least-2 : tie.Need-sub-least-2 Inv-loop μ-loop
-sub-least-2 c = omega (arith, turn c .loop-test .taken)
+sub-least-2 c = omega (arith, below (turn c))
 
 put-run-requires : tie.Need-put-run-requires Inv-loop μ-loop
 put-run-requires c κs =
@@ -89,8 +92,8 @@ put-run-requires c κs =
     let s = start l in
     let i = l .before .loop .inv in
     let q = run-is r in (
-      (s .pre .0 .0, omega (arith, q .1, s .pre .1 .0 .0), q .2),
-      ((i .3, i .4, i .5), ((q .0, omega (arith, q .1, i .1, s .pre .1 .0 .1)), s .pre .1 .1)),
+      (s .pre .0 .0, omega (arith, q .1, s .pre .1 .0 .1), q .2),
+      ((i .3, i .4, i .5), ((q .0, omega (arith, q .1, i .1, s .pre .1 .0 .2)), s .pre .1 .1)),
     )
 
 add-k : tie.Need-add-k Inv-loop μ-loop
@@ -128,5 +131,6 @@ returns c =
 pub write-corners-spec : {M : Type 1} → statement M
 write-corners-spec =
     tie.close (tie.spec Inv-loop μ-loop loop-holds (λ c. search needs) face-end-requires sub-least sub-least-2 (λ c κs. search needs) (λ c. search needs)
-    (λ c. sym (c .before .before .loop .inv .3)) (λ c. sym (c .before .before .before .loop .inv .4)) put-run-requires add-k loop-less loop-again
+    (λ c. let l : tie.In-loop Inv-loop μ-loop = search in sym (l .before .loop .inv .3))
+    (λ c. let l : tie.In-loop Inv-loop μ-loop = search in sym (l .before .loop .inv .4)) put-run-requires add-k loop-less loop-again
     (λ c. c .before .loop .inv .1) returns)

@@ -10,9 +10,9 @@ use denote.Ref.{now}
 use Rattle.paper.specs.Mesh.{Mesh, meshOf}
 use Rattle.paper.specs.Corners.{sumOf, firstOf, sidesOf}
 use Rattle.mesh.proofs.Faces.{first-from, first-to, first-ends}
-use Rattle.refine.proofs.Accepted.{faces-of, refinable-of}
+use Rattle.refine.proofs.Accepted.{refinable-of}
 use Rattle.building.specs.writing.Written.{Rounds}
-use Rattle.building.proofs.writing.Laws.{drawn-of, drawn-written}
+use Rattle.building.proofs.writing.Laws.{rounds-of, faced-of, drawn-of, drawn-written}
 use Rattle.building.proofs.writing.write_nets.Statement.{statement}
 use Rattle.building.proofs.writing.write_nets.Tie as tie
 
@@ -24,12 +24,7 @@ module _ (s : tie.Start) where
   sums = refinable-of mesh (s .pre .0) .sums
 
   rounds : Rounds (now (s .args .sides)) (now (s .args .table))
-  rounds = record {
-    faces = faces-of mesh (s .pre .0);
-    long = omega (arith, s .pre .1 .0 .long, sums);
-    previouses = λ c h. s .pre .1 .0 .previouses c (omega (arith, sums));
-    counts = λ c h. s .pre .1 .0 .sides c (omega (arith, sums));
-  }
+  rounds = rounds-of mesh (s .pre .0) (now (s .args .table)) (s .pre .1 .0)
 
   -- the first and the last corner of the range
   ends : (s .args .first < sumOf (now (s .args .sides))) × (s .args .first + s .args .count - 1 < sumOf (now (s .args .sides)))
@@ -85,9 +80,9 @@ write-corners-requires c κs =
       (
         drawn-of (mesh s) (s .pre .0) (now (s .args .table)) (now (s .args .points)) _ (s .args .first) (s .args .count) _ _ (s .pre .1 .0)
             (r .0) (r .1) (at-first b) (at-last b) (s .pre .1 .1 .1 .0) (c .before .before .before .before .before .fill-asked .ensures),
-        record { sides = now (s .args .sides); rounds = rounds s; all = sums s },
+        faced-of (mesh s) (s .pre .0) (now (s .args .table)) (s .pre .1 .0),
       ),
-      ((r .1, omega (arith, r .2)), c .before .before .before .rows .ensures),
+      ((r .0, r .1, omega (arith, r .2)), c .before .before .before .rows .ensures),
     )
 
 returns : tie.Need-returns
