@@ -45,3 +45,67 @@ module _ (g : tie.After-rings-at) where
       ready-axis _ _ _ (p .0) (start .args .c) 0 2 (start .args .c) (p .1) (p .1) refl (lit< tt) (g .rings-at .result) (g .rings-at .ensures) _ _
       (face-held _ _ _ _ _ (face .take-face .ensures)) (corner .take-corner .ensures)
       (corner .take-corner .ensures .same ∙ face .take-face .ensures .same ∙ p .3) (lit< tt)
+
+take-face-requires : tie.Need-take-face-requires
+take-face-requires c κs = let p = c .before .before .pre .0 in ((p .0, p .1, p .2), (p .3, lit≤ tt))
+
+take-corner-requires : tie.Need-take-corner-requires
+take-corner-requires c κs =
+    let f : tie.After-take-face = search in
+    let p = f .before .before .before .pre .0 in ((p .0, p .1, p .2), f .take-face .ensures .same ∙ p .3)
+
+rings-at-requires : tie.Need-rings-at-requires
+rings-at-requires c κs =
+    let f : tie.After-take-face = search in
+    let p = f .before .before .before .pre .0 in (record { sound = p .0 .sound; table-long = p .0 .table-long; here = p .1 }, p .2)
+
+axis-misses-requires : tie.Need-axis-misses-requires
+axis-misses-requires c κs =
+    let l : tie.After-lane-sides = search in
+    let p = start (l .before .before) .pre .1 in
+    let r = l .lane-sides .ensures .sized in
+    ((r .side0, r .side1), (lit< tt, p .0 0 (lit< tt) .small, p .1 .0 0 (lit< tt) .small, p .1 .1 0 (lit< tt) .small))
+
+axis-misses-requires-2 : tie.Need-axis-misses-requires-2
+axis-misses-requires-2 c κs =
+    let m : tie.After-lane-sides2 = search in
+    let l : tie.After-lane-sides = search in
+    let p = start (l .before .before) .pre .1 in
+    let r = m .lane-sides2 .ensures .sized in
+    ((r .side0, r .side1), (lit< tt, p .0 1 (lit< tt) .small, p .1 .0 1 (lit< tt) .small, p .1 .1 1 (lit< tt) .small))
+
+axis-misses-requires-3 : tie.Need-axis-misses-requires-3
+axis-misses-requires-3 c κs =
+    let m : tie.After-lane-sides3 = search in
+    let l : tie.After-lane-sides = search in
+    let p = start (l .before .before) .pre .1 in
+    let r = m .lane-sides3 .ensures .sized in
+    ((r .side0, r .side1), (lit< tt, p .0 2 (lit< tt) .small, p .1 .0 2 (lit< tt) .small, p .1 .1 2 (lit< tt) .small))
+
+returns : tie.Need-returns
+returns c j few =
+    let x = c .before .before .before .before in
+    let z = x .before in
+    let y = z .before .before in
+    let l = y .before .before in
+    let g = l .before .before in
+    let s = start g in
+    let p = s .pre .1 in
+    let K = mesh g in
+    let e = s .args .c in
+    corner-is K j e _ _ _ _ _ (c .larger-of2 .ensures j) (c .before .larger-of .ensures j)
+    (x .axis-misses .ensures (K 0) e (l .lane-sides .ensures .four (K 0) e (has g 0 (lit< tt))) (p .0 0 (lit< tt)) (p .1 .0 0 (lit< tt))
+    (p .1 .1 0 (lit< tt)) j few)
+    (c .before .before .before .axis-misses2 .ensures (K 1) e (y .lane-sides2 .ensures .four (K 1) e (has g 1 (lit< tt))) (p .0 1 (lit< tt))
+    (p .1 .0 1 (lit< tt)) (p .1 .1 1 (lit< tt)) j few)
+    (c .before .before .axis-misses3 .ensures (K 2) e (z .lane-sides3 .ensures .four (K 2) e (has g 2 (lit< tt))) (p .0 2 (lit< tt))
+    (p .1 .0 2 (lit< tt)) (p .1 .1 2 (lit< tt)) j few)
+
+pub corner-misses-spec : {M : Type 1} → statement M
+corner-misses-spec =
+    tie.close (tie.spec take-face-requires take-corner-requires rings-at-requires
+    (λ c κs. let g : tie.After-rings-at = search in sized g 0 (lit< tt)) (λ c κs. let g : tie.After-rings-at = search in sized g 1 (lit< tt))
+    (λ c κs. let l : tie.After-lane-sides = search in sized (l .before .before) 2 (lit< tt)) axis-misses-requires axis-misses-requires-2
+    axis-misses-requires-3 (λ c κs. search needs) (λ c κs. search needs)
+    (λ c. let l : tie.After-lane-sides2 = search in let g : tie.After-rings-at = search in
+    corner g .take-corner .ensures .same ∙ face g .take-face .ensures .same) returns)

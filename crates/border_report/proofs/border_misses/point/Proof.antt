@@ -1,6 +1,7 @@
 -- `border_report::border_misses::point` meets its contract: what is read is the number of the point on the axis, and a written point fits.
 -- Assumes nothing.
 use mathlib.Core.Path.{_∙_}
+use native.Mathlib.Omega.{arith}
 use mir.Syntax.{w32, w64}
 use mir.Val.{SFits}
 use mir.Facts.{toZ-ofZ}
@@ -8,6 +9,10 @@ use Rattle.border_report.specs.border_misses.Held.{pointIn}
 use borrow.Author.Needs.{needs}
 use Rattle.border_report.proofs.border_misses.point.Statement.{statement}
 use Rattle.border_report.proofs.border_misses.point.Tie as tie
+
+-- the place of the number
+inside : tie.Need-shared-slice-copy-out-wide
+inside c = omega (arith, c .pre .0 .long, c .pre .1, c .pre .2)
 
 returns : tie.Need-returns
 returns c =
@@ -19,4 +24,6 @@ returns c =
     (e, rw e (s .pre .0 .small (a .k) (s .pre .2)))
 
 pub point-spec : {M : Type 1} → statement M
-point-spec = tie.close (tie.spec (λ c. search needs) (λ c. search needs) (λ c. search needs) (λ c. search needs) (λ c κs. search needs) returns)
+point-spec =
+    tie.close (tie.spec (λ c. search (needs, inside c)) (λ c. search (needs, inside c)) (λ c. search (needs, inside c)) (λ c. search (needs, inside c))
+    inside (λ c κs. search needs) returns)

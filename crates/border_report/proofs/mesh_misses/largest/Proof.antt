@@ -4,6 +4,7 @@ use mathlib.Core.Path.{_∙_}
 use denote.Ref.{now}
 use Rattle.paper.specs.Mesh.{Mesh, meshOf}
 use Rattle.refine.proofs.Accepted.{refinable-of}
+use Rattle.building.proofs.writing.Laws.{faced-of}
 use Rattle.border_report.proofs.mesh_misses.Laws.{ones-named, drawn-all, largest-is}
 use borrow.Author.Needs.{needs}
 use Rattle.border_report.proofs.mesh_misses.largest.Statement.{statement}
@@ -21,7 +22,10 @@ fill-points-requires c κs =
 largest-requires : tie.Need-largest-requires
 largest-requires c κs =
     let s = c .before .before .before .before .before .before .before .before .before in
-    drawn-all (mesh s) (s .pre .0) (now (s .args .table)) (now (s .args .points)) _ (s .pre .1 .0) (s .pre .1 .1 .0) (c .before .before .fill-points .ensures)
+    let t = now (s .args .table) in (
+      drawn-all (mesh s) (s .pre .0) t (now (s .args .points)) _ (s .pre .1 .0) (s .pre .1 .1 .0) (c .before .before .fill-points .ensures),
+      faced-of (mesh s) (s .pre .0) t (s .pre .1 .0),
+    )
 
 returns : tie.Need-returns
 returns c j few =

@@ -7,13 +7,13 @@ use native.Mathlib.Omega.{arith}
 use borrow.Author.Needs.{needs}
 use lib.Dec.{lit<}
 use lib.IntN.{ℤ, pos, natAbs, _+ℤ_, _-ℤ_, _*ℤ_}
-use mir.Syntax.{w64}
+use mir.Syntax.{w32, w64}
 use mir.Val.{SFits, toZ, ofZ}
 use mir.Facts.{toZ-ofZ}
 use Rattle.numbers.proofs.Machine.{abs-fits}
 use Rattle.numbers.proofs.Poly.{over, poly}
 use Rattle.paper.specs.Borders.{one, first, second, third, fourth}
-use Rattle.surface.specs.Sizes.{WrittenSize, CosineSize}
+use Rattle.surface.specs.Sizes.{ValueSize, WrittenSize, CosineSize}
 use Rattle.net.specs.sides.Values.{Sized}
 use Rattle.net.specs.declared.sides.SideValues.{SideValues}
 use Rattle.border_report.proofs.misses.side_misses.Statement.{statement}
@@ -74,3 +74,152 @@ module _ (v : SideValues) (z : Sized v) (h t x y : ℤ) (eh : plain h ≡ v .hea
   pub fourth-is : natAbs (plain d -ℤ pos 3 *ℤ one *ℤ (plain t -ℤ plain y))
       ≡ natAbs (fourth (v .head) (v .tail) (v .x) (v .y) (v .cosine) b a o)
   fourth-is = rw (bent-is, et, ey)
+
+-- the four values of the side, widened
+module _ (c : tie.After-wide4) where
+  abbrev start : tie.Start
+  start = c .before .before .before .before .before .before .before .before
+
+  abbrev v : SideValues
+  v = start .args .side
+
+  head-is : plain (c .before .before .before .before .before .before .wide .result) ≡ v .head
+  head-is = widened (v .head) _ (start .pre .0 .head) (c .before .before .before .before .before .before .wide .ensures)
+
+  tail-is : plain (c .before .before .before .before .wide2 .result) ≡ v .tail
+  tail-is = widened (v .tail) _ (start .pre .0 .tail) (c .before .before .before .before .wide2 .ensures)
+
+  x-is : plain (c .before .before .wide3 .result) ≡ v .x
+  x-is = widened (v .x) _ (start .pre .0 .x) (c .before .before .wide3 .ensures)
+
+  y-is : plain (c .wide4 .result) ≡ v .y
+  y-is = widened (v .y) _ (start .pre .0 .y) (c .wide4 .ensures)
+
+-- the four bends
+module _ (c : tie.After-bend4) where
+  abbrev third : tie.After-bend3
+  third = c .before .before .before .before
+
+  abbrev second : tie.After-bend2
+  second = third .before .before .before .before
+
+  abbrev first : tie.After-bend
+  first = second .before .before .before .before
+
+  abbrev widths : tie.After-wide4
+  widths = first .before .before .before .before
+
+  abbrev begin : tie.Start
+  begin = start widths
+
+module _ (a b o : ℤ) (ha : WrittenSize a) (hb : WrittenSize b) (ho : WrittenSize o) where
+  bendable : WrittenSize (plain a) × WrittenSize (plain b) × WrittenSize (plain o)
+  bendable = rw (point-same a ha, point-same b hb, point-same o ho) (ha, hb, ho)
+
+bend-requires : tie.Need-bend-requires
+bend-requires c κs =
+    let s = start (c .before .before .before) in
+    let a = s .args in
+    bendable (a .outer .p0) (a .own .p0) (a .other .p0) (s .pre .1 .p0) (s .pre .2 .p0) (s .pre .3 .p0)
+
+bend-requires-2 : tie.Need-bend-requires-2
+bend-requires-2 c κs =
+    let s = start (c .before .before .before .before .before .before .before) in
+    let a = s .args in
+    bendable (a .outer .p1) (a .own .p1) (a .other .p1) (s .pre .1 .p1) (s .pre .2 .p1) (s .pre .3 .p1)
+
+bend-requires-3 : tie.Need-bend-requires-3
+bend-requires-3 c κs =
+    let s = start (c .before .before .before .before .before .before .before .before .before .before .before) in
+    let a = s .args in
+    bendable (a .outer .p2) (a .own .p2) (a .other .p2) (s .pre .1 .p2) (s .pre .2 .p2) (s .pre .3 .p2)
+
+bend-requires-4 : tie.Need-bend-requires-4
+bend-requires-4 c κs =
+    let s = start (c .before .before .before .before .before .before .before .before .before .before .before .before .before .before .before) in
+    let a = s .args in
+    bendable (a .outer .p3) (a .own .p3) (a .other .p3) (s .pre .1 .p3) (s .pre .2 .p3) (s .pre .3 .p3)
+
+first-miss-requires : tie.Need-first-miss-requires
+first-miss-requires c κs =
+    let e = c .before in
+    let w = widths e in
+    let z = begin e .pre .0 in
+    let b = first e .bend in
+    rw (cosine-same (v w .cosine) (z .cosine), head-is w, x-is w, bent-same (b .result) (b .ensures .1)) (z .cosine, z .head, z .x, b .ensures .1)
+
+second-miss-requires : tie.Need-second-miss-requires
+second-miss-requires c κs =
+    let e = c .before .before .before in
+    let w = widths e in
+    let z = begin e .pre .0 in
+    let b = second e .bend2 in
+    rw (cosine-same (v w .cosine) (z .cosine), head-is w, x-is w, y-is w, bent-same (b .result) (b .ensures .1)) (
+      z .cosine,
+      z .head,
+      z .x,
+      z .y,
+      b .ensures .1,
+    )
+
+third-miss-requires : tie.Need-third-miss-requires
+third-miss-requires c κs =
+    let e = c .before .before .before .before .before in
+    let w = widths e in
+    let z = begin e .pre .0 in
+    let b = third e .bend3 in
+    rw (cosine-same (v w .cosine) (z .cosine), tail-is w, x-is w, y-is w, bent-same (b .result) (b .ensures .1)) (
+      z .cosine,
+      z .tail,
+      z .x,
+      z .y,
+      b .ensures .1,
+    )
+
+fourth-miss-requires : tie.Need-fourth-miss-requires
+fourth-miss-requires c κs =
+    let e = c .before .before .before .before .before .before in
+    let w = widths e in
+    let z = begin e .pre .0 in
+    let b = e .bend4 in
+    rw (tail-is w, y-is w, bent-same (b .result) (b .ensures .1)) (z .tail, z .y, b .ensures .1)
+
+returns : tie.Need-returns
+returns c zero few =
+    let e = c .before .before .before .before .before .before .before in
+    let w = widths e in
+    let s = begin e in
+    let a = s .args in
+    c .before .before .before .before .before .first-miss .ensures
+    ∙ first-is (a .side) (s .pre .0) _ _ _ _ (head-is w) (tail-is w) (x-is w) (y-is w) (a .outer .p0) (a .own .p0) (a .other .p0) _ (s .pre .1 .p0) (s .pre .2 .p0)
+    (s .pre .3 .p0) (first e .bend .ensures)
+returns c (suc zero) few =
+    let e = c .before .before .before .before .before .before .before in
+    let w = widths e in
+    let s = begin e in
+    let a = s .args in
+    c .before .before .before .second-miss .ensures
+    ∙ second-is (a .side) (s .pre .0) _ _ _ _ (head-is w) (tail-is w) (x-is w) (y-is w) (a .outer .p1) (a .own .p1) (a .other .p1) _ (s .pre .1 .p1) (s .pre .2 .p1)
+    (s .pre .3 .p1) (second e .bend2 .ensures)
+returns c (suc (suc zero)) few =
+    let e = c .before .before .before .before .before .before .before in
+    let w = widths e in
+    let s = begin e in
+    let a = s .args in
+    c .before .third-miss .ensures
+    ∙ third-is (a .side) (s .pre .0) _ _ _ _ (head-is w) (tail-is w) (x-is w) (y-is w) (a .outer .p2) (a .own .p2) (a .other .p2) _ (s .pre .1 .p2) (s .pre .2 .p2)
+    (s .pre .3 .p2) (third e .bend3 .ensures)
+returns c (suc (suc (suc zero))) few =
+    let e = c .before .before .before .before .before .before .before in
+    let w = widths e in
+    let s = begin e in
+    let a = s .args in
+    c .fourth-miss .ensures
+    ∙ fourth-is (a .side) (s .pre .0) _ _ _ _ (head-is w) (tail-is w) (x-is w) (y-is w) (a .outer .p3) (a .own .p3) (a .other .p3) _ (s .pre .1 .p3) (s .pre .2 .p3)
+    (s .pre .3 .p3) (e .bend4 .ensures)
+returns c (suc (suc (suc (suc j)))) few = absurd (omega arith)
+
+pub side-misses-spec : {M : Type 1} → statement M
+side-misses-spec =
+    tie.close (tie.spec (λ c κs. search needs) (λ c κs. search needs) (λ c κs. search needs) (λ c κs. search needs) bend-requires bend-requires-2
+    bend-requires-3 bend-requires-4 first-miss-requires second-miss-requires third-miss-requires fourth-miss-requires returns)
