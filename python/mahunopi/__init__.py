@@ -6,7 +6,8 @@ each, in ticks of 1/256 of a grid step. `floats` gives one of these points as fl
 `sample_triangle` all of a triangle. `irregular` says whether a mesh is all squares. `preview` builds with one vertex moved, and
 `touched` marks the corners that a vertex can change. `turn` turns faces that are drawn the wrong way round. `report` adds a file
 to the page of a border report, `merge` makes one page of two. `nest` lists a table of nested grids. `archive` rearranges a
-coordinate list for the archive, and `restore` undoes it.
+coordinate list for the archive, and `restore` undoes it. `mahunopi.models` reads OBJ, OFF, PLY, STL, glTF and other models, and
+`mahunopi.importing` makes meshes of them.
 
     >>> import mahunopi
     >>> cube = mahunopi.decode(open("meshes/cube.dms", "rb").read())
@@ -24,7 +25,10 @@ Calls share no state, release the interpreter's lock and may run at the same tim
 bytes of its thread's stack; a stack that is too small ends the program (`threading.stack_size` sets that of new threads).
 """
 
-from ._header import __version__
+try:
+    from ._header import __version__
+except ModuleNotFoundError as _error:
+    raise ImportError("the package is not complete: run `rt staticlib mahunopi`, then python/make-library") from _error
 from .calls import (
     CALL_STACK,
     MAX_BODIES,

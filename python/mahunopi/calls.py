@@ -7,8 +7,7 @@ import ctypes
 import enum
 import operator
 import os
-from dataclasses import dataclass
-from typing import NamedTuple, Optional, Sequence, Union
+from typing import Any, Dict, NamedTuple, Optional, Sequence, Union
 
 import numpy as np
 
@@ -42,7 +41,7 @@ _NUMBER = {"int32_t": ctypes.c_int32, "size_t": ctypes.c_size_t, "uint64_t": cty
 _RANGE = {"int32_t": (-(2**31), 2**31 - 1), "size_t": (0, 2**64 - 1), "uint64_t": (0, 2**64 - 1)}
 
 # An array has one axis, or these after its first one.
-_AXES = {"coordinates": [(3,)], "sharpness": [(2,)], "numbers": [(3,)], "points": [(3,)],
+_AXES: Dict[str, list] = {"coordinates": [(3,)], "sharpness": [(2,)], "numbers": [(3,)], "points": [(3,)],
          "output": [(3,), (NUMBERS_PER_CORNER,), (POINTS_PER_CORNER, 3)]}
 
 _functions = {}
@@ -71,7 +70,7 @@ class Refused(Exception):
         return f"refused {self.number}{where}: {self.words}"
 
 
-def _array(call: str, name: str, array: np.ndarray, kind: str, read_only: bool) -> np.ndarray:
+def _array(call: str, name: str, array: Any, kind: str, read_only: bool) -> np.ndarray:
     """The array, if the call takes it as it is."""
     asked = np.dtype(_ARRAY[kind])
     if not isinstance(array, np.ndarray):
@@ -141,23 +140,23 @@ def _single(kind: type = np.uint64) -> np.ndarray:
     return np.zeros(1, kind)
 
 
-@dataclass(eq=False)
 class Mesh:
-    """A mesh: its four lists, which hold whatever they hold until a call checks them."""
+    """A mesh: its four lists, which hold whatever they hold until a call checks them.
 
-    coordinates: np.ndarray
-    """x, y, z of each vertex in grid steps: int32, of shape (vertices, 3) or (3 * vertices,)."""
-    sides: np.ndarray
-    """The side count of each face: uint8."""
-    corners: np.ndarray
-    """The vertex numbers of face 0 in order, then of face 1, and so on: uint16. A position in this list is a corner."""
-    sharpness: np.ndarray = None  # type: ignore[assignment]
-    """u and v of each corner, each 0 to 16: uint8, of shape (corners, 2) or (2 * corners,); 8 and 8 throughout where none is
+    coordinates: x, y, z of each vertex in grid steps, int32 of shape (vertices, 3) or (3 * vertices,).
+    sides: the side count of each face, uint8.
+    corners: the vertex numbers of face 0 in order, then of face 1, and so on, uint16. A position in this list is a corner.
+    sharpness: u and v of each corner, each 0 to 16, uint8 of shape (corners, 2) or (2 * corners,); 8 and 8 throughout where none is
     given. u pulls towards the leaving edge, v towards the arriving one."""
 
-    def __post_init__(self) -> None:
-        if self.sharpness is None:
-            self.sharpness = np.full((len(self.corners), 2), PLAIN_SHARPNESS, np.uint8)
+    def __init__(self, coordinates: np.ndarray, sides: np.ndarray, corners: np.ndarray, sharpness: Optional[np.ndarray] = None) -> None:
+        self.coordinates = coordinates
+        self.sides = sides
+        self.corners = corners
+        self.sharpness = np.full((len(corners), 2), PLAIN_SHARPNESS, np.uint8) if sharpness is None else sharpness
+
+    def __repr__(self) -> str:
+        return f"Mesh({', '.join(f'{name}={array!r}' for name, array in vars(self).items())})"
 
     def __eq__(self, other: object) -> bool:
         """Whether both have the same numbers in all four lists, whatever their shapes."""
@@ -227,10 +226,10 @@ class Irregular(NamedTuple):
 def survey(data: Bytes, length: Optional[int] = None) -> Counts:
     """The counts of a .dms file: refusals 1 to 13 and 28. `length` is the file's own where `data` holds only its first bytes."""
     data = _bytes("survey", data)
-    totals = [_single() for _ in range(3)]
-    with_sides = [np.zeros(MAX_SIDES + 1, np.uint16) for _ in range(2)]
-    _call("survey", data, data.size if length is None else length, *totals, *with_sides)
-    return Counts(*(int(total[0]) for total in totals), *with_sides)
+    vertices, faces, corners = _single(), _single(), _single()
+    vertices_with, faces_with = np.zeros(MAX_SIDES + 1, np.uint16), np.zeros(MAX_SIDES + 1, np.uint16)
+    _call("survey", data, data.size if length is None else length, vertices, faces, corners, vertices_with, faces_with)
+    return Counts(int(vertices[0]), int(faces[0]), int(corners[0]), vertices_with, faces_with)
 
 
 def decode(data: Bytes, length: Optional[int] = None, out: Optional[Mesh] = None) -> Mesh:

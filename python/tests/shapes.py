@@ -46,22 +46,25 @@ def bipyramid(n):
     return points, [f for k in range(n) for f in ((k, n, (k + 1) % n), ((k + 1) % n, n + 1, k))]
 
 
-def torus(p, q, seam=False):
-    """A torus of p times q four-sided faces, flat: only its lists matter. With a seam its last ring meets the first one in
-    reverse: a Klein bottle."""
+def torus_faces(p, q, seam=False):
+    """The faces of a torus of p times q four-sided ones. With a seam its last ring meets the first one in reverse: a Klein bottle."""
 
     def at(i, j):
         return (q - j % q) % q if i == p and seam else (i % p) * q + j % q
 
-    points = [(v // q, v % q, v % 7) for v in range(p * q)]
-    return mesh_of(points, [(at(i, j), at(i, j + 1), at(i + 1, j + 1), at(i + 1, j)) for i in range(p) for j in range(q)])
+    return [(at(i, j), at(i, j + 1), at(i + 1, j + 1), at(i + 1, j)) for i in range(p) for j in range(q)]
+
+
+def torus(p, q, seam=False):
+    """A flat torus: only its lists matter."""
+    return mesh_of([(v // q, v % q, v % 7) for v in range(p * q)], torus_faces(p, q, seam))
 
 
 def round_torus(p, q):
     """Points and faces of a torus in space."""
     points = [((3 + np.cos(b)) * np.cos(a), (3 + np.cos(b)) * np.sin(a), np.sin(b))
               for a in 2 * np.pi * np.arange(p) / p for b in 2 * np.pi * np.arange(q) / q]
-    return points, faces_of(torus(p, q))
+    return points, torus_faces(p, q)
 
 
 # ---- files

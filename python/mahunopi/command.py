@@ -1,0 +1,395 @@
+"""The command `mahunopi`: models get in, and what a mesh is is told in words."""
+
+from __future__ import annotations
+
+import argparse
+import contextlib
+import errno
+import io
+import os
+import signal
+import stat
+import sys
+import tempfile
+from fractions import Fraction
+from typing import Any, Iterator, List, NoReturn, Optional, Tuple
+
+from . import __version__
+from .calls import PLAIN_SHARPNESS, Kind, Mesh, Refused, decode, irregular, link, off, survey, turn
+from .dms import encode, is_off, lists, words
+from .importing import DEFAULT_LARGEST, LARGEST_COORDINATE, MOST_TOLD, Imported, import_model
+from .models import Unreadable, is_known, read
+from .shape import LEVELS, Shape, irregular_faces, irregular_vertices
+
+REFUSED, FAILED = 1, 2
+INTERRUPTED, BROKEN_PIPE, ENDED = 130, 141, 143
+
+DESCRIPTION = """\
+Coarse closed meshes and their smooth surfaces. FILE is a name, or - for standard input.
+The status is 0 when all is done, 1 when a mesh is refused, 2 for wrong usage and for files that cannot be read or written."""
+
+
+class Parser(argparse.ArgumentParser):
+    """Says what is wrong in one line."""
+
+    def error(self, message: str) -> NoReturn:
+        self.exit(FAILED, f"{self.prog}: {message} ({self.prog} --help says more)\n")
+
+
+def parser() -> Parser:
+    def command(name: str, does: str, example: str) -> argparse.ArgumentParser:
+        made = commands.add_parser(name, help=does, description=does[0].upper() + does[1:] + ".", epilog="example:\n  " + example,
+                                   formatter_class=argparse.RawDescriptionHelpFormatter)
+        made.add_argument("files", nargs="+", metavar="FILE", help="a file, or - for standard input")
+        return made
+
+    whole = Parser(prog="mahunopi", description=DESCRIPTION, formatter_class=argparse.RawDescriptionHelpFormatter,
+                   epilog="example:\n  mahunopi import hull.obj -o hull.dms && mahunopi info hull.dms")
+    whole.add_argument("--version", action="version", version=f"mahunopi {__version__}")
+    commands = whole.add_subparsers(dest="command", metavar="COMMAND", required=True, parser_class=Parser)
+
+    info = command("info", "say in words what a .dms file or an OFF text of whole numbers holds", "mahunopi info meshes/*.dms")
+    info.set_defaults(run=run_info, output=None)
+
+    made = command("import", "make a .dms file of an OBJ, OFF, PLY, STL, glTF or other model",
+                   "mahunopi import --step 0.01 --sharpness 40 hull.obj -o hull.dms")
+    size = made.add_mutually_exclusive_group()
+    size.add_argument("--largest", type=_steps, default=DEFAULT_LARGEST, metavar="STEPS",
+                      help=f"the largest coordinate of the centred model in grid steps, at most {LARGEST_COORDINATE} "
+                           f"(default {DEFAULT_LARGEST})")
+    size.add_argument("--step", type=_length, metavar="LENGTH", help="the length of a grid step in the model's units")
+    made.add_argument("--as-drawn", action="store_true", help="do not turn the whole to run clockwise seen from outside")
+    made.add_argument("--sharpness", type=_angle, metavar="DEGREES",
+                      help="make corners crisp across both of whose edges the surface bends by more (writes version 2)")
+    made.add_argument("--format", metavar="NAME", help="the format, as obj, where the file's name does not end in it")
+    made.set_defaults(run=run_import)
+
+    turned = command("turn", "turn faces that are drawn the wrong way round, and list them",
+                     "mahunopi turn drawn-wrong.off -o sound.dms")
+    turned.set_defaults(run=run_turn)
+
+    for one in (made, turned):
+        one.add_argument("-o", dest="output", default="-", metavar="FILE",
+                         help="where to write; a folder takes a .dms file for each FILE; without it standard output")
+    return whole
+
+
+def _steps(word: str) -> int:
+    if not word.isdecimal() or not 1 <= int(word) <= LARGEST_COORDINATE:
+        raise argparse.ArgumentTypeError(f"'{word}' is no whole number of 1 to {LARGEST_COORDINATE} steps")
+    return int(word)
+
+
+def _length(word: str) -> float:
+    with contextlib.suppress(ValueError):
+        if 0 < float(word) < float("inf"):
+            return float(word)
+    raise argparse.ArgumentTypeError(f"'{word}' is no length above 0")
+
+
+def _angle(word: str) -> float:
+    with contextlib.suppress(ValueError):
+        if 0 <= float(word) <= 180:
+            return float(word)
+    raise argparse.ArgumentTypeError(f"'{word}' is no angle of 0 to 180 degrees")
+
+
+def main(arguments: Optional[List[str]] = None) -> int:
+    """Runs the command; the answer is its exit status."""
+    for stream in (sys.stdout, sys.stderr):
+        if isinstance(stream, io.TextIOWrapper):
+            stream.reconfigure(errors="surrogateescape")
+    with contextlib.suppress(ValueError):  # a thread that is not the main one keeps its signals
+        signal.signal(signal.SIGTERM, _end)
+    try:
+        asked = parser().parse_args(arguments)
+        return _run(asked)
+    except KeyboardInterrupt:
+        return _quiet(INTERRUPTED)
+    except BrokenPipeError:
+        return _quiet(BROKEN_PIPE)
+
+
+def _end(number: int, frame: object) -> NoReturn:
+    raise SystemExit(ENDED)
+
+
+def _quiet(status: int) -> int:
+    """The status, after what is still to be written was given up."""
+    with contextlib.suppress(OSError):
+        nothing = os.open(os.devnull, os.O_WRONLY)
+        os.dup2(nothing, 1)
+        os.close(nothing)
+    return status
+
+
+def _run(asked: argparse.Namespace) -> int:
+    outputs = _outputs(asked)
+    status = 0
+    for name, output in zip(_progress(asked.files), outputs):
+        try:
+            asked.run(asked, name, output)
+        except (Refused, Unreadable) as error:
+            status = max(status, REFUSED if isinstance(error, Refused) else FAILED)
+            _complain(name, str(error))
+        except OSError as error:
+            if isinstance(error, BrokenPipeError):
+                raise
+            status = FAILED
+            _complain(error.filename if isinstance(error.filename, str) else name, error.strerror or str(error))
+    return status
+
+
+_bar: Any = None
+
+
+def _progress(files: List[str]) -> Iterator[str]:
+    """The files, with a bar where there are several and standard error is a terminal."""
+    global _bar
+    if len(files) > 1 and sys.stderr is not None and sys.stderr.isatty():
+        from tqdm import tqdm
+
+        _bar = tqdm(files, unit="file", leave=False)
+    return iter(_bar if _bar is not None else files)
+
+
+@contextlib.contextmanager
+def _without_bar() -> Iterator[None]:
+    """Takes the bar off the terminal while a line is written."""
+    if _bar is not None:
+        _bar.clear()
+    yield
+    if _bar is not None:
+        _bar.refresh()
+
+
+def _outputs(asked: argparse.Namespace) -> List[str]:
+    """Where each file's result goes."""
+    output = asked.output
+    if output is None:
+        return [""] * len(asked.files)
+    if output != "-" and os.path.isdir(output):
+        bases = [os.path.splitext(os.path.basename(name))[0] if name != "-" else "" for name in asked.files]
+        if "" in bases:
+            _wrong(asked, "standard input has no name that a file in a folder could have")
+        if len(set(bases)) < len(bases):
+            _wrong(asked, f"two files would both become {[b for b in bases if bases.count(b) > 1][0]}.dms in {shown(output)}")
+        return [os.path.join(output, base + ".dms") for base in bases]
+    if len(asked.files) > 1:
+        _wrong(asked, "several files need a folder that is there, named by -o")
+    if output == "-" and sys.stdout is not None and sys.stdout.isatty():
+        _wrong(asked, "standard output is a terminal, name a file by -o")
+    return [output]
+
+
+def _wrong(asked: argparse.Namespace, message: str) -> NoReturn:
+    _complain(f"mahunopi {asked.command}", message)
+    raise SystemExit(FAILED)
+
+
+# ---- reading and writing
+
+
+def shown(name: str) -> str:
+    """A file's name as one line."""
+    return "standard input" if name == "-" else name.replace("\n", "\\n")
+
+
+def _complain(name: str, message: str) -> None:
+    _note(f"{shown(name)}: {message}")
+
+
+def _note(line: str) -> None:
+    """A line on standard error, if there is one."""
+    with contextlib.suppress(OSError), _without_bar():
+        if sys.stderr is not None:
+            print(line, file=sys.stderr, flush=True)
+
+
+def _read(name: str) -> bytes:
+    if name != "-":
+        with open(name, "rb") as file:
+            return file.read()
+    if sys.stdin is None:
+        raise OSError(errno.EBADF, os.strerror(errno.EBADF), "standard input")
+    try:
+        return sys.stdin.buffer.read()
+    except OSError as error:
+        raise OSError(error.errno, error.strerror, "standard input") from None
+
+
+def _write(output: str, data: bytes) -> None:
+    """Writes a file beside where it belongs and renames it, so that it is there whole or not at all. What is no plain file, as a
+    device, is written to as it is."""
+    if output == "-":
+        _put(data)
+        return
+    path = os.path.realpath(output)
+    there = os.stat(path).st_mode if os.path.exists(path) else None
+    try:
+        if there is not None and not stat.S_ISREG(there):
+            with open(path, "wb") as file:
+                file.write(data)
+            return
+        handle, beside = tempfile.mkstemp(prefix=f".{os.path.basename(path)}.", dir=os.path.dirname(path))
+    except OSError as error:
+        raise OSError(error.errno, error.strerror, output) from None
+    try:
+        with open(handle, "wb") as file:
+            file.write(data)
+        os.chmod(beside, stat.S_IMODE(there) if there is not None else 0o666 & ~_umask())
+        os.replace(beside, path)
+    except BaseException as error:
+        with contextlib.suppress(OSError):
+            os.unlink(beside)
+        if isinstance(error, OSError):
+            raise OSError(error.errno, error.strerror, output) from None
+        raise
+
+
+def _umask() -> int:
+    mask = os.umask(0)
+    os.umask(mask)
+    return mask
+
+
+def _put(data: bytes) -> None:
+    """Writes to standard output."""
+    if sys.stdout is None:
+        raise OSError(errno.EBADF, os.strerror(errno.EBADF), "standard output")
+    try:
+        sys.stdout.buffer.write(data)
+        sys.stdout.buffer.flush()
+    except BrokenPipeError:
+        raise
+    except OSError as error:
+        _quiet(FAILED)
+        raise OSError(error.errno, error.strerror, "standard output") from None
+
+
+def _say(text: str, output: str = "") -> None:
+    """Says what was done: on standard output, or on standard error where the result went to standard output."""
+    if output == "-":
+        _note(text)
+    else:
+        with _without_bar():
+            _put((text + "\n").encode("utf-8", "surrogateescape"))
+
+
+# ---- info
+
+
+def run_info(asked: argparse.Namespace, name: str, output: str) -> None:
+    mesh, version = _checked(name, _read(name))
+    _say(f"{shown(name)}: " + "\n  ".join(told(mesh, version)))
+
+
+def _checked(name: str, data: bytes) -> Tuple[Mesh, int]:
+    """The mesh of a .dms file or of an OFF text, which is accepted, and its version."""
+    try:
+        return (off(data), 1) if is_off(data) else (decode(data), data[3])
+    except Refused as refused:
+        raise _in_words(refused, name, data) from None
+
+
+def _in_words(refused: Refused, name: str, data: bytes) -> Refused:
+    """The refusal of a file with what stands there."""
+    hint = "mahunopi import takes it"
+    if refused.number == 1 and is_known(os.path.splitext(name)[1]):
+        return Refused(1, 0, f"{refused.words} ({hint})")
+    if refused.number != 25:
+        return refused
+    said = words(data)
+    if refused.place >= len(said):
+        return Refused(25, refused.place, f"the text ends after {len(said)} words, where more are needed")
+    word = said[refused.place].decode("utf-8", "replace")
+    try:
+        whole = float(word).is_integer() and word.lstrip("-").isdecimal()
+        return Refused(25, refused.place, f"'{word[:40]}' is out of its range" if whole else
+                       f"'{word[:40]}' is no whole number ({hint})")
+    except (ValueError, OverflowError):
+        return Refused(25, refused.place, f"'{word[:40]}' is no number")
+
+
+def told(mesh: Mesh, version: int) -> List[str]:
+    """What a mesh is, in words, a line for each thing."""
+    counts = survey(encode(mesh))
+    links = link(mesh)
+    shape = Shape(mesh)
+    lines = [f"{counted(counts.vertices, 'vertex', 'vertices')}, {counted(counts.faces, 'face')}, {counts.corners:,} corners, "
+             f"version {version}"]
+    for m, (vertices, faces) in enumerate(zip(counts.vertices_with.tolist(), counts.faces_with.tolist())):
+        if vertices:
+            lines.append(f"{counted(vertices, 'vertex', 'vertices')} of {m} corners")
+        if faces:
+            lines.append(f"{counted(faces, 'face')} of {m} sides")
+    parts = shape.parts(links)
+    lines.append(f"{counted(parts, 'part')}, Euler number {counts.vertices - counts.corners // 2 + counts.faces}")
+    volume = shape.volume()
+    sense = "faces run clockwise seen from outside" if volume < 0 else "faces run counter-clockwise seen from outside"
+    lines.append(f"volume {fraction(abs(volume))} cubic steps, " + (sense if volume else "so no side is the outside"))
+    low, high = shape.points.min(axis=0), shape.points.max(axis=0)
+    lines.append("from " + " ".join(map(str, low)) + " to " + " ".join(map(str, high)) + " steps")
+    if irregular(mesh).kind == Kind.NONE:
+        lines.append("all squares")
+    for numbers, name, names, has in ((irregular_faces(mesh), "face", "faces", "sides"),
+                                      (irregular_vertices(mesh), "vertex", "vertices", "corners")):
+        if numbers:
+            more = " .." if len(numbers) > MOST_TOLD else ""
+            lines.append(f"{counted(len(numbers), name, names)} not of four {has}: {' '.join(map(str, numbers[:MOST_TOLD]))}{more}")
+    sharper = int((mesh.sharpness.reshape(-1, 2) != PLAIN_SHARPNESS).any(axis=1).sum())
+    lines.append(f"{counted(sharper, 'corner')} of other sharpness than {PLAIN_SHARPNESS} and {PLAIN_SHARPNESS}" if sharper else
+                 f"sharpness {PLAIN_SHARPNESS} and {PLAIN_SHARPNESS} throughout")
+    lines.extend(f"level {level}: {shape.points_at(level):,} points, {shape.triangles_at(level):,} triangles" for level in LEVELS)
+    return lines
+
+
+def counted(number: int, name: str, names: str = "") -> str:
+    """A number with what it counts."""
+    return f"{number:,} {name if number == 1 else names or name + 's'}"
+
+
+def fraction(number: Fraction) -> str:
+    """A fraction that is not below 0, as 7 1/3."""
+    whole, rest = divmod(number.numerator, number.denominator)
+    part = f"{rest}/{number.denominator}" if rest else ""
+    return " ".join(filter(None, [f"{whole:,}" if whole or not rest else "", part]))
+
+
+# ---- import
+
+
+def run_import(asked: argparse.Namespace, name: str, output: str) -> None:
+    if name == "-" and not asked.format:
+        _wrong(asked, "standard input has no name that tells the format, say it by --format")
+    form = asked.format or os.path.splitext(name)[1]
+    model = read(_read(name), form, None if name == "-" else name)
+    made = import_model(model, asked.largest, asked.step, asked.as_drawn, asked.sharpness)
+    _write(output, encode(made.mesh, made.version))
+    _say(f"{shown(name)}: {done(made)}", output)
+
+
+def done(made: Imported) -> str:
+    """What an import did, in one line."""
+    mesh = made.mesh
+    sense = {"turned": "then all, to run clockwise seen from outside as .dms files do", "clockwise": "all run clockwise seen from outside",
+             "kept": "all kept as drawn", "flat": "no side is the outside"}[made.sense]
+    return (f"{counted(made.points_before, 'point')} and {counted(made.faces_before, 'face')} became "
+            f"{counted(mesh.coordinates.size // 3, 'vertex', 'vertices')}, {counted(mesh.sides.size, 'face')}, "
+            f"{mesh.corners.size:,} corners; a step is {made.step!r} about {' '.join(repr(float(x)) for x in made.centre)}; "
+            f"{counted(made.turned, 'face')} turned, {sense}")
+
+
+# ---- turn
+
+
+def run_turn(asked: argparse.Namespace, name: str, output: str) -> None:
+    data = _read(name)
+    try:
+        mesh, version = lists(data)
+    except Refused as refused:
+        raise _in_words(refused, name, data) from None
+    faces = turn(mesh).tolist()
+    _write(output, encode(mesh, version))
+    _say(f"{shown(name)}: {len(faces):,} of {counted(mesh.sides.size, 'face')} turned" + (": " if faces else "")
+         + " ".join(map(str, faces)), output)
