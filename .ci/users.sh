@@ -98,8 +98,9 @@ rust_tests() {
 # Every test that pytest runs counts as one; what does not even start counts as one that fails.
 python_tests() {
     python/make-library >"$work/pytest" 2>&1 &&
-        PYTHONDONTWRITEBYTECODE=1 /usr/bin/python3 -m pytest -q -p no:cacheprovider python/tests >"$work/pytest" 2>&1
+        PYTHONDONTWRITEBYTECODE=1 /usr/bin/python3 -m pytest -q -rs -p no:cacheprovider python/tests >"$work/pytest" 2>&1
     status=$?
+    sed -n 's/^SKIPPED/users: Python tests: skipped/p' "$work/pytest"
     last=$(tail -n 1 "$work/pytest")
     run=$(echo "$last" | sed -n 's/.*\b\([0-9][0-9]*\) passed.*/\1/p')
     wrong=$(echo "$last" | grep -o '[0-9]* \(failed\|error\)' | awk '{ sum += $1 } END { print sum + 0 }')

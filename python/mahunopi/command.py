@@ -1,4 +1,4 @@
-"""The command `mahunopi`: models get in, and what a mesh is is told in words."""
+"""The command `mahunopi`: models get in, what a mesh is is told in words, and its surface is looked at."""
 
 from __future__ import annotations
 
@@ -12,7 +12,7 @@ import stat
 import sys
 import tempfile
 from fractions import Fraction
-from typing import Any, Iterator, List, NoReturn, Optional, Tuple
+from typing import Any, Callable, Iterator, List, NoReturn, Optional, Tuple
 
 from . import __version__
 from .calls import PLAIN_SHARPNESS, Kind, Mesh, Refused, decode, irregular, link, off, survey, turn
@@ -20,6 +20,7 @@ from .dms import encode, is_off, lists, words
 from .importing import DEFAULT_LARGEST, LARGEST_COORDINATE, MOST_TOLD, Imported, import_model
 from .models import Unreadable, is_known, read
 from .shape import LEVELS, Shape, irregular_faces, irregular_vertices
+from .view import MARK, names_of, page
 
 REFUSED, FAILED = 1, 2
 INTERRUPTED, BROKEN_PIPE, ENDED = 130, 141, 143
@@ -41,6 +42,7 @@ def parser() -> Parser:
         made = commands.add_parser(name, help=does, description=does[0].upper() + does[1:] + ".", epilog="example:\n  " + example,
                                    formatter_class=argparse.RawDescriptionHelpFormatter)
         made.add_argument("files", nargs="+", metavar="FILE", help="a file, or - for standard input")
+        made.set_defaults(run_all=_run_each)
         return made
 
     whole = Parser(prog="mahunopi", description=DESCRIPTION, formatter_class=argparse.RawDescriptionHelpFormatter,
@@ -71,6 +73,11 @@ def parser() -> Parser:
     for one in (made, turned):
         one.add_argument("-o", dest="output", default="-", metavar="FILE",
                          help="where to write; a folder takes a .dms file for each FILE; without it standard output")
+
+    viewed = command("view", "make a page that shows a mesh's surface in a browser, or two meshes beside one another",
+                     "mahunopi view before.dms after.dms -o both.html")
+    viewed.add_argument("-o", dest="output", metavar="PAGE", help="the page; without it the mesh's name with .html, in this folder")
+    viewed.set_defaults(run_all=run_view)
     return whole
 
 
@@ -103,7 +110,7 @@ def main(arguments: Optional[List[str]] = None) -> int:
         signal.signal(signal.SIGTERM, _end)
     try:
         asked = parser().parse_args(arguments)
-        return _run(asked)
+        return asked.run_all(asked)
     except KeyboardInterrupt:
         return _quiet(INTERRUPTED)
     except BrokenPipeError:
@@ -123,21 +130,25 @@ def _quiet(status: int) -> int:
     return status
 
 
-def _run(asked: argparse.Namespace) -> int:
+def _run_each(asked: argparse.Namespace) -> int:
+    """Runs the command on one file after the other."""
     outputs = _outputs(asked)
-    status = 0
-    for name, output in zip(_progress(asked.files), outputs):
-        try:
-            asked.run(asked, name, output)
-        except (Refused, Unreadable) as error:
-            status = max(status, REFUSED if isinstance(error, Refused) else FAILED)
-            _complain(name, str(error))
-        except OSError as error:
-            if isinstance(error, BrokenPipeError):
-                raise
-            status = FAILED
-            _complain(error.filename if isinstance(error.filename, str) else name, error.strerror or str(error))
-    return status
+    return max([_guarded(name, lambda: asked.run(asked, name, output)) for name, output in zip(_progress(asked.files), outputs)])
+
+
+def _guarded(name: str, work: Callable[[], Any]) -> int:
+    """Does the work on a file, and says what is wrong with it."""
+    try:
+        work()
+    except (Refused, Unreadable) as error:
+        _complain(name, str(error))
+        return REFUSED if isinstance(error, Refused) else FAILED
+    except OSError as error:
+        if isinstance(error, BrokenPipeError):
+            raise
+        _complain(error.filename if isinstance(error.filename, str) else name, error.strerror or str(error))
+        return FAILED
+    return 0
 
 
 _bar: Any = None
@@ -393,3 +404,43 @@ def run_turn(asked: argparse.Namespace, name: str, output: str) -> None:
     _write(output, encode(mesh, version))
     _say(f"{shown(name)}: {len(faces):,} of {counted(mesh.sides.size, 'face')} turned" + (": " if faces else "")
          + " ".join(map(str, faces)), output)
+
+
+# ---- view
+
+
+def run_view(asked: argparse.Namespace) -> int:
+    files = asked.files
+    if len(files) > 2:
+        _wrong(asked, f"a page shows one mesh or two, not {len(files)}")
+    if files.count("-") > 1:
+        _wrong(asked, "standard input can be read once only")
+    if asked.output is None and "-" in files:
+        _wrong(asked, "standard input has no name that a page could have, name one by -o")
+    output = asked.output or names_of(files)
+    if asked.output is None and os.path.exists(output) and not _is_page(output):
+        _wrong(asked, f"{shown(output)} is there and is no page of this command, name another by -o")
+    meshes: List[Tuple[str, Mesh]] = []
+    status = max(_guarded(name, lambda: meshes.append((shown(name), _checked(name, _read(name))[0]))) for name in files)
+    if status:
+        return status
+    return _guarded(output, lambda: _show(output, page(meshes)))
+
+
+def _is_page(path: str) -> bool:
+    with contextlib.suppress(OSError), open(path, "rb") as file:
+        return file.read(len(MARK)) == MARK
+    return False
+
+
+def _show(output: str, data: bytes) -> None:
+    """Writes a page, and opens it where somebody sits in front of a display."""
+    _write(output, data)
+    if output == "-":
+        return
+    _say(f"{shown(output)}: {len(data):,} bytes, to be opened in a browser")
+    if sys.stdout.isatty() and (os.environ.get("DISPLAY") or os.environ.get("WAYLAND_DISPLAY")):
+        import webbrowser
+        from pathlib import Path
+
+        webbrowser.open(Path(output).resolve().as_uri())
