@@ -6,6 +6,7 @@ import argparse
 import contextlib
 import errno
 import io
+import json
 import os
 import signal
 import stat
@@ -19,11 +20,14 @@ from .calls import PLAIN_SHARPNESS, Kind, Mesh, Refused, decode, irregular, link
 from .dms import encode, is_off, lists, words
 from .importing import DEFAULT_LARGEST, LARGEST_COORDINATE, MOST_TOLD, Imported, import_model
 from .models import Unreadable, is_known, read
+from .reporting import Found, as_table, chunks_of, expanded, in_words, listed, page_lines
 from .shape import LEVELS, Shape, irregular_faces, irregular_vertices
 from .view import MARK, names_of, page
 
 REFUSED, FAILED = 1, 2
 INTERRUPTED, BROKEN_PIPE, ENDED = 130, 141, 143
+SIGNALS = (signal.SIGINT, signal.SIGTERM)
+MOST_JOBS = 1024
 
 DESCRIPTION = """\
 Coarse closed meshes and their smooth surfaces. FILE is a name, or - for standard input.
@@ -38,10 +42,11 @@ class Parser(argparse.ArgumentParser):
 
 
 def parser() -> Parser:
-    def command(name: str, does: str, example: str) -> argparse.ArgumentParser:
+    def command(name: str, does: str, example: str, count: str = "+",
+                what: str = "a file, or - for standard input") -> argparse.ArgumentParser:
         made = commands.add_parser(name, help=does, description=does[0].upper() + does[1:] + ".", epilog="example:\n  " + example,
                                    formatter_class=argparse.RawDescriptionHelpFormatter)
-        made.add_argument("files", nargs="+", metavar="FILE", help="a file, or - for standard input")
+        made.add_argument("files", nargs=count, metavar="FILE", help=what)
         made.set_defaults(run_all=_run_each)
         return made
 
@@ -78,12 +83,30 @@ def parser() -> Parser:
                      "mahunopi view before.dms after.dms -o both.html")
     viewed.add_argument("-o", dest="output", metavar="PAGE", help="the page; without it the mesh's name with .html, in this folder")
     viewed.set_defaults(run_all=run_view)
+
+    reported = command("report", "report on the borders of any number of .dms files: the page of the year, the refused files, the "
+                       "largest misses", "find archive -name '*.dms' -print0 | mahunopi report --names -", "*",
+                       "a .dms file, or a folder, which stands for all .dms files in it")
+    reported.add_argument("--names", metavar="LIST", help="a list of further files and folders, one a line or ended by zero bytes; "
+                          "- for standard input")
+    reported.add_argument("--jobs", type=_jobs, default=len(os.sched_getaffinity(0)), metavar="N",
+                          help="how many processors to work on (default all: %(default)s)")
+    form = reported.add_mutually_exclusive_group()
+    form.add_argument("--json", action="store_true", help="print all of it as JSON")
+    form.add_argument("--page", action="store_true", help="print only the lines that the Rattle program's `report merge` reads")
+    reported.set_defaults(run_all=run_report)
     return whole
 
 
 def _steps(word: str) -> int:
     if not word.isdecimal() or not 1 <= int(word) <= LARGEST_COORDINATE:
         raise argparse.ArgumentTypeError(f"'{word}' is no whole number of 1 to {LARGEST_COORDINATE} steps")
+    return int(word)
+
+
+def _jobs(word: str) -> int:
+    if not word.isdecimal() or not 1 <= int(word) <= MOST_JOBS:
+        raise argparse.ArgumentTypeError(f"'{word}' is no number of 1 to {MOST_JOBS} processors")
     return int(word)
 
 
@@ -156,12 +179,31 @@ _bar: Any = None
 
 def _progress(files: List[str]) -> Iterator[str]:
     """The files, with a bar where there are several and standard error is a terminal."""
+    _start_bar(len(files))
+    for name in files:
+        yield name
+        _advance(1)
+    _end_bar()
+
+
+def _start_bar(count: int) -> None:
     global _bar
-    if len(files) > 1 and sys.stderr is not None and sys.stderr.isatty():
+    if count > 1 and sys.stderr is not None and sys.stderr.isatty():
         from tqdm import tqdm
 
-        _bar = tqdm(files, unit="file", leave=False)
-    return iter(_bar if _bar is not None else files)
+        _bar = tqdm(total=count, unit="file", leave=False)
+
+
+def _advance(count: int) -> None:
+    if _bar is not None:
+        _bar.update(count)
+
+
+def _end_bar() -> None:
+    global _bar
+    if _bar is not None:
+        _bar.close()
+        _bar = None
 
 
 @contextlib.contextmanager
@@ -444,3 +486,62 @@ def _show(output: str, data: bytes) -> None:
         from pathlib import Path
 
         webbrowser.open(Path(output).resolve().as_uri())
+
+
+# ---- report
+
+
+def run_report(asked: argparse.Namespace) -> int:
+    names = list(asked.files)
+    if "-" in names:
+        _wrong(asked, "- is no file here; a list of names on standard input is --names -")
+    if asked.names is None and not names:
+        _wrong(asked, "name files or folders, or a list of them by --names")
+    if asked.names is not None:
+        status = _guarded(asked.names, lambda: names.extend(listed(_read(asked.names))))
+        if status:
+            return status
+    files, twice, wrong = expanded(names)
+    found, stopped = Found(), 0
+    _start_bar(len(files))
+    try:
+        with contextlib.closing(chunks_of(files, asked.jobs)) as chunks:
+            for chunk in chunks:
+                with _held_back():
+                    found.add(chunk)
+                _advance(chunk.names)
+    except KeyboardInterrupt:
+        stopped = INTERRUPTED
+    except SystemExit:
+        stopped = ENDED
+    if stopped:
+        # what was read is told, whatever comes meanwhile
+        for number in SIGNALS:
+            signal.signal(number, signal.SIG_IGN)
+    _end_bar()
+    table = as_table(found, files)
+    table["unreadable"] += [{"file": name, "words": words} for name, words in wrong]
+    table.update(twice=twice, finished=not stopped)
+    if asked.page:
+        lines = page_lines(found)
+        for one in table["unreadable"]:
+            _complain(one["file"], one["words"])
+        for name in twice:
+            _complain(name, "named more than once, counted once")
+    else:
+        lines = [json.dumps(table, indent=1)] if asked.json else in_words(table)
+    status = _guarded("standard output", lambda: _say("\n".join(lines)) if lines else None)
+    if stopped:
+        _note(f"mahunopi report: interrupted; this is the page of the first {found.names:,} of {len(files):,} files")
+        return stopped
+    return max(status, FAILED if table["unreadable"] else REFUSED if table["refused"] else 0)
+
+
+@contextlib.contextmanager
+def _held_back() -> Iterator[None]:
+    """Has signals wait until what is begun is done."""
+    signal.pthread_sigmask(signal.SIG_BLOCK, SIGNALS)
+    try:
+        yield
+    finally:
+        signal.pthread_sigmask(signal.SIG_UNBLOCK, SIGNALS)
