@@ -13,13 +13,15 @@ import stat
 import sys
 import tempfile
 from fractions import Fraction
-from typing import Any, Callable, Iterator, List, NoReturn, Optional, Tuple
+from typing import Any, Callable, Iterator, List, NoReturn, Optional, Tuple, Union
 
 from . import __version__
 from .calls import PLAIN_SHARPNESS, Kind, Mesh, Refused, decode, irregular, link, off, survey, turn
 from .dms import encode, is_off, lists, words
 from .importing import DEFAULT_LARGEST, LARGEST_COORDINATE, MOST_TOLD, Imported, import_model
 from .models import Unreadable, is_known, read
+from .nested import drawing, read_table
+from .nested import told as told_table
 from .reporting import Found, as_table, chunks_of, expanded, in_words, listed, page_lines
 from .shape import LEVELS, Shape, irregular_faces, irregular_vertices
 from .view import MARK, names_of, page
@@ -42,7 +44,7 @@ class Parser(argparse.ArgumentParser):
 
 
 def parser() -> Parser:
-    def command(name: str, does: str, example: str, count: str = "+",
+    def command(name: str, does: str, example: str, count: Union[str, int] = "+",
                 what: str = "a file, or - for standard input") -> argparse.ArgumentParser:
         made = commands.add_parser(name, help=does, description=does[0].upper() + does[1:] + ".", epilog="example:\n  " + example,
                                    formatter_class=argparse.RawDescriptionHelpFormatter)
@@ -95,6 +97,12 @@ def parser() -> Parser:
     form.add_argument("--json", action="store_true", help="print all of it as JSON")
     form.add_argument("--page", action="store_true", help="print only the lines that the Rattle program's `report merge` reads")
     reported.set_defaults(run_all=run_report)
+
+    nested = command("nest", "list the bodies of a table of nested grids, each after the one whose grid it hangs in",
+                     "mahunopi nest examples/bodies.csv -o wall.svg", 1,
+                     "a CSV table of body, the body whose grid it hangs in or Sun, and the spacing where it is known; - for standard input")
+    nested.add_argument("-o", dest="drawing", metavar="DRAWING", help="an SVG of the nested grids")
+    nested.set_defaults(run=run_nest, output=None)
     return whole
 
 
@@ -446,6 +454,16 @@ def run_turn(asked: argparse.Namespace, name: str, output: str) -> None:
     _write(output, encode(mesh, version))
     _say(f"{shown(name)}: {len(faces):,} of {counted(mesh.sides.size, 'face')} turned" + (": " if faces else "")
          + " ".join(map(str, faces)), output)
+
+
+# ---- nest
+
+
+def run_nest(asked: argparse.Namespace, name: str, output: str) -> None:
+    table = read_table(_read(name))
+    if asked.drawing is not None:
+        _write(asked.drawing, drawing(table))
+    _say("\n".join(told_table(table)), asked.drawing or "")
 
 
 # ---- view
