@@ -324,6 +324,27 @@ uint32_t mahunopi_floats(
  * One sample of a patch: checks by 18 and 19, then 32 and 33, and writes the point at weights i/n, j/n, k/n of one of a
  * quad-net's four triangles, in ticks: the first weight belongs to the side's head, the second to its tail, the third to
  * the quad-net's centre. It is the quartic Bernstein sum of the triangle's 15 control points, rounded once.
+ *
+ * A quad-net has four ends: E0 at the corner's vertex (point 0, b00), E1 at its leaving edge (point 4, b04), E2 at its face
+ * (point 24, b44), E3 at its arriving edge (point 20, b40). A side runs from its head to its tail; the head is the end at a
+ * vertex or a face, the tail the one at an edge. The neighbour's side across it has the same head and tail. The 15
+ * control points of a side's triangle are these of the corner's 41, in rows from the side to the centre (point 12,
+ * b22), each from the head:
+ *
+ *   side  head  tail  outer row        a row         next row   next    centre
+ *   0     E0    E1     0  1  2  3  4   25 26 27 28    6  7  8   30 31   12
+ *   1     E2    E1    24 19 14  9  4   40 36 32 28   18 13  8   35 31   12
+ *   2     E2    E3    24 23 22 21 20   40 39 38 37   18 17 16   35 34   12
+ *   3     E0    E3     0  5 10 15 20   25 29 33 37    6 11 16   30 34   12
+ *
+ * Where the faces of a mesh run counter-clockwise seen from outside, head, tail, centre of sides 0 and 2 do too, and of
+ * sides 1 and 3 they run clockwise; where the faces run clockwise, as those of the sample meshes, it is the other way
+ * round.
+ *
+ * How fine a grid should be: points are rounded to ticks, so that the normals of neighbouring patches at a common point
+ * differ a little, by at most about 180 degrees over the model's width in grid steps (seen: 8 degrees at a width of 10
+ * steps, 0.15 at 1,000, 0.003 at 60,000). Give a model a width of 1,000 steps or more, or sum the normals of the patches that
+ * share a point.
  */
 uint32_t mahunopi_sample(
     /* the numbers of a corner, as mahunopi_build writes them */

@@ -92,7 +92,7 @@ def parser() -> Parser:
     reported.add_argument("--names", metavar="LIST", help="a list of further files and folders, one a line or ended by zero bytes; "
                           "- for standard input")
     reported.add_argument("--jobs", type=_jobs, default=len(os.sched_getaffinity(0)), metavar="N",
-                          help="how many processors to work on (default all: %(default)s)")
+                          help="how many processors to work on (default all)")
     form = reported.add_mutually_exclusive_group()
     form.add_argument("--json", action="store_true", help="print all of it as JSON")
     form.add_argument("--page", action="store_true", help="print only the lines that the Rattle program's `report merge` reads")

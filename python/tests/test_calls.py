@@ -1,5 +1,6 @@
 """Every call of the header: the stored cases of the Rust tests, and what is wrong before a call."""
 
+import math
 import re
 import threading
 import time
@@ -353,6 +354,29 @@ def test_samples():
     assert refused(mahunopi.sample_triangle, net, 2, 5, out=np.zeros((20, 3), np.int32)) == (255, 63)
     assert refused(mahunopi.sample_triangle, net, 2, 0) == (33, 0)
     assert refused(mahunopi.sample_triangle, net, 2, 17) == (33, 17)
+
+
+def test_the_points_of_a_side_are_those_that_the_header_names():
+    mesh = random_sharpness(cube())
+    net = mahunopi.build(mesh, mahunopi.link(mesh), 3, 1)[0]
+    rows = re.findall(r"(?m)^ \*   ([0-3])     E\d    E\d ((?: +\d+){15})$", HEADER)
+    assert [row[0] for row in rows] == ["0", "1", "2", "3"]
+    n = 7
+    for side, numbers in rows:
+        points = net[[int(number) for number in numbers.split()]].astype(np.int64)
+        for k in range(n + 1):
+            for j in range(n - k + 1):
+                total, at = np.zeros(3), 0
+                for c in range(5):
+                    for b in range(5 - c):
+                        total += multinomial(4 - b - c, b, c) * (n - j - k) ** (4 - b - c) * j**b * k**c * points[at]
+                        at += 1
+                sample = mahunopi.sample(net, int(side), (n - j - k, j, k), n)
+                assert np.abs(total / n**4 - sample).max() <= 0.5
+
+
+def multinomial(*parts):
+    return math.factorial(sum(parts)) // math.prod(map(math.factorial, parts))
 
 
 def test_nest():
