@@ -48,6 +48,24 @@ inspect() {
     done >"$work/printed" && diff examples/inspect.expected "$work/printed"
 }
 
+# the buffers of a mesh, by C++ and by Rust
+draw() {
+    # shellcheck disable=SC2086
+    g++ -std=c++17 $warnings -O2 -Iinclude examples/draw.cpp -o "$work/draw" -L"$library" -lmahunopi || return 1
+    for mesh in meshes/torus.dms meshes/crisp-prism.dms; do
+        "$work/draw" "$mesh" 4 >"$work/printed" &&
+            cargo run --quiet --manifest-path rust/Cargo.toml --release --offline --locked -p mahunopi --example draw -- "$mesh" 4 | diff - "$work/printed" || return 1
+    done
+    lines=$(wc -l <examples/draw.cpp)
+    echo "examples/draw.cpp has $lines lines, at most 60 are meant"
+    [ "$lines" -le 60 ]
+}
+
+# no warning, of what is public and has no documentation among them
+documented() {
+    RUSTFLAGS=-Dwarnings cargo check --manifest-path rust/Cargo.toml --offline --locked -p mahunopi --lib --examples --target-dir "$work/checked"
+}
+
 samples() {
     for text in meshes/*.txt; do
         meshes/make-dms "$text" | cmp - "${text%.txt}.dms" || return 1
@@ -130,6 +148,8 @@ check 'building is compiled to vectors' vectors
 check 'archiving is compiled to vectors' packed
 check 'sample meshes are what make-dms makes of their texts' samples
 rust_tests
+check 'example draw in C++17 and in Rust print the same' draw
+check 'Rust wrapper and its examples without warnings' documented
 python_tests
 echo "users: $passed passed, $failed failed"
 [ "$failed" -eq 0 ]
