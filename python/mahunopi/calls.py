@@ -7,7 +7,7 @@ import ctypes
 import enum
 import operator
 import os
-from typing import Any, Dict, NamedTuple, Optional, Sequence, Union
+from typing import Any, Dict, List, NamedTuple, Optional, Sequence, Tuple, Union
 
 import numpy as np
 
@@ -53,11 +53,13 @@ for _name, _parameters in CALLS.items():
 
 class Refused(Exception):
     """An input that a call turned down: the refusal's number, the lowest place where it applies, its name in the header, and its
-    words. As text it is one line: `refused 12 at vertex 0: a vertex is named by fewer than 3 or more than 16 corners`."""
+    words. As text it is one line: `refused 12 at vertex 0: a vertex is named by fewer than 3 or more than 16 corners`. Where a model
+    was imported, `causes` has the points, edges or faces that cause it, each as its points by the model's own numbers."""
 
     def __init__(self, number: int, place: int, words: Optional[str] = None, place_name: Optional[str] = None) -> None:
         self.number = number
         self.place = place
+        self.causes: List[Tuple[int, ...]] = []
         self.name, self.words, self.place_name = REFUSALS[number]
         if words is not None:
             self.words = words

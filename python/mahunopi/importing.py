@@ -46,9 +46,9 @@ def import_model(model: Model, largest: int = DEFAULT_LARGEST, step: Optional[fl
     used, named = np.unique(model.corners, return_inverse=True)
     points = model.points[used]
     if not np.isfinite(points).all():
-        wrong = np.flatnonzero(~np.isfinite(points).all(axis=1))
-        raise Refused(7, 0, _listed(len(wrong), "points have", "a coordinate that is no number",
-                                    [_point(model, used[i]) for i in wrong[:MOST_TOLD]]), "")
+        wrong = used[~np.isfinite(points).all(axis=1)].tolist()
+        raise _caused(7, 0, "points have", "a coordinate that is no number", [(point,) for point in wrong],
+                      [_point(model, point) for point in wrong[:MOST_TOLD]])
     with np.errstate(all="ignore"):
         coordinates, step, centre = _on_grid(points.astype(np.float64), largest, step)
     welded, vertices = first_of_equals(coordinates)
@@ -156,9 +156,13 @@ def _check_counts(vertices: int, sides: np.ndarray, corners: np.ndarray, model: 
         raise Refused(4, 0, ", ".join(over), "")
     large = np.flatnonzero(sides > MAX_SIDES)
     if large.size:
-        starts = np.cumsum(sides) - sides
+        starts = (np.cumsum(sides) - sides).tolist()
         told = [f"{sides[face]} sides from {_point(model, source[corners[starts[face]]])}" for face in large[:MOST_TOLD]]
-        raise Refused(5, int(large[0]), _listed(large.size, "faces have", f"more than {MAX_SIDES} sides", told), "")
+        rings = [tuple(source[corners[starts[face]: starts[face] + sides[face]]].tolist()) for face in large.tolist()]
+        raise _caused(5, int(large[0]), "faces have", f"more than {MAX_SIDES} sides", rings, told)
+
+
+Told = Tuple[str, str, List[Tuple[int, ...]], List[str]]
 
 
 def _explained(refused: Refused, mesh: Mesh, model: Model, source: np.ndarray) -> Refused:
@@ -168,30 +172,34 @@ def _explained(refused: Refused, mesh: Mesh, model: Model, source: np.ndarray) -
     def point(vertex: int) -> str:
         return _point(model, source[vertex])
 
-    def vertex_twice() -> Tuple[int, str, str, List[str]]:
+    def single(vertices: np.ndarray) -> List[Tuple[int, ...]]:
+        return [(number,) for number in source[vertices].tolist()]
+
+    def vertex_twice() -> Told:
         order = np.lexsort((shape.vertices, shape.faces))
         again = (shape.vertices[order][1:] == shape.vertices[order][:-1]) & (shape.faces[order][1:] == shape.faces[order][:-1])
-        wrong = order[1:][again]
-        return wrong.size, "faces come", "to a point twice", [point(shape.vertices[corner]) for corner in wrong[:MOST_TOLD]]
+        wrong = shape.vertices[order[1:][again]]
+        return "faces come", "to a point twice", single(wrong), [point(vertex) for vertex in wrong[:MOST_TOLD]]
 
-    def open_edges() -> Tuple[int, str, str, List[str]]:
+    def open_edges() -> Told:
         ends = np.sort(np.column_stack([shape.vertices, shape.vertices[shape.next]]), axis=1)
         edges, counts = np.unique(ends, axis=0, return_counts=True)
         wrong = np.flatnonzero(counts != 2)
         told = [f"{point(edges[i][0])} to {point(edges[i][1])} in {counts[i]} face{'s' if counts[i] > 1 else ''}"
                 for i in wrong[:MOST_TOLD]]
-        return wrong.size, "edges are", "not in exactly two faces", told
+        return "edges are", "not in exactly two faces", list(map(tuple, source[edges[wrong]].tolist())), told
 
-    def one_sided() -> Tuple[int, str, str, List[str]]:
-        return 1, "part is", "one-sided, no turning of its faces serves", [point(shape.vertices[shape.starts[refused.place]])]
+    def one_sided() -> Told:
+        first = shape.vertices[shape.starts[refused.place]]
+        return "part is", "one-sided, no turning of its faces serves", single(np.array([first])), [point(first)]
 
-    def corner_counts() -> Tuple[int, str, str, List[str]]:
+    def corner_counts() -> Told:
         counts = np.bincount(shape.vertices, minlength=len(shape.points))
         wrong = np.flatnonzero((counts < 3) | (counts > MAX_SIDES))
         told = [f"{point(vertex)} has {counts[vertex]}" for vertex in wrong[:MOST_TOLD]]
-        return wrong.size, "vertices have", f"fewer than 3 or more than {MAX_SIDES} corners", told
+        return "vertices have", f"fewer than 3 or more than {MAX_SIDES} corners", single(wrong), told
 
-    def touching() -> Tuple[int, str, str, List[str]]:
+    def touching() -> Told:
         leaving = {edge: corner for corner, edge in enumerate(zip(shape.vertices.tolist(), shape.vertices[shape.next].tolist()))}
         following = shape.next.tolist()
         met, fans = [False] * shape.vertices.size, np.zeros(len(shape.points), np.int64)
@@ -203,12 +211,19 @@ def _explained(refused: Refused, mesh: Mesh, model: Model, source: np.ndarray) -
                 there = int(shape.vertices[following[corner]])
                 corner = following[leaving[there, int(shape.vertices[corner])]]
         wrong = np.flatnonzero(fans > 1)
-        return wrong.size, "vertices are", "where faces touch in the vertex alone", [point(vertex) for vertex in wrong[:MOST_TOLD]]
+        return "vertices are", "where faces touch in the vertex alone", single(wrong), [point(vertex) for vertex in wrong[:MOST_TOLD]]
 
-    words: Dict[int, Callable] = {9: vertex_twice, 34: open_edges, 35: one_sided, 12: corner_counts, 13: touching}
+    words: Dict[int, Callable[[], Told]] = {9: vertex_twice, 34: open_edges, 35: one_sided, 12: corner_counts, 13: touching}
     if refused.number not in words:
         return refused
-    return Refused(refused.number, refused.place, _listed(*words[refused.number]()), "")
+    return _caused(refused.number, refused.place, *words[refused.number]())
+
+
+def _caused(number: int, place: int, subject: str, what: str, causes: List[Tuple[int, ...]], told: Sequence[str]) -> Refused:
+    """A refusal that tells the first of its causes in words, and has all of them."""
+    refused = Refused(number, place, _listed(len(causes), subject, what, told), "")
+    refused.causes = causes
+    return refused
 
 
 SINGULAR = {"points have": "point has", "faces have": "face has", "faces come": "face comes", "edges are": "edge is",

@@ -227,6 +227,26 @@ def test_one_sided():
     assert said.startswith("refused 35: 1 part is one-sided, no turning of its faces serves: point 0 (")
 
 
+def test_all_causes_are_there():
+    def causes(model):
+        with pytest.raises(Refused) as caught:
+            import_model(model)
+        return caught.value.number, caught.value.causes
+
+    points = [(0, 0, 0), *CUBE_POINTS]  # the first one is not used
+    faces = [tuple(v + 1 for v in face) for face in OUTWARD]
+    assert causes(model_of(points, faces[1:])) == (34, [(1, 2), (1, 4), (2, 3), (3, 4)])
+    number, found = causes(model_of(*bipyramid(40)))
+    assert (number, found) == (12, [(40,), (41,)])
+    number, found = causes(model_of(*prism(17)))
+    assert number == 5 and [sorted(face) for face in found] == [list(range(17)), list(range(17, 34))]
+    points, faces = round_torus(12, 8)
+    number, found = causes(model_of(points, [face for i, face in enumerate(faces) if i % 8]))
+    assert number == 34 and len(found) > 20
+    points[3] = (0, float("nan"), 0)
+    assert causes(model_of(points, faces)) == (7, [(3,)])
+
+
 def test_over_the_limits():
     made = import_model(model_of(*round_torus(32, 64)))
     assert made.mesh.corners.size == 8_192
