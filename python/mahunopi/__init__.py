@@ -7,7 +7,8 @@ each, in ticks of 1/256 of a grid step. `floats` gives one of these points as fl
 `touched` marks the corners that a vertex can change. `turn` turns faces that are drawn the wrong way round. `report` adds a file
 to the page of a border report, `merge` makes one page of two. `nest` lists a table of nested grids. `archive` rearranges a
 coordinate list for the archive, and `restore` undoes it. `mahunopi.models` reads OBJ, OFF, PLY, STL, glTF and other models, and
-`mahunopi.importing` makes meshes of them.
+`mahunopi.importing` makes meshes of them; `mahunopi.borders` has the misses of every border, `mahunopi.view` makes pages to look at
+a surface, `mahunopi.reporting` reports on many files, `mahunopi.nested` reads and draws tables of nested grids.
 
     >>> import mahunopi
     >>> cube = mahunopi.decode(open("meshes/cube.dms", "rb").read())

@@ -199,6 +199,7 @@ def _start_bar(count: int) -> None:
     if count > 1 and sys.stderr is not None and sys.stderr.isatty():
         from tqdm import tqdm
 
+        tqdm.monitor_interval = 0  # no thread: a report starts processes
         _bar = tqdm(total=count, unit="file", leave=False)
 
 

@@ -214,7 +214,7 @@
   const scenes = meshes.map((mesh) => {
     const scene = new THREE.Scene(), offset = { polygonOffset: true, polygonOffsetFactor: 1, polygonOffsetUnits: 2 };
     const surface = new THREE.Mesh(new THREE.BufferGeometry(), new THREE.MeshPhongMaterial(Object.assign(
-      { vertexColors: THREE.VertexColors, side: THREE.DoubleSide, shininess: 30, specular: 0x222222 }, offset)));
+      { vertexColors: THREE.VertexColors || true, side: THREE.DoubleSide, shininess: 30, specular: 0x222222 }, offset)));
     const lines = () => new THREE.LineSegments(new THREE.BufferGeometry(), new THREE.LineBasicMaterial());
     const dots = () => new THREE.Points(new THREE.BufferGeometry(), new THREE.PointsMaterial({ size: 11, sizeAttenuation: false }));
     const made = { mesh, scene, surface, borders: lines(), coarse: lines(), vertices: dots(), faces: dots() };
