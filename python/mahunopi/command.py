@@ -24,7 +24,7 @@ from .nested import drawing, read_table
 from .nested import told as told_table
 from .reporting import Found, as_table, chunks_of, expanded, in_words, listed, page_lines
 from .shape import LEVELS, Shape, irregular_faces, irregular_vertices
-from .view import MARK, names_of, page
+from .view import MARK, default_name, page
 
 REFUSED, FAILED = 1, 2
 INTERRUPTED, BROKEN_PIPE, ENDED = 130, 141, 143
@@ -478,7 +478,7 @@ def run_view(asked: argparse.Namespace) -> int:
         _wrong(asked, "standard input can be read once only")
     if asked.output is None and "-" in files:
         _wrong(asked, "standard input has no name that a page could have, name one by -o")
-    output = asked.output or names_of(files)
+    output = asked.output or default_name(files)
     if asked.output is None and os.path.exists(output) and not _is_page(output):
         _wrong(asked, f"{shown(output)} is there and is no page of this command, name another by -o")
     meshes: List[Tuple[str, Mesh]] = []

@@ -73,6 +73,6 @@ def _plain(name: str) -> str:
     return os.fsencode(name).decode("utf-8", "replace")
 
 
-def names_of(names: List[str]) -> str:
+def default_name(names: List[str]) -> str:
     """What a page of these files is called where nothing else is said."""
     return "-".join(os.path.splitext(os.path.basename(name))[0] for name in names) + ".html"

@@ -4,6 +4,7 @@ import os
 import pty
 import re
 import shutil
+import signal
 import subprocess
 import time
 from pathlib import Path
@@ -25,6 +26,7 @@ check)
     done ;;
 staticlib)
     [ ! -e fails ] || { echo "rt: mahunopi NOT PROVED (exit 1, 2 s)"; exit 1; }
+    sed -n 's/(1 s)/(unchanged since it was last proved)/p' target/log/first-use.txt
     sleep 0.6
     mkdir -p target/staticlib && cp "$LIBRARY" target/staticlib/ ;;
 esac
@@ -78,7 +80,7 @@ def test_the_first_command_of_the_readme(clone):
     assert re.fullmatch(rf"mahunopi: proving {len(crates())} crates, once \.\.\nmahunopi: {len(crates())} crates proved in \d+ s\n", err)
     asked = (clone / "target/asked").read_text().split("\n")
     assert set(asked[0].split()[1:]) == crates() - {"mahunopi"} and asked[1:] == ["staticlib mahunopi", ""]
-    assert (clone / "target/log/first-use.txt").read_text().count("proved") == len(crates()) - 1
+    assert (clone / "target/log/first-use.txt").read_text().count("proved (1 s)") == len(crates()) - 1
     times = []
     for _ in range(5):
         began = time.monotonic()
@@ -104,7 +106,27 @@ def test_one_line_of_progress_on_a_terminal(clone):
     assert done.returncode == 0 and done.stdout == (ROOT / "meshes/cube.dms").read_bytes()
     count = len(crates())
     assert f"mahunopi: proving 1 of {count} crates .." in shown and f"\rmahunopi: proving {count} of {count} crates .." in shown
-    assert shown.split("\r\033[K")[0].count("\n") == 0 and f"mahunopi: {count} crates proved in" in shown
+    assert f"proving {count + 1} of" not in shown and shown.split("\r\033[K")[0].count("\n") == 0 and f"mahunopi: {count} crates proved in" in shown
+
+
+def test_an_interrupt_ends_the_prover(clone, tmp_path):
+    slow = tmp_path / "tools/rt"
+    slow.write_text("#!/bin/sh\necho $$ >target/prover\nsleep 300\n")
+    process = subprocess.Popen([clone / "mahunopi", "--version"], stderr=subprocess.PIPE, start_new_session=True)
+    prover = clone / "target/prover"
+    for _ in range(600):
+        if prover.exists() and prover.read_text().strip():
+            break
+        time.sleep(0.1)
+    os.killpg(process.pid, signal.SIGINT)
+    process.communicate(timeout=60)
+    assert process.returncode in (130, -signal.SIGINT)
+    for _ in range(100):
+        if not Path(f"/proc/{prover.read_text().strip()}").exists():
+            break
+        time.sleep(0.1)
+    else:
+        raise AssertionError("the prover still runs")
 
 
 def test_what_stands_in_the_way_is_said(clone, tmp_path):
