@@ -1,8 +1,8 @@
 #!/bin/sh
-# The library as its users take it: the header as C11 and as C++17, the C examples, the sample meshes, the Rust tests.
+# The library as its users take it: the header as C11 and as C++17, the C examples, the sample meshes, the Rust tests, the Python package.
 # Needs target/staticlib/libmahunopi.a (`rt staticlib mahunopi`; MAHUNOPI_LIB names another directory that has it) and
 # what .ci/install installs. Prints a line for each check and last `users: N passed, M failed`, where every Rust test
-# counts; the status is 0 when none failed.
+# and every Python test counts; the status is 0 when none failed.
 set -u
 cd "$(dirname "$0")/.." || exit 2
 library=${MAHUNOPI_LIB:-$PWD/target/staticlib}
@@ -46,6 +46,24 @@ inspect() {
     compiled inspect "$@" && for mesh in meshes/*.dms; do
         "$work/inspect" <"$mesh"
     done >"$work/printed" && diff examples/inspect.expected "$work/printed"
+}
+
+# the buffers of a mesh, by C++ and by Rust
+draw() {
+    # shellcheck disable=SC2086
+    g++ -std=c++17 $warnings -O2 -Iinclude examples/draw.cpp -o "$work/draw" -L"$library" -lmahunopi || return 1
+    for mesh in meshes/torus.dms meshes/crisp-prism.dms; do
+        "$work/draw" "$mesh" 4 >"$work/printed" &&
+            cargo run --quiet --manifest-path rust/Cargo.toml --release --offline --locked -p mahunopi --example draw -- "$mesh" 4 | diff - "$work/printed" || return 1
+    done
+    lines=$(wc -l <examples/draw.cpp)
+    echo "examples/draw.cpp has $lines lines, at most 60 are meant"
+    [ "$lines" -le 60 ]
+}
+
+# no warning, of what is public and has no documentation among them
+documented() {
+    RUSTFLAGS=-Dwarnings cargo check --manifest-path rust/Cargo.toml --offline --locked -p mahunopi --lib --examples --target-dir "$work/checked"
 }
 
 samples() {
@@ -95,6 +113,28 @@ rust_tests() {
     fi
 }
 
+# Every test that pytest runs counts as one; what does not even start counts as one that fails.
+python_tests() {
+    python/make-library >"$work/pytest" 2>&1 &&
+        PYTHONDONTWRITEBYTECODE=1 /usr/bin/python3 -m pytest -q -rs -p no:cacheprovider python/tests >"$work/pytest" 2>&1
+    status=$?
+    sed -n 's/^SKIPPED/users: Python tests: skipped/p' "$work/pytest"
+    last=$(tail -n 1 "$work/pytest")
+    run=$(echo "$last" | sed -n 's/.*\b\([0-9][0-9]*\) passed.*/\1/p')
+    wrong=$(echo "$last" | grep -o '[0-9]* \(failed\|error\)' | awk '{ sum += $1 } END { print sum + 0 }')
+    if [ $status -ne 0 ] && [ "$wrong" -eq 0 ] || [ -z "$run" ] && [ "$wrong" -eq 0 ]; then
+        wrong=1
+    fi
+    passed=$((passed + ${run:-0}))
+    failed=$((failed + wrong))
+    if [ "$wrong" -eq 0 ]; then
+        echo "users: Python tests: $run passed"
+    else
+        echo "users: Python tests: ${run:-0} passed, $wrong FAILED"
+        sed 's/^/    /' "$work/pytest"
+    fi
+}
+
 # shellcheck disable=SC2086
 {
     check 'header as C11' gcc -std=c11 $warnings -fsyntax-only -x c include/mahunopi.h
@@ -108,5 +148,8 @@ check 'building is compiled to vectors' vectors
 check 'archiving is compiled to vectors' packed
 check 'sample meshes are what make-dms makes of their texts' samples
 rust_tests
+check 'example draw in C++17 and in Rust print the same' draw
+check 'Rust wrapper and its examples without warnings' documented
+python_tests
 echo "users: $passed passed, $failed failed"
 [ "$failed" -eq 0 ]

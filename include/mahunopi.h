@@ -68,6 +68,9 @@ extern "C" {
  * 5, 6, 7, 8, 28, 9 and so on. Each number is tried over the whole input before the next, and the place is the lowest
  * that applies.
  *
+ * The comment above each number is read by programs too (python/make-library): what is wrong, then in parentheses the
+ * place, either always the same number or `place: the NOUN`, and what the place is in full after a comma.
+ *
  * From a corner the leaving edge runs to the vertex of the next corner of its face, cyclically, and the arriving edge
  * comes from the vertex of the previous one. The link of a corner is the corner of the same vertex whose arriving edge
  * is the reverse of its leaving edge: the corner in the face across that edge.
@@ -100,73 +103,73 @@ enum mahunopi_refusal {
     MAHUNOPI_BAD_SIDE_COUNT = 5,
     /* the side counts do not sum to the corner count (place: the sum) */
     MAHUNOPI_BAD_SIDE_SUM = 6,
-    /* a coordinate is outside -65,536 to 65,536 (place: its position in the list) */
+    /* a coordinate is outside -65,536 to 65,536 (place: the position in the list) */
     MAHUNOPI_BAD_COORDINATE = 7,
     /* a corner names a vertex not below the vertex count (place: the corner) */
     MAHUNOPI_NO_SUCH_VERTEX = 8,
-    /* a corner names the vertex of an earlier corner of its face (place: the later corner) */
+    /* a corner names the vertex of an earlier corner of its face (place: the corner, the later one) */
     MAHUNOPI_VERTEX_TWICE_IN_FACE = 9,
-    /* a leaving edge, with its direction, already left an earlier corner (place: the later corner) */
+    /* a leaving edge, with its direction, already left an earlier corner (place: the corner, the later one) */
     MAHUNOPI_EDGE_TWICE = 10,
     /* a leaving edge has no reverse among the leaving edges (place: the corner) */
     MAHUNOPI_EDGE_WITHOUT_REVERSE = 11,
     /* a vertex is named by fewer than 3 or more than 16 corners (place: the vertex) */
     MAHUNOPI_BAD_CORNERS_OF_VERTEX = 12,
-    /* a vertex has a corner not met when following links from its lowest corner, see above (place: the vertex) */
+    /* a vertex has a corner not met when following links from its lowest corner (place: the vertex); see above */
     MAHUNOPI_CORNER_NOT_MET = 13,
-    /* the link table's length is not the corner count (place: its length) */
+    /* the link table's length is not the corner count (place: the length) */
     MAHUNOPI_BAD_LINK_TABLE_LENGTH = 14,
     /* the link table differs from what linking writes (place: the corner) */
     MAHUNOPI_BAD_LINK = 15,
     /* the count asked is 0, or the first corner plus the count exceeds the corner count (place: the first corner) */
     MAHUNOPI_BAD_RANGE = 16,
-    /* the output's length is not 123 times the count (place: its length) */
+    /* the output's length is not 123 times the count (place: the length) */
     MAHUNOPI_BAD_OUTPUT_LENGTH = 17,
-    /* the list of a corner's numbers is not 123 long (place: its length) */
+    /* the list of a corner's numbers is not 123 long (place: the length) */
     MAHUNOPI_BAD_NET_LENGTH = 18,
-    /* a number in that list is outside -2^27 to 2^27 (place: its position in the list) */
+    /* a number in a corner's list is outside -2^27 to 2^27 (place: the position in the list) */
     MAHUNOPI_BAD_NUMBER = 19,
-    /* the point number is above 40 (place: that number) */
+    /* the point number is above 40 (place: the point) */
     MAHUNOPI_NO_SUCH_POINT = 20,
     /* there are no bodies, above 256, or the listing's length differs from the bodies' (place 0) */
     MAHUNOPI_BAD_BODY_COUNT = 21,
     /* a number is neither below the body count nor MAHUNOPI_SUN (place: the body) */
     MAHUNOPI_NO_SUCH_HOLDER = 22,
-    /* a chain does not end at the Sun (place: the lowest such body) */
+    /* a chain does not end at the Sun (place: the body, the lowest such) */
     MAHUNOPI_CHAIN_WITHOUT_SUN = 23,
     /* a lent list is shorter than every mesh may need, or the text's first word is missing or not OFF (place 0) */
     MAHUNOPI_BAD_OFF_START = 24,
-    /* a needed word of the text is missing or no such number (place: the word's number from 0, for a missing word the
+    /* a needed word of the text is missing or no such number (place: the word, counted from 0, for a missing word the
      * number of words that there are) */
     MAHUNOPI_BAD_WORD = 25,
-    /* a word stands after the last face (place: the word's number) */
+    /* a word stands after the last face (place: the word, counted from 0) */
     MAHUNOPI_WORD_TOO_MANY = 26,
-    /* after 4: the sharpness list is not twice as long as the corner list (place: its length) */
+    /* the sharpness list is not twice as long as the corner list (place: the length); tried after 4 */
     MAHUNOPI_BAD_SHARPNESS_LENGTH = 27,
-    /* after 8: a sharpness number is above 16 (place: its position in the sharpness list) */
+    /* a sharpness number is above 16 (place: the position in the sharpness list); tried after 8 */
     MAHUNOPI_BAD_SHARPNESS = 28,
     /* the vertex is not below a third of the coordinate list's length, rounded down (place: the vertex) */
     MAHUNOPI_NO_VERTEX_TO_MOVE = 29,
-    /* the number list's length is no multiple of three (place: its length) */
+    /* the number list's length is no multiple of three (place: the length) */
     MAHUNOPI_BAD_NUMBER_COUNT = 30,
-    /* the byte list is not four times as long as the number list (place: its length) */
+    /* the byte list is not four times as long as the number list (place: the length) */
     MAHUNOPI_BAD_BYTE_COUNT = 31,
     /* the side is above 3 (place: the side) */
     MAHUNOPI_NO_SUCH_SIDE = 32,
     /* the number of parts is outside 1 to 16, or the weights do not sum to it (place: the number of parts) */
     MAHUNOPI_BAD_WEIGHTS = 33,
-    /* an edge, its direction ignored, is not in exactly two faces (place: the lowest corner that it leaves) */
+    /* an edge, its direction ignored, is not in exactly two faces (place: the corner, the lowest that it leaves) */
     MAHUNOPI_EDGE_NOT_IN_TWO_FACES = 34,
-    /* no choice of turns makes the model pass 10 and 11 (place: the lowest face of the lowest part that has none) */
+    /* no choice of turns makes the model pass 10 and 11 (place: the face, the lowest of the lowest part that has none) */
     MAHUNOPI_NO_CHOICE_OF_TURNS = 35,
-    /* before everything else: the listing's length is not the face count (place: its length) */
+    /* the listing's length is not the face count (place: the length); tried before everything else */
     MAHUNOPI_BAD_LISTING_LENGTH = 36,
     /* a page counts 4,096 meshes or more; two pages to be merged count more than 4,096 (place 4,096) */
     MAHUNOPI_PAGE_FULL = 37,
     /* a number on a page is above 2^40 (place 0) */
     MAHUNOPI_PAGE_NUMBER = 38,
-    /* surveying and decoding, after 1 to 13: a lent list is too short (place: the length that the first such needs);
-     * mahunopi_touched, after 29 and 4 to 13: there is not a mark for each corner (place: the corner count) */
+    /* a lent list is too short, or has not a mark for each corner (place: the length needed, that of the first such
+     * list); tried last: by surveying and decoding after 1 to 13, by mahunopi_touched after 29 and 4 to 13 */
     MAHUNOPI_LENT_TOO_SHORT = 255
 };
 
@@ -321,6 +324,27 @@ uint32_t mahunopi_floats(
  * One sample of a patch: checks by 18 and 19, then 32 and 33, and writes the point at weights i/n, j/n, k/n of one of a
  * quad-net's four triangles, in ticks: the first weight belongs to the side's head, the second to its tail, the third to
  * the quad-net's centre. It is the quartic Bernstein sum of the triangle's 15 control points, rounded once.
+ *
+ * A quad-net has four ends: E0 at the corner's vertex (point 0, b00), E1 at its leaving edge (point 4, b04), E2 at its face
+ * (point 24, b44), E3 at its arriving edge (point 20, b40). A side runs from its head to its tail; the head is the end at a
+ * vertex or a face, the tail the one at an edge. The neighbour's side across it has the same head and tail. The 15
+ * control points of a side's triangle are these of the corner's 41, in rows from the side to the centre (point 12,
+ * b22), each from the head:
+ *
+ *   side  head  tail  outer row        a row         next row   next    centre
+ *   0     E0    E1     0  1  2  3  4   25 26 27 28    6  7  8   30 31   12
+ *   1     E2    E1    24 19 14  9  4   40 36 32 28   18 13  8   35 31   12
+ *   2     E2    E3    24 23 22 21 20   40 39 38 37   18 17 16   35 34   12
+ *   3     E0    E3     0  5 10 15 20   25 29 33 37    6 11 16   30 34   12
+ *
+ * Where the faces of a mesh run counter-clockwise seen from outside, head, tail, centre of sides 0 and 2 do too, and of
+ * sides 1 and 3 they run clockwise; where the faces run clockwise, as those of the sample meshes, it is the other way
+ * round.
+ *
+ * How fine a grid should be: points are rounded to ticks, so that the normals of neighbouring patches at a common point
+ * differ a little, by at most about 180 degrees over the model's width in grid steps (seen: 8 degrees at a width of 10
+ * steps, 0.15 at 1,000, 0.003 at 60,000). Give a model a width of 1,000 steps or more, or sum the normals of the patches that
+ * share a point.
  */
 uint32_t mahunopi_sample(
     /* the numbers of a corner, as mahunopi_build writes them */

@@ -10,11 +10,24 @@ use crate::{raw, refusal::answer, MeshRef, Refusal};
 #[non_exhaustive]
 pub enum Irregular {
     /// The lowest face that has not four sides. It was the last one read.
-    Face { face: usize, sides_read: usize },
+    Face {
+        /// The face.
+        face: usize,
+        /// How many side counts were read: the face plus one.
+        sides_read: usize,
+    },
     /// All faces have four sides; the lowest vertex that has not four corners.
-    Vertex { vertex: usize, sides_read: usize },
+    Vertex {
+        /// The vertex.
+        vertex: usize,
+        /// How many side counts were read: all.
+        sides_read: usize,
+    },
     /// All faces have four sides, and all vertices four corners.
-    None { sides_read: usize },
+    None {
+        /// How many side counts were read: all.
+        sides_read: usize,
+    },
 }
 
 impl fmt::Display for Irregular {

@@ -25,6 +25,8 @@
 //! # Ok::<(), Box<dyn std::error::Error>>(())
 //! ```
 
+#![warn(missing_docs)]
+
 mod archive;
 mod floats;
 mod irregular;
@@ -54,14 +56,19 @@ pub use report::{Page, MAX_PAGE_MESHES, PAGE_NUMBERS};
 pub use sampling::{sample, sample_count, sample_triangle, sample_triangle_into, MAX_PARTS};
 pub use turning::{turn, turn_in_place, turn_into, Turned};
 
-/// The most vertices, faces and corners of a mesh.
+/// The version of the header that this wrapper is for, `MAHUNOPI_VERSION` there; the package's major version.
+pub const VERSION: u32 = 4;
+/// The most vertices of a mesh.
 pub const MAX_VERTICES: usize = 2_048;
+/// The most faces of a mesh.
 pub const MAX_FACES: usize = 4_096;
+/// The most corners of a mesh.
 pub const MAX_CORNERS: usize = 8_192;
 /// The most sides of a face, and corners of a vertex; the fewest are three.
 pub const MAX_SIDES: usize = 16;
-/// The largest sharpness number, in sixteenths, and the one that a corner has where nothing else is said.
+/// The largest sharpness number, in sixteenths.
 pub const MAX_SHARPNESS: u8 = 16;
+/// The sharpness number that a corner has where nothing else is said.
 pub const PLAIN_SHARPNESS: u8 = 8;
 /// The numbers that building makes for a corner: 41 control points of x, y, z.
 pub const NUMBERS_PER_CORNER: usize = 123;

@@ -111,9 +111,13 @@ impl<'a> From<&'a Mesh> for MeshRef<'a> {
 #[derive(Clone, Copy, Debug, PartialEq, Eq)]
 #[non_exhaustive]
 pub struct Lengths {
+    /// How many coordinates: three for each vertex.
     pub coordinates: usize,
+    /// How many side counts: the faces.
     pub sides: usize,
+    /// How many corners.
     pub corners: usize,
+    /// How many sharpness numbers: two for each corner.
     pub sharpness: usize,
 }
 
@@ -121,8 +125,11 @@ pub struct Lengths {
 #[derive(Clone, Debug, PartialEq, Eq)]
 #[non_exhaustive]
 pub struct Counts {
+    /// How many vertices.
     pub vertices: usize,
+    /// How many faces.
     pub faces: usize,
+    /// How many corners.
     pub corners: usize,
     pub(crate) vertices_with: [u16; MAX_SIDES + 1],
     pub(crate) faces_with: [u16; MAX_SIDES + 1],

@@ -117,11 +117,14 @@ impl Fault {
 #[derive(Clone, Copy, Debug, PartialEq, Eq)]
 #[non_exhaustive]
 pub struct Refusal {
+    /// What is wrong.
     pub fault: Fault,
+    /// The lowest place where it applies.
     pub place: u64,
 }
 
 impl Refusal {
+    /// A refusal, to compare others with.
     pub fn new(fault: Fault, place: u64) -> Refusal {
         Refusal { fault, place }
     }

@@ -6,7 +6,7 @@ use std::thread;
 use mahunopi::{
     build, build_all, build_into, decode, irregular, link, link_into, off, preview, preview_into, ranges, survey,
     survey_counted, touched, touched_into, Fault, Irregular, Mesh, MeshRef, Refusal, CALL_STACK, MAX_SIDES,
-    NUMBERS_PER_CORNER,
+    NUMBERS_PER_CORNER, VERSION,
 };
 
 const CUBE: &[u8] = include_bytes!("../../../meshes/cube.dms");
@@ -305,6 +305,13 @@ fn a_drag_by_ranges() {
         assert_eq!(build(&mesh, &links, 0, 2_400).unwrap(), points);
     }
     assert_eq!(ranges(&[], 5), []);
+}
+
+#[test]
+fn one_version_in_header_wrapper_and_package() {
+    let header = include_str!("../../../include/mahunopi.h");
+    assert!(header.contains(&format!("#define MAHUNOPI_VERSION {VERSION}\n")));
+    assert_eq!(env!("CARGO_PKG_VERSION"), format!("{VERSION}.0.0"));
 }
 
 #[test]

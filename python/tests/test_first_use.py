@@ -1,0 +1,159 @@
+"""./mahunopi in a fresh copy of the repository: its first use and later ones. A stand-in for rt proves nothing and takes no time."""
+
+import os
+import pty
+import re
+import shutil
+import signal
+import subprocess
+import time
+from pathlib import Path
+
+import pytest
+
+ROOT = Path(__file__).resolve().parents[2]
+LIBRARY = Path(os.environ.get("MAHUNOPI_LIB") or ROOT / "target/staticlib") / "libmahunopi.a"
+RT = """#!/bin/sh
+# rt check CRATE.. and rt staticlib mahunopi, as far as their lines and files go
+echo "$*" >>target/asked
+case $1 in
+check)
+    shift
+    for crate in "$@"; do
+        echo "library std: modules loaded=0 checked=0"
+        echo "rt: $crate proved (1 s)"
+        sleep 0.05
+    done ;;
+staticlib)
+    [ ! -e fails ] || { echo "rt: mahunopi NOT PROVED (exit 1, 2 s)"; exit 1; }
+    sed -n 's/(1 s)/(unchanged since it was last proved)/p' target/log/first-use.txt
+    sleep 0.6
+    mkdir -p target/staticlib && cp "$LIBRARY" target/staticlib/ ;;
+esac
+"""
+
+
+@pytest.fixture
+def clone(tmp_path, monkeypatch):
+    """The repository's files as a clone has them, and a path on which rt is the stand-in."""
+    there = tmp_path / "clone"
+    listed = subprocess.run(["git", "-C", ROOT, "ls-files", "-z", "--cached", "--others", "--exclude-standard"], capture_output=True, check=False)
+    if listed.returncode:
+        pytest.skip("this is no clone of the repository")
+    for name in listed.stdout.decode().split("\0"):
+        if name and (ROOT / name).is_file() and not name.startswith(("crates/", "rust/", "docs/")):
+            (there / name).parent.mkdir(parents=True, exist_ok=True)
+            shutil.copy2(ROOT / name, there / name)
+    assert not (there / "python/mahunopi/libmahunopi.so").exists()
+    tools = tmp_path / "tools"
+    tools.mkdir()
+    (tools / "rt").write_text(RT)
+    (tools / "rt").chmod(0o755)
+    monkeypatch.setenv("PATH", f"{tools}:{os.environ['PATH']}")
+    monkeypatch.setenv("LIBRARY", str(LIBRARY))
+    monkeypatch.delenv("MAHUNOPI_LIB", raising=False)
+    monkeypatch.setenv("PYTHONDONTWRITEBYTECODE", "1")
+    return there
+
+
+def run(clone, *words, **more):
+    done = subprocess.run([clone / "mahunopi", *words], capture_output=True, text=True, timeout=120, check=False, **more)
+    return done.returncode, done.stdout, done.stderr
+
+
+def crates():
+    """The crates that the library is made of."""
+    uses = dict(re.findall(r"(?m)^([a-z0-9_]+):(.*)$", (ROOT / "crates.txt").read_text()))
+    found, waiting = set(), ["mahunopi"]
+    while waiting:
+        name = waiting.pop()
+        if name in uses and name not in found:
+            found.add(name)
+            waiting += uses[name].split()
+    return found
+
+
+def test_the_first_command_of_the_readme(clone):
+    command = re.search(r"(?m)^    \./(mahunopi view \S+)$", (ROOT / "README.md").read_text())[1].split()
+    status, out, err = run(clone, *command[1:], cwd=clone)
+    assert status == 0 and re.fullmatch(r"torus\.html: [\d,]+ bytes, to be opened in a browser\n", out)
+    assert re.fullmatch(rf"mahunopi: proving {len(crates())} crates, once \.\.\nmahunopi: {len(crates())} crates proved in \d+ s\n", err)
+    asked = (clone / "target/asked").read_text().split("\n")
+    assert set(asked[0].split()[1:]) == crates() - {"mahunopi"} and asked[1:] == ["staticlib mahunopi", ""]
+    assert (clone / "target/log/first-use.txt").read_text().count("proved (1 s)") == len(crates()) - 1
+    times = []
+    for _ in range(5):
+        began = time.monotonic()
+        assert run(clone, "info", clone / "meshes/cube.dms")[::2] == (0, "")
+        times.append(time.monotonic() - began)
+    assert min(times) < 1, times
+    # a library that was built anew is taken
+    later = time.time() + 5
+    os.utime(clone / "target/staticlib/libmahunopi.a", (later, later))
+    assert run(clone, "--version")[0] == 0 and (clone / "target/asked").read_text().count("\n") == 2
+
+
+def test_one_line_of_progress_on_a_terminal(clone):
+    ours, theirs = pty.openpty()
+    try:
+        done = subprocess.run([clone / "mahunopi", "turn", "-"], input=(ROOT / "meshes/cube.dms").read_bytes(), stdout=subprocess.PIPE, stderr=theirs,
+                              timeout=60, check=False)
+        shown = os.read(ours, 100_000).decode()
+    finally:
+        os.close(ours)
+        os.close(theirs)
+    # what was piped in is for the command
+    assert done.returncode == 0 and done.stdout == (ROOT / "meshes/cube.dms").read_bytes()
+    count = len(crates())
+    assert f"mahunopi: proving 1 of {count} crates .." in shown and f"\rmahunopi: proving {count} of {count} crates .." in shown
+    assert f"proving {count + 1} of" not in shown and shown.split("\r\033[K")[0].count("\n") == 0 and f"mahunopi: {count} crates proved in" in shown
+
+
+def test_an_interrupt_ends_the_prover(clone, tmp_path):
+    slow = tmp_path / "tools/rt"
+    slow.write_text("#!/bin/sh\necho $$ >target/prover\nsleep 300\n")
+    process = subprocess.Popen([clone / "mahunopi", "--version"], stderr=subprocess.PIPE, start_new_session=True)
+    prover = clone / "target/prover"
+    for _ in range(600):
+        if prover.exists() and prover.read_text().strip():
+            break
+        time.sleep(0.1)
+    os.killpg(process.pid, signal.SIGINT)
+    process.communicate(timeout=60)
+    assert process.returncode in (130, -signal.SIGINT)
+    for _ in range(100):
+        if not Path(f"/proc/{prover.read_text().strip()}").exists():
+            break
+        time.sleep(0.1)
+    else:
+        raise AssertionError("the prover still runs")
+
+
+def test_what_stands_in_the_way_is_said(clone, tmp_path):
+    (clone / "fails").touch()
+    status, out, err = run(clone, "--version")
+    assert (status, out) == (2, "") and err.split("\n")[1:] == [
+        "rt: mahunopi NOT PROVED (exit 1, 2 s)", "mahunopi: that failed; what the prover said is in target/log/first-use.txt", ""]
+    # a path with neither rt nor apt-get nor a C compiler
+    poor = tmp_path / "poor"
+    poor.mkdir()
+    for name in ("sh", "dirname", "readlink", "mkdir", "id", "awk", "wc", "grep", "date", "sleep", "flock", "env"):
+        if shutil.which(name):
+            (poor / name).symlink_to(shutil.which(name))
+    status, out, err = run(clone, "--version", env={"PATH": str(poor), "HOME": str(tmp_path)})
+    assert (status, out) == (2, "") and err == "mahunopi: missing: gcc (Debian's names; as root .ci/install command installs them)\n"
+    (poor / "gcc").symlink_to(shutil.which("gcc"))
+    status, out, err = run(clone, "--version", env={"PATH": str(poor), "HOME": str(tmp_path)})
+    assert (status, out) == (2, "") and err.startswith("mahunopi: the library is not built, and the Rattle kit that proves and builds it (rt) is not on")
+    (poor / "cc").symlink_to(shutil.which("cc"))
+    (poor / "ld").symlink_to(shutil.which("ld"))
+    status, out, err = run(clone, "--version", env={"PATH": str(poor), "HOME": str(tmp_path), "MAHUNOPI_LIB": str(LIBRARY.parent)})
+    assert status == 0 and err == ""
+
+
+def test_a_library_that_is_older_than_the_header_is_said(clone):
+    header = clone / "include/mahunopi.h"
+    text = header.read_text()
+    header.write_text(text.replace("uint32_t mahunopi_merge(", "uint32_t mahunopi_later(\n    uint64_t *place);\nuint32_t mahunopi_merge("))
+    status, out, err = run(clone, "--version")
+    assert (status, out) == (2, "") and err.endswith("is older than the header, it has no mahunopi_later: run `rt staticlib mahunopi`\n")
