@@ -140,7 +140,10 @@ fn highest_entry(table: &[u16], count: usize) -> u16
     let mut most: u16 = 0;
     let mut c = 0;
     while c < count {
-        most = crate::lists::greater_index(most, table[ROW * c + LINK]);
+        let x = table[ROW * c + LINK];
+        if most < x {
+            most = x;
+        }
         c += 1;
     }
     most

@@ -47,34 +47,8 @@ pub(crate) fn check_pairs(sharpness: usize, corners: usize) -> Answer
     Answer::Done
 }
 
-// Check 5, of the faces' side counts. Nearly every list passes: it is gone over without an early end first, as in checks 7, 8 and 28.
+// Check 5, of the faces' side counts.
 pub(crate) fn check_sides(sides: &[u8]) -> Answer
-    ensures { λ r. ⌜ stated r ≡ lowestOf 5 (length (now (sides .entry))) (fault5 (now (sides .entry))) ⌝ }
-{
-    if all_sided(sides) {
-        return Answer::Done;
-    }
-    find_sides(sides)
-}
-
-// Whether each face has a side count that passes.
-fn all_sided(sides: &[u8]) -> bool
-    ensures { λ r. ⌜ (r ≡ true → (j : ℕ) → j < length (now (sides .entry)) → fault5 (now (sides .entry)) j ≡ false) ⌝ }
-{
-    let mut sided = true;
-    let mut f = 0;
-    while f < sides.len() {
-        let s = sides[f] as usize;
-        if s < LEAST_SIDES || MOST_SIDES < s {
-            sided = false;
-        }
-        f += 1;
-    }
-    sided
-}
-
-// The lowest face at fault.
-fn find_sides(sides: &[u8]) -> Answer
     ensures { λ r. ⌜ stated r ≡ lowestOf 5 (length (now (sides .entry))) (fault5 (now (sides .entry))) ⌝ }
 {
     let mut f = 0;
@@ -105,7 +79,7 @@ pub(crate) fn check_sum(sides: &[u8], corners: usize) -> Answer
     Answer::Done
 }
 
-// Check 7, of the coordinates.
+// Check 7, of the coordinates. Nearly every list passes: it is read without an early end first, several numbers at a time, as in checks 8 and 28.
 pub(crate) fn check_coordinates(coordinates: &[i32]) -> Answer
     ensures { λ r. ⌜ stated r ≡ lowestOf 7 (length (now (coordinates .entry))) (fault7 (now (coordinates .entry))) ⌝ }
 {
@@ -146,7 +120,7 @@ fn find_coordinate(coordinates: &[i32]) -> Answer
     Answer::Done
 }
 
-// Check 8: each corner names a vertex. Nearly every list passes: it is gone over without an early end first, several numbers at a time.
+// Check 8: each corner names a vertex.
 pub(crate) fn check_names(vertices: usize, corners: &[u16]) -> Answer
     ensures { λ r. ⌜ stated r ≡ lowestOf 8 (length (now (corners .entry))) (fault8 vertices (now (corners .entry))) ⌝ }
 {
@@ -164,17 +138,13 @@ fn highest_index(list: &[u16]) -> u16
     let mut most: u16 = 0;
     let mut c = 0;
     while c < list.len() {
-        most = greater_index(most, list[c]);
+        let x = list[c];
+        if most < x {
+            most = x;
+        }
         c += 1;
     }
     most
-}
-
-// The greater of two numbers.
-pub(crate) fn greater_index(a: u16, b: u16) -> u16
-    ensures { λ r. ⌜ (a ≤ r) × (b ≤ r) ⌝ }
-{
-    if a < b { b } else { a }
 }
 
 // The lowest corner at fault.
@@ -192,7 +162,7 @@ fn find_name(vertices: usize, corners: &[u16]) -> Answer
     Answer::Done
 }
 
-// Check 28, of the sharpness numbers. Nearly every list passes: it is gone over without an early end first, sixteen bytes at a time.
+// Check 28, of the sharpness numbers.
 pub(crate) fn check_sharpness(sharpness: &[u8]) -> Answer
     ensures { λ r. ⌜ stated r ≡ lowestOf 28 (length (now (sharpness .entry))) (fault28 (now (sharpness .entry))) ⌝ }
 {
@@ -209,17 +179,13 @@ fn highest(list: &[u8]) -> u8
     let mut most: u8 = 0;
     let mut i = 0;
     while i < list.len() {
-        most = greater(most, list[i]);
+        let x = list[i];
+        if most < x {
+            most = x;
+        }
         i += 1;
     }
     most
-}
-
-// The greater of two bytes.
-fn greater(a: u8, b: u8) -> u8
-    ensures { λ r. ⌜ (a ≤ r) × (b ≤ r) ⌝ }
-{
-    if a < b { b } else { a }
 }
 
 // The lowest number at fault.

@@ -36,7 +36,10 @@ pub fn check_asked(corners: usize, first: usize, count: usize, room: usize) -> A
     if let Answer::Refused(k, p) = a16 {
         return Answer::Refused(k, p);
     }
-    check_room(count, room)
+    if room != NUMBERS_PER_CORNER * count {
+        return Answer::Refused(17, room);
+    }
+    Answer::Done
 }
 
 // Check 14: the link table's length is the corner count.
@@ -74,17 +77,6 @@ fn check_range(first: usize, count: usize, corners: usize) -> Answer
     }
     if corners < count || corners < first + count {
         return Answer::Refused(16, first);
-    }
-    Answer::Done
-}
-
-// Check 17: the output has a place for each number.
-fn check_room(count: usize, room: usize) -> Answer
-    requires { ⌜ count ≤ mostCorners ⌝ }
-    ensures { λ r. ⌜ stated r ≡ single 17 (fault17 count room) room ⌝ }
-{
-    if room != NUMBERS_PER_CORNER * count {
-        return Answer::Refused(17, room);
     }
     Answer::Done
 }

@@ -8,6 +8,7 @@ use native.Mathlib.Omega.{arith}
 use borrow.Author.Needs.{needs}
 use lib.ListN.{length}
 use denote.Ref.{now}
+use Rattle.paper.specs.Mesh.{mostSides}
 use Rattle.paper.specs.Numbers.{rounded}
 use Rattle.paper.specs.Refined.{RefinedMesh}
 use Rattle.paper.specs.Calls.{perCorner}
@@ -55,6 +56,9 @@ module _ (l : tie.In-loop Inv-loop μ-loop) where
   corner-in : corner < begin .args .n
   corner-in = omega (arith, l .loop-test .taken, begin .pre .1 .0 .within)
 
+  few : l .before .loop .j < mostSides
+  few = omega (arith, l .loop-test .taken, begin .pre .1 .0 .run .short)
+
   held : (q : ℕ) → q < begin .args .k → HeldAll mesh (begin .args .start + q) (now (begin .args .face)) (perCorner * q)
   held = held-of _ _ _ (begin .pre .0 .0) _ _ (begin .pre .1 .0 .within) _ (begin .pre .1 .1 .0 .0) (begin .pre .1 .1 .0 .1)
 
@@ -93,6 +97,9 @@ module _ (f : tie.Joined1 Inv-loop μ-loop) where
       (omega (arith, w .some), w .round j (omega (arith, l .loop-test .taken)) ∙ omega arith))
       (f .if1 .came)
 
+  few-next : f .if1 .q < mostSides
+  few-next = omega (arith, next-place .0, begin turn .pre .1 .0 .run .short)
+
 corner-misses-requires : tie.Need-corner-misses-requires Inv-loop μ-loop
 corner-misses-requires c κs =
     let f : tie.Joined1 Inv-loop μ-loop = search in
@@ -105,7 +112,7 @@ corner-misses-requires c κs =
       (
         held l _ (l .loop-test .taken),
         (
-          subst (λ (d : ℕ). HeldAll (mesh l) d _ 0) (a .linked .ensures .read)
+          subst (λ (d : ℕ). HeldAll (mesh l) d (w .write-corners .last .1 .1 .1 .1 .1 .1 .0) 0) (a .linked .ensures .read)
               (held-one _ _ _ (p .0) _ (link-in a) _ (omega (arith, l .before .loop .inv .1, w .write-corners .kept .1 .1 .1 .1 .1 .1 .0))
               (w .write-corners .ensures)),
           subst (λ (d : ℕ). HeldAll (mesh l) d (now (begin l .args .face)) (perCorner * f .if1 .q)) (sym (q .1)) (held l _ (q .0)),
@@ -137,9 +144,11 @@ returns c i few =
 pub face-misses-spec : {M : Type 1} → statement M
 face-misses-spec =
     tie.close (tie.spec Inv-loop μ-loop loop-holds (λ c. search (needs, corner-in c)) linked-requires
-    (λ c. let l : tie.In-loop Inv-loop μ-loop = search in sym (l .before .loop .inv .1)) write-corners-requires (λ c. search needs) (λ c. search needs)
-    (λ c. search needs) (λ c. search needs)
+    (λ c. let l : tie.In-loop Inv-loop μ-loop = search in sym (l .before .loop .inv .1)) write-corners-requires
+    (λ c. let l : tie.In-loop Inv-loop μ-loop = search in search (needs, few l)) (λ c. let l : tie.In-loop Inv-loop μ-loop = search in search (needs, few l))
+    (λ c. search (needs, few (turn c))) (λ c. search (needs, few-next (c .before)))
     (λ c. let w : tie.After-write-corners Inv-loop μ-loop = search in let l : tie.In-loop Inv-loop μ-loop = search in
     sym (w .write-corners .kept .1 .1 .1 .1 .1 .1 .0 ∙ l .before .loop .inv .1))
-    (λ c. let l : tie.In-loop Inv-loop μ-loop = search in sym (l .before .loop .inv .2)) corner-misses-requires (λ c κs. search needs) (λ c. search needs)
-    (λ c. search needs) loop-again returns)
+    (λ c. let l : tie.In-loop Inv-loop μ-loop = search in sym (l .before .loop .inv .2)) corner-misses-requires (λ c κs. search needs)
+    (λ c. let l : tie.In-loop Inv-loop μ-loop = search in search (needs, few l))
+    (λ c. let l : tie.In-loop Inv-loop μ-loop = search in omega (arith, l .loop-test .taken)) loop-again returns)

@@ -83,31 +83,43 @@ module _ (c : tie.After-wide4) where
   abbrev v : SideValues
   v = start .args .side
 
-  head-is : plain (c .before .before .before .before .before .before .wide .result) ≡ v .head
-  head-is = widened (v .head) _ (start .pre .0 .head) (c .before .before .before .before .before .before .wide .ensures)
+  abbrev h : ℤ
+  h = c .before .before .before .before .before .before .wide .result
 
-  tail-is : plain (c .before .before .before .before .wide2 .result) ≡ v .tail
-  tail-is = widened (v .tail) _ (start .pre .0 .tail) (c .before .before .before .before .wide2 .ensures)
+  abbrev t : ℤ
+  t = c .before .before .before .before .wide2 .result
 
-  x-is : plain (c .before .before .wide3 .result) ≡ v .x
-  x-is = widened (v .x) _ (start .pre .0 .x) (c .before .before .wide3 .ensures)
+  abbrev x : ℤ
+  x = c .before .before .wide3 .result
 
-  y-is : plain (c .wide4 .result) ≡ v .y
-  y-is = widened (v .y) _ (start .pre .0 .y) (c .wide4 .ensures)
+  abbrev y : ℤ
+  y = c .wide4 .result
+
+  head-is : plain h ≡ v .head
+  head-is = widened (v .head) h (start .pre .0 .head) (c .before .before .before .before .before .before .wide .ensures)
+
+  tail-is : plain t ≡ v .tail
+  tail-is = widened (v .tail) t (start .pre .0 .tail) (c .before .before .before .before .wide2 .ensures)
+
+  x-is : plain x ≡ v .x
+  x-is = widened (v .x) x (start .pre .0 .x) (c .before .before .wide3 .ensures)
+
+  y-is : plain y ≡ v .y
+  y-is = widened (v .y) y (start .pre .0 .y) (c .wide4 .ensures)
 
 -- the four bends
 module _ (c : tie.After-bend4) where
-  abbrev third : tie.After-bend3
-  third = c .before .before .before .before
+  abbrev bent3 : tie.After-bend3
+  bent3 = c .before .before .before .before
 
-  abbrev second : tie.After-bend2
-  second = third .before .before .before .before
+  abbrev bent2 : tie.After-bend2
+  bent2 = bent3 .before .before .before .before
 
-  abbrev first : tie.After-bend
-  first = second .before .before .before .before
+  abbrev bent1 : tie.After-bend
+  bent1 = bent2 .before .before .before .before
 
   abbrev widths : tie.After-wide4
-  widths = first .before .before .before .before
+  widths = bent1 .before .before .before .before
 
   abbrev begin : tie.Start
   begin = start widths
@@ -145,7 +157,7 @@ first-miss-requires c κs =
     let e = c .before in
     let w = widths e in
     let z = begin e .pre .0 in
-    let b = first e .bend in
+    let b = bent1 e .bend in
     rw (cosine-same (v w .cosine) (z .cosine), head-is w, x-is w, bent-same (b .result) (b .ensures .1)) (z .cosine, z .head, z .x, b .ensures .1)
 
 second-miss-requires : tie.Need-second-miss-requires
@@ -153,7 +165,7 @@ second-miss-requires c κs =
     let e = c .before .before .before in
     let w = widths e in
     let z = begin e .pre .0 in
-    let b = second e .bend2 in
+    let b = bent2 e .bend2 in
     rw (cosine-same (v w .cosine) (z .cosine), head-is w, x-is w, y-is w, bent-same (b .result) (b .ensures .1)) (
       z .cosine,
       z .head,
@@ -167,7 +179,7 @@ third-miss-requires c κs =
     let e = c .before .before .before .before .before in
     let w = widths e in
     let z = begin e .pre .0 in
-    let b = third e .bend3 in
+    let b = bent3 e .bend3 in
     rw (cosine-same (v w .cosine) (z .cosine), tail-is w, x-is w, y-is w, bent-same (b .result) (b .ensures .1)) (
       z .cosine,
       z .tail,
@@ -191,31 +203,31 @@ returns c zero few =
     let s = begin e in
     let a = s .args in
     c .before .before .before .before .before .first-miss .ensures
-    ∙ first-is (a .side) (s .pre .0) _ _ _ _ (head-is w) (tail-is w) (x-is w) (y-is w) (a .outer .p0) (a .own .p0) (a .other .p0) _ (s .pre .1 .p0) (s .pre .2 .p0)
-    (s .pre .3 .p0) (first e .bend .ensures)
+    ∙ first-is (a .side) (s .pre .0) (h w) (t w) (x w) (y w) (head-is w) (tail-is w) (x-is w) (y-is w) (a .outer .p0) (a .own .p0) (a .other .p0) _ (s .pre .1 .p0) (s .pre .2 .p0)
+    (s .pre .3 .p0) (bent1 e .bend .ensures)
 returns c (suc zero) few =
     let e = c .before .before .before .before .before .before .before in
     let w = widths e in
     let s = begin e in
     let a = s .args in
     c .before .before .before .second-miss .ensures
-    ∙ second-is (a .side) (s .pre .0) _ _ _ _ (head-is w) (tail-is w) (x-is w) (y-is w) (a .outer .p1) (a .own .p1) (a .other .p1) _ (s .pre .1 .p1) (s .pre .2 .p1)
-    (s .pre .3 .p1) (second e .bend2 .ensures)
+    ∙ second-is (a .side) (s .pre .0) (h w) (t w) (x w) (y w) (head-is w) (tail-is w) (x-is w) (y-is w) (a .outer .p1) (a .own .p1) (a .other .p1) _ (s .pre .1 .p1) (s .pre .2 .p1)
+    (s .pre .3 .p1) (bent2 e .bend2 .ensures)
 returns c (suc (suc zero)) few =
     let e = c .before .before .before .before .before .before .before in
     let w = widths e in
     let s = begin e in
     let a = s .args in
     c .before .third-miss .ensures
-    ∙ third-is (a .side) (s .pre .0) _ _ _ _ (head-is w) (tail-is w) (x-is w) (y-is w) (a .outer .p2) (a .own .p2) (a .other .p2) _ (s .pre .1 .p2) (s .pre .2 .p2)
-    (s .pre .3 .p2) (third e .bend3 .ensures)
+    ∙ third-is (a .side) (s .pre .0) (h w) (t w) (x w) (y w) (head-is w) (tail-is w) (x-is w) (y-is w) (a .outer .p2) (a .own .p2) (a .other .p2) _ (s .pre .1 .p2) (s .pre .2 .p2)
+    (s .pre .3 .p2) (bent3 e .bend3 .ensures)
 returns c (suc (suc (suc zero))) few =
     let e = c .before .before .before .before .before .before .before in
     let w = widths e in
     let s = begin e in
     let a = s .args in
     c .fourth-miss .ensures
-    ∙ fourth-is (a .side) (s .pre .0) _ _ _ _ (head-is w) (tail-is w) (x-is w) (y-is w) (a .outer .p3) (a .own .p3) (a .other .p3) _ (s .pre .1 .p3) (s .pre .2 .p3)
+    ∙ fourth-is (a .side) (s .pre .0) (h w) (t w) (x w) (y w) (head-is w) (tail-is w) (x-is w) (y-is w) (a .outer .p3) (a .own .p3) (a .other .p3) _ (s .pre .1 .p3) (s .pre .2 .p3)
     (s .pre .3 .p3) (e .bend4 .ensures)
 returns c (suc (suc (suc (suc j)))) few = absurd (omega arith)
 
