@@ -125,11 +125,11 @@ def test_names(room):  # noqa: F811
 @pytest.mark.parametrize("kind, status", [(signal.SIGINT, 130), (signal.SIGTERM, 143)])
 def test_an_interrupt_prints_the_page_so_far(room, jobs, kind, status):  # noqa: F811
     (room / "year").mkdir()
-    largest = room / "largest.dms"
-    largest.write_bytes(mahunopi.encode(whole(*round_torus(32, 64), 10_000)))
+    one = room / "one.dms"
+    one.write_bytes(mahunopi.encode(whole(*round_torus(16, 32), 10_000)))
     names = [f"year/{number:04}.dms" for number in range(20_000)]
     for name in names:
-        os.link(largest, name)
+        os.link(one, name)
     os.mkfifo("names")
     process = subprocess.Popen([*COMMAND, "report", "--names", "names", "--jobs", jobs, "--json"], stdout=subprocess.PIPE,
                                stderr=subprocess.PIPE, start_new_session=True)
@@ -142,7 +142,7 @@ def test_an_interrupt_prints_the_page_so_far(room, jobs, kind, status):  # noqa:
     told = json.loads(out)
     assert not told["finished"] and told["names"] == 20_000
     reported = told["reported"]
-    assert 0 < reported < 20_000 and told["meshes"] == reported and told["corners"] == 8_192 * reported
+    assert 0 < reported < 20_000 and told["meshes"] == reported and told["corners"] == 2_048 * reported
     assert err.decode() == f"mahunopi report: interrupted; this is the page of the first {reported:,} of 20,000 files\n"
 
 
