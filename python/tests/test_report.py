@@ -146,6 +146,25 @@ def test_an_interrupt_prints_the_page_so_far(room, jobs, kind, status):  # noqa:
     assert err.decode() == f"mahunopi report: interrupted; this is the page of the first {reported:,} of 20,000 files\n"
 
 
+def test_a_process_that_is_killed_ends_the_run(room):  # noqa: F811
+    (room / "year").mkdir()
+    one = room / "one.dms"
+    one.write_bytes(mahunopi.encode(whole(*round_torus(16, 32), 10_000)))
+    for number in range(20_000):
+        os.link(one, f"year/{number:04}.dms")
+    process = subprocess.Popen([*COMMAND, "report", "year", "--jobs", "2"], stdout=subprocess.PIPE, stderr=subprocess.PIPE)
+    children = Path(f"/proc/{process.pid}/task/{process.pid}/children")
+    for _ in range(300):
+        if len(children.read_text().split()) == 2:
+            break
+        time.sleep(0.1)
+    time.sleep(0.5)
+    os.kill(int(children.read_text().split()[0]), signal.SIGKILL)
+    out, err = process.communicate(timeout=60)
+    assert process.returncode == 2 and out.startswith(b"meshes offered: ")
+    assert re.fullmatch(r"mahunopi report: a process was ended from outside; this is the page of the first [\d,]+ of 20,000 files\n", err.decode())
+
+
 def test_progress_on_a_terminal(room):  # noqa: F811
     (room / "a.dms").write_bytes(mahunopi.encode(cube()))
     (room / "b.dms").write_bytes(mahunopi.encode(cube()))
