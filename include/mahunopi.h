@@ -325,10 +325,10 @@ uint32_t mahunopi_floats(
  * quad-net's four triangles, in ticks: the first weight belongs to the side's head, the second to its tail, the third to
  * the quad-net's centre. It is the quartic Bernstein sum of the triangle's 15 control points, rounded once.
  *
- * A quad-net has four ends: E0 at the corner's vertex (point 0, b00), E1 at its leaving edge (point 4, b04), E2 at its face
- * (point 24, b44), E3 at its arriving edge (point 20, b40). A side runs from its head to its tail; the head is the end at a
- * vertex or a face, the tail the one at an edge. The neighbour's side across it has the same head and tail. The 15
- * control points of a side's triangle are these of the corner's 41, in rows from the side to the centre (point 12,
+ * A quad-net has four ends: E0 at the corner's vertex (point 0, b00), E1 at its leaving edge (point 4, b04), E2 at its
+ * face (point 24, b44), E3 at its arriving edge (point 20, b40). A side runs from its head to its tail; the head is the
+ * end at a vertex or a face, the tail the one at an edge. The neighbour's side across it has the same head and tail. The
+ * 15 control points of a side's triangle are these of the corner's 41, in rows from the side to the centre (point 12,
  * b22), each from the head:
  *
  *   side  head  tail  outer row        a row         next row   next    centre
@@ -343,8 +343,8 @@ uint32_t mahunopi_floats(
  *
  * How fine a grid should be: points are rounded to ticks, so that the normals of neighbouring patches at a common point
  * differ a little, by at most about 180 degrees over the model's width in grid steps (seen: 8 degrees at a width of 10
- * steps, 0.15 at 1,000, 0.003 at 60,000). Give a model a width of 1,000 steps or more, or sum the normals of the patches that
- * share a point.
+ * steps, 0.15 at 1,000, 0.003 at 60,000). Give a model a width of 1,000 steps or more, or sum the normals of the patches
+ * that share a point.
  */
 uint32_t mahunopi_sample(
     /* the numbers of a corner, as mahunopi_build writes them */

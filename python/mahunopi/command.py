@@ -22,7 +22,7 @@ from .importing import DEFAULT_LARGEST, LARGEST_COORDINATE, MOST_TOLD, Imported,
 from .models import Unreadable, is_known, read
 from .nested import drawing, read_table
 from .nested import told as told_table
-from .reporting import Found, as_table, chunks_of, expanded, in_words, listed, page_lines
+from .reporting import Found, Lost, as_table, chunks_of, expanded, in_words, listed, page_lines
 from .shape import LEVELS, Shape, irregular_faces, irregular_vertices
 from .view import MARK, default_name, page
 
@@ -521,7 +521,7 @@ def run_report(asked: argparse.Namespace) -> int:
         if status:
             return status
     files, twice, wrong = expanded(names)
-    found, stopped = Found(), 0
+    found, stopped, why = Found(), 0, "interrupted"
     _start_bar(len(files))
     try:
         with contextlib.closing(chunks_of(files, asked.jobs)) as chunks:
@@ -533,6 +533,8 @@ def run_report(asked: argparse.Namespace) -> int:
         stopped = INTERRUPTED
     except SystemExit:
         stopped = ENDED
+    except Lost:
+        stopped, why = FAILED, "a process was ended from outside"
     if stopped:
         # what was read is told, whatever comes meanwhile
         for number in SIGNALS:
@@ -551,7 +553,7 @@ def run_report(asked: argparse.Namespace) -> int:
         lines = [json.dumps(table, indent=1)] if asked.json else in_words(table)
     status = _guarded("standard output", lambda: _say("\n".join(lines)) if lines else None)
     if stopped:
-        _note(f"mahunopi report: interrupted; this is the page of the first {found.names:,} of {len(files):,} files")
+        _note(f"mahunopi report: {why}; this is the page of the first {found.names:,} of {len(files):,} files")
         return stopped
     return max(status, FAILED if table["unreadable"] else REFUSED if table["refused"] else 0)
 

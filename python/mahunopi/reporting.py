@@ -7,7 +7,7 @@ import multiprocessing
 import os
 import signal
 from dataclasses import dataclass, field
-from typing import Any, Dict, Iterator, List, Optional, Sequence, Tuple
+from typing import Any, Dict, Iterator, List, Optional, Sequence, Set, Tuple
 
 import numpy as np
 
@@ -62,6 +62,10 @@ class Found:
         return pages[:, :FIRST_MISS].sum(axis=0).tolist() + pages[:, FIRST_MISS:].max(axis=0).tolist()
 
 
+class Lost(Exception):
+    """A process of the report was ended from outside."""
+
+
 def report_on(names: Sequence[str]) -> Found:
     """What at most 4,096 files show."""
     page = np.zeros(PAGE_NUMBERS, np.uint64)
@@ -96,18 +100,32 @@ def read_file(name: str) -> Tuple[bytes, int]:
 def chunks_of(names: Sequence[str], jobs: int) -> Iterator[Found]:
     """What the files show, chunk by chunk in the order of the names, on so many processors."""
     chunks = [names[at: at + CHUNK] for at in range(0, len(names), CHUNK)]
-    jobs = min(jobs, len(chunks))
-    if jobs <= 1:
+    if len(chunks) <= 1:
         yield from map(report_on, chunks)
         return
-    # an interrupt goes to all processes of a terminal; it is for this one to end the others
+    # an interrupt goes to all processes of a terminal; it is for this one, which only adds, to end the others
     before = signal.signal(signal.SIGINT, signal.SIG_IGN)
     try:
-        pool = multiprocessing.get_context("fork").Pool(jobs, signal.signal, (signal.SIGTERM, signal.SIG_DFL))
+        pool = multiprocessing.get_context("fork").Pool(min(jobs, len(chunks)), signal.signal, (signal.SIGTERM, signal.SIG_DFL))
     finally:
         signal.signal(signal.SIGINT, before)
     with pool:
-        yield from pool.imap(report_on, chunks)
+        workers = _children()
+        results = pool.imap(report_on, chunks)
+        for _ in chunks:
+            while True:
+                try:
+                    chunk = results.next(timeout=1)
+                    break
+                except multiprocessing.TimeoutError:
+                    # what a process that was ended had in hand never comes
+                    if _children() != workers:
+                        raise Lost from None
+            yield chunk
+
+
+def _children() -> Set[Optional[int]]:
+    return {child.pid for child in multiprocessing.active_children()}
 
 
 def where(name: str, condition: int, miss: int) -> Optional[Tuple[int, int, str]]:

@@ -103,22 +103,25 @@
   function sampled(mesh, n) {
     const samples = sampleCount(n), total = 4 * mesh.count * samples, cubic = weights(n), closed = numbers(mesh, n);
     const positions = new Float64Array(3 * total), sums = new Float64Array(3 * closed.count), normals = new Float32Array(3 * total);
-    const net = new Float64Array(45), three = new Float64Array(9);
+    const net = new Float64Array(45), [heads, tails, inner] = STEPS.map((step) => step.map((point) => 3 * point));
     for (let c = 0, at = 0; c < mesh.count; c++) for (let s = 0; s < 4; s++) {
       for (let p = 0; p < 15; p++) for (let axis = 0; axis < 3; axis++) net[3 * p + axis] = mesh.points[3 * (POINTS * c + TRIANGLES[s][p]) + axis];
       const turn = mesh.sense * (s % 2 ? -1 : 1);
       for (let k = 0; k <= n; k++) for (let j = 0; j + k <= n; j++, at++) {
-        const from = 10 * place(n, k, j);
-        three.fill(0);
-        for (let step = 0; step < 3; step++) for (let w = 0; w < 10; w++) {
-          const weight = cubic[from + w], point = 3 * STEPS[step][w];
-          for (let axis = 0; axis < 3; axis++) three[3 * step + axis] += weight * net[point + axis];
+        const from = 10 * place(n, k, j), u = (n - j - k) / n, v = j / n, w = k / n;
+        let hx = 0, hy = 0, hz = 0, tx = 0, ty = 0, tz = 0, ix = 0, iy = 0, iz = 0;
+        for (let p = 0; p < 10; p++) {
+          const weight = cubic[from + p], h = heads[p], t = tails[p], i = inner[p];
+          hx += weight * net[h]; hy += weight * net[h + 1]; hz += weight * net[h + 2];
+          tx += weight * net[t]; ty += weight * net[t + 1]; tz += weight * net[t + 2];
+          ix += weight * net[i]; iy += weight * net[i + 1]; iz += weight * net[i + 2];
         }
-        const u = (n - j - k) / n, v = j / n, w = k / n;
-        for (let axis = 0; axis < 3; axis++) positions[3 * at + axis] = u * three[axis] + v * three[3 + axis] + w * three[6 + axis];
-        const ax = three[3] - three[0], ay = three[4] - three[1], az = three[5] - three[2];
-        const bx = three[6] - three[0], by = three[7] - three[1], bz = three[8] - three[2];
-        const x = ay * bz - az * by, y = az * bx - ax * bz, z = ax * by - ay * bx;
+        positions[3 * at] = u * hx + v * tx + w * ix;
+        positions[3 * at + 1] = u * hy + v * ty + w * iy;
+        positions[3 * at + 2] = u * hz + v * tz + w * iz;
+        tx -= hx; ty -= hy; tz -= hz;
+        ix -= hx; iy -= hy; iz -= hz;
+        const x = ty * iz - tz * iy, y = tz * ix - tx * iz, z = tx * iy - ty * ix;
         const length = turn * Math.hypot(x, y, z) || 1, id = 3 * closed.all[at];
         sums[id] += x / length;
         sums[id + 1] += y / length;

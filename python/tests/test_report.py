@@ -125,11 +125,11 @@ def test_names(room):  # noqa: F811
 @pytest.mark.parametrize("kind, status", [(signal.SIGINT, 130), (signal.SIGTERM, 143)])
 def test_an_interrupt_prints_the_page_so_far(room, jobs, kind, status):  # noqa: F811
     (room / "year").mkdir()
-    largest = room / "largest.dms"
-    largest.write_bytes(mahunopi.encode(whole(*round_torus(32, 64), 10_000)))
+    one = room / "one.dms"
+    one.write_bytes(mahunopi.encode(whole(*round_torus(16, 32), 10_000)))
     names = [f"year/{number:04}.dms" for number in range(20_000)]
     for name in names:
-        os.link(largest, name)
+        os.link(one, name)
     os.mkfifo("names")
     process = subprocess.Popen([*COMMAND, "report", "--names", "names", "--jobs", jobs, "--json"], stdout=subprocess.PIPE,
                                stderr=subprocess.PIPE, start_new_session=True)
@@ -142,8 +142,27 @@ def test_an_interrupt_prints_the_page_so_far(room, jobs, kind, status):  # noqa:
     told = json.loads(out)
     assert not told["finished"] and told["names"] == 20_000
     reported = told["reported"]
-    assert 0 < reported < 20_000 and told["meshes"] == reported and told["corners"] == 8_192 * reported
+    assert 0 < reported < 20_000 and told["meshes"] == reported and told["corners"] == 2_048 * reported
     assert err.decode() == f"mahunopi report: interrupted; this is the page of the first {reported:,} of 20,000 files\n"
+
+
+def test_a_process_that_is_killed_ends_the_run(room):  # noqa: F811
+    (room / "year").mkdir()
+    one = room / "one.dms"
+    one.write_bytes(mahunopi.encode(whole(*round_torus(16, 32), 10_000)))
+    for number in range(20_000):
+        os.link(one, f"year/{number:04}.dms")
+    process = subprocess.Popen([*COMMAND, "report", "year", "--jobs", "2"], stdout=subprocess.PIPE, stderr=subprocess.PIPE)
+    children = Path(f"/proc/{process.pid}/task/{process.pid}/children")
+    for _ in range(300):
+        if len(children.read_text().split()) == 2:
+            break
+        time.sleep(0.1)
+    time.sleep(0.5)
+    os.kill(int(children.read_text().split()[0]), signal.SIGKILL)
+    out, err = process.communicate(timeout=60)
+    assert process.returncode == 2 and out.startswith(b"meshes offered: ")
+    assert re.fullmatch(r"mahunopi report: a process was ended from outside; this is the page of the first [\d,]+ of 20,000 files\n", err.decode())
 
 
 def test_progress_on_a_terminal(room):  # noqa: F811
