@@ -1,5 +1,5 @@
-// The mesh file on standard input, read into lent lists; or the line that says why it is turned down. Which bytes a call of C gives no
-// contract can say, so that only the bounds of the lengths are stated.
+// The mesh file on standard input, read into lent lists; or the line that says why it is turned down. Which bytes a call of C gives is free: the
+// lists are stated to be those of some file.
 use crate::complain_refusal;
 use crate::file_input::BUFFER;
 use crate::file_input::read_file;
@@ -10,8 +10,10 @@ use paper::Answer;
 use paper::MOST_CORNERS;
 use paper::MOST_FACES;
 use paper::MOST_VERTICES;
+ghost use mathlib.Core.Path.{_≡_};
 ghost use Prim.Native.Nat.{_≤_};
-ghost use Rattle.print.specs.mesh_input.Fitting.{Fitting};
+ghost use Rattle.paper.specs.Mesh.{meshOf};
+ghost use Rattle.print.specs.mesh_input.Fitting.{NoMesh, FileRead, MeshRead};
 
 // The numbers of the longest coordinate list, and of the longest sharpness list.
 pub const MOST_NUMBERS: usize = 3 * MOST_VERTICES;
@@ -35,7 +37,7 @@ pub fn read_mesh(
     sharpness: &mut [u8],
     aside: bool,
 ) -> Lengths
-    ensures { λ r. ⌜ Fitting (r .numbers) (r .faces) (r .corners) (r .pairs) ⌝ }
+    ensures { λ r. ⌜ MeshRead (meshOf (now (coordinates .entry)) (now (sides .entry)) (now (corners .entry)) (now (sharpness .entry))) r (meshOf (now (coordinates .exit)) (now (sides .exit)) (now (corners .exit)) (now (sharpness .exit))) ⌝ }
 {
     let mut bytes = [0u8; BUFFER];
     let read = read_file(STDIN_FILENO, b"standard input", &mut bytes);
@@ -64,7 +66,7 @@ fn decode_lists(
     sharpness: &mut [u8],
     aside: bool,
 ) -> Lengths
-    ensures { λ r. ⌜ Fitting (r .numbers) (r .faces) (r .corners) (r .pairs) ⌝ }
+    ensures { λ r. ⌜ FileRead (now (bytes .entry)) counted (meshOf (now (coordinates .entry)) (now (sides .entry)) (now (corners .entry)) (now (sharpness .entry))) r (meshOf (now (coordinates .exit)) (now (sides .exit)) (now (corners .exit)) (now (sharpness .exit))) ⌝ }
 {
     let d = decode(bytes, counted, coordinates, sides, corners, sharpness);
     let answer = d.answer;
@@ -91,7 +93,7 @@ fn tell(number: u8, place: usize, aside: bool) {
 }
 
 fn no_mesh() -> Lengths
-    ensures { λ r. ⌜ Fitting (r .numbers) (r .faces) (r .corners) (r .pairs) ⌝ }
+    ensures { λ r. ⌜ NoMesh r ⌝ }
 {
     Lengths {
         ok: false,
@@ -104,7 +106,7 @@ fn no_mesh() -> Lengths
 
 // The lesser of two numbers.
 fn least(a: usize, b: usize) -> usize
-    ensures { λ r. ⌜ (r ≤ a) × (r ≤ b) ⌝ }
+    ensures { λ r. ⌜ (r ≤ a) × (r ≤ b) × (a ≤ b → r ≡ a) ⌝ }
 {
     if a < b { a } else { b }
 }
