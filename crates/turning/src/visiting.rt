@@ -19,7 +19,7 @@ fn across(state: u8, same: bool) -> u8
 }
 
 // One face: the faces across its edges get their states.
-pub fn visit(
+pub(crate) fn visit(
     sides: &[u8],
     corners: &[u16],
     partners: &[u16],
