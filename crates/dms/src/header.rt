@@ -17,7 +17,7 @@ fn wide(byte: u8) -> u16
 }
 
 // The 16-bit number at a place, low byte first.
-pub fn half(file: &[u8], at: usize) -> u16
+pub(crate) fn half(file: &[u8], at: usize) -> u16
     requires { ⌜ at + 1 < length (now file) ⌝ }
     ensures { λ r. ⌜ (r ≡ halfAt (now (file .entry)) at) × (r < 65536) ⌝ }
 {
@@ -80,21 +80,21 @@ pub fn corner_count(file: &[u8]) -> usize
 }
 
 // Where the side counts start, where the corner list starts, and where the sharpness list starts in version 2.
-pub fn sides_start(file: &[u8]) -> usize
+pub(crate) fn sides_start(file: &[u8]) -> usize
     requires { ⌜ headerLength ≤ length (now file) ⌝ }
     ensures { λ r. ⌜ (r ≡ sidesStart (now (file .entry))) × (r < 786443) ⌝ }
 {
     HEADER + 12 * vertex_count(file)
 }
 
-pub fn corners_start(file: &[u8]) -> usize
+pub(crate) fn corners_start(file: &[u8]) -> usize
     requires { ⌜ headerLength ≤ length (now file) ⌝ }
     ensures { λ r. ⌜ (r ≡ cornersStart (now (file .entry))) × (r < 851979) ⌝ }
 {
     sides_start(file) + face_count(file)
 }
 
-pub fn sharpness_start(file: &[u8]) -> usize
+pub(crate) fn sharpness_start(file: &[u8]) -> usize
     requires { ⌜ headerLength ≤ length (now file) ⌝ }
     ensures { λ r. ⌜ (r ≡ sharpnessStart (now (file .entry))) × (r < 983051) ⌝ }
 {

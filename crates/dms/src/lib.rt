@@ -5,7 +5,7 @@ pub mod lists;
 pub mod surveying;
 
 use crate::surveying::none;
-pub use crate::surveying::survey_mesh;
+use crate::surveying::survey_mesh;
 use mesh::least;
 use paper::Answer;
 use paper::Decoded;

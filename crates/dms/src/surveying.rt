@@ -11,7 +11,7 @@ use paper::NUMBERS;
 use paper::Summary;
 
 // The counts beside a refusal.
-pub fn none() -> Counts
+pub(crate) fn none() -> Counts
     ensures { λ r. ⌜ r ≡ noCounts ⌝ }
 {
     Counts {
@@ -24,7 +24,12 @@ pub fn none() -> Counts
 }
 
 // Checks 4 to 13 with 27 and 28, and the counts, of a mesh's lists.
-pub fn survey_mesh(coordinates: &[i32], sides: &[u8], corners: &[u16], sharpness: &[u8]) -> Summary
+pub(crate) fn survey_mesh(
+    coordinates: &[i32],
+    sides: &[u8],
+    corners: &[u16],
+    sharpness: &[u8],
+) -> Summary
     ensures { λ r. ⌜ Surveyed (meshOf (now (coordinates .entry)) (now (sides .entry)) (now (corners .entry)) (now (sharpness .entry))) (verdict (meshOf (now (coordinates .entry)) (now (sides .entry)) (now (corners .entry)) (now (sharpness .entry)))) r ⌝ }
 {
     let nothing = none();

@@ -1,7 +1,7 @@
 -- The bytes of a mesh file: the mark DMS, the version, the counts of vertices, faces and corners, then the lists; all numbers have their low byte first.
 -- Assumes nothing.
 use mathlib.Core.Path.{_≡_}
-use mathlib.Core.Bool.{Bool, true, false}
+use mathlib.Core.Bool.{Bool, true, false, not}
 use mathlib.Core.List.{List, [], _∷_, _++_}
 use Prim.Native.Nat.{ℕ, zero, suc, _/_, _%_}
 use lib.ListN.{length, getD, replicate}
@@ -9,6 +9,7 @@ use lib.IntN.{ℤ, pos}
 use mir.Syntax.{w32}
 use mir.Val.{ofZ}
 use Rattle.paper.specs.Mesh.{Mesh, plain}
+use Rattle.streams.specs.text.Text.{Put}
 
 -- the low 16 bits of a number
 abbrev pub halfBytes : ℕ → List ℕ
@@ -46,3 +47,9 @@ fileBytes false M = listBytes 1 (M .coordinates) (M .sides) (M .corners)
 pub record Plain (list : List ℕ) (r : Bool) : Type 0 where
   pub says : r ≡ true → list ≡ replicate (length list) plain
   pub said : list ≡ replicate (length list) plain → r ≡ true
+
+-- the file of version 1 was put where that says the mesh, else of version 2
+pub record ShortestPut (M : Mesh) (old new : List ℕ) (to : ℕ) : Type 0 where
+  pub eights : Bool
+  pub says : Plain (M .sharpness) eights
+  pub put : Put old 0 (fileBytes (not eights) M) new to

@@ -6,7 +6,7 @@ ghost use mir.Syntax.{w32};
 ghost use mir.Val.{ofZ};
 ghost use Rattle.paper.specs.Mesh.{meshOf};
 ghost use Rattle.streams.specs.text.Text.{Put};
-ghost use Rattle.dms_output.specs.Bytes.{halfBytes, wordBytes, coordinateBytes, cornerBytes, headerBytes, listBytes, fileBytes, Plain};
+ghost use Rattle.dms_output.specs.Bytes.{halfBytes, wordBytes, coordinateBytes, cornerBytes, headerBytes, listBytes, fileBytes, Plain, ShortestPut};
 use dms::lists::bits;
 use paper::PLAIN;
 use streams::output::say_up_to;
@@ -16,16 +16,29 @@ use streams::text::put_word;
 // The buffer has room for the file of every mesh within the limits.
 pub const BUFFER: usize = 61451;
 
-// Writes the file to standard output, of version 1 where the sharpness is 8 throughout and else of version 2, and answers whether it was written.
+// Writes the file to standard output, as `put_shortest` puts it, and answers whether it was written.
 pub fn say_file(coordinates: &[i32], sides: &[u8], corners: &[u16], sharpness: &[u8]) -> bool {
     let mut file = [0u8; BUFFER];
-    let sharp = !is_plain(sharpness);
-    let end = put_file(&mut file, sharp, coordinates, sides, corners, sharpness);
+    let end = put_shortest(&mut file, coordinates, sides, corners, sharpness);
     say_up_to(&file, end)
 }
 
+// The bytes of the file, as far as the buffer reaches: of version 1 where the sharpness is 8 throughout, else of version 2.
+fn put_shortest(
+    file: &mut [u8],
+    coordinates: &[i32],
+    sides: &[u8],
+    corners: &[u16],
+    sharpness: &[u8],
+) -> usize
+    ensures { λ r. ⌜ ShortestPut (meshOf (now (coordinates .entry)) (now (sides .entry)) (now (corners .entry)) (now (sharpness .entry))) (now (file .entry)) (now (file .exit)) r ⌝ }
+{
+    let sharp = !is_plain(sharpness);
+    put_file(file, sharp, coordinates, sides, corners, sharpness)
+}
+
 // Whether a sharpness list is 8 throughout, so that version 1 says it.
-pub fn is_plain(sharpness: &[u8]) -> bool
+pub(crate) fn is_plain(sharpness: &[u8]) -> bool
     ensures { λ r. ⌜ Plain (now (sharpness .entry)) r ⌝ }
 {
     let mut i = 0;

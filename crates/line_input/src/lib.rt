@@ -1,9 +1,9 @@
-// The lines that a descriptor gives, one after the other, in a lent buffer. Which bytes a call of C gives no contract can say, so that only the places
-// are stated: a line lies within what is held, and that within the buffer.
+// The lines that a descriptor gives, one after the other, in a lent buffer. Which bytes a call of C gives is free; that none of them is lost, and where
+// each line ends, is stated.
 use streams::output::complain;
 ghost use Prim.Native.Nat.{_+_, _≤_};
 ghost use lib.ListN.{length};
-ghost use Rattle.line_input.specs.Places.{Lined};
+ghost use Rattle.line_input.specs.Places.{LineOf, NoLine, FirstFeed, MovedDown, LineRead, NextLine};
 
 // What is held of the input: the buffer's bytes from here to there are read and not yet taken.
 pub struct Held {
@@ -31,7 +31,7 @@ pub fn nothing() -> Held
 // does not hold is a failure, and said on standard error, as every other is.
 pub fn next_line(fd: i32, name: &[u8], buffer: &mut [u8], held: Held) -> Line
     requires { ⌜ (held .at ≤ held .end) × (held .end ≤ length (now buffer)) ⌝ }
-    ensures { λ r. ⌜ Lined r (length (now (buffer .entry))) ⌝ }
+    ensures { λ r. ⌜ NextLine (now (buffer .entry)) held r (now (buffer .exit)) ⌝ }
 {
     let at = held.at;
     let end = held.end;
@@ -47,7 +47,7 @@ pub fn next_line(fd: i32, name: &[u8], buffer: &mut [u8], held: Held) -> Line
 // Reads on after the bytes that were kept, and takes the first line.
 fn read_line(fd: i32, name: &[u8], buffer: &mut [u8], kept: usize) -> Line
     requires { ⌜ kept ≤ length (now buffer) ⌝ }
-    ensures { λ r. ⌜ Lined r (length (now (buffer .entry))) ⌝ }
+    ensures { λ r. ⌜ LineRead (now (buffer .entry)) kept r (now (buffer .exit)) ⌝ }
 {
     let got = streams::input::fill(fd, &mut buffer[kept..]);
     if !got.ok {
@@ -72,8 +72,7 @@ fn read_line(fd: i32, name: &[u8], buffer: &mut [u8], kept: usize) -> Line
 
 // A line from here to there, and what is held after it.
 fn line_of(start: usize, end: usize, next: usize, held: usize) -> Line
-    requires { ⌜ (start ≤ end) × (end ≤ held) × (next ≤ held) ⌝ }
-    ensures { λ r. ⌜ Lined r held ⌝ }
+    ensures { λ r. ⌜ LineOf start end next held r ⌝ }
 {
     Line {
         ok: true,
@@ -88,7 +87,7 @@ fn line_of(start: usize, end: usize, next: usize, held: usize) -> Line
 }
 
 fn no_line(ok: bool) -> Line
-    ensures { λ r. ⌜ Lined r 0 ⌝ }
+    ensures { λ r. ⌜ NoLine ok r ⌝ }
 {
     Line {
         ok: ok,
@@ -102,7 +101,7 @@ fn no_line(ok: bool) -> Line
 // The first line feed between two places, or the second place.
 fn find_feed(buffer: &[u8], from: usize, end: usize) -> usize
     requires { ⌜ (from ≤ end) × (end ≤ length (now buffer)) ⌝ }
-    ensures { λ r. ⌜ (from ≤ r) × (r ≤ end) ⌝ }
+    ensures { λ r. ⌜ FirstFeed (now (buffer .entry)) from end r ⌝ }
 {
     let mut i = from;
     while i < end {
@@ -117,6 +116,7 @@ fn find_feed(buffer: &[u8], from: usize, end: usize) -> usize
 // Moves so many bytes from a place on to the beginning.
 fn move_down(buffer: &mut [u8], at: usize, count: usize)
     requires { ⌜ at + count ≤ length (now buffer) ⌝ }
+    ensures { λ _. ⌜ MovedDown (now (buffer .entry)) at count (now (buffer .exit)) ⌝ }
 {
     let mut i = 0;
     while i < count {

@@ -6,10 +6,10 @@ use mathlib.Core.Logic.{⊎-elim}
 use mathlib.Core.List.{List, [], _∷_, _++_}
 use Prim.Native.Nat.{ℕ, zero, suc, _+_, _<_, _≤_}
 use native.Mathlib.Omega.{arith}
-use lib.Dec.{leb, eqb}
+use lib.Dec.{leb, eqb, ltb}
 use lib.ListN.{length, getD, take, List·getD-append}
 use lib.Seq.{getD-at, take-append-le, take-all}
-use borrow.Author.Tests.{eqb-true, eqb-false, eq-eqb, ne-eqb, leb-false, not-false, not-true}
+use borrow.Author.Tests.{eqb-true, eqb-false, eq-eqb, ne-eqb, ltb-true, ltb-false, leb-false, not-false, not-true}
 use Rattle.paper.specs.Scan.{pickN, firstBelow, someBelow, countBelow, iterate}
 use Rattle.paper.specs.Nesting.{mostBodies, sun, holder, chain, endsAtSun, fault22, listed, mayFollow, nextBody, places, Ends}
 use Rattle.mesh.proofs.Scans.{ways, clash, compared, and-true, and-left, and-right, first-le, first-passes, first-fails}
@@ -209,20 +209,42 @@ module _ (B : List ℕ) (few : length B ≤ mostBodies) (held : (b : ℕ) → b 
       (ways (eqb (holder B b) sun))
 
   -- a filling that stopped has listed the bodies whose chains end at the Sun, and no others
-  pub decided : (k : ℕ) → Run B k → (k < length B → length B ≤ nextBody B (places B k)) → (b : ℕ) → b < length B → listed (places B k) b ≡ endsAtSun B b
-  decided k run stop b h =
+  abbrev pub Stopped : ℕ → Type 0
+  Stopped k = k < length B → length B ≤ nextBody B (places B k)
+
+  pub ends-listed : (k : ℕ) → Run B k → Stopped k → (b : ℕ) → b < length B → Ends B b → listed (places B k) b ≡ true
+  ends-listed k run stop b h s =
       ⊎-elim
-      (λ e. e ∙ sym (listed-ends B k run b e))
+      (λ e. e)
       (λ e. ⊎-elim
-      (λ (t : endsAtSun B b ≡ true). let s = some-step B b t in
-      ⊎-elim
       (λ (q : k ≡ length B). absurd (clash (all-listed B k run q b h) e))
       (λ o. let l : k < length B = ⊎-elim (λ (z : k < length B). z) (λ (z : length B < k). absurd (omega (arith, left-over B k run k (omega arith)))) o in
       absurd (omega (arith, stop l, follow (places B k) (s .0) b h e (s .1))))
       (compared k (length B)))
-      (λ t. e ∙ sym t)
-      (ways (endsAtSun B b)))
       (ways (listed (places B k) b))
+
+  pub decided : (k : ℕ) → Run B k → Stopped k → (b : ℕ) → b < length B → listed (places B k) b ≡ endsAtSun B b
+  decided k run stop b h =
+      ⊎-elim
+      (λ t. ends-listed k run stop b h (some-step B b t) ∙ sym t)
+      (λ t. ⊎-elim (λ e. absurd (clash (listed-ends B k run b e) t)) (λ e. e ∙ sym t) (ways (listed (places B k) b)))
+      (ways (endsAtSun B b))
+
+  -- a filling goes on until it has stopped
+  filled : (left k : ℕ) → left + k ≡ length B → Run B k → (j : ℕ) × Run B j × Stopped j
+  filled zero k e run = (k, run, λ h. absurd (omega arith))
+  filled (suc left) k e run =
+      let x = nextBody B (places B k) in
+      ⊎-elim
+      (λ l. filled left (suc k) (omega arith) (run-step B k run (ltb-true x (length B) l)))
+      (λ l. (k, run, λ h. ltb-false x (length B) l))
+      (ways (ltb x (length B)))
+
+  -- a chain that ends after however many steps ends within as many as there are bodies
+  pub ends-soon : (b : ℕ) → b < length B → Ends B b → endsAtSun B b ≡ true
+  ends-soon b h s =
+      let f = filled (length B) 0 (omega arith) (λ i l. absurd (omega arith)) in
+      listed-ends B (f .0) (f .1) b (ends-listed (f .0) (f .1) (f .2) b h s)
 
   -- where all chains end, the listing never stands still
   module _ (ends : (b : ℕ) → b < length B → Ends B b) where

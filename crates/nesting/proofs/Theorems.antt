@@ -2,7 +2,7 @@
 -- after the one it hangs in, with none lower possible, and is the only such list.
 use mathlib.Core.Path.{_≡_, refl, sym, ap, _∙_, subst}
 use mathlib.Core.Bool.{Bool, true, false, not}
-use mathlib.Core.Logic.{⊎-elim}
+use mathlib.Core.Logic.{⊎-elim, _↔_}
 use mathlib.Core.List.{List, [], _∷_, _++_}
 use Prim.Native.Nat.{ℕ, zero, suc, _<_, _≤_}
 use native.Mathlib.Nat.{min-le-left}
@@ -21,7 +21,7 @@ use Rattle.mesh.proofs.Ranges.{none-left, or-left, or-right, at-most}
 use Rattle.mesh.proofs.Verdicts.{sound-left, sound-right, single-sound, lowest-sound, orElse-sound, lowest-none}
 use Rattle.nesting.proofs.Lists.{place-of, two-hits}
 use Rattle.nesting.proofs.Places.{may, may-holder, next-may, lower, places-zero, places-suc, length-places, prefix, entry, Run, once-each}
-use Rattle.nesting.proofs.Places.{some-step, listed-ends, all-listed, runs}
+use Rattle.nesting.proofs.Places.{some-step, listed-ends, all-listed, ends-soon, runs}
 
 -- ---- what the checks give
 pub few-of : (B : List ℕ) (m : ℕ) → fault21 (length B) m ≡ false → length B ≤ mostBodies
@@ -126,6 +126,15 @@ chains-decide B m t = (
       ∙ lowest-none 23 (length B) (λ b. not (endsAtSun B b))
       (λ b h. ap not (listed-ends B (length B) run b (all-listed B (length B) run refl b h)))),
 )
+
+-- L4, "23 when a chain does not end at the Sun (place: the lowest such body)": in a table that passes 21 and 22, the test of a body that 23 takes the
+-- lowest of holds exactly when that body's chain ends, after however many steps
+abbrev pub EachChain : Type 0
+EachChain =
+    (holders : List ℕ) (n : ℕ) → tableVerdict holders n ≡ sound → (b : ℕ) → b < length holders → (endsAtSun holders b ≡ true) ↔ Ends holders b
+
+pub each-chain : EachChain
+each-chain B m t b h = (some-step B b, ends-soon B (few B m t) (held B m t) b h)
 
 pub listing-ordered : ListingOrdered
 unfolding listing

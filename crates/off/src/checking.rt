@@ -14,7 +14,7 @@ ghost use Rattle.off.specs.words.Cursor.{Before};
 ghost use Rattle.off.specs.checking.Call.{Lists, Room, WordsRead, Checked};
 
 // Checks 25, 26 and 4 to 13, with the lists in own ones.
-pub fn read_checked(
+pub(crate) fn read_checked(
     text: &[u8],
     c: Cursor,
     coordinates: &mut [i32],
@@ -36,7 +36,8 @@ pub fn read_checked(
     d
 }
 
-// Checks 25 and 26, with the lists in own ones as far as these reach. The fourth length is told with the fourth list, after the last check.
+// Checks 25 and 26, with the lists in own ones as far as these reach. What these hold after the lists, or beside a refusal, is free: no caller reads it.
+// The fourth length is told with the fourth list, after the last check.
 pub fn read_words(
     text: &[u8],
     c: Cursor,
@@ -101,7 +102,7 @@ fn check_plain(coordinates: &[i32], sides: &[u8], corners: &[u16]) -> Answer
 }
 
 // A refusal.
-pub fn refused(number: u8, place: usize) -> Decoded
+pub(crate) fn refused(number: u8, place: usize) -> Decoded
     ensures { λ r. ⌜ (r .answer ≡ Answer.Refused number place) × (r .coordinates ≡ 0) × (r .sides ≡ 0) × (r .corners ≡ 0) × (r .sharpness ≡ 0) ⌝ }
 {
     Decoded {

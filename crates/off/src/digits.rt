@@ -65,7 +65,7 @@ fn may_have(digits: usize) -> bool
 }
 
 // Whether the word is a number.
-pub fn is_number(word: &[u8]) -> bool
+pub(crate) fn is_number(word: &[u8]) -> bool
     ensures { λ r. ⌜ r ≡ isNumber (now (word .entry)) ⌝ }
 {
     let from = digits_start(word);
@@ -98,7 +98,7 @@ fn decimal(word: &[u8], from: usize) -> u32
 }
 
 // The number that the word is.
-pub fn value(word: &[u8]) -> i32
+pub(crate) fn value(word: &[u8]) -> i32
     requires { ⌜ isNumber (now word) ≡ true ⌝ }
     ensures { λ r. ⌜ r ≡ valueOf (now (word .entry)) ⌝ }
 {

@@ -85,7 +85,7 @@ fn no_natural(c: Cursor) -> Natural
 }
 
 // The counts of vertices, faces and edges. The edge count is checked as the others are, and not used.
-pub fn read_header(text: &[u8], c: Cursor) -> Header
+pub(crate) fn read_header(text: &[u8], c: Cursor) -> Header
     requires { ⌜ Before (now text) 1 c ⌝ }
     ensures { λ r. ⌜ HeaderRead (now (text .entry)) r ⌝ }
 {
@@ -149,7 +149,7 @@ fn put_corner(list: &mut [u16], i: usize, value: u16)
 }
 
 // So many coordinates.
-pub fn read_coordinates(text: &[u8], c: Cursor, count: usize, list: &mut [i32]) -> Progress
+pub(crate) fn read_coordinates(text: &[u8], c: Cursor, count: usize, list: &mut [i32]) -> Progress
     requires { ⌜ Before (now text) (c .word) c ⌝ }
     ensures { λ r. ⌜ ListRead (now (text .entry)) coordinate (valueAt (wordsOf (now (text .entry))) coordinate) (c .word) count 0 (now (list .entry)) (now (list .exit)) r ⌝ }
 {
@@ -230,7 +230,7 @@ fn read_face(
 }
 
 // So many faces.
-pub fn read_faces(
+pub(crate) fn read_faces(
     text: &[u8],
     c: Cursor,
     count: usize,

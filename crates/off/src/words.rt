@@ -160,7 +160,7 @@ impl Cursor {
     }
 
     // To the first byte of the next word, past separators and comments, or to the end of the text.
-    pub fn to_word(self, text: &[u8]) -> Cursor
+    pub(crate) fn to_word(self, text: &[u8]) -> Cursor
         requires { ⌜ Before (now text) (self .word) self ⌝ }
         ensures { λ r. ⌜ At (now (text .entry)) (self .word) r ⌝ }
     {
@@ -182,7 +182,7 @@ impl Cursor {
     }
 
     // The next word as a number.
-    pub fn number(self, text: &[u8]) -> Number
+    pub(crate) fn number(self, text: &[u8]) -> Number
         requires { ⌜ Before (now text) (self .word) self ⌝ }
         ensures { λ r. ⌜ NumberRead (now (text .entry)) (self .word) r ⌝ }
     {
@@ -206,7 +206,7 @@ impl Cursor {
     }
 
     // Whether there is a next word.
-    pub fn has_word(self, text: &[u8]) -> bool
+    pub(crate) fn has_word(self, text: &[u8]) -> bool
         requires { ⌜ Before (now text) (self .word) self ⌝ }
         ensures { λ r. ⌜ r ≡ ltb (self .word) (length (wordsOf (now (text .entry)))) ⌝ }
     {

@@ -4,10 +4,13 @@ use streams::text::put_byte;
 use streams::text::put_number;
 use streams::text::put_word;
 ghost use mathlib.Core.Path.{_≡_};
-ghost use Prim.Native.Nat.{_≤_, _<_};
+ghost use mathlib.Core.Bool.{false};
+ghost use Prim.Native.Nat.{_+_, _*_, _-_, _≤_, _<_};
+ghost use lib.ListN.{length};
 ghost use Rattle.streams.specs.text.Text.{Put};
 ghost use Rattle.page_text.specs.Lines.{textsBelow, namedLine, refusedByLine, refusalsLine, inTicks, missLine, conditionLine};
 ghost use Rattle.page_text.specs.Lines.{spaced, spacedNumber, pageLine, pageLines};
+ghost use Rattle.page_text.specs.Reading.{Begins, PageRead, DigitsRead, NumberRead};
 ghost use Rattle.page_text.specs.Lines.{thousandths as Lines·thousandths, digit as Lines·digit};
 
 // Meshes, corners, borders, refusals under 1 to 13 and under 28, the four misses.
@@ -165,7 +168,9 @@ fn put_spaced(lines: &mut [u8], at: usize, n: u64) -> usize
 }
 
 // Whether a line begins with the word.
-pub fn begins(line: &[u8], word: &[u8]) -> bool {
+pub fn begins(line: &[u8], word: &[u8]) -> bool
+    ensures { λ r. ⌜ Begins (now (line .entry)) (now (word .entry)) r ⌝ }
+{
     if line.len() < word.len() {
         return false;
     }
@@ -180,7 +185,19 @@ pub fn begins(line: &[u8], word: &[u8]) -> bool {
 }
 
 // Reads the numbers of a line that begins with `page`, and answers whether they are its 21 and nothing else follows. The line feed is not part of it.
-pub fn read_numbers(line: &[u8], numbers: &mut [u64; NUMBERS]) -> bool {
+// Where it answers no, what the numbers hold is free: those before the fault were read. The line that `put_page` writes is read back as its numbers
+// (`reads-back` in proofs/Returns.antt).
+pub fn read_numbers(line: &[u8], numbers: &mut [u64; NUMBERS]) -> bool
+    ensures { λ r. ⌜ PageRead (now (line .entry)) r (now (numbers .exit)) ⌝ }
+{
+    read_all(line, numbers)
+}
+
+// The same, into a list of so many numbers.
+fn read_all(line: &[u8], numbers: &mut [u64]) -> bool
+    requires { ⌜ length (now numbers) ≡ 21 ⌝ }
+    ensures { λ r. ⌜ PageRead (now (line .entry)) r (now (numbers .exit)) ⌝ }
+{
     let mut at = 4;
     let mut i = 0;
     while i < NUMBERS {
@@ -196,7 +213,9 @@ pub fn read_numbers(line: &[u8], numbers: &mut [u64; NUMBERS]) -> bool {
 }
 
 // A space, and the number after it.
-fn read_number(line: &[u8], at: usize) -> Number {
+fn read_number(line: &[u8], at: usize) -> Number
+    ensures { λ r. ⌜ NumberRead (now (line .entry)) at r ⌝ }
+{
     if line.len() <= at {
         return no_number();
     }
@@ -211,8 +230,11 @@ fn read_number(line: &[u8], at: usize) -> Number {
     n
 }
 
-// The number that the digits from a place on make. None where it has more than 64 bits.
-fn read_digits(line: &[u8], from: usize) -> Number {
+// The number that the digits from a place on make. None where it is above the largest that is read.
+fn read_digits(line: &[u8], from: usize) -> Number
+    requires { ⌜ from ≤ length (now line) ⌝ }
+    ensures { λ r. ⌜ DigitsRead (now (line .entry)) from r ⌝ }
+{
     let mut value: u64 = 0;
     let mut at = from;
     while at < line.len() {
@@ -236,11 +258,14 @@ fn read_digits(line: &[u8], from: usize) -> Number {
 // A number with one digit more.
 fn appended(value: u64, digit: u8) -> u64
     requires { ⌜ (value ≤ 1844674407370955160) × (48 ≤ digit) × (digit ≤ 57) ⌝ }
+    ensures { λ r. ⌜ r ≡ 10 * value + (digit - 48) ⌝ }
 {
     10 * value + (digit - b'0') as u64
 }
 
-fn no_number() -> Number {
+fn no_number() -> Number
+    ensures { λ r. ⌜ (r .ok ≡ false) × (r .end ≡ 0) ⌝ }
+{
     Number {
         ok: false,
         value: 0,

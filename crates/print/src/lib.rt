@@ -13,7 +13,7 @@ ghost use Rattle.paper.specs.File.{fileOf};
 ghost use Rattle.print.specs.Files.{Reported};
 
 // The lines that say what `dms::survey` answers, of the bytes read and the length counted.
-pub fn report(bytes: &[u8], counted: usize, lines: &mut [u8; ANSWER]) -> usize
+pub(crate) fn report(bytes: &[u8], counted: usize, lines: &mut [u8; ANSWER]) -> usize
     ensures { λ r. ⌜ Counts r (now (lines .exit)) ⌝ }
     ensures { λ r. ⌜ Reported (fileOf (now (bytes .entry)) counted) counted (take r (now (lines .exit))) ⌝ }
 {

@@ -91,7 +91,7 @@ fn put_mesh(lines: &mut [u8], at: usize, counts: Counts) -> usize
 }
 
 // What `inspect` prints of a summary.
-pub fn put_summary(lines: &mut [u8; ANSWER], summary: Summary) -> usize
+pub(crate) fn put_summary(lines: &mut [u8; ANSWER], summary: Summary) -> usize
     ensures { λ r. ⌜ Within r (now (lines .exit)) ⌝ }
     ensures { λ r. ⌜ take r (now (lines .exit)) ≡ summaryLines summary ⌝ }
 {

@@ -1,5 +1,5 @@
-// The mesh file on standard input, read into lent lists; or the line that says why it is turned down. Which bytes a call of C gives no
-// contract can say, so that only the bounds of the lengths are stated.
+// The mesh file on standard input, read into lent lists; or the line that says why it is turned down. Which bytes a call of C gives is free: the
+// lists are stated to be those of some file.
 use crate::complain_refusal;
 use crate::file_input::BUFFER;
 use crate::file_input::read_file;
@@ -12,8 +12,10 @@ use paper::MOST_CORNERS;
 use paper::MOST_FACES;
 use paper::MOST_NUMBERS;
 use paper::MOST_PAIRS;
+ghost use mathlib.Core.Path.{_≡_};
 ghost use Prim.Native.Nat.{_≤_};
-ghost use Rattle.print.specs.mesh_input.Fitting.{Fitting};
+ghost use Rattle.paper.specs.Mesh.{meshOf};
+ghost use Rattle.print.specs.mesh_input.Fitting.{NoMesh, FileRead, MeshRead};
 
 // The lengths of a mesh's lists, if there is a mesh.
 pub struct Lengths {
@@ -32,7 +34,7 @@ pub fn read_mesh(
     sharpness: &mut [u8],
     aside: bool,
 ) -> Lengths
-    ensures { λ r. ⌜ Fitting (r .numbers) (r .faces) (r .corners) (r .pairs) ⌝ }
+    ensures { λ r. ⌜ MeshRead (meshOf (now (coordinates .entry)) (now (sides .entry)) (now (corners .entry)) (now (sharpness .entry))) r (meshOf (now (coordinates .exit)) (now (sides .exit)) (now (corners .exit)) (now (sharpness .exit))) ⌝ }
 {
     let mut bytes = [0u8; BUFFER];
     let read = read_file(STDIN_FILENO, b"standard input", &mut bytes);
@@ -61,7 +63,7 @@ fn decode_lists(
     sharpness: &mut [u8],
     aside: bool,
 ) -> Lengths
-    ensures { λ r. ⌜ Fitting (r .numbers) (r .faces) (r .corners) (r .pairs) ⌝ }
+    ensures { λ r. ⌜ FileRead (now (bytes .entry)) counted (meshOf (now (coordinates .entry)) (now (sides .entry)) (now (corners .entry)) (now (sharpness .entry))) r (meshOf (now (coordinates .exit)) (now (sides .exit)) (now (corners .exit)) (now (sharpness .exit))) ⌝ }
 {
     let d = decode(bytes, counted, coordinates, sides, corners, sharpness);
     let answer = d.answer;
@@ -88,7 +90,7 @@ fn tell(number: u8, place: usize, aside: bool) {
 }
 
 fn no_mesh() -> Lengths
-    ensures { λ r. ⌜ Fitting (r .numbers) (r .faces) (r .corners) (r .pairs) ⌝ }
+    ensures { λ r. ⌜ NoMesh r ⌝ }
 {
     Lengths {
         ok: false,

@@ -10,7 +10,7 @@ ghost use Rattle.paper.specs.Archive.{archived};
 ghost use Rattle.rearrange.specs.planes.Planes.{Planed, spread};
 
 // Puts the bytes of every difference into the four planes, each as long as the number list. For one vertex the compiler knows all places.
-pub fn fill_planes(numbers: &[i32], bytes: &mut [u8])
+pub(crate) fn fill_planes(numbers: &[i32], bytes: &mut [u8])
     requires { ⌜ (length (now numbers) % 3 ≡ 0) × (length (now bytes) ≡ 4 * length (now numbers)) ⌝ }
     ensures { λ _. ⌜ now (bytes .exit) ≡ archived (now (numbers .entry)) ⌝ }
 {

@@ -10,14 +10,15 @@ pub const NUMBERS: usize = 393216;
 
 pub const BYTES: usize = 1572864;
 
-// Room for the longest list, and for one byte more, so that a longer one is noticed. The `ensures` gives only the
-// length, which lending it as a slice needs.
+// Room for the longest list, and for one byte more, so that a longer one is noticed. Only its length is stated: what it holds is free, since every
+// caller fills what it then reads.
 pub fn byte_room() -> [u8; BYTES + 1]
     ensures { λ r. ⌜ 1572865 ≡ length r ⌝ }
 {
     [0; BYTES + 1]
 }
 
+// Room for the numbers of the longest list, with contents as free.
 pub fn number_room() -> [i32; NUMBERS]
     ensures { λ r. ⌜ 393216 ≡ length r ⌝ }
 {

@@ -8,7 +8,7 @@ ghost use lib.ListN.{length};
 ghost use Rattle.rearrange.specs.planes.Planes.{Planed, spaced};
 
 // The four numbers from a position on.
-pub fn put_four(numbers: &[i32], bytes: &mut [u8], i: usize)
+pub(crate) fn put_four(numbers: &[i32], bytes: &mut [u8], i: usize)
     requires { ⌜ (3 ≤ i) × (i + 4 ≤ length (now numbers)) × Planed (now numbers) i (now bytes) ⌝ }
     ensures { λ _. ⌜ Planed (now (numbers .entry)) (i + 4) (now (bytes .exit)) ⌝ }
 {
@@ -40,7 +40,7 @@ pub fn put_four(numbers: &[i32], bytes: &mut [u8], i: usize)
 }
 
 // The lowest bytes of four numbers, the first at a place and each `step` places after the one before.
-pub fn put(bytes: &mut [u8], step: usize, at: usize, a: u32, b: u32, c: u32, d: u32)
+pub(crate) fn put(bytes: &mut [u8], step: usize, at: usize, a: u32, b: u32, c: u32, d: u32)
     requires { ⌜ 3 * step + at < length (now bytes) ⌝ }
     ensures { λ _. ⌜ now (bytes .exit) ≡ spaced (now (bytes .entry)) step at (a % 256) (b % 256) (c % 256) (d % 256) ⌝ }
 {

@@ -6,7 +6,7 @@ ghost use lib.ListN.{length};
 ghost use Rattle.paper.specs.Archive.{restored};
 
 // Restores the numbers of all vertices. For one vertex the compiler knows all places.
-pub fn fill_numbers(bytes: &[u8], numbers: &mut [i32])
+pub(crate) fn fill_numbers(bytes: &[u8], numbers: &mut [i32])
     requires { ⌜ (length (now numbers) % 3 ≡ 0) × (length (now bytes) ≡ 4 * length (now numbers)) ⌝ }
     ensures { λ _. ⌜ now (numbers .exit) ≡ restored (now (bytes .entry)) (length (now (numbers .entry))) ⌝ }
 {

@@ -7,7 +7,7 @@ ghost use lib.ListN.{length};
 pub const TRIES: usize = 16777216;
 
 // Whether the call that failed may be tried again, after other programs had their turn.
-pub fn passing() -> bool {
+pub(crate) fn passing() -> bool {
     let error = os::errno();
     libc::sched_yield();
     error == libc::EINTR || error == libc::EAGAIN

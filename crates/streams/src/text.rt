@@ -38,7 +38,7 @@ pub fn put_number(buffer: &mut [u8], at: usize, n: u64) -> usize
 }
 
 // The size of a number, without its sign.
-pub fn size(z: i32) -> u64
+pub(crate) fn size(z: i32) -> u64
     ensures { λ r. ⌜ r ≡ natAbs z ⌝ }
 {
     let wide = z as i64;
@@ -49,7 +49,7 @@ pub fn size(z: i32) -> u64
 }
 
 // A signed number in decimal.
-pub fn put_signed(buffer: &mut [u8], at: usize, z: i32) -> usize
+pub(crate) fn put_signed(buffer: &mut [u8], at: usize, z: i32) -> usize
     ensures { λ r. ⌜ Put (now (buffer .entry)) at (signedDecimal z) (now (buffer .exit)) r ⌝ }
 {
     if z < 0 {

@@ -11,7 +11,7 @@ ghost use Rattle.turning.specs.partners.Keys.{Afters, PartnersOver};
 ghost use Rattle.turning.specs.choosing.Choice.{Sized, Nexted, Ended, Chosen};
 
 // Checks 34 and 35, and the state of every face.
-pub fn find_turns(
+pub(crate) fn find_turns(
     vertices: usize,
     sides: &[u8],
     corners: &[u16],

@@ -24,7 +24,7 @@ fn higher(a: u16, b: u16) -> u16
 }
 
 // The two ends of every corner's leaving edge, the lower one and the higher one.
-pub fn fill_keys(corners: &[u16], table: &[u16], lows: &mut [u16], highs: &mut [u16])
+pub(crate) fn fill_keys(corners: &[u16], table: &[u16], lows: &mut [u16], highs: &mut [u16])
     requires { ⌜ Keyable (now corners) (now table) (now lows) (now highs) ⌝ }
     ensures { λ _. ⌜ Keyed (now (corners .entry)) (now (table .entry)) (now (lows .exit)) (now (highs .exit)) (length (now (corners .entry))) ⌝ }
 {
@@ -40,7 +40,7 @@ pub fn fill_keys(corners: &[u16], table: &[u16], lows: &mut [u16], highs: &mut [
 }
 
 // The earlier corner with the same lower end, of every corner; the highest corner with each lower end.
-pub fn fill_earliers(lows: &[u16], vertices: usize, earliers: &mut [u16], heads: &mut [u16])
+pub(crate) fn fill_earliers(lows: &[u16], vertices: usize, earliers: &mut [u16], heads: &mut [u16])
     requires { ⌜ Chainable vertices (now lows) (now earliers) (now heads) ⌝ }
     ensures { λ _. ⌜ Chains (now (lows .entry)) (now (earliers .exit)) (now (heads .exit)) ⌝ }
 {
@@ -71,7 +71,7 @@ fn own(lows: &[u16], u: usize, e: u16) -> u16
 }
 
 // For each corner one more than the next higher corner with the same ends, 0 where there is none.
-pub fn fill_afters(
+pub(crate) fn fill_afters(
     lows: &[u16],
     highs: &[u16],
     earliers: &[u16],
@@ -118,7 +118,7 @@ fn follow(
 }
 
 // Check 34. A corner that has no partner yet is the lowest of its edge.
-pub fn pair(lows: &[u16], highs: &[u16], afters: &[u16], partners: &mut [u16]) -> Answer
+pub(crate) fn pair(lows: &[u16], highs: &[u16], afters: &[u16], partners: &mut [u16]) -> Answer
     requires small { ⌜ length (now lows) ≤ mostCorners ⌝ }
     requires tables { ⌜ (length (now lows) ≤ length (now afters)) × Afters (now lows) (now highs) (now afters) ⌝ }
     requires room { ⌜ (length (now lows) ≤ length (now partners)) × Blank (now partners) ⌝ }

@@ -18,7 +18,7 @@ fn turn_face(corners: &mut [u16], start: usize, end: usize)
 }
 
 // Turns the sharpness pairs of the faces whose state says so.
-pub fn turn_sharpness(sides: &[u8], states: &[u8], pairs: &mut [u8])
+pub(crate) fn turn_sharpness(sides: &[u8], states: &[u8], pairs: &mut [u8])
     requires { ⌜ Sharpenable (now sides) (now states) (now pairs) ⌝ }
     ensures { λ _. ⌜ now (pairs .exit) ≡ turnedPairs (now (sides .entry)) (now (pairs .entry)) (turnsBy (now (states .entry))) ⌝ }
 {
@@ -80,7 +80,12 @@ fn reverse_bytes(list: &mut [u8], from: usize, to: usize)
 }
 
 // Turns the faces whose state says so, in place, and lists them at the beginning of the listing; answers how many they are.
-pub fn turn_faces(sides: &[u8], states: &[u8], corners: &mut [u16], listing: &mut [u16]) -> usize
+pub(crate) fn turn_faces(
+    sides: &[u8],
+    states: &[u8],
+    corners: &mut [u16],
+    listing: &mut [u16],
+) -> usize
     requires { ⌜ Writable (now sides) (now states) (now corners) (now listing) ⌝ }
     ensures { λ r. ⌜ Written (turnsBy (now (states .entry))) (now (sides .entry)) (now (corners .entry)) (now (listing .entry)) r (now (corners .exit)) (now (listing .exit)) ⌝ }
 {

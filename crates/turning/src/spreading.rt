@@ -57,7 +57,7 @@ fn round(
 
 // Check 35, after check 34; where it finds nothing, the states are the turns. The lowest face that no round has reached is the lowest of
 // its part, so the first clash is in the lowest part that has one.
-pub fn spread(
+pub(crate) fn spread(
     sides: &[u8],
     corners: &[u16],
     partners: &[u16],

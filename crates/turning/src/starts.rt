@@ -5,7 +5,7 @@ ghost use Rattle.paper.specs.Mesh.{mostFaces, mostCorners};
 ghost use Rattle.turning.specs.starts.Starts.{Startable, Started, Faced};
 
 // The face of every corner, and the first corner of every face.
-pub fn fill_starts(sides: &[u8], faces: &mut [u16], starts: &mut [u16])
+pub(crate) fn fill_starts(sides: &[u8], faces: &mut [u16], starts: &mut [u16])
     requires { ⌜ Startable (now sides) (now faces) (now starts) ⌝ }
     ensures { λ _. ⌜ Started (now (sides .entry)) (now (faces .exit)) (now (starts .exit)) (length (now (sides .entry))) ⌝ }
 {

@@ -13,7 +13,7 @@ pub enum Reach {
 }
 
 // One face: the faces across its edges get their states.
-pub fn visit(
+pub(crate) fn visit(
     sides: &[u8],
     corners: &[u16],
     partners: &[u16],

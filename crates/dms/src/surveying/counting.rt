@@ -48,7 +48,7 @@ fn tally_bytes(values: &[u8], table: &mut [u16])
 }
 
 // The counts of a mesh within the limits.
-pub fn count(coordinates: &[i32], sides: &[u8], corners: &[u16]) -> Counts
+pub(crate) fn count(coordinates: &[i32], sides: &[u8], corners: &[u16]) -> Counts
     requires { ⌜ (length (now coordinates) / 3 ≤ mostVertices) × ((length (now sides) ≤ mostFaces) × (length (now corners) ≤ mostCorners)) ⌝ }
     ensures { λ r. ⌜ ((sharpness : List ℕ) → Counted (meshOf (now (coordinates .entry)) (now (sides .entry)) (now (corners .entry)) sharpness) r) ⌝ }
 {

@@ -1,11 +1,11 @@
 -- Text put into a buffer: nothing, one byte, a text after a text, a word byte by byte, and a text that has room.
 use mathlib.Core.Path.{_≡_, refl, sym, ap, subst, _∙_}
 use mathlib.Core.List.{List, [], _∷_, _++_, append-assoc, append-nil}
-use Prim.Native.Nat.{ℕ, zero, suc, _+_, _<_, _≤_}
+use Prim.Native.Nat.{ℕ, zero, suc, _+_, _-_, _<_, _≤_}
 use native.Mathlib.Numerals.{add-one}
 use native.Mathlib.Omega.{arith}
-use lib.ListN.{length, take, set, getD, length-append, length-set}
-use lib.Seq.{take-all, take-suc, take-suc-set, take-append-seam, length-take-le}
+use lib.ListN.{length, take, drop, set, getD, length-append, length-set}
+use lib.Seq.{take-all, take-suc, take-suc-set, take-append-seam, drop-drop, drop-set-lt, length-take-le}
 use Rattle.streams.specs.text.Text.{Put}
 
 take-short : (i : ℕ) (l : List ℕ) → length (take i l) ≤ length l
@@ -19,11 +19,19 @@ cut-twice zero a b = refl
 cut-twice (suc n) [] b = refl
 cut-twice (suc n) (x ∷ a) b = ap (λ (l : List ℕ). x ∷ l) (cut-twice n a b)
 
+-- lists that agree from a place on agree from every later one on
+drop-further : (a b : List ℕ) (j k : ℕ) → j ≤ k → drop j b ≡ drop j a → drop k b ≡ drop k a
+drop-further a b j k h e =
+    let q : j + (k - j) ≡ k = omega arith in
+    subst (λ (n : ℕ). drop n b ≡ drop n a) q (sym (drop-drop (k - j) j b) ∙ ap (drop (k - j)) e ∙ drop-drop (k - j) j a)
+
 pub put-none : (old : List ℕ) (at : ℕ) → Put old at [] old at
 put-none old at =
     record {
       holds = sym (ap (take (length old)) (append-nil (take at old)) ∙ take-all (length old) (take at old) (take-short at old));
       inside = λ h. h;
+      onward = omega arith;
+      rest = refl;
     }
 
 pub put-one : (old : List ℕ) (at b : ℕ) → at < length old → Put old at (b ∷ []) (set old at b) (at + 1)
@@ -35,6 +43,8 @@ put-one old at b h =
       holds =
           ap (λ (k : ℕ). take k (set old at b)) (add-one at) ∙ take-suc-set old at b h ∙ sym (take-all (length old) (take at old ++ (b ∷ [])) (omega arith));
       inside = λ k. omega arith;
+      onward = omega arith;
+      rest = drop-set-lt (at + 1) old at b (omega arith);
     }
 
 pub put-past : (old : List ℕ) (at : ℕ) (text : List ℕ) → length old ≤ at → Put old at text old at
@@ -43,6 +53,8 @@ put-past old at text h =
     record {
       holds = e ∙ sym (take-append-seam old text) ∙ ap (λ (l : List ℕ). take (length old) (l ++ text)) (sym e);
       inside = λ k. k;
+      onward = omega arith;
+      rest = refl;
     }
 
 pub put-then : {a b c s t : List ℕ} {i j k : ℕ} → length b ≡ length a → Put a i s b j → Put b j t c k → Put a i (s ++ t) c k
@@ -55,6 +67,8 @@ put-then {a} {b} {c} {s} {t} {i} {j} {k} e p q =
           ∙ cut-twice (length a) (take i a ++ s) t
           ∙ ap (take (length a)) (append-assoc (take i a) s t);
       inside = λ h. q .inside (p .inside h);
+      onward = let f = p .onward in let g = q .onward in omega arith;
+      rest = q .rest ∙ drop-further a b j k (q .onward) (p .rest);
     }
 
 -- one byte more of a word
