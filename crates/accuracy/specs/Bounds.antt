@@ -1,5 +1,4 @@
 -- How far each point of a net is off at most, in hundredths of a tick.
--- Assumes nothing.
 use mathlib.Core.List.{List, [], _∷_}
 use Prim.Native.Nat.{ℕ}
 

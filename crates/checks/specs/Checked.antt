@@ -1,5 +1,4 @@
 -- What the shared check of 4 to 13 with 27 and 28 asks and answers, and what its tables hold.
--- Assumes nothing.
 use mathlib.Core.Path.{_≡_}
 use mathlib.Core.List.{List}
 use Prim.Native.Nat.{ℕ, _*_, _<_, _≤_}

@@ -1,5 +1,4 @@
 -- What is asked of building besides the mesh: refusals 14 to 17, in their order.
--- Assumes nothing.
 use mathlib.Core.Bool.{not}
 use mathlib.Core.List.{List}
 use Prim.Native.Nat.{ℕ}

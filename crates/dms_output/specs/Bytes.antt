@@ -1,5 +1,4 @@
 -- The bytes of a mesh file: the mark DMS, the version, the counts of vertices, faces and corners, then the lists; all numbers have their low byte first.
--- Assumes nothing.
 use mathlib.Core.Path.{_≡_}
 use mathlib.Core.Bool.{Bool, true, false, not}
 use mathlib.Core.List.{List, [], _∷_, _++_}

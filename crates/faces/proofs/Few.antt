@@ -1,6 +1,5 @@
 -- Rings of three and of four: their rows of the cosine table are exact, so the weights are 4, 4, 1 and 5, 5, 1, 1 times 2^30, and what the formulas
 -- answer is the centre, or the point towards a side, of every ring that has the points in turn.
--- Assumes nothing.
 use mathlib.Core.Path.{_≡_, sym, ap, _∙_}
 use Prim.Native.Nat.{ℕ, _+_, _*_, _^_}
 use native.Mathlib.Omega.{arith}

@@ -1,6 +1,5 @@
 -- One way round a ring: before each turn the walk stands at the place of the turn, and the sums are those of the places before it, each point times
 -- its weight. Every sum fits, and at the end the quotients are the centre, where the weights are equal, and the point towards a side.
--- Assumes nothing.
 use mathlib.Core.Path.{_≡_, refl, sym, ap, _∙_}
 use mathlib.Core.List.{List}
 use Prim.Native.Nat.{ℕ, zero, suc, _+_, _-_, _*_, _^_, _≤_, _<_}

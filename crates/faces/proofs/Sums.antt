@@ -1,6 +1,5 @@
 -- A sum with small coefficients, as the machine forms it: every step fits, and the sum is the number that it stands for. One law for all formulas, over
 -- the width.
--- Assumes nothing.
 use mathlib.Core.Path.{_≡_, refl, ap, _∙_}
 use Prim.Native.Nat.{ℕ, _+_, _*_, _^_, _≤_, _<_}
 use native.Mathlib.Omega.{arith}

@@ -1,6 +1,5 @@
 -- A refined face as the code goes round it: by a column of the table of corners, or by its three or four corners in turn. What its points are is said
 -- of one axis, and then of the three.
--- Assumes nothing.
 use mathlib.Core.Path.{_≡_}
 use mathlib.Core.List.{List}
 use Prim.Native.Nat.{ℕ, _+_, _*_, _≤_, _<_}

@@ -1,5 +1,4 @@
 -- What the stages say to each other: the float of a whole number, and the floats of three differences.
--- Assumes nothing.
 use mathlib.Core.Path.{_≡_}
 use mathlib.Core.Bool.{Bool, true, false}
 use lib.IntN.{ℤ}

@@ -1,5 +1,4 @@
 -- What the search asks of a mesh, and what it finds among the faces.
--- Assumes nothing.
 use mathlib.Core.Path.{_≡_}
 use mathlib.Core.List.{List}
 use Prim.Native.Nat.{ℕ, _+_, _<_, _≤_}

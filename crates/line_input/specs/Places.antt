@@ -1,5 +1,4 @@
 -- Where a line lies, and what of the buffer it shows. Which bytes a call of C gives is free: of those that were read nothing is said.
--- Assumes nothing.
 use mathlib.Core.Path.{_≡_}
 use mathlib.Core.Logic.{_⊎_}
 use mathlib.Core.Bool.{Bool, true, false}

@@ -1,5 +1,4 @@
 -- The part of an accepted mesh's lists that links rest on.
--- Assumes nothing.
 use mathlib.Core.Path.{_≡_}
 use mathlib.Core.Bool.{false}
 use mathlib.Core.List.{List}

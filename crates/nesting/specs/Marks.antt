@@ -1,5 +1,4 @@
 -- What the scratch tables of the listing hold.
--- Assumes nothing.
 use mathlib.Core.Path.{_≡_}
 use mathlib.Core.Bool.{true, false}
 use mathlib.Core.List.{List}

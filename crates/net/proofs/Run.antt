@@ -1,6 +1,5 @@
 -- A run of corners of one face: the rows have what the net of each is made from, every lane has numbers of the sizes that it asks, and the numbers are put
 -- one corner after the other.
--- Assumes nothing.
 use mathlib.Core.Path.{_≡_, refl, sym, ap, _∙_}
 use mathlib.Core.Bool.{Bool, true, false, not}
 use mathlib.Core.List.{List}

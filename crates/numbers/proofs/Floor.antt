@@ -1,5 +1,4 @@
 -- The quotient rounded down is told by its two bounds; the machine's quotient of a number that is not negative is that one.
--- Assumes nothing.
 use mathlib.Core.Path.{_≡_, refl}
 use Prim.Native.Nat.{ℕ, _+_, _*_, _<_}
 use native.Mathlib.Nat.{div-add-mod, mod-lt, lt-of-mul-lt-mul-left}

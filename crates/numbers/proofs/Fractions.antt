@@ -1,5 +1,4 @@
 -- No division of the exact reading rounds: a quotient, times its divisor, is what was divided.
--- Assumes nothing.
 use mathlib.Core.Path.{_≡_}
 use native.Mathlib.Omega.{arith}
 use lib.IntN.{ℤ, pos, _*ℤ_}

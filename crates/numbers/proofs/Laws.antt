@@ -1,5 +1,4 @@
 -- The few laws of ℤ that are cited by name: order, products and sizes. What else is wanted is one line where it is wanted, by `poly`.
--- Assumes nothing.
 use mathlib.Core.Path.{_≡_, refl, sym, subst}
 use Prim.Native.Nat.{ℕ, zero, suc, _+_, _*_, _≤_}
 use native.Mathlib.Nat.{mul-le-mul, mul-le-mul-left}

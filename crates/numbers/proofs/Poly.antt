@@ -2,7 +2,6 @@
 -- one about the natural parts of its monomials, which `omega` proves.
 -- Against `diff` (Diff.antt): a monomial is two numbers here whatever its degree, and what cancels is gone before `omega` looks. So identities of any
 -- degree, and inequalities with many products, stay within `omega`'s 64 unknowns.
--- Assumes nothing.
 use mathlib.Core.Path.{_≡_, refl, sym, ap, _∙_, subst}
 use mathlib.Core.Logic.{_↔_}
 use mathlib.Core.Bool.{Bool, true, false, not, cond}

@@ -1,6 +1,5 @@
 -- The rules of the cosine table (`rules`), and what borders and sizes use beside them (`top`, `bottom`, `cosine-size`, `exact`, `quarter`).
 -- Each is one test that is computed over all rows, and one law that reads it at a row; so a further row asks nothing new.
--- Assumes nothing.
 use mathlib.Core.Path.{_≡_, refl, sym, ap, _∙_, subst}
 use mathlib.Core.Bool.{Bool}
 use mathlib.Core.List.{[]}

@@ -1,5 +1,4 @@
 -- Finite sums: equal and bounded term by term, and over a ring the same from wherever they start.
--- Assumes nothing.
 use mathlib.Core.Path.{_≡_, refl, ap, _∙_}
 use Prim.Native.Nat.{ℕ, zero, suc, _+_, _*_, _≤_, _<_}
 use native.Mathlib.Numerals.{add-one}

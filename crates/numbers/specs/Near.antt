@@ -1,5 +1,4 @@
 -- What the laws of rounding say of a quotient.
--- Assumes nothing.
 use lib.IntN.{ℤ, pos, negℤ, _-ℤ_, _*ℤ_}
 use lib.Signed.{_≤ℤ_}
 

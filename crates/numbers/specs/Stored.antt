@@ -1,5 +1,4 @@
 -- The cosine table as the code's array holds it.
--- Assumes nothing.
 use mathlib.Core.List.{List, [], _∷_, _++_}
 use lib.ListN.{take, replicate}
 use lib.IntN.{ℤ, pos}

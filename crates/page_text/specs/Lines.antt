@@ -1,5 +1,4 @@
 -- The lines of a page of the border report: 21 in words, and last the line `page`. Numbers are decimal, and a line feed ends each line.
--- Assumes nothing.
 use mathlib.Core.List.{List, [], _∷_, _++_}
 use Prim.Native.Nat.{ℕ, zero, suc, _+_, _*_, _/_, _%_}
 use lib.ListN.{getD}

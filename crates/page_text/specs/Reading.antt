@@ -1,5 +1,4 @@
 -- The line `page` read back: which lines have its form, and the numbers that they hold.
--- Assumes nothing.
 use mathlib.Core.Path.{_≡_}
 use mathlib.Core.Logic.{_↔_}
 use mathlib.Core.Bool.{Bool, true, false}

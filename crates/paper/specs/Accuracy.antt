@@ -1,5 +1,4 @@
 -- L10: how far what building writes is from the true surface, which is the same construction without rounding.
--- Assumes nothing.
 use mathlib.Core.Path.{_≡_}
 use Prim.Native.Nat.{ℕ, _*_, _<_, _≤_}
 use lib.ListN.{getD}

@@ -1,6 +1,5 @@
 -- L11, coordinates rearranged for the archive: each number's difference from the same axis of the vertex before, wrapping in 32 bits,
 -- then the bytes of all differences, plane by plane; and the way back. The checks 30 and 31, and the two calls.
--- Assumes nothing.
 use mathlib.Core.Path.{_≡_}
 use mathlib.Core.Bool.{Bool, not}
 use mathlib.Core.List.{List, _++_}

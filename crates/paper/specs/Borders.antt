@@ -1,5 +1,4 @@
 -- "The four conditions across a side", of the points that building writes, as calls leave them in their outputs.
--- Assumes nothing.
 use mathlib.Core.Path.{_≡_}
 use mathlib.Core.List.{List}
 use Prim.Native.Nat.{ℕ, _+_, _-_, _*_, _≤_, _<_}

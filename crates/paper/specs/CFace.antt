@@ -1,6 +1,5 @@
 -- The C face: what each call answers, what stands behind `place` and what each lent space holds afterwards. The verdicts and
 -- contents are those of the functions that it wraps.
--- Assumes nothing.
 use mathlib.Core.Path.{_≡_}
 use mathlib.Core.Bool.{_||_}
 use mathlib.Core.List.{List}

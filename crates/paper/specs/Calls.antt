@@ -1,5 +1,4 @@
 -- Linking and building as calls: what each answers (4 to 14, 4 to 17) and what the lent space holds afterwards, for all inputs.
--- Assumes nothing.
 use mathlib.Core.Path.{_≡_}
 use mathlib.Core.Bool.{Bool, not, _||_}
 use mathlib.Core.List.{List}

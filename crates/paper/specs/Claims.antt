@@ -1,5 +1,4 @@
 -- The theorems, as types. Crate claims has a value of `Claims`.
--- Assumes nothing.
 use mathlib.Core.Path.{_≡_}
 use mathlib.Core.Bool.{Bool, true, false}
 use mathlib.Core.List.{List, _++_}

@@ -1,5 +1,4 @@
 -- A corner's face, its position there, and the next and previous corner of the face, over the list of side counts.
--- Assumes nothing.
 use mathlib.Core.List.{List, [], _∷_}
 use Prim.Native.Nat.{ℕ, suc, _+_, _-_}
 use lib.Dec.{ltb, eqb}

@@ -1,5 +1,4 @@
 -- The cosine table ("Numbers used"). The table itself is the definition; its four rules, in the order of 01, are claimed of every row.
--- Assumes nothing.
 use mathlib.Core.Path.{_≡_}
 use mathlib.Core.List.{List, [], _∷_}
 use Prim.Native.Nat.{ℕ, _-_, _%_, _+_, _*_, _/_, _^_, _<_, _≤_}

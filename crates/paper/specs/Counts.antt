@@ -1,5 +1,4 @@
 -- The counts of a mesh: vertices, faces, corners, and for each m the vertices with m corners and the faces with m sides.
--- Assumes nothing.
 use mathlib.Core.Path.{_≡_}
 use mathlib.Core.List.{List}
 use Prim.Native.Nat.{ℕ, _+_}

@@ -1,5 +1,4 @@
 -- "Checked examples", those marked (p): a table of what the definitions give and of the numbers that 01 prints.
--- Assumes nothing.
 use mathlib.Core.Path.{_≡_}
 use mathlib.Core.List.{List, [], _∷_, _++_}
 use Prim.Native.Nat.{ℕ, _^_}

@@ -1,5 +1,4 @@
 -- "Face points": one refined face of m points V[j], given as a function p of the place j that repeats after m.
--- Assumes nothing.
 use Prim.Native.Nat.{ℕ, _+_, _-_, _*_}
 use lib.IntN.{ℤ, pos, _+ℤ_, _*ℤ_}
 use Rattle.paper.specs.Numbers.{sumBy, Numbers}

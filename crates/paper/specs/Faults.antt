@@ -1,6 +1,5 @@
 -- "Why a mesh is turned down": 4 to 13 with 27 and 28, each with its places, and the verdict that tries them in their order; 14; what an answer states,
 -- and what a lent space holds after it.
--- Assumes nothing.
 use mathlib.Core.Path.{_≡_}
 use mathlib.Core.Bool.{Bool, true, false, not, _&&_, _||_}
 use mathlib.Core.List.{List}

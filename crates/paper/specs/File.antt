@@ -1,7 +1,6 @@
 -- "The file": a header of mark, version and three counts, then the coordinates, the side counts and the corner list, and in version 2 the sharpness list;
 -- all numbers have their low byte first. What the functions over a file answer: `survey` its counts, `decode` its lists, or why the file is turned down
 -- (1 to 13 and 28).
--- Assumes nothing.
 use mathlib.Core.Path.{_≡_}
 use mathlib.Core.Bool.{Bool, not, _&&_, _||_}
 use mathlib.Core.List.{List, _++_}

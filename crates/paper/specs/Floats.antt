@@ -1,6 +1,5 @@
 -- L1, "Points the renderer can take": the difference of one control point of a quad-net from its b00, in floats. 18 to 20, the whole
 -- numbers that are asked, and the floats that carry them to the bit.
--- Assumes nothing.
 use mathlib.Core.Path.{_≡_}
 use mathlib.Core.Bool.{Bool, true, false, not, _&&_}
 use mathlib.Core.List.{List, [], _∷_}

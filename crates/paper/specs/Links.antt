@@ -1,5 +1,4 @@
 -- Edges and links, over the side counts and the corner list; the corners of a vertex.
--- Assumes nothing.
 use mathlib.Core.Bool.{Bool, _&&_}
 use mathlib.Core.List.{List}
 use Prim.Native.Nat.{ℕ}

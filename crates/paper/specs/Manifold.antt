@@ -1,5 +1,4 @@
 -- What holds at each corner of an accepted mesh, in one record.
--- Assumes nothing.
 use mathlib.Core.Path.{_≡_}
 use Prim.Native.Nat.{ℕ, _<_, _≤_}
 use Rattle.paper.specs.Scan.{iterate}

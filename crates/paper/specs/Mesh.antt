@@ -1,5 +1,4 @@
 -- The lists of a mesh ("Mesh tables and links"), and its limits, each number of 01 once.
--- Assumes nothing.
 use mathlib.Core.List.{List}
 use Prim.Native.Nat.{ℕ, _*_, _/_}
 use lib.ListN.{length, replicate}

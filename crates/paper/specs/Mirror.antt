@@ -1,5 +1,4 @@
 -- A mesh and its mirror, in which one axis is negated and nothing else altered: what holds of linking and building on the two.
--- Assumes nothing.
 use mathlib.Core.Path.{_≡_}
 use mathlib.Core.Bool.{Bool, true, false}
 use mathlib.Core.List.{List}

@@ -1,6 +1,5 @@
 -- L4, the nested grids as a table: each body has the number of the body whose grid it hangs in, its holder, or 65,535 for the Sun.
 -- Chains of holders, the checks 21 to 23, the listing, and the call.
--- Assumes nothing.
 use mathlib.Core.Path.{_≡_}
 use mathlib.Core.Bool.{Bool, true, false, not, _&&_, _||_}
 use mathlib.Core.List.{List, [], _∷_, _++_}

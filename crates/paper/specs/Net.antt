@@ -1,5 +1,4 @@
 -- From corner to 41 points, one coordinate: the quad-net of a corner c, one definition for its four sides.
--- Assumes nothing.
 use mathlib.Core.List.{List, [], _∷_, _++_}
 use Prim.Native.Nat.{ℕ, zero, suc, _+_, _-_, _*_, _%_}
 use lib.IntN.{ℤ, pos, _-ℤ_, _*ℤ_}

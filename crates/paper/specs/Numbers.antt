@@ -1,7 +1,6 @@
 -- Rounding ("Numbers used"), and the numbers that the construction is carried out in. The construction is said once, over a structure of
 -- numbers, and has two readings: `rounded`, whole numbers of ticks where every division rounds, is what building writes; `exact`, fractions of
 -- a tick where none does, is the true surface (L10).
--- Assumes nothing.
 use Prim.Native.Nat.{_/_, ℕ, zero, suc, _*_}
 use lib.IntN.{ℤ, pos, negsuc, negℤ, natAbs, _+ℤ_, _-ℤ_, _*ℤ_}
 

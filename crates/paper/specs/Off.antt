@@ -1,5 +1,4 @@
 -- L6, reading OFF files: the words of a text, the numbers that they are, the lists, or why the text is turned down, and the call.
--- Assumes nothing.
 use mathlib.Core.Path.{_≡_}
 use mathlib.Core.Bool.{Bool, true, false, cond, not, _&&_, _||_}
 use mathlib.Core.List.{List, [], _∷_, _++_}

@@ -1,6 +1,5 @@
 -- L9, try a vertex before moving it: what building would answer and write with that vertex moved, the call; and the corners whose quad-nets the
 -- vertex can change, as marks, the call.
--- Assumes nothing.
 use mathlib.Core.Path.{_≡_}
 use mathlib.Core.Bool.{Bool, not, _&&_}
 use mathlib.Core.List.{List}

@@ -1,6 +1,5 @@
 -- "Refined point", with the sharpness numbers of L8: the corners of a mesh as the construction sees them, which are the same on every axis, and the refined
 -- points of one axis.
--- Assumes nothing.
 use Prim.Native.Nat.{ℕ, _+_, _-_, _*_}
 use lib.ListN.{getD}
 use lib.IntN.{ℤ, pos, _+ℤ_, _*ℤ_}

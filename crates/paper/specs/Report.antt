@@ -1,5 +1,4 @@
 -- L14, the yearly border report: a page, the next page of a page and a file, what a run of files leaves, and two pages as one.
--- Assumes nothing.
 use mathlib.Core.Path.{_≡_}
 use mathlib.Core.Bool.{Bool, true, false, not, _||_}
 use mathlib.Core.List.{List, [], _∷_, _++_}

@@ -1,6 +1,5 @@
 -- L12, "Sampling a patch": the point at weights i/N, j/N, k/N of one of a quad-net's four triangles, numbered by side. The triangle's control
 -- points, the quartic Bernstein sum, the checks 32 and 33, the call for one sample, and the one for all samples of a triangle.
--- Assumes nothing.
 use mathlib.Core.Path.{_≡_}
 use mathlib.Core.Bool.{Bool, not, _||_}
 use mathlib.Core.List.{List, [], _++_}

@@ -1,5 +1,4 @@
 -- Scans over the numbers below a bound: the lowest that passes a test, whether one does, how many do; a step repeated; values in a row.
--- Assumes nothing.
 use mathlib.Core.Bool.{Bool, true, false}
 use mathlib.Core.List.{List, [], _∷_}
 use Prim.Native.Nat.{ℕ, zero, suc, _+_}

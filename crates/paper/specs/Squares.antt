@@ -1,6 +1,5 @@
 -- L7, is it all squares? The lowest face that has not four sides, else the lowest vertex that has not four corners, else none, with the
 -- side counts that the search reads; the call; and what the lines of `inspect` say of it.
--- Assumes nothing.
 use mathlib.Core.Path.{_≡_}
 use mathlib.Core.Bool.{Bool, true, false, not, _&&_}
 use mathlib.Core.List.{List}

@@ -1,6 +1,5 @@
 -- L13, faces drawn the wrong way round: turning faces, choices of turns, faces connected through shared edges, the checks 34 to 36, the choice
 -- that is made, and the call.
--- Assumes nothing.
 use mathlib.Core.Path.{_≡_}
 use mathlib.Core.Bool.{Bool, true, false, cond, not, _&&_, _||_}
 use mathlib.Core.List.{List, [], _∷_}

@@ -1,5 +1,4 @@
 -- The lines of `inspect`: one space parts the words of a line, numbers are decimal, and a line feed ends each line.
--- Assumes nothing.
 use mathlib.Core.Bool.{cond, _&&_}
 use mathlib.Core.List.{List, [], _∷_, _++_}
 use Prim.Native.Nat.{ℕ, zero, suc, _+_}

@@ -1,5 +1,4 @@
 -- An accepted mesh gives what refined points are computed from, and its table of corners is sound.
--- Assumes nothing.
 use mathlib.Core.Path.{refl, sym}
 use mathlib.Core.List.{List}
 use Prim.Native.Nat.{ℕ, _<_}

@@ -1,5 +1,4 @@
 -- A range one number longer, and the marks of its vertices.
--- Assumes nothing.
 use mathlib.Core.Path.{_≡_, ap, _∙_, sym, subst}
 use mathlib.Core.Logic.{⊎-elim}
 use mathlib.Core.List.{List}

@@ -1,5 +1,4 @@
 -- The table of refined points: other values or another choice that are the same, one choice after the other, and one corner.
--- Assumes nothing.
 use mathlib.Core.Path.{_≡_, refl, _∙_, sym, subst}
 use mathlib.Core.Logic.{⊎-elim}
 use mathlib.Core.List.{List}

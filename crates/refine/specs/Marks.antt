@@ -1,5 +1,4 @@
 -- Marks of vertices: those that a range of corners names, and the faces that are needed where a vertex is marked.
--- Assumes nothing.
 use mathlib.Core.Path.{_≡_}
 use mathlib.Core.List.{List}
 use Prim.Native.Nat.{ℕ, _+_, _<_, _≤_}

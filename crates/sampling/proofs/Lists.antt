@@ -1,5 +1,4 @@
 -- The samples of a triangle as they come into the list: number by number along a row, row by row, axis by axis.
--- Assumes nothing.
 use mathlib.Core.Path.{_≡_, refl, sym, ap, _∙_, subst}
 use mathlib.Core.Logic.{⊎-elim}
 use mathlib.Core.List.{List, [], _∷_, _++_, append-assoc, append-nil}

@@ -1,5 +1,4 @@
 -- The theorems of L12: closing along common sides and rays, the ends, the bounds, and a triangle's samples one by one.
--- Assumes nothing.
 use mathlib.Core.Path.{_≡_, refl, sym, ap, _∙_, subst}
 use mathlib.Core.Bool.{false, not}
 use mathlib.Core.List.{List, [], _++_, append-assoc, append-nil}

@@ -1,5 +1,4 @@
 -- Control points that can be sampled, and where the samples of a triangle stand in a list.
--- Assumes nothing.
 use mathlib.Core.Path.{_≡_}
 use mathlib.Core.List.{List}
 use Prim.Native.Nat.{ℕ, zero, suc, _+_, _-_, _*_, _^_, _≤_, _<_}

@@ -1,5 +1,4 @@
 -- The table of refined points: a row of four numbers for each corner, its refined point on the three axes and one number that is not used.
--- Assumes nothing.
 use mathlib.Core.List.{List}
 use Prim.Native.Nat.{ℕ, _+_, _*_}
 use lib.ListN.{getD}

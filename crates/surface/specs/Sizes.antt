@@ -1,5 +1,4 @@
 -- How large the numbers of a quad-net are, in ticks: what each formula is given, and what it gives.
--- Assumes nothing.
 use Prim.Native.Nat.{_+_, _-_, _^_, _≤_}
 use lib.IntN.{ℤ, pos, negℤ, natAbs}
 use lib.Signed.{_≤ℤ_}

@@ -1,5 +1,4 @@
 -- The laws that an accepted mesh gives its corners, and the size of its refined points.
--- Assumes nothing.
 use mathlib.Core.Path.{_≡_}
 use Prim.Native.Nat.{ℕ, _≤_, _<_, _^_}
 use lib.IntN.{natAbs}

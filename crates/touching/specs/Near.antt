@@ -1,5 +1,4 @@
 -- The marks of the vertices that stand in a face with a given one, as they grow face by face.
--- Assumes nothing.
 use mathlib.Core.Path.{_≡_}
 use mathlib.Core.Bool.{Bool, _&&_}
 use mathlib.Core.List.{List}

@@ -1,6 +1,5 @@
 -- What a choice of turns has to meet where each edge is in two faces: the two corners of an edge that leave in the same direction are in
 -- faces of which one is turned; those that leave in opposite directions are in faces that are both turned or both kept.
--- Assumes nothing.
 use mathlib.Core.Path.{_≡_}
 use mathlib.Core.Bool.{Bool, true, false, not, xor, _&&_}
 use mathlib.Core.List.{List}

@@ -1,6 +1,5 @@
 -- The table of corners: a row of five numbers for each corner, its next, previous and linked corner, the sides of its face and the
 -- corners of its vertex.
--- Assumes nothing.
 use mathlib.Core.Path.{_≡_}
 use mathlib.Core.List.{List}
 use Prim.Native.Nat.{ℕ, _+_, _*_, _<_, _≤_}

@@ -1,5 +1,4 @@
 -- What the numbers of single corners hold, the rows that are read from them, and the misses of a corner.
--- Assumes nothing.
 use mathlib.Core.Path.{_≡_, refl, sym, ap, _∙_, subst}
 use mathlib.Core.Logic.{⊎-elim}
 use mathlib.Core.List.{List}

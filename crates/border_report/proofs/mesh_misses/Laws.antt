@@ -1,6 +1,5 @@
 -- With all vertices marked the tables draw the whole mesh, and the misses of its nets are those of the numbers that building
 -- writes for all corners.
--- Assumes nothing.
 use mathlib.Core.Path.{_≡_, sym, ap, _∙_}
 use mathlib.Core.List.{List}
 use Prim.Native.Nat.{ℕ, zero, suc, _*_, _<_, _≤_, max}

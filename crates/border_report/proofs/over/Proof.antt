@@ -1,5 +1,4 @@
 -- `border_report::over` meets its contract: the checks refuse, or their table serves the misses.
--- Assumes nothing.
 use mathlib.Core.Path.{sym, ap, _∙_}
 use denote.Ref.{now}
 use Rattle.paper.specs.Mesh.{Mesh, meshOf}

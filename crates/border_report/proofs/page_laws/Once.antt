@@ -1,5 +1,4 @@
 -- Each border counts once: of its two sides one is a side 0 or 1, and both give the same misses. No miss is larger than 13 ticks.
--- Assumes nothing.
 use mathlib.Core.Path.{_≡_, refl, sym, ap, _∙_}
 use mathlib.Core.Bool.{not}
 use Prim.Native.Nat.{ℕ, zero, suc, _*_, _<_, _≤_, max}

@@ -1,5 +1,4 @@
 -- Every number under which a file is refused has a line on the page, so a refused mesh adds one there.
--- Assumes nothing.
 use mathlib.Core.Path.{_≡_, refl, sym, ap, _∙_, subst}
 use mathlib.Core.Bool.{Bool, true, false, not}
 use mathlib.Core.List.{List}

@@ -1,7 +1,6 @@
 -- What a run of files leaves. As long as it counts at most 4,096 meshes a page stays within 2^40, so no call is refused, and each page is the merge of the
 -- page before with what the file says: sums of the counts, maxima of the misses. These do not depend on the order, and a run's page is the merge of those
 -- of its parts.
--- Assumes nothing.
 use mathlib.Core.Path.{_≡_, refl, sym, ap, _∙_, subst}
 use mathlib.Core.Bool.{Bool, true, false}
 use mathlib.Core.List.{List, [], _∷_, _++_}

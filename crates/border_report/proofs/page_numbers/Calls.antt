@@ -1,5 +1,4 @@
 -- The calls of the report from C: a page's numbers before and after, and what C is told.
--- Assumes nothing.
 use mathlib.Core.Path.{_≡_, refl, sym, ap, _∙_, subst}
 use mathlib.Core.List.{List}
 use Prim.Native.Nat.{ℕ}

@@ -1,5 +1,4 @@
 -- Checks 37 and 38, number by number: what each way out of the checks answers, and what is known of the pages that pass.
--- Assumes nothing.
 use mathlib.Core.Path.{_≡_, refl, sym, ap, _∙_}
 use mathlib.Core.Bool.{Bool, true, false, _||_}
 use mathlib.Core.List.{List, [], _∷_, _++_}

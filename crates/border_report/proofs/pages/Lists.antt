@@ -1,5 +1,4 @@
 -- A page's lists: filled line by line, the numbers of the lines, and four misses.
--- Assumes nothing.
 use mathlib.Core.Path.{_≡_, refl}
 use mathlib.Core.List.{List, [], _∷_}
 use Prim.Native.Nat.{ℕ, _+_, _<_, max}

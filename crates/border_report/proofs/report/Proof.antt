@@ -1,5 +1,4 @@
 -- `border_report::report` meets its contract: 37 and 38 refuse and the page is as it was, or the file is added.
--- Assumes nothing.
 use mathlib.Core.Path.{sym, ap, _∙_}
 use mathlib.Core.List.{List}
 use Prim.Native.Nat.{ℕ}

@@ -1,5 +1,4 @@
 -- `border_report::with_file` meets its contract: a header that is refused decides; one that passes leaves it to the lists.
--- Assumes nothing.
 use mathlib.Core.Path.{sym, ap, _∙_}
 use denote.Ref.{now}
 use Rattle.paper.specs.Faults.{verdict}

@@ -1,5 +1,4 @@
 -- `border_report::with_lists` meets its contract: the lists that were read are those of the file's mesh, so what is added of them is added of it.
--- Assumes nothing.
 use mathlib.Core.Path.{ap, _∙_}
 use Prim.Native.Nat.{ℕ, _*_}
 use borrow.Author.Needs.{needs}

@@ -1,5 +1,4 @@
 -- `border_report::with_mesh` meets its contract: a small mesh fits the short tables, and every mesh that is not too large the long ones.
--- Assumes nothing.
 use Prim.Native.Nat.{_*_, _≤_}
 use denote.Ref.{now}
 use lib.ListN.{length}

@@ -1,5 +1,4 @@
 -- Four numbers by the place of their condition.
--- Assumes nothing.
 use Prim.Native.Nat.{ℕ, zero, suc}
 use Rattle.border_report.specs.declared.four.Misses.{Misses}
 

@@ -1,5 +1,4 @@
 -- Four points of a row by the place of their condition.
--- Assumes nothing.
 use Prim.Native.Nat.{ℕ, zero, suc}
 use lib.IntN.{ℤ}
 use Rattle.surface.specs.Sizes.{WrittenSize}

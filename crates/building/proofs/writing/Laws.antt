@@ -1,5 +1,4 @@
 -- The places of the output, the turns of the loop that writes it, and the mesh that the tables draw.
--- Assumes nothing.
 use mathlib.Core.Path.{_≡_, refl, ap, _∙_, sym, subst}
 use mathlib.Core.Logic.{⊎-elim}
 use mathlib.Core.List.{List}

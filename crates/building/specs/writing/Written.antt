@@ -1,5 +1,4 @@
 -- The refined points of a range, what the walk to the ends of a face takes, and the output while it is written, face by face.
--- Assumes nothing.
 use mathlib.Core.Path.{_≡_}
 use mathlib.Core.List.{List}
 use Prim.Native.Nat.{ℕ, _+_, _*_, _<_, _≤_}

@@ -1,5 +1,4 @@
 -- The chains of the vertices: each corner leads to the earlier one of its vertex, and each vertex to its highest corner.
--- Assumes nothing.
 use mathlib.Core.Path.{_≡_}
 use mathlib.Core.Bool.{Bool}
 use mathlib.Core.List.{List}

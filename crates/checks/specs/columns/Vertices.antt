@@ -1,5 +1,4 @@
 -- The table of vertices, scratch of the checks: a row of four numbers for each vertex.
--- Assumes nothing.
 use mathlib.Core.Path.{_≡_}
 use mathlib.Core.List.{List}
 use Prim.Native.Nat.{ℕ, _+_, _*_, _<_, _≤_}

@@ -1,5 +1,4 @@
 -- What the column of links holds while edges are checked, and the columns by which its entries are found.
--- Assumes nothing.
 use mathlib.Core.Path.{_≡_}
 use mathlib.Core.Bool.{Bool, true, false}
 use mathlib.Core.List.{List}

@@ -1,5 +1,4 @@
 -- What a header that passes says of a file's lists.
--- Assumes nothing.
 use mathlib.Core.List.{List}
 use Prim.Native.Nat.{ℕ, _≤_}
 use lib.ListN.{length}

@@ -1,5 +1,4 @@
 -- A tally of a list: how often each number stands in it.
--- Assumes nothing.
 use mathlib.Core.Bool.{Bool}
 use mathlib.Core.List.{List}
 use Prim.Native.Nat.{ℕ}

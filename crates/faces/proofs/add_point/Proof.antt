@@ -1,5 +1,4 @@
 -- `faces::add_point` meets its contract: the product and the sum fit.
--- Assumes nothing.
 use mathlib.Core.Path.{_≡_}
 use Prim.Native.Nat.{_+_, _*_, _^_}
 use borrow.Author.Needs.{needs}

@@ -1,5 +1,4 @@
 -- `faces::quotient` meets its contract: 2^30 times 3m is what the weights sum to.
--- Assumes nothing.
 use mathlib.Core.Path.{_≡_, ap, _∙_}
 use Prim.Native.Nat.{ℕ, _*_, _^_}
 use native.Mathlib.Omega.{arith}

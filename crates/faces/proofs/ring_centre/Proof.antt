@@ -1,5 +1,4 @@
 -- `faces::ring_centre` meets its contract: before the turn at j the sums are those of the places below j, with equal weights.
--- Assumes nothing.
 use Prim.Native.Nat.{_-_}
 use mathlib.Core.Path.{_≡_, refl}
 use native.Mathlib.Omega.{arith}

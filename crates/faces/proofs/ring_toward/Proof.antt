@@ -1,6 +1,5 @@
 -- `faces::ring_toward` meets its contract: before the turn at j the sums are those of the places below j, and the last cosine is that of the place
 -- before.
--- Assumes nothing.
 use mathlib.Core.Path.{_≡_, sym, ap, _∙_}
 use Prim.Native.Nat.{ℕ, _+_, _-_, _*_, _<_, _≤_}
 use native.Mathlib.Omega.{arith}

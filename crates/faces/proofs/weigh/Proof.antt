@@ -1,5 +1,4 @@
 -- `faces::weigh` meets its contract: the sums fit, in any order.
--- Assumes nothing.
 use mathlib.Core.Path.{_≡_, _∙_}
 use Prim.Native.Nat.{_*_}
 use native.Mathlib.Omega.{arith}

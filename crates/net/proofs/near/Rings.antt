@@ -1,5 +1,4 @@
 -- The rings of a drawn mesh, as the code goes round them: what the calls of crate faces give of them are the ends and face points of the definitions.
--- Assumes nothing.
 use mathlib.Core.Path.{_≡_, refl, sym, ap, _∙_, subst}
 use mathlib.Core.List.{List}
 use Prim.Native.Nat.{ℕ, zero, suc, _+_, _*_, _≤_, _<_}

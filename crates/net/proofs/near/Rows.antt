@@ -1,5 +1,4 @@
 -- The rows that a net is made from, as they are filled: one row, those of a face, of a vertex, of the corners around.
--- Assumes nothing.
 use mathlib.Core.Path.{_≡_, refl, ap, _∙_}
 use mathlib.Core.Bool.{Bool, true, false, not}
 use mathlib.Core.List.{List}

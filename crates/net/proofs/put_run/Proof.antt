@@ -1,5 +1,4 @@
 -- `net::put_run` meets its contract. The invariant: the numbers of the first r corners are put, and the rows of the face are as they were taken.
--- Assumes nothing.
 use mathlib.Core.Path.{_≡_, _∙_, sym}
 use Prim.Native.Nat.{ℕ, _+_, _-_, _*_, _≤_, _<_}
 use native.Mathlib.Omega.{arith}

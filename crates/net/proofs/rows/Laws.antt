@@ -1,5 +1,4 @@
 -- What the calls of the formulas give is what the definitions of rows and grids have, number by number.
--- Assumes nothing.
 use mathlib.Core.Path.{_≡_, refl, ap, _∙_}
 use mathlib.Core.List.{List, [], _∷_}
 use Prim.Native.Nat.{ℕ, zero, suc, _*_, _-_, _^_, _<_}

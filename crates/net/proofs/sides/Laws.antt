@@ -1,5 +1,4 @@
 -- The faces of the edges at a corner, as the code has them from the rows, are those of the definitions; and so are the sides made from them.
--- Assumes nothing.
 use mathlib.Core.Path.{_≡_, refl, sym, ap, _∙_}
 use Prim.Native.Nat.{ℕ, _+_, _^_, _<_}
 use native.Mathlib.Omega.{arith}

@@ -1,5 +1,4 @@
 -- Where the points of a quad-net stand in the output: x, y, z of each one after the other.
--- Assumes nothing.
 use mathlib.Core.Path.{_≡_}
 use mathlib.Core.List.{List}
 use Prim.Native.Nat.{ℕ, _+_, _*_, _≤_, _<_}

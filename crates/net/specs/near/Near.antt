@@ -1,6 +1,5 @@
 -- The rows that a net is made from, four numbers each: x, y, z and one that is not used. A lane is one place of each row. The first seven rows are
 -- of the corners around, three are of the vertex's ring, and from the tenth on they are of the face's.
--- Assumes nothing.
 use mathlib.Core.Path.{_≡_}
 use mathlib.Core.List.{List}
 use Prim.Native.Nat.{ℕ, _+_, _*_, _≤_, _<_}

@@ -1,5 +1,4 @@
 -- The rows of a side and the two grids, as the code has them, against the definitions.
--- Assumes nothing.
 use mathlib.Core.Path.{_≡_}
 use mathlib.Core.List.{List, []}
 use Prim.Native.Nat.{ℕ, _<_}

@@ -1,5 +1,4 @@
 -- A mesh as the code draws it: the table of its corners, and the table of their refined points on the three axes.
--- Assumes nothing.
 use mathlib.Core.List.{List}
 use Prim.Native.Nat.{ℕ, _*_, _≤_, _<_}
 use lib.ListN.{length}

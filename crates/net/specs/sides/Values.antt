@@ -1,5 +1,4 @@
 -- What the code has of a refined face and of a side of a corner's quad-net, against the definitions.
--- Assumes nothing.
 use mathlib.Core.Path.{_≡_}
 use mathlib.Core.List.{List, [], _∷_}
 use Prim.Native.Nat.{ℕ, _<_}

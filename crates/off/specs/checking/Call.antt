@@ -1,5 +1,4 @@
 -- Lists of an OFF text in own lists and in lent ones, after each part of the checks.
--- Assumes nothing.
 use mathlib.Core.Path.{_≡_}
 use mathlib.Core.List.{List}
 use Prim.Native.Nat.{ℕ, _*_, _≤_}

@@ -1,5 +1,4 @@
 -- What the words of a text are read into: numbers, and own lists that are only as long as the longest accepted ones.
--- Assumes nothing.
 use mathlib.Core.Path.{_≡_}
 use mathlib.Core.Bool.{Bool, true, not}
 use mathlib.Core.List.{List, _++_}

@@ -1,5 +1,4 @@
 -- Where a cursor stands in a text, and what is read there.
--- Assumes nothing.
 use mathlib.Core.Path.{_≡_}
 use mathlib.Core.Bool.{Bool, true, false, _||_}
 use mathlib.Core.List.{List, []}

@@ -1,5 +1,4 @@
 -- A file read from a descriptor: the bytes held, and the length counted.
--- Assumes nothing.
 use mathlib.Core.Path.{_≡_}
 use mathlib.Core.List.{List}
 use Prim.Native.Nat.{ℕ, _+_, _≤_, _<_}

@@ -1,5 +1,4 @@
 -- The lists of a file in lent ones that have room for every mesh.
--- Assumes nothing.
 use mathlib.Core.Path.{_≡_}
 use mathlib.Core.Bool.{true, false}
 use mathlib.Core.List.{List}

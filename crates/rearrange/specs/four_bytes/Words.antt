@@ -1,5 +1,4 @@
 -- Lists of four-byte numbers, low byte first.
--- Assumes nothing.
 use mathlib.Core.Path.{_≡_}
 use mathlib.Core.List.{List}
 use Prim.Native.Nat.{ℕ, _*_, _<_}

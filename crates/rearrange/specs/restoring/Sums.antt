@@ -1,5 +1,4 @@
 -- What the loop over the vertices holds: the sums of the vertex before.
--- Assumes nothing.
 use mathlib.Core.List.{List}
 use Prim.Native.Nat.{ℕ, zero, suc}
 use Rattle.paper.specs.Archive.{sumAt}

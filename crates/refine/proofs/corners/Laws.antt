@@ -1,5 +1,4 @@
 -- The sizes on the way to a refined point, and the refined point from the values that the code has of a corner.
--- Assumes nothing.
 use mathlib.Core.Path.{_≡_, ap, _∙_, sym}
 use mathlib.Core.List.{List}
 use Prim.Native.Nat.{ℕ, _+_, _*_, _^_, _<_, _≤_}

@@ -1,5 +1,4 @@
 -- `refine::fill_face` meets its contract: those of the corners below `c` are put in.
--- Assumes nothing.
 use mathlib.Core.Path.{_≡_}
 use mathlib.Core.Logic.{⊎-elim}
 use Prim.Native.Nat.{_+_, _-_, _≤_, _<_}

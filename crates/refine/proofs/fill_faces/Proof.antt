@@ -1,5 +1,4 @@
 -- `refine::fill_faces` meets its contract: the points of the faces before `f` are those of the table of sums.
--- Assumes nothing.
 use mathlib.Core.Path.{_≡_, _∙_, sym, subst}
 use mathlib.Core.Logic.{⊎-elim}
 use mathlib.Core.List.{List}

@@ -1,6 +1,5 @@
 -- `refine::fill_points` meets its contract: the sums of the faces that are needed stand in the table when the loop over corners takes them. Those of a mesh
 -- of few faces fit the short table, and those of every other mesh the long one.
--- Assumes nothing.
 use Prim.Native.Nat.{ℕ}
 use native.Mathlib.Omega.{arith}
 use borrow.Author.Needs.{needs}

@@ -1,5 +1,4 @@
 -- `refine::mark_vertices` meets its contract: the vertices of the first `k` corners of the range are marked.
--- Assumes nothing.
 use mathlib.Core.Path.{_≡_, refl}
 use Prim.Native.Nat.{_+_, _-_, _≤_}
 use lib.ListN.{length, length-set}

@@ -1,5 +1,4 @@
 -- The sizes of vertices and of the sums of faces, three numbers put into a list, and the table of sums.
--- Assumes nothing.
 use mathlib.Core.Path.{_≡_, ap, _∙_, sym}
 use mathlib.Core.Logic.{⊎-elim}
 use mathlib.Core.List.{List}

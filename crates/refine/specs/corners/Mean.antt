@@ -1,5 +1,4 @@
 -- A refined point as a mean: Σ and three vertices, in grid steps, with weights that sum to 512.
--- Assumes nothing.
 use mathlib.Core.Path.{_≡_}
 use mathlib.Core.List.{List}
 use Prim.Native.Nat.{ℕ, zero, suc, _+_, _-_, _*_, _<_, _≤_}

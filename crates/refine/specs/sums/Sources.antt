@@ -1,5 +1,4 @@
 -- What refined points are computed from, which an accepted mesh gives, and what the tables of sums and of refined points hold.
--- Assumes nothing.
 use mathlib.Core.Path.{_≡_}
 use mathlib.Core.List.{List}
 use Prim.Native.Nat.{ℕ, _+_, _*_, _^_, _<_, _≤_, _/_}

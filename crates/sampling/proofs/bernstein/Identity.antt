@@ -1,6 +1,5 @@
 -- The polynomial that the code evaluates is the Bernstein sum: differences of the rows turn the first weight into the sum of the first two, those of the
 -- columns turn that into the sum of all three.
--- Assumes nothing.
 use mathlib.Core.Path.{_≡_, refl, sym, _∙_}
 use Prim.Native.Nat.{ℕ, _+_}
 use native.Mathlib.Omega.{arith}

@@ -1,5 +1,4 @@
 -- Sizes of differences, products and states, and what the code's structs hold by their bits.
--- Assumes nothing.
 use mathlib.Core.Path.{_≡_, sym, ap, _∙_}
 use Prim.Native.Nat.{ℕ, _+_, _*_, _^_, _≤_}
 use native.Mathlib.Nat.{mul-le-mul, le-trans}

@@ -1,5 +1,4 @@
 -- The Bernstein sum of the definition, over whole numbers: what it is, between which bounds it lies, and what is left of it where a weight is zero.
--- Assumes nothing.
 use mathlib.Core.Path.{_≡_, sym, ap, _∙_, subst}
 use Prim.Native.Nat.{ℕ, zero, suc, _+_, _-_, _*_, _/_, _^_, _≤_, _<_}
 use native.Mathlib.Nat.{pow-zero, pow-suc}

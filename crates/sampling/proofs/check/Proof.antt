@@ -1,5 +1,4 @@
 -- Checks 18, 19, 32 and 33 meet their contract: each stops the chain with its fault or is passed.
--- Assumes nothing.
 use mathlib.Core.Path.{_≡_, sym, ap, _∙_}
 use borrow.Author.Needs.{needs}
 use denote.Ref.{now}

@@ -1,5 +1,4 @@
 -- `sampling::is_whole` meets its contract: each test is one of the parts of fault 33.
--- Assumes nothing.
 use mathlib.Core.Logic.{⊎-elim}
 use native.Mathlib.Omega.{arith}
 use borrow.Author.Needs.{needs}

@@ -1,5 +1,4 @@
 -- `sampling::put_axis` meets its contract: before row k the states are those at k, and the rows before it are written.
--- Assumes nothing.
 use mathlib.Core.Path.{_≡_, sym, ap, _∙_, subst}
 use Prim.Native.Nat.{ℕ, _+_, _-_, _*_, _^_, _≤_}
 use native.Mathlib.Omega.{arith}

@@ -1,5 +1,4 @@
 -- `sampling::put_point` meets its contract: the three places of the point are set.
--- Assumes nothing.
 use borrow.Author.Needs.{needs}
 use mir.Facts.{toZ-ofZ}
 use denote.Ref.{now}

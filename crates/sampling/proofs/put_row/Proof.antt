@@ -1,5 +1,4 @@
 -- `sampling::put_row` meets its contract: after j turns the state is that at j, and the first j samples are written.
--- Assumes nothing.
 use mathlib.Core.Path.{_≡_, sym, ap, _∙_, subst}
 use Prim.Native.Nat.{ℕ, _+_, _-_, _*_, _^_, _≤_, _<_}
 use native.Mathlib.Omega.{arith}

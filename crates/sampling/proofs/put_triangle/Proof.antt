@@ -1,5 +1,4 @@
 -- `sampling::put_triangle` meets its contract: three axes make the list of samples.
--- Assumes nothing.
 use mathlib.Core.Path.{_≡_, sym, subst}
 use mathlib.Core.List.{List}
 use Prim.Native.Nat.{ℕ}

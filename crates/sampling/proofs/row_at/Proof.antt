@@ -1,5 +1,4 @@
 -- `sampling::row_at` meets its contract: after x turns the states are those at x.
--- Assumes nothing.
 use mathlib.Core.Path.{_≡_, sym, ap, _∙_, subst}
 use Prim.Native.Nat.{_-_, _^_, _≤_}
 use native.Mathlib.Omega.{arith}

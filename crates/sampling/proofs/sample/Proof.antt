@@ -1,5 +1,4 @@
 -- `sampling::sample` meets its contract: the refusal and the point as it was, or the sample.
--- Assumes nothing.
 use mathlib.Core.Path.{_≡_, _∙_}
 use borrow.Author.Needs.{needs}
 use Prim.Native.Nat.{_+_, _≤_}

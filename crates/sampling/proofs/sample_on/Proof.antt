@@ -1,5 +1,4 @@
 -- `sampling::sample_on` meets its contract: the value of the row at j is the Bernstein sum.
--- Assumes nothing.
 use borrow.Author.Needs.{needs}
 use denote.Ref.{now}
 use native.Mathlib.Omega.{arith}

@@ -1,5 +1,4 @@
 -- `sampling::sample_triangle` meets its contract: the refusal and the list as it was, or the samples in its beginning.
--- Assumes nothing.
 use mathlib.Core.Path.{_≡_}
 use Prim.Native.Nat.{_≤_}
 use native.Mathlib.Omega.{arith}

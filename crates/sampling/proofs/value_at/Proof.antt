@@ -1,5 +1,4 @@
 -- `sampling::value_at` meets its contract: after x turns the state is that at x.
--- Assumes nothing.
 use mathlib.Core.Path.{_≡_, sym, ap, _∙_, subst}
 use Prim.Native.Nat.{ℕ, _-_, _*_, _^_, _≤_}
 use native.Mathlib.Omega.{arith}

@@ -1,6 +1,5 @@
 -- The quartic Bernstein sum as the code has it: over whole numbers, then as a polynomial in the second and third weight whose coefficients come from
 -- differences of the control points, then by steps of differences from one weight to the next.
--- Assumes nothing.
 use mathlib.Core.Path.{_≡_}
 use Prim.Native.Nat.{ℕ, _+_, _*_, _^_, _≤_}
 use lib.IntN.{ℤ, pos, natAbs, _+ℤ_, _-ℤ_, _*ℤ_}

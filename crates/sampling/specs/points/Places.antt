@@ -1,5 +1,4 @@
 -- Where a triangle's control points stand among the 41.
--- Assumes nothing.
 use Prim.Native.Nat.{ℕ, zero, suc, _+_, _-_, _*_}
 
 -- ---- the b points and the a points of a side's triangle, by the rows inwards and along the row from the head

@@ -1,5 +1,4 @@
 -- Text as a list of bytes: decimal numbers, and text put into a buffer after what stands there.
--- Assumes nothing.
 use mathlib.Core.Path.{_≡_}
 use mathlib.Core.Bool.{cond}
 use mathlib.Core.List.{List, [], _∷_, _++_}

@@ -1,5 +1,4 @@
 -- What the steps of the call ask of each other and give: lists that pass 4 to 9, next corners, and the choice.
--- Assumes nothing.
 use mathlib.Core.Path.{_≡_}
 use mathlib.Core.List.{List}
 use Prim.Native.Nat.{ℕ, _*_, _<_, _≤_}

@@ -1,5 +1,4 @@
 -- Edges by their two ends, the lower first; for each corner the next corner that shares its edge; the partners.
--- Assumes nothing.
 use mathlib.Core.Path.{_≡_}
 use mathlib.Core.List.{List}
 use Prim.Native.Nat.{ℕ, _+_, _-_, _*_, _<_, _≤_, min, max}

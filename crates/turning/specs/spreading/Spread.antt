@@ -1,5 +1,4 @@
 -- Turns spread over the faces: what is known of a round from one face, and of the whole.
--- Assumes nothing.
 use mathlib.Core.Path.{_≡_}
 use mathlib.Core.List.{List}
 use Prim.Native.Nat.{ℕ, _<_}

@@ -1,5 +1,4 @@
 -- The tables of the faces: what filling them asks and gives.
--- Assumes nothing.
 use mathlib.Core.Path.{_≡_}
 use mathlib.Core.List.{List}
 use Prim.Native.Nat.{ℕ, _<_, _≤_}

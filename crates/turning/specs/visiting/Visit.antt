@@ -1,5 +1,4 @@
 -- Turns spread over the faces: states of faces, the queue of those that were reached, and what a visit of one face does.
--- Assumes nothing.
 use mathlib.Core.Path.{_≡_}
 use mathlib.Core.Bool.{Bool, false, not, xor}
 use mathlib.Core.List.{List}

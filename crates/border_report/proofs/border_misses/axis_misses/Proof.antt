@@ -1,5 +1,4 @@
 -- `border_report::border_misses::axis_misses` meets its contract: the rows are read at the places that the table of sides names.
--- Assumes nothing.
 use mathlib.Core.Path.{_≡_, _∙_}
 use Prim.Native.Nat.{ℕ, max}
 use lib.Dec.{lit<}

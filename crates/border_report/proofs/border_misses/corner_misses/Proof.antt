@@ -1,6 +1,5 @@
 -- `border_report::border_misses::corner_misses` meets its contract: the rows have the corner's sides on the three axes, and the answer is the larger of
 -- the misses there.
--- Assumes nothing.
 use mathlib.Core.Path.{_≡_, refl, _∙_}
 use Prim.Native.Nat.{ℕ, _<_}
 use native.Mathlib.Omega.{arith}

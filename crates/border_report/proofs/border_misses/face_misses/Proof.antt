@@ -1,6 +1,5 @@
 -- `border_report::border_misses::face_misses` meets its contract: so far the largest over the corners before the face and over its first j. The next corner's
 -- numbers stand after the corner's own, or at the beginning.
--- Assumes nothing.
 use mathlib.Core.Path.{_≡_, refl, sym, ap, _∙_, subst}
 use mathlib.Core.Logic.{⊎-elim}
 use Prim.Native.Nat.{ℕ, _+_, _-_, _*_, _<_, _≤_}

@@ -1,5 +1,4 @@
 -- `border_report::border_misses::largest` meets its contract: so far the largest over the corners before `start`, which is the first corner of a face.
--- Assumes nothing.
 use mathlib.Core.Path.{_≡_, refl, sym, ap, _∙_}
 use Prim.Native.Nat.{ℕ, zero, suc, _+_, _-_, _*_, _<_, _≤_}
 use native.Mathlib.Omega.{arith}

@@ -1,5 +1,4 @@
 -- `border_report::border_misses::point` meets its contract: what is read is the number of the point on the axis, and a written point fits.
--- Assumes nothing.
 use mathlib.Core.Path.{_∙_}
 use native.Mathlib.Omega.{arith}
 use mir.Syntax.{w32, w64}

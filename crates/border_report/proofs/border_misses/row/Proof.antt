@@ -1,5 +1,4 @@
 -- `border_report::border_misses::row` meets its contract, point by point.
--- Assumes nothing.
 use mathlib.Core.Path.{_≡_}
 use Prim.Native.Nat.{ℕ, zero, suc, _^_}
 use lib.Dec.{lit<}

@@ -1,5 +1,4 @@
 -- `border_report::four::larger_of` meets its contract, condition by condition.
--- Assumes nothing.
 use Prim.Native.Nat.{zero, suc}
 use borrow.Author.Needs.{needs}
 use Rattle.border_report.proofs.four.larger_of.Statement.{statement}

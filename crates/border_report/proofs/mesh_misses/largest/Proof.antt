@@ -1,5 +1,4 @@
 -- `border_report::mesh_misses::largest` meets its contract: the tables draw the whole mesh.
--- Assumes nothing.
 use mathlib.Core.Path.{_∙_}
 use denote.Ref.{now}
 use Rattle.paper.specs.Mesh.{Mesh, meshOf}

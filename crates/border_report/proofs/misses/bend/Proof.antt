@@ -1,5 +1,4 @@
 -- `border_report::misses::bend` meets its contract: points below 2^26 keep every sum and the product within 64 bits.
--- Assumes nothing.
 use mathlib.Core.Path.{refl}
 use Prim.Native.Nat.{_^_, _≤_}
 use native.Mathlib.Omega.{arith}

@@ -1,5 +1,4 @@
 -- `border_report::misses::first_miss` meets its contract: the product fits, and three of it with the bend.
--- Assumes nothing.
 use mathlib.Core.Path.{_≡_, ap, _∙_}
 use Prim.Native.Nat.{_^_, _≤_}
 use native.Mathlib.Omega.{arith}

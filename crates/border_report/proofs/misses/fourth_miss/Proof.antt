@@ -1,5 +1,4 @@
 -- `border_report::misses::fourth_miss` meets its contract: the product fits, and so does its difference from the bend.
--- Assumes nothing.
 use Prim.Native.Nat.{_^_, _≤_}
 use native.Mathlib.Omega.{arith}
 use lib.IntN.{ℤ, pos, natAbs, _-ℤ_, _*ℤ_}

@@ -1,5 +1,4 @@
 -- `border_report::misses::lean` meets its contract: 2^30 + c is at most 2^31, and the two values differ by at most 2^26.
--- Assumes nothing.
 use mathlib.Core.Path.{refl}
 use Prim.Native.Nat.{_^_, _≤_}
 use native.Mathlib.Omega.{arith}

@@ -1,5 +1,4 @@
 -- `border_report::misses::magnitude` meets its contract: the product with the sign is the number without it.
--- Assumes nothing.
 use mathlib.Core.Path.{_≡_}
 use Prim.Native.Nat.{ℕ, _^_, _≤_}
 use lib.Dec.{lit<}

@@ -1,6 +1,5 @@
 -- `border_report::misses::side_misses` meets its contract: each condition has its own function, over the values of the side and the points at its
 -- place of the rows.
--- Assumes nothing.
 use mathlib.Core.Path.{_≡_, _∙_}
 use Prim.Native.Nat.{ℕ, zero, suc, _^_, _≤_}
 use native.Mathlib.Omega.{arith}

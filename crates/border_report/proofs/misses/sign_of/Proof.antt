@@ -1,5 +1,4 @@
 -- `border_report::misses::sign_of` meets its contract: below zero the sign turns the number, else it keeps it.
--- Assumes nothing.
 use mathlib.Core.Path.{_≡_, refl, ap}
 use mathlib.Core.Bool.{Bool, true, false}
 use Prim.Native.Nat.{_*_, suc}

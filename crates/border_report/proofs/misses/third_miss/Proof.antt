@@ -1,5 +1,4 @@
 -- `border_report::misses::third_miss` meets its contract: the products fit, and so do their differences from the bend.
--- Assumes nothing.
 use mathlib.Core.Path.{_≡_, ap, _∙_}
 use Prim.Native.Nat.{_^_, _≤_}
 use native.Mathlib.Omega.{arith}

@@ -1,5 +1,4 @@
 -- `border_report::misses::wide` meets its contract: 32 bits fit 64.
--- Assumes nothing.
 use mir.Syntax.{w32, w64}
 use mir.Facts.{toZ-ofZ, sfits-widen}
 use Rattle.border_report.proofs.misses.wide.Statement.{statement}

@@ -1,5 +1,4 @@
 -- `border_report::page_numbers::number_at` meets its contract: three numbers, then the refusals, then the misses.
--- Assumes nothing.
 use Rattle.border_report.proofs.page_numbers.Laws.{number-line, number-miss}
 use borrow.Author.Needs.{needs}
 use Rattle.border_report.proofs.page_numbers.number_at.Statement.{statement}

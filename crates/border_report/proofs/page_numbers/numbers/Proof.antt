@@ -1,5 +1,4 @@
 -- `border_report::page_numbers::numbers` meets its contract: the numbers before `i` are written.
--- Assumes nothing.
 use Prim.Native.Nat.{_-_, _≤_}
 use lib.ListN.{getD, replicate}
 use Rattle.mesh.proofs.Fills.{Filled, filled-none, filled-step}

@@ -1,5 +1,4 @@
 -- `border_report::page_numbers::read` meets its contract, number by number.
--- Assumes nothing.
 use mathlib.Core.Path.{refl}
 use lib.ListN.{getD}
 use Rattle.border_report.proofs.pages.Lists.{page-same}

@@ -1,5 +1,4 @@
 -- `border_report::page_numbers::read_lines` meets its contract: the lines before `l` are read.
--- Assumes nothing.
 use Prim.Native.Nat.{_+_, _-_, _≤_}
 use mathlib.Core.Path.{refl}
 use lib.ListN.{getD, replicate}

@@ -1,5 +1,4 @@
 -- `border_report::page_numbers::read_misses` meets its contract: the misses before `j` are read.
--- Assumes nothing.
 use Prim.Native.Nat.{_+_, _-_, _≤_}
 use mathlib.Core.Path.{refl}
 use lib.ListN.{getD, replicate}

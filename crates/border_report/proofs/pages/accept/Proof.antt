@@ -1,5 +1,4 @@
 -- `border_report::pages::accept` meets its contract: a page that passes has room for a mesh's corners and borders.
--- Assumes nothing.
 use mathlib.Core.Path.{ap}
 use mathlib.Core.List.{List}
 use Prim.Native.Nat.{ℕ, _+_, _*_}

@@ -1,5 +1,4 @@
 -- `border_report::pages::check` meets its contract: 37, then 38.
--- Assumes nothing.
 use mathlib.Core.Path.{sym, _∙_}
 use Rattle.border_report.proofs.pages.Checks.{many, large, passes}
 use borrow.Author.Needs.{needs}

@@ -1,5 +1,4 @@
 -- `border_report::pages::check_merge` meets its contract: 37 by the exact sum, then 38 of either page.
--- Assumes nothing.
 use mathlib.Core.Path.{sym, _∙_}
 use Rattle.border_report.proofs.pages.Checks.{many-both, large-first, large-second, both-pass}
 use borrow.Author.Needs.{needs}

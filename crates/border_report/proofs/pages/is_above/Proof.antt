@@ -1,5 +1,4 @@
 -- `border_report::pages::is_above` meets its contract, number by number.
--- Assumes nothing.
 use mathlib.Core.Path.{sym, _∙_}
 use Rattle.border_report.proofs.pages.Checks.{above-meshes, above-corners, above-borders, above-refusals, above-misses}
 use borrow.Author.Needs.{needs}

@@ -1,5 +1,4 @@
 -- `border_report::pages::larger_misses` meets its contract, condition by condition.
--- Assumes nothing.
 use Rattle.border_report.proofs.pages.Lists.{four-values}
 use borrow.Author.Needs.{needs}
 use Rattle.border_report.proofs.pages.larger_misses.Statement.{statement}

@@ -1,5 +1,4 @@
 -- `border_report::pages::merge` meets its contract: the checks refuse and the page is as it was, or the two become one.
--- Assumes nothing.
 use mathlib.Core.Path.{sym, ap, _∙_}
 use Rattle.paper.specs.Faults.{stated}
 use Rattle.mesh.proofs.Verdicts.{passed}

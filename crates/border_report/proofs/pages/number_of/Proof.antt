@@ -1,5 +1,4 @@
 -- `border_report::pages::number_of` meets its contract, line by line.
--- Assumes nothing.
 use mathlib.Core.Path.{_≡_, sym, ap}
 use Prim.Native.Nat.{ℕ}
 use lib.ListN.{getD}

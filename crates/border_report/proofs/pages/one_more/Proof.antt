@@ -1,5 +1,4 @@
 -- `border_report::pages::one_more` meets its contract: the lines before `l` are counted.
--- Assumes nothing.
 use Prim.Native.Nat.{ℕ, _+_, _-_, _≤_}
 use mathlib.Core.Path.{ap}
 use lib.ListN.{getD, replicate}

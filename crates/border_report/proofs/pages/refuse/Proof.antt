@@ -1,5 +1,4 @@
 -- `border_report::pages::refuse` meets its contract: a page that passes has room for one more.
--- Assumes nothing.
 use mathlib.Core.Path.{ap}
 use mathlib.Core.List.{List}
 use Prim.Native.Nat.{ℕ, _+_}

@@ -1,5 +1,4 @@
 -- `border_report::pages::some_above` meets its contract: the numbers before `i` are not above 2^40.
--- Assumes nothing.
 use mathlib.Core.Path.{_≡_, refl, sym, _∙_}
 use Prim.Native.Nat.{_≤_, _-_}
 use lib.ListN.{length, drop}

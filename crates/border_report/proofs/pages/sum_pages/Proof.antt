@@ -1,5 +1,4 @@
 -- `border_report::pages::sum_pages` meets its contract: sums of numbers within 2^40 fit.
--- Assumes nothing.
 use mathlib.Core.Path.{refl, _∙_}
 use Prim.Native.Nat.{_+_}
 use Rattle.paper.specs.Report.{merged}

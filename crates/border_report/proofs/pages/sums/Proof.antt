@@ -1,5 +1,4 @@
 -- `border_report::pages::sums` meets its contract: the lines before `l` hold their sums.
--- Assumes nothing.
 use Prim.Native.Nat.{_+_, _-_, _≤_}
 use mathlib.Core.Path.{refl}
 use lib.ListN.{getD, replicate}

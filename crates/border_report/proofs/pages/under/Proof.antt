@@ -1,5 +1,4 @@
 -- `border_report::pages::under` meets its contract: a line has one number.
--- Assumes nothing.
 use mathlib.Core.Path.{_≡_, sym, _∙_}
 use native.Mathlib.Omega.{arith}
 use borrow.Author.Tests.{eq-eqb, ne-eqb}

@@ -1,5 +1,4 @@
 -- `building::writing::face_end` meets its contract: it is as far from the first corner as the face has sides.
--- Assumes nothing.
 use mathlib.Core.Path.{_≡_}
 use mathlib.Core.List.{List}
 use Prim.Native.Nat.{ℕ, _+_, _<_}

@@ -1,5 +1,4 @@
 -- `building::writing::face_start` meets its contract: `start` is a corner of the face until the one before it is none.
--- Assumes nothing.
 use mathlib.Core.Path.{_≡_, _∙_}
 use mathlib.Core.List.{List}
 use Prim.Native.Nat.{ℕ, _≤_, _<_}

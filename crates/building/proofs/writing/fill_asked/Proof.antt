@@ -1,5 +1,4 @@
 -- `building::writing::fill_asked` meets its contract: the vertices of the range are marked, and the corners there are filled.
--- Assumes nothing.
 use mathlib.Core.List.{List}
 use Prim.Native.Nat.{ℕ}
 use native.Mathlib.Omega.{arith}

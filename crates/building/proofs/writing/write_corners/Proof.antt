@@ -1,5 +1,4 @@
 -- `building::writing::write_corners` meets its contract: the corners below `k` of the range are written, on all three axes.
--- Assumes nothing.
 use mathlib.Core.Path.{_≡_, refl, sym, _∙_}
 use Prim.Native.Nat.{ℕ, _+_, _-_, _*_, _<_, _≤_}
 use native.Mathlib.Omega.{arith}

@@ -1,6 +1,5 @@
 -- `building::writing::write_nets` meets its contract: with the refined points of the corners at the vertices of the range's faces the tables
 -- draw the mesh as far as the nets look.
--- Assumes nothing.
 use mathlib.Core.Path.{_≡_, _∙_}
 use Prim.Native.Nat.{_+_, _-_, _≤_, _<_}
 use native.Mathlib.Omega.{arith}

@@ -1,5 +1,4 @@
 -- `faces::formulas::half` meets its contract: the sum fits, and half of it is no larger than the larger of the two.
--- Assumes nothing.
 use mathlib.Core.Path.{refl}
 use Prim.Native.Nat.{_^_}
 use native.Mathlib.Omega.{arith}

@@ -1,5 +1,4 @@
 -- `faces::formulas::mean_of_three` meets its contract: the sums fit, and a third of the last one is no larger than the largest of its terms.
--- Assumes nothing.
 use mathlib.Core.Path.{refl}
 use Prim.Native.Nat.{_^_}
 use native.Mathlib.Omega.{arith}

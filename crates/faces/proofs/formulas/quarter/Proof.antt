@@ -1,5 +1,4 @@
 -- `faces::formulas::quarter` meets its contract: the sums fit, and a quarter of the last one is no larger than the larger of the two.
--- Assumes nothing.
 use mathlib.Core.Path.{refl}
 use Prim.Native.Nat.{_^_}
 use native.Mathlib.Omega.{arith}

@@ -1,5 +1,4 @@
 -- `faces::formulas::toward_of_three` meets its contract: the sums fit, and a ninth of the last one is no larger than the largest of its terms.
--- Assumes nothing.
 use mathlib.Core.Path.{_≡_}
 use Prim.Native.Nat.{_^_}
 use native.Mathlib.Omega.{arith}

@@ -1,5 +1,4 @@
 -- `net::copy::copy` meets its contract. The invariant: i runs of eight points are copied.
--- Assumes nothing.
 use mathlib.Core.Path.{_≡_, refl, subst}
 use Prim.Native.Nat.{ℕ, _+_, _-_, _*_, _≤_}
 use native.Mathlib.Omega.{arith}

@@ -1,5 +1,4 @@
 -- `net::copy::put_four` meets its contract.
--- Assumes nothing.
 use mathlib.Core.Path.{_∙_}
 use Prim.Native.Nat.{_+_}
 use native.Mathlib.Omega.{arith}

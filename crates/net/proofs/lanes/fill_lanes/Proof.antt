@@ -1,5 +1,4 @@
 -- `net::lanes::fill_lanes` meets its contract. The invariant: the first k lanes have their points.
--- Assumes nothing.
 use mathlib.Core.Path.{_≡_, _∙_, sym, subst}
 use Prim.Native.Nat.{ℕ, _-_, _≤_, _<_}
 use native.Mathlib.Omega.{arith}

@@ -1,5 +1,4 @@
 -- `net::lanes::lane_sides` meets its contract: the rings' faces from their rows, and the sides made from them.
--- Assumes nothing.
 use mathlib.Core.Path.{refl}
 use native.Mathlib.Omega.{arith}
 use borrow.Author.Needs.{needs}

@@ -1,5 +1,4 @@
 -- `net::lanes::ring_face` meets its contract: three numbers are read.
--- Assumes nothing.
 use mathlib.Core.Path.{_∙_}
 use native.Mathlib.Omega.{arith}
 use borrow.Author.Needs.{needs}

@@ -1,5 +1,4 @@
 -- `net::near::corners_near` meets its contract: each step leads where the corners' own step does, and every corner on the way has its row.
--- Assumes nothing.
 use Prim.Native.Nat.{_<_}
 use native.Mathlib.Omega.{arith}
 use borrow.Author.Needs.{needs}

@@ -1,5 +1,4 @@
 -- `net::near::take_corner` meets its contract. The invariant: the first i rows are those of the corners around.
--- Assumes nothing.
 use mathlib.Core.Path.{_≡_, refl, sym, _∙_, subst}
 use mathlib.Core.List.{List}
 use Prim.Native.Nat.{ℕ, _+_, _-_, _*_, _≤_, _<_}

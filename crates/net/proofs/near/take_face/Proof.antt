@@ -1,5 +1,4 @@
 -- `net::near::take_face` meets its contract, by cases on the sides.
--- Assumes nothing.
 use mathlib.Core.Path.{sym, _∙_}
 use borrow.Author.Needs.{needs}
 use lib.Dec.{lit<}

@@ -1,6 +1,5 @@
 -- `net::near::take_quad` meets its contract. The invariant: r rows have the points towards the sides from the corner before c on, and the four walkers
 -- stand at the corners of the face in turn, the first of them at the r-th.
--- Assumes nothing.
 use mathlib.Core.Path.{_≡_, refl, _∙_}
 use Prim.Native.Nat.{_+_, _-_, _≤_}
 use native.Mathlib.Omega.{arith}

@@ -1,6 +1,5 @@
 -- `net::near::take_ring` meets its contract. The invariant: r rows have the points towards the sides from the corner before c on, and the walker stands
 -- at the r-th corner.
--- Assumes nothing.
 use mathlib.Core.Path.{_≡_, sym, ap, _∙_}
 use Prim.Native.Nat.{ℕ, _+_, _-_, _*_, _≤_, _<_}
 use native.Mathlib.Omega.{arith}

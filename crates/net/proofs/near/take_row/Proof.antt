@@ -1,5 +1,4 @@
 -- `net::near::take_row` meets its contract.
--- Assumes nothing.
 use borrow.Author.Needs.{needs}
 use mir.Syntax.{w32}
 use mir.Val.{SFits}

@@ -1,5 +1,4 @@
 -- `net::near::take_vertex` meets its contract, by cases on the corners of the vertex: three, four, or any other count.
--- Assumes nothing.
 use mathlib.Core.Path.{_≡_, sym, ap, _∙_}
 use Prim.Native.Nat.{ℕ, _*_, _<_}
 use native.Mathlib.Omega.{arith}

@@ -1,5 +1,4 @@
 -- `net::points::put_a` meets its contract. The invariant: the first i rows of four are placed. One law, `grid-step`, has both grids.
--- Assumes nothing.
 use mathlib.Core.Path.{sym}
 use Prim.Native.Nat.{_+_, _-_, _*_, _≤_}
 use Rattle.net.proofs.points.Laws.{Rowed, grid-start, grid-row, grid-step, grid-end}

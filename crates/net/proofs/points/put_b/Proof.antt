@@ -1,5 +1,4 @@
 -- `net::points::put_b` meets its contract. The invariant: the first i rows of five are placed. One law, `grid-step`, has both grids.
--- Assumes nothing.
 use mathlib.Core.Path.{sym}
 use Prim.Native.Nat.{_+_, _-_, _*_, _≤_}
 use Rattle.net.proofs.points.Laws.{Rowed, grid-start, grid-row, grid-step, grid-end}

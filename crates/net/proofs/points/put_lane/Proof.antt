@@ -1,5 +1,4 @@
 -- `net::points::put_lane` meets its contract: the rows and grids are those of whichever net has these sides, and the two grids are placed one after the other.
--- Assumes nothing.
 use mathlib.Core.Path.{_∙_, subst}
 use mathlib.Core.List.{List}
 use Prim.Native.Nat.{_+_}

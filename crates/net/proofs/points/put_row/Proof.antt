@@ -1,5 +1,4 @@
 -- `net::points::put_row` meets its contract. The invariant: the first j numbers are placed.
--- Assumes nothing.
 use mathlib.Core.Path.{refl, subst}
 use mathlib.Core.List.{List}
 use Prim.Native.Nat.{_+_, _-_, _*_, _≤_, _<_}

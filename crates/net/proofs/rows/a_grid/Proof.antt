@@ -1,5 +1,4 @@
 -- `net::rows::a_grid` meets its contract: the law `a-grid-is` reads what the calls give.
--- Assumes nothing.
 use Rattle.net.proofs.rows.Laws.{written, a-grid-is}
 use Rattle.net.proofs.rows.a_grid.Statement.{statement}
 use Rattle.net.proofs.rows.a_grid.Tie as tie

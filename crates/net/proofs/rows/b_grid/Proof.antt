@@ -1,5 +1,4 @@
 -- `net::rows::b_grid` meets its contract: the law `b-grid-is` reads what the calls give.
--- Assumes nothing.
 use borrow.Author.Needs.{needs}
 use Rattle.net.proofs.rows.Laws.{written, b-grid-is}
 use Rattle.net.proofs.rows.b_grid.Statement.{statement}

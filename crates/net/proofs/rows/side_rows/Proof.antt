@@ -1,5 +1,4 @@
 -- `net::rows::side_rows` meets its contract: each call is given numbers of its size, and the law `rows-of` reads what the calls give.
--- Assumes nothing.
 use Rattle.net.proofs.rows.Laws.{value, value-written, row, rows-of}
 use Rattle.net.proofs.rows.side_rows.Statement.{statement}
 use Rattle.net.proofs.rows.side_rows.Tie as tie

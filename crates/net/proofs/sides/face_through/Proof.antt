@@ -1,5 +1,4 @@
 -- `net::sides::face_through` meets its contract: the points are read, and the law `through` reads what the formulas give.
--- Assumes nothing.
 use borrow.Author.Needs.{needs}
 use Rattle.surface.specs.Points.{pointAt}
 use Rattle.faces.proofs.Few.{read}

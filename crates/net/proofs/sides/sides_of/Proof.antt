@@ -1,5 +1,4 @@
 -- `net::sides::sides_of` meets its contract: each side is made from numbers of its sizes, which are those of the definitions.
--- Assumes nothing.
 use mathlib.Core.Path.{_≡_, _∙_}
 use Prim.Native.Nat.{ℕ, _<_}
 use lib.Dec.{lit<}

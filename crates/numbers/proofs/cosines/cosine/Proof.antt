@@ -1,5 +1,4 @@
 -- `cosines::cosine` meets its contract: the array holds the rows of the table with zeros after them.
--- Assumes nothing.
 use mathlib.Core.Path.{ap, _∙_}
 use mathlib.Core.List.{List, []}
 use Prim.Native.Nat.{_-_}

@@ -1,5 +1,4 @@
 -- `cosines::rows` meets its contract: the constant is the table, each row with the places of the last.
--- Assumes nothing.
 use mathlib.Core.Path.{refl}
 use Rattle.paper.specs.Cosines.{table}
 use Rattle.numbers.specs.Stored.{stored}

@@ -1,5 +1,4 @@
 -- `refine::corners::fill_corner` meets its contract: the values of the calls are the corner's point, one axis after the other.
--- Assumes nothing.
 use mathlib.Core.Path.{_≡_, _∙_}
 use mathlib.Core.List.{List}
 use Prim.Native.Nat.{ℕ, _+_, _*_, _^_, _≤_, _<_}

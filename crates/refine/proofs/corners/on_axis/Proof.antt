@@ -1,5 +1,4 @@
 -- V on one axis meets its contract: the three coordinates are small, as a refined point asks.
--- Assumes nothing.
 use mathlib.Core.Path.{_∙_}
 use Prim.Native.Nat.{ℕ, _≤_, _<_}
 use borrow.Author.Needs.{needs}

@@ -1,5 +1,4 @@
 -- `refine::corners::read_face` meets its contract: the numbers are those of the row.
--- Assumes nothing.
 use mathlib.Core.Path.{_≡_, refl}
 use mathlib.Core.List.{List}
 use Prim.Native.Nat.{ℕ, _+_, _*_}

@@ -1,5 +1,4 @@
 -- A refined point meets its contract: every step fits by the sizes of the coordinates.
--- Assumes nothing.
 use mathlib.Core.Path.{_∙_}
 use borrow.Author.Needs.{needs}
 use mir.Syntax.{w32}

@@ -1,5 +1,4 @@
 -- `refine::sums::any_marked` meets its contract: the answer tells whether one of the first `j` corners has its vertex marked.
--- Assumes nothing.
 use mathlib.Core.Path.{_≡_, refl}
 use mathlib.Core.Logic.{⊎-elim}
 use Prim.Native.Nat.{_+_, _-_, _≤_}

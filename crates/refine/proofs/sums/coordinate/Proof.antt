@@ -1,5 +1,4 @@
 -- The vertex of a corner meets its contract: the coordinate is in the list, and fits.
--- Assumes nothing.
 use mathlib.Core.Path.{refl}
 use Prim.Native.Nat.{_^_}
 use native.Mathlib.Omega.{arith}

@@ -1,5 +1,4 @@
 -- `refine::sums::fill_sums` meets its contract: the sums of the faces before `f` that are needed are put in.
--- Assumes nothing.
 use mathlib.Core.Path.{_≡_, refl, sym, subst}
 use mathlib.Core.List.{List}
 use mathlib.Core.Logic.{⊎-elim}

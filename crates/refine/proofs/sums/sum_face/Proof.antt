@@ -1,5 +1,4 @@
 -- `refine::sums::sum_face` meets its contract: `x`, `y` and `z` are the sums of the vertices passed, and small; then they are put at their places.
--- Assumes nothing.
 use mathlib.Core.Path.{_≡_, ap, _∙_, sym}
 use Prim.Native.Nat.{ℕ, _+_, _-_, _*_, _≤_, _<_}
 use native.Mathlib.Omega.{arith}

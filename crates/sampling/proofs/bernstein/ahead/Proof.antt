@@ -1,5 +1,4 @@
 -- `sampling::bernstein::ahead` meets its contract: the sums fit.
--- Assumes nothing.
 use Prim.Native.Nat.{_^_, _≤_}
 use native.Mathlib.Omega.{arith}
 use lib.IntN.{ℤ, pos, natAbs, _+ℤ_, _*ℤ_}

@@ -1,5 +1,4 @@
 -- `sampling::bernstein::next` meets its contract, state by state.
--- Assumes nothing.
 use borrow.Author.Needs.{needs}
 use Rattle.sampling.specs.bernstein.Sums.{stepsOf}
 use Rattle.sampling.proofs.bernstein.next.Statement.{statement}

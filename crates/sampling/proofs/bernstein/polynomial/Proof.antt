@@ -1,5 +1,4 @@
 -- `sampling::bernstein::polynomial` meets its contract: sixteenfold twice, the differences fit.
--- Assumes nothing.
 use mathlib.Core.Path.{sym, subst}
 use Prim.Native.Nat.{_^_}
 use borrow.Author.Needs.{needs}

@@ -1,5 +1,4 @@
 -- `sampling::bernstein::rounded` meets its contract: the quotient is no larger than the control points.
--- Assumes nothing.
 use mathlib.Core.Path.{_≡_, _∙_, ap}
 use Prim.Native.Nat.{ℕ, _^_, _≤_}
 use native.Mathlib.Nat.{pow-le-pow-left, mul-le-mul-left, le-trans, one-le-pow}

@@ -1,5 +1,4 @@
 -- `sampling::bernstein::row` meets its contract: the numbers keep their bits.
--- Assumes nothing.
 use Prim.Native.Nat.{_^_}
 use lib.Dec.{lit≤}
 use mir.Facts.{toZ-ofZ}

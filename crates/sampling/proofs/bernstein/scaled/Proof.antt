@@ -1,5 +1,4 @@
 -- `sampling::bernstein::scaled` meets its contract, row by row.
--- Assumes nothing.
 use borrow.Author.Needs.{needs}
 use Rattle.sampling.specs.bernstein.Sums.{scaledOf}
 use Rattle.sampling.proofs.bernstein.scaled.Statement.{statement}

@@ -1,5 +1,4 @@
 -- `sampling::bernstein::slopes` meets its contract, row by row.
--- Assumes nothing.
 use borrow.Author.Needs.{needs}
 use Rattle.sampling.specs.bernstein.Sums.{slopesOf}
 use Rattle.sampling.proofs.bernstein.slopes.Statement.{statement}

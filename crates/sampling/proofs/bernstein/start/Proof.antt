@@ -1,5 +1,4 @@
 -- `sampling::bernstein::start` meets its contract: the coefficients taper, so they fit.
--- Assumes nothing.
 use mathlib.Core.Path.{sym, ap, _∙_, subst}
 use Prim.Native.Nat.{_^_}
 use lib.Dec.{lit≤}

@@ -1,5 +1,4 @@
 -- `sampling::bernstein::weighted` meets its contract: the products fit.
--- Assumes nothing.
 use Prim.Native.Nat.{_^_, _≤_}
 use lib.Dec.{lit<, lit≤}
 use lib.IntN.{ℤ, natAbs, _*ℤ_}

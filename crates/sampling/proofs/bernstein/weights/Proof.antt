@@ -1,5 +1,4 @@
 -- `sampling::bernstein::weights` meets its contract: the powers of a number up to 16 fit.
--- Assumes nothing.
 use mathlib.Core.Path.{_≡_}
 use Prim.Native.Nat.{ℕ, _*_, _≤_}
 use native.Mathlib.Omega.{arith}

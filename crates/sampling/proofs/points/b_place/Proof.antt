@@ -1,5 +1,4 @@
 -- `sampling::points::b_place` meets its contract, side by side.
--- Assumes nothing.
 use mathlib.Core.Path.{refl}
 use native.Mathlib.Omega.{arith}
 use borrow.Author.Needs.{needs}

@@ -1,5 +1,4 @@
 -- `sampling::points::control_points` meets its contract, row by row.
--- Assumes nothing.
 use mathlib.Core.Path.{_≡_, refl, sym, _∙_}
 use borrow.Author.Needs.{needs}
 use lib.Dec.{lit≤}

@@ -1,5 +1,4 @@
 -- `sampling::points::number` meets its contract: 18 keeps the place within the list, 19 the number within ±2^27.
--- Assumes nothing.
 use native.Mathlib.Omega.{arith}
 use borrow.Author.Needs.{needs}
 use denote.Ref.{now}
