@@ -26,6 +26,7 @@ use Rattle.paper.specs.Turning.{turnedMesh, edgeFaults, inSteps, connect
 use Rattle.paper.specs.CFace.{BuildCall, PreviewCall}
 use Rattle.paper.specs.Borders.{Output, outputAt, Wrote, outputOf, Holds, written, mostMiss, beside, Borders, Smooth}
 use Rattle.paper.specs.Sampling.{Weights, weights, onAxis, Sampled, TriangleSampled, sideNumber, netIn, Alike, controlPoint, Leaves, Between, rowStart}
+use Rattle.paper.specs.Triangles.{apex, foot, pointNumber, sampleNumber, pointList, triangleList, Triangulated, TrianglesCounted, ClosedMesh, Spot}
 use Rattle.paper.specs.Report.{Once, Offered, verdictIn, zeroPage, mostMeshes, conditions, pageVerdict, run, pageOf, AddsOne, Reordered, MergedTo}
 use Rattle.paper.specs.Mirror.{Mirror}
 use Rattle.paper.specs.Accuracy.{Same, Accurate}
@@ -39,6 +40,7 @@ use Rattle.paper.specs.declared.Irregular.{Irregular}
 use Rattle.paper.specs.declared.Move.{Move}
 use Rattle.paper.specs.declared.Reported.{Reported}
 use Rattle.paper.specs.declared.Summary.{Summary}
+use Rattle.paper.specs.declared.Triangles.{Triangles}
 use Rattle.paper.specs.declared.Turned.{Turned}
 
 -- ---- "Numbers used": the four rules of the cosine table, of every row
@@ -231,6 +233,47 @@ TrianglesSample =
     → (i j k : ℕ) → i + j + k ≡ N → (old′ point : List ℤ) (r : Answer) → Sampled numbers side (weights i j k N) old′ r point
     → (r ≡ Done) × (point ≡ take 3 (drop (3 * (rowStart N k + j)) out))
 
+-- ---- beyond the requests: a call for triangles on all corners that is not refused leaves points and triangles of which this holds
+abbrev pub Whole : (Mesh → List ℕ → List ℤ → List ℕ → Type 0) → Type 0
+Whole says =
+    (M : Mesh) (links levels : List ℕ) (old : List ℤ) (old′ : List ℕ) (r : Triangles) (points : List ℤ) (triangles : List ℕ)
+    → Triangulated M links levels 0 (cornerCount M) old old′ r points triangles → r .answer ≡ Done
+    → says M levels (take (r .points) points) (take (r .triangles) triangles)
+
+-- the triangles close: each directed edge occurs once, and its reverse occurs
+abbrev pub SurfaceCloses : Type 0
+SurfaceCloses = Whole (λ M levels points triangles. ClosedMesh triangles)
+
+-- their numbers are those of points, and every point is a corner of one
+abbrev pub PointsUsed : Type 0
+PointsUsed =
+    Whole (λ M levels points triangles. ((x : ℕ) → x < length triangles → 3 * getD triangles x 0 + 2 < length points)
+    × ((q : ℕ) → 3 * q < length points → (x : ℕ) × (x < length triangles) × (getD triangles x 0 ≡ q)))
+
+-- each point is the sample at its weights, whichever net and side it is seen from
+abbrev pub PointsSample : Type 0
+PointsSample =
+    Whole (λ M levels points triangles. (c : ℕ) (s : Side) (k j axis : ℕ) → Spot M levels c s k j → axis < 3
+    → getD points (3 * pointNumber M levels c s k j + axis) (pos 0) ≡ sampleNumber M levels c s k j axis)
+
+-- between a row of p segments and one of p points the strip is the plain one: so it is everywhere where all levels are the same
+abbrev pub PlainStrips : Type 0
+PlainStrips = (s : Side) (p : ℕ) → ((j : ℕ) → j < p → apex s p p j ≡ j) × ((i : ℕ) → i + 1 < p → foot s p p i ≡ i + 1)
+
+-- the lists of a range and of the next one are those of both
+abbrev pub RangesJoin : Type 0
+RangesJoin =
+    (M : Mesh) (levels : List ℕ) (first count more : ℕ)
+    → (pointList M levels first (count + more) ≡ pointList M levels first count ++ pointList M levels (first + count) more)
+    × (triangleList M levels first (count + more) ≡ triangleList M levels first count ++ triangleList M levels (first + count) more)
+
+-- a call with room for what a counting call gave is not refused
+abbrev pub CountsServe : Type 0
+CountsServe =
+    (M : Mesh) (links levels : List ℕ) (first count : ℕ) (n r : Triangles) (old points : List ℤ) (old′ triangles : List ℕ)
+    → TrianglesCounted M links levels first count n → n .answer ≡ Done → n .points ≤ length old → n .triangles ≤ length old′
+    → Triangulated M links levels first count old old′ r points triangles → r .answer ≡ Done
+
 -- ---- L13: the model that a call leaves passes 10 and 11
 abbrev pub TurnedPasses : Type 0
 TurnedPasses = (M lists : Mesh) (old out : List ℕ) (r : Turned) → TurnedTo M old r lists out → r .answer ≡ Done → edgeFaults lists ≡ sound
@@ -345,6 +388,12 @@ pub record Claims : Type 0 where
   pub sample-ends : SampleEnds
   pub samples-between : SamplesBetween
   pub triangles-sample : TrianglesSample
+  pub surface-closes : SurfaceCloses
+  pub points-used : PointsUsed
+  pub points-sample : PointsSample
+  pub plain-strips : PlainStrips
+  pub ranges-join : RangesJoin
+  pub counts-serve : CountsServe
   pub turned-passes : TurnedPasses
   pub turns-decide : TurnsDecide
   pub one-choice : OneChoice

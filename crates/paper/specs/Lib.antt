@@ -45,6 +45,7 @@ pub mod Preview
 pub mod Turning
 pub mod Borders
 pub mod Sampling
+pub mod Triangles
 pub mod Report
 pub mod CFace
 pub mod Mirror
