@@ -1,0 +1,25 @@
+-- A corner's own points in a lent list: the shape of a mesh's corner, and points that are put.
+-- Assumes nothing.
+use mathlib.Core.Path.{_≡_}
+use mathlib.Core.List.{List}
+use Prim.Native.Nat.{ℕ, _+_, _-_, _*_}
+use lib.IntN.{ℤ}
+use Rattle.paper.specs.Mesh.{Mesh}
+use Rattle.paper.specs.Net.{side0, side1}
+use Rattle.paper.specs.Triangles.{level, segments, groupSize, coordinateAt}
+use Rattle.triangles.specs.declared.writing.Shape.{Shape}
+use Rattle.triangles.specs.Rows.{Fills}
+
+-- the shape of corner c
+pub record ShapeOf (M : Mesh) (levels : List ℕ) (c : ℕ) (s : Shape) : Type 0 where
+  pub vertex : s .vertex ≡ groupSize M levels c 0
+  pub edge : s .edge ≡ groupSize M levels c 1
+  pub face : s .face ≡ groupSize M levels c 2
+  pub first : s .first ≡ segments M levels c side0
+  pub second : s .second ≡ segments M levels c side1
+  pub levelled : s .level ≡ level levels c
+
+-- the points from number a to number b of the list stand from `at` to `to`
+pub record Pointed (M : Mesh) (levels : List ℕ) (a b at to : ℕ) (old out : List ℤ) : Type 0 where
+  pub ends : to ≡ at + 3 * (b - a)
+  pub fills : Fills (λ x. coordinateAt M levels (3 * a + x)) at (3 * (b - a)) old out
