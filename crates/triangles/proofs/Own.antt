@@ -7,18 +7,26 @@ use Prim.Native.Nat.{ℕ, zero, suc, _+_, _-_, _*_, _/_, _%_, _≤_, _<_}
 use native.Mathlib.Omega.{arith}
 use lib.Dec.{ltb, eqb}
 use borrow.Author.Tests.{ltb-true, ltb-false}
-use lib.ListN.{length, getD}
+use lib.ListN.{length, getD, take, drop, length-take, length-drop}
+use lib.Seq.{getD-take, getD-drop, ext-getD}
 use lib.IntN.{ℤ, pos}
 use Rattle.paper.specs.Mesh.{Mesh, cornerCount}
 use Rattle.paper.specs.Corners.{sumOf, startOf, faceOf}
 use Rattle.paper.specs.Scan.{pickN}
-use Rattle.paper.specs.Links.{vertexOf, lowest}
-use Rattle.paper.specs.Faults.{Accepted}
+use Rattle.paper.specs.Links.{vertexOf, lowest, linkTable}
+use Rattle.paper.specs.Numbers.{rounded}
+use Rattle.paper.specs.Refined.{refinedOf}
+use Rattle.paper.specs.Floats.{netVerdict}
+use Rattle.paper.specs.Faults.{sound, Accepted}
+use Rattle.paper.specs.Net as quad
 use Rattle.paper.specs.Net.{Side, side0, side1, side2, side3}
-use Rattle.paper.specs.Calls.{nets}
+use Rattle.paper.specs.Calls.{perCorner, numberAt, nets}
 use Rattle.paper.specs.Sampling.{onAxis, sampleAt, weights, sideAt}
 use Rattle.paper.specs.Triangles.{groups, vertexOwner, edgeOwner, faceOwner, level, segments, groupSize, pointGroups, numberIn, turnWeights, sampleNumber, owned, ownNumber, coordinateAt, pointsBefore}
 use Rattle.mesh.proofs.Scans.{ways}
+use Rattle.mesh.proofs.Links.{values-length, values-at}
+use Rattle.borders.proofs.Ranges.{ranges}
+use Rattle.floats.proofs.nets.Nets.{nets-pass}
 use Rattle.mesh.proofs.Faces.{Held, held, start-next, start-all}
 use Rattle.triangles.specs.declared.writing.Shape.{Shape}
 use Rattle.triangles.specs.Rows.{Fills}
@@ -287,3 +295,41 @@ module _ (M : Mesh) (levels : List ℕ) (ok : Accepted M) (leveled : Leveled M l
             (fills-of (λ y. coordinateAt M levels (3 * pointsBefore M levels c + y)) at (3 * shapeSize s) old out room
             (λ f values. reaches-part (r f (shape-aim at f values)) (λ t p. shape-place at t (p .0) (p .1))));
       }
+
+-- ---- the nets of a range, one by one
+number-part : (M : Mesh) (first c j : ℕ) → j < perCorner → numberAt rounded M first (perCorner * c + j) ≡ numberAt rounded M (first + c) (0 + j)
+unfolding numberAt
+number-part M first c j h =
+    let p : (perCorner * c + j) % 3 ≡ (0 + j) % 3 = omega arith in
+    let q : first + (perCorner * c + j) / perCorner ≡ first + c + (0 + j) / perCorner = omega arith in
+    let r : (perCorner * c + j) % perCorner / 3 ≡ (0 + j) % perCorner / 3 = omega arith in
+    λ z. getD (quad.net (refinedOf rounded M (p z)) (q z)) (r z) (pos 0)
+
+pub nets-length : (M : Mesh) (first count : ℕ) → length (nets M first count) ≡ perCorner * count
+unfolding nets
+nets-length M first count = values-length _ 0 (perCorner * count)
+
+module _ (M : Mesh) (first count c : ℕ) (h : c < count) where
+  abbrev part : List ℤ
+  part = take perCorner (drop (perCorner * c) (nets M first count))
+
+  part-length : length part ≡ perCorner
+  part-length = length-take perCorner (drop (perCorner * c) (nets M first count)) ∙ omega (arith, length-drop (perCorner * c) (nets M first count), (nets-length M first count))
+
+  pub net-part : part ≡ nets M (first + c) 1
+  unfolding nets
+  net-part =
+      ext-getD (pos 0) part (nets M (first + c) 1) (part-length ∙ sym (values-length _ 0 (perCorner * 1)))
+      (λ j l.
+      let b : j < perCorner = omega (arith, part-length) in
+      getD-take perCorner (drop (perCorner * c) (nets M first count)) j (pos 0) b
+      ∙ getD-drop (perCorner * c) (nets M first count) j (pos 0)
+      ∙ values-at (numberAt rounded M first) (pos 0) 0 (perCorner * count) (perCorner * c + j) (omega arith)
+      ∙ ap (numberAt rounded M first) (let z : 0 + (perCorner * c + j) ≡ perCorner * c + j = omega arith in z)
+      ∙ number-part M first c j b
+      ∙ sym (values-at (numberAt rounded M (first + c)) (pos 0) 0 (perCorner * 1) j (omega arith)))
+
+  pub net-sound : Accepted M → first + count ≤ cornerCount M → netVerdict part ≡ sound
+  net-sound ok l =
+      nets-pass M (linkTable M) first count (nets M first count) (nets M first count)
+      (ranges M ok first count (omega arith) l (nets M first count) (nets-length M first count)) c h

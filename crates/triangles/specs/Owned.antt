@@ -2,13 +2,15 @@
 -- Assumes nothing.
 use mathlib.Core.Path.{_≡_}
 use mathlib.Core.List.{List}
-use Prim.Native.Nat.{ℕ, _+_, _-_, _*_}
+use Prim.Native.Nat.{ℕ}
 use lib.IntN.{ℤ}
 use Rattle.paper.specs.Mesh.{Mesh}
 use Rattle.paper.specs.Net.{side0, side1}
+use Rattle.paper.specs.Calls.{nets}
 use Rattle.paper.specs.Triangles.{level, segments, groupSize, coordinateAt}
 use Rattle.triangles.specs.declared.writing.Shape.{Shape}
-use Rattle.triangles.specs.Rows.{Fills}
+use Rattle.triangles.specs.Rows.{Stands}
+use Rattle.triangles.specs.Meshed.{Of}
 
 -- the shape of corner c
 pub record ShapeOf (M : Mesh) (levels : List ℕ) (c : ℕ) (s : Shape) : Type 0 where
@@ -20,6 +22,11 @@ pub record ShapeOf (M : Mesh) (levels : List ℕ) (c : ℕ) (s : Shape) : Type 0
   pub levelled : s .level ≡ level levels c
 
 -- the points from number a to number b of the list stand from `at` to `to`
-pub record Pointed (M : Mesh) (levels : List ℕ) (a b at to : ℕ) (old out : List ℤ) : Type 0 where
-  pub ends : to ≡ at + 3 * (b - a)
-  pub fills : Fills (λ x. coordinateAt M levels (3 * a + x)) at (3 * (b - a)) old out
+abbrev pub Pointed : Mesh → List ℕ → ℕ → ℕ → ℕ → ℕ → List ℤ → List ℤ → Type 0
+Pointed M levels = Stands (coordinateAt M levels)
+
+-- the nets of a mesh's corners from `first` on
+pub record Netted (corners low table levels : List ℕ) (numbers : List ℤ) (first count : ℕ) : Type 0 where
+  pub mesh : Mesh
+  pub is : Of mesh corners low table levels
+  pub numbers-are : numbers ≡ nets mesh first count

@@ -54,12 +54,19 @@ returns c =
     let s : tie.Start = search in
     let h : tie.After-shape-of = search in
     let z : tie.After-size = search in
-    let w : tie.After-put-net = search in
-    λ M o e.
-    pointed M (s .args .levels .now) (o .accepted) (o .leveled) (s .args .c) (below-of M o (s .args .c) (s .pre .0 .1)) (h .shape-of .result)
-    (h .shape-of .ensures .1 M o) (s .args .at) _ (s .args .points .now) _ (room-of s (h .shape-of .result) (h .shape-of .ensures .1))
-    (omega (arith, z .size .ensures .0))
-    (λ f aim. w .put-net .ensures f (subst (λ (n : List ℤ). ShapeAim n (h .shape-of .result) (s .args .at) f) (sym e) aim))
+    let w : tie.After-put-net = search in (
+      λ M o.
+          omega (
+            arith,
+            z .size .ensures .0,
+            all-is M (s .args .levels .now) (o .accepted) (o .leveled) (s .args .c) (below-of M o (s .args .c) (s .pre .0 .1)) (h .shape-of .result) (h .shape-of .ensures .1 M o),
+          ),
+      λ M o e.
+          pointed M (s .args .levels .now) (o .accepted) (o .leveled) (s .args .c) (below-of M o (s .args .c) (s .pre .0 .1)) (h .shape-of .result)
+          (h .shape-of .ensures .1 M o) (s .args .at) _ (s .args .points .now) _ (room-of s (h .shape-of .result) (h .shape-of .ensures .1))
+          (omega (arith, z .size .ensures .0))
+          (λ f aim. w .put-net .ensures f (subst (λ (n : List ℤ). ShapeAim n (h .shape-of .result) (s .args .at) f) (sym e) aim)),
+    )
 
 pub put-points-spec : {M : Type 1} → statement M
 put-points-spec = tie.close (tie.spec (λ c κs. search needs) size-requires put-net-requires mul-result add-result (λ c. search needs) returns)
