@@ -68,7 +68,7 @@ fn find_link(table: &[u16], links: &[u16]) -> Answer
 }
 
 // Check 16: the range is not empty and ends within the corners. The sum is formed of two numbers that are no larger than the corner count.
-fn check_range(first: usize, count: usize, corners: usize) -> Answer
+pub fn check_range(first: usize, count: usize, corners: usize) -> Answer
     requires { ⌜ corners ≤ mostCorners ⌝ }
     ensures { λ r. ⌜ stated r ≡ single 16 (eqb count 0 || ltb corners (first + count)) first ⌝ }
 {

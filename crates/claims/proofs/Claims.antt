@@ -21,6 +21,8 @@ use Rattle.off_examples.proofs.Theorems.{no-six, missing-word, whole-text}
 use Rattle.preview.proofs.Theorems.{as-building, previews-build, previews-from-c}
 use Rattle.touching.proofs.Untouched.{untouched}
 use Rattle.sampling.proofs.Theorems.{samples-close, rays-agree, sample-ends, samples-between, triangles-sample}
+use Rattle.triangles.proofs.Calls.{surface-closes, points-used, points-sample, plain-strips, ranges-join, counts-serve}
+use Rattle.triangles.proofs.Tangents.{tangents-close}
 use Rattle.turning.proofs.Theorems.{turned-passes, turns-decide, one-choice, turned-twice, turned-back, nothing-turned, none-farther}
 use Rattle.turning.proofs.Listing.{listing-rises}
 use Rattle.border_report.proofs.page_laws.Once.{borders-once}
@@ -64,6 +66,13 @@ claims = record {
   sample-ends = sample-ends;
   samples-between = samples-between;
   triangles-sample = triangles-sample;
+  surface-closes = surface-closes;
+  points-used = points-used;
+  points-sample = points-sample;
+  plain-strips = plain-strips;
+  ranges-join = ranges-join;
+  counts-serve = counts-serve;
+  tangents-close = tangents-close;
   turned-passes = turned-passes;
   turns-decide = turns-decide;
   one-choice = one-choice;

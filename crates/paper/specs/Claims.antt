@@ -25,6 +25,8 @@ use Rattle.paper.specs.Turning.{turnedMesh, edgeFaults, inSteps, connect
 use Rattle.paper.specs.CFace.{BuildCall, PreviewCall}
 use Rattle.paper.specs.Borders.{Output, outputAt, Wrote, outputOf, Holds, written, mostMiss, beside, Borders, Smooth}
 use Rattle.paper.specs.Sampling.{Weights, weights, onAxis, Sampled, TriangleSampled, sideNumber, netIn, Alike, controlPoint, Leaves, Between, rowStart}
+use Rattle.paper.specs.Triangles.{apex, foot, pointNumber, sampleNumber, pointList, triangleList, Triangulated, TrianglesCounted, ClosedMesh, Spot}
+use Rattle.paper.specs.Tangents.{tangentAlong}
 use Rattle.paper.specs.Report.{Once, Offered, verdictIn, zeroPage, mostMeshes, conditions, pageVerdict, run, pageOf, AddsOne, Reordered, MergedTo}
 use Rattle.paper.specs.Mirror.{Mirror}
 use Rattle.paper.specs.Accuracy.{Same, Accurate}
@@ -38,6 +40,7 @@ use Rattle.paper.specs.declared.Irregular.{Irregular}
 use Rattle.paper.specs.declared.Move.{Move}
 use Rattle.paper.specs.declared.Reported.{Reported}
 use Rattle.paper.specs.declared.Summary.{Summary}
+use Rattle.paper.specs.declared.Triangles.{Triangles}
 use Rattle.paper.specs.declared.Turned.{Turned}
 
 -- ---- "Numbers used": the four rules of the cosine table, of every row
@@ -230,6 +233,59 @@ TrianglesSample =
     → (i j k : ℕ) → i + j + k ≡ N → (old′ point : List ℤ) (r : Answer) → Sampled numbers side (weights i j k N) old′ r point
     → (r ≡ Done) × (point ≡ take 3 (drop (3 * (rowStart N k + j)) out))
 
+-- ---- beyond the requests, of the triangles of the whole surface: `Whole says` is that `says` holds of the points and the triangles that a call for all corners
+-- has written, whatever the mesh and its levels, if the call is not refused
+abbrev pub Whole : (Mesh → List ℕ → List ℤ → List ℕ → Type 0) → Type 0
+Whole says =
+    (M : Mesh) (links levels : List ℕ) (old : List ℤ) (old′ : List ℕ) (r : Triangles) (points : List ℤ) (triangles : List ℕ)
+    → Triangulated M links levels 0 (cornerCount M) old old′ r points triangles → r .answer ≡ Done
+    → says M levels (take (r .points) points) (take (r .triangles) triangles)
+
+-- the triangles close: wherever one triangle has an edge from point p to point q, exactly one has the edge from q to p. So no gap is left between two of them,
+-- no edge has a third, and all are wound in the same direction
+abbrev pub SurfaceCloses : Type 0
+SurfaceCloses = Whole (λ M levels points triangles. ClosedMesh triangles)
+
+-- the indices fit the points: each index is the number of a point that was written, and each point is a corner of some triangle
+abbrev pub PointsUsed : Type 0
+PointsUsed =
+    Whole (λ M levels points triangles. ((x : ℕ) → x < length triangles → 3 * getD triangles x 0 + 2 < length points)
+    × ((q : ℕ) → 3 * q < length points → (x : ℕ) × (x < length triangles) × (getD triangles x 0 ≡ q)))
+
+-- the points lie on the surface: take any corner's net, any of its sides, and any place there; the point with that place's number is what sampling that side
+-- of that net at that place's weights gives. So a point that several nets share is the sample of each of them
+abbrev pub PointsSample : Type 0
+PointsSample =
+    Whole (λ M levels points triangles. (c : ℕ) (s : Side) (k j axis : ℕ) → Spot M levels c s k j → axis < 3
+    → getD points (3 * pointNumber M levels c s k j + axis) (pos 0) ≡ sampleNumber M levels c s k j axis)
+
+-- where two nets have one level nothing is irregular: between a row of p segments and a row of p points, segment j is joined to point j. So a mesh whose levels
+-- are all the same has the plain grid that `sample_triangle` has
+abbrev pub PlainStrips : Type 0
+PlainStrips = (s : Side) (p : ℕ) → ((j : ℕ) → j < p → apex s p p j ≡ j) × ((i : ℕ) → i + 1 < p → foot s p p i ≡ i + 1)
+
+-- a surface can be made in parts: what a call writes for a range of corners, followed by what a call writes for the next range, is what one call writes for both
+abbrev pub RangesJoin : Type 0
+RangesJoin =
+    (M : Mesh) (levels : List ℕ) (first count more : ℕ)
+    → (pointList M levels first (count + more) ≡ pointList M levels first count ++ pointList M levels (first + count) more)
+    × (triangleList M levels first (count + more) ≡ triangleList M levels first count ++ triangleList M levels (first + count) more)
+
+-- counting serves: if the counting call is not refused, then neither is a call on the same input whose two lists have room for the counted numbers
+abbrev pub CountsServe : Type 0
+CountsServe =
+    (M : Mesh) (links levels : List ℕ) (first count : ℕ) (n r : Triangles) (old points : List ℤ) (old′ triangles : List ℕ)
+    → TrianglesCounted M links levels first count n → n .answer ≡ Done → n .points ≤ length old → n .triangles ≤ length old′
+    → Triangulated M links levels first count old old′ r points triangles → r .answer ≡ Done
+
+-- the tangents along a border agree: at a point of a common curve both nets have the same tangent towards the tail, of any two calls of building on a mesh. The
+-- weights are i of the head and j of the tail; that they sum to N does not matter
+abbrev pub TangentsClose : Type 0
+TangentsClose =
+    (M : Mesh) (A B : Output) → Wrote M A → Wrote M B → (c : ℕ) (s : Side) → Holds A c → Holds B (beside M c s)
+    → (i j N axis : ℕ) → axis < 3
+    → tangentAlong (netIn A c) s (weights i j 0 N) axis ≡ tangentAlong (netIn B (beside M c s)) (across s) (weights i j 0 N) axis
+
 -- ---- L13: the model that a call leaves passes 10 and 11
 abbrev pub TurnedPasses : Type 0
 TurnedPasses = (M lists : Mesh) (old out : List ℕ) (r : Turned) → TurnedTo M old r lists out → r .answer ≡ Done → edgeFaults lists ≡ sound
@@ -344,6 +400,13 @@ pub record Claims : Type 0 where
   pub sample-ends : SampleEnds
   pub samples-between : SamplesBetween
   pub triangles-sample : TrianglesSample
+  pub surface-closes : SurfaceCloses
+  pub points-used : PointsUsed
+  pub points-sample : PointsSample
+  pub plain-strips : PlainStrips
+  pub ranges-join : RangesJoin
+  pub counts-serve : CountsServe
+  pub tangents-close : TangentsClose
   pub turned-passes : TurnedPasses
   pub turns-decide : TurnsDecide
   pub one-choice : OneChoice

@@ -16,6 +16,8 @@
 --     Turning    L13: turning faces, connected parts, 34 to 36, the call
 --     Borders    "The four conditions across a side"
 --     Sampling   L12: samples of a patch, 32 and 33, the calls
+--     Triangles  the surface as one closed mesh of triangles, 39 and 40, the calls
+--     Tangents   the tangents of a patch
 --     Report     L14: the yearly border report, 37 and 38, the calls, runs of files
 --     CFace      the C face
 --     Mirror     a mesh with one axis negated
@@ -45,6 +47,8 @@ pub mod Preview
 pub mod Turning
 pub mod Borders
 pub mod Sampling
+pub mod Triangles
+pub mod Tangents
 pub mod Report
 pub mod CFace
 pub mod Mirror

@@ -137,3 +137,10 @@ pub struct Reported {
     pub answer: Answer,
     pub page: Page,
 }
+
+// What the call for triangles answers: done or refused, and how many numbers of points and of triangles there are, 0 beside a refusal.
+pub struct Triangles {
+    pub answer: Answer,
+    pub points: usize,
+    pub triangles: usize,
+}

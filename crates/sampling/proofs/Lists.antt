@@ -27,12 +27,12 @@ pub below-or-last : {A : Type 0} (j k : ℕ) → j < k + 1 → (j < k → A) →
 below-or-last j k h f g = ⊎-elim (λ e. g e) (λ o. ⊎-elim (λ l. f l) (λ l. absurd (omega arith)) o) (compared j k)
 
 -- ---- a row
-pub row-none : (e : Five) (n from : ℕ) (old : List ℤ) → RowPut e n 0 from old old
-row-none e n from old = record { same = refl; values = λ j l. absurd (omega arith); others = λ t h. refl }
+pub row-none : (e : Five) (n first from : ℕ) (old : List ℤ) → RowPut e n first 0 from old old
+row-none e n first from old = record { same = refl; values = λ j l. absurd (omega arith); others = λ t h. refl }
 
-module _ (e : Five) (n j from : ℕ) (old mid : List ℤ) (v : ℤ) (m : RowPut e n j from old mid) (room : from + 3 * j < length mid)
-    (is : v ≡ round (valueOf e j) (pos (n ^ 4))) where
-  pub row-step : RowPut e n (j + 1) from old (set mid (from + 3 * j) v)
+module _ (e : Five) (n first j from : ℕ) (old mid : List ℤ) (v : ℤ) (m : RowPut e n first j from old mid) (room : from + 3 * j < length mid)
+    (is : v ≡ round (valueOf e (first + j)) (pos (n ^ 4))) where
+  pub row-step : RowPut e n first (j + 1) from old (set mid (from + 3 * j) v)
   row-step = record {
     same = length-set mid (from + 3 * j) v ∙ m .same;
     values = λ i l. below-or-last i j l
@@ -42,6 +42,9 @@ module _ (e : Five) (n j from : ℕ) (old mid : List ℤ) (v : ℤ) (m : RowPut 
         getD-set-other mid (from + 3 * j) t v (pos 0) (λ q. h j (omega arith) q)
         ∙ m .others t (λ i l q. h i (omega arith) q);
   }
+
+pub from-none : (j : ℕ) → 0 + j ≡ j
+from-none j = omega arith
 
 -- ---- rows
 pub before-next : (n k : ℕ) → before n (k + 1) ≡ before n k + (n - k + 1)
@@ -66,7 +69,7 @@ row-value p n k j h =
     (let q : n - k - j + j + k ≡ n = omega arith in q) (polynomial-sum p (n - k - j) j k)
 
 module _ (p : Rows) (n axis k at : ℕ) (old mid new : List ℤ) (l : k ≤ n) (a : axis < 3) (place : at ≡ 3 * before n k + axis)
-    (m : RowsPut p n axis k old mid) (e : Five) (is : e ≡ rowOf (polynomialOf p (pos n)) k) (r : RowPut e n (n - k + 1) at mid new) where
+    (m : RowsPut p n axis k old mid) (e : Five) (is : e ≡ rowOf (polynomialOf p (pos n)) k) (r : RowPut e n 0 (n - k + 1) at mid new) where
   value-is : (j : ℕ) → k + j ≤ n → valueOf e j ≡ quarticSum p (pos (n - k - j)) (pos j) (pos k)
   value-is j h = ap (λ (f : Five). valueOf f j) is ∙ row-value p n k j h
 
@@ -79,7 +82,7 @@ module _ (p : Rows) (n axis k at : ℕ) (old mid new : List ℤ) (l : k ≤ n) (
   here : (j : ℕ) → k + j ≤ n → getD new (3 * (before n k + j) + axis) (pos 0) ≡ round (quarticSum p (pos (n - k - j)) (pos j) (pos k)) (pos (n ^ 4))
   here j g =
       ap (λ (t : ℕ). getD new t (pos 0)) (let q : 3 * (before n k + j) + axis ≡ at + 3 * j = omega arith in q)
-      ∙ r .values j (omega arith) ∙ ap (λ (z : ℤ). round z (pos (n ^ 4))) (value-is j g)
+      ∙ r .values j (omega arith) ∙ ap (λ (z : ℤ). round z (pos (n ^ 4))) (ap (valueOf e) (from-none j) ∙ value-is j g)
 
   pub rows-step : RowsPut p n axis (k + 1) old new
   rows-step = record {
@@ -99,16 +102,30 @@ module _ (p : Rows) (n axis k at : ℕ) (old mid new : List ℤ) (l : k ≤ n) (
 -- ---- what a row asks
 module _ (p : Rows) (n k : ℕ) (l : k ≤ n) (s : Sampleable p n) (t : AllTapered (polynomialOf p (pos n))) (e : Five)
     (is : e ≡ rowOf (polynomialOf p (pos n)) k) where
-  pub row-sampleable : RowSampleable e n (n - k + 1)
+  pub row-sampleable : RowSampleable e n 0 (n - k + 1)
   row-sampleable = record {
     tapers = subst (λ (f : Five). Tapered (5 * 2 ^ 34) f) (sym is) (row-tapers (polynomialOf p (pos n)) k (omega (arith, s .few)) t);
     some = s .some;
     few = s .few;
     short = omega (arith, s .few);
+    early = omega arith;
     small = λ j h.
-        subst (λ (z : ℤ). natAbs z ≤ 2 ^ 27 * n ^ 4) (sym (ap (λ (f : Five). valueOf f j) is ∙ row-value p n k j (omega arith)))
+        subst (λ (z : ℤ). natAbs z ≤ 2 ^ 27 * n ^ 4)
+        (sym (ap (valueOf e) (from-none j) ∙ ap (λ (f : Five). valueOf f j) is ∙ row-value p n k j (omega arith)))
         (s .small (n - k - j) j k (omega arith));
   }
+
+-- a part of a row
+pub row-part : {e : Five} {n all : ℕ} → RowSampleable e n 0 all → (first count : ℕ) → first ≤ 16 → first + count ≤ all → RowSampleable e n first count
+row-part {e} {n} {all} r first count h l = record {
+  tapers = r .tapers;
+  some = r .some;
+  few = r .few;
+  short = omega (arith, r .short);
+  early = h;
+  small = λ j o.
+      subst (λ (x : ℕ). natAbs (valueOf e x) ≤ 2 ^ 27 * n ^ 4) (from-none (first + j)) (r .small (first + j) (omega arith));
+}
 
 pub row-room : (n k axis at size : ℕ) → k ≤ n → axis < 3 → at ≡ 3 * before n k + axis → 3 * before n (n + 1) ≤ size → at + 3 * (n - k + 1) ≤ size + 2
 row-room n k axis at size l a e h = let b = before-le n k (n + 1) (omega arith) in omega arith

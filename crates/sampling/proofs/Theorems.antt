@@ -112,7 +112,7 @@ module _ (O : Output) (c axis : ℕ) (a : axis < 3) where
 net-passes : (M : Mesh) (O : Output) → Wrote M O → (c : ℕ) → Holds O c → netVerdict (netIn O c) ≡ sound
 net-passes M O w c h = nets-pass M (w .links) (O .first) (O .count) (w .old) (O .numbers) (w .call) (c - O .first) (omega (arith, h .0, h .1))
 
-side-number : (net other : List ℤ) (s t : Side) (i j N axis : ℕ)
+pub side-number : (net other : List ℤ) (s t : Side) (i j N axis : ℕ)
     → ((m : ℕ) → m < 5 → outerRow (onAxis net axis) s m ≡ outerRow (onAxis other axis) t m)
     → sampleAt net s (weights i j 0 N) axis ≡ sampleAt other t (weights i j 0 N) axis
 unfolding sampleAt
@@ -157,11 +157,11 @@ module _ (p : ℕ → ℤ) where
       ∙ cc (h .0, h .1, h .2, h .3)
       ∙ sym (bernstein-is p (atTail s) 0 j k ∙ from-tail (rowsOf (control p (atTail s))) (pos j) (pos k))
 
-head-number : (numbers : List ℤ) (s : Side) (i k N axis : ℕ) → sampleAt numbers s (weights i 0 k N) axis ≡ sampleAt numbers (atHead s) (weights i 0 k N) axis
+pub head-number : (numbers : List ℤ) (s : Side) (i k N axis : ℕ) → sampleAt numbers s (weights i 0 k N) axis ≡ sampleAt numbers (atHead s) (weights i 0 k N) axis
 unfolding sampleAt
 head-number numbers s i k N axis = ap (λ (z : ℤ). round z (pos (N ^ 4))) (head-ray (onAxis numbers axis) s i k)
 
-tail-number : (numbers : List ℤ) (s : Side) (j k N axis : ℕ) → sampleAt numbers s (weights 0 j k N) axis ≡ sampleAt numbers (atTail s) (weights 0 j k N) axis
+pub tail-number : (numbers : List ℤ) (s : Side) (j k N axis : ℕ) → sampleAt numbers s (weights 0 j k N) axis ≡ sampleAt numbers (atTail s) (weights 0 j k N) axis
 unfolding sampleAt
 tail-number numbers s j k N axis = ap (λ (z : ℤ). round z (pos (N ^ 4))) (tail-ray (onAxis numbers axis) s j k)
 
@@ -179,7 +179,7 @@ positive N h = let one = one-le-pow 4 N h in simp diff (omega arith)
 
 -- a sample whose sums are the multiple by N^4 of numbers is these numbers
 module _ (numbers : List ℤ) (s : Side) (i j k N n q : ℕ) (h : (p : ℕ → ℤ) → bernsteinSum p s i j k ≡ pos (N ^ 4) *ℤ control p s n q) where
-  multiple-number : 1 ≤ N → (axis : ℕ) → sampleAt numbers s (weights i j k N) axis ≡ control (onAxis numbers axis) s n q
+  pub multiple-number : 1 ≤ N → (axis : ℕ) → sampleAt numbers s (weights i j k N) axis ≡ control (onAxis numbers axis) s n q
   unfolding sampleAt
   multiple-number some axis =
       ap (λ (z : ℤ). round z (pos (N ^ 4))) (h (onAxis numbers axis))

@@ -1,3 +1,4 @@
 pub mod Laws
 pub mod Identity
 pub mod Sum
+pub mod Derivative

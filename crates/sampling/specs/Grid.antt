@@ -16,18 +16,19 @@ pub record Sampleable (p : Rows) (n : ℕ) : Type 0 where
   pub few : n ≤ 16
   pub small : (i j k : ℕ) → i + j + k ≡ n → natAbs (quarticSum p (pos i) (pos j) (pos k)) ≤ 2 ^ 27 * n ^ 4
 
--- a row of them
-pub record RowSampleable (e : Five) (n count : ℕ) : Type 0 where
+-- `count` of a row of them from `first` on
+pub record RowSampleable (e : Five) (n first count : ℕ) : Type 0 where
   pub tapers : Tapered (5 * 2 ^ 34) e
   pub some : 1 ≤ n
   pub few : n ≤ 16
-  pub short : count ≤ 17
-  pub small : (j : ℕ) → j < count → natAbs (valueOf e j) ≤ 2 ^ 27 * n ^ 4
+  pub short : first + count ≤ 17
+  pub early : first ≤ 16
+  pub small : (j : ℕ) → j < count → natAbs (valueOf e (first + j)) ≤ 2 ^ 27 * n ^ 4
 
--- ---- every third number from `from` on, `count` of them, is a value of e over n^4; the others are as before
-pub record RowPut (e : Five) (n count from : ℕ) (old new : List ℤ) : Type 0 where
+-- ---- every third number from `from` on, `count` of them, is a value of e over n^4, from that at `first` on; the others are as before
+pub record RowPut (e : Five) (n first count from : ℕ) (old new : List ℤ) : Type 0 where
   pub same : length new ≡ length old
-  pub values : (j : ℕ) → j < count → getD new (from + 3 * j) (pos 0) ≡ round (valueOf e j) (pos (n ^ 4))
+  pub values : (j : ℕ) → j < count → getD new (from + 3 * j) (pos 0) ≡ round (valueOf e (first + j)) (pos (n ^ 4))
   pub others : (t : ℕ) → ((j : ℕ) → j < count → t ≡ from + 3 * j → ⊥) → getD new t (pos 0) ≡ getD old t (pos 0)
 
 -- the samples before row k of a triangle in n parts

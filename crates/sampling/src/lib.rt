@@ -18,7 +18,7 @@ ghost use Rattle.paper.specs.File.{begins};
 ghost use Rattle.paper.specs.Floats.{netVerdict, axes};
 ghost use Rattle.paper.specs.Sampling.{weights, sampleAt, fault33, sampleVerdict, sideAt, Sampled, sampleCount, triangleSamples};
 ghost use Rattle.paper.specs.Sampling.{TriangleSampled};
-ghost use Rattle.sampling.specs.bernstein.Sums.{AllSized, Tapered, polynomialOf, rowOf, valueOf};
+ghost use Rattle.sampling.specs.bernstein.Sums.{AllSized, Tapered, polynomialOf, rowOf, valueOf, stateOf};
 ghost use Rattle.sampling.specs.Grid.{before, Sampleable, RowSampleable, RowPut, RowsPut};
 
 // Our own number for a lent list that is too short.
@@ -130,7 +130,7 @@ fn sample_on(numbers: &[i32], side: usize, axis: usize, j: usize, k: usize, n: u
 }
 
 // The polynomial of row k.
-fn row_at(p: Rows, k: usize, n: usize) -> Five
+pub fn row_at(p: Rows, k: usize, n: usize) -> Five
     requires { ⌜ AllSized (2 ^ 27) p × (k ≤ 16) × (n ≤ 16) ⌝ }
     ensures { λ r. ⌜ r ≡ rowOf (polynomialOf p (pos n)) k ⌝ }
 {
@@ -143,10 +143,10 @@ fn row_at(p: Rows, k: usize, n: usize) -> Five
     crate::bernstein::row(s)
 }
 
-// Its value at j.
-fn value_at(e: Five, j: usize) -> i64
+// Its value and its differences at j.
+fn state_at(e: Five, j: usize) -> Five
     requires { ⌜ Tapered (5 * 2 ^ 34) e × (j ≤ 16) ⌝ }
-    ensures { λ r. ⌜ r ≡ valueOf e j ⌝ }
+    ensures { λ r. ⌜ r ≡ stateOf e j ⌝ }
 {
     let mut g = crate::bernstein::ahead(e);
     let mut x = 0;
@@ -154,6 +154,15 @@ fn value_at(e: Five, j: usize) -> i64
         g = crate::bernstein::step(g);
         x += 1;
     }
+    g
+}
+
+// Its value at j.
+fn value_at(e: Five, j: usize) -> i64
+    requires { ⌜ Tapered (5 * 2 ^ 34) e × (j ≤ 16) ⌝ }
+    ensures { λ r. ⌜ r ≡ valueOf e j ⌝ }
+{
+    let g = state_at(e, j);
     g.a
 }
 
@@ -168,19 +177,19 @@ fn put_axis(p: Rows, n: usize, points: &mut [i32], axis: usize)
     while k <= n {
         let count = n - k + 1;
         let e = crate::bernstein::row(s);
-        put_row(e, n, count, points, at);
+        put_row(e, n, 0, count, points, at);
         at += 3 * count;
         s = crate::bernstein::next(s);
         k += 1;
     }
 }
 
-// The samples of one row, from value to value by differences.
-fn put_row(e: Five, n: usize, count: usize, points: &mut [i32], from: usize)
-    requires { ⌜ RowSampleable e n count × (from + 3 * count ≤ length (now points) + 2) ⌝ }
-    ensures { λ _. ⌜ RowPut e n count from (now (points .entry)) (now (points .exit)) ⌝ }
+// `count` samples of one row from `first` on, from value to value by differences.
+pub fn put_row(e: Five, n: usize, first: usize, count: usize, points: &mut [i32], from: usize)
+    requires { ⌜ RowSampleable e n first count × (from + 3 * count ≤ length (now points) + 2) ⌝ }
+    ensures { λ _. ⌜ RowPut e n first count from (now (points .entry)) (now (points .exit)) ⌝ }
 {
-    let mut g = crate::bernstein::ahead(e);
+    let mut g = state_at(e, first);
     let mut j = 0;
     while j < count {
         let v = crate::bernstein::rounded(g.a, n);

@@ -1,8 +1,9 @@
 //! An independent implementation of document 01, of L1 and L4 to L14, in plain Rust: the file, the check of a mesh,
 //! linking, building, the four conditions across a side, a control point in floats, the listing of nested grids, OFF
 //! texts, the search for an irregular face or vertex, the preview of a moved vertex, the construction without rounding,
-//! coordinates rearranged for the archive, samples of a patch, turning of faces, the border report. It is written from
-//! the papers alone and shares nothing with the proved library, so that the two can be compared; nobody has proved it.
+//! coordinates rearranged for the archive, samples of a patch, turning of faces, the border report; and of the surface as
+//! closed triangles. It is written from the papers alone and shares nothing with the proved library, so that the two can
+//! be compared; nobody has proved it.
 
 mod archive;
 mod check;
@@ -18,6 +19,7 @@ mod report;
 mod sampling;
 mod squares;
 mod surface;
+mod triangles;
 mod turning;
 mod wide;
 
@@ -30,9 +32,10 @@ pub use nesting::{nest, nest_lines};
 pub use off::{off, off2dms, off2dms_as_drawn, OffLists};
 pub use preview::{preview, touched};
 pub use report::{merge, report, Page, COUNTED, MOST_MESHES, MOST_ON_PAGE};
-pub use sampling::{sample, sample_triangle, small_triangles};
+pub use sampling::{sample, sample_tangents, sample_triangle, small_triangles};
 pub use squares::{irregular, Irregular};
 pub use surface::{build, nets, round, Net, Point, NUMBERS_PER_CORNER};
+pub use triangles::{count_triangles, tangents, triangles, MOST_PARTS};
 pub use turning::{turn, turn_file};
 
 /// The most vertices, faces and corners that a mesh may have.

@@ -45,10 +45,10 @@ fn triangle(side: usize) -> [Vec<usize>; 5] {
     }
 }
 
-/// 4! over the factorials of three powers that sum to 4.
+/// The factorial of what three powers sum to, over theirs.
 fn times(powers: [usize; 3]) -> i64 {
     let factorial = |n: usize| (1..=n as i64).product::<i64>();
-    powers.iter().fold(factorial(4), |all, &n| all / factorial(n))
+    powers.iter().fold(factorial(powers.iter().sum()), |all, &n| all / factorial(n))
 }
 
 /// 18, 19 and 32.
@@ -66,7 +66,7 @@ fn check(numbers: &[i32], side: usize) -> Result<(), Refusal> {
 }
 
 /// The quartic Bernstein sum, rounded once.
-fn point(numbers: &[i32], side: usize, weights: [usize; 3], parts: usize) -> [i32; 3] {
+pub(crate) fn point(numbers: &[i32], side: usize, weights: [usize; 3], parts: usize) -> [i32; 3] {
     let rows = triangle(side);
     let [u, v, w] = weights.map(|weight| weight as i64);
     [0, 1, 2].map(|axis| {
@@ -82,6 +82,27 @@ fn point(numbers: &[i32], side: usize, weights: [usize; 3], parts: usize) -> [i3
     })
 }
 
+/// The derivatives of the quartic towards the tail and towards the centre, times the cube of the weights' sum: four times
+/// the cubic Bernstein sums of the differences between control points that lie next to each other.
+pub(crate) fn derivatives(numbers: &[i32], side: usize, weights: [usize; 3]) -> [[i64; 3]; 2] {
+    let rows = triangle(side);
+    let [u, v, w] = weights.map(|weight| weight as i64);
+    [(0, 1), (1, 0)].map(|(down, along)| {
+        [0, 1, 2].map(|axis| {
+            let control = |n: usize, m: usize| i64::from(numbers[3 * rows[n][m] + axis]);
+            let mut sum = 0;
+            for n in 0..4 {
+                for m in 0..4 - n {
+                    let l = 3 - n - m;
+                    let weight = times([l, m, n]) * u.pow(l as u32) * v.pow(m as u32) * w.pow(n as u32);
+                    sum += 4 * weight * (control(n + down, m + along) - control(n, m));
+                }
+            }
+            sum
+        })
+    })
+}
+
 /// One sample: faults 18, 19, 32 and 33.
 pub fn sample(numbers: &[i32], side: usize, weights: [usize; 3], parts: usize) -> Result<[i32; 3], Refusal> {
     check(numbers, side)?;
@@ -90,6 +111,17 @@ pub fn sample(numbers: &[i32], side: usize, weights: [usize; 3], parts: usize) -
         return refuse(33, parts);
     }
     Ok(point(numbers, side, weights, parts))
+}
+
+/// The tangents at one sample, under its checks.
+pub fn sample_tangents(
+    numbers: &[i32],
+    side: usize,
+    weights: [usize; 3],
+    parts: usize,
+) -> Result<[[i64; 3]; 2], Refusal> {
+    sample(numbers, side, weights, parts)?;
+    Ok(derivatives(numbers, side, weights))
 }
 
 /// All samples of a triangle into the beginning of the list, row by row from the side inwards, each row from the head:

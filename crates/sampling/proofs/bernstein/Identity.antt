@@ -12,13 +12,13 @@ use Rattle.sampling.specs.bernstein.Sums.{differencesOf, slopesOf, colum
 use Rattle.sampling.specs.bernstein.Sums.{polynomialOf, valueOf, stateOf, statesOf, stepOf, stepsOf, rowOf, firstsOf}
 
 -- ---- one more weight in the first: x + y for x
-linear-turn : (a b x y : ℤ) → linear a b x y ≡ linear a (b -ℤ a) (x +ℤ y) y
+pub linear-turn : (a b x y : ℤ) → linear a b x y ≡ linear a (b -ℤ a) (x +ℤ y) y
 linear-turn = over 4 _ λ ρ. simp poly (omega arith)
 
-quadratic-turn : (a b c x y : ℤ) → quadratic a b c x y ≡ quadratic a (b -ℤ a) (c -ℤ b -ℤ (b -ℤ a)) (x +ℤ y) y
+pub quadratic-turn : (a b c x y : ℤ) → quadratic a b c x y ≡ quadratic a (b -ℤ a) (c -ℤ b -ℤ (b -ℤ a)) (x +ℤ y) y
 quadratic-turn = over 5 _ λ ρ. simp (poly, ρ) (omega arith)
 
-cubic-turn : (a b c d x y : ℤ)
+pub cubic-turn : (a b c d x y : ℤ)
     → cubic a b c d x y ≡ cubic a (b -ℤ a) (c -ℤ b -ℤ (b -ℤ a)) (d -ℤ c -ℤ (c -ℤ b) -ℤ (c -ℤ b -ℤ (b -ℤ a))) (x +ℤ y) y
 cubic-turn = over 6 _ λ ρ. simp (poly, ρ) (omega arith)
 
@@ -108,7 +108,7 @@ weigh0 : (a b c d e n x : ℤ)
     ≡ quartic (five a b c d e) n x
 weigh0 = over 7 _ λ ρ. simp (poly, ρ) (omega arith)
 
-weigh1 : (a b c d e n x : ℤ)
+pub weigh1 : (a b c d e n x : ℤ)
     → a *ℤ (pos 4 *ℤ (n *ℤ n *ℤ n)) +ℤ x *ℤ (b *ℤ (pos 12 *ℤ (n *ℤ n)) +ℤ x *ℤ (c *ℤ (pos 12 *ℤ n) +ℤ x *ℤ (d *ℤ pos 4 +ℤ x *ℤ (e *ℤ pos 0))))
     ≡ pos 4 *ℤ cubic a b c d n x
 weigh1 = over 7 _ λ ρ. simp (poly, ρ) (omega arith)

@@ -1,4 +1,4 @@
--- `sampling::put_row` meets its contract: after j turns the state is that at j, and the first j samples are written.
+-- `sampling::put_row` meets its contract: after j turns the state is that j places on, and the first j samples are written.
 use mathlib.Core.Path.{_≡_, sym, ap, _∙_, subst}
 use Prim.Native.Nat.{ℕ, _+_, _-_, _*_, _^_, _≤_, _<_}
 use native.Mathlib.Omega.{arith}
@@ -12,7 +12,7 @@ use mir.Facts.{toZ-ofZ}
 use Rattle.paper.specs.Numbers.{round}
 use Rattle.sampling.specs.declared.bernstein.Five.{Five}
 use Rattle.sampling.specs.bernstein.Sums.{Sized, stateOf, valueOf, stepOf}
-use Rattle.sampling.proofs.bernstein.Laws.{bits, state-size, tapered-size, sized-bits}
+use Rattle.sampling.proofs.bernstein.Laws.{bits, state-size, sized-bits}
 use Rattle.sampling.proofs.bernstein.Identity.{state-step}
 use Rattle.sampling.specs.Grid.{RowPut}
 use Rattle.sampling.proofs.Lists.{row-none, row-step}
@@ -20,15 +20,21 @@ use Rattle.sampling.proofs.put_row.Statement.{statement}
 use Rattle.sampling.proofs.put_row.Tie as tie
 
 abbrev Inv-loop : tie.InvT-loop
-Inv-loop n count points₀ from g₀ j₀ points g j =
-    (j ≤ count) × ((e : Five) → g₀ ≡ stateOf e 0 → (g ≡ stateOf e j) × RowPut e n j from points₀ points)
+Inv-loop n first count points₀ from g₀ j₀ points g j =
+    (j ≤ count) × ((e : Five) → g₀ ≡ stateOf e first → (g ≡ stateOf e (first + j)) × RowPut e n first j from points₀ points)
 
 abbrev μ-loop : tie.MeasureT-loop
-μ-loop n count points₀ from g₀ j₀ points g j = count - j
+μ-loop n first count points₀ from g₀ j₀ points g j = count - j
 
 value-same : (e : Five) (g : Five) (x : ℕ) → g ≡ stateOf e x → g .a ≡ valueOf e x
 unfolding stateOf
 value-same e g x h = ap (λ (f : Five). f .a) h
+
+from-all : (x : ℕ) → x ≡ x + 0
+from-all x = omega arith
+
+one-more : (x j : ℕ) → x + j + 1 ≡ x + (j + 1)
+one-more x j = omega arith
 
 -- in the loop
 module _ (t : tie.In-loop Inv-loop μ-loop) where
@@ -41,8 +47,12 @@ module _ (t : tie.In-loop Inv-loop μ-loop) where
   abbrev e : Five
   e = p .args .e
 
-  inv : (t .before .loop .g ≡ stateOf e j) × RowPut e (p .args .n) j (p .args .from) (p .args .points .now) (t .before .loop .points)
-  inv = t .before .loop .inv .1 e (t .before .before .ahead .ensures)
+  abbrev first : ℕ
+  first = p .args .first
+
+  inv : (t .before .loop .g ≡ stateOf e (first + j))
+      × RowPut e (p .args .n) first j (p .args .from) (p .args .points .now) (t .before .loop .points)
+  inv = t .before .loop .inv .1 e (t .before .before .state-at .ensures)
 
   below : j < p .args .count
   below = t .loop-test .taken
@@ -50,10 +60,10 @@ module _ (t : tie.In-loop Inv-loop μ-loop) where
   sized : Sized (2 ^ 60) (t .before .loop .g)
   sized =
       subst (λ (g : Five). Sized (2 ^ 60) g) (sym (inv .0))
-      (state-size e j (5 * 2 ^ 34) (omega (arith, below, p .pre .0 .short)) (p .pre .0 .tapers) (lit≤ tt))
+      (state-size e (first + j) (5 * 2 ^ 34) (omega (arith, below, p .pre .0 .short)) (p .pre .0 .tapers) (lit≤ tt))
 
-  value-is : bits (t .before .loop .g .a) ≡ valueOf e j
-  value-is = sized-bits (t .before .loop .g .a) (2 ^ 60) (sized .0) (lit≤ tt) ∙ value-same e (t .before .loop .g) j (inv .0)
+  value-is : bits (t .before .loop .g .a) ≡ valueOf e (first + j)
+  value-is = sized-bits (t .before .loop .g .a) (2 ^ 60) (sized .0) (lit≤ tt) ∙ value-same e (t .before .loop .g) (first + j) (inv .0)
 
   small : natAbs (bits (t .before .loop .g .a)) ≤ 2 ^ 27 * p .args .n ^ 4
   small = rw value-is (p .pre .0 .small j below)
@@ -61,11 +71,11 @@ module _ (t : tie.In-loop Inv-loop μ-loop) where
   room : p .args .from + 3 * j < length (t .before .loop .points)
   room = omega (arith, inv .1 .same, below, p .pre .1)
 
-ahead-requires : tie.Need-ahead-requires Inv-loop μ-loop
-ahead-requires c κs = tapered-size (c .args .e) (5 * 2 ^ 34) (c .pre .0 .tapers) (lit≤ tt)
+state-at-requires : tie.Need-state-at-requires Inv-loop μ-loop
+state-at-requires c κs = (c .pre .0 .tapers, c .pre .0 .early)
 
 loop-holds : tie.Need-loop-holds Inv-loop μ-loop
-loop-holds c = (omega arith, λ e h. (h, row-none e (c .before .args .n) (c .before .args .from) (c .before .args .points .now)))
+loop-holds c = (omega arith, λ e h. (h ∙ ap (stateOf e) (from-all (c .before .args .first)), row-none e (c .before .args .n) (c .before .args .first) (c .before .args .from) (c .before .args .points .now)))
 
 rounded-requires : tie.Need-rounded-requires Inv-loop μ-loop
 rounded-requires c κs = let t = c .before in (p t .pre .0 .some, p t .pre .0 .few, small t)
@@ -93,26 +103,26 @@ loop-again c =
       omega (arith, below t),
       λ e h.
           let i = l .inv .1 e h in (
-            c .step .ensures ∙ ap stepOf (i .0) ∙ state-step e (l .j),
-            row-step e (s .args .n) (l .j) (s .args .from) (s .args .points .now) (l .points) (toZ w32 (ofZ w32 (c .before .rounded .result))) (i .1)
+            c .step .ensures ∙ ap stepOf (i .0) ∙ state-step e (s .args .first + l .j) ∙ ap (stateOf e) (one-more (s .args .first) (l .j)),
+            row-step e (s .args .n) (s .args .first) (l .j) (s .args .from) (s .args .points .now) (l .points) (toZ w32 (ofZ w32 (c .before .rounded .result))) (i .1)
                 (room t)
                 (toZ-ofZ (search needs) ∙ c .before .rounded .ensures
                 ∙ ap (λ (z : ℤ). round z (pos (s .args .n ^ 4)))
-                (sized-bits (l .g .a) (2 ^ 60) (sized t .0) (lit≤ tt) ∙ value-same e (l .g) (l .j) (i .0))),
+                (sized-bits (l .g .a) (2 ^ 60) (sized t .0) (lit≤ tt) ∙ value-same e (l .g) (s .args .first + l .j) (i .0))),
           ),
     )
 
 same-length : tie.Need-same-length Inv-loop μ-loop
-same-length c = c .before .loop .inv .1 _ (c .before .before .ahead .ensures) .1 .same
+same-length c = c .before .loop .inv .1 _ (c .before .before .state-at .ensures) .1 .same
 
 returns : tie.Need-returns Inv-loop μ-loop
 returns c =
     let l = c .before .loop in
     let s = c .before .before .before in
-    subst (λ (x : ℕ). RowPut (s .args .e) (s .args .n) x (s .args .from) (s .args .points .now) (l .points)) (omega (arith, l .inv .0))
-    (l .inv .1 (s .args .e) (c .before .before .ahead .ensures) .1)
+    subst (λ (x : ℕ). RowPut (s .args .e) (s .args .n) (s .args .first) x (s .args .from) (s .args .points .now) (l .points)) (omega (arith, l .inv .0))
+    (l .inv .1 (s .args .e) (c .before .before .state-at .ensures) .1)
 
 pub put-row-spec : {M : Type 1} → statement M
 put-row-spec =
-    tie.close (tie.spec Inv-loop μ-loop ahead-requires loop-holds rounded-requires mul-v add-v mul-v-2 slice-set-from-v step-requires (λ c. search needs)
+    tie.close (tie.spec Inv-loop μ-loop state-at-requires loop-holds rounded-requires mul-v add-v mul-v-2 slice-set-from-v step-requires (λ c. search needs)
     (λ c. search needs) loop-again same-length returns)

@@ -1,57 +1,27 @@
--- `sampling::value_at` meets its contract: after x turns the state is that at x.
+-- `sampling::value_at` meets its contract: the first number of the state is the value.
 use mathlib.Core.Path.{_≡_, sym, ap, _∙_, subst}
-use Prim.Native.Nat.{ℕ, _-_, _*_, _^_, _≤_}
-use native.Mathlib.Omega.{arith}
-use borrow.Author.Needs.{needs}
+use Prim.Native.Nat.{ℕ, _*_, _^_}
 use lib.Dec.{lit≤}
+use borrow.Author.Needs.{needs}
 use Rattle.sampling.specs.declared.bernstein.Five.{Five}
-use Rattle.sampling.specs.bernstein.Sums.{Sized, stateOf, valueOf, stepOf}
-use Rattle.sampling.proofs.bernstein.Laws.{state-size, tapered-size, sized-bits}
-use Rattle.sampling.proofs.bernstein.Identity.{state-step}
+use Rattle.sampling.specs.bernstein.Sums.{Sized, stateOf, valueOf}
+use Rattle.sampling.proofs.bernstein.Laws.{state-size, sized-bits}
 use Rattle.sampling.proofs.value_at.Statement.{statement}
 use Rattle.sampling.proofs.value_at.Tie as tie
 
-abbrev Inv-loop : tie.InvT-loop
-Inv-loop j g₀ x₀ g x = (x ≤ j) × ((e : Five) → g₀ ≡ stateOf e 0 → g ≡ stateOf e x)
-
-abbrev μ-loop : tie.MeasureT-loop
-μ-loop j g₀ x₀ g x = j - x
-
-module _ (t : tie.At-loop Inv-loop μ-loop) where
-  abbrev p : tie.Start Inv-loop μ-loop
-  p = t .before .before
-
-  is : t .loop .g ≡ stateOf (p .args .e) (t .loop .x)
-  is = t .loop .inv .1 _ (t .before .ahead .ensures)
-
-  sized : Sized (2 ^ 60) (t .loop .g)
-  sized =
-      subst (λ (g : Five). Sized (2 ^ 60) g) (sym is)
-      (state-size (p .args .e) (t .loop .x) (5 * 2 ^ 34) (omega (arith, t .loop .inv .0, p .pre .1)) (p .pre .0) (lit≤ tt))
-
-ahead-requires : tie.Need-ahead-requires Inv-loop μ-loop
-ahead-requires c κs = tapered-size (c .args .e) (5 * 2 ^ 34) (c .pre .0) (lit≤ tt)
-
-loop-holds : tie.Need-loop-holds Inv-loop μ-loop
-loop-holds c = (omega arith, λ e h. h)
-
-step-requires : tie.Need-step-requires Inv-loop μ-loop
-step-requires c κs = sized (c .before)
-
-loop-again : tie.Need-loop-again Inv-loop μ-loop
-loop-again c =
-    let l = c .before .before .loop in
-    (omega arith, λ e h. c .step .ensures ∙ ap stepOf (l .inv .1 e h) ∙ state-step e (l .x))
-
-value-same : (e : Five) (g : Five) (x j : ℕ) → g ≡ stateOf e x → x ≡ j → g .a ≡ valueOf e j
+value-same : (e : Five) (g : Five) (j : ℕ) → g ≡ stateOf e j → g .a ≡ valueOf e j
 unfolding stateOf
-value-same e g x j h q = ap (λ (f : Five). f .a) h ∙ ap (valueOf e) q
+value-same e g j h = ap (λ (f : Five). f .a) h
 
-returns : tie.Need-returns Inv-loop μ-loop
+returns : tie.Need-returns
 returns c =
-    let t = c .before .before in
-    sized-bits (t .loop .g .a) (2 ^ 60) (sized t .0) (lit≤ tt)
-    ∙ value-same (t .before .before .args .e) (t .loop .g) (t .loop .x) (t .before .before .args .j) (is t) (omega (arith, t .loop .inv .0))
+    let a = c .before in
+    let s = a .before in
+    let g = a .state-at .result in
+    sized-bits (g .a) (2 ^ 60)
+    (subst (λ (f : Five). Sized (2 ^ 60) f) (sym (a .state-at .ensures)) (state-size (s .args .e) (s .args .j) (5 * 2 ^ 34) (s .pre .1) (s .pre .0) (lit≤ tt)) .0)
+    (lit≤ tt)
+    ∙ value-same (s .args .e) (a .state-at .result) (s .args .j) (a .state-at .ensures)
 
 pub value-at-spec : {M : Type 1} → statement M
-value-at-spec = tie.close (tie.spec Inv-loop μ-loop ahead-requires loop-holds step-requires (λ c. search needs) (λ c. search needs) loop-again returns)
+value-at-spec = tie.close (tie.spec (λ c κs. search needs) returns)
