@@ -13,7 +13,7 @@ use Rattle.paper.specs.Scan.{iterate}
 use Rattle.paper.specs.Mesh.{mostSides}
 use Rattle.paper.specs.Numbers.{rounded}
 use Rattle.paper.specs.Refined.{RefinedMesh}
-use Rattle.paper.specs.Net.{side0, side1, side2, side3, H, X, C, net, netPoints}
+use Rattle.paper.specs.Net.{side0, side1, side2, side3, H, X, C}
 use Rattle.paper.specs.Calls.{perCorner}
 use Rattle.surface.specs.Points.{pointRow, pointAt}
 use Rattle.surface.specs.Sizes.{RefinedSize, CosineSize}

@@ -12,7 +12,7 @@ use numbers::cosines;
 use paper::NUMBERS_PER_CORNER;
 use walk::Walker;
 ghost use mathlib.Core.Path.{_≡_};
-ghost use Prim.Native.Nat.{ℕ, _+_, _*_, _≤_, _<_};
+ghost use Prim.Native.Nat.{_+_, _*_, _≤_, _<_};
 ghost use lib.ListN.{length};
 ghost use Rattle.paper.specs.Calls.{perCorner};
 ghost use Rattle.numbers.specs.Stored.{stored};

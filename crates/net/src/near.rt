@@ -1,6 +1,5 @@
 // The rows that a quad-net is made from, four numbers each, x, y, z and one that is not used: the refined points of the corner and of six around it;
-// then the centre of its vertex's ring and the points of that behind and ahead of the corner, and the same of
-// its face's ring, where the points ahead of all corners of a run follow.
+// then the centre of its vertex's ring and its points behind and ahead of the corner; then the same of its face's ring, for all corners of a run.
 use faces::FacePoint;
 use faces::point;
 use numbers::cosines;
@@ -10,12 +9,12 @@ use walk::LINK;
 use walk::NEXT;
 use walk::Walker;
 ghost use mathlib.Core.Path.{_≡_};
-ghost use Prim.Native.Nat.{ℕ, _+_, _*_, _≤_, _<_};
+ghost use Prim.Native.Nat.{_+_, _*_, _≤_, _<_};
 ghost use lib.ListN.{length};
 ghost use Rattle.paper.specs.Mesh.{mostSides};
 ghost use Rattle.numbers.specs.Stored.{stored};
-ghost use Rattle.surface.specs.Points.{pointRow, pointAt};
-ghost use Rattle.walk.specs.Table.{toPrevious, toLink, sidesHere, entry, tabled};
+ghost use Rattle.surface.specs.Points.{pointRow};
+ghost use Rattle.walk.specs.Table.{toLink, sidesHere, entry, tabled};
 ghost use Rattle.net.specs.sides.Drawn.{drawn, Drawn, CornerIn};
 ghost use Rattle.net.specs.sides.Values.{near};
 ghost use Rattle.net.specs.copy.Copy.{PointPut};

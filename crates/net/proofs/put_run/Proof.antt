@@ -1,6 +1,6 @@
 -- `net::put_run` meets its contract. The invariant: the numbers of the first r corners are put, and the rows of the face are as they were taken.
 use mathlib.Core.Path.{_≡_, _∙_, sym}
-use Prim.Native.Nat.{ℕ, _+_, _-_, _*_, _≤_, _<_}
+use Prim.Native.Nat.{ℕ, _+_, _-_, _≤_, _<_}
 use native.Mathlib.Omega.{arith}
 use borrow.Author.Needs.{needs}
 use mathlib.Core.List.{List}
@@ -67,10 +67,6 @@ module _ (l : tie.In-loop Inv-loop μ-loop) where
   here : start .args .c + l .before .loop .r < start .args .count
   here = omega (arith, start .pre .0 .1, l .loop-test .taken)
 
-take-corner-requires : tie.Need-take-corner-requires Inv-loop μ-loop
-take-corner-requires c κs =
-    let l : tie.In-loop Inv-loop μ-loop = search in ((mesh l, here l, start l .pre .1 .1 .1), l .before .loop .inv .1 .long)
-
 rings-at-requires : tie.Need-rings-at-requires Inv-loop μ-loop
 rings-at-requires c κs =
     let l : tie.In-loop Inv-loop μ-loop = search in
@@ -88,17 +84,11 @@ fill-lanes-requires c κs =
       i .1 .wide,
     )
 
-mul-copy : tie.Need-mul-copy Inv-loop μ-loop
-mul-copy c = let l : tie.In-loop Inv-loop μ-loop = search in search (needs, few l)
-
 add-copy : tie.Need-add-copy Inv-loop μ-loop
 add-copy c =
     let l : tie.In-loop Inv-loop μ-loop = search in
     let s = start l in
     record { fits = omega (arith, s .good, s .pre .1 .1 .0 .1, l .loop-test .taken) }
-
-add-r : tie.Need-add-r Inv-loop μ-loop
-add-r c = let l : tie.In-loop Inv-loop μ-loop = search in search (needs, few l)
 
 copy-requires : tie.Need-copy-requires Inv-loop μ-loop
 copy-requires c κs =
@@ -136,7 +126,13 @@ returns c =
 
 pub put-run-spec : {M : Type 1} → statement M
 put-run-spec =
-    tie.close (tie.spec Inv-loop μ-loop take-face-requires loop-holds (λ c. search needs) take-corner-requires (λ c. search needs) rings-at-requires
-    fill-lanes-requires mul-copy add-copy copy-requires add-r (λ c. search needs) loop-again
+    tie.close (tie.spec Inv-loop μ-loop take-face-requires loop-holds (λ c. search needs)
+    (λ c κs. let l : tie.In-loop Inv-loop μ-loop = search in ((mesh l, here l, start l .pre .1 .1 .1), l .before .loop .inv .1 .long))
+    (λ c. search needs) rings-at-requires fill-lanes-requires
+    (λ c. let l : tie.In-loop Inv-loop μ-loop = search in search (needs, few l))
+    add-copy copy-requires
+    (λ c. let l : tie.In-loop Inv-loop μ-loop = search in search (needs, few l))
+    (λ c. search needs) loop-again
     (λ c. let s : tie.Start Inv-loop μ-loop = search in c .before .loop .inv .1 .long ∙ sym (s .pre .1 .0 .0))
-    (λ c. let s : tie.Start Inv-loop μ-loop = search in c .before .loop .inv .1 .wide ∙ sym (s .pre .1 .0 .1)) (λ c. c .before .loop .inv .2 .same) returns)
+    (λ c. let s : tie.Start Inv-loop μ-loop = search in c .before .loop .inv .1 .wide ∙ sym (s .pre .1 .0 .1))
+    (λ c. c .before .loop .inv .2 .same) returns)

@@ -1,9 +1,8 @@
 -- `net::rings_at` meets its contract.
-use mathlib.Core.Path.{_≡_, refl, ap, _∙_}
+use mathlib.Core.Path.{refl, ap, _∙_}
 use Prim.Native.Nat.{ℕ, _≤_}
 use native.Mathlib.Omega.{arith}
 use borrow.Author.Needs.{needs}
-use lib.IntN.{ℤ}
 use mir.Syntax.{w64}
 use mir.Val.{SFits}
 use mir.Facts.{toZ-ofZ}
@@ -21,20 +20,6 @@ face-bounds : (c : tie.After-sides) → (leastSides ≤ c .sides .result) × (c 
 face-bounds c =
     let p = c .before .before .before .pre .0 in rw (c .sides .ensures .read) (p .sound .sides-least _ (p .here), p .sound .sides-most _ (p .here))
 
-valence-requires : tie.Need-valence-requires
-valence-requires c κs = let p = c .before .pre .0 in omega (arith, p .table-long, p .here)
-
-sides-requires : tie.Need-sides-requires
-sides-requires c κs = let p = c .before .before .pre .0 in omega (arith, p .table-long, p .here)
-
-cosine-requires : tie.Need-cosine-requires
-cosine-requires c κs =
-    let b = vertex-bounds (c .before) in (c .before .before .before .pre .1, b .0, b .1, omega (arith, b .0))
-
-cosine-requires-2 : tie.Need-cosine-requires-2
-cosine-requires-2 c κs =
-    let b = face-bounds (c .before) in (c .before .before .before .before .pre .1, b .0, b .1, omega (arith, b .0))
-
 returns : tie.Need-returns
 returns c =
     let v : tie.After-valence = search in
@@ -49,4 +34,10 @@ returns c =
     }
 
 pub rings-at-spec : {M : Type 1} → statement M
-rings-at-spec = tie.close (tie.spec valence-requires sides-requires cosine-requires cosine-requires-2 returns)
+rings-at-spec =
+    tie.close (tie.spec
+    (λ c κs. let p = c .before .pre .0 in omega (arith, p .table-long, p .here))
+    (λ c κs. let p = c .before .before .pre .0 in omega (arith, p .table-long, p .here))
+    (λ c κs. let b = vertex-bounds (c .before) in (c .before .before .before .pre .1, b .0, b .1, omega (arith, b .0)))
+    (λ c κs. let b = face-bounds (c .before) in (c .before .before .before .before .pre .1, b .0, b .1, omega (arith, b .0)))
+    returns)

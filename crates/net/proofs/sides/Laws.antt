@@ -3,7 +3,7 @@ use mathlib.Core.Path.{_≡_, refl, sym, ap, _∙_}
 use Prim.Native.Nat.{ℕ, _+_, _^_, _<_}
 use native.Mathlib.Omega.{arith}
 use lib.Dec.{lit<}
-use lib.IntN.{ℤ, pos, _+ℤ_, _-ℤ_, _*ℤ_}
+use lib.IntN.{ℤ, pos, _+ℤ_, _*ℤ_}
 use mir.Syntax.{w32}
 use mir.Val.{SFits}
 use mir.Facts.{toZ-ofZ}
@@ -16,7 +16,7 @@ use Rattle.surface.proofs.Rings.{points-cyclic}
 use Rattle.faces.proofs.Few.{four-centre, four-toward}
 use Rattle.net.specs.declared.sides.Face.{Face}
 use Rattle.net.specs.declared.sides.SideValues.{SideValues}
-use Rattle.net.specs.sides.Values.{FaceSized, Through, Around, IsSide, Made}
+use Rattle.net.specs.sides.Values.{Through, Around, IsSide, Made}
 use Rattle.net.proofs.rows.Laws.{plain}
 
 -- ---- a number of a face, in the machine

@@ -43,21 +43,6 @@ loop-again c =
           (c .before .copy-run .ensures) (omega arith)),
     )
 
-shared-slice-copy-out-x : tie.Need-shared-slice-copy-out-x Inv-loop μ-loop
-shared-slice-copy-out-x c = let s = c .before .before in search (needs, s .pre .0)
-
-shared-slice-copy-out-y : tie.Need-shared-slice-copy-out-y Inv-loop μ-loop
-shared-slice-copy-out-y c = let s = c .before .before .before in search (needs, s .pre .0)
-
-shared-slice-copy-out-z : tie.Need-shared-slice-copy-out-z Inv-loop μ-loop
-shared-slice-copy-out-z c = let s = c .before .before .before .before in search (needs, s .pre .0)
-
-add-put-three : tie.Need-add-put-three Inv-loop μ-loop
-add-put-three c = let s = c .before .before .before .before .before .before in search (needs, s .pre .1)
-
-put-three-requires : tie.Need-put-three-requires Inv-loop μ-loop
-put-three-requires c κs = let l = c .before .before .before .before .before in omega (arith, l .before .pre .1, l .loop .inv .1 .same)
-
 same-length : tie.Need-same-length Inv-loop μ-loop
 same-length c = search (needs, c .before .before .before .before .before .before .before .loop .inv .1 .same)
 
@@ -77,4 +62,9 @@ returns c =
 pub copy-spec : {M : Type 1} → statement M
 copy-spec =
     tie.close (tie.spec Inv-loop μ-loop loop-holds (λ c. search needs) copy-run-requires (λ c. search needs) (λ c. search needs) loop-again
-    shared-slice-copy-out-x shared-slice-copy-out-y shared-slice-copy-out-z add-put-three put-three-requires same-length returns)
+    (λ c. let s = c .before .before in search (needs, s .pre .0))
+    (λ c. let s = c .before .before .before in search (needs, s .pre .0))
+    (λ c. let s = c .before .before .before .before in search (needs, s .pre .0))
+    (λ c. let s = c .before .before .before .before .before .before in search (needs, s .pre .1))
+    (λ c κs. let l = c .before .before .before .before .before in omega (arith, l .before .pre .1, l .loop .inv .1 .same))
+    same-length returns)

@@ -36,9 +36,6 @@ loop-holds c = (
       (zero-more (c .args .point)) (copied-none _ _ _ _),
 )
 
-put-four-requires : tie.Need-put-four-requires Inv-loop μ-loop
-put-four-requires c κs = let l = c .before .before .before .before .before in omega (arith, below l, l .before .before .pre .2, l .before .loop .inv .1 .same)
-
 loop-again : tie.Need-loop-again Inv-loop μ-loop
 loop-again c =
     let l = c .before .before .before .before .before .before .before in
@@ -54,9 +51,6 @@ loop-again c =
           (omega arith) (omega (arith, below l)) (l .before .loop .inv .1) (toZ-ofZ fx) (toZ-ofZ fy) (toZ-ofZ fz) (c .before .put-four .ensures .0)),
     )
 
-same-length : tie.Need-same-length Inv-loop μ-loop
-same-length c = c .before .loop .inv .1 .same
-
 returns : tie.Need-returns Inv-loop μ-loop
 returns c =
     let s = c .before .before in
@@ -67,9 +61,11 @@ returns c =
 pub copy-run-spec : {M : Type 1} → statement M
 copy-run-spec =
     tie.close (tie.spec Inv-loop μ-loop loop-holds (λ c. search (needs, below c)) (λ c. search (needs, below c)) (λ c. search (needs, below c))
-    (λ c. search (needs, below c)) (λ c. search (needs, below (c .before))) (λ c. search (needs, below (c .before))) (λ c. search (needs, below (c .before)))
-    (λ c. search (needs, below (c .before .before))) (λ c. search (needs, below (c .before .before))) (λ c. search (needs, below (c .before .before)))
+    (λ c. search (needs, below c)) (λ c. search (needs, below (c .before))) (λ c. search (needs, below (c .before)))
+    (λ c. search (needs, below (c .before))) (λ c. search (needs, below (c .before .before))) (λ c. search (needs, below (c .before .before)))
+    (λ c. search (needs, below (c .before .before))) (λ c. search (needs, below (c .before .before .before)))
     (λ c. search (needs, below (c .before .before .before))) (λ c. search (needs, below (c .before .before .before)))
-    (λ c. search (needs, below (c .before .before .before))) (λ c. search (needs, below (c .before .before .before .before .before)))
-    (λ c. search (needs, below (c .before .before .before .before .before))) put-four-requires (λ c. search needs) (λ c. search needs) loop-again same-length
-    returns)
+    (λ c. search (needs, below (c .before .before .before .before .before)))
+    (λ c. search (needs, below (c .before .before .before .before .before)))
+    (λ c κs. let l = c .before .before .before .before .before in omega (arith, below l, l .before .before .pre .2, l .before .loop .inv .1 .same))
+    (λ c. search needs) (λ c. search needs) loop-again (λ c. c .before .loop .inv .1 .same) returns)

@@ -1,5 +1,5 @@
 -- `net::lanes::fill_lanes` meets its contract. The invariant: the first k lanes have their points.
-use mathlib.Core.Path.{_≡_, _∙_, sym, subst}
+use mathlib.Core.Path.{_≡_, _∙_, sym}
 use Prim.Native.Nat.{ℕ, _-_, _≤_, _<_}
 use native.Mathlib.Omega.{arith}
 use lib.ListN.{length}
@@ -17,9 +17,6 @@ abbrev μ-loop : tie.MeasureT-loop
 
 loop-holds : tie.Need-loop-holds Inv-loop μ-loop
 loop-holds c = (search needs, c .pre .1, λ j h. absurd (omega arith))
-
-lane-sides-requires : tie.Need-lane-sides-requires Inv-loop μ-loop
-lane-sides-requires c κs = c .before .before .pre .0 (c .before .loop .k) (c .loop-test .taken)
 
 put-lane-requires : tie.Need-put-lane-requires Inv-loop μ-loop
 put-lane-requires c κs =
@@ -44,5 +41,8 @@ returns c =
 
 pub fill-lanes-spec : {M : Type 1} → statement M
 fill-lanes-spec =
-    tie.close (tie.spec Inv-loop μ-loop loop-holds lane-sides-requires put-lane-requires (λ c. search needs) (λ c. search needs) loop-again
-    (λ c. c .before .loop .inv .1 ∙ sym (c .before .before .pre .1)) returns)
+    tie.close (tie.spec Inv-loop μ-loop loop-holds
+    (λ c κs. c .before .before .pre .0 (c .before .loop .k) (c .loop-test .taken))
+    put-lane-requires (λ c. search needs) (λ c. search needs) loop-again
+    (λ c. c .before .loop .inv .1 ∙ sym (c .before .before .pre .1))
+    returns)

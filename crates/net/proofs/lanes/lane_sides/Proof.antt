@@ -6,13 +6,6 @@ use Rattle.net.proofs.rows.Laws.{row, row-is}
 use Rattle.net.proofs.lanes.lane_sides.Statement.{statement}
 use Rattle.net.proofs.lanes.lane_sides.Tie as tie
 
-ring-face-requires : tie.Need-ring-face-requires
-ring-face-requires c κs = let s : tie.Start = search in (omega (arith, s .pre .long, s .pre .lane), omega (arith, s .pre .long, s .pre .lane))
-
-ring-face-requires-2 : tie.Need-ring-face-requires-2
-ring-face-requires-2 c κs =
-    let s : tie.Start = search in (omega (arith, s .pre .long, s .pre .lane), omega (arith, s .pre .long, s .pre .lane, s .pre .place))
-
 sides-of-requires : tie.Need-sides-of-requires
 sides-of-requires c κs =
     let s : tie.Start = search in
@@ -37,4 +30,8 @@ returns c =
 
 pub lane-sides-spec : {M : Type 1} → statement M
 lane-sides-spec =
-    tie.close (tie.spec (λ c. search needs) ring-face-requires (λ c. search needs) (λ c. search needs) ring-face-requires-2 sides-of-requires returns)
+    tie.close (tie.spec (λ c. search needs)
+    (λ c κs. let s : tie.Start = search in (omega (arith, s .pre .long, s .pre .lane), omega (arith, s .pre .long, s .pre .lane)))
+    (λ c. search needs) (λ c. search needs)
+    (λ c κs. let s : tie.Start = search in (omega (arith, s .pre .long, s .pre .lane), omega (arith, s .pre .long, s .pre .lane, s .pre .place)))
+    sides-of-requires returns)

@@ -1,6 +1,5 @@
 -- `net::lanes::ring_face` meets its contract: three numbers are read.
 use mathlib.Core.Path.{_∙_}
-use native.Mathlib.Omega.{arith}
 use borrow.Author.Needs.{needs}
 use mir.Syntax.{w32}
 use mir.Val.{SFits}

@@ -1,11 +1,10 @@
 -- `net::near::take_corner` meets its contract. The invariant: the first i rows are those of the corners around.
 use mathlib.Core.Path.{_≡_, refl, sym, _∙_, subst}
 use mathlib.Core.List.{List}
-use Prim.Native.Nat.{ℕ, _+_, _-_, _*_, _≤_, _<_}
+use Prim.Native.Nat.{ℕ, _-_, _≤_, _<_}
 use native.Mathlib.Omega.{arith}
 use borrow.Author.Needs.{needs}
-use lib.Dec.{lit<}
-use lib.ListN.{length, getD}
+use lib.ListN.{getD}
 use Rattle.net.proofs.near.Rows.{RowsTaken, rows-none, rows-more, corner-taken}
 use Rattle.net.proofs.near.Rings.{near-in}
 use Rattle.net.proofs.near.take_corner.Statement.{statement}
@@ -16,10 +15,6 @@ Inv-loop points table rows count c near₀ corners i₀ near i = (i ≤ 7) × Ro
 
 abbrev μ-loop : tie.MeasureT-loop
 μ-loop points table rows count c near₀ corners i₀ near i = 7 - i
-
-corners-near-requires : tie.Need-corners-near-requires Inv-loop μ-loop
-corners-near-requires c κs =
-    let p = c .before .pre .0 in record { sound = p .0 .sound; table-long = p .0 .table-long; here = p .1 }
 
 take-vertex-requires : tie.Need-take-vertex-requires Inv-loop μ-loop
 take-vertex-requires c κs =
@@ -32,9 +27,6 @@ take-vertex-requires c κs =
       s .pre .0,
       ((d .previous-in _ (d .link-in _ p), d .link-previous-link _ p ∙ d .next-previous _ h, refl), s .pre .1),
     )
-
-loop-holds : tie.Need-loop-holds Inv-loop μ-loop
-loop-holds c = (search needs, rows-none _ _ _)
 
 -- the corner of row i
 module _ (l : tie.In-loop Inv-loop μ-loop) where
@@ -75,6 +67,9 @@ returns c =
 
 pub take-corner-spec : {M : Type 1} → statement M
 take-corner-spec =
-    tie.close (tie.spec Inv-loop μ-loop corners-near-requires (λ c. search needs) (λ c. search needs) take-vertex-requires loop-holds (λ c. search needs)
-    (λ c. search needs) take-whole-requires (λ c. search needs) (λ c. search needs) loop-again
-    (λ c. let v : tie.After-take-vertex Inv-loop μ-loop = search in c .before .loop .inv .1 .same ∙ v .take-vertex .ensures .same) returns)
+    tie.close (tie.spec Inv-loop μ-loop
+    (λ c κs. let p = c .before .pre .0 in record { sound = p .0 .sound; table-long = p .0 .table-long; here = p .1 })
+    (λ c. search needs) (λ c. search needs) take-vertex-requires (λ c. (search needs, rows-none _ _ _)) (λ c. search needs) (λ c. search needs)
+    take-whole-requires (λ c. search needs) (λ c. search needs) loop-again
+    (λ c. let v : tie.After-take-vertex Inv-loop μ-loop = search in c .before .loop .inv .1 .same ∙ v .take-vertex .ensures .same)
+    returns)

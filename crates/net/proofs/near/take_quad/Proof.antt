@@ -31,12 +31,6 @@ four c =
     quad-start (s .args .count) (s .args .table .now) (s .args .points .now) (s .pre .0 .0) (s .args .c) (s .pre .0 .1) _ _ _ _ (s .pre .0 .2)
     (c .before .before .previous .ensures .read) refl (c .before .next .ensures .read) (c .next2 .ensures .read)
 
-previous-requires : tie.Need-previous-requires Inv-loop μ-loop
-previous-requires c κs = let p = c .before .pre .0 in row-in _ _ _ (p .0) _ _ (lit< tt) (p .1)
-
-next-requires : tie.Need-next-requires Inv-loop μ-loop
-next-requires c κs = let p = c .before .before .pre .0 in row-in _ _ _ (p .0) _ _ (lit< tt) (p .1)
-
 next-requires-2 : tie.Need-next-requires-2 Inv-loop μ-loop
 next-requires-2 c κs =
     let p = c .before .before .before .pre .0 in
@@ -49,9 +43,6 @@ four-centre-requires c κs =
     let q = quad-in _ _ _ d _ (s .pre .0 .1) (s .pre .0 .2) _ _ _ _ _ (four c) in
     let at = readable _ _ _ d in
     (at _ (s .pre .0 .1), at _ (q .2), at _ (q .3), at _ (q .0))
-
-take-row-requires : tie.Need-take-row-requires Inv-loop μ-loop
-take-row-requires c κs = let s : tie.Start Inv-loop μ-loop = search in omega (arith, s .pre .1 .0)
 
 loop-holds : tie.Need-loop-holds Inv-loop μ-loop
 loop-holds c =
@@ -78,12 +69,6 @@ four-toward-requires c κs =
 few : (l : tie.In-loop Inv-loop μ-loop) → l .before .loop .r ≤ mostSides
 few l = let s : tie.Start Inv-loop μ-loop = search in omega (arith, l .loop-test .taken, s .pre .1 .1)
 
-add-take-row : tie.Need-add-take-row-2 Inv-loop μ-loop
-add-take-row c = let l : tie.In-loop Inv-loop μ-loop = search in search (needs, few l)
-
-add-r : tie.Need-add-r Inv-loop μ-loop
-add-r c = let l : tie.In-loop Inv-loop μ-loop = search in search (needs, few l)
-
 take-row-requires-2 : tie.Need-take-row-requires-2 Inv-loop μ-loop
 take-row-requires-2 c κs =
     let l : tie.In-loop Inv-loop μ-loop = search in
@@ -105,9 +90,6 @@ loop-again c =
       quad-more _ _ _ _ _ _ _ (i .2),
     )
 
-same-length : tie.Need-same-length Inv-loop μ-loop
-same-length c = let r : tie.After-take-row Inv-loop μ-loop = search in c .before .loop .inv .1 .same ∙ r .take-row .ensures .same
-
 returns : tie.Need-returns Inv-loop μ-loop
 returns c =
     let r : tie.After-take-row Inv-loop μ-loop = search in
@@ -120,5 +102,15 @@ returns c =
 
 pub take-quad-spec : {M : Type 1} → statement M
 take-quad-spec =
-    tie.close (tie.spec Inv-loop μ-loop previous-requires next-requires next-requires-2 four-centre-requires take-row-requires loop-holds
-    four-toward-requires (λ c. search needs) add-take-row take-row-requires-2 add-r (λ c. search needs) loop-again same-length returns)
+    tie.close (tie.spec Inv-loop μ-loop
+    (λ c κs. let p = c .before .pre .0 in row-in _ _ _ (p .0) _ _ (lit< tt) (p .1))
+    (λ c κs. let p = c .before .before .pre .0 in row-in _ _ _ (p .0) _ _ (lit< tt) (p .1))
+    next-requires-2 four-centre-requires
+    (λ c κs. let s : tie.Start Inv-loop μ-loop = search in omega (arith, s .pre .1 .0))
+    loop-holds four-toward-requires (λ c. search needs)
+    (λ c. let l : tie.In-loop Inv-loop μ-loop = search in search (needs, few l))
+    take-row-requires-2
+    (λ c. let l : tie.In-loop Inv-loop μ-loop = search in search (needs, few l))
+    (λ c. search needs) loop-again
+    (λ c. let r : tie.After-take-row Inv-loop μ-loop = search in c .before .loop .inv .1 .same ∙ r .take-row .ensures .same)
+    returns)

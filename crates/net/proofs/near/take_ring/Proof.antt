@@ -40,24 +40,9 @@ module _ (s : tie.Start Inv-loop μ-loop) where
 reciprocal-is : (c : tie.After-reciprocal Inv-loop μ-loop) → Reciprocal (pos (3 * c .before .before .args .n)) (c .reciprocal .result)
 reciprocal-is c = let d = by (c .before .before) in rw (d .count-is, toZ-ofZ (d .fits)) at (c .reciprocal .ensures)
 
-cast-reciprocal : tie.Need-cast-reciprocal Inv-loop μ-loop
-cast-reciprocal c = let d = by (c .before) in search needs
-
-mul-reciprocal : tie.Need-mul-reciprocal Inv-loop μ-loop
-mul-reciprocal c = let d = by (c .before) in rw (d .count-is) (d .fits)
-
-reciprocal-requires : tie.Need-reciprocal-requires Inv-loop μ-loop
-reciprocal-requires c κs = let d = by (c .before) in rw (d .count-is, toZ-ofZ (d .fits)) (d .from, d .to)
-
 ring-centre-requires : tie.Need-ring-centre-requires Inv-loop μ-loop
 ring-centre-requires c κs =
     let s = c .before .before in (face-ring _ _ _ (drawn-is s) _ _ (s .pre .0 .1) (sym (s .pre .0 .2)), reciprocal-is c)
-
-take-row-requires : tie.Need-take-row-requires Inv-loop μ-loop
-take-row-requires c κs = let s : tie.Start Inv-loop μ-loop = search in omega (arith, s .pre .1 .0)
-
-previous-requires : tie.Need-previous-requires Inv-loop μ-loop
-previous-requires c κs = let s : tie.Start Inv-loop μ-loop = search in row-in _ _ _ (drawn-is s) _ _ (lit< tt) (s .pre .0 .1)
 
 loop-holds : tie.Need-loop-holds Inv-loop μ-loop
 unfolding iterate
@@ -94,21 +79,12 @@ ring-toward-requires c κs =
     let s = start c in
     (face-ring _ _ _ (drawn-is s) _ _ (here c) (sides-here c), (s .pre .0 .3, reciprocal-is q))
 
-add-take-row : tie.Need-add-take-row-2 Inv-loop μ-loop
-add-take-row c = let l : tie.In-loop Inv-loop μ-loop = search in search (needs, few l)
-
-add-r : tie.Need-add-r Inv-loop μ-loop
-add-r c = let l : tie.In-loop Inv-loop μ-loop = search in search (needs, few l)
-
 take-row-requires-2 : tie.Need-take-row-requires-2 Inv-loop μ-loop
 take-row-requires-2 c κs =
     let l : tie.In-loop Inv-loop μ-loop = search in
     let r : tie.After-take-row Inv-loop μ-loop = search in
     let s = start l in
     omega (arith, few l, l .before .loop .inv .1 .same, r .take-row .ensures .same, s .pre .1 .0)
-
-next-requires : tie.Need-next-requires Inv-loop μ-loop
-next-requires c κs = let l : tie.In-loop Inv-loop μ-loop = search in row-in _ _ _ (drawn-is (start l)) _ _ (lit< tt) (here l)
 
 loop-again : tie.Need-loop-again Inv-loop μ-loop
 loop-again c =
@@ -125,9 +101,6 @@ loop-again c =
       c .next .ensures .read ∙ step-more _ _ _ _ (i .2),
     )
 
-same-length : tie.Need-same-length Inv-loop μ-loop
-same-length c = let r : tie.After-take-row Inv-loop μ-loop = search in c .before .loop .inv .1 .same ∙ r .take-row .ensures .same
-
 returns : tie.Need-returns Inv-loop μ-loop
 returns c =
     let r : tie.After-take-row Inv-loop μ-loop = search in
@@ -140,5 +113,16 @@ returns c =
 
 pub take-ring-spec : {M : Type 1} → statement M
 take-ring-spec =
-    tie.close (tie.spec Inv-loop μ-loop cast-reciprocal mul-reciprocal reciprocal-requires ring-centre-requires take-row-requires previous-requires loop-holds
-    ring-toward-requires (λ c. search needs) add-take-row take-row-requires-2 next-requires add-r (λ c. search needs) loop-again same-length returns)
+    tie.close (tie.spec Inv-loop μ-loop (λ c. let d = by (c .before) in search needs) (λ c. let d = by (c .before) in rw (d .count-is) (d .fits))
+    (λ c κs. let d = by (c .before) in rw (d .count-is, toZ-ofZ (d .fits)) (d .from, d .to))
+    ring-centre-requires
+    (λ c κs. let s : tie.Start Inv-loop μ-loop = search in omega (arith, s .pre .1 .0))
+    (λ c κs. let s : tie.Start Inv-loop μ-loop = search in row-in _ _ _ (drawn-is s) _ _ (lit< tt) (s .pre .0 .1))
+    loop-holds ring-toward-requires (λ c. search needs)
+    (λ c. let l : tie.In-loop Inv-loop μ-loop = search in search (needs, few l))
+    take-row-requires-2
+    (λ c κs. let l : tie.In-loop Inv-loop μ-loop = search in row-in _ _ _ (drawn-is (start l)) _ _ (lit< tt) (here l))
+    (λ c. let l : tie.In-loop Inv-loop μ-loop = search in search (needs, few l))
+    (λ c. search needs) loop-again
+    (λ c. let r : tie.After-take-row Inv-loop μ-loop = search in c .before .loop .inv .1 .same ∙ r .take-row .ensures .same)
+    returns)

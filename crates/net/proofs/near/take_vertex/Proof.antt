@@ -1,17 +1,18 @@
 -- `net::near::take_vertex` meets its contract, by cases on the corners of the vertex: three, four, or any other count.
-use mathlib.Core.Path.{_≡_, sym, ap, _∙_}
-use Prim.Native.Nat.{ℕ, _*_, _<_}
+use mathlib.Core.Path.{_≡_, sym, _∙_}
+use Prim.Native.Nat.{_*_, _<_}
 use native.Mathlib.Omega.{arith}
 use borrow.Author.Needs.{needs}
 use lib.Dec.{lit<}
 use lib.IntN.{pos}
 use mir.Facts.{toZ-ofZ}
 use Rattle.numbers.specs.Units.{Reciprocal}
-use Rattle.walk.specs.Table.{toLink, valenceHere, entry}
+use Rattle.walk.specs.Table.{valenceHere, entry}
 use Rattle.faces.specs.Ring.{Readable}
 use Rattle.net.specs.sides.Drawn.{Drawn}
 use Rattle.net.proofs.near.Rows.{row-at, vertex-taken}
-use Rattle.net.proofs.near.Rings.{Divisor, divisor, row-in, readable, vertex-ring, valence-before, vertex-H, vertex-X, three-H, three-behind, three-ahead, four-H, four-behind, four-ahead, ring-behind}
+use Rattle.net.proofs.near.Rings.{Divisor, divisor, row-in, readable, vertex-ring, valence-before, vertex-H, vertex-X, ring-behind}
+use Rattle.net.proofs.near.Rings.{three-H, three-behind, three-ahead, four-H, four-behind, four-ahead}
 use Rattle.net.proofs.near.take_vertex.Statement.{statement}
 use Rattle.net.proofs.near.take_vertex.Tie as tie
 
@@ -126,89 +127,12 @@ returns-3 c =
     (λ a l z h. ring-behind _ _ _ t _ _ _ (s .pre .1 .0 .0) (s .pre .0 .1) (s .pre .1 .0 .1) (s .pre .1 .0 .2) _ a z l n h) (q .ring-toward .ensures))
     (row-at _ 9 _ _ (u .take-row9 .ensures) _ _ (λ a l z h. vertex-X _ _ _ t _ _ a z n h) (o .ring-toward2 .ensures))
 
-valence-requires : tie.Need-valence-requires
-valence-requires c κs = row-in _ _ _ (drawn-is (c .before)) _ _ (lit< tt) (c .before .pre .0 .1)
-
-linked-requires : tie.Need-linked-requires
-linked-requires c κs = let s = c .before .before .before .before in row-in _ _ _ (drawn-is s) _ _ (lit< tt) (after-in s)
-
--- the rows have room
-room-1 : tie.Need-take-row-requires
-room-1 c κs = let s : tie.Start = search in omega (arith, s .pre .1 .1)
-
-room-2 : tie.Need-take-row-requires-2
-room-2 c κs = let w : tie.After-take-row = search in let s : tie.Start = search in omega (arith, s .pre .1 .1, w .take-row .ensures .same)
-
-room-3 : tie.Need-take-row-requires-3
-room-3 c κs =
-    let v : tie.After-take-row2 = search in
-    let w : tie.After-take-row = search in
-    let s : tie.Start = search in
-    omega (arith, s .pre .1 .1, w .take-row .ensures .same, v .take-row2 .ensures .same)
-
-room-4 : tie.Need-take-row-requires-4
-room-4 c κs = let s : tie.Start = search in omega (arith, s .pre .1 .1)
-
-room-5 : tie.Need-take-row-requires-5
-room-5 c κs = let w : tie.After-take-row4 = search in let s : tie.Start = search in omega (arith, s .pre .1 .1, w .take-row4 .ensures .same)
-
-room-6 : tie.Need-take-row-requires-6
-room-6 c κs =
-    let v : tie.After-take-row5 = search in
-    let w : tie.After-take-row4 = search in
-    let n : tie.After-linked = search in
-    let s = n .before .before .before .before .before in
-    omega (arith, s .pre .1 .1, w .take-row4 .ensures .same, v .take-row5 .ensures .same)
-
-room-7 : tie.Need-take-row-requires-7
-room-7 c κs = let s : tie.Start = search in omega (arith, s .pre .1 .1)
-
-room-8 : tie.Need-take-row-requires-8
-room-8 c κs =
-    let w : tie.After-take-row7 = search in
-    let r : tie.After-reciprocal = search in
-    omega (arith, start (r .before) .pre .1 .1, w .take-row7 .ensures .same)
-
-room-9 : tie.Need-take-row-requires-9
-room-9 c κs =
-    let v : tie.After-take-row8 = search in
-    let w : tie.After-take-row7 = search in
-    let r : tie.After-reciprocal = search in
-    omega (arith, start (r .before) .pre .1 .1, w .take-row7 .ensures .same, v .take-row8 .ensures .same)
-
--- the calls of three and of four
-three-centre-requires : tie.Need-three-centre-requires
-three-centre-requires c κs = let s = c .before .before .before in (here s, after s, behind s)
-
-three-toward-requires : tie.Need-three-toward-requires
-three-toward-requires c κs = let s : tie.Start = search in (behind s, here s, after s)
-
-three-toward-requires-2 : tie.Need-three-toward-requires-2
-three-toward-requires-2 c κs = let v : tie.After-take-row = search in let s : tie.Start = search in (here s, after s, behind s)
-
-four-centre-requires : tie.Need-four-centre-requires
-four-centre-requires c κs = let s = c .before .before .before .before .before in (here s, after s, far c, behind s)
-
-four-toward-requires : tie.Need-four-toward-requires
-four-toward-requires c κs =
-    let n : tie.After-linked = search in let s = n .before .before .before .before .before in (behind s, here s, after s, far n)
-
 four-toward-requires-2 : tie.Need-four-toward-requires-2
 four-toward-requires-2 c κs =
     let v : tie.After-take-row4 = search in
     let n : tie.After-linked = search in
     let s = n .before .before .before .before .before in
     (here s, after s, far n, behind s)
-
--- and of another count
-cast-reciprocal : tie.Need-cast-reciprocal
-cast-reciprocal c = let d = by (counted c) in search needs
-
-mul-reciprocal : tie.Need-mul-reciprocal
-mul-reciprocal c = let d = by (counted c) in rw (d .count-is) (d .fits)
-
-reciprocal-requires : tie.Need-reciprocal-requires
-reciprocal-requires c κs = let d = by (counted c) in rw (d .count-is, toZ-ofZ (d .fits)) (d .from, d .to)
 
 ring-centre-requires : tie.Need-ring-centre-requires
 ring-centre-requires c κs =
@@ -236,7 +160,34 @@ ring-toward-requires-2 c κs =
 
 pub take-vertex-spec : {M : Type 1} → statement M
 take-vertex-spec =
-    tie.close (tie.spec valence-requires three-centre-requires room-1 three-toward-requires (λ c. search needs) room-2 three-toward-requires-2
-    (λ c. search needs) room-3 linked-requires four-centre-requires room-4 four-toward-requires (λ c. search needs) room-5 four-toward-requires-2
-    (λ c. search needs) room-6 cast-reciprocal mul-reciprocal reciprocal-requires ring-centre-requires ring-toward-requires ring-toward-requires-2 room-7
-    (λ c. search needs) room-8 (λ c. search needs) room-9 (λ c. search needs) returns (λ c. search needs) returns-2 (λ c. search needs) returns-3)
+    tie.close (tie.spec
+    (λ c κs. row-in _ _ _ (drawn-is (c .before)) _ _ (lit< tt) (c .before .pre .0 .1))
+    (λ c κs. let s = c .before .before .before in (here s, after s, behind s))
+    (λ c κs. let s : tie.Start = search in omega (arith, s .pre .1 .1))
+    (λ c κs. let s : tie.Start = search in (behind s, here s, after s))
+    (λ c. search needs)
+    (λ c κs. let w : tie.After-take-row = search in let s : tie.Start = search in omega (arith, s .pre .1 .1, w .take-row .ensures .same))
+    (λ c κs. let v : tie.After-take-row = search in let s : tie.Start = search in (here s, after s, behind s))
+    (λ c. search needs)
+    (λ c κs. let v : tie.After-take-row2 = search in let w : tie.After-take-row = search in let s : tie.Start = search in
+    omega (arith, s .pre .1 .1, w .take-row .ensures .same, v .take-row2 .ensures .same))
+    (λ c κs. let s = c .before .before .before .before in row-in _ _ _ (drawn-is s) _ _ (lit< tt) (after-in s))
+    (λ c κs. let s = c .before .before .before .before .before in (here s, after s, far c, behind s))
+    (λ c κs. let s : tie.Start = search in omega (arith, s .pre .1 .1))
+    (λ c κs. let n : tie.After-linked = search in let s = n .before .before .before .before .before in (behind s, here s, after s, far n))
+    (λ c. search needs)
+    (λ c κs. let w : tie.After-take-row4 = search in let s : tie.Start = search in omega (arith, s .pre .1 .1, w .take-row4 .ensures .same))
+    four-toward-requires-2 (λ c. search needs)
+    (λ c κs. let v : tie.After-take-row5 = search in let w : tie.After-take-row4 = search in let n : tie.After-linked = search in
+    let s = n .before .before .before .before .before in omega (arith, s .pre .1 .1, w .take-row4 .ensures .same, v .take-row5 .ensures .same))
+    (λ c. let d = by (counted c) in search needs) (λ c. let d = by (counted c) in rw (d .count-is) (d .fits))
+    (λ c κs. let d = by (counted c) in rw (d .count-is, toZ-ofZ (d .fits)) (d .from, d .to))
+    ring-centre-requires ring-toward-requires ring-toward-requires-2
+    (λ c κs. let s : tie.Start = search in omega (arith, s .pre .1 .1))
+    (λ c. search needs)
+    (λ c κs. let w : tie.After-take-row7 = search in let r : tie.After-reciprocal = search in
+    omega (arith, start (r .before) .pre .1 .1, w .take-row7 .ensures .same))
+    (λ c. search needs)
+    (λ c κs. let v : tie.After-take-row8 = search in let w : tie.After-take-row7 = search in let r : tie.After-reciprocal = search in
+    omega (arith, start (r .before) .pre .1 .1, w .take-row7 .ensures .same, v .take-row8 .ensures .same))
+    (λ c. search needs) returns (λ c. search needs) returns-2 (λ c. search needs) returns-3)

@@ -7,24 +7,6 @@ use Rattle.net.proofs.rows.side_rows.Tie as tie
 abbrev start : tie.After-struct-told11 → tie.Start
 start c = c .before .before .before .before .before .before .before .before .before .before .before
 
-quarter-requires : tie.Need-quarter-requires
-quarter-requires c κs = let s = start c in search value
-
-half-requires : tie.Need-half-requires
-half-requires c κs = let s = start (c .before) in search value-written
-
-quarter-requires-2 : tie.Need-quarter-requires-2
-quarter-requires-2 c κs = let s = start (c .before .before) in search value
-
-second-requires : tie.Need-second-requires
-second-requires c κs = let s = start (c .before .before .before) in search (value, row)
-
-third-requires : tie.Need-third-requires
-third-requires c κs = let s = start (c .before .before .before .before) in search (value, row)
-
-middle-requires : tie.Need-middle-requires
-middle-requires c κs = let s = start (c .before .before .before .before .before) in search value
-
 returns : tie.Need-returns
 returns c =
     let v : tie.After-third = search in
@@ -37,4 +19,10 @@ returns c =
     (u .second .ensures) (v .third .ensures) (c .middle .ensures)
 
 pub side-rows-spec : {M : Type 1} → statement M
-side-rows-spec = tie.close (tie.spec quarter-requires half-requires quarter-requires-2 second-requires third-requires middle-requires returns)
+side-rows-spec =
+    tie.close (tie.spec (λ c κs. let s = start c in search value) (λ c κs. let s = start (c .before) in search value-written)
+    (λ c κs. let s = start (c .before .before) in search value)
+    (λ c κs. let s = start (c .before .before .before) in search (value, row))
+    (λ c κs. let s = start (c .before .before .before .before) in search (value, row))
+    (λ c κs. let s = start (c .before .before .before .before .before) in search value)
+    returns)

@@ -24,22 +24,17 @@ module _ (c : tie.After-point4) where
   fourth : Read (c .point4 .result) (pointAt (s .args .near .now) (s .args .k) (s .args .d))
   fourth = read _ _ (c .point4 .ensures) (s .pre .3 .1)
 
-mean-requires : tie.Need-mean-requires
-mean-requires c κs = (first c .1, second c .1, third c .1, fourth c .1)
-
-toward-requires : tie.Need-toward-requires
-toward-requires c κs = let p = c .before in (first p .1, second p .1, third p .1, fourth p .1)
-
-toward-requires-2 : tie.Need-toward-requires-2
-toward-requires-2 c κs = let p = c .before .before in (fourth p .1, first p .1, second p .1, third p .1)
-
 returns : tie.Need-returns
 returns c =
     let p = c .before .before .before in
-    through _ _ _ _ _ (p .before .before .before .point .result) (p .before .before .point2 .result) (p .before .point3 .result) (p .point4 .result) _ _ _ (first p .0) (second p .0) (third p .0) (fourth p .0) (c .before .before .mean .ensures) (c .before .toward .ensures)
+    through _ _ _ _ _ (p .before .before .before .point .result) (p .before .before .point2 .result) (p .before .point3 .result) (p .point4 .result) _ _ _
+    (first p .0) (second p .0) (third p .0) (fourth p .0) (c .before .before .mean .ensures) (c .before .toward .ensures)
     (c .toward2 .ensures)
 
 pub face-through-spec : {M : Type 1} → statement M
 face-through-spec =
-    tie.close (tie.spec (λ c κs. search needs) (λ c κs. search needs) (λ c κs. search needs) (λ c κs. search needs) mean-requires toward-requires
-    toward-requires-2 returns)
+    tie.close (tie.spec (λ c κs. search needs) (λ c κs. search needs) (λ c κs. search needs) (λ c κs. search needs)
+    (λ c κs. (first c .1, second c .1, third c .1, fourth c .1))
+    (λ c κs. let p = c .before in (first p .1, second p .1, third p .1, fourth p .1))
+    (λ c κs. let p = c .before .before in (fourth p .1, first p .1, second p .1, third p .1))
+    returns)

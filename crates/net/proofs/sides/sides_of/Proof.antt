@@ -1,6 +1,6 @@
 -- `net::sides::sides_of` meets its contract: each side is made from numbers of its sizes, which are those of the definitions.
-use mathlib.Core.Path.{_≡_, _∙_}
-use Prim.Native.Nat.{ℕ, _<_}
+use mathlib.Core.Path.{_∙_}
+use Prim.Native.Nat.{_<_}
 use lib.Dec.{lit<}
 use Rattle.paper.specs.Net.{side0, side1, side2, side3, H, T, C}
 use Rattle.surface.specs.Points.{pointAt}
@@ -29,27 +29,6 @@ module _ (c : tie.After-point5) where
 
   previous : Read (c .point5 .result) (pointAt (s .args .near .now) (s .args .k) 6)
   previous = read _ _ (c .point5 .ensures) (s .pre .0 6 (lit< tt) .1)
-
-face-through-requires : tie.Need-face-through-requires
-face-through-requires c κs = let r = c .pre .0 in (r 0 (lit< tt), r 1 (lit< tt), r 2 (lit< tt), r 3 (lit< tt))
-
-face-through-requires-2 : tie.Need-face-through-requires-2
-face-through-requires-2 c κs = let r = c .before .pre .0 in (r 0 (lit< tt), r 4 (lit< tt), r 5 (lit< tt), r 6 (lit< tt))
-
-point-requires : tie.Need-point-requires
-point-requires c κs = let s : tie.Start = search in s .pre .0 0 (lit< tt) .0
-
-point-requires-2 : tie.Need-point-requires-2
-point-requires-2 c κs = let s : tie.Start = search in s .pre .0 1 (lit< tt) .0
-
-point-requires-3 : tie.Need-point-requires-3
-point-requires-3 c κs = let s : tie.Start = search in s .pre .0 3 (lit< tt) .0
-
-point-requires-4 : tie.Need-point-requires-4
-point-requires-4 c κs = let s : tie.Start = search in s .pre .0 4 (lit< tt) .0
-
-point-requires-5 : tie.Need-point-requires-5
-point-requires-5 c κs = let s : tie.Start = search in s .pre .0 6 (lit< tt) .0
 
 side-requires : tie.Need-side-requires
 side-requires c κs =
@@ -168,5 +147,12 @@ returns c =
 
 pub sides-of-spec : {M : Type 1} → statement M
 sides-of-spec =
-    tie.close (tie.spec face-through-requires face-through-requires-2 point-requires point-requires-2 point-requires-3 point-requires-4 point-requires-5
+    tie.close (tie.spec
+    (λ c κs. let r = c .pre .0 in (r 0 (lit< tt), r 1 (lit< tt), r 2 (lit< tt), r 3 (lit< tt)))
+    (λ c κs. let r = c .before .pre .0 in (r 0 (lit< tt), r 4 (lit< tt), r 5 (lit< tt), r 6 (lit< tt)))
+    (λ c κs. let s : tie.Start = search in s .pre .0 0 (lit< tt) .0)
+    (λ c κs. let s : tie.Start = search in s .pre .0 1 (lit< tt) .0)
+    (λ c κs. let s : tie.Start = search in s .pre .0 3 (lit< tt) .0)
+    (λ c κs. let s : tie.Start = search in s .pre .0 4 (lit< tt) .0)
+    (λ c κs. let s : tie.Start = search in s .pre .0 6 (lit< tt) .0)
     side-requires side-requires-2 side-requires-3 side-requires-4 returns)
