@@ -12,7 +12,7 @@ use Rattle.mirror.proofs.Theorem.{mirrors}
 use Rattle.paper.proofs.Claim.{examples}
 use Rattle.floats.proofs.Theorems.{far-pairs, float-sums, one-answer}
 use Rattle.floats.proofs.nets.Nets.{nets-pass}
-use Rattle.nesting.proofs.Theorems.{chains-decide, listing-ordered, one-listing}
+use Rattle.nesting.proofs.Theorems.{chains-decide, each-chain, listing-ordered, one-listing}
 use Rattle.irregular.proofs.Theorems.{lines-agree}
 use Rattle.dms.proofs.Theorems.{version-one}
 use Rattle.claims.proofs.Plain.{plain-passes}
@@ -44,6 +44,7 @@ claims = record {
   one-answer = one-answer;
   nets-pass = nets-pass;
   chains-decide = chains-decide;
+  each-chain = each-chain;
   listing-ordered = listing-ordered;
   one-listing = one-listing;
   lines-agree = lines-agree;

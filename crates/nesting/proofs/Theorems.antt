@@ -1,8 +1,8 @@
--- L4's theorems: a table is accepted exactly when every chain ends at the Sun; the listing of an accepted table holds each body once,
+-- L4's theorems: a table is accepted exactly when every chain ends at the Sun, and each body is tested for its own chain; the listing of an accepted table holds each body once,
 -- after the one it hangs in, with none lower possible, and is the only such list.
 use mathlib.Core.Path.{_≡_, refl, sym, ap, _∙_, subst}
 use mathlib.Core.Bool.{Bool, true, false, not}
-use mathlib.Core.Logic.{⊎-elim, _↔_}
+use mathlib.Core.Logic.{⊎-elim}
 use mathlib.Core.List.{List, [], _∷_, _++_}
 use Prim.Native.Nat.{ℕ, zero, suc, _<_, _≤_}
 use native.Mathlib.Nat.{min-le-left}
@@ -15,7 +15,7 @@ use Rattle.paper.specs.Scan.{pickN}
 use Rattle.paper.specs.Faults.{sound}
 use Rattle.paper.specs.Nesting.{mostBodies, sun, holder, endsAtSun, fault21, fault22, fault23, tableVerdict, nestingVerdict, listed, mayFollow}
 use Rattle.paper.specs.Nesting.{nextBody, places, listing, Ends, Ordered}
-use Rattle.paper.specs.Claims.{ChainsDecide, ListingOrdered, OneListing}
+use Rattle.paper.specs.Claims.{ChainsDecide, EachChain, ListingOrdered, OneListing}
 use Rattle.mesh.proofs.Scans.{ways, clash, compared}
 use Rattle.mesh.proofs.Ranges.{none-left, or-left, or-right, at-most}
 use Rattle.mesh.proofs.Verdicts.{sound-left, sound-right, single-sound, lowest-sound, orElse-sound, lowest-none}
@@ -126,12 +126,6 @@ chains-decide B m t = (
       ∙ lowest-none 23 (length B) (λ b. not (endsAtSun B b))
       (λ b h. ap not (listed-ends B (length B) run b (all-listed B (length B) run refl b h)))),
 )
-
--- L4, "23 when a chain does not end at the Sun (place: the lowest such body)": in a table that passes 21 and 22, the test of a body that 23 takes the
--- lowest of holds exactly when that body's chain ends, after however many steps
-abbrev pub EachChain : Type 0
-EachChain =
-    (holders : List ℕ) (n : ℕ) → tableVerdict holders n ≡ sound → (b : ℕ) → b < length holders → (endsAtSun holders b ≡ true) ↔ Ends holders b
 
 pub each-chain : EachChain
 each-chain B m t b h = (some-step B b, ends-soon B (few B m t) (held B m t) b h)

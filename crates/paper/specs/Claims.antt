@@ -16,7 +16,7 @@ use Rattle.paper.specs.Net.{Side, across, atHead, atTail, netPoints}
 use Rattle.paper.specs.File.{versionIn, fileMesh, FileSurveyed}
 use Rattle.paper.specs.Calls.{perCorner, nets, Built}
 use Rattle.paper.specs.Floats.{netVerdict, difference, farFirst, farSecond, axes, Pointed, sums, FarPair}
-use Rattle.paper.specs.Nesting.{tableVerdict, nestingVerdict, listed, Nested, Ends, Ordered}
+use Rattle.paper.specs.Nesting.{endsAtSun, tableVerdict, nestingVerdict, listed, Nested, Ends, Ordered}
 use Rattle.paper.specs.Squares.{Searched, Agreed}
 use Rattle.paper.specs.Archive.{Archived, Restored, All32Bit, AllBytes}
 use Rattle.paper.specs.Off.{wordsOf, wordsEnd, OffRead}
@@ -106,6 +106,12 @@ abbrev pub ChainsDecide : Type 0
 ChainsDecide =
     (holders : List ℕ) (n : ℕ) → tableVerdict holders n ≡ sound
     → (nestingVerdict holders n ≡ sound) ↔ ((b : ℕ) → b < length holders → Ends holders b)
+
+-- "23 when a chain does not end at the Sun (place: the lowest such body)": in a table that passes 21 and 22 the test of one body, of which 23 answers
+-- the lowest that fails, holds exactly when that body's chain ends, after however many steps
+abbrev pub EachChain : Type 0
+EachChain =
+    (holders : List ℕ) (n : ℕ) → tableVerdict holders n ≡ sound → (b : ℕ) → b < length holders → (endsAtSun holders b ≡ true) ↔ Ends holders b
 
 -- the listing that a call leaves has each body once, after the one it hangs in, with none lower possible; and no other list has
 abbrev pub ListingOrdered : Type 0
@@ -378,6 +384,7 @@ pub record Claims : Type 0 where
   pub one-answer : OneAnswer
   pub nets-pass : NetsPass
   pub chains-decide : ChainsDecide
+  pub each-chain : EachChain
   pub listing-ordered : ListingOrdered
   pub one-listing : OneListing
   pub lines-agree : LinesAgree

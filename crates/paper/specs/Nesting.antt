@@ -25,7 +25,7 @@ holder holders b = getD holders b sun
 unfoldable pub chain : List ℕ → ℕ → ℕ → ℕ
 chain holders b k = iterate k (holder holders) b
 
--- the chain meets the Sun within as many steps as there are bodies; none meets it later (`ChainsDecide` in Claims)
+-- the chain meets the Sun within as many steps as there are bodies; none meets it later (`EachChain` in Claims)
 unfoldable pub endsAtSun : List ℕ → ℕ → Bool
 endsAtSun holders b = someBelow (suc (length holders)) (λ k. eqb (chain holders b k) sun)
 
