@@ -1,6 +1,6 @@
--- Beyond the requests: the tangents of a patch, for shading: the derivatives of the quartic at weights i/N, j/N, k/N, towards the side's tail and towards
--- the centre. Times N^3 they are whole numbers, so that nothing is rounded: four times the cubic Bernstein sum of the differences between control points
--- that lie next to each other. Of a net that passes 19 they are within 2^42.
+-- Beyond the requests: the tangent of a patch along its side, for shading: the derivative of the quartic at weights i/N, j/N, k/N, towards the side's
+-- tail. Times N^3 it is a whole number, so that nothing is rounded: four times the cubic Bernstein sum of the differences between control points that lie
+-- next to each other. Of a net that passes 19 it is within 2^42.
 use mathlib.Core.List.{List}
 use Prim.Native.Nat.{ℕ, _+_, _-_, _*_, _/_, _^_}
 use lib.IntN.{ℤ, pos, _-ℤ_, _*ℤ_}
@@ -16,16 +16,10 @@ cubic i j k l m n = factorial 3 / (factorial l * factorial m * factorial n) * (i
 unfoldable pub cubicSum : (ℕ → ℕ → ℤ) → ℕ → ℕ → ℕ → ℤ
 cubicSum d i j k = sum (λ n. sum (λ m. pos (cubic i j k (3 - n - m) m n) *ℤ d n m) (4 - n)) 4
 
--- ---- the differences: from a control point to the next one of its row, and to the one at the same place of the next row
+-- ---- the differences: from a control point to the next one of its row
 unfoldable pub along : (ℕ → ℤ) → Side → ℕ → ℕ → ℤ
 along p s n m = control p s n (m + 1) -ℤ control p s n m
 
-unfoldable pub inward : (ℕ → ℤ) → Side → ℕ → ℕ → ℤ
-inward p s n m = control p s (n + 1) m -ℤ control p s n m
-
--- ---- the tangents, on an axis: towards the tail, and towards the centre
+-- ---- the tangent towards the tail, on an axis
 unfoldable pub tangentAlong : List ℤ → Side → Weights → ℕ → ℤ
 tangentAlong numbers s w axis = pos 4 *ℤ cubicSum (along (onAxis numbers axis) s) (w .head) (w .tail) (w .centre)
-
-unfoldable pub tangentInward : List ℤ → Side → Weights → ℕ → ℤ
-tangentInward numbers s w axis = pos 4 *ℤ cubicSum (inward (onAxis numbers axis) s) (w .head) (w .tail) (w .centre)
