@@ -14,7 +14,7 @@ use Rattle.sampling.specs.declared.bernstein.Five.{Five}
 use Rattle.sampling.specs.declared.bernstein.Rows.{Rows}
 use Rattle.sampling.specs.bernstein.Sums.{five, linear, quadratic, cubic, rowsOf, differencesOf, slopesOf, columnsOf, weightedOf, scaledOf, weightsOf}
 use Rattle.sampling.specs.bernstein.Sums.{polynomialOf, valueOf, rowOf}
-use Rattle.sampling.specs.bernstein.Tangents.{alongRows, inwardRows, cubicSum, timesOf, alongOf, slopeOf, inwardOf}
+use Rattle.sampling.specs.bernstein.Tangents.{inward, alongRows, inwardRows, cubicSum, timesOf, alongOf, slopeOf, inwardOf}
 use Rattle.sampling.proofs.bernstein.Identity.{linear-turn, quadratic-turn, cubic-turn, weigh1}
 use Rattle.sampling.proofs.bernstein.Sum.{power, power-is}
 
@@ -248,6 +248,6 @@ module _ (p : ℕ → ℤ) (s : Side) (i j k : ℕ) where
   unfolding cubicSum alongRows tangents.along
   along-sum = sum-is (tangents.along p s) i j k
 
-  pub inward-sum : tangents.cubicSum (tangents.inward p s) i j k ≡ cubicSum (inwardRows (rowsOf (control p s))) (pos i) (pos j) (pos k)
-  unfolding cubicSum inwardRows tangents.inward
-  inward-sum = sum-is (tangents.inward p s) i j k
+  pub inward-sum : tangents.cubicSum (inward p s) i j k ≡ cubicSum (inwardRows (rowsOf (control p s))) (pos i) (pos j) (pos k)
+  unfolding cubicSum inwardRows inward
+  inward-sum = sum-is (inward p s) i j k

@@ -1,10 +1,16 @@
 -- The tangents as the code has them: the derivatives of the polynomial, by the powers of the second and of the third weight.
+use Prim.Native.Nat.{ℕ, _+_}
 use lib.IntN.{ℤ, pos, _+ℤ_, _-ℤ_, _*ℤ_}
+use Rattle.paper.specs.Net.{Side}
+use Rattle.paper.specs.Sampling.{control}
 use Rattle.sampling.specs.declared.bernstein.Five.{Five}
 use Rattle.sampling.specs.declared.bernstein.Rows.{Rows}
 use Rattle.sampling.specs.bernstein.Sums.{five, linear, quadratic, cubic}
 
--- ---- the differences of control points, along the rows and from row to row
+-- ---- the differences of control points, along the rows and from row to row; `inward` is that to the point at the same place of the next row
+unfoldable pub inward : (ℕ → ℤ) → Side → ℕ → ℕ → ℤ
+inward p s n m = control p s (n + 1) m -ℤ control p s n m
+
 abbrev pub stepsAlong : Five → Five
 stepsAlong v = five (v .b -ℤ v .a) (v .c -ℤ v .b) (v .d -ℤ v .c) (v .e -ℤ v .d) (pos 0)
 
