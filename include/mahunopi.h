@@ -39,7 +39,7 @@ extern "C" {
 
 /* The version of this face: it rises with every change of a signature, a limit or a refusal's number or meaning. The
  * archive does not tell its own, so keep header and archive of one build together. */
-#define MAHUNOPI_VERSION 4
+#define MAHUNOPI_VERSION 5
 
 /* The most vertices, faces and corners of a mesh. */
 #define MAHUNOPI_MAX_VERTICES 2048
@@ -57,7 +57,7 @@ extern "C" {
 #define MAHUNOPI_MAX_BODIES 256
 #define MAHUNOPI_SUN 65535
 /* The bytes of stack that a call may take. */
-#define MAHUNOPI_CALL_STACK 327680
+#define MAHUNOPI_CALL_STACK 360448
 
 /*
  * What a function answers. A file is checked by 1 to 13, linking by 4 to 14, building by 4 to 17, the search for an

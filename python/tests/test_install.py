@@ -66,7 +66,7 @@ def test_examples_by_pkg_config(prefix, tmp_path):
     for source, compiler in (("cube.c", ["gcc", "-std=c11"]), ("draw.cpp", ["g++", "-std=c++17"])):
         run(*compiler, *WARNINGS, ROOT / "examples" / source, "-o", tmp_path / source[:4], *flags)
     assert run(tmp_path / "cube", env=environment) == (ROOT / "examples/cube.expected").read_text()
-    assert "libmahunopi.so.4" in run("objdump", "-p", tmp_path / "cube")
+    assert f"libmahunopi.so.{mahunopi.VERSION}" in run("objdump", "-p", tmp_path / "cube")
     run("gcc", "-static", ROOT / "examples/cube.c", "-o", tmp_path / "alone", *flags)
     assert run(tmp_path / "alone") == (ROOT / "examples/cube.expected").read_text()
 

@@ -57,7 +57,7 @@ pub use sampling::{sample, sample_count, sample_triangle, sample_triangle_into, 
 pub use turning::{turn, turn_in_place, turn_into, Turned};
 
 /// The version of the header that this wrapper is for, `MAHUNOPI_VERSION` there; the package's major version.
-pub const VERSION: u32 = 4;
+pub const VERSION: u32 = 5;
 /// The most vertices of a mesh.
 pub const MAX_VERTICES: usize = 2_048;
 /// The most faces of a mesh.
@@ -73,7 +73,7 @@ pub const PLAIN_SHARPNESS: u8 = 8;
 /// The numbers that building makes for a corner: 41 control points of x, y, z.
 pub const NUMBERS_PER_CORNER: usize = 123;
 /// The bytes of stack that a call may take.
-pub const CALL_STACK: usize = 320 * 1024;
+pub const CALL_STACK: usize = 352 * 1024;
 /// The fewest corners that [`build_all`] gives a thread: a thread has to be started, and every range repeats the checks
 /// over the whole mesh.
 const LEAST_RANGE: usize = 2_048;
