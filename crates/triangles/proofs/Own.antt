@@ -32,13 +32,13 @@ use Rattle.triangles.specs.Rows.{Fills}
 use Rattle.triangles.specs.Owned.{ShapeOf, Pointed}
 use Rattle.triangles.specs.writing.Laid.{Reaches}
 use Rattle.triangles.specs.writing.Shapes.{Shapely, shapeGroup, shapeRings, shapeStart, shapeSize, shapeNumber, ShapeAim, ShapePlace}
-use Rattle.triangles.proofs.Partners.{Leveled}
-use Rattle.triangles.proofs.Numbered.{In, groups-length, groups-at}
-use Rattle.triangles.proofs.Spots.{own-ring, own-curve0, own-curve1}
-use Rattle.triangles.proofs.Outer.{some-segments}
-use Rattle.triangles.proofs.Counts.{ringsBefore, group-step, ring-start, rings-all}
-use Rattle.triangles.proofs.Samples.{outer-is, inner-is, head-end, tail-end}
-use Rattle.triangles.proofs.Listed.{coordinate-is}
+use Rattle.closing.proofs.Partners.{Leveled}
+use Rattle.closing.proofs.Numbered.{In, groups-length, groups-at}
+use Rattle.closing.proofs.Spots.{own-ring, own-curve0, own-curve1}
+use Rattle.closing.proofs.Outer.{some-segments}
+use Rattle.closing.proofs.Counts.{ringsBefore, group-step, ring-start, rings-all}
+use Rattle.closing.proofs.Samples.{outer-is, inner-is, head-end, tail-end}
+use Rattle.closing.proofs.Listed.{coordinate-is}
 use Rattle.triangles.proofs.Striped.{starts-rise}
 use Rattle.triangles.proofs.writing.Laws.{reaches-part}
 use Rattle.triangles.proofs.writing.Groups.{no-size}

@@ -16,8 +16,8 @@ use Rattle.mesh.proofs.Scans.{compared}
 use Rattle.triangles.specs.declared.writing.Shape.{Shape}
 use Rattle.triangles.specs.writing.Laid.{Reaches, EndAim, EndPlace, CurveAim, CurvePlace, ringAt, RingsAim, RingsPlace}
 use Rattle.triangles.specs.writing.Shapes.{Shapely, shapeGroup, shapeRings, shapeStart, shapeNumber, ShapeAim, ShapePlace}
-use Rattle.triangles.proofs.Listed.{ring-side, ring-rest}
-use Rattle.triangles.proofs.Samples.{centre-end}
+use Rattle.closing.proofs.Listed.{ring-side, ring-rest}
+use Rattle.closing.proofs.Samples.{centre-end}
 use Rattle.triangles.proofs.writing.Laws.{reaches-part, reaches-more}
 
 -- ---- the size of a ring

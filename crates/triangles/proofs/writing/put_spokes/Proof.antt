@@ -12,7 +12,7 @@ use Rattle.sampling.specs.bernstein.Sums.{AllSized, polynomialOf, statesOf, ste
 use Rattle.sampling.proofs.bernstein.Laws.{polynomial-tapers, states-size}
 use Rattle.sampling.proofs.bernstein.Identity.{states-step, firsts-row}
 use Rattle.triangles.specs.writing.Laid.{Reaches, SpokeAim, SpokePlace}
-use Rattle.triangles.proofs.Counts.{most-inner}
+use Rattle.closing.proofs.Counts.{most-inner}
 use Rattle.triangles.proofs.writing.Laws.{reaches-none, spoke-sampleable, ring-room}
 use Rattle.triangles.proofs.writing.Parts.{spokes-step, spokes-all}
 use Rattle.triangles.proofs.writing.put_spokes.Statement.{statement}
