@@ -29,7 +29,7 @@ ghost use Rattle.border_report.specs.border_misses.Held.{pointIn, SmallO
 const FACE_NUMBERS: usize = MOST_SIDES * NUMBERS_PER_CORNER;
 
 // The largest miss of each condition over all borders of n corners.
-pub fn largest(points: &[i32], table: &[u16], n: usize) -> Misses
+pub(crate) fn largest(points: &[i32], table: &[u16], n: usize) -> Misses
     requires { ⌜ Drawn n (now table) (now points) × Faced n (now table) ⌝ }
     ensures { λ r. ⌜ ((j : ℕ) → j < conditions → inMisses r j ≡ largestBelow n (cornerMiss (drawn n (now (table .entry)) (now (points .entry))) j)) ⌝ }
 {

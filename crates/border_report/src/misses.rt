@@ -29,7 +29,7 @@ pub struct Row {
 }
 
 // The misses of one side on one axis.
-pub fn side_misses(side: SideValues, outer: Row, own: Row, other: Row) -> Misses
+pub(crate) fn side_misses(side: SideValues, outer: Row, own: Row, other: Row) -> Misses
     requires { ⌜ Sized side × SmallRow outer × SmallRow own × SmallRow other ⌝ }
     ensures { λ r. ⌜ ((j : ℕ) → j < conditions → inMisses r j ≡ natAbs (condition j (side .head) (side .tail) (side .x) (side .y) (side .cosine) (inRow outer j) (inRow own j) (inRow other j))) ⌝ }
 {

@@ -22,7 +22,7 @@ ghost use Rattle.net.specs.sides.Drawn.{drawn, Drawn};
 ghost use Rattle.building.specs.writing.Written.{NearPointed, Rounds, InFace, Faced, NetsWritten};
 
 // The numbers of `count` corners from `first` on, by the table of the mesh's corners. The refined points are put into `points`.
-pub fn write_nets(
+pub(crate) fn write_nets(
     coordinates: &[i32],
     sides: &[u8],
     corners: &[u16],

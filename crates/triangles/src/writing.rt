@@ -35,7 +35,7 @@ const E2: usize = 24;
 const CENTRE: usize = 12;
 
 // A corner's own points, from `at` on.
-pub fn put_net(numbers: &[i32], shape: Shape, points: &mut [i32], at: usize)
+pub(crate) fn put_net(numbers: &[i32], shape: Shape, points: &mut [i32], at: usize)
     requires { ⌜ (netVerdict (now numbers) ≡ sound) × Shapely shape × (at + 3 * shapeSize shape ≤ length (now points)) ⌝ }
     ensures { λ _. ⌜ ((f : ℕ → ℤ) → ShapeAim (now (numbers .entry)) shape at f → Reaches f (ShapePlace shape at) (now (points .entry)) (now (points .exit))) ⌝ }
 {
