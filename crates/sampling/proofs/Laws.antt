@@ -1,24 +1,39 @@
 -- The checks, the sizes of a side's control points, and one sample.
-use mathlib.Core.{Path._≡_, Path.refl, Path.sym, Path.ap, Path._∙_, Path.subst, Bool.Bool, Bool.true, Bool.false, Bool.not, Bool._||_}
+use mathlib.Core.Path.{_≡_, refl, sym, ap, _∙_, subst}
+use mathlib.Core.Bool.{Bool, true, false, not, _||_}
 use mathlib.Core.List.{List, [], _∷_}
 use Prim.Native.Nat.{ℕ, zero, suc, _+_, _-_, _*_, _/_, _^_, _≤_, _<_}
-use native.Mathlib.{Nat.mul-le-mul, Omega.arith}
+use native.Mathlib.Nat.{mul-le-mul}
+use native.Mathlib.Omega.{arith}
 use borrow.Author.Tests.{ltb-false, lt-ltb, le-ltb, eqb-true, eqb-false, eq-eqb, ne-eqb, not-false}
-use lib.{Dec.ltb, Dec.eqb, Dec.lit≤, ListN.length, ListN.set, IntN.ℤ, IntN.pos, IntN.negℤ, IntN.natAbs, Signed._≤ℤ_}
-use mir.{Syntax.w32, Val.SFits, Val.toZ, Val.ofZ, ValLaws.toZ-ofZ}
-use Rattle.paper.specs.{Faults.Verdict, Faults.sound, Faults.fault, Faults._orElse_, Faults.single, Faults.outside, Faults.stated, Numbers.round, Net.Side}
-use Rattle.paper.specs.{File.noRoom, File.begins, Floats.netVerdict, Floats.fault20, Floats.pointVerdict, Floats.axes, declared.Answer.Answer}
+use lib.Dec.{ltb, eqb, lit≤}
+use lib.ListN.{length, set}
+use lib.IntN.{ℤ, pos, negℤ, natAbs}
+use lib.Signed.{_≤ℤ_}
+use mir.Syntax.{w32}
+use mir.Val.{SFits, toZ, ofZ}
+use mir.ValLaws.{toZ-ofZ}
+use Rattle.paper.specs.Faults.{Verdict, sound, fault, _orElse_, single, outside, stated}
+use Rattle.paper.specs.Numbers.{round}
+use Rattle.paper.specs.Net.{Side}
+use Rattle.paper.specs.File.{noRoom, begins}
+use Rattle.paper.specs.Floats.{netVerdict, fault20, pointVerdict, axes}
+use Rattle.paper.specs.declared.Answer.{Answer}
 use Rattle.paper.specs.declared.Answer.the-variants.{Done, Refused}
 use Rattle.paper.specs.Sampling.{control, Weights, weights, onAxis, bernsteinSum, sampleAt, samplePoint, fault32, mostParts, fault33, sampleVerdict, sideAt}
 use Rattle.paper.specs.Sampling.{Sampled, sampleCount, triangleSamples, triangleVerdict, TriangleSampled}
 use Rattle.numbers.proofs.Diff.{as-diff, diff}
 use Rattle.mesh.proofs.Ranges.{or-left, or-right, none-left, none-right, inside, at-least, at-most}
 use Rattle.mesh.proofs.Verdicts.{sound-left, sound-right, single-sound, single-miss, single-hit, orElse-fault, orElse-sound, stop, past}
-use Rattle.sampling.specs.{declared.bernstein.Five.Five, declared.bernstein.Rows.Rows, points.Places.bPlace, points.Places.aPlace, Grid.Sampleable}
+use Rattle.sampling.specs.declared.bernstein.Five.{Five}
+use Rattle.sampling.specs.declared.bernstein.Rows.{Rows}
 use Rattle.sampling.specs.bernstein.Sums.{AllSized, Tapered, AllTapered, rowsOf, polynomialOf, rowOf, valueOf, quarticSum}
 use Rattle.sampling.proofs.bernstein.Laws.{bits, sized-bits, polynomial-tapers, row-tapers, value-size}
-use Rattle.sampling.proofs.{bernstein.Identity.polynomial-sum, bernstein.Sum.bernstein-is, bernstein.Sum.sum-size}
+use Rattle.sampling.proofs.bernstein.Identity.{polynomial-sum}
+use Rattle.sampling.proofs.bernstein.Sum.{bernstein-is, sum-size}
+use Rattle.sampling.specs.points.Places.{bPlace, aPlace}
 use Rattle.sampling.proofs.points.Laws.{outer-place, a-place, inner-place, inner-a-place, number-size}
+use Rattle.sampling.specs.Grid.{Sampleable}
 use Rattle.sampling.proofs.Lists.{row-value}
 
 -- ---- 33, test by test

@@ -1,17 +1,27 @@
 -- The samples of a triangle as they come into the list: number by number along a row, row by row, axis by axis.
-use mathlib.Core.{Path._≡_, Path.refl, Path.sym, Path.ap, Path._∙_, Path.subst, Logic.⊎-elim}
+use mathlib.Core.Path.{_≡_, refl, sym, ap, _∙_, subst}
+use mathlib.Core.Logic.{⊎-elim}
 use mathlib.Core.List.{List, [], _∷_, _++_, append-assoc, append-nil}
 use Prim.Native.Nat.{ℕ, zero, suc, _+_, _-_, _*_, _^_, _≤_, _<_}
-use native.Mathlib.{Numerals.add-one, Omega.arith}
+use native.Mathlib.Numerals.{add-one}
+use native.Mathlib.Omega.{arith}
 use lib.ListN.{length, getD, set, take, drop, length-set, length-drop, take-append-drop}
-use lib.{Seq.getD-set-same, Seq.getD-set-other, Seq.take-suc, Seq.length-take-le, Seq.ext-getD, Seq.getD-drop, IntN.ℤ, IntN.pos, IntN.natAbs}
-use Rattle.paper.specs.{Numbers.round, Faults.sound, Net.Side, File.begins, Floats.netVerdict, Floats.axes}
+use lib.Seq.{getD-set-same, getD-set-other, take-suc, length-take-le, ext-getD, getD-drop}
+use lib.IntN.{ℤ, pos, natAbs}
+use Rattle.paper.specs.Numbers.{round}
+use Rattle.paper.specs.Faults.{sound}
+use Rattle.paper.specs.Net.{Side}
+use Rattle.paper.specs.File.{begins}
+use Rattle.paper.specs.Floats.{netVerdict, axes}
 use Rattle.paper.specs.Sampling.{control, weights, onAxis, sampleAt, samplePoint, sideAt, rowSamples, firstRows, triangleSamples, sampleCount, rowStart}
 use Rattle.mesh.proofs.Scans.{compared}
-use Rattle.sampling.specs.{declared.bernstein.Five.Five, declared.bernstein.Rows.Rows}
+use Rattle.sampling.specs.declared.bernstein.Five.{Five}
+use Rattle.sampling.specs.declared.bernstein.Rows.{Rows}
 use Rattle.sampling.specs.bernstein.Sums.{Tapered, AllTapered, rowsOf, polynomialOf, rowOf, valueOf, quarticSum}
+use Rattle.sampling.proofs.bernstein.Identity.{polynomial-sum}
+use Rattle.sampling.proofs.bernstein.Laws.{row-tapers}
+use Rattle.sampling.proofs.bernstein.Sum.{bernstein-is}
 use Rattle.sampling.specs.Grid.{before, Sampleable, RowSampleable, RowPut, RowsPut}
-use Rattle.sampling.proofs.{bernstein.Identity.polynomial-sum, bernstein.Laws.row-tapers, bernstein.Sum.bernstein-is}
 
 pub below-or-last : {A : Type 0} (j k : ℕ) → j < k + 1 → (j < k → A) → (j ≡ k → A) → A
 below-or-last j k h f g = ⊎-elim (λ e. g e) (λ o. ⊎-elim (λ l. f l) (λ l. absurd (omega arith)) o) (compared j k)

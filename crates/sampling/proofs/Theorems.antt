@@ -1,26 +1,39 @@
 -- The theorems of L12: closing along common sides and rays, the ends, the bounds, and a triangle's samples one by one.
-use mathlib.Core.{Path._≡_, Path.refl, Path.sym, Path.ap, Path._∙_, Path.subst, Bool.false, Bool.not}
+use mathlib.Core.Path.{_≡_, refl, sym, ap, _∙_, subst}
+use mathlib.Core.Bool.{false, not}
 use mathlib.Core.List.{List, [], _++_, append-assoc, append-nil}
 use Prim.Native.Nat.{ℕ, zero, suc, _+_, _-_, _*_, _^_, _≤_, _<_}
-use native.Mathlib.{Nat.one-le-pow, Omega.arith}
+use native.Mathlib.Nat.{one-le-pow}
+use native.Mathlib.Omega.{arith}
 use borrow.Author.Tests.{eq-eqb}
-use lib.{Dec.eqb, ListN.length, ListN.getD, ListN.take, ListN.drop, ListN.length-append, Seq.getD-take, Seq.getD-drop, Seq.drop-append-seam}
-use lib.{IntN.ℤ, IntN.pos, IntN._*ℤ_, Signed._≤ℤ_, Signed._<ℤ_}
-use Rattle.paper.specs.{Faults.Verdict, Faults.sound, Faults._orElse_, Faults.single, Faults.outside, Faults.stated, Faults.kept, Numbers.round, Mesh.Mesh}
-use Rattle.paper.specs.{Net.Side, Net.side0, Net.side1, Net.side2, Net.side3, Net.across, Net.atHead, Net.atTail, Net.outerRow, Calls.perCorner}
-use Rattle.paper.specs.{File.begins, Floats.netVerdict, Floats.axes, Borders.Output, Borders.Wrote, Borders.Holds, Borders.beside, Borders.written}
-use Rattle.paper.specs.{declared.Answer.Answer, declared.Answer.the-variants.Done, declared.Answer.the-variants.Refused}
+use lib.Dec.{eqb}
+use lib.ListN.{length, getD, take, drop, length-append}
+use lib.Seq.{getD-take, getD-drop, drop-append-seam}
+use lib.IntN.{ℤ, pos, _*ℤ_}
+use lib.Signed.{_≤ℤ_, _<ℤ_}
+use Rattle.paper.specs.Faults.{Verdict, sound, _orElse_, single, outside, stated, kept}
+use Rattle.paper.specs.Numbers.{round}
+use Rattle.paper.specs.Mesh.{Mesh}
+use Rattle.paper.specs.Net.{Side, side0, side1, side2, side3, across, atHead, atTail, outerRow}
+use Rattle.paper.specs.Calls.{perCorner}
+use Rattle.paper.specs.File.{begins}
+use Rattle.paper.specs.Floats.{netVerdict, axes}
+use Rattle.paper.specs.Borders.{Output, Wrote, Holds, beside, written}
+use Rattle.paper.specs.declared.Answer.{Answer}
+use Rattle.paper.specs.declared.Answer.the-variants.{Done, Refused}
 use Rattle.paper.specs.Sampling.{control, Weights, weights, onAxis, bernsteinSum, sampleAt, samplePoint, fault32, mostParts, fault33, sampleVerdict, sideAt}
 use Rattle.paper.specs.Sampling.{Sampled, rowSamples, firstRows, triangleSamples, sideNumber, netIn, Alike, controlPoint, Leaves, Between, rowStart}
 use Rattle.paper.specs.Claims.{SamplesClose, RaysAgree, SampleEnds, SamplesBetween, TrianglesSample}
 use Rattle.numbers.proofs.Diff.{diff}
-use Rattle.mesh.proofs.{Ranges.inside, Ranges.or-none, Verdicts.orElse-sound, Verdicts.single-miss, Verdicts.sound-left}
+use Rattle.mesh.proofs.Ranges.{inside, or-none}
+use Rattle.mesh.proofs.Verdicts.{orElse-sound, single-miss, sound-left}
 use Rattle.floats.proofs.nets.Nets.{nets-pass}
 use Rattle.borders.proofs.Theorem.{demand3}
-use Rattle.sampling.specs.{bernstein.Sums.rowsOf, Grid.before}
+use Rattle.sampling.specs.bernstein.Sums.{rowsOf}
 use Rattle.sampling.proofs.bernstein.Laws.{round-between}
-use Rattle.sampling.proofs.bernstein.Sum.{bernstein-is, sum-from, sum-to, on-side, from-head}
-use Rattle.sampling.proofs.bernstein.Sum.{from-tail, head-alone, tail-alone, centre-alone, round-multiple}
+use Rattle.sampling.proofs.bernstein.Sum.{bernstein-is, sum-from, sum-to, on-side, from-head, from-tail, head-alone, tail-alone, centre-alone}
+use Rattle.sampling.proofs.bernstein.Sum.{round-multiple}
+use Rattle.sampling.specs.Grid.{before}
 use Rattle.sampling.proofs.Laws.{some-parts, few-parts, parts-sum, net-passed, side-passed, all-passed, triangle-chain}
 use Rattle.sampling.proofs.Lists.{row-start, below-or-last}
 

@@ -1,24 +1,48 @@
 -- What a corner's net gives for the corner's own points is what the list of points has there.
-use mathlib.Core.{Path._≡_, Path.refl, Path.sym, Path.ap, Path._∙_, Path.subst, Logic.⊎-elim, List.List}
+use mathlib.Core.Path.{_≡_, refl, sym, ap, _∙_, subst}
+use mathlib.Core.Logic.{⊎-elim}
+use mathlib.Core.List.{List}
 use Prim.Native.Nat.{ℕ, zero, suc, _+_, _-_, _*_, _/_, _%_, _≤_, _<_}
 use native.Mathlib.Omega.{arith}
-use lib.{Dec.ltb, Dec.eqb, ListN.length, ListN.getD, ListN.take, ListN.drop, ListN.length-take, ListN.length-drop}
-use lib.{Seq.getD-take, Seq.getD-drop, Seq.ext-getD, IntN.ℤ, IntN.pos}
+use lib.Dec.{ltb, eqb}
 use borrow.Author.Tests.{ltb-true, ltb-false}
-use Rattle.paper.specs.{Mesh.Mesh, Mesh.cornerCount, Corners.startOf, Corners.faceOf, Scan.pickN, Links.vertexOf, Links.lowest, Links.linkTable}
-use Rattle.paper.specs.{Numbers.rounded, Refined.refinedOf, Floats.netVerdict, Faults.sound, Faults.Accepted, Net.Side, Net.side0, Net.side1, Net.side2}
-use Rattle.paper.specs.{Calls.perCorner, Calls.numberAt, Calls.nets, Sampling.sampleAt, Sampling.weights, Sampling.sideAt}
-use Rattle.paper.specs.Triangles.{groups, vertexOwner, edgeOwner, faceOwner, level, segments, groupSize, pointGroups, numberIn, turnWeights, owned, ownNumber, coordinateAt, pointsBefore}
-use Rattle.mesh.proofs.{Scans.ways, Links.values-length, Links.values-at, Faces.Held, Faces.held, Faces.start-next, Faces.start-all}
+use lib.ListN.{length, getD, take, drop, length-take, length-drop}
+use lib.Seq.{getD-take, getD-drop, ext-getD}
+use lib.IntN.{ℤ, pos}
+use Rattle.paper.specs.Mesh.{Mesh, cornerCount}
+use Rattle.paper.specs.Corners.{startOf, faceOf}
+use Rattle.paper.specs.Scan.{pickN}
+use Rattle.paper.specs.Links.{vertexOf, lowest, linkTable}
+use Rattle.paper.specs.Numbers.{rounded}
+use Rattle.paper.specs.Refined.{refinedOf}
+use Rattle.paper.specs.Floats.{netVerdict}
+use Rattle.paper.specs.Faults.{sound, Accepted}
+use Rattle.paper.specs.Net as quad
+use Rattle.paper.specs.Net.{Side, side0, side1, side2}
+use Rattle.paper.specs.Calls.{perCorner, numberAt, nets}
+use Rattle.paper.specs.Sampling.{sampleAt, weights, sideAt}
+use Rattle.paper.specs.Triangles.{groups, vertexOwner, edgeOwner, faceOwner, level, segments, groupSize, pointGroups, numberIn, turnWeights, owned, ownNumber}
+use Rattle.paper.specs.Triangles.{coordinateAt, pointsBefore}
+use Rattle.mesh.proofs.Scans.{ways}
+use Rattle.mesh.proofs.Links.{values-length, values-at}
 use Rattle.borders.proofs.Ranges.{ranges}
 use Rattle.floats.proofs.nets.Nets.{nets-pass}
-use Rattle.triangles.specs.{declared.writing.Shape.Shape, Rows.Fills, Owned.ShapeOf, Owned.Pointed, writing.Laid.Reaches}
+use Rattle.mesh.proofs.Faces.{Held, held, start-next, start-all}
+use Rattle.triangles.specs.declared.writing.Shape.{Shape}
+use Rattle.triangles.specs.Rows.{Fills}
+use Rattle.triangles.specs.Owned.{ShapeOf, Pointed}
+use Rattle.triangles.specs.writing.Laid.{Reaches}
 use Rattle.triangles.specs.writing.Shapes.{shapeGroup, shapeRings, shapeStart, shapeSize, shapeNumber, ShapeAim, ShapePlace}
-use Rattle.triangles.proofs.{Partners.Leveled, Numbered.In, Numbered.groups-length, Numbered.groups-at, Outer.some-segments}
+use Rattle.triangles.proofs.Partners.{Leveled}
+use Rattle.triangles.proofs.Numbered.{In, groups-length, groups-at}
+use Rattle.triangles.proofs.Outer.{some-segments}
 use Rattle.triangles.proofs.Counts.{ringsBefore, group-step, ring-start, rings-all}
-use Rattle.triangles.proofs.{Samples.outer-is, Samples.inner-is, Samples.head-end, Samples.tail-end, Listed.coordinate-is, Striped.starts-rise}
-use Rattle.triangles.proofs.{writing.Laws.reaches-part, writing.Groups.no-size, writing.Fill.fills-of}
-use Rattle.paper.specs.Net as quad
+use Rattle.triangles.proofs.Samples.{outer-is, inner-is, head-end, tail-end}
+use Rattle.triangles.proofs.Listed.{coordinate-is}
+use Rattle.triangles.proofs.Striped.{starts-rise}
+use Rattle.triangles.proofs.writing.Laws.{reaches-part}
+use Rattle.triangles.proofs.writing.Groups.{no-size}
+use Rattle.triangles.proofs.writing.Fill.{fills-of}
 
 -- ---- ends that are a corner's own
 pub vertex-size : (M : Mesh) (levels corners : List ℕ) (c a : ℕ) → M .corners ≡ corners → a ≡ pickN (eqb c (lowest corners (vertexOf corners c))) 1 0

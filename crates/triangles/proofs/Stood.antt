@@ -1,8 +1,10 @@
 -- Parts of a list that follow each other, whatever they are numbers of: a range of corners, part by part.
-use mathlib.Core.{Path._≡_, Path.refl, Path.ap, Path._∙_, Path.subst, List.List}
+use mathlib.Core.Path.{_≡_, refl, ap, _∙_, subst}
+use mathlib.Core.List.{List}
 use Prim.Native.Nat.{ℕ, zero, suc, _+_, _-_, _*_, _≤_, _<_}
 use native.Mathlib.Omega.{arith}
-use Rattle.paper.specs.{Scan.valuesFrom, File.begins}
+use Rattle.paper.specs.Scan.{valuesFrom}
+use Rattle.paper.specs.File.{begins}
 use Rattle.mesh.proofs.Links.{values-length}
 use Rattle.triangles.specs.Rows.{Stands}
 use Rattle.triangles.proofs.Striped.{fills-join, fills-start}

@@ -3,15 +3,19 @@ use mathlib.Core.Path.{_≡_, refl, sym, ap, _∙_}
 use Prim.Native.Nat.{ℕ, _+_, _-_, _*_, _/_, _^_}
 use native.Mathlib.Omega.{arith}
 use lib.IntN.{ℤ, pos, _+ℤ_, _-ℤ_, _*ℤ_}
-use Rattle.paper.specs.{Numbers.sumBy, Net.Side, Sampling.control, Sampling.factorial}
-use Rattle.numbers.proofs.{Poly.over, Poly.poly, Laws.zero-add, Sum.sum-same}
+use Rattle.paper.specs.Numbers.{sumBy}
+use Rattle.paper.specs.Net.{Side}
+use Rattle.paper.specs.Sampling.{control, factorial}
+use Rattle.paper.specs.Tangents as tangents
+use Rattle.numbers.proofs.Poly.{over, poly}
+use Rattle.numbers.proofs.Laws.{zero-add}
+use Rattle.numbers.proofs.Sum.{sum-same}
 use Rattle.sampling.specs.declared.bernstein.Rows.{Rows}
 use Rattle.sampling.specs.bernstein.Sums.{linear, quadratic, cubic, rowsOf, differencesOf, slopesOf, columnsOf, weightedOf, scaledOf, weightsOf}
 use Rattle.sampling.specs.bernstein.Sums.{polynomialOf, valueOf, rowOf}
 use Rattle.sampling.specs.bernstein.Tangents.{inward, alongRows, inwardRows, cubicSum, timesOf, alongOf, slopeOf, inwardOf}
 use Rattle.sampling.proofs.bernstein.Identity.{linear-turn, quadratic-turn, cubic-turn, weigh1}
 use Rattle.sampling.proofs.bernstein.Sum.{power, power-is}
-use Rattle.paper.specs.Tangents as tangents
 
 -- ---- a sum of ten differences, by rows and by columns
 module _ (M j k : ℤ) where

@@ -5,10 +5,10 @@ use Prim.Native.Nat.{ℕ, _+_}
 use native.Mathlib.Omega.{arith}
 use lib.IntN.{ℤ, pos, _+ℤ_, _-ℤ_, _*ℤ_}
 use Rattle.numbers.proofs.Poly.{over, poly}
-use Rattle.sampling.specs.{declared.bernstein.Five.Five, declared.bernstein.Rows.Rows}
-use Rattle.sampling.specs.bernstein.Sums.{five, linear, quadratic, cubic, quartic, quarticSum}
-use Rattle.sampling.specs.bernstein.Sums.{differencesOf, slopesOf, columnsOf, weightedOf, scaledOf, weightsOf}
-use Rattle.sampling.specs.bernstein.Sums.{polynomialOf, valueOf, stateOf, statesOf, stepOf, stepsOf, rowOf, firstsOf}
+use Rattle.sampling.specs.declared.bernstein.Five.{Five}
+use Rattle.sampling.specs.declared.bernstein.Rows.{Rows}
+use Rattle.sampling.specs.bernstein.Sums.{five, linear, quadratic, cubic, quartic, quarticSum, differencesOf, slopesOf, columnsOf, weightedOf, scaledOf}
+use Rattle.sampling.specs.bernstein.Sums.{weightsOf, polynomialOf, valueOf, stateOf, statesOf, stepOf, stepsOf, rowOf, firstsOf}
 
 -- ---- one more weight in the first: x + y for x
 pub linear-turn : (a b x y : ℤ) → linear a b x y ≡ linear a (b -ℤ a) (x +ℤ y) y

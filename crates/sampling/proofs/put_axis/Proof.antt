@@ -3,13 +3,16 @@ use mathlib.Core.Path.{_≡_, sym, ap, _∙_, subst}
 use Prim.Native.Nat.{ℕ, _+_, _-_, _*_, _^_, _≤_}
 use native.Mathlib.Omega.{arith}
 use borrow.Author.Needs.{needs}
-use lib.{ListN.length, IntN.pos}
-use Rattle.sampling.specs.{declared.bernstein.Five.Five, declared.bernstein.Rows.Rows}
+use lib.ListN.{length}
+use lib.IntN.{pos}
+use Rattle.sampling.specs.declared.bernstein.Five.{Five}
+use Rattle.sampling.specs.declared.bernstein.Rows.{Rows}
 use Rattle.sampling.specs.bernstein.Sums.{AllSized, AllTapered, polynomialOf, statesOf, stepsOf, firstsOf, rowOf}
-use Rattle.sampling.specs.Grid.{before, RowsPut}
 use Rattle.sampling.proofs.bernstein.Laws.{polynomial-tapers, states-size}
 use Rattle.sampling.proofs.bernstein.Identity.{states-step, firsts-row}
-use Rattle.sampling.proofs.{Lists.rows-none, Lists.rows-step, Lists.place-next, Lists.row-sampleable, Lists.row-room, put_axis.Statement.statement}
+use Rattle.sampling.specs.Grid.{before, RowsPut}
+use Rattle.sampling.proofs.Lists.{rows-none, rows-step, place-next, row-sampleable, row-room}
+use Rattle.sampling.proofs.put_axis.Statement.{statement}
 use Rattle.sampling.proofs.put_axis.Tie as tie
 
 abbrev Inv-loop : tie.InvT-loop

@@ -3,13 +3,20 @@ use mathlib.Core.Path.{_≡_, sym, ap, _∙_, subst}
 use Prim.Native.Nat.{ℕ, _+_, _-_, _*_, _^_, _≤_, _<_}
 use native.Mathlib.Omega.{arith}
 use borrow.Author.Needs.{needs}
-use lib.{Dec.lit≤, ListN.length, IntN.ℤ, IntN.pos, IntN.natAbs}
-use mir.{Syntax.w32, Val.toZ, Val.ofZ, Facts.toZ-ofZ}
+use lib.Dec.{lit≤}
+use lib.ListN.{length}
+use lib.IntN.{ℤ, pos, natAbs}
+use mir.Syntax.{w32}
+use mir.Val.{toZ, ofZ}
+use mir.Facts.{toZ-ofZ}
 use Rattle.paper.specs.Numbers.{round}
-use Rattle.sampling.specs.{declared.bernstein.Five.Five, bernstein.Sums.Sized, bernstein.Sums.stateOf, bernstein.Sums.valueOf, bernstein.Sums.stepOf}
+use Rattle.sampling.specs.declared.bernstein.Five.{Five}
+use Rattle.sampling.specs.bernstein.Sums.{Sized, stateOf, valueOf, stepOf}
+use Rattle.sampling.proofs.bernstein.Laws.{bits, state-size, sized-bits}
+use Rattle.sampling.proofs.bernstein.Identity.{state-step}
 use Rattle.sampling.specs.Grid.{RowPut}
-use Rattle.sampling.proofs.{bernstein.Laws.bits, bernstein.Laws.state-size, bernstein.Laws.sized-bits, bernstein.Identity.state-step}
-use Rattle.sampling.proofs.{Lists.row-none, Lists.row-step, put_row.Statement.statement}
+use Rattle.sampling.proofs.Lists.{row-none, row-step}
+use Rattle.sampling.proofs.put_row.Statement.{statement}
 use Rattle.sampling.proofs.put_row.Tie as tie
 
 abbrev Inv-loop : tie.InvT-loop

@@ -1,12 +1,17 @@
 -- `sampling::put_triangle` meets its contract: three axes make the list of samples.
-use mathlib.Core.{Path._≡_, Path.sym, Path.subst, List.List}
+use mathlib.Core.Path.{_≡_, sym, subst}
+use mathlib.Core.List.{List}
 use Prim.Native.Nat.{ℕ}
-use lib.{IntN.ℤ, Dec.lit<}
+use lib.IntN.{ℤ}
 use native.Mathlib.Omega.{arith}
 use borrow.Author.Needs.{needs}
+use lib.Dec.{lit<}
 use denote.Ref.{now}
-use Rattle.sampling.specs.{declared.bernstein.Rows.Rows, Grid.before, Grid.Sampleable, Grid.RowsPut}
-use Rattle.sampling.proofs.{Laws.points-sampleable, Lists.count-is, Lists.triangle-put, put_triangle.Statement.statement}
+use Rattle.sampling.specs.declared.bernstein.Rows.{Rows}
+use Rattle.sampling.specs.Grid.{before, Sampleable, RowsPut}
+use Rattle.sampling.proofs.Laws.{points-sampleable}
+use Rattle.sampling.proofs.Lists.{count-is, triangle-put}
+use Rattle.sampling.proofs.put_triangle.Statement.{statement}
 use Rattle.sampling.proofs.put_triangle.Tie as tie
 
 moved : {p q : Rows} {n axis rows : ℕ} {old new : List ℤ} → p ≡ q → RowsPut p n axis rows old new → RowsPut q n axis rows old new

@@ -7,7 +7,8 @@ use lib.IntN.{pos}
 use Rattle.sampling.specs.declared.bernstein.Rows.{Rows}
 use Rattle.sampling.specs.bernstein.Sums.{AllSized, polynomialOf, statesOf, firstsOf, stepsOf, rowOf}
 use Rattle.sampling.proofs.bernstein.Laws.{polynomial-tapers, states-size}
-use Rattle.sampling.proofs.{bernstein.Identity.states-step, bernstein.Identity.firsts-row, row_at.Statement.statement}
+use Rattle.sampling.proofs.bernstein.Identity.{states-step, firsts-row}
+use Rattle.sampling.proofs.row_at.Statement.{statement}
 use Rattle.sampling.proofs.row_at.Tie as tie
 
 abbrev Inv-loop : tie.InvT-loop

@@ -6,7 +6,9 @@ use native.Mathlib.Omega.{arith}
 use lib.Dec.{lit<}
 use denote.Ref.{now}
 use mir.Facts.{toZ-ofZ}
-use Rattle.paper.specs.{Faults.sound, Floats.netVerdict, Sampling.weights, Sampling.sampleVerdict, Sampling.sideAt}
+use Rattle.paper.specs.Faults.{sound}
+use Rattle.paper.specs.Floats.{netVerdict}
+use Rattle.paper.specs.Sampling.{weights, sampleVerdict, sideAt}
 use Rattle.mesh.proofs.Verdicts.{passed}
 use Rattle.sampling.proofs.Laws.{net-passed, side-passed, some-parts, few-parts, parts-sum, sample-refused, sample-done, point-is}
 use Rattle.sampling.proofs.sample.Statement.{statement}

@@ -2,7 +2,8 @@
 use borrow.Author.Needs.{needs}
 use denote.Ref.{now}
 use native.Mathlib.Omega.{arith}
-use Rattle.sampling.proofs.{Laws.p-sized, Laws.r-tapers, Laws.v-small, Laws.v-sample, sample_on.Statement.statement}
+use Rattle.sampling.proofs.Laws.{p-sized, r-tapers, v-small, v-sample}
+use Rattle.sampling.proofs.sample_on.Statement.{statement}
 use Rattle.sampling.proofs.sample_on.Tie as tie
 
 row-at-requires : tie.Need-row-at-requires

@@ -4,8 +4,11 @@ use Prim.Native.Nat.{_-_, _*_, _^_, _≤_}
 use native.Mathlib.Omega.{arith}
 use borrow.Author.Needs.{needs}
 use lib.Dec.{lit≤}
-use Rattle.sampling.specs.{declared.bernstein.Five.Five, bernstein.Sums.Sized, bernstein.Sums.stateOf, bernstein.Sums.stepOf}
-use Rattle.sampling.proofs.{bernstein.Laws.state-size, bernstein.Laws.tapered-size, bernstein.Identity.state-step, state_at.Statement.statement}
+use Rattle.sampling.specs.declared.bernstein.Five.{Five}
+use Rattle.sampling.specs.bernstein.Sums.{Sized, stateOf, stepOf}
+use Rattle.sampling.proofs.bernstein.Laws.{state-size, tapered-size}
+use Rattle.sampling.proofs.bernstein.Identity.{state-step}
+use Rattle.sampling.proofs.state_at.Statement.{statement}
 use Rattle.sampling.proofs.state_at.Tie as tie
 
 abbrev Inv-loop : tie.InvT-loop

@@ -3,8 +3,10 @@ use mathlib.Core.Path.{_≡_, sym, ap, _∙_, subst}
 use Prim.Native.Nat.{ℕ, _*_, _^_}
 use lib.Dec.{lit≤}
 use borrow.Author.Needs.{needs}
-use Rattle.sampling.specs.{declared.bernstein.Five.Five, bernstein.Sums.Sized, bernstein.Sums.stateOf, bernstein.Sums.valueOf}
-use Rattle.sampling.proofs.{bernstein.Laws.state-size, bernstein.Laws.sized-bits, value_at.Statement.statement}
+use Rattle.sampling.specs.declared.bernstein.Five.{Five}
+use Rattle.sampling.specs.bernstein.Sums.{Sized, stateOf, valueOf}
+use Rattle.sampling.proofs.bernstein.Laws.{state-size, sized-bits}
+use Rattle.sampling.proofs.value_at.Statement.{statement}
 use Rattle.sampling.proofs.value_at.Tie as tie
 
 value-same : (e : Five) (g : Five) (j : ℕ) → g ≡ stateOf e j → g .a ≡ valueOf e j

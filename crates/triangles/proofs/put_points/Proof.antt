@@ -1,12 +1,19 @@
 -- `put_points` meets its contract: the net's numbers are those of the list of points.
-use mathlib.Core.{Path.sym, Path.subst, List.List}
+use mathlib.Core.Path.{sym, subst}
+use mathlib.Core.List.{List}
 use Prim.Native.Nat.{_+_, _*_, _≤_}
 use native.Mathlib.Omega.{arith}
 use borrow.Author.Needs.{needs}
-use lib.{ListN.length, IntN.ℤ}
+use lib.ListN.{length}
+use lib.IntN.{ℤ}
 use Rattle.paper.specs.Mesh.{Mesh}
-use Rattle.triangles.specs.{declared.writing.Shape.Shape, Meshed.Of, Owned.ShapeOf, writing.Shapes.shapeSize, writing.Shapes.ShapeAim}
-use Rattle.triangles.proofs.{Lent.below-of, Own.all-is, Own.pointed, put_points.Statement.statement}
+use Rattle.triangles.specs.declared.writing.Shape.{Shape}
+use Rattle.triangles.specs.Meshed.{Of}
+use Rattle.triangles.specs.Owned.{ShapeOf}
+use Rattle.triangles.specs.writing.Shapes.{shapeSize, ShapeAim}
+use Rattle.triangles.proofs.Lent.{below-of}
+use Rattle.triangles.proofs.Own.{all-is, pointed}
+use Rattle.triangles.proofs.put_points.Statement.{statement}
 use Rattle.triangles.proofs.put_points.Tie as tie
 
 -- the room that the call has

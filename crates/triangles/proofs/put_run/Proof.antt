@@ -1,13 +1,21 @@
 -- `put_run` meets its contract: the points of the corners before stand there.
-use mathlib.Core.{Path._≡_, Path.refl, Path.sym, Path.ap, Path._∙_, Path.subst, List.List}
+use mathlib.Core.Path.{_≡_, refl, sym, ap, _∙_, subst}
+use mathlib.Core.List.{List}
 use Prim.Native.Nat.{ℕ, _+_, _-_, _*_, _≤_, _<_}
 use native.Mathlib.Omega.{arith}
 use borrow.Author.Needs.{needs}
-use lib.{ListN.length, ListN.take, ListN.drop, IntN.ℤ}
-use Rattle.paper.specs.{Mesh.Mesh, Mesh.cornerCount, Faults.sound, Floats.netVerdict, Calls.perCorner, Calls.nets}
+use lib.ListN.{length, take, drop}
+use lib.IntN.{ℤ}
+use Rattle.paper.specs.Mesh.{Mesh, cornerCount}
+use Rattle.paper.specs.Faults.{sound}
+use Rattle.paper.specs.Floats.{netVerdict}
+use Rattle.paper.specs.Calls.{perCorner, nets}
 use Rattle.paper.specs.Triangles.{coordinateAt, pointsBefore}
-use Rattle.triangles.specs.{Meshed.Of, Owned.Pointed}
-use Rattle.triangles.proofs.{Own.nets-length, Own.net-part, Own.net-sound, Calls.points-between, Stood.put-none, Stood.range-step, Stood.range-end}
+use Rattle.triangles.specs.Meshed.{Of}
+use Rattle.triangles.specs.Owned.{Pointed}
+use Rattle.triangles.proofs.Own.{nets-length, net-part, net-sound}
+use Rattle.triangles.proofs.Calls.{points-between}
+use Rattle.triangles.proofs.Stood.{put-none, range-step, range-end}
 use Rattle.triangles.proofs.put_run.Statement.{statement}
 use Rattle.triangles.proofs.put_run.Tie as tie
 

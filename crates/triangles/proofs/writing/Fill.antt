@@ -1,13 +1,20 @@
 -- Numbers that are written here and there fill a list, where all places of the part are written.
-use mathlib.Core.{Path._≡_, Path.sym, Path.ap, Path._∙_, Bool.cond, Logic.⊎-elim, List.List, List._++_}
+use mathlib.Core.Path.{_≡_, sym, ap, _∙_}
+use mathlib.Core.Bool.{cond}
+use mathlib.Core.Logic.{⊎-elim}
+use mathlib.Core.List.{List, _++_}
 use Prim.Native.Nat.{ℕ, _+_, _-_, _≤_, _<_}
 use native.Mathlib.Omega.{arith}
-use lib.{Dec.ltb, ListN.length, ListN.getD, ListN.drop, ListN.length-append, ListN.length-drop, ListN.List·getD-append}
-use lib.{Seq.getD-append-add, Seq.getD-drop, Seq.ext-getD, IntN.ℤ, IntN.pos}
+use lib.Dec.{ltb}
 use borrow.Author.Tests.{ltb-true, ltb-false, lt-ltb, le-ltb}
+use lib.ListN.{length, getD, drop, length-append, length-drop, List·getD-append}
+use lib.Seq.{getD-append-add, getD-drop, ext-getD}
+use lib.IntN.{ℤ, pos}
 use Rattle.paper.specs.Scan.{valuesFrom}
-use Rattle.mesh.proofs.{Scans.ways, Links.values-length, Links.values-at}
-use Rattle.triangles.specs.{Rows.Fills, writing.Laid.Reaches}
+use Rattle.mesh.proofs.Scans.{ways}
+use Rattle.mesh.proofs.Links.{values-length, values-at}
+use Rattle.triangles.specs.Rows.{Fills}
+use Rattle.triangles.specs.writing.Laid.{Reaches}
 
 -- ---- a list that is filled, number by number
 module _ (f : ℕ → ℤ) (old : List ℤ) (i : ℕ) where

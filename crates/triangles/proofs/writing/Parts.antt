@@ -1,11 +1,15 @@
 -- The parts of a corner's points join: rings side by side, a border axis by axis, and all groups.
-use mathlib.Core.{Path._≡_, Path.sym, Path.ap, Path._∙_, Path.subst, Logic._⊎_, Logic.inl, Logic.inr, List.List}
+use mathlib.Core.Path.{_≡_, sym, ap, _∙_, subst}
+use mathlib.Core.Logic.{_⊎_, inl, inr}
+use mathlib.Core.List.{List}
 use Prim.Native.Nat.{ℕ, zero, suc, _+_, _-_, _*_, _^_, _≤_, _<_}
 use native.Mathlib.Omega.{arith}
 use lib.IntN.{ℤ, pos}
 use Rattle.paper.specs.Numbers.{round}
-use Rattle.sampling.specs.{declared.bernstein.Five.Five, declared.bernstein.Rows.Rows}
-use Rattle.sampling.specs.{bernstein.Sums.polynomialOf, bernstein.Sums.rowOf, bernstein.Sums.valueOf, bernstein.Sums.quarticSum, Grid.RowPut}
+use Rattle.sampling.specs.declared.bernstein.Five.{Five}
+use Rattle.sampling.specs.declared.bernstein.Rows.{Rows}
+use Rattle.sampling.specs.bernstein.Sums.{polynomialOf, rowOf, valueOf, quarticSum}
+use Rattle.sampling.specs.Grid.{RowPut}
 use Rattle.sampling.proofs.Lists.{row-value, from-none, below-or-last}
 use Rattle.triangles.specs.writing.Laid.{Reaches, InTurn, CurveAim, CurvePlace, ringAt, SpokeAim, SpokePlace, RingsAim, RingsPlace}
 use Rattle.triangles.proofs.writing.Laws.{reaches-part, reaches-more, row-reaches}

@@ -2,7 +2,8 @@
 use mathlib.Core.Path.{sym, subst}
 use Prim.Native.Nat.{_^_}
 use borrow.Author.Needs.{needs}
-use Rattle.sampling.specs.{declared.bernstein.Rows.Rows, bernstein.Sums.AllSized}
+use Rattle.sampling.specs.declared.bernstein.Rows.{Rows}
+use Rattle.sampling.specs.bernstein.Sums.{AllSized}
 use Rattle.sampling.proofs.bernstein.Laws.{slopes-size, columns-size, weights-size, polynomial-is}
 use Rattle.sampling.proofs.bernstein.polynomial.Statement.{statement}
 use Rattle.sampling.proofs.bernstein.polynomial.Tie as tie

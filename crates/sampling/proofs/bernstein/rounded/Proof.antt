@@ -1,12 +1,17 @@
 -- `sampling::bernstein::rounded` meets its contract: the quotient is no larger than the control points.
 use mathlib.Core.Path.{_≡_, _∙_, ap}
 use Prim.Native.Nat.{ℕ, _^_, _≤_}
-use native.Mathlib.{Nat.pow-le-pow-left, Nat.mul-le-mul-left, Nat.le-trans, Nat.one-le-pow, Omega.arith}
-use lib.{Dec.lit<, IntN.ℤ, IntN.pos, IntN.natAbs}
-use mir.{Syntax.w32, Facts.toZ-ofZ}
+use native.Mathlib.Nat.{pow-le-pow-left, mul-le-mul-left, le-trans, one-le-pow}
+use native.Mathlib.Omega.{arith}
+use lib.Dec.{lit<}
+use lib.IntN.{ℤ, pos, natAbs}
+use mir.Syntax.{w32}
+use mir.Facts.{toZ-ofZ}
 use Rattle.paper.specs.Numbers.{round}
-use Rattle.numbers.proofs.{Diff.diff, Machine.abs-fits}
-use Rattle.sampling.proofs.{bernstein.Laws.bits, bernstein.Laws.round-size, bernstein.Laws.size-fits, bernstein.rounded.Statement.statement}
+use Rattle.numbers.proofs.Diff.{diff}
+use Rattle.numbers.proofs.Machine.{abs-fits}
+use Rattle.sampling.proofs.bernstein.Laws.{bits, round-size, size-fits}
+use Rattle.sampling.proofs.bernstein.rounded.Statement.{statement}
 use Rattle.sampling.proofs.bernstein.rounded.Tie as tie
 
 module _ (s : tie.Start) where

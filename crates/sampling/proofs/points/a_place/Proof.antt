@@ -2,7 +2,8 @@
 use mathlib.Core.Path.{refl}
 use native.Mathlib.Omega.{arith}
 use borrow.Author.Needs.{needs}
-use Rattle.sampling.proofs.{bernstein.Laws.above, bernstein.Laws.is-last, points.a_place.Statement.statement}
+use Rattle.sampling.proofs.bernstein.Laws.{above, is-last}
+use Rattle.sampling.proofs.points.a_place.Statement.{statement}
 use Rattle.sampling.proofs.points.a_place.Tie as tie
 
 returns-4 : tie.Need-returns-4

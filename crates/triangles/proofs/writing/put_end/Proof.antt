@@ -3,9 +3,13 @@ use mathlib.Core.Path.{_≡_, sym, ap, _∙_}
 use Prim.Native.Nat.{ℕ, _+_, _*_}
 use native.Mathlib.Omega.{arith}
 use borrow.Author.Needs.{needs}
-use lib.{ListN.getD, IntN.pos}
-use mir.{Syntax.w32, Val.SFits, Facts.toZ-ofZ}
-use Rattle.triangles.proofs.{writing.Laws.reaches-none, writing.Laws.reaches-part, writing.put_end.Statement.statement}
+use lib.ListN.{getD}
+use lib.IntN.{pos}
+use mir.Syntax.{w32}
+use mir.Val.{SFits}
+use mir.Facts.{toZ-ofZ}
+use Rattle.triangles.proofs.writing.Laws.{reaches-none, reaches-part}
+use Rattle.triangles.proofs.writing.put_end.Statement.{statement}
 use Rattle.triangles.proofs.writing.put_end.Tie as tie
 
 from-none : (x : ℕ) → x ≡ x + 0

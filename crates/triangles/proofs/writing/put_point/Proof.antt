@@ -3,7 +3,8 @@ use native.Mathlib.Omega.{arith}
 use borrow.Author.Needs.{needs}
 use lib.ListN.{length-set}
 use mir.Facts.{toZ-ofZ}
-use Rattle.triangles.proofs.{writing.Laws.three-reaches, writing.put_point.Statement.statement}
+use Rattle.triangles.proofs.writing.Laws.{three-reaches}
+use Rattle.triangles.proofs.writing.put_point.Statement.{statement}
 use Rattle.triangles.proofs.writing.put_point.Tie as tie
 
 returns : tie.Need-returns

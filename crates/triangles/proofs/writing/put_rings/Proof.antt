@@ -4,9 +4,11 @@ use Prim.Native.Nat.{ℕ, _+_, _-_, _≤_}
 use native.Mathlib.Omega.{arith}
 use borrow.Author.Needs.{needs}
 use denote.Ref.{now}
-use lib.{ListN.length, IntN.ℤ}
+use lib.ListN.{length}
+use lib.IntN.{ℤ}
 use Rattle.triangles.specs.writing.Laid.{Reaches, RingsAim, RingsPlace}
-use Rattle.triangles.proofs.{writing.Laws.reaches-none, writing.Laws.reaches-part, writing.Parts.spoke-aim, writing.Parts.rings-step}
+use Rattle.triangles.proofs.writing.Laws.{reaches-none, reaches-part}
+use Rattle.triangles.proofs.writing.Parts.{spoke-aim, rings-step}
 use Rattle.triangles.proofs.writing.put_rings.Statement.{statement}
 use Rattle.triangles.proofs.writing.put_rings.Tie as tie
 

@@ -1,15 +1,21 @@
 -- `triangles::writing::put_spokes` meets its contract: before ring k + 1 the states are those of row k, and the rows of the rings before it are put.
 use mathlib.Core.Path.{_≡_, refl, sym, ap, _∙_, subst}
 use Prim.Native.Nat.{ℕ, suc, _+_, _-_, _*_, _^_, _≤_, _<_}
-use native.Mathlib.{Omega.arith, Numerals.add-one}
+use native.Mathlib.Omega.{arith}
+use native.Mathlib.Numerals.{add-one}
 use borrow.Author.Needs.{needs}
-use lib.{ListN.length, IntN.ℤ, IntN.pos}
-use Rattle.sampling.specs.{declared.bernstein.Five.Five, declared.bernstein.Rows.Rows}
+use lib.ListN.{length}
+use lib.IntN.{ℤ, pos}
+use Rattle.sampling.specs.declared.bernstein.Five.{Five}
+use Rattle.sampling.specs.declared.bernstein.Rows.{Rows}
 use Rattle.sampling.specs.bernstein.Sums.{AllSized, polynomialOf, statesOf, stepsOf, firstsOf, rowOf}
-use Rattle.sampling.proofs.{bernstein.Laws.polynomial-tapers, bernstein.Laws.states-size, bernstein.Identity.states-step, bernstein.Identity.firsts-row}
+use Rattle.sampling.proofs.bernstein.Laws.{polynomial-tapers, states-size}
+use Rattle.sampling.proofs.bernstein.Identity.{states-step, firsts-row}
 use Rattle.triangles.specs.writing.Laid.{Reaches, SpokeAim, SpokePlace}
-use Rattle.triangles.proofs.{Counts.most-inner, writing.Laws.reaches-none, writing.Laws.spoke-sampleable, writing.Laws.ring-room}
-use Rattle.triangles.proofs.{writing.Parts.spokes-step, writing.Parts.spokes-all, writing.put_spokes.Statement.statement}
+use Rattle.triangles.proofs.Counts.{most-inner}
+use Rattle.triangles.proofs.writing.Laws.{reaches-none, spoke-sampleable, ring-room}
+use Rattle.triangles.proofs.writing.Parts.{spokes-step, spokes-all}
+use Rattle.triangles.proofs.writing.put_spokes.Statement.{statement}
 use Rattle.triangles.proofs.writing.put_spokes.Tie as tie
 
 abbrev Inv-loop : tie.InvT-loop

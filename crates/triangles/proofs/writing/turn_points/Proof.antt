@@ -4,9 +4,11 @@ use Prim.Native.Nat.{_^_}
 use native.Mathlib.Omega.{arith}
 use borrow.Author.Needs.{needs}
 use denote.Ref.{now}
-use Rattle.sampling.specs.{declared.bernstein.Rows.Rows, bernstein.Sums.AllSized}
+use Rattle.sampling.specs.declared.bernstein.Rows.{Rows}
+use Rattle.sampling.specs.bernstein.Sums.{AllSized}
 use Rattle.sampling.proofs.Laws.{points-sized}
-use Rattle.triangles.proofs.{writing.Laws.turn-even, writing.Laws.turn-odd, writing.turn_points.Statement.statement}
+use Rattle.triangles.proofs.writing.Laws.{turn-even, turn-odd}
+use Rattle.triangles.proofs.writing.turn_points.Statement.{statement}
 use Rattle.triangles.proofs.writing.turn_points.Tie as tie
 
 reversed-requires : tie.Need-reversed-requires
