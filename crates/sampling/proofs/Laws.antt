@@ -175,8 +175,7 @@ module _ (numbers : List ℤ) (e : netVerdict numbers ≡ sound) (side axis : �
   sample-is i j k n q =
       ap (λ (z : ℤ). round z (pos (n ^ 4)))
       (subst (λ (m : ℕ). valueOf (rowOf (polynomialOf (rowsOf P) (pos m)) k) j ≡ quarticSum (rowsOf P) (pos i) (pos j) (pos k)) q
-      (polynomial-sum (rowsOf P) i j k)
-      ∙ sym (bernstein-is (onAxis numbers axis) (sideAt side) i j k))
+      (polynomial-sum (rowsOf P) i j k) ∙ sym (bernstein-is (onAxis numbers axis) (sideAt side) i j k))
 
 -- ---- the steps of one sample on an axis
 module _ (numbers : List ℤ) (e : netVerdict numbers ≡ sound) (side axis : ℕ) (h : axis < 3) (j k n : ℕ) (l : 1 ≤ n) (f : n ≤ 16) (g : j + k ≤ n) where
@@ -195,8 +194,7 @@ module _ (numbers : List ℤ) (e : netVerdict numbers ≡ sound) (side axis : �
       row-is = is-row ∙ ap (λ (q : Rows). rowOf (polynomialOf q (pos n)) k) is-points
 
       pub r-tapers : Tapered (5 * 2 ^ 34) r
-      r-tapers =
-          subst (λ (q : Five). Tapered (5 * 2 ^ 34) q) (sym row-is) (row-tapers (polynomialOf points (pos n)) k (omega arith) tapers)
+      r-tapers = subst (λ (q : Five). Tapered (5 * 2 ^ 34) q) (sym row-is) (row-tapers (polynomialOf points (pos n)) k (omega arith) tapers)
 
       module _ (v : ℤ) (is-value : v ≡ valueOf r j) where
         v-bits : bits v ≡ v
@@ -214,8 +212,7 @@ module _ (numbers : List ℤ) (e : netVerdict numbers ≡ sound) (side axis : �
 
         pub v-sample : (q : ℤ) → SFits w32 q → q ≡ round (bits v) (pos (n ^ 4)) → (i : ℕ) → i + j + k ≡ n
             → toZ w32 (ofZ w32 q) ≡ sampleAt numbers (sideAt side) (weights i j k n) axis
-        v-sample q b is i sums =
-            toZ-ofZ w32 q b ∙ is ∙ ap (λ (z : ℤ). round z (pos (n ^ 4))) v-is ∙ sample-is numbers e side axis h i j k n sums
+        v-sample q b is i sums = toZ-ofZ w32 q b ∙ is ∙ ap (λ (z : ℤ). round z (pos (n ^ 4))) v-is ∙ sample-is numbers e side axis h i j k n sums
 
 -- ---- what the call for one sample leaves
 pub point-set : (old : List ℤ) (x y z : ℤ) → length old ≡ 3 → set (set (set old 0 x) 1 y) 2 z ≡ axes x y z
@@ -231,12 +228,10 @@ unfolding samplePoint
 point-is numbers s w x y z e f g = rw (e, f, g)
 
 module _ (numbers : List ℤ) (side : ℕ) (w : Weights) (old : List ℤ) where
-  pub sample-refused : (a : Answer) → stated a ≡ sampleVerdict numbers side w → (k p : ℕ) → a ≡ Refused k p
-      → Sampled numbers side w old (Refused k p) old
+  pub sample-refused : (a : Answer) → stated a ≡ sampleVerdict numbers side w → (k p : ℕ) → a ≡ Refused k p → Sampled numbers side w old (Refused k p) old
   sample-refused a e k p q = record { answers = sym (ap stated q) ∙ e; holds = refl }
 
-  pub sample-done : (out : List ℤ) → sampleVerdict numbers side w ≡ sound → out ≡ samplePoint numbers (sideAt side) w
-      → Sampled numbers side w old Done out
+  pub sample-done : (out : List ℤ) → sampleVerdict numbers side w ≡ sound → out ≡ samplePoint numbers (sideAt side) w → Sampled numbers side w old Done out
   sample-done out e h = record { answers = sym e; holds = h }
 
 -- ---- what the call for a triangle answers: the checks of its first sample, then the room
@@ -248,8 +243,7 @@ orElse-four (fault k p) v w x = refl
 
 first-sample : (n : ℕ) → outside 1 mostParts n ≡ fault33 (weights n 0 0 n)
 unfolding fault33
-first-sample n =
-    sym (ap (λ (b : Bool). outside 1 mostParts n || not b) (eq-eqb (n + 0 + 0) n (omega arith)) ∙ none-more (outside 1 mostParts n))
+first-sample n = sym (ap (λ (b : Bool). outside 1 mostParts n || not b) (eq-eqb (n + 0 + 0) n (omega arith)) ∙ none-more (outside 1 mostParts n))
   where
     none-more : (b : Bool) → b || false ≡ b
     none-more true = refl

@@ -62,8 +62,7 @@ pub rows-none : (p : Rows) (n axis : ℕ) (old : List ℤ) → RowsPut p n axis 
 rows-none p n axis old = record { same = refl; values = λ k j l h. absurd (omega arith); others = λ t h. refl }
 
 -- what a row's polynomial is
-pub row-value : (p : Rows) (n k j : ℕ) → k + j ≤ n
-    → valueOf (rowOf (polynomialOf p (pos n)) k) j ≡ quarticSum p (pos (n - k - j)) (pos j) (pos k)
+pub row-value : (p : Rows) (n k j : ℕ) → k + j ≤ n → valueOf (rowOf (polynomialOf p (pos n)) k) j ≡ quarticSum p (pos (n - k - j)) (pos j) (pos k)
 row-value p n k j h =
     subst (λ (x : ℕ). valueOf (rowOf (polynomialOf p (pos x)) k) j ≡ quarticSum p (pos (n - k - j)) (pos j) (pos k))
     (let q : n - k - j + j + k ≡ n = omega arith in q) (polynomial-sum p (n - k - j) j k)
@@ -141,8 +140,7 @@ twice n (suc k) h =
     let i = twice n k (omega arith) in
     let q = 2 * n + 2 - k in
     let e : 2 * before n k ≡ k * (q + 1) = i ∙ ap (λ (m : ℕ). k * m) (let f : 2 * n + 3 - k ≡ q + 1 = omega arith in f) in
-    half n k (before n k) q (omega arith) (omega arith) e
-    ∙ ap (λ (m : ℕ). (k + 1) * m) (let f : q ≡ 2 * n + 3 - suc k = omega arith in f)
+    half n k (before n k) q (omega arith) (omega arith) e ∙ ap (λ (m : ℕ). (k + 1) * m) (let f : q ≡ 2 * n + 3 - suc k = omega arith in f)
     ∙ ap (λ (m : ℕ). m * (2 * n + 3 - suc k)) (let f : k + 1 ≡ suc k = omega arith in f)
 
 pub row-start : (n k : ℕ) → k ≤ n + 1 → rowStart n k ≡ before n k
@@ -160,8 +158,7 @@ count-is n =
 take-three : (l : List ℤ) (m : ℕ) → m + 3 ≤ length l
     → take (m + 3) l ≡ take m l ++ axes (getD l m (pos 0)) (getD l (m + 1) (pos 0)) (getD l (m + 2) (pos 0))
 take-three l m h =
-    ap (λ (k : ℕ). take k l) (let e : m + 3 ≡ suc (suc (suc m)) = omega arith in e)
-    ∙ take-suc l (suc (suc m)) (pos 0) (omega arith)
+    ap (λ (k : ℕ). take k l) (let e : m + 3 ≡ suc (suc (suc m)) = omega arith in e) ∙ take-suc l (suc (suc m)) (pos 0) (omega arith)
     ∙ ap (λ (r : List ℤ). r ++ (getD l (suc (suc m)) (pos 0) ∷ [])) (take-suc l (suc m) (pos 0) (omega arith)
     ∙ ap (λ (r : List ℤ). r ++ (getD l (suc m) (pos 0) ∷ [])) (take-suc l m (pos 0) (omega arith)))
     ∙ append-assoc (take m l ++ (getD l m (pos 0) ∷ [])) (getD l (suc m) (pos 0) ∷ []) (getD l (suc (suc m)) (pos 0) ∷ [])
@@ -196,8 +193,7 @@ module _ (numbers : List ℤ) (s : Side) (n : ℕ) (new : List ℤ) (long : 3 * 
   row-taken k (suc j) l h =
       let m = 3 * (before n k + j) in
       let b = before-le n k (n + 1) (omega arith) in
-      ap (λ (t : ℕ). take t new) (let e : 3 * (before n k + suc j) ≡ m + 3 = omega arith in e)
-      ∙ take-three new m (omega arith)
+      ap (λ (t : ℕ). take t new) (let e : 3 * (before n k + suc j) ≡ m + 3 = omega arith in e) ∙ take-three new m (omega arith)
       ∙ ap (λ (r : List ℤ). r ++ axes (getD new m (pos 0)) (getD new (m + 1) (pos 0)) (getD new (m + 2) (pos 0))) (row-taken k j l (omega arith))
       ∙ append-assoc (take (3 * before n k) new) (rowSamples numbers s n k j) (axes (getD new m (pos 0)) (getD new (m + 1) (pos 0)) (getD new (m + 2) (pos 0)))
       ∙ ap (λ (r : List ℤ). take (3 * before n k) new ++ (rowSamples numbers s n k j ++ r)) (point-at k j (omega arith))
@@ -206,8 +202,7 @@ module _ (numbers : List ℤ) (s : Side) (n : ℕ) (new : List ℤ) (long : 3 * 
   unfolding firstRows before
   rows-taken zero h = refl
   rows-taken (suc k) h =
-      row-taken k (n - k + 1) (omega arith) (omega arith)
-      ∙ ap (λ (r : List ℤ). r ++ rowSamples numbers s n k (n - k + 1)) (rows-taken k (omega arith))
+      row-taken k (n - k + 1) (omega arith) (omega arith) ∙ ap (λ (r : List ℤ). r ++ rowSamples numbers s n k (n - k + 1)) (rows-taken k (omega arith))
 
   pub all-taken : take (3 * before n (n + 1)) new ≡ triangleSamples numbers s n
   unfolding triangleSamples
@@ -220,9 +215,7 @@ module _ (numbers : List ℤ) (s : Side) (n : ℕ) (new : List ℤ) (long : 3 * 
       → ((t : ℕ) → 3 * before n (n + 1) ≤ t → getD new t (pos 0) ≡ getD old t (pos 0)) → new ≡ begins (triangleSamples numbers s n) old
   samples-begin old e rest =
       let m = 3 * before n (n + 1) in
-      sym (take-append-drop m new)
-      ∙ ap (λ (r : List ℤ). r ++ drop m new) all-taken
-      ∙ ap (λ (r : List ℤ). triangleSamples numbers s n ++ r)
+      sym (take-append-drop m new) ∙ ap (λ (r : List ℤ). r ++ drop m new) all-taken ∙ ap (λ (r : List ℤ). triangleSamples numbers s n ++ r)
       (ext-getD (pos 0) (drop m new) (drop m old) (length-drop m new ∙ ap (λ (x : ℕ). x - m) e ∙ sym (length-drop m old))
       (λ t h. getD-drop m new t (pos 0) ∙ rest (m + t) (omega arith) ∙ sym (getD-drop m old t (pos 0)))
       ∙ ap (λ (x : ℕ). drop x old) (sym samples-long))
@@ -248,8 +241,7 @@ module _ (numbers : List ℤ) (e : netVerdict numbers ≡ sound) (side n : ℕ) 
     found k j zero h a =
         let t = 3 * (before n k + j) + 0 in
         z .others t (λ u o q. omega arith) ∙ y .others t (λ u o q. omega arith) ∙ x .values k j (omega arith) h ∙ sum-sample 0 k j h
-    found k j (suc zero) h a =
-        z .others (3 * (before n k + j) + 1) (λ u o q. omega arith) ∙ y .values k j (omega arith) h ∙ sum-sample 1 k j h
+    found k j (suc zero) h a = z .others (3 * (before n k + j) + 1) (λ u o q. omega arith) ∙ y .values k j (omega arith) h ∙ sum-sample 1 k j h
     found k j (suc (suc zero)) h a = z .values k j (omega arith) h ∙ sum-sample 2 k j h
     found k j (suc (suc (suc axis))) h a = absurd (omega arith)
 

@@ -56,8 +56,7 @@ row3 = over 5 _ λ ρ. simp (poly, ρ) (omega arith)
 row4 : (i j k a : ℤ) → pos 0 +ℤ weight i j k 4 0 *ℤ a ≡ k *ℤ k *ℤ k *ℤ k *ℤ a
 row4 = over 4 _ λ ρ. simp (poly, ρ) (omega arith)
 
-five-rows : (r s t u v r′ s′ t′ u′ v′ : ℤ) → r ≡ r′ → s ≡ s′ → t ≡ t′ → u ≡ u′ → v ≡ v′
-    → pos 0 +ℤ r +ℤ s +ℤ t +ℤ u +ℤ v ≡ r′ +ℤ s′ +ℤ t′ +ℤ u′ +ℤ v′
+five-rows : (r s t u v r′ s′ t′ u′ v′ : ℤ) → r ≡ r′ → s ≡ s′ → t ≡ t′ → u ≡ u′ → v ≡ v′ → pos 0 +ℤ r +ℤ s +ℤ t +ℤ u +ℤ v ≡ r′ +ℤ s′ +ℤ t′ +ℤ u′ +ℤ v′
 five-rows r s t u v r′ s′ t′ u′ v′ e f g h i = cc (zero-add r)
 
 plain-sum : (P : ℕ → ℕ → ℤ) (i j k : ℤ) → sum (λ n. sum (λ m. weight i j k n m *ℤ P n m) (5 - n)) 5 ≡ quarticSum (rowsOf P) i j k

@@ -59,8 +59,7 @@ returns c =
     (c .before .before .before .before .before .before .before .before .before .put-axis .ensures))
     (moved (c .before .before .before .before .before .before .before .control-points2 .ensures)
     (c .before .before .before .before .before .put-axis2 .ensures))
-    (moved (c .before .before .before .control-points3 .ensures) (c .before .put-axis3 .ensures))
-    (s .pre .1 .2)
+    (moved (c .before .before .before .control-points3 .ensures) (c .before .put-axis3 .ensures)) (s .pre .1 .2)
 
 pub put-triangle-spec : {M : Type 1} → statement M
 put-triangle-spec =

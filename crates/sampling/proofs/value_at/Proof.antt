@@ -20,8 +20,7 @@ returns c =
     let g = a .state-at .result in
     sized-bits (g .a) (2 ^ 60)
     (subst (λ (f : Five). Sized (2 ^ 60) f) (sym (a .state-at .ensures)) (state-size (s .args .e) (s .args .j) (5 * 2 ^ 34) (s .pre .1) (s .pre .0) (lit≤ tt)) .0)
-    (lit≤ tt)
-    ∙ value-same (s .args .e) (a .state-at .result) (s .args .j) (a .state-at .ensures)
+    (lit≤ tt) ∙ value-same (s .args .e) (a .state-at .result) (s .args .j) (a .state-at .ensures)
 
 pub value-at-spec : {M : Type 1} → statement M
 value-at-spec = tie.close (tie.spec (λ c κs. search needs) returns)

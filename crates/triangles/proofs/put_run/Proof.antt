@@ -85,12 +85,6 @@ add-net c = let s : tie.Start Inv-loop μ-loop = search in record { fits = omega
 mul-net : tie.Need-mul-net Inv-loop μ-loop
 mul-net c = let s : tie.Start Inv-loop μ-loop = search in record { fits = omega (arith, long s, s .good) }
 
-sub-net : tie.Need-sub-net Inv-loop μ-loop
-sub-net c = omega arith
-
-part-net-start : tie.Need-part-net-start Inv-loop μ-loop
-part-net-start c = omega arith
-
 part-net-end : tie.Need-part-net-end Inv-loop μ-loop
 part-net-end c = let s : tie.Start Inv-loop μ-loop = search in let b = c .loop-test .taken in omega (arith, long s)
 
@@ -133,9 +127,6 @@ loop-again c =
           (ap (λ (x : List ℤ). take perCorner (drop (perCorner * l .c) x)) e ∙ net-part M (s .args .first) (s .args .count) (l .c) b))),
     )
 
-same-length : tie.Need-same-length Inv-loop μ-loop
-same-length c = c .before .loop .inv .1
-
 returns : tie.Need-returns Inv-loop μ-loop
 returns c =
     let s : tie.Start Inv-loop μ-loop = search in
@@ -147,5 +138,5 @@ returns c =
 
 pub put-run-spec : {M : Type 1} → statement M
 put-run-spec =
-    tie.close (tie.spec Inv-loop μ-loop loop-holds mul-from add-net mul-net sub-net part-net-start part-net-end add-put-points put-points-requires
-    (λ c. search needs) (λ c. search needs) loop-again same-length returns)
+    tie.close (tie.spec Inv-loop μ-loop loop-holds mul-from add-net mul-net (λ c. omega arith) (λ c. omega arith) part-net-end add-put-points
+    put-points-requires (λ c. search needs) (λ c. search needs) loop-again (λ c. c .before .loop .inv .1) returns)

@@ -101,10 +101,8 @@ quartic-back = over 7 _ λ ρ. simp (poly, ρ) (omega arith)
 pub sum-back : (p : Rows) (i j k : ℤ) → quarticSum (reversedOf p) i j k ≡ quarticSum p j i k
 unfolding quarticSum reversedOf
 sum-back p i j k = λ z.
-    quartic-back (p .r0 .a) (p .r0 .b) (p .r0 .c) (p .r0 .d) (p .r0 .e) i j z
-    +ℤ pos 4 *ℤ k *ℤ cubic-back (p .r1 .a) (p .r1 .b) (p .r1 .c) (p .r1 .d) i j z
-    +ℤ pos 6 *ℤ k *ℤ k *ℤ quadratic-back (p .r2 .a) (p .r2 .b) (p .r2 .c) i j z
-    +ℤ pos 4 *ℤ k *ℤ k *ℤ k *ℤ linear-back (p .r3 .a) (p .r3 .b) i j z
+    quartic-back (p .r0 .a) (p .r0 .b) (p .r0 .c) (p .r0 .d) (p .r0 .e) i j z +ℤ pos 4 *ℤ k *ℤ cubic-back (p .r1 .a) (p .r1 .b) (p .r1 .c) (p .r1 .d) i j z
+    +ℤ pos 6 *ℤ k *ℤ k *ℤ quadratic-back (p .r2 .a) (p .r2 .b) (p .r2 .c) i j z +ℤ pos 4 *ℤ k *ℤ k *ℤ k *ℤ linear-back (p .r3 .a) (p .r3 .b) i j z
     +ℤ k *ℤ k *ℤ k *ℤ k *ℤ p .r4 .a
 
 sized-back : (B : ℕ) (p : Rows) → natAbs (pos 0) ≤ B → AllSized B p → AllSized B (reversedOf p)

@@ -18,8 +18,7 @@ returns c =
     (by-bits (c .before .b-point2 .result) _ (c .before .b-point2 .ensures)
     ∙ sym (inner-place (onAxis (now (s .args .numbers)) (s .args .axis)) (s .args .side) 1 (lit≤ tt)))
     (by-bits (c .b-point3 .result) _ (c .b-point3 .ensures) ∙ sym (inner-place (onAxis (now (s .args .numbers)) (s .args .axis)) (s .args .side) 2 (lit≤ tt)))
-    refl
-    refl
+    refl refl
 
 pub inner-row-spec : {M : Type 1} → statement M
 inner-row-spec = tie.close (tie.spec (λ c κs. search needs) (λ c κs. search needs) (λ c κs. search needs) returns)

@@ -1,5 +1,5 @@
 -- `triangles::writing::turn_points` meets its contract: on sides 1 and 3 head and tail change places.
-use mathlib.Core.Path.{_≡_, sym, subst}
+use mathlib.Core.Path.{sym, subst}
 use Prim.Native.Nat.{_^_}
 use native.Mathlib.Omega.{arith}
 use borrow.Author.Needs.{needs}
