@@ -57,7 +57,7 @@ extern "C" {
 #define MAHUNOPI_MAX_BODIES 256
 #define MAHUNOPI_SUN 65535
 /* The bytes of stack that a call may take. */
-#define MAHUNOPI_CALL_STACK 360448
+#define MAHUNOPI_CALL_STACK 327680
 
 /*
  * What a function answers. A file is checked by 1 to 13, linking by 4 to 14, building by 4 to 17, the search for an

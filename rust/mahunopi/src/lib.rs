@@ -73,7 +73,7 @@ pub const PLAIN_SHARPNESS: u8 = 8;
 /// The numbers that building makes for a corner: 41 control points of x, y, z.
 pub const NUMBERS_PER_CORNER: usize = 123;
 /// The bytes of stack that a call may take.
-pub const CALL_STACK: usize = 352 * 1024;
+pub const CALL_STACK: usize = 320 * 1024;
 /// The fewest corners that [`build_all`] gives a thread: a thread has to be started, and every range repeats the checks
 /// over the whole mesh.
 const LEAST_RANGE: usize = 2_048;
