@@ -19,7 +19,7 @@ ghost use Rattle.surface.specs.Points.{pointRow};
 ghost use Rattle.walk.specs.Table.{Tabled};
 ghost use Rattle.refine.specs.sums.Sources.{Small};
 ghost use Rattle.net.specs.sides.Drawn.{drawn, Drawn};
-ghost use Rattle.building.specs.writing.Written.{NearPointed, Rounds, InFace, Faced, NetsWritten};
+ghost use Rattle.building.specs.writing.Written.{AskedPointed, Rounds, InFace, Faced, NetsWritten};
 
 // The numbers of `count` corners from `first` on, by the table of the mesh's corners. The refined points are put into `points`.
 pub(crate) fn write_nets(
@@ -71,7 +71,7 @@ fn fill_asked(
     requires table { ⌜ Tabled (cornersOf (meshOf (now coordinates) (now sides) (now corners) (now sharpness))) (now table) ⌝ }
     requires range { ⌜ first + count ≤ length (now corners) ⌝ }
     requires points { ⌜ (pointRow * length (now corners) ≤ length (now points)) × Small (now points) ⌝ }
-    ensures { λ _. ⌜ NearPointed (meshOf (now (coordinates .entry)) (now (sides .entry)) (now (corners .entry)) (now (sharpness .entry))) first count (now (points .entry)) (now (points .exit)) ⌝ }
+    ensures { λ _. ⌜ AskedPointed (meshOf (now (coordinates .entry)) (now (sides .entry)) (now (corners .entry)) (now (sharpness .entry))) first count (now (points .entry)) (now (points .exit)) ⌝ }
 {
     let mut marked = [0u8; MOST_VERTICES];
     refine::mark_vertices(corners, first, count, &mut marked);
@@ -128,7 +128,7 @@ pub fn write_corners(
     requires rows { ⌜ now rows ≡ stored ⌝ }
     ensures { λ _. ⌜ NetsWritten (drawn n (now (table .entry)) (now (points .entry))) first count (now (out .exit)) ⌝ }
 {
-    let mut near = [0i32; net::NEAR];
+    let mut stencil = [0i32; net::STENCIL];
     let mut lanes = [0i32; net::LANES];
     let mut k = 0;
     while k < count {
@@ -142,7 +142,7 @@ pub fn write_corners(
             n,
             c,
             run,
-            &mut near,
+            &mut stencil,
             &mut lanes,
             out,
             at,

@@ -12,7 +12,7 @@ ghost use Prim.Native.Nat.{_≤_, _<_, _^_};
 ghost use lib.ListN.{length};
 ghost use lib.IntN.{natAbs};
 ghost use Rattle.paper.specs.Faults.{sound, stated, single, lowestOf};
-ghost use Rattle.paper.specs.Floats.{within, fault19, pointVerdict, difference, isNear, farFirst, farSecond, Pointed};
+ghost use Rattle.paper.specs.Floats.{within, fault19, pointVerdict, difference, isNear, farFirst, farSecond, InFloats};
 ghost use Rattle.floats.specs.Exact.{FloatOf, firstPart, SplitTo};
 
 // The largest number of a list, and the largest difference of a near point; the smallest are their negatives.
@@ -30,7 +30,7 @@ const LAST_POINT: usize = 40;
 
 // The point's difference from b00: near, far or refused.
 pub fn point(numbers: &[i32], point: usize) -> FloatPoint
-    ensures { λ r. ⌜ Pointed (now (numbers .entry)) point r ⌝ }
+    ensures { λ r. ⌜ InFloats (now (numbers .entry)) point r ⌝ }
 {
     let a = check(numbers, point);
     if let Answer::Refused(number, place) = a {

@@ -21,7 +21,7 @@ use Rattle.mesh.proofs.Ranges.{or-left, or-right, or-none, none-right}
 use Rattle.mesh.proofs.Verdicts.{single-sound, lowest-sound, orElse-assoc, past}
 use Rattle.nesting.specs.Marks.{Marks, ChainMarks, Arrangeable, Arranged, ListedIn}
 use Rattle.nesting.proofs.Lists.{none-listed, snoc-same, snoc-other}
-use Rattle.nesting.proofs.Places.{places-zero, places-suc, Run, run-step, all-filled, decided}
+use Rattle.nesting.proofs.Places.{places-zero, places-suc, Occupied, run-step, all-filled, decided}
 use Rattle.nesting.proofs.Theorems.{few-of}
 
 -- ---- 21
@@ -129,7 +129,7 @@ module _ (order out : List ℕ) (i : ℕ) (e : take i out ≡ take i order) wher
 
 -- ---- listing: k bodies are listed and marked
 pub record Filling (B marks order : List ℕ) (k : ℕ) : Type 0 where
-  pub run : Run B k
+  pub run : Occupied B k
   pub marks-are : Marks (places B k) marks
   pub order-is : take k order ≡ places B k
 

@@ -107,7 +107,7 @@ AllWhole (Far p q) = AxesWhole p × AxesWhole q
 AllWhole (Refused number place) = Unit {0}
 
 -- ---- a call on a list and a point number answers r
-pub record Pointed (numbers : List ℤ) (point : ℕ) (r : FloatPoint) : Type 0 where
+pub record InFloats (numbers : List ℤ) (point : ℕ) (r : FloatPoint) : Type 0 where
   -- the case and its whole numbers, or the fault of 18, 19 or 20
   pub answers : pointStated r ≡ pointOf numbers point
   -- each float is a whole number, and a zero is plus zero

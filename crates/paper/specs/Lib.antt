@@ -9,7 +9,7 @@
 --     Calls      linking and building as calls, 14 to 17
 --     Floats     L1: a control point as floats, 18 to 20
 --     Nesting    L4: the nested grids as a table, 21 to 23, the listing, the call
---     Squares    L7: the lowest irregular face or vertex, the call, and the lines of `inspect`
+--     Irregular  L7: the lowest irregular face or vertex, the call, and the lines of `inspect`
 --     Archive    L11: coordinates rearranged for the archive and back, 30 and 31, the two calls
 --     Off        L6: reading OFF texts, 24 to 26, the call
 --     Preview    L9: a vertex moved, 29, the preview; the corners that a vertex can change
@@ -40,7 +40,7 @@ pub mod Net
 pub mod Calls
 pub mod Floats
 pub mod Nesting
-pub mod Squares
+pub mod Irregular
 pub mod Archive
 pub mod Off
 pub mod Preview

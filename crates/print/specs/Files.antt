@@ -7,7 +7,7 @@ use Rattle.paper.specs.declared.Summary.{Summary}
 use Rattle.print.specs.Lines.{summaryLines}
 
 -- these lines are what is printed of the file
-pub record Reported (file : List ℕ) (counted : ℕ) (lines : List ℕ) : Type 0 where
+pub record Printed (file : List ℕ) (counted : ℕ) (lines : List ℕ) : Type 0 where
   pub summary : Summary
   pub surveyed : FileSurveyed file counted summary
   pub printed : lines ≡ summaryLines summary

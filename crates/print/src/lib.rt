@@ -10,12 +10,12 @@ use streams::output;
 ghost use lib.ListN.{take};
 ghost use Rattle.io.specs.Counts.{Counts};
 ghost use Rattle.paper.specs.File.{fileOf};
-ghost use Rattle.print.specs.Files.{Reported};
+ghost use Rattle.print.specs.Files.{Printed};
 
 // The lines that say what `dms::survey` answers, of the bytes read and the length counted.
 pub(crate) fn report(bytes: &[u8], counted: usize, lines: &mut [u8; ANSWER]) -> usize
     ensures { λ r. ⌜ Counts r (now (lines .exit)) ⌝ }
-    ensures { λ r. ⌜ Reported (fileOf (now (bytes .entry)) counted) counted (take r (now (lines .exit))) ⌝ }
+    ensures { λ r. ⌜ Printed (fileOf (now (bytes .entry)) counted) counted (take r (now (lines .exit))) ⌝ }
 {
     let summary = dms::survey(bytes, counted);
     lines::put_summary(lines, summary)

@@ -17,7 +17,7 @@ use streams::output::complain_up_to;
 use streams::output::say_up_to;
 ghost use Prim.Native.Nat.{_≤_};
 ghost use lib.ListN.{length};
-ghost use Rattle.dms.specs.header.Sized.{Sized};
+ghost use Rattle.dms.specs.header.ListsWithin.{ListsWithin};
 
 // Room for a line for each face, its number of at most four digits.
 const LINES: usize = 5 * MOST_FACES;
@@ -52,7 +52,7 @@ fn turn_file(file: &[u8], counted: usize) {
 
 // Reads the lists of a file whose header passes.
 fn turn_lists(file: &[u8])
-    requires { ⌜ Sized (now file) ⌝ }
+    requires { ⌜ ListsWithin (now file) ⌝ }
 {
     let mut coordinates = [0i32; MOST_NUMBERS];
     let mut sides = [0u8; MOST_FACES];

@@ -1,5 +1,6 @@
-// A walk over the corners of a mesh: a walker by value whose methods return the moved walker. It steps by the table of corners, which has
-// a row for each corner: its next, previous and linked corner, the sides of its face and the corners of its vertex.
+// 01's walk: "A walk moves from a corner to the next one, the previous one or the linked one." Here it is a walker by value whose methods return the moved
+// walker. It steps by the table of corners, which has a row for each corner: its next, previous and linked corner, the sides of its face and the corners of
+// its vertex.
 ghost use mathlib.Core.Path.{_≡_};
 ghost use Prim.Native.Nat.{_+_, _*_, _<_};
 ghost use lib.ListN.{length};

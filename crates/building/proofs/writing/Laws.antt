@@ -25,7 +25,7 @@ use Rattle.mesh.proofs.Scans.{ways, compared}
 use Rattle.surface.specs.Points.{pointRow}
 use Rattle.surface.proofs.Hull.{corners-sound}
 use Rattle.surface.proofs.Rings.{ring-in}
-use Rattle.surface.proofs.Near.{Seen, ring-seen}
+use Rattle.surface.proofs.RingFaces.{Seen, ring-seen}
 use Rattle.surface.proofs.Agree.{net-same}
 use Rattle.walk.specs.Table.{toNext, toPrevious, entry, Tabled}
 use Rattle.refine.specs.Marks.{Asked, Marked}
@@ -34,9 +34,9 @@ use Rattle.refine.specs.corners.Mean.{MarkedPointed}
 use Rattle.refine.proofs.Accepted.{vertex-in, faces-of, refinable-of, table-agrees, table-sound}
 use Rattle.refine.proofs.Points.{put-choice}
 use Rattle.net.specs.sides.Drawn.{drawn, Drawn}
-use Rattle.net.specs.near.Near.{Run, Quiet}
+use Rattle.net.specs.stencil.Taken.{Run, Quiet}
 use Rattle.net.specs.Put.{RunPut}
-use Rattle.building.specs.writing.Written.{NearPointed, Rounds, Faced, NetsWritten}
+use Rattle.building.specs.writing.Written.{AskedPointed, Rounds, Faced, NetsWritten}
 
 -- ---- place i of the output holds point `i % perCorner / 3` of corner `i / perCorner` on axis `i % 3`
 place : (i : ℕ) → perCorner * (i / perCorner) + 3 * (i % perCorner / 3) + i % 3 ≡ i
@@ -197,9 +197,9 @@ module _ (sides : List ℕ) (first last c d : ℕ) (a : first ≤ c) (b : c ≤ 
       (ways (ltb d (firstOf sides last + sidesOf sides last)))
 
 -- ---- the corners at marked vertices are those at the vertices of the range
-pub near-of : (M : Mesh) (marked : List ℕ) (first count : ℕ) (old points : List ℤ) → Named (M .corners) (length marked)
-    → Marked (M .corners) first count marked → MarkedPointed M marked old points → NearPointed M first count old points
-near-of M marked first count old points n m =
+pub asked-of : (M : Mesh) (marked : List ℕ) (first count : ℕ) (old points : List ℤ) → Named (M .corners) (length marked)
+    → Marked (M .corners) first count marked → MarkedPointed M marked old points → AskedPointed M first count old points
+asked-of M marked first count old points n m =
     put-choice (λ c k. (k .1, m (vertexOf (M .corners) c) (n c (k .1)) .only (k .2)))
     (λ c k. (omega arith, k .0, m (vertexOf (M .corners) c) (n c (k .0)) .yes (k .1)))
 
@@ -207,7 +207,7 @@ near-of M marked first count old points n m =
 module _ (M : Mesh) (accepted : Accepted M) (table : List ℕ) (old points : List ℤ) (first count start all : ℕ) (t : Tabled (cornersOf M) table)
     (some : 0 < count) (range : first + count ≤ cornerCount M) (from : start ≡ firstOf (M .sides) first)
     (to : start + all ≡ firstOf (M .sides) (first + count - 1) + sidesOf (M .sides) (first + count - 1))
-    (long : pointRow * cornerCount M ≤ length old) (v : NearPointed M start all old points) where
+    (long : pointRow * cornerCount M ≤ length old) (v : AskedPointed M start all old points) where
   pub drawn-of : Drawn (cornerCount M) table points
   drawn-of = record {
     sound = table-sound M table t accepted;

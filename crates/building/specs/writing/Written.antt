@@ -16,8 +16,8 @@ use Rattle.refine.specs.Marks.{Asked}
 use Rattle.refine.specs.sums.Sources.{Faces, PointsPut}
 
 -- the table of refined points has those of the corners at the vertices of `count` corners from `first` on, and is otherwise as before
-abbrev pub NearPointed : Mesh → ℕ → ℕ → List ℤ → List ℤ → Type 0
-NearPointed M first count =
+abbrev pub AskedPointed : Mesh → ℕ → ℕ → List ℤ → List ℤ → Type 0
+AskedPointed M first count =
     PointsPut (refinedPoint rounded M) (λ c. (c < cornerCount M) × Asked (M .corners) first count (vertexOf (M .corners) c))
 
 -- the table leads from each corner to the previous one of its face, and has the sides of the face
