@@ -22,7 +22,7 @@ use Rattle.preview.proofs.Theorems.{as-building, previews-build, previews-from-
 use Rattle.touching.proofs.Untouched.{untouched}
 use Rattle.sampling.proofs.Theorems.{samples-close, rays-agree, sample-ends, samples-between, triangles-sample}
 use Rattle.closing.proofs.Calls.{surface-closes, points-used, points-sample, plain-strips, ranges-join, counts-serve}
-use Rattle.closing.proofs.Tangents.{tangents-close}
+use Rattle.sampling.proofs.TangentLaws.{tangents-close}
 use Rattle.turning.proofs.Theorems.{turned-passes, turns-decide, one-choice, turned-twice, turned-back, nothing-turned, none-farther}
 use Rattle.turning.proofs.Listing.{listing-rises}
 use Rattle.border_report.proofs.page_laws.Once.{borders-once}

@@ -15,7 +15,7 @@ use Rattle.paper.specs.Faults.{Verdict, sound, fault, _orElse_, single, 
 use Rattle.paper.specs.Counts.{verticesWith, facesWith, forEach}
 use Rattle.paper.specs.File.{fileMesh, fileVerdict, begins, into, noRoom, decodeVerdict}
 use Rattle.paper.specs.Calls.{nets, buildVerdict}
-use Rattle.paper.specs.Floats.{pointVerdict, InFloats}
+use Rattle.paper.specs.Floats.{pointVerdict, InFloats, allVerdict, allFloats, NoneRounded}
 use Rattle.paper.specs.Nesting.{nestingVerdict, listing}
 use Rattle.paper.specs.Irregular.{SearchCase, faceFound, vertexFound, noneFound, searchRefused, irregularOf}
 use Rattle.paper.specs.Archive.{archiveVerdict, archived, restored}
@@ -23,6 +23,7 @@ use Rattle.paper.specs.Off.{offVerdict, textMesh}
 use Rattle.paper.specs.Preview.{moved, previewVerdict, touchMarks, touchedVerdict}
 use Rattle.paper.specs.Turning.{turnedMesh, turnsOf, turnedFaces, turnVerdict}
 use Rattle.paper.specs.Sampling.{Weights, samplePoint, sampleVerdict, sideAt, triangleSamples, triangleVerdict}
+use Rattle.paper.specs.Tangents.{tangentPair, tangentList, tangentVerdict}
 use Rattle.paper.specs.Report.{pageWith, lines, conditions, numbersOn, added, pageVerdict, Offered, meshIn, verdictIn, merged, mergeVerdict}
 use Rattle.paper.specs.declared.Counts.{Counts}
 use Rattle.paper.specs.declared.Floats.{Floats}
@@ -118,6 +119,12 @@ pub record FloatsCall (numbers : List ℤ) (point : ℕ) (old : List Float) (pai
   pub holds : floats ≡ laid point-is old
   pub tells : told ≡ pairsOf point-is pairs
 
+-- all points of a list of quad-nets in floats
+pub record FloatsAllCall (numbers : List ℤ) (old : List Float) (before r after : ℕ) (out : List Float) : Type 0 where
+  pub answers : States (allVerdict numbers (length old)) before r after
+  pub holds : out ≡ kept (allVerdict numbers (length old)) (begins (allFloats numbers) old) old
+  pub exact : allVerdict numbers (length old) ≡ sound → NoneRounded numbers
+
 abbrev pub NestCall : List ℕ → List ℕ → ℕ → ℕ → ℕ → List ℕ → Type 0
 NestCall holders old = Called (nestingVerdict holders (length old)) (listing holders) old
 
@@ -160,6 +167,16 @@ SampleCall numbers side w old = Called (sampleVerdict numbers side w) (samplePoi
 
 abbrev pub TriangleCall : List ℤ → ℕ → ℕ → List ℤ → ℕ → ℕ → ℕ → List ℤ → Type 0
 TriangleCall numbers side N old = Called (triangleVerdict numbers side N (length old)) (begins (triangleSamples numbers (sideAt side) N) old) old
+
+-- the tangents at one sample
+abbrev pub TangentsAtCall : List ℤ → ℕ → Weights → List ℤ → ℕ → ℕ → ℕ → List ℤ → Type 0
+TangentsAtCall numbers side w old = Called (sampleVerdict numbers side w) (tangentPair numbers (sideAt side) w) old
+
+-- those of a range of corners, with a lent list and a lent length
+pub record TangentsCall (M : Mesh) (links levels : List ℕ) (first count : ℕ) (old : List ℤ) (lent before r after : ℕ) (out : List ℤ) (told : ℕ) : Type 0 where
+  pub answers : States (tangentVerdict M links first count levels (length old)) before r after
+  pub holds : out ≡ kept (tangentVerdict M links first count levels (length old)) (begins (tangentList M levels first count) old) old
+  pub tells : told ≡ kept (tangentVerdict M links first count levels (length old)) (length (tangentList M levels first count)) lent
 
 -- turning faces, with the lent corner list and sharpness list, a lent listing and a lent count
 pub record TurnCall (M : Mesh) (old : List ℕ) (count before r after : ℕ) (lists : Mesh) (out : List ℕ) (told : ℕ) : Type 0 where

@@ -28,7 +28,7 @@ use Rattle.paper.specs.CFace.{BuildCall, PreviewCall}
 use Rattle.paper.specs.Borders.{Output, outputAt, Wrote, outputOf, Holds, written, mostMiss, beside, Borders, Smooth}
 use Rattle.paper.specs.Sampling.{Weights, weights, onAxis, Sampled, TriangleSampled, sideNumber, netIn, Alike, controlPoint, Leaves, Between, rowStart}
 use Rattle.paper.specs.Triangles.{apex, foot, pointNumber, sampleNumber, pointList, triangleList, Triangulated, TrianglesCounted, ClosedMesh, Spot}
-use Rattle.paper.specs.Tangents.{tangentAlong}
+use Rattle.paper.specs.Tangents.{TangentsSampled}
 use Rattle.paper.specs.Report.{Once, Offered, verdictIn, zeroPage, mostMeshes, conditions, pageVerdict, run, pageOf, AddsOne, Reordered, MergedTo}
 use Rattle.paper.specs.Mirror.{Mirror}
 use Rattle.paper.specs.Accuracy.{Same, Accurate}
@@ -378,13 +378,15 @@ CountsServe =
     → TrianglesCounted M links levels first count n → n .answer ≡ Done → n .points ≤ length old → n .triangles ≤ length old′
     → Triangulated M links levels first count old old′ r points triangles → r .answer ≡ Done
 
--- the tangents along a border agree: at a point of a common curve both nets have the same tangent towards the tail, of any two calls of building on a mesh. The
--- weights are i of the head and j of the tail; that they sum to N does not matter
+-- the tangents along a border agree: at a point of a common curve two calls, one on each of its nets, of any two outputs of a mesh, answer the same and leave the
+-- same tangent towards the tail. The weights are i of the head and j of the tail
 abbrev pub TangentsClose : Type 0
 TangentsClose =
     (M : Mesh) (A B : Output) → Wrote M A → Wrote M B → (c : ℕ) (s : Side) → Holds A c → Holds B (beside M c s)
-    → (i j N axis : ℕ) → axis < 3
-    → tangentAlong (netIn A c) s (weights i j 0 N) axis ≡ tangentAlong (netIn B (beside M c s)) (across s) (weights i j 0 N) axis
+    → (i j N : ℕ) (old old′ out out′ : List ℤ) (r r′ : Answer)
+    → TangentsSampled (netIn A c) (sideNumber s) (weights i j 0 N) old r out
+    → TangentsSampled (netIn B (beside M c s)) (sideNumber (across s)) (weights i j 0 N) old′ r′ out′
+    → (r ≡ r′) × (r ≡ Done → take 3 out ≡ take 3 out′)
 
 -- ========================================================================================================================================================
 -- All of them

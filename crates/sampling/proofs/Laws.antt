@@ -25,8 +25,8 @@ use Rattle.paper.specs.Sampling.{Sampled, sampleCount, triangleSamples, triangl
 use Rattle.numbers.proofs.Diff.{as-diff, diff}
 use Rattle.mesh.proofs.Ranges.{or-left, or-right, none-left, none-right, inside, at-least, at-most}
 use Rattle.mesh.proofs.Verdicts.{sound-left, sound-right, single-sound, single-miss, single-hit, orElse-fault, orElse-sound, stop, past}
-use Rattle.sampling.specs.declared.bernstein.Five.{Five}
-use Rattle.sampling.specs.declared.bernstein.Rows.{Rows}
+use Rattle.sampling.specs.declared.bernstein.Vector5.{Vector5}
+use Rattle.sampling.specs.declared.bernstein.Matrix5.{Matrix5}
 use Rattle.sampling.specs.bernstein.Sums.{AllSized, Tapered, AllTapered, rowsOf, polynomialOf, rowOf, valueOf, quarticSum}
 use Rattle.sampling.proofs.bernstein.Laws.{bits, sized-bits, polynomial-tapers, row-tapers, value-size}
 use Rattle.sampling.proofs.bernstein.Identity.{polynomial-sum}
@@ -175,26 +175,28 @@ module _ (numbers : List ℤ) (e : netVerdict numbers ≡ sound) (side axis : �
   sample-is i j k n q =
       ap (λ (z : ℤ). round z (pos (n ^ 4)))
       (subst (λ (m : ℕ). valueOf (rowOf (polynomialOf (rowsOf P) (pos m)) k) j ≡ quarticSum (rowsOf P) (pos i) (pos j) (pos k)) q
-      (polynomial-sum (rowsOf P) i j k) ∙ sym (bernstein-is (onAxis numbers axis) (sideAt side) i j k))
+      (polynomial-sum (rowsOf P) i j k)
+      ∙ sym (bernstein-is (onAxis numbers axis) (sideAt side) i j k))
 
 -- ---- the steps of one sample on an axis
 module _ (numbers : List ℤ) (e : netVerdict numbers ≡ sound) (side axis : ℕ) (h : axis < 3) (j k n : ℕ) (l : 1 ≤ n) (f : n ≤ 16) (g : j + k ≤ n) where
-  abbrev points : Rows
+  abbrev points : Matrix5
   points = rowsOf (P numbers e side axis h)
 
   tapers : AllTapered (polynomialOf points (pos n))
   tapers = polynomial-tapers points n (points-sized numbers e side axis h) f
 
-  module _ (p : Rows) (is-points : p ≡ points) where
+  module _ (p : Matrix5) (is-points : p ≡ points) where
     pub p-sized : AllSized (2 ^ 27) p
-    p-sized = subst (λ (q : Rows). AllSized (2 ^ 27) q) (sym is-points) (points-sized numbers e side axis h)
+    p-sized = subst (λ (q : Matrix5). AllSized (2 ^ 27) q) (sym is-points) (points-sized numbers e side axis h)
 
-    module _ (r : Five) (is-row : r ≡ rowOf (polynomialOf p (pos n)) k) where
+    module _ (r : Vector5) (is-row : r ≡ rowOf (polynomialOf p (pos n)) k) where
       row-is : r ≡ rowOf (polynomialOf points (pos n)) k
-      row-is = is-row ∙ ap (λ (q : Rows). rowOf (polynomialOf q (pos n)) k) is-points
+      row-is = is-row ∙ ap (λ (q : Matrix5). rowOf (polynomialOf q (pos n)) k) is-points
 
       pub r-tapers : Tapered (5 * 2 ^ 34) r
-      r-tapers = subst (λ (q : Five). Tapered (5 * 2 ^ 34) q) (sym row-is) (row-tapers (polynomialOf points (pos n)) k (omega arith) tapers)
+      r-tapers =
+          subst (λ (q : Vector5). Tapered (5 * 2 ^ 34) q) (sym row-is) (row-tapers (polynomialOf points (pos n)) k (omega arith) tapers)
 
       module _ (v : ℤ) (is-value : v ≡ valueOf r j) where
         v-bits : bits v ≡ v
@@ -203,7 +205,7 @@ module _ (numbers : List ℤ) (e : netVerdict numbers ≡ sound) (side axis : �
             (value-size r j (5 * 2 ^ 34) (omega arith) r-tapers)) (lit≤ tt)
 
         v-is : bits v ≡ valueOf (rowOf (polynomialOf points (pos n)) k) j
-        v-is = v-bits ∙ is-value ∙ ap (λ (q : Five). valueOf q j) row-is
+        v-is = v-bits ∙ is-value ∙ ap (λ (q : Vector5). valueOf q j) row-is
 
         pub v-small : natAbs (bits v) ≤ 2 ^ 27 * n ^ 4
         v-small =
@@ -212,7 +214,8 @@ module _ (numbers : List ℤ) (e : netVerdict numbers ≡ sound) (side axis : �
 
         pub v-sample : (q : ℤ) → SFits w32 q → q ≡ round (bits v) (pos (n ^ 4)) → (i : ℕ) → i + j + k ≡ n
             → toZ w32 (ofZ w32 q) ≡ sampleAt numbers (sideAt side) (weights i j k n) axis
-        v-sample q b is i sums = toZ-ofZ w32 q b ∙ is ∙ ap (λ (z : ℤ). round z (pos (n ^ 4))) v-is ∙ sample-is numbers e side axis h i j k n sums
+        v-sample q b is i sums =
+            toZ-ofZ w32 q b ∙ is ∙ ap (λ (z : ℤ). round z (pos (n ^ 4))) v-is ∙ sample-is numbers e side axis h i j k n sums
 
 -- ---- what the call for one sample leaves
 pub point-set : (old : List ℤ) (x y z : ℤ) → length old ≡ 3 → set (set (set old 0 x) 1 y) 2 z ≡ axes x y z
@@ -228,10 +231,12 @@ unfolding samplePoint
 point-is numbers s w x y z e f g = rw (e, f, g)
 
 module _ (numbers : List ℤ) (side : ℕ) (w : Weights) (old : List ℤ) where
-  pub sample-refused : (a : Answer) → stated a ≡ sampleVerdict numbers side w → (k p : ℕ) → a ≡ Refused k p → Sampled numbers side w old (Refused k p) old
+  pub sample-refused : (a : Answer) → stated a ≡ sampleVerdict numbers side w → (k p : ℕ) → a ≡ Refused k p
+      → Sampled numbers side w old (Refused k p) old
   sample-refused a e k p q = record { answers = sym (ap stated q) ∙ e; holds = refl }
 
-  pub sample-done : (out : List ℤ) → sampleVerdict numbers side w ≡ sound → out ≡ samplePoint numbers (sideAt side) w → Sampled numbers side w old Done out
+  pub sample-done : (out : List ℤ) → sampleVerdict numbers side w ≡ sound → out ≡ samplePoint numbers (sideAt side) w
+      → Sampled numbers side w old Done out
   sample-done out e h = record { answers = sym e; holds = h }
 
 -- ---- what the call for a triangle answers: the checks of its first sample, then the room
@@ -243,7 +248,8 @@ orElse-four (fault k p) v w x = refl
 
 first-sample : (n : ℕ) → outside 1 mostParts n ≡ fault33 (weights n 0 0 n)
 unfolding fault33
-first-sample n = sym (ap (λ (b : Bool). outside 1 mostParts n || not b) (eq-eqb (n + 0 + 0) n (omega arith)) ∙ none-more (outside 1 mostParts n))
+first-sample n =
+    sym (ap (λ (b : Bool). outside 1 mostParts n || not b) (eq-eqb (n + 0 + 0) n (omega arith)) ∙ none-more (outside 1 mostParts n))
   where
     none-more : (b : Bool) → b || false ≡ b
     none-more true = refl

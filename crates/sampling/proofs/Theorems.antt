@@ -38,13 +38,13 @@ use Rattle.sampling.proofs.Laws.{some-parts, few-parts, parts-sum, net-
 use Rattle.sampling.proofs.Lists.{row-start, below-or-last}
 
 -- ---- answers
-same-answer : (r r′ : Answer) → stated r ≡ stated r′ → r ≡ r′
+pub same-answer : (r r′ : Answer) → stated r ≡ stated r′ → r ≡ r′
 same-answer Done Done e = refl
 same-answer Done (Refused k p) e = let z : _≡_ {A = ℕ} 0 1 = cc in absurd (omega arith)
 same-answer (Refused k p) Done e = let z : _≡_ {A = ℕ} 0 1 = cc in absurd (omega arith)
 same-answer (Refused k p) (Refused k′ p′) e = let f : k ≡ k′ = cc in let g : p ≡ p′ = cc in cc
 
-side-back : (s : Side) → sideAt (sideNumber s) ≡ s
+pub side-back : (s : Side) → sideAt (sideNumber s) ≡ s
 side-back side0 = refl
 side-back side1 = refl
 side-back side2 = refl
@@ -58,7 +58,7 @@ no-fault32 side2 = refl
 no-fault32 side3 = refl
 
 -- of a side's own number 32 is no fault
-verdict-is : (numbers : List ℤ) (s : Side) (w : Weights)
+pub verdict-is : (numbers : List ℤ) (s : Side) (w : Weights)
     → sampleVerdict numbers (sideNumber s) w ≡ netVerdict numbers orElse single 33 (fault33 w) (w .parts)
 unfolding sampleVerdict
 verdict-is numbers s w =
@@ -102,13 +102,13 @@ module _ (O : Output) (c axis : ℕ) (a : axis < 3) where
       ∙ getD-drop (perCorner * (c - O .first)) (O .numbers) (3 * k + axis) (pos 0) ∙ ap (λ (x : ℕ). getD (O .numbers) x (pos 0))
       (let e : perCorner * (c - O .first) + (3 * k + axis) ≡ perCorner * (c - O .first) + 3 * k + axis = omega arith in e)
 
-  outer-at : (s : Side) (m : ℕ) → m < 5 → outerRow (onAxis (netIn O c) axis) s m ≡ outerRow (written O axis c) s m
+  pub outer-at : (s : Side) (m : ℕ) → m < 5 → outerRow (onAxis (netIn O c) axis) s m ≡ outerRow (written O axis c) s m
   outer-at side0 m h = net-at _ (omega arith)
   outer-at side1 m h = net-at _ (omega arith)
   outer-at side2 m h = net-at _ (omega arith)
   outer-at side3 m h = net-at _ (omega arith)
 
-net-passes : (M : Mesh) (O : Output) → Wrote M O → (c : ℕ) → Holds O c → netVerdict (netIn O c) ≡ sound
+pub net-passes : (M : Mesh) (O : Output) → Wrote M O → (c : ℕ) → Holds O c → netVerdict (netIn O c) ≡ sound
 net-passes M O w c h = nets-pass M (w .links) (O .first) (O .count) (w .old) (O .numbers) (w .call) (c - O .first) (omega (arith, h .0, h .1))
 
 pub side-number : (net other : List ℤ) (s t : Side) (i j N axis : ℕ) → ((m : ℕ) → m < 5 → outerRow (onAxis net axis) s m ≡ outerRow (onAxis other axis) t m)

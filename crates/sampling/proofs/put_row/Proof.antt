@@ -10,7 +10,7 @@ use mir.Syntax.{w32}
 use mir.Val.{toZ, ofZ}
 use mir.Facts.{toZ-ofZ}
 use Rattle.paper.specs.Numbers.{round}
-use Rattle.sampling.specs.declared.bernstein.Five.{Five}
+use Rattle.sampling.specs.declared.bernstein.Vector5.{Vector5}
 use Rattle.sampling.specs.bernstein.Sums.{Sized, stateOf, valueOf, stepOf}
 use Rattle.sampling.proofs.bernstein.Laws.{bits, state-size, sized-bits}
 use Rattle.sampling.proofs.bernstein.Identity.{state-step}
@@ -21,14 +21,14 @@ use Rattle.sampling.proofs.put_row.Tie as tie
 
 abbrev Inv-loop : tie.InvT-loop
 Inv-loop n first count points₀ from g₀ j₀ points g j =
-    (j ≤ count) × ((e : Five) → g₀ ≡ stateOf e first → (g ≡ stateOf e (first + j)) × RowPut e n first j from points₀ points)
+    (j ≤ count) × ((e : Vector5) → g₀ ≡ stateOf e first → (g ≡ stateOf e (first + j)) × RowPut e n first j from points₀ points)
 
 abbrev μ-loop : tie.MeasureT-loop
 μ-loop n first count points₀ from g₀ j₀ points g j = count - j
 
-value-same : (e : Five) (g : Five) (x : ℕ) → g ≡ stateOf e x → g .a ≡ valueOf e x
+value-same : (e : Vector5) (g : Vector5) (x : ℕ) → g ≡ stateOf e x → g .a ≡ valueOf e x
 unfolding stateOf
-value-same e g x h = ap (λ (f : Five). f .a) h
+value-same e g x h = ap (λ (f : Vector5). f .a) h
 
 from-all : (x : ℕ) → x ≡ x + 0
 from-all x = omega arith
@@ -44,7 +44,7 @@ module _ (t : tie.In-loop Inv-loop μ-loop) where
   abbrev j : ℕ
   j = t .before .loop .j
 
-  abbrev e : Five
+  abbrev e : Vector5
   e = p .args .e
 
   abbrev first : ℕ
@@ -58,7 +58,7 @@ module _ (t : tie.In-loop Inv-loop μ-loop) where
 
   sized : Sized (2 ^ 60) (t .before .loop .g)
   sized =
-      subst (λ (g : Five). Sized (2 ^ 60) g) (sym (inv .0))
+      subst (λ (g : Vector5). Sized (2 ^ 60) g) (sym (inv .0))
       (state-size e (first + j) (5 * 2 ^ 34) (omega (arith, below, p .pre .0 .short)) (p .pre .0 .tapers) (lit≤ tt))
 
   value-is : bits (t .before .loop .g .a) ≡ valueOf e (first + j)
