@@ -29,13 +29,14 @@ use Rattle.building.proofs.writing.Laws.{drawn-written}
 use Rattle.triangles.specs.Rows.{Stands}
 use Rattle.triangles.specs.Checks.{CountedAs}
 use Rattle.triangles.specs.filling.Filled.{Filled}
-use Rattle.triangles.proofs.Stood.{put-as, put-join}
+use Rattle.triangles.specs.Owned.{Pointed}
+use Rattle.triangles.proofs.Stood.{put-as, put-join, filled-list}
 
 -- ---- a run of corners more: B says where each corner's part begins
-module _ {A : Type 0} (f : ℕ → A) (B : ℕ → ℕ) (most : ℕ) (rises : (c d : ℕ) → c ≤ d → d ≤ most → B c ≤ B d) (first count : ℕ) (h : first + count ≤ most) where
-  pub run-step : (c run to to′ : ℕ) (old out new : List A) → c + run ≤ count → Stands f (B first) (B (first + c)) 0 to old out
+module _ (B : ℕ → ℕ) (most : ℕ) (rises : (c d : ℕ) → c ≤ d → d ≤ most → B c ≤ B d) (first count : ℕ) (h : first + count ≤ most) where
+  pub run-step : {A : Type 0} (f : ℕ → A) (c run to to′ : ℕ) (old out new : List A) → c + run ≤ count → Stands f (B first) (B (first + c)) 0 to old out
       → Stands f (B (first + c)) (B (first + c + run)) to to′ out new → Stands f (B first) (B (first + (c + run))) 0 to′ old new
-  run-step c run to to′ old out new l p q =
+  run-step f c run to to′ old out new l p q =
       put-as f (B first) (B (first + c + run)) (B first) (B (first + (c + run))) 0 to′ old new refl
       (ap B (let z : first + c + run ≡ first + (c + run) = omega arith in z))
       (put-join f (B first) (B (first + c)) (B (first + c + run)) 0 to to′ old out new
@@ -62,11 +63,12 @@ written-part : (K : ℕ → RefinedMesh rounded) (first run : ℕ) (out : List �
 unfolding NetsWritten
 written-part K first run out w a j p h hj hp = getD-take (perCorner * run) out (perCorner * j + 3 * p + a) (pos 0) (omega arith) ∙ w a j p h hj hp
 
-pub run-nets : (M : Mesh) (table : List ℕ) (refined : List ℤ) (first count n : ℕ) → NetsDrawn M table refined first count → (c run : ℕ) → c + run ≤ count
-    → cornerCount M ≡ n → (out : List ℤ) → perCorner * run ≤ length out → NetsWritten (drawn n table refined) (first + c) run out
+pub run-nets : (M : Mesh) (table : List ℕ) (refined : List ℤ) (first count n : ℕ) → NetsDrawn M table refined first count → cornerCount M ≡ n → (c run : ℕ)
+    → c + run ≤ count → (out : List ℤ) → perCorner * run ≤ length out → NetsWritten (drawn n table refined) (first + c) run out
     → take (perCorner * run) out ≡ nets M (first + c) run
-run-nets M table refined first count n d c run l e out long w =
-    drawn-written M table refined first count d c run l (take (perCorner * run) out) (omega (arith, length-take (perCorner * run) out))
+run-nets M table refined first count n d e c run l out long w =
+    drawn-written M table refined first count d (first + c) run (omega arith) (omega arith) (take (perCorner * run) out)
+    (length-take (perCorner * run) out ∙ omega arith)
     (written-part _ (first + c) run out (rw e w))
 
 -- ---- what the call answers and leaves
@@ -85,6 +87,12 @@ module _ (M : Mesh) (levels : List ℕ) (first count : ℕ) where
   pub triangles-many : length (triangleList M levels first count) ≡ 3 * (trianglesBefore M levels (first + count) - trianglesBefore M levels first)
   unfolding triangleList
   triangles-many = values-length (indexAt M levels) _ _
+
+  -- all corners of the range
+  pub points-filled : (c to : ℕ) (old out : List ℤ) → c ≡ count
+      → Pointed M levels (pointsBefore M levels first) (pointsBefore M levels (first + c)) 0 to old out → out ≡ begins (pointList M levels first count) old
+  unfolding pointList
+  points-filled c to old out e p = rw e at (filled-list (coordinateAt M levels) (pointsBefore M levels first) (pointsBefore M levels (first + c)) to old out p)
 
   -- the answer of the check, from the counts
   pub room-as : (points triangles room space : ℕ) → CountedAs M levels first count points triangles

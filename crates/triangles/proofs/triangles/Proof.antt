@@ -43,17 +43,18 @@ fill-requires c κs =
     let u = s t in
     let w = a t .check-all in (
       all-levelled (mesh u) (now (u .args .links)) (u .args .first) (u .args .count) (now (u .args .levels)) (ok t) _ (w .ensures .tabled (w .ensures .answers ∙ ok t)),
-      range-some (mesh u) (now (u .args .links)) (now (u .args .levels)) (u .args .first) (u .args .count) (ok t),
-      range-in (mesh u) (now (u .args .links)) (u .args .first) (u .args .count) (now (u .args .levels)) (ok t),
+      (range-some (mesh u) (now (u .args .links)) (now (u .args .levels)) (u .args .first) (u .args .count) (ok t),
+      range-in (mesh u) (now (u .args .links)) (u .args .first) (u .args .count) (now (u .args .levels)) (ok t)),
     )
 
 returns-2 : tie.Need-returns-2
 returns-2 c =
     let t : tie.After-enum-told = search in
     let u = s t in
-    triangulated (mesh u) (now (u .args .links)) (now (u .args .levels)) (u .args .first) (u .args .count) _ _ _ _ _ (ok t) (c .fill .ensures)
+    let f : tie.After-fill = search in
+    triangulated (mesh u) (now (u .args .links)) (now (u .args .levels)) (u .args .first) (u .args .count) _ _ _ _ _ (ok t) (f .fill .ensures)
 
 pub triangles-spec : {M : Type 1} → statement M
 triangles-spec =
     tie.close (tie.spec (λ c. search needs) check-all-requires (λ c. search needs) returns (λ c. search needs) (λ c. search needs)
-    fill-requires returns-2)
+    fill-requires (λ c. search needs) (λ c. search needs) returns-2)
