@@ -1,39 +1,24 @@
 -- The checks, the sizes of a side's control points, and one sample.
-use mathlib.Core.Path.{_≡_, refl, sym, ap, _∙_, subst}
-use mathlib.Core.Bool.{Bool, true, false, not, _||_}
+use mathlib.Core.{Path._≡_, Path.refl, Path.sym, Path.ap, Path._∙_, Path.subst, Bool.Bool, Bool.true, Bool.false, Bool.not, Bool._||_}
 use mathlib.Core.List.{List, [], _∷_}
 use Prim.Native.Nat.{ℕ, zero, suc, _+_, _-_, _*_, _/_, _^_, _≤_, _<_}
-use native.Mathlib.Nat.{mul-le-mul}
-use native.Mathlib.Omega.{arith}
+use native.Mathlib.{Nat.mul-le-mul, Omega.arith}
 use borrow.Author.Tests.{ltb-false, lt-ltb, le-ltb, eqb-true, eqb-false, eq-eqb, ne-eqb, not-false}
-use lib.Dec.{ltb, eqb, lit≤}
-use lib.ListN.{length, set}
-use lib.IntN.{ℤ, pos, negℤ, natAbs}
-use lib.Signed.{_≤ℤ_}
-use mir.Syntax.{w32}
-use mir.Val.{SFits, toZ, ofZ}
-use mir.ValLaws.{toZ-ofZ}
-use Rattle.paper.specs.Faults.{Verdict, sound, fault, _orElse_, single, outside, stated}
-use Rattle.paper.specs.Numbers.{round}
-use Rattle.paper.specs.Net.{Side}
-use Rattle.paper.specs.File.{noRoom, begins}
-use Rattle.paper.specs.Floats.{netVerdict, fault20, pointVerdict, axes}
-use Rattle.paper.specs.declared.Answer.{Answer}
+use lib.{Dec.ltb, Dec.eqb, Dec.lit≤, ListN.length, ListN.set, IntN.ℤ, IntN.pos, IntN.negℤ, IntN.natAbs, Signed._≤ℤ_}
+use mir.{Syntax.w32, Val.SFits, Val.toZ, Val.ofZ, ValLaws.toZ-ofZ}
+use Rattle.paper.specs.{Faults.Verdict, Faults.sound, Faults.fault, Faults._orElse_, Faults.single, Faults.outside, Faults.stated, Numbers.round, Net.Side}
+use Rattle.paper.specs.{File.noRoom, File.begins, Floats.netVerdict, Floats.fault20, Floats.pointVerdict, Floats.axes, declared.Answer.Answer}
 use Rattle.paper.specs.declared.Answer.the-variants.{Done, Refused}
 use Rattle.paper.specs.Sampling.{control, Weights, weights, onAxis, bernsteinSum, sampleAt, samplePoint, fault32, mostParts, fault33, sampleVerdict, sideAt}
 use Rattle.paper.specs.Sampling.{Sampled, sampleCount, triangleSamples, triangleVerdict, TriangleSampled}
 use Rattle.numbers.proofs.Diff.{as-diff, diff}
 use Rattle.mesh.proofs.Ranges.{or-left, or-right, none-left, none-right, inside, at-least, at-most}
 use Rattle.mesh.proofs.Verdicts.{sound-left, sound-right, single-sound, single-miss, single-hit, orElse-fault, orElse-sound, stop, past}
-use Rattle.sampling.specs.declared.bernstein.Five.{Five}
-use Rattle.sampling.specs.declared.bernstein.Rows.{Rows}
+use Rattle.sampling.specs.{declared.bernstein.Five.Five, declared.bernstein.Rows.Rows, points.Places.bPlace, points.Places.aPlace, Grid.Sampleable}
 use Rattle.sampling.specs.bernstein.Sums.{AllSized, Tapered, AllTapered, rowsOf, polynomialOf, rowOf, valueOf, quarticSum}
 use Rattle.sampling.proofs.bernstein.Laws.{bits, sized-bits, polynomial-tapers, row-tapers, value-size}
-use Rattle.sampling.proofs.bernstein.Identity.{polynomial-sum}
-use Rattle.sampling.proofs.bernstein.Sum.{bernstein-is, sum-size}
-use Rattle.sampling.specs.points.Places.{bPlace, aPlace}
+use Rattle.sampling.proofs.{bernstein.Identity.polynomial-sum, bernstein.Sum.bernstein-is, bernstein.Sum.sum-size}
 use Rattle.sampling.proofs.points.Laws.{outer-place, a-place, inner-place, inner-a-place, number-size}
-use Rattle.sampling.specs.Grid.{Sampleable}
 use Rattle.sampling.proofs.Lists.{row-value}
 
 -- ---- 33, test by test
@@ -175,8 +160,7 @@ module _ (numbers : List ℤ) (e : netVerdict numbers ≡ sound) (side axis : �
   sample-is i j k n q =
       ap (λ (z : ℤ). round z (pos (n ^ 4)))
       (subst (λ (m : ℕ). valueOf (rowOf (polynomialOf (rowsOf P) (pos m)) k) j ≡ quarticSum (rowsOf P) (pos i) (pos j) (pos k)) q
-      (polynomial-sum (rowsOf P) i j k)
-      ∙ sym (bernstein-is (onAxis numbers axis) (sideAt side) i j k))
+      (polynomial-sum (rowsOf P) i j k) ∙ sym (bernstein-is (onAxis numbers axis) (sideAt side) i j k))
 
 -- ---- the steps of one sample on an axis
 module _ (numbers : List ℤ) (e : netVerdict numbers ≡ sound) (side axis : ℕ) (h : axis < 3) (j k n : ℕ) (l : 1 ≤ n) (f : n ≤ 16) (g : j + k ≤ n) where
@@ -195,8 +179,7 @@ module _ (numbers : List ℤ) (e : netVerdict numbers ≡ sound) (side axis : �
       row-is = is-row ∙ ap (λ (q : Rows). rowOf (polynomialOf q (pos n)) k) is-points
 
       pub r-tapers : Tapered (5 * 2 ^ 34) r
-      r-tapers =
-          subst (λ (q : Five). Tapered (5 * 2 ^ 34) q) (sym row-is) (row-tapers (polynomialOf points (pos n)) k (omega arith) tapers)
+      r-tapers = subst (λ (q : Five). Tapered (5 * 2 ^ 34) q) (sym row-is) (row-tapers (polynomialOf points (pos n)) k (omega arith) tapers)
 
       module _ (v : ℤ) (is-value : v ≡ valueOf r j) where
         v-bits : bits v ≡ v
@@ -214,8 +197,7 @@ module _ (numbers : List ℤ) (e : netVerdict numbers ≡ sound) (side axis : �
 
         pub v-sample : (q : ℤ) → SFits w32 q → q ≡ round (bits v) (pos (n ^ 4)) → (i : ℕ) → i + j + k ≡ n
             → toZ w32 (ofZ w32 q) ≡ sampleAt numbers (sideAt side) (weights i j k n) axis
-        v-sample q b is i sums =
-            toZ-ofZ w32 q b ∙ is ∙ ap (λ (z : ℤ). round z (pos (n ^ 4))) v-is ∙ sample-is numbers e side axis h i j k n sums
+        v-sample q b is i sums = toZ-ofZ w32 q b ∙ is ∙ ap (λ (z : ℤ). round z (pos (n ^ 4))) v-is ∙ sample-is numbers e side axis h i j k n sums
 
 -- ---- what the call for one sample leaves
 pub point-set : (old : List ℤ) (x y z : ℤ) → length old ≡ 3 → set (set (set old 0 x) 1 y) 2 z ≡ axes x y z
@@ -231,12 +213,10 @@ unfolding samplePoint
 point-is numbers s w x y z e f g = rw (e, f, g)
 
 module _ (numbers : List ℤ) (side : ℕ) (w : Weights) (old : List ℤ) where
-  pub sample-refused : (a : Answer) → stated a ≡ sampleVerdict numbers side w → (k p : ℕ) → a ≡ Refused k p
-      → Sampled numbers side w old (Refused k p) old
+  pub sample-refused : (a : Answer) → stated a ≡ sampleVerdict numbers side w → (k p : ℕ) → a ≡ Refused k p → Sampled numbers side w old (Refused k p) old
   sample-refused a e k p q = record { answers = sym (ap stated q) ∙ e; holds = refl }
 
-  pub sample-done : (out : List ℤ) → sampleVerdict numbers side w ≡ sound → out ≡ samplePoint numbers (sideAt side) w
-      → Sampled numbers side w old Done out
+  pub sample-done : (out : List ℤ) → sampleVerdict numbers side w ≡ sound → out ≡ samplePoint numbers (sideAt side) w → Sampled numbers side w old Done out
   sample-done out e h = record { answers = sym e; holds = h }
 
 -- ---- what the call for a triangle answers: the checks of its first sample, then the room
@@ -248,8 +228,7 @@ orElse-four (fault k p) v w x = refl
 
 first-sample : (n : ℕ) → outside 1 mostParts n ≡ fault33 (weights n 0 0 n)
 unfolding fault33
-first-sample n =
-    sym (ap (λ (b : Bool). outside 1 mostParts n || not b) (eq-eqb (n + 0 + 0) n (omega arith)) ∙ none-more (outside 1 mostParts n))
+first-sample n = sym (ap (λ (b : Bool). outside 1 mostParts n || not b) (eq-eqb (n + 0 + 0) n (omega arith)) ∙ none-more (outside 1 mostParts n))
   where
     none-more : (b : Bool) → b || false ≡ b
     none-more true = refl

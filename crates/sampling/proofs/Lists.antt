@@ -1,27 +1,17 @@
 -- The samples of a triangle as they come into the list: number by number along a row, row by row, axis by axis.
-use mathlib.Core.Path.{_≡_, refl, sym, ap, _∙_, subst}
-use mathlib.Core.Logic.{⊎-elim}
+use mathlib.Core.{Path._≡_, Path.refl, Path.sym, Path.ap, Path._∙_, Path.subst, Logic.⊎-elim}
 use mathlib.Core.List.{List, [], _∷_, _++_, append-assoc, append-nil}
 use Prim.Native.Nat.{ℕ, zero, suc, _+_, _-_, _*_, _^_, _≤_, _<_}
-use native.Mathlib.Numerals.{add-one}
-use native.Mathlib.Omega.{arith}
+use native.Mathlib.{Numerals.add-one, Omega.arith}
 use lib.ListN.{length, getD, set, take, drop, length-set, length-drop, take-append-drop}
-use lib.Seq.{getD-set-same, getD-set-other, take-suc, length-take-le, ext-getD, getD-drop}
-use lib.IntN.{ℤ, pos, natAbs}
-use Rattle.paper.specs.Numbers.{round}
-use Rattle.paper.specs.Faults.{sound}
-use Rattle.paper.specs.Net.{Side}
-use Rattle.paper.specs.File.{begins}
-use Rattle.paper.specs.Floats.{netVerdict, axes}
+use lib.{Seq.getD-set-same, Seq.getD-set-other, Seq.take-suc, Seq.length-take-le, Seq.ext-getD, Seq.getD-drop, IntN.ℤ, IntN.pos, IntN.natAbs}
+use Rattle.paper.specs.{Numbers.round, Faults.sound, Net.Side, File.begins, Floats.netVerdict, Floats.axes}
 use Rattle.paper.specs.Sampling.{control, weights, onAxis, sampleAt, samplePoint, sideAt, rowSamples, firstRows, triangleSamples, sampleCount, rowStart}
 use Rattle.mesh.proofs.Scans.{compared}
-use Rattle.sampling.specs.declared.bernstein.Five.{Five}
-use Rattle.sampling.specs.declared.bernstein.Rows.{Rows}
+use Rattle.sampling.specs.{declared.bernstein.Five.Five, declared.bernstein.Rows.Rows}
 use Rattle.sampling.specs.bernstein.Sums.{Tapered, AllTapered, rowsOf, polynomialOf, rowOf, valueOf, quarticSum}
-use Rattle.sampling.proofs.bernstein.Identity.{polynomial-sum}
-use Rattle.sampling.proofs.bernstein.Laws.{row-tapers}
-use Rattle.sampling.proofs.bernstein.Sum.{bernstein-is}
 use Rattle.sampling.specs.Grid.{before, Sampleable, RowSampleable, RowPut, RowsPut}
+use Rattle.sampling.proofs.{bernstein.Identity.polynomial-sum, bernstein.Laws.row-tapers, bernstein.Sum.bernstein-is}
 
 pub below-or-last : {A : Type 0} (j k : ℕ) → j < k + 1 → (j < k → A) → (j ≡ k → A) → A
 below-or-last j k h f g = ⊎-elim (λ e. g e) (λ o. ⊎-elim (λ l. f l) (λ l. absurd (omega arith)) o) (compared j k)
@@ -62,8 +52,7 @@ pub rows-none : (p : Rows) (n axis : ℕ) (old : List ℤ) → RowsPut p n axis 
 rows-none p n axis old = record { same = refl; values = λ k j l h. absurd (omega arith); others = λ t h. refl }
 
 -- what a row's polynomial is
-pub row-value : (p : Rows) (n k j : ℕ) → k + j ≤ n
-    → valueOf (rowOf (polynomialOf p (pos n)) k) j ≡ quarticSum p (pos (n - k - j)) (pos j) (pos k)
+pub row-value : (p : Rows) (n k j : ℕ) → k + j ≤ n → valueOf (rowOf (polynomialOf p (pos n)) k) j ≡ quarticSum p (pos (n - k - j)) (pos j) (pos k)
 row-value p n k j h =
     subst (λ (x : ℕ). valueOf (rowOf (polynomialOf p (pos x)) k) j ≡ quarticSum p (pos (n - k - j)) (pos j) (pos k))
     (let q : n - k - j + j + k ≡ n = omega arith in q) (polynomial-sum p (n - k - j) j k)
@@ -141,8 +130,7 @@ twice n (suc k) h =
     let i = twice n k (omega arith) in
     let q = 2 * n + 2 - k in
     let e : 2 * before n k ≡ k * (q + 1) = i ∙ ap (λ (m : ℕ). k * m) (let f : 2 * n + 3 - k ≡ q + 1 = omega arith in f) in
-    half n k (before n k) q (omega arith) (omega arith) e
-    ∙ ap (λ (m : ℕ). (k + 1) * m) (let f : q ≡ 2 * n + 3 - suc k = omega arith in f)
+    half n k (before n k) q (omega arith) (omega arith) e ∙ ap (λ (m : ℕ). (k + 1) * m) (let f : q ≡ 2 * n + 3 - suc k = omega arith in f)
     ∙ ap (λ (m : ℕ). m * (2 * n + 3 - suc k)) (let f : k + 1 ≡ suc k = omega arith in f)
 
 pub row-start : (n k : ℕ) → k ≤ n + 1 → rowStart n k ≡ before n k
@@ -160,8 +148,7 @@ count-is n =
 take-three : (l : List ℤ) (m : ℕ) → m + 3 ≤ length l
     → take (m + 3) l ≡ take m l ++ axes (getD l m (pos 0)) (getD l (m + 1) (pos 0)) (getD l (m + 2) (pos 0))
 take-three l m h =
-    ap (λ (k : ℕ). take k l) (let e : m + 3 ≡ suc (suc (suc m)) = omega arith in e)
-    ∙ take-suc l (suc (suc m)) (pos 0) (omega arith)
+    ap (λ (k : ℕ). take k l) (let e : m + 3 ≡ suc (suc (suc m)) = omega arith in e) ∙ take-suc l (suc (suc m)) (pos 0) (omega arith)
     ∙ ap (λ (r : List ℤ). r ++ (getD l (suc (suc m)) (pos 0) ∷ [])) (take-suc l (suc m) (pos 0) (omega arith)
     ∙ ap (λ (r : List ℤ). r ++ (getD l (suc m) (pos 0) ∷ [])) (take-suc l m (pos 0) (omega arith)))
     ∙ append-assoc (take m l ++ (getD l m (pos 0) ∷ [])) (getD l (suc m) (pos 0) ∷ []) (getD l (suc (suc m)) (pos 0) ∷ [])
@@ -196,8 +183,7 @@ module _ (numbers : List ℤ) (s : Side) (n : ℕ) (new : List ℤ) (long : 3 * 
   row-taken k (suc j) l h =
       let m = 3 * (before n k + j) in
       let b = before-le n k (n + 1) (omega arith) in
-      ap (λ (t : ℕ). take t new) (let e : 3 * (before n k + suc j) ≡ m + 3 = omega arith in e)
-      ∙ take-three new m (omega arith)
+      ap (λ (t : ℕ). take t new) (let e : 3 * (before n k + suc j) ≡ m + 3 = omega arith in e) ∙ take-three new m (omega arith)
       ∙ ap (λ (r : List ℤ). r ++ axes (getD new m (pos 0)) (getD new (m + 1) (pos 0)) (getD new (m + 2) (pos 0))) (row-taken k j l (omega arith))
       ∙ append-assoc (take (3 * before n k) new) (rowSamples numbers s n k j) (axes (getD new m (pos 0)) (getD new (m + 1) (pos 0)) (getD new (m + 2) (pos 0)))
       ∙ ap (λ (r : List ℤ). take (3 * before n k) new ++ (rowSamples numbers s n k j ++ r)) (point-at k j (omega arith))
@@ -206,8 +192,7 @@ module _ (numbers : List ℤ) (s : Side) (n : ℕ) (new : List ℤ) (long : 3 * 
   unfolding firstRows before
   rows-taken zero h = refl
   rows-taken (suc k) h =
-      row-taken k (n - k + 1) (omega arith) (omega arith)
-      ∙ ap (λ (r : List ℤ). r ++ rowSamples numbers s n k (n - k + 1)) (rows-taken k (omega arith))
+      row-taken k (n - k + 1) (omega arith) (omega arith) ∙ ap (λ (r : List ℤ). r ++ rowSamples numbers s n k (n - k + 1)) (rows-taken k (omega arith))
 
   pub all-taken : take (3 * before n (n + 1)) new ≡ triangleSamples numbers s n
   unfolding triangleSamples
@@ -220,9 +205,7 @@ module _ (numbers : List ℤ) (s : Side) (n : ℕ) (new : List ℤ) (long : 3 * 
       → ((t : ℕ) → 3 * before n (n + 1) ≤ t → getD new t (pos 0) ≡ getD old t (pos 0)) → new ≡ begins (triangleSamples numbers s n) old
   samples-begin old e rest =
       let m = 3 * before n (n + 1) in
-      sym (take-append-drop m new)
-      ∙ ap (λ (r : List ℤ). r ++ drop m new) all-taken
-      ∙ ap (λ (r : List ℤ). triangleSamples numbers s n ++ r)
+      sym (take-append-drop m new) ∙ ap (λ (r : List ℤ). r ++ drop m new) all-taken ∙ ap (λ (r : List ℤ). triangleSamples numbers s n ++ r)
       (ext-getD (pos 0) (drop m new) (drop m old) (length-drop m new ∙ ap (λ (x : ℕ). x - m) e ∙ sym (length-drop m old))
       (λ t h. getD-drop m new t (pos 0) ∙ rest (m + t) (omega arith) ∙ sym (getD-drop m old t (pos 0)))
       ∙ ap (λ (x : ℕ). drop x old) (sym samples-long))
@@ -248,8 +231,7 @@ module _ (numbers : List ℤ) (e : netVerdict numbers ≡ sound) (side n : ℕ) 
     found k j zero h a =
         let t = 3 * (before n k + j) + 0 in
         z .others t (λ u o q. omega arith) ∙ y .others t (λ u o q. omega arith) ∙ x .values k j (omega arith) h ∙ sum-sample 0 k j h
-    found k j (suc zero) h a =
-        z .others (3 * (before n k + j) + 1) (λ u o q. omega arith) ∙ y .values k j (omega arith) h ∙ sum-sample 1 k j h
+    found k j (suc zero) h a = z .others (3 * (before n k + j) + 1) (λ u o q. omega arith) ∙ y .values k j (omega arith) h ∙ sum-sample 1 k j h
     found k j (suc (suc zero)) h a = z .values k j (omega arith) h ∙ sum-sample 2 k j h
     found k j (suc (suc (suc axis))) h a = absurd (omega arith)
 

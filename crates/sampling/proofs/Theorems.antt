@@ -1,39 +1,26 @@
 -- The theorems of L12: closing along common sides and rays, the ends, the bounds, and a triangle's samples one by one.
-use mathlib.Core.Path.{_≡_, refl, sym, ap, _∙_, subst}
-use mathlib.Core.Bool.{false, not}
+use mathlib.Core.{Path._≡_, Path.refl, Path.sym, Path.ap, Path._∙_, Path.subst, Bool.false, Bool.not}
 use mathlib.Core.List.{List, [], _++_, append-assoc, append-nil}
 use Prim.Native.Nat.{ℕ, zero, suc, _+_, _-_, _*_, _^_, _≤_, _<_}
-use native.Mathlib.Nat.{one-le-pow}
-use native.Mathlib.Omega.{arith}
+use native.Mathlib.{Nat.one-le-pow, Omega.arith}
 use borrow.Author.Tests.{eq-eqb}
-use lib.Dec.{eqb}
-use lib.ListN.{length, getD, take, drop, length-append}
-use lib.Seq.{getD-take, getD-drop, drop-append-seam}
-use lib.IntN.{ℤ, pos, _*ℤ_}
-use lib.Signed.{_≤ℤ_, _<ℤ_}
-use Rattle.paper.specs.Faults.{Verdict, sound, _orElse_, single, outside, stated, kept}
-use Rattle.paper.specs.Numbers.{round}
-use Rattle.paper.specs.Mesh.{Mesh}
-use Rattle.paper.specs.Net.{Side, side0, side1, side2, side3, across, atHead, atTail, outerRow}
-use Rattle.paper.specs.Calls.{perCorner}
-use Rattle.paper.specs.File.{begins}
-use Rattle.paper.specs.Floats.{netVerdict, axes}
-use Rattle.paper.specs.Borders.{Output, Wrote, Holds, beside, written}
-use Rattle.paper.specs.declared.Answer.{Answer}
-use Rattle.paper.specs.declared.Answer.the-variants.{Done, Refused}
+use lib.{Dec.eqb, ListN.length, ListN.getD, ListN.take, ListN.drop, ListN.length-append, Seq.getD-take, Seq.getD-drop, Seq.drop-append-seam}
+use lib.{IntN.ℤ, IntN.pos, IntN._*ℤ_, Signed._≤ℤ_, Signed._<ℤ_}
+use Rattle.paper.specs.{Faults.Verdict, Faults.sound, Faults._orElse_, Faults.single, Faults.outside, Faults.stated, Faults.kept, Numbers.round, Mesh.Mesh}
+use Rattle.paper.specs.{Net.Side, Net.side0, Net.side1, Net.side2, Net.side3, Net.across, Net.atHead, Net.atTail, Net.outerRow, Calls.perCorner}
+use Rattle.paper.specs.{File.begins, Floats.netVerdict, Floats.axes, Borders.Output, Borders.Wrote, Borders.Holds, Borders.beside, Borders.written}
+use Rattle.paper.specs.{declared.Answer.Answer, declared.Answer.the-variants.Done, declared.Answer.the-variants.Refused}
 use Rattle.paper.specs.Sampling.{control, Weights, weights, onAxis, bernsteinSum, sampleAt, samplePoint, fault32, mostParts, fault33, sampleVerdict, sideAt}
 use Rattle.paper.specs.Sampling.{Sampled, rowSamples, firstRows, triangleSamples, sideNumber, netIn, Alike, controlPoint, Leaves, Between, rowStart}
 use Rattle.paper.specs.Claims.{SamplesClose, RaysAgree, SampleEnds, SamplesBetween, TrianglesSample}
 use Rattle.numbers.proofs.Diff.{diff}
-use Rattle.mesh.proofs.Ranges.{inside, or-none}
-use Rattle.mesh.proofs.Verdicts.{orElse-sound, single-miss, sound-left}
+use Rattle.mesh.proofs.{Ranges.inside, Ranges.or-none, Verdicts.orElse-sound, Verdicts.single-miss, Verdicts.sound-left}
 use Rattle.floats.proofs.nets.Nets.{nets-pass}
 use Rattle.borders.proofs.Theorem.{demand3}
-use Rattle.sampling.specs.bernstein.Sums.{rowsOf}
+use Rattle.sampling.specs.{bernstein.Sums.rowsOf, Grid.before}
 use Rattle.sampling.proofs.bernstein.Laws.{round-between}
 use Rattle.sampling.proofs.bernstein.Sum.{bernstein-is, sum-from, sum-to, on-side, from-head}
 use Rattle.sampling.proofs.bernstein.Sum.{from-tail, head-alone, tail-alone, centre-alone, round-multiple}
-use Rattle.sampling.specs.Grid.{before}
 use Rattle.sampling.proofs.Laws.{some-parts, few-parts, parts-sum, net-passed, side-passed, all-passed, triangle-chain}
 use Rattle.sampling.proofs.Lists.{row-start, below-or-last}
 
@@ -99,8 +86,7 @@ module _ (O : Output) (c axis : ℕ) (a : axis < 3) where
   unfolding written
   net-at k h =
       getD-take perCorner (drop (perCorner * (c - O .first)) (O .numbers)) (3 * k + axis) (pos 0) (omega arith)
-      ∙ getD-drop (perCorner * (c - O .first)) (O .numbers) (3 * k + axis) (pos 0)
-      ∙ ap (λ (x : ℕ). getD (O .numbers) x (pos 0))
+      ∙ getD-drop (perCorner * (c - O .first)) (O .numbers) (3 * k + axis) (pos 0) ∙ ap (λ (x : ℕ). getD (O .numbers) x (pos 0))
       (let e : perCorner * (c - O .first) + (3 * k + axis) ≡ perCorner * (c - O .first) + 3 * k + axis = omega arith in e)
 
   outer-at : (s : Side) (m : ℕ) → m < 5 → outerRow (onAxis (netIn O c) axis) s m ≡ outerRow (written O axis c) s m
@@ -112,8 +98,7 @@ module _ (O : Output) (c axis : ℕ) (a : axis < 3) where
 net-passes : (M : Mesh) (O : Output) → Wrote M O → (c : ℕ) → Holds O c → netVerdict (netIn O c) ≡ sound
 net-passes M O w c h = nets-pass M (w .links) (O .first) (O .count) (w .old) (O .numbers) (w .call) (c - O .first) (omega (arith, h .0, h .1))
 
-pub side-number : (net other : List ℤ) (s t : Side) (i j N axis : ℕ)
-    → ((m : ℕ) → m < 5 → outerRow (onAxis net axis) s m ≡ outerRow (onAxis other axis) t m)
+pub side-number : (net other : List ℤ) (s t : Side) (i j N axis : ℕ) → ((m : ℕ) → m < 5 → outerRow (onAxis net axis) s m ≡ outerRow (onAxis other axis) t m)
     → sampleAt net s (weights i j 0 N) axis ≡ sampleAt other t (weights i j 0 N) axis
 unfolding sampleAt
 side-number net other s t i j N axis h = ap (λ (z : ℤ). round z (pos (N ^ 4))) (side-sum (onAxis net axis) (onAxis other axis) s t i j h)
@@ -146,15 +131,13 @@ module _ (p : ℕ → ℤ) where
   head-ray : (s : Side) (i k : ℕ) → bernsteinSum p s i 0 k ≡ bernsteinSum p (atHead s) i 0 k
   head-ray s i k =
       let h = head-row s in
-      bernstein-is p s i 0 k ∙ from-head (rowsOf (control p s)) (pos i) (pos k)
-      ∙ cc (h .0, h .1, h .2, h .3)
+      bernstein-is p s i 0 k ∙ from-head (rowsOf (control p s)) (pos i) (pos k) ∙ cc (h .0, h .1, h .2, h .3)
       ∙ sym (bernstein-is p (atHead s) i 0 k ∙ from-head (rowsOf (control p (atHead s))) (pos i) (pos k))
 
   tail-ray : (s : Side) (j k : ℕ) → bernsteinSum p s 0 j k ≡ bernsteinSum p (atTail s) 0 j k
   tail-ray s j k =
       let h = tail-row s in
-      bernstein-is p s 0 j k ∙ from-tail (rowsOf (control p s)) (pos j) (pos k)
-      ∙ cc (h .0, h .1, h .2, h .3)
+      bernstein-is p s 0 j k ∙ from-tail (rowsOf (control p s)) (pos j) (pos k) ∙ cc (h .0, h .1, h .2, h .3)
       ∙ sym (bernstein-is p (atTail s) 0 j k ∙ from-tail (rowsOf (control p (atTail s))) (pos j) (pos k))
 
 pub head-number : (numbers : List ℤ) (s : Side) (i k N axis : ℕ) → sampleAt numbers s (weights i 0 k N) axis ≡ sampleAt numbers (atHead s) (weights i 0 k N) axis
@@ -182,8 +165,7 @@ module _ (numbers : List ℤ) (s : Side) (i j k N n q : ℕ) (h : (p : ℕ → �
   pub multiple-number : 1 ≤ N → (axis : ℕ) → sampleAt numbers s (weights i j k N) axis ≡ control (onAxis numbers axis) s n q
   unfolding sampleAt
   multiple-number some axis =
-      ap (λ (z : ℤ). round z (pos (N ^ 4))) (h (onAxis numbers axis))
-      ∙ round-multiple (pos (N ^ 4)) (control (onAxis numbers axis) s n q) (positive N some)
+      ap (λ (z : ℤ). round z (pos (N ^ 4))) (h (onAxis numbers axis)) ∙ round-multiple (pos (N ^ 4)) (control (onAxis numbers axis) s n q) (positive N some)
 
   multiple-point : 1 ≤ N → samplePoint numbers s (weights i j k N) ≡ controlPoint numbers s n q
   unfolding samplePoint
@@ -191,8 +173,7 @@ module _ (numbers : List ℤ) (s : Side) (i j k N n q : ℕ) (h : (p : ℕ → �
 
   multiple : Leaves numbers s (weights i j k N) (controlPoint numbers s n q)
   multiple old out c =
-      left numbers (sideNumber s) (weights i j k N) old out Done c refl
-      ∙ ap (λ (x : Side). samplePoint numbers x (weights i j k N)) (side-back s)
+      left numbers (sideNumber s) (weights i j k N) old out Done c refl ∙ ap (λ (x : Side). samplePoint numbers x (weights i j k N)) (side-back s)
       ∙ multiple-point (some-parts numbers (sideNumber s) i j k N (sym (c .answers)))
 
 pub sample-ends : SampleEnds
@@ -227,8 +208,7 @@ samples-between numbers s w old out c axis a =
     let some = some-parts numbers (sideNumber s) (w .head) (w .tail) (w .centre) (w .parts) e in
     let q = parts-sum numbers (sideNumber s) (w .head) (w .tail) (w .centre) (w .parts) e in
     let is : getD out axis (pos 0) ≡ sampleAt numbers s w axis =
-    ap (λ (l : List ℤ). getD l axis (pos 0))
-    (left numbers (sideNumber s) w old out Done c refl ∙ ap (λ (x : Side). samplePoint numbers x w) (side-back s))
+    ap (λ (l : List ℤ). getD l axis (pos 0)) (left numbers (sideNumber s) w old out Done c refl ∙ ap (λ (x : Side). samplePoint numbers x w) (side-back s))
     ∙ point-at numbers s w axis a in
     subst (λ (z : ℤ). Between (onAxis numbers axis) s z) (sym is) (number-between numbers s w axis some q)
 
@@ -272,8 +252,7 @@ module _ (numbers : List ℤ) (s : Side) (n : ℕ) where
   rows-long : (k : ℕ) → length (firstRows numbers s n k) ≡ 3 * before n k
   unfolding firstRows before
   rows-long zero = refl
-  rows-long (suc k) =
-      length-append (firstRows numbers s n k) (rowSamples numbers s n k (n - k + 1)) ∙ omega (arith, rows-long k, row-long k (n - k + 1))
+  rows-long (suc k) = length-append (firstRows numbers s n k) (rowSamples numbers s n k (n - k + 1)) ∙ omega (arith, rows-long k, row-long k (n - k + 1))
 
   in-row : (k j c : ℕ) → j < c → Split (rowSamples numbers s n k c) (samplePoint numbers s (weights (n - k - j) j k n)) (3 * j)
   unfolding rowSamples
@@ -290,8 +269,7 @@ module _ (numbers : List ℤ) (s : Side) (n : ℕ) where
         long = row-long k c ∙ omega arith;
       })
 
-  in-rows : (k j r : ℕ) → k < r → k + j ≤ n
-      → Split (firstRows numbers s n r) (samplePoint numbers s (weights (n - k - j) j k n)) (3 * (before n k + j))
+  in-rows : (k j r : ℕ) → k < r → k + j ≤ n → Split (firstRows numbers s n r) (samplePoint numbers s (weights (n - k - j) j k n)) (3 * (before n k + j))
   unfolding firstRows
   in-rows k j zero h l = absurd (omega arith)
   in-rows k j (suc r) h l =
@@ -309,8 +287,7 @@ module _ (numbers : List ℤ) (s : Side) (n : ℕ) where
 -- three numbers at their place
 taken : (l : List ℤ) (x y z : ℤ) (m : ℕ) → Split l (axes x y z) m → take 3 (drop m l) ≡ axes x y z
 taken l x y z m s =
-    ap (λ (k : ℕ). take 3 (drop k l)) (sym (s .long))
-    ∙ ap (λ (y′ : List ℤ). take 3 (drop (length (s .front)) y′)) (s .is)
+    ap (λ (k : ℕ). take 3 (drop k l)) (sym (s .long)) ∙ ap (λ (y′ : List ℤ). take 3 (drop (length (s .front)) y′)) (s .is)
     ∙ ap (take 3) (drop-append-seam (s .front) (axes x y z ++ s .back))
 
 sample-taken : (numbers : List ℤ) (s : Side) (w : Weights) (l : List ℤ) (m : ℕ) → Split l (samplePoint numbers s w) m

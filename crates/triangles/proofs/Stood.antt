@@ -1,10 +1,8 @@
 -- Parts of a list that follow each other, whatever they are numbers of: a range of corners, part by part.
-use mathlib.Core.Path.{_≡_, refl, ap, _∙_, subst}
-use mathlib.Core.List.{List}
+use mathlib.Core.{Path._≡_, Path.refl, Path.ap, Path._∙_, Path.subst, List.List}
 use Prim.Native.Nat.{ℕ, zero, suc, _+_, _-_, _*_, _≤_, _<_}
 use native.Mathlib.Omega.{arith}
-use Rattle.paper.specs.Scan.{valuesFrom}
-use Rattle.paper.specs.File.{begins}
+use Rattle.paper.specs.{Scan.valuesFrom, File.begins}
 use Rattle.mesh.proofs.Links.{values-length}
 use Rattle.triangles.specs.Rows.{Stands}
 use Rattle.triangles.proofs.Striped.{fills-join, fills-start}
@@ -21,8 +19,7 @@ module _ {A : Type 0} (f : ℕ → A) where
   }
 
   pub put-as : (a b a′ b′ at to : ℕ) (old out : List A) → a ≡ a′ → b ≡ b′ → Stands f a b at to old out → Stands f a′ b′ at to old out
-  put-as a b a′ b′ at to old out p q m =
-      subst (λ (x : ℕ). Stands f x b′ at to old out) p (subst (λ (x : ℕ). Stands f a x at to old out) q m)
+  put-as a b a′ b′ at to old out p q m = subst (λ (x : ℕ). Stands f x b′ at to old out) p (subst (λ (x : ℕ). Stands f a x at to old out) q m)
 
   values-shift : (a at n : ℕ) → valuesFrom (λ x. f (a + x)) at n ≡ valuesFrom f (a + at) n
   unfolding valuesFrom

@@ -3,20 +3,15 @@ use mathlib.Core.Path.{_≡_, refl, sym, ap, _∙_}
 use Prim.Native.Nat.{ℕ, _+_, _-_, _*_, _/_, _^_}
 use native.Mathlib.Omega.{arith}
 use lib.IntN.{ℤ, pos, _+ℤ_, _-ℤ_, _*ℤ_}
-use Rattle.paper.specs.Numbers.{sum, sumBy}
-use Rattle.paper.specs.Net.{Side}
-use Rattle.paper.specs.Sampling.{control, factorial}
-use Rattle.paper.specs.Tangents as tangents
-use Rattle.numbers.proofs.Poly.{over, poly}
-use Rattle.numbers.proofs.Laws.{zero-add}
-use Rattle.numbers.proofs.Sum.{sum-same}
-use Rattle.sampling.specs.declared.bernstein.Five.{Five}
+use Rattle.paper.specs.{Numbers.sumBy, Net.Side, Sampling.control, Sampling.factorial}
+use Rattle.numbers.proofs.{Poly.over, Poly.poly, Laws.zero-add, Sum.sum-same}
 use Rattle.sampling.specs.declared.bernstein.Rows.{Rows}
-use Rattle.sampling.specs.bernstein.Sums.{five, linear, quadratic, cubic, rowsOf, differencesOf, slopesOf, columnsOf, weightedOf, scaledOf, weightsOf}
+use Rattle.sampling.specs.bernstein.Sums.{linear, quadratic, cubic, rowsOf, differencesOf, slopesOf, columnsOf, weightedOf, scaledOf, weightsOf}
 use Rattle.sampling.specs.bernstein.Sums.{polynomialOf, valueOf, rowOf}
 use Rattle.sampling.specs.bernstein.Tangents.{inward, alongRows, inwardRows, cubicSum, timesOf, alongOf, slopeOf, inwardOf}
 use Rattle.sampling.proofs.bernstein.Identity.{linear-turn, quadratic-turn, cubic-turn, weigh1}
 use Rattle.sampling.proofs.bernstein.Sum.{power, power-is}
+use Rattle.paper.specs.Tangents as tangents
 
 -- ---- a sum of ten differences, by rows and by columns
 module _ (M j k : ℤ) where
@@ -46,8 +41,7 @@ turn-rows d i j k =
 
 turn-columns : (d : Rows) (M j k : ℤ) → byRows M j k d ≡ byColumns M j k (columnsOf d)
 unfolding columnsOf
-turn-columns d M j k =
-    regroup (d .r0 .a) (d .r0 .b) (d .r0 .c) (d .r0 .d) (d .r1 .a) (d .r1 .b) (d .r1 .c) (d .r2 .a) (d .r2 .b) (d .r3 .a) M j k
+turn-columns d M j k = regroup (d .r0 .a) (d .r0 .b) (d .r0 .c) (d .r0 .d) (d .r1 .a) (d .r1 .b) (d .r1 .c) (d .r2 .a) (d .r2 .b) (d .r3 .a) M j k
 
 turn-all : (c : Rows) (M j k : ℤ) → byColumns M j k c ≡ byColumns (M +ℤ k) j k (slopesOf c)
 unfolding slopesOf differencesOf
@@ -65,8 +59,7 @@ cubic-by-columns d i j k =
     ∙ turn-all (columnsOf (slopesOf d)) (pos (i + j)) (pos j) (pos k)
 
 -- ---- by the second weight
-twice : (a b c d e n x : ℤ)
-    → pos 2 *ℤ (a *ℤ (pos 6 *ℤ (n *ℤ n)))
+twice : (a b c d e n x : ℤ) → pos 2 *ℤ (a *ℤ (pos 6 *ℤ (n *ℤ n)))
     +ℤ x *ℤ (pos 2 *ℤ (b *ℤ (pos 12 *ℤ n)) +ℤ x *ℤ (pos 2 *ℤ (c *ℤ pos 6) +ℤ x *ℤ (pos 2 *ℤ (d *ℤ pos 0) +ℤ x *ℤ (pos 2 *ℤ (e *ℤ pos 0)))))
     ≡ pos 12 *ℤ quadratic a b c n x
 twice = over 7 _ λ ρ. simp (poly, ρ) (omega arith)
@@ -84,13 +77,11 @@ four-times = over 6 _ λ ρ. simp (poly, ρ) (omega arith)
 nothing : (x : ℤ) → pos 0 +ℤ x *ℤ (pos 0 +ℤ x *ℤ (pos 0 +ℤ x *ℤ (pos 0 +ℤ x *ℤ pos 0))) ≡ pos 0
 nothing = over 1 _ λ ρ. simp (poly, ρ) (omega arith)
 
-outside : (a b c d j : ℤ)
-    → pos 4 *ℤ a +ℤ j *ℤ (pos 12 *ℤ b +ℤ j *ℤ (pos 12 *ℤ c +ℤ j *ℤ (pos 4 *ℤ d +ℤ j *ℤ pos 0)))
+outside : (a b c d j : ℤ) → pos 4 *ℤ a +ℤ j *ℤ (pos 12 *ℤ b +ℤ j *ℤ (pos 12 *ℤ c +ℤ j *ℤ (pos 4 *ℤ d +ℤ j *ℤ pos 0)))
     ≡ pos 4 *ℤ (a +ℤ pos 3 *ℤ j *ℤ b +ℤ pos 3 *ℤ j *ℤ j *ℤ c +ℤ j *ℤ j *ℤ j *ℤ d)
 outside = over 5 _ λ ρ. simp (poly, ρ) (omega arith)
 
-along-weighed : (g : Rows) (n : ℤ) (j k : ℕ)
-    → valueOf (rowOf (alongOf (scaledOf g (weightsOf n))) k) j
+along-weighed : (g : Rows) (n : ℤ) (j k : ℕ) → valueOf (rowOf (alongOf (scaledOf g (weightsOf n))) k) j
     ≡ pos 4 *ℤ (cubic (g .r1 .a) (g .r1 .b) (g .r1 .c) (g .r1 .d) n (pos k) +ℤ pos 3 *ℤ pos j *ℤ quadratic (g .r2 .a) (g .r2 .b) (g .r2 .c) n (pos k)
     +ℤ pos 3 *ℤ pos j *ℤ pos j *ℤ linear (g .r3 .a) (g .r3 .b) n (pos k) +ℤ pos j *ℤ pos j *ℤ pos j *ℤ g .r4 .a)
 unfolding valueOf rowOf alongOf timesOf scaledOf weightedOf weightsOf
@@ -105,8 +96,7 @@ along-weighed g n j k =
           (linear (g .r3 .a) (g .r3 .b) n (pos k)) (g .r4 .a) (pos j),
     )
 
-along-columns : (p : Rows) (M j k : ℤ)
-    → byColumns M j k (slopesOf (columnsOf (slopesOf (alongRows p))))
+along-columns : (p : Rows) (M j k : ℤ) → byColumns M j k (slopesOf (columnsOf (slopesOf (alongRows p))))
     ≡ (let g = slopesOf (columnsOf (slopesOf p)) in
     cubic (g .r1 .a) (g .r1 .b) (g .r1 .c) (g .r1 .d) M k +ℤ pos 3 *ℤ j *ℤ quadratic (g .r2 .a) (g .r2 .b) (g .r2 .c) M k
     +ℤ pos 3 *ℤ j *ℤ j *ℤ linear (g .r3 .a) (g .r3 .b) M k +ℤ j *ℤ j *ℤ j *ℤ g .r4 .a)
@@ -140,12 +130,10 @@ slope3 : (b c d e x : ℤ)
     → b *ℤ pos 4 +ℤ x *ℤ (pos 2 *ℤ (c *ℤ pos 0) +ℤ x *ℤ (pos 3 *ℤ (d *ℤ pos 0) +ℤ x *ℤ (pos 4 *ℤ (e *ℤ pos 0) +ℤ x *ℤ pos 0))) ≡ pos 4 *ℤ b
 slope3 = over 5 _ λ ρ. simp (poly, ρ) (omega arith)
 
-slope4 : (b c d e x : ℤ)
-    → b *ℤ pos 0 +ℤ x *ℤ (pos 2 *ℤ (c *ℤ pos 0) +ℤ x *ℤ (pos 3 *ℤ (d *ℤ pos 0) +ℤ x *ℤ (pos 4 *ℤ (e *ℤ pos 0) +ℤ x *ℤ pos 0))) ≡ pos 0
+slope4 : (b c d e x : ℤ) → b *ℤ pos 0 +ℤ x *ℤ (pos 2 *ℤ (c *ℤ pos 0) +ℤ x *ℤ (pos 3 *ℤ (d *ℤ pos 0) +ℤ x *ℤ (pos 4 *ℤ (e *ℤ pos 0) +ℤ x *ℤ pos 0))) ≡ pos 0
 slope4 = over 5 _ λ ρ. simp (poly, ρ) (omega arith)
 
-inward-weighed : (g : Rows) (n : ℤ) (j k : ℕ)
-    → valueOf (rowOf (inwardOf (scaledOf g (weightsOf n))) k) j
+inward-weighed : (g : Rows) (n : ℤ) (j k : ℕ) → valueOf (rowOf (inwardOf (scaledOf g (weightsOf n))) k) j
     ≡ pos 4 *ℤ (cubic (g .r0 .b) (g .r0 .c) (g .r0 .d) (g .r0 .e) n (pos k) +ℤ pos 3 *ℤ pos j *ℤ quadratic (g .r1 .b) (g .r1 .c) (g .r1 .d) n (pos k)
     +ℤ pos 3 *ℤ pos j *ℤ pos j *ℤ linear (g .r2 .b) (g .r2 .c) n (pos k) +ℤ pos j *ℤ pos j *ℤ pos j *ℤ g .r3 .b)
 unfolding valueOf rowOf inwardOf slopeOf scaledOf weightedOf weightsOf
@@ -167,8 +155,7 @@ swap1 = over 4 _ λ ρ. simp (poly, ρ) (omega arith)
 swap2 : (a b c d e f : ℤ) → c -ℤ f -ℤ (b -ℤ e) -ℤ (b -ℤ e -ℤ (a -ℤ d)) ≡ c -ℤ b -ℤ (b -ℤ a) -ℤ (f -ℤ e -ℤ (e -ℤ d))
 swap2 = over 6 _ λ ρ. simp (poly, ρ) (omega arith)
 
-swap3 : (a b c d e f g h : ℤ)
-    → d -ℤ h -ℤ (c -ℤ g) -ℤ (c -ℤ g -ℤ (b -ℤ f)) -ℤ (c -ℤ g -ℤ (b -ℤ f) -ℤ (b -ℤ f -ℤ (a -ℤ e)))
+swap3 : (a b c d e f g h : ℤ) → d -ℤ h -ℤ (c -ℤ g) -ℤ (c -ℤ g -ℤ (b -ℤ f)) -ℤ (c -ℤ g -ℤ (b -ℤ f) -ℤ (b -ℤ f -ℤ (a -ℤ e)))
     ≡ d -ℤ c -ℤ (c -ℤ b) -ℤ (c -ℤ b -ℤ (b -ℤ a)) -ℤ (h -ℤ g -ℤ (g -ℤ f) -ℤ (g -ℤ f -ℤ (f -ℤ e)))
 swap3 = over 8 _ λ ρ. simp (poly, ρ) (omega arith)
 
@@ -184,8 +171,7 @@ swapped p M j k =
       swap1 (p .r3 .a) (p .r3 .b) (p .r2 .a) (p .r2 .b),
     )
 
-inward-columns : (d : Rows) (M j k : ℤ)
-    → byColumns M j k (slopesOf (columnsOf (inwardRows d)))
+inward-columns : (d : Rows) (M j k : ℤ) → byColumns M j k (slopesOf (columnsOf (inwardRows d)))
     ≡ (let g = slopesOf (columnsOf d) in
     cubic (g .r0 .b) (g .r0 .c) (g .r0 .d) (g .r0 .e) M k +ℤ pos 3 *ℤ j *ℤ quadratic (g .r1 .b) (g .r1 .c) (g .r1 .d) M k
     +ℤ pos 3 *ℤ j *ℤ j *ℤ linear (g .r2 .b) (g .r2 .c) M k +ℤ j *ℤ j *ℤ j *ℤ g .r3 .b)
@@ -196,11 +182,9 @@ pub inward-is : (p : Rows) (i j k : ℕ)
     → valueOf (rowOf (inwardOf (polynomialOf p (pos (i + j + k)))) k) j ≡ pos 4 *ℤ cubicSum (inwardRows p) (pos i) (pos j) (pos k)
 unfolding polynomialOf
 inward-is p i j k =
-    inward-weighed (slopesOf (columnsOf (slopesOf p))) (pos (i + j + k)) j k
-    ∙ ap (λ (z : ℤ). pos 4 *ℤ z)
+    inward-weighed (slopesOf (columnsOf (slopesOf p))) (pos (i + j + k)) j k ∙ ap (λ (z : ℤ). pos 4 *ℤ z)
     (sym (turn-rows (inwardRows p) (pos i) (pos j) (pos k) ∙ swapped p (pos (i + j)) (pos j) (pos k)
-    ∙ turn-columns (inwardRows (slopesOf p)) (pos (i + j)) (pos j) (pos k)
-    ∙ turn-all (columnsOf (inwardRows (slopesOf p))) (pos (i + j)) (pos j) (pos k)
+    ∙ turn-columns (inwardRows (slopesOf p)) (pos (i + j)) (pos j) (pos k) ∙ turn-all (columnsOf (inwardRows (slopesOf p))) (pos (i + j)) (pos j) (pos k)
     ∙ inward-columns (slopesOf p) (pos (i + j + k)) (pos j) (pos k)))
 
 -- ---- the sums of the definition
@@ -217,8 +201,7 @@ weight-is i j k n m =
     ∙ ap (λ (z : ℤ). pos (times n m) *ℤ (power (pos i) (3 - n - m) *ℤ z *ℤ pos (k ^ n))) (power-is j m)
     ∙ ap (λ (z : ℤ). pos (times n m) *ℤ (power (pos i) (3 - n - m) *ℤ power (pos j) m *ℤ z)) (power-is k n)
 
-row0 : (i j k a b c d : ℤ)
-    → pos 0 +ℤ weight i j k 0 0 *ℤ a +ℤ weight i j k 0 1 *ℤ b +ℤ weight i j k 0 2 *ℤ c +ℤ weight i j k 0 3 *ℤ d ≡ cubic a b c d i j
+row0 : (i j k a b c d : ℤ) → pos 0 +ℤ weight i j k 0 0 *ℤ a +ℤ weight i j k 0 1 *ℤ b +ℤ weight i j k 0 2 *ℤ c +ℤ weight i j k 0 3 *ℤ d ≡ cubic a b c d i j
 row0 = over 7 _ λ ρ. simp (poly, ρ) (omega arith)
 
 row1 : (i j k a b c : ℤ) → pos 0 +ℤ weight i j k 1 0 *ℤ a +ℤ weight i j k 1 1 *ℤ b +ℤ weight i j k 1 2 *ℤ c ≡ pos 3 *ℤ k *ℤ quadratic a b c i j
@@ -233,8 +216,7 @@ row3 = over 4 _ λ ρ. simp (poly, ρ) (omega arith)
 four-rows : (r s t u r′ s′ t′ u′ : ℤ) → r ≡ r′ → s ≡ s′ → t ≡ t′ → u ≡ u′ → pos 0 +ℤ r +ℤ s +ℤ t +ℤ u ≡ r′ +ℤ s′ +ℤ t′ +ℤ u′
 four-rows r s t u r′ s′ t′ u′ e f g h = cc (zero-add r)
 
-sum-is : (D : ℕ → ℕ → ℤ) (i j k : ℕ)
-    → tangents.cubicSum D i j k
+sum-is : (D : ℕ → ℕ → ℤ) (i j k : ℕ) → tangents.cubicSum D i j k
     ≡ cubic (D 0 0) (D 0 1) (D 0 2) (D 0 3) (pos i) (pos j) +ℤ pos 3 *ℤ pos k *ℤ quadratic (D 1 0) (D 1 1) (D 1 2) (pos i) (pos j)
     +ℤ pos 3 *ℤ pos k *ℤ pos k *ℤ linear (D 2 0) (D 2 1) (pos i) (pos j) +ℤ pos k *ℤ pos k *ℤ pos k *ℤ D 3 0
 unfolding tangents.cubicSum sumBy

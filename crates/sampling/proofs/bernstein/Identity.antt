@@ -5,8 +5,7 @@ use Prim.Native.Nat.{ℕ, _+_}
 use native.Mathlib.Omega.{arith}
 use lib.IntN.{ℤ, pos, _+ℤ_, _-ℤ_, _*ℤ_}
 use Rattle.numbers.proofs.Poly.{over, poly}
-use Rattle.sampling.specs.declared.bernstein.Five.{Five}
-use Rattle.sampling.specs.declared.bernstein.Rows.{Rows}
+use Rattle.sampling.specs.{declared.bernstein.Five.Five, declared.bernstein.Rows.Rows}
 use Rattle.sampling.specs.bernstein.Sums.{five, linear, quadratic, cubic, quartic, quarticSum}
 use Rattle.sampling.specs.bernstein.Sums.{differencesOf, slopesOf, columnsOf, weightedOf, scaledOf, weightsOf}
 use Rattle.sampling.specs.bernstein.Sums.{polynomialOf, valueOf, stateOf, statesOf, stepOf, stepsOf, rowOf, firstsOf}
@@ -18,22 +17,17 @@ linear-turn = over 4 _ λ ρ. simp poly (omega arith)
 pub quadratic-turn : (a b c x y : ℤ) → quadratic a b c x y ≡ quadratic a (b -ℤ a) (c -ℤ b -ℤ (b -ℤ a)) (x +ℤ y) y
 quadratic-turn = over 5 _ λ ρ. simp (poly, ρ) (omega arith)
 
-pub cubic-turn : (a b c d x y : ℤ)
-    → cubic a b c d x y ≡ cubic a (b -ℤ a) (c -ℤ b -ℤ (b -ℤ a)) (d -ℤ c -ℤ (c -ℤ b) -ℤ (c -ℤ b -ℤ (b -ℤ a))) (x +ℤ y) y
+pub cubic-turn : (a b c d x y : ℤ) → cubic a b c d x y ≡ cubic a (b -ℤ a) (c -ℤ b -ℤ (b -ℤ a)) (d -ℤ c -ℤ (c -ℤ b) -ℤ (c -ℤ b -ℤ (b -ℤ a))) (x +ℤ y) y
 cubic-turn = over 6 _ λ ρ. simp (poly, ρ) (omega arith)
 
-quartic-turn′ : (a b c d e x y : ℤ)
-    → quartic (five a b c d e) x y
-    ≡ quartic
+quartic-turn′ : (a b c d e x y : ℤ) → quartic (five a b c d e) x y ≡ quartic
     (five a (b -ℤ a) (c -ℤ b -ℤ (b -ℤ a)) (d -ℤ c -ℤ (c -ℤ b) -ℤ (c -ℤ b -ℤ (b -ℤ a)))
     (e -ℤ d -ℤ (d -ℤ c) -ℤ (d -ℤ c -ℤ (c -ℤ b)) -ℤ (d -ℤ c -ℤ (c -ℤ b) -ℤ (c -ℤ b -ℤ (b -ℤ a))))) (x +ℤ y) y
 quartic-turn′ = over 7 _ λ ρ. simp (poly, ρ) (omega arith)
 
 -- ---- a state, and the next one
-start-is : (a b c d e : ℤ)
-    → (a ≡ a +ℤ pos 0 *ℤ (b +ℤ pos 0 *ℤ (c +ℤ pos 0 *ℤ (d +ℤ pos 0 *ℤ e))))
-    × (b +ℤ c +ℤ d +ℤ e ≡ b +ℤ c *ℤ pos 1 +ℤ d *ℤ pos 1 +ℤ e *ℤ pos 1)
-    × (pos 2 *ℤ c +ℤ pos 6 *ℤ d +ℤ pos 14 *ℤ e ≡ pos 2 *ℤ c +ℤ d *ℤ pos 6 +ℤ e *ℤ pos 14)
+start-is : (a b c d e : ℤ) → (a ≡ a +ℤ pos 0 *ℤ (b +ℤ pos 0 *ℤ (c +ℤ pos 0 *ℤ (d +ℤ pos 0 *ℤ e))))
+    × (b +ℤ c +ℤ d +ℤ e ≡ b +ℤ c *ℤ pos 1 +ℤ d *ℤ pos 1 +ℤ e *ℤ pos 1) × (pos 2 *ℤ c +ℤ pos 6 *ℤ d +ℤ pos 14 *ℤ e ≡ pos 2 *ℤ c +ℤ d *ℤ pos 6 +ℤ e *ℤ pos 14)
     × (pos 6 *ℤ d +ℤ pos 36 *ℤ e ≡ pos 6 *ℤ d +ℤ e *ℤ pos 36)
 start-is = over 5 _ λ ρ. simp (poly, ρ) (omega arith)
 
@@ -121,13 +115,11 @@ weigh3 : (a b c d e n x : ℤ)
     → a *ℤ (pos 4 *ℤ n) +ℤ x *ℤ (b *ℤ pos 4 +ℤ x *ℤ (c *ℤ pos 0 +ℤ x *ℤ (d *ℤ pos 0 +ℤ x *ℤ (e *ℤ pos 0)))) ≡ pos 4 *ℤ linear a b n x
 weigh3 = over 7 _ λ ρ. simp (poly, ρ) (omega arith)
 
-weigh4 : (a b c d e x : ℤ)
-    → a *ℤ pos 1 +ℤ x *ℤ (b *ℤ pos 0 +ℤ x *ℤ (c *ℤ pos 0 +ℤ x *ℤ (d *ℤ pos 0 +ℤ x *ℤ (e *ℤ pos 0)))) ≡ a
+weigh4 : (a b c d e x : ℤ) → a *ℤ pos 1 +ℤ x *ℤ (b *ℤ pos 0 +ℤ x *ℤ (c *ℤ pos 0 +ℤ x *ℤ (d *ℤ pos 0 +ℤ x *ℤ (e *ℤ pos 0)))) ≡ a
 weigh4 = over 6 _ λ ρ. simp (poly, ρ) (omega arith)
 
 -- the powers of j outside
-outside : (a b c d e j : ℤ)
-    → a +ℤ j *ℤ (pos 4 *ℤ b +ℤ j *ℤ (pos 6 *ℤ c +ℤ j *ℤ (pos 4 *ℤ d +ℤ j *ℤ e)))
+outside : (a b c d e j : ℤ) → a +ℤ j *ℤ (pos 4 *ℤ b +ℤ j *ℤ (pos 6 *ℤ c +ℤ j *ℤ (pos 4 *ℤ d +ℤ j *ℤ e)))
     ≡ a +ℤ pos 4 *ℤ j *ℤ b +ℤ pos 6 *ℤ j *ℤ j *ℤ c +ℤ pos 4 *ℤ j *ℤ j *ℤ j *ℤ d +ℤ j *ℤ j *ℤ j *ℤ j *ℤ e
 outside = over 6 _ λ ρ. simp (poly, ρ) (omega arith)
 

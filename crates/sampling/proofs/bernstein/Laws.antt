@@ -1,24 +1,14 @@
 -- Sizes of differences, products and states, and what the code's structs hold by their bits.
 use mathlib.Core.Path.{_≡_, sym, ap, _∙_}
 use Prim.Native.Nat.{ℕ, _+_, _*_, _^_, _≤_}
-use native.Mathlib.Nat.{mul-le-mul, le-trans}
-use native.Mathlib.Omega.{arith}
-use lib.Dec.{lit<, lit≤}
-use lib.IntN.{ℤ, pos, negℤ, natAbs, _+ℤ_, _-ℤ_, _*ℤ_}
-use lib.Signed.{_≤ℤ_, _<ℤ_}
-use mir.Syntax.{w64}
-use mir.Val.{SFits, toZ, ofZ}
-use mir.Facts.{toZ-ofZ}
+use native.Mathlib.{Nat.mul-le-mul, Nat.le-trans, Omega.arith}
+use lib.{Dec.lit<, Dec.lit≤, IntN.ℤ, IntN.pos, IntN.negℤ, IntN.natAbs, IntN._+ℤ_, IntN._-ℤ_, IntN._*ℤ_, Signed._≤ℤ_, Signed._<ℤ_}
+use mir.{Syntax.w64, Val.SFits, Val.toZ, Val.ofZ, Facts.toZ-ofZ}
 use Rattle.paper.specs.Numbers.{round}
-use Rattle.numbers.proofs.Diff.{as-diff, diff}
-use Rattle.numbers.proofs.Poly.{over, poly}
-use Rattle.numbers.proofs.Laws.{abs-mul, abs-mul-le, abs-add-le}
-use Rattle.numbers.proofs.Machine.{abs-fits}
-use Rattle.numbers.proofs.Floor.{step-le}
-use Rattle.numbers.specs.Near.{Near}
+use Rattle.numbers.proofs.{Diff.as-diff, Diff.diff, Poly.over, Poly.poly, Laws.abs-mul, Laws.abs-mul-le, Laws.abs-add-le, Machine.abs-fits, Floor.step-le}
 use Rattle.numbers.proofs.Nearest.{round-near}
-use Rattle.sampling.specs.declared.bernstein.Five.{Five}
-use Rattle.sampling.specs.declared.bernstein.Rows.{Rows}
+use Rattle.numbers.specs.Near.{Near}
+use Rattle.sampling.specs.{declared.bernstein.Five.Five, declared.bernstein.Rows.Rows}
 use Rattle.sampling.specs.bernstein.Sums.{Sized, AllSized, Tapered, AllTapered, differencesOf, slopesOf, columnsOf, weightedOf, weightsOf, scaledOf}
 use Rattle.sampling.specs.bernstein.Sums.{polynomialOf, valueOf, stateOf, statesOf, rowOf}
 

@@ -1,16 +1,11 @@
 -- The Bernstein sum of the definition, over whole numbers: what it is, between which bounds it lies, and what is left of it where a weight is zero.
 use mathlib.Core.Path.{_≡_, sym, ap, _∙_, subst}
 use Prim.Native.Nat.{ℕ, zero, suc, _+_, _-_, _*_, _/_, _^_, _≤_, _<_}
-use native.Mathlib.Nat.{pow-zero, pow-suc}
-use native.Mathlib.Omega.{arith}
-use lib.IntN.{ℤ, pos, negℤ, natAbs, _+ℤ_, _*ℤ_}
-use lib.Signed.{_≤ℤ_, _<ℤ_}
-use Rattle.paper.specs.Numbers.{sum, sumBy, round}
-use Rattle.paper.specs.Net.{Side}
+use native.Mathlib.{Nat.pow-zero, Nat.pow-suc, Omega.arith}
+use lib.{IntN.ℤ, IntN.pos, IntN.negℤ, IntN.natAbs, IntN._+ℤ_, IntN._*ℤ_, Signed._≤ℤ_, Signed._<ℤ_}
+use Rattle.paper.specs.{Numbers.sum, Numbers.sumBy, Numbers.round, Net.Side}
 use Rattle.paper.specs.Sampling.{control, factorial, bernstein, bernsteinSum}
-use Rattle.numbers.proofs.Poly.{over, poly}
-use Rattle.numbers.proofs.Laws.{zero-add, mul-le, nonneg, le-antisym}
-use Rattle.numbers.proofs.Sum.{sum-same}
+use Rattle.numbers.proofs.{Poly.over, Poly.poly, Laws.zero-add, Laws.mul-le, Laws.nonneg, Laws.le-antisym, Sum.sum-same}
 use Rattle.sampling.specs.declared.bernstein.Rows.{Rows}
 use Rattle.sampling.specs.bernstein.Sums.{five, linear, quadratic, cubic, quartic, quarticSum, rowsOf}
 use Rattle.sampling.proofs.bernstein.Laws.{round-between, bounds-abs}
@@ -56,8 +51,7 @@ row3 = over 5 _ λ ρ. simp (poly, ρ) (omega arith)
 row4 : (i j k a : ℤ) → pos 0 +ℤ weight i j k 4 0 *ℤ a ≡ k *ℤ k *ℤ k *ℤ k *ℤ a
 row4 = over 4 _ λ ρ. simp (poly, ρ) (omega arith)
 
-five-rows : (r s t u v r′ s′ t′ u′ v′ : ℤ) → r ≡ r′ → s ≡ s′ → t ≡ t′ → u ≡ u′ → v ≡ v′
-    → pos 0 +ℤ r +ℤ s +ℤ t +ℤ u +ℤ v ≡ r′ +ℤ s′ +ℤ t′ +ℤ u′ +ℤ v′
+five-rows : (r s t u v r′ s′ t′ u′ v′ : ℤ) → r ≡ r′ → s ≡ s′ → t ≡ t′ → u ≡ u′ → v ≡ v′ → pos 0 +ℤ r +ℤ s +ℤ t +ℤ u +ℤ v ≡ r′ +ℤ s′ +ℤ t′ +ℤ u′ +ℤ v′
 five-rows r s t u v r′ s′ t′ u′ v′ e f g h i = cc (zero-add r)
 
 plain-sum : (P : ℕ → ℕ → ℤ) (i j k : ℤ) → sum (λ n. sum (λ m. weight i j k n m *ℤ P n m) (5 - n)) 5 ≡ quarticSum (rowsOf P) i j k

@@ -2,12 +2,9 @@
 use mathlib.Core.Path.{_≡_, sym, ap, _∙_}
 use borrow.Author.Needs.{needs}
 use denote.Ref.{now}
-use Rattle.paper.specs.Faults.{sound, stated}
-use Rattle.paper.specs.Floats.{netVerdict}
-use Rattle.paper.specs.Sampling.{weights}
+use Rattle.paper.specs.{Faults.sound, Faults.stated, Floats.netVerdict, Sampling.weights}
 use Rattle.mesh.proofs.Verdicts.{passed}
-use Rattle.sampling.proofs.Laws.{first-point, net-refused, side-refused, parts-refused, all-passed}
-use Rattle.sampling.proofs.check.Statement.{statement}
+use Rattle.sampling.proofs.{Laws.first-point, Laws.net-refused, Laws.side-refused, Laws.parts-refused, Laws.all-passed, check.Statement.statement}
 use Rattle.sampling.proofs.check.Tie as tie
 
 -- after 18 and 19
@@ -16,8 +13,7 @@ module _ (t : tie.After-enum-told) where
   s = t .before .before .before
 
   net-sound : netVerdict (now (s .args .numbers)) ≡ sound
-  net-sound =
-      passed (t .before .before .check .result) (t .before .before .check .ensures ∙ first-point (now (s .args .numbers))) (t .enum-told .given .1)
+  net-sound = passed (t .before .before .check .result) (t .before .before .check .ensures ∙ first-point (now (s .args .numbers))) (t .enum-told .given .1)
 
 returns : tie.Need-returns
 returns c =

@@ -1,11 +1,9 @@
 -- `sampling::is_whole` meets its contract: each test is one of the parts of fault 33.
 use mathlib.Core.Logic.{⊎-elim}
 use native.Mathlib.Omega.{arith}
-use borrow.Author.Needs.{needs}
-use borrow.Author.Tests.{ltb-true, ltb-false}
+use borrow.Author.{Needs.needs, Tests.ltb-true, Tests.ltb-false}
 use Rattle.mesh.proofs.Ranges.{outside-low, outside-high}
-use Rattle.sampling.proofs.Laws.{parts-out, parts-differ, parts-decide}
-use Rattle.sampling.proofs.is_whole.Statement.{statement}
+use Rattle.sampling.proofs.{Laws.parts-out, Laws.parts-differ, Laws.parts-decide, is_whole.Statement.statement}
 use Rattle.sampling.proofs.is_whole.Tie as tie
 
 returns : tie.Need-returns

@@ -1,16 +1,10 @@
 -- The control points of a side by their places, and a net's numbers by their bits.
-use mathlib.Core.Path.{_≡_, refl, ap, _∙_}
-use mathlib.Core.List.{List}
+use mathlib.Core.{Path._≡_, Path.refl, Path.ap, Path._∙_, List.List}
 use Prim.Native.Nat.{ℕ, zero, suc, _+_, _*_, _^_, _≤_, _<_}
 use native.Mathlib.Omega.{arith}
-use lib.Dec.{lit<, lit≤}
-use lib.IntN.{ℤ, natAbs}
-use mir.Syntax.{w32, w64}
-use mir.Val.{SFits, toZ, ofZ}
-use mir.ValLaws.{toZ-ofZ}
-use Rattle.paper.specs.Faults.{sound}
-use Rattle.paper.specs.Floats.{netVerdict}
-use Rattle.paper.specs.Sampling.{control, onAxis, sideAt}
+use lib.{Dec.lit<, Dec.lit≤, IntN.ℤ, IntN.natAbs}
+use mir.{Syntax.w32, Syntax.w64, Val.SFits, Val.toZ, Val.ofZ, ValLaws.toZ-ofZ}
+use Rattle.paper.specs.{Faults.sound, Floats.netVerdict, Sampling.control, Sampling.onAxis, Sampling.sideAt}
 use Rattle.numbers.proofs.Machine.{abs-fits}
 use Rattle.floats.proofs.Laws.{number-le}
 use Rattle.sampling.proofs.bernstein.Laws.{sized-bits}

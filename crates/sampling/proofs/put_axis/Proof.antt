@@ -3,16 +3,13 @@ use mathlib.Core.Path.{_≡_, sym, ap, _∙_, subst}
 use Prim.Native.Nat.{ℕ, _+_, _-_, _*_, _^_, _≤_}
 use native.Mathlib.Omega.{arith}
 use borrow.Author.Needs.{needs}
-use lib.ListN.{length}
-use lib.IntN.{pos}
-use Rattle.sampling.specs.declared.bernstein.Five.{Five}
-use Rattle.sampling.specs.declared.bernstein.Rows.{Rows}
+use lib.{ListN.length, IntN.pos}
+use Rattle.sampling.specs.{declared.bernstein.Five.Five, declared.bernstein.Rows.Rows}
 use Rattle.sampling.specs.bernstein.Sums.{AllSized, AllTapered, polynomialOf, statesOf, stepsOf, firstsOf, rowOf}
+use Rattle.sampling.specs.Grid.{before, RowsPut}
 use Rattle.sampling.proofs.bernstein.Laws.{polynomial-tapers, states-size}
 use Rattle.sampling.proofs.bernstein.Identity.{states-step, firsts-row}
-use Rattle.sampling.specs.Grid.{before, RowsPut}
-use Rattle.sampling.proofs.Lists.{rows-none, rows-step, place-next, row-sampleable, row-room}
-use Rattle.sampling.proofs.put_axis.Statement.{statement}
+use Rattle.sampling.proofs.{Lists.rows-none, Lists.rows-step, Lists.place-next, Lists.row-sampleable, Lists.row-room, put_axis.Statement.statement}
 use Rattle.sampling.proofs.put_axis.Tie as tie
 
 abbrev Inv-loop : tie.InvT-loop
@@ -60,19 +57,9 @@ module _ (t : tie.In-loop Inv-loop μ-loop) where
 row-of : (c : Rows) (k : ℕ) (s : Rows) (e : Five) → e ≡ firstsOf s → s ≡ statesOf c k → e ≡ rowOf c k
 row-of c k s e h g = h ∙ ap firstsOf g ∙ firsts-row c k
 
-start-requires : tie.Need-start-requires Inv-loop μ-loop
-start-requires c κs = (c .pre .0 .sized, c .pre .0 .few)
-
 loop-holds : tie.Need-loop-holds Inv-loop μ-loop
 unfolding before
-loop-holds c =
-    (omega arith, omega arith, λ p h. (h, rows-none p (c .before .args .n) (c .before .args .axis) (c .before .args .points .now)))
-
-add-count : tie.Need-add-count Inv-loop μ-loop
-add-count c = let h = few c in search needs
-
-row-requires : tie.Need-row-requires Inv-loop μ-loop
-row-requires c κs = sized c
+loop-holds c = (omega arith, omega arith, λ p h. (h, rows-none p (c .before .args .n) (c .before .args .axis) (c .before .args .points .now)))
 
 put-row-requires : tie.Need-put-row-requires Inv-loop μ-loop
 put-row-requires a κs =
@@ -131,5 +118,5 @@ returns a =
 
 pub put-axis-spec : {M : Type 1} → statement M
 put-axis-spec =
-    tie.close (tie.spec Inv-loop μ-loop start-requires loop-holds add-count row-requires put-row-requires mul-at add-at next-requires add-k loop-less
-    loop-again same-length returns)
+    tie.close (tie.spec Inv-loop μ-loop (λ c κs. (c .pre .0 .sized, c .pre .0 .few)) loop-holds (λ c. let h = few c in search needs) (λ c κs. sized c)
+    put-row-requires mul-at add-at next-requires add-k loop-less loop-again same-length returns)

@@ -2,8 +2,7 @@
 use borrow.Author.Needs.{needs}
 use mir.Facts.{toZ-ofZ}
 use denote.Ref.{now}
-use Rattle.sampling.proofs.Laws.{point-set}
-use Rattle.sampling.proofs.put_point.Statement.{statement}
+use Rattle.sampling.proofs.{Laws.point-set, put_point.Statement.statement}
 use Rattle.sampling.proofs.put_point.Tie as tie
 
 returns : tie.Need-returns

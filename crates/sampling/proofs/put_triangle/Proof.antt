@@ -1,17 +1,12 @@
 -- `sampling::put_triangle` meets its contract: three axes make the list of samples.
-use mathlib.Core.Path.{_≡_, sym, subst}
-use mathlib.Core.List.{List}
+use mathlib.Core.{Path._≡_, Path.sym, Path.subst, List.List}
 use Prim.Native.Nat.{ℕ}
-use lib.IntN.{ℤ}
+use lib.{IntN.ℤ, Dec.lit<}
 use native.Mathlib.Omega.{arith}
 use borrow.Author.Needs.{needs}
-use lib.Dec.{lit<}
 use denote.Ref.{now}
-use Rattle.sampling.specs.declared.bernstein.Rows.{Rows}
-use Rattle.sampling.specs.Grid.{before, Sampleable, RowsPut}
-use Rattle.sampling.proofs.Laws.{points-sampleable}
-use Rattle.sampling.proofs.Lists.{count-is, triangle-put}
-use Rattle.sampling.proofs.put_triangle.Statement.{statement}
+use Rattle.sampling.specs.{declared.bernstein.Rows.Rows, Grid.before, Grid.Sampleable, Grid.RowsPut}
+use Rattle.sampling.proofs.{Laws.points-sampleable, Lists.count-is, Lists.triangle-put, put_triangle.Statement.statement}
 use Rattle.sampling.proofs.put_triangle.Tie as tie
 
 moved : {p q : Rows} {n axis rows : ℕ} {old new : List ℤ} → p ≡ q → RowsPut p n axis rows old new → RowsPut q n axis rows old new
@@ -59,8 +54,7 @@ returns c =
     (c .before .before .before .before .before .before .before .before .before .put-axis .ensures))
     (moved (c .before .before .before .before .before .before .before .control-points2 .ensures)
     (c .before .before .before .before .before .put-axis2 .ensures))
-    (moved (c .before .before .before .control-points3 .ensures) (c .before .put-axis3 .ensures))
-    (s .pre .1 .2)
+    (moved (c .before .before .before .control-points3 .ensures) (c .before .put-axis3 .ensures)) (s .pre .1 .2)
 
 pub put-triangle-spec : {M : Type 1} → statement M
 put-triangle-spec =

@@ -7,8 +7,7 @@ use lib.IntN.{pos}
 use Rattle.sampling.specs.declared.bernstein.Rows.{Rows}
 use Rattle.sampling.specs.bernstein.Sums.{AllSized, polynomialOf, statesOf, firstsOf, stepsOf, rowOf}
 use Rattle.sampling.proofs.bernstein.Laws.{polynomial-tapers, states-size}
-use Rattle.sampling.proofs.bernstein.Identity.{states-step, firsts-row}
-use Rattle.sampling.proofs.row_at.Statement.{statement}
+use Rattle.sampling.proofs.{bernstein.Identity.states-step, bernstein.Identity.firsts-row, row_at.Statement.statement}
 use Rattle.sampling.proofs.row_at.Tie as tie
 
 abbrev Inv-loop : tie.InvT-loop
@@ -30,22 +29,10 @@ module _ (t : tie.At-loop Inv-loop μ-loop) where
       subst (λ (s : Rows). AllSized (2 ^ 60) s) (sym is)
       (states-size _ (t .loop .x) (omega (arith, t .loop .inv .0, p .pre .1)) (polynomial-tapers (p .args .p) (p .args .n) (p .pre .0) (p .pre .2)))
 
-start-requires : tie.Need-start-requires Inv-loop μ-loop
-start-requires c κs = (c .pre .0, c .pre .2)
-
-loop-holds : tie.Need-loop-holds Inv-loop μ-loop
-loop-holds c = (omega arith, λ p e. e)
-
-next-requires : tie.Need-next-requires Inv-loop μ-loop
-next-requires c κs = sized (c .before)
-
 loop-again : tie.Need-loop-again Inv-loop μ-loop
 loop-again c =
     let l = c .before .before .loop in
     (omega arith, λ p e. c .next .ensures ∙ ap stepsOf (l .inv .1 p e) ∙ states-step p (l .x))
-
-row-requires : tie.Need-row-requires Inv-loop μ-loop
-row-requires c κs = sized (c .before)
 
 returns : tie.Need-returns Inv-loop μ-loop
 returns c =
@@ -56,4 +43,5 @@ returns c =
 
 pub row-at-spec : {M : Type 1} → statement M
 row-at-spec =
-    tie.close (tie.spec Inv-loop μ-loop start-requires loop-holds next-requires (λ c. search needs) (λ c. search needs) loop-again row-requires returns)
+    tie.close (tie.spec Inv-loop μ-loop (λ c κs. (c .pre .0, c .pre .2)) (λ c. (omega arith, λ p e. e)) (λ c κs. sized (c .before)) (λ c. search needs)
+    (λ c. search needs) loop-again (λ c κs. sized (c .before)) returns)

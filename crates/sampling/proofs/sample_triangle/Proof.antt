@@ -4,8 +4,7 @@ use Prim.Native.Nat.{_≤_}
 use native.Mathlib.Omega.{arith}
 use borrow.Author.Needs.{needs}
 use denote.Ref.{now}
-use Rattle.paper.specs.Faults.{sound}
-use Rattle.paper.specs.Sampling.{weights, sampleVerdict}
+use Rattle.paper.specs.{Faults.sound, Sampling.weights, Sampling.sampleVerdict}
 use Rattle.mesh.proofs.Verdicts.{passed}
 use Rattle.sampling.proofs.Laws.{net-passed, side-passed, some-parts, few-parts, triangle-refused, triangle-short, triangle-done, few-samples, needed-is}
 use Rattle.sampling.proofs.sample_triangle.Statement.{statement}

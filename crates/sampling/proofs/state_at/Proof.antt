@@ -1,14 +1,11 @@
 -- `sampling::state_at` meets its contract: after x turns the state is that at x.
 use mathlib.Core.Path.{_≡_, sym, ap, _∙_, subst}
-use Prim.Native.Nat.{ℕ, _-_, _*_, _^_, _≤_}
+use Prim.Native.Nat.{_-_, _*_, _^_, _≤_}
 use native.Mathlib.Omega.{arith}
 use borrow.Author.Needs.{needs}
 use lib.Dec.{lit≤}
-use Rattle.sampling.specs.declared.bernstein.Five.{Five}
-use Rattle.sampling.specs.bernstein.Sums.{Sized, stateOf, stepOf}
-use Rattle.sampling.proofs.bernstein.Laws.{state-size, tapered-size}
-use Rattle.sampling.proofs.bernstein.Identity.{state-step}
-use Rattle.sampling.proofs.state_at.Statement.{statement}
+use Rattle.sampling.specs.{declared.bernstein.Five.Five, bernstein.Sums.Sized, bernstein.Sums.stateOf, bernstein.Sums.stepOf}
+use Rattle.sampling.proofs.{bernstein.Laws.state-size, bernstein.Laws.tapered-size, bernstein.Identity.state-step, state_at.Statement.statement}
 use Rattle.sampling.proofs.state_at.Tie as tie
 
 abbrev Inv-loop : tie.InvT-loop
@@ -32,12 +29,6 @@ module _ (t : tie.At-loop Inv-loop μ-loop) where
 ahead-requires : tie.Need-ahead-requires Inv-loop μ-loop
 ahead-requires c κs = tapered-size (c .args .e) (5 * 2 ^ 34) (c .pre .0) (lit≤ tt)
 
-loop-holds : tie.Need-loop-holds Inv-loop μ-loop
-loop-holds c = (omega arith, λ e h. h)
-
-step-requires : tie.Need-step-requires Inv-loop μ-loop
-step-requires c κs = sized (c .before)
-
 loop-again : tie.Need-loop-again Inv-loop μ-loop
 loop-again c =
     let l = c .before .before .loop in
@@ -49,4 +40,6 @@ returns c =
     is t ∙ ap (stateOf (t .before .before .args .e)) (omega (arith, t .loop .inv .0))
 
 pub state-at-spec : {M : Type 1} → statement M
-state-at-spec = tie.close (tie.spec Inv-loop μ-loop ahead-requires loop-holds step-requires (λ c. search needs) (λ c. search needs) loop-again returns)
+state-at-spec =
+    tie.close (tie.spec Inv-loop μ-loop ahead-requires (λ c. (omega arith, λ e h. h)) (λ c κs. sized (c .before)) (λ c. search needs) (λ c. search needs)
+    loop-again returns)

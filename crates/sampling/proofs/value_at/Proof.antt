@@ -3,10 +3,8 @@ use mathlib.Core.Path.{_≡_, sym, ap, _∙_, subst}
 use Prim.Native.Nat.{ℕ, _*_, _^_}
 use lib.Dec.{lit≤}
 use borrow.Author.Needs.{needs}
-use Rattle.sampling.specs.declared.bernstein.Five.{Five}
-use Rattle.sampling.specs.bernstein.Sums.{Sized, stateOf, valueOf}
-use Rattle.sampling.proofs.bernstein.Laws.{state-size, sized-bits}
-use Rattle.sampling.proofs.value_at.Statement.{statement}
+use Rattle.sampling.specs.{declared.bernstein.Five.Five, bernstein.Sums.Sized, bernstein.Sums.stateOf, bernstein.Sums.valueOf}
+use Rattle.sampling.proofs.{bernstein.Laws.state-size, bernstein.Laws.sized-bits, value_at.Statement.statement}
 use Rattle.sampling.proofs.value_at.Tie as tie
 
 value-same : (e : Five) (g : Five) (j : ℕ) → g ≡ stateOf e j → g .a ≡ valueOf e j
@@ -20,8 +18,7 @@ returns c =
     let g = a .state-at .result in
     sized-bits (g .a) (2 ^ 60)
     (subst (λ (f : Five). Sized (2 ^ 60) f) (sym (a .state-at .ensures)) (state-size (s .args .e) (s .args .j) (5 * 2 ^ 34) (s .pre .1) (s .pre .0) (lit≤ tt)) .0)
-    (lit≤ tt)
-    ∙ value-same (s .args .e) (a .state-at .result) (s .args .j) (a .state-at .ensures)
+    (lit≤ tt) ∙ value-same (s .args .e) (a .state-at .result) (s .args .j) (a .state-at .ensures)
 
 pub value-at-spec : {M : Type 1} → statement M
 value-at-spec = tie.close (tie.spec (λ c κs. search needs) returns)

@@ -1,19 +1,12 @@
 -- `put_points` meets its contract: the net's numbers are those of the list of points.
-use mathlib.Core.Path.{_≡_, sym, subst}
-use mathlib.Core.List.{List}
-use Prim.Native.Nat.{ℕ, _+_, _*_, _≤_}
+use mathlib.Core.{Path.sym, Path.subst, List.List}
+use Prim.Native.Nat.{_+_, _*_, _≤_}
 use native.Mathlib.Omega.{arith}
 use borrow.Author.Needs.{needs}
-use lib.ListN.{length}
-use lib.IntN.{ℤ}
+use lib.{ListN.length, IntN.ℤ}
 use Rattle.paper.specs.Mesh.{Mesh}
-use Rattle.triangles.specs.declared.writing.Shape.{Shape}
-use Rattle.triangles.specs.Meshed.{Of}
-use Rattle.triangles.specs.Owned.{ShapeOf}
-use Rattle.triangles.specs.writing.Shapes.{shapeSize, ShapeAim}
-use Rattle.triangles.proofs.Lent.{below-of}
-use Rattle.triangles.proofs.Own.{all-is, pointed}
-use Rattle.triangles.proofs.put_points.Statement.{statement}
+use Rattle.triangles.specs.{declared.writing.Shape.Shape, Meshed.Of, Owned.ShapeOf, writing.Shapes.shapeSize, writing.Shapes.ShapeAim}
+use Rattle.triangles.proofs.{Lent.below-of, Own.all-is, Own.pointed, put_points.Statement.statement}
 use Rattle.triangles.proofs.put_points.Tie as tie
 
 -- the room that the call has
@@ -28,9 +21,6 @@ room-of s r is =
       all-is (g .mesh) (s .args .levels .now) (g .is .accepted) (g .is .leveled) (s .args .c) (below-of (g .mesh) (g .is) (s .args .c) (s .pre .0 .1)) r
           (is (g .mesh) (g .is)),
     )
-
-size-requires : tie.Need-size-requires
-size-requires c κs = c .shape-of .ensures .0
 
 put-net-requires : tie.Need-put-net-requires
 put-net-requires c κs =
@@ -68,4 +58,5 @@ returns c =
     )
 
 pub put-points-spec : {M : Type 1} → statement M
-put-points-spec = tie.close (tie.spec (λ c κs. search needs) size-requires put-net-requires mul-result add-result (λ c. search needs) returns)
+put-points-spec =
+    tie.close (tie.spec (λ c κs. search needs) (λ c κs. c .shape-of .ensures .0) put-net-requires mul-result add-result (λ c. search needs) returns)

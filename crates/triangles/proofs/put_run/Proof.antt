@@ -1,21 +1,13 @@
 -- `put_run` meets its contract: the points of the corners before stand there.
-use mathlib.Core.Path.{_≡_, refl, sym, ap, _∙_, subst}
-use mathlib.Core.List.{List}
+use mathlib.Core.{Path._≡_, Path.refl, Path.sym, Path.ap, Path._∙_, Path.subst, List.List}
 use Prim.Native.Nat.{ℕ, _+_, _-_, _*_, _≤_, _<_}
 use native.Mathlib.Omega.{arith}
 use borrow.Author.Needs.{needs}
-use lib.ListN.{length, take, drop}
-use lib.IntN.{ℤ}
-use Rattle.paper.specs.Mesh.{Mesh, cornerCount}
-use Rattle.paper.specs.Faults.{sound}
-use Rattle.paper.specs.Floats.{netVerdict}
-use Rattle.paper.specs.Calls.{perCorner, nets}
+use lib.{ListN.length, ListN.take, ListN.drop, IntN.ℤ}
+use Rattle.paper.specs.{Mesh.Mesh, Mesh.cornerCount, Faults.sound, Floats.netVerdict, Calls.perCorner, Calls.nets}
 use Rattle.paper.specs.Triangles.{coordinateAt, pointsBefore}
-use Rattle.triangles.specs.Meshed.{Of}
-use Rattle.triangles.specs.Owned.{Pointed}
-use Rattle.triangles.proofs.Own.{nets-length, net-part, net-sound}
-use Rattle.triangles.proofs.Calls.{points-between}
-use Rattle.triangles.proofs.Stood.{put-none, range-step, range-end}
+use Rattle.triangles.specs.{Meshed.Of, Owned.Pointed}
+use Rattle.triangles.proofs.{Own.nets-length, Own.net-part, Own.net-sound, Calls.points-between, Stood.put-none, Stood.range-step, Stood.range-end}
 use Rattle.triangles.proofs.put_run.Statement.{statement}
 use Rattle.triangles.proofs.put_run.Tie as tie
 
@@ -85,12 +77,6 @@ add-net c = let s : tie.Start Inv-loop μ-loop = search in record { fits = omega
 mul-net : tie.Need-mul-net Inv-loop μ-loop
 mul-net c = let s : tie.Start Inv-loop μ-loop = search in record { fits = omega (arith, long s, s .good) }
 
-sub-net : tie.Need-sub-net Inv-loop μ-loop
-sub-net c = omega arith
-
-part-net-start : tie.Need-part-net-start Inv-loop μ-loop
-part-net-start c = omega arith
-
 part-net-end : tie.Need-part-net-end Inv-loop μ-loop
 part-net-end c = let s : tie.Start Inv-loop μ-loop = search in let b = c .loop-test .taken in omega (arith, long s)
 
@@ -133,9 +119,6 @@ loop-again c =
           (ap (λ (x : List ℤ). take perCorner (drop (perCorner * l .c) x)) e ∙ net-part M (s .args .first) (s .args .count) (l .c) b))),
     )
 
-same-length : tie.Need-same-length Inv-loop μ-loop
-same-length c = c .before .loop .inv .1
-
 returns : tie.Need-returns Inv-loop μ-loop
 returns c =
     let s : tie.Start Inv-loop μ-loop = search in
@@ -149,5 +132,5 @@ returns c =
 
 pub put-run-spec : {M : Type 1} → statement M
 put-run-spec =
-    tie.close (tie.spec Inv-loop μ-loop loop-holds mul-from add-net mul-net sub-net part-net-start part-net-end add-put-points put-points-requires
-    (λ c. search needs) (λ c. search needs) loop-again same-length returns)
+    tie.close (tie.spec Inv-loop μ-loop loop-holds mul-from add-net mul-net (λ c. omega arith) (λ c. omega arith) part-net-end add-put-points
+    put-points-requires (λ c. search needs) (λ c. search needs) loop-again (λ c. c .before .loop .inv .1) returns)

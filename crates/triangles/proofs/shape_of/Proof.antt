@@ -2,8 +2,7 @@
 use native.Mathlib.Omega.{arith}
 use borrow.Author.Needs.{needs}
 use Rattle.triangles.proofs.Lent.{place-of, wide-of, given-corner, here-of, level-some, level-few}
-use Rattle.triangles.proofs.Own.{vertex-size, edge-size, face-size}
-use Rattle.triangles.proofs.shape_of.Statement.{statement}
+use Rattle.triangles.proofs.{Own.vertex-size, Own.edge-size, Own.face-size, shape_of.Statement.statement}
 use Rattle.triangles.proofs.shape_of.Tie as tie
 
 own-vertex-requires : tie.Need-own-vertex-requires

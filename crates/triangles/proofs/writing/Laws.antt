@@ -1,29 +1,18 @@
 -- Laws of numbers that are written here and there, of control points in turn, and of the places of rings.
-use mathlib.Core.Path.{_≡_, refl, sym, ap, _∙_, subst}
-use mathlib.Core.Logic.{_⊎_, inl, inr, ⊎-elim}
-use mathlib.Core.List.{List}
+use mathlib.Core.{Path._≡_, Path.refl, Path.sym, Path.ap, Path._∙_, Path.subst, Logic._⊎_, Logic.inl, Logic.inr, Logic.⊎-elim, List.List}
 use Prim.Native.Nat.{ℕ, zero, suc, _+_, _-_, _*_, _/_, _%_, _^_, _≤_, _<_}
 use native.Mathlib.Omega.{arith}
-use lib.Dec.{ltb, eqb}
-use borrow.Author.Tests.{ltb-true, ltb-false, eqb-true, eqb-false}
-use lib.ListN.{length, getD, set, length-set}
-use lib.Seq.{getD-set-same, getD-set-other}
+use lib.{Dec.ltb, Dec.eqb, ListN.length, ListN.getD, ListN.set, ListN.length-set, Seq.getD-set-same, Seq.getD-set-other}
 use lib.IntN.{ℤ, pos, natAbs, _+ℤ_, _*ℤ_}
-use Rattle.paper.specs.Numbers.{round}
-use Rattle.paper.specs.Faults.{sound}
-use Rattle.paper.specs.Floats.{netVerdict}
-use Rattle.paper.specs.Sampling.{control, onAxis, weights, sampleAt, sideAt}
-use Rattle.paper.specs.Triangles.{turnWeights}
+use borrow.Author.Tests.{ltb-true, ltb-false, eqb-true, eqb-false}
+use Rattle.paper.specs.{Numbers.round, Faults.sound, Floats.netVerdict}
+use Rattle.paper.specs.{Sampling.control, Sampling.onAxis, Sampling.weights, Sampling.sampleAt, Sampling.sideAt, Triangles.turnWeights}
 use Rattle.numbers.proofs.Poly.{over, poly}
 use Rattle.mesh.proofs.Scans.{ways, compared}
-use Rattle.sampling.specs.declared.bernstein.Five.{Five}
-use Rattle.sampling.specs.declared.bernstein.Rows.{Rows}
+use Rattle.sampling.specs.{declared.bernstein.Five.Five, declared.bernstein.Rows.Rows}
 use Rattle.sampling.specs.bernstein.Sums.{five, linear, quadratic, cubic, quartic, quarticSum, rowsOf, polynomialOf, rowOf, valueOf, AllSized}
 use Rattle.sampling.specs.Grid.{Sampleable, RowSampleable, RowPut}
-use Rattle.sampling.proofs.bernstein.Sum.{bernstein-is}
-use Rattle.sampling.proofs.bernstein.Laws.{polynomial-tapers}
-use Rattle.sampling.proofs.Laws.{points-sampleable}
-use Rattle.sampling.proofs.Lists.{row-sampleable, row-part}
+use Rattle.sampling.proofs.{bernstein.Sum.bernstein-is, bernstein.Laws.polynomial-tapers, Laws.points-sampleable, Lists.row-sampleable, Lists.row-part}
 use Rattle.triangles.specs.writing.Laid.{Reaches, reversedOf, InTurn, PointPlace}
 
 -- ---- numbers written here and there
@@ -101,10 +90,8 @@ quartic-back = over 7 _ λ ρ. simp (poly, ρ) (omega arith)
 pub sum-back : (p : Rows) (i j k : ℤ) → quarticSum (reversedOf p) i j k ≡ quarticSum p j i k
 unfolding quarticSum reversedOf
 sum-back p i j k = λ z.
-    quartic-back (p .r0 .a) (p .r0 .b) (p .r0 .c) (p .r0 .d) (p .r0 .e) i j z
-    +ℤ pos 4 *ℤ k *ℤ cubic-back (p .r1 .a) (p .r1 .b) (p .r1 .c) (p .r1 .d) i j z
-    +ℤ pos 6 *ℤ k *ℤ k *ℤ quadratic-back (p .r2 .a) (p .r2 .b) (p .r2 .c) i j z
-    +ℤ pos 4 *ℤ k *ℤ k *ℤ k *ℤ linear-back (p .r3 .a) (p .r3 .b) i j z
+    quartic-back (p .r0 .a) (p .r0 .b) (p .r0 .c) (p .r0 .d) (p .r0 .e) i j z +ℤ pos 4 *ℤ k *ℤ cubic-back (p .r1 .a) (p .r1 .b) (p .r1 .c) (p .r1 .d) i j z
+    +ℤ pos 6 *ℤ k *ℤ k *ℤ quadratic-back (p .r2 .a) (p .r2 .b) (p .r2 .c) i j z +ℤ pos 4 *ℤ k *ℤ k *ℤ k *ℤ linear-back (p .r3 .a) (p .r3 .b) i j z
     +ℤ k *ℤ k *ℤ k *ℤ k *ℤ p .r4 .a
 
 sized-back : (B : ℕ) (p : Rows) → natAbs (pos 0) ≤ B → AllSized B p → AllSized B (reversedOf p)

@@ -1,28 +1,20 @@
 -- The parts of a corner's points join: rings side by side, a border axis by axis, and all groups.
-use mathlib.Core.Path.{_≡_, refl, sym, ap, _∙_, subst}
-use mathlib.Core.Logic.{_⊎_, inl, inr, ⊎-elim}
-use mathlib.Core.List.{List}
-use Prim.Native.Nat.{ℕ, zero, suc, _+_, _-_, _*_, _/_, _%_, _^_, _≤_, _<_}
+use mathlib.Core.{Path._≡_, Path.sym, Path.ap, Path._∙_, Path.subst, Logic._⊎_, Logic.inl, Logic.inr, List.List}
+use Prim.Native.Nat.{ℕ, zero, suc, _+_, _-_, _*_, _^_, _≤_, _<_}
 use native.Mathlib.Omega.{arith}
-use lib.ListN.{length}
 use lib.IntN.{ℤ, pos}
 use Rattle.paper.specs.Numbers.{round}
-use Rattle.sampling.specs.declared.bernstein.Five.{Five}
-use Rattle.sampling.specs.declared.bernstein.Rows.{Rows}
-use Rattle.sampling.specs.bernstein.Sums.{polynomialOf, rowOf, valueOf, quarticSum}
-use Rattle.sampling.specs.Grid.{RowPut}
+use Rattle.sampling.specs.{declared.bernstein.Five.Five, declared.bernstein.Rows.Rows}
+use Rattle.sampling.specs.{bernstein.Sums.polynomialOf, bernstein.Sums.rowOf, bernstein.Sums.valueOf, bernstein.Sums.quarticSum, Grid.RowPut}
 use Rattle.sampling.proofs.Lists.{row-value, from-none, below-or-last}
 use Rattle.triangles.specs.writing.Laid.{Reaches, InTurn, CurveAim, CurvePlace, ringAt, SpokeAim, SpokePlace, RingsAim, RingsPlace}
 use Rattle.triangles.proofs.writing.Laws.{reaches-part, reaches-more, row-reaches}
 
 -- ---- a side's row on one more ring
 module _ (p : Rows) (n side at k : ℕ) (old mid new : List ℤ) (h : k + 1 < n) (e : Five) (is : e ≡ rowOf (polynomialOf p (pos n)) (suc k)) (ring w from : ℕ)
-    (ring-is : ring ≡ 2 * (k * (2 * n - k - 1))) (w-is : w ≡ n - suc k) (place : from ≡ at + 3 * (ring + side * w))
-    (r : RowPut e n 0 w from mid new) where
+    (ring-is : ring ≡ 2 * (k * (2 * n - k - 1))) (w-is : w ≡ n - suc k) (place : from ≡ at + 3 * (ring + side * w)) (r : RowPut e n 0 w from mid new) where
   spot : (j : ℕ) → from + 3 * j ≡ at + 3 * ringAt n side k j
-  spot j =
-      (let q : from + 3 * j ≡ at + 3 * (ring + side * w + j) = omega arith in q)
-      ∙ (λ z. at + 3 * (ring-is z + side * w-is z + j))
+  spot j = (let q : from + 3 * j ≡ at + 3 * (ring + side * w + j) = omega arith in q) ∙ (λ z. at + 3 * (ring-is z + side * w-is z + j))
 
   value-is : (j : ℕ) → j < w → valueOf e (0 + j) ≡ quarticSum p (pos (n - suc k - j)) (pos j) (pos (suc k))
   value-is j l = ap (valueOf e) (from-none j) ∙ ap (λ (f : Five). valueOf f j) is ∙ row-value p n (suc k) j (omega arith)
@@ -77,8 +69,7 @@ module _ (numbers : List ℤ) (side m at : ℕ) (some : 1 ≤ m) (f : ℕ → �
       → RowPut (rowOf (polynomialOf p (pos m)) 0) m 1 (m - 1) x old new → Reaches f (λ t. (j : ℕ) × (j < m - 1) × (t ≡ x + 3 * j)) old new
   curve-row axis x a q p t old new r =
       row-reaches r f (λ j l.
-      ap f (let z : x + 3 * j ≡ at + 3 * j + axis = omega arith in z) ∙ aim j axis (omega arith) a
-      ∙ sym (t .samples m 0 (j + 1) (omega arith))
+      ap f (let z : x + 3 * j ≡ at + 3 * j + axis = omega arith in z) ∙ aim j axis (omega arith) a ∙ sym (t .samples m 0 (j + 1) (omega arith))
       ∙ ap (λ (z : ℤ). round z (pos (m ^ 4)))
       (sym (row-value p m 0 (j + 1) (omega arith)) ∙ ap (valueOf (rowOf (polynomialOf p (pos m)) 0)) (let z : j + 1 ≡ 1 + j = omega arith in z)))
 

@@ -2,12 +2,9 @@
 use Prim.Native.Nat.{_^_, _≤_}
 use native.Mathlib.Omega.{arith}
 use lib.IntN.{ℤ, pos, natAbs, _+ℤ_, _*ℤ_}
-use mir.Syntax.{w64}
-use mir.Val.{SFits}
-use mir.Facts.{toZ-ofZ}
+use mir.{Syntax.w64, Val.SFits, Facts.toZ-ofZ}
 use Rattle.numbers.proofs.Poly.{over, poly}
-use Rattle.sampling.proofs.bernstein.Identity.{state-start}
-use Rattle.sampling.proofs.bernstein.ahead.Statement.{statement}
+use Rattle.sampling.proofs.{bernstein.Identity.state-start, bernstein.ahead.Statement.statement}
 use Rattle.sampling.proofs.bernstein.ahead.Tie as tie
 
 abbrev Fine : ℤ → ℤ → ℤ → ℤ → ℤ → Type 0

@@ -2,8 +2,7 @@
 use mathlib.Core.Path.{sym, subst}
 use Prim.Native.Nat.{_^_}
 use borrow.Author.Needs.{needs}
-use Rattle.sampling.specs.declared.bernstein.Rows.{Rows}
-use Rattle.sampling.specs.bernstein.Sums.{AllSized}
+use Rattle.sampling.specs.{declared.bernstein.Rows.Rows, bernstein.Sums.AllSized}
 use Rattle.sampling.proofs.bernstein.Laws.{slopes-size, columns-size, weights-size, polynomial-is}
 use Rattle.sampling.proofs.bernstein.polynomial.Statement.{statement}
 use Rattle.sampling.proofs.bernstein.polynomial.Tie as tie
@@ -15,12 +14,6 @@ module _ (c : tie.After-slopes) where
 module _ (c : tie.After-columns) where
   turned : AllSized (2 ^ 31) (c .columns .result)
   turned = subst (λ (r : Rows). AllSized (2 ^ 31) r) (sym (c .columns .ensures)) (columns-size (c .before .slopes .result) (2 ^ 31) (sloped (c .before)))
-
-columns-requires : tie.Need-columns-requires
-columns-requires c κs = sloped c
-
-slopes-requires-2 : tie.Need-slopes-requires-2
-slopes-requires-2 c κs = turned c
 
 scaled-requires : tie.Need-scaled-requires
 scaled-requires c κs =
@@ -37,4 +30,4 @@ returns c =
     (c .before .weights .ensures) (c .scaled .ensures)
 
 pub polynomial-spec : {M : Type 1} → statement M
-polynomial-spec = tie.close (tie.spec (λ c κs. search needs) columns-requires slopes-requires-2 (λ c κs. search needs) scaled-requires returns)
+polynomial-spec = tie.close (tie.spec (λ c κs. search needs) (λ c κs. sloped c) (λ c κs. turned c) (λ c κs. search needs) scaled-requires returns)

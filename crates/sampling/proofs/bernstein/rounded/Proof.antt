@@ -1,17 +1,12 @@
 -- `sampling::bernstein::rounded` meets its contract: the quotient is no larger than the control points.
 use mathlib.Core.Path.{_≡_, _∙_, ap}
 use Prim.Native.Nat.{ℕ, _^_, _≤_}
-use native.Mathlib.Nat.{pow-le-pow-left, mul-le-mul-left, le-trans, one-le-pow}
-use native.Mathlib.Omega.{arith}
-use lib.Dec.{lit<}
-use lib.IntN.{ℤ, pos, natAbs}
-use mir.Syntax.{w32}
-use mir.Facts.{toZ-ofZ}
+use native.Mathlib.{Nat.pow-le-pow-left, Nat.mul-le-mul-left, Nat.le-trans, Nat.one-le-pow, Omega.arith}
+use lib.{Dec.lit<, IntN.ℤ, IntN.pos, IntN.natAbs}
+use mir.{Syntax.w32, Facts.toZ-ofZ}
 use Rattle.paper.specs.Numbers.{round}
-use Rattle.numbers.proofs.Diff.{diff}
-use Rattle.numbers.proofs.Machine.{abs-fits}
-use Rattle.sampling.proofs.bernstein.Laws.{bits, round-size, size-fits}
-use Rattle.sampling.proofs.bernstein.rounded.Statement.{statement}
+use Rattle.numbers.proofs.{Diff.diff, Machine.abs-fits}
+use Rattle.sampling.proofs.{bernstein.Laws.bits, bernstein.Laws.round-size, bernstein.Laws.size-fits, bernstein.rounded.Statement.statement}
 use Rattle.sampling.proofs.bernstein.rounded.Tie as tie
 
 module _ (s : tie.Start) where
@@ -36,9 +31,6 @@ module _ (c : tie.After-quotient) where
   wide : bits (c .quotient .result) ≡ c .quotient .result
   wide = toZ-ofZ (size-fits _ (omega (arith, size)))
 
-quotient-requires : tie.Need-quotient-requires
-quotient-requires c κs = (c .pre .0, c .pre .1, rw (plain c) (small c))
-
 cast-result : tie.Need-cast-result
 cast-result c = rw (wide c) (abs-fits w32 _ (2 ^ 27) (size c) (lit< tt))
 
@@ -46,4 +38,4 @@ returns : tie.Need-returns
 returns c = rw (wide c) (toZ-ofZ (abs-fits w32 _ (2 ^ 27) (size c) (lit< tt)) ∙ is c)
 
 pub rounded-spec : {M : Type 1} → statement M
-rounded-spec = tie.close (tie.spec quotient-requires cast-result returns)
+rounded-spec = tie.close (tie.spec (λ c κs. (c .pre .0, c .pre .1, rw (plain c) (small c))) cast-result returns)

@@ -3,8 +3,7 @@ use mathlib.Core.Path.{sym, ap, _∙_, subst}
 use Prim.Native.Nat.{_^_}
 use lib.Dec.{lit≤}
 use borrow.Author.Needs.{needs}
-use Rattle.sampling.specs.declared.bernstein.Rows.{Rows}
-use Rattle.sampling.specs.bernstein.Sums.{AllTapered, statesOf}
+use Rattle.sampling.specs.{declared.bernstein.Rows.Rows, bernstein.Sums.AllTapered, bernstein.Sums.statesOf}
 use Rattle.sampling.proofs.bernstein.Laws.{polynomial-tapers, tapered-size, states-are}
 use Rattle.sampling.proofs.bernstein.start.Statement.{statement}
 use Rattle.sampling.proofs.bernstein.start.Tie as tie

@@ -1,15 +1,10 @@
 -- `sampling::bernstein::weighted` meets its contract: the products fit.
 use Prim.Native.Nat.{_^_, _≤_}
-use lib.Dec.{lit<, lit≤}
-use lib.IntN.{ℤ, natAbs, _*ℤ_}
-use mir.Syntax.{w64}
-use mir.Val.{SFits}
-use mir.Facts.{toZ-ofZ}
-use Rattle.numbers.proofs.Laws.{abs-mul-le}
-use Rattle.numbers.proofs.Machine.{abs-fits}
+use lib.{Dec.lit<, Dec.lit≤, IntN.ℤ, IntN.natAbs, IntN._*ℤ_}
+use mir.{Syntax.w64, Val.SFits, Facts.toZ-ofZ}
+use Rattle.numbers.proofs.{Laws.abs-mul-le, Machine.abs-fits}
 use Rattle.sampling.specs.bernstein.Sums.{weightedOf}
-use Rattle.sampling.proofs.bernstein.Laws.{fits}
-use Rattle.sampling.proofs.bernstein.weighted.Statement.{statement}
+use Rattle.sampling.proofs.{bernstein.Laws.fits, bernstein.weighted.Statement.statement}
 use Rattle.sampling.proofs.bernstein.weighted.Tie as tie
 
 product : (v w : ℤ) → natAbs v ≤ 2 ^ 35 → natAbs w ≤ 2 ^ 16 → SFits w64 (v *ℤ w)

@@ -4,13 +4,9 @@ use Prim.Native.Nat.{ℕ, _*_, _≤_}
 use native.Mathlib.Omega.{arith}
 use borrow.Author.Needs.{needs}
 use lib.IntN.{pos}
-use mir.Syntax.{w64}
-use mir.Val.{SFits, toZ}
-use mir.Facts.{toZ-ofZ}
-use mir.ValLaws.{toZ-pos}
+use mir.{Syntax.w64, Val.SFits, Val.toZ, Facts.toZ-ofZ, ValLaws.toZ-pos}
 use Rattle.sampling.specs.bernstein.Sums.{weightsOf}
-use Rattle.sampling.proofs.bernstein.Laws.{powers, size-fits}
-use Rattle.sampling.proofs.bernstein.weights.Statement.{statement}
+use Rattle.sampling.proofs.{bernstein.Laws.powers, bernstein.Laws.size-fits, bernstein.weights.Statement.statement}
 use Rattle.sampling.proofs.bernstein.weights.Tie as tie
 
 module _ (n : ℕ) (l : n ≤ 16) where

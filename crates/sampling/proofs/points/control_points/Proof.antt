@@ -4,10 +4,8 @@ use borrow.Author.Needs.{needs}
 use lib.Dec.{lit≤}
 use denote.Ref.{now}
 use Rattle.paper.specs.Sampling.{onAxis}
-use Rattle.sampling.specs.declared.bernstein.Five.{Five}
-use Rattle.sampling.specs.declared.bernstein.Rows.{Rows}
-use Rattle.sampling.proofs.bernstein.Identity.{five-same}
-use Rattle.sampling.proofs.points.Laws.{by-bits, inner-a-place, centre-place}
+use Rattle.sampling.specs.{declared.bernstein.Five.Five, declared.bernstein.Rows.Rows}
+use Rattle.sampling.proofs.{bernstein.Identity.five-same, points.Laws.by-bits, points.Laws.inner-a-place, points.Laws.centre-place}
 use Rattle.sampling.proofs.points.control_points.Statement.{statement}
 use Rattle.sampling.proofs.points.control_points.Tie as tie
 

@@ -4,9 +4,7 @@ use borrow.Author.Needs.{needs}
 use lib.Dec.{lit≤}
 use denote.Ref.{now}
 use Rattle.paper.specs.Sampling.{onAxis}
-use Rattle.sampling.proofs.bernstein.Identity.{five-same}
-use Rattle.sampling.proofs.points.Laws.{by-bits, inner-place}
-use Rattle.sampling.proofs.points.inner_row.Statement.{statement}
+use Rattle.sampling.proofs.{bernstein.Identity.five-same, points.Laws.by-bits, points.Laws.inner-place, points.inner_row.Statement.statement}
 use Rattle.sampling.proofs.points.inner_row.Tie as tie
 
 returns : tie.Need-returns
@@ -18,8 +16,7 @@ returns c =
     (by-bits (c .before .b-point2 .result) _ (c .before .b-point2 .ensures)
     ∙ sym (inner-place (onAxis (now (s .args .numbers)) (s .args .axis)) (s .args .side) 1 (lit≤ tt)))
     (by-bits (c .b-point3 .result) _ (c .b-point3 .ensures) ∙ sym (inner-place (onAxis (now (s .args .numbers)) (s .args .axis)) (s .args .side) 2 (lit≤ tt)))
-    refl
-    refl
+    refl refl
 
 pub inner-row-spec : {M : Type 1} → statement M
 inner-row-spec = tie.close (tie.spec (λ c κs. search needs) (λ c κs. search needs) (λ c κs. search needs) returns)

@@ -3,8 +3,7 @@ use native.Mathlib.Omega.{arith}
 use borrow.Author.Needs.{needs}
 use denote.Ref.{now}
 use Rattle.floats.proofs.Laws.{is-long}
-use Rattle.sampling.proofs.points.Laws.{number-fits, number-is, number-size}
-use Rattle.sampling.proofs.points.number.Statement.{statement}
+use Rattle.sampling.proofs.{points.Laws.number-fits, points.Laws.number-is, points.Laws.number-size, points.number.Statement.statement}
 use Rattle.sampling.proofs.points.number.Tie as tie
 
 shared-slice-copy-out-z : tie.Need-shared-slice-copy-out-z

@@ -4,9 +4,7 @@ use borrow.Author.Needs.{needs}
 use lib.Dec.{lit≤}
 use denote.Ref.{now}
 use Rattle.paper.specs.Sampling.{onAxis}
-use Rattle.sampling.proofs.bernstein.Identity.{five-same}
-use Rattle.sampling.proofs.points.Laws.{by-bits, outer-place}
-use Rattle.sampling.proofs.points.outer_row.Statement.{statement}
+use Rattle.sampling.proofs.{bernstein.Identity.five-same, points.Laws.by-bits, points.Laws.outer-place, points.outer_row.Statement.statement}
 use Rattle.sampling.proofs.points.outer_row.Tie as tie
 
 returns : tie.Need-returns

@@ -1,11 +1,10 @@
 -- `triangles::writing::put_curve` meets its contract, axis by axis.
-use mathlib.Core.Path.{_≡_, refl}
+use mathlib.Core.Path.{refl}
 use Prim.Native.Nat.{_+_}
 use native.Mathlib.Omega.{arith}
 use borrow.Author.Needs.{needs}
 use denote.Ref.{now}
-use Rattle.triangles.proofs.writing.Parts.{curve-row, curve-all}
-use Rattle.triangles.proofs.writing.put_curve.Statement.{statement}
+use Rattle.triangles.proofs.{writing.Parts.curve-row, writing.Parts.curve-all, writing.put_curve.Statement.statement}
 use Rattle.triangles.proofs.writing.put_curve.Tie as tie
 
 put-curve-on-requires : tie.Need-put-curve-on-requires

@@ -3,13 +3,9 @@ use mathlib.Core.Path.{_≡_, sym, ap, _∙_}
 use Prim.Native.Nat.{ℕ, _+_, _*_}
 use native.Mathlib.Omega.{arith}
 use borrow.Author.Needs.{needs}
-use lib.ListN.{getD}
-use lib.IntN.{pos}
-use mir.Syntax.{w32}
-use mir.Val.{SFits}
-use mir.Facts.{toZ-ofZ}
-use Rattle.triangles.proofs.writing.Laws.{reaches-none, reaches-part}
-use Rattle.triangles.proofs.writing.put_end.Statement.{statement}
+use lib.{ListN.getD, IntN.pos}
+use mir.{Syntax.w32, Val.SFits, Facts.toZ-ofZ}
+use Rattle.triangles.proofs.{writing.Laws.reaches-none, writing.Laws.reaches-part, writing.put_end.Statement.statement}
 use Rattle.triangles.proofs.writing.put_end.Tie as tie
 
 from-none : (x : ℕ) → x ≡ x + 0
@@ -33,11 +29,8 @@ returns c =
     (aim q 1 (omega arith) ∙ sym (toZ-ofZ fy)) (aim q 2 (omega arith) ∙ sym (toZ-ofZ fz)))
     (λ t p. p .1)
 
-returns-2 : tie.Need-returns-2
-returns-2 c = λ f aim. reaches-none _ (λ t p. c .if1 .left (p .0))
-
 pub put-end-spec : {M : Type 1} → statement M
 put-end-spec =
     tie.close (tie.spec (λ c. search needs) (λ c. search needs) (λ c. search needs) (λ c. search needs) (λ c. search needs) (λ c. search needs)
-    (λ c. search needs) (λ c. search needs) (λ c. search needs) (λ c. search needs) (λ c. search needs) (λ c κs. search needs) (λ c. search needs)
-    returns returns-2)
+    (λ c. search needs) (λ c. search needs) (λ c. search needs) (λ c. search needs) (λ c. search needs) (λ c κs. search needs) (λ c. search needs) returns
+    (λ c. λ f aim. reaches-none _ (λ t p. c .if1 .left (p .0))))

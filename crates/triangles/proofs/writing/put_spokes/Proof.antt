@@ -1,21 +1,15 @@
 -- `triangles::writing::put_spokes` meets its contract: before ring k + 1 the states are those of row k, and the rows of the rings before it are put.
 use mathlib.Core.Path.{_≡_, refl, sym, ap, _∙_, subst}
 use Prim.Native.Nat.{ℕ, suc, _+_, _-_, _*_, _^_, _≤_, _<_}
-use native.Mathlib.Omega.{arith}
-use native.Mathlib.Numerals.{add-one}
+use native.Mathlib.{Omega.arith, Numerals.add-one}
 use borrow.Author.Needs.{needs}
-use lib.ListN.{length}
-use lib.IntN.{ℤ, pos}
-use Rattle.sampling.specs.declared.bernstein.Five.{Five}
-use Rattle.sampling.specs.declared.bernstein.Rows.{Rows}
+use lib.{ListN.length, IntN.ℤ, IntN.pos}
+use Rattle.sampling.specs.{declared.bernstein.Five.Five, declared.bernstein.Rows.Rows}
 use Rattle.sampling.specs.bernstein.Sums.{AllSized, polynomialOf, statesOf, stepsOf, firstsOf, rowOf}
-use Rattle.sampling.proofs.bernstein.Laws.{polynomial-tapers, states-size}
-use Rattle.sampling.proofs.bernstein.Identity.{states-step, firsts-row}
+use Rattle.sampling.proofs.{bernstein.Laws.polynomial-tapers, bernstein.Laws.states-size, bernstein.Identity.states-step, bernstein.Identity.firsts-row}
 use Rattle.triangles.specs.writing.Laid.{Reaches, SpokeAim, SpokePlace}
-use Rattle.triangles.proofs.Counts.{most-inner}
-use Rattle.triangles.proofs.writing.Laws.{reaches-none, spoke-sampleable, ring-room}
-use Rattle.triangles.proofs.writing.Parts.{spokes-step, spokes-all}
-use Rattle.triangles.proofs.writing.put_spokes.Statement.{statement}
+use Rattle.triangles.proofs.{Counts.most-inner, writing.Laws.reaches-none, writing.Laws.spoke-sampleable, writing.Laws.ring-room}
+use Rattle.triangles.proofs.{writing.Parts.spokes-step, writing.Parts.spokes-all, writing.put_spokes.Statement.statement}
 use Rattle.triangles.proofs.writing.put_spokes.Tie as tie
 
 abbrev Inv-loop : tie.InvT-loop
@@ -57,8 +51,7 @@ module _ (t : tie.In-loop Inv-loop μ-loop) where
   states = t .before .loop .inv .2 (a .args .p) (t .before .before .start .ensures) .0
 
   sized-at : (r : Rows) (x : ℕ) → x ≤ 16 → r ≡ statesOf c x → AllSized (2 ^ 60) r
-  sized-at r x h e =
-      subst (λ (s : Rows). AllSized (2 ^ 60) s) (sym e) (states-size c x h (polynomial-tapers (a .args .p) n (a .pre .0 .sized) few))
+  sized-at r x h e = subst (λ (s : Rows). AllSized (2 ^ 60) s) (sym e) (states-size c x h (polynomial-tapers (a .args .p) n (a .pre .0 .sized) few))
 
   sized : AllSized (2 ^ 60) (t .before .loop .s)
   sized = sized-at (t .before .loop .s) k (omega (arith, below, few)) states
@@ -75,18 +68,12 @@ module _ (t : tie.In-loop Inv-loop μ-loop) where
   long : length (t .before .loop .points) ≡ length (a .args .points .now)
   long = t .before .loop .inv .1
 
-start-requires : tie.Need-start-requires Inv-loop μ-loop
-start-requires c κs = (c .pre .0 .sized, c .pre .0 .few)
-
 loop-holds : tie.Need-loop-holds Inv-loop μ-loop
 loop-holds c =
     (omega (arith, c .before .pre .0 .some), refl, λ p h. (h, λ f aim. reaches-none (c .before .args .points .now) (λ t s. let b = s .2 in omega arith)))
 
 add-loop : tie.Need-add-loop Inv-loop μ-loop
 add-loop c = let s : tie.Start Inv-loop μ-loop = search in let f = s .pre .0 .few in search needs
-
-next-requires : tie.Need-next-requires Inv-loop μ-loop
-next-requires c κs = sized c
 
 row-requires : tie.Need-row-requires Inv-loop μ-loop
 row-requires c κs = sized-next (c .before) (c .next .result) (c .next .ensures)
@@ -154,9 +141,6 @@ loop-again c =
           ),
     )
 
-same-length : tie.Need-same-length Inv-loop μ-loop
-same-length c = c .before .loop .inv .1
-
 returns : tie.Need-returns Inv-loop μ-loop
 returns c =
     let s : tie.Start Inv-loop μ-loop = search in
@@ -167,5 +151,6 @@ returns c =
 
 pub put-spokes-spec : {M : Type 1} → statement M
 put-spokes-spec =
-    tie.close (tie.spec Inv-loop μ-loop start-requires loop-holds add-loop next-requires (λ c. search needs) (λ c. search needs) row-requires
-    rings-before-requires mul-put-row add-put-row mul-put-row-2 add-put-row-2 put-row-requires add-k loop-less loop-again same-length returns)
+    tie.close (tie.spec Inv-loop μ-loop (λ c κs. (c .pre .0 .sized, c .pre .0 .few)) loop-holds add-loop (λ c κs. sized c) (λ c. search needs)
+    (λ c. search needs) row-requires rings-before-requires mul-put-row add-put-row mul-put-row-2 add-put-row-2 put-row-requires add-k loop-less loop-again
+    (λ c. c .before .loop .inv .1) returns)

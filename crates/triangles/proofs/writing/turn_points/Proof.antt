@@ -1,14 +1,12 @@
 -- `triangles::writing::turn_points` meets its contract: on sides 1 and 3 head and tail change places.
-use mathlib.Core.Path.{_≡_, sym, subst}
+use mathlib.Core.Path.{sym, subst}
 use Prim.Native.Nat.{_^_}
 use native.Mathlib.Omega.{arith}
 use borrow.Author.Needs.{needs}
 use denote.Ref.{now}
-use Rattle.sampling.specs.declared.bernstein.Rows.{Rows}
-use Rattle.sampling.specs.bernstein.Sums.{AllSized}
+use Rattle.sampling.specs.{declared.bernstein.Rows.Rows, bernstein.Sums.AllSized}
 use Rattle.sampling.proofs.Laws.{points-sized}
-use Rattle.triangles.proofs.writing.Laws.{turn-even, turn-odd}
-use Rattle.triangles.proofs.writing.turn_points.Statement.{statement}
+use Rattle.triangles.proofs.{writing.Laws.turn-even, writing.Laws.turn-odd, writing.turn_points.Statement.statement}
 use Rattle.triangles.proofs.writing.turn_points.Tie as tie
 
 reversed-requires : tie.Need-reversed-requires
