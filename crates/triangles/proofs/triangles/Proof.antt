@@ -43,8 +43,10 @@ fill-requires c κs =
     let u = s t in
     let w = a t .check-all in (
       all-levelled (mesh u) (now (u .args .links)) (u .args .first) (u .args .count) (now (u .args .levels)) (ok t) _ (w .ensures .tabled (w .ensures .answers ∙ ok t)),
-      (range-some (mesh u) (now (u .args .links)) (now (u .args .levels)) (u .args .first) (u .args .count) (ok t),
-      range-in (mesh u) (now (u .args .links)) (u .args .first) (u .args .count) (now (u .args .levels)) (ok t)),
+      (
+        range-some (mesh u) (now (u .args .links)) (now (u .args .levels)) (u .args .first) (u .args .count) (ok t),
+        range-in (mesh u) (now (u .args .links)) (u .args .first) (u .args .count) (now (u .args .levels)) (ok t),
+      ),
     )
 
 returns-2 : tie.Need-returns-2
