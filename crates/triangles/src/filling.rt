@@ -1,5 +1,7 @@
 // The points and the triangles of a range of a mesh that has passed the checks. The refined points that the range's nets need are computed once, as
 // building does; then the nets are made for a run of corners at a time, and the points of each run are put from them.
+use mesh::LARGE_MESH;
+use mesh::SMALL_MESH;
 use mesh::least;
 use numbers::cosines;
 use paper::Answer;
@@ -15,6 +17,8 @@ ghost use Rattle.paper.specs.Mesh.{Mesh, meshOf};
 ghost use Rattle.paper.specs.File.{begins};
 ghost use Rattle.paper.specs.Triangles.{pointsBefore, pointList};
 ghost use Rattle.numbers.specs.Stored.{stored};
+ghost use Rattle.surface.specs.Points.{pointRow};
+ghost use Rattle.refine.specs.sums.Sources.{Small};
 ghost use Rattle.building.specs.writing.Written.{NetsDrawn};
 ghost use Rattle.triangles.specs.Meshed.{Of};
 ghost use Rattle.triangles.specs.Checks.{Levelled};
@@ -40,7 +44,9 @@ pub(crate) fn fill(
     requires range { ⌜ (0 < count) × (first + count ≤ length (now levels)) ⌝ }
     ensures { λ r. ⌜ Filled (meshOf (now (coordinates .entry)) (now (sides .entry)) (now (corners .entry)) (now (sharpness .entry))) (now (levels .entry)) first count (now (points .entry)) (now (triangles .entry)) r (now (points .exit)) (now (triangles .exit)) ⌝ }
 {
-    let counted = crate::count_within(corners, table, levels, first, count);
+    let mut low = [0u16; MOST_VERTICES];
+    crate::fill_lowest(corners, &mut low);
+    let counted = crate::count_within(corners, &low, table, levels, first, count);
     let a = crate::check_room(
         counted.points,
         counted.triangles,
@@ -59,36 +65,104 @@ pub(crate) fn fill(
         sides,
         corners,
         sharpness,
+        &low,
         table,
         levels,
         first,
         count,
         points,
     );
-    crate::put_indices(corners, table, levels, first, count, triangles);
+    crate::put_indices(corners, &low, table, levels, first, count, triangles);
     counted
 }
 
-// The points.
+// The points, over a table of refined points as long as the mesh needs.
 fn fill_points(
     coordinates: &[i32],
     sides: &[u8],
     corners: &[u16],
     sharpness: &[u8],
+    low: &[u16],
     table: &[u16],
     levels: &[u8],
     first: usize,
     count: usize,
     points: &mut [i32],
 )
-    requires mesh { ⌜ Levelled (meshOf (now coordinates) (now sides) (now corners) (now sharpness)) (now corners) (now table) (now levels) ⌝ }
+    requires mesh { ⌜ Of (meshOf (now coordinates) (now sides) (now corners) (now sharpness)) (now corners) (now low) (now table) (now levels) ⌝ }
     requires range { ⌜ (0 < count) × (first + count ≤ length (now levels)) ⌝ }
-    requires room { ⌜ ((M : Mesh) → Levelled M (now corners) (now table) (now levels) → 3 * (pointsBefore M (now levels) (first + count) - pointsBefore M (now levels) first) ≤ length (now points)) ⌝ }
+    requires room { ⌜ ((M : Mesh) → Of M (now corners) (now low) (now table) (now levels) → 3 * (pointsBefore M (now levels) (first + count) - pointsBefore M (now levels) first) ≤ length (now points)) ⌝ }
     ensures { λ _. ⌜ now (points .exit) ≡ begins (pointList (meshOf (now (coordinates .entry)) (now (sides .entry)) (now (corners .entry)) (now (sharpness .entry))) (now (levels .entry)) first count) (now (points .entry)) ⌝ }
 {
-    let mut low = [0u16; MOST_VERTICES];
-    crate::fill_lowest(corners, &mut low);
-    let mut refined = [0i32; POINT_ROW * MOST_CORNERS];
+    let rows = mesh::table_rows(corners.len());
+    if rows == SMALL_MESH {
+        let mut refined = [0i32; POINT_ROW * SMALL_MESH];
+        points_over(
+            coordinates,
+            sides,
+            corners,
+            sharpness,
+            low,
+            table,
+            levels,
+            first,
+            count,
+            &mut refined,
+            points,
+        )
+    } else if rows == LARGE_MESH {
+        let mut refined = [0i32; POINT_ROW * LARGE_MESH];
+        points_over(
+            coordinates,
+            sides,
+            corners,
+            sharpness,
+            low,
+            table,
+            levels,
+            first,
+            count,
+            &mut refined,
+            points,
+        )
+    } else {
+        let mut refined = [0i32; POINT_ROW * MOST_CORNERS];
+        points_over(
+            coordinates,
+            sides,
+            corners,
+            sharpness,
+            low,
+            table,
+            levels,
+            first,
+            count,
+            &mut refined,
+            points,
+        )
+    }
+}
+
+// The same over a table of its own.
+fn points_over(
+    coordinates: &[i32],
+    sides: &[u8],
+    corners: &[u16],
+    sharpness: &[u8],
+    low: &[u16],
+    table: &[u16],
+    levels: &[u8],
+    first: usize,
+    count: usize,
+    refined: &mut [i32],
+    points: &mut [i32],
+)
+    requires mesh { ⌜ Of (meshOf (now coordinates) (now sides) (now corners) (now sharpness)) (now corners) (now low) (now table) (now levels) ⌝ }
+    requires range { ⌜ (0 < count) × (first + count ≤ length (now levels)) ⌝ }
+    requires room { ⌜ ((M : Mesh) → Of M (now corners) (now low) (now table) (now levels) → 3 * (pointsBefore M (now levels) (first + count) - pointsBefore M (now levels) first) ≤ length (now points)) ⌝ }
+    requires refined { ⌜ (pointRow * length (now corners) ≤ length (now refined)) × Small (now refined) ⌝ }
+    ensures { λ _. ⌜ now (points .exit) ≡ begins (pointList (meshOf (now (coordinates .entry)) (now (sides .entry)) (now (corners .entry)) (now (sharpness .entry))) (now (levels .entry)) first count) (now (points .entry)) ⌝ }
+{
     building::writing::fill_range(
         coordinates,
         sides,
@@ -97,15 +171,15 @@ fn fill_points(
         table,
         first,
         count,
-        &mut refined,
+        refined,
     );
     let rows = cosines::rows();
     put_runs(
         corners,
-        &low,
+        low,
         table,
         levels,
-        &refined,
+        refined,
         &rows,
         first,
         count,
