@@ -19,7 +19,7 @@ ghost use Rattle.surface.specs.Points.{pointRow};
 ghost use Rattle.walk.specs.Table.{Tabled};
 ghost use Rattle.refine.specs.sums.Sources.{Small};
 ghost use Rattle.net.specs.sides.Drawn.{drawn, Drawn};
-ghost use Rattle.building.specs.writing.Written.{AskedPointed, Rounds, InFace, Faced, NetsWritten};
+ghost use Rattle.building.specs.writing.Written.{AskedPointed, Rounds, InFace, Faced, NetsDrawn, NetsWritten};
 
 // The numbers of `count` corners from `first` on, by the table of the mesh's corners. The refined points are put into `points`.
 pub(crate) fn write_nets(
@@ -39,6 +39,37 @@ pub(crate) fn write_nets(
     requires points { ⌜ (pointRow * length (now corners) ≤ length (now points)) × Small (now points) ⌝ }
     ensures { λ _. ⌜ now (out .exit) ≡ nets (meshOf (now (coordinates .entry)) (now (sides .entry)) (now (corners .entry)) (now (sharpness .entry))) first count ⌝ }
 {
+    fill_range(
+        coordinates,
+        sides,
+        corners,
+        sharpness,
+        table,
+        first,
+        count,
+        points,
+    );
+    let rows = cosines::rows();
+    write_corners(points, table, &rows, corners.len(), first, count, out);
+}
+
+// The refined points of which the nets of `count` corners from `first` on are made: those of the corners at the vertices of the range's faces.
+pub fn fill_range(
+    coordinates: &[i32],
+    sides: &[u8],
+    corners: &[u16],
+    sharpness: &[u8],
+    table: &[u16],
+    first: usize,
+    count: usize,
+    points: &mut [i32],
+)
+    requires mesh { ⌜ Accepted (meshOf (now coordinates) (now sides) (now corners) (now sharpness)) ⌝ }
+    requires table { ⌜ Tabled (cornersOf (meshOf (now coordinates) (now sides) (now corners) (now sharpness))) (now table) ⌝ }
+    requires range { ⌜ (0 < count) × (first + count ≤ length (now corners)) ⌝ }
+    requires points { ⌜ (pointRow * length (now corners) ≤ length (now points)) × Small (now points) ⌝ }
+    ensures { λ _. ⌜ NetsDrawn (meshOf (now (coordinates .entry)) (now (sides .entry)) (now (corners .entry)) (now (sharpness .entry))) (now (table .entry)) (now (points .exit)) first count ⌝ }
+{
     let start = face_start(table, first);
     let end = face_end(table, first + count - 1);
     let all = end - start;
@@ -52,8 +83,6 @@ pub(crate) fn write_nets(
         all,
         points,
     );
-    let rows = cosines::rows();
-    write_corners(points, table, &rows, corners.len(), first, count, out);
 }
 
 // The refined points of the corners at the vertices of `count` corners from `first` on.

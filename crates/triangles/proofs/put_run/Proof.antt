@@ -131,10 +131,12 @@ returns : tie.Need-returns Inv-loop μ-loop
 returns c =
     let s : tie.Start Inv-loop μ-loop = search in
     let l = c .before .loop in
-    λ M o e.
-    range-end (coordinateAt M (s .args .levels .now)) (pointsBefore M (s .args .levels .now)) (cornerCount M) (points-between M (s .args .levels .now))
-    (s .args .first) (s .args .count) (within s M o) (s .args .at) (l .c) (l .to) (s .args .points .now) (l .points) (omega (arith, l .inv .0))
-    (l .inv .3 M o e)
+    let e : l .c ≡ s .args .count = omega (arith, l .inv .0) in (
+      (λ M o. l .inv .2 M o ∙ ap (λ (x : ℕ). s .args .at + 3 * (pointsBefore M (s .args .levels .now) (s .args .first + x) - pointsBefore M (s .args .levels .now) (s .args .first))) e),
+      λ M o q.
+          range-end (coordinateAt M (s .args .levels .now)) (pointsBefore M (s .args .levels .now)) (cornerCount M) (points-between M (s .args .levels .now))
+          (s .args .first) (s .args .count) (within s M o) (s .args .at) (l .c) (l .to) (s .args .points .now) (l .points) e (l .inv .3 M o q),
+    )
 
 pub put-run-spec : {M : Type 1} → statement M
 put-run-spec =
