@@ -1,7 +1,7 @@
 #!/bin/sh
 # The library as its users take it: the header as C11 and as C++17, the C examples, the sample meshes, the Rust tests, the Python package.
-# Needs target/staticlib/libmahunopi.a (`rt staticlib mahunopi`; MAHUNOPI_LIB names another directory that has it) and
-# what .ci/install installs. Prints a line for each check and last `users: N passed, M failed`, where every Rust test
+# The Python part runs beside the rest. Needs target/staticlib/libmahunopi.a (`rt staticlib mahunopi`; MAHUNOPI_LIB names another directory that has
+# it) and what .ci/install installs. Prints a line for each check and last `users: N passed, M failed`, where every Rust test
 # and every Python test counts; the status is 0 when none failed.
 set -u
 cd "$(dirname "$0")/.." || exit 2
@@ -15,6 +15,29 @@ trap 'rm -rf "$work"' EXIT
 warnings='-Wall -Wextra -Wpedantic -Wconversion -Wshadow -Werror'
 passed=0
 failed=0
+
+# beside NAME COMMAND..: the command as a part of its own, at the same time as what follows; what it prints and counts waits in files
+beside() {
+    part=$1
+    shift
+    (
+        "$@"
+        echo "$passed $failed" >"$work/$part.counts"
+    ) >"$work/$part.printed" 2>&1 &
+}
+
+# told NAME: prints what that part printed and adds its counts; a part that ended without counting is one failure
+told() {
+    cat "$work/$1.printed"
+    counts='0 1'
+    if [ -s "$work/$1.counts" ]; then
+        read -r counts <"$work/$1.counts"
+    else
+        echo "users: the part $1 ended early: FAILED"
+    fi
+    passed=$((passed + ${counts% *}))
+    failed=$((failed + ${counts#* }))
+}
 
 # check NAME COMMAND..: runs the command, and shows what it says only where it fails
 check() {
@@ -135,6 +158,7 @@ python_tests() {
     fi
 }
 
+beside python python_tests
 # shellcheck disable=SC2086
 {
     check 'header as C11' gcc -std=c11 $warnings -fsyntax-only -x c include/mahunopi.h
@@ -150,6 +174,7 @@ check 'sample meshes are what make-dms makes of their texts' samples
 rust_tests
 check 'example draw in C++17 and in Rust print the same' draw
 check 'Rust wrapper and its examples without warnings' documented
-python_tests
+wait
+told python
 echo "users: $passed passed, $failed failed"
 [ "$failed" -eq 0 ]
