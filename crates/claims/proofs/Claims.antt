@@ -22,6 +22,7 @@ use Rattle.preview.proofs.Theorems.{as-building, previews-build, previews-from-
 use Rattle.touching.proofs.Untouched.{untouched}
 use Rattle.sampling.proofs.Theorems.{samples-close, rays-agree, sample-ends, samples-between, triangles-sample}
 use Rattle.closing.proofs.Calls.{surface-closes, points-used, points-sample, plain-strips, ranges-join, counts-serve}
+use Rattle.closing.proofs.FromC.{triangles-from-c, counts-from-c}
 use Rattle.sampling.proofs.TangentLaws.{tangents-close}
 use Rattle.turning.proofs.Theorems.{turned-passes, turns-decide, one-choice, turned-twice, turned-back, nothing-turned, none-farther}
 use Rattle.turning.proofs.Listing.{listing-rises}
@@ -91,6 +92,8 @@ claims = record {
     plain-strips = plain-strips;
     ranges-join = ranges-join;
     counts-serve = counts-serve;
+    triangles-from-c = triangles-from-c;
+    counts-from-c = counts-from-c;
     tangents-close = tangents-close;
   };
 }

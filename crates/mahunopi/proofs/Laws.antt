@@ -22,7 +22,8 @@ use Rattle.paper.specs.Irregular.{SearchCase, faceFound, vertexFound, noneFound
 use Rattle.paper.specs.CFace.{OffCall, FloatsCall, Finding, finding, findingOf, IrregularCall, PreviewCall}
 use Rattle.paper.specs.Off.{offVerdict, OffRead}
 use Rattle.paper.specs.Preview.{moveOf, Previewed}
-use Rattle.paper.specs.CFace.{TurnCall}
+use Rattle.paper.specs.CFace.{TurnCall, Sizes, sizes, CountTrianglesCall, fillVerdict, TrianglesCall}
+use Rattle.paper.specs.Triangles.{levelVerdict, Triangulated, TrianglesCounted}
 use Rattle.paper.specs.Turning.{turnVerdict, TurnedTo}
 use Rattle.paper.specs.declared.Answer.{Answer}
 use Rattle.paper.specs.declared.Answer.the-variants.{Done, Refused}
@@ -33,6 +34,7 @@ use Rattle.paper.specs.declared.Floats.{Floats}
 use Rattle.paper.specs.declared.FloatPoint.{FloatPoint}
 use Rattle.paper.specs.declared.FloatPoint.the-variants.{Near, Far, Refused as NoPoint}
 use Rattle.paper.specs.declared.Irregular.{Irregular}
+use Rattle.paper.specs.declared.Triangles.{Triangles}
 use Rattle.paper.specs.declared.Turned.{Turned}
 use Rattle.paper.specs.declared.Irregular.the-variants.{Face, Vertex, None, Refused as NoMesh}
 use Rattle.irregular.proofs.Laws.{verdictOf, verdict-is}
@@ -173,6 +175,52 @@ module _ (M : Mesh) (old : List ℕ) (r : Turned) (lists : Mesh) (out : List ℕ
         answers = subst (λ (w : Verdict). States w before m q) (sym v) tells;
         holds = kept-old _ n p _ _ _ v (turned-at lists _ _ _ s (t .holds));
         listing-holds = kept-old _ n p _ _ _ v (turned-at out _ _ _ s (t .listing-holds));
+        tells = kept-old _ n p _ _ _ v refl;
+      }
+
+-- ---- triangles: what is told, by what the answer states
+by-answer : {A : Type 0} (a : Answer) (x new old : A) (w : Verdict) → stated a ≡ w → x ≡ kept (stated a) new old → x ≡ kept w new old
+by-answer a x new old w e h = subst (λ (u : Verdict). x ≡ kept u new old) e h
+
+module _ (M : Mesh) (links levels : List ℕ) (first count : ℕ) (r : Triangles) (lent : Sizes) (before : ℕ) (t : TrianglesCounted M links levels first count r) where
+  pub counted-done : r .answer ≡ Done → CountTrianglesCall M links levels first count lent before 0 before (sizes (r .points) (r .triangles))
+  counted-done e =
+      let s : stated (r .answer) ≡ sound = ap stated e in
+      let v : levelVerdict M links first count levels ≡ sound = sym (t .answers) ∙ s in
+      let k = by-answer (r .answer) (r .points) _ _ _ s (t .points-length) in
+      let l = by-answer (r .answer) (r .triangles) _ _ _ s (t .triangles-length) in
+      record { answers = states-done _ (r .answer) before (t .answers) e; tells = kept-new _ _ _ _ v (cc) }
+
+  pub counted-refused : (n p m q : ℕ) → r .answer ≡ Refused n p → States (fault n p) before m q → CountTrianglesCall M links levels first count lent before m q lent
+  counted-refused n p m q e tells =
+      let v : levelVerdict M links first count levels ≡ fault n p = sym (t .answers) ∙ ap stated e in
+      record { answers = subst (λ (w : Verdict). States w before m q) (sym v) tells; tells = kept-old _ n p _ _ _ v refl }
+
+module _ (M : Mesh) (links levels : List ℕ) (first count : ℕ) (old : List ℤ) (old′ : List ℕ) (r : Triangles) (points : List ℤ) (triangles : List ℕ) (lent : Sizes)
+    (before : ℕ) (t : Triangulated M links levels first count old old′ r points triangles) where
+  pub triangles-done : r .answer ≡ Done
+      → TrianglesCall M links levels first count old old′ lent before 0 before points triangles (sizes (r .points) (r .triangles))
+  triangles-done e =
+      let s : stated (r .answer) ≡ sound = ap stated e in
+      let v : fillVerdict M links levels first count (length old) (length old′) ≡ sound = sym (t .answers) ∙ s in
+      let k = by-answer (r .answer) (r .points) _ _ _ s (t .points-length) in
+      let l = by-answer (r .answer) (r .triangles) _ _ _ s (t .triangles-length) in
+      record {
+        answers = states-done _ (r .answer) before (t .answers) e;
+        points-hold = kept-new _ _ _ _ v (by-answer (r .answer) points _ _ _ s (t .points-hold));
+        triangles-hold = kept-new _ _ _ _ v (by-answer (r .answer) triangles _ _ _ s (t .triangles-hold));
+        tells = kept-new _ _ _ _ v (cc);
+      }
+
+  pub triangles-refused : (n p m q : ℕ) → r .answer ≡ Refused n p → States (fault n p) before m q
+      → TrianglesCall M links levels first count old old′ lent before m q points triangles lent
+  triangles-refused n p m q e tells =
+      let s : stated (r .answer) ≡ fault n p = ap stated e in
+      let v : fillVerdict M links levels first count (length old) (length old′) ≡ fault n p = sym (t .answers) ∙ s in
+      record {
+        answers = subst (λ (w : Verdict). States w before m q) (sym v) tells;
+        points-hold = kept-old _ n p _ _ _ v (by-answer (r .answer) points _ _ _ s (t .points-hold));
+        triangles-hold = kept-old _ n p _ _ _ v (by-answer (r .answer) triangles _ _ _ s (t .triangles-hold));
         tells = kept-old _ n p _ _ _ v refl;
       }
 

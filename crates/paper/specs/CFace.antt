@@ -23,6 +23,7 @@ use Rattle.paper.specs.Off.{offVerdict, textMesh}
 use Rattle.paper.specs.Preview.{moved, previewVerdict, touchMarks, touchedVerdict}
 use Rattle.paper.specs.Turning.{turnedMesh, turnsOf, turnedFaces, turnVerdict}
 use Rattle.paper.specs.Sampling.{Weights, samplePoint, sampleVerdict, sideAt, triangleSamples, triangleVerdict}
+use Rattle.paper.specs.Triangles.{pointList, triangleList, levelVerdict, triangleRoom}
 use Rattle.paper.specs.Tangents.{tangentPair, tangentList, tangentVerdict}
 use Rattle.paper.specs.Report.{pageWith, lines, conditions, numbersOn, added, pageVerdict, Offered, meshIn, verdictIn, merged, mergeVerdict}
 use Rattle.paper.specs.declared.Counts.{Counts}
@@ -177,6 +178,32 @@ pub record TangentsCall (M : Mesh) (links levels : List ℕ) (first count : ℕ)
   pub answers : States (tangentVerdict M links first count levels (length old)) before r after
   pub holds : out ≡ kept (tangentVerdict M links first count levels (length old)) (begins (tangentList M levels first count) old) old
   pub tells : told ≡ kept (tangentVerdict M links first count levels (length old)) (length (tangentList M levels first count)) lent
+
+-- the triangles of a range: what stands behind `point_numbers` and `triangle_numbers`
+pub record Sizes : Type 0 where
+  pub points : ℕ
+  pub triangles : ℕ
+
+abbrev pub sizes : ℕ → ℕ → Sizes
+sizes points triangles = record { points = points; triangles = triangles }
+
+abbrev pub sizesOf : Mesh → List ℕ → ℕ → ℕ → Sizes
+sizesOf M levels first count = sizes (length (pointList M levels first count)) (length (triangleList M levels first count))
+
+pub record CountTrianglesCall (M : Mesh) (links levels : List ℕ) (first count : ℕ) (lent : Sizes) (before r after : ℕ) (told : Sizes) : Type 0 where
+  pub answers : States (levelVerdict M links first count levels) before r after
+  pub tells : told ≡ kept (levelVerdict M links first count levels) (sizesOf M levels first count) lent
+
+-- filling them, with room for so many numbers of points and of triangles
+abbrev pub fillVerdict : Mesh → List ℕ → List ℕ → ℕ → ℕ → ℕ → ℕ → Verdict
+fillVerdict M links levels first count room space = levelVerdict M links first count levels orElse triangleRoom M levels first count room space
+
+pub record TrianglesCall (M : Mesh) (links levels : List ℕ) (first count : ℕ) (old : List ℤ) (old′ : List ℕ) (lent : Sizes) (before r after : ℕ)
+    (points : List ℤ) (triangles : List ℕ) (told : Sizes) : Type 0 where
+  pub answers : States (fillVerdict M links levels first count (length old) (length old′)) before r after
+  pub points-hold : points ≡ kept (fillVerdict M links levels first count (length old) (length old′)) (begins (pointList M levels first count) old) old
+  pub triangles-hold : triangles ≡ kept (fillVerdict M links levels first count (length old) (length old′)) (begins (triangleList M levels first count) old′) old′
+  pub tells : told ≡ kept (fillVerdict M links levels first count (length old) (length old′)) (sizesOf M levels first count) lent
 
 -- turning faces, with the lent corner list and sharpness list, a lent listing and a lent count
 pub record TurnCall (M : Mesh) (old : List ℕ) (count before r after : ℕ) (lists : Mesh) (out : List ℕ) (told : ℕ) : Type 0 where

@@ -24,7 +24,7 @@ use Rattle.paper.specs.Archive.{Archived, Restored, All32Bit, AllBytes}
 use Rattle.paper.specs.Off.{wordsOf, wordsEnd, OffRead}
 use Rattle.paper.specs.Preview.{moved, Previewed, Touched}
 use Rattle.paper.specs.Turning.{turnedMesh, edgeFaults, inSteps, connected, keepsLowest, turnsOf, TurnedTo}
-use Rattle.paper.specs.CFace.{BuildCall, PreviewCall}
+use Rattle.paper.specs.CFace.{BuildCall, PreviewCall, Sizes, TrianglesCall, CountTrianglesCall}
 use Rattle.paper.specs.Borders.{Output, outputAt, Wrote, outputOf, Holds, written, mostMiss, beside, Borders, Smooth}
 use Rattle.paper.specs.Sampling.{Weights, weights, onAxis, Sampled, TriangleSampled, sideNumber, netIn, Alike, controlPoint, Leaves, Between, rowStart}
 use Rattle.paper.specs.Triangles.{apex, foot, pointNumber, sampleNumber, pointList, triangleList, Triangulated, TrianglesCounted, ClosedMesh, Spot}
@@ -378,6 +378,20 @@ CountsServe =
     → TrianglesCounted M links levels first count n → n .answer ≡ Done → n .points ≤ length old → n .triangles ≤ length old′
     → Triangulated M links levels first count old old′ r points triangles → r .answer ≡ Done
 
+-- a call of `mahunopi_triangles` that answers 0 is a call for triangles that is not refused, and its two counts are those that stand behind `point_numbers` and
+-- `triangle_numbers`: what is said of calls holds of it. So is a call of `mahunopi_count_triangles` one that counts
+abbrev pub TrianglesFromC : Type 0
+TrianglesFromC =
+    (M : Mesh) (links levels : List ℕ) (first count : ℕ) (old : List ℤ) (old′ : List ℕ) (lent : Sizes) (before after : ℕ) (points : List ℤ) (triangles : List ℕ)
+    (told : Sizes) → TrianglesCall M links levels first count old old′ lent before 0 after points triangles told
+    → Triangulated M links levels first count old old′ (record { answer = Done; points = told .points; triangles = told .triangles }) points triangles
+
+abbrev pub CountsFromC : Type 0
+CountsFromC =
+    (M : Mesh) (links levels : List ℕ) (first count : ℕ) (lent : Sizes) (before after : ℕ) (told : Sizes)
+    → CountTrianglesCall M links levels first count lent before 0 after told
+    → TrianglesCounted M links levels first count (record { answer = Done; points = told .points; triangles = told .triangles })
+
 -- the tangents along a border agree: at a point of a common curve two calls, one on each of its nets, of any two outputs of a mesh, answer the same and leave the
 -- same tangent towards the tail. The weights are i of the head and j of the tail
 abbrev pub TangentsClose : Type 0
@@ -453,6 +467,8 @@ pub record Further : Type 0 where
   pub plain-strips : PlainStrips
   pub ranges-join : RangesJoin
   pub counts-serve : CountsServe
+  pub triangles-from-c : TrianglesFromC
+  pub counts-from-c : CountsFromC
   pub tangents-close : TangentsClose
 
 pub record Claims : Type 0 where

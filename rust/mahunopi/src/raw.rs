@@ -149,6 +149,50 @@ extern "C" {
         point_count: usize,
         place: *mut u64,
     ) -> u32;
+    /// How many numbers the points and the triangles of a range of corners have.
+    pub fn mahunopi_count_triangles(
+        coordinates: *const i32,
+        coordinate_count: usize,
+        sides: *const u8,
+        side_count: usize,
+        corners: *const u16,
+        corner_count: usize,
+        sharpness: *const u8,
+        sharpness_count: usize,
+        links: *const u16,
+        link_count: usize,
+        levels: *const u8,
+        level_count: usize,
+        first: usize,
+        count: usize,
+        point_numbers: *mut u64,
+        triangle_numbers: *mut u64,
+        place: *mut u64,
+    ) -> u32;
+    /// The points and the triangles of a range of corners.
+    pub fn mahunopi_triangles(
+        coordinates: *const i32,
+        coordinate_count: usize,
+        sides: *const u8,
+        side_count: usize,
+        corners: *const u16,
+        corner_count: usize,
+        sharpness: *const u8,
+        sharpness_count: usize,
+        links: *const u16,
+        link_count: usize,
+        levels: *const u8,
+        level_count: usize,
+        first: usize,
+        count: usize,
+        points: *mut i32,
+        point_space: usize,
+        triangles: *mut u32,
+        triangle_space: usize,
+        point_numbers: *mut u64,
+        triangle_numbers: *mut u64,
+        place: *mut u64,
+    ) -> u32;
     /// Listing nested grids.
     pub fn mahunopi_nest(
         holders: *const u16,

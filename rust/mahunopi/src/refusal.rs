@@ -11,8 +11,8 @@ macro_rules! faults {
         /// 18, 19, 32 and 33, an OFF text by 24 to 26 and then 4 to 13, lists for the
         /// archive by 30 and 31, each over the whole input before the next. A preview is checked by 29 and
         /// then as building, the marks of a vertex by 29 and then 4 to 13, a model whose faces are to be turned by 36,
-        /// then 4 to 9, then 34 and 35, a page of the border report by 37 and 38. 27 is tried after 4, and 28 after 8,
-        /// wherever these are.
+        /// then 4 to 9, then 34 and 35, a page of the border report by 37 and 38, a call for triangles by 4 to 16 and
+        /// then 39 and 40. 27 is tried after 4, and 28 after 8, wherever these are.
         #[derive(Clone, Copy, Debug, PartialEq, Eq, PartialOrd, Ord, Hash)]
         #[non_exhaustive]
         pub enum Fault {
@@ -79,6 +79,8 @@ faults! {
     BadListingLength = 36, "the listing's length is not the face count", Some("its length");
     PageFull = 37, "the page counts 4,096 meshes or more, or two pages more than that together", Some("the most meshes of a run");
     PageNumber = 38, "a number on the page is above 2^40", None;
+    BadLevelCount = 39, "the level list's length is not the corner count", Some("its length");
+    BadLevel = 40, "a level is outside 1 to 16", Some("the lowest such corner");
     LentTooShort = 255, "a lent list is too short for what it is to hold, or has not a mark for each corner", Some("the length it needs");
 }
 
