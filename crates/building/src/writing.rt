@@ -19,7 +19,7 @@ ghost use Rattle.surface.specs.Points.{pointRow};
 ghost use Rattle.walk.specs.Table.{Tabled};
 ghost use Rattle.refine.specs.sums.Sources.{Small};
 ghost use Rattle.net.specs.sides.Drawn.{drawn, Drawn};
-ghost use Rattle.building.specs.writing.Written.{NearPointed, Rounds, InFace, Faced, NetsWritten};
+ghost use Rattle.building.specs.writing.Written.{Rounds, InFace, Faced, NetsWritten};
 
 // The numbers of `count` corners from `first` on, by the table of the mesh's corners. The refined points are put into `points`.
 pub fn write_nets(
@@ -41,40 +41,8 @@ pub fn write_nets(
 {
     let start = face_start(table, first);
     let end = face_end(table, first + count - 1);
-    let all = end - start;
-    fill_asked(
-        coordinates,
-        sides,
-        corners,
-        sharpness,
-        table,
-        start,
-        all,
-        points,
-    );
-    let rows = cosines::rows();
-    write_corners(points, table, &rows, corners.len(), first, count, out);
-}
-
-// The refined points of the corners at the vertices of `count` corners from `first` on.
-fn fill_asked(
-    coordinates: &[i32],
-    sides: &[u8],
-    corners: &[u16],
-    sharpness: &[u8],
-    table: &[u16],
-    first: usize,
-    count: usize,
-    points: &mut [i32],
-)
-    requires mesh { ⌜ Accepted (meshOf (now coordinates) (now sides) (now corners) (now sharpness)) ⌝ }
-    requires table { ⌜ Tabled (cornersOf (meshOf (now coordinates) (now sides) (now corners) (now sharpness))) (now table) ⌝ }
-    requires range { ⌜ first + count ≤ length (now corners) ⌝ }
-    requires points { ⌜ (pointRow * length (now corners) ≤ length (now points)) × Small (now points) ⌝ }
-    ensures { λ _. ⌜ NearPointed (meshOf (now (coordinates .entry)) (now (sides .entry)) (now (corners .entry)) (now (sharpness .entry))) first count (now (points .entry)) (now (points .exit)) ⌝ }
-{
     let mut marked = [0u8; MOST_VERTICES];
-    refine::mark_vertices(corners, first, count, &mut marked);
+    refine::mark_vertices(corners, start, end - start, &mut marked);
     refine::fill_points(
         coordinates,
         sides,
@@ -84,6 +52,8 @@ fn fill_asked(
         &marked,
         points,
     );
+    let rows = cosines::rows();
+    write_corners(points, table, &rows, corners.len(), first, count, out);
 }
 
 // The first corner of a corner's face: there the previous corner is not the one before it in the list.

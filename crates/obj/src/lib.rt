@@ -2,6 +2,7 @@
 // between the rows of samples. Each function puts its lines at a position, as far as the lent list has room, and answers the position after them.
 pub mod points;
 
+use mesh::wide;
 use print::lines::put_ended;
 use streams::text::put_byte;
 use streams::text::put_number;
@@ -312,10 +313,4 @@ fn put_triangle(lines: &mut [u8], at: usize, a: u32, b: u32, c: u32, against: bo
     let third = if against { b } else { c };
     let next = put_ended(lines, first, second as u64, b' ');
     put_ended(lines, next, third as u64, b'\n')
-}
-
-pub fn wide(x: u16) -> usize
-    ensures { λ r. ⌜ r ≡ x ⌝ }
-{
-    x as usize
 }

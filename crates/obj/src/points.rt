@@ -4,7 +4,7 @@ use crate::SAMPLES;
 use crate::inside_before;
 use crate::put_point;
 use crate::row_start;
-use crate::wide;
+use mesh::wide;
 use paper::MOST_CORNERS;
 use paper::MOST_FACES;
 use paper::MOST_VERTICES;

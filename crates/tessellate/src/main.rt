@@ -6,6 +6,7 @@
 // without their ends, the rays from E0, E1, E2 and E3 to the centre without theirs, the centre, and the inside of the four triangles. The
 // curve of side 2 is that of the previous corner's side 1, the curve of side 3 that of side 0 of the corner whose link this is.
 use mesh::least;
+use mesh::wide;
 use obj::SAMPLES;
 use obj::own_count;
 use obj::points::OWN;
@@ -21,7 +22,6 @@ use obj::points::put_ends;
 use obj::points::set_point;
 use obj::put_own;
 use obj::put_rows;
-use obj::wide;
 use paper::Answer;
 use paper::MOST_CORNERS;
 use paper::MOST_FACES;

@@ -3,7 +3,8 @@ use mathlib.Core.Path.{sym, ap, _∙_}
 use denote.Ref.{now}
 use Rattle.paper.specs.Faults.{stated}
 use Rattle.mesh.proofs.Verdicts.{passed}
-use Rattle.nesting.proofs.Laws.{list-refused, list-done}
+use Rattle.nesting.proofs.Laws.{list-refused, list-done, copied-whole}
+use native.Mathlib.Omega.{arith}
 use borrow.Author.Needs.{needs}
 use Rattle.nesting.proofs.list.Tie as tie
 
@@ -14,18 +15,33 @@ returns c =
     list-refused (now (s .args .holders)) (now (s .args .listing)) (r .0 .0) (r .0 .1 .0)
     (ap stated (sym (r .1)) ∙ c .before .before .before .check-chains .ensures)
 
+part : tie.Need-slice-reshare-prefix-copy-halves
+part c =
+    let s : tie.Start = search in
+    let a : tie.After-arrange = search in omega (arith, s .pre .0 .order-room, s .pre .1, a .arrange .kept .1 .1 .0)
+
+part-2 : tie.Need-slice-aggregate-copy-halves
+part-2 c = search needs
+
+copy-halves-requires : tie.Need-copy-halves-requires
+copy-halves-requires c κs =
+    let s : tie.Start = search in
+    let a : tie.After-arrange = search in omega (arith, s .pre .0 .order-room, s .pre .1, a .arrange .kept .1 .1 .0)
+
 returns-2 : tie.Need-returns-2
 returns-2 c =
-    let t23 = c .before .before .before .before .before in
-    let d = c .before .before .before .before .before .before .before .before .before .before .before .before .before in
     let s : tie.Start = search in
-    let a = d .arrange in
-    let k = c .before .before .copy in
-    let e23 = passed (t23 .before .before .check-chains .result) (t23 .before .before .check-chains .ensures) (t23 .enum-told .given .1) in
-    list-done (now (s .args .holders)) (now (s .args .listing)) e23 (s .pre .1) (a .last .1 .0) (a .last .1 .1 .0) (k .last .1 .0)
-    (a .ensures) (k .ensures)
+    let t : tie.After-check-chains = search in
+    let told : tie.After-enum-told = search in
+    let a : tie.After-arrange = search in
+    let k : tie.After-copy-halves = search in
+    let order = a .arrange .last .1 .1 .0 in
+    let e23 = passed (t .check-chains .result) (t .check-chains .ensures) (told .enum-told .given .1) in
+    list-done (now (s .args .holders)) (now (s .args .listing)) e23 (s .pre .1) (a .arrange .last .1 .0) order (k .copy-halves .last .1 .0)
+    (a .arrange .ensures)
+    (copied-whole order (now (s .args .listing)) _ (omega (arith, s .pre .0 .order-room, s .pre .1, a .arrange .kept .1 .1 .0)) (k .copy-halves .ensures))
 
 pub list-spec : {M : Type 1} → Rattle.nesting.proofs.list.Statement.statement M
 list-spec =
-    tie.close (tie.spec (λ c κs. search needs) (λ c κs. search needs) (search needs) (search needs) (search needs) returns (search needs)
-    (λ c κs. search needs) (search needs) (search needs) (search needs) returns-2)
+    tie.close (tie.spec (λ c κs. search needs) (λ c κs. search needs) (search needs) (search needs) (search needs) returns (search needs) part part-2
+    copy-halves-requires (search needs) (search needs) (search needs) returns-2)

@@ -1,17 +1,19 @@
 -- `building::writing::write_nets` meets its contract: with the refined points of the corners at the vertices of the range's faces the tables
 -- draw the mesh as far as the nets look.
 use mathlib.Core.Path.{_≡_, _∙_}
-use Prim.Native.Nat.{_+_, _-_, _≤_, _<_}
+use mathlib.Core.List.{List}
+use Prim.Native.Nat.{ℕ, _+_, _-_, _≤_, _<_}
 use native.Mathlib.Omega.{arith}
 use borrow.Author.Needs.{needs}
 use lib.ListN.{length}
 use denote.Ref.{now}
-use Rattle.paper.specs.Mesh.{Mesh, meshOf}
+use Rattle.paper.specs.Mesh.{Mesh, meshOf, mostVertices}
 use Rattle.paper.specs.Corners.{sumOf, firstOf, sidesOf}
 use Rattle.mesh.proofs.Faces.{first-from, first-to, first-ends}
+use Rattle.mesh.specs.Tables.{Named}
 use Rattle.refine.proofs.Accepted.{refinable-of}
-use Rattle.building.specs.writing.Written.{Rounds}
-use Rattle.building.proofs.writing.Laws.{rounds-of, faced-of, drawn-of, drawn-written}
+use Rattle.building.specs.writing.Written.{NearPointed, Rounds}
+use Rattle.building.proofs.writing.Laws.{zeros, named-in, near-of, rounds-of, faced-of, drawn-of, drawn-written}
 use Rattle.building.proofs.writing.write_nets.Statement.{statement}
 use Rattle.building.proofs.writing.write_nets.Tie as tie
 
@@ -65,36 +67,61 @@ face-end-requires c κs = let s = c .before .before .before .before .before in r
 sub-all : tie.Need-sub-all
 sub-all c = whole c .0
 
-fill-asked-requires : tie.Need-fill-asked-requires
-fill-asked-requires c κs =
-    let b = c .before in
+mark-vertices-requires : tie.Need-mark-vertices-requires
+mark-vertices-requires c κs =
+    let b : tie.After-face-end = search in
     let s = t b in
-    (s .pre .0, (s .pre .1 .0, (omega (arith, whole b), s .pre .1 .1 .1)))
+    ((named-in (mesh s) (s .pre .0), zeros mostVertices), omega (arith, whole b))
+
+-- the vertices of these corners are marked, and the refined points of the corners there stand in the table
+module _ (c : tie.After-mark-vertices) where
+  abbrev ended : tie.After-face-end
+  ended = search
+
+  abbrev marked : List ℕ
+  marked = c .mark-vertices .last .1 .1 .1 .0
+
+  named : Named (now (t ended .args .corners)) (length marked)
+  named d h = omega (arith, named-in (mesh (t ended)) (t ended .pre .0) d h, c .mark-vertices .kept .1 .1 .1 .0)
+
+fill-points-requires : tie.Need-fill-points-requires
+fill-points-requires c κs =
+    let w : tie.After-mark-vertices = search in
+    let s = t (ended w) in
+    (refinable-of (mesh s) (s .pre .0), (s .pre .1 .0, (named w, s .pre .1 .1 .1)))
+
+near : (c : tie.After-fill-points) → let w : tie.After-mark-vertices = search in
+    NearPointed (mesh (t (ended w))) (ended w .before .face-start .result) (ended w .face-end .result - ended w .before .face-start .result)
+    (now (t (ended w) .args .points)) (c .fill-points .last .1 .1 .1 .1 .1 .1 .0)
+near c =
+    let w : tie.After-mark-vertices = search in
+    near-of (mesh (t (ended w))) (marked w) _ _ _ _ (named w) (w .mark-vertices .ensures) (c .fill-points .ensures)
 
 write-corners-requires : tie.Need-write-corners-requires
 write-corners-requires c κs =
-    let b = c .before .before .before .before .before .before .before in
+    let b : tie.After-face-end = search in
+    let f : tie.After-fill-points = search in
     let s = t b in
     let r = s .pre .1 .1 .0 in (
       (
         drawn-of (mesh s) (s .pre .0) (now (s .args .table)) (now (s .args .points)) _ (s .args .first) (s .args .count) _ _ (s .pre .1 .0)
-            (r .0) (r .1) (at-first b) (at-last b) (s .pre .1 .1 .1 .0) (c .before .before .before .before .before .fill-asked .ensures),
+            (r .0) (r .1) (at-first b) (at-last b) (s .pre .1 .1 .1 .0) (near f),
         faced-of (mesh s) (s .pre .0) (now (s .args .table)) (s .pre .1 .0),
       ),
-      ((r .0, r .1, omega (arith, r .2)), c .before .before .before .rows .ensures),
+      ((r .0, r .1, omega (arith, r .2)), search needs),
     )
 
 returns : tie.Need-returns
 returns c =
     let n = c .before .write-corners in
-    let b = c .before .before .before .before .before .before .before .before .before in
+    let b : tie.After-face-end = search in
+    let f : tie.After-fill-points = search in
     let s = t b in
     let r = s .pre .1 .1 .0 in
     drawn-written (mesh s) (s .pre .0) (now (s .args .table)) (now (s .args .points)) _ (s .args .first) (s .args .count) _ _ (s .pre .1 .0)
-    (r .0) (r .1) (at-first b) (at-last b) (s .pre .1 .1 .1 .0) (c .before .before .before .before .before .before .before .fill-asked .ensures) _
-    (n .kept .1 .1 .1 .1 .1 .1 .0 ∙ r .2) (n .ensures)
+    (r .0) (r .1) (at-first b) (at-last b) (s .pre .1 .1 .1 .0) (near f) _ (n .kept .1 .1 .1 .1 .1 .1 .0 ∙ r .2) (n .ensures)
 
 pub write-nets-spec : {M : Type 1} → statement M
 write-nets-spec =
-    tie.close (tie.spec face-start-requires (λ c. search needs) (λ c. search needs) face-end-requires sub-all fill-asked-requires (λ c κs. search needs)
-    write-corners-requires (λ c. search needs) (λ c. search needs) returns)
+    tie.close (tie.spec face-start-requires (λ c. search needs) (λ c. search needs) face-end-requires sub-all (λ c. search needs) mark-vertices-requires
+    (λ c. search needs) fill-points-requires (λ c κs. search needs) write-corners-requires (λ c. search needs) (λ c. search needs) returns)
