@@ -3,6 +3,7 @@
 // place, on standard error, and nothing on standard output.
 use libc::STDIN_FILENO;
 use mesh::least;
+use mesh::wide;
 use paper::Answer;
 use paper::MOST_CORNERS;
 use paper::MOST_FACES;
@@ -147,12 +148,8 @@ fn put_listing(lines: &mut [u8], listing: &[u16], count: usize) -> usize
     let mut at = 0;
     let mut i = 0;
     while i < count {
-        at = put_ended(lines, at, wide(listing[i]), b'\n');
+        at = put_ended(lines, at, wide(listing[i]) as u64, b'\n');
         i += 1;
     }
     at
-}
-
-fn wide(n: u16) -> u64 {
-    n as u64
 }

@@ -83,11 +83,5 @@ fn read(table: &[u16], corner: usize, column: usize) -> usize
     requires { ⌜ rowLength * corner + column < length (now table) ⌝ }
     ensures { λ r. ⌜ r ≡ entry (now (table .entry)) column corner ⌝ }
 {
-    wide(table[ROW * corner + column])
-}
-
-fn wide(x: u16) -> usize
-    ensures { λ r. ⌜ r ≡ x ⌝ }
-{
-    x as usize
+    table[ROW * corner + column] as usize
 }

@@ -3,6 +3,7 @@ use Prim.Native.Nat.{_≤_}
 use lib.ListN.{length}
 use denote.Ref.{now}
 use Rattle.paper.specs.Mesh.{mostCorners}
+use Rattle.mesh.proofs.Tables.{rows-suffice}
 use Rattle.mesh.specs.Tables.{smallMesh, largeMesh}
 use Rattle.checks.proofs.Laws.{rows-for}
 use native.Mathlib.Omega.{arith}
@@ -14,13 +15,13 @@ triangles-over-requires : tie.Need-triangles-over-requires
 triangles-over-requires c κs =
     let s : tie.Start = search in
     let r : tie.After-table-rows = search in
-    rows-for (length (now (s .args .corners))) smallMesh (λ h. omega (arith, r .table-rows .ensures h))
+    rows-for (length (now (s .args .corners))) smallMesh (λ h. omega (arith, rows-suffice _ _ (r .table-rows .ensures) h))
 
 triangles-over-requires-2 : tie.Need-triangles-over-requires-2
 triangles-over-requires-2 c κs =
     let s : tie.Start = search in
     let r : tie.After-table-rows = search in
-    rows-for (length (now (s .args .corners))) largeMesh (λ h. omega (arith, r .table-rows .ensures h))
+    rows-for (length (now (s .args .corners))) largeMesh (λ h. omega (arith, rows-suffice _ _ (r .table-rows .ensures) h))
 
 triangles-over-requires-3 : tie.Need-triangles-over-requires-3
 triangles-over-requires-3 c κs = let s : tie.Start = search in rows-for (length (now (s .args .corners))) mostCorners (λ h. h)

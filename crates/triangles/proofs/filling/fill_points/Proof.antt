@@ -5,6 +5,7 @@ use borrow.Author.Needs.{needs}
 use lib.ListN.{length}
 use denote.Ref.{now}
 use Rattle.paper.specs.Mesh.{meshOf, mostCorners}
+use Rattle.mesh.proofs.Tables.{rows-suffice}
 use Rattle.mesh.specs.Tables.{smallMesh, largeMesh}
 use Rattle.building.proofs.Laws.{point-room}
 use Rattle.triangles.proofs.Asked.{levelled-of, corners-less}
@@ -18,14 +19,14 @@ points-over-requires : tie.Need-points-over-requires
 points-over-requires c κs =
     let s : tie.Start = search in
     let r : tie.After-table-rows = search in
-    let room = point-room (length (now (s .args .corners))) smallMesh (λ h. omega (arith, r .table-rows .ensures h)) in
+    let room = point-room (length (now (s .args .corners))) smallMesh (λ h. omega (arith, rows-suffice _ _ (r .table-rows .ensures) h)) in
     (s .pre .0, (s .pre .1 .0, (s .pre .1 .1, (room .0 (few s), room .1))))
 
 points-over-requires-2 : tie.Need-points-over-requires-2
 points-over-requires-2 c κs =
     let s : tie.Start = search in
     let r : tie.After-table-rows = search in
-    let room = point-room (length (now (s .args .corners))) largeMesh (λ h. omega (arith, r .table-rows .ensures h)) in
+    let room = point-room (length (now (s .args .corners))) largeMesh (λ h. omega (arith, rows-suffice _ _ (r .table-rows .ensures) h)) in
     (s .pre .0, (s .pre .1 .0, (s .pre .1 .1, (room .0 (few s), room .1))))
 
 points-over-requires-3 : tie.Need-points-over-requires-3
