@@ -27,6 +27,9 @@ use Rattle.paper.specs.Off.{offVerdict, OffRead}
 use Rattle.paper.specs.Preview.{moveOf, moved, Previewed, touchMarks, Touched}
 use Rattle.paper.specs.Sampling.{Weights, samplePoint, sideAt, Sampled, triangleSamples, TriangleSampled}
 use Rattle.paper.specs.CFace.{SampleCall, TriangleCall, TurnCall}
+use Rattle.paper.specs.Floats.{allVerdict, allFloats, NoneRounded, AllPointed}
+use Rattle.paper.specs.Tangents.{tangentPair, TangentsSampled}
+use Rattle.paper.specs.CFace.{FloatsAllCall, TangentsAtCall}
 use Rattle.paper.specs.Turning.{turnVerdict, TurnedTo}
 use Rattle.paper.specs.declared.Answer.{Answer}
 use Rattle.paper.specs.declared.Answer.the-variants.{Done, Refused}
@@ -113,6 +116,21 @@ pub triangle-call : (numbers : List ℤ) (side N : ℕ) (old : List ℤ) (r : An
 triangle-call numbers side N old r out before n after k s = record {
   answers = told _ r before n after (k .answers) s;
   holds = subst (λ (v : Verdict). out ≡ kept v (begins (triangleSamples numbers (sideAt side) N) old) old) (k .answers) (k .holds);
+}
+
+pub tangents-call : (numbers : List ℤ) (side : ℕ) (w : Weights) (old : List ℤ) (r : Answer) (out : List ℤ) (before n after : ℕ)
+    → TangentsSampled numbers side w old r out → States (stated r) before n after → TangentsAtCall numbers side w old before n after out
+tangents-call numbers side w old r out before n after k s = record {
+  answers = told _ r before n after (k .answers) s;
+  holds = subst (λ (v : Verdict). out ≡ kept v (tangentPair numbers (sideAt side) w) old) (k .answers) (k .holds);
+}
+
+pub floats-all-call : (numbers : List ℤ) (old : List Float) (r : Answer) (out : List Float) (before n after : ℕ)
+    → AllPointed numbers old r out → States (stated r) before n after → FloatsAllCall numbers old before n after out
+floats-all-call numbers old r out before n after k s = record {
+  answers = told _ r before n after (k .answers) s;
+  holds = subst (λ (v : Verdict). out ≡ kept v (begins (allFloats numbers) old) old) (k .answers) (k .holds);
+  exact = λ e. k .exact (k .answers ∙ e);
 }
 
 -- ---- decoding

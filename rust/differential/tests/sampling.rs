@@ -6,7 +6,7 @@ use std::io::Write;
 use std::path::{Path, PathBuf};
 use std::process::{Command, Stdio};
 
-use differential::{build, each_case, link, lists, sample, sample_triangle};
+use differential::{build, each_case, link, lists, sample, sample_triangle, tangents_at};
 use reference::{encode, small_triangles, NUMBERS_PER_CORNER};
 use shapes::{damage, random_tables, Places, Random, Solid, Tables, DAMAGES};
 
@@ -45,6 +45,7 @@ fn every_sample() {
                         let one =
                             sample(&net, side, [parts - k - j, j, k], parts, random).expect("a net within the limits");
                         assert_eq!(whole[at..at + 3], one, "side {side}, row {k}, place {j} of {parts}");
+                        tangents_at(&net, side, [parts - k - j, j, k], parts, random).expect("a net within the limits");
                         assert_eq!(at, 3 * (k * (2 * parts + 3 - k) / 2 + j));
                         at += 3;
                     }
