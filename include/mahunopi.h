@@ -4,10 +4,11 @@
  * The functions below are the proved library's C face (libmahunopi.a). A mesh is four lists: coordinates, side counts,
  * corners, and the sharpness of the corners. mahunopi_survey counts what a .dms file holds, mahunopi_decode reads its
  * lists, mahunopi_off reads those of an OFF text, mahunopi_link fills the link table of a mesh, mahunopi_build writes
- * the control points of a range of corners, mahunopi_floats gives one of these points as floats, mahunopi_sample and
- * mahunopi_sample_triangle points of the surface. mahunopi_triangles writes the whole surface as one closed mesh of
- * triangles, and mahunopi_count_triangles says how long its lists are. mahunopi_irregular says whether a mesh is all
- * squares. mahunopi_preview builds with one vertex moved, mahunopi_touched marks the corners that a vertex can change.
+ * the control points of a range of corners, mahunopi_floats gives one of these points as floats, mahunopi_floats_all
+ * all of them, mahunopi_sample and mahunopi_sample_triangle points of the surface, mahunopi_tangents_at the two tangents
+ * at such a point. mahunopi_triangles writes the whole surface as one closed mesh of triangles, and
+ * mahunopi_count_triangles says how long its lists are. mahunopi_irregular says whether a mesh is all squares.
+ * mahunopi_preview builds with one vertex moved, mahunopi_touched marks the corners that a vertex can change.
  * mahunopi_turn turns faces that are drawn the wrong way round. mahunopi_nest lists a table of nested grids.
  * mahunopi_archive rearranges a coordinate list for the archive, and mahunopi_restore undoes it. mahunopi_report adds
  * a .dms file to the page of a border report, and mahunopi_merge makes one page of two. Each is complete in itself:
@@ -18,8 +19,8 @@
  *
  * A list is a pointer and the number of its entries. The pointer may be null where that number is 0. The pointers to
  * single numbers (place, pairs, the counts of surveying, of decoding, of OFF, of triangles and of turning, and what
- * mahunopi_irregular finds), to the six floats, to a sample's point and to a page must not be null. What a function
- * writes to must not overlap anything else that it is given.
+ * mahunopi_irregular finds), to the six floats, to a sample's point, to its tangents and to a page must not be null. What
+ * a function writes to must not overlap anything else that it is given.
  *
  * Calls share no state: any number of them may run at the same time, on any threads, as long as none writes to what
  * another one is given. Nothing is allocated. Scratch lies on the stack, of which a call needs up to
@@ -323,6 +324,27 @@ uint32_t mahunopi_floats(
     /* receives the place of a refusal; not null */
     uint64_t *place);
 
+/*
+ * All control points of a list of corners in floats, in one call: the numbers of any number of corners up to
+ * MAHUNOPI_MAX_CORNERS, 123 for each, as mahunopi_build writes them. They are checked by 18, here when there are not 123
+ * for each of at most so many corners (place: how many there are), then by 19 (place: the position in the whole list). It
+ * writes six floats for each of the 41 points of each corner, in their order, to the beginning of a lent list: what
+ * mahunopi_floats gives, the differences from the corner's own b00, with three zeros after the x, y, z of a near point. So
+ * the first three and the second three always add up to the difference, and a caller who knows that all points are near
+ * takes the first three alone. A list that is too short is 255 (place: the length it needs).
+ */
+uint32_t mahunopi_floats_all(
+    /* the numbers of the corners, one after the other */
+    const int32_t *numbers,
+    /* how many numbers that are: 123 for each corner */
+    size_t number_count,
+    /* receives the floats: number 246c + 6p + e is float e of point p of the list's corner c */
+    float *floats,
+    /* how many floats it has room for: at least twice the numbers */
+    size_t float_space,
+    /* receives the place of a refusal; not null */
+    uint64_t *place);
+
 /* The most parts that the side of a triangle is cut into. */
 #define MAHUNOPI_MAX_PARTS 16
 
@@ -388,6 +410,32 @@ uint32_t mahunopi_sample_triangle(
     int32_t *points,
     /* how many numbers it has room for: at least 3(n + 1)(n + 2)/2 */
     size_t points_space,
+    /* receives the place of a refusal; not null */
+    uint64_t *place);
+
+/*
+ * The two tangents at one sample, for shading: checks as mahunopi_sample does and writes two vectors. The first is the
+ * derivative of the patch towards the side's tail: by the tail's weight, where the head's weight falls as it rises. The
+ * second is the derivative towards the centre: by the centre's weight, where the head's weight falls as it rises. Both
+ * are exact: in ticks, times n^3, so that nothing is rounded, and within -2^42 to 2^42. At a point of a side that two
+ * quad-nets have in common the first is the same from both. The cross product of the first and the second is a normal of
+ * the surface; on sides 0 and 2 it has the direction that the mesh's faces give, on sides 1 and 3 the opposite one.
+ */
+uint32_t mahunopi_tangents_at(
+    /* the numbers of a corner, as mahunopi_build writes them */
+    const int32_t *numbers,
+    /* how many numbers that are: has to be 123 */
+    size_t number_count,
+    /* the side, 0 to 3 */
+    size_t side,
+    /* the weights, which sum to n */
+    size_t i,
+    size_t j,
+    size_t k,
+    /* the number of parts, 1 to MAHUNOPI_MAX_PARTS */
+    size_t n,
+    /* receives x, y, z of the first and x, y, z of the second */
+    int64_t tangents[6],
     /* receives the place of a refusal; not null */
     uint64_t *place);
 

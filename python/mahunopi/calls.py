@@ -36,7 +36,7 @@ _library = ctypes.CDLL(os.path.join(os.path.dirname(os.path.abspath(__file__)), 
 
 # The header's types: what an array of them is in numpy, and how a single number is passed.
 _ARRAY = {"int32_t": np.int32, "uint8_t": np.uint8, "uint16_t": np.uint16, "uint32_t": np.uint32, "uint64_t": np.uint64,
-          "float": np.float32}
+          "int64_t": np.int64, "float": np.float32}
 _NUMBER = {"int32_t": ctypes.c_int32, "size_t": ctypes.c_size_t, "uint64_t": ctypes.c_uint64}
 _RANGE = {"int32_t": (-(2**31), 2**31 - 1), "size_t": (0, 2**64 - 1), "uint64_t": (0, 2**64 - 1)}
 
@@ -319,6 +319,15 @@ def floats(numbers: np.ndarray, point: int) -> FloatPoint:
     return FloatPoint(six[:3], six[3:] if pairs[0] else None)
 
 
+def floats_all(numbers: np.ndarray, out: Optional[np.ndarray] = None) -> np.ndarray:
+    """All points of a list of corners, 123 numbers for each, as differences from their corner's b00, in floats: float32 of shape
+    (corners, 41, 2, 3), the first three of each point and the second three, which are zeros where the point is near. They are the
+    beginning of `out` or of a new list. Refusals 18, of the whole list, and 19, then 255."""
+    six = np.empty(2 * np.size(numbers), np.float32) if out is None else out
+    _call("floats_all", numbers, six)
+    return six.reshape(-1)[: 2 * np.size(numbers)].reshape(-1, POINTS_PER_CORNER, 2, 3)
+
+
 def sample(numbers: np.ndarray, side: int, weights: Sequence[int], parts: int) -> np.ndarray:
     """The point at weights i/N, j/N, k/N of the triangle of a side, 0 to 3, of a corner's 123 numbers, N being `parts`: x, y, z in
     ticks, int32. The first weight belongs to the side's head, the second to its tail, the third to the centre. Refusals 18, 19, 32
@@ -327,6 +336,15 @@ def sample(numbers: np.ndarray, side: int, weights: Sequence[int], parts: int) -
     point = np.empty(3, np.int32)
     _call("sample", numbers, side, i, j, k, parts, point)
     return point
+
+
+def tangents_at(numbers: np.ndarray, side: int, weights: Sequence[int], parts: int) -> np.ndarray:
+    """The two tangents at the same point: the derivatives towards the side's tail and towards the centre, in each of which the head's
+    weight falls as the other one rises. They are exact, in ticks times N^3: int64 of shape (2, 3). Refusals 18, 19, 32 and 33."""
+    i, j, k = weights
+    tangents = np.empty(6, np.int64)
+    _call("tangents_at", numbers, side, i, j, k, parts, tangents)
+    return tangents.reshape(2, 3)
 
 
 def sample_triangle(numbers: np.ndarray, side: int, parts: int, out: Optional[np.ndarray] = None) -> np.ndarray:

@@ -156,7 +156,7 @@ module _ (numbers : List ℤ) (point : ℕ) (e : pointVerdict numbers point ≡ 
   point-le = ltb-false 40 point (single-sound 20 _ _ (sound-right _ _ e))
 
 -- ---- a difference of two numbers, by their bits
-apart : (a b : ℤ) → natAbs a ≤ 2 ^ 27 → natAbs b ≤ 2 ^ 27 → natAbs (a -ℤ b) ≤ 2 ^ 28
+pub apart : (a b : ℤ) → natAbs a ≤ 2 ^ 27 → natAbs b ≤ 2 ^ 27 → natAbs (a -ℤ b) ≤ 2 ^ 28
 apart = over 2 _ λ ρ. simp poly (omega arith)
 
 module _ (a b : ℤ) (ha : natAbs a ≤ 2 ^ 27) (hb : natAbs b ≤ 2 ^ 27) where

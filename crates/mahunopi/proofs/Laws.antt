@@ -24,6 +24,8 @@ use Rattle.paper.specs.Off.{offVerdict, OffRead}
 use Rattle.paper.specs.Preview.{moveOf, Previewed}
 use Rattle.paper.specs.CFace.{TurnCall, Sizes, sizes, CountTrianglesCall, fillVerdict, TrianglesCall}
 use Rattle.paper.specs.Triangles.{levelVerdict, Triangulated, TrianglesCounted}
+use Rattle.paper.specs.Floats.{allVerdict, allFloats, NoneRounded, AllInFloats}
+use Rattle.paper.specs.CFace.{FloatsAllCall}
 use Rattle.paper.specs.Turning.{turnVerdict, TurnedTo}
 use Rattle.paper.specs.declared.Answer.{Answer}
 use Rattle.paper.specs.declared.Answer.the-variants.{Done, Refused}
@@ -64,6 +66,14 @@ pub preview-call : (M : Mesh) (u : ℕ) (x y z x′ y′ z′ : ℤ) → x′ �
 preview-call M u x y z x′ y′ z′ ex ey ez links first count old r out before n after p s =
     let q : Previewed M (moveOf u x y z) links first count old r out = rw (ex, ey, ez) at p in
     called _ _ _ r out before n after q s
+
+pub floats-all-call : (numbers : List ℤ) (old : List Float) (r : Answer) (out : List Float) (before n after : ℕ)
+    → AllInFloats numbers old r out → States (stated r) before n after → FloatsAllCall numbers old before n after out
+floats-all-call numbers old r out before n after k s = record {
+  answers = told _ r before n after (k .answers) s;
+  holds = subst (λ (v : Verdict). out ≡ kept v (begins (allFloats numbers) old) old) (k .answers) (k .holds);
+  exact = λ e. k .exact (k .answers ∙ e);
+}
 
 -- ---- decoding
 kept-new : {A : Type 0} (v : Verdict) (new old x : A) → v ≡ sound → x ≡ new → x ≡ kept v new old

@@ -14,6 +14,7 @@ ghost use Rattle.paper.specs.CFace.{PreviewCall, TouchedCall};
 ghost use Rattle.paper.specs.Sampling.{weights};
 ghost use Rattle.paper.specs.CFace.{SampleCall, TriangleCall, TurnCall};
 ghost use Rattle.paper.specs.CFace.{sizes, CountTrianglesCall, TrianglesCall};
+ghost use Rattle.paper.specs.CFace.{FloatsAllCall, TangentsAtCall};
 ghost use Rattle.paper.specs.Report.{offered};
 ghost use Rattle.paper.specs.CFace.{ReportCall, MergeCall};
 use paper::Answer;
@@ -164,6 +165,15 @@ pub extern "C" fn mahunopi_floats(
         }
         FloatPoint::Refused(number, at) => { tell(Answer::Refused(number, at), place) }
     }
+}
+
+// All control points of a list of quad-nets in floats, into the beginning of a lent list.
+#[no_mangle]
+pub extern "C" fn mahunopi_floats_all(numbers: &[i32], floats: &mut [f32], place: &mut u64) -> u32
+    ensures { λ r. ⌜ FloatsAllCall (now (numbers .entry)) (now (floats .entry)) (now (place .entry)) r (now (place .exit)) (now (floats .exit)) ⌝ }
+{
+    let a = floats::all_points(numbers, floats);
+    tell(a, place)
 }
 
 // Listing nested grids.
@@ -422,6 +432,24 @@ pub extern "C" fn mahunopi_triangles(
     *point_numbers = t.points as u64;
     *triangle_numbers = t.triangles as u64;
     0
+}
+
+// The tangents at one sample of a triangle.
+#[no_mangle]
+pub extern "C" fn mahunopi_tangents_at(
+    numbers: &[i32],
+    side: usize,
+    i: usize,
+    j: usize,
+    k: usize,
+    n: usize,
+    tangents: &mut [i64; 6],
+    place: &mut u64,
+) -> u32
+    ensures { λ r. ⌜ TangentsAtCall (now (numbers .entry)) side (weights i j k n) (now (tangents .entry)) (now (place .entry)) r (now (place .exit)) (now (tangents .exit)) ⌝ }
+{
+    let a = sampling::tangents(numbers, side, i, j, k, n, tangents);
+    tell(a, place)
 }
 
 // Turning faces that are drawn the wrong way round.

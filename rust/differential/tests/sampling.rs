@@ -1,7 +1,7 @@
 //! Samples of a patch: the proved library against the independent implementation, the theorems on what it leaves, and
 //! the closed triangles of one level, which have to be the small triangles of the samples.
 
-use differential::{build, each_case, link, lists, mesh, sample, sample_triangle};
+use differential::{build, each_case, link, lists, mesh, sample, sample_triangle, tangents_at};
 use mahunopi::{triangles, Triangles};
 use reference::{small_triangles, NUMBERS_PER_CORNER};
 use shapes::{random_tables, Places, Random, Solid, Tables};
@@ -41,6 +41,7 @@ fn every_sample() {
                         let one =
                             sample(&net, side, [parts - k - j, j, k], parts, random).expect("a net within the limits");
                         assert_eq!(whole[at..at + 3], one, "side {side}, row {k}, place {j} of {parts}");
+                        tangents_at(&net, side, [parts - k - j, j, k], parts, random).expect("a net within the limits");
                         assert_eq!(at, 3 * (k * (2 * parts + 3 - k) / 2 + j));
                         at += 3;
                     }

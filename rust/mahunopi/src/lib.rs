@@ -46,7 +46,7 @@ use std::num::NonZeroUsize;
 use std::thread;
 
 pub use archive::{archive, archive_into, restore, restore_into};
-pub use floats::{floats, FloatPoint};
+pub use floats::{floats, floats_all, floats_all_into, FloatPoint};
 pub use irregular::{irregular, Irregular};
 pub use mesh::{Counts, Lengths, Mesh, MeshRef};
 pub use nesting::{nest, nest_into, MAX_BODIES, SUN};
@@ -55,7 +55,7 @@ pub use preview::{preview, preview_into, ranges, touched, touched_into};
 use refusal::answer;
 pub use refusal::{Fault, Refusal};
 pub use report::{Page, MAX_PAGE_MESHES, PAGE_NUMBERS};
-pub use sampling::{sample, sample_count, sample_triangle, sample_triangle_into, MAX_PARTS};
+pub use sampling::{sample, sample_count, sample_triangle, sample_triangle_into, tangents_at, MAX_PARTS};
 pub use triangles::{count_triangles, triangles, triangles_all, triangles_into, TriangleLengths, Triangles};
 pub use turning::{turn, turn_in_place, turn_into, Turned};
 

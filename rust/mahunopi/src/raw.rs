@@ -149,6 +149,26 @@ extern "C" {
         point_count: usize,
         place: *mut u64,
     ) -> u32;
+    /// The tangents at one sample of a triangle.
+    pub fn mahunopi_tangents_at(
+        numbers: *const i32,
+        number_count: usize,
+        side: usize,
+        i: usize,
+        j: usize,
+        k: usize,
+        n: usize,
+        tangents: *mut [i64; 6],
+        place: *mut u64,
+    ) -> u32;
+    /// All control points of a list of quad-nets in floats.
+    pub fn mahunopi_floats_all(
+        numbers: *const i32,
+        number_count: usize,
+        floats: *mut f32,
+        float_count: usize,
+        place: *mut u64,
+    ) -> u32;
     /// How many numbers the points and the triangles of a range of corners have.
     pub fn mahunopi_count_triangles(
         coordinates: *const i32,
