@@ -52,8 +52,10 @@ from .calls import (
     Kind,
     Mesh,
     Refused,
+    Size,
     archive,
     build,
+    count_triangles,
     decode,
     floats,
     irregular,
@@ -67,7 +69,9 @@ from .calls import (
     sample,
     sample_triangle,
     survey,
+    tangents,
     touched,
+    triangles,
     turn,
 )
 from .dms import encode, lists

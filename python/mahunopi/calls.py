@@ -35,14 +35,14 @@ MAX_PAGE_MESHES: int = LIMITS["MAX_PAGE_MESHES"]
 _library = ctypes.CDLL(os.path.join(os.path.dirname(os.path.abspath(__file__)), "libmahunopi.so"))
 
 # The header's types: what an array of them is in numpy, and how a single number is passed.
-_ARRAY = {"int32_t": np.int32, "uint8_t": np.uint8, "uint16_t": np.uint16, "uint32_t": np.uint32, "uint64_t": np.uint64,
-          "float": np.float32}
+_ARRAY = {"int32_t": np.int32, "int64_t": np.int64, "uint8_t": np.uint8, "uint16_t": np.uint16, "uint32_t": np.uint32,
+          "uint64_t": np.uint64, "float": np.float32}
 _NUMBER = {"int32_t": ctypes.c_int32, "size_t": ctypes.c_size_t, "uint64_t": ctypes.c_uint64}
 _RANGE = {"int32_t": (-(2**31), 2**31 - 1), "size_t": (0, 2**64 - 1), "uint64_t": (0, 2**64 - 1)}
 
 # An array has one axis, or these after its first one.
 _AXES: Dict[str, list] = {"coordinates": [(3,)], "sharpness": [(2,)], "numbers": [(3,)], "points": [(3,)],
-         "output": [(3,), (NUMBERS_PER_CORNER,), (POINTS_PER_CORNER, 3)]}
+         "triangles": [(3,)], "tangents": [(6,), (2, 3)], "output": [(3,), (NUMBERS_PER_CORNER,), (POINTS_PER_CORNER, 3)]}
 
 _functions = {}
 for _name, _parameters in CALLS.items():
@@ -207,6 +207,13 @@ class FloatPoint(NamedTuple):
     """Of a far point the second of each pair, 0 to 4,095, so that first + second is the difference; none of a near one."""
 
 
+class Size(NamedTuple):
+    """What `count_triangles` counts of a range of corners."""
+
+    points: int
+    triangles: int
+
+
 class Kind(enum.IntEnum):
     """What `irregular` finds."""
 
@@ -338,6 +345,46 @@ def sample_triangle(numbers: np.ndarray, side: int, parts: int, out: Optional[np
     points = np.empty((count, 3), np.int32) if out is None else out
     _call("sample_triangle", numbers, side, parts, points)
     return points.reshape(-1)[: 3 * count].reshape(-1, 3)
+
+
+def count_triangles(mesh: Mesh, links: np.ndarray, levels: np.ndarray, first: int = 0, count: Optional[int] = None) -> Size:
+    """How many points and triangles `triangles` makes of `count` corners from `first` on, or of all from there. Refusals 4 to 16, 27
+    and 28, then 39 and 40."""
+    count = max(0, np.size(mesh.corners) - first) if count is None else count
+    point_numbers, triangle_numbers = _single(), _single()
+    _call("count_triangles", *mesh._lists(), links, levels, first, count, point_numbers, triangle_numbers)
+    return Size(int(point_numbers[0]) // 3, int(triangle_numbers[0]) // 3)
+
+
+def triangles(mesh: Mesh, links: np.ndarray, levels: np.ndarray, first: int = 0, count: Optional[int] = None,
+              out: Optional[Tuple[np.ndarray, np.ndarray]] = None) -> Tuple[np.ndarray, np.ndarray]:
+    """The surface as one closed mesh of triangles, each corner's quad-net at its own level, 1 to 16 (`levels`, uint8): the points and
+    the triangles of `count` corners from `first` on, or of all from there. Points are x, y, z in ticks, int32 of shape (points, 3);
+    triangles are three points each, uint32 of shape (triangles, 3), numbered over all corners of the mesh and wound as its faces
+    are. They are the beginnings of the two arrays of `out` or new ones; ranges one after another make the lists of all. Refusals 4
+    to 16, 27 and 28, then 39 and 40, then 255."""
+    count = max(0, np.size(mesh.corners) - first) if count is None else count
+    if out is None:
+        size = count_triangles(mesh, links, levels, first, count)
+        out = np.empty((size.points, 3), np.int32), np.empty((size.triangles, 3), np.uint32)
+    points, indices = out
+    point_numbers, triangle_numbers = _single(), _single()
+    _call("triangles", *mesh._lists(), links, levels, first, count, points, indices, point_numbers, triangle_numbers)
+    return (points.reshape(-1)[: int(point_numbers[0])].reshape(-1, 3),
+            indices.reshape(-1)[: int(triangle_numbers[0])].reshape(-1, 3))
+
+
+def tangents(mesh: Mesh, links: np.ndarray, levels: np.ndarray, first: int = 0, count: Optional[int] = None,
+             out: Optional[np.ndarray] = None) -> np.ndarray:
+    """Two exact tangents at each point that `triangles` makes, in the order of the points: int64 of shape (points, 2, 3), the
+    derivative of the quartic towards the tail of the side that the point is taken on, then the one towards the quad-net's centre,
+    each times the cube of the number of parts. They are the beginning of `out` or a new array. Refusals as of `triangles`."""
+    count = max(0, np.size(mesh.corners) - first) if count is None else count
+    if out is None:
+        out = np.empty((count_triangles(mesh, links, levels, first, count).points, 2, 3), np.int64)
+    numbers = _single()
+    _call("tangents", *mesh._lists(), links, levels, first, count, out, numbers)
+    return out.reshape(-1)[: int(numbers[0])].reshape(-1, 2, 3)
 
 
 def nest(holders: np.ndarray, out: Optional[np.ndarray] = None) -> np.ndarray:
