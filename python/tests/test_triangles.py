@@ -12,6 +12,7 @@ import pytest
 
 import mahunopi
 from mahunopi import models
+from mahunopi.command import main
 from mahunopi.shape import Shape
 from mahunopi.surface import NARROW, control_edges, even_levels, spaced_levels, surface, unit_normals
 from mahunopi.writing import WRITERS, Scale
@@ -312,7 +313,7 @@ def test_control_edges():
 # ---- what is wrong
 
 
-def test_wrong_usage(room):  # noqa: F811
+def test_wrong_usage(room, capfd):  # noqa: F811
     (room / "a.dms").write_bytes(mahunopi.encode(cube()))
     (room / "b.dms").write_bytes(mahunopi.encode(cube()))
     (room / "made").mkdir()
@@ -335,9 +336,12 @@ def test_wrong_usage(room):  # noqa: F811
             (["a.dms", "--undo-scale", "1", "nan", "2", "3", "-o", "a.obj"], "--undo-scale takes the length of a step, above 0"),
             (["a.dms", "--undo-scale", "1", "-1e400", "2", "3", "-o", "a.obj"], "--undo-scale takes the length of a step, above 0"),
             ([], "the following arguments are required: FILE")]:
-        status, out, err = run("triangles", *words)
-        assert (status, out) == (2, b"") and said in err and err.count("\n") == 1, (words, err)
+        with pytest.raises(SystemExit) as ended:
+            main(["triangles", *words])
+        out, err = capfd.readouterr()
+        assert (ended.value.code, out) == (2, "") and said in err and err.count("\n") == 1, (words, err)
     assert sorted(os.listdir()) == ["a.dms", "b.dms", "made"] and os.listdir("made") == []
+    assert run("triangles", "a.dms", "-o", "a.png")[:2] == (2, b"")
 
 
 def test_files_that_are_refused_or_cannot_be(room):  # noqa: F811
