@@ -6,30 +6,25 @@ import argparse
 import contextlib
 import errno
 import io
-import json
 import math
 import os
 import re
 import signal
 import stat
 import sys
-import tempfile
-from fractions import Fraction
-from typing import Any, Callable, Iterable, Iterator, List, NoReturn, Optional, Tuple, Union
+from typing import TYPE_CHECKING, Any, Callable, Iterable, Iterator, List, NoReturn, Optional, Tuple, Union
 
-from . import __version__
-from .calls import MAX_PARTS, PLAIN_SHARPNESS, Kind, Mesh, Refused, decode, irregular, link, off, survey, turn
-from .dms import encode, is_off, lists, words
-from .importing import DEFAULT_LARGEST, LARGEST_COORDINATE, MOST_TOLD, Imported, import_model
-from .models import Unreadable, is_known, read
-from .nested import drawing, read_table
-from .nested import told as told_table
-from .reporting import Found, Lost, as_table, chunks_of, expanded, in_words, listed, page_lines
-from .shape import Shape, irregular_faces, irregular_vertices
-from .surface import MOST_SPACING, even_levels, sizes, spaced_levels, surface
-from .view import MARK, default_name, page
-from .writing import WRITERS, Scale
+# what only one of the commands needs, numpy above all, is imported there: a report starts in half the time
+from ._header import LIMITS, __version__
+from .library import DEFAULT_LARGEST, LARGEST_COORDINATE, MOST_SPACING, Refused, Unreadable
 
+if TYPE_CHECKING:
+    from fractions import Fraction
+
+    from .calls import Mesh
+    from .importing import Imported
+
+MAX_PARTS = LIMITS["MAX_PARTS"]
 REFUSED, FAILED = 1, 2
 INTERRUPTED, BROKEN_PIPE, ENDED = 130, 141, 143
 SIGNALS = (signal.SIGINT, signal.SIGTERM)
@@ -157,6 +152,8 @@ def _spacing(word: str) -> int:
 
 
 def _format(word: str) -> str:
+    from .writing import WRITERS
+
     if _ending(word) not in WRITERS:
         raise argparse.ArgumentTypeError(f"no writer knows the format '{word}', {FORMATS} are written")
     return _ending(word)
@@ -336,6 +333,8 @@ def _write(output: str, parts: Iterable[Any]) -> None:
         for part in parts:
             _put(part)
         return
+    import tempfile
+
     path = os.path.realpath(output)
     there = os.stat(path).st_mode if os.path.exists(path) else None
     try:
@@ -398,6 +397,9 @@ def run_info(asked: argparse.Namespace, name: str, output: str) -> None:
 
 def _checked(name: str, data: bytes) -> Tuple[Mesh, int]:
     """The mesh of a .dms file or of an OFF text, which is accepted, and its version."""
+    from .calls import decode, off
+    from .dms import is_off
+
     try:
         return (off(data), 1) if is_off(data) else (decode(data), data[3])
     except Refused as refused:
@@ -406,6 +408,9 @@ def _checked(name: str, data: bytes) -> Tuple[Mesh, int]:
 
 def _in_words(refused: Refused, name: str, data: bytes) -> Refused:
     """The refusal of a file with what stands there."""
+    from .dms import words
+    from .models import is_known
+
     hint = "mahunopi import takes it"
     if refused.number == 1 and is_known(os.path.splitext(name)[1]):
         return Refused(1, 0, f"{refused.words} ({hint})")
@@ -425,6 +430,12 @@ def _in_words(refused: Refused, name: str, data: bytes) -> Refused:
 
 def told(mesh: Mesh, version: int) -> List[str]:
     """What a mesh is, in words, a line for each thing."""
+    from .calls import PLAIN_SHARPNESS, Kind, irregular, link, survey
+    from .dms import encode
+    from .importing import MOST_TOLD
+    from .shape import Shape, irregular_faces, irregular_vertices
+    from .surface import sizes
+
     counts = survey(encode(mesh))
     links = link(mesh)
     shape = Shape(mesh)
@@ -472,6 +483,10 @@ def fraction(number: Fraction) -> str:
 
 
 def run_import(asked: argparse.Namespace, name: str, output: str) -> None:
+    from .dms import encode
+    from .importing import import_model
+    from .models import read
+
     if name == "-" and not asked.format:
         _wrong(asked, "standard input has no name that tells the format, say it by --format")
     form = asked.format or os.path.splitext(name)[1]
@@ -496,6 +511,9 @@ def done(made: Imported) -> str:
 
 
 def run_turn(asked: argparse.Namespace, name: str, output: str) -> None:
+    from .calls import turn
+    from .dms import encode, lists
+
     data = _read(name)
     try:
         mesh, version = lists(data)
@@ -511,6 +529,8 @@ def run_turn(asked: argparse.Namespace, name: str, output: str) -> None:
 
 
 def run_all_triangles(asked: argparse.Namespace) -> int:
+    from .writing import WRITERS
+
     if asked.undo_scale is not None and not (all(map(math.isfinite, asked.undo_scale)) and asked.undo_scale[0] > 0):
         _wrong(asked, "--undo-scale takes the length of a step, above 0, and the centre's x, y, z")
     if asked.format is None:
@@ -524,6 +544,9 @@ def run_all_triangles(asked: argparse.Namespace) -> int:
 
 
 def run_triangles(asked: argparse.Namespace, name: str, output: str) -> None:
+    from .surface import even_levels, spaced_levels, surface
+    from .writing import WRITERS, Scale
+
     mesh, _ = _checked(name, _read(name))
     coarse = 0
     if asked.spacing is None:
@@ -543,16 +566,20 @@ def run_triangles(asked: argparse.Namespace, name: str, output: str) -> None:
 
 
 def run_nest(asked: argparse.Namespace, name: str, output: str) -> None:
+    from .nested import drawing, read_table, told
+
     table = read_table(_read(name))
     if asked.drawing is not None:
         _write(asked.drawing, [drawing(table)])
-    _say("\n".join(told_table(table)), asked.drawing or "")
+    _say("\n".join(told(table)), asked.drawing or "")
 
 
 # ---- view
 
 
 def run_view(asked: argparse.Namespace) -> int:
+    from .view import default_name, page
+
     files = asked.files
     if len(files) > 2:
         _wrong(asked, f"a page shows one mesh or two, not {len(files)}")
@@ -571,6 +598,8 @@ def run_view(asked: argparse.Namespace) -> int:
 
 
 def _is_page(path: str) -> bool:
+    from .view import MARK
+
     with contextlib.suppress(OSError), open(path, "rb") as file:
         return file.read(len(MARK)) == MARK
     return False
@@ -593,6 +622,13 @@ def _show(output: str, data: bytes) -> None:
 
 
 def run_report(asked: argparse.Namespace) -> int:
+    from .reporting import Found, Lost, as_table, chunks_of, expanded, get_ready, in_words, listed, page_lines
+
+    def meanwhile() -> None:
+        if not asked.page:
+            with _held_back():
+                get_ready()
+
     names = list(asked.files)
     if "-" in names:
         _wrong(asked, "- is no file here; a list of names on standard input is --names -")
@@ -606,7 +642,7 @@ def run_report(asked: argparse.Namespace) -> int:
     found, stopped, why = Found(), 0, "interrupted"
     _start_bar(len(files))
     try:
-        with contextlib.closing(chunks_of(files, asked.jobs)) as chunks:
+        with contextlib.closing(chunks_of(files, asked.jobs, meanwhile)) as chunks:
             for chunk in chunks:
                 with _held_back():
                     found.add(chunk)
@@ -622,7 +658,7 @@ def run_report(asked: argparse.Namespace) -> int:
         for number in SIGNALS:
             signal.signal(number, signal.SIG_IGN)
     _end_bar()
-    table = as_table(found, files)
+    table = as_table(found, files, not asked.page)
     table["unreadable"] += [{"file": name, "words": words} for name, words in wrong]
     table.update(twice=twice, finished=not stopped)
     if asked.page:
@@ -631,8 +667,12 @@ def run_report(asked: argparse.Namespace) -> int:
             _complain(one["file"], one["words"])
         for name in twice:
             _complain(name, "named more than once, counted once")
+    elif asked.json:
+        import json
+
+        lines = [json.dumps(table, indent=1)]
     else:
-        lines = [json.dumps(table, indent=1)] if asked.json else in_words(table)
+        lines = in_words(table)
     status = _guarded("standard output", lambda: _say("\n".join(lines)) if lines else None)
     if stopped:
         _note(f"mahunopi report: {why}; this is the page of the first {found.names:,} of {len(files):,} files")

@@ -14,7 +14,6 @@ from .shape import Shape
 CONTROL = [[0, 1, 2, 3, 4, 25, 26, 27, 28, 6, 7, 8, 30, 31, 12], [24, 19, 14, 9, 4, 40, 36, 32, 28, 18, 13, 8, 35, 31, 12],
            [24, 23, 22, 21, 20, 40, 39, 38, 37, 18, 17, 16, 35, 34, 12], [0, 5, 10, 15, 20, 25, 29, 33, 37, 6, 11, 16, 30, 34, 12]]
 ROWS = [0, 5, 9, 12, 14]
-MOST_SPACING = 1 << 27
 # The tangents are taken of about so many points at a time: their numbers stay in the processor's cache.
 AT_A_TIME = 16_384
 # Where the sine of the angle between two tangents is below this, their cross product is formed in whole numbers.

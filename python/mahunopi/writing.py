@@ -8,8 +8,8 @@ from typing import Any, Callable, Dict, Iterator, NamedTuple, Sequence
 
 import numpy as np
 
-from . import __version__
-from .borders import TICKS
+from ._header import __version__
+from .library import TICKS
 from .models import STL_HEAD, STL_ROW
 from .surface import Surface
 

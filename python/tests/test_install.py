@@ -54,7 +54,7 @@ def packages(prefix):
 
 def drawn(program, mesh):
     """What examples/draw.cpp has to print of a mesh."""
-    said = re.fullmatch(r"(\d+) vertices, (\d+) triangles, volume (\d+\.\d\d) cubic steps\n", run(program, ROOT / "meshes" / mesh, 4))
+    said = re.fullmatch(r"(\d+) vertices, (\d+) triangles, volume (\d+) cubic steps\n", run(program, ROOT / "meshes" / mesh, 4))
     mesh = mahunopi.decode((ROOT / "meshes" / mesh).read_bytes())
     assert (int(said[1]), int(said[2])) == size_at(mesh, 4)
     assert 0.5 * abs(float(Shape(mesh).volume())) < float(said[3]) < abs(float(Shape(mesh).volume()))

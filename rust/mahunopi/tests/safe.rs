@@ -46,16 +46,18 @@ fn text_of(mesh: &Mesh) -> String {
 #[test]
 fn every_fault_has_a_number_and_one_line_of_words() {
     let numbers: Vec<u32> = Fault::ALL.iter().map(|fault| fault.number()).collect();
-    assert_eq!(numbers, (1..=38).chain([255]).collect::<Vec<u32>>());
+    // every number from 1 on, and last the one of a list that is too short
+    let last = numbers.len() as u32 - 1;
+    assert_eq!(numbers, (1..=last).chain([255]).collect::<Vec<u32>>());
     for &fault in Fault::ALL {
         assert_eq!(Fault::of_number(fault.number()), Some(fault));
         assert!(!fault.words().is_empty() && !fault.words().contains('\n'));
         let line = Refusal::new(fault, 5).to_string();
-        assert!(line.starts_with(&format!("refused by {}: {}", fault.number(), fault.words())) && !line.contains('\n'));
-        assert_eq!(line.ends_with("is 5)"), fault.place().is_some(), "{line}");
-        assert_eq!(fault.place().is_some(), ![1, 2, 3, 4, 21, 24, 38].contains(&fault.number()), "{line}");
+        let at = fault.place().map_or(String::new(), |place| format!(" at {place} 5"));
+        assert_eq!(line, format!("refused {}{at}: {}", fault.number(), fault.words()));
+        assert_eq!(fault.place().is_some(), ![1, 2, 3, 4, 21, 24, 37, 38].contains(&fault.number()), "{line}");
     }
-    for number in [0, 39, 254, 256, u32::MAX] {
+    for number in [0, last + 1, 254, 256, u32::MAX] {
         assert_eq!(Fault::of_number(number), None);
     }
 }
@@ -142,7 +144,7 @@ fn sharpness_of_a_mesh() {
     assert_eq!(refused(beyond), Refusal::new(Fault::BadSharpness, 5));
     assert_eq!(
         refused(vec![17; 48]).to_string(),
-        "refused by 28: a sharpness number is above 16 (its position in the sharpness list is 0)"
+        "refused 28 at position in the sharpness list 0: a sharpness number is above 16"
     );
 }
 
