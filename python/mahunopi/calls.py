@@ -38,8 +38,9 @@ _ARRAY = {"int32_t": np.int32, "int64_t": np.int64, "uint8_t": np.uint8, "uint16
 _RANGE = {"int32_t": (-(2**31), 2**31 - 1), "size_t": (0, 2**64 - 1), "uint64_t": (0, 2**64 - 1)}
 
 # An array has one axis, or these after its first one.
-_AXES: Dict[str, list] = {"coordinates": [(3,)], "sharpness": [(2,)], "numbers": [(3,), (NUMBERS_PER_CORNER,), (POINTS_PER_CORNER, 3)], "points": [(3,)],
-         "triangles": [(3,)], "tangents": [(6,), (2, 3), (3,)], "floats": [(POINTS_PER_CORNER, 2, 3)], "output": [(3,), (NUMBERS_PER_CORNER,), (POINTS_PER_CORNER, 3)]}
+_OF_CORNERS = [(3,), (NUMBERS_PER_CORNER,), (POINTS_PER_CORNER, 3)]
+_AXES: Dict[str, list] = {"coordinates": [(3,)], "sharpness": [(2,)], "numbers": _OF_CORNERS, "output": _OF_CORNERS, "points": [(3,)],
+                          "triangles": [(3,)], "tangents": [(6,), (2, 3), (3,)], "floats": [(POINTS_PER_CORNER, 2, 3)]}
 
 
 def _array(call: str, name: str, array: Any, kind: str, read_only: bool) -> np.ndarray:

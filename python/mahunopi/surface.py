@@ -46,9 +46,10 @@ def surface(mesh: Mesh, levels: np.ndarray) -> Surface:
     flat: List[np.ndarray] = []
     # ranges of corners, each with about as many points
     cuts = np.unique(np.append(np.searchsorted(starts, np.arange(0, starts[-1], AT_A_TIME)), mesh.corners.size))
+    room = np.empty((int(np.diff(starts[cuts]).max()), 2, 3), np.int64)
     for first, end in zip(cuts[:-1].tolist(), cuts[1:].tolist()):
         own = slice(starts[first], starts[end])
-        normals[own], without = unit_normals(tangents(mesh, links, levels, first, end - first), outwards[own])
+        normals[own], without = unit_normals(tangents(mesh, links, levels, first, end - first, out=room), outwards[own])
         flat.append(starts[first] + without)
     without = np.concatenate(flat)
     if without.size:
@@ -100,7 +101,9 @@ def unit_normals(pairs: np.ndarray, senses: np.ndarray) -> Tuple[np.ndarray, np.
 
 
 def _squares(vectors: np.ndarray) -> np.ndarray:
-    return np.einsum("ij,ij->j", vectors, vectors)
+    """The squares of the lengths of vectors, whose x, y, z are rows."""
+    x, y, z = vectors
+    return x * x + y * y + z * z
 
 
 def _normals_of_triangles(points: np.ndarray, indices: np.ndarray, without: np.ndarray) -> np.ndarray:

@@ -44,7 +44,7 @@ def obj(surface: Surface, scale: Scale) -> Iterator[Bytes]:
     """A text with `v`, `vn` and `f a//a b//b c//c`: coordinates with all their digits."""
     yield b"# mahunopi triangles\n"
     yield from _texts("v %r %r %r\n", scale.of(surface.points))
-    yield from _texts("vn %.6f %.6f %.6f\n", surface.normals + np.float32(0))
+    yield from _texts("vn %.6f %.6f %.6f\n", np.round(surface.normals.astype(np.float64), 6) + 0)
     yield from _texts("f %d//%d %d//%d %d//%d\n", np.repeat(surface.triangles + np.uint32(1), 2, axis=1))
 
 
