@@ -4,9 +4,11 @@ largest misses are."""
 from __future__ import annotations
 
 import ctypes
+import marshal
 import os
+import select
 import signal
-from typing import Any, Callable, Dict, Iterator, List, Optional, Sequence, Set, Tuple
+from typing import Any, Callable, Dict, Iterator, List, NoReturn, Optional, Sequence, Tuple
 
 from ._header import LIMITS
 from .library import HEADER, MOST_MISS, UNIT, Refused, functions
@@ -18,6 +20,7 @@ REFUSAL_NUMBERS = [*range(1, 14), 28]
 CONDITIONS = PAGE_NUMBERS - FIRST_MISS
 # what a processor is given at a time at least and at most: a power of two, so that pages are made of whole ones
 LEAST_CHUNK, MOST_CHUNK = 16, 256
+NUMBER_BYTES = 4
 LONGEST_FILE = HEADER + 12 * LIMITS["MAX_VERTICES"] + LIMITS["MAX_FACES"] + 4 * LIMITS["MAX_CORNERS"]
 ENDING = ".dms"
 
@@ -121,34 +124,89 @@ def chunks_of(names: Sequence[str], jobs: int, meanwhile: Callable[[], None] = l
     if min(jobs, len(chunks)) <= 1:
         yield from map(report_on, chunks)
         return
-    import multiprocessing
-
-    # an interrupt goes to all processes of a terminal; it is for this one, which only adds, to end the others
-    before = signal.signal(signal.SIGINT, signal.SIG_IGN)
+    workers: Dict[int, int] = {}
+    """The process at the other end of each pipe."""
+    ready: Dict[int, Found] = {}
     try:
-        pool = multiprocessing.get_context("fork").Pool(min(jobs, len(chunks)), signal.signal, (signal.SIGTERM, signal.SIG_DFL))
-    finally:
-        signal.signal(signal.SIGINT, before)
-    with pool:
-        workers = _children()
-        results = pool.imap(report_on, chunks)
+        _start(chunks, min(jobs, len(chunks)), workers)
         meanwhile()
-        for _ in chunks:
-            while True:
-                try:
-                    chunk = results.next(timeout=1)
-                    break
-                except multiprocessing.TimeoutError:
-                    # what a process that was ended had in hand never comes
-                    if _children() != workers:
-                        raise Lost from None
-            yield chunk
+        for number in range(len(chunks)):
+            while number not in ready:
+                for pipe in select.select(list(workers), [], [])[0]:
+                    _take(pipe, workers, ready)
+            yield ready.pop(number)
+    finally:
+        for pipe, process in workers.items():
+            os.kill(process, signal.SIGKILL)
+            os.waitpid(process, 0)
+            os.close(pipe)
 
 
-def _children() -> Set[Optional[int]]:
-    import multiprocessing
+def _start(chunks: Sequence[Sequence[str]], jobs: int, workers: Dict[int, int]) -> None:
+    """Starts processes that report on chunks. multiprocessing would do, and takes as long to import as hundreds of files."""
+    # the numbers of the chunks in a file without a name: the processes read it at a common place, so that each number is read once
+    numbers = os.memfd_create("chunks")
+    os.write(numbers, b"".join(number.to_bytes(NUMBER_BYTES, "little") for number in range(len(chunks))))
+    os.lseek(numbers, 0, os.SEEK_SET)
+    # an interrupt goes to all processes of a terminal; it is for the first one, which only adds, to end the others
+    held = signal.pthread_sigmask(signal.SIG_BLOCK, (signal.SIGINT, signal.SIGTERM))
+    try:
+        for _ in range(jobs):
+            ours, theirs = os.pipe()
+            process = os.fork()
+            if process == 0:
+                _work(chunks, numbers, theirs)
+            os.close(theirs)
+            workers[ours] = process
+    finally:
+        signal.pthread_sigmask(signal.SIG_SETMASK, held)
+        os.close(numbers)
 
-    return {child.pid for child in multiprocessing.active_children()}
+
+def _work(chunks: Sequence[Sequence[str]], numbers: int, pipe: int) -> NoReturn:
+    """What a process does: reports on chunk after chunk, and writes what it found."""
+    status = 1
+    try:
+        signal.signal(signal.SIGINT, signal.SIG_IGN)
+        signal.signal(signal.SIGTERM, signal.SIG_DFL)
+        signal.pthread_sigmask(signal.SIG_UNBLOCK, (signal.SIGINT, signal.SIGTERM))
+        with open(pipe, "wb") as out:
+            number = os.read(numbers, NUMBER_BYTES)
+            while number:
+                found = marshal.dumps(vars(report_on(chunks[int.from_bytes(number, "little")])))
+                out.write(number + len(found).to_bytes(NUMBER_BYTES, "little") + found)
+                out.flush()
+                number = os.read(numbers, NUMBER_BYTES)
+        status = 0
+    except BrokenPipeError:
+        pass  # the first process has ended
+    except Exception:
+        import traceback
+
+        traceback.print_exc()
+    finally:
+        os._exit(status)
+
+
+def _take(pipe: int, workers: Dict[int, int], ready: Dict[int, Found]) -> None:
+    """Takes what a process has written of a chunk; or its end, which is in order when nothing is left to do."""
+    head = os.read(pipe, 2 * NUMBER_BYTES)
+    if not head:
+        status = os.waitpid(workers.pop(pipe), 0)[1]
+        os.close(pipe)
+        if status or not workers:
+            raise Lost
+        return
+    length = int.from_bytes(head[NUMBER_BYTES:], "little")
+    data = bytearray()
+    while len(data) < length:
+        more = os.read(pipe, length - len(data))
+        if not more:
+            raise Lost
+        data += more
+    found = Found()
+    vars(found).update(marshal.loads(data))
+    ready[int.from_bytes(head[:NUMBER_BYTES], "little")] = found
 
 
 def get_ready() -> None:
