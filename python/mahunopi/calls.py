@@ -349,21 +349,20 @@ def count_triangles(mesh: Mesh, links: np.ndarray, levels: np.ndarray, first: in
 
 
 def triangles(mesh: Mesh, links: np.ndarray, levels: np.ndarray, first: int = 0, count: Optional[int] = None,
-              out: Optional[Tuple[np.ndarray, np.ndarray]] = None) -> Tuple[np.ndarray, np.ndarray]:
+              points: Optional[np.ndarray] = None, out: Optional[np.ndarray] = None) -> Tuple[np.ndarray, np.ndarray]:
     """The surface as one closed mesh of triangles, each corner's quad-net at its own level, 1 to 16 (`levels`, uint8): the points and
     the triangles of `count` corners from `first` on, or of all from there. Points are x, y, z in ticks, int32 of shape (points, 3);
     triangles are three points each, uint32 of shape (triangles, 3), numbered over all corners of the mesh and wound as its faces
-    are. They are the beginnings of the two arrays of `out` or new ones; ranges one after another make the lists of all. Refusals 4
-    to 16, 27 and 28, then 39 and 40, then 255."""
+    are. They are the beginnings of `points` and `out` or new ones; ranges one after another make the lists of all. Refusals 4 to 16,
+    27 and 28, then 39 and 40, then 255."""
     count = max(0, np.size(mesh.corners) - first) if count is None else count
-    if out is None:
+    if points is None or out is None:
         size = count_triangles(mesh, links, levels, first, count)
-        out = np.empty((size.points, 3), np.int32), np.empty((size.triangles, 3), np.uint32)
-    points, indices = out
+        points = np.empty((size.points, 3), np.int32) if points is None else points
+        out = np.empty((size.triangles, 3), np.uint32) if out is None else out
     point_numbers, triangle_numbers = _single(), _single()
-    _call("triangles", *mesh._lists(), links, levels, first, count, points, indices, point_numbers, triangle_numbers)
-    return (points.reshape(-1)[: int(point_numbers[0])].reshape(-1, 3),
-            indices.reshape(-1)[: int(triangle_numbers[0])].reshape(-1, 3))
+    _call("triangles", *mesh._lists(), links, levels, first, count, points, out, point_numbers, triangle_numbers)
+    return (points.reshape(-1)[: int(point_numbers[0])].reshape(-1, 3), out.reshape(-1)[: int(triangle_numbers[0])].reshape(-1, 3))
 
 
 def tangents(mesh: Mesh, links: np.ndarray, levels: np.ndarray, first: int = 0, count: Optional[int] = None,

@@ -379,7 +379,7 @@ def multinomial(*parts):
     return math.factorial(sum(parts)) // math.prod(map(math.factorial, parts))
 
 
-def test_triangles():
+def test_triangles_and_tangents():
     mesh = with_sharpness(mesh_of(np.rint(prism(5)[0]), prism(5)[1]), 7 * np.arange(60) % 17)
     links, levels = mahunopi.link(mesh), (1 + 5 * np.arange(30) % 16).astype(np.uint8)
     points, indices = mahunopi.triangles(mesh, links, levels)
@@ -392,7 +392,7 @@ def test_triangles():
         parts = []
         for first, end in zip(cuts, cuts[1:]):
             size = mahunopi.count_triangles(mesh, links, levels, first, end - first)
-            part = mahunopi.triangles(mesh, links, levels, first, end - first, out=room[:2])
+            part = mahunopi.triangles(mesh, links, levels, first, end - first, room[0], room[1])
             assert tuple(map(len, part)) == size and part[0].base is room[0]
             parts.append((*(array.copy() for array in part), mahunopi.tangents(mesh, links, levels, first, end - first, out=room[2]).copy()))
         for whole, pieces in zip((points, indices, tangents), zip(*parts)):
@@ -445,7 +445,8 @@ def test_refused_triangles():
     mesh = cube()
     links, levels = mahunopi.link(mesh), np.full(24, 2, np.uint8)
     lent = np.full((194, 3), 7, np.int32), np.full((384, 3), 7, np.uint32)
-    for call, more in ((mahunopi.count_triangles, {}), (mahunopi.triangles, {"out": lent}), (mahunopi.triangles, {}), (mahunopi.tangents, {})):
+    both = {"points": lent[0], "out": lent[1]}
+    for call, more in ((mahunopi.count_triangles, {}), (mahunopi.triangles, both), (mahunopi.triangles, {}), (mahunopi.tangents, {})):
         assert refused(call, mesh, links, levels[1:], **more) == (39, 23)
         for wrong in (0, 17, 255):
             levels[[5, 9]] = wrong
@@ -454,11 +455,11 @@ def test_refused_triangles():
             levels[:] = 2
         assert refused(call, mesh, links[1:], levels[1:], **more) == (14, 23)
         assert refused(call, mesh, links, levels, 24, **more) == (16, 24)
-    assert refused(mahunopi.triangles, mesh, links, levels, out=(lent[0][1:], lent[1][1:])) == (255, 3 * 194)
-    assert refused(mahunopi.triangles, mesh, links, levels, out=(lent[0], lent[1][1:])) == (255, 3 * 384)
+    assert refused(mahunopi.triangles, mesh, links, levels, points=lent[0][1:], out=lent[1][1:]) == (255, 3 * 194)
+    assert refused(mahunopi.triangles, mesh, links, levels, points=lent[0], out=lent[1][1:]) == (255, 3 * 384)
     assert refused(mahunopi.tangents, mesh, links, levels, out=np.zeros((193, 2, 3), np.int64)) == (255, 6 * 194)
     assert (lent[0] == 7).all() and (lent[1] == 7).all()
-    assert tuple(map(len, mahunopi.triangles(mesh, links, levels, out=lent))) == (194, 384)
+    assert tuple(map(len, mahunopi.triangles(mesh, links, levels, **both))) == (194, 384)
 
 
 def test_nest():
@@ -540,7 +541,7 @@ def good_calls():
         "nest": dict(holders=np.array([SUN], np.uint16), out=np.zeros(1, np.uint16)),
         "archive": dict(numbers=net, out=np.zeros(492, np.uint8)), "restore": dict(data=np.zeros(12, np.uint8), out=np.zeros(3, np.int32)),
         "count_triangles": dict(mesh=mesh, links=links, levels=np.ones(24, np.uint8)),
-        "triangles": dict(mesh=mesh, links=links, levels=np.ones(24, np.uint8), out=(np.zeros((50, 3), np.int32), np.zeros((96, 3), np.uint32))),
+        "triangles": dict(mesh=mesh, links=links, levels=np.ones(24, np.uint8), points=np.zeros((50, 3), np.int32), out=np.zeros((96, 3), np.uint32)),
         "tangents": dict(mesh=mesh, links=links, levels=np.ones(24, np.uint8), out=np.zeros((50, 2, 3), np.int64)),
         "tangents_at": dict(numbers=net, side=0, weights=(1, 0, 0), parts=1),
         "floats_all": dict(numbers=net, out=np.zeros(246, np.float32)),
@@ -553,9 +554,6 @@ def lists_in(arguments):
     for name, value in arguments.items():
         if isinstance(value, np.ndarray):
             yield name, value, lambda array, name=name: {**arguments, name: array}
-        elif name == "out":
-            for i, array in enumerate(value):
-                yield name, array, lambda array, i=i: {**arguments, "out": (*value[:i], array, *value[i + 1:])}
         elif isinstance(value, Mesh):
             for part in ("coordinates", "sides", "corners", "sharpness"):
                 yield part, getattr(value, part), lambda array, name=name, value=value, part=part: {
@@ -587,7 +585,7 @@ def test_lists_that_are_written_to(name):
     call, arguments = getattr(mahunopi, name), good_calls()[name]
     tried = 0
     for list_name, array, replaced in lists_in(arguments):
-        if list_name in ("out", "page"):
+        if list_name in ("out", "points", "page"):
             locked = array.copy()
             locked.flags.writeable = False
             with pytest.raises(ValueError):
