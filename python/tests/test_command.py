@@ -302,16 +302,16 @@ def test_files_are_whole_or_not_there(room, monkeypatch):
 
     (room / "made.dms").write_bytes(b"before")
     os.chmod("made.dms", 0o640)
-    command._write("made.dms", b"after")
+    command._write("made.dms", [b"after"])
     assert (room / "made.dms").read_bytes() == b"after" and os.stat("made.dms").st_mode & 0o777 == 0o640
     (room / "link.dms").symlink_to("made.dms")
-    command._write("link.dms", b"through")
+    command._write("link.dms", [b"through"])
     assert os.path.islink("link.dms") and (room / "made.dms").read_bytes() == b"through"
     mask = os.umask(0o027)
-    command._write("new.dms", b"new")
+    command._write("new.dms", [b"new"])
     os.umask(mask)
     assert os.stat("new.dms").st_mode & 0o777 == 0o640
-    command._write("/dev/null", b"nothing")
+    command._write("/dev/null", [b"nothing"])
     assert not os.path.isfile("/dev/null")
 
     def fails(*paths):
@@ -319,7 +319,7 @@ def test_files_are_whole_or_not_there(room, monkeypatch):
 
     monkeypatch.setattr(os, "replace", fails)
     with pytest.raises(KeyboardInterrupt):
-        command._write("made.dms", b"never")
+        command._write("made.dms", [b"never"])
     assert (room / "made.dms").read_bytes() == b"through" and sorted(os.listdir()) == ["link.dms", "made.dms", "new.dms"]
 
 
