@@ -8,12 +8,9 @@ from typing import Union
 import numpy as np
 
 from .calls import MAX_SHARPNESS, MAX_SIDES, MIN_SIDES, Mesh
+from .library import TICKS, UNIT
 from .shape import Shape
 
-UNIT = 1 << 30
-MOST_MISS = 13
-"""No miss is above 13 ticks; the library proves it of every mesh."""
-TICKS = 256
 FIRST_A = 25
 
 # The points along a side of a quad-net from its head: the outer b points, and the a points beside them.

@@ -6,12 +6,12 @@ from __future__ import annotations
 import ctypes
 import enum
 import operator
-import os
-from typing import Any, Dict, List, NamedTuple, Optional, Sequence, Tuple, Union
+from typing import Any, Dict, NamedTuple, Optional, Sequence, Tuple, Union
 
 import numpy as np
 
-from ._header import CALLS, LIMITS, REFUSALS
+from ._header import CALLS, LIMITS
+from .library import Refused, functions
 
 Bytes = Union[bytes, bytearray, memoryview, np.ndarray]
 
@@ -32,44 +32,15 @@ MAX_PARTS: int = LIMITS["MAX_PARTS"]
 PAGE_NUMBERS: int = LIMITS["PAGE_NUMBERS"]
 MAX_PAGE_MESHES: int = LIMITS["MAX_PAGE_MESHES"]
 
-_library = ctypes.CDLL(os.path.join(os.path.dirname(os.path.abspath(__file__)), "libmahunopi.so"))
-
-# The header's types: what an array of them is in numpy, and how a single number is passed.
-_ARRAY = {"int32_t": np.int32, "uint8_t": np.uint8, "uint16_t": np.uint16, "uint32_t": np.uint32, "uint64_t": np.uint64,
-          "int64_t": np.int64, "float": np.float32}
-_NUMBER = {"int32_t": ctypes.c_int32, "size_t": ctypes.c_size_t, "uint64_t": ctypes.c_uint64}
+# The header's types: what an array of them is in numpy, and what a single number may be.
+_ARRAY = {"int32_t": np.int32, "int64_t": np.int64, "uint8_t": np.uint8, "uint16_t": np.uint16, "uint32_t": np.uint32,
+          "uint64_t": np.uint64, "float": np.float32}
 _RANGE = {"int32_t": (-(2**31), 2**31 - 1), "size_t": (0, 2**64 - 1), "uint64_t": (0, 2**64 - 1)}
 
 # An array has one axis, or these after its first one.
-_AXES: Dict[str, list] = {"coordinates": [(3,)], "sharpness": [(2,)], "numbers": [(3,)], "points": [(3,)],
-         "output": [(3,), (NUMBERS_PER_CORNER,), (POINTS_PER_CORNER, 3)]}
-
-_functions = {}
-for _name, _parameters in CALLS.items():
-    _functions[_name] = getattr(_library, "mahunopi_" + _name)
-    _functions[_name].restype = ctypes.c_uint32
-    _functions[_name].argtypes = [ctypes.c_void_p if pointer else _NUMBER[kind] for kind, pointer, _, _ in _parameters]
-
-
-class Refused(Exception):
-    """An input that a call turned down: the refusal's number, the lowest place where it applies, its name in the header, and its
-    words. As text it is one line: `refused 12 at vertex 0: a vertex is named by fewer than 3 or more than 16 corners`. Where a model
-    was imported, `causes` has the points, edges or faces that cause it, each as its points by the model's own numbers."""
-
-    def __init__(self, number: int, place: int, words: Optional[str] = None, place_name: Optional[str] = None) -> None:
-        self.number = number
-        self.place = place
-        self.causes: List[Tuple[int, ...]] = []
-        self.name, self.words, self.place_name = REFUSALS[number]
-        if words is not None:
-            self.words = words
-        if place_name is not None:
-            self.place_name = place_name
-        super().__init__(number, place, words, place_name)
-
-    def __str__(self) -> str:
-        where = f" at {self.place_name} {self.place}" if self.place_name else ""
-        return f"refused {self.number}{where}: {self.words}"
+_OF_CORNERS = [(3,), (NUMBERS_PER_CORNER,), (POINTS_PER_CORNER, 3)]
+_AXES: Dict[str, list] = {"coordinates": [(3,)], "sharpness": [(2,)], "numbers": _OF_CORNERS, "output": _OF_CORNERS, "points": [(3,)],
+                          "triangles": [(3,)], "tangents": [(6,), (2, 3), (3,)], "floats": [(POINTS_PER_CORNER, 2, 3)]}
 
 
 def _array(call: str, name: str, array: Any, kind: str, read_only: bool) -> np.ndarray:
@@ -122,7 +93,7 @@ def _call(call: str, *arguments: Union[np.ndarray, int]) -> None:
             if not (read_only and other_read_only) and start < other_end and other_start < end:
                 raise ValueError(f"{call}: {other} and {name} overlap, and the call writes to one of them")
     place = ctypes.c_uint64()
-    answer = _functions[call](*passed, ctypes.byref(place))
+    answer = functions[call](*passed, ctypes.byref(place))
     if answer:
         raise Refused(answer, place.value)
 
@@ -205,6 +176,13 @@ class FloatPoint(NamedTuple):
     """x, y, z of a near point; of a far one the first of each pair, a multiple of 4,096."""
     second: Optional[np.ndarray]
     """Of a far point the second of each pair, 0 to 4,095, so that first + second is the difference; none of a near one."""
+
+
+class Size(NamedTuple):
+    """What `count_triangles` counts of a range of corners."""
+
+    points: int
+    triangles: int
 
 
 class Kind(enum.IntEnum):
@@ -320,12 +298,14 @@ def floats(numbers: np.ndarray, point: int) -> FloatPoint:
 
 
 def floats_all(numbers: np.ndarray, out: Optional[np.ndarray] = None) -> np.ndarray:
-    """All points of a list of corners, 123 numbers for each, as differences from their corner's b00, in floats: float32 of shape
-    (corners, 41, 2, 3), the first three of each point and the second three, which are zeros where the point is near. They are the
-    beginning of `out` or of a new list. Refusals 18, of the whole list, and 19, then 255."""
-    six = np.empty(2 * np.size(numbers), np.float32) if out is None else out
-    _call("floats_all", numbers, six)
-    return six.reshape(-1)[: 2 * np.size(numbers)].reshape(-1, POINTS_PER_CORNER, 2, 3)
+    """All points of corners, 123 numbers for each as `build` writes them, as their differences from their quad-net's b00: float32 of
+    shape (corners, 41, 2, 3), the first and the second of each pair, whose sum is the difference; of a near point the second are
+    zeros. They are the beginning of `out` or a new array. Refusals 18 and 19, then 255."""
+    # a longer list is refused before the other is looked at
+    count = min(np.size(numbers), NUMBERS_PER_CORNER * MAX_CORNERS) // NUMBERS_PER_CORNER
+    lent = np.empty((count, POINTS_PER_CORNER, 2, 3), np.float32) if out is None else out
+    _call("floats_all", numbers, lent)
+    return lent.reshape(-1)[: 2 * np.size(numbers)].reshape(-1, POINTS_PER_CORNER, 2, 3)
 
 
 def sample(numbers: np.ndarray, side: int, weights: Sequence[int], parts: int) -> np.ndarray:
@@ -339,12 +319,13 @@ def sample(numbers: np.ndarray, side: int, weights: Sequence[int], parts: int) -
 
 
 def tangents_at(numbers: np.ndarray, side: int, weights: Sequence[int], parts: int) -> np.ndarray:
-    """The two tangents at the same point: the derivatives towards the side's tail and towards the centre, in each of which the head's
-    weight falls as the other one rises. They are exact, in ticks times N^3: int64 of shape (2, 3). Refusals 18, 19, 32 and 33."""
+    """Two exact tangents at the point that `sample` gives: int64 of shape (2, 3), the derivative of the quartic towards the side's tail,
+    then the one towards the quad-net's centre, each times the cube of `parts`. On sides 0 and 2 their cross product points to where
+    the mesh's faces run counter-clockwise, on sides 1 and 3 to the other side. Refusals 18, 19, 32 and 33."""
     i, j, k = weights
-    tangents = np.empty(6, np.int64)
-    _call("tangents_at", numbers, side, i, j, k, parts, tangents)
-    return tangents.reshape(2, 3)
+    pair = np.empty((2, 3), np.int64)
+    _call("tangents_at", numbers, side, i, j, k, parts, pair)
+    return pair
 
 
 def sample_triangle(numbers: np.ndarray, side: int, parts: int, out: Optional[np.ndarray] = None) -> np.ndarray:
@@ -356,6 +337,45 @@ def sample_triangle(numbers: np.ndarray, side: int, parts: int, out: Optional[np
     points = np.empty((count, 3), np.int32) if out is None else out
     _call("sample_triangle", numbers, side, parts, points)
     return points.reshape(-1)[: 3 * count].reshape(-1, 3)
+
+
+def count_triangles(mesh: Mesh, links: np.ndarray, levels: np.ndarray, first: int = 0, count: Optional[int] = None) -> Size:
+    """How many points and triangles `triangles` makes of `count` corners from `first` on, or of all from there. Refusals 4 to 16, 27
+    and 28, then 39 and 40."""
+    count = max(0, np.size(mesh.corners) - first) if count is None else count
+    point_numbers, triangle_numbers = _single(), _single()
+    _call("count_triangles", *mesh._lists(), links, levels, first, count, point_numbers, triangle_numbers)
+    return Size(int(point_numbers[0]) // 3, int(triangle_numbers[0]) // 3)
+
+
+def triangles(mesh: Mesh, links: np.ndarray, levels: np.ndarray, first: int = 0, count: Optional[int] = None,
+              points: Optional[np.ndarray] = None, out: Optional[np.ndarray] = None) -> Tuple[np.ndarray, np.ndarray]:
+    """The surface as one closed mesh of triangles, each corner's quad-net at its own level, 1 to 16 (`levels`, uint8): the points and
+    the triangles of `count` corners from `first` on, or of all from there. Points are x, y, z in ticks, int32 of shape (points, 3);
+    triangles are three points each, uint32 of shape (triangles, 3), numbered over all corners of the mesh and wound as its faces
+    are. They are the beginnings of `points` and `out` or new ones; ranges one after another make the lists of all. Refusals 4 to 16,
+    27 and 28, then 39 and 40, then 255."""
+    count = max(0, np.size(mesh.corners) - first) if count is None else count
+    if points is None or out is None:
+        size = count_triangles(mesh, links, levels, first, count)
+        points = np.empty((size.points, 3), np.int32) if points is None else points
+        out = np.empty((size.triangles, 3), np.uint32) if out is None else out
+    point_numbers, triangle_numbers = _single(), _single()
+    _call("triangles", *mesh._lists(), links, levels, first, count, points, out, point_numbers, triangle_numbers)
+    return (points.reshape(-1)[: int(point_numbers[0])].reshape(-1, 3), out.reshape(-1)[: int(triangle_numbers[0])].reshape(-1, 3))
+
+
+def tangents(mesh: Mesh, links: np.ndarray, levels: np.ndarray, first: int = 0, count: Optional[int] = None,
+             out: Optional[np.ndarray] = None) -> np.ndarray:
+    """Two exact tangents at each point that `triangles` makes, in the order of the points: int64 of shape (points, 2, 3), the
+    derivative of the quartic towards the tail of the side that the point is taken on, then the one towards the quad-net's centre,
+    each times the cube of the number of parts. They are the beginning of `out` or a new array. Refusals as of `triangles`."""
+    count = max(0, np.size(mesh.corners) - first) if count is None else count
+    if out is None:
+        out = np.empty((count_triangles(mesh, links, levels, first, count).points, 2, 3), np.int64)
+    numbers = _single()
+    _call("tangents", *mesh._lists(), links, levels, first, count, out, numbers)
+    return out.reshape(-1)[: int(numbers[0])].reshape(-1, 2, 3)
 
 
 def nest(holders: np.ndarray, out: Optional[np.ndarray] = None) -> np.ndarray:

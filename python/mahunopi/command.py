@@ -1,4 +1,4 @@
-"""The command `mahunopi`: models get in, what a mesh is is told in words, and its surface is looked at."""
+"""The command `mahunopi`: models get in, what a mesh is is told in words, and its surface comes out and is looked at."""
 
 from __future__ import annotations
 
@@ -6,30 +6,31 @@ import argparse
 import contextlib
 import errno
 import io
-import json
+import math
 import os
+import re
 import signal
 import stat
 import sys
-import tempfile
-from fractions import Fraction
-from typing import Any, Callable, Iterator, List, NoReturn, Optional, Tuple, Union
+from typing import TYPE_CHECKING, Any, Callable, Iterable, Iterator, List, NoReturn, Optional, Tuple, Union
 
-from . import __version__
-from .calls import PLAIN_SHARPNESS, Kind, Mesh, Refused, decode, irregular, link, off, survey, turn
-from .dms import encode, is_off, lists, words
-from .importing import DEFAULT_LARGEST, LARGEST_COORDINATE, MOST_TOLD, Imported, import_model
-from .models import Unreadable, is_known, read
-from .nested import drawing, read_table
-from .nested import told as told_table
-from .reporting import Found, Lost, as_table, chunks_of, expanded, in_words, listed, page_lines
-from .shape import LEVELS, Shape, irregular_faces, irregular_vertices
-from .view import MARK, default_name, page
+# what only one of the commands needs, numpy above all, is imported there: a report starts in half the time
+from ._header import LIMITS, __version__
+from .library import DEFAULT_LARGEST, LARGEST_COORDINATE, MOST_SPACING, Refused, Unreadable
 
+if TYPE_CHECKING:
+    from fractions import Fraction
+
+    from .calls import Mesh
+    from .importing import Imported
+
+MAX_PARTS = LIMITS["MAX_PARTS"]
 REFUSED, FAILED = 1, 2
 INTERRUPTED, BROKEN_PIPE, ENDED = 130, 141, 143
 SIGNALS = (signal.SIGINT, signal.SIGTERM)
 MOST_JOBS = 1024
+DEFAULT_LEVEL = 4
+FORMATS = "OBJ, PLY, STL and GLB"
 
 DESCRIPTION = """\
 Coarse closed meshes and their smooth surfaces. FILE is a name, or - for standard input.
@@ -37,7 +38,11 @@ The status is 0 when all is done, 1 when a mesh is refused, 2 for wrong usage an
 
 
 class Parser(argparse.ArgumentParser):
-    """Says what is wrong in one line."""
+    """Says what is wrong in one line, and takes -1e-05 for a number."""
+
+    def __init__(self, *words: Any, **named: Any) -> None:
+        super().__init__(*words, **named)
+        self._negative_number_matcher = re.compile(r"-(\d+\.?\d*|\.\d+)([eE][-+]?\d+)?$")
 
     def error(self, message: str) -> NoReturn:
         self.exit(FAILED, f"{self.prog}: {message} ({self.prog} --help says more)\n")
@@ -81,6 +86,22 @@ def parser() -> Parser:
         one.add_argument("-o", dest="output", default="-", metavar="FILE",
                          help="where to write; a folder takes a .dms file for each FILE; without it standard output")
 
+    cut = command("triangles", "write the surface as one closed mesh of triangles with normals: OBJ, PLY, STL or GLB",
+                  "mahunopi triangles --spacing 2000 --undo-scale 5e-05 0.0 0.0 0.0 hull.dms -o hull.ply")
+    fine = cut.add_mutually_exclusive_group()
+    fine.add_argument("--level", type=_level, default=DEFAULT_LEVEL, metavar="N",
+                      help=f"cut the sides of each patch into N parts, 1 to {MAX_PARTS} (default {DEFAULT_LEVEL})")
+    fine.add_argument("--spacing", type=_spacing, metavar="TICKS",
+                      help="instead give each corner's patches the lowest level at which their longest control edge, divided by it, is at "
+                           "most so many ticks (a grid step has 256)")
+    cut.add_argument("--undo-scale", type=float, nargs=4, metavar=("STEP", "X", "Y", "Z"),
+                     help="write in the units of the model that was imported, by the numbers that `mahunopi import` printed; without it in "
+                          "grid steps")
+    cut.add_argument("--format", type=_format, metavar="NAME", help="the format, as ply, where the name of -o does not end in it")
+    cut.add_argument("-o", dest="output", default="-", metavar="FILE",
+                     help="where to write; a folder takes a file for each FILE; without it standard output")
+    cut.set_defaults(run=run_triangles, run_all=run_all_triangles)
+
     viewed = command("view", "make a page that shows a mesh's surface in a browser, or two meshes beside one another",
                      "mahunopi view before.dms after.dms -o both.html")
     viewed.add_argument("-o", dest="output", metavar="PAGE", help="the page; without it the mesh's name with .html, in this folder")
@@ -116,6 +137,30 @@ def _jobs(word: str) -> int:
     if not word.isdecimal() or not 1 <= int(word) <= MOST_JOBS:
         raise argparse.ArgumentTypeError(f"'{word}' is no number of 1 to {MOST_JOBS} processors")
     return int(word)
+
+
+def _level(word: str) -> int:
+    if not word.isdecimal() or not 1 <= int(word) <= MAX_PARTS:
+        raise argparse.ArgumentTypeError(f"'{word}' is no level of 1 to {MAX_PARTS}")
+    return int(word)
+
+
+def _spacing(word: str) -> int:
+    if not word.isdecimal() or not 1 <= int(word) <= MOST_SPACING:
+        raise argparse.ArgumentTypeError(f"'{word}' is no whole number of 1 to {MOST_SPACING} ticks")
+    return int(word)
+
+
+def _format(word: str) -> str:
+    from .writing import WRITERS
+
+    if _ending(word) not in WRITERS:
+        raise argparse.ArgumentTypeError(f"no writer knows the format '{word}', {FORMATS} are written")
+    return _ending(word)
+
+
+def _ending(word: str) -> str:
+    return word.lower().lstrip(".")
 
 
 def _length(word: str) -> float:
@@ -228,6 +273,7 @@ def _without_bar() -> Iterator[None]:
 def _outputs(asked: argparse.Namespace) -> List[str]:
     """Where each file's result goes."""
     output = asked.output
+    ending = getattr(asked, "ending", ".dms")
     if output is None:
         return [""] * len(asked.files)
     if output != "-" and os.path.isdir(output):
@@ -235,8 +281,8 @@ def _outputs(asked: argparse.Namespace) -> List[str]:
         if "" in bases:
             _wrong(asked, "standard input has no name that a file in a folder could have")
         if len(set(bases)) < len(bases):
-            _wrong(asked, f"two files would both become {[b for b in bases if bases.count(b) > 1][0]}.dms in {shown(output)}")
-        return [os.path.join(output, base + ".dms") for base in bases]
+            _wrong(asked, f"two files would both become {[b for b in bases if bases.count(b) > 1][0]}{ending} in {shown(output)}")
+        return [os.path.join(output, base + ending) for base in bases]
     if len(asked.files) > 1:
         _wrong(asked, "several files need a folder that is there, named by -o")
     if output == "-" and sys.stdout is not None and sys.stdout.isatty():
@@ -280,25 +326,28 @@ def _read(name: str) -> bytes:
         raise OSError(error.errno, error.strerror, "standard input") from None
 
 
-def _write(output: str, data: bytes) -> None:
-    """Writes a file beside where it belongs and renames it, so that it is there whole or not at all. What is no plain file, as a
-    device, is written to as it is."""
+def _write(output: str, parts: Iterable[Any]) -> None:
+    """Writes the parts of a file, bytes or arrays, beside where it belongs and renames it, so that it is there whole or not at all. What
+    is no plain file, as a device, is written to as it is."""
     if output == "-":
-        _put(data)
+        for part in parts:
+            _put(part)
         return
+    import tempfile
+
     path = os.path.realpath(output)
     there = os.stat(path).st_mode if os.path.exists(path) else None
     try:
         if there is not None and not stat.S_ISREG(there):
             with open(path, "wb") as file:
-                file.write(data)
+                file.writelines(parts)
             return
         handle, beside = tempfile.mkstemp(prefix=f".{os.path.basename(path)}.", dir=os.path.dirname(path))
     except OSError as error:
         raise OSError(error.errno, error.strerror, output) from None
     try:
         with open(handle, "wb") as file:
-            file.write(data)
+            file.writelines(parts)
         os.chmod(beside, stat.S_IMODE(there) if there is not None else 0o666 & ~_umask())
         os.replace(beside, path)
     except BaseException as error:
@@ -315,7 +364,7 @@ def _umask() -> int:
     return mask
 
 
-def _put(data: bytes) -> None:
+def _put(data: Any) -> None:
     """Writes to standard output."""
     if sys.stdout is None:
         raise OSError(errno.EBADF, os.strerror(errno.EBADF), "standard output")
@@ -348,6 +397,9 @@ def run_info(asked: argparse.Namespace, name: str, output: str) -> None:
 
 def _checked(name: str, data: bytes) -> Tuple[Mesh, int]:
     """The mesh of a .dms file or of an OFF text, which is accepted, and its version."""
+    from .calls import decode, off
+    from .dms import is_off
+
     try:
         return (off(data), 1) if is_off(data) else (decode(data), data[3])
     except Refused as refused:
@@ -356,6 +408,9 @@ def _checked(name: str, data: bytes) -> Tuple[Mesh, int]:
 
 def _in_words(refused: Refused, name: str, data: bytes) -> Refused:
     """The refusal of a file with what stands there."""
+    from .dms import words
+    from .models import is_known
+
     hint = "mahunopi import takes it"
     if refused.number == 1 and is_known(os.path.splitext(name)[1]):
         return Refused(1, 0, f"{refused.words} ({hint})")
@@ -375,6 +430,12 @@ def _in_words(refused: Refused, name: str, data: bytes) -> Refused:
 
 def told(mesh: Mesh, version: int) -> List[str]:
     """What a mesh is, in words, a line for each thing."""
+    from .calls import PLAIN_SHARPNESS, Kind, irregular, link, survey
+    from .dms import encode
+    from .importing import MOST_TOLD
+    from .shape import Shape, irregular_faces, irregular_vertices
+    from .surface import sizes
+
     counts = survey(encode(mesh))
     links = link(mesh)
     shape = Shape(mesh)
@@ -402,7 +463,7 @@ def told(mesh: Mesh, version: int) -> List[str]:
     sharper = int((mesh.sharpness.reshape(-1, 2) != PLAIN_SHARPNESS).any(axis=1).sum())
     lines.append(f"{counted(sharper, 'corner')} of other sharpness than {PLAIN_SHARPNESS} and {PLAIN_SHARPNESS}" if sharper else
                  f"sharpness {PLAIN_SHARPNESS} and {PLAIN_SHARPNESS} throughout")
-    lines.extend(f"level {level}: {shape.points_at(level):,} points, {shape.triangles_at(level):,} triangles" for level in LEVELS)
+    lines.extend(f"level {level}: {points:,} points, {triangles:,} triangles" for level, points, triangles in sizes(mesh))
     return lines
 
 
@@ -422,12 +483,16 @@ def fraction(number: Fraction) -> str:
 
 
 def run_import(asked: argparse.Namespace, name: str, output: str) -> None:
+    from .dms import encode
+    from .importing import import_model
+    from .models import read
+
     if name == "-" and not asked.format:
         _wrong(asked, "standard input has no name that tells the format, say it by --format")
     form = asked.format or os.path.splitext(name)[1]
     model = read(_read(name), form, None if name == "-" else name)
     made = import_model(model, asked.largest, asked.step, asked.as_drawn, asked.sharpness)
-    _write(output, encode(made.mesh, made.version))
+    _write(output, [encode(made.mesh, made.version)])
     _say(f"{shown(name)}: {done(made)}", output)
 
 
@@ -438,7 +503,7 @@ def done(made: Imported) -> str:
              "kept": "all kept as drawn", "flat": "no side is the outside"}[made.sense]
     return (f"{counted(made.points_before, 'point')} and {counted(made.faces_before, 'face')} became "
             f"{counted(mesh.coordinates.size // 3, 'vertex', 'vertices')}, {counted(mesh.sides.size, 'face')}, "
-            f"{mesh.corners.size:,} corners; a step is {made.step!r} about {' '.join(repr(float(x)) for x in made.centre)}; "
+            f"{mesh.corners.size:,} corners; --undo-scale {made.step!r} {' '.join(repr(float(x)) for x in made.centre)} undoes the scale; "
             f"{counted(made.turned, 'face')} turned, {sense}")
 
 
@@ -446,31 +511,75 @@ def done(made: Imported) -> str:
 
 
 def run_turn(asked: argparse.Namespace, name: str, output: str) -> None:
+    from .calls import turn
+    from .dms import encode, lists
+
     data = _read(name)
     try:
         mesh, version = lists(data)
     except Refused as refused:
         raise _in_words(refused, name, data) from None
     faces = turn(mesh).tolist()
-    _write(output, encode(mesh, version))
+    _write(output, [encode(mesh, version)])
     _say(f"{shown(name)}: {len(faces):,} of {counted(mesh.sides.size, 'face')} turned" + (": " if faces else "")
          + " ".join(map(str, faces)), output)
+
+
+# ---- triangles
+
+
+def run_all_triangles(asked: argparse.Namespace) -> int:
+    from .writing import WRITERS
+
+    if asked.undo_scale is not None and not (all(map(math.isfinite, asked.undo_scale)) and asked.undo_scale[0] > 0):
+        _wrong(asked, "--undo-scale takes the length of a step, above 0, and the centre's x, y, z")
+    if asked.format is None:
+        if asked.output == "-" or os.path.isdir(asked.output):
+            _wrong(asked, f"{'standard output' if asked.output == '-' else 'a folder'} has no name that tells the format, say it by --format")
+        asked.format = _ending(os.path.splitext(asked.output)[1])
+        if asked.format not in WRITERS:
+            _wrong(asked, f"the name of {shown(asked.output)} does not end in .obj, .ply, .stl or .glb, say the format by --format")
+    asked.ending = "." + asked.format
+    return _run_each(asked)
+
+
+def run_triangles(asked: argparse.Namespace, name: str, output: str) -> None:
+    from .surface import even_levels, spaced_levels, surface
+    from .writing import WRITERS, Scale
+
+    mesh, _ = _checked(name, _read(name))
+    coarse = 0
+    if asked.spacing is None:
+        levels = even_levels(mesh, asked.level)
+    else:
+        levels, coarse = spaced_levels(mesh, asked.spacing)
+    made = surface(mesh, levels)
+    scale = Scale() if asked.undo_scale is None else Scale(asked.undo_scale[0], asked.undo_scale[1:])
+    _write(output, WRITERS[asked.format](made, scale))
+    low, high = int(levels.min()), int(levels.max())
+    told = f"level {low}" if low == high else f"levels {low} to {high}"
+    more = f", where {counted(coarse, 'corner')} would need more" if coarse else ""
+    _say(f"{shown(name)}: {len(made.points):,} points, {len(made.triangles):,} triangles at {told}{more}", output)
 
 
 # ---- nest
 
 
 def run_nest(asked: argparse.Namespace, name: str, output: str) -> None:
+    from .nested import drawing, read_table, told
+
     table = read_table(_read(name))
     if asked.drawing is not None:
-        _write(asked.drawing, drawing(table))
-    _say("\n".join(told_table(table)), asked.drawing or "")
+        _write(asked.drawing, [drawing(table)])
+    _say("\n".join(told(table)), asked.drawing or "")
 
 
 # ---- view
 
 
 def run_view(asked: argparse.Namespace) -> int:
+    from .view import default_name, page
+
     files = asked.files
     if len(files) > 2:
         _wrong(asked, f"a page shows one mesh or two, not {len(files)}")
@@ -489,6 +598,8 @@ def run_view(asked: argparse.Namespace) -> int:
 
 
 def _is_page(path: str) -> bool:
+    from .view import MARK
+
     with contextlib.suppress(OSError), open(path, "rb") as file:
         return file.read(len(MARK)) == MARK
     return False
@@ -496,7 +607,7 @@ def _is_page(path: str) -> bool:
 
 def _show(output: str, data: bytes) -> None:
     """Writes a page, and opens it where somebody sits in front of a display."""
-    _write(output, data)
+    _write(output, [data])
     if output == "-":
         return
     _say(f"{shown(output)}: {len(data):,} bytes, to be opened in a browser")
@@ -511,6 +622,13 @@ def _show(output: str, data: bytes) -> None:
 
 
 def run_report(asked: argparse.Namespace) -> int:
+    from .reporting import Found, Lost, as_table, chunks_of, expanded, get_ready, in_words, listed, page_lines
+
+    def meanwhile() -> None:
+        if not asked.page:
+            with _held_back():
+                get_ready()
+
     names = list(asked.files)
     if "-" in names:
         _wrong(asked, "- is no file here; a list of names on standard input is --names -")
@@ -524,7 +642,7 @@ def run_report(asked: argparse.Namespace) -> int:
     found, stopped, why = Found(), 0, "interrupted"
     _start_bar(len(files))
     try:
-        with contextlib.closing(chunks_of(files, asked.jobs)) as chunks:
+        with contextlib.closing(chunks_of(files, asked.jobs, meanwhile)) as chunks:
             for chunk in chunks:
                 with _held_back():
                     found.add(chunk)
@@ -540,7 +658,7 @@ def run_report(asked: argparse.Namespace) -> int:
         for number in SIGNALS:
             signal.signal(number, signal.SIG_IGN)
     _end_bar()
-    table = as_table(found, files)
+    table = as_table(found, files, not asked.page)
     table["unreadable"] += [{"file": name, "words": words} for name, words in wrong]
     table.update(twice=twice, finished=not stopped)
     if asked.page:
@@ -549,8 +667,12 @@ def run_report(asked: argparse.Namespace) -> int:
             _complain(one["file"], one["words"])
         for name in twice:
             _complain(name, "named more than once, counted once")
+    elif asked.json:
+        import json
+
+        lines = [json.dumps(table, indent=1)]
     else:
-        lines = [json.dumps(table, indent=1)] if asked.json else in_words(table)
+        lines = in_words(table)
     status = _guarded("standard output", lambda: _say("\n".join(lines)) if lines else None)
     if stopped:
         _note(f"mahunopi report: {why}; this is the page of the first {found.names:,} of {len(files):,} files")

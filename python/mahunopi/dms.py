@@ -8,10 +8,8 @@ from typing import NamedTuple, Optional
 
 import numpy as np
 
-from .calls import PLAIN_SHARPNESS, Mesh, Refused, decode, off
-
-MARK = b"DMS"
-HEADER = len(MARK) + 4 * 2
+from .calls import PLAIN_SHARPNESS, Mesh, decode, off
+from .library import HEADER, MARK, Refused
 
 
 class Lists(NamedTuple):

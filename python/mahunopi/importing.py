@@ -7,12 +7,11 @@ from typing import Callable, Dict, List, Optional, Sequence, Tuple
 
 import numpy as np
 
-from .calls import MAX_CORNERS, MAX_FACES, MAX_SHARPNESS, MAX_SIDES, MAX_VERTICES, Mesh, Refused, link, turn
+from .calls import MAX_CORNERS, MAX_FACES, MAX_SHARPNESS, MAX_SIDES, MAX_VERTICES, Mesh, link, turn
+from .library import DEFAULT_LARGEST, LARGEST_COORDINATE, Refused
 from .models import Model, first_of_equals
 from .shape import Shape
 
-LARGEST_COORDINATE = 65_536
-DEFAULT_LARGEST = 60_000
 MOST_TOLD = 10
 
 

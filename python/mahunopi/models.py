@@ -15,9 +15,7 @@ from typing import Any, Dict, Iterator, List, Optional, Sequence, Tuple
 
 import numpy as np
 
-
-class Unreadable(Exception):
-    """A file that is none of its format, in words."""
+from .library import Unreadable
 
 
 @dataclass

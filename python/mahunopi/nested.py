@@ -3,17 +3,17 @@
 from __future__ import annotations
 
 import csv
+import html
 import io
 import math
 import re
 from dataclasses import dataclass
 from typing import Dict, List, Tuple
-from xml.sax.saxutils import escape
 
 import numpy as np
 
-from .calls import MAX_BODIES, SUN, Refused, nest
-from .models import Unreadable
+from .calls import MAX_BODIES, SUN, nest
+from .library import Refused, Unreadable
 
 SUN_NAME = "Sun"
 NO_BODY = SUN - 1
@@ -193,4 +193,4 @@ def _circle(kind: str, radius: float) -> str:
 
 def _label(kind: str, down: float, words: str) -> str:
     allowed = re.sub("[^\t\x20-\ud7ff\ue000-\ufffd\U00010000-\U0010ffff]", "\ufffd", words)
-    return f'<text{kind} y="{down:.1f}">{escape(allowed)}</text>'
+    return f'<text{kind} y="{down:.1f}">{html.escape(allowed, quote=False)}</text>'

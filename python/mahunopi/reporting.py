@@ -3,50 +3,54 @@ largest misses are."""
 
 from __future__ import annotations
 
-import multiprocessing
+import ctypes
+import marshal
 import os
+import select
 import signal
-from dataclasses import dataclass, field
-from typing import Any, Dict, Iterator, List, Optional, Sequence, Set, Tuple
+from typing import Any, Callable, Dict, Iterator, List, NoReturn, Optional, Sequence, Tuple
 
-import numpy as np
+from ._header import LIMITS
+from .library import HEADER, MOST_MISS, UNIT, Refused, functions
 
-from .borders import MOST_MISS, misses
-from .calls import (MAX_CORNERS, MAX_FACES, MAX_PAGE_MESHES, MAX_VERTICES, PAGE_NUMBERS, Refused, build, decode, link, merge, report,
-                    survey)
-from .dms import HEADER
-from .view import in_ticks
-
+PAGE_NUMBERS, MAX_PAGE_MESHES = LIMITS["PAGE_NUMBERS"], LIMITS["MAX_PAGE_MESHES"]
 # a page's numbers
 MESHES, CORNERS, BORDERS, FIRST_REFUSAL, FIRST_MISS = 0, 1, 2, 3, 17
 REFUSAL_NUMBERS = [*range(1, 14), 28]
 CONDITIONS = PAGE_NUMBERS - FIRST_MISS
-# what a processor is given at a time: a part of a page
-CHUNK = 64
-LONGEST_FILE = HEADER + 12 * MAX_VERTICES + MAX_FACES + 4 * MAX_CORNERS
+# what a processor is given at a time at least and at most: a power of two, so that pages are made of whole ones
+LEAST_CHUNK, MOST_CHUNK = 16, 256
+NUMBER_BYTES = 4
+LONGEST_FILE = HEADER + 12 * LIMITS["MAX_VERTICES"] + LIMITS["MAX_FACES"] + 4 * LIMITS["MAX_CORNERS"]
 ENDING = ".dms"
 
 
-@dataclass
+Page = ctypes.c_uint64 * PAGE_NUMBERS
+_Counts = ctypes.c_uint16 * (LIMITS["MAX_SIDES"] + 1)
+
+
 class Found:
     """What a run of files showed."""
 
-    pages: List[np.ndarray] = field(default_factory=list)
-    """A page for each 4,096 names, less where the run did not come so far; files that could not be read are on none."""
-    largest: List[Tuple[int, Optional[int]]] = field(default_factory=lambda: [(0, None)] * CONDITIONS)
-    """For each condition the largest miss, over 2^30 of a tick, and the first file that has it, by its place among the names."""
-    refused: List[Tuple[int, int, int]] = field(default_factory=list)
-    """Of each refused file its place among the names, and the refusal's number and place."""
-    unreadable: List[Tuple[int, str]] = field(default_factory=list)
-    """Of each file that could not be read its place among the names, and why."""
-    names: int = 0
-    """How many names the run came to."""
+    def __init__(self) -> None:
+        self.pages: List[List[int]] = []
+        """A page for each 4,096 names, less where the run did not come so far; files that could not be read are on none."""
+        self.largest: List[Tuple[int, Optional[int]]] = [(0, None)] * CONDITIONS
+        """For each condition the largest miss, over 2^30 of a tick, and the first file that has it, by its place among the names."""
+        self.refused: List[Tuple[int, int, int]] = []
+        """Of each refused file its place among the names, and the refusal's number and place."""
+        self.unreadable: List[Tuple[int, str]] = []
+        """Of each file that could not be read its place among the names, and why."""
+        self.names = 0
+        """How many names the run came to."""
 
     def add(self, chunk: Found) -> None:
         """Adds what the names after those so far showed."""
         if self.names % MAX_PAGE_MESHES == 0:
-            self.pages.append(np.zeros(PAGE_NUMBERS, np.uint64))
-        merge(chunk.pages[0], self.pages[-1])
+            self.pages.append([0] * PAGE_NUMBERS)
+        page = Page(*self.pages[-1])
+        _call("merge", Page(*chunk.pages[0]), page)
+        self.pages[-1] = list(page)
         for condition, (miss, at) in enumerate(chunk.largest):
             if at is not None and miss > self.largest[condition][0]:
                 self.largest[condition] = (miss, self.names + at)
@@ -56,10 +60,16 @@ class Found:
 
     def total(self) -> List[int]:
         """The pages as one, which may count more meshes than a page does."""
-        pages = np.array(self.pages, np.uint64).reshape(-1, PAGE_NUMBERS)
-        if not len(pages):
-            return [0] * PAGE_NUMBERS
-        return pages[:, :FIRST_MISS].sum(axis=0).tolist() + pages[:, FIRST_MISS:].max(axis=0).tolist()
+        columns = list(zip(*self.pages)) or [(0,)] * PAGE_NUMBERS
+        return [(sum if at < FIRST_MISS else max)(column) for at, column in enumerate(columns)]
+
+
+def _call(call: str, *arguments: Any) -> None:
+    """Calls the library without numpy: on many small files that is most of the time."""
+    place = ctypes.c_uint64()
+    answer = functions[call](*arguments, ctypes.byref(place))
+    if answer:
+        raise Refused(answer, place.value)
 
 
 class Lost(Exception):
@@ -68,8 +78,9 @@ class Lost(Exception):
 
 def report_on(names: Sequence[str]) -> Found:
     """What at most 4,096 files show."""
-    page = np.zeros(PAGE_NUMBERS, np.uint64)
-    found = Found([page], names=len(names))
+    page = Page()
+    found = Found()
+    largest = [0] * CONDITIONS
     for at, name in enumerate(names):
         try:
             data, length = read_file(name)
@@ -77,67 +88,150 @@ def report_on(names: Sequence[str]) -> Found:
             found.unreadable.append((at, getattr(error, "strerror", None) or str(error)))
             continue
         corners = page[CORNERS]
-        report(data, page, length)
+        _call("report", data, len(data), length, page)
         if page[CORNERS] == corners:
             try:
-                survey(data, length)
+                counts = [ctypes.byref(ctypes.c_uint64()) for _ in range(3)]
+                _call("survey", data, len(data), length, *counts, _Counts(), len(_Counts()), _Counts(), len(_Counts()))
             except Refused as refused:
                 found.refused.append((at, refused.number, refused.place))
-            continue
-        for condition, miss in enumerate(page[FIRST_MISS:].tolist()):
-            if miss > found.largest[condition][0]:
-                found.largest[condition] = (miss, at)
+        elif page[FIRST_MISS:] != largest:
+            for condition, miss in enumerate(page[FIRST_MISS:]):
+                if miss > largest[condition]:
+                    found.largest[condition] = (miss, at)
+            largest = page[FIRST_MISS:]
+    found.pages, found.names = [list(page)], len(names)
     return found
 
 
 def read_file(name: str) -> Tuple[bytes, int]:
     """A file's bytes, as many as a mesh may have, and its length."""
-    with open(name, "rb", buffering=0) as file:
-        data = file.read(LONGEST_FILE + 1) or b""
-        return data, max(len(data), os.fstat(file.fileno()).st_size)
+    file = os.open(name, os.O_RDONLY | os.O_CLOEXEC)
+    try:
+        data = os.read(file, LONGEST_FILE + 1)
+        return data, len(data) if len(data) <= LONGEST_FILE else max(len(data), os.fstat(file).st_size)
+    finally:
+        os.close(file)
 
 
-def chunks_of(names: Sequence[str], jobs: int) -> Iterator[Found]:
-    """What the files show, chunk by chunk in the order of the names, on so many processors."""
-    chunks = [names[at: at + CHUNK] for at in range(0, len(names), CHUNK)]
-    if len(chunks) <= 1:
+def chunks_of(names: Sequence[str], jobs: int, meanwhile: Callable[[], None] = lambda: None) -> Iterator[Found]:
+    """What the files show, chunk by chunk in the order of the names, on so many processors. `meanwhile` is called once these are at
+    work."""
+    size = LEAST_CHUNK
+    while size < MOST_CHUNK and 16 * jobs * size <= len(names):
+        size *= 2
+    chunks = [names[at: at + size] for at in range(0, len(names), size)]
+    if min(jobs, len(chunks)) <= 1:
         yield from map(report_on, chunks)
         return
-    # an interrupt goes to all processes of a terminal; it is for this one, which only adds, to end the others
-    before = signal.signal(signal.SIGINT, signal.SIG_IGN)
+    workers: Dict[int, int] = {}
+    """The process at the other end of each pipe."""
+    ready: Dict[int, Found] = {}
     try:
-        pool = multiprocessing.get_context("fork").Pool(min(jobs, len(chunks)), signal.signal, (signal.SIGTERM, signal.SIG_DFL))
+        _start(chunks, min(jobs, len(chunks)), workers)
+        meanwhile()
+        for number in range(len(chunks)):
+            while number not in ready:
+                for pipe in select.select(list(workers), [], [])[0]:
+                    _take(pipe, workers, ready)
+            yield ready.pop(number)
     finally:
-        signal.signal(signal.SIGINT, before)
-    with pool:
-        workers = _children()
-        results = pool.imap(report_on, chunks)
-        for _ in chunks:
-            while True:
-                try:
-                    chunk = results.next(timeout=1)
-                    break
-                except multiprocessing.TimeoutError:
-                    # what a process that was ended had in hand never comes
-                    if _children() != workers:
-                        raise Lost from None
-            yield chunk
+        for pipe, process in workers.items():
+            os.kill(process, signal.SIGKILL)
+            os.waitpid(process, 0)
+            os.close(pipe)
 
 
-def _children() -> Set[Optional[int]]:
-    return {child.pid for child in multiprocessing.active_children()}
+def _start(chunks: Sequence[Sequence[str]], jobs: int, workers: Dict[int, int]) -> None:
+    """Starts processes that report on chunks. multiprocessing would do, and takes as long to import as hundreds of files."""
+    # the numbers of the chunks in a file without a name: the processes read it at a common place, so that each number is read once
+    numbers = os.memfd_create("chunks")
+    os.write(numbers, b"".join(number.to_bytes(NUMBER_BYTES, "little") for number in range(len(chunks))))
+    os.lseek(numbers, 0, os.SEEK_SET)
+    # an interrupt goes to all processes of a terminal; it is for the first one, which only adds, to end the others
+    held = signal.pthread_sigmask(signal.SIG_BLOCK, (signal.SIGINT, signal.SIGTERM))
+    try:
+        for _ in range(jobs):
+            ours, theirs = os.pipe()
+            process = os.fork()
+            if process == 0:
+                _work(chunks, numbers, theirs)
+            os.close(theirs)
+            workers[ours] = process
+    finally:
+        signal.pthread_sigmask(signal.SIG_SETMASK, held)
+        os.close(numbers)
 
 
-def where(name: str, condition: int, miss: int) -> Optional[Tuple[int, int, str]]:
-    """The lowest corner of a file's mesh, with the side and the coordinate, that has this miss; none where the file is no longer what
-    it was."""
+def _work(chunks: Sequence[Sequence[str]], numbers: int, pipe: int) -> NoReturn:
+    """What a process does: reports on chunk after chunk, and writes what it found."""
+    status = 1
+    try:
+        signal.signal(signal.SIGINT, signal.SIG_IGN)
+        signal.signal(signal.SIGTERM, signal.SIG_DFL)
+        signal.pthread_sigmask(signal.SIG_UNBLOCK, (signal.SIGINT, signal.SIGTERM))
+        with open(pipe, "wb") as out:
+            number = os.read(numbers, NUMBER_BYTES)
+            while number:
+                found = marshal.dumps(vars(report_on(chunks[int.from_bytes(number, "little")])))
+                out.write(number + len(found).to_bytes(NUMBER_BYTES, "little") + found)
+                out.flush()
+                number = os.read(numbers, NUMBER_BYTES)
+        status = 0
+    except BrokenPipeError:
+        pass  # the first process has ended
+    except Exception:
+        import traceback
+
+        traceback.print_exc()
+    finally:
+        os._exit(status)
+
+
+def _take(pipe: int, workers: Dict[int, int], ready: Dict[int, Found]) -> None:
+    """Takes what a process has written of a chunk; or its end, which is in order when nothing is left to do."""
+    head = os.read(pipe, 2 * NUMBER_BYTES)
+    if not head:
+        status = os.waitpid(workers.pop(pipe), 0)[1]
+        os.close(pipe)
+        if status or not workers:
+            raise Lost
+        return
+    length = int.from_bytes(head[NUMBER_BYTES:], "little")
+    data = bytearray()
+    while len(data) < length:
+        more = os.read(pipe, length - len(data))
+        if not more:
+            raise Lost
+        data += more
+    found = Found()
+    vars(found).update(marshal.loads(data))
+    ready[int.from_bytes(head[:NUMBER_BYTES], "little")] = found
+
+
+def get_ready() -> None:
+    """Imports what `where` needs, which takes as long as hundreds of files."""
+    from . import borders, calls
+
+    assert borders and calls
+
+
+def where(name: str, misses: Sequence[Tuple[int, int]]) -> Dict[int, Tuple[int, int, str]]:
+    """For each pair of a condition and a miss the lowest corner of a file's mesh, with the side and the coordinate, that has this miss,
+    by condition; those are left out that the file, being no longer what it was, does not have."""
+    import numpy as np
+
+    from . import borders
+    from .calls import build, decode, link
+
     try:
         mesh = decode(*read_file(name))
     except (OSError, ValueError, Refused):
-        return None
+        return {}
     links = link(mesh)
-    found = np.argwhere(np.abs(misses(mesh, links, build(mesh, links)))[:, :, condition] == miss)
-    return (int(found[0][0]), int(found[0][1]), "xyz"[found[0][2]]) if len(found) else None
+    sizes = np.abs(borders.misses(mesh, links, build(mesh, links)))
+    found = {condition: np.argwhere(sizes[:, :, condition] == miss)[:1].tolist() for condition, miss in misses}
+    return {condition: (corner, side, "xyz"[axis]) for condition, places in found.items() for corner, side, axis in places}
 
 
 # ---- names
@@ -177,24 +271,24 @@ def expanded(names: Sequence[str]) -> Tuple[List[str], List[str], List[Tuple[str
 # ---- telling
 
 
-def as_table(found: Found, names: Sequence[str]) -> Dict[str, Any]:
-    """All of it as what JSON can hold."""
+def as_table(found: Found, names: Sequence[str], places: bool = True) -> Dict[str, Any]:
+    """All of it as what JSON can hold; the places of the largest misses only where these are wanted."""
     total = found.total()
-    largest = []
-    for condition, (miss, at) in enumerate(found.largest):
-        told: Dict[str, Any] = {"condition": condition + 1, "miss": miss, "ticks": in_ticks(miss)}
-        if at is not None:
-            told["file"] = names[at]
-            place = where(names[at], condition, miss)
-            if place is not None:
-                told.update(zip(("corner", "side", "coordinate"), place))
-        largest.append(told)
+    largest: List[Dict[str, Any]] = [{"condition": condition + 1, "miss": miss, "ticks": in_ticks(miss)}
+                                     for condition, (miss, _) in enumerate(found.largest)]
+    files = {at for _, at in found.largest if at is not None}
+    for at in files if places else ():
+        of_file = [(condition, miss) for condition, (miss, other) in enumerate(found.largest) if other == at]
+        there = where(names[at], of_file)
+        for condition, _ in of_file:
+            largest[condition]["file"] = names[at]
+            largest[condition].update(zip(("corner", "side", "coordinate"), there.get(condition, ())))
     return {"meshes": total[MESHES], "corners": total[CORNERS], "borders": total[BORDERS],
             "refused_by": dict(zip(map(str, REFUSAL_NUMBERS), total[FIRST_REFUSAL:FIRST_MISS])), "largest": largest,
             "refused": [{"file": names[at], "number": number, "place": place, "words": str(Refused(number, place))}
                         for at, number, place in found.refused],
             "unreadable": [{"file": names[at], "words": words} for at, words in found.unreadable],
-            "pages": [page.tolist() for page in found.pages], "names": len(names), "reported": found.names}
+            "pages": found.pages, "names": len(names), "reported": found.names}
 
 
 def in_words(table: Dict[str, Any]) -> List[str]:
@@ -217,7 +311,13 @@ def in_words(table: Dict[str, Any]) -> List[str]:
 
 def page_lines(found: Found) -> List[str]:
     """The lines that `report merge` of the Rattle program reads, one for each page."""
-    return ["page " + " ".join(map(str, page.tolist())) for page in found.pages]
+    return ["page " + " ".join(map(str, page)) for page in found.pages]
+
+
+def in_ticks(miss: int) -> str:
+    """A number over 2^30 of a tick in ticks, to thousandths, halves up: as the Rattle program `report` prints it."""
+    thousandths = (2000 * miss + UNIT) // (2 * UNIT)
+    return f"{thousandths // 1000}.{thousandths % 1000:03}"
 
 
 def _line(name: str) -> str:

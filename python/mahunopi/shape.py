@@ -9,8 +9,6 @@ import numpy as np
 
 from .calls import Mesh
 
-LEVELS = range(1, 17)
-
 
 class Shape:
     """The corners of a mesh, each with its face and the next and previous corner there. The side counts sum to the corners."""
@@ -84,15 +82,6 @@ class Shape:
         mine, theirs = normals[self.faces], normals[self.faces[links]]
         sine = np.linalg.norm(np.cross(mine, theirs), axis=1)
         return np.degrees(np.arctan2(sine, (mine * theirs).sum(axis=1)))
-
-    def points_at(self, level: int) -> int:
-        """The points of the closed triangle mesh with all corners at one level."""
-        corners = self.vertices.size
-        return len(self.points) + self.sides.size + corners // 2 + 2 * corners * (level - 1) + corners * (1 + 2 * level * (level - 1))
-
-    def triangles_at(self, level: int) -> int:
-        """The triangles of the same mesh."""
-        return 4 * self.vertices.size * level * level
 
 
 def irregular_faces(mesh: Mesh) -> List[int]:

@@ -11,9 +11,10 @@ from typing import Any, Dict, List, Sequence, Tuple
 
 import numpy as np
 
-from .borders import UNIT, misses
+from .borders import misses
 from .calls import Mesh, build, link
-from .models import Unreadable
+from .library import UNIT, Unreadable
+from .reporting import in_ticks
 from .shape import Shape, irregular_faces, irregular_vertices
 
 MARK = b"<!DOCTYPE html>\n<!-- A page of mahunopi view: "
@@ -43,12 +44,6 @@ def entry(name: str, mesh: Mesh) -> Dict[str, Any]:
     return {"name": _plain(name), "sense": -1 if Shape(mesh).volume() < 0 else 1, **packed,
             "irregular_vertices": irregular_vertices(mesh), "irregular_faces": irregular_faces(mesh),
             "largest": [in_ticks(miss) for miss in worst.max(axis=(0, 1)).tolist()]}
-
-
-def in_ticks(miss: int) -> str:
-    """A number over 2^30 of a tick in ticks, to thousandths, halves up: as the Rattle program `report` prints it."""
-    thousandths = (2000 * miss + UNIT) // (2 * UNIT)
-    return f"{thousandths // 1000}.{thousandths % 1000:03}"
 
 
 def _three() -> str:

@@ -67,6 +67,13 @@ def round_torus(p, q):
     return points, torus_faces(p, q)
 
 
+def size_at(mesh, level):
+    """The points and triangles of the surface with all corners at one level, in closed form."""
+    vertices, faces, corners = mesh.coordinates.size // 3, mesh.sides.size, mesh.corners.size
+    ends = vertices + faces + corners // 2
+    return ends + 2 * corners * (level - 1) + corners * (1 + 2 * level * (level - 1)), 4 * corners * level * level
+
+
 # ---- files
 
 

@@ -416,6 +416,89 @@ def multinomial(*parts):
     return math.factorial(sum(parts)) // math.prod(map(math.factorial, parts))
 
 
+def test_triangles_and_tangents():
+    mesh = with_sharpness(mesh_of(np.rint(prism(5)[0]), prism(5)[1]), 7 * np.arange(60) % 17)
+    links, levels = mahunopi.link(mesh), (1 + 5 * np.arange(30) % 16).astype(np.uint8)
+    points, indices = mahunopi.triangles(mesh, links, levels)
+    tangents = mahunopi.tangents(mesh, links, levels)
+    assert (points.dtype, indices.dtype, tangents.dtype, tangents.shape) == (np.int32, np.uint32, np.int64, (len(points), 2, 3))
+    assert mahunopi.count_triangles(mesh, links, levels) == mahunopi.Size(len(points), len(indices)) and indices.max() == len(points) - 1
+    # any cut into ranges gives the same, into lists that have more room too
+    room = np.full(len(points) * 3 + 5, -7, np.int32), np.full(len(indices) * 3 + 5, 7, np.uint32), np.full((len(points), 6), -7, np.int64)
+    for cuts in ([0, 30], [0, 1, 11, 12, 30]):
+        parts = []
+        for first, end in zip(cuts, cuts[1:]):
+            size = mahunopi.count_triangles(mesh, links, levels, first, end - first)
+            part = mahunopi.triangles(mesh, links, levels, first, end - first, room[0], room[1])
+            assert tuple(map(len, part)) == size and part[0].base is room[0]
+            parts.append((*(array.copy() for array in part), mahunopi.tangents(mesh, links, levels, first, end - first, out=room[2]).copy()))
+        for whole, pieces in zip((points, indices, tangents), zip(*parts)):
+            assert np.array_equal(np.concatenate(pieces), whole)
+    # level 1: four triangles, of which the first has the ends E0, E1 and the centre
+    one = np.ones(30, np.uint8)
+    points, indices = mahunopi.triangles(mesh, links, one)
+    net = mahunopi.build(mesh, links, 0, 1)[0]
+    assert points[indices[0]].tolist() == [net[0].tolist(), net[4].tolist(), mahunopi.sample(net, 0, (0, 0, 1), 1).tolist()]
+    tangents = mahunopi.tangents(mesh, links, one)[indices[0][0]]
+    assert tangents.tolist() == [(4 * (net[1] - net[0])).tolist(), (4 * (net[25] - net[0])).tolist()]
+
+
+def test_tangents_at_one_sample():
+    mesh = random_sharpness(cube())
+    links, levels = mahunopi.link(mesh), np.full(24, 2, np.uint8)
+    nets = mahunopi.build(mesh, links)
+    points, tangents = mahunopi.triangles(mesh, links, levels)[0], mahunopi.tangents(mesh, links, levels)
+    # corner 0 has its three ends, the middles of two curves, ring 1 and the centre: by side and weights
+    own = [(0, (2, 0, 0)), (1, (0, 2, 0)), (2, (2, 0, 0)), (0, (1, 1, 0)), (1, (1, 1, 0)), (0, (1, 0, 1)), (1, (0, 1, 1)), (2, (1, 0, 1)),
+           (3, (0, 1, 1)), (0, (0, 0, 2))]
+    for number, (side, weights) in enumerate(own):
+        assert np.array_equal(mahunopi.sample(nets[0], side, weights, 2), points[number])
+        assert np.array_equal(mahunopi.tangents_at(nets[0], side, weights, 2), tangents[number])
+    assert refused(mahunopi.tangents_at, nets[0], 4, (1, 0, 0), 1) == (32, 4)
+    assert refused(mahunopi.tangents_at, nets[0], 0, (1, 0, 0), 2) == (33, 2)
+    assert refused(mahunopi.tangents_at, nets[0].ravel()[1:], 0, (1, 0, 0), 1) == (18, 122)
+
+
+def test_floats_all():
+    mesh = random_sharpness(cube())
+    mesh.coordinates[0] = 65_536
+    nets = mahunopi.build(mesh, mahunopi.link(mesh))
+    pairs = mahunopi.floats_all(nets)
+    assert pairs.shape == (24, 41, 2, 3) and pairs.dtype == np.float32
+    for corner in range(0, 24, 5):
+        for point in range(41):
+            first, second = mahunopi.floats(nets[corner], point)
+            assert np.array_equal(pairs[corner, point, 0], first) and np.array_equal(pairs[corner, point, 1], np.zeros(3) if second is None else second)
+    assert np.array_equal(pairs.astype(np.float64).sum(axis=2), nets - nets[:, :1])
+    room = np.full(2 * 123 * 2 + 3, 7, np.float32)
+    assert np.array_equal(mahunopi.floats_all(nets[3:5], out=room), pairs[3:5]) and (room[-3:] == 7).all()
+    assert refused(mahunopi.floats_all, nets.ravel()[1:]) == (18, 24 * 123 - 1)
+    assert refused(mahunopi.floats_all, nets, out=room) == (255, 2 * 24 * 123)
+    nets[2, 1, 0] = 2**27 + 1
+    assert refused(mahunopi.floats_all, nets) == (19, 2 * 123 + 3)
+
+
+def test_refused_triangles():
+    mesh = cube()
+    links, levels = mahunopi.link(mesh), np.full(24, 2, np.uint8)
+    lent = np.full((194, 3), 7, np.int32), np.full((384, 3), 7, np.uint32)
+    both = {"points": lent[0], "out": lent[1]}
+    for call, more in ((mahunopi.count_triangles, {}), (mahunopi.triangles, both), (mahunopi.triangles, {}), (mahunopi.tangents, {})):
+        assert refused(call, mesh, links, levels[1:], **more) == (39, 23)
+        for wrong in (0, 17, 255):
+            levels[[5, 9]] = wrong
+            assert refused(call, mesh, links, levels, **more) == (40, 5)
+            assert refused(call, mesh, links, levels, 20, 5, **more) == (16, 20)
+            levels[:] = 2
+        assert refused(call, mesh, links[1:], levels[1:], **more) == (14, 23)
+        assert refused(call, mesh, links, levels, 24, **more) == (16, 24)
+    assert refused(mahunopi.triangles, mesh, links, levels, points=lent[0][1:], out=lent[1][1:]) == (255, 3 * 194)
+    assert refused(mahunopi.triangles, mesh, links, levels, points=lent[0], out=lent[1][1:]) == (255, 3 * 384)
+    assert refused(mahunopi.tangents, mesh, links, levels, out=np.zeros((193, 2, 3), np.int64)) == (255, 6 * 194)
+    assert (lent[0] == 7).all() and (lent[1] == 7).all()
+    assert tuple(map(len, mahunopi.triangles(mesh, links, levels, **both))) == (194, 384)
+
+
 def test_nest():
     def of(*holders):
         return np.array(holders, np.uint16)
@@ -494,6 +577,11 @@ def good_calls():
         "touched": dict(mesh=mesh, vertex=0, out=np.zeros(24, np.uint8)), "turn": dict(mesh=mesh, out=np.zeros(6, np.uint16)),
         "nest": dict(holders=np.array([SUN], np.uint16), out=np.zeros(1, np.uint16)),
         "archive": dict(numbers=net, out=np.zeros(492, np.uint8)), "restore": dict(data=np.zeros(12, np.uint8), out=np.zeros(3, np.int32)),
+        "count_triangles": dict(mesh=mesh, links=links, levels=np.ones(24, np.uint8)),
+        "triangles": dict(mesh=mesh, links=links, levels=np.ones(24, np.uint8), points=np.zeros((50, 3), np.int32), out=np.zeros((96, 3), np.uint32)),
+        "tangents": dict(mesh=mesh, links=links, levels=np.ones(24, np.uint8), out=np.zeros((50, 2, 3), np.int64)),
+        "tangents_at": dict(numbers=net, side=0, weights=(1, 0, 0), parts=1),
+        "floats_all": dict(numbers=net, out=np.zeros(246, np.float32)),
         "off": dict(text=text), "report": dict(data=data, page=page), "merge": dict(other=page.copy(), page=page),
     }
 
@@ -532,11 +620,15 @@ def test_wrong_types_shapes_and_layouts(name):
 @pytest.mark.parametrize("name", [name for name, arguments in good_calls().items() if "out" in arguments] + ["report", "merge"])
 def test_lists_that_are_written_to(name):
     call, arguments = getattr(mahunopi, name), good_calls()[name]
-    written = "out" if "out" in arguments else "page"
-    locked = arguments[written].copy()
-    locked.flags.writeable = False
-    with pytest.raises(ValueError):
-        call(**{**arguments, written: locked})
+    tried = 0
+    for list_name, array, replaced in lists_in(arguments):
+        if list_name in ("out", "points", "page"):
+            locked = array.copy()
+            locked.flags.writeable = False
+            with pytest.raises(ValueError):
+                call(**replaced(locked))
+            tried += 1
+    assert tried == (2 if name == "triangles" else 1)
 
 
 def test_lists_that_overlap():

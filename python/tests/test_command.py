@@ -12,7 +12,8 @@ import pytest
 
 import mahunopi
 from mahunopi.shape import Shape
-from shapes import CUBE_FACES, CUBE_POINTS, bipyramid, cube, faces_of, mesh_of, obj, off, ply, prism, round_torus, stl, torus, turned
+from mahunopi.surface import sizes
+from shapes import CUBE_FACES, CUBE_POINTS, bipyramid, cube, faces_of, mesh_of, obj, off, ply, prism, round_torus, size_at, stl, torus, turned
 
 ROOT = Path(__file__).resolve().parents[2]
 COMMAND = [str(ROOT / "mahunopi")]
@@ -91,10 +92,11 @@ def test_levels_are_those_of_sampled_nets():
     """A mesh of one level has the points of all nets' samples, shared, and four triangles in N^2 parts for each corner."""
     mesh = cube()
     points = mahunopi.build(mesh, mahunopi.link(mesh))
-    for level in (1, 2, 5):
-        seen = {tuple(p) for net in points for side in range(4) for p in mahunopi.sample_triangle(net, side, level).tolist()}
-        assert Shape(mesh).points_at(level) == len(seen)
-        assert Shape(mesh).triangles_at(level) == 24 * 4 * level * level
+    for level, count, triangles in sizes(mesh):
+        assert (count, triangles) == size_at(mesh, level)
+        if level in (1, 2, 5):
+            seen = {tuple(p) for net in points for side in range(4) for p in mahunopi.sample_triangle(net, side, level).tolist()}
+            assert count == len(seen) and triangles == 24 * 4 * level * level
 
 
 # ---- import
@@ -111,8 +113,8 @@ def test_import(room, name, data):
     assert (status, err) == (0, "")
     faces = 12 if "stl" in name else 6
     assert out.decode() == (
-        f"{name}: 8 points and {faces} faces became 8 vertices, {faces} faces, {36 if faces == 12 else 24} corners; a step is 5e-05 about "
-        "0.0 0.0 0.0; 0 faces turned, then all, to run clockwise seen from outside as .dms files do\n")
+        f"{name}: 8 points and {faces} faces became 8 vertices, {faces} faces, {36 if faces == 12 else 24} corners; --undo-scale 5e-05 "
+        "0.0 0.0 0.0 undoes the scale; 0 faces turned, then all, to run clockwise seen from outside as .dms files do\n")
     mesh = mahunopi.decode((room / "made.dms").read_bytes())
     assert Shape(mesh).volume() == -(120_000**3) and sorted(os.listdir()) == sorted([name, "made.dms"])
     # the same through pipes, and the line of what was done beside
@@ -128,7 +130,7 @@ def test_import_options(room):
     mesh = mahunopi.decode(data)
     assert data[3] == 2 and mesh.coordinates.max() == 2_000 and (mesh.sharpness == 16).all(axis=1).sum() == 24
     status, out, _ = run("import", "--largest", "500", "--as-drawn", "a.obj", "-o", "drawn.dms")
-    assert status == 0 and b"0 faces turned, all kept as drawn" in out and b"a step is 0.004 about 0.0 0.0 0.0" in out
+    assert status == 0 and b"0 faces turned, all kept as drawn" in out and b"; --undo-scale 0.004 0.0 0.0 0.0 undoes" in out
     mesh = mahunopi.decode((room / "drawn.dms").read_bytes())
     assert (room / "drawn.dms").read_bytes()[3] == 1 and mesh.coordinates.max() == 500 and Shape(mesh).volume() > 0
 
@@ -300,16 +302,16 @@ def test_files_are_whole_or_not_there(room, monkeypatch):
 
     (room / "made.dms").write_bytes(b"before")
     os.chmod("made.dms", 0o640)
-    command._write("made.dms", b"after")
+    command._write("made.dms", [b"after"])
     assert (room / "made.dms").read_bytes() == b"after" and os.stat("made.dms").st_mode & 0o777 == 0o640
     (room / "link.dms").symlink_to("made.dms")
-    command._write("link.dms", b"through")
+    command._write("link.dms", [b"through"])
     assert os.path.islink("link.dms") and (room / "made.dms").read_bytes() == b"through"
     mask = os.umask(0o027)
-    command._write("new.dms", b"new")
+    command._write("new.dms", [b"new"])
     os.umask(mask)
     assert os.stat("new.dms").st_mode & 0o777 == 0o640
-    command._write("/dev/null", b"nothing")
+    command._write("/dev/null", [b"nothing"])
     assert not os.path.isfile("/dev/null")
 
     def fails(*paths):
@@ -317,7 +319,7 @@ def test_files_are_whole_or_not_there(room, monkeypatch):
 
     monkeypatch.setattr(os, "replace", fails)
     with pytest.raises(KeyboardInterrupt):
-        command._write("made.dms", b"never")
+        command._write("made.dms", [b"never"])
     assert (room / "made.dms").read_bytes() == b"through" and sorted(os.listdir()) == ["link.dms", "made.dms", "new.dms"]
 
 

@@ -93,6 +93,40 @@ def test_the_first_command_of_the_readme(clone):
     assert run(clone, "--version")[0] == 0 and (clone / "target/asked").read_text().count("\n") == 2
 
 
+def test_a_library_that_is_older_than_its_sources_is_built_anew(clone, tmp_path):
+    """As after a pull: other text in a crate that the library is made from; not what only bears another time."""
+    (tmp_path / "tools/rt").write_text(re.sub("sleep [0-9.]+", ":", RT))
+    source, program = clone / "crates/mesh/src/lib.rt", clone / "crates/report/src/main.rt"
+    for path in (source, program):
+        path.parent.mkdir(parents=True)
+        path.write_text("first")
+    assert run(clone, "--version")[0] == 0
+    asked = clone / "target/asked"
+
+    def later(path, text, seconds):
+        path.write_text(text)
+        os.utime(path, (time.time() + seconds,) * 2)
+        return run(clone, "--version"), asked.read_text().count("staticlib")
+
+    # a program's source, and the same text at another time
+    for path, text in ((program, "second"), (source, "first")):
+        (status, _, err), built = later(path, text, -0.01)
+        assert (status, err, built) == (0, "", 1)
+    (status, _, err), built = later(source, "second", 0)
+    assert status == 0 and err.startswith("mahunopi: the library is older than its sources\nmahunopi: proving ") and built == 2
+    assert run(clone, "--version")[::2] == (0, "") and asked.read_text().count("staticlib") == 2
+    # where it was built by hand, times tell
+    (clone / "target/staticlib/made-from").unlink()
+    assert later(source, "second", 0)[1] == 3
+    source.write_text("third")
+    poor = ":".join(folder for folder in os.environ["PATH"].split(":") if not (Path(folder) / "rt").exists())
+    status, out, err = run(clone, "--version", env={**os.environ, "PATH": poor})
+    assert (status, out) == (2, "") and err.startswith("mahunopi: the library is older than its sources, and the Rattle kit")
+    (clone / "python/mahunopi/libmahunopi.so").unlink()
+    status, out, err = run(clone, "--version", env={**os.environ, "MAHUNOPI_LIB": str(clone)})
+    assert (status, out, err) == (2, "", f"mahunopi: MAHUNOPI_LIB names {clone}, which has no libmahunopi.a\n")
+
+
 def test_one_line_of_progress_on_a_terminal(clone):
     ours, theirs = pty.openpty()
     try:

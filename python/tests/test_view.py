@@ -15,7 +15,7 @@ from browser import browse, browser
 from mahunopi.borders import misses
 from mahunopi.shape import Shape
 from mahunopi.view import MARK, entry, in_ticks, page
-from shapes import cube, mesh_of, prism, round_torus
+from shapes import cube, mesh_of, prism, round_torus, size_at
 from test_command import room, run  # noqa: F401
 
 ROOT = Path(__file__).resolve().parents[2]
@@ -208,13 +208,14 @@ def test_the_page_in_a_browser(room):  # noqa: F811
     shape = Shape(mesh)
     for n, seen in found["levels"].items():
         n = int(n)
-        assert seen["told"] == f"{n}: {shape.points_at(n):,} points, {shape.triangles_at(n):,} triangles"
-        assert seen["triangles"] == shape.triangles_at(n) and seen["drawn"][0] > 100
+        points, triangles = size_at(mesh, n)
+        assert seen["told"] == f"{n}: {points:,} points, {triangles:,} triangles"
+        assert seen["triangles"] == triangles and seen["drawn"][0] > 100
         # counter-clockwise seen from outside, though the mesh runs clockwise
         assert seen["volume"] > 0 and shape.volume() < 0
     sums = [seen["drawn"][1] for seen in found["levels"].values()] + [found["start"][1], found["bare"][1]]
     assert len(set(sums)) == len(sums)
-    assert found["rendered"] == shape.triangles_at(5)
+    assert found["rendered"] == size_at(mesh, 5)[1]
     links = mahunopi.link(mesh)
     points = mahunopi.build(mesh, links)
     samples = np.concatenate([mahunopi.sample_triangle(points[c], s, 5) for c in range(40) for s in range(4)])

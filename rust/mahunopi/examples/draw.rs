@@ -53,9 +53,10 @@ fn main() -> Result<(), Box<dyn Error>> {
         let [p, q, r] = triangle.map(|v: usize| vertices[v].at);
         for x in 0..3 {
             let (y, z) = ((x + 1) % 3, (x + 2) % 3);
-            let area = (q[y] - p[y]) * (r[z] - p[z]) - (q[z] - p[z]) * (r[y] - p[y]);
-            triangle.iter().for_each(|&v| vertices[v].normal[x] += area);
-            volume += f64::from(p[x]) * f64::from(area) / 6.0;
+            let part = |a: [f32; 3], at: usize| f64::from(a[at] - p[at]);
+            let area = part(q, y) * part(r, z) - part(q, z) * part(r, y);
+            triangle.iter().for_each(|&v| vertices[v].normal[x] += area as f32);
+            volume += f64::from(p[x]) * area / 6.0;
         }
     }
     if volume < 0.0 {
@@ -65,6 +66,6 @@ fn main() -> Result<(), Box<dyn Error>> {
         let length = vertex.normal.iter().map(|x| x * x).sum::<f32>().sqrt().copysign(volume as f32);
         vertex.normal = vertex.normal.map(|x| x / length);
     }
-    println!("{} vertices, {} triangles, volume {:.2} cubic steps", vertices.len(), index.len(), volume.abs());
+    println!("{} vertices, {} triangles, volume {:.0} cubic steps", vertices.len(), index.len(), volume.abs());
     Ok(())
 }

@@ -2,17 +2,11 @@
 
 use std::fmt;
 
-/// Declares the faults: name, number, words, and what the place is where it is not always 0.
+/// Declares the faults: name, number, words, and what the place is where it is not always the same.
 macro_rules! faults {
     ($($name:ident = $number:literal, $words:literal, $place:expr;)*) => {
-        /// The faults that an input is turned down for, each with its number. A file is checked by 1 to 13, linking by
-        /// 4 to 14, building by 4 to 17, the search for an irregular face or vertex by 4 to 13, a control point in
-        /// floats by 18 to 20, a nesting table by 21 to 23, a sample by
-        /// 18, 19, 32 and 33, an OFF text by 24 to 26 and then 4 to 13, lists for the
-        /// archive by 30 and 31, each over the whole input before the next. A preview is checked by 29 and
-        /// then as building, the marks of a vertex by 29 and then 4 to 13, a model whose faces are to be turned by 36,
-        /// then 4 to 9, then 34 and 35, a page of the border report by 37 and 38, a call for triangles by 4 to 16 and
-        /// then 39 and 40. 27 is tried after 4, and 28 after 8, wherever these are.
+        /// The faults that an input is turned down for, each with its number. include/mahunopi.h says by which of them
+        /// each call is checked, and in which order; names, numbers and words come from there.
         #[derive(Clone, Copy, Debug, PartialEq, Eq, PartialOrd, Ord, Hash)]
         #[non_exhaustive]
         pub enum Fault {
@@ -30,7 +24,7 @@ macro_rules! faults {
                 }
             }
 
-            /// What the place of such a refusal is; none where it is always 0.
+            /// What the place of such a refusal is, as `vertex`; none where it is always the same number.
             pub fn place(self) -> Option<&'static str> {
                 match self {
                     $(Fault::$name => $place,)*
@@ -40,49 +34,7 @@ macro_rules! faults {
     };
 }
 
-faults! {
-    BadMark = 1, "the file has fewer than 11 bytes or another mark than DMS", None;
-    BadVersion = 2, "the file's version is neither 1 nor 2", None;
-    BadFileLength = 3, "the file's length is not 11 + 12 times vertices + faces + 2 times corners, plus twice the corners in version 2", None;
-    BadCounts = 4, "no vertices or above 2,048, no faces or above 4,096, no corners or above 8,192, or a coordinate list whose length is no multiple of three", None;
-    BadSideCount = 5, "a side count is outside 3 to 16", Some("the face");
-    BadSideSum = 6, "the side counts do not sum to the corner count", Some("the sum");
-    BadCoordinate = 7, "a coordinate is outside -65,536 to 65,536", Some("its position in the list");
-    NoSuchVertex = 8, "a corner names a vertex not below the vertex count", Some("the corner");
-    VertexTwiceInFace = 9, "a corner names the vertex of an earlier corner of its face", Some("the later corner");
-    EdgeTwice = 10, "a leaving edge, with its direction, already left an earlier corner", Some("the later corner");
-    EdgeWithoutReverse = 11, "a leaving edge has no reverse among the leaving edges", Some("the corner");
-    BadCornersOfVertex = 12, "a vertex is named by fewer than 3 or more than 16 corners", Some("the vertex");
-    CornerNotMet = 13, "a vertex has a corner not met when following links from its lowest corner until that corner comes back", Some("the vertex");
-    BadLinkTableLength = 14, "the link table's length is not the corner count", Some("its length");
-    BadLink = 15, "the link table differs from what linking writes", Some("the corner");
-    BadRange = 16, "the count asked is 0, or the first corner plus the count exceeds the corner count", Some("the first corner");
-    BadOutputLength = 17, "the output's length is not 123 times the count", Some("its length");
-    BadNetLength = 18, "the list of a corner's numbers is not 123 long", Some("its length");
-    BadNumber = 19, "a number in the list is outside -2^27 to 2^27", Some("its position in the list");
-    NoSuchPoint = 20, "the point number is above 40", Some("that number");
-    BadBodyCount = 21, "there are no bodies, above 256, or the listing's length differs from the bodies'", None;
-    NoSuchHolder = 22, "a number is neither below the body count nor 65,535", Some("the body");
-    ChainWithoutSun = 23, "a chain does not end at the Sun", Some("the lowest such body");
-    BadOffStart = 24, "a lent list is too short, or the first word is missing or not OFF", None;
-    BadWord = 25, "a needed word is missing, is no decimal whole number of at most nine digits, or is out of its range", Some("the word's number");
-    WordTooMany = 26, "a word stands after the last face", Some("the word's number");
-    BadSharpnessLength = 27, "the sharpness list is not twice as long as the corner list", Some("its length");
-    BadSharpness = 28, "a sharpness number is above 16", Some("its position in the sharpness list");
-    NoVertexToMove = 29, "the vertex is not below a third of the coordinate list's length", Some("the vertex");
-    BadNumberCount = 30, "the number list's length is no multiple of three", Some("its length");
-    BadByteCount = 31, "the byte list is not four times as long as the number list", Some("its length");
-    NoSuchSide = 32, "the side is above 3", Some("the side");
-    BadWeights = 33, "the number of parts is outside 1 to 16, or the weights do not sum to it", Some("the number of parts");
-    EdgeNotInTwoFaces = 34, "an edge, its direction ignored, is not in exactly two faces", Some("the lowest corner it leaves");
-    NoChoiceOfTurns = 35, "no choice of turns makes the model pass 10 and 11", Some("the lowest face of the lowest part that has none");
-    BadListingLength = 36, "the listing's length is not the face count", Some("its length");
-    PageFull = 37, "the page counts 4,096 meshes or more, or two pages more than that together", Some("the most meshes of a run");
-    PageNumber = 38, "a number on the page is above 2^40", None;
-    BadLevelCount = 39, "the level list's length is not the corner count", Some("its length");
-    BadLevel = 40, "a level is outside 1 to 16", Some("the lowest such corner");
-    LentTooShort = 255, "a lent list is too short for what it is to hold, or has not a mark for each corner", Some("the length it needs");
-}
+include!(concat!(env!("OUT_DIR"), "/faults.rs"));
 
 impl Fault {
     /// The number that the library answers.
@@ -113,7 +65,7 @@ impl Fault {
 /// assert_eq!((refusal.fault, refusal.place), (Fault::BadCornersOfVertex, 0));
 /// assert_eq!(
 ///     refusal.to_string(),
-///     "refused by 12: a vertex is named by fewer than 3 or more than 16 corners (the vertex is 0)"
+///     "refused 12 at vertex 0: a vertex is named by fewer than 3 or more than 16 corners"
 /// );
 /// ```
 #[derive(Clone, Copy, Debug, PartialEq, Eq)]
@@ -139,11 +91,11 @@ impl Refusal {
 
 impl fmt::Display for Refusal {
     fn fmt(&self, out: &mut fmt::Formatter<'_>) -> fmt::Result {
-        write!(out, "refused by {}: {}", self.number(), self.fault.words())?;
-        match self.fault.place() {
-            Some(name) => write!(out, " ({name} is {})", self.place),
-            None => Ok(()),
+        write!(out, "refused {}", self.number())?;
+        if let Some(name) = self.fault.place() {
+            write!(out, " at {name} {}", self.place)?;
         }
+        write!(out, ": {}", self.fault.words())
     }
 }
 

@@ -140,10 +140,8 @@ fn limits_of_a_page() {
     assert_eq!(
         (full.to_string(), beyond.to_string()),
         (
-            "refused by 37: the page counts 4,096 meshes or more, or two pages more than that together \
-             (the most meshes of a run is 4096)"
-                .to_string(),
-            "refused by 38: a number on the page is above 2^40".to_string()
+            "refused 37: a page counts 4,096 meshes or more; two pages to be merged count more than 4,096".to_string(),
+            "refused 38: a number on a page is above 2^40".to_string()
         )
     );
 }

@@ -4,9 +4,9 @@ use std::num::NonZeroUsize;
 use std::thread;
 
 use mahunopi::{
-    build, build_all, build_into, count_triangles, decode, irregular, link, link_into, off, preview, preview_into,
-    ranges, survey, survey_counted, touched, touched_into, triangles_into, Fault, Irregular, Mesh, MeshRef, Refusal,
-    CALL_STACK, MAX_SIDES, NUMBERS_PER_CORNER, VERSION,
+    build, build_all, build_into, decode, irregular, link, link_into, off, preview, preview_into, ranges, survey,
+    survey_counted, touched, touched_into, Fault, Irregular, Mesh, MeshRef, Refusal, CALL_STACK, MAX_SIDES,
+    NUMBERS_PER_CORNER, VERSION,
 };
 
 const CUBE: &[u8] = include_bytes!("../../../meshes/cube.dms");
@@ -46,16 +46,18 @@ fn text_of(mesh: &Mesh) -> String {
 #[test]
 fn every_fault_has_a_number_and_one_line_of_words() {
     let numbers: Vec<u32> = Fault::ALL.iter().map(|fault| fault.number()).collect();
-    assert_eq!(numbers, (1..=40).chain([255]).collect::<Vec<u32>>());
+    // every number from 1 on, and last the one of a list that is too short
+    let last = numbers.len() as u32 - 1;
+    assert_eq!(numbers, (1..=last).chain([255]).collect::<Vec<u32>>());
     for &fault in Fault::ALL {
         assert_eq!(Fault::of_number(fault.number()), Some(fault));
         assert!(!fault.words().is_empty() && !fault.words().contains('\n'));
         let line = Refusal::new(fault, 5).to_string();
-        assert!(line.starts_with(&format!("refused by {}: {}", fault.number(), fault.words())) && !line.contains('\n'));
-        assert_eq!(line.ends_with("is 5)"), fault.place().is_some(), "{line}");
-        assert_eq!(fault.place().is_some(), ![1, 2, 3, 4, 21, 24, 38].contains(&fault.number()), "{line}");
+        let at = fault.place().map_or(String::new(), |place| format!(" at {place} 5"));
+        assert_eq!(line, format!("refused {}{at}: {}", fault.number(), fault.words()));
+        assert_eq!(fault.place().is_some(), ![1, 2, 3, 4, 21, 24, 37, 38].contains(&fault.number()), "{line}");
     }
-    for number in [0, 41, 254, 256, u32::MAX] {
+    for number in [0, last + 1, 254, 256, u32::MAX] {
         assert_eq!(Fault::of_number(number), None);
     }
 }
@@ -85,7 +87,6 @@ fn the_header_has_the_same_names() {
         ("NUMBERS_PER_CORNER", NUMBERS_PER_CORNER),
         ("MAX_BODIES", mahunopi::MAX_BODIES),
         ("SUN", usize::from(mahunopi::SUN)),
-        ("MAX_PARTS", mahunopi::MAX_PARTS),
         ("PAGE_NUMBERS", mahunopi::PAGE_NUMBERS),
         ("MAX_PAGE_MESHES", mahunopi::MAX_PAGE_MESHES as usize),
         ("CALL_STACK", CALL_STACK),
@@ -143,7 +144,7 @@ fn sharpness_of_a_mesh() {
     assert_eq!(refused(beyond), Refusal::new(Fault::BadSharpness, 5));
     assert_eq!(
         refused(vec![17; 48]).to_string(),
-        "refused by 28: a sharpness number is above 16 (its position in the sharpness list is 0)"
+        "refused 28 at position in the sharpness list 0: a sharpness number is above 16"
     );
 }
 
@@ -250,7 +251,6 @@ fn the_stack_that_a_call_needs() {
     let bytes = file_of(&mesh);
     let text = text_of(&mesh);
     let whole = vec![0; NUMBERS_PER_CORNER * 8_192];
-    let (mut points, mut three) = (vec![0; 3 * 8_192 * 10], vec![0; 3 * 8_192 * 16]);
     let call = move || {
         let links = link(&mesh).unwrap();
         let mut output = whole;
@@ -261,9 +261,6 @@ fn the_stack_that_a_call_needs() {
         assert_eq!(irregular(&mesh), Ok(Irregular::None { sides_read: 2_048 }));
         preview_into(&mesh, &links, 0, 8_192, 2_047, [1, 2, 3], &mut output).unwrap();
         assert_eq!(touched(&mesh, 2_047).unwrap().len(), 36);
-        let lengths = triangles_into(&mesh, &links, &[2; 8_192], 0, 8_192, &mut points, &mut three).unwrap();
-        assert_eq!(count_triangles(&mesh, &links, &[2; 8_192], 0, 8_192), Ok(lengths));
-        assert_eq!(lengths.triangles, 3 * 8_192 * 16);
     };
     thread::Builder::new().stack_size(CALL_STACK).spawn(call).unwrap().join().unwrap();
 }

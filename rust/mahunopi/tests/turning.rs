@@ -83,10 +83,7 @@ fn refusals() {
         refusal
     };
     let bottle = torus(4, 5, true);
-    assert_eq!(
-        refused(&bottle).to_string(),
-        "refused by 35: no choice of turns makes the model pass 10 and 11 (the lowest face of the lowest part that has none is 0)"
-    );
+    assert_eq!(refused(&bottle).to_string(), "refused 35 at face 0: no choice of turns makes the model pass 10 and 11");
     // face 3 of a torus left out: the lowest edge that is now in one face leaves corner 9, of face 2
     let mut open = torus(4, 5, false);
     open.sides.remove(3);
