@@ -21,7 +21,7 @@ SECONDS = 300
 # what three readers from outside had to ask about
 UNCLEAR = ["gone over", "said of", "asked besides", "the fringe"]
 # in code font, and no name of ours: what programs read and write, letters, words of the languages, programs that come with the machine
-TEXTS = set("""sun page refused merge as-drawn OFF DMS NAME PREFIX K c e s rt python3 gzip xz .dms ? # requires ensures pub as if match Result""".split())
+TEXTS = set("""sun page refused merge as-drawn OFF DMS NAME PREFIX K c e s rt python3 gzip xz .dms ? # requires ensures pub as if match usize Result""".split())
 RT = {"check", "prove", "dev", "staticlib", "try", "must-fail", "ci", "goals", "mir", "fmt", "doc", "version", "selftest"}
 
 
@@ -61,7 +61,7 @@ def declared(path, text):
     kind = path.rsplit(".", 1)[-1]
     if kind == "rt":
         text = re.sub(r"//.*", "", text)
-        found = set(re.findall(r"\b(?:fn|struct|enum|const|mod)\s+(\w+)", text)) | set(re.findall(r"(?m)^\s+(?:pub )?(\w+):", text))
+        found = set(re.findall(r"\b(?:fn|struct|enum|const|mod)\s+(\w+)", text)) | set(re.findall(r"(?m)^\s+(?:pub )?(\w+):(?!:)", text))
         for body in re.findall(r"\benum \w+ \{(.*?)\n\}", text, re.S):
             found.update(re.findall(r"\b([A-Z]\w*)", body))
         return found
@@ -76,7 +76,7 @@ def declared(path, text):
     if kind == "py" or text.startswith("#!/usr/bin/env python3"):
         return set(re.findall(r"\b(?:def|class)\s+(\w+)", text)) | set(re.findall(r"(?m)^(\w+)\s*=", text)) | set(re.findall(r'"(--?[a-z][\w-]*)"', text))
     if kind == "rs":
-        return set(re.findall(r"\b(?:fn|struct|enum|const|mod|type|trait)\s+(\w+)", text)) | set(re.findall(r"(?m)^\s+(?:pub )?(\w+):", text))
+        return set(re.findall(r"\b(?:fn|struct|enum|const|mod|type|trait)\s+(\w+)", text)) | set(re.findall(r"(?m)^\s+(?:pub )?(\w+):(?!:)", text))
     return set()
 
 
