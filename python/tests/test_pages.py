@@ -29,6 +29,9 @@ def text_of(page):
     return page.read_text("utf-8")
 
 
+README = text_of(ROOT / "README.md")
+
+
 def prose(page):
     """A page without its fenced and indented blocks."""
     text = re.sub(r"(?ms)^```.*?^```$", "", text_of(page))
@@ -208,6 +211,17 @@ def test_pages_are_short_and_plain():
 
 
 
+def test_limits_are_the_header_s():
+    header = dict(re.findall(r"(?m)^#define MAHUNOPI_(\w+) (\d+)$", text_of(ROOT / "include/mahunopi.h")))
+    limits = README.split("## Limits")[1].split("\n## ")[0]
+    for name in ("MAX_VERTICES", "MAX_FACES", "MAX_CORNERS", "MIN_SIDES", "MAX_SIDES", "MAX_SHARPNESS", "PLAIN_SHARPNESS"):
+        assert re.search(rf"(?<![\d,]){int(header[name]):,}(?![\d,])", limits), f"README.md: MAHUNOPI_{name} is {header[name]}"
+    newest = re.search(r"(?ms)^## Version (\d+)(.*?)^## ", text_of(ROOT / "CHANGES.md"))
+    assert newest[1] == header["VERSION"]
+    stack = re.search(r"up to (\d+) KB \(`MAHUNOPI_CALL_STACK`", newest[2])
+    assert stack and int(stack[1]) * 1024 == int(header["CALL_STACK"]), f"CHANGES.md: MAHUNOPI_CALL_STACK is {int(header['CALL_STACK']) // 1024} KB"
+
+
 def test_the_house_has_every_crate_on_its_layer(crates):
     table = text_of(ROOT / "docs/HOUSE.md").split("## Layers")[1].split("## ")[0]
     rows = [row.split("|")[2] for row in table.split("\n") if row.startswith("| ") and not row.startswith("| layer")]
@@ -254,7 +268,6 @@ def test_programs_run_with_the_stack_that_the_page_says(tmp_path):
 
 # ---- README: its commands and its programs
 
-README = text_of(ROOT / "README.md")
 LIBRARY = Path(os.environ.get("MAHUNOPI_LIB") or ROOT / "target/staticlib")
 
 
