@@ -160,7 +160,8 @@ def missing(text, files, crates, names, commands):
             return text
         return None
     if re.fullmatch(r"mahunopi(\.\w+)+", text):
-        return None if all(part in names or f"python/mahunopi/{part}.py" in files for part in text.split(".")[1:]) else text
+        return None if all(any(path.startswith("python/") for path in names.get(part, ())) or f"python/mahunopi/{part}.py" in files
+                           for part in text.split(".")[1:]) else text
     if "::" in text:
         return None if is_qualified(text.rstrip("()?"), files, crates, names) else text
     if "/" in text or re.search(r"\.(antt|rt|md|h|py|c|cpp|rs|txt|dms|off|svg|png|csv|html|edit|a|so)$", text):
@@ -175,6 +176,11 @@ def test_what_a_page_names_is_there(page, files, crates, names, commands):
     for target in re.findall(r"\]\(([^)#]+)\)", text):
         if not target.startswith("http") and not (page.parent / target).exists():
             wrong.append(f"link to {target}")
+    # `a`, `b` (File.antt): both are declared in a file of that name
+    for group, file in re.findall(r"((?:`[^`\n]+`(?:, | and ))*`[^`\n]+`) \(((?:[\w/]+/)?\w+\.antt)", text):
+        for name in re.findall(r"`([^` ]+)`", group):
+            if name in names and not any(f"/{path}".endswith(f"/{file}") for path in names[name]):
+                wrong.append(f"`{name}` in {file}")
     bare = re.sub(r"`[^`\n]*`|\]\([^)]*\)", " ", text)
     for path in re.findall(r"(?<![\w./])((?:\.ci|crates|docs|python|rust|meshes|examples|include)/[\w./*-]+|\w+\.antt)", bare):
         if not is_path(path, files, crates):
