@@ -257,17 +257,21 @@ def largest_mesh():
 
 
 def test_programs_run_with_the_stack_that_the_page_says(tmp_path):
-    head, _, sizes = text_of(ROOT / "docs/PROGRAMS.md").split("## Stack")[1].strip().split("\n\n")[1].split("\n")
+    page = text_of(ROOT / "docs/PROGRAMS.md")
+    head, _, sizes = page.split("## Stack")[1].strip().split("\n\n")[1].split("\n")
+    named = {name for row in re.findall(r"(?m)^\| (`.*?) \|", page.split("## Conventions")[0]) for name in re.findall(r"`(\w+)", row)}
     cells = lambda row: [cell.strip() for cell in row.strip("|").split("|")]
     file, text = largest_mesh()
     (tmp_path / "torus.dms").write_bytes(file)
-    given = {"archive": bytes(1_572_864), "restore": bytes(1_572_864), "off2dms": text, "nest": b"sun\n" + b"0\n" * 255, "report": b"torus.dms\n"}
+    given = {"archive": bytes(1_572_864), "restore": bytes(1_572_864), "off2dms": text, "report": b"torus.dms\n",
+             "nest": b"sun\n" + b"".join(b"%d\n" % body for body in range(255))}
+    words = {"tessellate": "1"}
     programs = dict(zip(cells(head), cells(sizes)))
-    assert len(programs) == 9
+    assert sorted(programs) == sorted(named), "docs/PROGRAMS.md: the tables differ"
     for program, size in programs.items():
         if not (ROOT / "target/bin" / program).exists():
             pytest.skip(f"target/bin/{program} is not built (rt check {program})")
-        done = subprocess.run(["sh", "-c", f"ulimit -s {size.replace(',', '')} && exec {ROOT / 'target/bin' / program}"], cwd=tmp_path,
+        done = subprocess.run(["sh", "-c", f"ulimit -s {size.replace(',', '')} && exec {ROOT / 'target/bin' / program} {words.get(program, '')}"], cwd=tmp_path,
                               input=given.get(program, file), capture_output=True, timeout=SECONDS, check=False)
         assert done.returncode == 0 and done.stdout and not done.stderr, f"{program} with {size} KB: {done.returncode} {done.stderr[:200]}"
 
