@@ -163,7 +163,8 @@ def missing(text, files, crates, names, commands):
         return None if all(any(path.startswith("python/") for path in names.get(part, ())) or f"python/mahunopi/{part}.py" in files
                            for part in text.split(".")[1:]) else text
     if "::" in text:
-        return None if is_qualified(text.rstrip("()?"), files, crates, names) else text
+        # or a target of CMake
+        return None if is_qualified(text.rstrip("()?"), files, crates, names) or f" {text} " in text_of(ROOT / "install") else text
     if "/" in text or re.search(r"\.(antt|rt|md|h|py|c|cpp|rs|txt|dms|off|svg|png|csv|html|edit|a|so)$", text):
         return None if is_path(text, files, crates) else text
     return text
@@ -222,6 +223,7 @@ def test_limits_are_the_header_s():
     limits = README.split("## Limits")[1].split("\n## ")[0]
     for name in ("MAX_VERTICES", "MAX_FACES", "MAX_CORNERS", "MIN_SIDES", "MAX_SIDES", "MAX_SHARPNESS", "PLAIN_SHARPNESS"):
         assert re.search(rf"(?<![\d,]){int(header[name]):,}(?![\d,])", limits), f"README.md: MAHUNOPI_{name} is {header[name]}"
+    assert f"`find_package(mahunopi {header['VERSION']})`" in text_of(ROOT / "docs/PROGRAMS.md")
     newest = re.search(r"(?ms)^## Version (\d+)(.*?)^## ", text_of(ROOT / "CHANGES.md"))
     assert newest[1] == header["VERSION"]
     stack = re.search(r"up to (\d+) KB \(`MAHUNOPI_CALL_STACK`", newest[2])
