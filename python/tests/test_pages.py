@@ -331,7 +331,7 @@ def test_the_commands_of_the_readme(command, checkout, crates, commands):
     # a report on the samples names the one that is refused
     assert done.returncode == (1 if command == "./mahunopi report meshes" else 0), done.stdout + done.stderr
     assert not done.stderr
-    for said in re.findall(rf"prints `([^`]+)`", README.split(command)[1].split("```")[1]) if command in blocks("sh")[0] else ():
+    for said in re.findall(r"prints `([^`]+)`", README.split(command)[1].split("```")[1]) if command in blocks("sh")[0] else ():
         assert re.fullmatch(re.sub(r"\d[\d,]*", r"[\\d,]+", re.escape(said)), done.stdout.strip()), done.stdout
     written = re.search(r"-o (\S+)", command)
     if written:
@@ -361,8 +361,9 @@ def test_the_rust_of_the_readme(tmp_path):
     (tmp_path / "Cargo.toml").write_text('[package]\nname = "readme"\nversion = "0.0.0"\nedition = "2021"\n[dependencies]\n'
                                          f'mahunopi = {{ path = "{ROOT / "rust/mahunopi"}" }}\n')
     path = os.environ["PATH"] + ":" + os.path.expanduser("~/.cargo/bin")
-    done = subprocess.run(["cargo", "run", "--quiet", "--offline", "--manifest-path", tmp_path / "Cargo.toml"], cwd=ROOT, capture_output=True, text=True,
-                          env={**os.environ, "PATH": path, "MAHUNOPI_LIB": str(LIBRARY), "CARGO_TARGET_DIR": str(tmp_path / "target")}, timeout=SECONDS, check=False)
+    around = {**os.environ, "PATH": path, "MAHUNOPI_LIB": str(LIBRARY), "CARGO_TARGET_DIR": str(tmp_path / "target")}
+    done = subprocess.run(["cargo", "run", "--quiet", "--offline", "--manifest-path", tmp_path / "Cargo.toml"], cwd=ROOT, env=around,
+                          capture_output=True, text=True, timeout=SECONDS, check=False)
     assert done.returncode == 0, done.stderr
     assert done.stdout.strip() == printed(block, ("//", ""))
 
