@@ -189,20 +189,36 @@ def test_what_a_page_names_is_there(page, files, crates, names, commands):
     assert not wrong, f"{page.relative_to(ROOT)} names what is not there: {', '.join(wrong)}"
 
 
-def gone(names, files, crates):
-    """What the landing notes name that has another name now or is gone, as far as it cannot be an ordinary word."""
+def changed():
+    """The table of names that have changed since the landing notes: what the notes have, and what is there now."""
     table = text_of(NOTES / "README.md").split("## Names that have changed since")[1]
-    left = " ".join(row.split("|")[1] for row in table.split("\n") if row.startswith("| ") and row.count("|") > 2)
-    words = set(re.findall(r"[\w:-]+", left))
-    return {word for word in words if re.search(r"_|[a-z][A-Z]|[a-z]-[a-z]", word) and word not in names and word not in crates and "::" not in word}
+    rows = [row.split("|") for row in table.split("\n") if row.startswith("| ") and row.count("|") > 2]
+    assert len(rows) > 10, "the table of changed names was not read"
+    return " ".join(row[1] for row in rows), " ".join(row[2] for row in rows)
+
+
+def gone(names, crates):
+    """What the notes name that has another name now or is gone, as far as it cannot be an ordinary word."""
+    words = set(re.findall(r"[\w-]+", changed()[0]))
+    return {word for word in words if re.search(r"_|[a-z][A-Z]|[a-z]-[a-z]", word) and word not in names and word not in crates}
+
+
+def test_the_notes_names_are_there_or_in_the_table(files, crates, names, commands):
+    before, now = changed()
+    wrong = [f"now `{span}`" for span in re.findall(r"`([^`]+)`", now) if missing(span, files, crates, names, commands)]
+    for note in sorted(NOTES.glob("*.md")):
+        for line in text_of(note).split("\n") if note.name != "README.md" else ():
+            if not re.search(r"(?i)\bgone\b|renamed", line):
+                wrong += [f"`{span}` in {note.name}" for span in re.findall(r"`([^`]+)`", line) if missing(span, files, crates, names, commands)
+                          and not any(re.search(rf"(?<![\w-]){re.escape(part)}(?![\w-])", before) for part in [span, *span.split("::")])]
+    assert not wrong, f"neither there nor in docs/landings/README.md: {', '.join(wrong)}"
 
 
 @pytest.mark.parametrize("page", PAGES, ids=lambda page: str(page.relative_to(ROOT)))
-def test_no_page_names_what_is_gone(page, names, files, crates):
+def test_no_page_names_what_is_gone(page, names, crates):
     text = text_of(page)
-    found = [name for name in sorted(gone(names, files, crates)) if re.search(rf"(?<![\w-]){re.escape(name)}(?![\w-])", text)]
+    found = [name for name in sorted(gone(names, crates)) if re.search(rf"(?<![\w-]){re.escape(name)}(?![\w-])", text)]
     assert not found, f"{page.relative_to(ROOT)} names {', '.join(found)}, which the landing notes say is gone"
-    assert gone(names, files, crates), "the table of changed names was not read"
 
 
 def test_pages_are_short_and_plain():
