@@ -6,6 +6,7 @@ use std::io::Write;
 use std::path::{Path, PathBuf};
 use std::process::{Command, Stdio};
 
+use differential::program::in_words;
 use differential::{build, each_case, link, lists, sample, sample_triangle};
 use reference::{encode, small_triangles, NUMBERS_PER_CORNER};
 use shapes::{damage, random_tables, Places, Random, Solid, Tables, DAMAGES};
@@ -281,7 +282,7 @@ fn objects_are_closed() {
             }
             Err(refusal) => {
                 assert_eq!(text, "");
-                assert_eq!(said, format!("refused {} {}\n", refusal.number, refusal.place));
+                assert_eq!(said, in_words(&format!("refused {} {}\n", refusal.number, refusal.place)));
             }
         }
     });
@@ -312,7 +313,7 @@ fn samples_of_the_repository() {
                 Err(refusal) => {
                     assert_eq!(
                         (text.as_str(), said),
-                        ("", format!("refused {} {}\n", refusal.number(), refusal.place))
+                        ("", in_words(&format!("refused {} {}\n", refusal.number(), refusal.place)))
                     );
                 }
             }
@@ -337,5 +338,5 @@ fn words_on_standard_error() {
     for arguments in [&["0"][..], &["17"], &["100"], &["x"], &["-1"], &[""], &["4", "4"], &["123456789"], &["4 "]] {
         assert_eq!(run(arguments, b""), (String::new(), usage.to_string()), "{arguments:?}");
     }
-    assert_eq!(run(&[], b"DMX"), (String::new(), "refused 1 0\n".to_string()));
+    assert_eq!(run(&[], b"DMX"), (String::new(), in_words("refused 1 0\n")));
 }
