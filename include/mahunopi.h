@@ -135,14 +135,14 @@ enum mahunopi_refusal {
     MAHUNOPI_NO_SUCH_POINT = 20,
     /* there are no bodies, above 256, or the listing's length differs from the bodies' (place 0) */
     MAHUNOPI_BAD_BODY_COUNT = 21,
-    /* a number is neither below the body count nor MAHUNOPI_SUN (place: the body) */
+    /* a number is neither below the body count nor 65,535 (place: the body) */
     MAHUNOPI_NO_SUCH_HOLDER = 22,
     /* a chain does not end at the Sun (place: the body, the lowest such) */
     MAHUNOPI_CHAIN_WITHOUT_SUN = 23,
     /* a lent list is shorter than every mesh may need, or the text's first word is missing or not OFF (place 0) */
     MAHUNOPI_BAD_OFF_START = 24,
-    /* a needed word of the text is missing or no such number (place: the word, counted from 0, for a missing word the
-     * number of words that there are) */
+    /* a needed word of the text is missing, no whole number of at most nine digits, or out of its range (place: the
+     * word, counted from 0, for a missing word the number of words that there are) */
     MAHUNOPI_BAD_WORD = 25,
     /* a word stands after the last face (place: the word, counted from 0) */
     MAHUNOPI_WORD_TOO_MANY = 26,
