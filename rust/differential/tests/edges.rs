@@ -2,7 +2,6 @@
 //! read yet; an output that is full or closed; an argument too many. Each is said in one line on standard error, and
 //! standard output has nothing. And the words of refusals, which are those of include/mahunopi.h.
 
-use std::fs::File;
 use std::io::Write;
 use std::os::unix::io::OwnedFd;
 use std::os::unix::net::UnixStream;
