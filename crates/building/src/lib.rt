@@ -3,6 +3,7 @@ pub mod writing;
 
 use mesh::LARGE_MESH;
 use mesh::SMALL_MESH;
+use numbers::cosines;
 use paper::Answer;
 use paper::MOST_CORNERS;
 use surface::POINT_ROW;
@@ -129,7 +130,7 @@ fn build_over(
     if let Answer::Refused(k, p) = a17 {
         return Answer::Refused(k, p);
     }
-    crate::writing::write_nets(
+    crate::writing::fill_range(
         coordinates,
         sides,
         corners,
@@ -138,7 +139,8 @@ fn build_over(
         first,
         count,
         points,
-        out,
     );
+    let rows = cosines::rows();
+    crate::writing::write_corners(points, table, &rows, corners.len(), first, count, out);
     Answer::Done
 }

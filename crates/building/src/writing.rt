@@ -13,45 +13,13 @@ ghost use Rattle.paper.specs.Mesh.{meshOf};
 ghost use Rattle.paper.specs.Corners.{sumOf, firstOf, sidesOf};
 ghost use Rattle.paper.specs.Faults.{Accepted};
 ghost use Rattle.paper.specs.Refined.{cornersOf};
-ghost use Rattle.paper.specs.Calls.{nets, perCorner};
+ghost use Rattle.paper.specs.Calls.{perCorner};
 ghost use Rattle.numbers.specs.Stored.{stored};
 ghost use Rattle.surface.specs.Points.{pointRow};
 ghost use Rattle.walk.specs.Table.{Tabled};
 ghost use Rattle.refine.specs.sums.Sources.{Small};
 ghost use Rattle.net.specs.sides.Drawn.{drawn, Drawn};
-ghost use Rattle.building.specs.writing.Written.{AskedPointed, Rounds, InFace, Faced, NetsDrawn, NetsWritten};
-
-// The numbers of `count` corners from `first` on, by the table of the mesh's corners. The refined points are put into `points`.
-pub(crate) fn write_nets(
-    coordinates: &[i32],
-    sides: &[u8],
-    corners: &[u16],
-    sharpness: &[u8],
-    table: &[u16],
-    first: usize,
-    count: usize,
-    points: &mut [i32],
-    out: &mut [i32],
-)
-    requires mesh { ⌜ Accepted (meshOf (now coordinates) (now sides) (now corners) (now sharpness)) ⌝ }
-    requires table { ⌜ Tabled (cornersOf (meshOf (now coordinates) (now sides) (now corners) (now sharpness))) (now table) ⌝ }
-    requires range { ⌜ (0 < count) × (first + count ≤ length (now corners)) × (length (now out) ≡ perCorner * count) ⌝ }
-    requires points { ⌜ (pointRow * length (now corners) ≤ length (now points)) × Small (now points) ⌝ }
-    ensures { λ _. ⌜ now (out .exit) ≡ nets (meshOf (now (coordinates .entry)) (now (sides .entry)) (now (corners .entry)) (now (sharpness .entry))) first count ⌝ }
-{
-    fill_range(
-        coordinates,
-        sides,
-        corners,
-        sharpness,
-        table,
-        first,
-        count,
-        points,
-    );
-    let rows = cosines::rows();
-    write_corners(points, table, &rows, corners.len(), first, count, out);
-}
+ghost use Rattle.building.specs.writing.Written.{Rounds, InFace, Faced, NetsDrawn, NetsWritten};
 
 // The refined points of which the nets of `count` corners from `first` on are made: those of the corners at the vertices of the range's faces.
 pub fn fill_range(
@@ -72,38 +40,8 @@ pub fn fill_range(
 {
     let start = face_start(table, first);
     let end = face_end(table, first + count - 1);
-    let all = end - start;
-    fill_asked(
-        coordinates,
-        sides,
-        corners,
-        sharpness,
-        table,
-        start,
-        all,
-        points,
-    );
-}
-
-// The refined points of the corners at the vertices of `count` corners from `first` on.
-fn fill_asked(
-    coordinates: &[i32],
-    sides: &[u8],
-    corners: &[u16],
-    sharpness: &[u8],
-    table: &[u16],
-    first: usize,
-    count: usize,
-    points: &mut [i32],
-)
-    requires mesh { ⌜ Accepted (meshOf (now coordinates) (now sides) (now corners) (now sharpness)) ⌝ }
-    requires table { ⌜ Tabled (cornersOf (meshOf (now coordinates) (now sides) (now corners) (now sharpness))) (now table) ⌝ }
-    requires range { ⌜ first + count ≤ length (now corners) ⌝ }
-    requires points { ⌜ (pointRow * length (now corners) ≤ length (now points)) × Small (now points) ⌝ }
-    ensures { λ _. ⌜ AskedPointed (meshOf (now (coordinates .entry)) (now (sides .entry)) (now (corners .entry)) (now (sharpness .entry))) first count (now (points .entry)) (now (points .exit)) ⌝ }
-{
     let mut marked = [0u8; MOST_VERTICES];
-    refine::mark_vertices(corners, first, count, &mut marked);
+    refine::mark_vertices(corners, start, end - start, &mut marked);
     refine::fill_points(
         coordinates,
         sides,

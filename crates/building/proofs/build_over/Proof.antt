@@ -1,4 +1,5 @@
--- `building::build_over` meets its contract: the checks of the mesh, of its links and of the range refuse, or the table serves the writing.
+-- `building::build_over` meets its contract: the checks of the mesh, of its links and of the range refuse, or what is written over the refined points of
+-- the range is what the mesh has.
 use mathlib.Core.Path.{_≡_, refl, ap, _∙_, sym}
 use lib.ListN.{length}
 use denote.Ref.{now}
@@ -8,7 +9,8 @@ use Rattle.paper.specs.Refined.{cornersOf}
 use Rattle.mesh.proofs.Verdicts.{passed}
 use Rattle.walk.specs.Table.{Tabled}
 use Rattle.checks.specs.Request.{linksFaults, rangeFaults}
-use Rattle.checks.proofs.requests.Laws.{granted}
+use Rattle.checks.proofs.requests.Laws.{Granted, granted}
+use Rattle.building.proofs.writing.Laws.{drawn-written}
 use Rattle.building.proofs.Laws.{few, mesh-refused, links-refused, range-refused, built}
 use native.Mathlib.Omega.{arith}
 use borrow.Author.Needs.{needs}
@@ -53,6 +55,9 @@ module _ (t : tie.After-enum-told3) where
       let b : tie.After-check-asked = search in
       passed (b .check-asked .result) (b .check-asked .ensures (mesh (start (accepted linked))) refl) (t .enum-told3 .given .1)
 
+  grant : let s = start (accepted linked) in Granted (mesh s) (s .args .range .first) (s .args .range .count) (length (now (s .args .out)))
+  grant = granted _ _ _ _ range-sound
+
 returns : tie.Need-returns
 returns c =
     let s : tie.Start = search in
@@ -84,23 +89,33 @@ returns-3 c =
     range-refused (mesh (start (accepted t))) _ _ _ _ (accepts (accepted t)) (links-sound t) (k .0 .0) (k .0 .1 .0)
     (sym (ap stated (k .1)) ∙ b .check-asked .ensures (mesh (start (accepted t))) refl)
 
-write-nets-requires : tie.Need-write-nets-requires
-write-nets-requires c κs =
+fill-range-requires : tie.Need-fill-range-requires
+fill-range-requires c κs =
     let u : tie.After-enum-told3 = search in
     let t = accepted (linked u) in
     let s = start t in
-    let g = granted (mesh s) (s .args .range .first) (s .args .range .count) (length (now (s .args .out))) (range-sound u) in
-    (accepts t, (tabled t, ((g .some, g .within, g .room), (s .pre .1 .0 (few (mesh s) (accepts t)), s .pre .1 .1))))
+    (accepts t, (tabled t, ((grant u .some, grant u .within), (s .pre .1 .0 (few (mesh s) (accepts t)), s .pre .1 .1))))
+
+write-corners-requires : tie.Need-write-corners-requires
+write-corners-requires c κs =
+    let u : tie.After-enum-told3 = search in
+    let f : tie.After-fill-range = search in
+    let r : tie.After-rows = search in
+    let d = f .fill-range .ensures in
+    ((d .draws, d .faced), ((grant u .some, grant u .within, omega (arith, grant u .room)), r .rows .ensures))
 
 returns-4 : tie.Need-returns-4
 returns-4 c =
     let u : tie.After-enum-told3 = search in
-    let w : tie.After-write-nets = search in
+    let f : tie.After-fill-range = search in
+    let w : tie.After-write-corners = search in
     let t = accepted (linked u) in
-    built (mesh (start t)) _ _ _ _ (accepts t) (links-sound (linked u)) (range-sound u) _ (w .write-nets .ensures)
+    built (mesh (start t)) _ _ _ _ (accepts t) (links-sound (linked u)) (range-sound u) _
+    (drawn-written (mesh (start t)) _ _ _ _ (f .fill-range .ensures) _ _ (omega arith) (omega arith) _
+    (w .write-corners .kept .1 .1 .1 .1 .1 .1 .0 ∙ grant u .room) (w .write-corners .ensures))
 
 pub build-over-spec : {M : Type 1} → Rattle.building.proofs.build_over.Statement.statement M
 build-over-spec =
     tie.close (tie.spec (λ c κs. search needs) (λ c. search needs) (λ c. search needs) returns (λ c. search needs) check-links-requires (λ c. search needs)
     (λ c. search needs) returns-2 (λ c. search needs) check-asked-requires (λ c. search needs) (λ c. search needs) returns-3 (λ c. search needs)
-    write-nets-requires (λ c. search needs) (λ c. search needs) (λ c. search needs) returns-4)
+    fill-range-requires (λ c κs. search needs) write-corners-requires (λ c. search needs) (λ c. search needs) (λ c. search needs) returns-4)

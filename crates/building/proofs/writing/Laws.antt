@@ -14,7 +14,7 @@ use Rattle.paper.specs.Corners.{sumOf, faceOf, firstOf, sidesOf, positionOf, pr
 use Rattle.paper.specs.Links.{vertexOf}
 use Rattle.paper.specs.Faults.{Accepted}
 use Rattle.paper.specs.Numbers.{rounded}
-use Rattle.paper.specs.Refined.{RefinedMesh, cornersOf, refinedOf}
+use Rattle.paper.specs.Refined.{RefinedMesh, refinedPoint, cornersOf, refinedOf}
 use Rattle.paper.specs.Net.{ring, net, netPoints}
 use Rattle.paper.specs.Calls.{perCorner, numberAt, nets}
 use Rattle.mesh.specs.Tables.{Named}
@@ -29,14 +29,14 @@ use Rattle.surface.proofs.RingFaces.{Seen, ring-seen}
 use Rattle.surface.proofs.Agree.{net-same}
 use Rattle.walk.specs.Table.{toNext, toPrevious, entry, Tabled}
 use Rattle.refine.specs.Marks.{Asked, Marked}
-use Rattle.refine.specs.sums.Sources.{Faces}
+use Rattle.refine.specs.sums.Sources.{Faces, PointsPut}
 use Rattle.refine.specs.corners.Mean.{MarkedPointed}
 use Rattle.refine.proofs.Accepted.{vertex-in, faces-of, refinable-of, table-agrees, table-sound}
 use Rattle.refine.proofs.Points.{put-choice}
 use Rattle.net.specs.sides.Drawn.{drawn, Drawn}
 use Rattle.net.specs.stencil.Taken.{Run, Quiet}
 use Rattle.net.specs.Put.{RunPut}
-use Rattle.building.specs.writing.Written.{AskedPointed, Rounds, Faced, NetsDrawn, NetsWritten}
+use Rattle.building.specs.writing.Written.{Rounds, Faced, NetsDrawn, NetsWritten}
 
 -- ---- place i of the output holds point `i % perCorner / 3` of corner `i / perCorner` on axis `i % 3`
 place : (i : ℕ) → perCorner * (i / perCorner) + 3 * (i % perCorner / 3) + i % 3 ≡ i
@@ -197,6 +197,11 @@ module _ (sides : List ℕ) (first last c d : ℕ) (a : first ≤ c) (b : c ≤ 
       (ways (ltb d (firstOf sides last + sidesOf sides last)))
 
 -- ---- the corners at marked vertices are those at the vertices of the range
+-- the table of refined points has those of the corners at the vertices of `count` corners from `first` on, and is otherwise as before
+abbrev AskedPointed : Mesh → ℕ → ℕ → List ℤ → List ℤ → Type 0
+AskedPointed M first count =
+    PointsPut (refinedPoint rounded M) (λ c. (c < cornerCount M) × Asked (M .corners) first count (vertexOf (M .corners) c))
+
 pub asked-of : (M : Mesh) (marked : List ℕ) (first count : ℕ) (old points : List ℤ) → Named (M .corners) (length marked)
     → Marked (M .corners) first count marked → MarkedPointed M marked old points → AskedPointed M first count old points
 asked-of M marked first count old points n m =

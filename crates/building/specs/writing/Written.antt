@@ -1,4 +1,4 @@
--- The refined points of a range, what the walk to the ends of a face takes, and the output while it is written, face by face.
+-- What the walk to the ends of a face takes, the tables that draw the nets of a range, and the output while it is written, face by face.
 use mathlib.Core.Path.{_≡_}
 use mathlib.Core.List.{List}
 use Prim.Native.Nat.{ℕ, _+_, _*_, _<_, _≤_}
@@ -6,20 +6,13 @@ use lib.ListN.{length, getD}
 use lib.IntN.{ℤ, pos}
 use Rattle.paper.specs.Mesh.{Mesh, cornerCount}
 use Rattle.paper.specs.Corners.{sumOf, sidesOf, previous}
-use Rattle.paper.specs.Links.{vertexOf}
 use Rattle.paper.specs.Numbers.{rounded}
-use Rattle.paper.specs.Refined.{RefinedMesh, refinedPoint, refinedOf}
+use Rattle.paper.specs.Refined.{RefinedMesh, refinedOf}
 use Rattle.paper.specs.Net.{net, netPoints}
 use Rattle.paper.specs.Calls.{perCorner}
 use Rattle.walk.specs.Table.{rowLength, toPrevious, sidesHere, Column}
-use Rattle.refine.specs.Marks.{Asked}
 use Rattle.net.specs.sides.Drawn.{drawn, Drawn}
-use Rattle.refine.specs.sums.Sources.{Faces, PointsPut}
-
--- the table of refined points has those of the corners at the vertices of `count` corners from `first` on, and is otherwise as before
-abbrev pub AskedPointed : Mesh → ℕ → ℕ → List ℤ → List ℤ → Type 0
-AskedPointed M first count =
-    PointsPut (refinedPoint rounded M) (λ c. (c < cornerCount M) × Asked (M .corners) first count (vertexOf (M .corners) c))
+use Rattle.refine.specs.sums.Sources.{Faces}
 
 -- the table leads from each corner to the previous one of its face, and has the sides of the face
 pub record Rounds (sides table : List ℕ) : Type 0 where
