@@ -4,13 +4,13 @@ use mathlib.Core.List.{List}
 use Prim.Native.Nat.{ℕ, zero, suc, _+_, _-_, _*_, _/_, _%_, _≤_, _<_}
 use native.Mathlib.Omega.{arith}
 use lib.Dec.{ltb}
-use borrow.Author.Tests.{lt-ltb, le-ltb}
+use borrow.Author.Tests.{lt-ltb, le-ltb, ne-eqb}
 use lib.ListN.{length, getD}
 use lib.IntN.{ℤ, pos}
 use Rattle.paper.specs.Mesh.{Mesh, cornerCount}
 use Rattle.paper.specs.Scan.{valuesFrom}
 use Rattle.paper.specs.Corners.{startOf, firstOf, positionOf}
-use Rattle.paper.specs.Net.{side0, side1, side2}
+use Rattle.paper.specs.Net.{Side, side0, side1, side2}
 use Rattle.paper.specs.Faults.{sound, fault, single, stated, kept, Accepted}
 use Rattle.paper.specs.Calls.{nets}
 use Rattle.paper.specs.File.{noRoom, begins}
@@ -57,6 +57,10 @@ module _ (M : Mesh) (levels : List ℕ) (ok : Accepted M) (leveled : Leveled M l
   abbrev net : List ℤ
   net = nets M c 1
 
+  tangent-inner : (t : Side) (k j e : ℕ) → tangentNumber M levels c t (suc k) j e ≡ getD (tangentPair net t (turnWeights t (level levels c) (suc k) j)) e (pos 0)
+  unfolding tangentNumber
+  tangent-inner t k j e = ap (λ (N : ℕ). getD (tangentPair net t (turnWeights t N (suc k) j)) e (pos 0)) (rw (ne-eqb (suc k) 0 (λ q. omega arith)))
+
   pair-is : (g place e : ℕ) → ownTangent M levels c g place e ≡ getD (shapePair net s third g place) e (pos 0)
   unfolding ownTangent owned shapePair tangentNumber
   pair-is zero place e = ap (λ (x : ℕ). getD (tangentPair net side0 (turnWeights side0 x 0 0)) e (pos 0)) (sym (is .first))
@@ -65,7 +69,8 @@ module _ (M : Mesh) (levels : List ℕ) (ok : Accepted M) (leveled : Leveled M l
   pair-is (suc (suc (suc zero))) place e = ap (λ (x : ℕ). getD (tangentPair net side0 (turnWeights side0 x 0 (place + 1))) e (pos 0)) (sym (is .first))
   pair-is (suc (suc (suc (suc zero)))) place e = ap (λ (x : ℕ). getD (tangentPair net side1 (turnWeights side1 x 0 (place + 1))) e (pos 0)) (sym (is .second))
   pair-is (suc (suc (suc (suc (suc k))))) place e =
-      ap (λ (n : ℕ). getD (tangentPair net (sideAt (place / (n - suc k))) (turnWeights (sideAt (place / (n - suc k))) n (suc k) (place % (n - suc k)))) e (pos 0)) (sym (is .levelled))
+      tangent-inner (sideAt (place / (level levels c - suc k))) k (place % (level levels c - suc k)) e
+      ∙ ap (λ (n : ℕ). getD (tangentPair net (sideAt (place / (n - suc k))) (turnWeights (sideAt (place / (n - suc k))) n (suc k) (place % (n - suc k)))) e (pos 0)) (sym (is .levelled))
 
   pair-aim : (at : ℕ) (f : ℕ → ℤ) → ((x : ℕ) → x < 6 * shapeSize s → f (at + x) ≡ tangentAt M levels (3 * tangentsBefore M levels c + x)) → PairAim net s third at f
   pair-aim at f values g place e l b a =
@@ -115,7 +120,7 @@ module _ (M : Mesh) (levels : List ℕ) (first count : ℕ) where
 
     pub pairs-short : length old < 6 * points → PairsFilled M levels first count old (record { answer = Refused noRoom (6 * points); numbers = 0 }) old
     pairs-short h = record {
-      answers = subst (λ (x : ℕ). fault noRoom x ≡ single noRoom (ltb (length old) x) x) needed (sym (single-hit noRoom (6 * points) (lt-ltb (length old) (6 * points) h)));
+      answers = sym (single-hit noRoom (6 * points) (lt-ltb (length old) (6 * points) h)) ∙ ap (λ (x : ℕ). single noRoom (ltb (length old) x) x) needed;
       numbers-are = refl;
       holds = refl;
     }

@@ -5,8 +5,8 @@ use borrow.Author.Needs.{needs}
 use lib.ListN.{length}
 use denote.Ref.{now}
 use Rattle.paper.specs.Mesh.{Mesh, meshOf}
-use Rattle.triangles.proofs.filling.out_over.Statement.{statement}
-use Rattle.triangles.proofs.filling.out_over.Tie as tie
+use Rattle.triangles.proofs.tangent_filling.pairs_over.Statement.{statement}
+use Rattle.triangles.proofs.tangent_filling.pairs_over.Tie as tie
 
 module _ (s : tie.Start) where
   abbrev mesh : Mesh
