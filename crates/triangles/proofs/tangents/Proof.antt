@@ -29,5 +29,4 @@ tangents-over-requires-3 c κs = let s : tie.Start = search in rows-for (length 
 pub tangents-spec : {M : Type 1} → statement M
 tangents-spec =
     tie.close (tie.spec (λ c κs. search needs) (λ c. search needs) tangents-over-requires (λ c. search needs) tangents-over-requires-2 (λ c. search needs)
-    tangents-over-requires-3 (λ c. search needs) (λ c. search needs) (λ c. search needs) (λ c. search needs) (λ c. search needs) (λ c. search needs)
-    (λ c. search needs) (λ c. search needs) (λ c. search needs))
+    tangents-over-requires-3 (λ c. search needs) (λ c. search needs) (λ c. search needs) (λ c. search needs) (λ c. search needs) (λ c. search needs))

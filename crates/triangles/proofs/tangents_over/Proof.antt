@@ -57,4 +57,4 @@ returns-2 c =
 pub tangents-over-spec : {M : Type 1} → statement M
 tangents-over-spec =
     tie.close (tie.spec (λ c κs. search needs) (λ c. search needs) (λ c. search needs) returns (λ c. search needs) fill-requires (λ c. search needs)
-    (λ c. search needs) (λ c. search needs) returns-2)
+    (λ c. search needs) returns-2)
