@@ -545,6 +545,41 @@ uint32_t mahunopi_triangles(
     /* receives the place of a refusal; not null */
     uint64_t *place);
 
+/*
+ * The tangents at the points of a range of corners, for shading: checks as mahunopi_triangles does and writes six numbers
+ * for each point that it writes, in the same order, to the beginning of a lent list: the two vectors of
+ * mahunopi_tangents_at, exact, times n^3, where n is the number of parts in which the point is taken. They are those of the
+ * corner that has the point among its own, so that a point that several quad-nets share has one normal and shading does not
+ * break at a border. An inner point of a border and a point of a ring are taken on the side on which they lie, in turn from
+ * side 0 on; E0, E1 and E2 are taken at the beginning of sides 0, 1 and 2, the centre on side 0. The cross product of the
+ * two vectors has the direction that the mesh's faces give on sides 0 and 2, and the opposite one on sides 1 and 3. A list
+ * that is too short is 255 (place: the length it needs, twice that of the points).
+ */
+uint32_t mahunopi_tangents(
+    /* lists, link table, levels and range, as for mahunopi_count_triangles */
+    const int32_t *coordinates,
+    size_t coordinate_count,
+    const uint8_t *sides,
+    size_t side_count,
+    const uint16_t *corners,
+    size_t corner_count,
+    const uint8_t *sharpness,
+    size_t sharpness_count,
+    const uint16_t *links,
+    size_t link_count,
+    const uint8_t *levels,
+    size_t level_count,
+    size_t first,
+    size_t count,
+    /* receives x, y, z of the first and x, y, z of the second vector of each point of the range */
+    int64_t *tangents,
+    /* how many numbers it has room for: at least twice those of the points */
+    size_t tangent_space,
+    /* receives how many numbers were written; not null */
+    uint64_t *tangent_numbers,
+    /* receives the place of a refusal; not null */
+    uint64_t *place);
+
 /* What mahunopi_irregular finds. */
 enum mahunopi_kind {
     /* all faces have four sides and all vertices four corners */

@@ -25,7 +25,8 @@ use Rattle.paper.specs.Preview.{moveOf, Previewed}
 use Rattle.paper.specs.CFace.{TurnCall, Sizes, sizes, CountTrianglesCall, fillVerdict, TrianglesCall}
 use Rattle.paper.specs.Triangles.{levelVerdict, Triangulated, TrianglesCounted}
 use Rattle.paper.specs.Floats.{allVerdict, allFloats, NoneRounded, AllInFloats}
-use Rattle.paper.specs.CFace.{FloatsAllCall}
+use Rattle.paper.specs.CFace.{FloatsAllCall, TangentsCall}
+use Rattle.paper.specs.Tangents.{tangentVerdict, TangentsFilled}
 use Rattle.paper.specs.Turning.{turnVerdict, TurnedTo}
 use Rattle.paper.specs.declared.Answer.{Answer}
 use Rattle.paper.specs.declared.Answer.the-variants.{Done, Refused}
@@ -36,6 +37,7 @@ use Rattle.paper.specs.declared.Floats.{Floats}
 use Rattle.paper.specs.declared.FloatPoint.{FloatPoint}
 use Rattle.paper.specs.declared.FloatPoint.the-variants.{Near, Far, Refused as NoPoint}
 use Rattle.paper.specs.declared.Irregular.{Irregular}
+use Rattle.paper.specs.declared.Tangents.{Tangents}
 use Rattle.paper.specs.declared.Triangles.{Triangles}
 use Rattle.paper.specs.declared.Turned.{Turned}
 use Rattle.paper.specs.declared.Irregular.the-variants.{Face, Vertex, None, Refused as NoMesh}
@@ -231,6 +233,29 @@ module _ (M : Mesh) (links levels : List ℕ) (first count : ℕ) (old : List �
         answers = subst (λ (w : Verdict). States w before m q) (sym v) tells;
         points-hold = kept-old _ n p _ _ _ v (by-answer (r .answer) points _ _ _ s (t .points-hold));
         triangles-hold = kept-old _ n p _ _ _ v (by-answer (r .answer) triangles _ _ _ s (t .triangles-hold));
+        tells = kept-old _ n p _ _ _ v refl;
+      }
+
+module _ (M : Mesh) (links levels : List ℕ) (first count : ℕ) (old : List ℤ) (r : Tangents) (out : List ℤ) (lent before : ℕ)
+    (t : TangentsFilled M links levels first count old r out) where
+  pub tangents-done : r .answer ≡ Done → TangentsCall M links levels first count old lent before 0 before out (r .numbers)
+  tangents-done e =
+      let s : stated (r .answer) ≡ sound = ap stated e in
+      let v : tangentVerdict M links first count levels (length old) ≡ sound = sym (t .answers) ∙ s in
+      record {
+        answers = states-done _ (r .answer) before (t .answers) e;
+        holds = kept-new _ _ _ _ v (by-answer (r .answer) out _ _ _ s (t .holds));
+        tells = kept-new _ _ _ _ v (by-answer (r .answer) (r .numbers) _ _ _ s (t .numbers-are));
+      }
+
+  pub tangents-refused : (n p m q : ℕ) → r .answer ≡ Refused n p → States (fault n p) before m q
+      → TangentsCall M links levels first count old lent before m q out lent
+  tangents-refused n p m q e tells =
+      let s : stated (r .answer) ≡ fault n p = ap stated e in
+      let v : tangentVerdict M links first count levels (length old) ≡ fault n p = sym (t .answers) ∙ s in
+      record {
+        answers = subst (λ (w : Verdict). States w before m q) (sym v) tells;
+        holds = kept-old _ n p _ _ _ v (by-answer (r .answer) out _ _ _ s (t .holds));
         tells = kept-old _ n p _ _ _ v refl;
       }
 

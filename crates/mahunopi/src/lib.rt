@@ -14,7 +14,7 @@ ghost use Rattle.paper.specs.CFace.{PreviewCall, TouchedCall};
 ghost use Rattle.paper.specs.Sampling.{weights};
 ghost use Rattle.paper.specs.CFace.{SampleCall, TriangleCall, TurnCall};
 ghost use Rattle.paper.specs.CFace.{sizes, CountTrianglesCall, TrianglesCall};
-ghost use Rattle.paper.specs.CFace.{FloatsAllCall, TangentsAtCall};
+ghost use Rattle.paper.specs.CFace.{FloatsAllCall, TangentsAtCall, TangentsCall};
 ghost use Rattle.paper.specs.Report.{offered};
 ghost use Rattle.paper.specs.CFace.{ReportCall, MergeCall};
 use paper::Answer;
@@ -431,6 +431,42 @@ pub extern "C" fn mahunopi_triangles(
     }
     *numbers = t.points as u64;
     *entries = t.triangles as u64;
+    0
+}
+
+// The tangents of the points of a range of corners, into the beginning of a lent list. The length is left alone beside a refusal.
+#[no_mangle]
+pub extern "C" fn mahunopi_tangents(
+    coordinates: &[i32],
+    sides: &[u8],
+    corners: &[u16],
+    sharpness: &[u8],
+    links: &[u16],
+    levels: &[u8],
+    first: usize,
+    count: usize,
+    tangents: &mut [i64],
+    tangent_numbers: &mut u64,
+    place: &mut u64,
+) -> u32
+    ensures { λ r. ⌜ TangentsCall (meshOf (now (coordinates .entry)) (now (sides .entry)) (now (corners .entry)) (now (sharpness .entry))) (now (links .entry)) (now (levels .entry)) first count (now (tangents .entry)) (now (tangent_numbers .entry)) (now (place .entry)) r (now (place .exit)) (now (tangents .exit)) (now (tangent_numbers .exit)) ⌝ }
+{
+    let t = triangles::tangents(
+        coordinates,
+        sides,
+        corners,
+        sharpness,
+        links,
+        levels,
+        first,
+        count,
+        tangents,
+    );
+    let a = t.answer;
+    if let Answer::Refused(number, at) = a {
+        return tell(Answer::Refused(number, at), place);
+    }
+    *tangent_numbers = t.numbers as u64;
     0
 }
 

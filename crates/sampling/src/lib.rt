@@ -245,7 +245,7 @@ fn state_at(e: Vector5, j: usize) -> Vector5
 }
 
 // Its value at j.
-fn value_at(e: Vector5, j: usize) -> i64
+pub fn value_at(e: Vector5, j: usize) -> i64
     requires { ⌜ Tapered (5 * 2 ^ 34) e × (j ≤ 16) ⌝ }
     ensures { λ r. ⌜ r ≡ valueOf e j ⌝ }
 {

@@ -201,6 +201,15 @@ module _ (M : Mesh) (levels : List ℕ) (ok : Accepted M) (leveled : Leveled M l
         inner-is M levels axis c (sideAt (place / (level levels c - suc k))) k (place % (level levels c - suc k))
         ∙ ap (λ (n : ℕ). sampleAt net (sideAt (place / (n - suc k))) (turnWeights (sideAt (place / (n - suc k))) n (suc k) (place % (n - suc k))) axis) (sym (is .levelled))
 
+  -- ---- every place lies before the end
+  pub place-below : (g place : ℕ) → g < groups → place < shapeGroup s g → shapeStart s g + place < shapeSize s
+  place-below g place l b =
+      let e = start-is g place b in let n = step g l in let t = all-is in
+      let r = starts-rise (pointGroups M levels) (groups * c + (g + 1)) (groups * (c + 1) - (groups * c + (g + 1))) (omega (arith, groups-length M levels)) in
+      let q = last-start in
+      let m = ap (startOf (pointGroups M levels)) (let z : groups * c + (g + 1) + (groups * (c + 1) - (groups * c + (g + 1))) ≡ groups * (c + 1) = omega arith in z) in
+      omega arith
+
   -- ---- what the list is to hold
   pub shape-aim : (at : ℕ) (f : ℕ → ℤ) → ((x : ℕ) → x < 3 * shapeSize s → f (at + x) ≡ coordinateAt M levels (3 * pointsBefore M levels c + x))
       → ShapeAim net s at f
@@ -208,17 +217,9 @@ module _ (M : Mesh) (levels : List ℕ) (ok : Accepted M) (leveled : Leveled M l
       let n = pointsBefore M levels c + (shapeStart s g + place) in
       let i = in-group g place l b in
       ap f (let z : at + 3 * (shapeStart s g + place) + axis ≡ at + (3 * (shapeStart s g + place) + axis) = omega arith in z)
-      ∙ values (3 * (shapeStart s g + place) + axis) (below g place l b axis a)
+      ∙ values (3 * (shapeStart s g + place) + axis) (omega (arith, place-below g place l b))
       ∙ ap (coordinateAt M levels) (let z : 3 * pointsBefore M levels c + (3 * (shapeStart s g + place) + axis) ≡ 3 * (pointsBefore M levels c + (shapeStart s g + place)) + axis = omega arith in z)
       ∙ coordinate-is M levels (pointsBefore M levels c + (shapeStart s g + place)) c g place i axis a ∙ number-is axis g place
-    where
-      below : (g place : ℕ) → g < groups → place < shapeGroup s g → (axis : ℕ) → axis < 3 → 3 * (shapeStart s g + place) + axis < 3 * shapeSize s
-      below g place l b axis a =
-          let e = start-is g place b in let n = step g l in let t = all-is in
-          let r = starts-rise (pointGroups M levels) (groups * c + (g + 1)) (groups * (c + 1) - (groups * c + (g + 1))) (omega (arith, groups-length M levels)) in
-          let q = last-start in
-          let m = ap (startOf (pointGroups M levels)) (let z : groups * c + (g + 1) + (groups * (c + 1) - (groups * c + (g + 1))) ≡ groups * (c + 1) = omega arith in z) in
-          omega arith
 
   -- ---- every place of the part is the place of a point
   pub shape-place : (at t : ℕ) → at ≤ t → t < at + 3 * shapeSize s → ShapePlace s at t

@@ -12,7 +12,7 @@ use reference::{Counts, FloatPoint, Irregular, Lengths, Lists, Refusal, LENT_TOO
 use shapes::{Random, Tables};
 
 pub use report::{merge, report};
-pub use triangles::{count_triangles, triangles, Corners};
+pub use triangles::{count_triangles, tangents, triangles, Corners};
 pub use turning::turn;
 
 /// What `place` and the lengths hold before a call.

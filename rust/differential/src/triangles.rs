@@ -103,3 +103,54 @@ pub fn triangles(
         (points, triangles)
     })
 }
+
+/// The tangents at the points of a range, into a lent list of `room` numbers of any contents; what stands in it where it is
+/// done.
+pub fn tangents(
+    tables: &Tables,
+    links: &[u16],
+    levels: &[u8],
+    range: Corners,
+    room: usize,
+    random: &mut Random,
+) -> Result<Vec<i64>, Refusal> {
+    let mut tangents: Vec<i64> = (0..room).map(|_| random.bits() as i64).collect();
+    let mut expected = tangents.clone();
+    let [mut numbers, mut place] = [UNTOUCHED; 2];
+    // SAFETY: each pointer goes with the length of its own list
+    let number = unsafe {
+        raw::mahunopi_tangents(
+            tables.coordinates.as_ptr(),
+            tables.coordinates.len(),
+            tables.sides.as_ptr(),
+            tables.sides.len(),
+            tables.corners.as_ptr(),
+            tables.corners.len(),
+            tables.sharpness.as_ptr(),
+            tables.sharpness.len(),
+            links.as_ptr(),
+            links.len(),
+            levels.as_ptr(),
+            levels.len(),
+            range.first,
+            range.count,
+            tangents.as_mut_ptr(),
+            tangents.len(),
+            &mut numbers,
+            &mut place,
+        )
+    };
+    let all: Result<Vec<i64>, Refusal> = reference::tangents(lists(tables), links, levels, range.first, range.count)
+        .map(|pairs| pairs.into_iter().flatten().flatten().collect());
+    let result = match all {
+        Ok(all) if room < all.len() => Err(Refusal { number: 255, place: all.len() as u64 }),
+        other => other,
+    };
+    assert_eq!(answer(number, place), result.as_ref().map(|_| ()).map_err(|&refusal| refusal), "tangents of {range:?} are answered otherwise");
+    if let Ok(all) = &result {
+        expected[..all.len()].copy_from_slice(all);
+    }
+    assert_eq!(numbers, result.as_ref().map_or(UNTOUCHED, |all| all.len() as u64), "{range:?} has another number of tangents");
+    same("tangents", &tangents, &expected);
+    result
+}

@@ -5,7 +5,7 @@
 use std::collections::{BTreeMap, HashMap, HashSet};
 use std::num::NonZeroUsize;
 
-use differential::{count_triangles, each_case, lists, mesh, triangles, Corners};
+use differential::{count_triangles, each_case, lists, mesh, tangents, triangles, Corners};
 use reference::{links_of, MOST_PARTS};
 use shapes::{damage, random_tables, Random, Tables, DAMAGES};
 
@@ -61,6 +61,11 @@ fn as_the_reference() {
         let (room, space) = count_triangles(&tables, &links, &levels, range).unwrap();
         let (_, part) = triangles(&tables, &links, &levels, range, [room, space], random).unwrap();
         assert!(part.iter().all(|&index| (index as usize) < all.0.len()));
+        tangents(&tables, &links, &levels, range, 2 * room + random.below(5), random).unwrap();
+        if random.once_in(8) {
+            let refusal = tangents(&tables, &links, &levels, range, random.below(2 * room), random).unwrap_err();
+            assert_eq!((refusal.number, refusal.place), (255, 2 * room as u64));
+        }
     });
 }
 

@@ -56,7 +56,9 @@ use refusal::answer;
 pub use refusal::{Fault, Refusal};
 pub use report::{Page, MAX_PAGE_MESHES, PAGE_NUMBERS};
 pub use sampling::{sample, sample_count, sample_triangle, sample_triangle_into, tangents_at, MAX_PARTS};
-pub use triangles::{count_triangles, triangles, triangles_all, triangles_into, TriangleLengths, Triangles};
+pub use triangles::{
+    count_triangles, tangents, tangents_into, triangles, triangles_all, triangles_into, TriangleLengths, Triangles,
+};
 pub use turning::{turn, turn_in_place, turn_into, Turned};
 
 /// The version of the header that this wrapper is for, `MAHUNOPI_VERSION` there; the package's major version.

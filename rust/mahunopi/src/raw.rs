@@ -213,6 +213,27 @@ extern "C" {
         triangle_numbers: *mut u64,
         place: *mut u64,
     ) -> u32;
+    /// The tangents of the points of a range of corners.
+    pub fn mahunopi_tangents(
+        coordinates: *const i32,
+        coordinate_count: usize,
+        sides: *const u8,
+        side_count: usize,
+        corners: *const u16,
+        corner_count: usize,
+        sharpness: *const u8,
+        sharpness_count: usize,
+        links: *const u16,
+        link_count: usize,
+        levels: *const u8,
+        level_count: usize,
+        first: usize,
+        count: usize,
+        tangents: *mut i64,
+        tangent_space: usize,
+        tangent_numbers: *mut u64,
+        place: *mut u64,
+    ) -> u32;
     /// Listing nested grids.
     pub fn mahunopi_nest(
         holders: *const u16,

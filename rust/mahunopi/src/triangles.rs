@@ -110,6 +110,66 @@ pub fn triangles_into<'a>(
     Ok(TriangleLengths { points: point_numbers as usize, triangles: triangle_numbers as usize })
 }
 
+/// Writes the tangents at the points of `count` corners from `first` on to the beginning of the lent list, six numbers for
+/// each point in the order of the points: the two vectors of [`tangents_at`](crate::tangents_at), from the quad-net that has
+/// the point among its own, times the cube of the number of parts in which it is taken. It answers how many numbers it has
+/// written. Faults 4 to 16, 27, 28, 39 and 40, then [`Fault::LentTooShort`](crate::Fault::LentTooShort).
+pub fn tangents_into<'a>(
+    mesh: impl Into<MeshRef<'a>>,
+    links: &[u16],
+    levels: &[u8],
+    first: usize,
+    count: usize,
+    tangents: &mut [i64],
+) -> Result<usize, Refusal> {
+    let mesh = mesh.into();
+    let [mut numbers, mut place] = [0; 2];
+    // SAFETY: each pointer goes with the length of its own slice, and the lent slice and numbers overlap nothing
+    let number = unsafe {
+        raw::mahunopi_tangents(
+            mesh.coordinates.as_ptr(),
+            mesh.coordinates.len(),
+            mesh.sides.as_ptr(),
+            mesh.sides.len(),
+            mesh.corners.as_ptr(),
+            mesh.corners.len(),
+            mesh.sharpness.as_ptr(),
+            mesh.sharpness.len(),
+            links.as_ptr(),
+            links.len(),
+            levels.as_ptr(),
+            levels.len(),
+            first,
+            count,
+            tangents.as_mut_ptr(),
+            tangents.len(),
+            &mut numbers,
+            &mut place,
+        )
+    };
+    answer(number, place)?;
+    Ok(numbers as usize)
+}
+
+/// The tangents at all points that [`triangles`] makes, as [`tangents_into`] writes them: faults 4 to 15, 27, 28, 39 and 40.
+///
+/// ```
+/// use mahunopi::{decode, link, tangents, triangles};
+///
+/// let cube = decode(&std::fs::read("../../meshes/cube.dms")?)?;
+/// let links = link(&cube)?;
+/// let points = triangles(&cube, &links, &[4; 24])?.points;
+/// assert_eq!(tangents(&cube, &links, &[4; 24])?.len(), 2 * points.len());
+/// # Ok::<(), Box<dyn std::error::Error>>(())
+/// ```
+pub fn tangents<'a>(mesh: impl Into<MeshRef<'a>>, links: &[u16], levels: &[u8]) -> Result<Vec<i64>, Refusal> {
+    let mesh = mesh.into();
+    let corners = mesh.corners.len();
+    let mut all = vec![0; 2 * count_triangles(mesh, links, levels, 0, corners)?.points];
+    tangents_into(mesh, links, levels, 0, corners, &mut all)?;
+    Ok(all)
+}
+
 /// The whole surface as one closed mesh of triangles: wherever one triangle has an edge from point p to point q, exactly
 /// one has the edge from q to p, whatever the levels are. Faults 4 to 15, 27, 28, 39 and 40.
 ///
