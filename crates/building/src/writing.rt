@@ -1,5 +1,5 @@
 // The numbers that building writes: the refined points of the corners at the vertices of the range's faces are computed once, and then the
-// quad-nets are written face by face, so that each part of the output is gone over once.
+// quad-nets are written face by face, so that each part of the output is written once.
 use mesh::least;
 use numbers::cosines;
 use paper::MOST_VERTICES;

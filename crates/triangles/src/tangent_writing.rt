@@ -36,7 +36,7 @@ pub struct RowSlopes {
 }
 
 // The tangents of a corner's own points, from `at` on; the border of side 2 has `third` parts.
-pub fn put_pairs(numbers: &[i32], shape: Shape, third: usize, out: &mut [i64], at: usize)
+pub(crate) fn put_pairs(numbers: &[i32], shape: Shape, third: usize, out: &mut [i64], at: usize)
     requires net { ⌜ (netVerdict (now numbers) ≡ sound) × Shapely shape × (1 ≤ third) × (third ≤ 16) ⌝ }
     requires room { ⌜ at + 6 * shapeSize shape ≤ length (now out) ⌝ }
     ensures { λ _. ⌜ NetPaired (now (numbers .entry)) shape third at (now (out .entry)) (now (out .exit)) ⌝ }
