@@ -1,7 +1,7 @@
 #!/bin/sh
 # The library as its users take it: the header as C11 and as C++17, the C examples, the sample meshes, the Rust tests, the Python package.
-# Needs target/staticlib/libmahunopi.a (`rt staticlib mahunopi`; MAHUNOPI_LIB names another directory that has it) and
-# what .ci/install installs. Prints a line for each check and last `users: N passed, M failed`, where every Rust test
+# C and Rust run beside Python. Needs target/staticlib/libmahunopi.a (`rt staticlib mahunopi`; MAHUNOPI_LIB names another directory that has
+# it) and what .ci/install installs. Prints a line for each check and last `users: N passed, M failed`, where every Rust test
 # and every Python test counts; the status is 0 when none failed.
 set -u
 cd "$(dirname "$0")/.." || exit 2
@@ -135,21 +135,39 @@ python_tests() {
     fi
 }
 
-# shellcheck disable=SC2086
-{
-    check 'header as C11' gcc -std=c11 $warnings -fsyntax-only -x c include/mahunopi.h
-    check 'header as C++17' g++ -std=c++17 $warnings -fsyntax-only -x c++ include/mahunopi.h
+# C and Rust, in a process of its own: its counts go to a file
+native() {
+    # shellcheck disable=SC2086
+    {
+        check 'header as C11' gcc -std=c11 $warnings -fsyntax-only -x c include/mahunopi.h
+        check 'header as C++17' g++ -std=c++17 $warnings -fsyntax-only -x c++ include/mahunopi.h
+    }
+    check 'example cube in C11 prints what it should' cube gcc -std=c11
+    check 'example cube in C++17 prints what it should' cube g++ -std=c++17 -x c++
+    check 'example inspect in C11 prints what it should' inspect gcc -std=c11
+    check 'example inspect in C++17 prints what it should' inspect g++ -std=c++17 -x c++
+    check 'building is compiled to vectors' vectors
+    check 'archiving is compiled to vectors' packed
+    check 'sample meshes are what make-dms makes of their texts' samples
+    rust_tests
+    check 'example draw in C++17 and in Rust print the same' draw
+    check 'Rust wrapper and its examples without warnings' documented
+    echo "$passed $failed" >"$work/counts"
 }
-check 'example cube in C11 prints what it should' cube gcc -std=c11
-check 'example cube in C++17 prints what it should' cube g++ -std=c++17 -x c++
-check 'example inspect in C11 prints what it should' inspect gcc -std=c11
-check 'example inspect in C++17 prints what it should' inspect g++ -std=c++17 -x c++
-check 'building is compiled to vectors' vectors
-check 'archiving is compiled to vectors' packed
-check 'sample meshes are what make-dms makes of their texts' samples
-rust_tests
-check 'example draw in C++17 and in Rust print the same' draw
-check 'Rust wrapper and its examples without warnings' documented
-python_tests
+
+# Python stays in front: a shell has what runs beside it ignore the interrupts that the Python tests send.
+(native) >"$work/native" 2>&1 &
+python_tests >"$work/python"
+wait
+cat "$work/native"
+counts='0 1'
+if [ -s "$work/counts" ]; then
+    read -r counts <"$work/counts"
+else
+    echo "users: C and Rust ended early: FAILED"
+fi
+passed=$((passed + ${counts% *}))
+failed=$((failed + ${counts#* }))
+cat "$work/python"
 echo "users: $passed passed, $failed failed"
 [ "$failed" -eq 0 ]

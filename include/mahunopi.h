@@ -4,8 +4,10 @@
  * The functions below are the proved library's C face (libmahunopi.a). A mesh is four lists: coordinates, side counts,
  * corners, and the sharpness of the corners. mahunopi_survey counts what a .dms file holds, mahunopi_decode reads its
  * lists, mahunopi_off reads those of an OFF text, mahunopi_link fills the link table of a mesh, mahunopi_build writes
- * the control points of a range of corners, mahunopi_floats gives one of these points as floats, mahunopi_sample and
- * mahunopi_sample_triangle points of the surface. mahunopi_irregular says whether a mesh is all squares.
+ * the control points of a range of corners, mahunopi_floats gives one of these points as floats, mahunopi_floats_all
+ * all of them, mahunopi_sample and mahunopi_sample_triangle points of the surface, mahunopi_tangents_at the two tangents
+ * at such a point. mahunopi_triangles writes the whole surface as one closed mesh of triangles, and
+ * mahunopi_count_triangles says how long its lists are. mahunopi_irregular says whether a mesh is all squares.
  * mahunopi_preview builds with one vertex moved, mahunopi_touched marks the corners that a vertex can change.
  * mahunopi_turn turns faces that are drawn the wrong way round. mahunopi_nest lists a table of nested grids.
  * mahunopi_archive rearranges a coordinate list for the archive, and mahunopi_restore undoes it. mahunopi_report adds
@@ -16,9 +18,9 @@
  * says where, and everything else that was lent keeps its contents; when done, *place keeps its contents.
  *
  * A list is a pointer and the number of its entries. The pointer may be null where that number is 0. The pointers to
- * single numbers (place, pairs, the counts of surveying, of decoding, of OFF and of turning, and what
- * mahunopi_irregular finds), to the six floats, to a sample's point and to a page must not be null. What a function
- * writes to must not overlap anything else that it is given.
+ * single numbers (place, pairs, the counts of surveying, of decoding, of OFF, of triangles and of turning, and what
+ * mahunopi_irregular finds), to the six floats, to a sample's point, to its tangents and to a page must not be null. What
+ * a function writes to must not overlap anything else that it is given.
  *
  * Calls share no state: any number of them may run at the same time, on any threads, as long as none writes to what
  * another one is given. Nothing is allocated. Scratch lies on the stack, of which a call needs up to
@@ -57,16 +59,16 @@ extern "C" {
 #define MAHUNOPI_MAX_BODIES 256
 #define MAHUNOPI_SUN 65535
 /* The bytes of stack that a call may take. */
-#define MAHUNOPI_CALL_STACK 360448
+#define MAHUNOPI_CALL_STACK 327680
 
 /*
  * What a function answers. A file is checked by 1 to 13, linking by 4 to 14, building by 4 to 17, the search for an
  * irregular face or vertex by 4 to 13, a control point in floats by 18 to 20, a nesting table by 21 to 23, an OFF text
  * by 24 to 26 and then 4 to 13, a preview by 29 and then 4 to 17, the marks of a vertex by 29 and then 4 to 13, lists
  * for the archive by 30 and 31, a model whose faces are to be turned by 36, then 4 to 9, then 34 and 35, a page of the
- * border report by 37 and 38. 27 and 28 are tried wherever 4 to 9 are, 27 after 4 and 28 after 8: the order is 4, 27,
- * 5, 6, 7, 8, 28, 9 and so on. Each number is tried over the whole input before the next, and the place is the lowest
- * that applies.
+ * border report by 37 and 38, a call for triangles by 4 to 16 and then 39 and 40. 27 and 28 are tried wherever 4 to 9
+ * are, 27 after 4 and 28 after 8: the order is 4, 27, 5, 6, 7, 8, 28, 9 and so on. Each number is tried over the whole
+ * input before the next, and the place is the lowest that applies.
  *
  * The comment above each number is read by programs too (python/make-library): what is wrong, then in parentheses the
  * place, either always the same number or `place: the NOUN`, and what the place is in full after a comma.
@@ -133,14 +135,14 @@ enum mahunopi_refusal {
     MAHUNOPI_NO_SUCH_POINT = 20,
     /* there are no bodies, above 256, or the listing's length differs from the bodies' (place 0) */
     MAHUNOPI_BAD_BODY_COUNT = 21,
-    /* a number is neither below the body count nor MAHUNOPI_SUN (place: the body) */
+    /* a number is neither below the body count nor 65,535 (place: the body) */
     MAHUNOPI_NO_SUCH_HOLDER = 22,
     /* a chain does not end at the Sun (place: the body, the lowest such) */
     MAHUNOPI_CHAIN_WITHOUT_SUN = 23,
     /* a lent list is shorter than every mesh may need, or the text's first word is missing or not OFF (place 0) */
     MAHUNOPI_BAD_OFF_START = 24,
-    /* a needed word of the text is missing or no such number (place: the word, counted from 0, for a missing word the
-     * number of words that there are) */
+    /* a needed word of the text is missing, no whole number of at most nine digits, or out of its range (place: the
+     * word, counted from 0, for a missing word the number of words that there are) */
     MAHUNOPI_BAD_WORD = 25,
     /* a word stands after the last face (place: the word, counted from 0) */
     MAHUNOPI_WORD_TOO_MANY = 26,
@@ -168,8 +170,13 @@ enum mahunopi_refusal {
     MAHUNOPI_PAGE_FULL = 37,
     /* a number on a page is above 2^40 (place 0) */
     MAHUNOPI_PAGE_NUMBER = 38,
+    /* the level list's length is not the corner count (place: the length); tried after 16 */
+    MAHUNOPI_BAD_LEVEL_COUNT = 39,
+    /* a level is outside 1 to 16 (place: the corner, the lowest such) */
+    MAHUNOPI_BAD_LEVEL = 40,
     /* a lent list is too short, or has not a mark for each corner (place: the length needed, that of the first such
-     * list); tried last: by surveying and decoding after 1 to 13, by mahunopi_touched after 29 and 4 to 13 */
+     * list); tried last: by surveying and decoding after 1 to 13, by mahunopi_touched after 29 and 4 to 13, by
+     * mahunopi_triangles after 40, the points before the triangles */
     MAHUNOPI_LENT_TOO_SHORT = 255
 };
 
@@ -317,6 +324,27 @@ uint32_t mahunopi_floats(
     /* receives the place of a refusal; not null */
     uint64_t *place);
 
+/*
+ * All control points of a list of corners in floats, in one call: the numbers of any number of corners up to
+ * MAHUNOPI_MAX_CORNERS, 123 for each, as mahunopi_build writes them. They are checked by 18, here when there are not 123
+ * for each of at most so many corners (place: how many there are), then by 19 (place: the position in the whole list). It
+ * writes six floats for each of the 41 points of each corner, in their order, to the beginning of a lent list: what
+ * mahunopi_floats gives, the differences from the corner's own b00, with three zeros after the x, y, z of a near point. So
+ * the first three and the second three always add up to the difference, and a caller who knows that all points are near
+ * takes the first three alone. A list that is too short is 255 (place: the length it needs).
+ */
+uint32_t mahunopi_floats_all(
+    /* the numbers of the corners, one after the other */
+    const int32_t *numbers,
+    /* how many numbers that are: 123 for each corner */
+    size_t number_count,
+    /* receives the floats: number 246c + 6p + e is float e of point p of the list's corner c */
+    float *floats,
+    /* how many floats it has room for: at least twice the numbers */
+    size_t float_space,
+    /* receives the place of a refusal; not null */
+    uint64_t *place);
+
 /* The most parts that the side of a triangle is cut into. */
 #define MAHUNOPI_MAX_PARTS 16
 
@@ -382,6 +410,138 @@ uint32_t mahunopi_sample_triangle(
     int32_t *points,
     /* how many numbers it has room for: at least 3(n + 1)(n + 2)/2 */
     size_t points_space,
+    /* receives the place of a refusal; not null */
+    uint64_t *place);
+
+/*
+ * The two tangents at one sample, for shading: checks as mahunopi_sample does and writes two vectors. The first is the
+ * derivative of the patch towards the side's tail: by the tail's weight, where the head's weight falls as it rises. The
+ * second is the derivative towards the centre: by the centre's weight, where the head's weight falls as it rises. Both
+ * are exact: in ticks, times n^3, so that nothing is rounded, and within -2^42 to 2^42. At a point of a side that two
+ * quad-nets have in common the first is the same from both. The cross product of the first and the second is a normal of
+ * the surface; on sides 0 and 2 it has the direction that the mesh's faces give, on sides 1 and 3 the opposite one.
+ */
+uint32_t mahunopi_tangents_at(
+    /* the numbers of a corner, as mahunopi_build writes them */
+    const int32_t *numbers,
+    /* how many numbers that are: has to be 123 */
+    size_t number_count,
+    /* the side, 0 to 3 */
+    size_t side,
+    /* the weights, which sum to n */
+    size_t i,
+    size_t j,
+    size_t k,
+    /* the number of parts, 1 to MAHUNOPI_MAX_PARTS */
+    size_t n,
+    /* receives x, y, z of the first and x, y, z of the second */
+    int64_t tangents[6],
+    /* receives the place of a refusal; not null */
+    uint64_t *place);
+
+/*
+ * Triangles: the whole surface as one closed mesh of triangles with shared points, each corner's quad-net as fine as
+ * the caller wants it. Every corner of the mesh has a level of 1 to 16: the sides of its net's four triangles are cut
+ * into so many parts. A border is cut into as many parts as the larger level of its two nets, so that both nets have
+ * the same points on it. Whatever the levels are, no crack is left: wherever one triangle has an edge from point p to
+ * point q, exactly one triangle has the edge from q to p. The triangles are wound as the mesh's faces are.
+ *
+ * A net of level 3 whose borders have three parts too, and the order of its corner's own points:
+ *
+ *     E3        .         .         2       The ends E0, E1, E2, E3 lie round the net in the direction in which the
+ *                                           faces run. E0 (here 0) is at the corner's vertex, E1 (1) at its leaving
+ *          13        12        11           edge, E2 (2) at its face, E3 at its arriving edge. The sides are gone
+ *                                           along in that direction here: side 0 from E0 to E1, side 1 from E1 to E2,
+ *     .         18        17        6       side 2 from E2 to E3, side 3 from E3 to E0. So sides 0 and 2 begin at
+ *                                           their head, sides 1 and 3 at their tail.
+ *          14        19        10
+ *                                           Row 0 of a side is its border: 0 3 4 1 for side 0. Each further row is one
+ *     .         15        16        5       part nearer to the centre: row 1 of side 0 is 7 8 9, row 2 is 15 16, row 3
+ *                                           is the centre, 19. Rows k of the four sides make ring k: ring 1 is 7 to
+ *          7         8         9            14, ring 2 is 15 to 18, the last ring is the centre. A strip is the band
+ *                                           of triangles between a row of a side and the next one.
+ *     0         3         4         1
+ *
+ * Points come corner by corner, each point of the surface once. Those of a corner come in this order:
+ *
+ *   - the ends that the corner has: E0 if it is the lowest corner of its vertex; E1 if it is lower than the corner
+ *     whose leaving edge is the reverse of its own; E2 if it is the first corner of its face;
+ *   - the inner points of side 0's border, from E0 on, then those of side 1's, from E1 on. Those of sides 2 and 3 (the
+ *     dots) belong to the nets beyond them;
+ *   - ring 1, from its point next to E0 on, in the direction of the sides; then ring 2 and so on, up to the centre.
+ *
+ * Triangles come corner by corner, side by side, strip by strip from the border inwards. A strip's lower row has p
+ * segments, its upper row has u points, u at most p. First come the triangles over the lower segments, in the
+ * direction of the side: the segment's two points, then the upper point whose share of the side, the u-th part of it,
+ * holds the segment's middle; shares and segments are counted from the head. Then come those under the upper segments:
+ * the segment's later point, its earlier one, then the lower point at which the first kind of triangles changes from
+ * the one upper point to the other. Where p is u, as between nets of one level, this is the plain grid.
+ *
+ * Counting: checks by 4 to 16, then 39 and 40, and says how many numbers mahunopi_triangles writes for a range of
+ * corners.
+ */
+uint32_t mahunopi_count_triangles(
+    /* the four lists and the link table, as for mahunopi_build */
+    const int32_t *coordinates,
+    size_t coordinate_count,
+    const uint8_t *sides,
+    size_t side_count,
+    const uint16_t *corners,
+    size_t corner_count,
+    const uint8_t *sharpness,
+    size_t sharpness_count,
+    const uint16_t *links,
+    size_t link_count,
+    /* the level of each corner of the mesh, 1 to MAHUNOPI_MAX_PARTS */
+    const uint8_t *levels,
+    /* how many levels: has to be corner_count */
+    size_t level_count,
+    /* the first corner of the range */
+    size_t first,
+    /* how many corners, at least 1 */
+    size_t count,
+    /* receives how many numbers their points have, three for each point; not null */
+    uint64_t *point_numbers,
+    /* receives how many numbers their triangles have, three for each triangle; not null */
+    uint64_t *triangle_numbers,
+    /* receives the place of a refusal; not null */
+    uint64_t *place);
+
+/*
+ * Filling: checks by 4 to 16, then 39 and 40, then 255, and writes the points and the triangles of a range of corners
+ * to the beginnings of two lent lists, whose further entries keep their contents. A triangle names its points by their
+ * numbers among the points of all corners, from 0 on. What calls write for ranges that follow each other is, joined,
+ * what one call writes for all of them: threads may fill the parts of two common buffers, each with the counts of its
+ * range.
+ */
+uint32_t mahunopi_triangles(
+    /* lists, link table, levels and range, as for mahunopi_count_triangles */
+    const int32_t *coordinates,
+    size_t coordinate_count,
+    const uint8_t *sides,
+    size_t side_count,
+    const uint16_t *corners,
+    size_t corner_count,
+    const uint8_t *sharpness,
+    size_t sharpness_count,
+    const uint16_t *links,
+    size_t link_count,
+    const uint8_t *levels,
+    size_t level_count,
+    size_t first,
+    size_t count,
+    /* receives x, y, z of each point of the range, in ticks */
+    int32_t *points,
+    /* how many numbers it has room for */
+    size_t point_space,
+    /* receives the three points of each triangle of the range */
+    uint32_t *triangles,
+    /* how many numbers it has room for */
+    size_t triangle_space,
+    /* receives how many numbers were written to points; not null */
+    uint64_t *point_numbers,
+    /* receives how many numbers were written to triangles; not null */
+    uint64_t *triangle_numbers,
     /* receives the place of a refusal; not null */
     uint64_t *place);
 

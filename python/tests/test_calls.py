@@ -338,6 +338,43 @@ def test_floats():
     assert refused(mahunopi.floats, numbers, 0) == (19, 7)
 
 
+def test_floats_of_all_points():
+    mesh = cube()
+    numbers = mahunopi.build(mesh, mahunopi.link(mesh))
+    numbers[5, 7, 1] += 20_000_000
+    all = mahunopi.floats_all(numbers)
+    assert all.shape == (24, 41, 2, 3) and all.dtype == np.float32
+    assert np.array_equal(all[:, :, 0].astype(np.int64) + all[:, :, 1].astype(np.int64), numbers.astype(np.int64) - numbers[:, :1])
+    for corner, point in ((0, 0), (3, 40), (5, 6), (5, 7)):
+        one = mahunopi.floats(numbers[corner], point)
+        assert np.array_equal(all[corner, point, 0], one.first)
+        assert np.array_equal(all[corner, point, 1], np.zeros(3) if one.second is None else one.second)
+    lent = np.full(250, 7, np.float32)
+    assert np.array_equal(mahunopi.floats_all(numbers[5], out=lent), all[5:6])
+    assert (lent[246:] == 7).all()
+    assert mahunopi.floats_all(numbers[:0]).shape == (0, 41, 2, 3)
+    assert refused(mahunopi.floats_all, numbers, out=lent) == (255, 24 * 246)
+    assert refused(mahunopi.floats_all, numbers.reshape(-1)[:200]) == (18, 200)
+    numbers[2, 0, 0] = 2**27 + 1
+    assert refused(mahunopi.floats_all, numbers) == (19, 246)
+
+
+def test_tangents():
+    mesh = cube()
+    net = mahunopi.build(mesh, mahunopi.link(mesh), 0, 1)[0].astype(np.int64)
+    numbers = net.astype(np.int32)
+    # at the head: four times the steps to the next point of the outer row, and to the first of the a row
+    for side, (head, along, inward) in enumerate(((0, 1, 25), (24, 19, 40), (24, 23, 40), (0, 5, 25))):
+        for n in (1, 16):
+            tangents = mahunopi.tangents_at(numbers, side, (n, 0, 0), n)
+            assert tangents.shape == (2, 3) and tangents.dtype == np.int64
+            assert np.array_equal(tangents[0], 4 * n**3 * (net[along] - net[head]))
+            assert np.array_equal(tangents[1], 4 * n**3 * (net[inward] - net[head]))
+    assert refused(mahunopi.tangents_at, numbers, 0, (2, 2, 1), 4) == (33, 4)
+    assert refused(mahunopi.tangents_at, numbers, 4, (2, 2, 0), 4) == (32, 4)
+    assert refused(mahunopi.tangents_at, numbers.reshape(-1)[:122], 0, (2, 2, 0), 4) == (18, 122)
+
+
 def test_samples():
     mesh = cube()
     net = mahunopi.build(mesh, mahunopi.link(mesh), 0, 1)[0]

@@ -74,7 +74,7 @@ def crates():
 
 
 def test_the_first_command_of_the_readme(clone):
-    command = re.search(r"(?m)^    \./(mahunopi view \S+)$", (ROOT / "README.md").read_text())[1].split()
+    command = re.search(r"(?m)^\./(mahunopi view \S+)$", (ROOT / "README.md").read_text())[1].split()
     status, out, err = run(clone, *command[1:], cwd=clone)
     assert status == 0 and re.fullmatch(r"torus\.html: [\d,]+ bytes, to be opened in a browser\n", out)
     assert re.fullmatch(rf"mahunopi: proving {len(crates())} crates, once \.\.\nmahunopi: {len(crates())} crates proved in \d+ s\n", err)

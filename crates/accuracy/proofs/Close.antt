@@ -9,8 +9,8 @@ use Rattle.numbers.proofs.Diff.{as-diff, diff}
 use Rattle.numbers.proofs.Poly.{over, poly}
 use Rattle.numbers.proofs.Laws.{mul-le, nonneg}
 use Rattle.paper.specs.Numbers.{Numbers, round, sum, sumBy, Fraction, exact}
-use Rattle.numbers.specs.Near.{Near}
-use Rattle.numbers.proofs.Nearest.{round-near}
+use Rattle.numbers.specs.WithinHalf.{WithinHalf}
+use Rattle.numbers.proofs.Nearest.{round-within-half}
 use Rattle.surface.proofs.Within.{Within, within-times, positive}
 use Rattle.accuracy.specs.Rounding.{twiceOff, OffByHalf}
 
@@ -96,9 +96,9 @@ close-times {e} {x} {q} w k b h = record {
 
 -- ---- a quotient: half a tick more
 half : (x : ℤ) (m : ℕ) → 0 < m → OffByHalf x (pos m) (round x (pos m))
-half x m some = plain x (pos m) (round x (pos m)) (positive m some) (round-near x (pos m) (positive m some))
+half x m some = plain x (pos m) (round x (pos m)) (positive m some) (round-within-half x (pos m) (positive m some))
   where
-    plain : (n d q : ℤ) → pos 0 <ℤ d → Near n d q → OffByHalf n d q
+    plain : (n d q : ℤ) → pos 0 <ℤ d → WithinHalf n d q → OffByHalf n d q
     plain = over 3 _ λ ρ. simp (poly, ρ) (omega arith)
 
 over-core : (D M x n Q e f : ℤ) → Within (pos 100 *ℤ (D *ℤ x -ℤ n)) (e *ℤ D) → Within (D *ℤ (pos 2 *ℤ (M *ℤ Q -ℤ x))) (D *ℤ twiceOff M)

@@ -41,14 +41,14 @@ all-fifty zero = refl
 all-fifty (suc n) = omega (arith, all-fifty n)
 
 -- ---- one refined face, its points off by 50
-module _ (x : ℕ → ℤ) (q : ℕ → Fraction) (m : ℕ) (low : leastSides ≤ m) (high : m ≤ mostSides) (near : (j : ℕ) → Close 50 (x j) (q j)) where
+module _ (x : ℕ → ℤ) (q : ℕ → Fraction) (m : ℕ) (low : leastSides ≤ m) (high : m ≤ mostSides) (close : (j : ℕ) → Close 50 (x j) (q j)) where
   pub centre-close : Close 100 (centre rounded x m) (centre exact q m)
   unfolding centre
-  centre-close = close-over m 100 (omega arith) (omega (arith, all-fifty m)) (close-sum (λ k. 50) x q m near)
+  centre-close = close-over m 100 (omega arith) (omega (arith, all-fifty m)) (close-sum (λ k. 50) x q m close)
 
   pub toward-close : (i : ℕ) → Close 106 (toward rounded x m i) (toward exact q m i)
   unfolding toward spread
   toward-close i =
       close-over (3 * unit * m) 106 (omega arith) (omega (arith, light m low high, times-each (λ k. natAbs (weight m k)) 50 m))
       (close-sum (λ k. natAbs (weight m k) * 50) (λ k. weight m k *ℤ x (i + k)) _ m
-      (λ k. close-times (weight m k) (natAbs (weight m k)) (omega arith) (near (i + k))))
+      (λ k. close-times (weight m k) (natAbs (weight m k)) (omega arith) (close (i + k))))

@@ -40,7 +40,7 @@ all-at (e ∷ d) (z ∷ l) (q ∷ r) (h then t) zero = h
 all-at (e ∷ d) (z ∷ l) (q ∷ r) (h then t) (suc j) = all-at d l r t j
 
 -- ---- a corner's net, over refined points off by 50
-module _ (G : Corners) (ok : Sound G) (v : ℕ → ℤ) (q : ℕ → Fraction) (near : (c : ℕ) → c < G .count → Close 50 (v c) (q c)) (c : ℕ) (here : c < G .count) where
+module _ (G : Corners) (ok : Sound G) (v : ℕ → ℤ) (q : ℕ → Fraction) (close : (c : ℕ) → c < G .count → Close 50 (v c) (q c)) (c : ℕ) (here : c < G .count) where
   abbrev K : RefinedMesh rounded
   K = record { corners = G; point = v }
 
@@ -48,7 +48,7 @@ module _ (G : Corners) (ok : Sound G) (v : ℕ → ℤ) (q : ℕ → Fraction) (
   L = record { corners = G; point = q }
 
   points-close : (e : End) (j : ℕ) → Close 50 (points K c e j) (points L c e j)
-  points-close e j = near (ring G c e j) (ring-in G ok c here e j)
+  points-close e j = close (ring G c e j) (ring-in G ok c here e j)
 
   end-close : (e : End) → Close 100 (centre rounded (points K c e) (size G c e)) (centre exact (points L c e) (size G c e))
   end-close e = centre-close (points K c e) (points L c e) (size G c e) (size-least G ok c here e) (size-most G ok c here e) (points-close e)
@@ -76,8 +76,8 @@ module _ (G : Corners) (ok : Sound G) (v : ℕ → ℤ) (q : ℕ → Fraction) (
   unfolding N
   N-close s =
       close-over 6 173 (omega arith) (omega arith)
-      (close-minus (close-plus (close-plus (close-times (pos 3) 3 (omega arith) (X-close s)) (close-times (pos 3) 3 (omega arith) (Y-close s))) (near c here))
-      (near (neighbour G c s) (neighbour-in G ok c here s)))
+      (close-minus (close-plus (close-plus (close-times (pos 3) 3 (omega arith) (X-close s)) (close-times (pos 3) 3 (omega arith) (Y-close s))) (close c here))
+      (close (neighbour G c s) (neighbour-in G ok c here s)))
 
   outer1-close : (s : Side) → Close 155 (outer1 K c s) (outer1 L c s)
   unfolding outer1

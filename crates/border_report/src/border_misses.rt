@@ -4,7 +4,7 @@
 use crate::four::Misses;
 use crate::misses::Row;
 use crate::misses::wide;
-use net::NEAR;
+use net::STENCIL;
 use numbers::cosines;
 use paper::MOST_SIDES;
 use paper::NUMBERS_PER_CORNER;
@@ -19,7 +19,7 @@ ghost use Rattle.numbers.specs.Stored.{stored};
 ghost use Rattle.surface.specs.Sizes.{WrittenSize};
 ghost use Rattle.walk.specs.Table.{toNext, toLink, entry};
 ghost use Rattle.net.specs.sides.Drawn.{drawn, Drawn};
-ghost use Rattle.net.specs.sides.Values.{Sized};
+ghost use Rattle.net.specs.sides.Values.{SideSized};
 ghost use Rattle.building.specs.writing.Written.{Faced, NetsWritten};
 ghost use Rattle.border_report.specs.four.Four.{inMisses};
 ghost use Rattle.border_report.specs.misses.Row.{inRow, SmallRow};
@@ -29,7 +29,7 @@ ghost use Rattle.border_report.specs.border_misses.Held.{pointIn, SmallO
 const FACE_NUMBERS: usize = MOST_SIDES * NUMBERS_PER_CORNER;
 
 // The largest miss of each condition over all borders of n corners.
-pub fn largest(points: &[i32], table: &[u16], n: usize) -> Misses
+pub(crate) fn largest(points: &[i32], table: &[u16], n: usize) -> Misses
     requires { ⌜ Drawn n (now table) (now points) × Faced n (now table) ⌝ }
     ensures { λ r. ⌜ ((j : ℕ) → j < conditions → inMisses r j ≡ largestBelow n (cornerMiss (drawn n (now (table .entry)) (now (points .entry))) j)) ⌝ }
 {
@@ -70,7 +70,7 @@ fn face_misses(
     ensures { λ r. ⌜ ((j : ℕ) → j < conditions → inMisses r j ≡ largestBelow (start + k) (cornerMiss (drawn n (now (table .entry)) (now (points .entry))) j)) ⌝ }
 {
     let mut linked = [0i32; NUMBERS_PER_CORNER];
-    let mut near = [0i32; NEAR];
+    let mut stencil = [0i32; STENCIL];
     let mut most = before;
     let mut j = 0;
     while j < k {
@@ -91,7 +91,7 @@ fn face_misses(
             here,
             &linked,
             next,
-            &mut near,
+            &mut stencil,
         );
         most = crate::four::larger_of(most, m);
         j += 1;
@@ -110,20 +110,20 @@ fn corner_misses(
     here: usize,
     linked: &[i32],
     next: usize,
-    near: &mut [i32],
+    stencil: &mut [i32],
 ) -> Misses
-    requires mesh { ⌜ Drawn n (now table) (now points) × (c < n) × (now rows ≡ stored) × (length (now near) ≡ 128) ⌝ }
+    requires mesh { ⌜ Drawn n (now table) (now points) × (c < n) × (now rows ≡ stored) × (length (now stencil) ≡ 128) ⌝ }
     requires here { ⌜ HeldAll (drawn n (now table) (now points)) c (now face) here ⌝ }
     requires linked { ⌜ HeldAll (drawn n (now table) (now points)) (entry (now table) toLink c) (now linked) 0 ⌝ }
     requires next { ⌜ HeldAll (drawn n (now table) (now points)) (entry (now table) toNext c) (now face) next ⌝ }
     ensures { λ r. ⌜ ((j : ℕ) → j < conditions → inMisses r j ≡ cornerMiss (drawn n (now (table .entry)) (now (points .entry))) j c) ⌝ }
 {
-    net::near::take_face(points, table, rows, n, c, 1, near);
-    net::near::take_corner(points, table, rows, n, c, near);
+    net::stencil::take_face(points, table, rows, n, c, 1, stencil);
+    net::stencil::take_corner(points, table, rows, n, c, stencil);
     let rings = net::rings_at(table, rows, n, c, 0);
-    let a = net::lanes::lane_sides(near, 0, rings);
-    let b = net::lanes::lane_sides(near, 1, rings);
-    let d = net::lanes::lane_sides(near, 2, rings);
+    let a = net::lanes::lane_sides(stencil, 0, rings);
+    let b = net::lanes::lane_sides(stencil, 1, rings);
+    let d = net::lanes::lane_sides(stencil, 2, rings);
     let x = axis_misses(a, 0, face, here, linked, next);
     let y = axis_misses(b, 1, face, here, linked, next);
     let z = axis_misses(d, 2, face, here, linked, next);
@@ -139,7 +139,7 @@ fn axis_misses(
     linked: &[i32],
     next: usize,
 ) -> Misses
-    requires sides { ⌜ Sized (sides .side0) × Sized (sides .side1) ⌝ }
+    requires sides { ⌜ SideSized (sides .side0) × SideSized (sides .side1) ⌝ }
     requires numbers { ⌜ (axis < 3) × SmallOn (now face) here axis × SmallOn (now linked) 0 axis × SmallOn (now face) next axis ⌝ }
     ensures { λ r. ⌜ AxisMisses sides axis (now (face .entry)) here (now (linked .entry)) next r ⌝ }
 {

@@ -12,7 +12,7 @@ pub struct Misses {
 }
 
 // The larger of each two.
-pub fn larger_of(a: Misses, b: Misses) -> Misses
+pub(crate) fn larger_of(a: Misses, b: Misses) -> Misses
     ensures { λ r. ⌜ ((j : ℕ) → inMisses r j ≡ max (inMisses a j) (inMisses b j)) ⌝ }
 {
     Misses {

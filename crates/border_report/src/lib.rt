@@ -28,7 +28,7 @@ ghost use Rattle.paper.specs.File.{fileMesh, fileVerdict};
 ghost use Rattle.paper.specs.Report.{added, pageVerdict, offered, ReportedTo, MergedTo};
 ghost use Rattle.surface.specs.Points.{pointRow};
 ghost use Rattle.refine.specs.sums.Sources.{Small};
-ghost use Rattle.dms.specs.header.Sized.{Sized};
+ghost use Rattle.dms.specs.header.ListsWithin.{ListsWithin};
 ghost use Rattle.checks.specs.Checked.{RowsFor};
 
 // The page after one file more, from the bytes read and the length counted, or the page as it was.
@@ -71,7 +71,7 @@ fn with_file(file: &[u8], counted: usize, page: Page) -> Page
 
 // The same of a file whose header passes, with copies of its lists.
 fn with_lists(file: &[u8], page: Page) -> Page
-    requires { ⌜ Sized (now file) × (pageVerdict page ≡ sound) ⌝ }
+    requires { ⌜ ListsWithin (now file) × (pageVerdict page ≡ sound) ⌝ }
     ensures { λ r. ⌜ r ≡ added page (fileMesh (now (file .entry))) (verdict (fileMesh (now (file .entry)))) ⌝ }
 {
     let mut coordinates = [0i32; MOST_NUMBERS];

@@ -9,7 +9,7 @@ ghost use lib.IntN.{pos, natAbs, _+ℤ_, _-ℤ_, _*ℤ_};
 ghost use Rattle.paper.specs.Borders.{one};
 ghost use Rattle.paper.specs.Report.{conditions, condition};
 ghost use Rattle.surface.specs.Sizes.{ValueSize, WrittenSize, CosineSize};
-ghost use Rattle.net.specs.sides.Values.{Sized};
+ghost use Rattle.net.specs.sides.Values.{SideSized};
 ghost use Rattle.border_report.specs.four.Four.{inMisses};
 ghost use Rattle.border_report.specs.misses.Row.{inRow, SmallRow};
 
@@ -29,8 +29,8 @@ pub struct Row {
 }
 
 // The misses of one side on one axis.
-pub fn side_misses(side: SideValues, outer: Row, own: Row, other: Row) -> Misses
-    requires { ⌜ Sized side × SmallRow outer × SmallRow own × SmallRow other ⌝ }
+pub(crate) fn side_misses(side: SideValues, outer: Row, own: Row, other: Row) -> Misses
+    requires { ⌜ SideSized side × SmallRow outer × SmallRow own × SmallRow other ⌝ }
     ensures { λ r. ⌜ ((j : ℕ) → j < conditions → inMisses r j ≡ natAbs (condition j (side .head) (side .tail) (side .x) (side .y) (side .cosine) (inRow outer j) (inRow own j) (inRow other j))) ⌝ }
 {
     let h = wide(side.head);

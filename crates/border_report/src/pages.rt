@@ -48,7 +48,7 @@ pub fn merge(page: Page, other: Page) -> Reported
 }
 
 // Checks 37 and 38 of a page that is to take one file more.
-pub fn check(page: Page) -> Answer
+pub(crate) fn check(page: Page) -> Answer
     ensures { λ r. ⌜ stated r ≡ pageVerdict page ⌝ }
 {
     if MOST_MESHES <= page.meshes {
@@ -117,7 +117,7 @@ fn some_above(numbers: &[u64]) -> bool
 }
 
 // The page after a mesh that is refused under a number.
-pub fn refuse(page: Page, number: u8) -> Page
+pub(crate) fn refuse(page: Page, number: u8) -> Page
     requires { ⌜ pageVerdict page ≡ sound ⌝ }
     ensures { λ r. ⌜ ((M : Mesh) (p : ℕ) → r ≡ added page M (fault number p)) ⌝ }
 {
@@ -134,7 +134,7 @@ pub fn refuse(page: Page, number: u8) -> Page
 }
 
 // The page after an accepted mesh of so many corners, with its largest misses. Each corner has two borders.
-pub fn accept(page: Page, corners: usize, largest: Misses) -> Page
+pub(crate) fn accept(page: Page, corners: usize, largest: Misses) -> Page
     requires { ⌜ (pageVerdict page ≡ sound) × (corners ≤ mostCorners) ⌝ }
     ensures { λ r. ⌜ r ≡ pageWith (page .meshes + 1) (page .corners + corners) (page .borders + 2 * corners) (page .refusals) (valuesFrom (λ j. max (getD (page .misses) j 0) (inMisses largest j)) 0 conditions) ⌝ }
 {

@@ -12,8 +12,8 @@ use Rattle.paper.specs.Refined.{RefinedMesh}
 use Rattle.paper.specs.Net.{Side, side0, side1, side2, side3, atHead, atTail, H, T, X, Y, N, C, outer1, outer2, outer3, a0, a1, a2, a3}
 use Rattle.paper.specs.Borders.{first, second, third, fourth, InBounds}
 use Rattle.paper.specs.Cosines.{unit}
-use Rattle.numbers.specs.Near.{Near}
-use Rattle.numbers.proofs.Nearest.{near-is}
+use Rattle.numbers.specs.WithinHalf.{WithinHalf}
+use Rattle.numbers.proofs.Nearest.{within-half-is}
 use Rattle.surface.proofs.Faces.{HeadRule, TailRule}
 use Rattle.surface.proofs.Border.{Border}
 use Rattle.surface.proofs.Roundings.{SecondRow, ThirdRow, outer1-is, outer2-is, outer3-is, N-is, a0-is, a1-is, a2-is, a3-is}
@@ -21,9 +21,9 @@ use Rattle.borders.specs.Rounding.{OffByHalf}
 
 -- every rounded value is
 half : (n d q : ℤ) → Passes (ltZ (pos 0) d) → q ≡ round n d → OffByHalf n d q
-half n d q t e = plain n d q (near-is n d q t e)
+half n d q t e = plain n d q (within-half-is n d q t e)
   where
-    plain : (n d q : ℤ) → Near n d q → OffByHalf n d q
+    plain : (n d q : ℤ) → WithinHalf n d q → OffByHalf n d q
     plain = over 3 _ λ ρ. simp (poly, ρ) (omega arith)
 
 -- ---- plain integers; o, a, â are rounded values, v and w the two refined points

@@ -13,15 +13,15 @@ use Rattle.paper.specs.CFace.{numberOf}
 use Rattle.paper.specs.Claims.{CallsFromC}
 
 -- a verdict whose number is 0 is no fault
-record Numbered (v : Verdict) : Type 0 where
-  none : numberOf v ≡ 0 → v ≡ sound
+pub record Numbered (v : Verdict) : Type 0 where
+  pub none : numberOf v ≡ 0 → v ≡ sound
 
-one : (k : ℕ) (b : Bool) (p : ℕ) → 0 < k → Numbered (single k b p)
+pub one : (k : ℕ) (b : Bool) (p : ℕ) → 0 < k → Numbered (single k b p)
 unfolding single
 one k true p l = record { none = λ e. absurd (omega (arith, e)) }
 one k false p l = record { none = λ e. refl }
 
-lowest : (k n : ℕ) (f : ℕ → Bool) → 0 < k → Numbered (lowestOf k n f)
+pub lowest : (k n : ℕ) (f : ℕ → Bool) → 0 < k → Numbered (lowestOf k n f)
 unfolding lowestOf
 lowest k n f l = one k (someBelow n f) (firstBelow n f) l
 
@@ -31,18 +31,24 @@ either sound w n m = m
 either (fault k p) w n m = n
 
 infixr 25 _or_
-_or_ : {v w : Verdict} → Numbered v → Numbered w → Numbered (v orElse w)
+pub _or_ : {v w : Verdict} → Numbered v → Numbered w → Numbered (v orElse w)
 n or m = either _ _ n m
 
-built : (M : Mesh) (links : List ℕ) (first count n : ℕ) → Numbered (buildVerdict M links first count n)
-unfolding buildVerdict linkVerdict verdict listFaults linkFaults
-built M links first count n =
+-- the checks of a mesh and its link table
+pub linked : (M : Mesh) (n : ℕ) → Numbered (linkVerdict M n)
+unfolding linkVerdict verdict listFaults linkFaults
+linked M n =
     let l : (k : ℕ) → 0 < k → (m : ℕ) (f : ℕ → Bool) → Numbered (lowestOf k m f) = λ k h m f. lowest k m f h in
     let s : (k : ℕ) → 0 < k → (b : Bool) (p : ℕ) → Numbered (single k b p) = λ k h b p. one k b p h in
     let lists = s 4 (omega arith) _ _ or s 27 (omega arith) _ _ or l 5 (omega arith) _ _ or s 6 (omega arith) _ _ or l 7 (omega arith) _ _
     or l 8 (omega arith) _ _ or l 28 (omega arith) _ _ or l 9 (omega arith) _ _ in
     let edges = l 10 (omega arith) _ _ or l 11 (omega arith) _ _ or l 12 (omega arith) _ _ or l 13 (omega arith) _ _ in
-    ((lists or edges) or s 14 (omega arith) _ _) or l 15 (omega arith) _ _ or s 16 (omega arith) _ _ or s 17 (omega arith) _ _
+    (lists or edges) or s 14 (omega arith) _ _
+
+built : (M : Mesh) (links : List ℕ) (first count n : ℕ) → Numbered (buildVerdict M links first count n)
+unfolding buildVerdict
+built M links first count n =
+    linked M (length links) or lowest 15 _ _ (omega arith) or one 16 _ _ (omega arith) or one 17 _ _ (omega arith)
 
 pub from-c : CallsFromC
 from-c M links first count old before after out call =

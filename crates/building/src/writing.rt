@@ -19,10 +19,10 @@ ghost use Rattle.surface.specs.Points.{pointRow};
 ghost use Rattle.walk.specs.Table.{Tabled};
 ghost use Rattle.refine.specs.sums.Sources.{Small};
 ghost use Rattle.net.specs.sides.Drawn.{drawn, Drawn};
-ghost use Rattle.building.specs.writing.Written.{NearPointed, Rounds, InFace, Faced, NetsWritten};
+ghost use Rattle.building.specs.writing.Written.{AskedPointed, Rounds, InFace, Faced, NetsDrawn, NetsWritten};
 
 // The numbers of `count` corners from `first` on, by the table of the mesh's corners. The refined points are put into `points`.
-pub fn write_nets(
+pub(crate) fn write_nets(
     coordinates: &[i32],
     sides: &[u8],
     corners: &[u16],
@@ -39,6 +39,37 @@ pub fn write_nets(
     requires points { ⌜ (pointRow * length (now corners) ≤ length (now points)) × Small (now points) ⌝ }
     ensures { λ _. ⌜ now (out .exit) ≡ nets (meshOf (now (coordinates .entry)) (now (sides .entry)) (now (corners .entry)) (now (sharpness .entry))) first count ⌝ }
 {
+    fill_range(
+        coordinates,
+        sides,
+        corners,
+        sharpness,
+        table,
+        first,
+        count,
+        points,
+    );
+    let rows = cosines::rows();
+    write_corners(points, table, &rows, corners.len(), first, count, out);
+}
+
+// The refined points of which the nets of `count` corners from `first` on are made: those of the corners at the vertices of the range's faces.
+pub fn fill_range(
+    coordinates: &[i32],
+    sides: &[u8],
+    corners: &[u16],
+    sharpness: &[u8],
+    table: &[u16],
+    first: usize,
+    count: usize,
+    points: &mut [i32],
+)
+    requires mesh { ⌜ Accepted (meshOf (now coordinates) (now sides) (now corners) (now sharpness)) ⌝ }
+    requires table { ⌜ Tabled (cornersOf (meshOf (now coordinates) (now sides) (now corners) (now sharpness))) (now table) ⌝ }
+    requires range { ⌜ (0 < count) × (first + count ≤ length (now corners)) ⌝ }
+    requires points { ⌜ (pointRow * length (now corners) ≤ length (now points)) × Small (now points) ⌝ }
+    ensures { λ _. ⌜ NetsDrawn (meshOf (now (coordinates .entry)) (now (sides .entry)) (now (corners .entry)) (now (sharpness .entry))) (now (table .entry)) (now (points .exit)) first count ⌝ }
+{
     let start = face_start(table, first);
     let end = face_end(table, first + count - 1);
     let all = end - start;
@@ -52,8 +83,6 @@ pub fn write_nets(
         all,
         points,
     );
-    let rows = cosines::rows();
-    write_corners(points, table, &rows, corners.len(), first, count, out);
 }
 
 // The refined points of the corners at the vertices of `count` corners from `first` on.
@@ -71,7 +100,7 @@ fn fill_asked(
     requires table { ⌜ Tabled (cornersOf (meshOf (now coordinates) (now sides) (now corners) (now sharpness))) (now table) ⌝ }
     requires range { ⌜ first + count ≤ length (now corners) ⌝ }
     requires points { ⌜ (pointRow * length (now corners) ≤ length (now points)) × Small (now points) ⌝ }
-    ensures { λ _. ⌜ NearPointed (meshOf (now (coordinates .entry)) (now (sides .entry)) (now (corners .entry)) (now (sharpness .entry))) first count (now (points .entry)) (now (points .exit)) ⌝ }
+    ensures { λ _. ⌜ AskedPointed (meshOf (now (coordinates .entry)) (now (sides .entry)) (now (corners .entry)) (now (sharpness .entry))) first count (now (points .entry)) (now (points .exit)) ⌝ }
 {
     let mut marked = [0u8; MOST_VERTICES];
     refine::mark_vertices(corners, first, count, &mut marked);
@@ -128,7 +157,7 @@ pub fn write_corners(
     requires rows { ⌜ now rows ≡ stored ⌝ }
     ensures { λ _. ⌜ NetsWritten (drawn n (now (table .entry)) (now (points .entry))) first count (now (out .exit)) ⌝ }
 {
-    let mut near = [0i32; net::NEAR];
+    let mut stencil = [0i32; net::STENCIL];
     let mut lanes = [0i32; net::LANES];
     let mut k = 0;
     while k < count {
@@ -142,7 +171,7 @@ pub fn write_corners(
             n,
             c,
             run,
-            &mut near,
+            &mut stencil,
             &mut lanes,
             out,
             at,

@@ -23,7 +23,7 @@ use Rattle.walk.proofs.Table.{blank}
 use Rattle.checks.specs.columns.Vertices.{vertexRow, Rowed}
 use Rattle.checks.specs.columns.Chain.{EarliersTo, EarliersFrom, LastsTo, Ready}
 use Rattle.checks.specs.columns.Filled.{FacesFilled, CornersCounted}
-use Rattle.checks.specs.edges.Entries.{Entries, Valences, Searchable, ChainsFrom, HeadsFrom, Ends, Found}
+use Rattle.checks.specs.edges.Entries.{Entries, Valences, Searchable, ChainsFrom, HeadsFrom, StepsBelong, Found}
 use Rattle.checks.specs.vertices.Ring.{Linking}
 use Rattle.checks.specs.Checked.{RowsFor, RoomFor, Checked, ListsChecked, Listed}
 
@@ -75,7 +75,7 @@ module _ (M : Mesh) (g : Listed M) where
 
   -- the columns of the faces
   module _ (table : List ℕ) (f : FacesFilled (M .sides) table) where
-    pub ends : Ends (M .sides) (M .corners) table
+    pub ends : StepsBelong (M .sides) (M .corners) table
     ends = record { sums = g .sums; nexts = λ c l. f .nexts c (omega (arith, g .sums)); previouses = λ c l. f .previouses c (omega (arith, g .sums)) }
 
     pub searchable : (vertices : List ℕ) → rowLength * cornerCount M ≤ length table → vertexRow * vertexCount M ≤ length vertices

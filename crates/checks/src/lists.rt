@@ -83,26 +83,26 @@ pub(crate) fn check_sum(sides: &[u8], corners: usize) -> Answer
 pub(crate) fn check_coordinates(coordinates: &[i32]) -> Answer
     ensures { λ r. ⌜ stated r ≡ lowestOf 7 (length (now (coordinates .entry))) (fault7 (now (coordinates .entry))) ⌝ }
 {
-    if all_near(coordinates) {
+    if all_within(coordinates) {
         return Answer::Done;
     }
     find_coordinate(coordinates)
 }
 
 // Whether each coordinate passes.
-fn all_near(coordinates: &[i32]) -> bool
+fn all_within(coordinates: &[i32]) -> bool
     ensures { λ r. ⌜ (r ≡ true → (j : ℕ) → j < length (now (coordinates .entry)) → fault7 (now (coordinates .entry)) j ≡ false) ⌝ }
 {
-    let mut near = true;
+    let mut within = true;
     let mut i = 0;
     while i < coordinates.len() {
         let z = coordinates[i];
         if z < -MOST_COORDINATE || MOST_COORDINATE < z {
-            near = false;
+            within = false;
         }
         i += 1;
     }
-    near
+    within
 }
 
 // The lowest coordinate at fault.

@@ -16,10 +16,10 @@ use Rattle.paper.specs.declared.Summary.{Summary}
 use Rattle.paper.specs.declared.Decoded.{Decoded}
 use Rattle.mesh.proofs.Scans.{ways}
 use Rattle.mesh.proofs.Verdicts.{orElse-sound, sound-left, sound-right, single-sound}
-use Rattle.dms.specs.header.Sized.{Sized}
+use Rattle.dms.specs.header.ListsWithin.{ListsWithin}
 use Rattle.dms.specs.lists.Room.{Room, ListsRead}
 use Rattle.dms.proofs.lists.Lists.{read-back, file-coordinates, file-faces, file-corners, file-sharpness}
-use Rattle.dms.proofs.header.Headers.{header-sized}
+use Rattle.dms.proofs.header.Headers.{header-within}
 
 -- ---- the bytes of the file
 pub held-bytes : (bytes : List ℕ) (held counted : ℕ) → (held < counted → held ≡ length bytes) → held ≤ counted → take held bytes ≡ take counted bytes
@@ -47,9 +47,9 @@ mesh-read file n f k p lent left q r s t h =
     )
 
 -- ---- decoding
-pub file-sized : (file : List ℕ) (counted : ℕ) → fileVerdict file counted ≡ sound → Sized file
+pub file-within : (file : List ℕ) (counted : ℕ) → fileVerdict file counted ≡ sound → ListsWithin file
 unfolding fileVerdict
-file-sized file counted e = header-sized file counted (sound-left _ _ e)
+file-within file counted e = header-within file counted (sound-left _ _ e)
 
 module _ (file : List ℕ) (a b c d : ℕ) where
   pub no-coordinates : (n : ℕ) → n ≡ 3 * verticesIn file → a < n → fault noRoom n ≡ roomVerdict file a b c d
@@ -90,9 +90,9 @@ module _ (file : List ℕ) (a b c d : ℕ) where
       }
 
 module _ (file : List ℕ) (counted : ℕ) (a b c d : ℕ) (e : decodeVerdict file counted a b c d ≡ sound) where
-  pub decode-sized : Sized file
+  pub decode-within : ListsWithin file
   unfolding decodeVerdict
-  decode-sized = file-sized file counted (sound-left _ _ e)
+  decode-within = file-within file counted (sound-left _ _ e)
 
   pub decode-room : Room file a b c d
   unfolding decodeVerdict

@@ -20,7 +20,7 @@ ghost use lib.ListN.{length};
 ghost use Rattle.paper.specs.Mesh.{meshOf};
 ghost use Rattle.paper.specs.Faults.{verdict, stated};
 ghost use Rattle.paper.specs.File.{headerLength, fileMesh, fileOf, Surveyed, FileSurveyed, roomVerdict, decodeVerdict, DecodedTo};
-ghost use Rattle.dms.specs.header.Sized.{Sized};
+ghost use Rattle.dms.specs.header.ListsWithin.{ListsWithin};
 
 // Our own number, outside 01's list: a lent space is shorter than its list.
 pub const NO_ROOM: u8 = 255;
@@ -84,7 +84,7 @@ fn survey_file(file: &[u8], counted: usize) -> Summary
 
 // Checks 4 to 13 with 27 and 28, and the counts, of the lists of a file whose header passes.
 fn survey_lists(file: &[u8]) -> Summary
-    requires { ⌜ Sized (now file) ⌝ }
+    requires { ⌜ ListsWithin (now file) ⌝ }
     ensures { λ r. ⌜ Surveyed (fileMesh (now (file .entry))) (verdict (fileMesh (now (file .entry)))) r ⌝ }
 {
     let mut coordinates = [0i32; MOST_NUMBERS];

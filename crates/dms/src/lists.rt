@@ -8,7 +8,7 @@ ghost use mir.Val.{toZ, ofZ};
 ghost use Rattle.paper.specs.Scan.{valuesFrom};
 ghost use Rattle.paper.specs.Mesh.{meshOf, plain};
 ghost use Rattle.paper.specs.File.{wordAt, signedAt, headerLength, cornersIn, sharpnessStart, expectedLength, coordinateIn, sideIn, cornerIn, sharpnessIn, begins};
-ghost use Rattle.dms.specs.header.Sized.{Sized};
+ghost use Rattle.dms.specs.header.ListsWithin.{ListsWithin};
 ghost use Rattle.dms.specs.lists.Room.{Room, ListsRead};
 use crate::header::HEADER;
 use crate::header::half;
@@ -137,7 +137,7 @@ pub fn read_lists(
     corners: &mut [u16],
     sharpness: &mut [u8],
 )
-    requires { ⌜ Sized (now file) × Room (now file) (length (now coordinates)) (length (now sides)) (length (now corners)) (length (now sharpness)) ⌝ }
+    requires { ⌜ ListsWithin (now file) × Room (now file) (length (now coordinates)) (length (now sides)) (length (now corners)) (length (now sharpness)) ⌝ }
     ensures { λ _. ⌜ ListsRead (now (file .entry)) (meshOf (now (coordinates .entry)) (now (sides .entry)) (now (corners .entry)) (now (sharpness .entry))) (meshOf (now (coordinates .exit)) (now (sides .exit)) (now (corners .exit)) (now (sharpness .exit))) ⌝ }
 {
     read_coordinates(file, 3 * crate::header::vertex_count(file), coordinates);

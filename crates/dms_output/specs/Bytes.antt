@@ -43,12 +43,12 @@ fileBytes true M = listBytes 2 (M .coordinates) (M .sides) (M .corners) ++ M .sh
 fileBytes false M = listBytes 1 (M .coordinates) (M .sides) (M .corners)
 
 -- whether a list is 8 throughout
-pub record Plain (list : List ℕ) (r : Bool) : Type 0 where
+pub record TellsPlain (list : List ℕ) (r : Bool) : Type 0 where
   pub says : r ≡ true → list ≡ replicate (length list) plain
   pub said : list ≡ replicate (length list) plain → r ≡ true
 
 -- the file of version 1 was put where that says the mesh, else of version 2
 pub record ShortestPut (M : Mesh) (old new : List ℕ) (to : ℕ) : Type 0 where
   pub eights : Bool
-  pub says : Plain (M .sharpness) eights
+  pub says : TellsPlain (M .sharpness) eights
   pub put : Put old 0 (fileBytes (not eights) M) new to

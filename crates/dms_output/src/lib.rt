@@ -6,7 +6,7 @@ ghost use mir.Syntax.{w32};
 ghost use mir.Val.{ofZ};
 ghost use Rattle.paper.specs.Mesh.{meshOf};
 ghost use Rattle.streams.specs.text.Text.{Put};
-ghost use Rattle.dms_output.specs.Bytes.{halfBytes, wordBytes, coordinateBytes, cornerBytes, headerBytes, listBytes, fileBytes, Plain, ShortestPut};
+ghost use Rattle.dms_output.specs.Bytes.{halfBytes, wordBytes, coordinateBytes, cornerBytes, headerBytes, listBytes, fileBytes, TellsPlain, ShortestPut};
 use dms::lists::bits;
 use paper::PLAIN;
 use streams::output::say_up_to;
@@ -39,7 +39,7 @@ fn put_shortest(
 
 // Whether a sharpness list is 8 throughout, so that version 1 says it.
 pub(crate) fn is_plain(sharpness: &[u8]) -> bool
-    ensures { λ r. ⌜ Plain (now (sharpness .entry)) r ⌝ }
+    ensures { λ r. ⌜ TellsPlain (now (sharpness .entry)) r ⌝ }
 {
     let mut i = 0;
     while i < sharpness.len() {

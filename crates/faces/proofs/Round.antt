@@ -17,13 +17,13 @@ use Rattle.paper.specs.Mesh.{leastSides, mostSides}
 use Rattle.paper.specs.Numbers.{sum, rounded, round}
 use Rattle.paper.specs.Cosines.{unit, cosine}
 use Rattle.paper.specs.Face.{centre, weight, toward}
-use Rattle.numbers.specs.Near.{Near}
+use Rattle.numbers.specs.WithinHalf.{WithinHalf}
 use Rattle.numbers.specs.Units.{Units}
 use Rattle.numbers.proofs.Diff.{as-diff, diff}
 use Rattle.numbers.proofs.Poly.{over, poly}
 use Rattle.numbers.proofs.Laws.{abs-mul-le, mul-le, nonneg}
 use Rattle.numbers.proofs.Machine.{abs-fits}
-use Rattle.numbers.proofs.Nearest.{round-near, round-scale}
+use Rattle.numbers.proofs.Nearest.{round-within-half, round-scale}
 use Rattle.numbers.proofs.Rules.{cosine-size}
 use Rattle.numbers.proofs.Sum.{Cyclic, sum-same, sum-abs, sum-zero, sum-more, sum-times}
 use Rattle.mesh.proofs.Rings.{iterate-zero, iterate-suc}
@@ -139,7 +139,7 @@ within : (q : ℤ) (k : ℕ) → natAbs q ≤ k → (negℤ (pos k) ≤ℤ q) ×
 within q k h = as-diff q λ a b e. let h′ = simp (diff, e) at h in simp (diff, e) (omega arith, omega arith)
 
 -- a sum whose quotient is no larger than a face point may be
-gathered : (n m q : ℤ) → Near n (pos (3 * unit) *ℤ m) q → pos 1 ≤ℤ m → m ≤ℤ pos mostSides → (m *ℤ q) ≤ℤ (m *ℤ pos (2 ^ 24 + 2 ^ 21))
+gathered : (n m q : ℤ) → WithinHalf n (pos (3 * unit) *ℤ m) q → pos 1 ≤ℤ m → m ≤ℤ pos mostSides → (m *ℤ q) ≤ℤ (m *ℤ pos (2 ^ 24 + 2 ^ 21))
     → (m *ℤ negℤ (pos (2 ^ 24 + 2 ^ 21))) ≤ℤ (m *ℤ q) → Units n (pos 3 *ℤ m)
 gathered = over 3 _ λ ρ. simp (poly, ρ) (omega arith)
 
@@ -147,7 +147,7 @@ units : (n q : ℤ) (m : ℕ) → leastSides ≤ m → m ≤ mostSides → q ≡
 units n q m low high e h =
     let z = within q (2 ^ 24 + 2 ^ 21) h in
     let d : pos 0 <ℤ (pos (3 * unit) *ℤ pos m) = simp diff (omega arith) in
-    gathered n (pos m) q (rw e (round-near n _ d)) (simp diff (omega arith)) (simp diff (omega arith))
+    gathered n (pos m) q (rw e (round-within-half n _ d)) (simp diff (omega arith)) (simp diff (omega arith))
     (mul-le (pos m) _ _ (nonneg m) (z .1)) (mul-le (pos m) _ _ (nonneg m) (z .0))
 
 -- all weights are 3 times 2^30

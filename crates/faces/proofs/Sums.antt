@@ -10,8 +10,8 @@ use mir.Syntax.{Width, w32}
 use mir.Val.{SFits, toZ, ofZ, hbits}
 use mir.Facts.{toZ-ofZ}
 use Rattle.paper.specs.Numbers.{round}
-use Rattle.numbers.specs.Near.{Near}
-use Rattle.numbers.proofs.Nearest.{near-is}
+use Rattle.numbers.specs.WithinHalf.{WithinHalf}
+use Rattle.numbers.proofs.Nearest.{within-half-is}
 use Rattle.numbers.proofs.Diff.{as-diff, diff}
 use Rattle.numbers.proofs.Laws.{abs-mul-le, abs-add-le}
 use Rattle.numbers.proofs.Machine.{abs-fits}
@@ -45,11 +45,11 @@ Fits w (s ⊖ t) = Fits w s × Fits w t × SFits w (held w s -ℤ held w t)
 Fits w (k ⊗ s) = Fits w s × SFits w (pos k *ℤ held w s)
 
 -- the size of the sum, where no number is above b
-abbrev pub Sized : ℕ → Sum → Type 0
-Sized b (arg z) = natAbs z ≤ b
-Sized b (s ⊕ t) = Sized b s × Sized b t
-Sized b (s ⊖ t) = Sized b s × Sized b t
-Sized b (k ⊗ s) = Sized b s
+abbrev pub ArgumentsWithin : ℕ → Sum → Type 0
+ArgumentsWithin b (arg z) = natAbs z ≤ b
+ArgumentsWithin b (s ⊕ t) = ArgumentsWithin b s × ArgumentsWithin b t
+ArgumentsWithin b (s ⊖ t) = ArgumentsWithin b s × ArgumentsWithin b t
+ArgumentsWithin b (k ⊗ s) = ArgumentsWithin b s
 
 abbrev pub size : ℕ → Sum → ℕ
 size b (arg z) = b
@@ -75,7 +75,7 @@ abs-sub-le x y j k = as-diff x λ p n ex. as-diff y λ q m ey. simp (diff, ex, e
 step : (w : Width) (z v : ℤ) (k : ℕ) → z ≡ v → natAbs z ≤ k → k < 2 ^ hbits w → (toZ w (ofZ w z) ≡ v) × SFits w z × (natAbs (toZ w (ofZ w z)) ≤ k)
 step w z v k e h l = let f = abs-fits w z k h l in rw (toZ-ofZ f) (e, f, h)
 
-pub holds : (w : Width) (b : ℕ) (s : Sum) → Sized b s → Small w b s → Held w b s
+pub holds : (w : Width) (b : ℕ) (s : Sum) → ArgumentsWithin b s → Small w b s → Held w b s
 holds w b (arg z) h l = let k = step w z z b refl h l in record { is = k .0; fits = k .1; sized = k .2 }
 holds w b (s ⊕ t) h l =
     let p = holds w b s (h .0) (l .0) in
@@ -96,18 +96,18 @@ holds w b (n ⊗ s) h l =
     record { is = k .0; fits = (p .fits, k .1); sized = k .2 }
 
 -- what a formula answers: the rounded quotient, as large as a number near that may be
-pub answers : (n d q : ℤ) (P : ℤ → Type 0) → T (ltZ (pos 0) d) → (Near n d q → P q) → SFits w32 q → q ≡ round n d
+pub answers : (n d q : ℤ) (P : ℤ → Type 0) → T (ltZ (pos 0) d) → (WithinHalf n d q → P q) → SFits w32 q → q ≡ round n d
     → (toZ w32 (ofZ w32 q) ≡ round n d) × P (toZ w32 (ofZ w32 q))
-answers n d q P t size f e = rw (toZ-ofZ f) (e, size (near-is n d q t e))
+answers n d q P t size f e = rw (toZ-ofZ f) (e, size (within-half-is n d q t e))
 
 -- of one sum by `round_small`, and of two by `round_eighth`
 module _ (b : ℕ) (n q : ℤ) (P : ℤ → Type 0) (f : SFits w32 q) where
-  pub small-answers : (s : Sum) (d : ℤ) → Held w32 b s → value s ≡ n → T (ltZ (pos 0) d) → (Near n d q → P q) → q ≡ round (held w32 s) d
+  pub small-answers : (s : Sum) (d : ℤ) → Held w32 b s → value s ≡ n → T (ltZ (pos 0) d) → (WithinHalf n d q → P q) → q ≡ round (held w32 s) d
       → (toZ w32 (ofZ w32 q) ≡ round n d) × P (toZ w32 (ofZ w32 q))
   small-answers s d h e t size r = answers n d q P t size f (r ∙ ap (λ (z : ℤ). round z d) (h .is ∙ e))
 
   pub eighth-answers : (s t : Sum) (c c′ : ℤ) → Held w32 b s → Held w32 b t → c′ ≡ c → pos (2 ^ 30) *ℤ value t +ℤ c *ℤ value s ≡ n
-      → (Near n (pos (8 * 2 ^ 30)) q → P q) → q ≡ round (pos (2 ^ 30) *ℤ held w32 t +ℤ c′ *ℤ held w32 s) (pos (8 * 2 ^ 30))
+      → (WithinHalf n (pos (8 * 2 ^ 30)) q → P q) → q ≡ round (pos (2 ^ 30) *ℤ held w32 t +ℤ c′ *ℤ held w32 s) (pos (8 * 2 ^ 30))
       → (toZ w32 (ofZ w32 q) ≡ round n (pos (8 * 2 ^ 30))) × P (toZ w32 (ofZ w32 q))
   eighth-answers s t c c′ h k e same size r = answers n _ q P tt size f (r ∙ ap (λ (z : ℤ). round z (pos (8 * 2 ^ 30))) (terms ∙ same))
     where

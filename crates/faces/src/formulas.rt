@@ -26,7 +26,7 @@ pub fn toward(a: i32, b: i32, c: i32, d: i32) -> i32
 }
 
 // The centre of a three-sided refined face.
-pub fn mean_of_three(a: i32, b: i32, c: i32) -> i32
+pub(crate) fn mean_of_three(a: i32, b: i32, c: i32) -> i32
     requires { ⌜ RefinedSize a × RefinedSize b × RefinedSize c ⌝ }
     ensures { λ r. ⌜ (r ≡ round (a +ℤ b +ℤ c) (pos 3)) × RefinedSize r ⌝ }
 {
@@ -34,7 +34,7 @@ pub fn mean_of_three(a: i32, b: i32, c: i32) -> i32
 }
 
 // The point of a three-sided refined face towards its side from a to b: the weights 4/9, 4/9, 1/9.
-pub fn toward_of_three(a: i32, b: i32, c: i32) -> i32
+pub(crate) fn toward_of_three(a: i32, b: i32, c: i32) -> i32
     requires { ⌜ RefinedSize a × RefinedSize b × RefinedSize c ⌝ }
     ensures { λ r. ⌜ (r ≡ round (pos 4 *ℤ a +ℤ pos 4 *ℤ b +ℤ c) (pos 9)) × RefinedSize r ⌝ }
 {

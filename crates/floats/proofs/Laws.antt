@@ -17,7 +17,7 @@ use borrow.Author.Tests.{leb-true, ltb-true, ltb-false, eqb-true, not-false, le-
 use Rattle.paper.specs.Numbers.{floor}
 use Rattle.paper.specs.Faults.{Verdict, sound, fault, _orElse_, single, lowestOf, stated}
 use Rattle.paper.specs.Floats.{within, fault18, fault19, fault20, netVerdict, pointVerdict, difference, isNear, farFirst, farSecond}
-use Rattle.paper.specs.Floats.{axes, parts, near, far, unless, split, pointOf, readBack, Pointed}
+use Rattle.paper.specs.Floats.{axes, parts, near, far, unless, split, pointOf, readBack, InFloats}
 use Rattle.paper.specs.declared.Floats.{Floats}
 use Rattle.paper.specs.declared.Answer.{Answer}
 use Rattle.paper.specs.declared.Answer.the-variants.{Done, Refused}
@@ -156,7 +156,7 @@ module _ (numbers : List ℤ) (point : ℕ) (e : pointVerdict numbers point ≡ 
   point-le = ltb-false 40 point (single-sound 20 _ _ (sound-right _ _ e))
 
 -- ---- a difference of two numbers, by their bits
-apart : (a b : ℤ) → natAbs a ≤ 2 ^ 27 → natAbs b ≤ 2 ^ 27 → natAbs (a -ℤ b) ≤ 2 ^ 28
+pub apart : (a b : ℤ) → natAbs a ≤ 2 ^ 27 → natAbs b ≤ 2 ^ 27 → natAbs (a -ℤ b) ≤ 2 ^ 28
 apart = over 2 _ λ ρ. simp poly (omega arith)
 
 module _ (a b : ℤ) (ha : natAbs a ≤ 2 ^ 27) (hb : natAbs b ≤ 2 ^ 27) where
@@ -298,7 +298,7 @@ unfolding pointVerdict netVerdict
 chain numbers point = orElse-assoc _ _ _
 
 module _ (numbers : List ℤ) (point : ℕ) (a : Answer) (e : stated a ≡ pointVerdict numbers point) where
-  pub point-refused : (k p : ℕ) → a ≡ Refused k p → Pointed numbers point (NoPoint k p)
+  pub point-refused : (k p : ℕ) → a ≡ Refused k p → InFloats numbers point (NoPoint k p)
   unfolding pointOf
   point-refused k p q =
       let v : pointVerdict numbers point ≡ fault k p = sym e ∙ ap stated q in
@@ -309,7 +309,7 @@ module _ (numbers : List ℤ) (point : ℕ) (a : Answer) (e : stated a ≡ point
 
   pub point-split : a ≡ Done → (x y z : ℤ) → natAbs x ≤ 2 ^ 28 → natAbs y ≤ 2 ^ 28 → natAbs z ≤ 2 ^ 28
       → x ≡ difference numbers point 0 → y ≡ difference numbers point 1 → z ≡ difference numbers point 2
-      → (r : FloatPoint) → SplitTo (toZ w32 (ofZ w32 x)) (toZ w32 (ofZ w32 y)) (toZ w32 (ofZ w32 z)) r → Pointed numbers point r
+      → (r : FloatPoint) → SplitTo (toZ w32 (ofZ w32 x)) (toZ w32 (ofZ w32 y)) (toZ w32 (ofZ w32 z)) r → InFloats numbers point r
   unfolding pointOf
   point-split q x y z hx hy hz ex ey ez r s =
       let v : pointVerdict numbers point ≡ sound = sym e ∙ ap stated q in

@@ -11,7 +11,7 @@ use lib.IntN.{ℤ, pos, _+ℤ_}
 use lib.Ieee.{Float, binary32, ofInt}
 use Rattle.paper.specs.Faults.{Verdict, sound, fault}
 use Rattle.paper.specs.Floats.{fault20, netVerdict, pointVerdict, difference, isNear, PointCase, near, far, refused, axes, parts, unless, split, pointOf}
-use Rattle.paper.specs.Floats.{readBack, WholeFloat, axesBack, AxesWhole, pointStated, AllWhole, Pointed, sums}
+use Rattle.paper.specs.Floats.{readBack, WholeFloat, axesBack, AxesWhole, pointStated, AllWhole, InFloats, sums}
 use Rattle.paper.specs.Claims.{FarPairs, FloatSums, OneAnswer}
 use Rattle.paper.specs.declared.Floats.{Floats}
 use Rattle.paper.specs.declared.FloatPoint.{FloatPoint}
@@ -129,15 +129,15 @@ unless-fault sound s l n p e = let k : 2 ≡ case s = ap case e in absurd (omega
 unless-fault (fault k q) s l n p e = sym (ap (λ (i : ℕ). fault i p) (ap number e) ∙ ap (λ (i : ℕ). fault k i) (ap place e))
 
 module _ (numbers : List ℤ) (point : ℕ) where
-  pub near-sound : (p : Floats) → Pointed numbers point (Near p) → pointVerdict numbers point ≡ sound
+  pub near-sound : (p : Floats) → InFloats numbers point (Near p) → pointVerdict numbers point ≡ sound
   unfolding pointOf case
   near-sound p c = unless-sound (pointVerdict numbers point) _ _ (c .answers) (let l : 0 < 2 = omega arith in l)
 
-  pub far-sound : (p q : Floats) → Pointed numbers point (Far p q) → pointVerdict numbers point ≡ sound
+  pub far-sound : (p q : Floats) → InFloats numbers point (Far p q) → pointVerdict numbers point ≡ sound
   unfolding pointOf case
   far-sound p q c = unless-sound (pointVerdict numbers point) _ _ (c .answers) (let l : 1 < 2 = omega arith in l)
 
-  pub refused-fault : (n p : ℕ) → Pointed numbers point (Refused n p) → pointVerdict numbers point ≡ fault n p
+  pub refused-fault : (n p : ℕ) → InFloats numbers point (Refused n p) → pointVerdict numbers point ≡ fault n p
   unfolding pointOf
   refused-fault n p c =
       unless-fault (pointVerdict numbers point) (split (difference numbers point 0) (difference numbers point 1) (difference numbers point 2))

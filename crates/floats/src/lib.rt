@@ -1,19 +1,24 @@
-// L1: one control point of a quad-net as its difference from b00, in floats. Checks 18 to 20, then the three differences, then their
-// floats. Every cast is one that loses nothing, and no other operation on floats is used.
+// L1: one control point of a quad-net as its difference from b00, in floats, and all points of a list of quad-nets. The checks, then the three
+// differences of each point, then their floats. Every cast is one that loses nothing, and no other operation on floats is used.
 pub mod nets;
 
 use paper::Answer;
 use paper::FloatPoint;
 use paper::Floats;
+use paper::MOST_CORNERS;
 use paper::NUMBERS_PER_CORNER;
 ghost use mathlib.Core.Path.{_≡_};
-ghost use mathlib.Core.Bool.{true};
-ghost use Prim.Native.Nat.{_≤_, _<_, _^_};
+ghost use mathlib.Core.Bool.{true, not, _||_};
+ghost use Prim.Native.Nat.{_+_, _*_, _%_, _≤_, _<_, _^_};
+ghost use lib.Dec.{ltb, eqb};
 ghost use lib.ListN.{length};
 ghost use lib.IntN.{natAbs};
 ghost use Rattle.paper.specs.Faults.{sound, stated, single, lowestOf};
-ghost use Rattle.paper.specs.Floats.{within, fault19, pointVerdict, difference, isNear, farFirst, farSecond, Pointed};
-ghost use Rattle.floats.specs.Exact.{FloatOf, firstPart, SplitTo};
+ghost use Rattle.paper.specs.Mesh.{mostCorners};
+ghost use Rattle.paper.specs.Calls.{perCorner};
+ghost use Rattle.paper.specs.File.{begins};
+ghost use Rattle.paper.specs.Floats.{within, fault19, netVerdict, pointVerdict, difference, isNear, farFirst, farSecond, InFloats, allFloats, allVerdict, AllInFloats};
+ghost use Rattle.floats.specs.Exact.{FloatOf, firstPart, secondPart, SplitTo, SixPut, NetPut, sixSet};
 
 // The largest number of a list, and the largest difference of a near point; the smallest are their negatives.
 const MOST_NUMBER: u32 = 134217728;
@@ -28,9 +33,15 @@ const UNIT: i32 = 4096;
 // The number of the last point.
 const LAST_POINT: usize = 40;
 
+// The most numbers of a list of quad-nets.
+const MOST_NUMBERS: usize = NUMBERS_PER_CORNER * MOST_CORNERS;
+
+// Our own number for a lent list that is too short.
+const NO_ROOM: u8 = 255;
+
 // The point's difference from b00: near, far or refused.
 pub fn point(numbers: &[i32], point: usize) -> FloatPoint
-    ensures { λ r. ⌜ Pointed (now (numbers .entry)) point r ⌝ }
+    ensures { λ r. ⌜ InFloats (now (numbers .entry)) point r ⌝ }
 {
     let a = check(numbers, point);
     if let Answer::Refused(number, place) = a {
@@ -40,6 +51,119 @@ pub fn point(numbers: &[i32], point: usize) -> FloatPoint
     let y = difference(numbers, point, 1);
     let z = difference(numbers, point, 2);
     split(x, y, z)
+}
+
+// All points of a list of quad-nets, 123 numbers for each, in order: six floats for each point, into the beginning of a lent list. A near point has its
+// three floats and three zeros, a far one the three first floats and the three second ones. Each number is checked once, before anything is written.
+pub fn all_points(numbers: &[i32], floats: &mut [f32]) -> Answer
+    ensures { λ r. ⌜ AllInFloats (now (numbers .entry)) (now (floats .entry)) r (now (floats .exit)) ⌝ }
+{
+    let a = check_all(numbers, floats.len());
+    if let Answer::Refused(number, place) = a {
+        return Answer::Refused(number, place);
+    }
+    put_nets(numbers, floats);
+    Answer::Done
+}
+
+// Checks 18 and 19 of the whole list, then the room for its floats.
+fn check_all(numbers: &[i32], room: usize) -> Answer
+    ensures { λ r. ⌜ stated r ≡ allVerdict (now (numbers .entry)) room ⌝ }
+{
+    let n = numbers.len();
+    let whole = is_nets(n);
+    let a18 = refused_if(!whole, 18, n);
+    if let Answer::Refused(k, p) = a18 {
+        return Answer::Refused(k, p);
+    }
+    let a19 = check_numbers(numbers);
+    if let Answer::Refused(k, p) = a19 {
+        return Answer::Refused(k, p);
+    }
+    refused_if(room < 2 * n, NO_ROOM, 2 * n)
+}
+
+// Whether n is 123 for each of some quad-nets, and these are no more than a mesh may have.
+fn is_nets(n: usize) -> bool
+    ensures { λ r. ⌜ not r ≡ (not (eqb (n % perCorner) 0) || ltb (perCorner * mostCorners) n) ⌝ }
+{
+    if n % NUMBERS_PER_CORNER != 0 {
+        return false;
+    }
+    if MOST_NUMBERS < n {
+        return false;
+    }
+    true
+}
+
+// The floats of all quad-nets, one after the other.
+fn put_nets(numbers: &[i32], floats: &mut [f32])
+    requires { ⌜ allVerdict (now numbers) (length (now floats)) ≡ sound ⌝ }
+    ensures { λ _. ⌜ now (floats .exit) ≡ begins (allFloats (now (numbers .entry))) (now (floats .entry)) ⌝ }
+{
+    let nets = numbers.len() / NUMBERS_PER_CORNER;
+    let mut t = 0;
+    while t < nets {
+        let at = NUMBERS_PER_CORNER * t;
+        let end = at + NUMBERS_PER_CORNER;
+        put_net(&numbers[at..end], floats, 2 * at);
+        t += 1;
+    }
+}
+
+// The floats of one quad-net, from `at` on.
+fn put_net(net: &[i32], floats: &mut [f32], at: usize)
+    requires { ⌜ (netVerdict (now net) ≡ sound) × (at + 246 ≤ length (now floats)) ⌝ }
+    ensures { λ _. ⌜ NetPut (now (net .entry)) at (now (floats .entry)) (now (floats .exit)) ⌝ }
+{
+    let mut point = 0;
+    while point <= LAST_POINT {
+        let x = difference(net, point, 0);
+        let y = difference(net, point, 1);
+        let z = difference(net, point, 2);
+        put_six(floats, at + 6 * point, x, y, z);
+        point += 1;
+    }
+}
+
+// The six floats of three differences.
+fn put_six(floats: &mut [f32], at: usize, x: i32, y: i32, z: i32)
+    requires { ⌜ (natAbs x ≤ 2 ^ 28) × (natAbs y ≤ 2 ^ 28) × (natAbs z ≤ 2 ^ 28) × (at + 6 ≤ length (now floats)) ⌝ }
+    ensures { λ _. ⌜ SixPut x y z at (now (floats .entry)) (now (floats .exit)) ⌝ }
+{
+    let near = is_near(x, y, z);
+    let a = first(near, x);
+    let b = first(near, y);
+    let c = first(near, z);
+    let d = rest(near, x);
+    let e = rest(near, y);
+    let f = rest(near, z);
+    store(floats, at, a, b, c, d, e, f);
+}
+
+// Six floats, one after the other.
+fn store(floats: &mut [f32], at: usize, a: f32, b: f32, c: f32, d: f32, e: f32, f: f32)
+    requires { ⌜ at + 6 ≤ length (now floats) ⌝ }
+    ensures { λ _. ⌜ now (floats .exit) ≡ sixSet (now (floats .entry)) at a b c d e f ⌝ }
+{
+    floats[at] = a;
+    floats[at + 1] = b;
+    floats[at + 2] = c;
+    floats[at + 3] = d;
+    floats[at + 4] = e;
+    floats[at + 5] = f;
+}
+
+// The second of a difference's six floats: none is needed where the point is near.
+fn rest(near: bool, d: i32) -> f32
+    requires { ⌜ natAbs d ≤ 2 ^ 28 ⌝ }
+    ensures { λ r. ⌜ FloatOf (secondPart near d) r ⌝ }
+{
+    if near {
+        let none: i32 = 0;
+        return none as f32;
+    }
+    second(d)
 }
 
 // Checks 18, 19 and 20.

@@ -18,8 +18,8 @@ use Rattle.checks.specs.columns.Vertices.{vertexRow, countHere}
 use Rattle.checks.specs.columns.Filled.{Countable}
 use Rattle.paper.specs.declared.Irregular.{Irregular}
 use Rattle.paper.specs.declared.Irregular.the-variants.{Face, Vertex, None, Refused}
-use Rattle.paper.specs.Squares.{irregularFace, irregularVertex, SearchCase, faceFound, vertexFound}
-use Rattle.paper.specs.Squares.{noneFound, searchRefused, squaresStated, pickCase, lowestFace, lowestVertex, found, searchUnless, squares, Searched}
+use Rattle.paper.specs.Irregular.{irregularFace, irregularVertex, SearchCase, faceFound, vertexFound}
+use Rattle.paper.specs.Irregular.{noneFound, searchRefused, irregularStated, pickCase, lowestFace, lowestVertex, found, searchUnless, irregularOf, Searched}
 use Rattle.irregular.specs.Found.{Named, FacesSearched}
 
 -- ---- the tests, as the code makes them
@@ -79,19 +79,19 @@ after-checks : (v : Verdict) (s : SearchCase) → verdictOf s ≡ sound → verd
 after-checks sound s e = e
 after-checks (fault number place) s e = refl
 
-pub verdict-is : (M : Mesh) (r : Irregular) → Searched M r → verdictOf (squaresStated r) ≡ verdict M
-unfolding squares
+pub verdict-is : (M : Mesh) (r : Irregular) → Searched M r → verdictOf (irregularStated r) ≡ verdict M
+unfolding irregularOf
 verdict-is M r c = ap verdictOf (c .answers) ∙ after-checks (verdict M) (found M) (found-sound M)
 
 -- ---- refused
 pub search-refused : (M : Mesh) (a : Answer) (k p : ℕ) → stated a ≡ verdict M → a ≡ Fault k p → Searched M (Refused k p)
-unfolding squares
+unfolding irregularOf
 search-refused M a k p e q = record { answers = sym (ap (λ (v : Verdict). searchUnless v (found M)) (sym e ∙ ap stated q)) }
 
 -- ---- an accepted mesh: a face; a vertex, where there is no face; neither
 module _ (M : Mesh) (accepted : Accepted M) (f read : ℕ) (s : FacesSearched (M .sides) f read) where
-  is-found : squares M ≡ found M
-  unfolding squares
+  is-found : irregularOf M ≡ found M
+  unfolding irregularOf
   is-found = ap (λ (v : Verdict). searchUnless v (found M)) accepted
 
   some-face : f < faceCount M → someBelow (faceCount M) (irregularFace (M .sides)) ≡ true

@@ -24,9 +24,9 @@ use Rattle.mesh.proofs.Verdicts.{sound-right}
 use Rattle.mesh.proofs.Accepted.{sound-of, sides-within, valence-within}
 use Rattle.paper.specs.declared.Irregular.{Irregular}
 use Rattle.paper.specs.declared.Irregular.the-variants.{Face, Vertex, None, Refused}
-use Rattle.paper.specs.Squares.{irregularFace, irregularVertex, SearchCase, faceFound, vertexFound}
-use Rattle.paper.specs.Squares.{noneFound, searchRefused, squaresStated, pickCase, lowestFace}
-use Rattle.paper.specs.Squares.{lowestVertex, found, searchUnless, squares, Searched, otherLine, countsFaces, countsVertices, isFace, isVertex, Agreed}
+use Rattle.paper.specs.Irregular.{irregularFace, irregularVertex, SearchCase, faceFound, vertexFound}
+use Rattle.paper.specs.Irregular.{noneFound, searchRefused, irregularStated, pickCase, lowestFace}
+use Rattle.paper.specs.Irregular.{lowestVertex, found, searchUnless, irregularOf, Searched, otherLine, countsFaces, countsVertices, isFace, isVertex, Agreed}
 
 and-none : (a : Bool) → a && false ≡ false
 and-none true = refl
@@ -97,14 +97,14 @@ foundVertex (vertexFound u read) = true
 foundVertex (noneFound read) = false
 foundVertex (searchRefused number place) = false
 
-face-stated : (r : Irregular) → isFace r ≡ foundFace (squaresStated r)
+face-stated : (r : Irregular) → isFace r ≡ foundFace (irregularStated r)
 unfolding foundFace
 face-stated (Face f read) = refl
 face-stated (Vertex u read) = refl
 face-stated (None read) = refl
 face-stated (Refused number place) = refl
 
-vertex-stated : (r : Irregular) → isVertex r ≡ foundVertex (squaresStated r)
+vertex-stated : (r : Irregular) → isVertex r ≡ foundVertex (irregularStated r)
 unfolding foundVertex
 vertex-stated (Face f read) = refl
 vertex-stated (Vertex u read) = refl
@@ -133,8 +133,8 @@ module _ (M : Mesh) (lines : Counts) (r : Irregular) (accepted : Accepted M) (co
   abbrev vertices : Bool
   vertices = someBelow (vertexCount M) (irregularVertex (M .corners))
 
-  answered : squaresStated r ≡ found M
-  unfolding squares
+  answered : irregularStated r ≡ found M
+  unfolding irregularOf
   answered = call .answers ∙ ap (λ (v : Verdict). searchUnless v (found M)) accepted
 
   face-is : isFace r ≡ faces

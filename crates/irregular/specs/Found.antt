@@ -5,7 +5,7 @@ use Prim.Native.Nat.{ℕ, _+_, _<_, _≤_}
 use lib.ListN.{length}
 use Rattle.paper.specs.Scan.{firstBelow}
 use Rattle.paper.specs.Links.{vertexOf}
-use Rattle.paper.specs.Squares.{irregularFace}
+use Rattle.paper.specs.Irregular.{irregularFace}
 
 -- every corner names a vertex below the count
 abbrev pub Named : List ℕ → ℕ → Type 0

@@ -12,7 +12,7 @@ ghost use Rattle.paper.specs.Scan.{firstBelow};
 ghost use Rattle.paper.specs.Mesh.{mostVertices, mostCorners, meshOf};
 ghost use Rattle.checks.specs.columns.Vertices.{vertexRow};
 ghost use Rattle.checks.specs.columns.Filled.{CornersCounted};
-ghost use Rattle.paper.specs.Squares.{irregularVertex, Searched};
+ghost use Rattle.paper.specs.Irregular.{irregularVertex, Searched};
 ghost use Rattle.irregular.specs.Found.{Named, FacesSearched};
 
 // The sides of a regular face.

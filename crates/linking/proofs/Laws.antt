@@ -1,5 +1,5 @@
 -- Copying a table entry by entry, and linking, way by way.
-use mathlib.Core.Path.{_≡_, ap, _∙_, sym}
+use mathlib.Core.Path.{_≡_, refl, _∙_, sym}
 use mathlib.Core.Bool.{not}
 use mathlib.Core.List.{List}
 use Prim.Native.Nat.{ℕ, _+_, _<_, _≤_}
@@ -9,8 +9,7 @@ use lib.ListN.{length, getD, set}
 use lib.Seq.{getD-set-same, getD-set-other}
 use borrow.Author.Count.{below-more}
 use Rattle.paper.specs.Mesh.{Mesh, cornerCount}
-use Rattle.paper.specs.Links.{linkTable}
-use Rattle.paper.specs.Faults.{Verdict, sound, fault, single, Accepted, verdict, linkVerdict, kept}
+use Rattle.paper.specs.Faults.{sound, fault, single, Accepted, verdict, linkVerdict}
 use Rattle.paper.specs.Calls.{Linked}
 use Rattle.paper.specs.declared.Answer.the-variants.{Done, Refused}
 use Rattle.paper.specs.Refined.{cornersOf}
@@ -41,7 +40,7 @@ copied-all table links c n h k d l = k d (omega arith)
 module _ (M : Mesh) (old : List ℕ) where
   -- the answer decides what the table holds
   left : (k p : ℕ) → fault k p ≡ linkVerdict M (length old) → Linked M old (Refused k p) old
-  left k p e = record { answers = e; holds = ap (λ (v : Verdict). kept v (linkTable M) old) e }
+  left k p e = record { answers = e; holds = refl }
 
   pub link-refused : (k p : ℕ) → fault k p ≡ verdict M → Linked M old (Refused k p) old
   unfolding linkVerdict
@@ -58,9 +57,4 @@ module _ (M : Mesh) (old : List ℕ) where
     link-done table out f m t k =
         let e : sound ≡ linkVerdict M (length old) = past a _ (sym f) in
         let l = length-of (length old) (cornerCount M) f in
-        record {
-          answers = e;
-          holds =
-              link-table-is M out (m ∙ l) (λ c h. k c (omega arith) ∙ t .links c h)
-              ∙ ap (λ (v : Verdict). kept v (linkTable M) old) e;
-        }
+        record { answers = e; holds = link-table-is M out (m ∙ l) (λ c h. k c (omega arith) ∙ t .links c h) }

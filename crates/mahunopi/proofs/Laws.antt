@@ -13,20 +13,19 @@ use Rattle.mesh.proofs.Links.{values-length}
 use Rattle.mesh.proofs.Ranges.{none-left, none-right}
 use Rattle.mesh.proofs.Verdicts.{orElse-fault, orElse-sound, single-hit, single-miss}
 use Rattle.paper.specs.Mesh.{Mesh, meshOf, Lengths, four, lengthsOf, mostSides}
-use Rattle.paper.specs.Faults.{Verdict, sound, fault, verdict, stated, kept}
+use Rattle.paper.specs.Faults.{Verdict, sound, fault, verdict, stated, kept, Answered}
 use Rattle.paper.specs.Counts.{verticesWith, facesWith, forEach}
 use Rattle.paper.specs.File.{fileVerdict, fileMesh, begins, noRoom, FileSurveyed, DecodedTo}
-use Rattle.paper.specs.Calls.{Linked, nets, Built}
-use Rattle.paper.specs.Floats.{pointVerdict, Pointed}
-use Rattle.paper.specs.Nesting.{listing, Nested}
-use Rattle.paper.specs.CFace.{States, LinkCall, BuildCall, lentVerdict, DecodeCall, countsOf, surveyVerdict, SurveyCall, put}
-use Rattle.paper.specs.Squares.{SearchCase, faceFound, vertexFound, noneFound, searchRefused, squaresStated, Searched}
-use Rattle.paper.specs.Archive.{archived, restored, Archived, Restored}
-use Rattle.paper.specs.CFace.{ArchiveCall, RestoreCall, OffCall, FloatsCall, NestCall, Finding, finding, findingOf, IrregularCall, PreviewCall, TouchedCall}
+use Rattle.paper.specs.Floats.{pointVerdict, InFloats}
+use Rattle.paper.specs.CFace.{States, Called, lentVerdict, DecodeCall, countsOf, surveyVerdict, SurveyCall, put}
+use Rattle.paper.specs.Irregular.{SearchCase, faceFound, vertexFound, noneFound, searchRefused, irregularStated, Searched}
+use Rattle.paper.specs.CFace.{OffCall, FloatsCall, Finding, finding, findingOf, IrregularCall, PreviewCall}
 use Rattle.paper.specs.Off.{offVerdict, OffRead}
-use Rattle.paper.specs.Preview.{moveOf, moved, Previewed, touchMarks, Touched}
-use Rattle.paper.specs.Sampling.{Weights, samplePoint, sideAt, Sampled, triangleSamples, TriangleSampled}
-use Rattle.paper.specs.CFace.{SampleCall, TriangleCall, TurnCall}
+use Rattle.paper.specs.Preview.{moveOf, Previewed}
+use Rattle.paper.specs.CFace.{TurnCall, Sizes, sizes, CountTrianglesCall, fillVerdict, TrianglesCall}
+use Rattle.paper.specs.Triangles.{levelVerdict, Triangulated, TrianglesCounted}
+use Rattle.paper.specs.Floats.{allVerdict, allFloats, NoneRounded, AllInFloats}
+use Rattle.paper.specs.CFace.{FloatsAllCall}
 use Rattle.paper.specs.Turning.{turnVerdict, TurnedTo}
 use Rattle.paper.specs.declared.Answer.{Answer}
 use Rattle.paper.specs.declared.Answer.the-variants.{Done, Refused}
@@ -37,6 +36,7 @@ use Rattle.paper.specs.declared.Floats.{Floats}
 use Rattle.paper.specs.declared.FloatPoint.{FloatPoint}
 use Rattle.paper.specs.declared.FloatPoint.the-variants.{Near, Far, Refused as NoPoint}
 use Rattle.paper.specs.declared.Irregular.{Irregular}
+use Rattle.paper.specs.declared.Triangles.{Triangles}
 use Rattle.paper.specs.declared.Turned.{Turned}
 use Rattle.paper.specs.declared.Irregular.the-variants.{Face, Vertex, None, Refused as NoMesh}
 use Rattle.irregular.proofs.Laws.{verdictOf, verdict-is}
@@ -51,36 +51,12 @@ module _ (v : Verdict) (r : Answer) (before : ℕ) (e : stated r ≡ v) where
 pub told : (v : Verdict) (r : Answer) (before n after : ℕ) → stated r ≡ v → States (stated r) before n after → States v before n after
 told v r before n after e s = subst (λ (w : Verdict). States w before n after) e s
 
-pub link-call : (M : Mesh) (old : List ℕ) (r : Answer) (links : List ℕ) (before n after : ℕ) → Linked M old r links
-    → States (stated r) before n after → LinkCall M old before n after links
-link-call M old r links before n after l s = record { answers = told _ r before n after (l .answers) s; holds = l .holds }
-
-pub build-call : (M : Mesh) (links : List ℕ) (first count : ℕ) (old : List ℤ) (r : Answer) (out : List ℤ) (before n after : ℕ)
-    → Built M links first count old r out → States (stated r) before n after → BuildCall M links first count old before n after out
-build-call M links first count old r out before n after b s = record {
-  answers = told _ r before n after (b .answers) s;
-  holds = subst (λ (v : Verdict). out ≡ kept v (nets M first count) old) (b .answers) (b .holds);
-}
-
-pub nest-call : (holders old : List ℕ) (r : Answer) (out : List ℕ) (before n after : ℕ) → Nested holders old r out
-    → States (stated r) before n after → NestCall holders old before n after out
-nest-call holders old r out before n after k s = record {
-  answers = told _ r before n after (k .answers) s;
-  holds = subst (λ (v : Verdict). out ≡ kept v (listing holders) old) (k .answers) (k .holds);
-}
-
-pub archive-call : (numbers : List ℤ) (old : List ℕ) (r : Answer) (out : List ℕ) (before n after : ℕ) → Archived numbers old r out
-    → States (stated r) before n after → ArchiveCall numbers old before n after out
-archive-call numbers old r out before n after k s = record {
-  answers = told _ r before n after (k .answers) s;
-  holds = subst (λ (v : Verdict). out ≡ kept v (archived numbers) old) (k .answers) (k .holds);
-}
-
-pub restore-call : (bytes : List ℕ) (old : List ℤ) (r : Answer) (out : List ℤ) (before n after : ℕ) → Restored bytes old r out
-    → States (stated r) before n after → RestoreCall bytes old before n after out
-restore-call bytes old r out before n after k s = record {
-  answers = told _ r before n after (k .answers) s;
-  holds = subst (λ (v : Verdict). out ≡ kept v (restored bytes (length old)) old) (k .answers) (k .holds);
+-- ---- a call that fills one lent space, told in C
+pub called : {A : Type 0} (v : Verdict) (new old : A) (r : Answer) (out : A) (before n after : ℕ) → Answered v new old r out
+    → States (stated r) before n after → Called v new old before n after out
+called v new old r out before n after k s = record {
+  answers = told v r before n after (k .answers) s;
+  holds = subst (λ (w : Verdict). out ≡ kept w new old) (k .answers) (k .holds);
 }
 
 -- the coordinates as they come from C
@@ -89,30 +65,14 @@ pub preview-call : (M : Mesh) (u : ℕ) (x y z x′ y′ z′ : ℤ) → x′ �
     → PreviewCall M (moveOf u x y z) links first count old before n after out
 preview-call M u x y z x′ y′ z′ ex ey ez links first count old r out before n after p s =
     let q : Previewed M (moveOf u x y z) links first count old r out = rw (ex, ey, ez) at p in
-    record {
-      answers = told _ r before n after (q .answers) s;
-      holds = subst (λ (v : Verdict). out ≡ kept v (nets (moved M (moveOf u x y z)) first count) old) (q .answers) (q .holds);
-    }
+    called _ _ _ r out before n after q s
 
-pub touched-call : (M : Mesh) (u : ℕ) (old : List ℕ) (r : Answer) (out : List ℕ) (before n after : ℕ)
-    → Touched M u old r out → States (stated r) before n after → TouchedCall M u old before n after out
-touched-call M u old r out before n after t s = record {
-  answers = told _ r before n after (t .answers) s;
-  holds = subst (λ (v : Verdict). out ≡ kept v (touchMarks (M .sides) (M .corners) u) old) (t .answers) (t .holds);
-}
-
-pub sample-call : (numbers : List ℤ) (side : ℕ) (w : Weights) (old : List ℤ) (r : Answer) (out : List ℤ) (before n after : ℕ)
-    → Sampled numbers side w old r out → States (stated r) before n after → SampleCall numbers side w old before n after out
-sample-call numbers side w old r out before n after k s = record {
+pub floats-all-call : (numbers : List ℤ) (old : List Float) (r : Answer) (out : List Float) (before n after : ℕ)
+    → AllInFloats numbers old r out → States (stated r) before n after → FloatsAllCall numbers old before n after out
+floats-all-call numbers old r out before n after k s = record {
   answers = told _ r before n after (k .answers) s;
-  holds = subst (λ (v : Verdict). out ≡ kept v (samplePoint numbers (sideAt side) w) old) (k .answers) (k .holds);
-}
-
-pub triangle-call : (numbers : List ℤ) (side N : ℕ) (old : List ℤ) (r : Answer) (out : List ℤ) (before n after : ℕ)
-    → TriangleSampled numbers side N old r out → States (stated r) before n after → TriangleCall numbers side N old before n after out
-triangle-call numbers side N old r out before n after k s = record {
-  answers = told _ r before n after (k .answers) s;
-  holds = subst (λ (v : Verdict). out ≡ kept v (begins (triangleSamples numbers (sideAt side) N) old) old) (k .answers) (k .holds);
+  holds = subst (λ (v : Verdict). out ≡ kept v (begins (allFloats numbers) old) old) (k .answers) (k .holds);
+  exact = λ e. k .exact (k .answers ∙ e);
 }
 
 -- ---- decoding
@@ -228,6 +188,52 @@ module _ (M : Mesh) (old : List ℕ) (r : Turned) (lists : Mesh) (out : List ℕ
         tells = kept-old _ n p _ _ _ v refl;
       }
 
+-- ---- triangles: what is told, by what the answer states
+by-answer : {A : Type 0} (a : Answer) (x new old : A) (w : Verdict) → stated a ≡ w → x ≡ kept (stated a) new old → x ≡ kept w new old
+by-answer a x new old w e h = subst (λ (u : Verdict). x ≡ kept u new old) e h
+
+module _ (M : Mesh) (links levels : List ℕ) (first count : ℕ) (r : Triangles) (lent : Sizes) (before : ℕ) (t : TrianglesCounted M links levels first count r) where
+  pub counted-done : r .answer ≡ Done → CountTrianglesCall M links levels first count lent before 0 before (sizes (r .points) (r .triangles))
+  counted-done e =
+      let s : stated (r .answer) ≡ sound = ap stated e in
+      let v : levelVerdict M links first count levels ≡ sound = sym (t .answers) ∙ s in
+      let k = by-answer (r .answer) (r .points) _ _ _ s (t .points-length) in
+      let l = by-answer (r .answer) (r .triangles) _ _ _ s (t .triangles-length) in
+      record { answers = states-done _ (r .answer) before (t .answers) e; tells = kept-new _ _ _ _ v (cc) }
+
+  pub counted-refused : (n p m q : ℕ) → r .answer ≡ Refused n p → States (fault n p) before m q → CountTrianglesCall M links levels first count lent before m q lent
+  counted-refused n p m q e tells =
+      let v : levelVerdict M links first count levels ≡ fault n p = sym (t .answers) ∙ ap stated e in
+      record { answers = subst (λ (w : Verdict). States w before m q) (sym v) tells; tells = kept-old _ n p _ _ _ v refl }
+
+module _ (M : Mesh) (links levels : List ℕ) (first count : ℕ) (old : List ℤ) (old′ : List ℕ) (r : Triangles) (points : List ℤ) (triangles : List ℕ) (lent : Sizes)
+    (before : ℕ) (t : Triangulated M links levels first count old old′ r points triangles) where
+  pub triangles-done : r .answer ≡ Done
+      → TrianglesCall M links levels first count old old′ lent before 0 before points triangles (sizes (r .points) (r .triangles))
+  triangles-done e =
+      let s : stated (r .answer) ≡ sound = ap stated e in
+      let v : fillVerdict M links levels first count (length old) (length old′) ≡ sound = sym (t .answers) ∙ s in
+      let k = by-answer (r .answer) (r .points) _ _ _ s (t .points-length) in
+      let l = by-answer (r .answer) (r .triangles) _ _ _ s (t .triangles-length) in
+      record {
+        answers = states-done _ (r .answer) before (t .answers) e;
+        points-hold = kept-new _ _ _ _ v (by-answer (r .answer) points _ _ _ s (t .points-hold));
+        triangles-hold = kept-new _ _ _ _ v (by-answer (r .answer) triangles _ _ _ s (t .triangles-hold));
+        tells = kept-new _ _ _ _ v (cc);
+      }
+
+  pub triangles-refused : (n p m q : ℕ) → r .answer ≡ Refused n p → States (fault n p) before m q
+      → TrianglesCall M links levels first count old old′ lent before m q points triangles lent
+  triangles-refused n p m q e tells =
+      let s : stated (r .answer) ≡ fault n p = ap stated e in
+      let v : fillVerdict M links levels first count (length old) (length old′) ≡ fault n p = sym (t .answers) ∙ s in
+      record {
+        answers = subst (λ (w : Verdict). States w before m q) (sym v) tells;
+        points-hold = kept-old _ n p _ _ _ v (by-answer (r .answer) points _ _ _ s (t .points-hold));
+        triangles-hold = kept-old _ n p _ _ _ v (by-answer (r .answer) triangles _ _ _ s (t .triangles-hold));
+        tells = kept-old _ n p _ _ _ v refl;
+      }
+
 -- ---- surveying
 -- both lent lists have room for a list with a number for each m
 module _ (l : List ℕ) (a b : ℕ) (e : length l ≡ mostSides + 1) (t : (ltb a (mostSides + 1) || ltb b (mostSides + 1)) ≡ false) where
@@ -250,7 +256,7 @@ module _ (file : List ℕ) (counted : ℕ) (lent : Counts) (before : ℕ) where
   refuses : (n p m q : ℕ) → surveyVerdict file counted lent ≡ fault n p → States (fault n p) before m q → SurveyCall file counted lent before m q lent
   refuses n p m q v s = record {
     answers = subst (λ (w : Verdict). States w before m q) (sym v) s;
-    tells = kept-old _ n p _ _ _ v refl;
+    holds = kept-old _ n p _ _ _ v refl;
   }
 
   module _ (r : Summary) (s : FileSurveyed file counted r) where
@@ -282,17 +288,17 @@ module _ (file : List ℕ) (counted : ℕ) (lent : Counts) (before : ℕ) where
           let by-sides = ap (λ (l : List ℕ). begins l (lent .sided)) (k .sided) in
           record {
             answers = subst (λ (w : Verdict). States w before 0 before) (sym v) (record { number = refl; place = refl });
-            tells = kept-new _ _ _ _ v (e ∙ cc);
+            holds = kept-new _ _ _ _ v (e ∙ cc);
           }
 
 -- ---- floats
-module _ (numbers : List ℤ) (point : ℕ) (r : FloatPoint) (c : Pointed numbers point r) (old : List Float) (pairs before : ℕ) where
+module _ (numbers : List ℤ) (point : ℕ) (r : FloatPoint) (c : InFloats numbers point r) (old : List Float) (pairs before : ℕ) where
   stated-sound : pointVerdict numbers point ≡ sound → States (pointVerdict numbers point) before 0 before
   stated-sound e = subst (λ (w : Verdict). States w before 0 before) (sym e) (record { number = refl; place = refl })
 
   pub floats-near : (p : Floats) → r ≡ Near p → FloatsCall numbers point old pairs before 0 before (put 0 p old) 0
   floats-near p e =
-      let k : Pointed numbers point (Near p) = subst (Pointed numbers point) e c in
+      let k : InFloats numbers point (Near p) = subst (InFloats numbers point) e c in
       record {
         answers = stated-sound (near-sound numbers point p k);
         point-is = Near p;
@@ -303,7 +309,7 @@ module _ (numbers : List ℤ) (point : ℕ) (r : FloatPoint) (c : Pointed number
 
   pub floats-far : (p q : Floats) → r ≡ Far p q → FloatsCall numbers point old pairs before 0 before (put 3 q (put 0 p old)) 1
   floats-far p q e =
-      let k : Pointed numbers point (Far p q) = subst (Pointed numbers point) e c in
+      let k : InFloats numbers point (Far p q) = subst (InFloats numbers point) e c in
       record {
         answers = stated-sound (far-sound numbers point p q k);
         point-is = Far p q;
@@ -314,7 +320,7 @@ module _ (numbers : List ℤ) (point : ℕ) (r : FloatPoint) (c : Pointed number
 
   pub floats-refused : (n at m q : ℕ) → r ≡ NoPoint n at → States (fault n at) before m q → FloatsCall numbers point old pairs before m q old pairs
   floats-refused n at m q e s =
-      let k : Pointed numbers point (NoPoint n at) = subst (Pointed numbers point) e c in
+      let k : InFloats numbers point (NoPoint n at) = subst (InFloats numbers point) e c in
       record {
         answers = subst (λ (w : Verdict). States w before m q) (sym (refused-fault numbers point n at k)) s;
         point-is = NoPoint n at;
@@ -325,26 +331,26 @@ module _ (numbers : List ℤ) (point : ℕ) (r : FloatPoint) (c : Pointed number
 
 -- ---- an irregular face or vertex
 module _ (M : Mesh) (r : Irregular) (c : Searched M r) (lent : Finding) (before : ℕ) where
-  stated-as : (s : SearchCase) → squaresStated r ≡ s → verdictOf s ≡ verdict M
+  stated-as : (s : SearchCase) → irregularStated r ≡ s → verdictOf s ≡ verdict M
   stated-as s e = ap verdictOf (sym e) ∙ verdict-is M r c
 
-  irregular-found : (s : SearchCase) → squaresStated r ≡ s → verdictOf s ≡ sound → IrregularCall M lent before 0 before (findingOf s lent)
+  irregular-found : (s : SearchCase) → irregularStated r ≡ s → verdictOf s ≡ sound → IrregularCall M lent before 0 before (findingOf s lent)
   irregular-found s e v = record {
     answers = subst (λ (w : Verdict). States w before 0 before) (sym v ∙ stated-as s e) (record { number = refl; place = refl });
     tells = ap (λ (t : SearchCase). findingOf t lent) (sym e ∙ c .answers);
   }
 
   pub irregular-face : (f read : ℕ) → r ≡ Face f read → IrregularCall M lent before 0 before (finding 1 f read)
-  irregular-face f read e = irregular-found (faceFound f read) (ap squaresStated e) refl
+  irregular-face f read e = irregular-found (faceFound f read) (ap irregularStated e) refl
 
   pub irregular-vertex : (u read : ℕ) → r ≡ Vertex u read → IrregularCall M lent before 0 before (finding 2 u read)
-  irregular-vertex u read e = irregular-found (vertexFound u read) (ap squaresStated e) refl
+  irregular-vertex u read e = irregular-found (vertexFound u read) (ap irregularStated e) refl
 
   pub irregular-none : (read : ℕ) → r ≡ None read → IrregularCall M lent before 0 before (finding 0 0 read)
-  irregular-none read e = irregular-found (noneFound read) (ap squaresStated e) refl
+  irregular-none read e = irregular-found (noneFound read) (ap irregularStated e) refl
 
   pub irregular-refused : (n at m q : ℕ) → r ≡ NoMesh n at → States (fault n at) before m q → IrregularCall M lent before m q lent
   irregular-refused n at m q e s = record {
-    answers = subst (λ (w : Verdict). States w before m q) (stated-as (searchRefused n at) (ap squaresStated e)) s;
-    tells = ap (λ (t : SearchCase). findingOf t lent) (sym (ap squaresStated e) ∙ c .answers);
+    answers = subst (λ (w : Verdict). States w before m q) (stated-as (searchRefused n at) (ap irregularStated e)) s;
+    tells = ap (λ (t : SearchCase). findingOf t lent) (sym (ap irregularStated e) ∙ c .answers);
   }

@@ -13,6 +13,8 @@ ghost use Rattle.paper.specs.Preview.{moveOf};
 ghost use Rattle.paper.specs.CFace.{PreviewCall, TouchedCall};
 ghost use Rattle.paper.specs.Sampling.{weights};
 ghost use Rattle.paper.specs.CFace.{SampleCall, TriangleCall, TurnCall};
+ghost use Rattle.paper.specs.CFace.{sizes, CountTrianglesCall, TrianglesCall};
+ghost use Rattle.paper.specs.CFace.{FloatsAllCall, TangentsAtCall};
 ghost use Rattle.paper.specs.Report.{offered};
 ghost use Rattle.paper.specs.CFace.{ReportCall, MergeCall};
 use paper::Answer;
@@ -163,6 +165,15 @@ pub extern "C" fn mahunopi_floats(
         }
         FloatPoint::Refused(number, at) => { tell(Answer::Refused(number, at), place) }
     }
+}
+
+// All control points of a list of quad-nets in floats, into the beginning of a lent list.
+#[no_mangle]
+pub extern "C" fn mahunopi_floats_all(numbers: &[i32], floats: &mut [f32], place: &mut u64) -> u32
+    ensures { λ r. ⌜ FloatsAllCall (now (numbers .entry)) (now (floats .entry)) (now (place .entry)) r (now (place .exit)) (now (floats .exit)) ⌝ }
+{
+    let a = floats::all_points(numbers, floats);
+    tell(a, place)
 }
 
 // Listing nested grids.
@@ -344,6 +355,100 @@ pub extern "C" fn mahunopi_sample_triangle(
     ensures { λ r. ⌜ TriangleCall (now (numbers .entry)) side n (now (points .entry)) (now (place .entry)) r (now (place .exit)) (now (points .exit)) ⌝ }
 {
     let a = sampling::sample_triangle(numbers, side, n, points);
+    tell(a, place)
+}
+
+// How many numbers of points and of triangles a range of corners has. Both counts are left alone beside a refusal.
+#[no_mangle]
+pub extern "C" fn mahunopi_count_triangles(
+    coordinates: &[i32],
+    sides: &[u8],
+    corners: &[u16],
+    sharpness: &[u8],
+    links: &[u16],
+    levels: &[u8],
+    first: usize,
+    count: usize,
+    point_numbers: &mut u64,
+    triangle_numbers: &mut u64,
+    place: &mut u64,
+) -> u32
+    ensures { λ r. ⌜ CountTrianglesCall (meshOf (now (coordinates .entry)) (now (sides .entry)) (now (corners .entry)) (now (sharpness .entry))) (now (links .entry)) (now (levels .entry)) first count (sizes (now (point_numbers .entry)) (now (triangle_numbers .entry))) (now (place .entry)) r (now (place .exit)) (sizes (now (point_numbers .exit)) (now (triangle_numbers .exit))) ⌝ }
+{
+    let t = triangles::count(
+        coordinates,
+        sides,
+        corners,
+        sharpness,
+        links,
+        levels,
+        first,
+        count,
+    );
+    let a = t.answer;
+    if let Answer::Refused(number, at) = a {
+        return tell(Answer::Refused(number, at), place);
+    }
+    *point_numbers = t.points as u64;
+    *triangle_numbers = t.triangles as u64;
+    0
+}
+
+// The points and the triangles of a range of corners, into the beginnings of two lent lists. Both counts are left alone beside a refusal.
+#[no_mangle]
+pub extern "C" fn mahunopi_triangles(
+    coordinates: &[i32],
+    sides: &[u8],
+    corners: &[u16],
+    sharpness: &[u8],
+    links: &[u16],
+    levels: &[u8],
+    first: usize,
+    count: usize,
+    points: &mut [i32],
+    indices: &mut [u32],
+    point_numbers: &mut u64,
+    triangle_numbers: &mut u64,
+    place: &mut u64,
+) -> u32
+    ensures { λ r. ⌜ TrianglesCall (meshOf (now (coordinates .entry)) (now (sides .entry)) (now (corners .entry)) (now (sharpness .entry))) (now (links .entry)) (now (levels .entry)) first count (now (points .entry)) (now (indices .entry)) (sizes (now (point_numbers .entry)) (now (triangle_numbers .entry))) (now (place .entry)) r (now (place .exit)) (now (points .exit)) (now (indices .exit)) (sizes (now (point_numbers .exit)) (now (triangle_numbers .exit))) ⌝ }
+{
+    let t = triangles::triangles(
+        coordinates,
+        sides,
+        corners,
+        sharpness,
+        links,
+        levels,
+        first,
+        count,
+        points,
+        indices,
+    );
+    let a = t.answer;
+    if let Answer::Refused(number, at) = a {
+        return tell(Answer::Refused(number, at), place);
+    }
+    *point_numbers = t.points as u64;
+    *triangle_numbers = t.triangles as u64;
+    0
+}
+
+// The tangents at one sample of a triangle.
+#[no_mangle]
+pub extern "C" fn mahunopi_tangents_at(
+    numbers: &[i32],
+    side: usize,
+    i: usize,
+    j: usize,
+    k: usize,
+    n: usize,
+    tangents: &mut [i64; 6],
+    place: &mut u64,
+) -> u32
+    ensures { λ r. ⌜ TangentsAtCall (now (numbers .entry)) side (weights i j k n) (now (tangents .entry)) (now (place .entry)) r (now (place .exit)) (now (tangents .exit)) ⌝ }
+{
+    let a = sampling::tangents(numbers, side, i, j, k, n, tangents);
     tell(a, place)
 }
 

@@ -1,8 +1,9 @@
 -- What tables over the corners hold.
 use mathlib.Core.Path.{_≡_}
 use mathlib.Core.List.{List}
-use Prim.Native.Nat.{ℕ, _<_}
+use Prim.Native.Nat.{ℕ, _≤_, _<_}
 use lib.ListN.{length, getD}
+use Rattle.paper.specs.Mesh.{mostCorners}
 use Rattle.paper.specs.Corners.{next}
 use Rattle.paper.specs.Links.{vertexOf, link}
 
@@ -12,6 +13,11 @@ smallMesh = 256
 
 abbrev pub largeMesh : ℕ
 largeMesh = 4096
+
+-- a table for `count` corners or vertices has r rows
+abbrev pub TableRows : ℕ → ℕ → Type 0
+TableRows count r =
+    (count ≤ smallMesh → r ≡ smallMesh) × (smallMesh < count → count ≤ largeMesh → r ≡ largeMesh) × (largeMesh < count → r ≡ mostCorners)
 
 -- the vertex of every corner has a place in a table of n entries
 abbrev pub Named : List ℕ → ℕ → Type 0

@@ -3,17 +3,18 @@ use paper::MOST_CORNERS;
 ghost use mathlib.Core.Path.{_≡_};
 ghost use Prim.Native.Nat.{_≤_, _<_};
 ghost use lib.ListN.{length};
-ghost use Rattle.paper.specs.Mesh.{mostCorners};
 ghost use Rattle.paper.specs.File.{begins};
+ghost use Rattle.mesh.specs.Tables.{TableRows};
 
 // The lengths of a call's tables, in rows: short tables are sooner cleared. The longest have MOST_CORNERS rows.
 pub const SMALL_MESH: usize = 256;
 
 pub const LARGE_MESH: usize = 4096;
 
-// How many rows a table has that holds a row for each of `count` corners or vertices. Every call that has tables of its own asks here.
+// How many rows a table has that holds a row for each of `count` corners or vertices: the least of the three lengths that suffices, and the longest
+// where none does. Every call that has tables of its own asks here.
 pub fn table_rows(count: usize) -> usize
-    ensures { λ r. ⌜ (count ≤ mostCorners → count ≤ r) ⌝ }
+    ensures { λ r. ⌜ TableRows count r ⌝ }
 {
     if count <= SMALL_MESH {
         SMALL_MESH
@@ -22,6 +23,13 @@ pub fn table_rows(count: usize) -> usize
     } else {
         MOST_CORNERS
     }
+}
+
+// A number of 16 bits as an index.
+pub fn wide(x: u16) -> usize
+    ensures { λ r. ⌜ r ≡ x ⌝ }
+{
+    x as usize
 }
 
 // The lesser of two numbers.

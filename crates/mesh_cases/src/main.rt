@@ -5,6 +5,7 @@
 use libc::STDIN_FILENO;
 use libc::STDOUT_FILENO;
 use mesh::least;
+use mesh::wide;
 use paper::Answer;
 use std::num::wrapping_add_u64;
 ghost use Prim.Native.Nat.{_≤_};
@@ -296,15 +297,11 @@ fn sum(table: &[u16; ROOM]) -> u64 {
     let mut total: u64 = 0;
     let mut i = 0;
     while i < ROOM {
-        entries = wrapping_add_u64(entries, wide(table[i]));
+        entries = wrapping_add_u64(entries, wide(table[i]) as u64);
         total = wrapping_add_u64(total, entries);
         i += 1;
     }
     total
-}
-
-fn wide(x: u16) -> u64 {
-    x as u64
 }
 
 fn words(s: &[u8]) {

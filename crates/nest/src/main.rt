@@ -4,6 +4,7 @@
 use libc::STDIN_FILENO;
 use libc::STDOUT_FILENO;
 use mesh::least;
+use mesh::wide;
 use paper::Answer;
 use paper::MOST_BODIES;
 use paper::SUN;
@@ -216,8 +217,4 @@ fn decimal(n: usize) {
 
 fn text(bytes: &[u8]) {
     io::write_all(STDOUT_FILENO, bytes);
-}
-
-fn wide(x: u16) -> usize {
-    x as usize
 }

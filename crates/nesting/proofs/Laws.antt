@@ -1,16 +1,17 @@
--- What each test of the code says of the table, what the marks tell, and the turns of the loops that list and copy.
+-- What each test of the code says of the table, what the marks tell, and the turns of the loop that lists.
 use mathlib.Core.Path.{_≡_, refl, sym, ap, _∙_, subst}
 use mathlib.Core.Bool.{Bool, true, false, not, _&&_}
 use mathlib.Core.Logic.{⊎-elim}
-use mathlib.Core.List.{List, [], _∷_, _++_}
+use mathlib.Core.List.{List, [], _∷_, _++_, append-nil}
 use Prim.Native.Nat.{ℕ, zero, suc, _+_, _<_, _≤_}
 use native.Mathlib.Numerals.{add-one}
 use native.Mathlib.Omega.{arith}
 use lib.Dec.{leb, eqb}
 use lib.ListN.{length, getD, set, take, replicate, length-replicate, List·getD-eq-default}
-use lib.Seq.{take-suc, take-suc-set, take-all, getD-set-same, getD-set-other}
+use lib.Seq.{take-suc-set, length-take-le, drop-length, getD-set-same, getD-set-other}
 use borrow.Author.Tests.{eqb-true, eqb-false, eq-eqb, ne-eqb, le-leb, lt-leb, not-false}
 use Rattle.paper.specs.Scan.{pickN}
+use Rattle.paper.specs.File.{begins}
 use Rattle.paper.specs.Faults.{Verdict, sound, fault, _orElse_, single, lowestOf, outside}
 use Rattle.paper.specs.Nesting.{mostBodies, sun, holder, endsAtSun, fault21, fault22, fault23, listed, mayFollow, nextBody, places, listing}
 use Rattle.paper.specs.Nesting.{tableVerdict, nestingVerdict, Nested}
@@ -21,7 +22,7 @@ use Rattle.mesh.proofs.Ranges.{or-left, or-right, or-none, none-right}
 use Rattle.mesh.proofs.Verdicts.{single-sound, lowest-sound, orElse-assoc, past}
 use Rattle.nesting.specs.Marks.{Marks, ChainMarks, Arrangeable, Arranged, ListedIn}
 use Rattle.nesting.proofs.Lists.{none-listed, snoc-same, snoc-other}
-use Rattle.nesting.proofs.Places.{places-zero, places-suc, Run, run-step, all-filled, decided}
+use Rattle.nesting.proofs.Places.{places-zero, places-suc, Occupied, run-step, all-filled, decided}
 use Rattle.nesting.proofs.Theorems.{few-of}
 
 -- ---- 21
@@ -115,21 +116,13 @@ module _ (B list marks : List ℕ) (m : Marks list marks) (b h : ℕ) (e : holde
     pub under-none : (h ≡ sun → ⊥) → length marks ≤ h → false ≡ mayFollow B list b
     under-none d o = ap (λ (x : ℕ). not (eqb x 0)) (sym (List·getD-eq-default marks 0 o)) ∙ under-body d
 
--- ---- copying
-module _ (order out : List ℕ) (i : ℕ) (e : take i out ≡ take i order) where
-  pub copy-step : i < length out → i < length order → take (i + 1) (set out i (getD order i 0)) ≡ take (i + 1) order
-  copy-step h k =
-      rw add-one
-      (take-suc-set out i (getD order i 0) h ∙ ap (λ (l : List ℕ). l ++ (getD order i 0 ∷ [])) e ∙ sym (take-suc order i 0 k))
-
-  pub copy-all : (n : ℕ) → n ≤ i → i ≤ n → length out ≡ n → out ≡ take n order
-  copy-all n h k l =
-      let q : i ≡ n = omega arith in
-      sym (take-all n out (omega arith)) ∙ sym (ap (λ (j : ℕ). take j out) q) ∙ e ∙ ap (λ (j : ℕ). take j order) q
+-- ---- copying: a listing that is no longer than the order gets its beginning
+pub copied-whole : (order old new : List ℕ) → length old ≤ length order → new ≡ begins (take (length old) order) old → new ≡ take (length old) order
+copied-whole order old new h e = rw (length-take-le (length old) order h, drop-length old, append-nil) at e
 
 -- ---- listing: k bodies are listed and marked
 pub record Filling (B marks order : List ℕ) (k : ℕ) : Type 0 where
-  pub run : Run B k
+  pub run : Occupied B k
   pub marks-are : Marks (places B k) marks
   pub order-is : take k order ≡ places B k
 

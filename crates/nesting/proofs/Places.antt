@@ -11,7 +11,7 @@ use lib.ListN.{length, getD, take, List·getD-append}
 use lib.Seq.{getD-at, take-append-le, take-all}
 use borrow.Author.Tests.{eqb-true, eqb-false, eq-eqb, ne-eqb, ltb-true, ltb-false, leb-false, not-false, not-true}
 use Rattle.paper.specs.Scan.{pickN, firstBelow, someBelow, countBelow, iterate}
-use Rattle.paper.specs.Nesting.{mostBodies, sun, holder, chain, endsAtSun, fault22, listed, mayFollow, nextBody, places, Ends}
+use Rattle.paper.specs.Nesting.{mostBodies, sun, holder, chain, endsAtSun, fault22, listed, mayFollow, nextBody, places, ReachesSun}
 use Rattle.mesh.proofs.Scans.{ways, clash, compared, and-true, and-left, and-right, first-le, first-passes, first-fails}
 use Rattle.mesh.proofs.Scans.{some-true, some-below, some-passes, none}
 use Rattle.mesh.proofs.Rings.{count-none, count-less, none-counted, iterate-zero, iterate-swap}
@@ -95,10 +95,10 @@ module _ (B : List ℕ) where
       (compared i k)
 
   -- the first k places have bodies
-  abbrev pub Run : ℕ → Type 0
-  Run k = (i : ℕ) → i < k → nextBody B (places B i) < length B
+  abbrev pub Occupied : ℕ → Type 0
+  Occupied k = (i : ℕ) → i < k → nextBody B (places B i) < length B
 
-  pub run-step : (k : ℕ) → Run k → nextBody B (places B k) < length B → Run (suc k)
+  pub run-step : (k : ℕ) → Occupied k → nextBody B (places B k) < length B → Occupied (suc k)
   run-step k run h i l =
       ⊎-elim
       (λ (q : i ≡ k). subst (λ (j : ℕ). nextBody B (places B j) < length B) (sym q) h)
@@ -115,7 +115,7 @@ module _ (B : List ℕ) where
   unfolding chain iterate
   no-step b e = e
 
-  pub some-step : (b : ℕ) → endsAtSun B b ≡ true → Ends B b
+  pub some-step : (b : ℕ) → endsAtSun B b ≡ true → ReachesSun B b
   unfolding endsAtSun
   some-step b e =
       let f : ℕ → Bool = λ k. eqb (chain B b k) sun in
@@ -126,7 +126,7 @@ module _ (B : List ℕ) where
   within b k h e = some-true (suc (length B)) (λ j. eqb (chain B b j) sun) k (omega arith) (eq-eqb (chain B b k) sun e)
 
 -- ---- k places with bodies
-module _ (B : List ℕ) (k : ℕ) (run : Run B k) where
+module _ (B : List ℕ) (k : ℕ) (run : Occupied B k) where
   -- they leave n - k
   pub left-over : (j : ℕ) → j ≤ k → unlisted B (places B j) + j ≡ length B
   left-over zero h =
@@ -212,7 +212,7 @@ module _ (B : List ℕ) (few : length B ≤ mostBodies) (held : (b : ℕ) → b 
   abbrev pub Stopped : ℕ → Type 0
   Stopped k = k < length B → length B ≤ nextBody B (places B k)
 
-  pub ends-listed : (k : ℕ) → Run B k → Stopped k → (b : ℕ) → b < length B → Ends B b → listed (places B k) b ≡ true
+  pub ends-listed : (k : ℕ) → Occupied B k → Stopped k → (b : ℕ) → b < length B → ReachesSun B b → listed (places B k) b ≡ true
   ends-listed k run stop b h s =
       ⊎-elim
       (λ e. e)
@@ -223,7 +223,7 @@ module _ (B : List ℕ) (few : length B ≤ mostBodies) (held : (b : ℕ) → b 
       (compared k (length B)))
       (ways (listed (places B k) b))
 
-  pub decided : (k : ℕ) → Run B k → Stopped k → (b : ℕ) → b < length B → listed (places B k) b ≡ endsAtSun B b
+  pub decided : (k : ℕ) → Occupied B k → Stopped k → (b : ℕ) → b < length B → listed (places B k) b ≡ endsAtSun B b
   decided k run stop b h =
       ⊎-elim
       (λ t. ends-listed k run stop b h (some-step B b t) ∙ sym t)
@@ -231,7 +231,7 @@ module _ (B : List ℕ) (few : length B ≤ mostBodies) (held : (b : ℕ) → b 
       (ways (endsAtSun B b))
 
   -- a filling goes on until it has stopped
-  filled : (left k : ℕ) → left + k ≡ length B → Run B k → (j : ℕ) × Run B j × Stopped j
+  filled : (left k : ℕ) → left + k ≡ length B → Occupied B k → (j : ℕ) × Occupied B j × Stopped j
   filled zero k e run = (k, run, λ h. absurd (omega arith))
   filled (suc left) k e run =
       let x = nextBody B (places B k) in
@@ -241,14 +241,14 @@ module _ (B : List ℕ) (few : length B ≤ mostBodies) (held : (b : ℕ) → b 
       (ways (ltb x (length B)))
 
   -- a chain that ends after however many steps ends within as many as there are bodies
-  pub ends-soon : (b : ℕ) → b < length B → Ends B b → endsAtSun B b ≡ true
+  pub ends-soon : (b : ℕ) → b < length B → ReachesSun B b → endsAtSun B b ≡ true
   ends-soon b h s =
       let f = filled (length B) 0 (omega arith) (λ i l. absurd (omega arith)) in
       listed-ends B (f .0) (f .1) b (ends-listed (f .0) (f .1) (f .2) b h s)
 
   -- where all chains end, the listing never stands still
-  module _ (ends : (b : ℕ) → b < length B → Ends B b) where
-    further : (k : ℕ) → Run B k → k < length B → nextBody B (places B k) < length B
+  module _ (ends : (b : ℕ) → b < length B → ReachesSun B b) where
+    further : (k : ℕ) → Occupied B k → k < length B → nextBody B (places B k) < length B
     further k run h =
         let u : ℕ → Bool = λ b. not (listed (places B k) b) in
         ⊎-elim
@@ -258,6 +258,6 @@ module _ (B : List ℕ) (few : length B ≤ mostBodies) (held : (b : ℕ) → b 
         (λ e. absurd (omega (arith, count-none u (length B) (none (length B) u e), left-over B k run k (omega arith))))
         (ways (someBelow (length B) u))
 
-    pub runs : (k : ℕ) → k ≤ length B → Run B k
+    pub runs : (k : ℕ) → k ≤ length B → Occupied B k
     runs zero h = λ i l. absurd (omega arith)
     runs (suc k) h = let before = runs k (omega arith) in run-step B k before (further k before h)

@@ -14,13 +14,13 @@ use borrow.Author.Tests.{eqb-false, eq-eqb, not-false}
 use Rattle.paper.specs.Scan.{pickN}
 use Rattle.paper.specs.Faults.{sound}
 use Rattle.paper.specs.Nesting.{mostBodies, sun, holder, endsAtSun, fault21, fault22, fault23, tableVerdict, nestingVerdict, listed, mayFollow}
-use Rattle.paper.specs.Nesting.{nextBody, places, listing, Ends, Ordered}
+use Rattle.paper.specs.Nesting.{nextBody, places, listing, ReachesSun, Ordered}
 use Rattle.paper.specs.Claims.{ChainsDecide, EachChain, ListingOrdered, OneListing}
 use Rattle.mesh.proofs.Scans.{ways, clash, compared}
 use Rattle.mesh.proofs.Ranges.{none-left, or-left, or-right, at-most}
 use Rattle.mesh.proofs.Verdicts.{sound-left, sound-right, single-sound, lowest-sound, orElse-sound, lowest-none}
 use Rattle.nesting.proofs.Lists.{place-of, two-hits}
-use Rattle.nesting.proofs.Places.{may, may-holder, next-may, lower, places-zero, places-suc, length-places, prefix, entry, Run, once-each}
+use Rattle.nesting.proofs.Places.{may, may-holder, next-may, lower, places-zero, places-suc, length-places, prefix, entry, Occupied, once-each}
 use Rattle.nesting.proofs.Places.{some-step, listed-ends, all-listed, ends-soon, runs}
 
 -- ---- what the checks give
@@ -42,16 +42,16 @@ module _ (B : List ℕ) (m : ℕ) (e : nestingVerdict B m ≡ sound) where
   unfolding nestingVerdict
   passes = sound-left (tableVerdict B m) _ e
 
-  ends : (b : ℕ) → b < length B → Ends B b
+  ends : (b : ℕ) → b < length B → ReachesSun B b
   unfolding nestingVerdict fault23
   ends b h =
       some-step B b (not-false (endsAtSun B b) (lowest-sound 23 (length B) (λ c. not (endsAtSun B c)) (sound-right (tableVerdict B m) _ e) b h))
 
-  full : Run B (length B)
+  full : Occupied B (length B)
   full = runs B (few B m passes) (held B m passes) ends (length B) (omega arith)
 
 -- ---- all places have bodies
-module _ (B : List ℕ) (run : Run B (length B)) where
+module _ (B : List ℕ) (run : Occupied B (length B)) where
   ordered : Ordered B (places B (length B))
   ordered =
       record {

@@ -7,7 +7,7 @@ use paper::SUN;
 ghost use mathlib.Core.Path.{_≡_};
 ghost use mathlib.Core.List.{List};
 ghost use Prim.Native.Nat.{ℕ, _<_, _≤_};
-ghost use lib.ListN.{length, getD, take};
+ghost use lib.ListN.{length, getD};
 ghost use Rattle.paper.specs.Faults.{single, lowestOf, stated};
 ghost use Rattle.paper.specs.Nesting.{sun, fault21, fault22, fault23, mayFollow, nextBody, Nested};
 ghost use Rattle.nesting.specs.Marks.{Marks, ChainMarks, Arrangeable, Arranged, ListedIn};
@@ -39,7 +39,8 @@ fn list(holders: &[u16], marks: &mut [u8], order: &mut [u16], listing: &mut [u16
     if let Answer::Refused(k, p) = a23 {
         return Answer::Refused(k, p);
     }
-    copy(order, listing);
+    let n = listing.len();
+    mesh::copy_halves(&order[..n], listing);
     Answer::Done
 }
 
@@ -131,16 +132,4 @@ fn may_follow(marks: &[u8], b: usize, holder: u16) -> bool
     }
     let h = holder as usize;
     h < marks.len() && marks[h] != 0
-}
-
-// Copies the beginning of the order, as much as the lent listing holds.
-fn copy(order: &[u16], listing: &mut [u16])
-    requires { ⌜ length (now listing) ≤ length (now order) ⌝ }
-    ensures { λ _. ⌜ now (listing .exit) ≡ take (length (now (listing .entry))) (now (order .entry)) ⌝ }
-{
-    let mut i = 0;
-    while i < listing.len() {
-        listing[i] = order[i];
-        i += 1;
-    }
 }

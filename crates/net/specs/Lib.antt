@@ -1,7 +1,7 @@
 pub mod Put
 pub mod sides
 pub mod rows
-pub mod near
+pub mod stencil
 pub mod points
 pub mod lanes
 pub mod copy

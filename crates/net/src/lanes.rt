@@ -1,8 +1,8 @@
 // The nets in the lanes: a lane is one place of each row. One loop over the four lanes makes the net of each from the rows that it has; the compiler
 // turns it into steps on four numbers at once. The points stand in rows of four too.
-use crate::near::FACE;
-use crate::near::VERTEX;
 use crate::sides::Face;
+use crate::stencil::FACE;
+use crate::stencil::VERTEX;
 use faces::point;
 ghost use mathlib.Core.Path.{_≡_};
 ghost use Prim.Native.Nat.{ℕ, _+_, _*_, _<_};
@@ -18,35 +18,35 @@ pub struct Rings {
 }
 
 // The face of a ring in lane k: the centre in row i, the points behind and ahead from row j on.
-fn ring_face(near: &[i32], k: usize, i: usize, j: usize) -> Face
-    requires { ⌜ (pointRow * i + k < length (now near)) × (pointRow * (j + 1) + k < length (now near)) ⌝ }
-    ensures { λ r. ⌜ r ≡ rowsFace (now (near .entry)) k i j ⌝ }
+fn ring_face(stencil: &[i32], k: usize, i: usize, j: usize) -> Face
+    requires { ⌜ (pointRow * i + k < length (now stencil)) × (pointRow * (j + 1) + k < length (now stencil)) ⌝ }
+    ensures { λ r. ⌜ r ≡ rowsFace (now (stencil .entry)) k i j ⌝ }
 {
     Face {
-        centre: point(near, k, i),
-        ahead: point(near, k, j + 1),
-        behind: point(near, k, j),
+        centre: point(stencil, k, i),
+        ahead: point(stencil, k, j + 1),
+        behind: point(stencil, k, j),
     }
 }
 
 // The four sides in lane k.
-pub fn lane_sides(near: &[i32], k: usize, rings: Rings) -> crate::sides::NetSides
-    requires { ⌜ LaneReady (now near) k rings ⌝ }
-    ensures { λ r. ⌜ LaneMade (now (near .entry)) k rings r ⌝ }
+pub fn lane_sides(stencil: &[i32], k: usize, rings: Rings) -> crate::sides::NetSides
+    requires { ⌜ LaneReady (now stencil) k rings ⌝ }
+    ensures { λ r. ⌜ LaneMade (now (stencil .entry)) k rings r ⌝ }
 {
-    let vertex = ring_face(near, k, VERTEX, VERTEX + 1);
-    let face = ring_face(near, k, FACE, FACE + 1 + rings.place);
-    crate::sides::sides_of(near, k, vertex, face, rings.vertex, rings.face)
+    let vertex = ring_face(stencil, k, VERTEX, VERTEX + 1);
+    let face = ring_face(stencil, k, FACE, FACE + 1 + rings.place);
+    crate::sides::sides_of(stencil, k, vertex, face, rings.vertex, rings.face)
 }
 
 // The loop over the lanes.
-pub(crate) fn fill_lanes(near: &[i32], rings: Rings, lanes: &mut [i32])
-    requires { ⌜ ((k : ℕ) → k < 4 → LaneReady (now near) k rings) × (length (now lanes) ≡ 164) ⌝ }
-    ensures { λ _. ⌜ ((k : ℕ) → k < 4 → LaneFilled (now (near .entry)) k rings (now (lanes .exit))) ⌝ }
+pub(crate) fn fill_lanes(stencil: &[i32], rings: Rings, lanes: &mut [i32])
+    requires { ⌜ ((k : ℕ) → k < 4 → LaneReady (now stencil) k rings) × (length (now lanes) ≡ 164) ⌝ }
+    ensures { λ _. ⌜ ((k : ℕ) → k < 4 → LaneFilled (now (stencil .entry)) k rings (now (lanes .exit))) ⌝ }
 {
     let mut k: usize = 0;
     while k < 4 {
-        let four = lane_sides(near, k, rings);
+        let four = lane_sides(stencil, k, rings);
         crate::points::put_lane(four, lanes, k);
         k += 1;
     }

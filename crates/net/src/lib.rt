@@ -2,10 +2,10 @@
 // the lanes, to the corners' parts of the output.
 pub mod copy;
 pub mod lanes;
-pub mod near;
 pub mod points;
 pub mod rows;
 pub mod sides;
+pub mod stencil;
 
 use crate::lanes::Rings;
 use numbers::cosines;
@@ -17,16 +17,16 @@ ghost use lib.ListN.{length};
 ghost use Rattle.paper.specs.Calls.{perCorner};
 ghost use Rattle.numbers.specs.Stored.{stored};
 ghost use Rattle.net.specs.sides.Drawn.{drawn, Drawn, CornerIn};
-ghost use Rattle.net.specs.near.Near.{Run, Quiet};
+ghost use Rattle.net.specs.stencil.Taken.{Run, Quiet};
 ghost use Rattle.net.specs.lanes.Lanes.{RingsAt};
 ghost use Rattle.net.specs.Put.{RunPut};
 
 // The numbers in the rows that a net is made from, and in those of its points.
-pub const NEAR: usize = 128;
+pub const STENCIL: usize = 128;
 
 pub const LANES: usize = 164;
 
-// The nets of a run of corners of one face, from c on, to the output from `at` on. The tables are those of `count` corners. `near` and `lanes` are
+// The nets of a run of corners of one face, from c on, to the output from `at` on. The tables are those of `count` corners. `stencil` and `lanes` are
 // lent, so that they are made once for a call.
 pub fn put_run(
     points: &[i32],
@@ -35,23 +35,23 @@ pub fn put_run(
     count: usize,
     c: usize,
     run: usize,
-    near: &mut [i32],
+    stencil: &mut [i32],
     lanes: &mut [i32],
     out: &mut [i32],
     at: usize,
 )
     requires mesh { ⌜ Drawn count (now table) (now points) × (c + run ≤ count) × Run (now table) c run ⌝ }
-    requires lent { ⌜ (length (now near) ≡ 128) × (length (now lanes) ≡ 164) × Quiet (now near) ⌝ }
+    requires lent { ⌜ (length (now stencil) ≡ 128) × (length (now lanes) ≡ 164) × Quiet (now stencil) ⌝ }
     requires room { ⌜ (0 < run) × (at + perCorner * run ≤ length (now out)) ⌝ }
     requires rows { ⌜ now rows ≡ stored ⌝ }
     ensures put { λ _. ⌜ RunPut (drawn count (now (table .entry)) (now (points .entry))) c run at (now (out .entry)) (now (out .exit)) ⌝ }
-    ensures quiet { λ _. ⌜ Quiet (now (near .exit)) ⌝ }
+    ensures quiet { λ _. ⌜ Quiet (now (stencil .exit)) ⌝ }
 {
-    crate::near::take_face(points, table, rows, count, c, run, near);
+    crate::stencil::take_face(points, table, rows, count, c, run, stencil);
     let mut r = 0;
     while r < run {
-        crate::near::take_corner(points, table, rows, count, c + r, near);
-        crate::lanes::fill_lanes(near, rings_at(table, rows, count, c + r, r), lanes);
+        crate::stencil::take_corner(points, table, rows, count, c + r, stencil);
+        crate::lanes::fill_lanes(stencil, rings_at(table, rows, count, c + r, r), lanes);
         crate::copy::copy(lanes, out, at + NUMBERS_PER_CORNER * r);
         r += 1;
     }

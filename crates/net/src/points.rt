@@ -3,7 +3,7 @@ ghost use mathlib.Core.Path.{_≡_};
 ghost use Prim.Native.Nat.{_+_, _*_, _≤_, _<_};
 ghost use lib.ListN.{length};
 ghost use Rattle.paper.specs.Net.{rows};
-ghost use Rattle.net.specs.rows.Rows.{Square};
+ghost use Rattle.net.specs.rows.SideRows.{Square};
 ghost use Rattle.net.specs.points.Placed.{Placed, LaneLaid};
 ghost use Rattle.net.specs.sides.Values.{FourSized};
 

@@ -7,8 +7,8 @@ use faces::formulas::quarter;
 use faces::formulas::second;
 use faces::formulas::third;
 ghost use Rattle.surface.specs.Sizes.{WrittenSize};
-ghost use Rattle.net.specs.sides.Values.{Sized};
-ghost use Rattle.net.specs.rows.Rows.{a12, a21, RowsOf, AllSized, IsAGrid, IsBGrid};
+ghost use Rattle.net.specs.sides.Values.{SideSized};
+ghost use Rattle.net.specs.rows.SideRows.{a12, a21, RowsOf, FourRowsSized, IsAGrid, IsBGrid};
 
 // What the grids take of a side: the points of its outer row between the ends, of its a row, and the middle of the next row.
 pub struct RowValues {
@@ -22,7 +22,7 @@ pub struct RowValues {
 
 // The rows of a side; g and l are the other sides at its head and tail, o is the opposite one.
 pub(crate) fn side_rows(f: SideValues, g: SideValues, l: SideValues, o: SideValues) -> RowValues
-    requires { ⌜ Sized f × Sized g × Sized l × Sized o ⌝ }
+    requires { ⌜ SideSized f × SideSized g × SideSized l × SideSized o ⌝ }
     ensures { λ r. ⌜ RowsOf f g l o r ⌝ }
 {
     let h = f.head;
@@ -48,7 +48,7 @@ pub(crate) fn side_rows(f: SideValues, g: SideValues, l: SideValues, o: SideValu
 
 // Four rows of four a points. Those beside the centre come from the two middle b points beside them.
 pub(crate) fn a_grid(r0: RowValues, r1: RowValues, r2: RowValues, r3: RowValues) -> [[i32; 4]; 4]
-    requires { ⌜ AllSized r0 r1 r2 r3 ⌝ }
+    requires { ⌜ FourRowsSized r0 r1 r2 r3 ⌝ }
     ensures { λ g. ⌜ IsAGrid r0 r1 r2 r3 g ⌝ }
 {
     let a00 = half(r0.outer1, r3.outer1);
@@ -79,7 +79,7 @@ pub(crate) fn b_grid(
     r3: RowValues,
     a: [[i32; 4]; 4],
 ) -> [[i32; 5]; 5]
-    requires { ⌜ AllSized r0 r1 r2 r3 × WrittenSize (a12 a) × WrittenSize (a21 a) ⌝ }
+    requires { ⌜ FourRowsSized r0 r1 r2 r3 × WrittenSize (a12 a) × WrittenSize (a21 a) ⌝ }
     ensures { λ g. ⌜ IsBGrid e0 e1 e2 e3 r0 r1 r2 r3 a g ⌝ }
 {
     let b11 = half(r3.a1, r0.a1);

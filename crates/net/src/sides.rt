@@ -34,14 +34,14 @@ pub struct NetSides {
 }
 
 // The four-sided refined face of four rows in turn in lane k, at the first.
-fn face_through(near: &[i32], k: usize, a: usize, b: usize, c: usize, d: usize) -> Face
-    requires { ⌜ ReadableOn (now near) k a × ReadableOn (now near) k b × ReadableOn (now near) k c × ReadableOn (now near) k d ⌝ }
-    ensures { λ r. ⌜ Through (pointAt (now (near .entry)) k) a b c d r ⌝ }
+fn face_through(stencil: &[i32], k: usize, a: usize, b: usize, c: usize, d: usize) -> Face
+    requires { ⌜ ReadableOn (now stencil) k a × ReadableOn (now stencil) k b × ReadableOn (now stencil) k c × ReadableOn (now stencil) k d ⌝ }
+    ensures { λ r. ⌜ Through (pointAt (now (stencil .entry)) k) a b c d r ⌝ }
 {
-    let v = point(near, k, a);
-    let w = point(near, k, b);
-    let x = point(near, k, c);
-    let y = point(near, k, d);
+    let v = point(stencil, k, a);
+    let w = point(stencil, k, b);
+    let x = point(stencil, k, c);
+    let y = point(stencil, k, d);
     Face {
         centre: mean(v, w, x, y),
         ahead: toward(v, w, x, y),
@@ -65,18 +65,18 @@ fn side(head: i32, tail: i32, x: i32, y: i32, v: i32, w: i32, cosine: i64) -> Si
 }
 
 // The four sides in lane k, from the faces v of the vertex and f of the mesh face, C of these, and the rows of the corners around.
-pub(crate) fn sides_of(near: &[i32], k: usize, v: Face, f: Face, c: i64, d: i64) -> NetSides
-    requires rows { ⌜ ((i : ℕ) → i < 7 → ReadableOn (now near) k i) ⌝ }
+pub(crate) fn sides_of(stencil: &[i32], k: usize, v: Face, f: Face, c: i64, d: i64) -> NetSides
+    requires rows { ⌜ ((i : ℕ) → i < 7 → ReadableOn (now stencil) k i) ⌝ }
     requires rings { ⌜ FaceSized v × FaceSized f × CosineSize c × CosineSize d ⌝ }
-    ensures { λ r. ⌜ SidesOf (pointAt (now (near .entry)) k) v f c d r ⌝ }
+    ensures { λ r. ⌜ SidesOf (pointAt (now (stencil .entry)) k) v f c d r ⌝ }
 {
-    let e = face_through(near, k, 0, 1, 2, 3);
-    let g = face_through(near, k, 0, 4, 5, 6);
-    let here = point(near, k, 0);
-    let next = point(near, k, 1);
-    let link = point(near, k, 3);
-    let across = point(near, k, 4);
-    let back = point(near, k, 6);
+    let e = face_through(stencil, k, 0, 1, 2, 3);
+    let g = face_through(stencil, k, 0, 4, 5, 6);
+    let here = point(stencil, k, 0);
+    let next = point(stencil, k, 1);
+    let link = point(stencil, k, 3);
+    let across = point(stencil, k, 4);
+    let back = point(stencil, k, 6);
     NetSides {
         side0: side(v.centre, e.centre, v.ahead, e.behind, here, link, c),
         side1: side(f.centre, e.centre, f.ahead, e.ahead, here, next, d),

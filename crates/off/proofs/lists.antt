@@ -1,4 +1,4 @@
 pub mod Bad
 pub mod Naturals
-pub mod Rows
+pub mod Readings
 pub mod Facing

@@ -6,7 +6,7 @@ ghost use Prim.Native.Nat.{ℕ, _+_, _<_, _≤_};
 ghost use lib.Dec.{ltb};
 ghost use lib.ListN.{length, getD, drop};
 ghost use Rattle.paper.specs.Off.{separates as Off·separates, wordsOf, isOff};
-ghost use Rattle.off.specs.words.Cursor.{ends, commentWords, Before, At, Run, NumberRead, MarkRead};
+ghost use Rattle.off.specs.words.Cursor.{ends, commentWords, Before, At, WordSpan, NumberRead, MarkRead};
 
 // A place in the text, and the number of the word that comes there or after it.
 pub struct Cursor {
@@ -81,7 +81,7 @@ fn comment_end(text: &[u8], from: usize) -> usize
 // Where the word ends that has begun before or at `from`.
 fn word_end(text: &[u8], from: usize) -> usize
     requires { ⌜ from ≤ length (now text) ⌝ }
-    ensures { λ r. ⌜ Run (now (text .entry)) from r ⌝ }
+    ensures { λ r. ⌜ WordSpan (now (text .entry)) from r ⌝ }
 {
     let mut at = from;
     while at < text.len() {

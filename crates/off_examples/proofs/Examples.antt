@@ -19,7 +19,7 @@ use Rattle.paper.specs.Off.{separates, comments, uncommented, piecesOf, wordsOf
 use Rattle.paper.specs.Off.{badFrom, badFaces, neededVerdict, sidesFrom, cornersFrom, wordsMesh, isOff, short, fault24, fault26, wordsVerdict, offVerdict}
 use Rattle.paper.specs.Off.{textMesh}
 use Rattle.paper.specs.Examples.{Row, _gives_, AllGive}
-use Rattle.paper.proofs.Rows.{same, all-same, agree}
+use Rattle.paper.proofs.ExampleRows.{same, all-same, agree}
 
 -- a quoted text as its bytes
 abbrev bytes : String → List ℕ

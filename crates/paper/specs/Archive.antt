@@ -1,6 +1,5 @@
 -- L11, coordinates rearranged for the archive: each number's difference from the same axis of the vertex before, wrapping in 32 bits,
 -- then the bytes of all differences, plane by plane; and the way back. The checks 30 and 31, and the two calls.
-use mathlib.Core.Path.{_≡_}
 use mathlib.Core.Bool.{Bool, not}
 use mathlib.Core.List.{List, _++_}
 use Prim.Native.Nat.{ℕ, zero, suc, _+_, _-_, _*_, _/_, _%_, _^_, _<_}
@@ -10,7 +9,7 @@ use lib.IntN.{ℤ, pos}
 use mir.Syntax.{w32}
 use mir.Val.{ofZ, toZ, SFits}
 use Rattle.paper.specs.Scan.{valuesFrom}
-use Rattle.paper.specs.Faults.{Verdict, _orElse_, single, stated, kept}
+use Rattle.paper.specs.Faults.{Verdict, _orElse_, single, Answered}
 use Rattle.paper.specs.declared.Answer.{Answer}
 
 -- ---- the checks, of the lengths of number list and byte list, whichever of them is lent
@@ -64,15 +63,13 @@ restoredAt bytes n i = toZ w32 (sumAt bytes n (i / 3) (i % 3))
 unfoldable pub restored : List ℕ → ℕ → List ℤ
 restored bytes n = valuesFrom (restoredAt bytes n) 0 n
 
--- ---- a call on numbers, with a lent byte list that held `old`: it answers r and leaves `out`
-pub record Archived (numbers : List ℤ) (old : List ℕ) (r : Answer) (out : List ℕ) : Type 0 where
-  pub answers : stated r ≡ archiveVerdict (length numbers) (length old)
-  pub holds : out ≡ kept (stated r) (archived numbers) old
+-- ---- a call on numbers, with a lent byte list that held `old`: it writes the bytes
+abbrev pub Archived : List ℤ → List ℕ → Answer → List ℕ → Type 0
+Archived numbers old = Answered (archiveVerdict (length numbers) (length old)) (archived numbers) old
 
--- and one on bytes, with a lent number list
-pub record Restored (bytes : List ℕ) (old : List ℤ) (r : Answer) (out : List ℤ) : Type 0 where
-  pub answers : stated r ≡ archiveVerdict (length old) (length bytes)
-  pub holds : out ≡ kept (stated r) (restored bytes (length old)) old
+-- and one on bytes, with a lent number list: it writes the numbers
+abbrev pub Restored : List ℕ → List ℤ → Answer → List ℤ → Type 0
+Restored bytes old = Answered (archiveVerdict (length old) (length bytes)) (restored bytes (length old)) old
 
 -- ---- of what lists the theorems speak: of 32-bit numbers, and of bytes
 abbrev pub All32Bit : List ℤ → Type 0

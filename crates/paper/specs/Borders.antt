@@ -69,7 +69,8 @@ mostMiss = 13
 abbrev pub InBounds : ℤ → Type 0
 InBounds z = natAbs z ≤ mostMiss * unit
 
--- ---- a border: the side s of c with the neighbour's side; the quad-net of c stands in the output A, the neighbour's in B
+-- ---- 01's border: "a side of one of its quad-nets together with the neighbour's side that the table of sides gives". Here it is the side s of c; the
+-- quad-net of c stands in the output A, the neighbour's in B
 -- the neighbouring corner
 abbrev pub beside : Mesh → ℕ → Side → ℕ
 beside M c s = neighbour (cornersOf M) c s
@@ -88,7 +89,7 @@ module _ (M : Mesh) (A B : Output) (axis c : ℕ) (s : Side) where
       condition (H K c s) (T K c s) (X K c s) (Y K c s) (C K c s) (outerRow here s j) (aRow here s j) (aRow there (across s) j)
 
 pub record Smooth (M : Mesh) (A B : Output) (axis c : ℕ) (s : Side) : Type 0 where
-  -- the five points of the common curve are the same numbers in both
+  -- 01's common curve, the five outer points of the side from the head: the same numbers in both
   pub curve : (j : ℕ) → j < 5 → outerRow (here M A B axis c s) s j ≡ outerRow (there M A B axis c s) (across s) j
   pub first-bounded : InBounds (miss M A B axis c s first 0)
   pub second-bounded : InBounds (miss M A B axis c s second 1)

@@ -1,5 +1,4 @@
 -- Linking and building as calls: what each answers (4 to 14, 4 to 17) and what the lent space holds afterwards, for all inputs.
-use mathlib.Core.Path.{_≡_}
 use mathlib.Core.Bool.{Bool, not, _||_}
 use mathlib.Core.List.{List}
 use Prim.Native.Nat.{ℕ, _+_, _*_, _/_, _%_}
@@ -9,18 +8,15 @@ use lib.IntN.{ℤ, pos}
 use Rattle.paper.specs.Scan.{valuesFrom}
 use Rattle.paper.specs.Mesh.{Mesh, cornerCount}
 use Rattle.paper.specs.Links.{linkTable, link}
-use Rattle.paper.specs.Faults.{linkVerdict, stated, kept, Verdict, _orElse_, single, lowestOf}
+use Rattle.paper.specs.Faults.{linkVerdict, Answered, Verdict, _orElse_, single, lowestOf}
 use Rattle.paper.specs.Numbers.{Numbers, rounded}
 use Rattle.paper.specs.Refined.{refinedOf}
 use Rattle.paper.specs.Net.{net, netPoints}
 use Rattle.paper.specs.declared.Answer.{Answer}
 
--- a call of linking on the lists M with a lent table that held `old`: it answers r and leaves `out`
-pub record Linked (M : Mesh) (old : List ℕ) (r : Answer) (out : List ℕ) : Type 0 where
-  -- the fault of 4 to 14, or none
-  pub answers : stated r ≡ linkVerdict M (length old)
-  -- the links of the mesh, or what the table held before
-  pub holds : out ≡ kept (linkVerdict M (length old)) (linkTable M) old
+-- a call of linking on the lists M with a lent table that held `old`: it answers the fault of 4 to 14, or none, and writes the links of the mesh
+abbrev pub Linked : Mesh → List ℕ → Answer → List ℕ → Type 0
+Linked M old = Answered (linkVerdict M (length old)) (linkTable M) old
 
 -- the numbers that building writes for a corner: x, y, z of each of its 41 points
 abbrev pub perCorner : ℕ
@@ -54,7 +50,6 @@ buildVerdict M links first count n =
     orElse single 16 (fault16 M first count) first
     orElse single 17 (fault17 count n) n
 
--- a call of building on the lists M, a link table, a first corner and a count, with a lent output that held `old`: it answers r and leaves `out`
-pub record Built (M : Mesh) (links : List ℕ) (first count : ℕ) (old : List ℤ) (r : Answer) (out : List ℤ) : Type 0 where
-  pub answers : stated r ≡ buildVerdict M links first count (length old)
-  pub holds : out ≡ kept (stated r) (nets M first count) old
+-- a call of building on the lists M, a link table, a first corner and a count, with a lent output that held `old`: it writes the nets of those corners
+abbrev pub Built : Mesh → List ℕ → ℕ → ℕ → List ℤ → Answer → List ℤ → Type 0
+Built M links first count old = Answered (buildVerdict M links first count (length old)) (nets M first count) old

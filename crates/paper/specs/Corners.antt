@@ -1,4 +1,6 @@
--- A corner's face, its position there, and the next and previous corner of the face, over the list of side counts.
+-- 01's corner: "A corner is a position in" the corner list, a number from 0 on. Here: a corner's face, its position there, and the next and previous corner
+-- of the face, over the list of side counts. 01's walk goes from a corner to its next one, its previous one or its linked one: `next`, `previous`, and
+-- `link` of Links.antt.
 use mathlib.Core.List.{List, [], _∷_}
 use Prim.Native.Nat.{ℕ, suc, _+_, _-_}
 use lib.Dec.{ltb, eqb}

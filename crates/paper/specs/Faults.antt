@@ -1,5 +1,5 @@
 -- "Why a mesh is turned down": 4 to 13 with 27 and 28, each with its places, and the verdict that tries them in their order; 14; what an answer states,
--- and what a lent space holds after it.
+-- what a lent space holds after it, and a call that fills one.
 use mathlib.Core.Path.{_≡_}
 use mathlib.Core.Bool.{Bool, true, false, not, _&&_, _||_}
 use mathlib.Core.List.{List}
@@ -16,7 +16,7 @@ use Rattle.paper.specs.Links.{vertexOf, sameEdge, reverseEdge, link, nam
 use Rattle.paper.specs.declared.Answer.{Answer}
 use Rattle.paper.specs.declared.Answer.the-variants.{Done, Refused}
 
--- no fault, or a fault's number and place
+-- a verdict: what the checks of an input find, which is no fault, or the number and the place of the first one ("The answer is number and place")
 pub data Verdict : Type 0 where
   sound : Verdict
   fault : ℕ → ℕ → Verdict
@@ -121,9 +121,11 @@ linkFaults M =
     orElse lowestOf 12 (vertexCount M) (fault12 (M .corners))
     orElse lowestOf 13 (vertexCount M) (fault13 (M .sides) (M .corners))
 
+-- the verdict on a mesh, of 4 to 13 with 27 and 28
 unfoldable pub verdict : Mesh → Verdict
 verdict M = listFaults M orElse linkFaults M
 
+-- 01's accepted: "A mesh is accepted when its lists have no fault of 4 to 13, nor one that a later request puts among these", which are 27 and 28
 abbrev pub Accepted : Mesh → Type 0
 Accepted M = verdict M ≡ sound
 
@@ -140,3 +142,10 @@ stated (Refused number place) = fault number place
 abbrev pub kept : {A : Type 0} → Verdict → A → A → A
 kept sound new old = new
 kept (fault number place) new old = old
+
+-- ---- a call that answers r and fills one lent list, which held `old` and holds `out` afterwards: v is its verdict, and `new` is what it writes
+pub record Answered {A : Type 0} (v : Verdict) (new old : A) (r : Answer) (out : A) : Type 0 where
+  -- the answer states the verdict
+  pub answers : stated r ≡ v
+  -- the list holds what is written, or after a refusal what it held
+  pub holds : out ≡ kept (stated r) new old

@@ -1,16 +1,20 @@
 -- L1, "Points the renderer can take": the difference of one control point of a quad-net from its b00, in floats. 18 to 20, the whole
 -- numbers that are asked, and the floats that carry them to the bit.
 use mathlib.Core.Path.{_≡_}
-use mathlib.Core.Bool.{Bool, true, false, not, _&&_}
-use mathlib.Core.List.{List, [], _∷_}
-use Prim.Native.Nat.{ℕ, _+_, _*_, _^_, _≤_}
+use mathlib.Core.Bool.{Bool, true, false, not, _&&_, _||_}
+use mathlib.Core.List.{List, [], _∷_, _++_}
+use Prim.Native.Nat.{ℕ, _+_, _*_, _/_, _%_, _^_, _≤_, _<_}
 use lib.Dec.{leb, ltb, eqb}
-use lib.ListN.{length, getD}
+use lib.ListN.{length, getD, take, drop}
 use lib.IntN.{ℤ, pos, _+ℤ_, _-ℤ_, _*ℤ_, natAbs}
 use lib.Ieee.{Float, binary32, ofInt, toSigned}
-use Rattle.paper.specs.Faults.{Verdict, sound, fault, _orElse_, single, lowestOf}
+use Rattle.paper.specs.Scan.{valuesFrom}
+use Rattle.paper.specs.Mesh.{mostCorners}
+use Rattle.paper.specs.Faults.{Verdict, sound, fault, _orElse_, single, lowestOf, stated, kept}
 use Rattle.paper.specs.Numbers.{floor}
+use Rattle.paper.specs.File.{noRoom, begins}
 use Rattle.paper.specs.Calls.{perCorner}
+use Rattle.paper.specs.declared.Answer.{Answer}
 use Rattle.paper.specs.declared.Floats.{Floats}
 use Rattle.paper.specs.declared.FloatPoint.{FloatPoint}
 use Rattle.paper.specs.declared.FloatPoint.the-variants.{Near, Far, Refused}
@@ -107,11 +111,44 @@ AllWhole (Far p q) = AxesWhole p × AxesWhole q
 AllWhole (Refused number place) = Unit {0}
 
 -- ---- a call on a list and a point number answers r
-pub record Pointed (numbers : List ℤ) (point : ℕ) (r : FloatPoint) : Type 0 where
+pub record InFloats (numbers : List ℤ) (point : ℕ) (r : FloatPoint) : Type 0 where
   -- the case and its whole numbers, or the fault of 18, 19 or 20
   pub answers : pointStated r ≡ pointOf numbers point
   -- each float is a whole number, and a zero is plus zero
   pub whole : AllWhole r
+
+-- ---- beyond the requests: all points of a list of quad-nets, 123 numbers for each, as six floats for each point
+-- a point's six whole numbers: near the three differences and three zeros, far the three first ones and the three second ones
+abbrev pub sixOf : PointCase → List ℤ
+sixOf (near p) = p ++ axes (pos 0) (pos 0) (pos 0)
+sixOf (far p q) = p ++ q
+sixOf (refused number place) = []
+
+-- number x of them all: number x % 6 of a point, 41 points for each quad-net, in the order of the list
+unfoldable pub floatNumber : List ℤ → ℕ → ℤ
+floatNumber numbers x =
+    let net = take perCorner (drop (perCorner * (x / (2 * perCorner))) numbers) in getD (sixOf (pointOf net (x % (2 * perCorner) / 6))) (x % 6) (pos 0)
+
+unfoldable pub allFloats : List ℤ → List Float
+allFloats numbers = valuesFrom (λ x. ofInt binary32 (floatNumber numbers x)) 0 (2 * length numbers)
+
+-- 18: the length is no multiple of 123, or there are more quad-nets than a mesh may have (place: the length); then 19: a number is outside ±2^27 (place: its
+-- position in the whole list, so that the lowest quad-net comes first); then 255: the lent list has no room (place: the length that it needs)
+unfoldable pub allVerdict : List ℤ → ℕ → Verdict
+allVerdict numbers room =
+    single 18 (not (eqb (length numbers % perCorner) 0) || ltb (perCorner * mostCorners) (length numbers)) (length numbers)
+    orElse lowestOf 19 (length numbers) (fault19 numbers)
+    orElse single noRoom (ltb room (2 * length numbers)) (2 * length numbers)
+
+-- each float reads back as its whole number: none is rounded
+abbrev pub NoneRounded : List ℤ → Type 0
+NoneRounded numbers = (x : ℕ) → x < 2 * length numbers → readBack (ofInt binary32 (floatNumber numbers x)) ≡ floatNumber numbers x
+
+-- a call on such a list, with a lent list that held `old`, whose further entries keep their contents: it answers r and leaves `out`
+pub record AllInFloats (numbers : List ℤ) (old : List Float) (r : Answer) (out : List Float) : Type 0 where
+  pub answers : stated r ≡ allVerdict numbers (length old)
+  pub holds : out ≡ kept (stated r) (begins (allFloats numbers) old) old
+  pub exact : stated r ≡ sound → NoneRounded numbers
 
 -- ---- what the theorems say
 -- the whole-number sum of what comes back, on each axis; nothing comes back beside a refusal

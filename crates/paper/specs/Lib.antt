@@ -7,9 +7,9 @@
 --     Numbers, Cosines   "Numbers used": rounding, the readings `rounded` and `exact`; the cosine table
 --     Refined, Face, Net   "From corner to 41 points", with L8's sharpness
 --     Calls      linking and building as calls, 14 to 17
---     Floats     L1: a control point as floats, 18 to 20
+--     Floats     L1: a control point as floats, 18 to 20; all points of a list of quad-nets
 --     Nesting    L4: the nested grids as a table, 21 to 23, the listing, the call
---     Squares    L7: the lowest irregular face or vertex, the call, and the lines of `inspect`
+--     Irregular  L7: the lowest irregular face or vertex, the call, and the lines of `inspect`
 --     Archive    L11: coordinates rearranged for the archive and back, 30 and 31, the two calls
 --     Off        L6: reading OFF texts, 24 to 26, the call
 --     Preview    L9: a vertex moved, 29, the preview; the corners that a vertex can change
@@ -17,7 +17,7 @@
 --     Borders    "The four conditions across a side"
 --     Sampling   L12: samples of a patch, 32 and 33, the calls
 --     Triangles  the surface as one closed mesh of triangles, 39 and 40, the calls
---     Tangents   the tangents of a patch
+--     Tangents   the tangents of a patch and of the surface's points, the calls
 --     Report     L14: the yearly border report, 37 and 38, the calls, runs of files
 --     CFace      the C face
 --     Mirror     a mesh with one axis negated
@@ -40,7 +40,7 @@ pub mod Net
 pub mod Calls
 pub mod Floats
 pub mod Nesting
-pub mod Squares
+pub mod Irregular
 pub mod Archive
 pub mod Off
 pub mod Preview

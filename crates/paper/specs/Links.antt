@@ -23,7 +23,7 @@ arrivesFrom sides corners c = vertexOf corners (previous sides c)
 unfoldable pub linked : List ℕ → List ℕ → ℕ → ℕ → Bool
 linked sides corners c d = eqb (vertexOf corners d) (vertexOf corners c) && eqb (arrivesFrom sides corners d) (leavesTo sides corners c)
 
--- the link of c
+-- 01's link of c: "the corner d of the same vertex whose arriving edge is the reverse of c's leaving edge"
 unfoldable pub link : List ℕ → List ℕ → ℕ → ℕ
 link sides corners c = firstBelow (length corners) (linked sides corners c)
 

@@ -7,7 +7,7 @@ use Prim.Native.Nat.{ℕ, zero, suc, _<_}
 use lib.Dec.{leb, eqb}
 use lib.ListN.{length, getD, take}
 use Rattle.paper.specs.Scan.{firstBelow, someBelow, countBelow, iterate}
-use Rattle.paper.specs.Faults.{Verdict, _orElse_, single, lowestOf, outside, stated, kept}
+use Rattle.paper.specs.Faults.{Verdict, _orElse_, single, lowestOf, outside, Answered}
 use Rattle.paper.specs.declared.Answer.{Answer}
 
 abbrev pub mostBodies : ℕ
@@ -70,15 +70,14 @@ places holders (suc k) = places holders k ++ (nextBody holders (places holders k
 unfoldable pub listing : List ℕ → List ℕ
 listing holders = places holders (length holders)
 
--- ---- a call on a table, with a lent listing that held `old`: it answers r and leaves `out`
-pub record Nested (holders old : List ℕ) (r : Answer) (out : List ℕ) : Type 0 where
-  pub answers : stated r ≡ nestingVerdict holders (length old)
-  pub holds : out ≡ kept (stated r) (listing holders) old
+-- ---- a call on a table, with a lent listing that held `old`: it writes the listing
+abbrev pub Nested : List ℕ → List ℕ → Answer → List ℕ → Type 0
+Nested holders old = Answered (nestingVerdict holders (length old)) (listing holders) old
 
 -- ---- what the theorems say of chains and of a listing
 -- the chain of b ends at the Sun, after however many steps
-abbrev pub Ends : List ℕ → ℕ → Type 0
-Ends holders b = (k : ℕ) × (chain holders b k ≡ sun)
+abbrev pub ReachesSun : List ℕ → ℕ → Type 0
+ReachesSun holders b = (k : ℕ) × (chain holders b k ≡ sun)
 
 pub record Ordered (holders out : List ℕ) : Type 0 where
   pub whole : length out ≡ length holders

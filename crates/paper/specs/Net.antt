@@ -8,7 +8,8 @@ use Rattle.paper.specs.Cosines.{unit, cosine}
 use Rattle.paper.specs.Refined.{Corners, RefinedMesh}
 use Rattle.paper.specs.Face.{centre, toward}
 
--- ---- the four ends E0 to E3, and the sides 0 to 3
+-- ---- 01's ends of a quad-net: E0, centre of the vertex's refined face, E1, of the leaving edge's, E2, of the face's, and E3, of the arriving edge's; and its
+-- sides 0 to 3
 pub data End : Type 0 where
   vertex leaving face arriving : End
 
@@ -108,31 +109,40 @@ module _ {S : Numbers} (K : RefinedMesh S) (c : ℕ) where
   abbrev pub points : End → ℕ → Number
   points e j = K .point (ring (K .corners) c e j)
 
+  -- an end is the centre of its refined face
   abbrev pub end : End → Number
   end e = centre S (points e) (size (K .corners) c e)
 
-  -- ---- of a side
+  -- ---- of a side, by 01's letters
+  -- H: the head, an end
   unfoldable pub H : Side → Number
   H s = end (head s)
 
+  -- T: the tail, the other end
   unfoldable pub T : Side → Number
   T s = end (tail s)
 
+  -- X: the head face's point towards the refined edge from the corner's refined point V to the neighbour's
   unfoldable pub X : Side → Number
   X s = toward S (points (head s)) (size (K .corners) c (head s)) (headPlace (K .corners) c s)
 
+  -- Y: the tail face's point towards the same edge
   unfoldable pub Y : Side → Number
   Y s = toward S (points (tail s)) (size (K .corners) c (tail s)) (tailPlace s)
 
+  -- N: the inner point, r((3X + 3Y + V - V̂) / 6), where V̂ is the neighbour's refined point
   unfoldable pub N : Side → Number
   N s = (pos 3 · X s ⊕ pos 3 · Y s ⊕ K .point c ⊖ K .point (neighbour (K .corners) c s)) ÷ 6
 
+  -- X*: X of the other side at the head
   abbrev pub X* : Side → Number
   X* s = X (atHead s)
 
+  -- Y*: Y of the other side at the tail
   abbrev pub Y* : Side → Number
   Y* s = Y (atTail s)
 
+  -- C: C(m,1) of the cosine table, for the head face of m points
   unfoldable pub C : Side → ℤ
   C s = cosine (size (K .corners) c (head s)) 1
 

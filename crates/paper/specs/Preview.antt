@@ -1,6 +1,5 @@
 -- L9, try a vertex before moving it: what building would answer and write with that vertex moved, the call; and the corners whose quad-nets the
 -- vertex can change, as marks, the call.
-use mathlib.Core.Path.{_≡_}
 use mathlib.Core.Bool.{Bool, not, _&&_}
 use mathlib.Core.List.{List}
 use Prim.Native.Nat.{ℕ, _+_, _*_}
@@ -11,7 +10,7 @@ use Rattle.paper.specs.Scan.{pickN, someBelow, valuesFrom}
 use Rattle.paper.specs.Mesh.{Mesh, meshOf, vertexCount, cornerCount}
 use Rattle.paper.specs.Corners.{faceOf}
 use Rattle.paper.specs.Links.{vertexOf, names}
-use Rattle.paper.specs.Faults.{Verdict, _orElse_, single, verdict, stated, kept}
+use Rattle.paper.specs.Faults.{Verdict, _orElse_, single, verdict, Answered}
 use Rattle.paper.specs.File.{noRoom}
 use Rattle.paper.specs.Calls.{nets, buildVerdict}
 use Rattle.paper.specs.declared.Answer.{Answer}
@@ -38,10 +37,9 @@ vertexVerdict M u = single 29 (fault29 M u) u
 unfoldable pub previewVerdict : Mesh → Move → List ℕ → ℕ → ℕ → ℕ → Verdict
 previewVerdict M m links first count n = vertexVerdict M (m .vertex) orElse buildVerdict (moved M m) links first count n
 
--- a call of the preview on the lists M: it takes what building takes, with a vertex and three coordinates. It answers r and leaves `out`
-pub record Previewed (M : Mesh) (m : Move) (links : List ℕ) (first count : ℕ) (old : List ℤ) (r : Answer) (out : List ℤ) : Type 0 where
-  pub answers : stated r ≡ previewVerdict M m links first count (length old)
-  pub holds : out ≡ kept (stated r) (nets (moved M m) first count) old
+-- a call of the preview on the lists M, which takes what building takes, with a vertex and three coordinates: it writes the nets of the moved mesh
+abbrev pub Previewed : Mesh → Move → List ℕ → ℕ → ℕ → List ℤ → Answer → List ℤ → Type 0
+Previewed M m links first count old = Answered (previewVerdict M m links first count (length old)) (nets (moved M m) first count) old
 
 -- ---- the corners that a vertex can change. A quad-net is made of refined points in the faces at its corner's vertex, and a refined point of the
 -- vertices of its face and its corner's two sharpness numbers, which no move changes
@@ -65,7 +63,6 @@ touchMarks sides corners u = valuesFrom (λ c. pickN (touches sides corners u c)
 unfoldable pub touchedVerdict : Mesh → ℕ → ℕ → Verdict
 touchedVerdict M u n = vertexVerdict M u orElse verdict M orElse single noRoom (not (eqb n (cornerCount M))) (cornerCount M)
 
--- a call on the lists M and a vertex, with a lent list of marks that held `old`: it answers r and leaves `out`
-pub record Touched (M : Mesh) (u : ℕ) (old : List ℕ) (r : Answer) (out : List ℕ) : Type 0 where
-  pub answers : stated r ≡ touchedVerdict M u (length old)
-  pub holds : out ≡ kept (stated r) (touchMarks (M .sides) (M .corners) u) old
+-- a call on the lists M and a vertex, with a lent list of marks that held `old`: it writes the marks
+abbrev pub Touched : Mesh → ℕ → List ℕ → Answer → List ℕ → Type 0
+Touched M u old = Answered (touchedVerdict M u (length old)) (touchMarks (M .sides) (M .corners) u) old

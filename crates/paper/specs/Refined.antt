@@ -8,7 +8,7 @@ use Rattle.paper.specs.Corners.{startOf, faceOf, sidesOf, next, previous
 use Rattle.paper.specs.Links.{vertexOf, link, valence}
 use Rattle.paper.specs.Numbers.{Numbers, sum}
 
--- a mesh as functions of its corners
+-- a mesh as functions of its corners; a walk of 01 takes the steps `next`, `previous` and `link`
 pub record Corners : Type 0 where
   pub count : ℕ
   pub next : ℕ → ℕ

@@ -8,7 +8,7 @@ use lib.Dec.{ltb, eqb}
 use lib.ListN.{length, getD, take, drop}
 use lib.IntN.{ℤ, pos, _*ℤ_}
 use lib.Signed.{_≤ℤ_}
-use Rattle.paper.specs.Faults.{Verdict, _orElse_, single, outside, stated, kept}
+use Rattle.paper.specs.Faults.{Verdict, _orElse_, single, outside, Answered}
 use Rattle.paper.specs.Numbers.{round, sum}
 use Rattle.paper.specs.Net.{Side, side0, side1, side2, side3, b, a, outerRow, aRow}
 use Rattle.paper.specs.Calls.{perCorner}
@@ -97,10 +97,9 @@ sideAt (suc zero) = side1
 sideAt (suc (suc zero)) = side2
 sideAt (suc (suc (suc n))) = side3
 
--- ---- a call for one sample, with a lent point that held `old`: it answers r and leaves `out`
-pub record Sampled (numbers : List ℤ) (side : ℕ) (w : Weights) (old : List ℤ) (r : Answer) (out : List ℤ) : Type 0 where
-  pub answers : stated r ≡ sampleVerdict numbers side w
-  pub holds : out ≡ kept (stated r) (samplePoint numbers (sideAt side) w) old
+-- ---- a call for one sample, with a lent point that held `old`: it writes the sample
+abbrev pub Sampled : List ℤ → ℕ → Weights → List ℤ → Answer → List ℤ → Type 0
+Sampled numbers side w old = Answered (sampleVerdict numbers side w) (samplePoint numbers (sideAt side) w) old
 
 -- ---- all samples of a triangle, in rows from the side inwards and each row from the head
 -- of row k those with second weight 0, 1, .. below `count`
@@ -128,10 +127,9 @@ triangleVerdict numbers side N room =
     orElse single 33 (outside 1 mostParts N) N
     orElse single noRoom (ltb room (3 * sampleCount N)) (3 * sampleCount N)
 
--- a call for them, with a lent list that held `old`, whose further entries keep their contents
-pub record TriangleSampled (numbers : List ℤ) (side N : ℕ) (old : List ℤ) (r : Answer) (out : List ℤ) : Type 0 where
-  pub answers : stated r ≡ triangleVerdict numbers side N (length old)
-  pub holds : out ≡ kept (stated r) (begins (triangleSamples numbers (sideAt side) N) old) old
+-- a call for them, with a lent list that held `old`: it writes its beginning, and its further entries keep their contents
+abbrev pub TriangleSampled : List ℤ → ℕ → ℕ → List ℤ → Answer → List ℤ → Type 0
+TriangleSampled numbers side N old = Answered (triangleVerdict numbers side N (length old)) (begins (triangleSamples numbers (sideAt side) N) old) old
 
 -- ---- what the theorems say
 abbrev pub sideNumber : Side → ℕ

@@ -144,3 +144,9 @@ pub struct Triangles {
     pub points: usize,
     pub triangles: usize,
 }
+
+// What the call for tangents answers: done or refused, and how many numbers there are, 0 beside a refusal.
+pub struct Tangents {
+    pub answer: Answer,
+    pub numbers: usize,
+}

@@ -20,7 +20,7 @@ ghost use Rattle.mesh.specs.Tables.{Named};
 ghost use Rattle.surface.specs.Points.{pointRow};
 ghost use Rattle.walk.specs.Table.{Tabled};
 ghost use Rattle.refine.specs.Marks.{Marked};
-ghost use Rattle.refine.specs.sums.Sources.{Refinable, Small, Covered, SumsFit};
+ghost use Rattle.refine.specs.sums.Sources.{sumRow, Refinable, Small, Covered, SumsFit};
 ghost use Rattle.refine.specs.corners.Mean.{CornerLists, FaceKnown, FacePointed, TablePointed, MarkedPointed};
 
 // Marks the vertices of `count` corners from `first` on, in a table of zeros.
@@ -56,34 +56,66 @@ pub fn fill_points(
     if SUM_ROW * sides.len() <= SMALL_MESH {
         let mut sums = [0i32; SMALL_MESH];
         let mut wanted = [0u8; SMALL_MESH];
-        fill_sums(coordinates, sides, corners, marked, &mut wanted, &mut sums);
-        fill_faces(
+        fill_over(
             coordinates,
             sides,
             corners,
             sharpness,
             table,
             marked,
-            &wanted,
-            &sums,
+            &mut wanted,
+            &mut sums,
             points,
         );
     } else {
         let mut sums = [0i32; MOST_CORNERS];
         let mut wanted = [0u8; MOST_FACES];
-        fill_sums(coordinates, sides, corners, marked, &mut wanted, &mut sums);
-        fill_faces(
+        fill_over(
             coordinates,
             sides,
             corners,
             sharpness,
             table,
             marked,
-            &wanted,
-            &sums,
+            &mut wanted,
+            &mut sums,
             points,
         );
     }
+}
+
+// The same over lent tables: the sums are put into `sums`, and `wanted` gets an entry for each face. `fill_points` has nothing but this call and its
+// tables, so that the compiler puts it in line: its tables then share their place with those that its caller no longer needs.
+fn fill_over(
+    coordinates: &[i32],
+    sides: &[u8],
+    corners: &[u16],
+    sharpness: &[u8],
+    table: &[u16],
+    marked: &[u8],
+    wanted: &mut [u8],
+    sums: &mut [i32],
+    points: &mut [i32],
+)
+    requires mesh { ⌜ Refinable (meshOf (now coordinates) (now sides) (now corners) (now sharpness)) ⌝ }
+    requires table { ⌜ Tabled (cornersOf (meshOf (now coordinates) (now sides) (now corners) (now sharpness))) (now table) ⌝ }
+    requires marked { ⌜ Named (now corners) (length (now marked)) ⌝ }
+    requires room { ⌜ (length (now sides) ≤ length (now wanted)) × (sumRow * length (now sides) ≤ length (now sums)) ⌝ }
+    requires points { ⌜ (pointRow * length (now corners) ≤ length (now points)) × Small (now points) ⌝ }
+    ensures { λ _. ⌜ MarkedPointed (meshOf (now (coordinates .entry)) (now (sides .entry)) (now (corners .entry)) (now (sharpness .entry))) (now (marked .entry)) (now (points .entry)) (now (points .exit)) ⌝ }
+{
+    fill_sums(coordinates, sides, corners, marked, wanted, sums);
+    fill_faces(
+        coordinates,
+        sides,
+        corners,
+        sharpness,
+        table,
+        marked,
+        wanted,
+        sums,
+        points,
+    );
 }
 
 // The same by a table of sums. A face that has such a corner has a nonzero entry in `wanted`. Of the sums nothing is known but their sizes: the points

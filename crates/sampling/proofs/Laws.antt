@@ -25,8 +25,8 @@ use Rattle.paper.specs.Sampling.{Sampled, sampleCount, triangleSamples, triangl
 use Rattle.numbers.proofs.Diff.{as-diff, diff}
 use Rattle.mesh.proofs.Ranges.{or-left, or-right, none-left, none-right, inside, at-least, at-most}
 use Rattle.mesh.proofs.Verdicts.{sound-left, sound-right, single-sound, single-miss, single-hit, orElse-fault, orElse-sound, stop, past}
-use Rattle.sampling.specs.declared.bernstein.Five.{Five}
-use Rattle.sampling.specs.declared.bernstein.Rows.{Rows}
+use Rattle.sampling.specs.declared.bernstein.Vector5.{Vector5}
+use Rattle.sampling.specs.declared.bernstein.Matrix5.{Matrix5}
 use Rattle.sampling.specs.bernstein.Sums.{AllSized, Tapered, AllTapered, rowsOf, polynomialOf, rowOf, valueOf, quarticSum}
 use Rattle.sampling.proofs.bernstein.Laws.{bits, sized-bits, polynomial-tapers, row-tapers, value-size}
 use Rattle.sampling.proofs.bernstein.Identity.{polynomial-sum}
@@ -180,23 +180,23 @@ module _ (numbers : List ℤ) (e : netVerdict numbers ≡ sound) (side axis : �
 
 -- ---- the steps of one sample on an axis
 module _ (numbers : List ℤ) (e : netVerdict numbers ≡ sound) (side axis : ℕ) (h : axis < 3) (j k n : ℕ) (l : 1 ≤ n) (f : n ≤ 16) (g : j + k ≤ n) where
-  abbrev points : Rows
+  abbrev points : Matrix5
   points = rowsOf (P numbers e side axis h)
 
   tapers : AllTapered (polynomialOf points (pos n))
   tapers = polynomial-tapers points n (points-sized numbers e side axis h) f
 
-  module _ (p : Rows) (is-points : p ≡ points) where
+  module _ (p : Matrix5) (is-points : p ≡ points) where
     pub p-sized : AllSized (2 ^ 27) p
-    p-sized = subst (λ (q : Rows). AllSized (2 ^ 27) q) (sym is-points) (points-sized numbers e side axis h)
+    p-sized = subst (λ (q : Matrix5). AllSized (2 ^ 27) q) (sym is-points) (points-sized numbers e side axis h)
 
-    module _ (r : Five) (is-row : r ≡ rowOf (polynomialOf p (pos n)) k) where
+    module _ (r : Vector5) (is-row : r ≡ rowOf (polynomialOf p (pos n)) k) where
       row-is : r ≡ rowOf (polynomialOf points (pos n)) k
-      row-is = is-row ∙ ap (λ (q : Rows). rowOf (polynomialOf q (pos n)) k) is-points
+      row-is = is-row ∙ ap (λ (q : Matrix5). rowOf (polynomialOf q (pos n)) k) is-points
 
       pub r-tapers : Tapered (5 * 2 ^ 34) r
       r-tapers =
-          subst (λ (q : Five). Tapered (5 * 2 ^ 34) q) (sym row-is) (row-tapers (polynomialOf points (pos n)) k (omega arith) tapers)
+          subst (λ (q : Vector5). Tapered (5 * 2 ^ 34) q) (sym row-is) (row-tapers (polynomialOf points (pos n)) k (omega arith) tapers)
 
       module _ (v : ℤ) (is-value : v ≡ valueOf r j) where
         v-bits : bits v ≡ v
@@ -205,7 +205,7 @@ module _ (numbers : List ℤ) (e : netVerdict numbers ≡ sound) (side axis : �
             (value-size r j (5 * 2 ^ 34) (omega arith) r-tapers)) (lit≤ tt)
 
         v-is : bits v ≡ valueOf (rowOf (polynomialOf points (pos n)) k) j
-        v-is = v-bits ∙ is-value ∙ ap (λ (q : Five). valueOf q j) row-is
+        v-is = v-bits ∙ is-value ∙ ap (λ (q : Vector5). valueOf q j) row-is
 
         pub v-small : natAbs (bits v) ≤ 2 ^ 27 * n ^ 4
         v-small =

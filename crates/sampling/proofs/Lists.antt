@@ -15,8 +15,8 @@ use Rattle.paper.specs.File.{begins}
 use Rattle.paper.specs.Floats.{netVerdict, axes}
 use Rattle.paper.specs.Sampling.{control, weights, onAxis, sampleAt, samplePoint, sideAt, rowSamples, firstRows, triangleSamples, sampleCount, rowStart}
 use Rattle.mesh.proofs.Scans.{compared}
-use Rattle.sampling.specs.declared.bernstein.Five.{Five}
-use Rattle.sampling.specs.declared.bernstein.Rows.{Rows}
+use Rattle.sampling.specs.declared.bernstein.Vector5.{Vector5}
+use Rattle.sampling.specs.declared.bernstein.Matrix5.{Matrix5}
 use Rattle.sampling.specs.bernstein.Sums.{Tapered, AllTapered, rowsOf, polynomialOf, rowOf, valueOf, quarticSum}
 use Rattle.sampling.proofs.bernstein.Identity.{polynomial-sum}
 use Rattle.sampling.proofs.bernstein.Laws.{row-tapers}
@@ -27,10 +27,10 @@ pub below-or-last : {A : Type 0} (j k : ℕ) → j < k + 1 → (j < k → A) →
 below-or-last j k h f g = ⊎-elim (λ e. g e) (λ o. ⊎-elim (λ l. f l) (λ l. absurd (omega arith)) o) (compared j k)
 
 -- ---- a row
-pub row-none : (e : Five) (n first from : ℕ) (old : List ℤ) → RowPut e n first 0 from old old
+pub row-none : (e : Vector5) (n first from : ℕ) (old : List ℤ) → RowPut e n first 0 from old old
 row-none e n first from old = record { same = refl; values = λ j l. absurd (omega arith); others = λ t h. refl }
 
-module _ (e : Five) (n first j from : ℕ) (old mid : List ℤ) (v : ℤ) (m : RowPut e n first j from old mid) (room : from + 3 * j < length mid)
+module _ (e : Vector5) (n first j from : ℕ) (old mid : List ℤ) (v : ℤ) (m : RowPut e n first j from old mid) (room : from + 3 * j < length mid)
     (is : v ≡ round (valueOf e (first + j)) (pos (n ^ 4))) where
   pub row-step : RowPut e n first (j + 1) from old (set mid (from + 3 * j) v)
   row-step = record {
@@ -58,20 +58,20 @@ before-le n k (suc r) h =
     ⊎-elim (λ (e : k ≡ r). rw e (let q : before n r + (n - r + 1) ≤ before n r + (n - r + 1) = omega arith in q))
     (λ o. ⊎-elim (λ (l : k < r). let q = before-le n k r l in omega arith) (λ (l : r < k). absurd (omega arith)) o) (compared k r)
 
-pub rows-none : (p : Rows) (n axis : ℕ) (old : List ℤ) → RowsPut p n axis 0 old old
+pub rows-none : (p : Matrix5) (n axis : ℕ) (old : List ℤ) → RowsPut p n axis 0 old old
 rows-none p n axis old = record { same = refl; values = λ k j l h. absurd (omega arith); others = λ t h. refl }
 
 -- what a row's polynomial is
-pub row-value : (p : Rows) (n k j : ℕ) → k + j ≤ n
+pub row-value : (p : Matrix5) (n k j : ℕ) → k + j ≤ n
     → valueOf (rowOf (polynomialOf p (pos n)) k) j ≡ quarticSum p (pos (n - k - j)) (pos j) (pos k)
 row-value p n k j h =
     subst (λ (x : ℕ). valueOf (rowOf (polynomialOf p (pos x)) k) j ≡ quarticSum p (pos (n - k - j)) (pos j) (pos k))
     (let q : n - k - j + j + k ≡ n = omega arith in q) (polynomial-sum p (n - k - j) j k)
 
-module _ (p : Rows) (n axis k at : ℕ) (old mid new : List ℤ) (l : k ≤ n) (a : axis < 3) (place : at ≡ 3 * before n k + axis)
-    (m : RowsPut p n axis k old mid) (e : Five) (is : e ≡ rowOf (polynomialOf p (pos n)) k) (r : RowPut e n 0 (n - k + 1) at mid new) where
+module _ (p : Matrix5) (n axis k at : ℕ) (old mid new : List ℤ) (l : k ≤ n) (a : axis < 3) (place : at ≡ 3 * before n k + axis)
+    (m : RowsPut p n axis k old mid) (e : Vector5) (is : e ≡ rowOf (polynomialOf p (pos n)) k) (r : RowPut e n 0 (n - k + 1) at mid new) where
   value-is : (j : ℕ) → k + j ≤ n → valueOf e j ≡ quarticSum p (pos (n - k - j)) (pos j) (pos k)
-  value-is j h = ap (λ (f : Five). valueOf f j) is ∙ row-value p n k j h
+  value-is j h = ap (λ (f : Vector5). valueOf f j) is ∙ row-value p n k j h
 
   earlier : (k′ j : ℕ) → k′ < k → k′ + j ≤ n
       → getD new (3 * (before n k′ + j) + axis) (pos 0) ≡ round (quarticSum p (pos (n - k′ - j)) (pos j) (pos k′)) (pos (n ^ 4))
@@ -100,23 +100,23 @@ module _ (p : Rows) (n axis k at : ℕ) (old mid new : List ℤ) (l : k ≤ n) (
   place-next = let b = before-next n k in omega arith
 
 -- ---- what a row asks
-module _ (p : Rows) (n k : ℕ) (l : k ≤ n) (s : Sampleable p n) (t : AllTapered (polynomialOf p (pos n))) (e : Five)
+module _ (p : Matrix5) (n k : ℕ) (l : k ≤ n) (s : Sampleable p n) (t : AllTapered (polynomialOf p (pos n))) (e : Vector5)
     (is : e ≡ rowOf (polynomialOf p (pos n)) k) where
   pub row-sampleable : RowSampleable e n 0 (n - k + 1)
   row-sampleable = record {
-    tapers = subst (λ (f : Five). Tapered (5 * 2 ^ 34) f) (sym is) (row-tapers (polynomialOf p (pos n)) k (omega (arith, s .few)) t);
+    tapers = subst (λ (f : Vector5). Tapered (5 * 2 ^ 34) f) (sym is) (row-tapers (polynomialOf p (pos n)) k (omega (arith, s .few)) t);
     some = s .some;
     few = s .few;
     short = omega (arith, s .few);
     early = omega arith;
     small = λ j h.
         subst (λ (z : ℤ). natAbs z ≤ 2 ^ 27 * n ^ 4)
-        (sym (ap (valueOf e) (from-none j) ∙ ap (λ (f : Five). valueOf f j) is ∙ row-value p n k j (omega arith)))
+        (sym (ap (valueOf e) (from-none j) ∙ ap (λ (f : Vector5). valueOf f j) is ∙ row-value p n k j (omega arith)))
         (s .small (n - k - j) j k (omega arith));
   }
 
 -- a part of a row
-pub row-part : {e : Five} {n all : ℕ} → RowSampleable e n 0 all → (first count : ℕ) → first ≤ 16 → first + count ≤ all → RowSampleable e n first count
+pub row-part : {e : Vector5} {n all : ℕ} → RowSampleable e n 0 all → (first count : ℕ) → first ≤ 16 → first + count ≤ all → RowSampleable e n first count
 row-part {e} {n} {all} r first count h l = record {
   tapers = r .tapers;
   some = r .some;
@@ -229,7 +229,7 @@ module _ (numbers : List ℤ) (s : Side) (n : ℕ) (new : List ℤ) (long : 3 * 
 
 -- ---- from three axes
 module _ (numbers : List ℤ) (e : netVerdict numbers ≡ sound) (side n : ℕ) (l : 1 ≤ n) (f : n ≤ 16) (old xs ys zs : List ℤ) where
-  abbrev controls : ℕ → Rows
+  abbrev controls : ℕ → Matrix5
   controls axis = rowsOf (control (onAxis numbers axis) (sideAt side))
 
   -- a sample is the rounded sum

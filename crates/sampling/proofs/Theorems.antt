@@ -31,20 +31,20 @@ use Rattle.floats.proofs.nets.Nets.{nets-pass}
 use Rattle.borders.proofs.Theorem.{demand3}
 use Rattle.sampling.specs.bernstein.Sums.{rowsOf}
 use Rattle.sampling.proofs.bernstein.Laws.{round-between}
-use Rattle.sampling.proofs.bernstein.Sum.{bernstein-is, sum-from, sum-to, on-side, from-head}
-use Rattle.sampling.proofs.bernstein.Sum.{from-tail, head-alone, tail-alone, centre-alone, round-multiple}
+use Rattle.sampling.proofs.bernstein.Sum.{bernstein-is, sum-from, sum-to, on-side, from-head, from-tail, head-alone, tail-alone, centre-alone}
+use Rattle.sampling.proofs.bernstein.Sum.{round-multiple}
 use Rattle.sampling.specs.Grid.{before}
 use Rattle.sampling.proofs.Laws.{some-parts, few-parts, parts-sum, net-passed, side-passed, all-passed, triangle-chain}
 use Rattle.sampling.proofs.Lists.{row-start, below-or-last}
 
 -- ---- answers
-same-answer : (r r′ : Answer) → stated r ≡ stated r′ → r ≡ r′
+pub same-answer : (r r′ : Answer) → stated r ≡ stated r′ → r ≡ r′
 same-answer Done Done e = refl
 same-answer Done (Refused k p) e = let z : _≡_ {A = ℕ} 0 1 = cc in absurd (omega arith)
 same-answer (Refused k p) Done e = let z : _≡_ {A = ℕ} 0 1 = cc in absurd (omega arith)
 same-answer (Refused k p) (Refused k′ p′) e = let f : k ≡ k′ = cc in let g : p ≡ p′ = cc in cc
 
-side-back : (s : Side) → sideAt (sideNumber s) ≡ s
+pub side-back : (s : Side) → sideAt (sideNumber s) ≡ s
 side-back side0 = refl
 side-back side1 = refl
 side-back side2 = refl
@@ -58,7 +58,7 @@ no-fault32 side2 = refl
 no-fault32 side3 = refl
 
 -- of a side's own number 32 is no fault
-verdict-is : (numbers : List ℤ) (s : Side) (w : Weights)
+pub verdict-is : (numbers : List ℤ) (s : Side) (w : Weights)
     → sampleVerdict numbers (sideNumber s) w ≡ netVerdict numbers orElse single 33 (fault33 w) (w .parts)
 unfolding sampleVerdict
 verdict-is numbers s w =
@@ -99,21 +99,19 @@ module _ (O : Output) (c axis : ℕ) (a : axis < 3) where
   unfolding written
   net-at k h =
       getD-take perCorner (drop (perCorner * (c - O .first)) (O .numbers)) (3 * k + axis) (pos 0) (omega arith)
-      ∙ getD-drop (perCorner * (c - O .first)) (O .numbers) (3 * k + axis) (pos 0)
-      ∙ ap (λ (x : ℕ). getD (O .numbers) x (pos 0))
+      ∙ getD-drop (perCorner * (c - O .first)) (O .numbers) (3 * k + axis) (pos 0) ∙ ap (λ (x : ℕ). getD (O .numbers) x (pos 0))
       (let e : perCorner * (c - O .first) + (3 * k + axis) ≡ perCorner * (c - O .first) + 3 * k + axis = omega arith in e)
 
-  outer-at : (s : Side) (m : ℕ) → m < 5 → outerRow (onAxis (netIn O c) axis) s m ≡ outerRow (written O axis c) s m
+  pub outer-at : (s : Side) (m : ℕ) → m < 5 → outerRow (onAxis (netIn O c) axis) s m ≡ outerRow (written O axis c) s m
   outer-at side0 m h = net-at _ (omega arith)
   outer-at side1 m h = net-at _ (omega arith)
   outer-at side2 m h = net-at _ (omega arith)
   outer-at side3 m h = net-at _ (omega arith)
 
-net-passes : (M : Mesh) (O : Output) → Wrote M O → (c : ℕ) → Holds O c → netVerdict (netIn O c) ≡ sound
+pub net-passes : (M : Mesh) (O : Output) → Wrote M O → (c : ℕ) → Holds O c → netVerdict (netIn O c) ≡ sound
 net-passes M O w c h = nets-pass M (w .links) (O .first) (O .count) (w .old) (O .numbers) (w .call) (c - O .first) (omega (arith, h .0, h .1))
 
-pub side-number : (net other : List ℤ) (s t : Side) (i j N axis : ℕ)
-    → ((m : ℕ) → m < 5 → outerRow (onAxis net axis) s m ≡ outerRow (onAxis other axis) t m)
+pub side-number : (net other : List ℤ) (s t : Side) (i j N axis : ℕ) → ((m : ℕ) → m < 5 → outerRow (onAxis net axis) s m ≡ outerRow (onAxis other axis) t m)
     → sampleAt net s (weights i j 0 N) axis ≡ sampleAt other t (weights i j 0 N) axis
 unfolding sampleAt
 side-number net other s t i j N axis h = ap (λ (z : ℤ). round z (pos (N ^ 4))) (side-sum (onAxis net axis) (onAxis other axis) s t i j h)
@@ -146,15 +144,13 @@ module _ (p : ℕ → ℤ) where
   head-ray : (s : Side) (i k : ℕ) → bernsteinSum p s i 0 k ≡ bernsteinSum p (atHead s) i 0 k
   head-ray s i k =
       let h = head-row s in
-      bernstein-is p s i 0 k ∙ from-head (rowsOf (control p s)) (pos i) (pos k)
-      ∙ cc (h .0, h .1, h .2, h .3)
+      bernstein-is p s i 0 k ∙ from-head (rowsOf (control p s)) (pos i) (pos k) ∙ cc (h .0, h .1, h .2, h .3)
       ∙ sym (bernstein-is p (atHead s) i 0 k ∙ from-head (rowsOf (control p (atHead s))) (pos i) (pos k))
 
   tail-ray : (s : Side) (j k : ℕ) → bernsteinSum p s 0 j k ≡ bernsteinSum p (atTail s) 0 j k
   tail-ray s j k =
       let h = tail-row s in
-      bernstein-is p s 0 j k ∙ from-tail (rowsOf (control p s)) (pos j) (pos k)
-      ∙ cc (h .0, h .1, h .2, h .3)
+      bernstein-is p s 0 j k ∙ from-tail (rowsOf (control p s)) (pos j) (pos k) ∙ cc (h .0, h .1, h .2, h .3)
       ∙ sym (bernstein-is p (atTail s) 0 j k ∙ from-tail (rowsOf (control p (atTail s))) (pos j) (pos k))
 
 pub head-number : (numbers : List ℤ) (s : Side) (i k N axis : ℕ) → sampleAt numbers s (weights i 0 k N) axis ≡ sampleAt numbers (atHead s) (weights i 0 k N) axis
@@ -182,8 +178,7 @@ module _ (numbers : List ℤ) (s : Side) (i j k N n q : ℕ) (h : (p : ℕ → �
   pub multiple-number : 1 ≤ N → (axis : ℕ) → sampleAt numbers s (weights i j k N) axis ≡ control (onAxis numbers axis) s n q
   unfolding sampleAt
   multiple-number some axis =
-      ap (λ (z : ℤ). round z (pos (N ^ 4))) (h (onAxis numbers axis))
-      ∙ round-multiple (pos (N ^ 4)) (control (onAxis numbers axis) s n q) (positive N some)
+      ap (λ (z : ℤ). round z (pos (N ^ 4))) (h (onAxis numbers axis)) ∙ round-multiple (pos (N ^ 4)) (control (onAxis numbers axis) s n q) (positive N some)
 
   multiple-point : 1 ≤ N → samplePoint numbers s (weights i j k N) ≡ controlPoint numbers s n q
   unfolding samplePoint
@@ -191,8 +186,7 @@ module _ (numbers : List ℤ) (s : Side) (i j k N n q : ℕ) (h : (p : ℕ → �
 
   multiple : Leaves numbers s (weights i j k N) (controlPoint numbers s n q)
   multiple old out c =
-      left numbers (sideNumber s) (weights i j k N) old out Done c refl
-      ∙ ap (λ (x : Side). samplePoint numbers x (weights i j k N)) (side-back s)
+      left numbers (sideNumber s) (weights i j k N) old out Done c refl ∙ ap (λ (x : Side). samplePoint numbers x (weights i j k N)) (side-back s)
       ∙ multiple-point (some-parts numbers (sideNumber s) i j k N (sym (c .answers)))
 
 pub sample-ends : SampleEnds
@@ -227,8 +221,7 @@ samples-between numbers s w old out c axis a =
     let some = some-parts numbers (sideNumber s) (w .head) (w .tail) (w .centre) (w .parts) e in
     let q = parts-sum numbers (sideNumber s) (w .head) (w .tail) (w .centre) (w .parts) e in
     let is : getD out axis (pos 0) ≡ sampleAt numbers s w axis =
-    ap (λ (l : List ℤ). getD l axis (pos 0))
-    (left numbers (sideNumber s) w old out Done c refl ∙ ap (λ (x : Side). samplePoint numbers x w) (side-back s))
+    ap (λ (l : List ℤ). getD l axis (pos 0)) (left numbers (sideNumber s) w old out Done c refl ∙ ap (λ (x : Side). samplePoint numbers x w) (side-back s))
     ∙ point-at numbers s w axis a in
     subst (λ (z : ℤ). Between (onAxis numbers axis) s z) (sym is) (number-between numbers s w axis some q)
 
@@ -272,8 +265,7 @@ module _ (numbers : List ℤ) (s : Side) (n : ℕ) where
   rows-long : (k : ℕ) → length (firstRows numbers s n k) ≡ 3 * before n k
   unfolding firstRows before
   rows-long zero = refl
-  rows-long (suc k) =
-      length-append (firstRows numbers s n k) (rowSamples numbers s n k (n - k + 1)) ∙ omega (arith, rows-long k, row-long k (n - k + 1))
+  rows-long (suc k) = length-append (firstRows numbers s n k) (rowSamples numbers s n k (n - k + 1)) ∙ omega (arith, rows-long k, row-long k (n - k + 1))
 
   in-row : (k j c : ℕ) → j < c → Split (rowSamples numbers s n k c) (samplePoint numbers s (weights (n - k - j) j k n)) (3 * j)
   unfolding rowSamples
@@ -290,8 +282,7 @@ module _ (numbers : List ℤ) (s : Side) (n : ℕ) where
         long = row-long k c ∙ omega arith;
       })
 
-  in-rows : (k j r : ℕ) → k < r → k + j ≤ n
-      → Split (firstRows numbers s n r) (samplePoint numbers s (weights (n - k - j) j k n)) (3 * (before n k + j))
+  in-rows : (k j r : ℕ) → k < r → k + j ≤ n → Split (firstRows numbers s n r) (samplePoint numbers s (weights (n - k - j) j k n)) (3 * (before n k + j))
   unfolding firstRows
   in-rows k j zero h l = absurd (omega arith)
   in-rows k j (suc r) h l =
@@ -309,8 +300,7 @@ module _ (numbers : List ℤ) (s : Side) (n : ℕ) where
 -- three numbers at their place
 taken : (l : List ℤ) (x y z : ℤ) (m : ℕ) → Split l (axes x y z) m → take 3 (drop m l) ≡ axes x y z
 taken l x y z m s =
-    ap (λ (k : ℕ). take 3 (drop k l)) (sym (s .long))
-    ∙ ap (λ (y′ : List ℤ). take 3 (drop (length (s .front)) y′)) (s .is)
+    ap (λ (k : ℕ). take 3 (drop k l)) (sym (s .long)) ∙ ap (λ (y′ : List ℤ). take 3 (drop (length (s .front)) y′)) (s .is)
     ∙ ap (take 3) (drop-append-seam (s .front) (axes x y z ++ s .back))
 
 sample-taken : (numbers : List ℤ) (s : Side) (w : Weights) (l : List ℤ) (m : ℕ) → Split l (samplePoint numbers s w) m

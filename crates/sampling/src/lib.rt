@@ -1,10 +1,11 @@
 // L12: the point of one of a quad-net's four triangles at weights i/n, j/n, k/n. Checks 18, 19, 32 and 33, then one sample, or all samples of the
 // triangle into a lent list. Nothing is written before the last check has passed.
 pub mod bernstein;
+pub mod derivatives;
 pub mod points;
 
-use crate::bernstein::Five;
-use crate::bernstein::Rows;
+use crate::bernstein::Matrix5;
+use crate::bernstein::Vector5;
 use crate::points::control_points;
 use paper::Answer;
 use paper::MOST_PARTS;
@@ -13,16 +14,24 @@ ghost use Prim.Native.Nat.{ℕ, _+_, _*_, _^_, _≤_, _<_};
 ghost use lib.ListN.{length};
 ghost use lib.IntN.{pos};
 ghost use mathlib.Core.Bool.{not};
+ghost use mathlib.Core.List.{_++_};
 ghost use Rattle.paper.specs.Faults.{sound, stated};
 ghost use Rattle.paper.specs.File.{begins};
 ghost use Rattle.paper.specs.Floats.{netVerdict, axes};
 ghost use Rattle.paper.specs.Sampling.{weights, sampleAt, fault33, sampleVerdict, sideAt, Sampled, sampleCount, triangleSamples};
 ghost use Rattle.paper.specs.Sampling.{TriangleSampled};
-ghost use Rattle.sampling.specs.bernstein.Sums.{AllSized, Tapered, polynomialOf, rowOf, valueOf, stateOf};
-ghost use Rattle.sampling.specs.Grid.{before, Sampleable, RowSampleable, RowPut, RowsPut};
+ghost use Rattle.paper.specs.Tangents.{TangentsSampled};
+ghost use Rattle.sampling.specs.bernstein.Sums.{AllSized, Tapered, AllTapered, polynomialOf, rowOf, valueOf, stateOf};
+ghost use Rattle.sampling.specs.Grid.{before, Sampleable, RowSampleable, RowPut, RowsPut, TangentOn};
 
 // Our own number for a lent list that is too short.
 const NO_ROOM: u8 = 255;
+
+// The two tangents at a sample, on one axis.
+struct Tangent {
+    along: i64,
+    inward: i64,
+}
 
 // One sample.
 pub fn sample(
@@ -129,12 +138,90 @@ fn sample_on(numbers: &[i32], side: usize, axis: usize, j: usize, k: usize, n: u
     crate::bernstein::rounded(v, n)
 }
 
+// The tangents at one sample: x, y, z towards the tail, then x, y, z towards the centre.
+pub fn tangents(
+    numbers: &[i32],
+    side: usize,
+    i: usize,
+    j: usize,
+    k: usize,
+    n: usize,
+    pair: &mut [i64; 6],
+) -> Answer
+    ensures { λ r. ⌜ TangentsSampled (now (numbers .entry)) side (weights i j k n) (now (pair .entry)) r (now (pair .exit)) ⌝ }
+{
+    let a = check(numbers, side, i, j, k, n);
+    if let Answer::Refused(number, place) = a {
+        return Answer::Refused(number, place);
+    }
+    let x = tangents_on(numbers, side, 0, j, k, n);
+    let y = tangents_on(numbers, side, 1, j, k, n);
+    let z = tangents_on(numbers, side, 2, j, k, n);
+    put_pair(
+        pair,
+        x.along,
+        y.along,
+        z.along,
+        x.inward,
+        y.inward,
+        z.inward,
+    );
+    Answer::Done
+}
+
+// The first tangent, then the second.
+fn put_pair(pair: &mut [i64], a: i64, b: i64, c: i64, d: i64, e: i64, f: i64)
+    requires { ⌜ length (now pair) ≡ 6 ⌝ }
+    ensures { λ _. ⌜ now (pair .exit) ≡ axes a b c ++ axes d e f ⌝ }
+{
+    pair[0] = a;
+    pair[1] = b;
+    pair[2] = c;
+    pair[3] = d;
+    pair[4] = e;
+    pair[5] = f;
+}
+
+// Both tangents on one axis.
+fn tangents_on(numbers: &[i32], side: usize, axis: usize, j: usize, k: usize, n: usize) -> Tangent
+    requires net { ⌜ (netVerdict (now numbers) ≡ sound) × (side ≤ 3) × (axis < 3) ⌝ }
+    requires parts { ⌜ (1 ≤ n) × (n ≤ 16) × (j + k ≤ n) ⌝ }
+    ensures { λ r. ⌜ TangentOn (now (numbers .entry)) side axis j k n r ⌝ }
+{
+    let p = control_points(numbers, side, axis);
+    let c = crate::bernstein::polynomial(p, n);
+    let u = value_in(crate::derivatives::along(c), j, k);
+    let v = value_in(crate::derivatives::inward(c), j, k);
+    Tangent {
+        along: u,
+        inward: v,
+    }
+}
+
+// The value of a polynomial at j and k.
+fn value_in(c: Matrix5, j: usize, k: usize) -> i64
+    requires { ⌜ AllTapered c × (j ≤ 16) × (k ≤ 16) ⌝ }
+    ensures { λ r. ⌜ r ≡ valueOf (rowOf c k) j ⌝ }
+{
+    let e = row_in(c, k);
+    value_at(e, j)
+}
+
 // The polynomial of row k.
-pub fn row_at(p: Rows, k: usize, n: usize) -> Five
+pub fn row_at(p: Matrix5, k: usize, n: usize) -> Vector5
     requires { ⌜ AllSized (2 ^ 27) p × (k ≤ 16) × (n ≤ 16) ⌝ }
     ensures { λ r. ⌜ r ≡ rowOf (polynomialOf p (pos n)) k ⌝ }
 {
-    let mut s = crate::bernstein::start(p, n);
+    let c = crate::bernstein::polynomial(p, n);
+    row_in(c, k)
+}
+
+// A polynomial in the second weight alone, for the third weight k.
+pub fn row_in(c: Matrix5, k: usize) -> Vector5
+    requires { ⌜ AllTapered c × (k ≤ 16) ⌝ }
+    ensures { λ r. ⌜ r ≡ rowOf c k ⌝ }
+{
+    let mut s = crate::bernstein::states(c);
     let mut x = 0;
     while x < k {
         s = crate::bernstein::next(s);
@@ -144,7 +231,7 @@ pub fn row_at(p: Rows, k: usize, n: usize) -> Five
 }
 
 // Its value and its differences at j.
-fn state_at(e: Five, j: usize) -> Five
+fn state_at(e: Vector5, j: usize) -> Vector5
     requires { ⌜ Tapered (5 * 2 ^ 34) e × (j ≤ 16) ⌝ }
     ensures { λ r. ⌜ r ≡ stateOf e j ⌝ }
 {
@@ -158,7 +245,7 @@ fn state_at(e: Five, j: usize) -> Five
 }
 
 // Its value at j.
-fn value_at(e: Five, j: usize) -> i64
+fn value_at(e: Vector5, j: usize) -> i64
     requires { ⌜ Tapered (5 * 2 ^ 34) e × (j ≤ 16) ⌝ }
     ensures { λ r. ⌜ r ≡ valueOf e j ⌝ }
 {
@@ -167,7 +254,7 @@ fn value_at(e: Five, j: usize) -> i64
 }
 
 // The samples of all rows on one axis, every third number of the list.
-fn put_axis(p: Rows, n: usize, points: &mut [i32], axis: usize)
+fn put_axis(p: Matrix5, n: usize, points: &mut [i32], axis: usize)
     requires { ⌜ Sampleable p n × (axis < 3) × (3 * before n (n + 1) ≤ length (now points)) ⌝ }
     ensures { λ _. ⌜ RowsPut p n axis (n + 1) (now (points .entry)) (now (points .exit)) ⌝ }
 {
@@ -185,7 +272,7 @@ fn put_axis(p: Rows, n: usize, points: &mut [i32], axis: usize)
 }
 
 // `count` samples of one row from `first` on, from value to value by differences.
-pub fn put_row(e: Five, n: usize, first: usize, count: usize, points: &mut [i32], from: usize)
+pub fn put_row(e: Vector5, n: usize, first: usize, count: usize, points: &mut [i32], from: usize)
     requires { ⌜ RowSampleable e n first count × (from + 3 * count ≤ length (now points) + 2) ⌝ }
     ensures { λ _. ⌜ RowPut e n first count from (now (points .entry)) (now (points .exit)) ⌝ }
 {

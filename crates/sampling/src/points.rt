@@ -1,6 +1,6 @@
 // L12: the control points of one of a quad-net's four triangles, read out of the net's 123 numbers.
-use crate::bernstein::Five;
-use crate::bernstein::Rows;
+use crate::bernstein::Matrix5;
+use crate::bernstein::Vector5;
 ghost use mathlib.Core.Path.{_≡_};
 ghost use Prim.Native.Nat.{_+_, _*_, _^_, _≤_, _<_};
 ghost use lib.IntN.{natAbs};
@@ -11,28 +11,28 @@ ghost use Rattle.sampling.specs.bernstein.Sums.{rowsOf};
 ghost use Rattle.sampling.specs.points.Places.{bPlace, aPlace};
 
 // The 15 control points of a side's triangle on an axis, in rows from the side inwards and each row from the head.
-pub fn control_points(numbers: &[i32], side: usize, axis: usize) -> Rows
+pub fn control_points(numbers: &[i32], side: usize, axis: usize) -> Matrix5
     requires { ⌜ (netVerdict (now numbers) ≡ sound) × (side ≤ 3) × (axis < 3) ⌝ }
     ensures { λ r. ⌜ r ≡ rowsOf (control (onAxis (now (numbers .entry)) axis) (sideAt side)) ⌝ }
 {
     let r0 = outer_row(numbers, side, axis);
     let r1 = a_row(numbers, side, axis);
     let r2 = inner_row(numbers, side, axis);
-    let r3 = Five {
+    let r3 = Vector5 {
         a: a_point(numbers, side, axis, 1, 0),
         b: a_point(numbers, side, axis, 1, 1),
         c: 0,
         d: 0,
         e: 0,
     };
-    let r4 = Five {
+    let r4 = Vector5 {
         a: b_point(numbers, side, axis, 2, 0),
         b: 0,
         c: 0,
         d: 0,
         e: 0,
     };
-    Rows {
+    Matrix5 {
         r0: r0,
         r1: r1,
         r2: r2,
@@ -42,11 +42,11 @@ pub fn control_points(numbers: &[i32], side: usize, axis: usize) -> Rows
 }
 
 // The five outer b points of the side.
-fn outer_row(numbers: &[i32], side: usize, axis: usize) -> Five
+fn outer_row(numbers: &[i32], side: usize, axis: usize) -> Vector5
     requires { ⌜ (netVerdict (now numbers) ≡ sound) × (side ≤ 3) × (axis < 3) ⌝ }
     ensures { λ r. ⌜ r ≡ rowsOf (control (onAxis (now (numbers .entry)) axis) (sideAt side)) .r0 ⌝ }
 {
-    Five {
+    Vector5 {
         a: b_point(numbers, side, axis, 0, 0),
         b: b_point(numbers, side, axis, 0, 1),
         c: b_point(numbers, side, axis, 0, 2),
@@ -56,11 +56,11 @@ fn outer_row(numbers: &[i32], side: usize, axis: usize) -> Five
 }
 
 // Its four a points.
-fn a_row(numbers: &[i32], side: usize, axis: usize) -> Five
+fn a_row(numbers: &[i32], side: usize, axis: usize) -> Vector5
     requires { ⌜ (netVerdict (now numbers) ≡ sound) × (side ≤ 3) × (axis < 3) ⌝ }
     ensures { λ r. ⌜ r ≡ rowsOf (control (onAxis (now (numbers .entry)) axis) (sideAt side)) .r1 ⌝ }
 {
-    Five {
+    Vector5 {
         a: a_point(numbers, side, axis, 0, 0),
         b: a_point(numbers, side, axis, 0, 1),
         c: a_point(numbers, side, axis, 0, 2),
@@ -70,11 +70,11 @@ fn a_row(numbers: &[i32], side: usize, axis: usize) -> Five
 }
 
 // Three b points of the next row.
-fn inner_row(numbers: &[i32], side: usize, axis: usize) -> Five
+fn inner_row(numbers: &[i32], side: usize, axis: usize) -> Vector5
     requires { ⌜ (netVerdict (now numbers) ≡ sound) × (side ≤ 3) × (axis < 3) ⌝ }
     ensures { λ r. ⌜ r ≡ rowsOf (control (onAxis (now (numbers .entry)) axis) (sideAt side)) .r2 ⌝ }
 {
-    Five {
+    Vector5 {
         a: b_point(numbers, side, axis, 1, 0),
         b: b_point(numbers, side, axis, 1, 1),
         c: b_point(numbers, side, axis, 1, 2),

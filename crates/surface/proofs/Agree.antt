@@ -68,21 +68,21 @@ module _ (K L : Corners) (same : Agree K L) (ok : Sound K) (c : ℕ) (here : c <
 
 -- ---- of a side, where the refined points in the rings are the same
 module _ (K L : RefinedMesh rounded) (same : Agree (K .corners) (L .corners)) (ok : Sound (K .corners)) (c : ℕ) (here : c < K .corners .count)
-    (near : (e : End) (j : ℕ) → K .point (ring (K .corners) c e j) ≡ L .point (ring (K .corners) c e j)) where
+    (alike : (e : End) (j : ℕ) → K .point (ring (K .corners) c e j) ≡ L .point (ring (K .corners) c e j)) where
   points-same : (e : End) (j : ℕ) → points K c e j ≡ points L c e j
-  points-same e j = near e j ∙ ap (L .point) (ring-same (K .corners) (L .corners) same ok c here e j)
+  points-same e j = alike e j ∙ ap (L .point) (ring-same (K .corners) (L .corners) same ok c here e j)
 
   -- the corner and its neighbours are places of its rings
   own : K .point c ≡ L .point c
   unfolding iterate
-  own = near vertex 0
+  own = alike vertex 0
 
   beside : (s : Side) → K .point (neighbour (K .corners) c s) ≡ L .point (neighbour (K .corners) c s)
   unfolding iterate quad
-  beside side0 = near vertex 1
-  beside side1 = near face 1
-  beside side2 = near arriving 0
-  beside side3 = near arriving 2
+  beside side0 = alike vertex 1
+  beside side1 = alike face 1
+  beside side2 = alike arriving 0
+  beside side3 = alike arriving 2
 
   pub H-same : (s : Side) → H K c s ≡ H L c s
   unfolding H

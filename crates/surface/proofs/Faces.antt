@@ -14,8 +14,8 @@ use Rattle.numbers.proofs.Poly.{over, poly}
 use Rattle.numbers.proofs.Diff.{diff}
 use Rattle.numbers.proofs.Laws.{abs-mul-le, mul-comm, mul-le, lt-or-ge, nonneg}
 use Rattle.numbers.proofs.Sum.{sum-same, sum-abs, cycle, cycle-one, Cyclic}
-use Rattle.numbers.specs.Near.{Near}
-use Rattle.numbers.proofs.Nearest.{round-near}
+use Rattle.numbers.specs.WithinHalf.{WithinHalf}
+use Rattle.numbers.proofs.Nearest.{round-within-half}
 use Rattle.numbers.proofs.Rules.{rules, period, cosine-size, bottom, exact, quarter}
 use Rattle.surface.proofs.Within.{Within, within-times, within-cancel, abs-within, positive}
 
@@ -41,15 +41,15 @@ centre-same p q m s cyc h = ap (λ (z : ℤ). round z (pos m)) (sum-same q (λ j
 gather : (ℕ → ℤ) → ℕ → ℕ → ℤ
 gather p m i = sum (λ k. p (i + k) *ℤ weight m k) m
 
-pub toward-near : (p : ℕ → ℤ) (m i : ℕ) → 0 < m → Near (sum (λ k. p (i + k) *ℤ weight m k) m) (pos (3 * unit) *ℤ pos m) (toward rounded p m i)
-toward-near p m i h = rw (toward-is p m i) (round-near _ _ (some m h))
+pub toward-within-half : (p : ℕ → ℤ) (m i : ℕ) → 0 < m → WithinHalf (sum (λ k. p (i + k) *ℤ weight m k) m) (pos (3 * unit) *ℤ pos m) (toward rounded p m i)
+toward-within-half p m i h = rw (toward-is p m i) (round-within-half _ _ (some m h))
   where
     some : (m : ℕ) → 0 < m → pos 0 <ℤ (pos (3 * unit) *ℤ pos m)
     some m h = simp diff (omega arith)
 
-pub centre-near : (p : ℕ → ℤ) (m : ℕ) → 0 < m → Near (sum p m) (pos m) (centre rounded p m)
+pub centre-within-half : (p : ℕ → ℤ) (m : ℕ) → 0 < m → WithinHalf (sum p m) (pos m) (centre rounded p m)
 unfolding centre
-centre-near p m h = round-near _ _ (positive m h)
+centre-within-half p m h = round-within-half _ _ (positive m h)
 
 -- ---- sums
 pub weight-period : (m k : ℕ) → weight m (k + m) ≡ weight m k
@@ -188,7 +188,7 @@ Defect C H X X* X^ = pos unit *ℤ (X* +ℤ X^) -ℤ pos 2 *ℤ (pos unit -ℤ C
 
 -- M stands for m; F, G, U for the sums of a face point, of the next and of the one before; P for the sum of the points; L for what is left over
 abbrev Rounded : ℤ → ℤ → ℤ → ℤ → ℤ → ℤ → ℤ → ℤ → ℤ → ℤ → Type 0
-Rounded S3 M C S G U P H X* X^ = Near G (S3 *ℤ M) X* × Near U (S3 *ℤ M) X^ × Within ((S -ℤ C) *ℤ (pos 2 *ℤ (M *ℤ H -ℤ P))) ((S -ℤ C) *ℤ M)
+Rounded S3 M C S G U P H X* X^ = WithinHalf G (S3 *ℤ M) X* × WithinHalf U (S3 *ℤ M) X^ × Within ((S -ℤ C) *ℤ (pos 2 *ℤ (M *ℤ H -ℤ P))) ((S -ℤ C) *ℤ M)
 
 core-up : (M C F G U P L H X X* X^ B : ℤ) → Rounded (pos (3 * unit)) M C (pos unit) G U P H X* X^
     → Within (C *ℤ (pos 2 *ℤ (pos (3 * unit) *ℤ M *ℤ X -ℤ F))) (C *ℤ (pos (3 * unit) *ℤ M))
@@ -215,26 +215,26 @@ wider : (D B : ℤ) → Within D (pos (2 * unit) +ℤ B) → Within D (pos (3 * 
 wider = over 2 _ λ ρ. simp (poly, ρ) (omega arith)
 
 module _ (M C F G U P L H X X* X^ B : ℤ) (some : pos 0 <ℤ M) (top : natAbs C ≤ unit)
-    (near-X : Near F (pos (3 * unit) *ℤ M) X) (near-X* : Near G (pos (3 * unit) *ℤ M) X*) (near-X^ : Near U (pos (3 * unit) *ℤ M) X^)
-    (near-H : Near P M H)
+    (half-X : WithinHalf F (pos (3 * unit) *ℤ M) X) (half-X* : WithinHalf G (pos (3 * unit) *ℤ M) X*) (half-X^ : WithinHalf U (pos (3 * unit) *ℤ M) X^)
+    (half-H : WithinHalf P M H)
     (sums : L ≡ pos unit *ℤ (G +ℤ U) -ℤ pos (6 * unit) *ℤ (pos unit -ℤ C) *ℤ P -ℤ pos 2 *ℤ C *ℤ F)
     (left : Within L (M *ℤ (pos (3 * unit) *ℤ B))) where
-  all-near : Rounded (pos (3 * unit)) M C (pos unit) G U P H X* X^
-  all-near = (near-X*, near-X^, within-times (pos unit -ℤ C) (pos 2 *ℤ (M *ℤ H -ℤ P)) M (below-room C top) near-H)
+  all-half : Rounded (pos (3 * unit)) M C (pos unit) G U P H X* X^
+  all-half = (half-X*, half-X^, within-times (pos unit -ℤ C) (pos 2 *ℤ (M *ℤ H -ℤ P)) M (below-room C top) half-H)
 
   -- C not below 0
   up : pos 0 ≤ℤ C → Within (Defect C H X X* X^) (pos (2 * unit) +ℤ B)
   up h =
       within-cancel M (Defect C H X X* X^) (pos (2 * unit) +ℤ B) some
-      (core-up M C F G U P L H X X* X^ B all-near
-      (within-times C (pos 2 *ℤ (pos (3 * unit) *ℤ M *ℤ X -ℤ F)) (pos (3 * unit) *ℤ M) h near-X) sums left)
+      (core-up M C F G U P L H X X* X^ B all-half
+      (within-times C (pos 2 *ℤ (pos (3 * unit) *ℤ M *ℤ X -ℤ F)) (pos (3 * unit) *ℤ M) h half-X) sums left)
 
   -- C below 0, and not below -1/2
   down : negℤ (pos (2 ^ 29)) ≤ℤ C → pos 0 ≤ℤ M → C <ℤ pos 0 → Within (Defect C H X X* X^) (pos (3 * unit) +ℤ B)
   down low n h =
       within-cancel M (Defect C H X X* X^) (pos (3 * unit) +ℤ B) some
-      (core-down M C F G U P L H X X* X^ B all-near
-      (within-times (negℤ C) (pos 2 *ℤ (pos (3 * unit) *ℤ M *ℤ X -ℤ F)) (pos (3 * unit) *ℤ M) (minus-room C h) near-X) sums left
+      (core-down M C F G U P L H X X* X^ B all-half
+      (within-times (negℤ C) (pos 2 *ℤ (pos (3 * unit) *ℤ M *ℤ X -ℤ F)) (pos (3 * unit) *ℤ M) (minus-room C h) half-X) sums left
       (mul-le M (negℤ (pos (2 ^ 29))) C n low))
 
   either-way : negℤ (pos (2 ^ 29)) ≤ℤ C → pos 0 ≤ℤ M → Within (Defect C H X X* X^) (pos (3 * unit) +ℤ B)
@@ -253,7 +253,7 @@ module _ (p : ℕ → ℤ) (m : ℕ) (some : leastSides ≤ m) (most : m ≤ mos
       either-way (pos m) (cosine m 1) (gather p m i) (gather p m (i + 1)) (gather p m (i + (m - 1))) (sum p m) (sum (leftOver p m some cyc i) m)
       (centre rounded p m) (toward rounded p m i) (toward rounded p m (i + 1)) (toward rounded p m (i + (m - 1))) (pos (2 ^ 26))
       (positive m here) (cosine-size m some most 1)
-      (toward-near p m i here) (toward-near p m (i + 1) here) (toward-near p m (i + (m - 1)) here) (centre-near p m here)
+      (toward-within-half p m i here) (toward-within-half p m (i + 1) here) (toward-within-half p m (i + (m - 1)) here) (centre-within-half p m here)
       (combined p m some cyc i)
       (abs-within (sum (leftOver p m some cyc i) m) m (2 ^ 24 * (4 * (3 * unit)))
       (left-over-size p m some cyc i (3 * unit) (rules m some most .recurs) small))
@@ -272,7 +272,7 @@ module _ (p : ℕ → ℤ) (cyc : Cyclic p 4) (small : (j : ℕ) → natAbs (p j
       let none : (k : ℕ) → natAbs (rest 4 k) ≤ 0 = λ k. rw (exact k) (omega arith) in
       up (pos 4) (pos 0) (gather p 4 i) (gather p 4 (i + 1)) (gather p 4 (i + 3)) (sum p 4) (sum (leftOver p 4 some cyc i) 4)
       (centre rounded p 4) (toward rounded p 4 i) (toward rounded p 4 (i + 1)) (toward rounded p 4 (i + 3)) (pos 0)
-      (positive 4 here) (omega arith) (toward-near p 4 i here) (toward-near p 4 (i + 1) here) (toward-near p 4 (i + 3) here) (centre-near p 4 here)
+      (positive 4 here) (omega arith) (toward-within-half p 4 i here) (toward-within-half p 4 (i + 1) here) (toward-within-half p 4 (i + 3) here) (centre-within-half p 4 here)
       (rw quarter at (combined p 4 some cyc i))
       (abs-within (sum (leftOver p 4 some cyc i) 4) 4 0 (left-over-size p 4 some cyc i 0 none small))
       (nonneg 0)

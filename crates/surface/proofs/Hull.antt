@@ -21,8 +21,8 @@ use Rattle.paper.specs.Links.{vertexOf}
 use Rattle.paper.specs.Faults.{fault7, Accepted}
 use Rattle.paper.specs.Numbers.{round, rounded}
 use Rattle.paper.specs.Refined.{ticks, faceSum, uOf, vOf, refinedPoint, cornersOf, refinedOf}
-use Rattle.numbers.specs.Near.{Near}
-use Rattle.numbers.proofs.Nearest.{round-near}
+use Rattle.numbers.specs.WithinHalf.{WithinHalf}
+use Rattle.numbers.proofs.Nearest.{round-within-half}
 use Rattle.mesh.proofs.Scans.{ways}
 use Rattle.mesh.proofs.Accepted.{sound-of, sharp-within}
 use Rattle.mesh.proofs.Theorems.{manifold}
@@ -67,7 +67,7 @@ blend-size B n a b c d s x y z h hs hx hy hz =
     le-trans (abs-add-le (pos a *ℤ s) (pos n *ℤ (pos b *ℤ x +ℤ pos c *ℤ y +ℤ pos d *ℤ z)) _ _ t w)
     (omega (arith, ap (λ (k : ℕ). n * B * k) h))
 
-parts : (M P Q : ℤ) → Within P (M *ℤ pos (512 * 2 ^ 24)) → Near P (pos 512 *ℤ M) Q → Within (M *ℤ (pos 1024 *ℤ Q)) (M *ℤ pos (1024 * 2 ^ 24 + 512))
+parts : (M P Q : ℤ) → Within P (M *ℤ pos (512 * 2 ^ 24)) → WithinHalf P (pos 512 *ℤ M) Q → Within (M *ℤ (pos 1024 *ℤ Q)) (M *ℤ pos (1024 * 2 ^ 24 + 512))
 parts = over 3 _ λ ρ. simp (poly, ρ) (omega arith)
 
 whole : (Q : ℤ) → Within (pos 1024 *ℤ Q) (pos (1024 * 2 ^ 24 + 512)) → natAbs Q ≤ 2 ^ 24
@@ -80,7 +80,7 @@ pub mean-size : (n : ℕ) (t : ℤ) → 0 < n → natAbs t ≤ n * (512 * 2 ^ 24
 mean-size n t h l =
     let q : ℤ = round t (pos 512 *ℤ pos n) in
     whole q (within-cancel (pos n) (pos 1024 *ℤ q) (pos (1024 * 2 ^ 24 + 512)) (positive n h)
-    (parts (pos n) t q (abs-within t n (512 * 2 ^ 24) l) (round-near _ _ (some n h))))
+    (parts (pos n) t q (abs-within t n (512 * 2 ^ 24) l) (round-within-half _ _ (some n h))))
 
 -- the weights of u and v
 pub weights-sum : (u v : ℕ) → u ≤ 16 → v ≤ 16 → 2 * (16 - u) * (16 - v) + (16 - u) * v + 16 * (u + v) + u * (16 - v) ≡ 512

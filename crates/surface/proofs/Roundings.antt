@@ -1,4 +1,4 @@
--- Each value of a net is the rounding of a sum over a divisor (`outer1-is` ..); `near-is` of rounding makes of it that the value is off by at most half.
+-- Each value of a net is the rounding of a sum over a divisor (`outer1-is` ..); `within-half-is` of rounding makes of it that the value is off by at most half.
 -- Nothing else of rounding is used for sizes and borders.
 use mathlib.Core.Path.{_≡_, refl}
 use Prim.Native.Nat.{ℕ, _*_}

@@ -20,16 +20,16 @@ use Rattle.numbers.proofs.Poly.{over, poly}
 use Rattle.numbers.proofs.Laws.{abs-mul-le, add-comm}
 use Rattle.numbers.proofs.Sum.{sum-abs}
 use Rattle.paper.proofs.Below.{below-at}
-use Rattle.numbers.specs.Near.{Near}
-use Rattle.numbers.proofs.Nearest.{near-is}
+use Rattle.numbers.specs.WithinHalf.{WithinHalf}
+use Rattle.numbers.proofs.Nearest.{within-half-is}
 use Rattle.numbers.proofs.Rules.{bottom, cosine-size}
 use Rattle.surface.specs.Sound.{Sound, Small}
 use Rattle.surface.specs.Sizes.{RefinedSize, FaceSize, ValueSize, WrittenSize, CosineSize}
 use Rattle.surface.proofs.Within.{Within, within-cancel, abs-within, positive}
-use Rattle.surface.proofs.Faces.{toward-near, centre-near}
+use Rattle.surface.proofs.Faces.{toward-within-half, centre-within-half}
 use Rattle.surface.proofs.Rings.{neighbour-in, points-small, size-least, size-most}
 use Rattle.surface.proofs.Roundings.{outer1-is, outer3-is, N-is, a1-is, a2-is, middle-is}
-use Rattle.surface.proofs.Plain.{half-written, quarter-written, inner-value, second-written, third-written, middle-written}
+use Rattle.surface.proofs.Formulas.{half-written, quarter-written, inner-value, second-written, third-written, middle-written}
 
 -- ---- the weights of a row
 heavy-test : ℕ → Bool
@@ -53,13 +53,13 @@ weighted p w B (suc n) h =
     more = over 5 _ λ ρ. simp poly (omega arith)
 
 -- ---- one refined face of points up to 2^24
-mean : (M P Q : ℤ) → Within P (M *ℤ pos (2 ^ 24)) → Near P M Q → Within (M *ℤ (pos 2 *ℤ Q)) (M *ℤ pos (2 * 2 ^ 24 + 1))
+mean : (M P Q : ℤ) → Within P (M *ℤ pos (2 ^ 24)) → WithinHalf P M Q → Within (M *ℤ (pos 2 *ℤ Q)) (M *ℤ pos (2 * 2 ^ 24 + 1))
 mean = over 3 _ λ ρ. simp (poly, ρ) (omega arith)
 
 pub halve : (Q : ℤ) → Within (pos 2 *ℤ Q) (pos (2 * 2 ^ 24 + 1)) → RefinedSize Q
 halve = over 1 _ λ ρ. simp (poly, ρ) (omega arith)
 
-face-mean : (M G W Q : ℤ) → (pos 3 *ℤ W) ≤ℤ (pos (10 * unit) *ℤ M) → Within G (pos (2 ^ 24) *ℤ W) → Near G (pos (3 * unit) *ℤ M) Q
+face-mean : (M G W Q : ℤ) → (pos 3 *ℤ W) ≤ℤ (pos (10 * unit) *ℤ M) → Within G (pos (2 ^ 24) *ℤ W) → WithinHalf G (pos (3 * unit) *ℤ M) Q
     → Within (M *ℤ (pos 18 *ℤ Q)) (M *ℤ pos (20 * 2 ^ 24 + 9))
 face-mean = over 4 _ λ ρ. simp (poly, ρ) (omega arith)
 
@@ -74,7 +74,7 @@ module _ (p : ℕ → ℤ) (m : ℕ) (low : leastSides ≤ m) (high : m ≤ most
   centre-size =
       let here : 0 < m = omega arith in
       halve (centre rounded p m) (within-cancel (pos m) (pos 2 *ℤ centre rounded p m) (pos (2 * 2 ^ 24 + 1)) (positive m here)
-      (mean (pos m) (sum p m) (centre rounded p m) (abs-within (sum p m) m (2 ^ 24) (sum-abs p m (2 ^ 24) (λ j l. small j))) (centre-near p m here)))
+      (mean (pos m) (sum p m) (centre rounded p m) (abs-within (sum p m) m (2 ^ 24) (sum-abs p m (2 ^ 24) (λ j l. small j))) (centre-within-half p m here)))
 
   bounded : (i : ℕ) → Within (sum (λ k. p (i + k) *ℤ weight m k) m) (pos (2 ^ 24) *ℤ sum (λ k. pos (natAbs (weight m k))) m)
   bounded i = weighted (λ k. p (i + k)) (weight m) (2 ^ 24) m (λ k. small (i + k))
@@ -84,7 +84,7 @@ module _ (p : ℕ → ℤ) (m : ℕ) (low : leastSides ≤ m) (high : m ≤ most
       let here : 0 < m = omega arith in
       ninth (toward rounded p m i) (within-cancel (pos m) (pos 18 *ℤ toward rounded p m i) (pos (20 * 2 ^ 24 + 9)) (positive m here)
       (face-mean (pos m) (sum (λ k. p (i + k) *ℤ weight m k) m) (sum (λ k. pos (natAbs (weight m k))) m) (toward rounded p m i)
-      (heavy m low high) (bounded i) (toward-near p m i here)))
+      (heavy m low high) (bounded i) (toward-within-half p m i here)))
 
   -- the sum of a face point before its division; a weight; and the sum as far as a loop has come
   pub gather-size : (i : ℕ) → natAbs (sum (λ k. p (i + k) *ℤ weight m k) m) ≤ 2 ^ 60
@@ -115,7 +115,7 @@ top : (z : ℤ) → natAbs z ≤ unit → z ≤ℤ pos unit
 top = over 1 _ λ ρ. simp (poly, ρ) (omega arith)
 
 half-small : (x y : ℤ) → WrittenSize x → WrittenSize y → WrittenSize (round (x +ℤ y) (pos 2))
-half-small x y h l = half-written x y (round (x +ℤ y) (pos 2)) (h, l) (near-is (x +ℤ y) (pos 2) (round (x +ℤ y) (pos 2)) tt refl)
+half-small x y h l = half-written x y (round (x +ℤ y) (pos 2)) (h, l) (within-half-is (x +ℤ y) (pos 2) (round (x +ℤ y) (pos 2)) tt refl)
 
 -- ---- of a corner's sides
 module _ (K : RefinedMesh rounded) (ok : Sound (K .corners)) (bound : Small K) (c : ℕ) (here : c < K .corners .count) where
@@ -146,7 +146,7 @@ module _ (K : RefinedMesh rounded) (ok : Sound (K .corners)) (bound : Small K) (
   pub N-size : (s : Side) → ValueSize (N K c s)
   N-size s =
       inner-value (X K c s) (Y K c s) (K .point c) (K .point (neighbour (K .corners) c s)) (N K c s)
-      (X-size s, Y-size s, bound c here, bound _ (neighbour-in (K .corners) ok c here s)) (near-is _ _ _ tt (N-is K c s))
+      (X-size s, Y-size s, bound c here, bound _ (neighbour-in (K .corners) ok c here s)) (within-half-is _ _ _ tt (N-is K c s))
 
   pub C-cosine : (s : Side) → CosineSize (C K c s)
   unfolding C
@@ -169,7 +169,7 @@ module _ (K : RefinedMesh rounded) (ok : Sound (K .corners)) (bound : Small K) (
 
   -- ---- the points
   pub outer1-size : (s : Side) → WrittenSize (outer1 K c s)
-  outer1-size s = quarter-written (H K c s) (X K c s) (outer1 K c s) (H-value s, X-value s) (near-is _ _ _ tt (outer1-is K c s))
+  outer1-size s = quarter-written (H K c s) (X K c s) (outer1 K c s) (H-value s, X-value s) (within-half-is _ _ _ tt (outer1-is K c s))
 
   pub outer2-size : (s : Side) → WrittenSize (outer2 K c s)
   unfolding outer2
@@ -178,7 +178,7 @@ module _ (K : RefinedMesh rounded) (ok : Sound (K .corners)) (bound : Small K) (
   pub outer3-size : (s : Side) → WrittenSize (outer3 K c s)
   outer3-size s =
       quarter-written (T K c s) (Y K c s) (outer3 K c s) (T-value s, Y-value s)
-      (near-is _ _ _ tt (outer3-is K c s ∙ ap (λ n. round n (pos 4)) (add-comm (pos 3 *ℤ Y K c s) (T K c s))))
+      (within-half-is _ _ _ tt (outer3-is K c s ∙ ap (λ n. round n (pos 4)) (add-comm (pos 3 *ℤ Y K c s) (T K c s))))
 
   pub a0-size : (s : Side) → WrittenSize (a0 K c s)
   unfolding a0
@@ -187,12 +187,12 @@ module _ (K : RefinedMesh rounded) (ok : Sound (K .corners)) (bound : Small K) (
   pub a1-size : (s : Side) → WrittenSize (a1 K c s)
   a1-size s =
       second-written (C K c s) (H K c s) (X K c s) (Y K c s) (X K c (atHead s)) (N K c s) (a1 K c s)
-      (C-cosine s, H-value s, X-value s, Y-value s, X-value (atHead s), N-size s) (near-is _ _ _ tt (a1-is K c s))
+      (C-cosine s, H-value s, X-value s, Y-value s, X-value (atHead s), N-size s) (within-half-is _ _ _ tt (a1-is K c s))
 
   pub a2-size : (s : Side) → WrittenSize (a2 K c s)
   a2-size s =
       third-written (C K c s) (T K c s) (Y K c s) (Y K c (atTail s)) (N K c s) (a2 K c s)
-      (C-cosine s, T-value s, Y-value s, Y-value (atTail s), N-size s) (near-is _ _ _ tt (a2-is K c s))
+      (C-cosine s, T-value s, Y-value s, Y-value (atTail s), N-size s) (within-half-is _ _ _ tt (a2-is K c s))
 
   pub a3-size : (s : Side) → WrittenSize (a3 K c s)
   unfolding a3
@@ -203,7 +203,7 @@ module _ (K : RefinedMesh rounded) (ok : Sound (K .corners)) (bound : Small K) (
       middle-written (N K c s) (N K c (opposite s)) (N K c (atHead s)) (N K c (atTail s)) (X K c (atHead s)) (Y K c (atTail s)) (H K c s) (T K c s)
       (middle K c s)
       (N-size s, N-size (opposite s), N-size (atHead s), N-size (atTail s), X-value (atHead s), Y-value (atTail s), H-value s, T-value s)
-      (near-is _ _ _ tt (middle-is K c s))
+      (within-half-is _ _ _ tt (middle-is K c s))
 
   pub bHead-size : (s : Side) → WrittenSize (bHead K c s)
   unfolding bHead

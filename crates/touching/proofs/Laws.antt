@@ -27,7 +27,7 @@ use Rattle.mesh.proofs.Verdicts.{orElse-fault, orElse-sound, single-hit, single
 use Rattle.mesh.proofs.Accepted.{sound-of, few-vertices, sums-of}
 use Rattle.refine.specs.sums.Sources.{Faces}
 use Rattle.refine.proofs.Accepted.{faces-of, vertex-in}
-use Rattle.touching.specs.Near.{among, AllMarked, FaceMarked, inFace, NearMarked}
+use Rattle.touching.specs.Sharing.{among, AllMarked, FaceMarked, inFace, SharingMarked}
 
 -- ---- scans, one number longer
 or-none : (b : Bool) → (b || false) ≡ b
@@ -82,23 +82,23 @@ module _ (corners : List ℕ) (start n u : ℕ) where
       ∙ or-none (among corners start n u))
 
 -- ---- one mark more
-mark-set : (near : List ℕ) (u w : ℕ) → u < length near → getD (set near u 1) w 0 ≡ pickN (eqb u w) 1 (getD near w 0)
-mark-set near u w h =
+mark-set : (sharing : List ℕ) (u w : ℕ) → u < length sharing → getD (set sharing u 1) w 0 ≡ pickN (eqb u w) 1 (getD sharing w 0)
+mark-set sharing u w h =
     ⊎-elim
     (λ e. let q : w ≡ u = sym (eqb-true u w e) in
-    ap (λ (k : ℕ). getD (set near u 1) k 0) q ∙ getD-set-same near u 1 0 h ∙ sym (ap (λ (b : Bool). pickN b 1 (getD near w 0)) e))
-    (λ e. getD-set-other near u w 1 0 (λ q. eqb-false u w e (sym q)) ∙ sym (ap (λ (b : Bool). pickN b 1 (getD near w 0)) e))
+    ap (λ (k : ℕ). getD (set sharing u 1) k 0) q ∙ getD-set-same sharing u 1 0 h ∙ sym (ap (λ (b : Bool). pickN b 1 (getD sharing w 0)) e))
+    (λ e. getD-set-other sharing u w 1 0 (λ q. eqb-false u w e (sym q)) ∙ sym (ap (λ (b : Bool). pickN b 1 (getD sharing w 0)) e))
     (ways (eqb u w))
 
-pub all-none : (corners : List ℕ) (start : ℕ) (near : List ℕ) → AllMarked corners start 0 near near
-all-none corners start near w h = sym (ap (λ (b : Bool). pickN b 1 (getD near w 0)) (among-none corners start w))
+pub all-none : (corners : List ℕ) (start : ℕ) (sharing : List ℕ) → AllMarked corners start 0 sharing sharing
+all-none corners start sharing w h = sym (ap (λ (b : Bool). pickN b 1 (getD sharing w 0)) (among-none corners start w))
 
-pub all-step : (corners : List ℕ) (start n : ℕ) (before near : List ℕ) → length near ≡ length before → vertexOf corners (start + n) < length near
-    → AllMarked corners start n before near → AllMarked corners start (n + 1) before (set near (vertexOf corners (start + n)) 1)
+pub all-step : (corners : List ℕ) (start n : ℕ) (before sharing : List ℕ) → length sharing ≡ length before → vertexOf corners (start + n) < length sharing
+    → AllMarked corners start n before sharing → AllMarked corners start (n + 1) before (set sharing (vertexOf corners (start + n)) 1)
 unfolding names
-all-step corners start n before near e h m w l =
+all-step corners start n before sharing e h m w l =
     let u = vertexOf corners (start + n) in
-    mark-set near u w h
+    mark-set sharing u w h
     ∙ ap (pickN (eqb u w) 1) (m w l)
     ∙ sym (pick-or (among corners start n w) (eqb u w) (getD before w 0))
     ∙ sym (ap (λ (b : Bool). pickN b 1 (getD before w 0)) (among-step corners start n w))
@@ -113,15 +113,15 @@ module _ (corners : List ℕ) (u start n : ℕ) (before : List ℕ) where
 
 -- ---- the faces, one by one
 module _ (sides corners : List ℕ) (u : ℕ) where
-  pub near-none : (near : List ℕ) → near ≡ replicate (length near) 0 → NearMarked sides corners u 0 near
-  near-none near z w h =
-      ap (λ (l : List ℕ). getD l w 0) z ∙ getD-replicate (length near) w 0 0 h
+  pub sharing-none : (sharing : List ℕ) → sharing ≡ replicate (length sharing) 0 → SharingMarked sides corners u 0 sharing
+  sharing-none sharing z w h =
+      ap (λ (l : List ℕ). getD l w 0) z ∙ getD-replicate (length sharing) w 0 0 h
       ∙ sym (ap (λ (b : Bool). pickN b 1 0) (some-false 0 (inFace sides corners u w) (λ j k. absurd (omega arith))))
 
-  pub near-step : (f : ℕ) (before after : List ℕ) → length after ≡ length before → NearMarked sides corners u f before
-      → FaceMarked corners u (startOf sides f) (getD sides f 0) before after → NearMarked sides corners u (f + 1) after
+  pub sharing-step : (f : ℕ) (before after : List ℕ) → length after ≡ length before → SharingMarked sides corners u f before
+      → FaceMarked corners u (startOf sides f) (getD sides f 0) before after → SharingMarked sides corners u (f + 1) after
   unfolding inFace
-  near-step f before after e m k w h =
+  sharing-step f before after e m k w h =
       let l : w < length before = omega arith in
       k w l
       ∙ ap (pickN (inFace sides corners u w f) 1) (m w l)
@@ -203,15 +203,15 @@ module _ (sides corners : List ℕ) (sums : sumOf sides ≡ length corners) (u w
       (ways (someBelow (length sides) together))
 
 -- ---- each corner has the mark of its vertex
-module _ (corners near : List ℕ) where
+module _ (corners sharing : List ℕ) where
   -- the corners below c
   abbrev pub Copied : List ℕ → ℕ → Type 0
-  Copied marks c = (d : ℕ) → d < c → getD marks d 0 ≡ getD near (vertexOf corners d) 0
+  Copied marks c = (d : ℕ) → d < c → getD marks d 0 ≡ getD sharing (vertexOf corners d) 0
 
-  pub copied-step : (marks : List ℕ) (c : ℕ) → c < length marks → Copied marks c → Copied (set marks c (getD near (vertexOf corners c) 0)) (c + 1)
+  pub copied-step : (marks : List ℕ) (c : ℕ) → c < length marks → Copied marks c → Copied (set marks c (getD sharing (vertexOf corners c) 0)) (c + 1)
   copied-step marks c h k =
-      let x = getD near (vertexOf corners c) 0 in
-      below-more (λ d. getD (set marks c x) d 0 ≡ getD near (vertexOf corners d) 0) c
+      let x = getD sharing (vertexOf corners c) 0 in
+      below-more (λ d. getD (set marks c x) d 0 ≡ getD sharing (vertexOf corners d) 0) c
       (λ d l. getD-set-other marks c d x 0 (λ q. omega arith) ∙ k d l)
       (getD-set-same marks c x 0 h)
 
@@ -226,9 +226,9 @@ module _ (sides corners : List ℕ) (u : ℕ) where
       values-at (λ c. pickN (touchesAt sides corners u (vertexOf corners c)) 1 0) 0 0 (length corners) c h
       ∙ ap (λ (d : ℕ). pickN (touchesAt sides corners u (vertexOf corners d)) 1 0) (let q : 0 + c ≡ c = omega arith in q)
 
-  pub marks-are : sumOf sides ≡ length corners → (near marks : List ℕ) → NearMarked sides corners u (length sides) near → Named corners (length near)
-      → length marks ≡ length corners → Copied corners near marks (length corners) → marks ≡ touchMarks sides corners u
-  marks-are sums near marks m named l k =
+  pub marks-are : sumOf sides ≡ length corners → (sharing marks : List ℕ) → SharingMarked sides corners u (length sides) sharing → Named corners (length sharing)
+      → length marks ≡ length corners → Copied corners sharing marks (length corners) → marks ≡ touchMarks sides corners u
+  marks-are sums sharing marks m named l k =
       ext-getD 0 marks (touchMarks sides corners u) (l ∙ sym marks-length)
       (λ c h. let b : c < length corners = omega arith in
       k c b ∙ m (vertexOf corners c) (named c b)

@@ -27,7 +27,7 @@ use Rattle.mesh.proofs.Faces.{held, face-at, start-ends}
 use Rattle.mesh.proofs.Theorems.{manifold}
 use Rattle.surface.specs.Sound.{Agree}
 use Rattle.surface.proofs.Rings.{ring-in}
-use Rattle.surface.proofs.Near.{Beside, ring-near}
+use Rattle.surface.proofs.RingFaces.{Beside, ring-beside}
 use Rattle.surface.proofs.Hull.{corners-sound}
 use Rattle.surface.proofs.Agree.{net-same}
 use Rattle.borders.proofs.Written.{accepted, corner-of, written-is}
@@ -102,7 +102,7 @@ module _ (M : Mesh) (m : Move) (a : Accepted M) (axis : ℕ) (small : axis < 3) 
     net-stays =
         net-same (refinedOf rounded M axis) (refinedOf rounded (moved M m) axis) (agree-refl (cornersOf M)) (corners-sound M a) c h
         (λ e j. point-stays (ring (cornersOf M) c e j) (ring-in (cornersOf M) (corners-sound M a) c h e j)
-        (away (ring (cornersOf M) c e j) (ring-near M a c h e j)))
+        (away (ring (cornersOf M) c e j) (ring-beside M a c h e j)))
 
 -- ---- what two calls leave
 pub untouched : Untouched

@@ -10,7 +10,7 @@ ghost use Rattle.paper.specs.Links.{vertexOf};
 ghost use Rattle.mesh.specs.Tables.{Named};
 ghost use Rattle.refine.specs.sums.Sources.{Faces};
 ghost use Rattle.paper.specs.Preview.{touchMarks, Touched};
-ghost use Rattle.touching.specs.Near.{among, AllMarked, FaceMarked, NearMarked};
+ghost use Rattle.touching.specs.Sharing.{among, AllMarked, FaceMarked, SharingMarked};
 
 // Check 29's number.
 const NO_VERTEX: u8 = 29;
@@ -49,34 +49,34 @@ fn mark(sides: &[u8], corners: &[u16], vertex: usize, marks: &mut [u8])
     requires named { ⌜ Named (now corners) mostVertices × (length (now marks) ≡ length (now corners)) ⌝ }
     ensures { λ _. ⌜ now (marks .exit) ≡ touchMarks (now (sides .entry)) (now (corners .entry)) vertex ⌝ }
 {
-    let mut near = [0u8; MOST_VERTICES];
-    mark_vertices(sides, corners, vertex, &mut near);
-    mark_corners(corners, &near, marks);
+    let mut sharing = [0u8; MOST_VERTICES];
+    mark_vertices(sides, corners, vertex, &mut sharing);
+    mark_corners(corners, &sharing, marks);
 }
 
 // Marks, in a table of zeros, the vertices that stand in a face with this one.
-fn mark_vertices(sides: &[u8], corners: &[u16], vertex: usize, near: &mut [u8])
+fn mark_vertices(sides: &[u8], corners: &[u16], vertex: usize, sharing: &mut [u8])
     requires faces { ⌜ Faces (now sides) × (sumOf (now sides) ≡ length (now corners)) ⌝ }
-    requires named { ⌜ Named (now corners) (length (now near)) × (now near ≡ replicate (length (now near)) 0) ⌝ }
-    ensures { λ _. ⌜ NearMarked (now (sides .entry)) (now (corners .entry)) vertex (length (now (sides .entry))) (now (near .exit)) ⌝ }
+    requires named { ⌜ Named (now corners) (length (now sharing)) × (now sharing ≡ replicate (length (now sharing)) 0) ⌝ }
+    ensures { λ _. ⌜ SharingMarked (now (sides .entry)) (now (corners .entry)) vertex (length (now (sides .entry))) (now (sharing .exit)) ⌝ }
 {
     let mut start = 0;
     let mut f = 0;
     while f < sides.len() {
         let n = sides[f] as usize;
-        mark_face(corners, vertex, start, n, near);
+        mark_face(corners, vertex, start, n, sharing);
         start += n;
         f += 1;
     }
 }
 
 // Marks the vertices of a face of n corners that has this one.
-fn mark_face(corners: &[u16], vertex: usize, start: usize, n: usize, near: &mut [u8])
-    requires { ⌜ (start + n ≤ length (now corners)) × Named (now corners) (length (now near)) ⌝ }
-    ensures { λ _. ⌜ FaceMarked (now (corners .entry)) vertex start n (now (near .entry)) (now (near .exit)) ⌝ }
+fn mark_face(corners: &[u16], vertex: usize, start: usize, n: usize, sharing: &mut [u8])
+    requires { ⌜ (start + n ≤ length (now corners)) × Named (now corners) (length (now sharing)) ⌝ }
+    ensures { λ _. ⌜ FaceMarked (now (corners .entry)) vertex start n (now (sharing .entry)) (now (sharing .exit)) ⌝ }
 {
     if has_vertex(corners, vertex, start, n) {
-        mark_all(corners, start, n, near);
+        mark_all(corners, start, n, sharing);
     }
 }
 
@@ -98,27 +98,27 @@ fn has_vertex(corners: &[u16], vertex: usize, start: usize, n: usize) -> bool
 }
 
 // Marks the vertices of n corners from `start` on.
-fn mark_all(corners: &[u16], start: usize, n: usize, near: &mut [u8])
-    requires { ⌜ (start + n ≤ length (now corners)) × Named (now corners) (length (now near)) ⌝ }
-    ensures { λ _. ⌜ AllMarked (now (corners .entry)) start n (now (near .entry)) (now (near .exit)) ⌝ }
+fn mark_all(corners: &[u16], start: usize, n: usize, sharing: &mut [u8])
+    requires { ⌜ (start + n ≤ length (now corners)) × Named (now corners) (length (now sharing)) ⌝ }
+    ensures { λ _. ⌜ AllMarked (now (corners .entry)) start n (now (sharing .entry)) (now (sharing .exit)) ⌝ }
 {
     let mut j = 0;
     while j < n {
         let u = corners[start + j] as usize;
-        near[u] = 1;
+        sharing[u] = 1;
         j += 1;
     }
 }
 
 // Each corner has the mark of its vertex.
-fn mark_corners(corners: &[u16], near: &[u8], marks: &mut [u8])
-    requires { ⌜ Named (now corners) (length (now near)) × (length (now marks) ≡ length (now corners)) ⌝ }
-    ensures { λ _. ⌜ ((c : ℕ) → c < length (now (corners .entry)) → getD (now (marks .exit)) c 0 ≡ getD (now (near .entry)) (vertexOf (now (corners .entry)) c) 0) ⌝ }
+fn mark_corners(corners: &[u16], sharing: &[u8], marks: &mut [u8])
+    requires { ⌜ Named (now corners) (length (now sharing)) × (length (now marks) ≡ length (now corners)) ⌝ }
+    ensures { λ _. ⌜ ((c : ℕ) → c < length (now (corners .entry)) → getD (now (marks .exit)) c 0 ≡ getD (now (sharing .entry)) (vertexOf (now (corners .entry)) c) 0) ⌝ }
 {
     let mut c = 0;
     while c < corners.len() {
         let u = corners[c] as usize;
-        marks[c] = near[u];
+        marks[c] = sharing[u];
         c += 1;
     }
 }

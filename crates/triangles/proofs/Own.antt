@@ -10,7 +10,7 @@ use lib.ListN.{length, getD, take, drop, length-take, length-drop}
 use lib.Seq.{getD-take, getD-drop, ext-getD}
 use lib.IntN.{ℤ, pos}
 use Rattle.paper.specs.Mesh.{Mesh, cornerCount}
-use Rattle.paper.specs.Corners.{sumOf, startOf, faceOf}
+use Rattle.paper.specs.Corners.{startOf, faceOf}
 use Rattle.paper.specs.Scan.{pickN}
 use Rattle.paper.specs.Links.{vertexOf, lowest, linkTable}
 use Rattle.paper.specs.Numbers.{rounded}
@@ -18,10 +18,11 @@ use Rattle.paper.specs.Refined.{refinedOf}
 use Rattle.paper.specs.Floats.{netVerdict}
 use Rattle.paper.specs.Faults.{sound, Accepted}
 use Rattle.paper.specs.Net as quad
-use Rattle.paper.specs.Net.{Side, side0, side1, side2, side3}
+use Rattle.paper.specs.Net.{Side, side0, side1, side2}
 use Rattle.paper.specs.Calls.{perCorner, numberAt, nets}
-use Rattle.paper.specs.Sampling.{onAxis, sampleAt, weights, sideAt}
-use Rattle.paper.specs.Triangles.{groups, vertexOwner, edgeOwner, faceOwner, level, segments, groupSize, pointGroups, numberIn, turnWeights, sampleNumber, owned, ownNumber, coordinateAt, pointsBefore}
+use Rattle.paper.specs.Sampling.{sampleAt, weights, sideAt}
+use Rattle.paper.specs.Triangles.{groups, vertexOwner, edgeOwner, faceOwner, level, segments, groupSize, pointGroups, numberIn, turnWeights, owned, ownNumber}
+use Rattle.paper.specs.Triangles.{coordinateAt, pointsBefore}
 use Rattle.mesh.proofs.Scans.{ways}
 use Rattle.mesh.proofs.Links.{values-length, values-at}
 use Rattle.borders.proofs.Ranges.{ranges}
@@ -31,14 +32,13 @@ use Rattle.triangles.specs.declared.writing.Shape.{Shape}
 use Rattle.triangles.specs.Rows.{Fills}
 use Rattle.triangles.specs.Owned.{ShapeOf, Pointed}
 use Rattle.triangles.specs.writing.Laid.{Reaches}
-use Rattle.triangles.specs.writing.Shapes.{Shapely, shapeGroup, shapeRings, shapeStart, shapeSize, shapeNumber, ShapeAim, ShapePlace}
-use Rattle.triangles.proofs.Partners.{Leveled}
-use Rattle.triangles.proofs.Numbered.{In, groups-length, groups-at}
-use Rattle.triangles.proofs.Spots.{own-ring, own-curve0, own-curve1}
-use Rattle.triangles.proofs.Outer.{some-segments}
-use Rattle.triangles.proofs.Counts.{ringsBefore, group-step, ring-start, rings-all}
-use Rattle.triangles.proofs.Samples.{outer-is, inner-is, head-end, tail-end}
-use Rattle.triangles.proofs.Listed.{coordinate-is}
+use Rattle.triangles.specs.writing.Shapes.{shapeGroup, shapeRings, shapeStart, shapeSize, shapeNumber, ShapeAim, ShapePlace}
+use Rattle.closing.proofs.Partners.{Leveled}
+use Rattle.closing.proofs.Numbered.{In, groups-length, groups-at}
+use Rattle.closing.proofs.Outer.{some-segments}
+use Rattle.closing.proofs.Counts.{ringsBefore, group-step, ring-start, rings-all}
+use Rattle.closing.proofs.Samples.{outer-is, inner-is, head-end, tail-end}
+use Rattle.closing.proofs.Listed.{coordinate-is}
 use Rattle.triangles.proofs.Striped.{starts-rise}
 use Rattle.triangles.proofs.writing.Laws.{reaches-part}
 use Rattle.triangles.proofs.writing.Groups.{no-size}
@@ -60,8 +60,7 @@ face-size M levels c a p = p
 
 -- ---- the group that has a number between two starts
 start-le : (l : List ℕ) (i j : ℕ) → i ≤ j → j ≤ length l → startOf l i ≤ startOf l j
-start-le l i j h b =
-    subst (λ (x : ℕ). startOf l i ≤ startOf l x) (let z : i + (j - i) ≡ j = omega arith in z) (starts-rise l i (j - i) (omega arith))
+start-le l i j h b = subst (λ (x : ℕ). startOf l i ≤ startOf l x) (let z : i + (j - i) ≡ j = omega arith in z) (starts-rise l i (j - i) (omega arith))
 
 group-of : (l : List ℕ) (lo hi n : ℕ) → lo ≤ hi → hi ≤ length l → startOf l lo ≤ n → n < startOf l hi
     → (lo ≤ faceOf l n) × (faceOf l n < hi) × Held l n (faceOf l n)
@@ -135,10 +134,8 @@ module _ (M : Mesh) (levels : List ℕ) (ok : Accepted M) (leveled : Leveled M l
   start-is (suc (suc (suc (suc (suc k))))) place l =
       let e = is .levelled in
       let b : k < level levels c = some k place l in
-      ap startAt (let z : suc (suc (suc (suc (suc k)))) ≡ 5 + k = omega arith in z)
-      ∙ ring-start M levels ok leveled c h k b
-      ∙ ap (λ (x : ℕ). startAt 5 + 2 * (k * (2 * x - k - 1))) (sym e)
-      ∙ ap (λ (x : ℕ). x + 2 * (k * (2 * s .level - k - 1))) start5
+      ap startAt (let z : suc (suc (suc (suc (suc k)))) ≡ 5 + k = omega arith in z) ∙ ring-start M levels ok leveled c h k b
+      ∙ ap (λ (x : ℕ). startAt 5 + 2 * (k * (2 * x - k - 1))) (sym e) ∙ ap (λ (x : ℕ). x + 2 * (k * (2 * s .level - k - 1))) start5
       ∙ grouped (2 * (k * (2 * s .level - k - 1)))
     where
       grouped : (r : ℕ) → pointsBefore M levels c + shapeRings s + r ≡ pointsBefore M levels c + (shapeRings s + r)
@@ -171,12 +168,7 @@ module _ (M : Mesh) (levels : List ℕ) (ok : Accepted M) (leveled : Leveled M l
   -- ---- the point at a place of a group
   pub in-group : (g place : ℕ) → g < groups → place < shapeGroup s g → In M levels (pointsBefore M levels c + (shapeStart s g + place)) c g place
   unfolding numberIn
-  in-group g place l b = record {
-    corner = h;
-    group = l;
-    place = rw (size-is g) at b;
-    number = omega (arith, start-is g place b);
-  }
+  in-group g place l b = record { corner = h; group = l; place = rw (size-is g) at b; number = omega (arith, start-is g place b) }
 
   -- ---- its numbers
   abbrev net : List ℤ
@@ -267,8 +259,7 @@ module _ (M : Mesh) (levels : List ℕ) (ok : Accepted M) (leveled : Leveled M l
 
       size : getD (pointGroups M levels) (faceOf (pointGroups M levels) n) 0 ≡ shapeGroup s g
       size =
-          ap (λ (i : ℕ). getD (pointGroups M levels) i 0) (sym here)
-          ∙ groups-at M levels (groups * c + g) (omega (arith, few))
+          ap (λ (i : ℕ). getD (pointGroups M levels) i 0) (sym here) ∙ groups-at M levels (groups * c + g) (omega (arith, few))
           ∙ (let e : (groups * c + g) / groups ≡ c = omega (arith, few) in let f : (groups * c + g) % groups ≡ g = omega (arith, few) in λ z. groupSize M levels (e z) (f z))
           ∙ sym (size-is g)
 
@@ -321,11 +312,9 @@ module _ (M : Mesh) (first count c : ℕ) (h : c < count) where
       ext-getD (pos 0) part (nets M (first + c) 1) (part-length ∙ sym (values-length _ 0 (perCorner * 1)))
       (λ j l.
       let b : j < perCorner = omega (arith, part-length) in
-      getD-take perCorner (drop (perCorner * c) (nets M first count)) j (pos 0) b
-      ∙ getD-drop (perCorner * c) (nets M first count) j (pos 0)
+      getD-take perCorner (drop (perCorner * c) (nets M first count)) j (pos 0) b ∙ getD-drop (perCorner * c) (nets M first count) j (pos 0)
       ∙ values-at (numberAt rounded M first) (pos 0) 0 (perCorner * count) (perCorner * c + j) (omega arith)
-      ∙ ap (numberAt rounded M first) (let z : 0 + (perCorner * c + j) ≡ perCorner * c + j = omega arith in z)
-      ∙ number-part M first c j b
+      ∙ ap (numberAt rounded M first) (let z : 0 + (perCorner * c + j) ≡ perCorner * c + j = omega arith in z) ∙ number-part M first c j b
       ∙ sym (values-at (numberAt rounded M (first + c)) (pos 0) 0 (perCorner * 1) j (omega arith)))
 
   pub net-sound : Accepted M → first + count ≤ cornerCount M → netVerdict part ≡ sound

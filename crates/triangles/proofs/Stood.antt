@@ -21,8 +21,7 @@ module _ {A : Type 0} (f : ℕ → A) where
   }
 
   pub put-as : (a b a′ b′ at to : ℕ) (old out : List A) → a ≡ a′ → b ≡ b′ → Stands f a b at to old out → Stands f a′ b′ at to old out
-  put-as a b a′ b′ at to old out p q m =
-      subst (λ (x : ℕ). Stands f x b′ at to old out) p (subst (λ (x : ℕ). Stands f a x at to old out) q m)
+  put-as a b a′ b′ at to old out p q m = subst (λ (x : ℕ). Stands f x b′ at to old out) p (subst (λ (x : ℕ). Stands f a x at to old out) q m)
 
   values-shift : (a at n : ℕ) → valuesFrom (λ x. f (a + x)) at n ≡ valuesFrom f (a + at) n
   unfolding valuesFrom

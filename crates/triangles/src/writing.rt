@@ -1,7 +1,7 @@
 // The points of a corner's net that are the corner's own, out of the net's 123 numbers: each side's samples by differences from row to row and
 // from place to place, put to their places in a lent list.
-use sampling::bernstein::Five;
-use sampling::bernstein::Rows;
+use sampling::bernstein::Matrix5;
+use sampling::bernstein::Vector5;
 use sampling::points::control_points;
 ghost use mathlib.Core.Path.{_≡_};
 ghost use Prim.Native.Nat.{ℕ, _+_, _-_, _*_, _^_, _<_, _≤_};
@@ -35,7 +35,7 @@ const E2: usize = 24;
 const CENTRE: usize = 12;
 
 // A corner's own points, from `at` on.
-pub fn put_net(numbers: &[i32], shape: Shape, points: &mut [i32], at: usize)
+pub(crate) fn put_net(numbers: &[i32], shape: Shape, points: &mut [i32], at: usize)
     requires { ⌜ (netVerdict (now numbers) ≡ sound) × Shapely shape × (at + 3 * shapeSize shape ≤ length (now points)) ⌝ }
     ensures { λ _. ⌜ ((f : ℕ → ℤ) → ShapeAim (now (numbers .entry)) shape at f → Reaches f (ShapePlace shape at) (now (points .entry)) (now (points .exit))) ⌝ }
 {
@@ -79,7 +79,7 @@ fn put_point(points: &mut [i32], at: usize, x: i32, y: i32, z: i32)
 }
 
 // Each row from its other end.
-fn reversed(p: Rows) -> Rows
+fn reversed(p: Matrix5) -> Matrix5
     requires { ⌜ AllSized (2 ^ 27) p ⌝ }
     ensures { λ r. ⌜ r ≡ reversedOf p ⌝ }
 {
@@ -88,36 +88,36 @@ fn reversed(p: Rows) -> Rows
     let r2 = p.r2;
     let r3 = p.r3;
     let r4 = p.r4;
-    Rows {
-        r0: Five {
+    Matrix5 {
+        r0: Vector5 {
             a: r0.e,
             b: r0.d,
             c: r0.c,
             d: r0.b,
             e: r0.a,
         },
-        r1: Five {
+        r1: Vector5 {
             a: r1.d,
             b: r1.c,
             c: r1.b,
             d: r1.a,
             e: 0,
         },
-        r2: Five {
+        r2: Vector5 {
             a: r2.c,
             b: r2.b,
             c: r2.a,
             d: 0,
             e: 0,
         },
-        r3: Five {
+        r3: Vector5 {
             a: r3.b,
             b: r3.a,
             c: 0,
             d: 0,
             e: 0,
         },
-        r4: Five {
+        r4: Vector5 {
             a: r4.a,
             b: 0,
             c: 0,
@@ -128,7 +128,7 @@ fn reversed(p: Rows) -> Rows
 }
 
 // The control points of a side on an axis, each row in turn.
-fn turn_points(numbers: &[i32], side: usize, axis: usize) -> Rows
+fn turn_points(numbers: &[i32], side: usize, axis: usize) -> Matrix5
     requires { ⌜ (netVerdict (now numbers) ≡ sound) × (side ≤ 3) × (axis < 3) ⌝ }
     ensures { λ r. ⌜ InTurn (now (numbers .entry)) side axis r ⌝ }
 {
@@ -151,7 +151,7 @@ fn put_curve(numbers: &[i32], side: usize, m: usize, points: &mut [i32], at: usi
 }
 
 // The same on one axis.
-fn put_curve_on(p: Rows, m: usize, points: &mut [i32], at: usize)
+fn put_curve_on(p: Matrix5, m: usize, points: &mut [i32], at: usize)
     requires { ⌜ Sampleable p m × (at + 3 * (m - 1) ≤ length (now points) + 2) ⌝ }
     ensures { λ _. ⌜ RowPut (rowOf (polynomialOf p (pos m)) 0) m 1 (m - 1) at (now (points .entry)) (now (points .exit)) ⌝ }
 {
@@ -174,7 +174,7 @@ fn put_rings(numbers: &[i32], n: usize, points: &mut [i32], at: usize)
 }
 
 // A side's rows on the rings, on one axis: of each ring the points from the side's first up to the next side's.
-fn put_spokes(p: Rows, side: usize, n: usize, points: &mut [i32], at: usize)
+fn put_spokes(p: Matrix5, side: usize, n: usize, points: &mut [i32], at: usize)
     requires { ⌜ Sampleable p n × (side ≤ 3) × (at + 6 * (n * (n - 1)) ≤ length (now points) + 2) ⌝ }
     ensures { λ _. ⌜ ((f : ℕ → ℤ) → SpokeAim p side n at f → Reaches f (SpokePlace side n at n) (now (points .entry)) (now (points .exit))) ⌝ }
 {

@@ -3,6 +3,7 @@
 // place, on standard error, and nothing on standard output.
 use libc::STDIN_FILENO;
 use mesh::least;
+use mesh::wide;
 use paper::Answer;
 use paper::MOST_CORNERS;
 use paper::MOST_FACES;
@@ -17,7 +18,7 @@ use streams::output::complain_up_to;
 use streams::output::say_up_to;
 ghost use Prim.Native.Nat.{_≤_};
 ghost use lib.ListN.{length};
-ghost use Rattle.dms.specs.header.Sized.{Sized};
+ghost use Rattle.dms.specs.header.ListsWithin.{ListsWithin};
 
 // Room for a line for each face, its number of at most four digits.
 const LINES: usize = 5 * MOST_FACES;
@@ -52,7 +53,7 @@ fn turn_file(file: &[u8], counted: usize) {
 
 // Reads the lists of a file whose header passes.
 fn turn_lists(file: &[u8])
-    requires { ⌜ Sized (now file) ⌝ }
+    requires { ⌜ ListsWithin (now file) ⌝ }
 {
     let mut coordinates = [0i32; MOST_NUMBERS];
     let mut sides = [0u8; MOST_FACES];
@@ -147,12 +148,8 @@ fn put_listing(lines: &mut [u8], listing: &[u16], count: usize) -> usize
     let mut at = 0;
     let mut i = 0;
     while i < count {
-        at = put_ended(lines, at, wide(listing[i]), b'\n');
+        at = put_ended(lines, at, wide(listing[i]) as u64, b'\n');
         i += 1;
     }
     at
-}
-
-fn wide(n: u16) -> u64 {
-    n as u64
 }

@@ -20,13 +20,13 @@ use Rattle.turning.proofs.Theorem.{listed-of}
 use Rattle.turning.proofs.Theorems.{long-of}
 use Rattle.turning.proofs.Models.{corners-same, pairs-same, faces-same}
 use Rattle.turning.specs.reversing.Written.{Written}
-use Rattle.turning.specs.choosing.Choice.{Sized, Nexted, Chosen}
+use Rattle.turning.specs.choosing.Choice.{ListsPass, Nexted, Chosen}
 use Rattle.turning.specs.Chosen.{ChosenFor}
 
 -- lists that pass 4 to 9
-pub sized-of : (M : Mesh) → listFaults M ≡ sound → Sized (vertexCount M) (M .sides) (M .corners)
+pub lists-pass : (M : Mesh) → listFaults M ≡ sound → ListsPass (vertexCount M) (M .sides) (M .corners)
 unfolding listFaults
-sized-of M e =
+lists-pass M e =
     let e5 = sound-right _ _ (sound-right _ _ e) in
     let e6 = sound-right _ _ e5 in
     let e7 = sound-right _ _ e6 in
@@ -41,7 +41,7 @@ sized-of M e =
     }
 
 -- the table of corners is long enough, and then has the next corners
-module _ (vertices : ℕ) (sides corners table : List ℕ) (z : Sized vertices sides corners) (l : rowLength * mostCorners ≤ length table) where
+module _ (vertices : ℕ) (sides corners table : List ℕ) (z : ListsPass vertices sides corners) (l : rowLength * mostCorners ≤ length table) where
   pub nexted-of : FacesFilled sides table → Nexted sides corners table
   nexted-of f = let s = z .listed .sums in let g = z .few-corners in record { long = omega arith; nexts = λ c h. f .nexts c (omega arith) }
 

@@ -14,7 +14,7 @@ use Rattle.paper.specs.Turning.{counterpart, cornerFrom, turnedCorners, pairFro
 use Rattle.mesh.proofs.Scans.{ways}
 use Rattle.mesh.proofs.Faces.{held, face-next, next-below}
 use Rattle.mesh.proofs.Links.{values-length, values-at}
-use Rattle.turning.proofs.Turned.{flipped, flip-below, face-flip, flip-flip, counterpart-is, counterpart-next, length-turned, turned-at}
+use Rattle.turning.proofs.TurnedFace.{flipped, flip-below, face-flip, flip-flip, counterpart-is, counterpart-next, length-turned, turned-at}
 
 -- ---- the corner that comes to a place, and back
 module _ (sides : List ℕ) (c : ℕ) (h : c < sumOf sides) where

@@ -25,8 +25,8 @@ use Rattle.turning.proofs.Choices.{some-choice, first-choice, choice-of
 use Rattle.turning.proofs.Parts.{true-both, joined-same, joined-across, joined-back, choices-same, glued, glued-meets, glued-keeps}
 use Rattle.turning.proofs.Pairs.{Paired, paired, counted}
 use Rattle.turning.proofs.Edges.{alike, met-of-reverse, reverse-of-met, unrepeated-of-met, paired-of-served}
-use Rattle.turning.proofs.Turned.{moved, length-turned, moved-in, moved-twice, face-moved, face-in, sided, moves, reverses-same, same-back}
-use Rattle.turning.proofs.Turned.{reverse-back}
+use Rattle.turning.proofs.TurnedFace.{moved, length-turned, moved-in, moved-twice, face-moved, face-in, sided, moves, reverses-same, same-back}
+use Rattle.turning.proofs.TurnedFace.{reverse-back}
 
 and-false : (a b : Bool) → (a ≡ true → b ≡ true → ⊥) → a && b ≡ false
 and-false true true n = absurd (n refl refl)

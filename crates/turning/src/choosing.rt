@@ -8,7 +8,7 @@ ghost use Prim.Native.Nat.{_≤_};
 ghost use lib.ListN.{length};
 ghost use Rattle.walk.specs.Table.{Blank};
 ghost use Rattle.turning.specs.partners.Keys.{Afters, PartnersOver};
-ghost use Rattle.turning.specs.choosing.Choice.{Sized, Nexted, Ended, Chosen};
+ghost use Rattle.turning.specs.choosing.Choice.{ListsPass, Nexted, Ended, Chosen};
 
 // Checks 34 and 35, and the state of every face.
 pub(crate) fn find_turns(
@@ -18,7 +18,7 @@ pub(crate) fn find_turns(
     table: &[u16],
     states: &mut [u8],
 ) -> Answer
-    requires lists { ⌜ Sized vertices (now sides) (now corners) × Nexted (now sides) (now corners) (now table) ⌝ }
+    requires lists { ⌜ ListsPass vertices (now sides) (now corners) × Nexted (now sides) (now corners) (now table) ⌝ }
     requires room { ⌜ (length (now sides) ≤ length (now states)) × Blank (now states) ⌝ }
     ensures { λ r. ⌜ Chosen (now (sides .entry)) (now (corners .entry)) r (now (states .exit)) ⌝ }
 {
@@ -50,7 +50,7 @@ fn find_partners(
     table: &[u16],
     partners: &mut [u16],
 ) -> Answer
-    requires lists { ⌜ Sized vertices (now sides) (now corners) × Nexted (now sides) (now corners) (now table) ⌝ }
+    requires lists { ⌜ ListsPass vertices (now sides) (now corners) × Nexted (now sides) (now corners) (now table) ⌝ }
     requires room { ⌜ (length (now corners) ≤ length (now partners)) × Blank (now partners) ⌝ }
     ensures { λ r. ⌜ PartnersOver (now (sides .entry)) (now (corners .entry)) r (now (partners .exit)) ⌝ }
 {

@@ -28,12 +28,12 @@ tabled-own n table long = record {
 }
 
 -- ---- tables of rows of r numbers, whose places are apart: those of one column by their row, others by their column
-pub record Rows (r : ℕ) : Type 0 where
+pub record PlacesApart (r : ℕ) : Type 0 where
   pub rows-apart : (i j k : ℕ) → r * i + k ≡ r * j + k → i ≡ j
   pub columns-apart : (i j k l : ℕ) → k < r → l < r → r * i + k ≡ r * j + l → k ≡ l
 
 -- a store in column k, at row i
-module _ (r : ℕ) (rows : Rows r) (table : List ℕ) (k i x : ℕ) where
+module _ (r : ℕ) (rows : PlacesApart r) (table : List ℕ) (k i x : ℕ) where
   -- what the column then holds at row j
   pub row-put : (P : ℕ → Type 0) (j : ℕ) → r * i + k < length table → (j ≡ i → P x) → ((j ≡ i → ⊥) → P (getD table (r * j + k) 0))
       → P (getD (set table (r * i + k) x) (r * j + k) 0)
@@ -52,7 +52,7 @@ module _ (r : ℕ) (rows : Rows r) (table : List ℕ) (k i x : ℕ) where
   row-kept l j m n c = getD-set-other table (r * i + k) (r * c + j) x 0 (λ q. n (rows .columns-apart c i j k m l q))
 
 -- ---- the same of the table of corners
-corner-rows : Rows rowLength
+corner-rows : PlacesApart rowLength
 corner-rows = record { rows-apart = λ i j k q. omega arith; columns-apart = λ i j k l a b q. omega arith }
 
 module _ (table : List ℕ) (k i x : ℕ) where

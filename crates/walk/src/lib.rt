@@ -1,5 +1,6 @@
-// A walk over the corners of a mesh: a walker by value whose methods return the moved walker. It steps by the table of corners, which has
-// a row for each corner: its next, previous and linked corner, the sides of its face and the corners of its vertex.
+// 01's walk: "A walk moves from a corner to the next one, the previous one or the linked one." Here it is a walker by value whose methods return the moved
+// walker. It steps by the table of corners, which has a row for each corner: its next, previous and linked corner, the sides of its face and the corners of
+// its vertex.
 ghost use mathlib.Core.Path.{_≡_};
 ghost use Prim.Native.Nat.{_+_, _*_, _<_};
 ghost use lib.ListN.{length};
@@ -82,11 +83,5 @@ fn read(table: &[u16], corner: usize, column: usize) -> usize
     requires { ⌜ rowLength * corner + column < length (now table) ⌝ }
     ensures { λ r. ⌜ r ≡ entry (now (table .entry)) column corner ⌝ }
 {
-    wide(table[ROW * corner + column])
-}
-
-fn wide(x: u16) -> usize
-    ensures { λ r. ⌜ r ≡ x ⌝ }
-{
-    x as usize
+    table[ROW * corner + column] as usize
 }

@@ -4,6 +4,7 @@
 
 pub mod program;
 mod report;
+mod triangles;
 mod turning;
 
 use mahunopi::{raw, MeshRef};
@@ -11,6 +12,7 @@ use reference::{Counts, FloatPoint, Irregular, Lengths, Lists, Refusal, LENT_TOO
 use shapes::{Random, Tables};
 
 pub use report::{merge, report};
+pub use triangles::{count_triangles, triangles, Corners};
 pub use turning::turn;
 
 /// What `place` and the lengths hold before a call.
@@ -386,6 +388,50 @@ pub fn sample(
     assert_eq!(answer(number, place), result.map(|_| ()), "the sample {weights:?} of {parts} is answered otherwise");
     assert_eq!(point, result.unwrap_or(lent), "the sample {weights:?} of {parts} on side {side} is another");
     result
+}
+
+/// The tangents at one sample.
+pub fn tangents_at(
+    numbers: &[i32],
+    side: usize,
+    weights: [usize; 3],
+    parts: usize,
+    random: &mut Random,
+) -> Result<[[i64; 3]; 2], Refusal> {
+    let [i, j, k] = weights;
+    let mut tangents = [0; 6].map(|_: i64| random.bits() as i64);
+    let lent = tangents;
+    let mut place = UNTOUCHED;
+    // SAFETY: the pointer goes with the length of its list
+    let number = unsafe {
+        raw::mahunopi_tangents_at(numbers.as_ptr(), numbers.len(), side, i, j, k, parts, &mut tangents, &mut place)
+    };
+    let result = reference::sample_tangents(numbers, side, weights, parts);
+    assert_eq!(answer(number, place), result.map(|_| ()), "the tangents at {weights:?} of {parts} are answered otherwise");
+    let expected = result.map_or(lent, |[[x, y, z], [u, v, w]]| [x, y, z, u, v, w]);
+    assert_eq!(tangents, expected, "the tangents at {weights:?} of {parts} on side {side} are others");
+    result
+}
+
+/// All points of a list of quad-nets in floats, into a lent list of `length` floats.
+pub fn floats_all(numbers: &[i32], length: usize, random: &mut Random) -> Result<(), Refusal> {
+    // no NaN: its bits need not last
+    let mut floats: Vec<f32> = (0..length).map(|_| f32::from_bits(random.bits() as u32 & 0xbfff_ffff)).collect();
+    let mut expected: Vec<u32> = floats.iter().map(|float| float.to_bits()).collect();
+    let mut place = UNTOUCHED;
+    // SAFETY: each pointer goes with the length of its own list
+    let number = unsafe {
+        raw::mahunopi_floats_all(numbers.as_ptr(), numbers.len(), floats.as_mut_ptr(), floats.len(), &mut place)
+    };
+    let result = reference::floats_all(numbers, length);
+    assert_eq!(answer(number, place), result.as_ref().map(|_| ()).map_err(|&refusal| refusal), "a list of nets is answered otherwise");
+    if let Ok(all) = &result {
+        for (place, float) in all.iter().enumerate() {
+            expected[place] = float.to_bits();
+        }
+    }
+    same("floats", &floats.iter().map(|float| float.to_bits()).collect::<Vec<_>>(), &expected);
+    result.map(|_| ())
 }
 
 /// All samples of a triangle, into a lent list of `length` numbers.

@@ -1,6 +1,6 @@
 //! Control points in floats: the proved library against the independent implementation, bit by bit.
 
-use differential::{build, each_case, floats, link};
+use differential::{build, each_case, floats, floats_all, link};
 use reference::{FloatPoint, NUMBERS_PER_CORNER};
 use shapes::{random_tables, Places, Random, Solid, Tables};
 
@@ -97,4 +97,31 @@ fn every_boundary_of_4096() {
         let far = floats(&numbers, point, &mut random).expect("numbers within the limits");
         assert!(matches!(far, FloatPoint::Far(..)));
     }
+}
+
+/// Lists of none to some quad-nets, with room and without; other lengths; a number beyond the limits anywhere.
+#[test]
+fn lists_of_nets() {
+    let mut seen = [0; 4];
+    each_case(4_000, 34, |_, random| {
+        let nets = random.below(6);
+        let odd = random.once_in(6);
+        let length = NUMBERS_PER_CORNER * nets + if odd { 1 + random.below(122) } else { 0 };
+        let most = *random.pick(&[3, NEAREST, LARGEST]);
+        let mut numbers: Vec<i32> = (0..length).map(|_| random.between(-most, most)).collect();
+        if length > 0 && random.once_in(6) {
+            let place = random.below(length);
+            numbers[place] = *random.pick(&[LARGEST + 1, -LARGEST - 1, i32::MAX, i32::MIN]);
+        }
+        let room = if random.once_in(6) { random.below(2 * length + 1) } else { 2 * length + random.below(9) };
+        match floats_all(&numbers, room, random) {
+            Ok(()) => seen[0] += 1,
+            Err(refusal) => seen[match refusal.number {
+                18 => 1,
+                19 => 2,
+                _ => 3,
+            }] += 1,
+        }
+    });
+    assert!(seen.iter().all(|&times| times > 0), "{seen:?}");
 }

@@ -5,6 +5,7 @@ use std::path::{Path, PathBuf};
 use std::process::{Command, Stdio};
 
 use differential::each_case;
+use differential::program::in_words;
 use mahunopi::{raw, MAX_CORNERS, MAX_FACES, MAX_VERTICES};
 use reference::{OffLists, Refusal};
 use shapes::{damage, random_tables, Random, Solid, Tables, DAMAGES};
@@ -371,7 +372,10 @@ fn off2dms_writes_files_and_refusals() {
         let (file, said) = written(&path, text);
         match reference::off2dms(text) {
             Ok(expected) => assert!(file == expected && said.is_empty(), "another file, or {said:?}"),
-            Err(line) => assert!(file.is_empty() && said == line, "{said:?} and {} bytes, not {line:?}", file.len()),
+            Err(line) => {
+                let line = in_words(&line);
+                assert!(file.is_empty() && said == line, "{said:?} and {} bytes, not {line:?}", file.len());
+            }
         }
     };
     for text in ["", "OFF", "OFF 0 0 0", "OFF 0 0 0 1", "off", TETRAHEDRON, &format!("{TETRAHEDRON} # 5")] {

@@ -1,12 +1,12 @@
 //! The programs `inspect`, `patches` and `squares`, as `rt ci` leaves them in target/bin, against what the independent
-//! implementation prints. MAHUNOPI_BIN names another directory that has them. A program whose crate is not in the
-//! repository is passed over.
+//! implementation prints; what they refuse they say in words on standard error too. MAHUNOPI_BIN names another directory
+//! that has them. A program whose crate is not in the repository is passed over.
 
 use std::fs::File;
-use std::io::Write;
 use std::path::{Path, PathBuf};
 use std::process::{Command, Stdio};
 
+use differential::program::{beside, run};
 use differential::{each_case, lists, version};
 use reference::{encode, inspect, patches, squares};
 use shapes::{damage, random_tables, Places, Random, Sharpness, Solid, Tables, DAMAGES};
@@ -32,26 +32,20 @@ fn of_file(program: &Path, bytes: &[u8]) -> String {
     let file = File::open(&path).expect("the file");
     let output = Command::new(program).stdin(Stdio::from(file)).output().expect("a run");
     std::fs::remove_file(&path).expect("the file to remove");
-    String::from_utf8(output.stdout).expect("plain text")
+    printed(output.stdout, &String::from_utf8(output.stderr).expect("plain text"))
 }
 
 /// What the program prints of a file that reaches it in pieces.
 fn of_pieces(program: &Path, bytes: &[u8], piece: usize) -> String {
-    let mut child =
-        Command::new(program).stdin(Stdio::piped()).stdout(Stdio::piped()).spawn().expect("a run of the program");
-    let mut input = child.stdin.take().expect("its input");
-    let pieces: Vec<Vec<u8>> = bytes.chunks(piece).map(<[u8]>::to_vec).collect();
-    let writer = std::thread::spawn(move || {
-        for piece in pieces {
-            // a program that has seen enough of a file may close its input
-            if input.write_all(&piece).and_then(|()| input.flush()).is_err() {
-                break;
-            }
-        }
-    });
-    let output = child.wait_with_output().expect("its output");
-    writer.join().expect("the writer");
-    String::from_utf8(output.stdout).expect("plain text")
+    let written = run(program, &[], bytes, piece);
+    printed(written.output, &written.said)
+}
+
+/// The text, beside which the program says a refusal in words and nothing else.
+fn printed(output: Vec<u8>, said: &str) -> String {
+    let text = String::from_utf8(output).expect("plain text");
+    assert_eq!(said, beside(&text));
+    text
 }
 
 /// Files of all kinds: sound, damaged, cut, longer than they say.

@@ -5,7 +5,7 @@
 
 use std::path::{Path, PathBuf};
 
-use differential::program::{find, run, Written};
+use differential::program::{find, in_words, run, Written};
 use differential::{each_case, lists, version};
 use reference::{encode, merge, report, Page};
 use shapes::{damage, random_tables, Places, Random, Sharpness, Solid, Tables, DAMAGES};
@@ -155,7 +155,7 @@ fn pages_merged() {
             Ok(page) => assert_eq!((page_in(&written), written.said), (text_of(&page), String::new())),
             Err(refusal) => {
                 refused += 1;
-                let line = format!("refused {} {}\n", refusal.number, refusal.place);
+                let line = in_words(&format!("refused {} {}\n", refusal.number, refusal.place));
                 assert_eq!((page_in(&written), written.said), (String::new(), line));
             }
         }
@@ -200,7 +200,7 @@ fn too_many_meshes() {
             assert!(page_in(&written).starts_with("meshes offered: 4096\n"));
             assert!(page_in(&written).contains("refused by 12: 4096\n"));
         } else {
-            assert_eq!((page_in(&written), written.said), (String::new(), "refused 37 4096\n".to_string()));
+            assert_eq!((page_in(&written), written.said), (String::new(), in_words("refused 37 4096\n")));
         }
     }
 }

@@ -1,14 +1,10 @@
 //! Samples of a patch: the proved library against the independent implementation, the theorems on what it leaves, and
-//! the program `tessellate`, whose OBJ has to be a closed mesh with the mesh's Euler number.
+//! the closed triangles of one level, which have to be the small triangles of the samples.
 
-use std::collections::HashMap;
-use std::io::Write;
-use std::path::{Path, PathBuf};
-use std::process::{Command, Stdio};
-
-use differential::{build, each_case, link, lists, sample, sample_triangle};
-use reference::{encode, small_triangles, NUMBERS_PER_CORNER};
-use shapes::{damage, random_tables, Places, Random, Solid, Tables, DAMAGES};
+use differential::{build, each_case, link, lists, mesh, sample, sample_triangle, tangents_at};
+use mahunopi::{triangles, Triangles};
+use reference::{small_triangles, NUMBERS_PER_CORNER};
+use shapes::{random_tables, Places, Random, Solid, Tables};
 
 const LARGEST: i32 = 1 << 27;
 
@@ -45,6 +41,7 @@ fn every_sample() {
                         let one =
                             sample(&net, side, [parts - k - j, j, k], parts, random).expect("a net within the limits");
                         assert_eq!(whole[at..at + 3], one, "side {side}, row {k}, place {j} of {parts}");
+                        tangents_at(&net, side, [parts - k - j, j, k], parts, random).expect("a net within the limits");
                         assert_eq!(at, 3 * (k * (2 * parts + 3 - k) / 2 + j));
                         at += 3;
                     }
@@ -163,90 +160,10 @@ fn borders_close() {
     assert!(borders > 0);
 }
 
-/// The program's executable, where the repository has its crate.
-fn program() -> PathBuf {
-    let root = Path::new(env!("CARGO_MANIFEST_DIR")).join("../..");
-    let directory = std::env::var_os("MAHUNOPI_BIN").map_or_else(|| root.join("target/bin"), PathBuf::from);
-    let path = directory.join("tessellate");
-    assert!(path.is_file(), "{} is not there: run `rt check tessellate`", path.display());
-    path
-}
-
-/// What the program writes to standard output and to standard error.
-fn run(arguments: &[&str], bytes: &[u8]) -> (String, String) {
-    let mut child = Command::new(program())
-        .args(arguments)
-        .stdin(Stdio::piped())
-        .stdout(Stdio::piped())
-        .stderr(Stdio::piped())
-        .spawn()
-        .expect("a run of the program");
-    let mut input = child.stdin.take().expect("its input");
-    let bytes = bytes.to_vec();
-    // a program that has seen enough of a file may close its input
-    let writer = std::thread::spawn(move || drop(input.write_all(&bytes)));
-    let output = child.wait_with_output().expect("its output");
-    writer.join().expect("the writer");
-    (String::from_utf8(output.stdout).expect("plain text"), String::from_utf8(output.stderr).expect("plain text"))
-}
-
-/// A decimal of grid steps, in ticks; fails where it is none or not exact.
-fn ticks(word: &str) -> i32 {
-    let (sign, size) = word.strip_prefix('-').map_or((1, word), |size| (-1, size));
-    let (whole, rest) = size.split_once('.').unwrap_or((size, ""));
-    assert!(!rest.ends_with('0') && rest.len() <= 8, "{word} is not a short decimal");
-    let rest: i64 = format!("{rest:0<8}").parse().expect("digits");
-    let whole: i64 = whole.parse().expect("digits");
-    assert_eq!(rest % 390_625, 0, "{word} is no whole number of ticks");
-    let ticks = sign * (256 * whole + rest / 390_625);
-    assert!(word != "-0");
-    ticks as i32
-}
-
-struct Object {
-    points: Vec<[i32; 3]>,
-    triangles: Vec<[usize; 3]>,
-}
-
-fn object(text: &str) -> Object {
-    let mut object = Object { points: Vec::new(), triangles: Vec::new() };
-    for line in text.lines() {
-        let words: Vec<&str> = line.split(' ').collect();
-        match words[..] {
-            ["v", x, y, z] => object.points.push([x, y, z].map(ticks)),
-            ["f", a, b, c] => object.triangles.push([a, b, c].map(|word| word.parse::<usize>().expect("a number") - 1)),
-            _ => panic!("the line {line}"),
-        }
-    }
-    object
-}
-
-/// The object is the surface of the mesh: its small triangles with their winding, closed, with the mesh's Euler number.
-fn check_object(tables: &Tables, text: &str, parts: usize) {
-    let object = object(text);
-    let mut edges = HashMap::new();
-    let mut used = vec![false; object.points.len()];
-    for &[a, b, c] in &object.triangles {
-        assert!(a != b && b != c && c != a);
-        for (from, to) in [(a, b), (b, c), (c, a)] {
-            *edges.entry((from, to)).or_insert(0) += 1;
-            used[from] = true;
-        }
-    }
-    assert!(used.iter().all(|&used| used), "a point that no triangle has");
-    for (&(from, to), &times) in &edges {
-        assert_eq!(
-            (times, edges.get(&(to, from))),
-            (1, Some(&1)),
-            "an edge that is not in two triangles, one each way"
-        );
-    }
-    let corners = tables.corners.len();
-    let euler = tables.vertices() as i64 - corners as i64 / 2 + tables.sides.len() as i64;
-    let found = object.points.len() as i64 - edges.len() as i64 / 2 + object.triangles.len() as i64;
-    assert_eq!(found, euler, "another Euler number");
-
+/// The triangles of one level for all corners are the small triangles of the nets' samples, with their winding.
+fn check_level(tables: &Tables, found: &Triangles, parts: usize) {
     let links = reference::links_of(lists(tables)).expect("an accepted mesh");
+    let corners = tables.corners.len();
     let mut output = vec![0; NUMBERS_PER_CORNER * corners];
     reference::build(lists(tables), &links, 0, corners, &mut output).expect("an accepted mesh");
     // from its least point on, so that only the winding counts
@@ -255,87 +172,33 @@ fn check_object(tables: &Tables, text: &str, parts: usize) {
         triangle.rotate_left(least);
         triangle
     };
+    let point = |p: u32| [0, 1, 2].map(|axis| found.points[3 * p as usize + axis]);
     let mut expected: Vec<_> =
         output.chunks(NUMBERS_PER_CORNER).flat_map(|net| small_triangles(net, parts)).map(turned).collect();
-    let mut found: Vec<_> = object.triangles.iter().map(|t| turned(t.map(|p| object.points[p]))).collect();
+    let mut found: Vec<_> = found.triangles.chunks(3).map(|t| turned([t[0], t[1], t[2]].map(point))).collect();
     expected.sort_unstable();
     found.sort_unstable();
     assert!(found == expected, "other triangles");
 }
 
 #[test]
-fn objects_are_closed() {
+fn one_level_is_the_samples() {
     each_case(30, 94, |case, random| {
-        let mut tables = random_tables(random);
-        if random.once_in(5) {
-            let fault = *random.pick(&DAMAGES);
-            damage(&mut tables, fault, random);
-        }
-        let bytes = encode(lists(&tables), 2);
+        let tables = random_tables(random);
+        let Ok(links) = reference::links_of(lists(&tables)) else { return };
         let parts = 1 + case as usize % 16;
-        let (text, said) = run(&[&parts.to_string()], &bytes);
-        match reference::check(lists(&tables)) {
-            Ok(()) => {
-                assert_eq!(said, "");
-                check_object(&tables, &text, parts);
-            }
-            Err(refusal) => {
-                assert_eq!(text, "");
-                assert_eq!(said, format!("refused {} {}\n", refusal.number, refusal.place));
-            }
-        }
+        let levels = vec![parts as u8; tables.corners.len()];
+        let found = triangles(&mesh(&tables), &links, &levels).expect("an accepted mesh");
+        check_level(&tables, &found, parts);
     });
-}
-
-#[test]
-fn samples_of_the_repository() {
-    for name in ["cube", "octahedron", "prism", "crisp-prism", "tetrahedron", "torus", "flat"] {
-        let path = Path::new(env!("CARGO_MANIFEST_DIR")).join(format!("../../meshes/{name}.dms"));
-        let bytes = std::fs::read(path).expect("a sample mesh");
-        let mesh = mahunopi::decode(&bytes);
-        for parts in [1, 2, 3, 4, 16] {
-            let (text, said) = run(&[&parts.to_string()], &bytes);
-            match &mesh {
-                Ok(mesh) => {
-                    let tables = Tables {
-                        coordinates: mesh.coordinates.clone(),
-                        sides: mesh.sides.clone(),
-                        corners: mesh.corners.clone(),
-                        sharpness: mesh.sharpness.clone(),
-                    };
-                    assert_eq!(said, "");
-                    check_object(&tables, &text, parts);
-                    if parts == 4 {
-                        assert!(run(&[], &bytes).0 == text, "another number of parts where none is given");
-                    }
-                }
-                Err(refusal) => {
-                    assert_eq!(
-                        (text.as_str(), said),
-                        ("", format!("refused {} {}\n", refusal.number(), refusal.place))
-                    );
-                }
-            }
-        }
-    }
 }
 
 /// The largest mesh.
 #[test]
-fn the_largest_object() {
+fn the_largest_mesh_at_one_level() {
     let tables = Tables::relabelled(&Solid::torus(32, 64), Places::Extreme, &mut Random::new(95));
-    let (text, said) = run(&["4"], &encode(lists(&tables), 1));
-    assert_eq!(said, "");
-    assert_eq!(text.lines().filter(|line| line.starts_with('f')).count(), 8_192 * 4 * 16);
-    check_object(&tables, &text, 4);
-}
-
-/// Other arguments get a usage line, and files that are no mesh get the refusal; neither writes anything else.
-#[test]
-fn words_on_standard_error() {
-    let usage = "usage: tessellate [N] < FILE, with N from 1 to 16\n";
-    for arguments in [&["0"][..], &["17"], &["100"], &["x"], &["-1"], &[""], &["4", "4"], &["123456789"], &["4 "]] {
-        assert_eq!(run(arguments, b""), (String::new(), usage.to_string()), "{arguments:?}");
-    }
-    assert_eq!(run(&[], b"DMX"), (String::new(), "refused 1 0\n".to_string()));
+    let links = reference::links_of(lists(&tables)).expect("an accepted mesh");
+    let found = triangles(&mesh(&tables), &links, &[4; 8_192]).expect("an accepted mesh");
+    assert_eq!(found.triangles.len(), 3 * 8_192 * 4 * 16);
+    check_level(&tables, &found, 4);
 }

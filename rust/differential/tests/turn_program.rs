@@ -1,10 +1,10 @@
 //! The program `turn` against the independent implementation: a .dms file on standard input, the turned file on standard
-//! output, the turned faces on standard error, one number a line; of a refused file `refused N P` on standard error and
-//! nothing on standard output. And `off2dms as-drawn` before it, for bought OFF models.
+//! output, the turned faces on standard error, one number a line; of a refused file the refusal in words on standard error
+//! and nothing on standard output. And `off2dms as-drawn` before it, for bought OFF models.
 
 use std::path::Path;
 
-use differential::program::{find, run, Written};
+use differential::program::{find, in_words, run, Written};
 use differential::{each_case, lists, version};
 use reference::{encode, inspect, off2dms, off2dms_as_drawn, turn_file};
 use shapes::{
@@ -15,7 +15,7 @@ use shapes::{
 fn expected(bytes: &[u8]) -> (Vec<u8>, String) {
     match turn_file(bytes) {
         Ok((file, faces)) => (file, faces.iter().map(|face| format!("{face}\n")).collect()),
-        Err(refusal) => (vec![], format!("refused {} {}\n", refusal.number, refusal.place)),
+        Err(refusal) => (vec![], in_words(&format!("refused {} {}\n", refusal.number, refusal.place))),
     }
 }
 
@@ -131,6 +131,7 @@ fn drawn(text: &[u8]) -> Option<Written> {
             Some(compare(&written.output, 65_536))
         }
         Err(line) => {
+            let line = in_words(&line);
             assert!(written.output.is_empty() && written.said == line, "{:?}, not {line:?}", written.said);
             None
         }
@@ -178,7 +179,10 @@ fn the_sample_becomes_the_prism() {
     let meshes = Path::new(env!("CARGO_MANIFEST_DIR")).join("../../meshes");
     let text = std::fs::read(meshes.join("drawn-wrong.off")).expect("the sample");
     assert_eq!(off2dms(&text), Err("refused 10 25\n".to_string()));
-    assert_eq!(run(&find("off2dms"), &[], &text, 65_536).said, "refused 10 25\n");
+    assert_eq!(
+        run(&find("off2dms"), &[], &text, 65_536).said,
+        "refused 10 at corner 25: a leaving edge, with its direction, already left an earlier corner\n"
+    );
     let written = drawn(&text).expect("a file");
     assert!(written.output == std::fs::read(meshes.join("prism.dms")).expect("the prism"));
     assert_eq!(written.said, "1\n4\n5\n9\n13\n");

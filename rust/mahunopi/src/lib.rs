@@ -4,7 +4,8 @@
 //! mesh from it, [`off`] the mesh of an OFF text, [`link`] makes the mesh's link table, and [`build`] makes the control
 //! points of a range of corners: 123 numbers for each, in ticks of 1/256 of a grid step, five rows of five b points and
 //! then four rows of four a points. [`build_all`] builds all corners on several threads. [`floats`] gives one of these
-//! points as floats, [`sample`] a point of the surface, [`sample_triangle`] all of a triangle. [`irregular`] says whether
+//! points as floats, [`sample`] a point of the surface, [`sample_triangle`] all of a triangle. [`triangles`] makes the
+//! whole surface one closed mesh of triangles, and [`triangles_all`] does so on several threads. [`irregular`] says whether
 //! a mesh is all squares. [`preview`] builds with one vertex moved, and [`touched`] names the corners that a vertex can
 //! change. [`turn`] turns faces that are drawn the wrong way round. A [`Page`] reports on the borders of a run of files.
 //! [`nest`] lists a table of nested grids. [`archive`] rearranges a coordinate list for the archive, and [`restore`]
@@ -38,13 +39,14 @@ pub mod raw;
 mod refusal;
 mod report;
 mod sampling;
+mod triangles;
 mod turning;
 
 use std::num::NonZeroUsize;
 use std::thread;
 
 pub use archive::{archive, archive_into, restore, restore_into};
-pub use floats::{floats, FloatPoint};
+pub use floats::{floats, floats_all, floats_all_into, FloatPoint};
 pub use irregular::{irregular, Irregular};
 pub use mesh::{Counts, Lengths, Mesh, MeshRef};
 pub use nesting::{nest, nest_into, MAX_BODIES, SUN};
@@ -53,7 +55,8 @@ pub use preview::{preview, preview_into, ranges, touched, touched_into};
 use refusal::answer;
 pub use refusal::{Fault, Refusal};
 pub use report::{Page, MAX_PAGE_MESHES, PAGE_NUMBERS};
-pub use sampling::{sample, sample_count, sample_triangle, sample_triangle_into, MAX_PARTS};
+pub use sampling::{sample, sample_count, sample_triangle, sample_triangle_into, tangents_at, MAX_PARTS};
+pub use triangles::{count_triangles, triangles, triangles_all, triangles_into, TriangleLengths, Triangles};
 pub use turning::{turn, turn_in_place, turn_into, Turned};
 
 /// The version of the header that this wrapper is for, `MAHUNOPI_VERSION` there; the package's major version.
@@ -73,7 +76,7 @@ pub const PLAIN_SHARPNESS: u8 = 8;
 /// The numbers that building makes for a corner: 41 control points of x, y, z.
 pub const NUMBERS_PER_CORNER: usize = 123;
 /// The bytes of stack that a call may take.
-pub const CALL_STACK: usize = 352 * 1024;
+pub const CALL_STACK: usize = 320 * 1024;
 /// The fewest corners that [`build_all`] gives a thread: a thread has to be started, and every range repeats the checks
 /// over the whole mesh.
 const LEAST_RANGE: usize = 2_048;

@@ -149,6 +149,70 @@ extern "C" {
         point_count: usize,
         place: *mut u64,
     ) -> u32;
+    /// The tangents at one sample of a triangle.
+    pub fn mahunopi_tangents_at(
+        numbers: *const i32,
+        number_count: usize,
+        side: usize,
+        i: usize,
+        j: usize,
+        k: usize,
+        n: usize,
+        tangents: *mut [i64; 6],
+        place: *mut u64,
+    ) -> u32;
+    /// All control points of a list of quad-nets in floats.
+    pub fn mahunopi_floats_all(
+        numbers: *const i32,
+        number_count: usize,
+        floats: *mut f32,
+        float_count: usize,
+        place: *mut u64,
+    ) -> u32;
+    /// How many numbers the points and the triangles of a range of corners have.
+    pub fn mahunopi_count_triangles(
+        coordinates: *const i32,
+        coordinate_count: usize,
+        sides: *const u8,
+        side_count: usize,
+        corners: *const u16,
+        corner_count: usize,
+        sharpness: *const u8,
+        sharpness_count: usize,
+        links: *const u16,
+        link_count: usize,
+        levels: *const u8,
+        level_count: usize,
+        first: usize,
+        count: usize,
+        point_numbers: *mut u64,
+        triangle_numbers: *mut u64,
+        place: *mut u64,
+    ) -> u32;
+    /// The points and the triangles of a range of corners.
+    pub fn mahunopi_triangles(
+        coordinates: *const i32,
+        coordinate_count: usize,
+        sides: *const u8,
+        side_count: usize,
+        corners: *const u16,
+        corner_count: usize,
+        sharpness: *const u8,
+        sharpness_count: usize,
+        links: *const u16,
+        link_count: usize,
+        levels: *const u8,
+        level_count: usize,
+        first: usize,
+        count: usize,
+        points: *mut i32,
+        point_space: usize,
+        triangles: *mut u32,
+        triangle_space: usize,
+        point_numbers: *mut u64,
+        triangle_numbers: *mut u64,
+        place: *mut u64,
+    ) -> u32;
     /// Listing nested grids.
     pub fn mahunopi_nest(
         holders: *const u16,

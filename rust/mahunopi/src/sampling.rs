@@ -35,6 +35,38 @@ pub fn sample(numbers: &[i32], side: usize, weights: [usize; 3], parts: usize) -
     Ok(point)
 }
 
+/// The two tangents at the same point: the derivatives of the patch towards the side's tail and towards the centre, in each of
+/// which the head's weight falls as the other one rises. They are exact: in ticks, times N^3. Along a side that two quad-nets
+/// have in common the first is the same from both. Faults 18, 19, 32 and 33.
+///
+/// ```
+/// use mahunopi::{build, decode, link, tangents_at};
+///
+/// let cube = decode(&std::fs::read("../../meshes/cube.dms")?)?;
+/// let net = build(&cube, &link(&cube)?, 0, 1)?;
+/// let [along, inward] = tangents_at(&net, 0, [1, 0, 0], 1)?;
+/// assert_eq!(along[0], 4 * i64::from(net[3] - net[0])); // from b00 to b01
+/// assert_eq!(inward[0], 4 * i64::from(net[75] - net[0])); // from b00 to a00
+/// # Ok::<(), Box<dyn std::error::Error>>(())
+/// ```
+pub fn tangents_at(
+    numbers: &[i32],
+    side: usize,
+    weights: [usize; 3],
+    parts: usize,
+) -> Result<[[i64; 3]; 2], Refusal> {
+    let [i, j, k] = weights;
+    let mut tangents = [0; 6];
+    let mut place = 0;
+    // SAFETY: the pointer goes with its slice's length, `tangents` has six entries, and what is written to overlaps nothing
+    let number = unsafe {
+        raw::mahunopi_tangents_at(numbers.as_ptr(), numbers.len(), side, i, j, k, parts, &mut tangents, &mut place)
+    };
+    answer(number, place)?;
+    let [x, y, z, u, v, w] = tangents;
+    Ok([[x, y, z], [u, v, w]])
+}
+
 /// Writes all samples of a side's triangle to the beginning of the lent list, x, y, z of each: rows from the side
 /// inwards, each from the head, so that the sample of weights i, j, k is number k(2N + 3 - k)/2 + j. Faults 18, 19, 32,
 /// 33, then [`Fault::LentTooShort`](crate::Fault::LentTooShort).

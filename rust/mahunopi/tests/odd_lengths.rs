@@ -4,7 +4,8 @@
 use std::ptr::{null, null_mut};
 
 use mahunopi::{
-    build, build_all, decode, decode_into, link, raw, survey, survey_counted, Fault, Mesh, MeshRef, Refusal, MAX_SIDES,
+    build, build_all, count_triangles, decode, decode_into, link, raw, survey, survey_counted, triangles,
+    triangles_all, triangles_into, Fault, Mesh, MeshRef, Refusal, MAX_SIDES,
 };
 
 const BEYOND: usize = 1 << 32;
@@ -91,6 +92,109 @@ fn build_with(links: usize, first: usize, count: usize, output: usize) -> (u32, 
     };
     assert_eq!(numbers == [7; 123], number != 0);
     (number, place)
+}
+
+/// The triangles of the cube's corners with these lengths, all at level 1, where null stands for no entries: nothing but the
+/// place changes by a refusal. Every list has its own entries only: a length that names more has to be refused before they
+/// are looked at.
+fn triangles_with([links, levels]: [usize; 2], [first, count]: [usize; 2], [room, space]: [usize; 2]) -> (u32, u64) {
+    let mesh = cube();
+    let (table, ones) = (link(&mesh).unwrap(), [1; 24]);
+    let (mut points, mut three) = ([7; 150], [7; 288]);
+    let [mut point_numbers, mut triangle_numbers, mut place] = [UNTOUCHED; 3];
+    let number = unsafe {
+        raw::mahunopi_triangles(
+            mesh.coordinates.as_ptr(),
+            24,
+            mesh.sides.as_ptr(),
+            6,
+            mesh.corners.as_ptr(),
+            24,
+            mesh.sharpness.as_ptr(),
+            48,
+            if links == 0 { null() } else { table.as_ptr() },
+            links,
+            if levels == 0 { null() } else { ones.as_ptr() },
+            levels,
+            first,
+            count,
+            if room == 0 { null_mut() } else { points.as_mut_ptr() },
+            room,
+            if space == 0 { null_mut() } else { three.as_mut_ptr() },
+            space,
+            &mut point_numbers,
+            &mut triangle_numbers,
+            &mut place,
+        )
+    };
+    assert_eq!((points == [7; 150], three == [7; 288]), (number != 0, number != 0));
+    assert_eq!((point_numbers, triangle_numbers) == (UNTOUCHED, UNTOUCHED), number != 0);
+    let [mut counted, mut counted_three, mut other] = [UNTOUCHED; 3];
+    let counts = unsafe {
+        raw::mahunopi_count_triangles(
+            mesh.coordinates.as_ptr(),
+            24,
+            mesh.sides.as_ptr(),
+            6,
+            mesh.corners.as_ptr(),
+            24,
+            mesh.sharpness.as_ptr(),
+            48,
+            if links == 0 { null() } else { table.as_ptr() },
+            links,
+            if levels == 0 { null() } else { ones.as_ptr() },
+            levels,
+            first,
+            count,
+            &mut counted,
+            &mut counted_three,
+            &mut other,
+        )
+    };
+    if number == 255 {
+        assert_eq!((counts, other), (0, UNTOUCHED));
+        assert_eq!(place, if (room as u64) < counted { counted } else { counted_three });
+    } else {
+        assert_eq!((counts, other, counted, counted_three), (number, place, point_numbers, triangle_numbers));
+    }
+    (number, place)
+}
+
+#[test]
+fn triangles_of_odd_lengths() {
+    let whole = [0, 24];
+    assert_eq!(triangles_with([24, 24], whole, [150, 288]), (0, UNTOUCHED));
+    assert_eq!(triangles_with([0, 0], [0, 0], [0, 0]), (14, 0));
+    assert_eq!(triangles_with([24, 0], [0, 0], [0, 0]), (16, 0));
+    assert_eq!(triangles_with([24, 0], whole, [0, 0]), (39, 0));
+    assert_eq!(triangles_with([24, 24], whole, [0, 0]), (255, 150));
+    assert_eq!(triangles_with([24, 24], whole, [150, 0]), (255, 288));
+    assert_eq!(triangles_with([24, 24], whole, [149, 287]), (255, 150));
+    assert_eq!(triangles_with([24, 24], whole, [150, 287]), (255, 288));
+    for odd in [1, 23, 25, BEYOND - 1, BEYOND, BEYOND + 24, 3 << 32, usize::MAX / 8] {
+        assert_eq!(triangles_with([odd, 24], whole, [150, 288]), (14, odd as u64));
+        assert_eq!(triangles_with([24, odd], whole, [150, 288]), (39, odd as u64));
+        assert_eq!(triangles_with([24, odd], [0, 0], [150, 288]), (16, 0));
+    }
+    for far in [25, BEYOND, BEYOND + 1, usize::MAX] {
+        assert_eq!(triangles_with([24, 24], [far, 1], [150, 288]), (16, far as u64));
+        assert_eq!(triangles_with([24, 24], [1, far], [150, 288]), (16, 1));
+        assert_eq!(triangles_with([24, 24], [far, far], [150, 288]), (16, far as u64));
+    }
+    let refusal = |number: u32, place: u64| Refusal::new(Fault::of_number(number).unwrap(), place);
+    let nothing = Mesh::default();
+    assert_eq!(count_triangles(&nothing, &[], &[], 0, 0), Err(refusal(4, 0)));
+    assert_eq!(triangles(&nothing, &[], &[]), Err(refusal(4, 0)));
+    assert_eq!(triangles_all(&nothing, &[], &[], None), Err(refusal(4, 0)));
+    let mesh = cube();
+    let links = link(&mesh).unwrap();
+    assert_eq!(triangles_into(&mesh, &links, &[1; 24], 0, 24, &mut [], &mut []), Err(refusal(255, 150)));
+    assert_eq!(triangles(&mesh, &links, &[1; 23]), Err(refusal(39, 23)));
+    let mut levels = [1; 24];
+    levels[5] = 17;
+    assert_eq!(triangles_all(&mesh, &links, &levels, None), Err(refusal(40, 5)));
+    let many = MeshRef::new(&mesh.coordinates, &mesh.sides, &[0; 8_193]);
+    assert_eq!(triangles_all(many, &links, &levels, None), Err(refusal(4, 0)));
 }
 
 #[test]

@@ -27,7 +27,7 @@ pub use archive::{archive, archive_stream, restore, restore_stream, MOST_BYTES};
 pub use check::{check, link, links_of};
 pub use cosines::cosine;
 pub use file::{decode, encode, inspect, patches, squares, summary, Counts, Lengths, LENT_TOO_SHORT};
-pub use floats::{floats, FloatPoint};
+pub use floats::{floats, floats_all, FloatPoint};
 pub use nesting::{nest, nest_lines};
 pub use off::{off, off2dms, off2dms_as_drawn, OffLists};
 pub use preview::{preview, touched};

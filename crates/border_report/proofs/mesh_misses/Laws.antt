@@ -104,14 +104,14 @@ module _ (M : Mesh) (ok : Accepted M) (table : List ℕ) (old points : List ℤ)
     abbrev L : RefinedMesh rounded
     L = drawn n table points axis
 
-    near : (c : ℕ) → c < n → (e : End) (j : ℕ) → K .point (ring (K .corners) c e j) ≡ L .point (ring (K .corners) c e j)
-    near c here e j = point-is axis (ring (K .corners) c e j) small (ring-in (K .corners) (corners-sound M ok) c here e j)
+    alike : (c : ℕ) → c < n → (e : End) (j : ℕ) → K .point (ring (K .corners) c e j) ≡ L .point (ring (K .corners) c e j)
+    alike c here e j = point-is axis (ring (K .corners) c e j) small (ring-in (K .corners) (corners-sound M ok) c here e j)
 
     -- the numbers written, and the points of the nets that are drawn
     point-same : (c : ℕ) → c < n → (k : ℕ) → k < 41 → netPoint L c k ≡ written (outputOf M 0 n) axis c k
     point-same c here k l =
         sym (written-is M (outputOf M 0 n) (whole (omega arith)) c (omega arith, omega arith) axis small k l
-        ∙ ap (λ (p : List ℤ). getD p k (pos 0)) (net-same K L agree (corners-sound M ok) c here (near c here)))
+        ∙ ap (λ (p : List ℤ). getD p k (pos 0)) (net-same K L agree (corners-sound M ok) c here (alike c here)))
 
     miss-same : (j c : ℕ) → j < conditions → c < n → (s : Side) → netMiss L j c s ≡ missOn M j c s axis
     unfolding netMiss
@@ -121,11 +121,11 @@ module _ (M : Mesh) (ok : Accepted M) (table : List ℕ) (old points : List ℤ)
         let side : neighbour (L .corners) c s ≡ beside M c s = sym (neighbour-same (cornersOf M) told agree (corners-sound M ok) c here s) in
         let O : Output = outputOf M 0 n in
         condition-same j _ _ _ _ _ _ _ _ _ _ _ _ _ _ _ _
-        (sym (H-same K L agree (corners-sound M ok) c here (near c here) s))
-        (sym (T-same K L agree (corners-sound M ok) c here (near c here) s))
-        (sym (X-same K L agree (corners-sound M ok) c here (near c here) s))
-        (sym (Y-same K L agree (corners-sound M ok) c here (near c here) s))
-        (sym (C-same K L agree (corners-sound M ok) c here (near c here) s))
+        (sym (H-same K L agree (corners-sound M ok) c here (alike c here) s))
+        (sym (T-same K L agree (corners-sound M ok) c here (alike c here) s))
+        (sym (X-same K L agree (corners-sound M ok) c here (alike c here) s))
+        (sym (Y-same K L agree (corners-sound M ok) c here (alike c here) s))
+        (sym (C-same K L agree (corners-sound M ok) c here (alike c here) s))
         (same-outer (netPoint L c) (written O axis c) (point-same c here) s j (omega arith))
         (same-a (netPoint L c) (written O axis c) (point-same c here) s j few)
         (ap (λ (e : ℕ). aRow (netPoint L e) (across s) j) side ∙ same-a (netPoint L d) (written O axis d) (point-same d there) (across s) j few)

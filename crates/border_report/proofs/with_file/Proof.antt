@@ -5,7 +5,7 @@ use Rattle.paper.specs.Faults.{verdict}
 use Rattle.paper.specs.File.{fileMesh, fileVerdict}
 use Rattle.paper.specs.Report.{added}
 use Rattle.mesh.proofs.Verdicts.{passed, stop, orElse-sound}
-use Rattle.dms.proofs.header.Headers.{header-sized}
+use Rattle.dms.proofs.header.Headers.{header-within}
 use Rattle.border_report.proofs.Laws.{refused-added}
 use borrow.Author.Needs.{needs}
 use Rattle.border_report.proofs.with_file.Statement.{statement}
@@ -23,7 +23,7 @@ returns c =
 with-lists-requires : tie.Need-with-lists-requires
 with-lists-requires c κs =
     let s = c .before .before .before .before in (
-      header-sized (now (s .args .file)) (s .args .counted) (passed _ (c .before .before .check-header .ensures) (c .enum-told .given .1)),
+      header-within (now (s .args .file)) (s .args .counted) (passed _ (c .before .before .check-header .ensures) (c .enum-told .given .1)),
       s .pre,
     )
 

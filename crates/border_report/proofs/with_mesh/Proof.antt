@@ -4,6 +4,7 @@ use denote.Ref.{now}
 use lib.ListN.{length}
 use Rattle.paper.specs.Mesh.{mostCorners}
 use Rattle.mesh.specs.Tables.{smallMesh}
+use Rattle.mesh.proofs.Tables.{rows-suffice}
 use Rattle.surface.specs.Points.{pointRow}
 use Rattle.refine.proofs.sums.Laws.{small-zeros}
 use Rattle.checks.proofs.Laws.{rows-for}
@@ -18,7 +19,7 @@ over-requires c κs =
     let s : tie.Start = search in
     let r : tie.After-table-rows = search in
     let n = length (now (s .args .corners)) in
-    let fits : n ≤ mostCorners → n ≤ smallMesh = λ h. omega (arith, r .table-rows .ensures h) in
+    let fits : n ≤ mostCorners → n ≤ smallMesh = λ h. omega (arith, rows-suffice _ _ (r .table-rows .ensures) h) in
     (s .pre, (rows-for n smallMesh fits, (point-room n smallMesh fits, small-zeros (pointRow * smallMesh))))
 
 over-requires-2 : tie.Need-over-requires-2

@@ -11,7 +11,7 @@ use Rattle.paper.specs.Calls.{perCorner}
 use Rattle.paper.specs.Report.{conditions, condition, largestBelow}
 use Rattle.surface.specs.Sizes.{WrittenSize}
 use Rattle.walk.specs.Table.{toNext, entry}
-use Rattle.net.specs.near.Near.{Run}
+use Rattle.net.specs.stencil.Taken.{Run}
 use Rattle.net.specs.declared.sides.NetSides.{NetSides}
 use Rattle.net.specs.sides.Values.{FourSides}
 use Rattle.border_report.specs.declared.four.Misses.{Misses}

@@ -4,6 +4,7 @@ use lib.ListN.{length}
 use denote.Ref.{now}
 use Rattle.paper.specs.Mesh.{mostCorners}
 use Rattle.mesh.specs.Tables.{smallMesh, largeMesh}
+use Rattle.mesh.proofs.Tables.{rows-suffice}
 use Rattle.checks.proofs.Laws.{rows-for}
 use Rattle.building.proofs.Laws.{point-room}
 use native.Mathlib.Omega.{arith}
@@ -15,7 +16,7 @@ build-over-requires c κs =
     let s : tie.Start = search in
     let r : tie.After-table-rows = search in
     let n = length (now (s .args .corners)) in
-    let fits : n ≤ mostCorners → n ≤ smallMesh = λ h. omega (arith, r .table-rows .ensures h) in
+    let fits : n ≤ mostCorners → n ≤ smallMesh = λ h. omega (arith, rows-suffice _ _ (r .table-rows .ensures) h) in
     (rows-for n smallMesh fits, point-room n smallMesh fits)
 
 build-over-requires-2 : tie.Need-build-over-requires-2
@@ -23,7 +24,7 @@ build-over-requires-2 c κs =
     let s : tie.Start = search in
     let r : tie.After-table-rows = search in
     let n = length (now (s .args .corners)) in
-    let fits : n ≤ mostCorners → n ≤ largeMesh = λ h. omega (arith, r .table-rows .ensures h) in
+    let fits : n ≤ mostCorners → n ≤ largeMesh = λ h. omega (arith, rows-suffice _ _ (r .table-rows .ensures) h) in
     (rows-for n largeMesh fits, point-room n largeMesh fits)
 
 build-over-requires-3 : tie.Need-build-over-requires-3

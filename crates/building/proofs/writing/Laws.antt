@@ -25,7 +25,7 @@ use Rattle.mesh.proofs.Scans.{ways, compared}
 use Rattle.surface.specs.Points.{pointRow}
 use Rattle.surface.proofs.Hull.{corners-sound}
 use Rattle.surface.proofs.Rings.{ring-in}
-use Rattle.surface.proofs.Near.{Seen, ring-seen}
+use Rattle.surface.proofs.RingFaces.{Seen, ring-seen}
 use Rattle.surface.proofs.Agree.{net-same}
 use Rattle.walk.specs.Table.{toNext, toPrevious, entry, Tabled}
 use Rattle.refine.specs.Marks.{Asked, Marked}
@@ -34,9 +34,9 @@ use Rattle.refine.specs.corners.Mean.{MarkedPointed}
 use Rattle.refine.proofs.Accepted.{vertex-in, faces-of, refinable-of, table-agrees, table-sound}
 use Rattle.refine.proofs.Points.{put-choice}
 use Rattle.net.specs.sides.Drawn.{drawn, Drawn}
-use Rattle.net.specs.near.Near.{Run, Quiet}
+use Rattle.net.specs.stencil.Taken.{Run, Quiet}
 use Rattle.net.specs.Put.{RunPut}
-use Rattle.building.specs.writing.Written.{NearPointed, Rounds, Faced, NetsWritten}
+use Rattle.building.specs.writing.Written.{AskedPointed, Rounds, Faced, NetsDrawn, NetsWritten}
 
 -- ---- place i of the output holds point `i % perCorner / 3` of corner `i / perCorner` on axis `i % 3`
 place : (i : ℕ) → perCorner * (i / perCorner) + 3 * (i % perCorner / 3) + i % 3 ≡ i
@@ -52,7 +52,7 @@ axis-in : (i : ℕ) → i % 3 < 3
 axis-in i = omega arith
 
 -- all corners written: the whole output
-pub written-all : (M : Mesh) (first count : ℕ) (out : List ℤ) → length out ≡ perCorner * count → NetsWritten (refinedOf rounded M) first count out
+written-all : (M : Mesh) (first count : ℕ) (out : List ℤ) → length out ≡ perCorner * count → NetsWritten (refinedOf rounded M) first count out
     → out ≡ nets M first count
 unfolding NetsWritten nets numberAt
 written-all M first count out l w =
@@ -197,9 +197,9 @@ module _ (sides : List ℕ) (first last c d : ℕ) (a : first ≤ c) (b : c ≤ 
       (ways (ltb d (firstOf sides last + sidesOf sides last)))
 
 -- ---- the corners at marked vertices are those at the vertices of the range
-pub near-of : (M : Mesh) (marked : List ℕ) (first count : ℕ) (old points : List ℤ) → Named (M .corners) (length marked)
-    → Marked (M .corners) first count marked → MarkedPointed M marked old points → NearPointed M first count old points
-near-of M marked first count old points n m =
+pub asked-of : (M : Mesh) (marked : List ℕ) (first count : ℕ) (old points : List ℤ) → Named (M .corners) (length marked)
+    → Marked (M .corners) first count marked → MarkedPointed M marked old points → AskedPointed M first count old points
+asked-of M marked first count old points n m =
     put-choice (λ c k. (k .1, m (vertexOf (M .corners) c) (n c (k .1)) .only (k .2)))
     (λ c k. (omega arith, k .0, m (vertexOf (M .corners) c) (n c (k .0)) .yes (k .1)))
 
@@ -207,8 +207,8 @@ near-of M marked first count old points n m =
 module _ (M : Mesh) (accepted : Accepted M) (table : List ℕ) (old points : List ℤ) (first count start all : ℕ) (t : Tabled (cornersOf M) table)
     (some : 0 < count) (range : first + count ≤ cornerCount M) (from : start ≡ firstOf (M .sides) first)
     (to : start + all ≡ firstOf (M .sides) (first + count - 1) + sidesOf (M .sides) (first + count - 1))
-    (long : pointRow * cornerCount M ≤ length old) (v : NearPointed M start all old points) where
-  pub drawn-of : Drawn (cornerCount M) table points
+    (long : pointRow * cornerCount M ≤ length old) (v : AskedPointed M start all old points) where
+  drawn-of : Drawn (cornerCount M) table points
   drawn-of = record {
     sound = table-sound M table t accepted;
     table-long = t .long;
@@ -231,7 +231,7 @@ module _ (M : Mesh) (accepted : Accepted M) (table : List ℕ) (old points : Lis
       }
 
   -- the rings of a corner of the range are at the vertices of its face
-  pub drawn-net : (axis : ℕ) → axis < 3 → (k : ℕ) → k < count → first + k < cornerCount M
+  drawn-net : (axis : ℕ) → axis < 3 → (k : ℕ) → k < count → first + k < cornerCount M
       → net (refinedOf rounded M axis) (first + k) ≡ net (drawn (cornerCount M) table points axis) (first + k)
   drawn-net axis a k l h =
       let K = cornersOf M in
@@ -241,10 +241,19 @@ module _ (M : Mesh) (accepted : Accepted M) (table : List ℕ) (old points : Lis
       (λ e j. let d = ring-in K ok c h e j in
       sym (v .points-are axis (ring K c e j) a (d, asked k (ring K c e j) l d (ring-seen M accepted c h e j))))
 
-  -- what is written from the tables is what the mesh has
-  pub drawn-written : (out : List ℤ) → length out ≡ perCorner * count
-      → NetsWritten (drawn (cornerCount M) table points) first count out → out ≡ nets M first count
-  unfolding NetsWritten
-  drawn-written out size n =
-      written-all M first count out size
-      (λ a j p h hj hp. n a j p h hj hp ∙ ap (λ (l : List ℤ). getD l p (pos 0)) (sym (drawn-net a h j hj (omega arith))))
+  pub nets-drawn : NetsDrawn M table points first count
+  nets-drawn = record {
+    draws = drawn-of;
+    faced = faced-of M accepted table t;
+    nets-are = λ axis k a l. drawn-net axis a k l (omega arith);
+  }
+
+-- what is written from the tables for corners of the range is what the mesh has
+pub drawn-written : (M : Mesh) (table : List ℕ) (points : List ℤ) (first count : ℕ) → NetsDrawn M table points first count → (from n : ℕ) → first ≤ from
+    → from + n ≤ first + count → (out : List ℤ) → length out ≡ perCorner * n → NetsWritten (drawn (cornerCount M) table points) from n out → out ≡ nets M from n
+unfolding NetsWritten
+drawn-written M table points first count d from n low high out size w =
+    written-all M from n out size
+    (λ a j p h hj hp. w a j p h hj hp
+    ∙ ap (λ (l : List ℤ). getD l p (pos 0)) (sym (subst (λ (c : ℕ). net (refinedOf rounded M a) c ≡ net (drawn (cornerCount M) table points a) c)
+    (let e : first + (from + j - first) ≡ from + j = omega arith in e) (d .nets-are a (from + j - first) h (omega arith)))))

@@ -8,16 +8,17 @@ use Rattle.paper.specs.Mesh.{Mesh, cornerCount}
 use Rattle.paper.specs.Corners.{sumOf, sidesOf, previous}
 use Rattle.paper.specs.Links.{vertexOf}
 use Rattle.paper.specs.Numbers.{rounded}
-use Rattle.paper.specs.Refined.{RefinedMesh, refinedPoint}
+use Rattle.paper.specs.Refined.{RefinedMesh, refinedPoint, refinedOf}
 use Rattle.paper.specs.Net.{net, netPoints}
 use Rattle.paper.specs.Calls.{perCorner}
 use Rattle.walk.specs.Table.{rowLength, toPrevious, sidesHere, Column}
 use Rattle.refine.specs.Marks.{Asked}
+use Rattle.net.specs.sides.Drawn.{drawn, Drawn}
 use Rattle.refine.specs.sums.Sources.{Faces, PointsPut}
 
 -- the table of refined points has those of the corners at the vertices of `count` corners from `first` on, and is otherwise as before
-abbrev pub NearPointed : Mesh → ℕ → ℕ → List ℤ → List ℤ → Type 0
-NearPointed M first count =
+abbrev pub AskedPointed : Mesh → ℕ → ℕ → List ℤ → List ℤ → Type 0
+AskedPointed M first count =
     PointsPut (refinedPoint rounded M) (λ c. (c < cornerCount M) × Asked (M .corners) first count (vertexOf (M .corners) c))
 
 -- the table leads from each corner to the previous one of its face, and has the sides of the face
@@ -38,6 +39,12 @@ pub record Faced (n : ℕ) (table : List ℕ) : Type 0 where
   pub sides : List ℕ
   pub rounds : Rounds sides table
   pub all : sumOf sides ≡ n
+
+-- the tables draw the mesh M, as far as the nets of `count` corners from `first` on look
+pub record NetsDrawn (M : Mesh) (table : List ℕ) (points : List ℤ) (first count : ℕ) : Type 0 where
+  pub draws : Drawn (cornerCount M) table points
+  pub faced : Faced (cornerCount M) table
+  pub nets-are : (axis k : ℕ) → axis < 3 → k < count → net (refinedOf rounded M axis) (first + k) ≡ net (drawn (cornerCount M) table points axis) (first + k)
 
 -- the numbers of `count` corners from `first` on, of the mesh K on each axis
 unfoldable pub NetsWritten : (ℕ → RefinedMesh rounded) → ℕ → ℕ → List ℤ → Type 0

@@ -2,6 +2,7 @@
 use denote.Ref.{now}
 use Rattle.paper.specs.Mesh.{Mesh, meshOf, mostVertices}
 use Rattle.mesh.specs.Tables.{smallMesh}
+use Rattle.mesh.proofs.Tables.{rows-suffice}
 use Rattle.checks.proofs.Laws.{room}
 use native.Mathlib.Omega.{arith}
 use borrow.Author.Needs.{needs}
@@ -15,7 +16,7 @@ check-over-requires : tie.Need-check-over-requires
 check-over-requires c κs =
     let s : tie.Start = search in
     let r : tie.After-table-rows = search in
-    room (mesh s) (now (s .args .table)) smallMesh (s .pre) (λ h. omega (arith, r .table-rows .ensures (omega arith)))
+    room (mesh s) (now (s .args .table)) smallMesh (s .pre) (λ h. omega (arith, rows-suffice _ _ (r .table-rows .ensures) (omega arith)))
 
 check-over-requires-2 : tie.Need-check-over-requires-2
 check-over-requires-2 c κs = let s : tie.Start = search in room (mesh s) (now (s .args .table)) mostVertices (s .pre) (λ h. h)

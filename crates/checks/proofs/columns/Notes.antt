@@ -4,10 +4,10 @@ use mathlib.Core.List.{List}
 use Prim.Native.Nat.{ℕ, _+_, _*_, _<_}
 use native.Mathlib.Omega.{arith}
 use lib.ListN.{length, set}
-use Rattle.walk.proofs.Table.{Rows, row-put, row-kept}
+use Rattle.walk.proofs.Table.{PlacesApart, row-put, row-kept}
 use Rattle.checks.specs.columns.Vertices.{vertexRow, noted, NotesKept}
 
-vertex-rows : Rows vertexRow
+vertex-rows : PlacesApart vertexRow
 vertex-rows = record { rows-apart = λ i j k q. omega arith; columns-apart = λ i j k l a b q. omega arith }
 
 module _ (vertices : List ℕ) (k u x : ℕ) where

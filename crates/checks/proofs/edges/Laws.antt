@@ -31,7 +31,7 @@ use Rattle.checks.specs.columns.Filled.{CornersCounted}
 use Rattle.checks.proofs.columns.Notes.{note-put, note-kept}
 use Rattle.checks.proofs.columns.Chains.{On, above-head, at-vertex, on-falls, on-from, chained-own}
 use Rattle.checks.specs.edges.Entries.{repeated, alone, Entry, again, single, joined, Entries, has, to, from, Searchable}
-use Rattle.checks.specs.edges.Entries.{ChainsFrom, HeadsFrom, Keyed, BothKeyed, Hit, Marked, MarkedFrom, CountedAt, Unmarked, Ends, EntryFor}
+use Rattle.checks.specs.edges.Entries.{ChainsFrom, HeadsFrom, Keyed, BothKeyed, Hit, InColumn, MarkedFrom, CountedAt, Unmarked, StepsBelong, EntryFor}
 use Rattle.checks.specs.edges.Entries.{FacesKept, Collected, Found, EdgesChecked}
 
 -- ---- marking
@@ -59,8 +59,8 @@ module _ (corners : List ℕ) (earlier last : ℕ → ℕ) (k : Chained corners 
         key-is = λ t. stored (λ x. (x ≡ 0 → ⊥) → key (x - 1) ≡ t) t (λ q z. sym q) (λ q. m .key-is t);
       }
 
-  marked-step : Marked corners key column u at → Marked corners key column' u (earlier (at - 1))
-  unfolding Marked
+  marked-step : InColumn corners key column u at → InColumn corners key column' u (earlier (at - 1))
+  unfolding InColumn
   marked-step f d a b v =
       let l = on-from corners earlier last k u at o n d a v in
       stored (Hit corners u d) (key d)
@@ -69,7 +69,7 @@ module _ (corners : List ℕ) (earlier last : ℕ → ℕ) (k : Chained corners 
 
 -- both columns
 pub marked-none : (corners table vertices : List ℕ) (u : ℕ) → BothKeyed corners table vertices → MarkedFrom corners table vertices u (lastOf corners u)
-unfolding Marked
+unfolding InColumn
 marked-none corners table vertices u m =
     let above = above-head corners (earlierOf corners) (lastOf corners) (chained-own corners) u in
     record { keyed = m; left-from = λ d a b v. absurd (above d a b v); arrived-from = λ d a b v. absurd (above d a b v) }
@@ -164,7 +164,7 @@ module _ (corners table vertices : List ℕ) (u n low : ℕ) (r : Row vertices u
 
   -- the marks stand in other columns
   pub noted-marks : (at : ℕ) → MarkedFrom corners table vertices u at → MarkedFrom corners table (noting vertices u n low) u at
-  unfolding Marked
+  unfolding InColumn
   noted-marks at m =
       let l = noted-kept leavingHere (omega arith) (λ q. omega arith) (λ q. omega arith) in
       let a = noted-kept arrivingHere (omega arith) (λ q. omega arith) (λ q. omega arith) in
@@ -212,7 +212,7 @@ module _ (sides corners : List ℕ) (s : sumOf sides ≡ length corners) (c : �
 
 -- the entry of a corner whose vertex is marked
 module _ (corners table vertices : List ℕ) (u c : ℕ) (h : c < length corners) (v : u ≡ vertexOf corners c) (marked : MarkedFrom corners table vertices u 0)
-    (sides : List ℕ) (e : Ends sides corners table) where
+    (sides : List ℕ) (e : StepsBelong sides corners table) where
   m : MarkedFrom corners table vertices (vertexOf corners c) 0
   m = subst (λ (x : ℕ). MarkedFrom corners table vertices x 0) v marked
 
@@ -225,7 +225,7 @@ module _ (corners table vertices : List ℕ) (u c : ℕ) (h : c < length corners
   arrives d l = ap (vertexOf corners) (e .previouses d l)
 
   first : Hit corners (vertexOf corners c) c (noted vertices leavingHere (to corners table c))
-  unfolding Marked
+  unfolding InColumn
   first = m .left-from c (omega arith) h refl
 
   pub entry-again : (noted vertices leavingHere (to corners table c) ≡ c + 1 → ⊥) → Entry sides corners c repeated
@@ -241,7 +241,7 @@ module _ (corners table vertices : List ℕ) (u c : ℕ) (h : c < length corners
       (sym (leaves (x - 1) (omega arith)) ∙ m .keyed .left .key-is (to corners table c) (first .some) ∙ leaves c h))))
 
   once : noted vertices leavingHere (to corners table c) ≡ c + 1 → fault10 sides corners c ≡ false
-  unfolding fault10 sameEdge Marked
+  unfolding fault10 sameEdge InColumn
   once q =
       some-false c (sameEdge sides corners c) (λ j l.
       ⊎-elim
@@ -257,7 +257,7 @@ module _ (corners table vertices : List ℕ) (u c : ℕ) (h : c < length corners
   pub entry-single : noted vertices leavingHere (to corners table c) ≡ c + 1
       → ((noted vertices arrivingHere (to corners table c) ≡ 0 → ⊥)
       → vertexOf corners (noted vertices arrivingHere (to corners table c) - 1) ≡ u → ⊥) → Entry sides corners c alone
-  unfolding linked Marked
+  unfolding linked InColumn
   entry-single q ne =
       single (once q)
       (unlinked sides corners (e .sums) c (λ d l.
@@ -303,16 +303,16 @@ module _ (corners old new : List ℕ) (k : FacesKept old new) where
   from-kept : (c : ℕ) → from corners new c ≡ from corners old c
   from-kept c = ap (vertexOf corners) (k .previouses c)
 
-  ends-back : (sides : List ℕ) → Ends sides corners new → Ends sides corners old
-  ends-back sides e =
+  steps-back : (sides : List ℕ) → StepsBelong sides corners new → StepsBelong sides corners old
+  steps-back sides e =
       record {
         sums = e .sums;
         nexts = λ c l. sym (k .nexts c) ∙ e .nexts c l;
         previouses = λ c l. sym (k .previouses c) ∙ e .previouses c l;
       }
 
-  pub ends-on : (sides : List ℕ) → Ends sides corners old → Ends sides corners new
-  ends-on sides e =
+  pub steps-on : (sides : List ℕ) → StepsBelong sides corners old → StepsBelong sides corners new
+  steps-on sides e =
       record {
         sums = e .sums;
         nexts = λ c l. k .nexts c ∙ e .nexts c l;
@@ -326,7 +326,7 @@ module _ (corners old new : List ℕ) (k : FacesKept old new) where
   both-keyed-on vertices m = record { left = keyed-on to-kept (m .left); arrived = keyed-on from-kept (m .arrived) }
 
   pub marked-on : (vertices : List ℕ) (u at : ℕ) → MarkedFrom corners old vertices u at → MarkedFrom corners new vertices u at
-  unfolding Marked
+  unfolding InColumn
   marked-on vertices u at m =
       record {
         keyed = both-keyed-on vertices (m .keyed);
@@ -346,10 +346,10 @@ module _ (corners old new : List ℕ) (k : FacesKept old new) where
       }
 
   pub entry-back : (c x : ℕ) → EntryFor corners new c x → EntryFor corners old c x
-  entry-back c x f sides e = f sides (ends-on sides e)
+  entry-back c x f sides e = f sides (steps-on sides e)
 
   pub entry-on : (c x : ℕ) → EntryFor corners old c x → EntryFor corners new c x
-  entry-on c x f sides e = f sides (ends-back sides e)
+  entry-on c x f sides e = f sides (steps-back sides e)
 
 -- ---- collecting: the corners of u from `at` on have their entries and the valence n
 pub record CollectedFrom (corners old new : List ℕ) (u n at : ℕ) : Type 0 where

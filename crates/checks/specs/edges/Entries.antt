@@ -76,14 +76,14 @@ pub record Hit (corners : List ℕ) (u d x : ℕ) : Type 0 where
   pub own : vertexOf corners (x - 1) ≡ u
 
 -- the corners of u from `at` on are in the column
-unfoldable pub Marked : List ℕ → (ℕ → ℕ) → (ℕ → ℕ) → ℕ → ℕ → Type 0
-Marked corners key column u at = (d : ℕ) → at ≤ d → d < length corners → vertexOf corners d ≡ u → Hit corners u d (column (key d))
+unfoldable pub InColumn : List ℕ → (ℕ → ℕ) → (ℕ → ℕ) → ℕ → ℕ → Type 0
+InColumn corners key column u at = (d : ℕ) → at ≤ d → d < length corners → vertexOf corners d ≡ u → Hit corners u d (column (key d))
 
 -- both columns, with the corners of u from `at` on
 pub record MarkedFrom (corners table vertices : List ℕ) (u at : ℕ) : Type 0 where
   pub keyed : BothKeyed corners table vertices
-  pub left-from : Marked corners (to corners table) (noted vertices leavingHere) u at
-  pub arrived-from : Marked corners (from corners table) (noted vertices arrivingHere) u at
+  pub left-from : InColumn corners (to corners table) (noted vertices leavingHere) u at
+  pub arrived-from : InColumn corners (from corners table) (noted vertices arrivingHere) u at
 
 -- how many corners u has, and the lowest where it has any
 pub record CountedAt (corners vertices : List ℕ) (u : ℕ) : Type 0 where
@@ -96,14 +96,14 @@ pub record Unmarked (old new : List ℕ) (u : ℕ) : Type 0 where
   pub counts : (v : ℕ) → (v ≡ u → ⊥) → noted new countHere v ≡ noted old countHere v
 
 -- side counts that the table's steps belong to
-pub record Ends (sides corners table : List ℕ) : Type 0 where
+pub record StepsBelong (sides corners table : List ℕ) : Type 0 where
   pub sums : sumOf sides ≡ length corners
   pub nexts : Column table toNext (next sides) (length corners)
   pub previouses : Column table toPrevious (previous sides) (length corners)
 
 -- the entry of a corner, for all such side counts
 abbrev pub EntryFor : List ℕ → List ℕ → ℕ → ℕ → Type 0
-EntryFor corners table c x = (sides : List ℕ) → Ends sides corners table → Entry sides corners c x
+EntryFor corners table c x = (sides : List ℕ) → StepsBelong sides corners table → Entry sides corners c x
 
 -- the columns of the faces hold what they held
 pub record FacesKept (old new : List ℕ) : Type 0 where
@@ -125,7 +125,7 @@ Valences corners table = Column table valenceHere (λ c. valence corners (vertex
 
 -- all corners have their entries and their valences, and the vertices are counted; the columns of the faces hold what they held
 pub record Found (corners old new vertices : List ℕ) : Type 0 where
-  pub entries : (sides : List ℕ) → Ends sides corners new → Entries sides corners new
+  pub entries : (sides : List ℕ) → StepsBelong sides corners new → Entries sides corners new
   pub valences : Valences corners new
   pub faces : FacesKept old new
   pub counted : CornersCounted corners vertices

@@ -2,7 +2,7 @@
 use borrow.Author.Needs.{needs}
 use Rattle.mesh.proofs.Verdicts.{passed, stop, past}
 use Rattle.paper.specs.File.{decodeVerdict}
-use Rattle.dms.proofs.Files.{file-sized}
+use Rattle.dms.proofs.Files.{file-within}
 use Rattle.dms.proofs.check_decode.Tie as tie
 
 returns : tie.Need-returns
@@ -10,7 +10,7 @@ unfolding decodeVerdict
 returns c = stop _ (c .before .before .before .survey-file .ensures .answers) _ _ (c .before .answer .given .1) _
 
 check-room-requires : tie.Need-check-room-requires
-check-room-requires c κs = file-sized _ _ (passed _ (c .before .before .survey-file .ensures .answers) (c .enum-told .given .1)) .header
+check-room-requires c κs = file-within _ _ (passed _ (c .before .before .survey-file .ensures .answers) (c .enum-told .given .1)) .header
 
 returns-2 : tie.Need-returns-2
 unfolding decodeVerdict

@@ -4,7 +4,7 @@ use Prim.Native.Nat.{ℕ, _*_}
 use borrow.Author.Needs.{needs}
 use Rattle.mesh.proofs.Verdicts.{passed}
 use Rattle.paper.specs.Faults.{stated}
-use Rattle.dms.proofs.Files.{refused-decode, done-decode, decode-sized, decode-room}
+use Rattle.dms.proofs.Files.{refused-decode, done-decode, decode-within, decode-room}
 use Rattle.dms.proofs.decode_file.Tie as tie
 
 returns : tie.Need-returns
@@ -15,27 +15,27 @@ returns c =
 read-lists-requires : tie.Need-read-lists-requires
 read-lists-requires c κs =
     let e = passed _ (c .before .before .before .before .before .before .check-decode .ensures) (c .before .before .before .before .enum-told .given .1) in
-    (decode-sized _ _ _ _ _ _ e, decode-room _ _ _ _ _ _ e)
+    (decode-within _ _ _ _ _ _ e, decode-room _ _ _ _ _ _ e)
 
 vertex-count-requires : tie.Need-vertex-count-requires
 vertex-count-requires c κs =
     let t = c .before .before .before .before .before .before .before .before .before .before .before .before in
-    decode-sized _ _ _ _ _ _ (passed _ (t .before .before .check-decode .ensures) (t .enum-told .given .1)) .header
+    decode-within _ _ _ _ _ _ (passed _ (t .before .before .check-decode .ensures) (t .enum-told .given .1)) .header
 
 face-count-requires : tie.Need-face-count-requires
 face-count-requires c κs =
     let t = c .before .before .before .before .before .before .before .before .before .before .before .before .before in
-    decode-sized _ _ _ _ _ _ (passed _ (t .before .before .check-decode .ensures) (t .enum-told .given .1)) .header
+    decode-within _ _ _ _ _ _ (passed _ (t .before .before .check-decode .ensures) (t .enum-told .given .1)) .header
 
 corner-count-requires : tie.Need-corner-count-requires
 corner-count-requires c κs =
     let t = c .before .before .before .before .before .before .before .before .before .before .before .before .before .before in
-    decode-sized _ _ _ _ _ _ (passed _ (t .before .before .check-decode .ensures) (t .enum-told .given .1)) .header
+    decode-within _ _ _ _ _ _ (passed _ (t .before .before .check-decode .ensures) (t .enum-told .given .1)) .header
 
 corner-count-requires-2 : tie.Need-corner-count-requires-2
 corner-count-requires-2 c κs =
     let t = c .before .before .before .before .before .before .before .before .before .before .before .before .before .before .before in
-    decode-sized _ _ _ _ _ _ (passed _ (t .before .before .check-decode .ensures) (t .enum-told .given .1)) .header
+    decode-within _ _ _ _ _ _ (passed _ (t .before .before .check-decode .ensures) (t .enum-told .given .1)) .header
 
 returns-2 : tie.Need-returns-2
 returns-2 c =

@@ -13,7 +13,7 @@ use Rattle.paper.specs.File.{lengthVerdict, headerVerdict}
 use Rattle.mesh.proofs.Ranges.{none-left}
 use Rattle.mesh.proofs.Accepted.{few-vertices, few-faces, few-corners}
 use Rattle.mesh.proofs.Verdicts.{sound-left, sound-right, single-sound, single-hit, single-miss}
-use Rattle.dms.specs.header.Sized.{Sized}
+use Rattle.dms.specs.header.ListsWithin.{ListsWithin}
 
 -- the version read, first or second
 module _ (file : List ℕ) (v : ℕ) (e : v ≡ versionIn file) where
@@ -75,9 +75,9 @@ module _ (file : List ℕ) (counted : ℕ) where
   pub all-held : counted ≤ length file → sound ≡ single 3 (ltb (length file) counted) 0
   all-held l = sym (single-miss 3 0 (le-ltb (length file) counted l))
 
-pub header-sized : (file : List ℕ) (counted : ℕ) → headerVerdict file counted ≡ sound → Sized file
+pub header-within : (file : List ℕ) (counted : ℕ) → headerVerdict file counted ≡ sound → ListsWithin file
 unfolding headerVerdict
-header-sized file counted e =
+header-within file counted e =
     let front = sound-left (lengthVerdict file counted) _ e in
     let later = sound-right (lengthVerdict file counted) _ e in
     let four : fault4 (3 * verticesIn file) (facesIn file) (cornersIn file) ≡ false = single-sound 4 _ 0 (sound-left _ _ later) in

@@ -3,7 +3,7 @@ use borrow.Author.Needs.{needs}
 use Rattle.paper.specs.Faults.{verdict}
 use Rattle.paper.specs.File.{fileMesh, fileVerdict}
 use Rattle.mesh.proofs.Verdicts.{passed, stop}
-use Rattle.dms.proofs.header.Headers.{header-sized}
+use Rattle.dms.proofs.header.Headers.{header-within}
 use Rattle.dms.proofs.surveying.Surveys.{refused-survey}
 use Rattle.dms.proofs.Files.{later-survey}
 use Rattle.dms.proofs.survey_file.Tie as tie
@@ -19,7 +19,7 @@ returns c =
 survey-lists-requires : tie.Need-survey-lists-requires
 survey-lists-requires c κs =
     let s : tie.Start = search in
-    header-sized (s .args .file .now) (s .args .counted) (passed _ (c .before .before .check-header .ensures) (c .enum-told .given .1))
+    header-within (s .args .file .now) (s .args .counted) (passed _ (c .before .before .check-header .ensures) (c .enum-told .given .1))
 
 returns-2 : tie.Need-returns-2
 unfolding fileVerdict

@@ -32,7 +32,7 @@ right-number : (numbers : List ℤ) (j : ℕ) → natAbs (getD numbers j (pos 0)
 unfolding fault19
 right-number numbers j h = ap not (le-leb (natAbs (getD numbers j (pos 0))) (2 ^ 27) h)
 
-passes : (numbers : List ℤ) → length numbers ≡ perCorner → ((j : ℕ) → j < perCorner → natAbs (getD numbers j (pos 0)) ≤ 2 ^ 27)
+pub passes : (numbers : List ℤ) → length numbers ≡ perCorner → ((j : ℕ) → j < perCorner → natAbs (getD numbers j (pos 0)) ≤ 2 ^ 27)
     → netVerdict numbers ≡ sound
 unfolding netVerdict
 passes numbers e h =

@@ -3,7 +3,7 @@ use mathlib.Core.Path.{_≡_, sym, subst}
 use mathlib.Core.Logic.{⊎-elim}
 use Prim.Native.Nat.{ℕ, _+_, _-_, _<_, _≤_}
 use lib.ListN.{length}
-use Rattle.paper.specs.Squares.{irregularFace}
+use Rattle.paper.specs.Irregular.{irregularFace}
 use Rattle.irregular.proofs.Laws.{face-odd, face-square}
 use Rattle.irregular.proofs.Scanned.{Scanned, scan-start, scan-hit, scan-miss, scan-end, scan-all}
 use native.Mathlib.Omega.{arith}
@@ -17,8 +17,8 @@ abbrev μ-loop : tie.MeasureT-loop
 μ-loop sides lowest₀ read₀ f₀ lowest read f = length sides - f
 
 -- the place in the loop, and the function's entry
-near : tie.In-loop Inv-loop μ-loop → tie.In-loop Inv-loop μ-loop × tie.Start Inv-loop μ-loop
-near i = (i, search)
+from-start : tie.In-loop Inv-loop μ-loop → tie.In-loop Inv-loop μ-loop × tie.Start Inv-loop μ-loop
+from-start i = (i, search)
 
 loop-holds : tie.Need-loop-holds Inv-loop μ-loop
 loop-holds c = (omega arith, scan-start _ _)
@@ -48,5 +48,5 @@ returns c =
 
 pub search-faces-spec : {M : Type 1} → Rattle.irregular.proofs.search_faces.Statement.statement M
 search-faces-spec =
-    tie.close (tie.spec Inv-loop μ-loop loop-holds (λ c. omega (arith, near search)) (λ c. search needs) (λ c. search needs)
-    (λ c. omega (arith, near search)) loop-again returns)
+    tie.close (tie.spec Inv-loop μ-loop loop-holds (λ c. omega (arith, from-start search)) (λ c. search needs) (λ c. search needs)
+    (λ c. omega (arith, from-start search)) loop-again returns)

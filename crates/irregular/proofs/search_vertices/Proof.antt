@@ -2,7 +2,7 @@
 use mathlib.Core.Path.{sym, subst}
 use mathlib.Core.Logic.{⊎-elim}
 use Prim.Native.Nat.{ℕ, _+_, _-_, _<_}
-use Rattle.paper.specs.Squares.{irregularVertex}
+use Rattle.paper.specs.Irregular.{irregularVertex}
 use Rattle.irregular.proofs.Laws.{vertex-odd, vertex-square}
 use Rattle.irregular.proofs.Scanned.{Scanned, scan-start, scan-hit, scan-miss, scan-end}
 use native.Mathlib.Omega.{arith}
@@ -16,8 +16,8 @@ abbrev μ-loop : tie.MeasureT-loop
 μ-loop corners vertices count lowest₀ u₀ lowest u = count - u
 
 -- the place in the loop, and the function's entry
-near : tie.In-loop Inv-loop μ-loop → tie.In-loop Inv-loop μ-loop × tie.Start Inv-loop μ-loop
-near i = (i, search)
+from-start : tie.In-loop Inv-loop μ-loop → tie.In-loop Inv-loop μ-loop × tie.Start Inv-loop μ-loop
+from-start i = (i, search)
 
 loop-holds : tie.Need-loop-holds Inv-loop μ-loop
 loop-holds c = scan-start _ _
@@ -40,5 +40,5 @@ returns c = let l = c .before .loop in scan-end _ _ (l .lowest) (l .u) (l .inv) 
 
 pub search-vertices-spec : {M : Type 1} → Rattle.irregular.proofs.search_vertices.Statement.statement M
 search-vertices-spec =
-    tie.close (tie.spec Inv-loop μ-loop loop-holds (λ c. omega (arith, near search)) (λ c. omega (arith, near search)) (λ c. omega (arith, near search))
-    (λ c. omega (arith, c .before .before .loop .inv .bounded)) (λ c. search needs) (λ c. omega (arith, near search)) loop-again returns)
+    tie.close (tie.spec Inv-loop μ-loop loop-holds (λ c. omega (arith, from-start search)) (λ c. omega (arith, from-start search)) (λ c. omega (arith, from-start search))
+    (λ c. omega (arith, c .before .before .loop .inv .bounded)) (λ c. search needs) (λ c. omega (arith, from-start search)) loop-again returns)

@@ -1,9 +1,13 @@
 -- `list` meets its contract: 23 refuses and nothing was written, or the order is copied.
-use mathlib.Core.Path.{sym, ap, _∙_}
+use mathlib.Core.Path.{_≡_, sym, ap, _∙_}
+use Prim.Native.Nat.{_≤_}
+use lib.ListN.{length, take}
+use lib.Seq.{length-take-le}
 use denote.Ref.{now}
 use Rattle.paper.specs.Faults.{stated}
 use Rattle.mesh.proofs.Verdicts.{passed}
-use Rattle.nesting.proofs.Laws.{list-refused, list-done}
+use Rattle.nesting.proofs.Laws.{list-refused, list-done, copied-whole}
+use native.Mathlib.Omega.{arith}
 use borrow.Author.Needs.{needs}
 use Rattle.nesting.proofs.list.Tie as tie
 
@@ -14,18 +18,28 @@ returns c =
     list-refused (now (s .args .holders)) (now (s .args .listing)) (r .0 .0) (r .0 .1 .0)
     (ap stated (sym (r .1)) ∙ c .before .before .before .check-chains .ensures)
 
+-- the order has room for the listing
+room : (a : tie.After-arrange) → let s : tie.Start = search in length (now (s .args .listing)) ≤ length (a .arrange .last .1 .1 .0)
+room a = let s : tie.Start = search in omega (arith, s .pre .0 .order-room, s .pre .1, a .arrange .kept .1 .1 .0)
+
+taken : (a : tie.After-arrange) → let s : tie.Start = search in
+    length (take (length (now (s .args .listing))) (a .arrange .last .1 .1 .0)) ≡ length (now (s .args .listing))
+taken a = length-take-le _ _ (room a)
+
 returns-2 : tie.Need-returns-2
 returns-2 c =
-    let t23 = c .before .before .before .before .before in
-    let d = c .before .before .before .before .before .before .before .before .before .before .before .before .before in
     let s : tie.Start = search in
-    let a = d .arrange in
-    let k = c .before .before .copy in
-    let e23 = passed (t23 .before .before .check-chains .result) (t23 .before .before .check-chains .ensures) (t23 .enum-told .given .1) in
-    list-done (now (s .args .holders)) (now (s .args .listing)) e23 (s .pre .1) (a .last .1 .0) (a .last .1 .1 .0) (k .last .1 .0)
-    (a .ensures) (k .ensures)
+    let t : tie.After-check-chains = search in
+    let told : tie.After-enum-told = search in
+    let a : tie.After-arrange = search in
+    let k : tie.After-copy-halves = search in
+    let order = a .arrange .last .1 .1 .0 in
+    let e23 = passed (t .check-chains .result) (t .check-chains .ensures) (told .enum-told .given .1) in
+    list-done (now (s .args .holders)) (now (s .args .listing)) e23 (s .pre .1) (a .arrange .last .1 .0) order (k .copy-halves .last .1 .0)
+    (a .arrange .ensures)
+    (copied-whole order (now (s .args .listing)) _ (room a) (k .copy-halves .ensures))
 
 pub list-spec : {M : Type 1} → Rattle.nesting.proofs.list.Statement.statement M
 list-spec =
     tie.close (tie.spec (λ c κs. search needs) (λ c κs. search needs) (search needs) (search needs) (search needs) returns (search needs)
-    (λ c κs. search needs) (search needs) (search needs) (search needs) returns-2)
+    (λ c. room search) (λ c. sym (taken search)) (λ c κs. omega (arith, taken search)) (search needs) (search needs) (search needs) returns-2)

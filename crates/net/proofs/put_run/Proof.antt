@@ -10,25 +10,25 @@ use Rattle.paper.specs.Scan.{iterate}
 use Rattle.paper.specs.Mesh.{mostSides}
 use Rattle.walk.specs.Table.{toNext, entry}
 use Rattle.net.specs.sides.Drawn.{drawn, Drawn}
-use Rattle.net.specs.near.Near.{Quiet, FaceTaken}
+use Rattle.net.specs.stencil.Taken.{Quiet, FaceTaken}
 use Rattle.net.specs.Put.{RunPut}
-use Rattle.net.proofs.Run.{face-held, face-kept, run-place, lane-has, ready, run-none, run-more}
+use Rattle.net.proofs.CornerRuns.{face-held, face-kept, run-place, lane-has, ready, run-none, run-more}
 use Rattle.net.proofs.put_run.Statement.{statement}
 use Rattle.net.proofs.put_run.Tie as tie
 
 -- what the lent spaces hold
-pub record Kept (count : ℕ) (table : List ℕ) (points : List ℤ) (c run : ℕ) (near lanes : List ℤ) : Type 0 where
-  pub long : length near ≡ 128
+pub record Kept (count : ℕ) (table : List ℕ) (points : List ℤ) (c run : ℕ) (stencil lanes : List ℤ) : Type 0 where
+  pub long : length stencil ≡ 128
   pub wide : length lanes ≡ 164
-  pub quiet : Quiet near
-  pub face : FaceTaken (drawn count table points) c (run + 1) near near
+  pub quiet : Quiet stencil
+  pub face : FaceTaken (drawn count table points) c (run + 1) stencil stencil
 
 abbrev Inv-loop : tie.InvT-loop
-Inv-loop points table rows count c run near₀ lanes₀ out₀ at r₀ near lanes out r =
-    (r ≤ run) × Kept count table points c run near lanes × RunPut (drawn count table points) c r at out₀ out
+Inv-loop points table rows count c run stencil₀ lanes₀ out₀ at r₀ stencil lanes out r =
+    (r ≤ run) × Kept count table points c run stencil lanes × RunPut (drawn count table points) c r at out₀ out
 
 abbrev μ-loop : tie.MeasureT-loop
-μ-loop points table rows count c run near₀ lanes₀ out₀ at r₀ near lanes out r = run - r
+μ-loop points table rows count c run stencil₀ lanes₀ out₀ at r₀ stencil lanes out r = run - r
 
 take-face-requires : tie.Need-take-face-requires Inv-loop μ-loop
 take-face-requires c κs =

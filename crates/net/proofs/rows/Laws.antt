@@ -18,9 +18,9 @@ use Rattle.paper.specs.Cosines.{unit}
 use Rattle.paper.specs.Net.{Side, side0, side1, side2, side3, T, Y, outer1, outer2, outer3, a0, a1, a2, a3, middle, aHead, aTail, bHead, bTail, b22, bGrid, aGrid}
 use Rattle.surface.specs.Sizes.{RefinedSize, ValueSize, WrittenSize, CosineSize}
 use Rattle.net.specs.declared.sides.SideValues.{SideValues}
-use Rattle.net.specs.sides.Values.{Sized}
+use Rattle.net.specs.sides.Values.{SideSized}
 use Rattle.net.specs.declared.rows.RowValues.{RowValues}
-use Rattle.net.specs.rows.Rows.{a12, a21, IsRows, RowsSized, RowsOf, AllSized, IsAGrid, IsBGrid}
+use Rattle.net.specs.rows.SideRows.{a12, a21, IsRows, RowsSized, RowsOf, FourRowsSized, IsAGrid, IsBGrid}
 
 -- ---- the machine's number of a value is the value
 abbrev pub plain : ℤ → ℤ
@@ -68,7 +68,7 @@ abbrev pub Rounds : ℤ → ℤ → ℤ → Type 0
 Rounds n d q = (q ≡ round n d) × WrittenSize q
 
 -- ---- the rows of a side
-module _ (f g l o : SideValues) (z : Sized f × Sized g × Sized l × Sized o) (q1 q2 q3 q4 q5 q6 : ℤ)
+module _ (f g l o : SideValues) (z : SideSized f × SideSized g × SideSized l × SideSized o) (q1 q2 q3 q4 q5 q6 : ℤ)
     (e1 : Rounds (plain (f .head) +ℤ pos 3 *ℤ plain (f .x)) (pos 4) q1)
     (e2 : Rounds (plain (f .x) +ℤ plain (f .y)) (pos 2) q2)
     (e3 : Rounds (plain (f .tail) +ℤ pos 3 *ℤ plain (f .y)) (pos 4) q3)
@@ -155,7 +155,7 @@ again K c s r z i = record {
 half-is : (p q r : ℤ) → Half p q r → plain r ≡ round (plain p +ℤ plain q) (pos 2)
 half-is p q r e = written-is r _ (e .1) (e .0)
 
-module _ (r0 r1 r2 r3 : RowValues) (z : AllSized r0 r1 r2 r3) (h00 h03 h30 h33 h11 h12 h21 h22 : ℤ)
+module _ (r0 r1 r2 r3 : RowValues) (z : FourRowsSized r0 r1 r2 r3) (h00 h03 h30 h33 h11 h12 h21 h22 : ℤ)
     (e00 : Half (r0 .outer1) (r3 .outer1) h00) (e03 : Half (r0 .outer3) (r1 .outer3) h03)
     (e30 : Half (r3 .outer3) (r2 .outer3) h30) (e33 : Half (r2 .outer1) (r1 .outer1) h33)
     (e11 : Half (r0 .middle) (r3 .middle) h11) (e12 : Half (r0 .middle) (r1 .middle) h12)
@@ -188,7 +188,7 @@ module _ (r0 r1 r2 r3 : RowValues) (z : AllSized r0 r1 r2 r3) (h00 h03 h30 h33 h
   }
 
 module _ (c0 c1 c2 c3 : ℤ) (f0 : SFits w32 c0) (f1 : SFits w32 c1) (f2 : SFits w32 c2) (f3 : SFits w32 c3)
-    (r0 r1 r2 r3 : RowValues) (z : AllSized r0 r1 r2 r3) (a : List (List ℤ))
+    (r0 r1 r2 r3 : RowValues) (z : FourRowsSized r0 r1 r2 r3) (a : List (List ℤ))
     (za : WrittenSize (a12 a)) (zb : WrittenSize (a21 a)) (h11 h13 h31 h33 h22 : ℤ)
     (e11 : Half (r3 .a1) (r0 .a1) h11) (e13 : Half (r0 .a2) (r1 .a2) h13) (e31 : Half (r3 .a2) (r2 .a2) h31) (e33 : Half (r2 .a1) (r1 .a1) h33)
     (e22 : Half (a12 a) (a21 a) h22) where

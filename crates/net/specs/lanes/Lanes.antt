@@ -19,14 +19,14 @@ use Rattle.net.specs.sides.Values.{FaceSized, FourSized, FourSides, Arou
 
 -- the face of a ring in lane k: its centre in row i, its points behind and ahead from row j on
 abbrev pub rowsFace : List ℤ → ℕ → ℕ → ℕ → Face
-rowsFace near k i j = record { centre = pointAt near k i; ahead = pointAt near k (j + 1); behind = pointAt near k j }
+rowsFace stencil k i j = record { centre = pointAt stencil k i; ahead = pointAt stencil k (j + 1); behind = pointAt stencil k j }
 
 -- the rows of the vertex's ring, and those of the face's
 abbrev pub vertexFace : List ℤ → ℕ → Face
-vertexFace near k = rowsFace near k 7 8
+vertexFace stencil k = rowsFace stencil k 7 8
 
 abbrev pub meshFace : List ℤ → ℕ → ℕ → Face
-meshFace near k place = rowsFace near k 10 (11 + place)
+meshFace stencil k place = rowsFace stencil k 10 (11 + place)
 
 -- C of the two rings at corner c, and its place in the run
 pub record RingsAt (table : List ℕ) (c place : ℕ) (g : Rings) : Type 0 where
@@ -35,27 +35,27 @@ pub record RingsAt (table : List ℕ) (c place : ℕ) (g : Rings) : Type 0 where
   pub place-is : g .place ≡ place
 
 -- lane k has numbers of the sizes that a net is made from
-pub record LaneReady (near : List ℤ) (k : ℕ) (g : Rings) : Type 0 where
-  pub long : length near ≡ 128
+pub record LaneReady (stencil : List ℤ) (k : ℕ) (g : Rings) : Type 0 where
+  pub long : length stencil ≡ 128
   pub lane : k < 4
   pub place : g .place < mostSides
-  pub points : (i : ℕ) → i < 7 → RefinedSize (pointAt near k i)
-  pub vertex : FaceSized (vertexFace near k)
-  pub face : FaceSized (meshFace near k (g .place))
+  pub points : (i : ℕ) → i < 7 → RefinedSize (pointAt stencil k i)
+  pub vertex : FaceSized (vertexFace stencil k)
+  pub face : FaceSized (meshFace stencil k (g .place))
   pub cosines : CosineSize (g .vertex) × CosineSize (g .face)
 
 -- lane k has what the net of corner c is made from
-pub record LaneHas (K : RefinedMesh rounded) (c : ℕ) (near : List ℤ) (k : ℕ) (g : Rings) : Type 0 where
-  pub around : Around K c (pointAt near k)
-  pub vertex : AtVertex K c (vertexFace near k) (g .vertex)
-  pub face : AtFace K c (meshFace near k (g .place)) (g .face)
+pub record LaneHas (K : RefinedMesh rounded) (c : ℕ) (stencil : List ℤ) (k : ℕ) (g : Rings) : Type 0 where
+  pub around : Around K c (pointAt stencil k)
+  pub vertex : AtVertex K c (vertexFace stencil k) (g .vertex)
+  pub face : AtFace K c (meshFace stencil k (g .place)) (g .face)
 
 -- the sides of whichever corner lane k has
-pub record LaneMade (near : List ℤ) (k : ℕ) (g : Rings) (r : NetSides) : Type 0 where
-  pub four : (K : RefinedMesh rounded) (c : ℕ) → LaneHas K c near k g → FourSides K c r
+pub record LaneMade (stencil : List ℤ) (k : ℕ) (g : Rings) (r : NetSides) : Type 0 where
+  pub four : (K : RefinedMesh rounded) (c : ℕ) → LaneHas K c stencil k g → FourSides K c r
   pub sized : FourSized r
 
 -- the points of whichever corner's net lane k has
 abbrev pub LaneFilled : List ℤ → ℕ → Rings → List ℤ → Type 0
-LaneFilled near k g lanes =
-    (K : RefinedMesh rounded) (c : ℕ) → LaneHas K c near k g → (p : ℕ) → p < netPoints → getD lanes (k + 4 * p) (pos 0) ≡ getD (net K c) p (pos 0)
+LaneFilled stencil k g lanes =
+    (K : RefinedMesh rounded) (c : ℕ) → LaneHas K c stencil k g → (p : ℕ) → p < netPoints → getD lanes (k + 4 * p) (pos 0) ≡ getD (net K c) p (pos 0)

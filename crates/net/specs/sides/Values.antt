@@ -42,15 +42,15 @@ pub record AtFace (K : RefinedMesh rounded) (c : ℕ) (f : Face) (v : ℤ) : Typ
   pub cosine : v ≡ C K c side1
 
 -- ---- the corners around c, in the order of the rows: the rings of its leaving and of its arriving edge
-abbrev pub near : Corners → ℕ → List ℕ
-near K c =
+abbrev pub cornersAround : Corners → ℕ → List ℕ
+cornersAround K c =
     c ∷ K .next c ∷ K .previous (K .link c) ∷ K .link c ∷ K .previous (K .link (K .previous c)) ∷ K .link (K .previous c) ∷ K .previous c ∷ []
 
 -- p has their refined points
 pub record Around (K : RefinedMesh rounded) (c : ℕ) (p : ℕ → ℤ) : Type 0 where
   pub sound : Sound (K .corners)
   pub here : c < K .corners .count
-  pub points : (i : ℕ) → i < 7 → p i ≡ K .point (getD (near (K .corners) c) i 0)
+  pub points : (i : ℕ) → i < 7 → p i ≡ K .point (getD (cornersAround (K .corners) c) i 0)
 
 -- ---- sides
 -- H, T, X, Y, N and C of a side
@@ -62,7 +62,7 @@ pub record IsSide (K : RefinedMesh rounded) (c : ℕ) (s : Side) (r : SideValues
   pub inner : r .inner ≡ N K c s
   pub cosine : r .cosine ≡ C K c s
 
-pub record Sized (r : SideValues) : Type 0 where
+pub record SideSized (r : SideValues) : Type 0 where
   pub head : ValueSize (r .head)
   pub tail : ValueSize (r .tail)
   pub x : ValueSize (r .x)
@@ -78,7 +78,7 @@ pub record Made (h t p q v w k : ℤ) (r : SideValues) : Type 0 where
   pub y : r .y ≡ q
   pub inner : r .inner ≡ round (pos 3 *ℤ p +ℤ pos 3 *ℤ q +ℤ v -ℤ w) (pos 6)
   pub cosine : r .cosine ≡ k
-  pub sized : Sized r
+  pub sized : SideSized r
 
 -- all four
 pub record FourSides (K : RefinedMesh rounded) (c : ℕ) (r : NetSides) : Type 0 where
@@ -88,10 +88,10 @@ pub record FourSides (K : RefinedMesh rounded) (c : ℕ) (r : NetSides) : Type 0
   pub side3 : IsSide K c side3 (r .side3)
 
 pub record FourSized (r : NetSides) : Type 0 where
-  pub side0 : Sized (r .side0)
-  pub side1 : Sized (r .side1)
-  pub side2 : Sized (r .side2)
-  pub side3 : Sized (r .side3)
+  pub side0 : SideSized (r .side0)
+  pub side1 : SideSized (r .side1)
+  pub side2 : SideSized (r .side2)
+  pub side3 : SideSized (r .side3)
 
 -- the sides of whichever corner has the points p around it, the face v at its vertex and the mesh face f, with C of these
 pub record SidesOf (p : ℕ → ℤ) (v f : Face) (k l : ℤ) (r : NetSides) : Type 0 where

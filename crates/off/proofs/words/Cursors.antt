@@ -13,7 +13,7 @@ use borrow.Author.Tests.{ltb-true, ltb-false, ne-eqb, lt-ltb, le-ltb, eq-eqb}
 use Rattle.mesh.proofs.Ranges.{or-left, or-right, or-none}
 use Rattle.mesh.proofs.Scans.{ways, clash}
 use Rattle.paper.specs.Off.{separates, uncommented, piecesOf, wordsOf, isNumber, isOff}
-use Rattle.off.specs.words.Cursor.{ends, commentWords, Before, At, Run}
+use Rattle.off.specs.words.Cursor.{ends, commentWords, Before, At, WordSpan}
 use Rattle.off.specs.declared.words.Cursor.{Cursor}
 use Rattle.off.proofs.words.Words.{past-separator, comment-starts, comment-on, comment-ends, comment-out, Piece, piece-longer, piece-word}
 use Rattle.off.proofs.words.Words.{some-piece, run-is}
@@ -83,7 +83,7 @@ unfolding ends
 ends-none b e d = or-none (separates b) (eqb b 35) e (ne-eqb b 35 d)
 
 -- ---- the word at the cursor
-module _ (text : List ℕ) (n : ℕ) (c : Cursor) (to : ℕ) (a : At text n c) (r : Run text (c .at) to) where
+module _ (text : List ℕ) (n : ℕ) (c : Cursor) (to : ℕ) (a : At text n c) (r : WordSpan text (c .at) to) where
   word : List ℕ
   word = take (to - c .at) (drop (c .at) text)
 

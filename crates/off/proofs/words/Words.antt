@@ -12,7 +12,7 @@ use borrow.Author.Tests.{eqb-true, ltb-true, ltb-false}
 use Rattle.mesh.proofs.Scans.{ways, clash}
 use Rattle.mesh.proofs.Ranges.{none-left, none-right}
 use Rattle.paper.specs.Off.{separates, comments, uncommented, piecesOf, filled, wordsOf}
-use Rattle.off.specs.words.Cursor.{ends, commentWords, Run}
+use Rattle.off.specs.words.Cursor.{ends, commentWords, WordSpan}
 
 -- ---- single bytes
 hash-apart : (b : ℕ) → separates b ≡ true → eqb b 35 ≡ false
@@ -149,6 +149,6 @@ run-piece (suc k) text from to q l w e =
     rw d (piece-longer (getD text from 0) (drop (suc from) text) _ _ (w from (omega arith) (omega arith))
     (run-piece k text (suc from) to (omega arith) l (λ j a b. w j (omega arith) b) e))
 
-module _ (text : List ℕ) (from to : ℕ) (r : Run text from to) where
+module _ (text : List ℕ) (from to : ℕ) (r : WordSpan text from to) where
   pub run-is : Piece (drop from text) (take (to - from) (drop from text)) (wordsOf (drop to text))
   run-is = run-piece (to - from) text from to (omega (arith, r .forward)) (r .inside) (r .whole) (r .stops)

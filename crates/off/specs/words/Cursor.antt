@@ -31,7 +31,7 @@ pub record At (text : List ℕ) (n : ℕ) (c : Cursor) : Type 0 where
   pub first : c .at < length text → ends (getD text (c .at) 0) ≡ false
 
 -- the word from one place to another: none of its bytes ends it, and it goes as far as it can
-pub record Run (text : List ℕ) (from to : ℕ) : Type 0 where
+pub record WordSpan (text : List ℕ) (from to : ℕ) : Type 0 where
   pub forward : from ≤ to
   pub inside : to ≤ length text
   pub whole : (j : ℕ) → from ≤ j → j < to → ends (getD text j 0) ≡ false

@@ -9,7 +9,7 @@ use Rattle.paper.specs.Archive.{archived}
 use Rattle.rearrange.proofs.laws.Planes.{first-plane, second-plane, third-plane, last-plane, archived-length, same-planes}
 use Rattle.rearrange.specs.differences.Deltas.{deltaAt}
 use Rattle.rearrange.specs.planes.Planes.{Planed, spaced, spread}
-use Rattle.rearrange.proofs.planes.Runs.{run-one, lowest-byte}
+use Rattle.rearrange.proofs.planes.BytesPut.{run-one, lowest-byte}
 use Rattle.rearrange.proofs.planes.Planes.{Bytes, planed-runs, byte-here}
 
 module _ (numbers : List ℤ) where

@@ -12,14 +12,14 @@ use Rattle.paper.specs.File.{wordAt}
 use Rattle.mesh.proofs.Scans.{compared}
 use Rattle.rearrange.proofs.laws.Words.{four-bytes}
 use Rattle.rearrange.specs.planes.Planes.{spread}
-use Rattle.rearrange.proofs.planes.Runs.{Run, run-row, lowest-byte}
+use Rattle.rearrange.proofs.planes.BytesPut.{BytesPut, run-row, lowest-byte}
 use Rattle.rearrange.specs.four_bytes.Words.{Worded}
 
 module _ (l : List ℕ) (at d : ℕ) (room : at + 3 < length l) (h : d < 2 ^ 32) where
   abbrev put : List ℕ
   put = spread l 1 at d
 
-  bytes-run : Run (λ j. d / 256 ^ j % 256) 4 at l put
+  bytes-run : BytesPut (λ j. d / 256 ^ j % 256) 4 at l put
   bytes-run = run-row (λ j. d / 256 ^ j % 256) at l _ _ _ _ room (lowest-byte d) refl refl refl
 
   byte-at : (i j : ℕ) → i ≡ at + j → j < 4 → getD put i 0 ≡ d / 256 ^ j % 256

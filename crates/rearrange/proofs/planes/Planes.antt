@@ -12,7 +12,7 @@ use Rattle.mesh.proofs.Scans.{ways}
 use Rattle.paper.specs.Archive.{byteOf}
 use Rattle.rearrange.specs.differences.Deltas.{deltaAt}
 use Rattle.rearrange.specs.planes.Planes.{Planed, spaced}
-use Rattle.rearrange.proofs.planes.Runs.{Run, run-row, lowest-byte}
+use Rattle.rearrange.proofs.planes.BytesPut.{BytesPut, run-row, lowest-byte}
 
 module _ (numbers : List ℤ) where
   abbrev m : ℕ
@@ -36,8 +36,8 @@ module _ (numbers : List ℤ) where
         (ap (λ (x : ℕ). getD out x 0) (sym (moved (j - i))) ∙ new (j - i) (omega arith)))
         (ways (ltb j i))
 
-    pub planed-runs : (bytes b1 b2 b3 out : List ℕ) → Planed numbers i bytes → Run (Bytes 0 i) w i bytes b1 → Run (Bytes 1 i) w (m + i) b1 b2
-        → Run (Bytes 2 i) w (2 * m + i) b2 b3 → Run (Bytes 3 i) w (3 * m + i) b3 out → Planed numbers (i + w) out
+    pub planed-runs : (bytes b1 b2 b3 out : List ℕ) → Planed numbers i bytes → BytesPut (Bytes 0 i) w i bytes b1 → BytesPut (Bytes 1 i) w (m + i) b1 b2
+        → BytesPut (Bytes 2 i) w (2 * m + i) b2 b3 → BytesPut (Bytes 3 i) w (3 * m + i) b3 out → Planed numbers (i + w) out
     planed-runs bytes b1 b2 b3 out p r0 r1 r2 r3 = record {
       long = r3 .long ∙ r2 .long ∙ r1 .long ∙ r0 .long ∙ p .long;
       lowest = plane-run 0 (λ j. j) out (λ j. refl)
@@ -68,9 +68,9 @@ module _ (numbers : List ℤ) where
   module _ (i a b c d : ℕ) (ea : a ≡ deltaAt numbers i) (eb : b ≡ deltaAt numbers (i + 1))
       (ec : c ≡ deltaAt numbers (i + 2)) (ed : d ≡ deltaAt numbers (i + 3)) where
     row-run : (k at : ℕ) (old out : List ℕ) → at + 3 < length old
-        → out ≡ spaced old 1 at (a / 256 ^ k % 256) (b / 256 ^ k % 256) (c / 256 ^ k % 256) (d / 256 ^ k % 256) → Run (Bytes k i) 4 at old out
+        → out ≡ spaced old 1 at (a / 256 ^ k % 256) (b / 256 ^ k % 256) (c / 256 ^ k % 256) (d / 256 ^ k % 256) → BytesPut (Bytes k i) 4 at old out
     row-run k at old out room e =
-        subst (Run (Bytes k i) 4 at old) (sym e)
+        subst (BytesPut (Bytes k i) 4 at old) (sym e)
         (run-row (Bytes k i) at old _ _ _ _ room (byte-here k i a ea) (byte k (i + 1) b eb) (byte k (i + 2) c ec) (byte k (i + 3) d ed))
 
     pub planed-four : (bytes b1 b2 b3 out : List ℕ) → i + 4 ≤ m → Planed numbers i bytes

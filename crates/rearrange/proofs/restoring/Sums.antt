@@ -11,7 +11,7 @@ use mir.Syntax.{w32}
 use mir.Val.{toZ}
 use Rattle.mesh.proofs.Fills.{Filled, filled-step, filled-whole}
 use Rattle.paper.specs.Archive.{storedAt, sumAt, restoredAt, restored}
-use Rattle.rearrange.specs.differences.Deltas.{Turned}
+use Rattle.rearrange.specs.differences.Deltas.{OneRestored}
 use Rattle.rearrange.specs.restoring.Sums.{before}
 use Rattle.rearrange.proofs.laws.Words.{third, rest}
 
@@ -37,22 +37,22 @@ module _ (bytes : List ℕ) (n : ℕ) where
     number-is : toZ w32 (sumAt bytes n v a) ≡ restoredAt bytes n i
     number-is = rw (q, third v a h, rest v a h)
 
-    module _ (l out : List ℤ) (sum r : ℕ) (e : sum ≡ before bytes n v a) (t : Turned bytes n l i sum r out) where
-      turned-sum : r ≡ sumAt bytes n v a
-      turned-sum =
+    module _ (l out : List ℤ) (sum r : ℕ) (e : sum ≡ before bytes n v a) (t : OneRestored bytes n l i sum r out) where
+      one-sum : r ≡ sumAt bytes n v a
+      one-sum =
           t .sums ∙ ap (λ (k : ℕ). (k + storedAt bytes n i) % 2 ^ 32) e ∙ ap (λ (k : ℕ). (before bytes n v a + storedAt bytes n k) % 2 ^ 32) q
           ∙ sum-step v a (rw q at (t .small))
 
-      pub turned-next : r ≡ before bytes n (v + 1) a
-      turned-next = turned-sum ∙ sym (before-next v a)
+      pub one-next : r ≡ before bytes n (v + 1) a
+      one-next = one-sum ∙ sym (before-next v a)
 
-      pub turned-fills : (old : List ℤ) (j : ℕ) → i < length old → i + 1 ≡ j → Filled (restoredAt bytes n) old i l → Filled (restoredAt bytes n) old j out
-      turned-fills old j at k f =
-          rw (t .holds, ← k) (filled-step (restoredAt bytes n) old i l (toZ w32 r) (pos 0) at f (ap (toZ w32) turned-sum ∙ number-is))
+      pub one-fills : (old : List ℤ) (j : ℕ) → i < length old → i + 1 ≡ j → Filled (restoredAt bytes n) old i l → Filled (restoredAt bytes n) old j out
+      one-fills old j at k f =
+          rw (t .holds, ← k) (filled-step (restoredAt bytes n) old i l (toZ w32 r) (pos 0) at f (ap (toZ w32) one-sum ∙ number-is))
 
 -- a list keeps its length
-pub turned-length : (bytes : List ℕ) (n : ℕ) (l out : List ℤ) (i sum r m : ℕ) → Turned bytes n l i sum r out → length l ≡ m → length out ≡ m
-turned-length bytes n l out i sum r m t e = ap length (t .holds) ∙ length-set l i (toZ w32 r) ∙ e
+pub one-length : (bytes : List ℕ) (n : ℕ) (l out : List ℤ) (i sum r m : ℕ) → OneRestored bytes n l i sum r out → length l ≡ m → length out ≡ m
+one-length bytes n l out i sum r m t e = ap length (t .holds) ∙ length-set l i (toZ w32 r) ∙ e
 
 -- all numbers of it
 pub restored-all : (bytes : List ℕ) (old out : List ℤ) (i : ℕ) → i ≡ length old → Filled (restoredAt bytes (length old)) old i out

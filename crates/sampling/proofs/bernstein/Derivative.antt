@@ -10,22 +10,22 @@ use Rattle.paper.specs.Tangents as tangents
 use Rattle.numbers.proofs.Poly.{over, poly}
 use Rattle.numbers.proofs.Laws.{zero-add}
 use Rattle.numbers.proofs.Sum.{sum-same}
-use Rattle.sampling.specs.declared.bernstein.Five.{Five}
-use Rattle.sampling.specs.declared.bernstein.Rows.{Rows}
-use Rattle.sampling.specs.bernstein.Sums.{five, linear, quadratic, cubic, rowsOf, differencesOf, slopesOf, columnsOf, weightedOf, scaledOf, weightsOf}
+use Rattle.sampling.specs.declared.bernstein.Vector5.{Vector5}
+use Rattle.sampling.specs.declared.bernstein.Matrix5.{Matrix5}
+use Rattle.sampling.specs.bernstein.Sums.{vector5, linear, quadratic, cubic, rowsOf, differencesOf, slopesOf, columnsOf, weightedOf, scaledOf, weightsOf}
 use Rattle.sampling.specs.bernstein.Sums.{polynomialOf, valueOf, rowOf}
-use Rattle.sampling.specs.bernstein.Tangents.{inward, alongRows, inwardRows, cubicSum, timesOf, alongOf, slopeOf, inwardOf}
+use Rattle.sampling.specs.bernstein.Tangents.{alongRows, inwardRows, cubicSum, timesOf, alongOf, slopeOf, inwardOf}
 use Rattle.sampling.proofs.bernstein.Identity.{linear-turn, quadratic-turn, cubic-turn, weigh1}
 use Rattle.sampling.proofs.bernstein.Sum.{power, power-is}
 
 -- ---- a sum of ten differences, by rows and by columns
 module _ (M j k : ℤ) where
-  abbrev byRows : Rows → ℤ
+  abbrev byRows : Matrix5 → ℤ
   byRows d =
       cubic (d .r0 .a) (d .r0 .b) (d .r0 .c) (d .r0 .d) M j +ℤ pos 3 *ℤ k *ℤ quadratic (d .r1 .a) (d .r1 .b) (d .r1 .c) M j
       +ℤ pos 3 *ℤ k *ℤ k *ℤ linear (d .r2 .a) (d .r2 .b) M j +ℤ k *ℤ k *ℤ k *ℤ d .r3 .a
 
-  abbrev byColumns : Rows → ℤ
+  abbrev byColumns : Matrix5 → ℤ
   byColumns c =
       cubic (c .r0 .a) (c .r0 .b) (c .r0 .c) (c .r0 .d) M k +ℤ pos 3 *ℤ j *ℤ quadratic (c .r1 .a) (c .r1 .b) (c .r1 .c) M k
       +ℤ pos 3 *ℤ j *ℤ j *ℤ linear (c .r2 .a) (c .r2 .b) M k +ℤ j *ℤ j *ℤ j *ℤ c .r3 .a
@@ -35,7 +35,7 @@ regroup : (d00 d01 d02 d03 d10 d11 d12 d20 d21 d30 M j k : ℤ)
     ≡ cubic d00 d10 d20 d30 M k +ℤ pos 3 *ℤ j *ℤ quadratic d01 d11 d21 M k +ℤ pos 3 *ℤ j *ℤ j *ℤ linear d02 d12 M k +ℤ j *ℤ j *ℤ j *ℤ d03
 regroup = over 13 _ λ ρ. simp (poly, ρ) (omega arith)
 
-turn-rows : (d : Rows) (i j k : ℤ) → cubicSum d i j k ≡ byRows (i +ℤ j) j k (slopesOf d)
+turn-rows : (d : Matrix5) (i j k : ℤ) → cubicSum d i j k ≡ byRows (i +ℤ j) j k (slopesOf d)
 unfolding cubicSum slopesOf differencesOf
 turn-rows d i j k =
     cc (
@@ -44,12 +44,12 @@ turn-rows d i j k =
       linear-turn (d .r2 .a) (d .r2 .b) i j,
     )
 
-turn-columns : (d : Rows) (M j k : ℤ) → byRows M j k d ≡ byColumns M j k (columnsOf d)
+turn-columns : (d : Matrix5) (M j k : ℤ) → byRows M j k d ≡ byColumns M j k (columnsOf d)
 unfolding columnsOf
 turn-columns d M j k =
     regroup (d .r0 .a) (d .r0 .b) (d .r0 .c) (d .r0 .d) (d .r1 .a) (d .r1 .b) (d .r1 .c) (d .r2 .a) (d .r2 .b) (d .r3 .a) M j k
 
-turn-all : (c : Rows) (M j k : ℤ) → byColumns M j k c ≡ byColumns (M +ℤ k) j k (slopesOf c)
+turn-all : (c : Matrix5) (M j k : ℤ) → byColumns M j k c ≡ byColumns (M +ℤ k) j k (slopesOf c)
 unfolding slopesOf differencesOf
 turn-all c M j k =
     cc (
@@ -58,7 +58,7 @@ turn-all c M j k =
       linear-turn (c .r2 .a) (c .r2 .b) M k,
     )
 
-cubic-by-columns : (d : Rows) (i j k : ℕ)
+cubic-by-columns : (d : Matrix5) (i j k : ℕ)
     → cubicSum d (pos i) (pos j) (pos k) ≡ byColumns (pos (i + j + k)) (pos j) (pos k) (slopesOf (columnsOf (slopesOf d)))
 cubic-by-columns d i j k =
     turn-rows d (pos i) (pos j) (pos k) ∙ turn-columns (slopesOf d) (pos (i + j)) (pos j) (pos k)
@@ -89,7 +89,7 @@ outside : (a b c d j : ℤ)
     ≡ pos 4 *ℤ (a +ℤ pos 3 *ℤ j *ℤ b +ℤ pos 3 *ℤ j *ℤ j *ℤ c +ℤ j *ℤ j *ℤ j *ℤ d)
 outside = over 5 _ λ ρ. simp (poly, ρ) (omega arith)
 
-along-weighed : (g : Rows) (n : ℤ) (j k : ℕ)
+along-weighed : (g : Matrix5) (n : ℤ) (j k : ℕ)
     → valueOf (rowOf (alongOf (scaledOf g (weightsOf n))) k) j
     ≡ pos 4 *ℤ (cubic (g .r1 .a) (g .r1 .b) (g .r1 .c) (g .r1 .d) n (pos k) +ℤ pos 3 *ℤ pos j *ℤ quadratic (g .r2 .a) (g .r2 .b) (g .r2 .c) n (pos k)
     +ℤ pos 3 *ℤ pos j *ℤ pos j *ℤ linear (g .r3 .a) (g .r3 .b) n (pos k) +ℤ pos j *ℤ pos j *ℤ pos j *ℤ g .r4 .a)
@@ -105,7 +105,7 @@ along-weighed g n j k =
           (linear (g .r3 .a) (g .r3 .b) n (pos k)) (g .r4 .a) (pos j),
     )
 
-along-columns : (p : Rows) (M j k : ℤ)
+along-columns : (p : Matrix5) (M j k : ℤ)
     → byColumns M j k (slopesOf (columnsOf (slopesOf (alongRows p))))
     ≡ (let g = slopesOf (columnsOf (slopesOf p)) in
     cubic (g .r1 .a) (g .r1 .b) (g .r1 .c) (g .r1 .d) M k +ℤ pos 3 *ℤ j *ℤ quadratic (g .r2 .a) (g .r2 .b) (g .r2 .c) M k
@@ -113,7 +113,7 @@ along-columns : (p : Rows) (M j k : ℤ)
 unfolding slopesOf columnsOf differencesOf alongRows
 along-columns p M j k = refl
 
-pub along-is : (p : Rows) (i j k : ℕ)
+pub along-is : (p : Matrix5) (i j k : ℕ)
     → valueOf (rowOf (alongOf (polynomialOf p (pos (i + j + k)))) k) j ≡ pos 4 *ℤ cubicSum (alongRows p) (pos i) (pos j) (pos k)
 unfolding polynomialOf
 along-is p i j k =
@@ -144,7 +144,7 @@ slope4 : (b c d e x : ℤ)
     → b *ℤ pos 0 +ℤ x *ℤ (pos 2 *ℤ (c *ℤ pos 0) +ℤ x *ℤ (pos 3 *ℤ (d *ℤ pos 0) +ℤ x *ℤ (pos 4 *ℤ (e *ℤ pos 0) +ℤ x *ℤ pos 0))) ≡ pos 0
 slope4 = over 5 _ λ ρ. simp (poly, ρ) (omega arith)
 
-inward-weighed : (g : Rows) (n : ℤ) (j k : ℕ)
+inward-weighed : (g : Matrix5) (n : ℤ) (j k : ℕ)
     → valueOf (rowOf (inwardOf (scaledOf g (weightsOf n))) k) j
     ≡ pos 4 *ℤ (cubic (g .r0 .b) (g .r0 .c) (g .r0 .d) (g .r0 .e) n (pos k) +ℤ pos 3 *ℤ pos j *ℤ quadratic (g .r1 .b) (g .r1 .c) (g .r1 .d) n (pos k)
     +ℤ pos 3 *ℤ pos j *ℤ pos j *ℤ linear (g .r2 .b) (g .r2 .c) n (pos k) +ℤ pos j *ℤ pos j *ℤ pos j *ℤ g .r3 .b)
@@ -172,7 +172,7 @@ swap3 : (a b c d e f g h : ℤ)
     ≡ d -ℤ c -ℤ (c -ℤ b) -ℤ (c -ℤ b -ℤ (b -ℤ a)) -ℤ (h -ℤ g -ℤ (g -ℤ f) -ℤ (g -ℤ f -ℤ (f -ℤ e)))
 swap3 = over 8 _ λ ρ. simp (poly, ρ) (omega arith)
 
-swapped : (p : Rows) (M j k : ℤ) → byRows M j k (slopesOf (inwardRows p)) ≡ byRows M j k (inwardRows (slopesOf p))
+swapped : (p : Matrix5) (M j k : ℤ) → byRows M j k (slopesOf (inwardRows p)) ≡ byRows M j k (inwardRows (slopesOf p))
 unfolding slopesOf differencesOf inwardRows
 swapped p M j k =
     cc (
@@ -184,7 +184,7 @@ swapped p M j k =
       swap1 (p .r3 .a) (p .r3 .b) (p .r2 .a) (p .r2 .b),
     )
 
-inward-columns : (d : Rows) (M j k : ℤ)
+inward-columns : (d : Matrix5) (M j k : ℤ)
     → byColumns M j k (slopesOf (columnsOf (inwardRows d)))
     ≡ (let g = slopesOf (columnsOf d) in
     cubic (g .r0 .b) (g .r0 .c) (g .r0 .d) (g .r0 .e) M k +ℤ pos 3 *ℤ j *ℤ quadratic (g .r1 .b) (g .r1 .c) (g .r1 .d) M k
@@ -192,7 +192,7 @@ inward-columns : (d : Rows) (M j k : ℤ)
 unfolding slopesOf columnsOf differencesOf inwardRows
 inward-columns d M j k = refl
 
-pub inward-is : (p : Rows) (i j k : ℕ)
+pub inward-is : (p : Matrix5) (i j k : ℕ)
     → valueOf (rowOf (inwardOf (polynomialOf p (pos (i + j + k)))) k) j ≡ pos 4 *ℤ cubicSum (inwardRows p) (pos i) (pos j) (pos k)
 unfolding polynomialOf
 inward-is p i j k =
@@ -248,6 +248,6 @@ module _ (p : ℕ → ℤ) (s : Side) (i j k : ℕ) where
   unfolding cubicSum alongRows tangents.along
   along-sum = sum-is (tangents.along p s) i j k
 
-  pub inward-sum : tangents.cubicSum (inward p s) i j k ≡ cubicSum (inwardRows (rowsOf (control p s))) (pos i) (pos j) (pos k)
-  unfolding cubicSum inwardRows inward
-  inward-sum = sum-is (inward p s) i j k
+  pub inward-sum : tangents.cubicSum (tangents.inward p s) i j k ≡ cubicSum (inwardRows (rowsOf (control p s))) (pos i) (pos j) (pos k)
+  unfolding cubicSum inwardRows tangents.inward
+  inward-sum = sum-is (tangents.inward p s) i j k

@@ -5,9 +5,9 @@ use Prim.Native.Nat.{ℕ, _+_}
 use native.Mathlib.Omega.{arith}
 use lib.IntN.{ℤ, pos, _+ℤ_, _-ℤ_, _*ℤ_}
 use Rattle.numbers.proofs.Poly.{over, poly}
-use Rattle.sampling.specs.declared.bernstein.Five.{Five}
-use Rattle.sampling.specs.declared.bernstein.Rows.{Rows}
-use Rattle.sampling.specs.bernstein.Sums.{five, linear, quadratic, cubic, quartic, quarticSum}
+use Rattle.sampling.specs.declared.bernstein.Vector5.{Vector5}
+use Rattle.sampling.specs.declared.bernstein.Matrix5.{Matrix5}
+use Rattle.sampling.specs.bernstein.Sums.{vector5, linear, quadratic, cubic, quartic, quarticSum}
 use Rattle.sampling.specs.bernstein.Sums.{differencesOf, slopesOf, columnsOf, weightedOf, scaledOf, weightsOf}
 use Rattle.sampling.specs.bernstein.Sums.{polynomialOf, valueOf, stateOf, statesOf, stepOf, stepsOf, rowOf, firstsOf}
 
@@ -23,9 +23,9 @@ pub cubic-turn : (a b c d x y : ℤ)
 cubic-turn = over 6 _ λ ρ. simp (poly, ρ) (omega arith)
 
 quartic-turn′ : (a b c d e x y : ℤ)
-    → quartic (five a b c d e) x y
+    → quartic (vector5 a b c d e) x y
     ≡ quartic
-    (five a (b -ℤ a) (c -ℤ b -ℤ (b -ℤ a)) (d -ℤ c -ℤ (c -ℤ b) -ℤ (c -ℤ b -ℤ (b -ℤ a)))
+    (vector5 a (b -ℤ a) (c -ℤ b -ℤ (b -ℤ a)) (d -ℤ c -ℤ (c -ℤ b) -ℤ (c -ℤ b -ℤ (b -ℤ a)))
     (e -ℤ d -ℤ (d -ℤ c) -ℤ (d -ℤ c -ℤ (c -ℤ b)) -ℤ (d -ℤ c -ℤ (c -ℤ b) -ℤ (c -ℤ b -ℤ (b -ℤ a))))) (x +ℤ y) y
 quartic-turn′ = over 7 _ λ ρ. simp (poly, ρ) (omega arith)
 
@@ -65,30 +65,30 @@ step-second = over 4 _ λ ρ. simp (poly, ρ) (omega arith)
 step-third : (d e x : ℤ) → third d e x +ℤ pos 24 *ℤ e ≡ third d e (x +ℤ pos 1)
 step-third = over 3 _ λ ρ. simp (poly, ρ) (omega arith)
 
-pub five-same : {a b c d e a′ b′ c′ d′ e′ : ℤ} → a ≡ a′ → b ≡ b′ → c ≡ c′ → d ≡ d′ → e ≡ e′ → five a b c d e ≡ five a′ b′ c′ d′ e′
-five-same p q r s t = cc
+pub vector5-same : {a b c d e a′ b′ c′ d′ e′ : ℤ} → a ≡ a′ → b ≡ b′ → c ≡ c′ → d ≡ d′ → e ≡ e′ → vector5 a b c d e ≡ vector5 a′ b′ c′ d′ e′
+vector5-same p q r s t = cc
 
-pub state-step : (f : Five) (x : ℕ) → stepOf (stateOf f x) ≡ stateOf f (x + 1)
+pub state-step : (f : Vector5) (x : ℕ) → stepOf (stateOf f x) ≡ stateOf f (x + 1)
 unfolding stepOf stateOf valueOf
 state-step f x =
-    five-same (step-value (f .a) (f .b) (f .c) (f .d) (f .e) (pos x)) (step-first (f .b) (f .c) (f .d) (f .e) (pos x))
+    vector5-same (step-value (f .a) (f .b) (f .c) (f .d) (f .e) (pos x)) (step-first (f .b) (f .c) (f .d) (f .e) (pos x))
     (step-second (f .c) (f .d) (f .e) (pos x)) (step-third (f .d) (f .e) (pos x)) refl
 
-pub state-start : (f : Five)
-    → five (f .a) (f .b +ℤ f .c +ℤ f .d +ℤ f .e) (pos 2 *ℤ f .c +ℤ pos 6 *ℤ f .d +ℤ pos 14 *ℤ f .e) (pos 6 *ℤ f .d +ℤ pos 36 *ℤ f .e) (pos 24 *ℤ f .e)
+pub state-start : (f : Vector5)
+    → vector5 (f .a) (f .b +ℤ f .c +ℤ f .d +ℤ f .e) (pos 2 *ℤ f .c +ℤ pos 6 *ℤ f .d +ℤ pos 14 *ℤ f .e) (pos 6 *ℤ f .d +ℤ pos 36 *ℤ f .e) (pos 24 *ℤ f .e)
     ≡ stateOf f 0
 unfolding stateOf valueOf
-state-start f = let e = start-is (f .a) (f .b) (f .c) (f .d) (f .e) in five-same (e .0) (e .1) (e .2) (e .3) refl
+state-start f = let e = start-is (f .a) (f .b) (f .c) (f .d) (f .e) in vector5-same (e .0) (e .1) (e .2) (e .3) refl
 
 -- ---- by powers of the second weight instead of the third; the rows' differences stand for the columns'
 module _ (M j k : ℤ) where
-  abbrev byRows : Rows → ℤ
+  abbrev byRows : Matrix5 → ℤ
   byRows d =
       quartic (d .r0) M j +ℤ pos 4 *ℤ k *ℤ cubic (d .r1 .a) (d .r1 .b) (d .r1 .c) (d .r1 .d) M j
       +ℤ pos 6 *ℤ k *ℤ k *ℤ quadratic (d .r2 .a) (d .r2 .b) (d .r2 .c) M j +ℤ pos 4 *ℤ k *ℤ k *ℤ k *ℤ linear (d .r3 .a) (d .r3 .b) M j
       +ℤ k *ℤ k *ℤ k *ℤ k *ℤ d .r4 .a
 
-  abbrev byColumns : Rows → ℤ
+  abbrev byColumns : Matrix5 → ℤ
   byColumns c =
       quartic (c .r0) M k +ℤ pos 4 *ℤ j *ℤ cubic (c .r1 .a) (c .r1 .b) (c .r1 .c) (c .r1 .d) M k
       +ℤ pos 6 *ℤ j *ℤ j *ℤ quadratic (c .r2 .a) (c .r2 .b) (c .r2 .c) M k +ℤ pos 4 *ℤ j *ℤ j *ℤ j *ℤ linear (c .r3 .a) (c .r3 .b) M k
@@ -96,16 +96,16 @@ module _ (M j k : ℤ) where
 
 -- a control point's term, and the sums of five of them, in both orders
 regroup : (d00 d01 d02 d03 d04 d10 d11 d12 d13 d20 d21 d22 d30 d31 d40 M j k : ℤ)
-    → quartic (five d00 d01 d02 d03 d04) M j +ℤ pos 4 *ℤ k *ℤ cubic d10 d11 d12 d13 M j +ℤ pos 6 *ℤ k *ℤ k *ℤ quadratic d20 d21 d22 M j
+    → quartic (vector5 d00 d01 d02 d03 d04) M j +ℤ pos 4 *ℤ k *ℤ cubic d10 d11 d12 d13 M j +ℤ pos 6 *ℤ k *ℤ k *ℤ quadratic d20 d21 d22 M j
     +ℤ pos 4 *ℤ k *ℤ k *ℤ k *ℤ linear d30 d31 M j +ℤ k *ℤ k *ℤ k *ℤ k *ℤ d40
-    ≡ quartic (five d00 d10 d20 d30 d40) M k +ℤ pos 4 *ℤ j *ℤ cubic d01 d11 d21 d31 M k +ℤ pos 6 *ℤ j *ℤ j *ℤ quadratic d02 d12 d22 M k
+    ≡ quartic (vector5 d00 d10 d20 d30 d40) M k +ℤ pos 4 *ℤ j *ℤ cubic d01 d11 d21 d31 M k +ℤ pos 6 *ℤ j *ℤ j *ℤ quadratic d02 d12 d22 M k
     +ℤ pos 4 *ℤ j *ℤ j *ℤ j *ℤ linear d03 d13 M k +ℤ j *ℤ j *ℤ j *ℤ j *ℤ d04
 regroup = over 18 _ λ ρ. simp (poly, ρ) (omega arith)
 
 -- ---- the weights of the columns
 weigh0 : (a b c d e n x : ℤ)
     → a *ℤ (n *ℤ n *ℤ n *ℤ n) +ℤ x *ℤ (b *ℤ (pos 4 *ℤ (n *ℤ n *ℤ n)) +ℤ x *ℤ (c *ℤ (pos 6 *ℤ (n *ℤ n)) +ℤ x *ℤ (d *ℤ (pos 4 *ℤ n) +ℤ x *ℤ (e *ℤ pos 1))))
-    ≡ quartic (five a b c d e) n x
+    ≡ quartic (vector5 a b c d e) n x
 weigh0 = over 7 _ λ ρ. simp (poly, ρ) (omega arith)
 
 pub weigh1 : (a b c d e n x : ℤ)
@@ -132,7 +132,7 @@ outside : (a b c d e j : ℤ)
 outside = over 6 _ λ ρ. simp (poly, ρ) (omega arith)
 
 -- ---- all together
-turn-rows : (p : Rows) (i j k : ℤ) → quarticSum p i j k ≡ byRows (i +ℤ j) j k (slopesOf p)
+turn-rows : (p : Matrix5) (i j k : ℤ) → quarticSum p i j k ≡ byRows (i +ℤ j) j k (slopesOf p)
 unfolding quarticSum slopesOf differencesOf
 turn-rows p i j k =
     cc (
@@ -142,13 +142,13 @@ turn-rows p i j k =
       linear-turn (p .r3 .a) (p .r3 .b) i j,
     )
 
-turn-columns : (d : Rows) (M j k : ℤ) → byRows M j k d ≡ byColumns M j k (columnsOf d)
+turn-columns : (d : Matrix5) (M j k : ℤ) → byRows M j k d ≡ byColumns M j k (columnsOf d)
 unfolding columnsOf
 turn-columns d M j k =
     regroup (d .r0 .a) (d .r0 .b) (d .r0 .c) (d .r0 .d) (d .r0 .e) (d .r1 .a) (d .r1 .b) (d .r1 .c) (d .r1 .d) (d .r2 .a) (d .r2 .b) (d .r2 .c)
     (d .r3 .a) (d .r3 .b) (d .r4 .a) M j k
 
-turn-all : (c : Rows) (M j k : ℤ) → byColumns M j k c ≡ byColumns (M +ℤ k) j k (slopesOf c)
+turn-all : (c : Matrix5) (M j k : ℤ) → byColumns M j k c ≡ byColumns (M +ℤ k) j k (slopesOf c)
 unfolding slopesOf differencesOf
 turn-all c M j k =
     cc (
@@ -158,7 +158,7 @@ turn-all c M j k =
       linear-turn (c .r3 .a) (c .r3 .b) M k,
     )
 
-weighed : (g : Rows) (n : ℤ) (j k : ℕ) → valueOf (rowOf (scaledOf g (weightsOf n)) k) j ≡ byColumns n (pos j) (pos k) g
+weighed : (g : Matrix5) (n : ℤ) (j k : ℕ) → valueOf (rowOf (scaledOf g (weightsOf n)) k) j ≡ byColumns n (pos j) (pos k) g
 unfolding valueOf rowOf scaledOf weightedOf weightsOf
 weighed g n j k =
     cc (
@@ -172,7 +172,7 @@ weighed g n j k =
     )
 
 -- the polynomial at j and k is the sum at i, j and k, where the three make n
-pub polynomial-sum : (p : Rows) (i j k : ℕ) → valueOf (rowOf (polynomialOf p (pos (i + j + k))) k) j ≡ quarticSum p (pos i) (pos j) (pos k)
+pub polynomial-sum : (p : Matrix5) (i j k : ℕ) → valueOf (rowOf (polynomialOf p (pos (i + j + k))) k) j ≡ quarticSum p (pos i) (pos j) (pos k)
 unfolding polynomialOf
 polynomial-sum p i j k =
     weighed (slopesOf (columnsOf (slopesOf p))) (pos (i + j + k)) j k
@@ -180,10 +180,10 @@ polynomial-sum p i j k =
     ∙ turn-all (columnsOf (slopesOf p)) (pos (i + j)) (pos j) (pos k))
 
 -- ---- five states at a time
-pub states-step : (c : Rows) (k : ℕ) → stepsOf (statesOf c k) ≡ statesOf c (k + 1)
+pub states-step : (c : Matrix5) (k : ℕ) → stepsOf (statesOf c k) ≡ statesOf c (k + 1)
 unfolding stepsOf statesOf
 states-step c k = cc (state-step (c .r0) k, state-step (c .r1) k, state-step (c .r2) k, state-step (c .r3) k, state-step (c .r4) k)
 
-pub firsts-row : (c : Rows) (k : ℕ) → firstsOf (statesOf c k) ≡ rowOf c k
+pub firsts-row : (c : Matrix5) (k : ℕ) → firstsOf (statesOf c k) ≡ rowOf c k
 unfolding firstsOf statesOf stateOf rowOf
 firsts-row c k = refl

@@ -17,8 +17,8 @@ use Rattle.numbers.proofs.Machine.{abs-fits}
 use Rattle.numbers.proofs.Floor.{step-le}
 use Rattle.numbers.specs.Near.{Near}
 use Rattle.numbers.proofs.Nearest.{round-near}
-use Rattle.sampling.specs.declared.bernstein.Five.{Five}
-use Rattle.sampling.specs.declared.bernstein.Rows.{Rows}
+use Rattle.sampling.specs.declared.bernstein.Vector5.{Vector5}
+use Rattle.sampling.specs.declared.bernstein.Matrix5.{Matrix5}
 use Rattle.sampling.specs.bernstein.Sums.{Sized, AllSized, Tapered, AllTapered, differencesOf, slopesOf, columnsOf, weightedOf, weightsOf, scaledOf}
 use Rattle.sampling.specs.bernstein.Sums.{polynomialOf, valueOf, stateOf, statesOf, rowOf}
 
@@ -29,7 +29,7 @@ bits z = toZ w64 (ofZ w64 z)
 pub size-fits : (z : ℤ) → natAbs z ≤ 2 ^ 62 → SFits w64 z
 size-fits z h = abs-fits w64 z (2 ^ 62) h (lit< tt)
 
-module _ (v : Five) (B : ℕ) (h : Sized B v) (l : B ≤ 2 ^ 62) where
+module _ (v : Vector5) (B : ℕ) (h : Sized B v) (l : B ≤ 2 ^ 62) where
   pub fits : SFits w64 (v .a) × SFits w64 (v .b) × SFits w64 (v .c) × SFits w64 (v .d) × SFits w64 (v .e)
   fits = (
     size-fits (v .a) (le-trans (h .0) l),
@@ -69,14 +69,14 @@ round-size s d B o h =
     bounds-abs (round s (pos d)) B (r .0) (r .1)
 
 -- ---- differences: each order at most doubles
-module _ (v : Five) (B : ℕ) (h : Sized B v) where
+module _ (v : Vector5) (B : ℕ) (h : Sized B v) where
   differences-sizes : (a b c d e : ℤ) (B : ℕ) → natAbs a ≤ B → natAbs b ≤ B → natAbs c ≤ B → natAbs d ≤ B → natAbs e ≤ B
       → (natAbs (b -ℤ a) ≤ 2 * B) × (natAbs (c -ℤ b -ℤ (b -ℤ a)) ≤ 4 * B) × (natAbs (d -ℤ c -ℤ (c -ℤ b) -ℤ (c -ℤ b -ℤ (b -ℤ a))) ≤ 8 * B)
       × (natAbs (e -ℤ d -ℤ (d -ℤ c) -ℤ (d -ℤ c -ℤ (c -ℤ b)) -ℤ (d -ℤ c -ℤ (c -ℤ b) -ℤ (c -ℤ b -ℤ (b -ℤ a)))) ≤ 16 * B)
   differences-sizes a b c d e B = as-diff a λ p n ea. as-diff b λ p n eb. as-diff c λ p n ec. as-diff d λ p n ed. as-diff e λ p n ee.
       simp (diff, ea, eb, ec, ed, ee) (λ f g h i j. (omega arith, omega arith, omega arith, omega arith))
 
-  abbrev g : Five
+  abbrev g : Vector5
   g = differencesOf v
 
   pub first-size : natAbs (g .a) ≤ B
@@ -102,7 +102,7 @@ module _ (v : Five) (B : ℕ) (h : Sized B v) where
   pub fifth-size : natAbs (g .e) ≤ 16 * B
   fifth-size = sizes .3
 
-pub slopes-size : (p : Rows) (B : ℕ) → AllSized B p → AllSized (16 * B) (slopesOf p)
+pub slopes-size : (p : Matrix5) (B : ℕ) → AllSized B p → AllSized (16 * B) (slopesOf p)
 unfolding slopesOf
 slopes-size p B h = (
   differences-size (p .r0) B (h .0),
@@ -116,7 +116,7 @@ slopes-size p B h = (
 zero-size : (B : ℕ) → natAbs (pos 0) ≤ B
 zero-size B = omega arith
 
-pub columns-size : (d : Rows) (B : ℕ) → AllSized B d → AllSized B (columnsOf d)
+pub columns-size : (d : Matrix5) (B : ℕ) → AllSized B d → AllSized B (columnsOf d)
 unfolding columnsOf
 columns-size d B h =
     let z = zero-size B in (
@@ -141,8 +141,8 @@ within v w m k r f g h = le-trans (abs-mul-le v w m k f g) h
 none : (v : ℤ) (r : ℕ) → natAbs (v *ℤ pos 0) ≤ r
 none v r = rw abs-mul (omega arith)
 
-module _ (p : Rows) (n : ℕ) (h : AllSized (2 ^ 27) p) (l : n ≤ 16) where
-  abbrev col : Rows
+module _ (p : Matrix5) (n : ℕ) (h : AllSized (2 ^ 27) p) (l : n ≤ 16) where
+  abbrev col : Matrix5
   col = columnsOf (slopesOf p)
 
   col0 : Sized (2 ^ 27) (col .r0)
@@ -236,7 +236,7 @@ module _ (p : Rows) (n : ℕ) (h : AllSized (2 ^ 27) p) (l : n ≤ 16) where
         );
       }
 
-pub tapered-size : (f : Five) (A : ℕ) → Tapered A f → A ≤ 2 ^ 37 → Sized (2 ^ 54) f
+pub tapered-size : (f : Vector5) (A : ℕ) → Tapered A f → A ≤ 2 ^ 37 → Sized (2 ^ 54) f
 tapered-size f A h small = (omega (arith, h .0), omega (arith, h .1), omega (arith, h .2), omega (arith, h .3), omega (arith, h .4))
 
 -- ---- values and states at weights up to 16
@@ -249,7 +249,7 @@ sum3 p q r i j k f g h = abs-add-le (p +ℤ q) r (i + j) k (abs-add-le p q i j f
 sum4 : (p q r s : ℤ) (i j k m : ℕ) → natAbs p ≤ i → natAbs q ≤ j → natAbs r ≤ k → natAbs s ≤ m → natAbs (p +ℤ q +ℤ r +ℤ s) ≤ i + j + k + m
 sum4 p q r s i j k m f g h o = abs-add-le (p +ℤ q +ℤ r) s (i + j + k) m (sum3 p q r i j k f g h) o
 
-module _ (f : Five) (x A : ℕ) (l : x ≤ 16) (h : Tapered A f) where
+module _ (f : Vector5) (x A : ℕ) (l : x ≤ 16) (h : Tapered A f) where
   pub value-size : natAbs (valueOf f x) ≤ 5 * (65536 * A)
   unfolding valueOf
   value-size =
@@ -283,7 +283,7 @@ module _ (f : Five) (x A : ℕ) (l : x ≤ 16) (h : Tapered A f) where
       let e0 = abs-mul-le (pos 24) (f .e) 24 A (lit≤ tt) (h .4) in
       (omega (arith, value-size), omega (arith, b4), omega (arith, c4), omega (arith, d4), omega (arith, e0))
 
-module _ (c : Rows) (k : ℕ) (l : k ≤ 16) (t : AllTapered c) where
+module _ (c : Matrix5) (k : ℕ) (l : k ≤ 16) (t : AllTapered c) where
   pub states-size : AllSized (2 ^ 60) (statesOf c k)
   unfolding statesOf
   states-size = (
@@ -313,12 +313,12 @@ pub sized-bits : (z : ℤ) (B : ℕ) → natAbs z ≤ B → B ≤ 2 ^ 62 → bit
 sized-bits z B h l = toZ-ofZ (size-fits z (le-trans h l))
 
 -- ---- the code's steps, one after the other
-pub polynomial-is : (p d c g w r : Rows) (n : ℕ) → d ≡ slopesOf p → c ≡ columnsOf d → g ≡ slopesOf c → w ≡ weightsOf (pos n) → r ≡ scaledOf g w
+pub polynomial-is : (p d c g w r : Matrix5) (n : ℕ) → d ≡ slopesOf p → c ≡ columnsOf d → g ≡ slopesOf c → w ≡ weightsOf (pos n) → r ≡ scaledOf g w
     → r ≡ polynomialOf p (pos n)
 unfolding polynomialOf
 polynomial-is p d c g w r n e f h i j = cc
 
-pub states-are : (c : Rows) (k : ℕ) (r0 r1 r2 r3 r4 : Five) → r0 ≡ stateOf (c .r0) k → r1 ≡ stateOf (c .r1) k → r2 ≡ stateOf (c .r2) k
+pub states-are : (c : Matrix5) (k : ℕ) (r0 r1 r2 r3 r4 : Vector5) → r0 ≡ stateOf (c .r0) k → r1 ≡ stateOf (c .r1) k → r2 ≡ stateOf (c .r2) k
     → r3 ≡ stateOf (c .r3) k → r4 ≡ stateOf (c .r4) k → record { r0 = r0; r1 = r1; r2 = r2; r3 = r3; r4 = r4 } ≡ statesOf c k
 unfolding statesOf
 states-are c k r0 r1 r2 r3 r4 e f g h i = cc

@@ -11,8 +11,8 @@ use Rattle.paper.specs.Sampling.{control, factorial, bernstein, bernsteinSum}
 use Rattle.numbers.proofs.Poly.{over, poly}
 use Rattle.numbers.proofs.Laws.{zero-add, mul-le, nonneg, le-antisym}
 use Rattle.numbers.proofs.Sum.{sum-same}
-use Rattle.sampling.specs.declared.bernstein.Rows.{Rows}
-use Rattle.sampling.specs.bernstein.Sums.{five, linear, quadratic, cubic, quartic, quarticSum, rowsOf}
+use Rattle.sampling.specs.declared.bernstein.Matrix5.{Matrix5}
+use Rattle.sampling.specs.bernstein.Sums.{vector5, linear, quadratic, cubic, quartic, quarticSum, rowsOf}
 use Rattle.sampling.proofs.bernstein.Laws.{round-between, bounds-abs}
 
 -- ---- a weight as a product
@@ -40,7 +40,7 @@ weight-is i j k n m =
 -- ---- row by row
 row0 : (i j k a b c d e : ℤ)
     → pos 0 +ℤ weight i j k 0 0 *ℤ a +ℤ weight i j k 0 1 *ℤ b +ℤ weight i j k 0 2 *ℤ c +ℤ weight i j k 0 3 *ℤ d +ℤ weight i j k 0 4 *ℤ e
-    ≡ quartic (five a b c d e) i j
+    ≡ quartic (vector5 a b c d e) i j
 row0 = over 8 _ λ ρ. simp (poly, ρ) (omega arith)
 
 row1 : (i j k a b c d : ℤ)
@@ -56,14 +56,14 @@ row3 = over 5 _ λ ρ. simp (poly, ρ) (omega arith)
 row4 : (i j k a : ℤ) → pos 0 +ℤ weight i j k 4 0 *ℤ a ≡ k *ℤ k *ℤ k *ℤ k *ℤ a
 row4 = over 4 _ λ ρ. simp (poly, ρ) (omega arith)
 
-five-rows : (r s t u v r′ s′ t′ u′ v′ : ℤ) → r ≡ r′ → s ≡ s′ → t ≡ t′ → u ≡ u′ → v ≡ v′
+vector5-rows : (r s t u v r′ s′ t′ u′ v′ : ℤ) → r ≡ r′ → s ≡ s′ → t ≡ t′ → u ≡ u′ → v ≡ v′
     → pos 0 +ℤ r +ℤ s +ℤ t +ℤ u +ℤ v ≡ r′ +ℤ s′ +ℤ t′ +ℤ u′ +ℤ v′
-five-rows r s t u v r′ s′ t′ u′ v′ e f g h i = cc (zero-add r)
+vector5-rows r s t u v r′ s′ t′ u′ v′ e f g h i = cc (zero-add r)
 
 plain-sum : (P : ℕ → ℕ → ℤ) (i j k : ℤ) → sum (λ n. sum (λ m. weight i j k n m *ℤ P n m) (5 - n)) 5 ≡ quarticSum (rowsOf P) i j k
 unfolding sumBy quarticSum
 plain-sum P i j k =
-    five-rows _ _ _ _ _ _ _ _ _ _ (row0 i j k (P 0 0) (P 0 1) (P 0 2) (P 0 3) (P 0 4)) (row1 i j k (P 1 0) (P 1 1) (P 1 2) (P 1 3))
+    vector5-rows _ _ _ _ _ _ _ _ _ _ (row0 i j k (P 0 0) (P 0 1) (P 0 2) (P 0 3) (P 0 4)) (row1 i j k (P 1 0) (P 1 1) (P 1 2) (P 1 3))
     (row2 i j k (P 2 0) (P 2 1) (P 2 2)) (row3 i j k (P 3 0) (P 3 1)) (row4 i j k (P 4 0))
 
 -- the definition's sum of any control points
@@ -122,7 +122,7 @@ sum-size p s i j k B h =
     (subst (λ (z : ℤ). bernsteinSum p s i j k ≤ℤ z) (more (pos ((i + j + k) ^ 4)) (pos B)) (sum-to p s i j k (negℤ (pos B)) (pos B) h))
 
 -- ---- where weights are zero
-pub on-side : (p : Rows) (i j : ℤ) → quarticSum p i j (pos 0) ≡ quartic (p .r0) i j
+pub on-side : (p : Matrix5) (i j : ℤ) → quarticSum p i j (pos 0) ≡ quartic (p .r0) i j
 unfolding quarticSum
 on-side p i j =
     side (quartic (p .r0) i j) (cubic (p .r1 .a) (p .r1 .b) (p .r1 .c) (p .r1 .d) i j) (quadratic (p .r2 .a) (p .r2 .b) (p .r2 .c) i j)
@@ -138,7 +138,7 @@ ray a b c d e x k =
     x *ℤ x *ℤ x *ℤ x *ℤ a +ℤ pos 4 *ℤ k *ℤ (x *ℤ x *ℤ x *ℤ b) +ℤ pos 6 *ℤ k *ℤ k *ℤ (x *ℤ x *ℤ c) +ℤ pos 4 *ℤ k *ℤ k *ℤ k *ℤ (x *ℤ d)
     +ℤ k *ℤ k *ℤ k *ℤ k *ℤ e
 
-head4 : (a b c d e x : ℤ) → quartic (five a b c d e) x (pos 0) ≡ x *ℤ x *ℤ x *ℤ x *ℤ a
+head4 : (a b c d e x : ℤ) → quartic (vector5 a b c d e) x (pos 0) ≡ x *ℤ x *ℤ x *ℤ x *ℤ a
 head4 = over 6 _ λ ρ. simp (poly, ρ) (omega arith)
 
 head3 : (a b c d x : ℤ) → cubic a b c d x (pos 0) ≡ x *ℤ x *ℤ x *ℤ a
@@ -150,7 +150,7 @@ head2 = over 4 _ λ ρ. simp (poly, ρ) (omega arith)
 head1 : (a b x : ℤ) → linear a b x (pos 0) ≡ x *ℤ a
 head1 = over 3 _ λ ρ. simp (poly, ρ) (omega arith)
 
-tail4 : (a b c d e x : ℤ) → quartic (five a b c d e) (pos 0) x ≡ x *ℤ x *ℤ x *ℤ x *ℤ e
+tail4 : (a b c d e x : ℤ) → quartic (vector5 a b c d e) (pos 0) x ≡ x *ℤ x *ℤ x *ℤ x *ℤ e
 tail4 = over 6 _ λ ρ. simp (poly, ρ) (omega arith)
 
 tail3 : (a b c d x : ℤ) → cubic a b c d (pos 0) x ≡ x *ℤ x *ℤ x *ℤ d
@@ -162,7 +162,7 @@ tail2 = over 4 _ λ ρ. simp (poly, ρ) (omega arith)
 tail1 : (a b x : ℤ) → linear a b (pos 0) x ≡ x *ℤ b
 tail1 = over 3 _ λ ρ. simp (poly, ρ) (omega arith)
 
-pub from-head : (p : Rows) (i k : ℤ) → quarticSum p i (pos 0) k ≡ ray (p .r0 .a) (p .r1 .a) (p .r2 .a) (p .r3 .a) (p .r4 .a) i k
+pub from-head : (p : Matrix5) (i k : ℤ) → quarticSum p i (pos 0) k ≡ ray (p .r0 .a) (p .r1 .a) (p .r2 .a) (p .r3 .a) (p .r4 .a) i k
 unfolding quarticSum
 from-head p i k =
     cc (
@@ -172,7 +172,7 @@ from-head p i k =
       head1 (p .r3 .a) (p .r3 .b) i,
     )
 
-pub from-tail : (p : Rows) (j k : ℤ) → quarticSum p (pos 0) j k ≡ ray (p .r0 .e) (p .r1 .d) (p .r2 .c) (p .r3 .b) (p .r4 .a) j k
+pub from-tail : (p : Matrix5) (j k : ℤ) → quarticSum p (pos 0) j k ≡ ray (p .r0 .e) (p .r1 .d) (p .r2 .c) (p .r3 .b) (p .r4 .a) j k
 unfolding quarticSum
 from-tail p j k =
     cc (
@@ -189,7 +189,7 @@ ray-end = over 6 _ λ ρ. simp (poly, ρ) (omega arith)
 ray-centre : (a b c d e k : ℤ) → ray a b c d e (pos 0) k ≡ power k 4 *ℤ e
 ray-centre = over 6 _ λ ρ. simp (poly, ρ) (omega arith)
 
-module _ (p : Rows) (n : ℕ) where
+module _ (p : Matrix5) (n : ℕ) where
   pub head-alone : quarticSum p (pos n) (pos 0) (pos 0) ≡ pos (n ^ 4) *ℤ p .r0 .a
   head-alone =
       from-head p (pos n) (pos 0) ∙ ray-end (p .r0 .a) (p .r1 .a) (p .r2 .a) (p .r3 .a) (p .r4 .a) (pos n)

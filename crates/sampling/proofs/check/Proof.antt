@@ -16,8 +16,7 @@ module _ (t : tie.After-enum-told) where
   s = t .before .before .before
 
   net-sound : netVerdict (now (s .args .numbers)) ≡ sound
-  net-sound =
-      passed (t .before .before .check .result) (t .before .before .check .ensures ∙ first-point (now (s .args .numbers))) (t .enum-told .given .1)
+  net-sound = passed (t .before .before .check .result) (t .before .before .check .ensures ∙ first-point (now (s .args .numbers))) (t .enum-told .given .1)
 
 returns : tie.Need-returns
 returns c =

@@ -5,8 +5,8 @@ use native.Mathlib.Omega.{arith}
 use borrow.Author.Needs.{needs}
 use lib.ListN.{length}
 use lib.IntN.{pos}
-use Rattle.sampling.specs.declared.bernstein.Five.{Five}
-use Rattle.sampling.specs.declared.bernstein.Rows.{Rows}
+use Rattle.sampling.specs.declared.bernstein.Vector5.{Vector5}
+use Rattle.sampling.specs.declared.bernstein.Matrix5.{Matrix5}
 use Rattle.sampling.specs.bernstein.Sums.{AllSized, AllTapered, polynomialOf, statesOf, stepsOf, firstsOf, rowOf}
 use Rattle.sampling.proofs.bernstein.Laws.{polynomial-tapers, states-size}
 use Rattle.sampling.proofs.bernstein.Identity.{states-step, firsts-row}
@@ -18,7 +18,7 @@ use Rattle.sampling.proofs.put_axis.Tie as tie
 abbrev Inv-loop : tie.InvT-loop
 Inv-loop n points₀ axis s₀ at₀ k₀ points s at k =
     (k ≤ n + 1) × (at ≡ 3 * before n k + axis)
-    × ((p : Rows) → s₀ ≡ statesOf (polynomialOf p (pos n)) 0 → (s ≡ statesOf (polynomialOf p (pos n)) k) × RowsPut p n axis k points₀ points)
+    × ((p : Matrix5) → s₀ ≡ statesOf (polynomialOf p (pos n)) 0 → (s ≡ statesOf (polynomialOf p (pos n)) k) × RowsPut p n axis k points₀ points)
 
 abbrev μ-loop : tie.MeasureT-loop
 μ-loop n points₀ axis s₀ at₀ k₀ points s at k = n + 1 - k
@@ -34,7 +34,7 @@ module _ (t : tie.In-loop Inv-loop μ-loop) where
   abbrev k : ℕ
   k = t .before .loop .k
 
-  abbrev c : Rows
+  abbrev c : Matrix5
   c = polynomialOf (p .args .p) (pos n)
 
   inv : (t .before .loop .s ≡ statesOf c k) × RowsPut (p .args .p) n (p .args .axis) k (p .args .points .now) (t .before .loop .points)
@@ -47,7 +47,7 @@ module _ (t : tie.In-loop Inv-loop μ-loop) where
   tapers = polynomial-tapers (p .args .p) n (p .pre .0 .sized) (p .pre .0 .few)
 
   sized : AllSized (2 ^ 60) (t .before .loop .s)
-  sized = subst (λ (s : Rows). AllSized (2 ^ 60) s) (sym (inv .0)) (states-size c k (omega (arith, below, p .pre .0 .few)) tapers)
+  sized = subst (λ (s : Matrix5). AllSized (2 ^ 60) s) (sym (inv .0)) (states-size c k (omega (arith, below, p .pre .0 .few)) tapers)
 
   room : t .before .loop .at + 3 * (n - k + 1) ≤ length (t .before .loop .points) + 2
   room =
@@ -57,22 +57,12 @@ module _ (t : tie.In-loop Inv-loop μ-loop) where
   few : n ≤ 16
   few = p .pre .0 .few
 
-row-of : (c : Rows) (k : ℕ) (s : Rows) (e : Five) → e ≡ firstsOf s → s ≡ statesOf c k → e ≡ rowOf c k
+row-of : (c : Matrix5) (k : ℕ) (s : Matrix5) (e : Vector5) → e ≡ firstsOf s → s ≡ statesOf c k → e ≡ rowOf c k
 row-of c k s e h g = h ∙ ap firstsOf g ∙ firsts-row c k
-
-start-requires : tie.Need-start-requires Inv-loop μ-loop
-start-requires c κs = (c .pre .0 .sized, c .pre .0 .few)
 
 loop-holds : tie.Need-loop-holds Inv-loop μ-loop
 unfolding before
-loop-holds c =
-    (omega arith, omega arith, λ p h. (h, rows-none p (c .before .args .n) (c .before .args .axis) (c .before .args .points .now)))
-
-add-count : tie.Need-add-count Inv-loop μ-loop
-add-count c = let h = few c in search needs
-
-row-requires : tie.Need-row-requires Inv-loop μ-loop
-row-requires c κs = sized c
+loop-holds c = (omega arith, omega arith, λ p h. (h, rows-none p (c .before .args .n) (c .before .args .axis) (c .before .args .points .now)))
 
 put-row-requires : tie.Need-put-row-requires Inv-loop μ-loop
 put-row-requires a κs =
@@ -131,5 +121,5 @@ returns a =
 
 pub put-axis-spec : {M : Type 1} → statement M
 put-axis-spec =
-    tie.close (tie.spec Inv-loop μ-loop start-requires loop-holds add-count row-requires put-row-requires mul-at add-at next-requires add-k loop-less
-    loop-again same-length returns)
+    tie.close (tie.spec Inv-loop μ-loop (λ c κs. (c .pre .0 .sized, c .pre .0 .few)) loop-holds (λ c. let h = few c in search needs) (λ c κs. sized c)
+    put-row-requires mul-at add-at next-requires add-k loop-less loop-again same-length returns)

@@ -10,7 +10,7 @@ use mir.Syntax.{w32}
 use mir.Val.{toZ, ofZ}
 use mir.Facts.{toZ-ofZ}
 use Rattle.paper.specs.Numbers.{round}
-use Rattle.sampling.specs.declared.bernstein.Five.{Five}
+use Rattle.sampling.specs.declared.bernstein.Vector5.{Vector5}
 use Rattle.sampling.specs.bernstein.Sums.{Sized, stateOf, valueOf, stepOf}
 use Rattle.sampling.proofs.bernstein.Laws.{bits, state-size, sized-bits}
 use Rattle.sampling.proofs.bernstein.Identity.{state-step}
@@ -21,14 +21,14 @@ use Rattle.sampling.proofs.put_row.Tie as tie
 
 abbrev Inv-loop : tie.InvT-loop
 Inv-loop n first count points₀ from g₀ j₀ points g j =
-    (j ≤ count) × ((e : Five) → g₀ ≡ stateOf e first → (g ≡ stateOf e (first + j)) × RowPut e n first j from points₀ points)
+    (j ≤ count) × ((e : Vector5) → g₀ ≡ stateOf e first → (g ≡ stateOf e (first + j)) × RowPut e n first j from points₀ points)
 
 abbrev μ-loop : tie.MeasureT-loop
 μ-loop n first count points₀ from g₀ j₀ points g j = count - j
 
-value-same : (e : Five) (g : Five) (x : ℕ) → g ≡ stateOf e x → g .a ≡ valueOf e x
+value-same : (e : Vector5) (g : Vector5) (x : ℕ) → g ≡ stateOf e x → g .a ≡ valueOf e x
 unfolding stateOf
-value-same e g x h = ap (λ (f : Five). f .a) h
+value-same e g x h = ap (λ (f : Vector5). f .a) h
 
 from-all : (x : ℕ) → x ≡ x + 0
 from-all x = omega arith
@@ -44,14 +44,13 @@ module _ (t : tie.In-loop Inv-loop μ-loop) where
   abbrev j : ℕ
   j = t .before .loop .j
 
-  abbrev e : Five
+  abbrev e : Vector5
   e = p .args .e
 
   abbrev first : ℕ
   first = p .args .first
 
-  inv : (t .before .loop .g ≡ stateOf e (first + j))
-      × RowPut e (p .args .n) first j (p .args .from) (p .args .points .now) (t .before .loop .points)
+  inv : (t .before .loop .g ≡ stateOf e (first + j)) × RowPut e (p .args .n) first j (p .args .from) (p .args .points .now) (t .before .loop .points)
   inv = t .before .loop .inv .1 e (t .before .before .state-at .ensures)
 
   below : j < p .args .count
@@ -59,7 +58,7 @@ module _ (t : tie.In-loop Inv-loop μ-loop) where
 
   sized : Sized (2 ^ 60) (t .before .loop .g)
   sized =
-      subst (λ (g : Five). Sized (2 ^ 60) g) (sym (inv .0))
+      subst (λ (g : Vector5). Sized (2 ^ 60) g) (sym (inv .0))
       (state-size e (first + j) (5 * 2 ^ 34) (omega (arith, below, p .pre .0 .short)) (p .pre .0 .tapers) (lit≤ tt))
 
   value-is : bits (t .before .loop .g .a) ≡ valueOf e (first + j)
@@ -71,29 +70,11 @@ module _ (t : tie.In-loop Inv-loop μ-loop) where
   room : p .args .from + 3 * j < length (t .before .loop .points)
   room = omega (arith, inv .1 .same, below, p .pre .1)
 
-state-at-requires : tie.Need-state-at-requires Inv-loop μ-loop
-state-at-requires c κs = (c .pre .0 .tapers, c .pre .0 .early)
-
 loop-holds : tie.Need-loop-holds Inv-loop μ-loop
 loop-holds c = (omega arith, λ e h. (h ∙ ap (stateOf e) (from-all (c .before .args .first)), row-none e (c .before .args .n) (c .before .args .first) (c .before .args .from) (c .before .args .points .now)))
 
 rounded-requires : tie.Need-rounded-requires Inv-loop μ-loop
 rounded-requires c κs = let t = c .before in (p t .pre .0 .some, p t .pre .0 .few, small t)
-
-mul-v : tie.Need-mul-v Inv-loop μ-loop
-mul-v c = let h = room (c .before .before) in search needs
-
-add-v : tie.Need-add-v Inv-loop μ-loop
-add-v c = let h = room (c .before .before) in search needs
-
-mul-v-2 : tie.Need-mul-v-2 Inv-loop μ-loop
-mul-v-2 c = let h = room (c .before .before) in search needs
-
-slice-set-from-v : tie.Need-slice-set-from-v Inv-loop μ-loop
-slice-set-from-v c = room (c .before .before)
-
-step-requires : tie.Need-step-requires Inv-loop μ-loop
-step-requires c κs = sized (c .before .before)
 
 loop-again : tie.Need-loop-again Inv-loop μ-loop
 loop-again c =
@@ -106,8 +87,7 @@ loop-again c =
             c .step .ensures ∙ ap stepOf (i .0) ∙ state-step e (s .args .first + l .j) ∙ ap (stateOf e) (one-more (s .args .first) (l .j)),
             row-step e (s .args .n) (s .args .first) (l .j) (s .args .from) (s .args .points .now) (l .points) (toZ w32 (ofZ w32 (c .before .rounded .result))) (i .1)
                 (room t)
-                (toZ-ofZ (search needs) ∙ c .before .rounded .ensures
-                ∙ ap (λ (z : ℤ). round z (pos (s .args .n ^ 4)))
+                (toZ-ofZ (search needs) ∙ c .before .rounded .ensures ∙ ap (λ (z : ℤ). round z (pos (s .args .n ^ 4)))
                 (sized-bits (l .g .a) (2 ^ 60) (sized t .0) (lit≤ tt) ∙ value-same e (l .g) (s .args .first + l .j) (i .0))),
           ),
     )
@@ -124,5 +104,7 @@ returns c =
 
 pub put-row-spec : {M : Type 1} → statement M
 put-row-spec =
-    tie.close (tie.spec Inv-loop μ-loop state-at-requires loop-holds rounded-requires mul-v add-v mul-v-2 slice-set-from-v step-requires (λ c. search needs)
+    tie.close (tie.spec Inv-loop μ-loop (λ c κs. (c .pre .0 .tapers, c .pre .0 .early)) loop-holds rounded-requires
+    (λ c. let h = room (c .before .before) in search needs) (λ c. let h = room (c .before .before) in search needs)
+    (λ c. let h = room (c .before .before) in search needs) (λ c. room (c .before .before)) (λ c κs. sized (c .before .before)) (λ c. search needs)
     (λ c. search needs) loop-again same-length returns)

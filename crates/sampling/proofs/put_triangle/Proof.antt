@@ -7,20 +7,20 @@ use native.Mathlib.Omega.{arith}
 use borrow.Author.Needs.{needs}
 use lib.Dec.{lit<}
 use denote.Ref.{now}
-use Rattle.sampling.specs.declared.bernstein.Rows.{Rows}
+use Rattle.sampling.specs.declared.bernstein.Matrix5.{Matrix5}
 use Rattle.sampling.specs.Grid.{before, Sampleable, RowsPut}
 use Rattle.sampling.proofs.Laws.{points-sampleable}
 use Rattle.sampling.proofs.Lists.{count-is, triangle-put}
 use Rattle.sampling.proofs.put_triangle.Statement.{statement}
 use Rattle.sampling.proofs.put_triangle.Tie as tie
 
-moved : {p q : Rows} {n axis rows : ℕ} {old new : List ℤ} → p ≡ q → RowsPut p n axis rows old new → RowsPut q n axis rows old new
-moved {p} {q} {n} {axis} {rows} {old} {new} e r = subst (λ (x : Rows). RowsPut x n axis rows old new) e r
+moved : {p q : Matrix5} {n axis rows : ℕ} {old new : List ℤ} → p ≡ q → RowsPut p n axis rows old new → RowsPut q n axis rows old new
+moved {p} {q} {n} {axis} {rows} {old} {new} e r = subst (λ (x : Matrix5). RowsPut x n axis rows old new) e r
 
 put-axis-requires : tie.Need-put-axis-requires
 put-axis-requires c κs =
     let s = c .before .before in (
-      subst (λ (p : Rows). Sampleable p (s .args .n)) (sym (c .before .control-points .ensures))
+      subst (λ (p : Matrix5). Sampleable p (s .args .n)) (sym (c .before .control-points .ensures))
           (points-sampleable (now (s .args .numbers)) (s .pre .0 .0) (s .args .side) 0 (lit< tt) (s .args .n) (s .pre .1 .0) (s .pre .1 .1)),
       lit< tt,
       omega (arith, count-is (s .args .n), s .pre .1 .2),
@@ -29,7 +29,7 @@ put-axis-requires c κs =
 put-axis-requires-2 : tie.Need-put-axis-requires-2
 put-axis-requires-2 c κs =
     let s = c .before .before .before .before .before .before in (
-      subst (λ (p : Rows). Sampleable p (s .args .n)) (sym (c .before .control-points2 .ensures))
+      subst (λ (p : Matrix5). Sampleable p (s .args .n)) (sym (c .before .control-points2 .ensures))
           (points-sampleable (now (s .args .numbers)) (s .pre .0 .0) (s .args .side) 1 (lit< tt) (s .args .n) (s .pre .1 .0) (s .pre .1 .1)),
       lit< tt,
       omega (arith, count-is (s .args .n), s .pre .1 .2, c .before .before .before .put-axis .ensures .same),
@@ -38,7 +38,7 @@ put-axis-requires-2 c κs =
 put-axis-requires-3 : tie.Need-put-axis-requires-3
 put-axis-requires-3 c κs =
     let s = c .before .before .before .before .before .before .before .before .before .before in (
-      subst (λ (p : Rows). Sampleable p (s .args .n)) (sym (c .before .control-points3 .ensures))
+      subst (λ (p : Matrix5). Sampleable p (s .args .n)) (sym (c .before .control-points3 .ensures))
           (points-sampleable (now (s .args .numbers)) (s .pre .0 .0) (s .args .side) 2 (lit< tt) (s .args .n) (s .pre .1 .0) (s .pre .1 .1)),
       lit< tt,
       omega (
@@ -59,8 +59,7 @@ returns c =
     (c .before .before .before .before .before .before .before .before .before .put-axis .ensures))
     (moved (c .before .before .before .before .before .before .before .control-points2 .ensures)
     (c .before .before .before .before .before .put-axis2 .ensures))
-    (moved (c .before .before .before .control-points3 .ensures) (c .before .put-axis3 .ensures))
-    (s .pre .1 .2)
+    (moved (c .before .before .before .control-points3 .ensures) (c .before .put-axis3 .ensures)) (s .pre .1 .2)
 
 pub put-triangle-spec : {M : Type 1} → statement M
 put-triangle-spec =

@@ -1,59 +1,21 @@
--- `sampling::row_at` meets its contract: after x turns the states are those at x.
-use mathlib.Core.Path.{_≡_, sym, ap, _∙_, subst}
-use Prim.Native.Nat.{_-_, _^_, _≤_}
-use native.Mathlib.Omega.{arith}
+-- `sampling::row_at` meets its contract: the row of the polynomial.
+use mathlib.Core.Path.{sym, ap, _∙_, subst}
 use borrow.Author.Needs.{needs}
-use lib.IntN.{pos}
-use Rattle.sampling.specs.declared.bernstein.Rows.{Rows}
-use Rattle.sampling.specs.bernstein.Sums.{AllSized, polynomialOf, statesOf, firstsOf, stepsOf, rowOf}
-use Rattle.sampling.proofs.bernstein.Laws.{polynomial-tapers, states-size}
-use Rattle.sampling.proofs.bernstein.Identity.{states-step, firsts-row}
+use Rattle.sampling.specs.declared.bernstein.Matrix5.{Matrix5}
+use Rattle.sampling.specs.bernstein.Sums.{AllTapered, rowOf}
+use Rattle.sampling.proofs.bernstein.Laws.{polynomial-tapers}
 use Rattle.sampling.proofs.row_at.Statement.{statement}
 use Rattle.sampling.proofs.row_at.Tie as tie
 
-abbrev Inv-loop : tie.InvT-loop
-Inv-loop k n s₀ x₀ s x = (x ≤ k) × ((c : Rows) → s₀ ≡ statesOf c 0 → s ≡ statesOf c x)
+row-in-requires : tie.Need-row-in-requires
+row-in-requires c κs =
+    let s = c .before in (
+      subst (λ (r : Matrix5). AllTapered r) (sym (c .polynomial .ensures)) (polynomial-tapers (s .args .p) (s .args .n) (s .pre .0) (s .pre .2)),
+      s .pre .1,
+    )
 
-abbrev μ-loop : tie.MeasureT-loop
-μ-loop k n s₀ x₀ s x = k - x
-
--- at the loop's test
-module _ (t : tie.At-loop Inv-loop μ-loop) where
-  abbrev p : tie.Start Inv-loop μ-loop
-  p = t .before .before
-
-  is : t .loop .s ≡ statesOf (polynomialOf (p .args .p) (pos (p .args .n))) (t .loop .x)
-  is = t .loop .inv .1 _ (t .before .start .ensures)
-
-  sized : AllSized (2 ^ 60) (t .loop .s)
-  sized =
-      subst (λ (s : Rows). AllSized (2 ^ 60) s) (sym is)
-      (states-size _ (t .loop .x) (omega (arith, t .loop .inv .0, p .pre .1)) (polynomial-tapers (p .args .p) (p .args .n) (p .pre .0) (p .pre .2)))
-
-start-requires : tie.Need-start-requires Inv-loop μ-loop
-start-requires c κs = (c .pre .0, c .pre .2)
-
-loop-holds : tie.Need-loop-holds Inv-loop μ-loop
-loop-holds c = (omega arith, λ p e. e)
-
-next-requires : tie.Need-next-requires Inv-loop μ-loop
-next-requires c κs = sized (c .before)
-
-loop-again : tie.Need-loop-again Inv-loop μ-loop
-loop-again c =
-    let l = c .before .before .loop in
-    (omega arith, λ p e. c .next .ensures ∙ ap stepsOf (l .inv .1 p e) ∙ states-step p (l .x))
-
-row-requires : tie.Need-row-requires Inv-loop μ-loop
-row-requires c κs = sized (c .before)
-
-returns : tie.Need-returns Inv-loop μ-loop
-returns c =
-    let t = c .before .before in
-    let s = t .before .before in
-    let e = polynomialOf (s .args .p) (pos (s .args .n)) in
-    c .row .ensures ∙ ap firstsOf (is t) ∙ firsts-row e (t .loop .x) ∙ ap (rowOf e) (omega (arith, t .loop .inv .0))
+returns : tie.Need-returns
+returns c = c .row-in .ensures ∙ ap (λ (r : Matrix5). rowOf r (c .before .before .args .k)) (c .before .polynomial .ensures)
 
 pub row-at-spec : {M : Type 1} → statement M
-row-at-spec =
-    tie.close (tie.spec Inv-loop μ-loop start-requires loop-holds next-requires (λ c. search needs) (λ c. search needs) loop-again row-requires returns)
+row-at-spec = tie.close (tie.spec (λ c κs. search needs) row-in-requires returns)

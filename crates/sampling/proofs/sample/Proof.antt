@@ -46,8 +46,7 @@ returns c =
     (k .result) (k .ensures) (a .0 .0) (a .0 .1 .0) (a .1)
 
 sample-on-requires : tie.Need-sample-on-requires
-sample-on-requires t κs =
-    ((net t, low t, lit< tt), (some t, few t, omega (arith, sums t)))
+sample-on-requires t κs = ((net t, low t, lit< tt), (some t, few t, omega (arith, sums t)))
 
 sample-on-requires-2 : tie.Need-sample-on-requires-2
 sample-on-requires-2 c κs =
@@ -66,8 +65,7 @@ returns-2 c =
     let w = weights (u .args .i) (u .args .j) (u .args .k) (u .args .n) in
     let q = sums t in
     sample-done (now (u .args .numbers)) (u .args .side) w (now (u .args .point)) _ (is-sound t)
-    (c .put-point .ensures
-    ∙ point-is (now (u .args .numbers)) (sideAt (u .args .side)) w _ _ _
+    (c .put-point .ensures ∙ point-is (now (u .args .numbers)) (sideAt (u .args .side)) w _ _ _
     (toZ-ofZ (search needs) ∙ c .before .before .before .before .sample-on .ensures (u .args .i) q)
     (toZ-ofZ (search needs) ∙ c .before .before .before .sample-on2 .ensures (u .args .i) q)
     (toZ-ofZ (search needs) ∙ c .before .before .sample-on3 .ensures (u .args .i) q))

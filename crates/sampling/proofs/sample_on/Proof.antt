@@ -37,8 +37,7 @@ returns c =
     let s = c .before .before .before .before in
     v-sample (now (s .args .numbers)) (s .pre .0 .0) (s .args .side) (s .args .axis) (s .pre .0 .2) (s .args .j) (s .args .k) (s .args .n) (s .pre .1 .0)
     (s .pre .1 .1) (s .pre .1 .2) _ (c .before .before .before .control-points .ensures) _ (c .before .before .row-at .ensures) _
-    (c .before .value-at .ensures)
-    (c .rounded .result) (search needs) (c .rounded .ensures)
+    (c .before .value-at .ensures) (c .rounded .result) (search needs) (c .rounded .ensures)
 
 pub sample-on-spec : {M : Type 1} → statement M
 sample-on-spec = tie.close (tie.spec (λ c κs. search needs) row-at-requires value-at-requires rounded-requires returns)

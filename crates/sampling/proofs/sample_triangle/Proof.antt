@@ -7,7 +7,8 @@ use denote.Ref.{now}
 use Rattle.paper.specs.Faults.{sound}
 use Rattle.paper.specs.Sampling.{weights, sampleVerdict}
 use Rattle.mesh.proofs.Verdicts.{passed}
-use Rattle.sampling.proofs.Laws.{net-passed, side-passed, some-parts, few-parts, triangle-refused, triangle-short, triangle-done, few-samples, needed-is}
+use Rattle.sampling.proofs.Laws.{net-passed, side-passed, some-parts, few-parts, triangle-refused, triangle-short, triangle-done, few-samples}
+use Rattle.sampling.proofs.Laws.{needed-is}
 use Rattle.sampling.proofs.sample_triangle.Statement.{statement}
 use Rattle.sampling.proofs.sample_triangle.Tie as tie
 

@@ -1,10 +1,10 @@
 -- `sampling::state_at` meets its contract: after x turns the state is that at x.
 use mathlib.Core.Path.{_≡_, sym, ap, _∙_, subst}
-use Prim.Native.Nat.{ℕ, _-_, _*_, _^_, _≤_}
+use Prim.Native.Nat.{_-_, _*_, _^_, _≤_}
 use native.Mathlib.Omega.{arith}
 use borrow.Author.Needs.{needs}
 use lib.Dec.{lit≤}
-use Rattle.sampling.specs.declared.bernstein.Five.{Five}
+use Rattle.sampling.specs.declared.bernstein.Vector5.{Vector5}
 use Rattle.sampling.specs.bernstein.Sums.{Sized, stateOf, stepOf}
 use Rattle.sampling.proofs.bernstein.Laws.{state-size, tapered-size}
 use Rattle.sampling.proofs.bernstein.Identity.{state-step}
@@ -12,7 +12,7 @@ use Rattle.sampling.proofs.state_at.Statement.{statement}
 use Rattle.sampling.proofs.state_at.Tie as tie
 
 abbrev Inv-loop : tie.InvT-loop
-Inv-loop j g₀ x₀ g x = (x ≤ j) × ((e : Five) → g₀ ≡ stateOf e 0 → g ≡ stateOf e x)
+Inv-loop j g₀ x₀ g x = (x ≤ j) × ((e : Vector5) → g₀ ≡ stateOf e 0 → g ≡ stateOf e x)
 
 abbrev μ-loop : tie.MeasureT-loop
 μ-loop j g₀ x₀ g x = j - x
@@ -26,17 +26,11 @@ module _ (t : tie.At-loop Inv-loop μ-loop) where
 
   sized : Sized (2 ^ 60) (t .loop .g)
   sized =
-      subst (λ (g : Five). Sized (2 ^ 60) g) (sym is)
+      subst (λ (g : Vector5). Sized (2 ^ 60) g) (sym is)
       (state-size (p .args .e) (t .loop .x) (5 * 2 ^ 34) (omega (arith, t .loop .inv .0, p .pre .1)) (p .pre .0) (lit≤ tt))
 
 ahead-requires : tie.Need-ahead-requires Inv-loop μ-loop
 ahead-requires c κs = tapered-size (c .args .e) (5 * 2 ^ 34) (c .pre .0) (lit≤ tt)
-
-loop-holds : tie.Need-loop-holds Inv-loop μ-loop
-loop-holds c = (omega arith, λ e h. h)
-
-step-requires : tie.Need-step-requires Inv-loop μ-loop
-step-requires c κs = sized (c .before)
 
 loop-again : tie.Need-loop-again Inv-loop μ-loop
 loop-again c =
@@ -49,4 +43,6 @@ returns c =
     is t ∙ ap (stateOf (t .before .before .args .e)) (omega (arith, t .loop .inv .0))
 
 pub state-at-spec : {M : Type 1} → statement M
-state-at-spec = tie.close (tie.spec Inv-loop μ-loop ahead-requires loop-holds step-requires (λ c. search needs) (λ c. search needs) loop-again returns)
+state-at-spec =
+    tie.close (tie.spec Inv-loop μ-loop ahead-requires (λ c. (omega arith, λ e h. h)) (λ c κs. sized (c .before)) (λ c. search needs) (λ c. search needs)
+    loop-again returns)

@@ -1,20 +1,14 @@
 -- The tangents as the code has them: the derivatives of the polynomial, by the powers of the second and of the third weight.
-use Prim.Native.Nat.{ℕ, _+_}
 use lib.IntN.{ℤ, pos, _+ℤ_, _-ℤ_, _*ℤ_}
-use Rattle.paper.specs.Net.{Side}
-use Rattle.paper.specs.Sampling.{control}
-use Rattle.sampling.specs.declared.bernstein.Five.{Five}
-use Rattle.sampling.specs.declared.bernstein.Rows.{Rows}
-use Rattle.sampling.specs.bernstein.Sums.{five, linear, quadratic, cubic}
+use Rattle.sampling.specs.declared.bernstein.Vector5.{Vector5}
+use Rattle.sampling.specs.declared.bernstein.Matrix5.{Matrix5}
+use Rattle.sampling.specs.bernstein.Sums.{vector5, linear, quadratic, cubic}
 
--- ---- the differences of control points, along the rows and from row to row; `inward` is that to the point at the same place of the next row
-unfoldable pub inward : (ℕ → ℤ) → Side → ℕ → ℕ → ℤ
-inward p s n m = control p s (n + 1) m -ℤ control p s n m
+-- ---- the differences of control points, along the rows and from row to row
+abbrev pub stepsAlong : Vector5 → Vector5
+stepsAlong v = vector5 (v .b -ℤ v .a) (v .c -ℤ v .b) (v .d -ℤ v .c) (v .e -ℤ v .d) (pos 0)
 
-abbrev pub stepsAlong : Five → Five
-stepsAlong v = five (v .b -ℤ v .a) (v .c -ℤ v .b) (v .d -ℤ v .c) (v .e -ℤ v .d) (pos 0)
-
-unfoldable pub alongRows : Rows → Rows
+unfoldable pub alongRows : Matrix5 → Matrix5
 alongRows p = record {
   r0 = stepsAlong (p .r0);
   r1 = stepsAlong (p .r1);
@@ -23,20 +17,20 @@ alongRows p = record {
   r4 = stepsAlong (p .r4);
 }
 
-abbrev pub stepsBetween : Five → Five → Five
-stepsBetween v w = five (w .a -ℤ v .a) (w .b -ℤ v .b) (w .c -ℤ v .c) (w .d -ℤ v .d) (pos 0)
+abbrev pub stepsBetween : Vector5 → Vector5 → Vector5
+stepsBetween v w = vector5 (w .a -ℤ v .a) (w .b -ℤ v .b) (w .c -ℤ v .c) (w .d -ℤ v .d) (pos 0)
 
-unfoldable pub inwardRows : Rows → Rows
+unfoldable pub inwardRows : Matrix5 → Matrix5
 inwardRows p = record {
   r0 = stepsBetween (p .r0) (p .r1);
   r1 = stepsBetween (p .r1) (p .r2);
   r2 = stepsBetween (p .r2) (p .r3);
   r3 = stepsBetween (p .r3) (p .r4);
-  r4 = five (pos 0) (pos 0) (pos 0) (pos 0) (pos 0);
+  r4 = vector5 (pos 0) (pos 0) (pos 0) (pos 0) (pos 0);
 }
 
 -- their cubic sum over three weights, of the first four rows
-unfoldable pub cubicSum : Rows → ℤ → ℤ → ℤ → ℤ
+unfoldable pub cubicSum : Matrix5 → ℤ → ℤ → ℤ → ℤ
 cubicSum d i j k =
     cubic (d .r0 .a) (d .r0 .b) (d .r0 .c) (d .r0 .d) i j
     +ℤ pos 3 *ℤ k *ℤ quadratic (d .r1 .a) (d .r1 .b) (d .r1 .c) i j
@@ -44,20 +38,20 @@ cubicSum d i j k =
     +ℤ k *ℤ k *ℤ k *ℤ d .r3 .a
 
 -- ---- the polynomial's derivatives: by the second weight, row p + 1 times p + 1; by the third, in each row the coefficient of power q + 1 times q + 1
-unfoldable pub timesOf : ℤ → Five → Five
-timesOf z v = five (z *ℤ v .a) (z *ℤ v .b) (z *ℤ v .c) (z *ℤ v .d) (z *ℤ v .e)
+unfoldable pub timesOf : ℤ → Vector5 → Vector5
+timesOf z v = vector5 (z *ℤ v .a) (z *ℤ v .b) (z *ℤ v .c) (z *ℤ v .d) (z *ℤ v .e)
 
-unfoldable pub alongOf : Rows → Rows
+unfoldable pub alongOf : Matrix5 → Matrix5
 alongOf c = record {
   r0 = c .r1;
   r1 = timesOf (pos 2) (c .r2);
   r2 = timesOf (pos 3) (c .r3);
   r3 = timesOf (pos 4) (c .r4);
-  r4 = five (pos 0) (pos 0) (pos 0) (pos 0) (pos 0);
+  r4 = vector5 (pos 0) (pos 0) (pos 0) (pos 0) (pos 0);
 }
 
-unfoldable pub slopeOf : Five → Five
-slopeOf f = five (f .b) (pos 2 *ℤ f .c) (pos 3 *ℤ f .d) (pos 4 *ℤ f .e) (pos 0)
+unfoldable pub slopeOf : Vector5 → Vector5
+slopeOf f = vector5 (f .b) (pos 2 *ℤ f .c) (pos 3 *ℤ f .d) (pos 4 *ℤ f .e) (pos 0)
 
-unfoldable pub inwardOf : Rows → Rows
+unfoldable pub inwardOf : Matrix5 → Matrix5
 inwardOf c = record { r0 = slopeOf (c .r0); r1 = slopeOf (c .r1); r2 = slopeOf (c .r2); r3 = slopeOf (c .r3); r4 = slopeOf (c .r4) }

@@ -3,7 +3,7 @@ use mathlib.Core.Path.{_≡_, _∙_}
 use mathlib.Core.Logic.{⊎-elim}
 use Prim.Native.Nat.{_+_, _-_, _≤_}
 use denote.Ref.{now}
-use Rattle.touching.specs.Near.{among}
+use Rattle.touching.specs.Sharing.{among}
 use Rattle.touching.proofs.Laws.{found-none, found-here, found-not}
 use native.Mathlib.Omega.{arith}
 use borrow.Author.Needs.{needs}

@@ -3,26 +3,26 @@ use mathlib.Core.Path.{_≡_, refl}
 use Prim.Native.Nat.{_+_, _-_, _≤_}
 use lib.ListN.{length, length-set}
 use denote.Ref.{now}
-use Rattle.touching.specs.Near.{AllMarked}
+use Rattle.touching.specs.Sharing.{AllMarked}
 use Rattle.touching.proofs.Laws.{all-none, all-step}
 use native.Mathlib.Omega.{arith}
 use borrow.Author.Needs.{needs}
 use Rattle.touching.proofs.mark_all.Tie as tie
 
 abbrev Inv-loop : tie.InvT-loop
-Inv-loop corners start n near₀ j₀ near j = (j ≤ n) × (length near ≡ length near₀) × AllMarked corners start j near₀ near
+Inv-loop corners start n sharing₀ j₀ sharing j = (j ≤ n) × (length sharing ≡ length sharing₀) × AllMarked corners start j sharing₀ sharing
 
 abbrev μ-loop : tie.MeasureT-loop
-μ-loop corners start n near₀ j₀ near j = n - j
+μ-loop corners start n sharing₀ j₀ sharing j = n - j
 
 loop-holds : tie.Need-loop-holds Inv-loop μ-loop
-loop-holds c = (omega arith, refl, all-none (now (c .args .corners)) (c .args .start) (now (c .args .near)))
+loop-holds c = (omega arith, refl, all-none (now (c .args .corners)) (c .args .start) (now (c .args .sharing)))
 
 cast-u : tie.Need-cast-u Inv-loop μ-loop
 cast-u c = let l = c .before .before .loop in omega (arith, c .shared-slice-known .given (c .before .before .before .args .start + l .j))
 
-slice-write-near : tie.Need-slice-write-near Inv-loop μ-loop
-slice-write-near c =
+slice-write-sharing : tie.Need-slice-write-sharing Inv-loop μ-loop
+slice-write-sharing c =
     let s : tie.Start Inv-loop μ-loop = search in
     let l = c .before .before .loop in
     omega (arith, l .inv .1, s .pre .1 (s .args .start + l .j) (omega (arith, s .pre .0)))
@@ -33,7 +33,7 @@ loop-again c =
     let l = c .before .before .loop in (
       omega arith,
       simp length-set (l .inv .1),
-      all-step (now (s .args .corners)) (s .args .start) (l .j) (now (s .args .near)) (l .near) (l .inv .1)
+      all-step (now (s .args .corners)) (s .args .start) (l .j) (now (s .args .sharing)) (l .sharing) (l .inv .1)
           (omega (arith, l .inv .1, s .pre .1 (s .args .start + l .j) (omega (arith, s .pre .0)))) (l .inv .2),
     )
 
@@ -46,5 +46,5 @@ returns c =
 
 pub mark-all-spec : {M : Type 1} → Rattle.touching.proofs.mark_all.Statement.statement M
 mark-all-spec =
-    tie.close (tie.spec Inv-loop μ-loop loop-holds (λ c. search needs) (λ c. search needs) (λ c. search needs) cast-u slice-write-near (λ c. search needs)
+    tie.close (tie.spec Inv-loop μ-loop loop-holds (λ c. search needs) (λ c. search needs) (λ c. search needs) cast-u slice-write-sharing (λ c. search needs)
     (λ c. search needs) loop-again (λ c. search needs) returns)

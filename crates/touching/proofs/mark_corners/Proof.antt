@@ -9,10 +9,10 @@ use borrow.Author.Needs.{needs}
 use Rattle.touching.proofs.mark_corners.Tie as tie
 
 abbrev Inv-loop : tie.InvT-loop
-Inv-loop corners near marks₀ c₀ marks c = Copied corners near marks c × (c ≤ length corners) × (length marks ≡ length marks₀)
+Inv-loop corners sharing marks₀ c₀ marks c = Copied corners sharing marks c × (c ≤ length corners) × (length marks ≡ length marks₀)
 
 abbrev μ-loop : tie.MeasureT-loop
-μ-loop corners near marks₀ c₀ marks c = length corners - c
+μ-loop corners sharing marks₀ c₀ marks c = length corners - c
 
 loop-holds : tie.Need-loop-holds Inv-loop μ-loop
 loop-holds c = (λ d h. absurd (omega arith), omega arith, refl)
@@ -27,7 +27,7 @@ loop-again : tie.Need-loop-again Inv-loop μ-loop
 loop-again c =
     let s : tie.Start Inv-loop μ-loop = search in
     let l = c .before .before .before .loop in (
-      copied-step (now (s .args .corners)) (now (s .args .near)) (l .marks) (l .c) (omega (arith, l .inv .2, s .pre .1)) (l .inv .0),
+      copied-step (now (s .args .corners)) (now (s .args .sharing)) (l .marks) (l .c) (omega (arith, l .inv .2, s .pre .1)) (l .inv .0),
       omega arith,
       simp length-set (l .inv .2),
     )

@@ -9,13 +9,13 @@ returns : tie.Need-returns
 returns c =
     let k = c .before .before .before .before in
     let s : tie.Start = search in
-    face-has (now (s .args .corners)) (s .args .vertex) (s .args .start) (s .args .n) (now (s .args .near)) (c .before .before .mark-all .last .1 .1 .1 .0)
+    face-has (now (s .args .corners)) (s .args .vertex) (s .args .start) (s .args .n) (now (s .args .sharing)) (c .before .before .mark-all .last .1 .1 .1 .0)
     (sym (k .before .has-vertex .ensures) ∙ k .if1 .taken) (c .before .before .mark-all .ensures)
 
 returns-2 : tie.Need-returns-2
 returns-2 c =
     let s : tie.Start = search in
-    face-has-not (now (s .args .corners)) (s .args .vertex) (s .args .start) (s .args .n) (now (s .args .near))
+    face-has-not (now (s .args .corners)) (s .args .vertex) (s .args .start) (s .args .n) (now (s .args .sharing))
     (sym (c .before .has-vertex .ensures) ∙ c .if1 .left)
 
 pub mark-face-spec : {M : Type 1} → Rattle.touching.proofs.mark_face.Statement.statement M

@@ -5,23 +5,23 @@ use lib.ListN.{length}
 use denote.Ref.{now}
 use Rattle.paper.specs.Corners.{startOf}
 use Rattle.mesh.proofs.Faces.{start-zero, start-next, start-ends}
-use Rattle.touching.specs.Near.{NearMarked}
-use Rattle.touching.proofs.Laws.{near-none, near-step}
+use Rattle.touching.specs.Sharing.{SharingMarked}
+use Rattle.touching.proofs.Laws.{sharing-none, sharing-step}
 use native.Mathlib.Omega.{arith}
 use borrow.Author.Needs.{needs}
 use Rattle.touching.proofs.mark_vertices.Tie as tie
 
 abbrev Inv-loop : tie.InvT-loop
-Inv-loop sides corners vertex near₀ start₀ f₀ near start f =
-    (f ≤ length sides) × (start ≡ startOf sides f) × (length near ≡ length near₀) × NearMarked sides corners vertex f near
+Inv-loop sides corners vertex sharing₀ start₀ f₀ sharing start f =
+    (f ≤ length sides) × (start ≡ startOf sides f) × (length sharing ≡ length sharing₀) × SharingMarked sides corners vertex f sharing
 
 abbrev μ-loop : tie.MeasureT-loop
-μ-loop sides corners vertex near₀ start₀ f₀ near start f = length sides - f
+μ-loop sides corners vertex sharing₀ start₀ f₀ sharing start f = length sides - f
 
 loop-holds : tie.Need-loop-holds Inv-loop μ-loop
 loop-holds c =
     let s : tie.Start Inv-loop μ-loop = search in
-    (omega arith, sym (start-zero _), refl, near-none (now (s .args .sides)) (now (s .args .corners)) (s .args .vertex) (now (s .args .near)) (s .pre .1 .1))
+    (omega arith, sym (start-zero _), refl, sharing-none (now (s .args .sides)) (now (s .args .corners)) (s .args .vertex) (now (s .args .sharing)) (s .pre .1 .1))
 
 cast-n : tie.Need-cast-n Inv-loop μ-loop
 cast-n c =
@@ -49,11 +49,11 @@ loop-again c =
     let k = c .before .before .mark-face in
     let sides = now (s .args .sides) in
     let h : l .f < length sides = search needs in
-    let kept : length (k .last .1 .1 .1 .1 .0) ≡ length (l .near) = k .kept .1 .1 .1 .1 .0 in (
+    let kept : length (k .last .1 .1 .1 .1 .0) ≡ length (l .sharing) = k .kept .1 .1 .1 .1 .0 in (
       omega arith,
       omega (arith, start-next sides (l .f) h, l .inv .1),
       kept ∙ l .inv .2,
-      near-step sides (now (s .args .corners)) (s .args .vertex) (l .f) (l .near) (k .last .1 .1 .1 .1 .0) kept (l .inv .3)
+      sharing-step sides (now (s .args .corners)) (s .args .vertex) (l .f) (l .sharing) (k .last .1 .1 .1 .1 .0) kept (l .inv .3)
           (rw (← l .inv .1) (k .ensures)),
     )
 

@@ -1,7 +1,7 @@
 -- `put_points` meets its contract: the net's numbers are those of the list of points.
-use mathlib.Core.Path.{_≡_, sym, subst}
+use mathlib.Core.Path.{sym, subst}
 use mathlib.Core.List.{List}
-use Prim.Native.Nat.{ℕ, _+_, _*_, _≤_}
+use Prim.Native.Nat.{_+_, _*_, _≤_}
 use native.Mathlib.Omega.{arith}
 use borrow.Author.Needs.{needs}
 use lib.ListN.{length}
@@ -28,9 +28,6 @@ room-of s r is =
       all-is (g .mesh) (s .args .levels .now) (g .is .accepted) (g .is .leveled) (s .args .c) (below-of (g .mesh) (g .is) (s .args .c) (s .pre .0 .1)) r
           (is (g .mesh) (g .is)),
     )
-
-size-requires : tie.Need-size-requires
-size-requires c κs = c .shape-of .ensures .0
 
 put-net-requires : tie.Need-put-net-requires
 put-net-requires c κs =
@@ -68,4 +65,5 @@ returns c =
     )
 
 pub put-points-spec : {M : Type 1} → statement M
-put-points-spec = tie.close (tie.spec (λ c κs. search needs) size-requires put-net-requires mul-result add-result (λ c. search needs) returns)
+put-points-spec =
+    tie.close (tie.spec (λ c κs. search needs) (λ c κs. c .shape-of .ensures .0) put-net-requires mul-result add-result (λ c. search needs) returns)

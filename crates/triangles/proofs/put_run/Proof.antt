@@ -14,7 +14,7 @@ use Rattle.paper.specs.Triangles.{coordinateAt, pointsBefore}
 use Rattle.triangles.specs.Meshed.{Of}
 use Rattle.triangles.specs.Owned.{Pointed}
 use Rattle.triangles.proofs.Own.{nets-length, net-part, net-sound}
-use Rattle.triangles.proofs.Calls.{points-between}
+use Rattle.closing.proofs.Calls.{points-between}
 use Rattle.triangles.proofs.Stood.{put-none, range-step, range-end}
 use Rattle.triangles.proofs.put_run.Statement.{statement}
 use Rattle.triangles.proofs.put_run.Tie as tie
@@ -85,12 +85,6 @@ add-net c = let s : tie.Start Inv-loop μ-loop = search in record { fits = omega
 mul-net : tie.Need-mul-net Inv-loop μ-loop
 mul-net c = let s : tie.Start Inv-loop μ-loop = search in record { fits = omega (arith, long s, s .good) }
 
-sub-net : tie.Need-sub-net Inv-loop μ-loop
-sub-net c = omega arith
-
-part-net-start : tie.Need-part-net-start Inv-loop μ-loop
-part-net-start c = omega arith
-
 part-net-end : tie.Need-part-net-end Inv-loop μ-loop
 part-net-end c = let s : tie.Start Inv-loop μ-loop = search in let b = c .loop-test .taken in omega (arith, long s)
 
@@ -133,19 +127,18 @@ loop-again c =
           (ap (λ (x : List ℤ). take perCorner (drop (perCorner * l .c) x)) e ∙ net-part M (s .args .first) (s .args .count) (l .c) b))),
     )
 
-same-length : tie.Need-same-length Inv-loop μ-loop
-same-length c = c .before .loop .inv .1
-
 returns : tie.Need-returns Inv-loop μ-loop
 returns c =
     let s : tie.Start Inv-loop μ-loop = search in
     let l = c .before .loop in
-    λ M o e.
-    range-end (coordinateAt M (s .args .levels .now)) (pointsBefore M (s .args .levels .now)) (cornerCount M) (points-between M (s .args .levels .now))
-    (s .args .first) (s .args .count) (within s M o) (s .args .at) (l .c) (l .to) (s .args .points .now) (l .points) (omega (arith, l .inv .0))
-    (l .inv .3 M o e)
+    let e : l .c ≡ s .args .count = omega (arith, l .inv .0) in (
+      (λ M o. l .inv .2 M o ∙ ap (λ (x : ℕ). s .args .at + 3 * (pointsBefore M (s .args .levels .now) (s .args .first + x) - pointsBefore M (s .args .levels .now) (s .args .first))) e),
+      λ M o q.
+          range-end (coordinateAt M (s .args .levels .now)) (pointsBefore M (s .args .levels .now)) (cornerCount M) (points-between M (s .args .levels .now))
+          (s .args .first) (s .args .count) (within s M o) (s .args .at) (l .c) (l .to) (s .args .points .now) (l .points) e (l .inv .3 M o q),
+    )
 
 pub put-run-spec : {M : Type 1} → statement M
 put-run-spec =
-    tie.close (tie.spec Inv-loop μ-loop loop-holds mul-from add-net mul-net sub-net part-net-start part-net-end add-put-points put-points-requires
-    (λ c. search needs) (λ c. search needs) loop-again same-length returns)
+    tie.close (tie.spec Inv-loop μ-loop loop-holds mul-from add-net mul-net (λ c. omega arith) (λ c. omega arith) part-net-end add-put-points
+    put-points-requires (λ c. search needs) (λ c. search needs) loop-again (λ c. c .before .loop .inv .1) returns)

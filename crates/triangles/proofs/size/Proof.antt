@@ -1,9 +1,9 @@
 -- `size` meets its contract: no sum is large.
-use mathlib.Core.Path.{_≡_, refl}
+use mathlib.Core.Path.{refl}
 use Prim.Native.Nat.{_-_, _*_, _≤_}
 use native.Mathlib.Omega.{arith}
 use borrow.Author.Needs.{needs}
-use Rattle.triangles.proofs.Counts.{most-inner}
+use Rattle.closing.proofs.Counts.{most-inner}
 use Rattle.triangles.proofs.size.Statement.{statement}
 use Rattle.triangles.proofs.size.Tie as tie
 

@@ -1,6 +1,6 @@
 -- Numbers that are written here and there fill a list, where all places of the part are written.
-use mathlib.Core.Path.{_≡_, refl, sym, ap, _∙_, subst}
-use mathlib.Core.Bool.{Bool, true, false, cond}
+use mathlib.Core.Path.{_≡_, sym, ap, _∙_}
+use mathlib.Core.Bool.{cond}
 use mathlib.Core.Logic.{⊎-elim}
 use mathlib.Core.List.{List, _++_}
 use Prim.Native.Nat.{ℕ, _+_, _-_, _≤_, _<_}
@@ -13,7 +13,7 @@ use lib.IntN.{ℤ, pos}
 use Rattle.paper.specs.Scan.{valuesFrom}
 use Rattle.mesh.proofs.Scans.{ways}
 use Rattle.mesh.proofs.Links.{values-length, values-at}
-use Rattle.triangles.specs.Rows.{FilledTo, Fills}
+use Rattle.triangles.specs.Rows.{Fills}
 use Rattle.triangles.specs.writing.Laid.{Reaches}
 
 -- ---- a list that is filled, number by number
@@ -69,8 +69,7 @@ module _ (g : ℕ → ℤ) (at n : ℕ) (before after : List ℤ) (room : at + n
           (ways (ltb t at))
 
       outside : (t : ℕ) → at + n ≤ t → getD after t (pos 0) ≡ getD old t (pos 0)
-      outside t h =
-          ⊎-elim (λ q. q ∙ F-out t h ∙ held t ∙ kept-at f old at t (omega arith)) (λ q. q ∙ held t ∙ kept-at f old at t (omega arith)) (R .each t)
+      outside t h = ⊎-elim (λ q. q ∙ F-out t h ∙ held t ∙ kept-at f old at t (omega arith)) (λ q. q ∙ held t ∙ kept-at f old at t (omega arith)) (R .each t)
 
       each : (t : ℕ) → t < length after → getD after t (pos 0) ≡ getD (valuesFrom f 0 (at + n) ++ drop (at + n) old) t (pos 0)
       each t h =

@@ -1,23 +1,21 @@
 -- The groups of a corner's points: what each part of `put_net` is to write, and that the parts are all of them.
-use mathlib.Core.Path.{_≡_, refl, sym, ap, _∙_, subst}
+use mathlib.Core.Path.{_≡_, refl, sym, ap, _∙_}
 use mathlib.Core.Logic.{_⊎_, inl, inr, ⊎-elim}
 use mathlib.Core.List.{List}
 use Prim.Native.Nat.{ℕ, zero, suc, _+_, _-_, _*_, _/_, _%_, _≤_, _<_}
 use native.Mathlib.Nat.{zero-div, zero-mod, div-lt-iff-lt-mul, div-add-mod', mod-lt}
 use native.Mathlib.Omega.{arith}
-use lib.Dec.{eqb, ltb}
 use borrow.Author.Tests.{lt-ltb, le-ltb, eq-eqb, ne-eqb}
-use lib.IntN.{ℤ, pos}
-use Rattle.paper.specs.Scan.{pickN}
+use lib.IntN.{ℤ}
 use Rattle.paper.specs.Net.{side0}
-use Rattle.paper.specs.Sampling.{control, onAxis, weights, sampleAt, sideAt}
+use Rattle.paper.specs.Sampling.{onAxis, weights, sampleAt, sideAt}
 use Rattle.paper.specs.Triangles.{groups, turnWeights}
 use Rattle.mesh.proofs.Scans.{compared}
 use Rattle.triangles.specs.declared.writing.Shape.{Shape}
-use Rattle.triangles.specs.writing.Laid.{Reaches, EndAim, EndPlace, CurveAim, CurvePlace, ringAt, RingsAim, RingsPlace}
+use Rattle.triangles.specs.writing.Laid.{Reaches, EndAim, EndPlace, CurveAim, CurvePlace, RingsAim, RingsPlace}
 use Rattle.triangles.specs.writing.Shapes.{Shapely, shapeGroup, shapeRings, shapeStart, shapeNumber, ShapeAim, ShapePlace}
-use Rattle.triangles.proofs.Listed.{ring-side, ring-rest}
-use Rattle.triangles.proofs.Samples.{centre-end}
+use Rattle.closing.proofs.Listed.{ring-side, ring-rest}
+use Rattle.closing.proofs.Samples.{centre-end}
 use Rattle.triangles.proofs.writing.Laws.{reaches-part, reaches-more}
 
 -- ---- the size of a ring

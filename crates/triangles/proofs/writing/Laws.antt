@@ -16,9 +16,9 @@ use Rattle.paper.specs.Sampling.{control, onAxis, weights, sampleAt, sideAt}
 use Rattle.paper.specs.Triangles.{turnWeights}
 use Rattle.numbers.proofs.Poly.{over, poly}
 use Rattle.mesh.proofs.Scans.{ways, compared}
-use Rattle.sampling.specs.declared.bernstein.Five.{Five}
-use Rattle.sampling.specs.declared.bernstein.Rows.{Rows}
-use Rattle.sampling.specs.bernstein.Sums.{five, linear, quadratic, cubic, quartic, quarticSum, rowsOf, polynomialOf, rowOf, valueOf, AllSized}
+use Rattle.sampling.specs.declared.bernstein.Vector5.{Vector5}
+use Rattle.sampling.specs.declared.bernstein.Matrix5.{Matrix5}
+use Rattle.sampling.specs.bernstein.Sums.{vector5, linear, quadratic, cubic, quartic, quarticSum, rowsOf, polynomialOf, rowOf, valueOf, AllSized}
 use Rattle.sampling.specs.Grid.{Sampleable, RowSampleable, RowPut}
 use Rattle.sampling.proofs.bernstein.Sum.{bernstein-is}
 use Rattle.sampling.proofs.bernstein.Laws.{polynomial-tapers}
@@ -65,7 +65,7 @@ three-reaches f old at x y z h p q r =
     here t (suc (suc (suc n))) a e = absurd (omega arith)
 
 -- ---- a row
-module _ {e : Five} {n first count from : ℕ} {old new : List ℤ} (r : RowPut e n first count from old new) (f : ℕ → ℤ)
+module _ {e : Vector5} {n first count from : ℕ} {old new : List ℤ} (r : RowPut e n first count from old new) (f : ℕ → ℤ)
     (aim : (j : ℕ) → j < count → f (from + 3 * j) ≡ round (valueOf e (first + j)) (pos (n ^ 4))) where
   at-place : (t j : ℕ) → j < count → t ≡ from + 3 * j → getD new t (pos 0) ≡ f t
   at-place t j h q = subst (λ (x : ℕ). getD new x (pos 0) ≡ f x) (sym q) (r .values j h ∙ sym (aim j h))
@@ -95,24 +95,22 @@ quadratic-back = over 5 _ λ ρ. simp (poly, ρ) (omega arith)
 cubic-back : (a b c d x y : ℤ) → cubic d c b a x y ≡ cubic a b c d y x
 cubic-back = over 6 _ λ ρ. simp (poly, ρ) (omega arith)
 
-quartic-back : (a b c d e x y : ℤ) → quartic (five e d c b a) x y ≡ quartic (five a b c d e) y x
+quartic-back : (a b c d e x y : ℤ) → quartic (vector5 e d c b a) x y ≡ quartic (vector5 a b c d e) y x
 quartic-back = over 7 _ λ ρ. simp (poly, ρ) (omega arith)
 
-pub sum-back : (p : Rows) (i j k : ℤ) → quarticSum (reversedOf p) i j k ≡ quarticSum p j i k
+pub sum-back : (p : Matrix5) (i j k : ℤ) → quarticSum (reversedOf p) i j k ≡ quarticSum p j i k
 unfolding quarticSum reversedOf
 sum-back p i j k = λ z.
-    quartic-back (p .r0 .a) (p .r0 .b) (p .r0 .c) (p .r0 .d) (p .r0 .e) i j z
-    +ℤ pos 4 *ℤ k *ℤ cubic-back (p .r1 .a) (p .r1 .b) (p .r1 .c) (p .r1 .d) i j z
-    +ℤ pos 6 *ℤ k *ℤ k *ℤ quadratic-back (p .r2 .a) (p .r2 .b) (p .r2 .c) i j z
-    +ℤ pos 4 *ℤ k *ℤ k *ℤ k *ℤ linear-back (p .r3 .a) (p .r3 .b) i j z
+    quartic-back (p .r0 .a) (p .r0 .b) (p .r0 .c) (p .r0 .d) (p .r0 .e) i j z +ℤ pos 4 *ℤ k *ℤ cubic-back (p .r1 .a) (p .r1 .b) (p .r1 .c) (p .r1 .d) i j z
+    +ℤ pos 6 *ℤ k *ℤ k *ℤ quadratic-back (p .r2 .a) (p .r2 .b) (p .r2 .c) i j z +ℤ pos 4 *ℤ k *ℤ k *ℤ k *ℤ linear-back (p .r3 .a) (p .r3 .b) i j z
     +ℤ k *ℤ k *ℤ k *ℤ k *ℤ p .r4 .a
 
-sized-back : (B : ℕ) (p : Rows) → natAbs (pos 0) ≤ B → AllSized B p → AllSized B (reversedOf p)
+sized-back : (B : ℕ) (p : Matrix5) → natAbs (pos 0) ≤ B → AllSized B p → AllSized B (reversedOf p)
 unfolding reversedOf
 sized-back B p z ((a, b, c, d, e), (f, g, h, i, _), (j, k, l, _, _), (m, n, _, _, _), (o, _, _, _, _)) =
     ((e, d, c, b, a), (i, h, g, f, z), (l, k, j, z, z), (n, m, z, z, z), (o, z, z, z, z))
 
-sampleable-back : (p : Rows) (n : ℕ) → Sampleable p n → Sampleable (reversedOf p) n
+sampleable-back : (p : Matrix5) (n : ℕ) → Sampleable p n → Sampleable (reversedOf p) n
 sampleable-back p n s = record {
   sized = sized-back (2 ^ 27) p (omega arith) (s .sized);
   some = s .some;
@@ -123,7 +121,7 @@ sampleable-back p n s = record {
 
 -- ---- the control points of a side in turn
 module _ (numbers : List ℤ) (e : netVerdict numbers ≡ sound) (side axis : ℕ) (a : axis < 3) where
-  abbrev controls : Rows
+  abbrev controls : Matrix5
   controls = rowsOf (control (onAxis numbers axis) (sideAt side))
 
   sum-sample : (i j k n : ℕ) → round (quarticSum controls (pos i) (pos j) (pos k)) (pos (n ^ 4)) ≡ sampleAt numbers (sideAt side) (weights i j k n) axis
@@ -142,17 +140,17 @@ module _ (numbers : List ℤ) (e : netVerdict numbers ≡ sound) (side axis : �
   odd-weights (suc (suc zero)) n k j h o = absurd (omega arith)
   odd-weights (suc (suc (suc s))) n k j h o = refl
 
-  pub turn-even : side ≤ 3 → (side % 2 ≡ 1 → ⊥) → (p : Rows) → p ≡ controls → InTurn numbers side axis p
+  pub turn-even : side ≤ 3 → (side % 2 ≡ 1 → ⊥) → (p : Matrix5) → p ≡ controls → InTurn numbers side axis p
   turn-even h o p q =
-      subst (λ (r : Rows). InTurn numbers side axis r) (sym q) (record {
+      subst (λ (r : Matrix5). InTurn numbers side axis r) (sym q) (record {
         sampleable = λ n l f. points-sampleable numbers e side axis a n l f;
         samples = λ n k j l.
             sum-sample (n - k - j) j k n ∙ ap (λ w. sampleAt numbers (sideAt side) w axis) (sym (even-weights side n k j h o));
       })
 
-  pub turn-odd : side ≤ 3 → side % 2 ≡ 1 → (p r : Rows) → p ≡ controls → r ≡ reversedOf p → InTurn numbers side axis r
+  pub turn-odd : side ≤ 3 → side % 2 ≡ 1 → (p r : Matrix5) → p ≡ controls → r ≡ reversedOf p → InTurn numbers side axis r
   turn-odd h o p r q t =
-      subst (λ (r : Rows). InTurn numbers side axis r) (sym (t ∙ ap reversedOf q)) (record {
+      subst (λ (r : Matrix5). InTurn numbers side axis r) (sym (t ∙ ap reversedOf q)) (record {
         sampleable = λ n l f. sampleable-back controls n (points-sampleable numbers e side axis a n l f);
         samples = λ n k j l.
             ap (λ (z : ℤ). round z (pos (n ^ 4))) (sum-back controls (pos (n - k - j)) (pos j) (pos k))
@@ -160,11 +158,11 @@ module _ (numbers : List ℤ) (e : netVerdict numbers ≡ sound) (side axis : �
       })
 
 -- ---- what can be put of a border's row, and of a ring's
-pub curve-sampleable : (p : Rows) (m : ℕ) → Sampleable p m → (e : Five) → e ≡ rowOf (polynomialOf p (pos m)) 0 → RowSampleable e m 1 (m - 1)
+pub curve-sampleable : (p : Matrix5) (m : ℕ) → Sampleable p m → (e : Vector5) → e ≡ rowOf (polynomialOf p (pos m)) 0 → RowSampleable e m 1 (m - 1)
 curve-sampleable p m s e is =
     row-part (row-sampleable p m 0 (omega arith) s (polynomial-tapers p m (s .sized) (s .few)) e is) 1 (m - 1) (omega arith) (omega (arith, s .some))
 
-pub spoke-sampleable : (p : Rows) (n k w : ℕ) → k + 1 < n → w ≡ n - suc k → Sampleable p n → (e : Five) → e ≡ rowOf (polynomialOf p (pos n)) (suc k)
+pub spoke-sampleable : (p : Matrix5) (n k w : ℕ) → k + 1 < n → w ≡ n - suc k → Sampleable p n → (e : Vector5) → e ≡ rowOf (polynomialOf p (pos n)) (suc k)
     → RowSampleable e n 0 w
 spoke-sampleable p n k w h q s e is =
     row-part (row-sampleable p n (suc k) (omega arith) s (polynomial-tapers p n (s .sized) (s .few)) e is) 0 w (omega arith) (omega arith)

@@ -1,14 +1,13 @@
 -- The parts of a corner's points join: rings side by side, a border axis by axis, and all groups.
-use mathlib.Core.Path.{_≡_, refl, sym, ap, _∙_, subst}
-use mathlib.Core.Logic.{_⊎_, inl, inr, ⊎-elim}
+use mathlib.Core.Path.{_≡_, sym, ap, _∙_, subst}
+use mathlib.Core.Logic.{_⊎_, inl, inr}
 use mathlib.Core.List.{List}
-use Prim.Native.Nat.{ℕ, zero, suc, _+_, _-_, _*_, _/_, _%_, _^_, _≤_, _<_}
+use Prim.Native.Nat.{ℕ, zero, suc, _+_, _-_, _*_, _^_, _≤_, _<_}
 use native.Mathlib.Omega.{arith}
-use lib.ListN.{length}
 use lib.IntN.{ℤ, pos}
 use Rattle.paper.specs.Numbers.{round}
-use Rattle.sampling.specs.declared.bernstein.Five.{Five}
-use Rattle.sampling.specs.declared.bernstein.Rows.{Rows}
+use Rattle.sampling.specs.declared.bernstein.Vector5.{Vector5}
+use Rattle.sampling.specs.declared.bernstein.Matrix5.{Matrix5}
 use Rattle.sampling.specs.bernstein.Sums.{polynomialOf, rowOf, valueOf, quarticSum}
 use Rattle.sampling.specs.Grid.{RowPut}
 use Rattle.sampling.proofs.Lists.{row-value, from-none, below-or-last}
@@ -16,16 +15,14 @@ use Rattle.triangles.specs.writing.Laid.{Reaches, InTurn, CurveAim, Curv
 use Rattle.triangles.proofs.writing.Laws.{reaches-part, reaches-more, row-reaches}
 
 -- ---- a side's row on one more ring
-module _ (p : Rows) (n side at k : ℕ) (old mid new : List ℤ) (h : k + 1 < n) (e : Five) (is : e ≡ rowOf (polynomialOf p (pos n)) (suc k)) (ring w from : ℕ)
+module _ (p : Matrix5) (n side at k : ℕ) (old mid new : List ℤ) (h : k + 1 < n) (e : Vector5) (is : e ≡ rowOf (polynomialOf p (pos n)) (suc k)) (ring w from : ℕ)
     (ring-is : ring ≡ 2 * (k * (2 * n - k - 1))) (w-is : w ≡ n - suc k) (place : from ≡ at + 3 * (ring + side * w))
     (r : RowPut e n 0 w from mid new) where
   spot : (j : ℕ) → from + 3 * j ≡ at + 3 * ringAt n side k j
-  spot j =
-      (let q : from + 3 * j ≡ at + 3 * (ring + side * w + j) = omega arith in q)
-      ∙ (λ z. at + 3 * (ring-is z + side * w-is z + j))
+  spot j = (let q : from + 3 * j ≡ at + 3 * (ring + side * w + j) = omega arith in q) ∙ (λ z. at + 3 * (ring-is z + side * w-is z + j))
 
   value-is : (j : ℕ) → j < w → valueOf e (0 + j) ≡ quarticSum p (pos (n - suc k - j)) (pos j) (pos (suc k))
-  value-is j l = ap (valueOf e) (from-none j) ∙ ap (λ (f : Five). valueOf f j) is ∙ row-value p n (suc k) j (omega arith)
+  value-is j l = ap (valueOf e) (from-none j) ∙ ap (λ (f : Vector5). valueOf f j) is ∙ row-value p n (suc k) j (omega arith)
 
   pub spokes-step : (f : ℕ → ℤ) → SpokeAim p side n at f → Reaches f (SpokePlace side n at k) old mid → Reaches f (SpokePlace side n at (k + 1)) old new
   spokes-step f aim m =
@@ -41,7 +38,7 @@ spokes-all f side n at k old new h r = reaches-part r (λ t s. (s .0, s .1, (let
 
 -- ---- one more side, axis by axis
 module _ (numbers : List ℤ) (n at side : ℕ) (l : side < 4) (f : ℕ → ℤ) (aim : RingsAim numbers n at f) where
-  pub spoke-aim : (axis x : ℕ) → axis < 3 → x ≡ at + axis → (p : Rows) → InTurn numbers side axis p → SpokeAim p side n x f
+  pub spoke-aim : (axis x : ℕ) → axis < 3 → x ≡ at + axis → (p : Matrix5) → InTurn numbers side axis p → SpokeAim p side n x f
   spoke-aim axis x a q p t k j h =
       ap f (let z : x + 3 * ringAt n side k j ≡ at + 3 * ringAt n side k j + axis = moved (ringAt n side k j) in z)
       ∙ aim side k j axis l h a ∙ sym (t .samples n (suc k) j (omega arith))
@@ -73,12 +70,11 @@ module _ (numbers : List ℤ) (n at side : ℕ) (l : side < 4) (f : ℕ → ℤ)
 
 -- ---- a border, axis by axis
 module _ (numbers : List ℤ) (side m at : ℕ) (some : 1 ≤ m) (f : ℕ → ℤ) (aim : CurveAim numbers side m at f) where
-  pub curve-row : (axis x : ℕ) → axis < 3 → x ≡ at + axis → (p : Rows) → InTurn numbers side axis p → (old new : List ℤ)
+  pub curve-row : (axis x : ℕ) → axis < 3 → x ≡ at + axis → (p : Matrix5) → InTurn numbers side axis p → (old new : List ℤ)
       → RowPut (rowOf (polynomialOf p (pos m)) 0) m 1 (m - 1) x old new → Reaches f (λ t. (j : ℕ) × (j < m - 1) × (t ≡ x + 3 * j)) old new
   curve-row axis x a q p t old new r =
       row-reaches r f (λ j l.
-      ap f (let z : x + 3 * j ≡ at + 3 * j + axis = omega arith in z) ∙ aim j axis (omega arith) a
-      ∙ sym (t .samples m 0 (j + 1) (omega arith))
+      ap f (let z : x + 3 * j ≡ at + 3 * j + axis = omega arith in z) ∙ aim j axis (omega arith) a ∙ sym (t .samples m 0 (j + 1) (omega arith))
       ∙ ap (λ (z : ℤ). round z (pos (m ^ 4)))
       (sym (row-value p m 0 (j + 1) (omega arith)) ∙ ap (valueOf (rowOf (polynomialOf p (pos m)) 0)) (let z : j + 1 ≡ 1 + j = omega arith in z)))
 

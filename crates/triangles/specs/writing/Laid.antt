@@ -8,8 +8,8 @@ use lib.IntN.{ℤ, pos}
 use Rattle.paper.specs.Numbers.{round}
 use Rattle.paper.specs.Sampling.{onAxis, sampleAt, sideAt}
 use Rattle.paper.specs.Triangles.{turnWeights}
-use Rattle.sampling.specs.declared.bernstein.Rows.{Rows}
-use Rattle.sampling.specs.bernstein.Sums.{five, quarticSum}
+use Rattle.sampling.specs.declared.bernstein.Matrix5.{Matrix5}
+use Rattle.sampling.specs.bernstein.Sums.{vector5, quarticSum}
 use Rattle.sampling.specs.Grid.{Sampleable}
 
 -- ---- f says what each place is to hold. No place has changed but to hold that, and those of S do hold it
@@ -19,17 +19,17 @@ pub record Reaches (f : ℕ → ℤ) (S : ℕ → Type 0) (old new : List ℤ) :
   pub each : (t : ℕ) → (getD new t (pos 0) ≡ f t) ⊎ (getD new t (pos 0) ≡ getD old t (pos 0))
 
 -- ---- the control points of a side in turn: on sides 1 and 3 each row from the tail
-unfoldable pub reversedOf : Rows → Rows
+unfoldable pub reversedOf : Matrix5 → Matrix5
 reversedOf p = record {
-  r0 = five (p .r0 .e) (p .r0 .d) (p .r0 .c) (p .r0 .b) (p .r0 .a);
-  r1 = five (p .r1 .d) (p .r1 .c) (p .r1 .b) (p .r1 .a) (pos 0);
-  r2 = five (p .r2 .c) (p .r2 .b) (p .r2 .a) (pos 0) (pos 0);
-  r3 = five (p .r3 .b) (p .r3 .a) (pos 0) (pos 0) (pos 0);
-  r4 = five (p .r4 .a) (pos 0) (pos 0) (pos 0) (pos 0);
+  r0 = vector5 (p .r0 .e) (p .r0 .d) (p .r0 .c) (p .r0 .b) (p .r0 .a);
+  r1 = vector5 (p .r1 .d) (p .r1 .c) (p .r1 .b) (p .r1 .a) (pos 0);
+  r2 = vector5 (p .r2 .c) (p .r2 .b) (p .r2 .a) (pos 0) (pos 0);
+  r3 = vector5 (p .r3 .b) (p .r3 .a) (pos 0) (pos 0) (pos 0);
+  r4 = vector5 (p .r4 .a) (pos 0) (pos 0) (pos 0) (pos 0);
 }
 
 -- their sums are the side's samples at the places of its rows
-pub record InTurn (numbers : List ℤ) (side axis : ℕ) (p : Rows) : Type 0 where
+pub record InTurn (numbers : List ℤ) (side axis : ℕ) (p : Matrix5) : Type 0 where
   pub sampleable : (n : ℕ) → 1 ≤ n → n ≤ 16 → Sampleable p n
   pub samples : (n k j : ℕ) → k + j ≤ n
       → round (quarticSum p (pos (n - k - j)) (pos j) (pos k)) (pos (n ^ 4)) ≡ sampleAt numbers (sideAt side) (turnWeights (sideAt side) n k j) axis
@@ -57,7 +57,7 @@ abbrev pub ringAt : ℕ → ℕ → ℕ → ℕ → ℕ
 ringAt n side k j = 2 * (k * (2 * n - k - 1)) + side * (n - suc k) + j
 
 -- on one axis of one side
-abbrev pub SpokeAim : Rows → ℕ → ℕ → ℕ → (ℕ → ℤ) → Type 0
+abbrev pub SpokeAim : Matrix5 → ℕ → ℕ → ℕ → (ℕ → ℤ) → Type 0
 SpokeAim p side n at f =
     (k j : ℕ) → j < n - suc k
     → f (at + 3 * ringAt n side k j) ≡ round (quarticSum p (pos (n - suc k - j)) (pos j) (pos (suc k))) (pos (n ^ 4))

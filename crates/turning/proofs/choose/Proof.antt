@@ -6,7 +6,7 @@ use Rattle.paper.specs.Faults.{stated}
 use borrow.Author.Needs.{needs}
 use Rattle.paper.specs.Mesh.{Mesh, meshOf, vertexCount, cornerCount, mostVertices, mostCorners}
 use Rattle.checks.proofs.Laws.{rows-for, room}
-use Rattle.turning.proofs.Laws.{sized-of, nexted-of, lists-refused, lists-sound, lists-passed}
+use Rattle.turning.proofs.Laws.{lists-pass, nexted-of, lists-refused, lists-sound, lists-passed}
 use Rattle.turning.proofs.choose.Tie as tie
 
 -- the mesh of a call
@@ -31,7 +31,7 @@ find-turns-requires c κs =
     let h = e .before .before .before .before in
     let s : tie.Start = search in
     let a = h .check-lists in
-    let z = sized-of (mesh s) (lists-sound (mesh s) (a .result) (a .ensures .answers) (e .enum-told .given .1)) in (
+    let z = lists-pass (mesh s) (lists-sound (mesh s) (a .result) (a .ensures .answers) (e .enum-told .given .1)) in (
       (
         z,
         nexted-of (vertexCount (mesh s)) (now (s .args .sides)) (now (s .args .corners)) (a .last .1 .1 .1 .1 .0) z (omega (arith, a .kept .1 .1 .1 .1 .0))

@@ -16,10 +16,10 @@ use Rattle.turning.specs.partners.Keys.{KeysTo, Keyable, PartnersOver}
 use Rattle.turning.specs.starts.Starts.{Started}
 use Rattle.turning.specs.visiting.Visit.{Spreadable}
 use Rattle.turning.specs.spreading.Spread.{SpreadOver}
-use Rattle.turning.specs.choosing.Choice.{Sized, Nexted, Chosen}
+use Rattle.turning.specs.choosing.Choice.{ListsPass, Nexted, Chosen}
 
 -- next corners are corners
-pub keyable-of : (vertices : ℕ) (sides corners table lows highs : List ℕ) → Sized vertices sides corners → Nexted sides corners table
+pub keyable-of : (vertices : ℕ) (sides corners table lows highs : List ℕ) → ListsPass vertices sides corners → Nexted sides corners table
     → length corners ≤ length lows → length corners ≤ length highs → Keyable corners table lows highs
 keyable-of vertices sides corners table lows highs z n l h =
     record {
@@ -31,7 +31,7 @@ keyable-of vertices sides corners table lows highs z n l h =
     }
 
 -- the ends of the edges, in tables cut to the corner count
-module _ (vertices : ℕ) (sides corners lows highs : List ℕ) (z : Sized vertices sides corners)
+module _ (vertices : ℕ) (sides corners lows highs : List ℕ) (z : ListsPass vertices sides corners)
     (k : KeysTo sides corners lows highs (length corners)) where
   pub keys-taken : KeysTo sides corners (take (length corners) lows) (take (length corners) highs) (length corners)
   keys-taken =
@@ -67,7 +67,7 @@ chosen-spread sides corners a r partners states o e s =
       turns = λ q. s .turns (sym (s .answers) ∙ q);
     }
 
-pub spreadable-of : (vertices : ℕ) (sides corners partners faces starts : List ℕ) (a : Answer) → Sized vertices sides corners → PartnersOver sides corners a
+pub spreadable-of : (vertices : ℕ) (sides corners partners faces starts : List ℕ) (a : Answer) → ListsPass vertices sides corners → PartnersOver sides corners a
     partners
     → a ≡ Answer.Done → Started sides faces starts (length sides) → length corners ≤ length partners → length corners ≤ length faces → length sides ≤ length
     starts

@@ -18,7 +18,7 @@ use Rattle.paper.specs.Turning.{counterpart, cornerFrom, turnedCorners, pairFro
 use Rattle.mesh.proofs.Scans.{ways}
 use Rattle.mesh.proofs.Faces.{face-at, start-zero, start-next, start-all}
 use Rattle.mesh.proofs.Links.{values-length, values-at}
-use Rattle.turning.proofs.Turned.{length-turned, turned-at}
+use Rattle.turning.proofs.TurnedFace.{length-turned, turned-at}
 use Rattle.turning.proofs.Models.{faces-hit, faces-miss, faces-none}
 use Rattle.turning.specs.reversing.Written.{Reversed, PairsTurned, FaceTurned, Written}
 

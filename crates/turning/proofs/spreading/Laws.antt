@@ -21,7 +21,7 @@ use Rattle.paper.specs.Turning.{says, fault34, connected, lowestOfPart, fault35
 use Rattle.turning.proofs.Stores.{put}
 use Rattle.turning.specs.Constraints.{FacesListed, partner, JoinedIn, MeetsPart, ClosedIn}
 use Rattle.turning.proofs.Parts.{true-both, joined-same, joined-back}
-use Rattle.turning.proofs.Turned.{face-in}
+use Rattle.turning.proofs.TurnedFace.{face-in}
 use Rattle.turning.proofs.Theorem.{partner-in, partner-partner, no-35-of-meets, is-35, chosen-is, low-in, low-joined, joined-connected}
 use Rattle.turning.specs.visiting.Visit.{Seen, seen, Settled, AllSettled, Round, Queued, Visiting, Unturnable}
 use Rattle.turning.proofs.visiting.Laws.{seen-grown, grown-set, unseen-before, seen-of, of-seen, tail-below, queued-more, settled-grown, forced-self}

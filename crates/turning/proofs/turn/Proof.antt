@@ -8,7 +8,7 @@ use Rattle.paper.specs.Mesh.{Mesh, meshOf}
 use Rattle.paper.specs.Faults.{stated}
 use Rattle.walk.proofs.Table.{blank}
 use Rattle.turning.proofs.Theorems.{long-of}
-use Rattle.turning.proofs.Laws.{sized-of, turned-refused, length-refused, verdict-is, passes, turned-done}
+use Rattle.turning.proofs.Laws.{lists-pass, turned-refused, length-refused, verdict-is, passes, turned-done}
 use Rattle.turning.proofs.turn.Tie as tie
 
 -- the mesh of a call
@@ -41,7 +41,7 @@ turn-sharpness-requires c κs =
     let s : tie.Start = search in
     let a = h .choose in
     let e = passes (mesh s) (now (s .args .listing)) q (a .result) (a .last .1 .1 .1 .1 .0) (a .ensures) (c .before .before .enum-told .given .1) in
-    let z = sized-of (mesh s) e in
+    let z = lists-pass (mesh s) e in
     let sums = z .listed .sums in
     record {
       few-faces = z .few-faces;
@@ -58,7 +58,7 @@ turn-faces-requires c κs =
     let q = h .before .before .before .before .if1 .left in
     let s : tie.Start = search in
     let a = h .choose in
-    let z = sized-of (mesh s)
+    let z = lists-pass (mesh s)
     (passes (mesh s) (now (s .args .listing)) q (a .result) (a .last .1 .1 .1 .1 .0) (a .ensures) (e .enum-told .given .1)) in
     record {
       few-faces = z .few-faces;

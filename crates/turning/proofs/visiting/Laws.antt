@@ -21,7 +21,7 @@ use Rattle.paper.specs.Turning.{says, sharesEdge, fault34}
 use Rattle.turning.proofs.Stores.{put}
 use Rattle.turning.specs.Constraints.{FacesListed, partner, label}
 use Rattle.turning.proofs.Parts.{xor-move, xor-assoc, xor-cancel, joined-same, joined-across}
-use Rattle.turning.proofs.Turned.{ends-apart, face-in}
+use Rattle.turning.proofs.TurnedFace.{ends-apart, face-in}
 use Rattle.turning.proofs.Theorem.{partnered, partner-in, partner-partner}
 use Rattle.turning.specs.States.{turnsBy, stateAcross}
 use Rattle.turning.specs.visiting.Visit.{Seen, seen, Spreadable, Grown, Settled, AllSettled, Forced, Round, Queued, Visiting, Unturnable}

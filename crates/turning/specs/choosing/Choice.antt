@@ -14,7 +14,7 @@ use Rattle.turning.specs.Constraints.{FacesListed}
 use Rattle.turning.specs.States.{turnsBy}
 
 -- lists that pass 4 to 9
-pub record Sized (vertices : ℕ) (sides corners : List ℕ) : Type 0 where
+pub record ListsPass (vertices : ℕ) (sides corners : List ℕ) : Type 0 where
   pub listed : FacesListed sides corners
   pub few-vertices : vertices ≤ mostVertices
   pub few-faces : length sides ≤ mostFaces

@@ -11,7 +11,7 @@ use Rattle.paper.specs.Numbers.{rounded}
 use Rattle.paper.specs.Refined.{RefinedMesh}
 use Rattle.net.specs.sides.Drawn.{drawn}
 use Rattle.net.specs.lanes.Lanes.{LaneReady, LaneHas}
-use Rattle.net.proofs.Run.{face-held, lane-has, ready-axis}
+use Rattle.net.proofs.CornerRuns.{face-held, lane-has, ready-axis}
 use Rattle.border_report.proofs.border_misses.Laws.{corner-is}
 use Rattle.border_report.proofs.border_misses.corner_misses.Statement.{statement}
 use Rattle.border_report.proofs.border_misses.corner_misses.Tie as tie

@@ -21,12 +21,12 @@ use Rattle.border_report.proofs.border_misses.face_misses.Statement.{st
 use Rattle.border_report.proofs.border_misses.face_misses.Tie as tie
 
 abbrev Inv-loop : tie.InvT-loop
-Inv-loop points table rows n start k face linked₀ near₀ most₀ j₀ linked near most j =
-    (j ≤ k) × (length linked ≡ perCorner) × (length near ≡ 128)
+Inv-loop points table rows n start k face linked₀ stencil₀ most₀ j₀ linked stencil most j =
+    (j ≤ k) × (length linked ≡ perCorner) × (length stencil ≡ 128)
     × ((i : ℕ) → i < conditions → inMisses most i ≡ largestBelow (start + j) (cornerMiss (drawn n table points) i))
 
 abbrev μ-loop : tie.MeasureT-loop
-μ-loop points table rows n start k face linked₀ near₀ most₀ j₀ linked near most j = k - j
+μ-loop points table rows n start k face linked₀ stencil₀ most₀ j₀ linked stencil most j = k - j
 
 none-more : (n : ℕ) → n ≡ n + 0
 none-more n = omega arith

@@ -13,7 +13,7 @@ use Rattle.numbers.proofs.Machine.{abs-fits}
 use Rattle.numbers.proofs.Poly.{over, poly}
 use Rattle.paper.specs.Borders.{one, first, second, third, fourth}
 use Rattle.surface.specs.Sizes.{ValueSize, WrittenSize, CosineSize}
-use Rattle.net.specs.sides.Values.{Sized}
+use Rattle.net.specs.sides.Values.{SideSized}
 use Rattle.net.specs.declared.sides.SideValues.{SideValues}
 use Rattle.border_report.proofs.misses.side_misses.Statement.{statement}
 use Rattle.border_report.proofs.misses.side_misses.Tie as tie
@@ -50,7 +50,7 @@ bent-same z h = bounded z (2 ^ 60) h (omega arith)
 abbrev bendOf : ℤ → ℤ → ℤ → ℤ
 bendOf b a o = pos 4 *ℤ one *ℤ (plain a +ℤ plain o -ℤ pos 2 *ℤ plain b)
 
-module _ (v : SideValues) (z : Sized v) (h t x y : ℤ) (eh : plain h ≡ v .head) (et : plain t ≡ v .tail) (ex : plain x ≡ v .x) (ey : plain y ≡ v .y)
+module _ (v : SideValues) (z : SideSized v) (h t x y : ℤ) (eh : plain h ≡ v .head) (et : plain t ≡ v .tail) (ex : plain x ≡ v .x) (ey : plain y ≡ v .y)
     (b a o d : ℤ) (hb : WrittenSize b) (ha : WrittenSize a) (ho : WrittenSize o) (e : (d ≡ bendOf b a o) × (natAbs d ≤ 2 ^ 60)) where
   bent-is : plain d ≡ pos 4 *ℤ one *ℤ (a +ℤ o -ℤ pos 2 *ℤ b)
   bent-is = bent-same d (e .1) ∙ e .0 ∙ rw (point-same a ha, point-same o ho, point-same b hb)

@@ -8,7 +8,7 @@ use denote.Ref.{now}
 use Rattle.paper.specs.Mesh.{Mesh, meshOf, mostVertices}
 use Rattle.mesh.specs.Tables.{Named}
 use Rattle.refine.proofs.Accepted.{refinable-of}
-use Rattle.building.proofs.writing.Laws.{zeros, named-in, near-of}
+use Rattle.building.proofs.writing.Laws.{zeros, named-in, asked-of}
 use Rattle.building.proofs.writing.fill_asked.Statement.{statement}
 use Rattle.building.proofs.writing.fill_asked.Tie as tie
 
@@ -39,7 +39,7 @@ fill-points-requires c κs =
 returns : tie.Need-returns
 returns c =
     let w = c .before .before .before .before .before in
-    near-of (mesh (s w)) (marked w) (s w .args .first) (s w .args .count) _ _ (named w) (w .mark-vertices .ensures) (c .before .fill-points .ensures)
+    asked-of (mesh (s w)) (marked w) (s w .args .first) (s w .args .count) _ _ (named w) (w .mark-vertices .ensures) (c .before .fill-points .ensures)
 
 pub fill-asked-spec : {M : Type 1} → statement M
 fill-asked-spec =

@@ -10,18 +10,18 @@ use Rattle.paper.specs.Mesh.{mostSides}
 use Rattle.paper.specs.Calls.{perCorner}
 use Rattle.mesh.proofs.Faces.{first-to, first-ends}
 use Rattle.net.specs.sides.Drawn.{drawn}
-use Rattle.net.specs.near.Near.{Run, Quiet}
+use Rattle.net.specs.stencil.Taken.{Run, Quiet}
 use Rattle.building.specs.writing.Written.{NetsWritten}
 use Rattle.building.proofs.writing.Laws.{written-none, written-run, run-of, quiet-zeros}
 use Rattle.building.proofs.writing.write_corners.Statement.{statement}
 use Rattle.building.proofs.writing.write_corners.Tie as tie
 
 abbrev Inv-loop : tie.InvT-loop
-Inv-loop points table rows n first count out₀ near₀ lanes₀ k₀ out near lanes k =
-    (k ≤ count) × (length out ≡ length out₀) × NetsWritten (drawn n table points) first k out × (length near ≡ 128) × (length lanes ≡ 164) × Quiet near
+Inv-loop points table rows n first count out₀ stencil₀ lanes₀ k₀ out stencil lanes k =
+    (k ≤ count) × (length out ≡ length out₀) × NetsWritten (drawn n table points) first k out × (length stencil ≡ 128) × (length lanes ≡ 164) × Quiet stencil
 
 abbrev μ-loop : tie.MeasureT-loop
-μ-loop points table rows n first count out₀ near₀ lanes₀ k₀ out near lanes k = count - k
+μ-loop points table rows n first count out₀ stencil₀ lanes₀ k₀ out stencil lanes k = count - k
 
 loop-holds : tie.Need-loop-holds Inv-loop μ-loop
 loop-holds c = (search needs, refl, written-none _ _ _, refl, refl, quiet-zeros 128)

@@ -8,7 +8,7 @@ use lib.Signed.{leZ-yes, ltZ-yes}
 use mir.Syntax.{w32}
 use Rattle.numbers.proofs.Poly.{over, poly}
 use Rattle.surface.specs.Sizes.{ValueSize}
-use Rattle.surface.proofs.Plain.{inner-value}
+use Rattle.surface.proofs.Formulas.{inner-value}
 use Rattle.faces.proofs.Sums.{Sum, arg, _⊕_, _⊖_, _⊗_, Held, holds, small-answers}
 use Rattle.faces.proofs.formulas.inner.Statement.{statement}
 use Rattle.faces.proofs.formulas.inner.Tie as tie

@@ -7,7 +7,7 @@ use lib.IntN.{pos}
 use lib.Signed.{leZ-yes, ltZ-yes}
 use mir.Syntax.{w32}
 use Rattle.surface.specs.Sizes.{RefinedSize}
-use Rattle.surface.proofs.Plain.{mean-of-three-refined}
+use Rattle.surface.proofs.Formulas.{mean-of-three-refined}
 use Rattle.faces.proofs.Sums.{Sum, arg, _⊕_, Held, holds, small-answers}
 use Rattle.faces.proofs.formulas.mean_of_three.Statement.{statement}
 use Rattle.faces.proofs.formulas.mean_of_three.Tie as tie

@@ -8,7 +8,7 @@ use lib.Signed.{leZ-yes, ltZ-yes}
 use mir.Syntax.{w32}
 use Rattle.numbers.proofs.Poly.{over, poly}
 use Rattle.surface.specs.Sizes.{WrittenSize}
-use Rattle.surface.proofs.Plain.{middle-written}
+use Rattle.surface.proofs.Formulas.{middle-written}
 use Rattle.faces.proofs.Sums.{Sum, arg, _⊕_, _⊖_, _⊗_, Held, holds, small-answers}
 use Rattle.faces.proofs.formulas.middle.Statement.{statement}
 use Rattle.faces.proofs.formulas.middle.Tie as tie

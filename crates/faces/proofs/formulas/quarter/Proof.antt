@@ -7,7 +7,7 @@ use lib.IntN.{pos}
 use lib.Signed.{leZ-yes, ltZ-yes}
 use mir.Syntax.{w32}
 use Rattle.surface.specs.Sizes.{WrittenSize}
-use Rattle.surface.proofs.Plain.{quarter-written}
+use Rattle.surface.proofs.Formulas.{quarter-written}
 use Rattle.faces.proofs.Sums.{Sum, arg, _⊕_, _⊗_, Held, holds, small-answers}
 use Rattle.faces.proofs.formulas.quarter.Statement.{statement}
 use Rattle.faces.proofs.formulas.quarter.Tie as tie

@@ -9,7 +9,7 @@ use mir.Facts.{toZ-ofZ}
 use Rattle.numbers.proofs.Poly.{over, poly}
 use Rattle.paper.specs.Cosines.{unit}
 use Rattle.surface.specs.Sizes.{WrittenSize}
-use Rattle.surface.proofs.Plain.{second-written}
+use Rattle.surface.proofs.Formulas.{second-written}
 use Rattle.faces.proofs.Sums.{Sum, arg, _⊕_, _⊖_, _⊗_, Held, holds, eighth-answers}
 use Rattle.faces.proofs.formulas.second.Statement.{statement}
 use Rattle.faces.proofs.formulas.second.Tie as tie

@@ -8,7 +8,7 @@ use lib.Signed.{leZ-yes, ltZ-yes}
 use mir.Syntax.{w32}
 use Rattle.numbers.proofs.Poly.{over, poly}
 use Rattle.surface.specs.Sizes.{RefinedSize}
-use Rattle.surface.proofs.Plain.{toward-of-three-refined}
+use Rattle.surface.proofs.Formulas.{toward-of-three-refined}
 use Rattle.faces.proofs.Sums.{Sum, arg, _⊕_, _⊗_, Held, holds, small-answers}
 use Rattle.faces.proofs.formulas.toward_of_three.Statement.{statement}
 use Rattle.faces.proofs.formulas.toward_of_three.Tie as tie

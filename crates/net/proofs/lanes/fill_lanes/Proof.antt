@@ -10,10 +10,10 @@ use Rattle.net.proofs.lanes.fill_lanes.Statement.{statement}
 use Rattle.net.proofs.lanes.fill_lanes.Tie as tie
 
 abbrev Inv-loop : tie.InvT-loop
-Inv-loop near rings lanes₀ k₀ lanes k = (k ≤ 4) × (length lanes ≡ 164) × ((j : ℕ) → j < k → LaneFilled near j rings lanes)
+Inv-loop stencil rings lanes₀ k₀ lanes k = (k ≤ 4) × (length lanes ≡ 164) × ((j : ℕ) → j < k → LaneFilled stencil j rings lanes)
 
 abbrev μ-loop : tie.MeasureT-loop
-μ-loop near rings lanes₀ k₀ lanes k = 4 - k
+μ-loop stencil rings lanes₀ k₀ lanes k = 4 - k
 
 loop-holds : tie.Need-loop-holds Inv-loop μ-loop
 loop-holds c = (search needs, c .pre .1, λ j h. absurd (omega arith))

@@ -12,16 +12,16 @@ module _ (c : tie.After-point4) where
   abbrev s : tie.Start
   s = c .before .before .before .before
 
-  first : Read (c .before .before .before .point .result) (pointAt (s .args .near .now) (s .args .k) (s .args .a))
+  first : Read (c .before .before .before .point .result) (pointAt (s .args .stencil .now) (s .args .k) (s .args .a))
   first = read _ _ (c .before .before .before .point .ensures) (s .pre .0 .1)
 
-  second : Read (c .before .before .point2 .result) (pointAt (s .args .near .now) (s .args .k) (s .args .b))
+  second : Read (c .before .before .point2 .result) (pointAt (s .args .stencil .now) (s .args .k) (s .args .b))
   second = read _ _ (c .before .before .point2 .ensures) (s .pre .1 .1)
 
-  third : Read (c .before .point3 .result) (pointAt (s .args .near .now) (s .args .k) (s .args .c))
+  third : Read (c .before .point3 .result) (pointAt (s .args .stencil .now) (s .args .k) (s .args .c))
   third = read _ _ (c .before .point3 .ensures) (s .pre .2 .1)
 
-  fourth : Read (c .point4 .result) (pointAt (s .args .near .now) (s .args .k) (s .args .d))
+  fourth : Read (c .point4 .result) (pointAt (s .args .stencil .now) (s .args .k) (s .args .d))
   fourth = read _ _ (c .point4 .ensures) (s .pre .3 .1)
 
 returns : tie.Need-returns

@@ -15,19 +15,19 @@ module _ (c : tie.After-point5) where
   abbrev s : tie.Start
   s = c .before .before .before .before .before .before .before
 
-  here : Read (c .before .before .before .before .point .result) (pointAt (s .args .near .now) (s .args .k) 0)
+  here : Read (c .before .before .before .before .point .result) (pointAt (s .args .stencil .now) (s .args .k) 0)
   here = read _ _ (c .before .before .before .before .point .ensures) (s .pre .0 0 (lit< tt) .1)
 
-  next : Read (c .before .before .before .point2 .result) (pointAt (s .args .near .now) (s .args .k) 1)
+  next : Read (c .before .before .before .point2 .result) (pointAt (s .args .stencil .now) (s .args .k) 1)
   next = read _ _ (c .before .before .before .point2 .ensures) (s .pre .0 1 (lit< tt) .1)
 
-  link : Read (c .before .before .point3 .result) (pointAt (s .args .near .now) (s .args .k) 3)
+  link : Read (c .before .before .point3 .result) (pointAt (s .args .stencil .now) (s .args .k) 3)
   link = read _ _ (c .before .before .point3 .ensures) (s .pre .0 3 (lit< tt) .1)
 
-  across : Read (c .before .point4 .result) (pointAt (s .args .near .now) (s .args .k) 4)
+  across : Read (c .before .point4 .result) (pointAt (s .args .stencil .now) (s .args .k) 4)
   across = read _ _ (c .before .point4 .ensures) (s .pre .0 4 (lit< tt) .1)
 
-  previous : Read (c .point5 .result) (pointAt (s .args .near .now) (s .args .k) 6)
+  previous : Read (c .point5 .result) (pointAt (s .args .stencil .now) (s .args .k) 6)
   previous = read _ _ (c .point5 .ensures) (s .pre .0 6 (lit< tt) .1)
 
 side-requires : tie.Need-side-requires

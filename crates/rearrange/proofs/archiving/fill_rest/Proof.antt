@@ -25,8 +25,8 @@ abbrev μ-loop : tie.MeasureT-loop
 μ-loop numbers bytes₀ n rest k₀ bytes k = (length numbers - 3) % 4 - k
 
 -- the place in the loop, and the function's entry
-near : tie.In-loop Inv-loop μ-loop → tie.In-loop Inv-loop μ-loop × tie.Start Inv-loop μ-loop
-near i = (i, search)
+from-start : tie.In-loop Inv-loop μ-loop → tie.In-loop Inv-loop μ-loop × tie.Start Inv-loop μ-loop
+from-start i = (i, search)
 
 sub-rest : tie.Need-sub-rest Inv-loop μ-loop
 sub-rest c = c .before .pre .0
@@ -61,6 +61,6 @@ returns c =
 
 pub fill-rest-spec : {M : Type 1} → Rattle.rearrange.proofs.archiving.fill_rest.Statement.statement M
 fill-rest-spec =
-    tie.close (tie.spec Inv-loop μ-loop sub-rest loop-holds (λ c. omega (arith, near search)) (λ c. record { fits = omega (arith, near search) })
-    put-next-requires (λ c. record { fits = omega (arith, near search) }) (λ c. omega arith) loop-again
+    tie.close (tie.spec Inv-loop μ-loop sub-rest loop-holds (λ c. omega (arith, from-start search)) (λ c. record { fits = omega (arith, from-start search) })
+    put-next-requires (λ c. record { fits = omega (arith, from-start search) }) (λ c. omega arith) loop-again
     (λ c. let s : tie.Start Inv-loop μ-loop = search in omega arith) returns)

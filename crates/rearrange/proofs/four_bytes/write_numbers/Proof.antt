@@ -17,8 +17,8 @@ abbrev μ-loop : tie.MeasureT-loop
 μ-loop numbers bytes₀ i₀ bytes i = length numbers - i
 
 -- the place in the loop, and the function's entry
-near : tie.In-loop Inv-loop μ-loop → tie.In-loop Inv-loop μ-loop × tie.Start Inv-loop μ-loop
-near i = (i, search)
+from-start : tie.In-loop Inv-loop μ-loop → tie.In-loop Inv-loop μ-loop × tie.Start Inv-loop μ-loop
+from-start i = (i, search)
 
 loop-holds : tie.Need-loop-holds Inv-loop μ-loop
 loop-holds c = let s = c .before in (omega arith, worded-none (now (s .args .numbers)) (now (s .args .bytes)) (s .pre))
@@ -46,5 +46,5 @@ returns c =
 pub write-numbers-spec : {M : Type 1} → Rattle.rearrange.proofs.four_bytes.write_numbers.Statement.statement M
 write-numbers-spec =
     tie.close (tie.spec Inv-loop μ-loop loop-holds (λ c. search needs) (λ c. search needs) (λ c κs. search needs) (λ c. search needs)
-    (λ c κs. omega (arith, near search)) (λ c. search needs) (λ c. search needs) loop-again (λ c. let s : tie.Start Inv-loop μ-loop = search in omega arith)
+    (λ c κs. omega (arith, from-start search)) (λ c. search needs) (λ c. search needs) loop-again (λ c. let s : tie.Start Inv-loop μ-loop = search in omega arith)
     returns)

@@ -7,7 +7,7 @@ use denote.Ref.{now}
 use Rattle.mesh.proofs.Fills.{Filled, filled-none}
 use Rattle.paper.specs.Archive.{restoredAt}
 use Rattle.rearrange.specs.restoring.Sums.{before}
-use Rattle.rearrange.proofs.restoring.Sums.{before-first, turned-next, turned-fills, turned-length, restored-all}
+use Rattle.rearrange.proofs.restoring.Sums.{before-first, one-next, one-fills, one-length, restored-all}
 use native.Mathlib.Omega.{arith}
 use Rattle.rearrange.proofs.restoring.fill_vertices.Tie as tie
 
@@ -20,8 +20,8 @@ abbrev μ-loop : tie.MeasureT-loop
 μ-loop bytes numbers₀ n x₀ y₀ z₀ v₀ numbers x y z v = length numbers₀ / 3 - v
 
 -- the place in the loop, and the function's entry
-near : tie.In-loop Inv-loop μ-loop → tie.In-loop Inv-loop μ-loop × tie.Start Inv-loop μ-loop
-near i = (i, search)
+from-start : tie.In-loop Inv-loop μ-loop → tie.In-loop Inv-loop μ-loop × tie.Start Inv-loop μ-loop
+from-start i = (i, search)
 
 -- all vertices, three numbers each
 abbrev count : tie.Start Inv-loop μ-loop → ℕ
@@ -33,15 +33,15 @@ room s = div-add-mod (count s) 3
 -- the list keeps its length from call to call
 length1 : (c : tie.After-restore-at Inv-loop μ-loop)
     → length (c .restore-at .last .1 .1 .0) ≡ count (c .before .before .before .before .before)
-length1 c = turned-length _ _ _ _ _ _ _ _ (c .restore-at .ensures) (c .before .before .before .loop .inv .1)
+length1 c = one-length _ _ _ _ _ _ _ _ (c .restore-at .ensures) (c .before .before .before .loop .inv .1)
 
 length2 : (c : tie.After-restore-at2 Inv-loop μ-loop)
     → length (c .restore-at2 .last .1 .1 .0) ≡ count (c .before .before .before .before .before .before .before .before)
-length2 c = turned-length _ _ _ _ _ _ _ _ (c .restore-at2 .ensures) (length1 (c .before .before .before))
+length2 c = one-length _ _ _ _ _ _ _ _ (c .restore-at2 .ensures) (length1 (c .before .before .before))
 
 length3 : (c : tie.After-restore-at3 Inv-loop μ-loop)
     → length (c .restore-at3 .last .1 .1 .0) ≡ count (c .before .before .before .before .before .before .before .before .before .before .before)
-length3 c = turned-length _ _ _ _ _ _ _ _ (c .restore-at3 .ensures) (length2 (c .before .before .before))
+length3 c = one-length _ _ _ _ _ _ _ _ (c .restore-at3 .ensures) (length2 (c .before .before .before))
 
 loop-holds : tie.Need-loop-holds Inv-loop μ-loop
 loop-holds c =
@@ -76,17 +76,17 @@ loop-again c =
     let r3 = c .before .restore-at3 in
     let o1 = r1 .last .1 .1 .0 in
     let o2 = r2 .last .1 .1 .0 in
-    let f1 = turned-fills b n v 0 (3 * v) (omega arith) (omega arith) (l .numbers) o1 (l .x) (r1 .result) (l .inv .3) (r1 .ensures)
+    let f1 = one-fills b n v 0 (3 * v) (omega arith) (omega arith) (l .numbers) o1 (l .x) (r1 .result) (l .inv .3) (r1 .ensures)
     old (3 * v + 1) (omega (arith, room s)) (omega arith) (l .inv .2) in
-    let f2 = turned-fills b n v 1 (3 * v + 1) (omega arith) (omega arith) o1 o2 (l .y) (r2 .result) (l .inv .4) (r2 .ensures)
+    let f2 = one-fills b n v 1 (3 * v + 1) (omega arith) (omega arith) o1 o2 (l .y) (r2 .result) (l .inv .4) (r2 .ensures)
     old (3 * v + 2) (omega (arith, room s)) (omega arith) f1 in (
       omega arith,
       length3 (c .before),
-      turned-fills b n v 2 (3 * v + 2) (omega arith) (omega arith) o2 _ (l .z) (r3 .result) (l .inv .5) (r3 .ensures)
+      one-fills b n v 2 (3 * v + 2) (omega arith) (omega arith) o2 _ (l .z) (r3 .result) (l .inv .5) (r3 .ensures)
           old (3 * (v + 1)) (omega (arith, room s)) (omega arith) f2,
-      turned-next b n v 0 (3 * v) (omega arith) (omega arith) (l .numbers) o1 (l .x) (r1 .result) (l .inv .3) (r1 .ensures),
-      turned-next b n v 1 (3 * v + 1) (omega arith) (omega arith) o1 o2 (l .y) (r2 .result) (l .inv .4) (r2 .ensures),
-      turned-next b n v 2 (3 * v + 2) (omega arith) (omega arith) o2 _ (l .z) (r3 .result) (l .inv .5) (r3 .ensures),
+      one-next b n v 0 (3 * v) (omega arith) (omega arith) (l .numbers) o1 (l .x) (r1 .result) (l .inv .3) (r1 .ensures),
+      one-next b n v 1 (3 * v + 1) (omega arith) (omega arith) o1 o2 (l .y) (r2 .result) (l .inv .4) (r2 .ensures),
+      one-next b n v 2 (3 * v + 2) (omega arith) (omega arith) o2 _ (l .z) (r3 .result) (l .inv .5) (r3 .ensures),
     )
 
 same-length : tie.Need-same-length Inv-loop μ-loop
@@ -100,7 +100,7 @@ returns c =
 
 pub fill-vertices-spec : {M : Type 1} → Rattle.rearrange.proofs.restoring.fill_vertices.Statement.statement M
 fill-vertices-spec =
-    tie.close (tie.spec Inv-loop μ-loop loop-holds (λ c. record { fits = omega (arith, near search) }) restore-at-requires
-    (λ c. record { fits = omega (arith, near search) }) (λ c. record { fits = omega (arith, near search) }) restore-at-requires-2
-    (λ c. record { fits = omega (arith, near search) }) (λ c. record { fits = omega (arith, near search) }) restore-at-requires-3
-    (λ c. record { fits = omega (arith, near search) }) (λ c. omega arith) loop-again same-length returns)
+    tie.close (tie.spec Inv-loop μ-loop loop-holds (λ c. record { fits = omega (arith, from-start search) }) restore-at-requires
+    (λ c. record { fits = omega (arith, from-start search) }) (λ c. record { fits = omega (arith, from-start search) }) restore-at-requires-2
+    (λ c. record { fits = omega (arith, from-start search) }) (λ c. record { fits = omega (arith, from-start search) }) restore-at-requires-3
+    (λ c. record { fits = omega (arith, from-start search) }) (λ c. omega arith) loop-again same-length returns)

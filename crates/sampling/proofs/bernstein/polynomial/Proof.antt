@@ -2,7 +2,7 @@
 use mathlib.Core.Path.{sym, subst}
 use Prim.Native.Nat.{_^_}
 use borrow.Author.Needs.{needs}
-use Rattle.sampling.specs.declared.bernstein.Rows.{Rows}
+use Rattle.sampling.specs.declared.bernstein.Matrix5.{Matrix5}
 use Rattle.sampling.specs.bernstein.Sums.{AllSized}
 use Rattle.sampling.proofs.bernstein.Laws.{slopes-size, columns-size, weights-size, polynomial-is}
 use Rattle.sampling.proofs.bernstein.polynomial.Statement.{statement}
@@ -10,24 +10,18 @@ use Rattle.sampling.proofs.bernstein.polynomial.Tie as tie
 
 module _ (c : tie.After-slopes) where
   sloped : AllSized (2 ^ 31) (c .slopes .result)
-  sloped = subst (λ (r : Rows). AllSized (2 ^ 31) r) (sym (c .slopes .ensures)) (slopes-size (c .before .args .p) (2 ^ 27) (c .before .pre .0))
+  sloped = subst (λ (r : Matrix5). AllSized (2 ^ 31) r) (sym (c .slopes .ensures)) (slopes-size (c .before .args .p) (2 ^ 27) (c .before .pre .0))
 
 module _ (c : tie.After-columns) where
   turned : AllSized (2 ^ 31) (c .columns .result)
-  turned = subst (λ (r : Rows). AllSized (2 ^ 31) r) (sym (c .columns .ensures)) (columns-size (c .before .slopes .result) (2 ^ 31) (sloped (c .before)))
-
-columns-requires : tie.Need-columns-requires
-columns-requires c κs = sloped c
-
-slopes-requires-2 : tie.Need-slopes-requires-2
-slopes-requires-2 c κs = turned c
+  turned = subst (λ (r : Matrix5). AllSized (2 ^ 31) r) (sym (c .columns .ensures)) (columns-size (c .before .slopes .result) (2 ^ 31) (sloped (c .before)))
 
 scaled-requires : tie.Need-scaled-requires
 scaled-requires c κs =
     let t = c .before .before in
     let s = t .before .before in (
-      subst (λ (r : Rows). AllSized (2 ^ 35) r) (sym (c .before .slopes2 .ensures)) (slopes-size (t .columns .result) (2 ^ 31) (turned t)),
-      subst (λ (r : Rows). AllSized (2 ^ 16) r) (sym (c .weights .ensures)) (weights-size (s .args .p) (s .args .n) (s .pre .0) (s .pre .1)),
+      subst (λ (r : Matrix5). AllSized (2 ^ 35) r) (sym (c .before .slopes2 .ensures)) (slopes-size (t .columns .result) (2 ^ 31) (turned t)),
+      subst (λ (r : Matrix5). AllSized (2 ^ 16) r) (sym (c .weights .ensures)) (weights-size (s .args .p) (s .args .n) (s .pre .0) (s .pre .1)),
     )
 
 returns : tie.Need-returns
@@ -37,4 +31,4 @@ returns c =
     (c .before .weights .ensures) (c .scaled .ensures)
 
 pub polynomial-spec : {M : Type 1} → statement M
-polynomial-spec = tie.close (tie.spec (λ c κs. search needs) columns-requires slopes-requires-2 (λ c κs. search needs) scaled-requires returns)
+polynomial-spec = tie.close (tie.spec (λ c κs. search needs) (λ c κs. sloped c) (λ c κs. turned c) (λ c κs. search needs) scaled-requires returns)

@@ -36,9 +36,6 @@ module _ (c : tie.After-quotient) where
   wide : bits (c .quotient .result) ≡ c .quotient .result
   wide = toZ-ofZ (size-fits _ (omega (arith, size)))
 
-quotient-requires : tie.Need-quotient-requires
-quotient-requires c κs = (c .pre .0, c .pre .1, rw (plain c) (small c))
-
 cast-result : tie.Need-cast-result
 cast-result c = rw (wide c) (abs-fits w32 _ (2 ^ 27) (size c) (lit< tt))
 
@@ -46,4 +43,4 @@ returns : tie.Need-returns
 returns c = rw (wide c) (toZ-ofZ (abs-fits w32 _ (2 ^ 27) (size c) (lit< tt)) ∙ is c)
 
 pub rounded-spec : {M : Type 1} → statement M
-rounded-spec = tie.close (tie.spec quotient-requires cast-result returns)
+rounded-spec = tie.close (tie.spec (λ c κs. (c .pre .0, c .pre .1, rw (plain c) (small c))) cast-result returns)

@@ -6,15 +6,6 @@ use Rattle.sampling.proofs.bernstein.Laws.{above, is-last}
 use Rattle.sampling.proofs.points.a_place.Statement.{statement}
 use Rattle.sampling.proofs.points.a_place.Tie as tie
 
-returns : tie.Need-returns
-returns c = rw (c .match .keys1) (refl, omega arith)
-
-returns-2 : tie.Need-returns-2
-returns-2 c = rw (c .match .keys2) (refl, omega arith)
-
-returns-3 : tie.Need-returns-3
-returns-3 c = rw (c .match .keys3) (refl, omega arith)
-
 returns-4 : tie.Need-returns-4
 returns-4 c =
     let s = c .before in
@@ -27,4 +18,5 @@ pub a-place-spec : {M : Type 1} → statement M
 a-place-spec =
     tie.close (tie.spec (λ c. search needs) (λ c. search needs) (λ c. search needs) (λ c. search needs) (λ c. search needs) (λ c. search needs)
     (λ c. search needs) (λ c. search needs) (λ c. search needs) (λ c. search needs) (λ c. search needs) (λ c. search needs) (λ c. search needs)
-    (λ c. search needs) returns returns-2 returns-3 returns-4)
+    (λ c. search needs) (λ c. rw (c .match .keys1) (refl, omega arith)) (λ c. rw (c .match .keys2) (refl, omega arith))
+    (λ c. rw (c .match .keys3) (refl, omega arith)) returns-4)

@@ -4,15 +4,15 @@ use borrow.Author.Needs.{needs}
 use lib.Dec.{lit≤}
 use denote.Ref.{now}
 use Rattle.paper.specs.Sampling.{onAxis}
-use Rattle.sampling.specs.declared.bernstein.Five.{Five}
-use Rattle.sampling.specs.declared.bernstein.Rows.{Rows}
-use Rattle.sampling.proofs.bernstein.Identity.{five-same}
+use Rattle.sampling.specs.declared.bernstein.Vector5.{Vector5}
+use Rattle.sampling.specs.declared.bernstein.Matrix5.{Matrix5}
+use Rattle.sampling.proofs.bernstein.Identity.{vector5-same}
 use Rattle.sampling.proofs.points.Laws.{by-bits, inner-a-place, centre-place}
 use Rattle.sampling.proofs.points.control_points.Statement.{statement}
 use Rattle.sampling.proofs.points.control_points.Tie as tie
 
-rows-same : {r0 r1 r2 r3 r4 q0 q1 q2 q3 q4 : Five} → r0 ≡ q0 → r1 ≡ q1 → r2 ≡ q2 → r3 ≡ q3 → r4 ≡ q4
-    → _≡_ {A = Rows} (record { r0 = r0; r1 = r1; r2 = r2; r3 = r3; r4 = r4 }) (record { r0 = q0; r1 = q1; r2 = q2; r3 = q3; r4 = q4 })
+rows-same : {r0 r1 r2 r3 r4 q0 q1 q2 q3 q4 : Vector5} → r0 ≡ q0 → r1 ≡ q1 → r2 ≡ q2 → r3 ≡ q3 → r4 ≡ q4
+    → _≡_ {A = Matrix5} (record { r0 = r0; r1 = r1; r2 = r2; r3 = r3; r4 = r4 }) (record { r0 = q0; r1 = q1; r2 = q2; r3 = q3; r4 = q4 })
 rows-same e f g h i = cc
 
 returns : tie.Need-returns
@@ -21,9 +21,9 @@ returns c =
     let p = onAxis (now (s .args .numbers)) (s .args .axis) in
     rows-same (c .before .before .before .before .before .outer-row .ensures) (c .before .before .before .before .a-row .ensures)
     (c .before .before .before .inner-row .ensures)
-    (five-same (by-bits (c .before .before .a-point .result) _ (c .before .before .a-point .ensures) ∙ sym (inner-a-place p (s .args .side) 0 (lit≤ tt)))
+    (vector5-same (by-bits (c .before .before .a-point .result) _ (c .before .before .a-point .ensures) ∙ sym (inner-a-place p (s .args .side) 0 (lit≤ tt)))
     (by-bits (c .before .a-point2 .result) _ (c .before .a-point2 .ensures) ∙ sym (inner-a-place p (s .args .side) 1 (lit≤ tt))) refl refl refl)
-    (five-same (by-bits (c .b-point .result) _ (c .b-point .ensures) ∙ sym (centre-place p (s .args .side))) refl refl refl refl)
+    (vector5-same (by-bits (c .b-point .result) _ (c .b-point .ensures) ∙ sym (centre-place p (s .args .side))) refl refl refl refl)
 
 pub control-points-spec : {M : Type 1} → statement M
 control-points-spec =

@@ -1,5 +1,5 @@
 -- `triangles::writing::put_curve` meets its contract, axis by axis.
-use mathlib.Core.Path.{_≡_, refl}
+use mathlib.Core.Path.{refl}
 use Prim.Native.Nat.{_+_}
 use native.Mathlib.Omega.{arith}
 use borrow.Author.Needs.{needs}

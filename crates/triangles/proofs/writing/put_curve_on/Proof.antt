@@ -1,5 +1,4 @@
 -- `triangles::writing::put_curve_on` meets its contract: the row on the border from its second place on.
-use mathlib.Core.Path.{_≡_}
 use borrow.Author.Needs.{needs}
 use Rattle.triangles.proofs.writing.Laws.{curve-sampleable}
 use Rattle.triangles.proofs.writing.put_curve_on.Statement.{statement}

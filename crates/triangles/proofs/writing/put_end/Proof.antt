@@ -33,11 +33,8 @@ returns c =
     (aim q 1 (omega arith) ∙ sym (toZ-ofZ fy)) (aim q 2 (omega arith) ∙ sym (toZ-ofZ fz)))
     (λ t p. p .1)
 
-returns-2 : tie.Need-returns-2
-returns-2 c = λ f aim. reaches-none _ (λ t p. c .if1 .left (p .0))
-
 pub put-end-spec : {M : Type 1} → statement M
 put-end-spec =
     tie.close (tie.spec (λ c. search needs) (λ c. search needs) (λ c. search needs) (λ c. search needs) (λ c. search needs) (λ c. search needs)
-    (λ c. search needs) (λ c. search needs) (λ c. search needs) (λ c. search needs) (λ c. search needs) (λ c κs. search needs) (λ c. search needs)
-    returns returns-2)
+    (λ c. search needs) (λ c. search needs) (λ c. search needs) (λ c. search needs) (λ c. search needs) (λ c κs. search needs) (λ c. search needs) returns
+    (λ c. λ f aim. reaches-none _ (λ t p. c .if1 .left (p .0))))

@@ -1,6 +1,5 @@
 -- `triangles::writing::put_net` meets its contract: ends, curves, rings and centre are all the groups.
-use mathlib.Core.Path.{_≡_, refl}
-use Prim.Native.Nat.{ℕ, _+_, _-_, _*_, _≤_}
+use mathlib.Core.Path.{_≡_}
 use native.Mathlib.Omega.{arith}
 use borrow.Author.Needs.{needs}
 use denote.Ref.{now}
@@ -89,6 +88,7 @@ returns c =
 
 pub put-net-spec : {M : Type 1} → statement M
 put-net-spec =
-    tie.close (tie.spec (λ c. search needs) (λ c. search needs) (λ c. search needs) (λ c. search needs) (λ c. search needs) (λ c. search needs) (λ c. search needs) (λ c. search needs) (λ c. search needs) (λ c. search needs) (λ c. search needs) (λ c. search needs) (λ c. search needs) (λ c. search needs) (λ c. search needs) (λ c. search needs)
-    put-end-requires put-end-requires-2 put-end-requires-3 (λ c κs. search needs) put-curve-requires-2 put-rings-requires put-end-requires-4
-    (λ c. search needs) returns)
+    tie.close (tie.spec (λ c. search needs) (λ c. search needs) (λ c. search needs) (λ c. search needs) (λ c. search needs) (λ c. search needs)
+    (λ c. search needs) (λ c. search needs) (λ c. search needs) (λ c. search needs) (λ c. search needs) (λ c. search needs) (λ c. search needs)
+    (λ c. search needs) (λ c. search needs) (λ c. search needs) put-end-requires put-end-requires-2 put-end-requires-3 (λ c κs. search needs)
+    put-curve-requires-2 put-rings-requires put-end-requires-4 (λ c. search needs) returns)

@@ -7,12 +7,6 @@ use Rattle.triangles.proofs.writing.Laws.{three-reaches}
 use Rattle.triangles.proofs.writing.put_point.Statement.{statement}
 use Rattle.triangles.proofs.writing.put_point.Tie as tie
 
-slice-set-from-y : tie.Need-slice-set-from-y
-slice-set-from-y c = simp length-set (omega (arith, c .pre))
-
-slice-set-from-z : tie.Need-slice-set-from-z
-slice-set-from-z c = simp length-set (omega (arith, c .pre))
-
 returns : tie.Need-returns
 returns c =
     rw (toZ-ofZ (c .fits .x), toZ-ofZ (c .fits .y), toZ-ofZ (c .fits .z))
@@ -20,5 +14,5 @@ returns c =
 
 pub put-point-spec : {M : Type 1} → statement M
 put-point-spec =
-    tie.close (tie.spec (λ c. search needs) (λ c. search needs) (λ c. search needs) (λ c. search needs) slice-set-from-y (λ c. search needs)
-    (λ c. search needs) slice-set-from-z (λ c. search needs) returns)
+    tie.close (tie.spec (λ c. search needs) (λ c. search needs) (λ c. search needs) (λ c. search needs) (λ c. simp length-set (omega (arith, c .pre)))
+    (λ c. search needs) (λ c. search needs) (λ c. simp length-set (omega (arith, c .pre))) (λ c. search needs) returns)

@@ -1,6 +1,6 @@
 -- `triangles::writing::put_rings` meets its contract: the sides before are put.
-use mathlib.Core.Path.{_≡_, refl, _∙_}
-use Prim.Native.Nat.{ℕ, _+_, _-_, _*_, _≤_, _<_}
+use mathlib.Core.Path.{_≡_, refl}
+use Prim.Native.Nat.{ℕ, _+_, _-_, _≤_}
 use native.Mathlib.Omega.{arith}
 use borrow.Author.Needs.{needs}
 use denote.Ref.{now}
@@ -22,9 +22,6 @@ abbrev μ-loop : tie.MeasureT-loop
 loop-holds : tie.Need-loop-holds Inv-loop μ-loop
 loop-holds c = (omega arith, refl, λ f aim. reaches-none _ (λ t s. let b = s .4 in omega arith))
 
-turn-points-requires : tie.Need-turn-points-requires Inv-loop μ-loop
-turn-points-requires c κs = search needs
-
 put-spokes-requires : tie.Need-put-spokes-requires Inv-loop μ-loop
 put-spokes-requires c κs =
     let s : tie.Start Inv-loop μ-loop = search in
@@ -35,9 +32,6 @@ put-spokes-requires c κs =
       omega arith,
       omega (arith, s .pre .3, t .before .loop .inv .1),
     )
-
-turn-points-requires-2 : tie.Need-turn-points-requires-2 Inv-loop μ-loop
-turn-points-requires-2 c κs = search needs
 
 add-put-spokes : tie.Need-add-put-spokes Inv-loop μ-loop
 add-put-spokes c = let s : tie.Start Inv-loop μ-loop = search in record { fits = omega (arith, s .pre .3, s .good) }
@@ -53,9 +47,6 @@ put-spokes-requires-2 c κs =
       omega arith,
       omega (arith, s .pre .3, t .before .loop .inv .1, w .put-spokes .kept),
     )
-
-turn-points-requires-3 : tie.Need-turn-points-requires-3 Inv-loop μ-loop
-turn-points-requires-3 c κs = search needs
 
 add-put-spokes-2 : tie.Need-add-put-spokes-2 Inv-loop μ-loop
 add-put-spokes-2 c = let s : tie.Start Inv-loop μ-loop = search in record { fits = omega (arith, s .pre .3, s .good) }
@@ -103,9 +94,6 @@ loop-again c =
           (spoke-aim (s .args .numbers .now) (s .args .n) (s .args .at) (l .side) b f aim 2 (s .args .at + 2) (omega arith) refl _ (r .turn-points3 .ensures))),
     )
 
-same-length : tie.Need-same-length Inv-loop μ-loop
-same-length c = c .before .loop .inv .1
-
 returns : tie.Need-returns Inv-loop μ-loop
 returns c =
     let l = c .before .loop in
@@ -113,5 +101,5 @@ returns c =
 
 pub put-rings-spec : {M : Type 1} → statement M
 put-rings-spec =
-    tie.close (tie.spec Inv-loop μ-loop loop-holds turn-points-requires put-spokes-requires turn-points-requires-2 add-put-spokes put-spokes-requires-2
-    turn-points-requires-3 add-put-spokes-2 put-spokes-requires-3 add-side loop-less loop-again same-length returns)
+    tie.close (tie.spec Inv-loop μ-loop loop-holds (λ c κs. search needs) put-spokes-requires (λ c κs. search needs) add-put-spokes put-spokes-requires-2
+    (λ c κs. search needs) add-put-spokes-2 put-spokes-requires-3 add-side loop-less loop-again (λ c. c .before .loop .inv .1) returns)

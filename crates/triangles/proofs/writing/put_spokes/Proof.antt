@@ -6,13 +6,13 @@ use native.Mathlib.Numerals.{add-one}
 use borrow.Author.Needs.{needs}
 use lib.ListN.{length}
 use lib.IntN.{ℤ, pos}
-use Rattle.sampling.specs.declared.bernstein.Five.{Five}
-use Rattle.sampling.specs.declared.bernstein.Rows.{Rows}
+use Rattle.sampling.specs.declared.bernstein.Vector5.{Vector5}
+use Rattle.sampling.specs.declared.bernstein.Matrix5.{Matrix5}
 use Rattle.sampling.specs.bernstein.Sums.{AllSized, polynomialOf, statesOf, stepsOf, firstsOf, rowOf}
 use Rattle.sampling.proofs.bernstein.Laws.{polynomial-tapers, states-size}
 use Rattle.sampling.proofs.bernstein.Identity.{states-step, firsts-row}
 use Rattle.triangles.specs.writing.Laid.{Reaches, SpokeAim, SpokePlace}
-use Rattle.triangles.proofs.Counts.{most-inner}
+use Rattle.closing.proofs.Counts.{most-inner}
 use Rattle.triangles.proofs.writing.Laws.{reaches-none, spoke-sampleable, ring-room}
 use Rattle.triangles.proofs.writing.Parts.{spokes-step, spokes-all}
 use Rattle.triangles.proofs.writing.put_spokes.Statement.{statement}
@@ -21,16 +21,16 @@ use Rattle.triangles.proofs.writing.put_spokes.Tie as tie
 abbrev Inv-loop : tie.InvT-loop
 Inv-loop side n points₀ at s₀ k₀ points s k =
     (k + 1 ≤ n) × (length points ≡ length points₀)
-    × ((p : Rows) → s₀ ≡ statesOf (polynomialOf p (pos n)) 0
+    × ((p : Matrix5) → s₀ ≡ statesOf (polynomialOf p (pos n)) 0
     → (s ≡ statesOf (polynomialOf p (pos n)) k) × ((f : ℕ → ℤ) → SpokeAim p side n at f → Reaches f (SpokePlace side n at k) points₀ points))
 
 abbrev μ-loop : tie.MeasureT-loop
 μ-loop side n points₀ at s₀ k₀ points s k = n - k
 
-next-is : (c s r : Rows) (k : ℕ) → s ≡ statesOf c k → r ≡ stepsOf s → r ≡ statesOf c (suc k)
+next-is : (c s r : Matrix5) (k : ℕ) → s ≡ statesOf c k → r ≡ stepsOf s → r ≡ statesOf c (suc k)
 next-is c s r k e h = h ∙ ap stepsOf e ∙ states-step c k ∙ ap (statesOf c) (add-one k)
 
-row-is : (c s r : Rows) (e : Five) (k : ℕ) → s ≡ statesOf c k → r ≡ stepsOf s → e ≡ firstsOf r → e ≡ rowOf c (suc k)
+row-is : (c s r : Matrix5) (e : Vector5) (k : ℕ) → s ≡ statesOf c k → r ≡ stepsOf s → e ≡ firstsOf r → e ≡ rowOf c (suc k)
 row-is c s r e k q h g = g ∙ ap firstsOf (next-is c s r k q h) ∙ firsts-row c (suc k)
 
 -- in the loop
@@ -44,7 +44,7 @@ module _ (t : tie.In-loop Inv-loop μ-loop) where
   abbrev k : ℕ
   k = t .before .loop .k
 
-  abbrev c : Rows
+  abbrev c : Matrix5
   c = polynomialOf (a .args .p) (pos n)
 
   below : k + 1 < n
@@ -56,14 +56,14 @@ module _ (t : tie.In-loop Inv-loop μ-loop) where
   states : t .before .loop .s ≡ statesOf c k
   states = t .before .loop .inv .2 (a .args .p) (t .before .before .start .ensures) .0
 
-  sized-at : (r : Rows) (x : ℕ) → x ≤ 16 → r ≡ statesOf c x → AllSized (2 ^ 60) r
+  sized-at : (r : Matrix5) (x : ℕ) → x ≤ 16 → r ≡ statesOf c x → AllSized (2 ^ 60) r
   sized-at r x h e =
-      subst (λ (s : Rows). AllSized (2 ^ 60) s) (sym e) (states-size c x h (polynomial-tapers (a .args .p) n (a .pre .0 .sized) few))
+      subst (λ (s : Matrix5). AllSized (2 ^ 60) s) (sym e) (states-size c x h (polynomial-tapers (a .args .p) n (a .pre .0 .sized) few))
 
   sized : AllSized (2 ^ 60) (t .before .loop .s)
   sized = sized-at (t .before .loop .s) k (omega (arith, below, few)) states
 
-  sized-next : (r : Rows) → r ≡ stepsOf (t .before .loop .s) → AllSized (2 ^ 60) r
+  sized-next : (r : Matrix5) → r ≡ stepsOf (t .before .loop .s) → AllSized (2 ^ 60) r
   sized-next r e = sized-at r (suc k) (omega (arith, below, few)) (next-is c (t .before .loop .s) r k states e)
 
   within : 2 * (k * (2 * n - k - 1)) + a .args .side * (n - k - 1) + (n - k - 1) ≤ 2 * (n * (n - 1))
@@ -75,18 +75,12 @@ module _ (t : tie.In-loop Inv-loop μ-loop) where
   long : length (t .before .loop .points) ≡ length (a .args .points .now)
   long = t .before .loop .inv .1
 
-start-requires : tie.Need-start-requires Inv-loop μ-loop
-start-requires c κs = (c .pre .0 .sized, c .pre .0 .few)
-
 loop-holds : tie.Need-loop-holds Inv-loop μ-loop
 loop-holds c =
     (omega (arith, c .before .pre .0 .some), refl, λ p h. (h, λ f aim. reaches-none (c .before .args .points .now) (λ t s. let b = s .2 in omega arith)))
 
 add-loop : tie.Need-add-loop Inv-loop μ-loop
 add-loop c = let s : tie.Start Inv-loop μ-loop = search in let f = s .pre .0 .few in search needs
-
-next-requires : tie.Need-next-requires Inv-loop μ-loop
-next-requires c κs = sized c
 
 row-requires : tie.Need-row-requires Inv-loop μ-loop
 row-requires c κs = sized-next (c .before) (c .next .result) (c .next .ensures)
@@ -154,9 +148,6 @@ loop-again c =
           ),
     )
 
-same-length : tie.Need-same-length Inv-loop μ-loop
-same-length c = c .before .loop .inv .1
-
 returns : tie.Need-returns Inv-loop μ-loop
 returns c =
     let s : tie.Start Inv-loop μ-loop = search in
@@ -167,5 +158,6 @@ returns c =
 
 pub put-spokes-spec : {M : Type 1} → statement M
 put-spokes-spec =
-    tie.close (tie.spec Inv-loop μ-loop start-requires loop-holds add-loop next-requires (λ c. search needs) (λ c. search needs) row-requires
-    rings-before-requires mul-put-row add-put-row mul-put-row-2 add-put-row-2 put-row-requires add-k loop-less loop-again same-length returns)
+    tie.close (tie.spec Inv-loop μ-loop (λ c κs. (c .pre .0 .sized, c .pre .0 .few)) loop-holds add-loop (λ c κs. sized c) (λ c. search needs)
+    (λ c. search needs) row-requires rings-before-requires mul-put-row add-put-row mul-put-row-2 add-put-row-2 put-row-requires add-k loop-less loop-again
+    (λ c. c .before .loop .inv .1) returns)

@@ -1,10 +1,10 @@
 -- `triangles::writing::turn_points` meets its contract: on sides 1 and 3 head and tail change places.
-use mathlib.Core.Path.{_≡_, sym, subst}
+use mathlib.Core.Path.{sym, subst}
 use Prim.Native.Nat.{_^_}
 use native.Mathlib.Omega.{arith}
 use borrow.Author.Needs.{needs}
 use denote.Ref.{now}
-use Rattle.sampling.specs.declared.bernstein.Rows.{Rows}
+use Rattle.sampling.specs.declared.bernstein.Matrix5.{Matrix5}
 use Rattle.sampling.specs.bernstein.Sums.{AllSized}
 use Rattle.sampling.proofs.Laws.{points-sized}
 use Rattle.triangles.proofs.writing.Laws.{turn-even, turn-odd}
@@ -15,7 +15,7 @@ reversed-requires : tie.Need-reversed-requires
 reversed-requires c κs =
     let s : tie.Start = search in
     let p : tie.After-control-points = search in
-    subst (λ (r : Rows). AllSized (2 ^ 27) r) (sym (p .control-points .ensures))
+    subst (λ (r : Matrix5). AllSized (2 ^ 27) r) (sym (p .control-points .ensures))
     (points-sized (now (s .args .numbers)) (s .pre .0) (s .args .side) (s .args .axis) (s .pre .2))
 
 returns : tie.Need-returns

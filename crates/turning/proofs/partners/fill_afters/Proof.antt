@@ -16,8 +16,8 @@ abbrev μ-loop : tie.MeasureT-loop
 μ-loop lows highs earliers heads vertices table₀ afters₀ u₀ table afters u = vertices - u
 
 -- the place in the loop, and the function's entry
-near : tie.In-loop Inv-loop μ-loop → tie.In-loop Inv-loop μ-loop × tie.Start Inv-loop μ-loop
-near i = (i, search)
+from-start : tie.In-loop Inv-loop μ-loop → tie.In-loop Inv-loop μ-loop × tie.Start Inv-loop μ-loop
+from-start i = (i, search)
 
 loop-holds : tie.Need-loop-holds Inv-loop μ-loop
 loop-holds c = let s : tie.Start Inv-loop μ-loop = search in
@@ -50,5 +50,5 @@ returns c = let t = c .before in let s : tie.Start Inv-loop μ-loop = search in 
 
 pub fill-afters-spec : {M : Type 1} → Rattle.turning.proofs.partners.fill_afters.Statement.statement M
 fill-afters-spec =
-    tie.close (tie.spec Inv-loop μ-loop loop-holds follow-requires (λ c. omega (arith, near search)) (λ c. omega (arith, near search)) loop-again
+    tie.close (tie.spec Inv-loop μ-loop loop-holds follow-requires (λ c. omega (arith, from-start search)) (λ c. omega (arith, from-start search)) loop-again
     same-length same-length-2 returns)

@@ -25,8 +25,8 @@ loop-holds : tie.Need-loop-holds Inv-loop μ-loop
 loop-holds c = (λ sides corners k e t. pairing-none sides corners _ (c .pre .1 .1 .1), refl)
 
 -- the place in the loop, and the function's entry
-near : tie.In-loop Inv-loop μ-loop → tie.In-loop Inv-loop μ-loop × tie.Start Inv-loop μ-loop
-near i = (i, search)
+from-start : tie.In-loop Inv-loop μ-loop → tie.In-loop Inv-loop μ-loop × tie.Start Inv-loop μ-loop
+from-start i = (i, search)
 
 same-length : tie.Need-same-length Inv-loop μ-loop
 same-length c = let i = c .before .before .before .before in let t = i .before in let s = t .before in let l = t .loop in
@@ -99,7 +99,7 @@ returns-3 c = let t = c .before in let s = t .before in let l = t .loop in λ si
 
 pub pair-spec : {M : Type 1} → Rattle.turning.proofs.partners.pair.Statement.statement M
 pair-spec =
-    tie.close (tie.spec Inv-loop μ-loop loop-holds (λ c. omega (arith, near search)) (λ c. omega (arith, near search)) (λ c. omega (arith, near search))
-    (λ c. omega (arith, near search)) same-length returns (λ c. omega (arith, near search)) cast-second mul-if3 shared-slice-read-if3 same-length-2
-    returns-2 (λ c. omega (arith, near search)) (λ c. omega (arith, near search)) (λ c. omega (arith, near search)) (λ c. omega (arith, near search))
-    mul-partners-2 slice-write-partners-2 (λ c. omega (arith, near search)) (λ c. omega (arith, near search)) loop-again same-length-3 returns-3)
+    tie.close (tie.spec Inv-loop μ-loop loop-holds (λ c. omega (arith, from-start search)) (λ c. omega (arith, from-start search)) (λ c. omega (arith, from-start search))
+    (λ c. omega (arith, from-start search)) same-length returns (λ c. omega (arith, from-start search)) cast-second mul-if3 shared-slice-read-if3 same-length-2
+    returns-2 (λ c. omega (arith, from-start search)) (λ c. omega (arith, from-start search)) (λ c. omega (arith, from-start search)) (λ c. omega (arith, from-start search))
+    mul-partners-2 slice-write-partners-2 (λ c. omega (arith, from-start search)) (λ c. omega (arith, from-start search)) loop-again same-length-3 returns-3)

@@ -21,8 +21,8 @@ abbrev μ-loop : tie.MeasureT-loop
 μ-loop sides states pairs₀ start₀ f₀ pairs start f = length sides - f
 
 -- the place in the loop, and the function's entry
-near : tie.In-loop Inv-loop μ-loop → tie.In-loop Inv-loop μ-loop × tie.Start Inv-loop μ-loop
-near i = (i, search)
+from-start : tie.In-loop Inv-loop μ-loop → tie.In-loop Inv-loop μ-loop × tie.Start Inv-loop μ-loop
+from-start i = (i, search)
 
 loop-holds : tie.Need-loop-holds Inv-loop μ-loop
 loop-holds c = let s : tie.Start Inv-loop μ-loop = search in
@@ -72,5 +72,5 @@ returns c = let t = c .before in let s : tie.Start Inv-loop μ-loop = search in 
 
 pub turn-sharpness-spec : {M : Type 1} → Rattle.turning.proofs.reversing.turn_sharpness.Statement.statement M
 turn-sharpness-spec =
-    tie.close (tie.spec Inv-loop μ-loop loop-holds (λ c. omega (arith, near search)) cast-end add-end (λ c. omega (arith, near search)) turn-pairs-requires
-    (λ c. omega (arith, near search)) (λ c. omega (arith, near search)) loop-again same-length returns)
+    tie.close (tie.spec Inv-loop μ-loop loop-holds (λ c. omega (arith, from-start search)) cast-end add-end (λ c. omega (arith, from-start search)) turn-pairs-requires
+    (λ c. omega (arith, from-start search)) (λ c. omega (arith, from-start search)) loop-again same-length returns)

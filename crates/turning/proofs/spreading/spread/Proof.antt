@@ -19,8 +19,8 @@ abbrev μ-loop : tie.MeasureT-loop
 μ-loop sides corners partners faces starts states₀ queue₀ tail₀ r₀ states queue tail r = length sides - r
 
 -- the place in the loop, and the function's entry
-near : tie.In-loop Inv-loop μ-loop → tie.In-loop Inv-loop μ-loop × tie.Start Inv-loop μ-loop
-near i = (i, search)
+from-start : tie.In-loop Inv-loop μ-loop → tie.In-loop Inv-loop μ-loop × tie.Start Inv-loop μ-loop
+from-start i = (i, search)
 
 loop-holds : tie.Need-loop-holds Inv-loop μ-loop
 loop-holds c = let s : tie.Start Inv-loop μ-loop = search in (
@@ -91,5 +91,5 @@ returns-2 c = let t = c .before in let s : tie.Start Inv-loop μ-loop = search i
 
 pub spread-spec : {M : Type 1} → Rattle.turning.proofs.spreading.spread.Statement.statement M
 spread-spec =
-    tie.close (tie.spec Inv-loop μ-loop loop-holds (λ c. omega (arith, near search)) round-requires (λ c. search needs) (λ c. search needs) same-length
-    same-length-2 returns (λ c. omega (arith, near search)) (λ c. omega (arith, near search)) loop-again same-length-3 same-length-4 returns-2)
+    tie.close (tie.spec Inv-loop μ-loop loop-holds (λ c. omega (arith, from-start search)) round-requires (λ c. search needs) (λ c. search needs) same-length
+    same-length-2 returns (λ c. omega (arith, from-start search)) (λ c. omega (arith, from-start search)) loop-again same-length-3 same-length-4 returns-2)

@@ -18,8 +18,8 @@ abbrev μ-loop : tie.MeasureT-loop
 μ-loop sides faces₀ starts₀ start₀ f₀ faces starts start f = length sides - f
 
 -- the place in the loop, and the function's entry
-near : tie.In-loop Inv-loop μ-loop → tie.In-loop Inv-loop μ-loop × tie.Start Inv-loop μ-loop
-near i = (i, search)
+from-start : tie.In-loop Inv-loop μ-loop → tie.In-loop Inv-loop μ-loop × tie.Start Inv-loop μ-loop
+from-start i = (i, search)
 
 loop-holds : tie.Need-loop-holds Inv-loop μ-loop
 loop-holds c = let s : tie.Start Inv-loop μ-loop = search in (started-none _ _ _, sym (start-zero (now (s .args .sides))), omega arith, refl, refl)
@@ -73,6 +73,6 @@ returns c = let t = c .before in let l = t .loop in
 
 pub fill-starts-spec : {M : Type 1} → Rattle.turning.proofs.starts.fill_starts.Statement.statement M
 fill-starts-spec =
-    tie.close (tie.spec Inv-loop μ-loop loop-holds (λ c. omega (arith, near search)) cast-end add-end cast-starts (λ c. omega (arith, near search))
-    (λ c. omega (arith, near search)) fill-face-requires (λ c. omega (arith, near search)) (λ c. omega (arith, near search)) loop-again same-length
+    tie.close (tie.spec Inv-loop μ-loop loop-holds (λ c. omega (arith, from-start search)) cast-end add-end cast-starts (λ c. omega (arith, from-start search))
+    (λ c. omega (arith, from-start search)) fill-face-requires (λ c. omega (arith, from-start search)) (λ c. omega (arith, from-start search)) loop-again same-length
     same-length-2 returns)

@@ -1,0 +1,12 @@
+-- `sampling::derivatives::along` meets its contract, row by row.
+use borrow.Author.Needs.{needs}
+use Rattle.sampling.specs.bernstein.Tangents.{alongOf}
+use Rattle.sampling.proofs.derivatives.along.Statement.{statement}
+use Rattle.sampling.proofs.derivatives.along.Tie as tie
+
+returns : tie.Need-returns
+unfolding alongOf
+returns c = cc (c .before .before .times .ensures, c .before .times2 .ensures, c .times3 .ensures)
+
+pub along-spec : {M : Type 1} → statement M
+along-spec = tie.close (tie.spec (λ c κs. search needs) (λ c κs. search needs) (λ c κs. search needs) returns)
