@@ -467,26 +467,6 @@ def test_tangents_at_one_sample():
     assert refused(mahunopi.tangents_at, nets[0].ravel()[1:], 0, (1, 0, 0), 1) == (18, 122)
 
 
-@needs("floats_all")
-def test_floats_all():
-    mesh = random_sharpness(cube())
-    mesh.coordinates[0] = 65_536
-    nets = mahunopi.build(mesh, mahunopi.link(mesh))
-    pairs = mahunopi.floats_all(nets)
-    assert pairs.shape == (24, 41, 2, 3) and pairs.dtype == np.float32
-    for corner in range(0, 24, 5):
-        for point in range(41):
-            first, second = mahunopi.floats(nets[corner], point)
-            assert np.array_equal(pairs[corner, point, 0], first) and np.array_equal(pairs[corner, point, 1], np.zeros(3) if second is None else second)
-    assert np.array_equal(pairs.astype(np.float64).sum(axis=2), nets - nets[:, :1])
-    room = np.full(2 * 123 * 2 + 3, 7, np.float32)
-    assert np.array_equal(mahunopi.floats_all(nets[3:5], out=room), pairs[3:5]) and (room[-3:] == 7).all()
-    assert refused(mahunopi.floats_all, nets.ravel()[1:]) == (18, 24 * 123 - 1)
-    assert refused(mahunopi.floats_all, nets, out=room) == (255, 2 * 24 * 123)
-    nets[2, 1, 0] = 2**27 + 1
-    assert refused(mahunopi.floats_all, nets) == (19, 2 * 123 + 3)
-
-
 def test_refused_triangles():
     mesh = cube()
     links, levels = mahunopi.link(mesh), np.full(24, 2, np.uint8)
