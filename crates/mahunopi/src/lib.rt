@@ -369,11 +369,11 @@ pub extern "C" fn mahunopi_count_triangles(
     levels: &[u8],
     first: usize,
     count: usize,
-    point_numbers: &mut u64,
-    triangle_numbers: &mut u64,
+    numbers: &mut u64,
+    entries: &mut u64,
     place: &mut u64,
 ) -> u32
-    ensures { λ r. ⌜ CountTrianglesCall (meshOf (now (coordinates .entry)) (now (sides .entry)) (now (corners .entry)) (now (sharpness .entry))) (now (links .entry)) (now (levels .entry)) first count (sizes (now (point_numbers .entry)) (now (triangle_numbers .entry))) (now (place .entry)) r (now (place .exit)) (sizes (now (point_numbers .exit)) (now (triangle_numbers .exit))) ⌝ }
+    ensures { λ r. ⌜ CountTrianglesCall (meshOf (now (coordinates .entry)) (now (sides .entry)) (now (corners .entry)) (now (sharpness .entry))) (now (links .entry)) (now (levels .entry)) first count (sizes (now (numbers .entry)) (now (entries .entry))) (now (place .entry)) r (now (place .exit)) (sizes (now (numbers .exit)) (now (entries .exit))) ⌝ }
 {
     let t = triangles::count(
         coordinates,
@@ -389,8 +389,8 @@ pub extern "C" fn mahunopi_count_triangles(
     if let Answer::Refused(number, at) = a {
         return tell(Answer::Refused(number, at), place);
     }
-    *point_numbers = t.points as u64;
-    *triangle_numbers = t.triangles as u64;
+    *numbers = t.points as u64;
+    *entries = t.triangles as u64;
     0
 }
 
@@ -407,11 +407,11 @@ pub extern "C" fn mahunopi_triangles(
     count: usize,
     points: &mut [i32],
     indices: &mut [u32],
-    point_numbers: &mut u64,
-    triangle_numbers: &mut u64,
+    numbers: &mut u64,
+    entries: &mut u64,
     place: &mut u64,
 ) -> u32
-    ensures { λ r. ⌜ TrianglesCall (meshOf (now (coordinates .entry)) (now (sides .entry)) (now (corners .entry)) (now (sharpness .entry))) (now (links .entry)) (now (levels .entry)) first count (now (points .entry)) (now (indices .entry)) (sizes (now (point_numbers .entry)) (now (triangle_numbers .entry))) (now (place .entry)) r (now (place .exit)) (now (points .exit)) (now (indices .exit)) (sizes (now (point_numbers .exit)) (now (triangle_numbers .exit))) ⌝ }
+    ensures { λ r. ⌜ TrianglesCall (meshOf (now (coordinates .entry)) (now (sides .entry)) (now (corners .entry)) (now (sharpness .entry))) (now (links .entry)) (now (levels .entry)) first count (now (points .entry)) (now (indices .entry)) (sizes (now (numbers .entry)) (now (entries .entry))) (now (place .entry)) r (now (place .exit)) (now (points .exit)) (now (indices .exit)) (sizes (now (numbers .exit)) (now (entries .exit))) ⌝ }
 {
     let t = triangles::triangles(
         coordinates,
@@ -429,8 +429,8 @@ pub extern "C" fn mahunopi_triangles(
     if let Answer::Refused(number, at) = a {
         return tell(Answer::Refused(number, at), place);
     }
-    *point_numbers = t.points as u64;
-    *triangle_numbers = t.triangles as u64;
+    *numbers = t.points as u64;
+    *entries = t.triangles as u64;
     0
 }
 

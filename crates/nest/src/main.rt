@@ -1,13 +1,18 @@
 // Prints the listing of the nesting table on standard input, one body a line, then the wall drawing as a picture: each body under
 // the one it hangs in, indented by its depth. The table has a line for each body: the number of its holder, or `sun`. A table that is
-// turned down gets the line `refused`, with number and place; a line that is neither gets a line that names it.
+// turned down gets the line `refused`, with number and place; a line that is neither is named on standard error, and nothing is printed.
 use libc::STDIN_FILENO;
-use libc::STDOUT_FILENO;
 use mesh::least;
 use mesh::wide;
 use paper::Answer;
 use paper::MOST_BODIES;
 use paper::SUN;
+use print::lines::put_ended;
+use streams::output::complain;
+use streams::output::complain_up_to;
+use streams::output::say_up_to;
+use streams::text::put_number;
+use streams::text::put_word;
 ghost use Prim.Native.Nat.{_≤_, _<_};
 ghost use lib.ListN.{length};
 
@@ -16,6 +21,9 @@ const ROOM: usize = MOST_BODIES + 1;
 
 // A line has at most nine digits and a line feed, so these bytes hold more lines than are read.
 const BUFFER: usize = 4096;
+
+// Room for all that is printed. The picture is longest where each body hangs in the one before: the last of 256 is then 512 spaces in.
+const LINES: usize = 69632;
 
 // What a line says; and what a text does: how many bodies it has, or the number, from 1, of the first line that is neither.
 enum Line {
@@ -29,12 +37,24 @@ enum Table {
 }
 
 fn main() {
+    if 1 < os::arg_count() {
+        complain(b"usage: nest < TABLE\n");
+        return;
+    }
     let mut bytes = [0u8; BUFFER];
-    let held = io::read_full(STDIN_FILENO, &mut bytes);
+    let read = streams::input::read_up_to(STDIN_FILENO, b"standard input", &mut bytes);
+    let held = read.count;
+    if read.ok {
+        print_text(&bytes[..held]);
+    }
+}
+
+// Reads the table, and prints it.
+fn print_text(text: &[u8]) {
     let mut holders = [0u16; ROOM];
-    let t = read_table(&bytes[..held], &mut holders);
+    let t = read_table(text, &mut holders);
     match t {
-        Table::BadLine(line) => print_bad_line(line),
+        Table::BadLine(line) => complain_line(line),
         Table::Bodies(count) => {
             let n = least(count, ROOM);
             print_table(&holders[..n]);
@@ -114,11 +134,13 @@ fn appended(value: usize, byte: u8) -> usize {
     10 * value + (byte - b'0') as usize
 }
 
-// `line`, its number, and what it is not.
-fn print_bad_line(line: usize) {
-    text(b"line ");
-    decimal(line);
-    text(b" is neither a body's number nor sun\n");
+// The line of the text that is neither.
+fn complain_line(line: usize) {
+    let mut said = [0u8; 96];
+    let word = put_word(&mut said, 0, b"standard input: line ");
+    let number = put_number(&mut said, word, line as u64);
+    let end = put_word(&mut said, number, b" is neither a body's number nor sun\n");
+    complain_up_to(&said, end);
 }
 
 // Lends a listing of the table's length.
@@ -132,36 +154,36 @@ fn print_table(holders: &[u16]) {
 fn print_nested(holders: &[u16], listing: &mut [u16]) {
     let answer = nesting::nest(holders, listing);
     match answer {
-        Answer::Refused(number, place) => print_refusal(number, place),
-        Answer::Done => {
-            print_listing(listing);
-            print_picture(holders);
+        Answer::Refused(number, place) => {
+            print::say_refusal(number, place);
         }
+        Answer::Done => print_lines(holders, listing),
     }
 }
 
-// `refused`, the number and the place.
-fn print_refusal(number: u8, place: usize) {
-    text(b"refused ");
-    decimal(number as usize);
-    text(b" ");
-    decimal(place);
-    text(b"\n");
+// The listing and the picture, in one write.
+fn print_lines(holders: &[u16], listing: &[u16]) {
+    let mut lines = [0u8; LINES];
+    let first = put_listing(&mut lines, listing);
+    let end = put_picture(&mut lines, first, holders);
+    say_up_to(&lines, end);
 }
 
-fn print_listing(listing: &[u16]) {
+// The bodies in their order, one a line.
+fn put_listing(lines: &mut [u8], listing: &[u16]) -> usize {
+    let mut at = 0;
     let mut i = 0;
     while i < listing.len() {
-        decimal(wide(listing[i]));
-        text(b"\n");
+        at = put_ended(lines, at, wide(listing[i]) as u64, b'\n');
         i += 1;
     }
+    at
 }
 
 // An empty line, the Sun, and below it every body under its holder. The walk goes down to the lowest body that hangs in this one, or,
 // where there is none left, up and on to the next body beside it; so each body is entered once and left once.
-fn print_picture(holders: &[u16]) {
-    text(b"\nsun\n");
+fn put_picture(lines: &mut [u8], start: usize, holders: &[u16]) -> usize {
+    let mut at = put_word(lines, start, b"\nsun\n");
     let mut holder = SUN as usize;
     let mut from: usize = 0;
     let mut depth: usize = 1;
@@ -169,16 +191,16 @@ fn print_picture(holders: &[u16]) {
     while turns < 2 * ROOM {
         let b = next_under(holders, holder, from);
         if b < holders.len() {
-            print_body(b, depth);
+            at = put_body(lines, at, b, depth);
             holder = b;
             from = 0;
             depth += 1;
         } else {
             if holders.len() <= holder {
-                return;
+                return at;
             }
             if depth == 0 {
-                return;
+                return at;
             }
             from = holder + 1;
             holder = wide(holders[holder]);
@@ -186,6 +208,7 @@ fn print_picture(holders: &[u16]) {
         }
         turns += 1;
     }
+    at
 }
 
 // The lowest body from `from` on that hangs in `holder`; the body count where there is none.
@@ -201,20 +224,12 @@ fn next_under(holders: &[u16], holder: usize, from: usize) -> usize {
 }
 
 // A body's line, two spaces in for each step of its depth.
-fn print_body(body: usize, depth: usize) {
+fn put_body(lines: &mut [u8], at: usize, body: usize, depth: usize) -> usize {
+    let mut to = at;
     let mut i = 0;
     while i < depth {
-        text(b"  ");
+        to = put_word(lines, to, b"  ");
         i += 1;
     }
-    decimal(body);
-    text(b"\n");
-}
-
-fn decimal(n: usize) {
-    io::print_decimal(STDOUT_FILENO, n as u64);
-}
-
-fn text(bytes: &[u8]) {
-    io::write_all(STDOUT_FILENO, bytes);
+    put_ended(lines, to, body as u64, b'\n')
 }

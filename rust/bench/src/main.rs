@@ -10,11 +10,13 @@
 //!   touches, by ranges, beside building the whole mesh;
 //! - `archive`: archiving and restoring, in nanoseconds per number;
 //! - `samples`: samples of a patch, in nanoseconds per sample;
+//! - `triangles`: the whole surface as triangles beside building it and sampling each net's four triangles;
 //! - `turning`: turning faces beside linking the same mesh;
 //! - `report`: the border report beside building all corners.
 
 mod report;
 mod samples;
+mod triangles;
 mod turning;
 
 use std::time::{Duration, Instant};
@@ -296,6 +298,9 @@ fn main() {
     }
     if wanted("samples") {
         samples::measure(budget);
+    }
+    if wanted("triangles") {
+        triangles::measure(budget);
     }
     if wanted("turning") {
         measure_turning(&meshes, budget);

@@ -407,7 +407,11 @@ pub fn tangents_at(
         raw::mahunopi_tangents_at(numbers.as_ptr(), numbers.len(), side, i, j, k, parts, &mut tangents, &mut place)
     };
     let result = reference::sample_tangents(numbers, side, weights, parts);
-    assert_eq!(answer(number, place), result.map(|_| ()), "the tangents at {weights:?} of {parts} are answered otherwise");
+    assert_eq!(
+        answer(number, place),
+        result.map(|_| ()),
+        "the tangents at {weights:?} of {parts} are answered otherwise"
+    );
     let expected = result.map_or(lent, |[[x, y, z], [u, v, w]]| [x, y, z, u, v, w]);
     assert_eq!(tangents, expected, "the tangents at {weights:?} of {parts} on side {side} are others");
     result
@@ -424,7 +428,11 @@ pub fn floats_all(numbers: &[i32], length: usize, random: &mut Random) -> Result
         raw::mahunopi_floats_all(numbers.as_ptr(), numbers.len(), floats.as_mut_ptr(), floats.len(), &mut place)
     };
     let result = reference::floats_all(numbers, length);
-    assert_eq!(answer(number, place), result.as_ref().map(|_| ()).map_err(|&refusal| refusal), "a list of nets is answered otherwise");
+    assert_eq!(
+        answer(number, place),
+        result.as_ref().map(|_| ()).map_err(|&refusal| refusal),
+        "a list of nets is answered otherwise"
+    );
     if let Ok(all) = &result {
         for (place, float) in all.iter().enumerate() {
             expected[place] = float.to_bits();

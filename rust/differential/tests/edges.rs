@@ -2,7 +2,6 @@
 //! read yet; an output that is full or closed; an argument too many. Each is said in one line on standard error, and
 //! standard output has nothing. And the words of refusals, which are those of include/mahunopi.h.
 
-use std::fs::File;
 use std::io::Write;
 use std::os::unix::io::OwnedFd;
 use std::os::unix::net::UnixStream;
@@ -24,6 +23,7 @@ fn programs() -> Vec<(&'static str, Vec<u8>, &'static str)> {
         ("off2dms", read("prism.off"), "off2dms [as-drawn] < TEXT > FILE"),
         ("archive", vec![7; 24], "archive < FILE > FILE"),
         ("restore", vec![7; 24], "restore < FILE > FILE"),
+        ("nest", b"1\nsun\n".to_vec(), "nest < TABLE"),
         ("report", Vec::new(), "report [FILE ..], or report merge"),
     ]
 }
@@ -119,5 +119,10 @@ fn refusals_in_words() {
     let written = run(&find("off2dms"), &[], b"OFF 1 0 0 0.5 0 0", 7);
     let words = "a needed word of the text is missing, no whole number of at most nine digits, or out of its range";
     assert_eq!((written.output, written.said), (Vec::new(), format!("refused 25 at word 4: {words}\n")));
+    let written = run(&find("nest"), &[], b"sun\n1\n", 7);
+    assert_eq!(
+        (written.output, written.said),
+        (b"refused 23 1\n".to_vec(), "refused 23 at body 1: a chain does not end at the Sun\n".to_string())
+    );
     assert_eq!(in_words("refused 38 0\n"), "refused 38: a number on a page is above 2^40\n");
 }

@@ -116,11 +116,13 @@ fn lists_of_nets() {
         let room = if random.once_in(6) { random.below(2 * length + 1) } else { 2 * length + random.below(9) };
         match floats_all(&numbers, room, random) {
             Ok(()) => seen[0] += 1,
-            Err(refusal) => seen[match refusal.number {
-                18 => 1,
-                19 => 2,
-                _ => 3,
-            }] += 1,
+            Err(refusal) => {
+                seen[match refusal.number {
+                    18 => 1,
+                    19 => 2,
+                    _ => 3,
+                }] += 1
+            }
         }
     });
     assert!(seen.iter().all(|&times| times > 0), "{seen:?}");

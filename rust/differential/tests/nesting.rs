@@ -1,10 +1,7 @@
 //! The listing of nested grids: the proved library and the program `nest` against the independent implementation.
 
-use std::io::Write;
-use std::path::{Path, PathBuf};
-use std::process::{Command, Stdio};
-
 use differential::each_case;
+use differential::program::{beside, find, run};
 use mahunopi::{raw, MAX_BODIES, SUN};
 use reference::Refusal;
 use shapes::Random;
@@ -146,29 +143,6 @@ fn long_chains_rings_and_every_refusal() {
     assert_eq!(nest(&[SUN, SUN, 0], 3, &mut random), Ok(vec![0, 1, 2]));
 }
 
-/// The program, where the repository has its crate.
-fn program() -> Option<PathBuf> {
-    let root = Path::new(env!("CARGO_MANIFEST_DIR")).join("../..");
-    let directory = std::env::var_os("MAHUNOPI_BIN").map_or_else(|| root.join("target/bin"), PathBuf::from);
-    if !root.join("crates/nest").is_dir() {
-        println!("the repository has no crate nest");
-        return None;
-    }
-    let path = directory.join("nest");
-    assert!(path.is_file(), "{} is not there: run `rt check nest`", path.display());
-    Some(path)
-}
-
-fn printed(program: &Path, text: &[u8]) -> String {
-    let mut child =
-        Command::new(program).stdin(Stdio::piped()).stdout(Stdio::piped()).spawn().expect("a run of the program");
-    let mut input = child.stdin.take().expect("its input");
-    // a program that has seen enough may close its input
-    let _ = input.write_all(text);
-    drop(input);
-    String::from_utf8(child.wait_with_output().expect("its output").stdout).expect("plain text")
-}
-
 fn text_of(holders: &[u16]) -> Vec<u8> {
     let line = |&holder: &u16| if holder == SUN { "sun\n".to_string() } else { format!("{holder}\n") };
     holders.iter().map(line).collect::<String>().into_bytes()
@@ -176,13 +150,15 @@ fn text_of(holders: &[u16]) -> Vec<u8> {
 
 #[test]
 fn nest_prints_listings_pictures_and_refusals() {
-    let path = match program() {
-        Some(path) => path,
-        None => return,
-    };
+    let path = find("nest");
     let compare = |text: &[u8]| {
-        let said = String::from_utf8_lossy(text).into_owned();
-        assert_eq!(printed(&path, text), reference::nest_lines(text), "of {said:?}");
+        let written = run(&path, &[], text, 4_099);
+        let expected = match reference::nest_lines(text) {
+            Ok(lines) => (lines.clone(), beside(&lines)),
+            Err(line) => (String::new(), line),
+        };
+        let output = String::from_utf8(written.output).expect("plain text");
+        assert_eq!((output, written.said), expected, "of {:?}", String::from_utf8_lossy(text));
     };
     for text in ["", "\n", "sun", "sun\n\n", "sun\n0\nsun\n", "Sun\n", "sun \n", "-1\n", "+1\n", "sun\nx\ny\n"] {
         compare(text.as_bytes());

@@ -49,12 +49,7 @@ pub fn sample(numbers: &[i32], side: usize, weights: [usize; 3], parts: usize) -
 /// assert_eq!(inward[0], 4 * i64::from(net[75] - net[0])); // from b00 to a00
 /// # Ok::<(), Box<dyn std::error::Error>>(())
 /// ```
-pub fn tangents_at(
-    numbers: &[i32],
-    side: usize,
-    weights: [usize; 3],
-    parts: usize,
-) -> Result<[[i64; 3]; 2], Refusal> {
+pub fn tangents_at(numbers: &[i32], side: usize, weights: [usize; 3], parts: usize) -> Result<[[i64; 3]; 2], Refusal> {
     let [i, j, k] = weights;
     let mut tangents = [0; 6];
     let mut place = 0;

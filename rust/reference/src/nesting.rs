@@ -76,13 +76,11 @@ fn picture(holders: &[u16], holder: u16, depth: usize, out: &mut String) {
     }
 }
 
-/// What the program `nest` prints of a text.
-pub fn nest_lines(text: &[u8]) -> String {
-    let holders = match table(text) {
-        Ok(holders) => holders,
-        Err(line) => return format!("line {line} is neither a body's number nor sun\n"),
-    };
-    match nest(&holders, holders.len()) {
+/// What the program `nest` prints of a text, or its line on standard error for one that is no table.
+pub fn nest_lines(text: &[u8]) -> Result<String, String> {
+    let holders =
+        table(text).map_err(|line| format!("standard input: line {line} is neither a body's number nor sun\n"))?;
+    Ok(match nest(&holders, holders.len()) {
         Err(Refusal { number, place }) => format!("refused {number} {place}\n"),
         Ok(listing) => {
             let mut out: String = listing.iter().map(|body| format!("{body}\n")).collect();
@@ -90,5 +88,5 @@ pub fn nest_lines(text: &[u8]) -> String {
             picture(&holders, SUN, 1, &mut out);
             out
         }
-    }
+    })
 }

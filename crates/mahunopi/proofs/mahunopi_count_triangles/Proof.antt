@@ -10,13 +10,13 @@ returns c =
     let s : tie.Start = search in
     let w : tie.After-count = search in
     let a = c .before .before .before .a .given in
-    counted-refused _ _ _ _ _ _ (sizes (now (s .args .point_numbers)) (now (s .args .triangle_numbers))) _ (w .count .ensures) (a .0 .0) (a .0 .1 .0) _ _ (a .1) (c .tell .ensures)
+    counted-refused _ _ _ _ _ _ (sizes (now (s .args .numbers)) (now (s .args .entries))) _ (w .count .ensures) (a .0 .0) (a .0 .1 .0) _ _ (a .1) (c .tell .ensures)
 
 returns-2 : tie.Need-returns-2
 returns-2 c =
     let s : tie.Start = search in
     let w : tie.After-count = search in
-    counted-done _ _ _ _ _ _ (sizes (now (s .args .point_numbers)) (now (s .args .triangle_numbers))) _ (w .count .ensures) (c .enum-told .given .1)
+    counted-done _ _ _ _ _ _ (sizes (now (s .args .numbers)) (now (s .args .entries))) _ (w .count .ensures) (c .enum-told .given .1)
 
 pub mahunopi-count-triangles-spec : {M : Type 1} → Rattle.mahunopi.proofs.mahunopi_count_triangles.Statement.statement M
 mahunopi-count-triangles-spec =

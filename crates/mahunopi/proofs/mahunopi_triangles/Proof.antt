@@ -10,13 +10,13 @@ returns c =
     let s : tie.Start = search in
     let w : tie.After-triangles = search in
     let a = c .before .before .before .a .given in
-    triangles-refused _ _ _ _ _ _ _ _ _ _ (sizes (now (s .args .point_numbers)) (now (s .args .triangle_numbers))) _ (w .triangles .ensures) (a .0 .0) (a .0 .1 .0) _ _ (a .1) (c .tell .ensures)
+    triangles-refused _ _ _ _ _ _ _ _ _ _ (sizes (now (s .args .numbers)) (now (s .args .entries))) _ (w .triangles .ensures) (a .0 .0) (a .0 .1 .0) _ _ (a .1) (c .tell .ensures)
 
 returns-2 : tie.Need-returns-2
 returns-2 c =
     let s : tie.Start = search in
     let w : tie.After-triangles = search in
-    triangles-done _ _ _ _ _ _ _ _ _ _ (sizes (now (s .args .point_numbers)) (now (s .args .triangle_numbers))) _ (w .triangles .ensures) (c .enum-told .given .1)
+    triangles-done _ _ _ _ _ _ _ _ _ _ (sizes (now (s .args .numbers)) (now (s .args .entries))) _ (w .triangles .ensures) (c .enum-told .given .1)
 
 pub mahunopi-triangles-spec : {M : Type 1} → Rattle.mahunopi.proofs.mahunopi_triangles.Statement.statement M
 mahunopi-triangles-spec =

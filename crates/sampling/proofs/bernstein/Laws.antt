@@ -15,8 +15,8 @@ use Rattle.numbers.proofs.Poly.{over, poly}
 use Rattle.numbers.proofs.Laws.{abs-mul, abs-mul-le, abs-add-le}
 use Rattle.numbers.proofs.Machine.{abs-fits}
 use Rattle.numbers.proofs.Floor.{step-le}
-use Rattle.numbers.specs.Near.{Near}
-use Rattle.numbers.proofs.Nearest.{round-near}
+use Rattle.numbers.specs.WithinHalf.{WithinHalf}
+use Rattle.numbers.proofs.Nearest.{round-within-half}
 use Rattle.sampling.specs.declared.bernstein.Vector5.{Vector5}
 use Rattle.sampling.specs.declared.bernstein.Matrix5.{Matrix5}
 use Rattle.sampling.specs.bernstein.Sums.{Sized, AllSized, Tapered, AllTapered, differencesOf, slopesOf, columnsOf, weightedOf, weightsOf, scaledOf}
@@ -40,16 +40,16 @@ module _ (v : Vector5) (B : ℕ) (h : Sized B v) (l : B ≤ 2 ^ 62) where
   )
 
 -- ---- rounding keeps between two whole numbers
-lower : (n d q l : ℤ) → pos 0 <ℤ d → Near n d q → (d *ℤ l) ≤ℤ n → (d *ℤ l) <ℤ (d *ℤ q +ℤ d)
+lower : (n d q l : ℤ) → pos 0 <ℤ d → WithinHalf n d q → (d *ℤ l) ≤ℤ n → (d *ℤ l) <ℤ (d *ℤ q +ℤ d)
 lower = over 4 _ λ ρ. simp (poly, ρ) (omega arith)
 
-upper : (n d q h : ℤ) → pos 0 <ℤ d → Near n d q → n ≤ℤ (d *ℤ h) → (d *ℤ q) <ℤ (d *ℤ h +ℤ d)
+upper : (n d q h : ℤ) → pos 0 <ℤ d → WithinHalf n d q → n ≤ℤ (d *ℤ h) → (d *ℤ q) <ℤ (d *ℤ h +ℤ d)
 upper = over 4 _ λ ρ. simp (poly, ρ) (omega arith)
 
 pub round-between : (n d l h : ℤ) → pos 0 <ℤ d → (d *ℤ l) ≤ℤ n → n ≤ℤ (d *ℤ h) → (l ≤ℤ round n d) × (round n d ≤ℤ h)
 round-between n d l h o f t = (
-  step-le d l (round n d) o (lower n d (round n d) l o (round-near n d o) f),
-  step-le d (round n d) h o (upper n d (round n d) h o (round-near n d o) t),
+  step-le d l (round n d) o (lower n d (round n d) l o (round-within-half n d o) f),
+  step-le d (round n d) h o (upper n d (round n d) h o (round-within-half n d o) t),
 )
 
 abs-bounds : (z : ℤ) (k : ℕ) → natAbs z ≤ k → (negℤ (pos k) ≤ℤ z) × (z ≤ℤ pos k)
