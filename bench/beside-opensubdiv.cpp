@@ -45,7 +45,7 @@ int main(int argc, char **argv)
             for (int v : {i * Q + j, i * Q + (j + 1) % Q, (i + 1) % P * Q + (j + 1) % Q, (i + 1) % P * Q + j}) corners.push_back(uint16_t(v)), indices.push_back(v);
         }
     const std::vector<uint8_t> sides(FACES, 4), sharpness(2 * CORNERS, MAHUNOPI_PLAIN_SHARPNESS), levels(CORNERS, LEVEL);
-    uint64_t place = 0, point_numbers = 0, triangle_numbers = 0, numbers = 0;
+    uint64_t place = 0, point_numbers = 0, triangle_numbers = 0;
     auto refused = [&](uint32_t no) {
         if (no) std::fprintf(stderr, "refused %u at %llu\n", unsigned(no), static_cast<unsigned long long>(place)), std::exit(1);
     };
@@ -58,6 +58,8 @@ int main(int argc, char **argv)
     std::vector<int64_t> tangents(2 * point_numbers);
     std::vector<float> normals(point_numbers);
     auto ours = [&] { refused(mahunopi_triangles(LEVELS, points.data(), points.size(), triangles.data(), triangles.size(), &point_numbers, &triangle_numbers, &place)); };
+#ifdef TANGENTS
+    uint64_t numbers = 0;
     auto ours_tangents = [&] {
         ours();
         refused(mahunopi_tangents(LEVELS, tangents.data(), tangents.size(), &numbers, &place));
@@ -70,6 +72,7 @@ int main(int argc, char **argv)
             normal(t, t + 3, &normals[3 * p]);
         }
     };
+#endif
 
     Far::TopologyDescriptor descriptor;
     const std::vector<int> face_sizes(FACES, 4);
@@ -106,9 +109,12 @@ int main(int argc, char **argv)
     };
 
     struct Row { const char *name; std::function<void()> pass; size_t triangles; double least; };
-    std::vector<Row> rows{{"ours: points and triangles", ours, triangles.size() / 3, 1e9}, {"ours, with tangents", ours_tangents, triangles.size() / 3, 1e9},
-        {"ours, with unit normals of them", ours_normals, triangles.size() / 3, 1e9}, {"OpenSubdiv: points and triangles", [&] { theirs(false); }, facets * FACES, 1e9},
-        {"OpenSubdiv, with unit normals", [&] { theirs(true); }, facets * FACES, 1e9}};
+    std::vector<Row> rows{{"OpenSubdiv, with unit normals", [&] { theirs(true); }, facets * FACES, 1e9},
+        {"OpenSubdiv: points and triangles", [&] { theirs(false); }, facets * FACES, 1e9}, {"ours: points and triangles", ours, triangles.size() / 3, 1e9}};
+#ifdef TANGENTS
+    rows.push_back({"ours, with tangents", ours_tangents, triangles.size() / 3, 1e9});
+    rows.push_back({"ours, with unit normals of them", ours_normals, triangles.size() / 3, 1e9});
+#endif
     typedef std::chrono::steady_clock Clock;
     const auto since = [](Clock::time_point then) { return std::chrono::duration<double>(Clock::now() - then).count(); };
     for (auto began = Clock::now(); since(began) < seconds;)
@@ -117,6 +123,7 @@ int main(int argc, char **argv)
             row.pass();
             row.least = std::min(row.least, since(then));
         }
-    for (const Row &row : rows) std::printf("%-34s %9zu triangles, %6.1f million a second\n", row.name, row.triangles, double(row.triangles) / row.least / 1e6);
-    std::printf("with tangents over OpenSubdiv with normals: %.2f\n", double(rows[1].triangles) / rows[1].least / (double(rows[4].triangles) / rows[4].least));
+    const auto speed = [](const Row &row) { return double(row.triangles) / row.least; };
+    for (const Row &row : rows)
+        std::printf("%-34s %9zu triangles, %6.1f million a second, %5.2f times the first line\n", row.name, row.triangles, speed(row) / 1e6, speed(row) / speed(rows[0]));
 }

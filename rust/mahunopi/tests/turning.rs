@@ -91,7 +91,7 @@ fn refusals() {
     open.sharpness.drain(24..32);
     assert_eq!(
         refused(&open).to_string(),
-        "refused by 34: an edge, its direction ignored, is not in exactly two faces (the lowest corner it leaves is 9)"
+        "refused 34 at corner 9: an edge, its direction ignored, is not in exactly two faces"
     );
     let mut beyond = cube();
     beyond.sharpness[7] = 17;
