@@ -58,7 +58,6 @@ int main(int argc, char **argv)
     std::vector<int64_t> tangents(2 * point_numbers);
     std::vector<float> normals(point_numbers);
     auto ours = [&] { refused(mahunopi_triangles(LEVELS, points.data(), points.size(), triangles.data(), triangles.size(), &point_numbers, &triangle_numbers, &place)); };
-#ifdef TANGENTS
     uint64_t numbers = 0;
     auto ours_tangents = [&] {
         ours();
@@ -72,7 +71,6 @@ int main(int argc, char **argv)
             normal(t, t + 3, &normals[3 * p]);
         }
     };
-#endif
 
     Far::TopologyDescriptor descriptor;
     const std::vector<int> face_sizes(FACES, 4);
@@ -110,11 +108,8 @@ int main(int argc, char **argv)
 
     struct Row { const char *name; std::function<void()> pass; size_t triangles; double least; };
     std::vector<Row> rows{{"OpenSubdiv, with unit normals", [&] { theirs(true); }, facets * FACES, 1e9},
-        {"OpenSubdiv: points and triangles", [&] { theirs(false); }, facets * FACES, 1e9}, {"ours: points and triangles", ours, triangles.size() / 3, 1e9}};
-#ifdef TANGENTS
-    rows.push_back({"ours, with tangents", ours_tangents, triangles.size() / 3, 1e9});
-    rows.push_back({"ours, with unit normals of them", ours_normals, triangles.size() / 3, 1e9});
-#endif
+        {"OpenSubdiv: points and triangles", [&] { theirs(false); }, facets * FACES, 1e9}, {"ours: points and triangles", ours, triangles.size() / 3, 1e9},
+        {"ours, with tangents", ours_tangents, triangles.size() / 3, 1e9}, {"ours, with unit normals of them", ours_normals, triangles.size() / 3, 1e9}};
     typedef std::chrono::steady_clock Clock;
     const auto since = [](Clock::time_point then) { return std::chrono::duration<double>(Clock::now() - then).count(); };
     for (auto began = Clock::now(); since(began) < seconds;)

@@ -7,10 +7,8 @@ from typing import List, Tuple
 
 import numpy as np
 
-from ._header import CALLS
 from .calls import MAX_PARTS, Mesh, build, count_triangles, link, tangents, triangles
 from .shape import Shape
-from .tangent_sums import TangentSums
 
 # The control points of each side's triangle, in rows from the side to the centre, each from the head, as the header has them.
 CONTROL = [[0, 1, 2, 3, 4, 25, 26, 27, 28, 6, 7, 8, 30, 31, 12], [24, 19, 14, 9, 4, 40, 36, 32, 28, 18, 13, 8, 35, 31, 12],
@@ -40,7 +38,7 @@ def surface(mesh: Mesh, levels: np.ndarray) -> Surface:
     links = link(mesh)
     shape = Shape(mesh)
     points, indices = triangles(mesh, links, levels)
-    outwards, starts, ends = _senses(shape, links, levels)
+    outwards, starts = _senses(shape, links, levels)
     if shape.volume() < 0:
         outwards = -outwards
         indices[:, 1], indices[:, 2] = indices[:, 2].copy(), indices[:, 1].copy()
@@ -49,14 +47,9 @@ def surface(mesh: Mesh, levels: np.ndarray) -> Surface:
     # ranges of corners, each with about as many points
     cuts = np.unique(np.append(np.searchsorted(starts, np.arange(0, starts[-1], AT_A_TIME)), mesh.corners.size))
     room = np.empty((int(np.diff(starts[cuts]).max()), 2, 3), np.int64)
-
-    def by_call(first: int, end: int) -> np.ndarray:
-        return tangents(mesh, links, levels, first, end - first, out=room)
-
-    pairs = by_call if "tangents" in CALLS else TangentSums(mesh, links, levels, CONTROL, starts, ends).of
     for first, end in zip(cuts[:-1].tolist(), cuts[1:].tolist()):
         own = slice(starts[first], starts[end])
-        normals[own], without = unit_normals(pairs(first, end), outwards[own])
+        normals[own], without = unit_normals(tangents(mesh, links, levels, first, end - first, out=room), outwards[own])
         flat.append(starts[first] + without)
     without = np.concatenate(flat)
     if without.size:
@@ -64,9 +57,9 @@ def surface(mesh: Mesh, levels: np.ndarray) -> Surface:
     return Surface(points, normals, indices)
 
 
-def _senses(shape: Shape, links: np.ndarray, levels: np.ndarray) -> Tuple[np.ndarray, np.ndarray, np.ndarray]:
+def _senses(shape: Shape, links: np.ndarray, levels: np.ndarray) -> Tuple[np.ndarray, np.ndarray]:
     """For each point 1 where head, tail and centre of the side that it is taken on run as the mesh's faces do (sides 0 and 2), else -1;
-    where each corner's points start, with their number last; and which of its ends E0, E1 and E2 each corner has. Points stand corner by corner: the ends E0, E1 and E2 that no lower
+    and where each corner's points start, with their number last. Points stand corner by corner: the ends E0, E1 and E2 that no lower
     corner has, on sides 0, 1 and 2; the inner points of the curves of sides 0 and 1; rings, side after side; the centre, on side 0."""
     own = levels.astype(np.int64)
     corners = np.arange(own.size)
@@ -82,8 +75,7 @@ def _senses(shape: Shape, links: np.ndarray, levels: np.ndarray) -> Tuple[np.nda
     counts[:, 5:-1] = np.repeat(np.maximum(own[:, None] - np.arange(1, most), 0), 4, axis=1)
     counts[:, -1] = 1
     senses = np.array([1, -1, 1, 1, -1] + [1, -1, 1, -1] * (most - 1) + [1], np.int8)
-    starts = np.concatenate([[0], np.cumsum(counts.sum(axis=1))])
-    return np.repeat(np.tile(senses, own.size), counts.ravel()), starts, counts[:, :3]
+    return np.repeat(np.tile(senses, own.size), counts.ravel()), np.concatenate([[0], np.cumsum(counts.sum(axis=1))])
 
 
 def unit_normals(pairs: np.ndarray, senses: np.ndarray) -> Tuple[np.ndarray, np.ndarray]:
@@ -98,7 +90,7 @@ def unit_normals(pairs: np.ndarray, senses: np.ndarray) -> Tuple[np.ndarray, np.
     with np.errstate(divide="ignore", invalid="ignore"):
         narrow = np.flatnonzero(~(squares > NARROW * NARROW * _squares(a) * _squares(b)))
     if narrow.size:
-        exact = np.cross(*pairs.reshape(-1, 2, 3)[narrow].astype(np.int64).astype(object).transpose(1, 0, 2))
+        exact = np.cross(*pairs.reshape(-1, 2, 3)[narrow].astype(object).transpose(1, 0, 2))
         # the largest coordinate becomes 1, so that no square is too small
         products[:, narrow] = (exact / np.maximum(np.abs(exact).max(axis=1), 1)[:, None]).astype(np.float64).T
         squares[narrow] = _squares(products[:, narrow])

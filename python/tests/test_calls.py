@@ -25,12 +25,6 @@ def refused(call, *arguments, **named):
     return caught.value.number, caught.value.place
 
 
-def needs(*names):
-    """For a test of calls that a later header has."""
-    absent = [name for name in names if name not in CALLS]
-    return pytest.mark.skipif(bool(absent), reason=f"the library has no mahunopi_{''.join(absent[:1])}")
-
-
 def with_sharpness(mesh, numbers):
     return Mesh(mesh.coordinates, mesh.sides, mesh.corners, np.asarray(numbers, np.uint8))
 
@@ -422,7 +416,6 @@ def multinomial(*parts):
     return math.factorial(sum(parts)) // math.prod(map(math.factorial, parts))
 
 
-@needs("tangents")
 def test_triangles_and_tangents():
     mesh = with_sharpness(mesh_of(np.rint(prism(5)[0]), prism(5)[1]), 7 * np.arange(60) % 17)
     links, levels = mahunopi.link(mesh), (1 + 5 * np.arange(30) % 16).astype(np.uint8)
@@ -450,7 +443,6 @@ def test_triangles_and_tangents():
     assert tangents.tolist() == [(4 * (net[1] - net[0])).tolist(), (4 * (net[25] - net[0])).tolist()]
 
 
-@needs("tangents", "tangents_at")
 def test_tangents_at_one_sample():
     mesh = random_sharpness(cube())
     links, levels = mahunopi.link(mesh), np.full(24, 2, np.uint8)
@@ -472,8 +464,7 @@ def test_refused_triangles():
     links, levels = mahunopi.link(mesh), np.full(24, 2, np.uint8)
     lent = np.full((194, 3), 7, np.int32), np.full((384, 3), 7, np.uint32)
     both = {"points": lent[0], "out": lent[1]}
-    calls = [(mahunopi.count_triangles, {}), (mahunopi.triangles, both), (mahunopi.triangles, {})]
-    for call, more in calls + [(mahunopi.tangents, {})] * ("tangents" in CALLS):
+    for call, more in ((mahunopi.count_triangles, {}), (mahunopi.triangles, both), (mahunopi.triangles, {}), (mahunopi.tangents, {})):
         assert refused(call, mesh, links, levels[1:], **more) == (39, 23)
         for wrong in (0, 17, 255):
             levels[[5, 9]] = wrong
@@ -484,8 +475,7 @@ def test_refused_triangles():
         assert refused(call, mesh, links, levels, 24, **more) == (16, 24)
     assert refused(mahunopi.triangles, mesh, links, levels, points=lent[0][1:], out=lent[1][1:]) == (255, 3 * 194)
     assert refused(mahunopi.triangles, mesh, links, levels, points=lent[0], out=lent[1][1:]) == (255, 3 * 384)
-    if "tangents" in CALLS:
-        assert refused(mahunopi.tangents, mesh, links, levels, out=np.zeros((193, 2, 3), np.int64)) == (255, 6 * 194)
+    assert refused(mahunopi.tangents, mesh, links, levels, out=np.zeros((193, 2, 3), np.int64)) == (255, 6 * 194)
     assert (lent[0] == 7).all() and (lent[1] == 7).all()
     assert tuple(map(len, mahunopi.triangles(mesh, links, levels, **both))) == (194, 384)
 
@@ -608,7 +598,7 @@ def test_wrong_types_shapes_and_layouts(name):
     assert tried
 
 
-@pytest.mark.parametrize("name", [name for name, arguments in good_calls().items() if "out" in arguments and name in CALLS] + ["report", "merge"])
+@pytest.mark.parametrize("name", [name for name, arguments in good_calls().items() if "out" in arguments] + ["report", "merge"])
 def test_lists_that_are_written_to(name):
     call, arguments = getattr(mahunopi, name), good_calls()[name]
     tried = 0

@@ -12,12 +12,9 @@ import pytest
 
 import mahunopi
 from mahunopi import models
-from mahunopi._header import CALLS
 from mahunopi.command import main
 from mahunopi.shape import Shape
-from mahunopi.surface import CONTROL as CONTROL_POINTS
-from mahunopi.surface import NARROW, _senses, control_edges, even_levels, spaced_levels, surface, unit_normals
-from mahunopi.tangent_sums import TangentSums
+from mahunopi.surface import NARROW, control_edges, even_levels, spaced_levels, surface, unit_normals
 from mahunopi.writing import WRITERS, Scale
 from shapes import CUBE_FACES, CUBE_POINTS, cube, mesh_of, obj, prism, round_torus, size_at
 from test_command import COMMAND, ROOT, room, run  # noqa: F401
@@ -165,22 +162,16 @@ def test_surfaces_of_uneven_levels(name):
         assert np.allclose(np.linalg.norm(made.normals, axis=1), 1, atol=1e-6)
 
 
-@pytest.mark.parametrize("name", meshes())
-def test_tangents_of_uneven_levels(name):
-    """Those that are summed here are the library's, up to a factor."""
-    mesh = meshes()[name]
-    for levels in (uneven_levels(mesh, 16), uneven_levels(mesh, 3), even_levels(mesh, 1)):
-        links = mahunopi.link(mesh)
-        _, starts, ends = _senses(Shape(mesh), links, levels)
-        sums = TangentSums(mesh, links, levels, CONTROL_POINTS, starts, ends)
-        pairs = sums.of(0, levels.size)
-        cut = levels.size // 3
-        assert np.array_equal(np.concatenate([sums.of(0, cut), sums.of(cut, levels.size)]), pairs)
-        assert len(pairs) == mahunopi.count_triangles(mesh, links, levels).points
-        if "tangents" in CALLS:
-            exact = mahunopi.tangents(mesh, links, levels)
-            factors = np.abs(exact).max(axis=(1, 2)) / np.maximum(np.abs(pairs).max(axis=(1, 2)), 1)
-            assert np.array_equal(pairs * factors[:, None, None], exact) and (factors[pairs.any(axis=(1, 2))] >= 1).all()
+def test_normals_are_of_the_exact_tangents():
+    mesh = meshes()["uneven"]
+    links, levels = mahunopi.link(mesh), uneven_levels(mesh, 16)
+    made = surface(mesh, levels)
+    pairs = mahunopi.tangents(mesh, links, levels).tolist()
+    for normal, (a, b) in zip(made.normals.tolist()[::7], pairs[::7]):
+        exact = crossed(a, b)
+        if any(exact):
+            angle = degrees(normal, exact)
+            assert min(angle, 180 - angle) < 0.01
 
 
 def test_tangents_that_nearly_coincide():

@@ -5,7 +5,7 @@
 
 use std::{env, error::Error, fs};
 
-use mahunopi::{decode, link, triangles_all};
+use mahunopi::{decode, link, tangents, triangles_all};
 
 struct Vertex {
     /// In grid steps.
@@ -18,12 +18,14 @@ fn main() -> Result<(), Box<dyn Error>> {
     let name = env::args().nth(1).ok_or("usage: draw FILE [LEVEL]")?;
     let level = env::args().nth(2).map_or(Ok(8), |word| word.parse())?;
     let mesh = decode(&fs::read(name)?)?;
-    let made = triangles_all(&mesh, &link(&mesh)?, &vec![level; mesh.corners.len()], None)?;
+    let (links, levels) = (link(&mesh)?, vec![level; mesh.corners.len()]);
+    let made = triangles_all(&mesh, &links, &levels, None)?;
+    let tangents = tangents(&mesh, &links, &levels)?;
     let at = |point: &[i32]| [point[0], point[1], point[2]].map(|ticks| ticks as f32 / 256.0);
     let mut vertices: Vec<Vertex> =
         made.points.chunks(3).map(|point| Vertex { at: at(point), normal: [0.0; 3] }).collect();
     let mut index = made.triangles;
-    // twice a triangle's area goes to the normals of its vertices
+    // twice a triangle's area goes to its vertices
     let mut volume = 0.0;
     for triangle in index.chunks(3) {
         let [p, q, r] = [0, 1, 2].map(|corner| vertices[triangle[corner] as usize].at);
@@ -38,9 +40,17 @@ fn main() -> Result<(), Box<dyn Error>> {
     if volume < 0.0 {
         index.chunks_mut(3).for_each(|triangle| triangle.swap(0, 1));
     }
-    for vertex in &mut vertices {
-        let length = vertex.normal.iter().map(|x| x * x).sum::<f32>().sqrt().copysign(volume as f32);
-        vertex.normal = vertex.normal.map(|x| x / length);
+    // the surface's normal where it has one, on the side of the areas
+    for (vertex, pair) in vertices.iter_mut().zip(tangents.chunks(6)) {
+        let part = |at: usize| pair[at] as f64;
+        let mut exact = [(1, 2), (2, 0), (0, 1)].map(|(y, z)| part(y) * part(3 + z) - part(z) * part(3 + y));
+        let areas = vertex.normal.map(f64::from);
+        let mut dot = exact.iter().zip(areas).map(|(a, b)| a * b).sum::<f64>();
+        if dot == 0.0 {
+            (exact, dot) = (areas, 1.0);
+        }
+        let length = exact.iter().map(|x| x * x).sum::<f64>().sqrt().copysign(dot * volume);
+        vertex.normal = exact.map(|x| (x / length) as f32);
     }
     println!("{} vertices, {} triangles, volume {:.0} cubic steps", vertices.len(), index.len() / 3, volume.abs());
     Ok(())
