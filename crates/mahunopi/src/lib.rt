@@ -446,10 +446,10 @@ pub extern "C" fn mahunopi_tangents(
     first: usize,
     count: usize,
     tangents: &mut [i64],
-    tangent_numbers: &mut u64,
+    numbers: &mut u64,
     place: &mut u64,
 ) -> u32
-    ensures { λ r. ⌜ TangentsCall (meshOf (now (coordinates .entry)) (now (sides .entry)) (now (corners .entry)) (now (sharpness .entry))) (now (links .entry)) (now (levels .entry)) first count (now (tangents .entry)) (now (tangent_numbers .entry)) (now (place .entry)) r (now (place .exit)) (now (tangents .exit)) (now (tangent_numbers .exit)) ⌝ }
+    ensures { λ r. ⌜ TangentsCall (meshOf (now (coordinates .entry)) (now (sides .entry)) (now (corners .entry)) (now (sharpness .entry))) (now (links .entry)) (now (levels .entry)) first count (now (tangents .entry)) (now (numbers .entry)) (now (place .entry)) r (now (place .exit)) (now (tangents .exit)) (now (numbers .exit)) ⌝ }
 {
     let t = triangles::tangents(
         coordinates,
@@ -466,7 +466,7 @@ pub extern "C" fn mahunopi_tangents(
     if let Answer::Refused(number, at) = a {
         return tell(Answer::Refused(number, at), place);
     }
-    *tangent_numbers = t.numbers as u64;
+    *numbers = t.numbers as u64;
     0
 }
 

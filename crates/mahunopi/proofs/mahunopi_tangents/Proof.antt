@@ -9,13 +9,13 @@ returns c =
     let s : tie.Start = search in
     let w : tie.After-tangents = search in
     let a = c .before .before .before .a .given in
-    tangents-refused _ _ _ _ _ _ _ _ (now (s .args .tangent_numbers)) _ (w .tangents .ensures) (a .0 .0) (a .0 .1 .0) _ _ (a .1) (c .tell .ensures)
+    tangents-refused _ _ _ _ _ _ _ _ (now (s .args .numbers)) _ (w .tangents .ensures) (a .0 .0) (a .0 .1 .0) _ _ (a .1) (c .tell .ensures)
 
 returns-2 : tie.Need-returns-2
 returns-2 c =
     let s : tie.Start = search in
     let w : tie.After-tangents = search in
-    tangents-done _ _ _ _ _ _ _ _ (now (s .args .tangent_numbers)) _ (w .tangents .ensures) (c .enum-told .given .1)
+    tangents-done _ _ _ _ _ _ _ _ (now (s .args .numbers)) _ (w .tangents .ensures) (c .enum-told .given .1)
 
 pub mahunopi-tangents-spec : {M : Type 1} → Rattle.mahunopi.proofs.mahunopi_tangents.Statement.statement M
 mahunopi-tangents-spec =
