@@ -28,21 +28,21 @@ use Rattle.mesh.proofs.Links.{values-length, values-at}
 use Rattle.borders.proofs.Ranges.{ranges}
 use Rattle.floats.proofs.nets.Nets.{nets-pass}
 use Rattle.mesh.proofs.Faces.{Held, held, start-next, start-all}
-use Rattle.triangles.specs.declared.writing.Shape.{Shape}
-use Rattle.triangles.specs.Rows.{Fills}
+use Rattle.net_points.specs.declared.writing.Shape.{Shape}
+use Rattle.numbering.specs.Rows.{Fills}
 use Rattle.triangles.specs.Owned.{ShapeOf, Pointed}
-use Rattle.triangles.specs.writing.Laid.{Reaches}
-use Rattle.triangles.specs.writing.Shapes.{shapeGroup, shapeRings, shapeStart, shapeSize, shapeNumber, ShapeAim, ShapePlace}
+use Rattle.net_points.specs.writing.Laid.{Reaches}
+use Rattle.net_points.specs.writing.Shapes.{shapeGroup, shapeRings, shapeStart, shapeSize, shapeNumber, ShapeAim, ShapePlace}
 use Rattle.closing.proofs.Partners.{Leveled}
 use Rattle.closing.proofs.Numbered.{In, groups-length, groups-at}
 use Rattle.closing.proofs.Outer.{some-segments}
 use Rattle.closing.proofs.Counts.{ringsBefore, group-step, ring-start, rings-all}
 use Rattle.closing.proofs.Samples.{outer-is, inner-is, head-end, tail-end}
 use Rattle.closing.proofs.Listed.{coordinate-is}
-use Rattle.triangles.proofs.Striped.{starts-rise}
-use Rattle.triangles.proofs.writing.Laws.{reaches-part}
-use Rattle.triangles.proofs.writing.Groups.{no-size}
-use Rattle.triangles.proofs.writing.Fill.{fills-of}
+use Rattle.numbering.proofs.Striped.{starts-rise}
+use Rattle.net_points.proofs.writing.Laws.{reaches-part}
+use Rattle.net_points.proofs.writing.Groups.{no-size}
+use Rattle.net_points.proofs.writing.Fill.{fills-of}
 
 -- ---- ends that are a corner's own
 pub vertex-size : (M : Mesh) (levels corners : List ℕ) (c a : ℕ) → M .corners ≡ corners → a ≡ pickN (eqb c (lowest corners (vertexOf corners c))) 1 0

@@ -7,9 +7,9 @@ use Rattle.paper.specs.Mesh.{Mesh}
 use Rattle.paper.specs.Net.{side0, side1}
 use Rattle.paper.specs.Calls.{nets}
 use Rattle.paper.specs.Triangles.{level, segments, groupSize, coordinateAt}
-use Rattle.triangles.specs.declared.writing.Shape.{Shape}
-use Rattle.triangles.specs.Rows.{Stands}
-use Rattle.triangles.specs.Meshed.{Of}
+use Rattle.net_points.specs.declared.writing.Shape.{Shape}
+use Rattle.numbering.specs.Rows.{Stands}
+use Rattle.numbering.specs.Meshed.{Of}
 
 -- the shape of corner c
 pub record ShapeOf (M : Mesh) (levels : List ℕ) (c : ℕ) (s : Shape) : Type 0 where

@@ -20,7 +20,7 @@ ghost use Rattle.numbers.specs.Stored.{stored};
 ghost use Rattle.surface.specs.Points.{pointRow};
 ghost use Rattle.refine.specs.sums.Sources.{Small};
 ghost use Rattle.building.specs.writing.Written.{NetsDrawn};
-ghost use Rattle.triangles.specs.Meshed.{Of};
+ghost use Rattle.numbering.specs.Meshed.{Of};
 ghost use Rattle.triangles.specs.Checks.{Levelled};
 ghost use Rattle.triangles.specs.filling.Filled.{Drawing, Filled};
 
@@ -45,7 +45,7 @@ pub(crate) fn fill(
     ensures { λ r. ⌜ Filled (meshOf (now (coordinates .entry)) (now (sides .entry)) (now (corners .entry)) (now (sharpness .entry))) (now (levels .entry)) first count (now (points .entry)) (now (triangles .entry)) r (now (points .exit)) (now (triangles .exit)) ⌝ }
 {
     let mut low = [0u16; MOST_VERTICES];
-    crate::fill_lowest(corners, &mut low);
+    numbering::fill_lowest(corners, &mut low);
     let counted = crate::count_within(corners, &low, table, levels, first, count);
     let a = crate::check_room(
         counted.points,
@@ -72,7 +72,7 @@ pub(crate) fn fill(
         count,
         points,
     );
-    crate::put_indices(corners, &low, table, levels, first, count, triangles);
+    numbering::put_indices(corners, &low, table, levels, first, count, triangles);
     counted
 }
 

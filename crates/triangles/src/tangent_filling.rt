@@ -23,7 +23,7 @@ ghost use Rattle.numbers.specs.Stored.{stored};
 ghost use Rattle.surface.specs.Points.{pointRow};
 ghost use Rattle.refine.specs.sums.Sources.{Small};
 ghost use Rattle.building.specs.writing.Written.{NetsDrawn};
-ghost use Rattle.triangles.specs.Meshed.{Given, Of};
+ghost use Rattle.numbering.specs.Meshed.{Given, Of};
 ghost use Rattle.triangles.specs.Checks.{Levelled};
 ghost use Rattle.triangles.specs.Owned.{Netted};
 ghost use Rattle.triangles.specs.filling.Filled.{Drawing};
@@ -49,8 +49,8 @@ pub(crate) fn fill(
     ensures { λ r. ⌜ PairsFilled (meshOf (now (coordinates .entry)) (now (sides .entry)) (now (corners .entry)) (now (sharpness .entry))) (now (levels .entry)) first count (now (out .entry)) r (now (out .exit)) ⌝ }
 {
     let mut low = [0u16; MOST_VERTICES];
-    crate::fill_lowest(corners, &mut low);
-    let points = crate::points_in(corners, &low, table, levels, first, count);
+    numbering::fill_lowest(corners, &mut low);
+    let points = numbering::points_in(corners, &low, table, levels, first, count);
     let needed = 6 * points;
     if out.len() < needed {
         return Tangents {
@@ -269,8 +269,8 @@ fn put_own(
     ensures tangents { λ r. ⌜ ((M : Mesh) → Of M (now (corners .entry)) (now (low .entry)) (now (table .entry)) (now (levels .entry)) → now (numbers .entry) ≡ nets M c 1 → Paired M (now (levels .entry)) (tangentsBefore M (now (levels .entry)) c) (tangentsBefore M (now (levels .entry)) (c + 1)) at r (now (out .entry)) (now (out .exit))) ⌝ }
 {
     let shape = crate::shape_of(corners, low, table, levels, c);
-    let third = crate::segments_at(table, levels, c, 2);
+    let third = numbering::segments_at(table, levels, c, 2);
     let all = crate::size(shape);
-    crate::tangent_writing::put_pairs(numbers, shape, third, out, at);
+    net_points::tangent_writing::put_pairs(numbers, shape, third, out, at);
     at + 6 * all
 }

@@ -26,11 +26,11 @@ use Rattle.mesh.proofs.Verdicts.{sound-left, sound-right, unsound, single-sound
 use Rattle.net.specs.sides.Drawn.{drawn}
 use Rattle.building.specs.writing.Written.{NetsDrawn, NetsWritten}
 use Rattle.building.proofs.writing.Laws.{drawn-written}
-use Rattle.triangles.specs.Rows.{Stands}
+use Rattle.numbering.specs.Rows.{Stands}
 use Rattle.triangles.specs.Checks.{CountedAs}
 use Rattle.triangles.specs.filling.Filled.{Filled}
 use Rattle.triangles.specs.Owned.{Pointed}
-use Rattle.triangles.proofs.Stood.{put-as, put-join, filled-list}
+use Rattle.numbering.proofs.Stood.{put-as, put-join, filled-list}
 
 -- ---- a run of corners more: B says where each corner's part begins
 module _ (B : ℕ → ℕ) (most : ℕ) (rises : (c d : ℕ) → c ≤ d → d ≤ most → B c ≤ B d) (first count : ℕ) (h : first + count ≤ most) where

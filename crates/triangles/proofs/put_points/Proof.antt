@@ -7,11 +7,11 @@ use borrow.Author.Needs.{needs}
 use lib.ListN.{length}
 use lib.IntN.{ℤ}
 use Rattle.paper.specs.Mesh.{Mesh}
-use Rattle.triangles.specs.declared.writing.Shape.{Shape}
-use Rattle.triangles.specs.Meshed.{Of}
+use Rattle.net_points.specs.declared.writing.Shape.{Shape}
+use Rattle.numbering.specs.Meshed.{Of}
 use Rattle.triangles.specs.Owned.{ShapeOf}
-use Rattle.triangles.specs.writing.Shapes.{shapeSize, ShapeAim}
-use Rattle.triangles.proofs.Lent.{below-of}
+use Rattle.net_points.specs.writing.Shapes.{shapeSize, ShapeAim}
+use Rattle.numbering.proofs.Lent.{below-of}
 use Rattle.triangles.proofs.Own.{all-is, pointed}
 use Rattle.triangles.proofs.put_points.Statement.{statement}
 use Rattle.triangles.proofs.put_points.Tie as tie

@@ -11,11 +11,11 @@ use Rattle.paper.specs.Faults.{sound}
 use Rattle.paper.specs.Floats.{netVerdict}
 use Rattle.paper.specs.Calls.{perCorner, nets}
 use Rattle.paper.specs.Triangles.{coordinateAt, pointsBefore}
-use Rattle.triangles.specs.Meshed.{Of}
+use Rattle.numbering.specs.Meshed.{Of}
 use Rattle.triangles.specs.Owned.{Pointed}
 use Rattle.triangles.proofs.Own.{nets-length, net-part, net-sound}
 use Rattle.closing.proofs.Calls.{points-between}
-use Rattle.triangles.proofs.Stood.{put-none, range-step, range-end}
+use Rattle.numbering.proofs.Stood.{put-none, range-step, range-end}
 use Rattle.triangles.proofs.put_run.Statement.{statement}
 use Rattle.triangles.proofs.put_run.Tie as tie
 

@@ -1,7 +1,7 @@
 -- `shape_of` meets its contract, field by field.
 use native.Mathlib.Omega.{arith}
 use borrow.Author.Needs.{needs}
-use Rattle.triangles.proofs.Lent.{place-of, wide-of, given-corner, here-of, level-some, level-few}
+use Rattle.numbering.proofs.Lent.{place-of, wide-of, given-corner, here-of, level-some, level-few}
 use Rattle.triangles.proofs.Own.{vertex-size, edge-size, face-size}
 use Rattle.triangles.proofs.shape_of.Statement.{statement}
 use Rattle.triangles.proofs.shape_of.Tie as tie

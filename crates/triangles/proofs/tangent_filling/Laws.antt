@@ -25,14 +25,14 @@ use Rattle.mesh.proofs.Verdicts.{single-hit, single-miss, past, orElse-fault}
 use Rattle.closing.proofs.Partners.{Leveled}
 use Rattle.closing.proofs.Numbered.{In, group-is, number-is}
 use Rattle.closing.proofs.Calls.{points-between}
-use Rattle.triangles.specs.declared.writing.Shape.{Shape}
-use Rattle.triangles.specs.Rows.{FilledTo, Fills}
+use Rattle.net_points.specs.declared.writing.Shape.{Shape}
+use Rattle.numbering.specs.Rows.{FilledTo, Fills}
 use Rattle.triangles.specs.Owned.{ShapeOf}
-use Rattle.triangles.specs.writing.Shapes.{shapeGroup, shapeStart, shapeSize}
-use Rattle.triangles.specs.tangent_writing.Paired.{shapePair, PairAim, NetPaired}
+use Rattle.net_points.specs.writing.Shapes.{shapeGroup, shapeStart, shapeSize}
+use Rattle.net_points.specs.tangent_writing.Paired.{shapePair, PairAim, NetPaired}
 use Rattle.triangles.specs.tangent_filling.Paired.{tangentsBefore, Paired, PairsFilled}
 use Rattle.triangles.proofs.Own.{in-group, all-is, place-below}
-use Rattle.triangles.proofs.Stood.{filled-list}
+use Rattle.numbering.proofs.Stood.{filled-list}
 
 -- ---- the list
 module _ (M : Mesh) (levels : List ℕ) where

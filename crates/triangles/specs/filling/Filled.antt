@@ -10,7 +10,7 @@ use Rattle.paper.specs.File.{begins}
 use Rattle.paper.specs.Triangles.{pointList, triangleList, triangleRoom}
 use Rattle.paper.specs.declared.Triangles.{Triangles}
 use Rattle.building.specs.writing.Written.{NetsDrawn}
-use Rattle.triangles.specs.Meshed.{Of}
+use Rattle.numbering.specs.Meshed.{Of}
 
 -- a mesh with levels whose nets of `count` corners from `first` on the refined points give
 pub record Drawing (corners low table levels : List ℕ) (refined : List ℤ) (first count : ℕ) : Type 0 where

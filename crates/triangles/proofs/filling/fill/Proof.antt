@@ -12,7 +12,7 @@ use Rattle.paper.specs.Faults.{sound, _orElse_, single, stated}
 use Rattle.paper.specs.File.{noRoom}
 use Rattle.paper.specs.Triangles.{triangleRoom, pointsBefore, trianglesBefore}
 use Rattle.triangles.specs.Checks.{CountedAs}
-use Rattle.triangles.specs.Meshed.{Of}
+use Rattle.numbering.specs.Meshed.{Of}
 use Rattle.triangles.proofs.Asked.{of-levelled, named-in, corners-less}
 use Rattle.triangles.proofs.filling.Laws.{room-as, roomy, filled-refused, filled}
 use borrow.Author.Needs.{needs}

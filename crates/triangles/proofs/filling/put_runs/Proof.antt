@@ -10,10 +10,10 @@ use Rattle.paper.specs.Mesh.{Mesh, cornerCount}
 use Rattle.paper.specs.Calls.{perCorner, nets}
 use Rattle.paper.specs.Triangles.{coordinateAt, pointsBefore, pointList}
 use Rattle.building.specs.writing.Written.{NetsDrawn}
-use Rattle.triangles.specs.Meshed.{Of}
+use Rattle.numbering.specs.Meshed.{Of}
 use Rattle.triangles.specs.Owned.{Pointed}
 use Rattle.closing.proofs.Calls.{points-between}
-use Rattle.triangles.proofs.Stood.{put-none}
+use Rattle.numbering.proofs.Stood.{put-none}
 use Rattle.triangles.proofs.filling.Laws.{run-step, run-room, run-end, run-nets, points-filled}
 use Rattle.triangles.proofs.filling.put_runs.Statement.{statement}
 use Rattle.triangles.proofs.filling.put_runs.Tie as tie

@@ -7,7 +7,7 @@ use borrow.Author.Needs.{needs}
 use lib.ListN.{length}
 use denote.Ref.{now}
 use Rattle.paper.specs.Mesh.{Mesh, meshOf, mostCorners}
-use Rattle.triangles.specs.Meshed.{Of}
+use Rattle.numbering.specs.Meshed.{Of}
 use Rattle.triangles.proofs.Asked.{of-levelled, named-in, corners-less}
 use Rattle.triangles.proofs.tangent_filling.Laws.{pairs-short, pairs-done}
 use Rattle.triangles.proofs.tangent_filling.fill.Statement.{statement}

@@ -11,10 +11,10 @@ use Rattle.paper.specs.Faults.{sound}
 use Rattle.paper.specs.Floats.{netVerdict}
 use Rattle.paper.specs.Calls.{perCorner, nets}
 use Rattle.paper.specs.Tangents.{tangentAt}
-use Rattle.triangles.specs.Meshed.{Of}
+use Rattle.numbering.specs.Meshed.{Of}
 use Rattle.triangles.specs.tangent_filling.Paired.{tangentsBefore, Paired}
 use Rattle.triangles.proofs.Own.{nets-length, net-part, net-sound}
-use Rattle.triangles.proofs.Stood.{put-none, range-step, range-end}
+use Rattle.numbering.proofs.Stood.{put-none, range-step, range-end}
 use Rattle.triangles.proofs.tangent_filling.Laws.{tangents-between}
 use Rattle.triangles.proofs.tangent_filling.pair_run.Statement.{statement}
 use Rattle.triangles.proofs.tangent_filling.pair_run.Tie as tie

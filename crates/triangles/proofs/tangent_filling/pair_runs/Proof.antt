@@ -10,9 +10,9 @@ use Rattle.paper.specs.Mesh.{Mesh, cornerCount}
 use Rattle.paper.specs.Calls.{perCorner, nets}
 use Rattle.paper.specs.Tangents.{tangentAt}
 use Rattle.building.specs.writing.Written.{NetsDrawn}
-use Rattle.triangles.specs.Meshed.{Of}
+use Rattle.numbering.specs.Meshed.{Of}
 use Rattle.triangles.specs.tangent_filling.Paired.{tangentsBefore, Paired}
-use Rattle.triangles.proofs.Stood.{put-none}
+use Rattle.numbering.proofs.Stood.{put-none}
 use Rattle.triangles.proofs.filling.Laws.{run-step, run-room, run-end, run-nets}
 use Rattle.triangles.proofs.tangent_filling.Laws.{tangents-between, tangents-filled}
 use Rattle.triangles.proofs.tangent_filling.pair_runs.Statement.{statement}

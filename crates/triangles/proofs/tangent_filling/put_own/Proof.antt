@@ -4,11 +4,11 @@ use native.Mathlib.Omega.{arith}
 use borrow.Author.Needs.{needs}
 use lib.ListN.{length}
 use Rattle.paper.specs.Mesh.{Mesh}
-use Rattle.triangles.specs.declared.writing.Shape.{Shape}
-use Rattle.triangles.specs.Meshed.{Of}
+use Rattle.net_points.specs.declared.writing.Shape.{Shape}
+use Rattle.numbering.specs.Meshed.{Of}
 use Rattle.triangles.specs.Owned.{ShapeOf}
-use Rattle.triangles.specs.writing.Shapes.{shapeSize}
-use Rattle.triangles.proofs.Lent.{below-of, wide-of, here-of}
+use Rattle.net_points.specs.writing.Shapes.{shapeSize}
+use Rattle.numbering.proofs.Lent.{below-of, wide-of, here-of}
 use Rattle.triangles.proofs.Own.{all-is}
 use Rattle.triangles.proofs.tangent_filling.Laws.{paired}
 use Rattle.triangles.proofs.tangent_filling.put_own.Statement.{statement}

@@ -1,0 +1,2 @@
+pub mod writing
+pub mod tangent_writing

@@ -1,0 +1,36 @@
+-- `points_in` meets its contract: a running sum.
+use native.Mathlib.Omega.{arith}
+use mathlib.Core.Path.{_≡_}
+use borrow.Author.Needs.{needs}
+use Prim.Native.Nat.{_+_, _-_, _*_, _≤_}
+use Rattle.paper.specs.Mesh.{Mesh}
+use Rattle.paper.specs.Triangles.{pointsBefore}
+use Rattle.numbering.specs.Meshed.{Of}
+use Rattle.numbering.proofs.Lent.{sum-none, sum-more, sum-all}
+use Rattle.numbering.proofs.points_in.Statement.{statement}
+use Rattle.numbering.proofs.points_in.Tie as tie
+
+abbrev Inv-loop : tie.InvT-loop
+Inv-loop corners low table levels first count sum₀ c₀ sum c = (c ≤ count) × (sum ≤ 600 * c) × ((M : Mesh) → Of M corners low table levels → pointsBefore M levels (first + c) ≡ pointsBefore M levels first + sum)
+
+abbrev μ-loop : tie.MeasureT-loop
+μ-loop corners low table levels first count sum₀ c₀ sum c = count - c
+
+loop-holds : tie.Need-loop-holds Inv-loop μ-loop
+loop-holds c = (omega arith, omega arith, λ M o. sum-none (pointsBefore M _) _)
+
+loop-again : tie.Need-loop-again Inv-loop μ-loop
+loop-again c =
+    let l = c .before .before .loop in let s = c .before .before .before .before .before .before .before in (
+      omega arith,
+      omega (arith, c .points-of .ensures .0),
+      λ M o. sum-more (pointsBefore M (s .args .levels .now)) (s .args .first) (l .c) (l .sum) (c .points-of .result) (l .inv .2 M o) (c .points-of .ensures .1 M o),
+    )
+
+returns : tie.Need-returns Inv-loop μ-loop
+returns c = let l = c .before .loop in let s = c .before .before .before .before .before .before in (λ M o. sum-all (pointsBefore M (s .args .levels .now)) (s .args .first) (l .c) (s .args .count) (l .sum) (omega arith) (l .inv .2 M o), omega arith)
+
+pub points-in-spec : {M : Type 1} → statement M
+points-in-spec =
+    tie.close (tie.spec Inv-loop μ-loop loop-holds (λ c. search needs) (λ c κs. search needs) (λ c. search needs) (λ c. search needs) (λ c. search needs)
+    loop-again returns)
