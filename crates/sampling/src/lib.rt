@@ -221,13 +221,18 @@ pub fn row_in(c: Matrix5, k: usize) -> Vector5
     requires { ⌜ AllTapered c × (k ≤ 16) ⌝ }
     ensures { λ r. ⌜ r ≡ rowOf c k ⌝ }
 {
-    let mut s = crate::bernstein::states(c);
-    let mut x = 0;
-    while x < k {
-        s = crate::bernstein::next(s);
-        x += 1;
+    let a = value_at(c.r0, k);
+    let b = value_at(c.r1, k);
+    let d = value_at(c.r2, k);
+    let e = value_at(c.r3, k);
+    let f = value_at(c.r4, k);
+    Vector5 {
+        a: a,
+        b: b,
+        c: d,
+        d: e,
+        e: f,
     }
-    crate::bernstein::row(s)
 }
 
 // Its value and its differences at j.
@@ -244,13 +249,16 @@ fn state_at(e: Vector5, j: usize) -> Vector5
     g
 }
 
-// Its value at j.
+// Its value at j, from the highest power down.
 pub fn value_at(e: Vector5, j: usize) -> i64
     requires { ⌜ Tapered (5 * 2 ^ 34) e × (j ≤ 16) ⌝ }
     ensures { λ r. ⌜ r ≡ valueOf e j ⌝ }
 {
-    let g = state_at(e, j);
-    g.a
+    let x = j as i64;
+    let d = e.d + x * e.e;
+    let c = e.c + x * d;
+    let b = e.b + x * c;
+    e.a + x * b
 }
 
 // The samples of all rows on one axis, every third number of the list.

@@ -240,7 +240,7 @@ pub tapered-size : (f : Vector5) (A : ℕ) → Tapered A f → A ≤ 2 ^ 37 → 
 tapered-size f A h small = (omega (arith, h .0), omega (arith, h .1), omega (arith, h .2), omega (arith, h .3), omega (arith, h .4))
 
 -- ---- values and states at weights up to 16
-horner : (a s : ℤ) (x m k : ℕ) → x ≤ 16 → natAbs a ≤ m → natAbs s ≤ k → natAbs (a +ℤ pos x *ℤ s) ≤ m + 16 * k
+pub horner : (a s : ℤ) (x m k : ℕ) → x ≤ 16 → natAbs a ≤ m → natAbs s ≤ k → natAbs (a +ℤ pos x *ℤ s) ≤ m + 16 * k
 horner a s x m k l f g = abs-add-le a (pos x *ℤ s) m (16 * k) f (abs-mul-le (pos x) s 16 k l g)
 
 sum3 : (p q r : ℤ) (i j k : ℕ) → natAbs p ≤ i → natAbs q ≤ j → natAbs r ≤ k → natAbs (p +ℤ q +ℤ r) ≤ i + j + k

@@ -11,7 +11,7 @@ use Rattle.sampling.specs.bernstein.Sums.{Tapered, AllTapered, AllSized}
 use Rattle.sampling.specs.bernstein.Tangents.{timesOf, alongOf, slopeOf, inwardOf}
 use Rattle.sampling.proofs.bernstein.Laws.{tapered-size}
 
-widened : (f : Vector5) (A B : ℕ) → A ≤ B → Tapered A f → Tapered B f
+pub widened : (f : Vector5) (A B : ℕ) → A ≤ B → Tapered A f → Tapered B f
 widened f A B l h = (omega (arith, h .0), omega (arith, h .1), omega (arith, h .2), omega (arith, h .3), omega (arith, h .4))
 
 times-tapers : (f : Vector5) (z A B : ℕ) → z ≤ 4 → 4 * A ≤ B → Tapered A f → Tapered B (timesOf (pos z) f)

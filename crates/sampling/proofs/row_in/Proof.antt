@@ -1,59 +1,56 @@
--- `sampling::row_in` meets its contract: after x turns the states are those at x.
-use mathlib.Core.Path.{_≡_, sym, ap, _∙_, subst}
-use Prim.Native.Nat.{_-_, _^_, _≤_}
-use native.Mathlib.Omega.{arith}
+-- `sampling::row_in` meets its contract: the values of the five rows.
+use mathlib.Core.Path.{_≡_, _∙_, sym, subst}
+use Prim.Native.Nat.{ℕ, _*_, _^_, _≤_}
 use borrow.Author.Needs.{needs}
-use Rattle.sampling.specs.declared.bernstein.Matrix5.{Matrix5}
-use Rattle.sampling.specs.bernstein.Sums.{AllSized, statesOf, firstsOf, stepsOf, rowOf}
-use Rattle.sampling.proofs.bernstein.Laws.{states-size}
-use Rattle.sampling.proofs.bernstein.Tapering.{tapered-sized}
-use Rattle.sampling.proofs.bernstein.Identity.{states-step, firsts-row}
+use lib.Dec.{lit≤}
+use lib.IntN.{ℤ, natAbs}
+use Rattle.sampling.specs.declared.bernstein.Vector5.{Vector5}
+use Rattle.sampling.specs.bernstein.Sums.{Tapered, rowOf, valueOf}
+use Rattle.sampling.proofs.bernstein.Laws.{bits, sized-bits, value-size}
+use Rattle.sampling.proofs.bernstein.Tapering.{widened}
 use Rattle.sampling.proofs.row_in.Statement.{statement}
 use Rattle.sampling.proofs.row_in.Tie as tie
 
-abbrev Inv-loop : tie.InvT-loop
-Inv-loop k s₀ x₀ s x = (x ≤ k) × ((c : Matrix5) → s₀ ≡ statesOf c 0 → s ≡ statesOf c x)
+module _ (s : tie.Start) where
+  wide : (f : Vector5) (A : ℕ) → A ≤ 5 * 2 ^ 34 → Tapered A f → Tapered (5 * 2 ^ 34) f
+  wide f A l h = widened f A (5 * 2 ^ 34) l h
 
-abbrev μ-loop : tie.MeasureT-loop
-μ-loop k s₀ x₀ s x = k - x
+  -- a value, by its bits
+  bit : (f : Vector5) (z : ℤ) → Tapered (5 * 2 ^ 34) f → z ≡ valueOf f (s .args .k) → bits z ≡ valueOf f (s .args .k)
+  bit f z h q =
+      sized-bits z (5 * (65536 * (5 * 2 ^ 34))) (subst (λ (y : ℤ). natAbs y ≤ 5 * (65536 * (5 * 2 ^ 34))) (sym q) (value-size f (s .args .k) (5 * 2 ^ 34) (s .pre .1) h)) (lit≤ tt) ∙ q
 
--- at the loop's test
-module _ (t : tie.At-loop Inv-loop μ-loop) where
-  abbrev p : tie.Start Inv-loop μ-loop
-  p = t .before .before
+value-at-requires : tie.Need-value-at-requires
+value-at-requires c κs = let s : tie.Start = search in (wide s (s .args .c .r0) (2 ^ 34) (lit≤ tt) (s .pre .0 .t0), s .pre .1)
 
-  is : t .loop .s ≡ statesOf (p .args .c) (t .loop .x)
-  is = t .loop .inv .1 _ (t .before .states .ensures)
+value-at-requires-2 : tie.Need-value-at-requires-2
+value-at-requires-2 c κs = let s : tie.Start = search in (wide s (s .args .c .r1) (2 ^ 30) (lit≤ tt) (s .pre .0 .t1), s .pre .1)
 
-  sized : AllSized (2 ^ 60) (t .loop .s)
-  sized =
-      subst (λ (s : Matrix5). AllSized (2 ^ 60) s) (sym is)
-      (states-size _ (t .loop .x) (omega (arith, t .loop .inv .0, p .pre .1)) (p .pre .0))
+value-at-requires-3 : tie.Need-value-at-requires-3
+value-at-requires-3 c κs = let s : tie.Start = search in (wide s (s .args .c .r2) (2 ^ 26) (lit≤ tt) (s .pre .0 .t2), s .pre .1)
 
-states-requires : tie.Need-states-requires Inv-loop μ-loop
-states-requires c κs = tapered-sized (c .args .c) (c .pre .0)
+value-at-requires-4 : tie.Need-value-at-requires-4
+value-at-requires-4 c κs = let s : tie.Start = search in (wide s (s .args .c .r3) (2 ^ 22) (lit≤ tt) (s .pre .0 .t3), s .pre .1)
 
-loop-holds : tie.Need-loop-holds Inv-loop μ-loop
-loop-holds c = (omega arith, λ p e. e)
+value-at-requires-5 : tie.Need-value-at-requires-5
+value-at-requires-5 c κs = let s : tie.Start = search in (wide s (s .args .c .r4) (2 ^ 18) (lit≤ tt) (s .pre .0 .t4), s .pre .1)
 
-next-requires : tie.Need-next-requires Inv-loop μ-loop
-next-requires c κs = sized (c .before)
-
-loop-again : tie.Need-loop-again Inv-loop μ-loop
-loop-again c =
-    let l = c .before .before .loop in
-    (omega arith, λ p e. c .next .ensures ∙ ap stepsOf (l .inv .1 p e) ∙ states-step p (l .x))
-
-row-requires : tie.Need-row-requires Inv-loop μ-loop
-row-requires c κs = sized (c .before)
-
-returns : tie.Need-returns Inv-loop μ-loop
+returns : tie.Need-returns
+unfolding rowOf
 returns c =
-    let t = c .before .before in
-    let s = t .before .before in
-    let e = s .args .c in
-    c .row .ensures ∙ ap firstsOf (is t) ∙ firsts-row e (t .loop .x) ∙ ap (rowOf e) (omega (arith, t .loop .inv .0))
+    let s : tie.Start = search in
+    let a : tie.After-value-at = search in
+    let b : tie.After-value-at2 = search in
+    let d : tie.After-value-at3 = search in
+    let e : tie.After-value-at4 = search in
+    let f : tie.After-value-at5 = search in
+    cc (
+      bit s (s .args .c .r0) _ (wide s (s .args .c .r0) (2 ^ 34) (lit≤ tt) (s .pre .0 .t0)) (a .value-at .ensures),
+      bit s (s .args .c .r1) _ (wide s (s .args .c .r1) (2 ^ 30) (lit≤ tt) (s .pre .0 .t1)) (b .value-at2 .ensures),
+      bit s (s .args .c .r2) _ (wide s (s .args .c .r2) (2 ^ 26) (lit≤ tt) (s .pre .0 .t2)) (d .value-at3 .ensures),
+      bit s (s .args .c .r3) _ (wide s (s .args .c .r3) (2 ^ 22) (lit≤ tt) (s .pre .0 .t3)) (e .value-at4 .ensures),
+      bit s (s .args .c .r4) _ (wide s (s .args .c .r4) (2 ^ 18) (lit≤ tt) (s .pre .0 .t4)) (f .value-at5 .ensures),
+    )
 
 pub row-in-spec : {M : Type 1} → statement M
-row-in-spec =
-    tie.close (tie.spec Inv-loop μ-loop states-requires loop-holds next-requires (λ c. search needs) (λ c. search needs) loop-again row-requires returns)
+row-in-spec = tie.close (tie.spec value-at-requires value-at-requires-2 value-at-requires-3 value-at-requires-4 value-at-requires-5 returns)
