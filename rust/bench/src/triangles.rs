@@ -29,7 +29,8 @@ pub fn measure(budget: Duration) {
         let levels: Vec<u8> = (0..count).map(|_| if level == 0 { 1 + random.below(16) as u8 } else { level }).collect();
         let lengths = mahunopi::count_triangles(&mesh, &links, &levels, 0, count).expect(accepted);
         let (mut points, mut three) = (vec![0; lengths.points], vec![0; lengths.triangles]);
-        let mut unshared = vec![0; 3 * mahunopi::sample_count(16)];
+        let room: usize = levels.iter().map(|&level| 12 * mahunopi::sample_count(usize::from(level))).sum();
+        let mut unshared = vec![0; room];
         let pair = least(
             budget,
             || {
@@ -37,9 +38,12 @@ pub fn measure(budget: Duration) {
             },
             || {
                 mahunopi::build_into(&mesh, &links, 0, count, &mut numbers).expect(accepted);
+                let mut rest = &mut unshared[..];
                 for (net, &level) in numbers.chunks(NUMBERS_PER_CORNER).zip(&levels) {
                     for side in 0..4 {
-                        mahunopi::sample_triangle_into(net, side, usize::from(level), &mut unshared).expect(accepted);
+                        let (samples, more) = rest.split_at_mut(3 * mahunopi::sample_count(usize::from(level)));
+                        mahunopi::sample_triangle_into(net, side, usize::from(level), samples).expect(accepted);
+                        rest = more;
                     }
                 }
             },

@@ -146,11 +146,19 @@ pub fn tangents(
         Ok(all) if room < all.len() => Err(Refusal { number: 255, place: all.len() as u64 }),
         other => other,
     };
-    assert_eq!(answer(number, place), result.as_ref().map(|_| ()).map_err(|&refusal| refusal), "tangents of {range:?} are answered otherwise");
+    assert_eq!(
+        answer(number, place),
+        result.as_ref().map(|_| ()).map_err(|&refusal| refusal),
+        "tangents of {range:?} are answered otherwise"
+    );
     if let Ok(all) = &result {
         expected[..all.len()].copy_from_slice(all);
     }
-    assert_eq!(numbers, result.as_ref().map_or(UNTOUCHED, |all| all.len() as u64), "{range:?} has another number of tangents");
+    assert_eq!(
+        numbers,
+        result.as_ref().map_or(UNTOUCHED, |all| all.len() as u64),
+        "{range:?} has another number of tangents"
+    );
     same("tangents", &tangents, &expected);
     result
 }
