@@ -1,4 +1,4 @@
-// The checks that the file, linking and building share: 4 to 13 of a mesh with 27 and 28, and 14 to 17 of what is asked besides (`requests`).
+// The checks that the file, linking and building share: 4 to 13 of a mesh with 27 and 28, and 14 to 17 of the rest of a request (`requests`).
 // Each number is tried over the whole input before the next.
 pub mod columns;
 pub mod edges;

@@ -1,4 +1,4 @@
-// Checks 14 to 17, of what linking and building are asked besides the mesh. Each number is tried over the whole input before the next.
+// Checks 14 to 17, of what linking and building are given beside the mesh. Each number is tried over the whole input before the next.
 use paper::Answer;
 use paper::NUMBERS_PER_CORNER;
 use walk::LINK;

@@ -47,7 +47,7 @@ pub fn put_pairs(numbers: &[i32], shape: Shape, third: usize, out: &mut [i64], a
     let to_second = to_first + 6 * (shape.first - 1);
     let to_rings = to_second + 6 * (shape.second - 1);
     put_part(numbers, 0, shape.first, 0, shape.vertex, out, at);
-    put_part(numbers, 0, shape.second, 0, shape.edge, out, to_edge);
+    put_part(numbers, 1, shape.second, 0, shape.edge, out, to_edge);
     put_part(numbers, 2, third, 0, shape.face, out, to_face);
     put_part(numbers, 0, shape.first, 1, shape.first - 1, out, to_first);
     put_part(

@@ -1,4 +1,4 @@
-// The words of an OFF text after the mark, read into lent lists, with checks 25, 26 and then 4 to 13. The text is gone over once, each word's
+// The words of an OFF text after the mark, read into lent lists, with checks 25, 26 and then 4 to 13. The text is read once, each word's
 // number taken from its bytes when its end is found.
 use crate::words::Cursor;
 use paper::Answer;

@@ -206,7 +206,7 @@ EveryBorder =
     (M : Mesh) → Accepted M → (c : ℕ) → c < cornerCount M → (s : Side) → (axis : ℕ) → axis < 3
     → Smooth M (outputOf M 0 (cornerCount M)) (outputOf M 0 (cornerCount M)) axis c s
 
--- a call of `mahunopi_build` that answers 0 is a call of building that is not refused: what is said of calls holds of it
+-- a call of `mahunopi_build` that answers 0 is a call of building that is not refused: what holds of calls holds of it
 abbrev pub CallsFromC : Type 0
 CallsFromC =
     (M : Mesh) (links : List ℕ) (first count : ℕ) (old : List ℤ) (before after : ℕ) (out : List ℤ)
@@ -239,7 +239,7 @@ WholeText =
 abbrev pub PlainPasses : Type 0
 PlainPasses = (M : Mesh) → Plain M → (fault27 (length (M .sharpness)) (cornerCount M) ≡ false) × ((i : ℕ) → fault28 (M .sharpness) i ≡ false)
 
--- ---- L9: a preview that is not refused is a call of building on the moved lists that is not refused: what is said of calls holds of it
+-- ---- L9: a preview that is not refused is a call of building on the moved lists that is not refused: what holds of calls holds of it
 abbrev pub PreviewsBuild : Type 0
 PreviewsBuild =
     (M : Mesh) (m : Move) (links : List ℕ) (first count : ℕ) (old out : List ℤ)
@@ -359,7 +359,7 @@ PointsSample =
     Whole (λ M levels points triangles. (c : ℕ) (s : Side) (k j axis : ℕ) → Spot M levels c s k j → axis < 3
     → getD points (3 * pointNumber M levels c s k j + axis) (pos 0) ≡ sampleNumber M levels c s k j axis)
 
--- where two nets have one level nothing is irregular: between a row of p segments and a row of p points, segment j is joined to point j. So a mesh whose levels
+-- where two nets have one level their rows match: between a row of p segments and a row of p points, segment j is joined to point j. So a mesh whose levels
 -- are all the same has the plain grid that `sample_triangle` has
 abbrev pub PlainStrips : Type 0
 PlainStrips = (s : Side) (p : ℕ) → ((j : ℕ) → j < p → apex s p p j ≡ j) × ((i : ℕ) → i + 1 < p → foot s p p i ≡ i + 1)
@@ -379,7 +379,7 @@ CountsServe =
     → Triangulated M links levels first count old old′ r points triangles → r .answer ≡ Done
 
 -- a call of `mahunopi_triangles` that answers 0 is a call for triangles that is not refused, and its two counts are those that stand behind `point_numbers` and
--- `triangle_numbers`: what is said of calls holds of it. So is a call of `mahunopi_count_triangles` one that counts
+-- `triangle_numbers`: what holds of calls holds of it. So is a call of `mahunopi_count_triangles` one that counts
 abbrev pub TrianglesFromC : Type 0
 TrianglesFromC =
     (M : Mesh) (links levels : List ℕ) (first count : ℕ) (old : List ℤ) (old′ : List ℕ) (lent : Sizes) (before after : ℕ) (points : List ℤ) (triangles : List ℕ)

@@ -13,7 +13,7 @@ ghost use Rattle.refine.specs.sums.Sources.{Faces, Placed, stepsOf, sumR
 pub const SUM_ROW: usize = 3;
 
 // Σ of the faces that have a corner at a marked vertex, on the three axes, in grid steps. These get an entry in `wanted` that is not zero. Sums do not
-// depend on sharpness, so the contract is said of the mesh with 8 and 8 throughout.
+// depend on sharpness, so the contract speaks of the mesh with 8 and 8 throughout.
 pub(crate) fn fill_sums(
     coordinates: &[i32],
     sides: &[u8],
