@@ -6,8 +6,9 @@
  * lists, mahunopi_off reads those of an OFF text, mahunopi_link fills the link table of a mesh, mahunopi_build writes
  * the control points of a range of corners, mahunopi_floats gives one of these points as floats, mahunopi_floats_all
  * all of them, mahunopi_sample and mahunopi_sample_triangle points of the surface, mahunopi_tangents_at the two tangents
- * at such a point. mahunopi_triangles writes the whole surface as one closed mesh of triangles, and
- * mahunopi_count_triangles says how long its lists are. mahunopi_irregular says whether a mesh is all squares.
+ * at such a point. mahunopi_triangles writes the whole surface as one closed mesh of triangles, mahunopi_tangents the
+ * tangents at its points, and mahunopi_count_triangles says how long these lists are. mahunopi_irregular says whether a
+ * mesh is all squares.
  * mahunopi_preview builds with one vertex moved, mahunopi_touched marks the corners that a vertex can change.
  * mahunopi_turn turns faces that are drawn the wrong way round. mahunopi_nest lists a table of nested grids.
  * mahunopi_archive rearranges a coordinate list for the archive, and mahunopi_restore undoes it. mahunopi_report adds
@@ -176,7 +177,8 @@ enum mahunopi_refusal {
     MAHUNOPI_BAD_LEVEL = 40,
     /* a lent list is too short, or has not a mark for each corner (place: the length needed, that of the first such
      * list); tried last: by surveying and decoding after 1 to 13, by mahunopi_touched after 29 and 4 to 13, by
-     * mahunopi_triangles after 40, the points before the triangles */
+     * mahunopi_sample_triangle after 33, by mahunopi_floats_all after 19, by mahunopi_triangles and mahunopi_tangents
+     * after 40, the points before the triangles */
     MAHUNOPI_LENT_TOO_SHORT = 255
 };
 

@@ -283,13 +283,12 @@ def test_programs_run_with_the_stack_that_the_page_says(tmp_path):
     (tmp_path / "torus.dms").write_bytes(file)
     given = {"archive": bytes(1_572_864), "restore": bytes(1_572_864), "off2dms": text, "report": b"torus.dms\n",
              "nest": b"sun\n" + b"".join(b"%d\n" % body for body in range(255))}
-    words = {"tessellate": "1"}
     programs = dict(zip(cells(head), cells(sizes)))
     assert sorted(programs) == sorted(named), "docs/PROGRAMS.md: the tables differ"
     for program, size in programs.items():
         if not (ROOT / "target/bin" / program).exists():
             pytest.skip(f"target/bin/{program} is not built (rt check {program})")
-        done = subprocess.run(["sh", "-c", f"ulimit -s {size.replace(',', '')} && exec {ROOT / 'target/bin' / program} {words.get(program, '')}"], cwd=tmp_path,
+        done = subprocess.run(["sh", "-c", f"ulimit -s {size.replace(',', '')} && exec {ROOT / 'target/bin' / program}"], cwd=tmp_path,
                               input=given.get(program, file), capture_output=True, timeout=SECONDS, check=False)
         assert done.returncode == 0 and done.stdout and not done.stderr, f"{program} with {size} KB: {done.returncode} {done.stderr[:200]}"
 

@@ -14,9 +14,9 @@ pub fn measure(budget: Duration) {
     println!();
     println!(
         "| levels | points | triangles | triangles, ns per triangle | million a second | build and sample_triangle, ns per \
-              triangle | ratio |"
+              triangle | ratio | with tangents, ns per triangle | ratio |"
     );
-    println!("|---|---|---|---|---|---|---|");
+    println!("|---|---|---|---|---|---|---|---|---|");
     let accepted = "an accepted mesh";
     let random = &mut Random::new(37);
     let Tables { coordinates, sides, corners, sharpness } =
@@ -31,26 +31,33 @@ pub fn measure(budget: Duration) {
         let (mut points, mut three) = (vec![0; lengths.points], vec![0; lengths.triangles]);
         let room: usize = levels.iter().map(|&level| 12 * mahunopi::sample_count(usize::from(level))).sum();
         let mut unshared = vec![0; room];
-        let pair = least(
+        let mut sampled = || {
+            mahunopi::build_into(&mesh, &links, 0, count, &mut numbers).expect(accepted);
+            let mut rest = &mut unshared[..];
+            for (net, &level) in numbers.chunks(NUMBERS_PER_CORNER).zip(&levels) {
+                for side in 0..4 {
+                    let (samples, more) = rest.split_at_mut(3 * mahunopi::sample_count(usize::from(level)));
+                    mahunopi::sample_triangle_into(net, side, usize::from(level), samples).expect(accepted);
+                    rest = more;
+                }
+            }
+        };
+        let mut filled = || {
+            mahunopi::triangles_into(&mesh, &links, &levels, 0, count, &mut points, &mut three).expect(accepted);
+        };
+        let pair = least(budget, &mut filled, &mut sampled);
+        let mut tangents = vec![0; 2 * lengths.points];
+        let shaded = least(
             budget,
             || {
-                mahunopi::triangles_into(&mesh, &links, &levels, 0, count, &mut points, &mut three).expect(accepted);
+                filled();
+                mahunopi::tangents_into(&mesh, &links, &levels, 0, count, &mut tangents).expect(accepted);
             },
-            || {
-                mahunopi::build_into(&mesh, &links, 0, count, &mut numbers).expect(accepted);
-                let mut rest = &mut unshared[..];
-                for (net, &level) in numbers.chunks(NUMBERS_PER_CORNER).zip(&levels) {
-                    for side in 0..4 {
-                        let (samples, more) = rest.split_at_mut(3 * mahunopi::sample_count(usize::from(level)));
-                        mahunopi::sample_triangle_into(net, side, usize::from(level), samples).expect(accepted);
-                        rest = more;
-                    }
-                }
-            },
+            &mut sampled,
         );
         let each = 1e9 / (lengths.triangles / 3) as f64;
         println!(
-            "| {} | {} | {} | {:.2} | {:.1} | {:.2} | {:.2} |",
+            "| {} | {} | {} | {:.2} | {:.1} | {:.2} | {:.2} | {:.2} | {:.2} |",
             if level == 0 { "1 to 16".to_string() } else { level.to_string() },
             lengths.points / 3,
             lengths.triangles / 3,
@@ -58,6 +65,8 @@ pub fn measure(budget: Duration) {
             1e3 / (each * pair.library),
             each * pair.reference,
             pair.ratio(),
+            each * shaded.library,
+            shaded.ratio(),
         );
     }
 }

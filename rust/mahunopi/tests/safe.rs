@@ -4,9 +4,9 @@ use std::num::NonZeroUsize;
 use std::thread;
 
 use mahunopi::{
-    build, build_all, build_into, decode, irregular, link, link_into, off, preview, preview_into, ranges, survey,
-    survey_counted, touched, touched_into, Fault, Irregular, Mesh, MeshRef, Refusal, CALL_STACK, MAX_SIDES,
-    NUMBERS_PER_CORNER, VERSION,
+    build, build_all, build_into, count_triangles, decode, floats_all, irregular, link, link_into, off, preview,
+    preview_into, ranges, survey, survey_counted, tangents_into, touched, touched_into, triangles_into, Fault, Irregular,
+    Mesh, MeshRef, Refusal, CALL_STACK, MAX_SIDES, NUMBERS_PER_CORNER, VERSION,
 };
 
 const CUBE: &[u8] = include_bytes!("../../../meshes/cube.dms");
@@ -261,6 +261,11 @@ fn the_stack_that_a_call_needs() {
         assert_eq!(irregular(&mesh), Ok(Irregular::None { sides_read: 2_048 }));
         preview_into(&mesh, &links, 0, 8_192, 2_047, [1, 2, 3], &mut output).unwrap();
         assert_eq!(touched(&mesh, 2_047).unwrap().len(), 36);
+        floats_all(&output).unwrap();
+        let lengths = count_triangles(&mesh, &links, &[2; 8_192], 0, 8_192).unwrap();
+        let (mut points, mut three) = (vec![0; lengths.points], vec![0; lengths.triangles]);
+        triangles_into(&mesh, &links, &[2; 8_192], 0, 8_192, &mut points, &mut three).unwrap();
+        tangents_into(&mesh, &links, &[2; 8_192], 0, 8_192, &mut vec![0; 2 * lengths.points]).unwrap();
     };
     thread::Builder::new().stack_size(CALL_STACK).spawn(call).unwrap().join().unwrap();
 }
