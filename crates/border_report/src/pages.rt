@@ -30,7 +30,7 @@ const LAST_LINE: usize = LINES - 1;
 const LAST_NUMBER: u8 = 28;
 
 // Two pages as one.
-pub fn merge(page: Page, other: Page) -> Reported
+pub(crate) fn merge(page: Page, other: Page) -> Reported
     ensures { λ r. ⌜ MergedTo page other r ⌝ }
 {
     let a = check_merge(page, other);
