@@ -1,2 +1,3 @@
 pub mod Laws
 pub mod Groups
+pub mod Cubic

@@ -6,14 +6,16 @@ use sampling::bernstein::Vector5;
 use sampling::points::control_points;
 ghost use mathlib.Core.Path.{_≡_};
 ghost use mathlib.Core.List.{_++_};
-ghost use Prim.Native.Nat.{_+_, _-_, _*_, _/_, _%_, _≤_, _<_};
+ghost use Prim.Native.Nat.{_+_, _-_, _*_, _/_, _%_, _^_, _≤_, _<_};
 ghost use lib.ListN.{length, getD};
 ghost use lib.IntN.{pos};
 ghost use Rattle.paper.specs.Faults.{sound};
 ghost use Rattle.paper.specs.Floats.{netVerdict, axes};
 ghost use Rattle.numbering.specs.Rows.{Fills};
+ghost use Rattle.sampling.specs.bernstein.Sums.{Tapered, AllTapered};
 ghost use Rattle.net_points.specs.writing.Shapes.{Shapely, shapeSize};
 ghost use Rattle.net_points.specs.tangent_writing.Paired.{Sloped, Tapering, RowTapering, rowsAt, sixAt, tailAt, placesNumber, partNumber, RingsPaired, NetPaired};
+ghost use Rattle.net_points.specs.tangent_writing.Paired.{truncatedOf, truncatedRowOf};
 
 // The derivatives of a side: on x, y and z towards the tail, then on x, y and z towards the centre.
 pub struct Slopes {
@@ -135,17 +137,79 @@ fn side_slopes(numbers: &[i32], side: usize, n: usize) -> Slopes
     }
 }
 
+// A polynomial without its terms of degree four and more. The derivatives have none; the compiler sees the zeros and leaves their products out.
+fn truncated(c: Matrix5) -> Matrix5
+    requires { ⌜ AllTapered c ⌝ }
+    ensures { λ r. ⌜ r ≡ truncatedOf c ⌝ }
+{
+    let r0 = c.r0;
+    let r1 = c.r1;
+    let r2 = c.r2;
+    let r3 = c.r3;
+    Matrix5 {
+        r0: Vector5 {
+            a: r0.a,
+            b: r0.b,
+            c: r0.c,
+            d: r0.d,
+            e: 0,
+        },
+        r1: Vector5 {
+            a: r1.a,
+            b: r1.b,
+            c: r1.c,
+            d: 0,
+            e: 0,
+        },
+        r2: Vector5 {
+            a: r2.a,
+            b: r2.b,
+            c: 0,
+            d: 0,
+            e: 0,
+        },
+        r3: Vector5 {
+            a: r3.a,
+            b: 0,
+            c: 0,
+            d: 0,
+            e: 0,
+        },
+        r4: Vector5 {
+            a: 0,
+            b: 0,
+            c: 0,
+            d: 0,
+            e: 0,
+        },
+    }
+}
+
+// The same of a row's polynomial.
+fn truncated_row(v: Vector5) -> Vector5
+    requires { ⌜ Tapered (5 * 2 ^ 34) v ⌝ }
+    ensures { λ r. ⌜ r ≡ truncatedRowOf v ⌝ }
+{
+    Vector5 {
+        a: v.a,
+        b: v.b,
+        c: v.c,
+        d: v.d,
+        e: 0,
+    }
+}
+
 // Those of row k.
 fn row_slopes(m: Slopes, k: usize) -> RowSlopes
     requires { ⌜ Tapering m × (k ≤ 16) ⌝ }
     ensures { λ r. ⌜ RowTapering r × (r ≡ rowsAt m k) ⌝ }
 {
-    let x = sampling::row_in(m.x, k);
-    let y = sampling::row_in(m.y, k);
-    let z = sampling::row_in(m.z, k);
-    let u = sampling::row_in(m.u, k);
-    let v = sampling::row_in(m.v, k);
-    let w = sampling::row_in(m.w, k);
+    let x = sampling::row_in(truncated(m.x), k);
+    let y = sampling::row_in(truncated(m.y), k);
+    let z = sampling::row_in(truncated(m.z), k);
+    let u = sampling::row_in(truncated(m.u), k);
+    let v = sampling::row_in(truncated(m.v), k);
+    let w = sampling::row_in(truncated(m.w), k);
     RowSlopes {
         x: x,
         y: y,
@@ -195,12 +259,12 @@ fn put_pair(r: RowSlopes, t: usize, out: &mut [i64], at: usize)
     requires { ⌜ RowTapering r × (t ≤ 16) × (at + 6 ≤ length (now out)) ⌝ }
     ensures { λ _. ⌜ Fills (λ e. getD (sixAt r t) e (pos 0)) at 6 (now (out .entry)) (now (out .exit)) ⌝ }
 {
-    let a = sampling::value_at(r.x, t);
-    let b = sampling::value_at(r.y, t);
-    let c = sampling::value_at(r.z, t);
-    let d = sampling::value_at(r.u, t);
-    let e = sampling::value_at(r.v, t);
-    let f = sampling::value_at(r.w, t);
+    let a = sampling::value_at(truncated_row(r.x), t);
+    let b = sampling::value_at(truncated_row(r.y), t);
+    let c = sampling::value_at(truncated_row(r.z), t);
+    let d = sampling::value_at(truncated_row(r.u), t);
+    let e = sampling::value_at(truncated_row(r.v), t);
+    let f = sampling::value_at(truncated_row(r.w), t);
     put_six(out, at, a, b, c, d, e, f);
 }
 

@@ -65,7 +65,7 @@ module _ (r : RowSlopes) (t : ℕ) (h : RowTapering r) (l : t ≤ 16) where
   six-values : (a b c d e g : ℤ) → a ≡ valueOf (r .x) t → b ≡ valueOf (r .y) t → c ≡ valueOf (r .z) t → d ≡ valueOf (r .u) t → e ≡ valueOf (r .v) t
       → g ≡ valueOf (r .w) t → axes (bits a) (bits b) (bits c) ++ axes (bits d) (bits e) (bits g) ≡ sixAt r t
   six-values a b c d e g p q s u v w =
-      rw (bit (r .x) a (h .0) p, bit (r .y) b (h .1) q, bit (r .z) c (h .2) s, bit (r .u) d (h .3) u, bit (r .v) e (h .4) v, bit (r .w) g (h .5) w)
+      rw (bit (r .x) a (h .0 .tapers) p, bit (r .y) b (h .1 .tapers) q, bit (r .z) c (h .2 .tapers) s, bit (r .u) d (h .3 .tapers) u, bit (r .v) e (h .4 .tapers) v, bit (r .w) g (h .5 .tapers) w)
 
   pub six-put : (a b c d e g : ℤ) → a ≡ valueOf (r .x) t → b ≡ valueOf (r .y) t → c ≡ valueOf (r .z) t → d ≡ valueOf (r .u) t → e ≡ valueOf (r .v) t
       → g ≡ valueOf (r .w) t → (at : ℕ) (old out : List ℤ)

@@ -12,7 +12,8 @@ use Rattle.paper.specs.Sampling.{control, onAxis, sideAt}
 use Rattle.paper.specs.Triangles.{groups, turnWeights}
 use Rattle.paper.specs.Tangents.{tangentPair}
 use Rattle.sampling.specs.declared.bernstein.Matrix5.{Matrix5}
-use Rattle.sampling.specs.bernstein.Sums.{Tapered, AllTapered, rowsOf, polynomialOf, rowOf, valueOf}
+use Rattle.sampling.specs.declared.bernstein.Vector5.{Vector5}
+use Rattle.sampling.specs.bernstein.Sums.{Tapered, AllTapered, vector5, rowsOf, polynomialOf, rowOf, valueOf}
 use Rattle.sampling.specs.bernstein.Tangents.{alongOf, inwardOf}
 use Rattle.net_points.specs.declared.writing.Shape.{Shape}
 use Rattle.net_points.specs.declared.tangent_writing.Slopes.{Slopes}
@@ -33,8 +34,22 @@ pub record Sloped (numbers : List ℤ) (side n : ℕ) (m : Slopes) : Type 0 wher
   pub on-v : m .v ≡ inwardOf (polynomialOf (sidePoints numbers side 1) (pos n))
   pub on-w : m .w ≡ inwardOf (polynomialOf (sidePoints numbers side 2) (pos n))
 
+-- a polynomial without its terms of degree four and more: the derivatives have none
+unfoldable pub truncatedOf : Matrix5 → Matrix5
+truncatedOf c = record {
+  r0 = vector5 (c .r0 .a) (c .r0 .b) (c .r0 .c) (c .r0 .d) (pos 0);
+  r1 = vector5 (c .r1 .a) (c .r1 .b) (c .r1 .c) (pos 0) (pos 0);
+  r2 = vector5 (c .r2 .a) (c .r2 .b) (pos 0) (pos 0) (pos 0);
+  r3 = vector5 (c .r3 .a) (pos 0) (pos 0) (pos 0) (pos 0);
+  r4 = vector5 (pos 0) (pos 0) (pos 0) (pos 0) (pos 0);
+}
+
+pub record CubicTapered (c : Matrix5) : Type 0 where
+  pub tapers : AllTapered c
+  pub cubic : truncatedOf c ≡ c
+
 abbrev pub Tapering : Slopes → Type 0
-Tapering m = AllTapered (m .x) × AllTapered (m .y) × AllTapered (m .z) × AllTapered (m .u) × AllTapered (m .v) × AllTapered (m .w)
+Tapering m = CubicTapered (m .x) × CubicTapered (m .y) × CubicTapered (m .z) × CubicTapered (m .u) × CubicTapered (m .v) × CubicTapered (m .w)
 
 -- ---- those of a row
 abbrev pub rowsAt : Slopes → ℕ → RowSlopes
@@ -47,10 +62,15 @@ rowsAt m k = record {
   w = rowOf (m .w) k;
 }
 
+unfoldable pub truncatedRowOf : Vector5 → Vector5
+truncatedRowOf v = vector5 (v .a) (v .b) (v .c) (v .d) (pos 0)
+
+pub record CubicRow (v : Vector5) : Type 0 where
+  pub tapers : Tapered (5 * 2 ^ 34) v
+  pub cubic : truncatedRowOf v ≡ v
+
 abbrev pub RowTapering : RowSlopes → Type 0
-RowTapering r =
-    Tapered (5 * 2 ^ 34) (r .x) × Tapered (5 * 2 ^ 34) (r .y) × Tapered (5 * 2 ^ 34) (r .z) × Tapered (5 * 2 ^ 34) (r .u) × Tapered (5 * 2 ^ 34) (r .v)
-    × Tapered (5 * 2 ^ 34) (r .w)
+RowTapering r = CubicRow (r .x) × CubicRow (r .y) × CubicRow (r .z) × CubicRow (r .u) × CubicRow (r .v) × CubicRow (r .w)
 
 -- both tangents where the tail has the weight t
 abbrev pub sixAt : RowSlopes → ℕ → List ℤ

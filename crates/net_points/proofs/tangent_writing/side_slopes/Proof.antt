@@ -1,5 +1,5 @@
 -- `side_slopes` meets its contract: the derivatives of the polynomial on each axis.
-use mathlib.Core.Path.{_≡_, sym, ap, _∙_, subst}
+use mathlib.Core.Path.{_≡_, ap, _∙_}
 use Prim.Native.Nat.{ℕ, _^_, _<_}
 use native.Mathlib.Omega.{arith}
 use borrow.Author.Needs.{needs}
@@ -9,9 +9,10 @@ use denote.Ref.{now}
 use Rattle.sampling.specs.declared.bernstein.Matrix5.{Matrix5}
 use Rattle.sampling.specs.bernstein.Sums.{AllSized, AllTapered, polynomialOf}
 use Rattle.sampling.specs.bernstein.Tangents.{alongOf, inwardOf}
-use Rattle.sampling.proofs.bernstein.Tapering.{along-tapers, inward-tapers, tapered-sized}
+use Rattle.sampling.proofs.bernstein.Tapering.{tapered-sized}
 use Rattle.sampling.proofs.TangentLaws.{points-fit, tapers}
 use Rattle.net_points.specs.tangent_writing.Paired.{sidePoints}
+use Rattle.net_points.proofs.tangent_writing.Cubic.{along-in, inward-in}
 use Rattle.net_points.proofs.tangent_writing.side_slopes.Statement.{statement}
 use Rattle.net_points.proofs.tangent_writing.side_slopes.Tie as tie
 
@@ -101,13 +102,6 @@ inward-requires-3 : tie.Need-inward-requires-3
 inward-requires-3 c κs =
     let q : tie.After-polynomial3 = search in tapered-sized _ (tapers2 q)
 
--- a derivative of coefficients that taper
-along-in : (c d : Matrix5) → AllTapered c → d ≡ alongOf c → AllTapered d
-along-in c d h i = subst (λ (m : Matrix5). AllTapered m) (sym i) (along-tapers c h)
-
-inward-in : (c d : Matrix5) → AllTapered c → d ≡ inwardOf c → AllTapered d
-inward-in c d h i = subst (λ (m : Matrix5). AllTapered m) (sym i) (inward-tapers c h)
-
 -- after the derivatives towards the tail
 module _ (z : tie.After-along3) where
   abbrev x : tie.After-along
@@ -124,12 +118,12 @@ returns c =
     let z : tie.After-along3 = search in
     let q : tie.After-polynomial3 = search in (
       (
-        along-in _ _ (tapers0 q) (x z .along .ensures),
-        along-in _ _ (tapers1 q) (y z .along2 .ensures),
-        along-in _ _ (tapers2 q) (z .along3 .ensures),
-        inward-in _ _ (tapers0 q) (u .inward .ensures),
-        inward-in _ _ (tapers1 q) (v .inward2 .ensures),
-        inward-in _ _ (tapers2 q) (w .inward3 .ensures),
+        along-in _ _ _ _ (tapers0 q) (is0 q) (x z .along .ensures),
+        along-in _ _ _ _ (tapers1 q) (is1 q) (y z .along2 .ensures),
+        along-in _ _ _ _ (tapers2 q) (is2 q) (z .along3 .ensures),
+        inward-in _ _ _ _ (tapers0 q) (is0 q) (u .inward .ensures),
+        inward-in _ _ _ _ (tapers1 q) (is1 q) (v .inward2 .ensures),
+        inward-in _ _ _ _ (tapers2 q) (is2 q) (w .inward3 .ensures),
       ),
       record {
         on-x = x z .along .ensures ∙ ap alongOf (is0 q);
