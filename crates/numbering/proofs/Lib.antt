@@ -1,4 +1,5 @@
 pub mod Rowed
+pub mod Plains
 pub mod Walked
 pub mod Lent
 pub mod Striped

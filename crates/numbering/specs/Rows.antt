@@ -1,5 +1,6 @@
 -- A row of a net's points by number, the triangles of the strip between two rows, and lists that are filled part by part.
 use mathlib.Core.Path.{_≡_}
+use mathlib.Core.Bool.{true}
 use mathlib.Core.List.{List, _++_}
 use Prim.Native.Nat.{ℕ, zero, suc, _+_, _-_, _*_, _/_, _%_, _^_, _≤_, _<_}
 use lib.Dec.{eqb, ltb}
@@ -25,6 +26,16 @@ pub record Strip (s : ℕ) (L U : Row) : Type 0 where
   pub lower : Small L
   pub upper : Small U
   pub fewer : U .parts < L .parts
+
+-- a row whose numbers rise from its first on, up to its last; and two of them with a point over each lower segment
+pub record Rising (r : Row) : Type 0 where
+  pub up : r .up ≡ true
+  pub base : r .base ≡ r .first + 1
+
+pub record Plain (L U : Row) : Type 0 where
+  pub as-many : L .parts ≡ U .parts + 1
+  pub lower : Rising L
+  pub upper : Rising U
 
 -- number e of the triangle over lower segment t, and of that under upper segment i
 unfoldable pub overNumber : Side → Row → Row → ℕ → ℕ → ℕ
