@@ -5,7 +5,7 @@ use native.Mathlib.Omega.{arith}
 use Rattle.paper.specs.Net.{Side}
 use Rattle.paper.specs.Triangles.{apex, foot}
 use Rattle.numbering.specs.declared.Row.{Row}
-use Rattle.numbering.specs.Rows.{numberAt, Strip, Rising, Plain, stripNumber, three}
+use Rattle.numbering.specs.Rows.{numberAt, Strip, Rising, PlainStrip, stripNumber, three}
 use Rattle.closing.proofs.Calls.{plain-strips}
 use Rattle.numbering.proofs.Rowed.{number-first, number-last, number-up, over-three, under-three}
 
@@ -14,13 +14,13 @@ rising-number r h zero l = (let z : r .first + 0 ≡ r .first = omega arith in z
 rising-number r h (suc j) l =
     (let z : r .first + suc j ≡ r .base + (suc j - 1) = omega (arith, h .base) in z) ∙ number-up r (suc j) (λ e. omega (arith, e)) (λ e. omega (arith, e)) (h .up)
 
-pub plain-small : (side : ℕ) (L U : Row) → Strip side L U → Plain L U
+pub plain-small : (side : ℕ) (L U : Row) → Strip side L U → PlainStrip L U
     → (U .parts ≤ 15) × (L .first + U .parts + 1 < 2 ^ 32) × (U .first + U .parts < 2 ^ 32)
 plain-small side L U s p =
     let a = s .lower .parts in let b = s .lower .base in let d = s .upper .base in
     (omega (arith, p .as-many), omega (arith, p .as-many, p .lower .base), omega (arith, p .upper .base))
 
-module _ (s : Side) (L U : Row) (plain : Plain L U) where
+module _ (s : Side) (L U : Row) (plain : PlainStrip L U) where
   apex-here : (t : ℕ) → t < L .parts → t ≡ apex s (L .parts) (U .parts + 1) t
   apex-here t h = sym (ap (λ (x : ℕ). apex s (L .parts) x t) (sym (plain .as-many)) ∙ plain-strips s (L .parts) .0 t h)
 

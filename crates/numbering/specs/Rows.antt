@@ -32,7 +32,7 @@ pub record Rising (r : Row) : Type 0 where
   pub up : r .up ≡ true
   pub base : r .base ≡ r .first + 1
 
-pub record Plain (L U : Row) : Type 0 where
+pub record PlainStrip (L U : Row) : Type 0 where
   pub as-many : L .parts ≡ U .parts + 1
   pub lower : Rising L
   pub upper : Rising U

@@ -16,7 +16,7 @@ ghost use Rattle.paper.specs.File.{begins};
 ghost use Rattle.paper.specs.Scan.{pickN};
 ghost use Rattle.mesh.specs.Tables.{Named};
 ghost use Rattle.numbering.specs.Meshed.{Here, Place, Wide, Lowests, Of, Given, Started, Starting, groupStart, curveStart, RowOf, ringPlace, sideStart, Put};
-ghost use Rattle.numbering.specs.Rows.{numberAt, Small, Strip, Rising, Plain, stripNumber, Fills, three};
+ghost use Rattle.numbering.specs.Rows.{numberAt, Small, Strip, Rising, PlainStrip, stripNumber, Fills, three};
 
 // A row of a net's points: the numbers of its first and its last, and of those between, which rise or fall by one; and its segments.
 pub struct Row {
@@ -142,7 +142,7 @@ fn rises(row: Row) -> bool
 // Whether a strip is plain: both rows rise, and a point stands over each lower segment.
 fn is_plain(lower: Row, upper: Row) -> bool
     requires { ⌜ upper .parts < lower .parts ⌝ }
-    ensures { λ r. ⌜ (r ≡ true → Plain lower upper) ⌝ }
+    ensures { λ r. ⌜ (r ≡ true → PlainStrip lower upper) ⌝ }
 {
     if lower.parts == upper.parts + 1 {
         if rises(lower) {
@@ -155,7 +155,7 @@ fn is_plain(lower: Row, upper: Row) -> bool
 // The triangles of a plain strip, in a second way, without divisions and without a row's cases. All strips of a net are plain where its border has its level,
 // except the outermost, and the list of all triangles is written in half of the time.
 fn put_over_plain(side: usize, lower: Row, upper: Row, out: &mut [u32], at: usize)
-    requires { ⌜ Strip side lower upper × Plain lower upper × (at + 3 * lower .parts ≤ length (now out)) ⌝ }
+    requires { ⌜ Strip side lower upper × PlainStrip lower upper × (at + 3 * lower .parts ≤ length (now out)) ⌝ }
     ensures { λ _. ⌜ Fills (stripNumber (sideAt side) lower upper) at (3 * lower .parts) (now (out .entry)) (now (out .exit)) ⌝ }
 {
     let w = upper.parts;
@@ -172,7 +172,7 @@ fn put_over_plain(side: usize, lower: Row, upper: Row, out: &mut [u32], at: usiz
 }
 
 fn put_under_plain(side: usize, lower: Row, upper: Row, out: &mut [u32], at: usize)
-    requires { ⌜ Strip side lower upper × Plain lower upper × (at + 3 * upper .parts ≤ length (now out)) ⌝ }
+    requires { ⌜ Strip side lower upper × PlainStrip lower upper × (at + 3 * upper .parts ≤ length (now out)) ⌝ }
     ensures { λ _. ⌜ Fills (λ x. stripNumber (sideAt side) lower upper (3 * lower .parts + x)) at (3 * upper .parts) (now (out .entry)) (now (out .exit)) ⌝ }
 {
     if upper.parts == 0 {
