@@ -14,7 +14,7 @@ ghost use Rattle.paper.specs.Floats.{netVerdict, axes};
 ghost use Rattle.numbering.specs.Rows.{Fills};
 ghost use Rattle.sampling.specs.bernstein.Sums.{Tapered, AllTapered};
 ghost use Rattle.net_points.specs.writing.Shapes.{Shapely, shapeSize};
-ghost use Rattle.net_points.specs.tangent_writing.Paired.{Sloped, Tapering, RowTapering, rowsAt, sixAt, tailAt, placesNumber, partNumber, RingsPaired, NetPaired};
+ghost use Rattle.net_points.specs.tangent_writing.Paired.{Sloped, SideSloped, Tapering, RowTapering, rowsAt, sixAt, tailAt, placesNumber, partNumber, RingsPaired, NetPaired};
 ghost use Rattle.net_points.specs.tangent_writing.Paired.{truncatedOf, truncatedRowOf};
 
 // The derivatives of a side: on x, y and z towards the tail, then on x, y and z towards the centre.
@@ -48,12 +48,28 @@ pub fn put_pairs(numbers: &[i32], shape: Shape, third: usize, out: &mut [i64], a
     let to_first = to_face + 6 * shape.face;
     let to_second = to_first + 6 * (shape.first - 1);
     let to_rings = to_second + 6 * (shape.second - 1);
-    put_part(numbers, 0, shape.first, 0, shape.vertex, out, at);
-    put_part(numbers, 1, shape.second, 0, shape.edge, out, to_edge);
-    put_part(numbers, 2, third, 0, shape.face, out, to_face);
-    put_part(numbers, 0, shape.first, 1, shape.first - 1, out, to_first);
+    let n = shape.level;
+    let a = side_slopes(numbers, 0, n);
+    let b = side_slopes(numbers, 1, n);
+    let c = side_slopes(numbers, 2, n);
+    put_part(numbers, a, n, 0, shape.first, 0, shape.vertex, out, at);
+    put_part(numbers, b, n, 1, shape.second, 0, shape.edge, out, to_edge);
+    put_part(numbers, c, n, 2, third, 0, shape.face, out, to_face);
     put_part(
         numbers,
+        a,
+        n,
+        0,
+        shape.first,
+        1,
+        shape.first - 1,
+        out,
+        to_first,
+    );
+    put_part(
+        numbers,
+        b,
+        n,
         1,
         shape.second,
         1,
@@ -61,12 +77,14 @@ pub fn put_pairs(numbers: &[i32], shape: Shape, third: usize, out: &mut [i64], a
         out,
         to_second,
     );
-    put_rings(numbers, shape.level, out, to_rings);
+    put_rings(numbers, a, b, c, n, out, to_rings);
 }
 
-// Those at `count` places of a side's border in n parts, from place `first` on.
+// Those at `count` places of a side's border in n parts, from place `first` on; m has the side's derivatives in `level` parts.
 fn put_part(
     numbers: &[i32],
+    m: Slopes,
+    level: usize,
     side: usize,
     n: usize,
     first: usize,
@@ -74,25 +92,23 @@ fn put_part(
     out: &mut [i64],
     at: usize,
 )
-    requires net { ⌜ (netVerdict (now numbers) ≡ sound) × (side ≤ 3) ⌝ }
+    requires net { ⌜ (netVerdict (now numbers) ≡ sound) × (side ≤ 3) × SideSloped (now numbers) side level m ⌝ }
     requires parts { ⌜ (1 ≤ n) × (n ≤ 16) × (first + count ≤ n) × (at + 6 * count ≤ length (now out)) ⌝ }
     ensures { λ _. ⌜ Fills (partNumber (now (numbers .entry)) side n 0 first) at (6 * count) (now (out .entry)) (now (out .exit)) ⌝ }
 {
     if 0 < count {
-        let m = side_slopes(numbers, side, n);
-        let r = row_slopes(m, 0);
+        let b = in_parts(numbers, m, level, side, n);
+        let r = row_slopes(b, 0);
         put_places(r, side, n, 0, first, count, out, at);
     }
 }
 
-// Those of the rings of a net with level n, and of its centre.
-fn put_rings(numbers: &[i32], n: usize, out: &mut [i64], at: usize)
-    requires { ⌜ (netVerdict (now numbers) ≡ sound) × (1 ≤ n) × (n ≤ 16) × (at + 6 * (2 * (n * (n - 1)) + 1) ≤ length (now out)) ⌝ }
+// Those of the rings of a net with level n, and of its centre; a, b and c have the derivatives of sides 0, 1 and 2.
+fn put_rings(numbers: &[i32], a: Slopes, b: Slopes, c: Slopes, n: usize, out: &mut [i64], at: usize)
+    requires net { ⌜ (netVerdict (now numbers) ≡ sound) × (1 ≤ n) × (n ≤ 16) × (at + 6 * (2 * (n * (n - 1)) + 1) ≤ length (now out)) ⌝ }
+    requires sides { ⌜ SideSloped (now numbers) 0 n a × SideSloped (now numbers) 1 n b × SideSloped (now numbers) 2 n c ⌝ }
     ensures { λ _. ⌜ RingsPaired (now (numbers .entry)) n at (now (out .entry)) (now (out .exit)) ⌝ }
 {
-    let a = side_slopes(numbers, 0, n);
-    let b = side_slopes(numbers, 1, n);
-    let c = side_slopes(numbers, 2, n);
     let d = side_slopes(numbers, 3, n);
     let mut to = at;
     let mut k = 0;
@@ -135,6 +151,17 @@ fn side_slopes(numbers: &[i32], side: usize, n: usize) -> Slopes
         v: v,
         w: w,
     }
+}
+
+// The same, where it may have been taken in `level` parts already.
+fn in_parts(numbers: &[i32], m: Slopes, level: usize, side: usize, n: usize) -> Slopes
+    requires { ⌜ (netVerdict (now numbers) ≡ sound) × (side ≤ 3) × (n ≤ 16) × SideSloped (now numbers) side level m ⌝ }
+    ensures { λ r. ⌜ Tapering r × Sloped (now (numbers .entry)) side n r ⌝ }
+{
+    if n == level {
+        return m;
+    }
+    side_slopes(numbers, side, n)
 }
 
 // A polynomial without its terms of degree four and more. The derivatives have none; the compiler sees the zeros and leaves their products out.

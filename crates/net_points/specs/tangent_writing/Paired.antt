@@ -51,6 +51,11 @@ pub record CubicTapered (c : Matrix5) : Type 0 where
 abbrev pub Tapering : Slopes → Type 0
 Tapering m = CubicTapered (m .x) × CubicTapered (m .y) × CubicTapered (m .z) × CubicTapered (m .u) × CubicTapered (m .v) × CubicTapered (m .w)
 
+-- both
+pub record SideSloped (numbers : List ℤ) (side n : ℕ) (m : Slopes) : Type 0 where
+  pub tapering : Tapering m
+  pub sloped : Sloped numbers side n m
+
 -- ---- those of a row
 abbrev pub rowsAt : Slopes → ℕ → RowSlopes
 rowsAt m k = record {

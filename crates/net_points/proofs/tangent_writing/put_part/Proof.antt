@@ -14,10 +14,10 @@ use Rattle.net_points.proofs.tangent_writing.put_part.Tie as tie
 returns : tie.Need-returns
 returns c =
     let s : tie.Start = search in
-    let m : tie.After-side-slopes = search in
+    let m : tie.After-in-parts = search in
     let r : tie.After-row-slopes = search in
     let p : tie.After-put-places = search in
-    places-part (now (s .args .numbers)) (s .args .side) (s .args .n) 0 (m .side-slopes .result) (m .side-slopes .ensures .1) (s .pre .0 .1) (s .args .first)
+    places-part (now (s .args .numbers)) (s .args .side) (s .args .n) 0 (m .in-parts .result) (m .in-parts .ensures .1) (s .pre .0 .1) (s .args .first)
     (s .args .count) (omega (arith, s .pre .1 .2)) (r .row-slopes .result) (r .row-slopes .ensures .1) (s .args .at) (now (s .args .out)) _ (p .put-places .ensures)
 
 returns-2 : tie.Need-returns-2
