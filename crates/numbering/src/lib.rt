@@ -152,8 +152,8 @@ fn is_plain(lower: Row, upper: Row) -> bool
     false
 }
 
-// The triangles of a plain strip, in a second way, without divisions and without a row's cases. All strips of a net are plain where its border has its level,
-// except the outermost, and the list of all triangles is written in half of the time.
+// The triangles of a plain strip, in a second way, without divisions and without a row's cases: those over the lower segments. All strips of a net
+// but the outermost are plain, whatever its border's level. So the call for points and triangles takes 0.89 of the time at level 8 and 0.79 at 16.
 fn put_over_plain(side: usize, lower: Row, upper: Row, out: &mut [u32], at: usize)
     requires { ⌜ Strip side lower upper × PlainStrip lower upper × (at + 3 * lower .parts ≤ length (now out)) ⌝ }
     ensures { λ _. ⌜ Fills (stripNumber (sideAt side) lower upper) at (3 * lower .parts) (now (out .entry)) (now (out .exit)) ⌝ }
@@ -171,6 +171,7 @@ fn put_over_plain(side: usize, lower: Row, upper: Row, out: &mut [u32], at: usiz
     put_three(out, at + 3 * w, a, lower.last, c);
 }
 
+// Those under the upper segments.
 fn put_under_plain(side: usize, lower: Row, upper: Row, out: &mut [u32], at: usize)
     requires { ⌜ Strip side lower upper × PlainStrip lower upper × (at + 3 * upper .parts ≤ length (now out)) ⌝ }
     ensures { λ _. ⌜ Fills (λ x. stripNumber (sideAt side) lower upper (3 * lower .parts + x)) at (3 * upper .parts) (now (out .entry)) (now (out .exit)) ⌝ }
