@@ -28,7 +28,7 @@ use Rattle.closing.proofs.Spots.{own-curve0, own-curve1}
 use Rattle.closing.proofs.Shared.{beside-below}
 use Rattle.closing.proofs.Counts.{group-step, rings-all, points-few, triangles-more, most-inner}
 use Rattle.numbering.specs.declared.Row.{Row}
-use Rattle.numbering.specs.Rows.{numberAt}
+use Rattle.numbering.specs.PointRows.{numberAt}
 use Rattle.numbering.proofs.Rowed.{number-first, number-last, number-up}
 
 -- ---- what the functions ask

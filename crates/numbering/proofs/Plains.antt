@@ -5,7 +5,7 @@ use native.Mathlib.Omega.{arith}
 use Rattle.paper.specs.Net.{Side}
 use Rattle.paper.specs.Triangles.{apex, foot}
 use Rattle.numbering.specs.declared.Row.{Row}
-use Rattle.numbering.specs.Rows.{numberAt, Strip, Rising, PlainStrip, stripNumber, three}
+use Rattle.numbering.specs.PointRows.{numberAt, Strip, Rising, PlainStrip, stripNumber, three}
 use Rattle.closing.proofs.Calls.{plain-strips}
 use Rattle.numbering.proofs.Rowed.{number-first, number-last, number-up, over-three, under-three}
 

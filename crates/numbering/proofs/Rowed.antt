@@ -12,7 +12,7 @@ use Rattle.paper.specs.Sampling.{sideAt}
 use Rattle.paper.specs.Triangles.{apex, foot}
 use Rattle.mesh.proofs.Fills.{filled-step}
 use Rattle.numbering.specs.declared.Row.{Row}
-use Rattle.numbering.specs.Rows.{numberAt, overNumber, underNumber, stripNumber, FilledTo, Fills, three}
+use Rattle.numbering.specs.PointRows.{numberAt, overNumber, underNumber, stripNumber, FilledTo, Fills, three}
 use Rattle.closing.proofs.Strips.{apex-rises, foot-head, foot-tail, stepAt, foot-at}
 
 -- ---- the number at a place

@@ -6,7 +6,7 @@ use native.Mathlib.Omega.{arith}
 use Rattle.paper.specs.Scan.{valuesFrom}
 use Rattle.paper.specs.File.{begins}
 use Rattle.mesh.proofs.Links.{values-length}
-use Rattle.numbering.specs.Rows.{Stands}
+use Rattle.numbering.specs.PointRows.{Stands}
 use Rattle.numbering.proofs.Striped.{fills-join, fills-start}
 
 module _ {A : Type 0} (f : ℕ → A) where

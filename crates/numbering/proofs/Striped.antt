@@ -16,7 +16,7 @@ use Rattle.paper.specs.Triangles.{trianglesBefore}
 use Rattle.mesh.proofs.Scans.{ways}
 use Rattle.mesh.proofs.Faces.{start-next}
 use Rattle.numbering.specs.declared.Row.{Row}
-use Rattle.numbering.specs.Rows.{overNumber, underNumber, stripNumber, FilledTo, Fills}
+use Rattle.numbering.specs.PointRows.{overNumber, underNumber, stripNumber, FilledTo, Fills}
 use Rattle.numbering.specs.Meshed.{RowOf, sideStart}
 use Rattle.closing.proofs.Strips.{apex-rises, foot-at}
 use Rattle.closing.proofs.Partners.{Leveled, Triangle, row-wide, row-later, lower-is, upper-is}

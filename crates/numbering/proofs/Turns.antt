@@ -10,7 +10,7 @@ use Rattle.paper.specs.Sampling.{mostParts, sideAt}
 use Rattle.paper.specs.Triangles.{level, stripSizes, indexAt, trianglesBefore, triangleList}
 use Rattle.paper.specs.File.{begins}
 use Rattle.numbering.specs.declared.Row.{Row}
-use Rattle.numbering.specs.Rows.{numberAt, Small, Strip, stripNumber, Fills}
+use Rattle.numbering.specs.PointRows.{numberAt, Small, Strip, stripNumber, Fills}
 use Rattle.numbering.specs.Meshed.{Of, Started, Starting, groupStart, RowOf, ringPlace, sideStart, Put}
 use Rattle.closing.proofs.Places.{stripAt}
 use Rattle.closing.proofs.Counts.{ringsBefore, ring-start, none-more}

@@ -17,7 +17,7 @@ use Rattle.paper.specs.Sampling.{mostParts, sideAt}
 use Rattle.paper.specs.Triangles.{groups, strips, level, segments, pointGroups, stripSizes, pointsBefore, trianglesBefore, rowSegments, pointNumber, indexAt}
 use Rattle.walk.specs.Table.{Tabled}
 use Rattle.numbering.specs.declared.Row.{Row}
-use Rattle.numbering.specs.Rows.{numberAt, Small, Stands}
+use Rattle.numbering.specs.PointRows.{numberAt, Small, Stands}
 
 -- c is a corner of the accepted mesh M, whose table this is; of some mesh
 pub record Here (M : Mesh) (table : List ℕ) (c : ℕ) : Type 0 where

@@ -16,7 +16,7 @@ ghost use Rattle.paper.specs.File.{begins};
 ghost use Rattle.paper.specs.Scan.{pickN};
 ghost use Rattle.mesh.specs.Tables.{Named};
 ghost use Rattle.numbering.specs.Meshed.{Here, Place, Wide, Lowests, Of, Given, Started, Starting, groupStart, curveStart, RowOf, ringPlace, sideStart, Put};
-ghost use Rattle.numbering.specs.Rows.{numberAt, Small, Strip, Rising, PlainStrip, stripNumber, Fills, three};
+ghost use Rattle.numbering.specs.PointRows.{numberAt, Small, Strip, Rising, PlainStrip, stripNumber, Fills, three};
 
 // A row of a net's points: the numbers of its first and its last, and of those between, which rise or fall by one; and its segments.
 pub struct Row {

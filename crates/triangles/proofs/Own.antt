@@ -29,7 +29,7 @@ use Rattle.borders.proofs.Ranges.{ranges}
 use Rattle.floats.proofs.nets.Nets.{nets-pass}
 use Rattle.mesh.proofs.Faces.{Held, held, start-next, start-all}
 use Rattle.net_points.specs.declared.writing.Shape.{Shape}
-use Rattle.numbering.specs.Rows.{Fills}
+use Rattle.numbering.specs.PointRows.{Fills}
 use Rattle.triangles.specs.Owned.{ShapeOf, Pointed}
 use Rattle.net_points.specs.writing.Laid.{Reaches}
 use Rattle.net_points.specs.writing.Shapes.{shapeGroup, shapeRings, shapeStart, shapeSize, shapeNumber, ShapeAim, ShapePlace}

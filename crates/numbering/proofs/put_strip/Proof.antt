@@ -6,7 +6,7 @@ use native.Mathlib.Omega.{arith}
 use Rattle.paper.specs.Net.{Side}
 use Rattle.paper.specs.Sampling.{sideAt}
 use Rattle.numbering.specs.declared.Row.{Row}
-use Rattle.numbering.specs.Rows.{stripNumber, Fills}
+use Rattle.numbering.specs.PointRows.{stripNumber, Fills}
 use Rattle.numbering.proofs.Rowed.{fills-more, fills-as}
 use borrow.Author.Needs.{needs}
 use Rattle.numbering.proofs.put_strip.Statement.{statement}

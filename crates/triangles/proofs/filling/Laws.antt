@@ -26,7 +26,7 @@ use Rattle.mesh.proofs.Verdicts.{sound-left, sound-right, unsound, single-sound
 use Rattle.net.specs.sides.Drawn.{drawn}
 use Rattle.building.specs.writing.Written.{NetsDrawn, NetsWritten}
 use Rattle.building.proofs.writing.Laws.{drawn-written}
-use Rattle.numbering.specs.Rows.{Stands}
+use Rattle.numbering.specs.PointRows.{Stands}
 use Rattle.triangles.specs.Checks.{CountedAs}
 use Rattle.triangles.specs.filling.Filled.{Filled}
 use Rattle.triangles.specs.Owned.{Pointed}

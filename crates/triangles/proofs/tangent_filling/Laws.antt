@@ -26,7 +26,7 @@ use Rattle.closing.proofs.Partners.{Leveled}
 use Rattle.closing.proofs.Numbered.{In, group-is, number-is}
 use Rattle.closing.proofs.Calls.{points-between}
 use Rattle.net_points.specs.declared.writing.Shape.{Shape}
-use Rattle.numbering.specs.Rows.{FilledTo, Fills}
+use Rattle.numbering.specs.PointRows.{FilledTo, Fills}
 use Rattle.triangles.specs.Owned.{ShapeOf}
 use Rattle.net_points.specs.writing.Shapes.{shapeGroup, shapeStart, shapeSize}
 use Rattle.net_points.specs.tangent_writing.Paired.{shapePair, PairAim, NetPaired}

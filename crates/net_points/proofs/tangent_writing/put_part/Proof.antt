@@ -4,7 +4,7 @@ use Prim.Native.Nat.{ℕ, _+_, _*_, _≤_}
 use native.Mathlib.Omega.{arith}
 use borrow.Author.Needs.{needs}
 use denote.Ref.{now}
-use Rattle.numbering.specs.Rows.{Fills}
+use Rattle.numbering.specs.PointRows.{Fills}
 use Rattle.net_points.specs.tangent_writing.Paired.{partNumber}
 use Rattle.numbering.proofs.Rowed.{fills-none}
 use Rattle.net_points.proofs.tangent_writing.Laws.{places-part}

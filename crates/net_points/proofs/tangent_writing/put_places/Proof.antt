@@ -6,7 +6,7 @@ use native.Mathlib.Omega.{arith}
 use borrow.Author.Needs.{needs}
 use lib.ListN.{length}
 use denote.Ref.{now}
-use Rattle.numbering.specs.Rows.{Fills}
+use Rattle.numbering.specs.PointRows.{Fills}
 use Rattle.net_points.specs.tangent_writing.Paired.{placesNumber}
 use Rattle.numbering.proofs.Rowed.{fills-none}
 use Rattle.net_points.proofs.tangent_writing.Laws.{places-step}

@@ -3,7 +3,7 @@ use mathlib.Core.List.{[], _∷_}
 use Rattle.streams.specs.text.Text.{decimal}
 use Rattle.streams.proofs.text.Putting.{put-none, put-three, put-same}
 use Rattle.print.specs.Lines.{space}
-use Rattle.print.proofs.words.Rows.{not-placed, is-placed}
+use Rattle.print.proofs.words.WordRows.{not-placed, is-placed}
 use borrow.Author.Needs.{needs}
 use Rattle.print.proofs.words.put_place.Tie as tie
 
