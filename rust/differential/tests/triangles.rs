@@ -52,8 +52,8 @@ fn whole(tables: &Tables, links: &[u16], levels: &[u8], random: &mut Random) -> 
 /// Thousands of small meshes: all corners, and a range of them.
 #[test]
 fn as_the_reference() {
-    each_case(2_000, 0x7419_0011, |_, random| {
-        let (tables, links, levels) = random_mesh(36, random);
+    each_case(3_000, 0x7419_0011, |_, random| {
+        let (tables, links, levels) = random_mesh(96, random);
         let all = whole(&tables, &links, &levels, random);
         let corners = tables.corners.len();
         let first = random.below(corners);
@@ -126,8 +126,8 @@ fn any_number_of_threads_gives_the_same() {
 #[test]
 fn every_refusal() {
     let mut seen = HashSet::new();
-    each_case(2_000, 0x7419_0015, |_, random| {
-        let (mut tables, mut links, mut levels) = random_mesh(36, random);
+    each_case(4_000, 0x7419_0015, |_, random| {
+        let (mut tables, mut links, mut levels) = random_mesh(60, random);
         let corners = tables.corners.len();
         if random.once_in(3) {
             let kind = *random.pick(&DAMAGES);
