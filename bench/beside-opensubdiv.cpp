@@ -1,5 +1,5 @@
 // The torus of 8,192 corners at level 8 as triangles, by this library and by OpenSubdiv's limit evaluation (Bfr), in turns on one thread: millions of
-// triangles a second, by the least of many passes. Argument: the seconds to spend, 5 where there is none.
+// triangles a second, by the least of many passes. Arguments: the seconds to spend, 5 where there are none; a .dms file to write the torus to.
 //
 // Ours: each pass checks and builds the mesh and writes shared points, indices and tangents. OpenSubdiv: surfaces are made once, before; each pass
 // evaluates every face with points of its own in a grid of 22 parts, 968 triangles where ours has 1,024, in floats, and writes indices.
@@ -14,6 +14,7 @@
 #include <cmath>
 #include <cstdio>
 #include <cstdlib>
+#include <fstream>
 #include <functional>
 #include <memory>
 #include <vector>
@@ -45,6 +46,13 @@ int main(int argc, char **argv)
             for (int v : {i * Q + j, i * Q + (j + 1) % Q, (i + 1) % P * Q + (j + 1) % Q, (i + 1) % P * Q + j}) corners.push_back(uint16_t(v)), indices.push_back(v);
         }
     const std::vector<uint8_t> sides(FACES, 4), sharpness(2 * CORNERS, MAHUNOPI_PLAIN_SHARPNESS), levels(CORNERS, LEVEL);
+    if (argc > 2) {
+        std::ofstream file(argv[2], std::ios::binary);
+        const auto put = [&](const void *bytes, size_t count) { file.write(static_cast<const char *>(bytes), std::streamsize(count)); };
+        const uint16_t counts[] = {1, FACES, FACES, CORNERS};
+        put("DMS", 3), put(counts, 8), put(coordinates.data(), 4 * coordinates.size()), put(sides.data(), FACES), put(corners.data(), 2 * CORNERS);
+        if (!file.flush()) std::fprintf(stderr, "%s: cannot be written\n", argv[2]), std::exit(1);
+    }
     uint64_t place = 0, point_numbers = 0, triangle_numbers = 0;
     auto refused = [&](uint32_t no) {
         if (no) std::fprintf(stderr, "refused %u at %llu\n", unsigned(no), static_cast<unsigned long long>(place)), std::exit(1);

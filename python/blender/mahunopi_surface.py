@@ -10,7 +10,7 @@ import sys
 import bpy
 import numpy as np
 
-bl_info = {"name": "Smooth surface (Mahunopi)", "author": "Mahunopi", "version": (4, 0), "blender": (3, 0, 0), "category": "Object",
+bl_info = {"name": "Smooth surface (Mahunopi)", "author": "Mahunopi", "version": (5, 0), "blender": (3, 0, 0), "category": "Object",
            "location": "Object > Smooth surface (Mahunopi)", "description": "The selected closed mesh becomes its smooth surface"}
 HERE = os.path.dirname(os.path.dirname(os.path.realpath(__file__)))
 
@@ -26,12 +26,13 @@ class Preferences(bpy.types.AddonPreferences):
 def package(context):
     """The package, from where the preferences say, or from the checkout that this file lies in."""
     addon = context.preferences.addons.get(__name__)
-    for folder in (addon.preferences.folder if addon and addon.preferences else "", HERE):
+    named = bpy.path.abspath(addon.preferences.folder) if addon and addon.preferences else ""
+    for folder in (named, HERE):
         if folder and os.path.isdir(os.path.join(folder, "mahunopi")) and folder not in sys.path:
-            sys.path.append(bpy.path.abspath(folder))
-    import mahunopi
+            sys.path.append(folder)
     import mahunopi.importing
     import mahunopi.models
+    import mahunopi.surface
 
     return mahunopi
 
@@ -46,24 +47,8 @@ def model_of(mahunopi, mesh):
     return mahunopi.models.Model(points.reshape(-1, 3).astype(np.float64), sides.astype(np.int64), corners.astype(np.int64), True)
 
 
-def surface(mahunopi, mesh, level):
-    """The points, in ticks, and the triangles of the closed surface, which run counter-clockwise seen from outside."""
-    nets = mahunopi.build(mesh, mahunopi.link(mesh))
-    samples = np.concatenate([mahunopi.sample_triangle(net, side, level) for net in nets for side in range(4)])
-    # samples of common sides are the same numbers
-    points, numbers = np.unique(samples, axis=0, return_inverse=True)
-    place = [[k * (2 * level + 3 - k) // 2 + j for j in range(level + 1 - k)] for k in range(level + 1)]
-    small = [(place[k][j], place[k][j + 1], place[k + 1][j]) for k in range(level) for j in range(level - k)]
-    small += [(place[k][j + 1], place[k + 1][j + 1], place[k + 1][j]) for k in range(level) for j in range(level - k - 1)]
-    triangles = numbers.reshape(-1, (level + 1) * (level + 2) // 2)[:, small]
-    # the second and the fourth side run the other way; then all of them as the mesh does
-    triangles[1::2] = triangles[1::2, :, ::-1]
-    triangles = triangles.reshape(-1, 3)
-    a, b, c = (points[triangles[:, i]].astype(np.float64) for i in range(3))
-    return points, triangles if (a * np.cross(b, c)).sum() > 0 else triangles[:, ::-1]
-
-
 def new_mesh(name, points, triangles):
+    """A Blender mesh of triangles, shaded smooth."""
     made = bpy.data.meshes.new(name)
     made.vertices.add(len(points))
     made.vertices.foreach_set("co", points.astype(np.float32).ravel())
@@ -120,9 +105,9 @@ class SmoothSurface(bpy.types.Operator):
             self.report({"ERROR"}, str(refused))
             select(context, item.data, refused.causes)
             return {"CANCELLED"}
-        points, triangles = surface(mahunopi, made.mesh, self.level)
+        smooth = mahunopi.surface.surface(made.mesh, mahunopi.surface.even_levels(made.mesh, self.level))
         name = item.name + " surface"
-        new = bpy.data.objects.new(name, new_mesh(name, made.centre + made.step * points / 256, triangles))
+        new = bpy.data.objects.new(name, new_mesh(name, made.centre + made.step * smooth.points / 256, smooth.triangles))
         new.matrix_world = item.matrix_world
         for material in item.data.materials:
             new.data.materials.append(material)
@@ -130,7 +115,7 @@ class SmoothSurface(bpy.types.Operator):
         item.hide_set(True)
         context.view_layer.objects.active = new
         new.select_set(True)
-        self.report({"INFO"}, f"{len(points):,} points, {len(triangles):,} triangles")
+        self.report({"INFO"}, f"{len(smooth.points):,} points, {len(smooth.triangles):,} triangles")
         return {"FINISHED"}
 
 

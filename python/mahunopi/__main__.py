@@ -1,5 +1,15 @@
+import os
+import signal
 import sys
 
-from .command import main
+if not __package__:
+    # started as a file: modules come from the folder of the package, and not from the one of this file
+    here = os.path.dirname(os.path.realpath(__file__))
+    sys.path[:] = [os.path.dirname(here), *(path for path in sys.path if path != here)]
 
-sys.exit(main())
+from mahunopi.command import SIGNALS, main  # noqa: E402
+
+status = main()
+# what comes now is too late to end anything
+signal.pthread_sigmask(signal.SIG_BLOCK, SIGNALS)
+sys.exit(status)

@@ -27,7 +27,7 @@ if TYPE_CHECKING:
 MAX_PARTS = LIMITS["MAX_PARTS"]
 REFUSED, FAILED = 1, 2
 INTERRUPTED, BROKEN_PIPE, ENDED = 130, 141, 143
-SIGNALS = (signal.SIGINT, signal.SIGTERM)
+SIGNALS = (signal.SIGINT, signal.SIGTERM, signal.SIGHUP)
 MOST_JOBS = 1024
 DEFAULT_LEVEL = 4
 FORMATS = "OBJ, PLY, STL and GLB"
@@ -47,6 +47,13 @@ class Parser(argparse.ArgumentParser):
     def error(self, message: str) -> NoReturn:
         self.exit(FAILED, f"{self.prog}: {message} ({self.prog} --help says more)\n")
 
+    def _print_message(self, message: str, file: Any = None) -> None:
+        """Help and version are written as all else is, so that a closed pipe ends it quietly."""
+        if file is sys.stderr:
+            _note(_one_line(message.rstrip("\n")))
+        elif _guarded("standard output", lambda: _say(message.rstrip("\n"))):
+            raise SystemExit(FAILED)
+
 
 def parser() -> Parser:
     def command(name: str, does: str, example: str, count: Union[str, int] = "+",
@@ -63,7 +70,8 @@ def parser() -> Parser:
     commands = whole.add_subparsers(dest="command", metavar="COMMAND", required=True, parser_class=Parser)
 
     info = command("info", "say in words what a .dms file or an OFF text of whole numbers holds", "mahunopi info meshes/*.dms")
-    info.set_defaults(run=run_info, output=None)
+    info.add_argument("-o", dest="output", default="-", metavar="FILE", help="where to write all of it; without it standard output")
+    info.set_defaults(run_all=run_info)
 
     made = command("import", "make a .dms file of an OBJ, OFF, PLY, STL, glTF or other model",
                    "mahunopi import --step 0.01 --sharpness 40 hull.obj -o hull.dms")
@@ -183,9 +191,17 @@ def main(arguments: Optional[List[str]] = None) -> int:
         if isinstance(stream, io.TextIOWrapper):
             stream.reconfigure(errors="surrogateescape")
     with contextlib.suppress(ValueError):  # a thread that is not the main one keeps its signals
-        signal.signal(signal.SIGTERM, _end)
+        for number in SIGNALS[1:]:
+            if signal.getsignal(number) != signal.SIG_IGN:  # as nohup has it
+                signal.signal(number, _end)
     try:
-        asked = parser().parse_args(arguments)
+        # ./mahunopi has signals wait from its start: numpy does not end quietly while it is imported
+        with _held_back():
+            asked = parser().parse_args(arguments)
+            if asked.command != "report":
+                from . import importing, surface  # noqa: F401
+        if asked.files.count("-") > 1:
+            _wrong(asked, "standard input can be read once only")
         return asked.run_all(asked)
     except KeyboardInterrupt:
         return _quiet(INTERRUPTED)
@@ -194,7 +210,7 @@ def main(arguments: Optional[List[str]] = None) -> int:
 
 
 def _end(number: int, frame: object) -> NoReturn:
-    raise SystemExit(ENDED)
+    raise SystemExit(128 + number)
 
 
 def _quiet(status: int) -> int:
@@ -223,6 +239,9 @@ def _guarded(name: str, work: Callable[[], Any]) -> int:
         if isinstance(error, BrokenPipeError):
             raise
         _complain(error.filename if isinstance(error.filename, str) else name, error.strerror or str(error))
+        return FAILED
+    except MemoryError:
+        _complain(name, "there is not enough memory for it")
         return FAILED
     return 0
 
@@ -300,11 +319,16 @@ def _wrong(asked: argparse.Namespace, message: str) -> NoReturn:
 
 def shown(name: str) -> str:
     """A file's name as one line."""
-    return "standard input" if name == "-" else name.replace("\n", "\\n")
+    return "standard input" if name == "-" else _one_line(name)
+
+
+def _one_line(text: str) -> str:
+    """Text with its control characters, as line feeds, written out."""
+    return re.sub(r"[\x00-\x1f\x7f]", lambda found: repr(found[0])[1:-1], text)
 
 
 def _complain(name: str, message: str) -> None:
-    _note(f"{shown(name)}: {message}")
+    _note(f"{shown(name)}: {_one_line(message)}")
 
 
 def _note(line: str) -> None:
@@ -336,16 +360,15 @@ def _write(output: str, parts: Iterable[Any]) -> None:
     import tempfile
 
     path = os.path.realpath(output)
-    there = os.stat(path).st_mode if os.path.exists(path) else None
+    beside = ""
     try:
+        there = os.stat(path).st_mode if os.path.exists(path) else None
         if there is not None and not stat.S_ISREG(there):
             with open(path, "wb") as file:
                 file.writelines(parts)
             return
-        handle, beside = tempfile.mkstemp(prefix=f".{os.path.basename(path)}.", dir=os.path.dirname(path))
-    except OSError as error:
-        raise OSError(error.errno, error.strerror, output) from None
-    try:
+        with _held_back():
+            handle, beside = tempfile.mkstemp(prefix=f".{os.path.basename(path)}.", dir=os.path.dirname(path))
         with open(handle, "wb") as file:
             file.writelines(parts)
         os.chmod(beside, stat.S_IMODE(there) if there is not None else 0o666 & ~_umask())
@@ -390,9 +413,21 @@ def _say(text: str, output: str = "") -> None:
 # ---- info
 
 
-def run_info(asked: argparse.Namespace, name: str, output: str) -> None:
-    mesh, version = _checked(name, _read(name))
-    _say(f"{shown(name)}: " + "\n  ".join(told(mesh, version)))
+def run_info(asked: argparse.Namespace) -> int:
+    texts: List[str] = []
+
+    def tell(name: str) -> None:
+        text = f"{shown(name)}: " + "\n  ".join(told(*_checked(name, _read(name))))
+        if asked.output == "-":
+            _say(text)
+        else:
+            texts.append(text + "\n")
+
+    status = max([_guarded(name, lambda: tell(name)) for name in _progress(asked.files)])
+    if texts:
+        whole = "".join(texts).encode("utf-8", "surrogateescape")
+        status = max(status, _guarded(asked.output, lambda: _write(asked.output, [whole])))
+    return status
 
 
 def _checked(name: str, data: bytes) -> Tuple[Mesh, int]:
@@ -407,25 +442,36 @@ def _checked(name: str, data: bytes) -> Tuple[Mesh, int]:
 
 
 def _in_words(refused: Refused, name: str, data: bytes) -> Refused:
-    """The refusal of a file with what stands there."""
-    from .dms import words
-    from .models import is_known
+    """The refusal of a file with the word that stands there, and whether `import` reads it."""
+    from .dms import is_off
+    from .models import read
 
-    hint = "mahunopi import takes it"
-    if refused.number == 1 and is_known(os.path.splitext(name)[1]):
-        return Refused(1, 0, f"{refused.words} ({hint})")
-    if refused.number != 25:
+    if refused.number not in (1, 25, 26):
         return refused
-    said = words(data)
-    if refused.place >= len(said):
-        return Refused(25, refused.place, f"the text ends after {len(said)} words, where more are needed")
-    word = said[refused.place].decode("utf-8", "replace")
-    try:
-        whole = float(word).is_integer() and word.lstrip("-").isdecimal()
-        return Refused(25, refused.place, f"'{word[:40]}' is out of its range" if whole else
-                       f"'{word[:40]}' is no whole number ({hint})")
-    except (ValueError, OverflowError):
-        return Refused(25, refused.place, f"'{word[:40]}' is no number")
+    said = _wrong_word(data, refused.place) if refused.number == 25 else refused.words
+    with contextlib.suppress(Unreadable):
+        form = "off" if is_off(data) else os.path.splitext(name)[1]
+        if read(data, form, None if name == "-" else name).sides.size:
+            said += " (mahunopi import takes it)"
+    return Refused(refused.number, refused.place, said)
+
+
+def _wrong_word(data: bytes, place: int) -> str:
+    """What is wrong with a word of an OFF text."""
+    from .dms import words
+    from .models import NUMBER
+
+    listed = words(data)
+    if place >= len(listed):
+        return f"the text ends after {len(listed)} words, where more are needed"
+    word = listed[place].decode("utf-8", "replace")
+    if not NUMBER.match(word):
+        what = "no number"
+    elif word.lstrip("-").isdecimal():
+        what = "out of its range"
+    else:
+        what = "no whole number"
+    return f"'{word[:40]}' is {what}"
 
 
 def told(mesh: Mesh, version: int) -> List[str]:
@@ -504,7 +550,7 @@ def done(made: Imported) -> str:
     return (f"{counted(made.points_before, 'point')} and {counted(made.faces_before, 'face')} became "
             f"{counted(mesh.coordinates.size // 3, 'vertex', 'vertices')}, {counted(mesh.sides.size, 'face')}, "
             f"{mesh.corners.size:,} corners; --undo-scale {made.step!r} {' '.join(repr(float(x)) for x in made.centre)} undoes the scale; "
-            f"{counted(made.turned, 'face')} turned, {sense}")
+            f"{counted(made.turned, 'face')} turned, {sense}" + (f"; {made.note}" if made.note else ""))
 
 
 # ---- turn
@@ -583,8 +629,6 @@ def run_view(asked: argparse.Namespace) -> int:
     files = asked.files
     if len(files) > 2:
         _wrong(asked, f"a page shows one mesh or two, not {len(files)}")
-    if files.count("-") > 1:
-        _wrong(asked, "standard input can be read once only")
     if asked.output is None and "-" in files:
         _wrong(asked, "standard input has no name that a page could have, name one by -o")
     output = asked.output or default_name(files)
@@ -622,12 +666,7 @@ def _show(output: str, data: bytes) -> None:
 
 
 def run_report(asked: argparse.Namespace) -> int:
-    from .reporting import Found, Lost, as_table, chunks_of, expanded, get_ready, in_words, listed, page_lines
-
-    def meanwhile() -> None:
-        if not asked.page:
-            with _held_back():
-                get_ready()
+    from .reporting import Found, Lost, as_table, chunks_of, expanded, in_words, listed, page_lines
 
     names = list(asked.files)
     if "-" in names:
@@ -640,9 +679,8 @@ def run_report(asked: argparse.Namespace) -> int:
             return status
     files, twice, wrong = expanded(names)
     found, stopped, why = Found(), 0, "interrupted"
-    _start_bar(len(files))
     try:
-        with contextlib.closing(chunks_of(files, asked.jobs, meanwhile)) as chunks:
+        with contextlib.closing(chunks_of(files, asked.jobs, lambda: _start_bar(len(files)))) as chunks:
             for chunk in chunks:
                 with _held_back():
                     found.add(chunk)

@@ -32,6 +32,8 @@ class Imported:
     sense: str
     """`turned` where all faces were turned then, to run clockwise seen from outside; `clockwise` where they did; `kept` where they
     were to stay as drawn; `flat` where the volume is 0."""
+    note: str
+    """What of the file was passed over, in words."""
 
 
 def import_model(model: Model, largest: int = DEFAULT_LARGEST, step: Optional[float] = None, as_drawn: bool = False,
@@ -75,7 +77,7 @@ def import_model(model: Model, largest: int = DEFAULT_LARGEST, step: Optional[fl
         sharp = (bends > sharpness) & (bends[shape.previous] > sharpness)
         mesh.sharpness[sharp] = MAX_SHARPNESS
         links = link(mesh)
-    return Imported(mesh, 1 if sharpness is None else 2, step, centre, len(model.points), model.sides.size, turned, sense)
+    return Imported(mesh, 1 if sharpness is None else 2, step, centre, len(model.points), model.sides.size, turned, sense, model.note)
 
 
 def _on_grid(points: np.ndarray, largest: int, step: Optional[float]) -> Tuple[np.ndarray, float, np.ndarray]:
@@ -93,10 +95,16 @@ def _on_grid(points: np.ndarray, largest: int, step: Optional[float]) -> Tuple[n
     steps = np.copysign(np.floor(np.abs(steps) + 0.5), steps)
     beyond = float(np.abs(steps).max())
     if not beyond <= LARGEST_COORDINATE:
-        least = step * beyond / LARGEST_COORDINATE
-        raise Refused(7, 0, f"the largest coordinate is {beyond:,.0f} steps, and {LARGEST_COORDINATE:,} is the limit "
-                            f"(a step of {least:.6g} or more serves)", "")
+        told = f"{beyond:,.0f}" if beyond < 1e12 else "above 10^12"
+        raise Refused(7, 0, f"the largest coordinate is {told} steps, and {LARGEST_COORDINATE:,} is the limit "
+                            f"(a step of {_above(float((high - low).max()) / LARGEST_COORDINATE)} or more serves)", "")
     return steps.astype(np.int64), step, centre
+
+
+def _above(number: float) -> str:
+    """Six digits of a number above 0, rounded up."""
+    told = f"{number:.6g}"
+    return told if float(told) > number else f"{number * 1.00001:.6g}"
 
 
 def _clean(sides: np.ndarray, corners: np.ndarray) -> Tuple[np.ndarray, np.ndarray]:

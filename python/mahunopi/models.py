@@ -8,10 +8,13 @@ from __future__ import annotations
 
 import contextlib
 import ctypes
+import faulthandler
 import os
 import re
+import resource
+import signal
 from dataclasses import dataclass
-from typing import Any, Dict, Iterator, List, Optional, Sequence, Tuple
+from typing import Any, Dict, Iterator, List, NoReturn, Optional, Sequence, Tuple
 
 import numpy as np
 
@@ -30,6 +33,8 @@ class Model:
     """The points of face 0 in order, then of face 1, and so on."""
     numbered: bool
     """Whether points have the numbers, from 0, that they have in the file."""
+    note: str = ""
+    """What of the file was passed over, in words."""
 
 
 def read(data: bytes, form: str, path: Optional[str] = None) -> Model:
@@ -51,15 +56,25 @@ def is_known(form: str) -> bool:
     return False
 
 
-def _faces(points: np.ndarray, faces: Sequence[Sequence[int]]) -> Model:
-    """The model of numbered points and a list of faces; entries of one or two points are no faces and are left out."""
-    faces = [face for face in faces if len(face) > 2]
-    sides = np.array([len(face) for face in faces], np.int64)
-    corners = np.fromiter((point for face in faces for point in face), np.int64, int(sides.sum()))
+def _faces(points: np.ndarray, sides: np.ndarray, corners: np.ndarray) -> Model:
+    """The model of numbered points and of faces; entries of one or two points are no faces and are left out."""
+    are_faces = sides > 2
+    corners = corners[np.repeat(are_faces, sides)].astype(np.int64)
     wrong = np.flatnonzero((corners < 0) | (corners >= len(points)))
     if wrong.size:
         raise Unreadable(f"a face names point {corners[wrong[0]]} of {len(points):,} points, which are numbered from 0")
-    return Model(points, sides, corners, True)
+    return Model(points, sides[are_faces], corners, True)
+
+
+def _joined(rows: Any) -> Tuple[np.ndarray, np.ndarray]:
+    """The lengths of lists of whole numbers, and their numbers one after the other."""
+    if isinstance(rows, np.ndarray):
+        return np.full(len(rows), rows.shape[1], np.int64), rows.reshape(-1)
+    lengths = np.array([len(row) for row in rows], np.int64)
+    try:
+        return lengths, np.fromiter((number for row in rows for number in row), np.int64, int(lengths.sum()))
+    except OverflowError:
+        raise Unreadable("a face names a point by a number of more than 64 bits") from None
 
 
 def _welded(positions: np.ndarray, sides: np.ndarray) -> Model:
@@ -85,16 +100,20 @@ def first_of_equals(rows: np.ndarray) -> Tuple[np.ndarray, np.ndarray]:
 # ---- OFF
 
 OFF_START = re.compile(r"(ST)?(C)?(N)?(4)?(n)?OFF$")
-NUMBER = re.compile(r"[-+]?(?:\d+\.?\d*|\.\d+)(?:[eE][-+]?\d+)?$")
+NUMBER = re.compile(r"[-+]?(?:\d+\.?\d*|\.\d+)(?:[eE][-+]?\d+)?$", re.ASCII)
+# No count has so many digits, and Python refuses to read numbers of thousands.
+MOST_DIGITS = 18
 
 
 def read_off(data: bytes) -> Model:
-    """An OFF text: OFF, COFF, NOFF, 4OFF, STOFF and what these make together; fractions, comments, counts in the first line,
-    colours of vertices and faces. Where every vertex and face has a line of its own, what follows its numbers is passed over;
-    else the text is read word by word, and has nothing but these numbers."""
+    """An OFF text: OFF, COFF, NOFF, 4OFF, STOFF and what these make together, or its counts alone; fractions, comments, counts in the
+    first line, colours of vertices and faces. Where every vertex and face has a line of its own, what follows its numbers is passed
+    over, and so are lines after the last face; else the text is read word by word, and has nothing but these numbers."""
     text = data.decode("ascii", "replace")
     lines = [line.split() for line in re.sub(r"#[^\n]*", "", text).split("\n")]
     lines = [line for line in lines if line]
+    if lines and _is_whole(lines[0][0]):
+        lines.insert(0, ["OFF"])
     start = OFF_START.match(lines[0][0]) if lines else None
     if not start:
         raise Unreadable(f"its first word is not OFF, COFF, NOFF or 4OFF but '{lines[0][0][:20]}'" if lines else "it is empty")
@@ -112,11 +131,13 @@ def read_off(data: bytes) -> Model:
     base = 4 if four else 3
     wide = base + (3 if normals else 0)
     vertices, faces = (_whole(word, "count") for word in (words + ["no word"] * 2)[:2])
-    body = lines[1:]
-    if (len(lines[0]) in (2, 3) and len(body) == vertices + faces and all(len(line) >= wide for line in body[:vertices])
+    body, more = lines[1: 1 + vertices + faces], len(lines) - 1 - vertices - faces
+    note = ""
+    if (len(lines[0]) in (2, 3) and more >= 0 and all(len(line) >= wide for line in body[:vertices])
             and all(_is_whole(line[0]) and len(line) > int(line[0]) for line in body[vertices:])):
         points = [line[:base] for line in body[:vertices]]
         polygons = [line[1: 1 + int(line[0])] for line in body[vertices:]]
+        note = f"{more:,} line{'s' if more > 1 else ''} after the last of its {faces:,} faces passed over" if more else ""
     else:
         at = 3 + vertices * wide
         if at > len(words):
@@ -139,11 +160,13 @@ def read_off(data: bytes) -> Model:
     if four:
         with np.errstate(all="ignore"):
             numbers = numbers[:, :3] / numbers[:, 3:]
-    return _faces(numbers, named)
+    model = _faces(numbers, *_joined(named))
+    model.note = note
+    return model
 
 
 def _is_whole(word: str) -> bool:
-    return word.isascii() and word.isdigit()
+    return word.isascii() and word.isdigit() and len(word) <= MOST_DIGITS
 
 
 def _whole(word: str, what: str) -> int:
@@ -157,8 +180,11 @@ def _whole(word: str, what: str) -> int:
 PLY_TYPES = {"char": "i1", "int8": "i1", "uchar": "u1", "uint8": "u1", "short": "i2", "int16": "i2", "ushort": "u2",
              "uint16": "u2", "int": "i4", "int32": "i4", "uint": "u4", "uint32": "u4", "float": "f4", "float32": "f4",
              "double": "f8", "float64": "f8"}
+PLY_LENGTHS = {name: kind for name, kind in PLY_TYPES.items() if kind[0] != "f"}
 PLY_ORDERS = {"ascii": "", "binary_little_endian": "<", "binary_big_endian": ">"}
 Columns = Dict[str, Any]
+# Rows with longer lists are read one by one.
+MOST_ALIKE = 255
 
 
 @dataclass
@@ -179,21 +205,26 @@ def read_ply(data: bytes) -> Model:
     points: Optional[np.ndarray] = None
     faces: Any = []
     for element in elements:
-        if not element.properties:
+        kinds = {name: (kind, length) for name, kind, length in element.properties}
+        listed = next((name for name in ("vertex_indices", "vertex_index") if name in kinds), "")
+        if element.name == "vertex" and not all(axis in kinds and not kinds[axis][1] for axis in "xyz"):
+            raise Unreadable("its vertices have no x, y, z")
+        if element.name == "face" and listed and (kinds[listed][0][0] == "f" or not kinds[listed][1]):
+            raise Unreadable(f"the {listed} of its faces is no list of whole numbers")
+        if not kinds:
             continue
         if order == "":
             rows = _text_rows(element, words)
         else:
             rows, at = _binary_rows(element, order, data, at)
         if element.name == "vertex":
-            if not all(axis in rows for axis in "xyz"):
-                raise Unreadable("its vertices have no x, y, z")
-            points = np.column_stack([np.asarray(rows[axis], np.float64) for axis in "xyz"])
-        elif element.name == "face":
-            faces = rows.get("vertex_indices", rows.get("vertex_index", []))
+            points = np.column_stack([np.asarray(rows[axis]) for axis in "xyz"])
+            points = points.astype(np.float32 if points.dtype == np.float32 else np.float64)
+        elif element.name == "face" and listed:
+            faces = rows[listed]
     if points is None:
         raise Unreadable("it has no vertices")
-    return _faces(points, [[int(point) for point in face] for face in faces])
+    return _faces(points, *_joined(faces))
 
 
 def _ply_header(data: bytes) -> Tuple[str, List[Element], int]:
@@ -210,7 +241,7 @@ def _ply_header(data: bytes) -> Tuple[str, List[Element], int]:
             elif words[:1] == ["element"]:
                 elements.append(Element(words[1], _whole(words[2], "number of rows"), []))
             elif words[:2] == ["property", "list"]:
-                elements[-1].properties.append((words[4], PLY_TYPES[words[3]], PLY_TYPES[words[2]]))
+                elements[-1].properties.append((words[4], PLY_TYPES[words[3]], PLY_LENGTHS[words[2]]))
             elif words[:1] == ["property"]:
                 elements[-1].properties.append((words[2], PLY_TYPES[words[1]], ""))
         except (IndexError, KeyError):
@@ -227,15 +258,21 @@ def _ply_header(data: bytes) -> Tuple[str, List[Element], int]:
 def _text_rows(element: Element, words: Iterator[bytes]) -> Columns:
     """The columns of an element of a text."""
     rows: Columns = {name: [] for name, _, _ in element.properties}
+    word = b""
     try:
         for _ in range(element.count):
             for name, kind, length in element.properties:
                 number = float if kind[0] == "f" else int
-                rows[name].append([number(next(words)) for _ in range(int(next(words)))] if length else number(next(words)))
+                if length:
+                    count = int(word := next(words))
+                    rows[name].append([number(word := next(words)) for _ in range(count)])
+                else:
+                    rows[name].append(number(word := next(words)))
     except StopIteration:
         raise Unreadable(f"it ends before its {element.count:,} rows of {element.name}") from None
-    except ValueError as error:
-        raise Unreadable(f"a word is no number: {error}") from None
+    except ValueError:
+        what = f"the list {name}" if length else name
+        raise Unreadable(f"'{word[:20].decode('ascii', 'replace')}' is no number for {what} of {element.name}") from None
     return rows
 
 
@@ -275,7 +312,7 @@ def _alike_rows(element: Element, kinds: Sequence[tuple], data: bytes, at: int) 
         if before + length.itemsize > len(data):
             return None
         count = int(np.frombuffer(data, length, 1, before)[0])
-        if count < 1:
+        if not 1 <= count <= MOST_ALIKE:
             return None
         fields[lists[0]: lists[0] + 1] = [("the list's length", length), (name, kind, (count,))]
     table = np.dtype(fields)
@@ -337,6 +374,8 @@ class _Scene(ctypes.Structure):
 
 
 ASSIMP = "libassimp.so.5"
+# Of these assimp turns the whole, so that z upwards becomes y upwards, and makes the unit a metre, all in the root's matrix.
+TURNED = ("3ds", "dae")
 _assimp = None
 
 
@@ -352,8 +391,6 @@ def assimp() -> ctypes.CDLL:
         library.aiImportFile.argtypes = [ctypes.c_char_p, ctypes.c_uint]
         library.aiImportFileFromMemory.restype = ctypes.POINTER(_Scene)
         library.aiImportFileFromMemory.argtypes = [ctypes.c_char_p, ctypes.c_uint, ctypes.c_uint, ctypes.c_char_p]
-        library.aiReleaseImport.restype = None
-        library.aiReleaseImport.argtypes = [ctypes.POINTER(_Scene)]
         library.aiGetErrorString.restype = ctypes.c_char_p
         library.aiIsExtensionSupported.argtypes = [ctypes.c_char_p]
         _assimp = library
@@ -362,31 +399,88 @@ def assimp() -> ctypes.CDLL:
 
 def read_assimp(data: bytes, form: str, path: Optional[str] = None) -> Model:
     """A file of a format that assimp knows, with no processing: faces stay as they are, and the parts of a scene stand where its
-    nodes put them. assimp lists points for each face anew, so that equal positions become one point."""
-    library = assimp()
+    nodes put them. assimp lists points for each face anew, so that equal positions become one point. It reads in a process of its
+    own: damaged files of some formats end the process that reads them."""
+    assimp()
     if not is_known(form):
         raise Unreadable(f"no reader knows the format '{form}'" if form else "its name has no ending that tells the format")
-    if path is not None and os.path.splitext(path)[1].lower() == "." + form:
+    if not data:
+        raise Unreadable("it is empty")
+    ours, theirs = os.pipe()
+    process = os.fork()
+    if process == 0:
+        _read_apart(data, form, path, theirs)
+    os.close(theirs)
+    try:
+        with open(ours, "rb") as pipe:
+            said = pipe.read()
+    except BaseException:
+        os.kill(process, signal.SIGKILL)
+        raise
+    finally:
+        status = os.waitstatus_to_exitcode(os.waitpid(process, 0)[1])
+    if status:
+        raise Unreadable("assimp failed on it" + (f": {signal.strsignal(-status)}" if status < 0 else ""))
+    if said[:1] == WORDS:
+        raise Unreadable(said[1:].decode("utf-8", "replace"))
+    faces = int.from_bytes(said[1:9], "little")
+    return _welded(np.frombuffer(said, np.float32, -1, 9 + 8 * faces).reshape(-1, 3), np.frombuffer(said, np.int64, faces, 9))
+
+
+# What the process that reads says first: whether words follow, or the number of faces, their sides and the positions of their corners.
+WORDS, CORNERS = b"w", b"c"
+# Processor time for a file: damaged ones of some formats keep assimp busy for ever.
+MOST_SECONDS = 300
+
+
+def _read_apart(data: bytes, form: str, path: Optional[str], pipe: int) -> NoReturn:
+    """What that process does. What assimp writes by itself goes nowhere."""
+    status = 1
+    try:
+        for number in (signal.SIGINT, signal.SIGTERM, signal.SIGHUP):
+            signal.signal(number, signal.SIG_DFL)
+        faulthandler.disable()
+        resource.setrlimit(resource.RLIMIT_CORE, (0, 0))
+        resource.setrlimit(resource.RLIMIT_CPU, (MOST_SECONDS, MOST_SECONDS + 1))
+        nothing = os.open(os.devnull, os.O_RDWR)
+        for stream in range(3):
+            os.dup2(nothing, stream)
+        try:
+            positions, sides = _scene_corners(data, form, path)
+            said = [CORNERS, len(sides).to_bytes(8, "little"), sides.tobytes(), positions.tobytes()]
+        except Unreadable as error:
+            said = [WORDS, str(error).encode()]
+        with open(pipe, "wb") as out:
+            out.writelines(said)
+        status = 0
+    finally:
+        os._exit(status)
+
+
+def _scene_corners(data: bytes, form: str, path: Optional[str]) -> Tuple[np.ndarray, np.ndarray]:
+    """The positions of all corners of a scene's faces, float32, and the faces' sides."""
+    library = assimp()
+    # what is no plain file, as a pipe, was read and cannot be once more
+    if path is not None and os.path.splitext(path)[1].lower() == "." + form and os.path.isfile(path):
         scene = library.aiImportFile(os.fsencode(path), 0)
     else:
         scene = library.aiImportFileFromMemory(data, len(data), 0, os.fsencode(form))
     if not scene:
         raise Unreadable("assimp: " + " ".join(library.aiGetErrorString().decode("utf-8", "replace").split()))
-    try:
-        positions, sides = [], []
-        nodes = [(scene.contents.root.contents, np.eye(4))] if scene.contents.root else []
-        while nodes:
-            node, outer = nodes.pop()
-            matrix = outer @ np.array(node.matrix, np.float64).reshape(4, 4)
-            nodes.extend((node.children[i].contents, matrix) for i in reversed(range(node.child_count)))
-            for i in range(node.mesh_count):
-                at, counts = _corner_positions(scene.contents.meshes[node.meshes[i]].contents, matrix)
-                positions.append(at)
-                sides.append(counts)
-    finally:
-        library.aiReleaseImport(scene)
-    none = [np.empty((0, 3), np.float32)], [np.empty(0, np.int64)]
-    return _welded(np.concatenate(positions or none[0]), np.concatenate(sides or none[1]))
+    positions, sides = [np.empty((0, 3), np.float32)], [np.empty(0, np.int64)]
+    nodes = [(scene.contents.root.contents, np.eye(4))] if scene.contents.root else []
+    kept = form not in TURNED
+    while nodes:
+        node, outer = nodes.pop()
+        matrix = outer @ np.array(node.matrix, np.float64).reshape(4, 4) if kept else outer
+        kept = True
+        # RAW files come with children that are none
+        nodes.extend((node.children[i].contents, matrix) for i in reversed(range(node.child_count)) if node.children[i])
+        for i in range(node.mesh_count):
+            at, counts = _corner_positions(scene.contents.meshes[node.meshes[i]].contents, matrix)
+            positions.append(at)
+            sides.append(counts)
+    return np.concatenate(positions), np.concatenate(sides)
 
 
 def _corner_positions(mesh: _Mesh, matrix: np.ndarray) -> Tuple[np.ndarray, np.ndarray]:
@@ -399,6 +493,8 @@ def _corner_positions(mesh: _Mesh, matrix: np.ndarray) -> Tuple[np.ndarray, np.n
     if np.linalg.det(matrix[:3, :3]) < 0:
         listed = [numbers[::-1] for numbers in listed]
     numbers = np.concatenate(listed) if listed else np.empty(0, np.uint32)
+    if numbers.size and numbers.max() >= mesh.point_count:
+        raise Unreadable(f"a face names point {numbers.max()} of {mesh.point_count:,} points, which are numbered from 0")
     points = np.ctypeslib.as_array(mesh.points, (mesh.point_count, 3))
     with np.errstate(all="ignore"):  # what is no number stays none, and is refused later
         if not np.array_equal(matrix, np.eye(4)):

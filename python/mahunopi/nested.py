@@ -122,7 +122,7 @@ def told(table: Table) -> List[str]:
 # ---- the drawing
 
 DOT, GAP, LETTER, LINE = 3.0, 4.0, 6.2, 12.0
-STEP, ANGLES = 6.0, 24
+STEP, ANGLES = 12.0, 24
 LARGEST = 190.0
 """How far a grid reaches in the one that it hangs in: what is larger by itself is drawn smaller there."""
 TURN = math.pi * (3 - math.sqrt(5))
@@ -147,7 +147,7 @@ def drawing(table: Table) -> bytes:
         own = max(DOT + LINE * len(words[holder]), max(map(len, words[holder])) * LETTER / 2) + GAP
         reach[holder] = _placed(inside[holder], own, {body: min(reach[body], LARGEST) for body in inside[holder]}, places)
     shapes: List[str] = []
-    waiting = [(SUN, reach[SUN], reach[SUN], 1.0, 0)]
+    waiting = [(SUN, 0.0, 0.0, 1.0, 0)]
     while waiting:
         holder, x, y, scale, depth = waiting.pop()
         shapes.append(f'<g transform="translate({x:.7g} {y:.7g}) scale({scale:.7g})">')
@@ -160,11 +160,19 @@ def drawing(table: Table) -> bytes:
         for line, text in enumerate(words[holder]):
             shapes.append(_label(' class="spacing"' if line else "", DOT + LINE * (line + 1), text))
         shapes.append("</g>")
-    size = f"{2 * reach[SUN]:.0f}"
-    whole = [f'<svg xmlns="http://www.w3.org/2000/svg" viewBox="0 0 {size} {size}" width="{size}" height="{size}">',
+    left, top, width, height = (f"{number:.0f}" for number in _frame([(*places[body], min(reach[body], LARGEST)) for body in inside[SUN]]))
+    whole = [f'<svg xmlns="http://www.w3.org/2000/svg" viewBox="{left} {top} {width} {height}" width="{width}" height="{height}">',
              f"<title>{len(table.names)} nested grids</title>", f"<style>{STYLE}</style>",
-             '<rect class="ground" width="100%" height="100%"/>', *shapes, "</svg>", ""]
+             f'<rect class="ground" x="{left}" y="{top}" width="100%" height="100%"/>', *shapes, "</svg>", ""]
     return "\n".join(whole).encode("utf-8")
+
+
+def _frame(discs: List[Tuple[float, float, float]]) -> Tuple[float, float, float, float]:
+    """What frames all orbits round the Sun and all grids on them: left, top, width and height."""
+    orbits = [(0.0, 0.0, math.hypot(x, y)) for x, y, _ in discs]
+    left, top = (min(disc[axis] - disc[2] for disc in discs + orbits) - 4 * GAP for axis in range(2))
+    right, bottom = (max(disc[axis] + disc[2] for disc in discs + orbits) + 4 * GAP for axis in range(2))
+    return left, top, right - left, bottom - top
 
 
 def _placed(bodies: List[int], own: float, reach: Dict[int, float], places: Dict[int, Tuple[float, float]]) -> float:

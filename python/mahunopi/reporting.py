@@ -8,6 +8,7 @@ import marshal
 import os
 import select
 import signal
+from codecs import BOM_UTF8
 from typing import Any, Callable, Dict, Iterator, List, NoReturn, Optional, Sequence, Tuple
 
 from ._header import LIMITS
@@ -65,7 +66,7 @@ class Found:
 
 
 def _call(call: str, *arguments: Any) -> None:
-    """Calls the library without numpy: on many small files that is most of the time."""
+    """Calls the library without numpy, which takes as long to start as hundreds of files."""
     place = ctypes.c_uint64()
     answer = functions[call](*arguments, ctypes.byref(place))
     if answer:
@@ -80,28 +81,41 @@ def report_on(names: Sequence[str]) -> Found:
     """What at most 4,096 files show."""
     page = Page()
     found = Found()
+    add, place = functions["report"], ctypes.c_uint64()
+    lent = ctypes.byref(place)
     largest = [0] * CONDITIONS
+    corners = 0
     for at, name in enumerate(names):
         try:
             data, length = read_file(name)
         except (OSError, ValueError) as error:
             found.unreadable.append((at, getattr(error, "strerror", None) or str(error)))
             continue
-        corners = page[CORNERS]
-        _call("report", data, len(data), length, page)
+        answer = add(data, len(data), length, page, lent)
+        if answer:
+            raise Refused(answer, place.value)
         if page[CORNERS] == corners:
-            try:
-                counts = [ctypes.byref(ctypes.c_uint64()) for _ in range(3)]
-                _call("survey", data, len(data), length, *counts, _Counts(), len(_Counts()), _Counts(), len(_Counts()))
-            except Refused as refused:
-                found.refused.append((at, refused.number, refused.place))
-        elif page[FIRST_MISS:] != largest:
-            for condition, miss in enumerate(page[FIRST_MISS:]):
+            found.refused.append((at, *_refusal(data, length)))
+            continue
+        corners = page[CORNERS]
+        misses = page[FIRST_MISS:]
+        if misses != largest:
+            for condition, miss in enumerate(misses):
                 if miss > largest[condition]:
                     found.largest[condition] = (miss, at)
-            largest = page[FIRST_MISS:]
+            largest = misses
     found.pages, found.names = [list(page)], len(names)
     return found
+
+
+def _refusal(data: bytes, length: int) -> Tuple[int, int]:
+    """The number and the place by which a file is refused."""
+    counts = [ctypes.byref(ctypes.c_uint64()) for _ in range(3)]
+    try:
+        _call("survey", data, len(data), length, *counts, _Counts(), len(_Counts()), _Counts(), len(_Counts()))
+    except Refused as refused:
+        return refused.number, refused.place
+    raise AssertionError("a mesh without corners was accepted")
 
 
 def read_file(name: str) -> Tuple[bytes, int]:
@@ -115,13 +129,14 @@ def read_file(name: str) -> Tuple[bytes, int]:
 
 
 def chunks_of(names: Sequence[str], jobs: int, meanwhile: Callable[[], None] = lambda: None) -> Iterator[Found]:
-    """What the files show, chunk by chunk in the order of the names, on so many processors. `meanwhile` is called once these are at
-    work."""
+    """What the files show, chunk by chunk in the order of the names, on so many processors. `meanwhile` is called once, where there are
+    several when these are at work."""
     size = LEAST_CHUNK
     while size < MOST_CHUNK and 16 * jobs * size <= len(names):
         size *= 2
     chunks = [names[at: at + size] for at in range(0, len(names), size)]
     if min(jobs, len(chunks)) <= 1:
+        meanwhile()
         yield from map(report_on, chunks)
         return
     workers: Dict[int, int] = {}
@@ -209,36 +224,51 @@ def _take(pipe: int, workers: Dict[int, int], ready: Dict[int, Found]) -> None:
     ready[int.from_bytes(head[:NUMBER_BYTES], "little")] = found
 
 
-def get_ready() -> None:
-    """Imports what `where` needs, which takes as long as hundreds of files."""
-    from . import borders, calls
-
-    assert borders and calls
-
-
 def where(name: str, misses: Sequence[Tuple[int, int]]) -> Dict[int, Tuple[int, int, str]]:
     """For each pair of a condition and a miss the lowest corner of a file's mesh, with the side and the coordinate, that has this miss,
     by condition; those are left out that the file, being no longer what it was, does not have."""
-    import numpy as np
-
-    from . import borders
-    from .calls import build, decode, link
+    from .borders import Borders
 
     try:
-        mesh = decode(*read_file(name))
+        borders = Borders(*_mesh(*read_file(name)))
     except (OSError, ValueError, Refused):
         return {}
-    links = link(mesh)
-    sizes = np.abs(borders.misses(mesh, links, build(mesh, links)))
-    found = {condition: np.argwhere(sizes[:, :, condition] == miss)[:1].tolist() for condition, miss in misses}
-    return {condition: (corner, side, "xyz"[axis]) for condition, places in found.items() for corner, side, axis in places}
+    sought = dict(misses)
+    found: Dict[int, Tuple[int, int, str]] = {}
+    for corner in borders.corners:
+        for side in range(2):
+            for axis in range(3):
+                for condition, miss in enumerate(borders.misses(corner, side, axis)):
+                    if sought.get(condition) == abs(miss):
+                        found[condition] = (corner, side, "xyz"[axis])
+                        del sought[condition]
+        if not sought:
+            break
+    return found
+
+
+def _mesh(data: bytes, length: int) -> Tuple[List[List[int]], List[int], List[int]]:
+    """The four lists of a file's mesh, its links and its control points."""
+    kinds = ((ctypes.c_int32, 3 * LIMITS["MAX_VERTICES"]), (ctypes.c_uint8, LIMITS["MAX_FACES"]), (ctypes.c_uint16, LIMITS["MAX_CORNERS"]),
+             (ctypes.c_uint8, 2 * LIMITS["MAX_CORNERS"]))
+    room: List[Any] = [(kind * count)() for kind, count in kinds]
+    counts = [ctypes.c_uint64() for _ in room]
+    _call("decode", data, len(data), length, *(word for one in room for word in (one, len(one))), *map(ctypes.byref, counts))
+    lists = [word for one, count in zip(room, counts) for word in (one, count.value)]
+    corners = counts[2].value
+    links: Any = (ctypes.c_uint16 * corners)()
+    _call("link", *lists, links, corners)
+    numbers: Any = (ctypes.c_int32 * (LIMITS["NUMBERS_PER_CORNER"] * corners))()
+    _call("build", *lists, links, corners, 0, corners, numbers, len(numbers))
+    return [one[:count.value] for one, count in zip(room, counts)], links[:], numbers[:]
 
 
 # ---- names
 
 
 def listed(data: bytes) -> List[str]:
-    """The names of a list, one a line, with or without carriage returns, or each ended by a zero byte."""
+    """The names of a list, one a line, with or without carriage returns and a mark of UTF-8 before, or each ended by a zero byte."""
+    data = data[len(BOM_UTF8):] if data.startswith(BOM_UTF8) else data
     lines = data.split(b"\0") if b"\0" in data else [line.rstrip(b"\r") for line in data.split(b"\n")]
     return [os.fsdecode(line) for line in lines if line]
 
@@ -260,7 +290,9 @@ def expanded(names: Sequence[str]) -> Tuple[List[str], List[str], List[Tuple[str
         inside = []
         for folder, folders, held in os.walk(name, onerror=lambda error: wrong.append((error.filename, error.strerror or str(error)))):
             folders.sort()
-            inside += [os.path.normpath(os.path.join(folder, one)) for one in held if one.lower().endswith(ENDING)]
+            begin = os.path.normpath(folder)
+            begin = "" if begin == os.curdir else os.path.join(begin, "")
+            inside += [begin + one for one in held if one.lower().endswith(ENDING)]
         if not inside:
             wrong.append((name, f"no file in it has a name that ends in {ENDING}"))
         for one in sorted(inside):

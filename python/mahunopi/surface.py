@@ -3,16 +3,14 @@
 from __future__ import annotations
 
 from dataclasses import dataclass
-from typing import List, Tuple
+from typing import List, Set, Tuple
 
 import numpy as np
 
 from .calls import MAX_PARTS, Mesh, build, count_triangles, link, tangents, triangles
+from .library import CONTROL
 from .shape import Shape
 
-# The control points of each side's triangle, in rows from the side to the centre, each from the head, as the header has them.
-CONTROL = [[0, 1, 2, 3, 4, 25, 26, 27, 28, 6, 7, 8, 30, 31, 12], [24, 19, 14, 9, 4, 40, 36, 32, 28, 18, 13, 8, 35, 31, 12],
-           [24, 23, 22, 21, 20, 40, 39, 38, 37, 18, 17, 16, 35, 34, 12], [0, 5, 10, 15, 20, 25, 29, 33, 37, 6, 11, 16, 30, 34, 12]]
 ROWS = [0, 5, 9, 12, 14]
 # The tangents are taken of about so many points at a time: their numbers stay in the processor's cache.
 AT_A_TIME = 16_384
@@ -147,7 +145,7 @@ def spaced_levels(mesh: Mesh, spacing: int) -> Tuple[np.ndarray, int]:
 
 def control_edges() -> List[Tuple[int, int]]:
     """The control edges of a quad-net, each once, by the numbers of the two control points."""
-    edges = set()
+    edges: Set[Tuple[int, int]] = set()
     for side in CONTROL:
         for n in range(4):
             for m in range(4 - n):

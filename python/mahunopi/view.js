@@ -159,7 +159,8 @@
   // The colour of every sample. Sharpness: the half of a quad-net at the leaving edge by u, that at the arriving edge by v. Misses:
   // along a border those of its four conditions from the head to the tail, fading towards the centre.
   function colours(mesh, n, kind) {
-    const samples = sampleCount(n), all = new Float32Array(12 * mesh.count * samples), plain = styled("--surface");
+    const samples = sampleCount(n), all = new Float32Array(12 * mesh.count * samples);
+    const plain = styled(kind === "misses" ? "--bare" : "--surface");
     for (let c = 0, at = 0; c < mesh.count; c++) for (let s = 0; s < 4; s++) {
       const whole = between(SHARP, mesh.sharpness[2 * c + (s < 2 ? 0 : 1)] / MOST_SHARPNESS);
       const border = 4 * [2 * c, 2 * c + 1, 2 * mesh.previous[c] + 1, 2 * mesh.linkedFrom[c]][s];
@@ -221,7 +222,8 @@
     const lines = () => new THREE.LineSegments(new THREE.BufferGeometry(), new THREE.LineBasicMaterial());
     const dots = () => new THREE.Points(new THREE.BufferGeometry(), new THREE.PointsMaterial({ size: 11, sizeAttenuation: false }));
     const made = { mesh, scene, surface, borders: lines(), coarse: lines(), vertices: dots(), faces: dots() };
-    scene.add(surface, made.borders, made.coarse, made.vertices, made.faces, new THREE.HemisphereLight(0xffffff, 0x667788, 0.75));
+    made.sky = new THREE.HemisphereLight(0xffffff);
+    scene.add(surface, made.borders, made.coarse, made.vertices, made.faces, made.sky);
     const edges = [];
     for (let c = 0; c < mesh.count; c++) if (mesh.previous[mesh.links[c]] >= c) {
       for (const corner of [c, mesh.next[c]]) for (let axis = 0; axis < 3; axis++) {
@@ -231,7 +233,7 @@
     made.coarse.geometry.setAttribute("position", new THREE.BufferAttribute(shownAt(edges), 3));
     return made;
   });
-  const camera = new THREE.PerspectiveCamera(30, 1, 0.01, 100), light = new THREE.DirectionalLight(0xffffff, 0.6);
+  const camera = new THREE.PerspectiveCamera(30, 1, 0.01, 100), light = new THREE.DirectionalLight(0xffffff);
   camera.up.set(0, 0, 1);
   const FIRST = { azimuth: -0.9, elevation: 0.5, distance: 3.7, target: [0, 0, 0] };
   const seat = Object.assign({}, FIRST);
@@ -283,18 +285,30 @@
     const kind = document.querySelector("input[name=colour]:checked").value, n = Number(slider.value);
     for (const made of scenes) {
       made.surface.geometry.setAttribute("color", new THREE.BufferAttribute(colours(made.mesh, n, kind), 3));
+      // what has a legend is lit so that no colour gets brighter than there
+      made.surface.material.specular.set(kind === "plain" ? 0x222222 : 0);
+      made.sky.intensity = kind === "plain" ? 0.75 : 0.9;
+      made.sky.groundColor.set(kind === "plain" ? 0x667788 : 0xaaaaaa);
       made.borders.material.color = styled("--border");
       made.coarse.material.color = styled("--coarse");
       made.vertices.material.color = styled("--vertex");
       made.faces.material.color = styled("--face");
     }
+    light.intensity = kind === "plain" ? 0.6 : 0.15;
     element("legend").hidden = kind === "plain";
     element("scale").style.background = gradient(kind === "misses" ? MISSES : SHARP);
-    element("ends").innerHTML = kind === "misses" ? "<span>0</span><span>" + MOST_MISS + " ticks</span>" :
-      "<span>0, soft</span><span>" + PLAIN_SHARPNESS + "</span><span>" + MOST_SHARPNESS + ", crisp</span>";
+    const most = kind === "misses" ? MOST_MISS : MOST_SHARPNESS;
+    const marks = kind === "misses" ? { 0: "0", 4: "4", 8: "8", [most]: most + " ticks" } :
+      { 0: "0, soft", [PLAIN_SHARPNESS]: PLAIN_SHARPNESS, [most]: most + ", crisp" };
+    element("ends").replaceChildren(...Object.keys(marks).map((at) => {
+      const mark = Object.assign(document.createElement("span"), { textContent: marks[at] });
+      mark.style.left = 100 * at / most + "%";
+      return mark;
+    }));
     element("said").textContent = kind === "misses" ?
       "Misses of the four conditions along each border, from head to tail, the colour fading inwards; no mesh has one above " + MOST_MISS +
-      ". Largest: " + meshes.map((mesh) => (meshes.length > 1 ? mesh.name + " " : "") + mesh.largest.join(", ")).join("; ") + "." :
+      ". Largest of conditions 1 to 4: " +
+      meshes.map((mesh) => (meshes.length > 1 ? mesh.name + " " : "") + mesh.largest.join(", ")).join("; ") + "." :
       "The half of each quad-net at the leaving edge by u, at the arriving edge by v.";
     show();
   }
@@ -310,14 +324,15 @@
     draw();
   }
 
-  // The parts of the window, one for each mesh: beside one another, or one above the other where it is high. A wide window leaves
-  // the panel its own place.
+  // The parts of the window, one for each mesh: beside one another, or one above the other where it is high. The open panel has a
+  // place of its own: at the left, or above where the window is narrow.
   const isNarrow = () => window.innerWidth < 700;
   function parts() {
     const panel = element("panel"), left = panel.open && !isNarrow() ? panel.offsetLeft + panel.offsetWidth : 0;
-    const width = window.innerWidth - left, height = window.innerHeight, count = meshes.length;
-    return meshes.map((_, i) => width >= height ? [left + i * width / count, 0, width / count, height] :
-      [left, i * height / count, width, height / count]);
+    const top = panel.open && isNarrow() ? panel.offsetTop + panel.offsetHeight : 0;
+    const width = window.innerWidth - left, height = window.innerHeight - top, count = meshes.length;
+    return meshes.map((_, i) => width >= height ? [left + i * width / count, top, width / count, height] :
+      [left, top + i * height / count, width, height / count]);
   }
 
   function draw() {
@@ -345,7 +360,7 @@
       scenes[i].scene.add(light);
       renderer.render(scenes[i].scene, camera);
       const label = element("names").children[i];
-      if (label) Object.assign(label.style, { right: width - x - wide + 12 + "px", bottom: height - y - tall + 12 + "px" });
+      if (label) Object.assign(label.style, { left: x + "px", width: wide + "px", bottom: height - y - tall + 12 + "px" });
     });
   }
   let waiting = false;
@@ -422,7 +437,9 @@
   // ---- the panel
 
   if (meshes.length > 1) for (const mesh of meshes) {
-    element("names").appendChild(Object.assign(document.createElement("div"), { className: "name", textContent: mesh.name }));
+    const label = Object.assign(document.createElement("div"), { className: "name" });
+    label.append(Object.assign(document.createElement("span"), { textContent: mesh.name }));
+    element("names").append(label);
   }
   for (const [name, chosen, words] of [["--vertex", "irregularVertices", "vertices not of four corners"],
     ["--face", "irregularFaces", "faces not of four sides"]]) {

@@ -13,7 +13,7 @@ from .library import TICKS
 from .models import STL_HEAD, STL_ROW
 from .surface import Surface
 
-# Rows of a text that are formed at a time.
+# Rows that are formed at a time.
 AT_A_TIME = 1 << 16
 
 
@@ -68,14 +68,18 @@ end_header
 def ply(surface: Surface, scale: Scale) -> Iterator[Bytes]:
     """Binary, low byte first, with a normal at each vertex."""
     yield PLY_HEAD.format(len(surface.points), len(surface.triangles)).encode("ascii")
-    rows = np.empty((len(surface.points), 6), "<f4")
-    rows[:, :3] = scale.of(surface.points)
-    rows[:, 3:] = surface.normals
-    yield rows
-    faces = np.empty(len(surface.triangles), [("sides", "u1"), ("corners", "<i4", 3)])
-    faces["sides"] = 3
-    faces["corners"] = surface.triangles
-    yield faces
+    for at in range(0, len(surface.points), AT_A_TIME):
+        part = surface.points[at: at + AT_A_TIME]
+        rows = np.empty((len(part), 6), "<f4")
+        rows[:, :3] = scale.of(part)
+        rows[:, 3:] = surface.normals[at: at + AT_A_TIME]
+        yield rows
+    for at in range(0, len(surface.triangles), AT_A_TIME):
+        part = surface.triangles[at: at + AT_A_TIME]
+        faces = np.empty(len(part), [("sides", "u1"), ("corners", "<i4", 3)])
+        faces["sides"] = 3
+        faces["corners"] = part
+        yield faces
 
 
 def stl(surface: Surface, scale: Scale) -> Iterator[Bytes]:
@@ -101,7 +105,7 @@ def glb(surface: Surface, scale: Scale) -> Iterator[Bytes]:
     for array, target in zip(parts, (34962, 34962, 34963)):
         views.append({"buffer": 0, "byteOffset": at, "byteLength": array.nbytes, "target": target})
         at += array.nbytes
-    vectors = {"componentType": 5126, "count": len(positions), "type": "VEC3"}
+    vectors: Dict[str, Any] = {"componentType": 5126, "count": len(positions), "type": "VEC3"}
     scene = {"asset": {"version": "2.0", "generator": f"mahunopi {__version__}"}, "scene": 0, "scenes": [{"nodes": [0]}], "nodes": [{"mesh": 0}],
              "meshes": [{"primitives": [{"attributes": {"POSITION": 0, "NORMAL": 1}, "indices": 2}]}], "buffers": [{"byteLength": at}],
              "bufferViews": views,

@@ -1,5 +1,6 @@
 """Every call of the header: the stored cases of the Rust tests, and what is wrong before a call."""
 
+import inspect
 import math
 import re
 import threading
@@ -10,8 +11,10 @@ import numpy as np
 import pytest
 
 import mahunopi
-from mahunopi import MAX_SIDES, SUN, Irregular, Kind, Mesh, Refused
+from mahunopi import MAX_SIDES, SUN, Irregular, Kind, Mesh, Refused, calls
 from mahunopi._header import CALLS, LIMITS, REFUSALS
+from mahunopi.library import CONTROL
+from mahunopi.shape import Shape
 from shapes import CUBE_POINTS, cube, faces_of, fans, mesh_of, prism, torus, turned
 
 ROOT = Path(__file__).resolve().parents[2]
@@ -40,8 +43,9 @@ def test_every_call_of_the_header_is_there():
     declared = re.findall(r"(?m)^uint32_t mahunopi_(\w+)\(", HEADER)
     assert declared == list(CALLS) and len(declared) == HEADER.count("uint32_t mahunopi_")
     for name in declared:
-        assert callable(getattr(mahunopi, name)) and name in mahunopi.__all__
-        assert getattr(mahunopi, name).__doc__ and "return" in getattr(mahunopi, name).__annotations__
+        call = getattr(mahunopi, name)
+        assert name in mahunopi.__all__ and re.search("[Rr]efusal", call.__doc__)
+        assert set(call.__annotations__) == {*inspect.signature(call).parameters, "return"}
 
 
 def test_every_limit_and_refusal_of_the_header_is_there():
@@ -68,6 +72,49 @@ def test_a_refusal_in_words():
     assert str(caught.value) == "refused 12 at vertex 0: a vertex is named by fewer than 3 or more than 16 corners"
     assert (caught.value.number, caught.value.place, caught.value.name) == (12, 0, "BAD_CORNERS_OF_VERTEX")
     assert str(Refused(25, 4, "'0.5' is no whole number")) == "refused 25 at word 4: '0.5' is no whole number"
+
+
+def test_what_the_header_says_of_sides():
+    """Each side's head, tail and 15 control points, and which way they run."""
+    rows = re.findall(r"(?m)^ \*   (\d)     E(\d)    E(\d)((?: +\d+){15})$", HEADER)
+    assert [int(side) for side, *_ in rows] == [0, 1, 2, 3]
+    ends = [0, 4, 24, 20]
+    for mesh in (cube(), Shape(cube()).turned()):
+        net = mahunopi.build(mesh, mahunopi.link(mesh), 0, 1)[0].astype(np.int64)
+        clockwise = Shape(mesh).volume() < 0
+        for side, head, tail, points in rows:
+            points = list(map(int, points.split()))
+            assert points == CONTROL[int(side)] and (points[0], points[4], points[14]) == (ends[int(head)], ends[int(tail)], 12)
+            for at, weights in ((0, (4, 0, 0)), (4, (0, 4, 0)), (14, (0, 0, 4))):
+                assert np.array_equal(mahunopi.sample(net.astype(np.int32), int(side), weights, 4), net[points[at]])
+            a, b, c = net[[points[0], points[4], points[14]]]
+            # the cube lies round the origin: seen from outside
+            runs_clockwise = np.cross(b - a, c - a) @ (a + b + c) < 0
+            assert runs_clockwise == (clockwise == (side in "02"))
+
+
+@pytest.mark.parametrize("width", [10, 1_000, 60_000])
+def test_the_rule_for_the_scale(width):
+    """Normals of neighbouring patches at a common point differ by at most about 180 degrees over the model's width in steps."""
+    points, faces = prism(7, 1_000, 800)
+    points = np.array(points, np.float64)
+    mesh = mesh_of(np.rint(points * width / np.ptp(points, axis=0).max()).astype(int).tolist(), faces)
+    links = mahunopi.link(mesh)
+    nets = mahunopi.build(mesh, links)
+    following = Shape(mesh).next
+    most = 0.0
+
+    def normal(corner, side, j):
+        along, inward = mahunopi.tangents_at(nets[corner], side, (4 - j, j, 0), 4).astype(np.float64)
+        across = np.cross(along, inward) * (-1) ** side
+        return across / np.linalg.norm(across)
+
+    for corner in range(mesh.corners.size):
+        for side, other, across in ((0, links[corner], 3), (1, following[corner], 2)):
+            for j in range(5):
+                sine = np.linalg.norm(np.cross(normal(corner, side, j), normal(other, across, j)))
+                most = max(most, math.degrees(math.asin(min(1, sine))))
+    assert 0 < most <= 180 / width
 
 
 # ---- linking and building
@@ -541,17 +588,22 @@ def test_report_and_merge():
 # ---- wrong before the call
 
 
+def room():
+    """Lists for any mesh, with zeros in them."""
+    return Mesh(np.zeros((2_048, 3), np.int32), np.zeros(4_096, np.uint8), np.zeros(8_192, np.uint16), np.zeros((8_192, 2), np.uint8))
+
+
 def good_calls():
     """A call of each, with arguments that pass: the function, its arguments, and which of them are lists to try."""
     mesh = cube()
     links = mahunopi.link(mesh)
     net = mahunopi.build(mesh, links, 0, 1)[0]
     data = np.frombuffer(mahunopi.encode(mesh), np.uint8)
-    text = np.frombuffer(b"OFF 0 0 0", np.uint8)
+    text = np.frombuffer((ROOT / "meshes/cube.off").read_bytes(), np.uint8)
     page = np.zeros(21, np.uint64)
     return {
         "link": dict(mesh=mesh, out=links.copy()), "build": dict(mesh=mesh, links=links, out=np.zeros(24 * 123, np.int32)),
-        "decode": dict(data=data), "survey": dict(data=data), "floats": dict(numbers=net, point=0),
+        "decode": dict(data=data, out=room()), "survey": dict(data=data), "floats": dict(numbers=net, point=0),
         "sample": dict(numbers=net, side=0, weights=(1, 0, 0), parts=1),
         "sample_triangle": dict(numbers=net, side=0, parts=1, out=np.zeros(9, np.int32)), "irregular": dict(mesh=mesh),
         "preview": dict(mesh=mesh, links=links, vertex=0, to=(1, 2, 3), out=np.zeros((24, 41, 3), np.int32)),
@@ -563,7 +615,7 @@ def good_calls():
         "tangents": dict(mesh=mesh, links=links, levels=np.ones(24, np.uint8), out=np.zeros((50, 2, 3), np.int64)),
         "tangents_at": dict(numbers=net, side=0, weights=(1, 0, 0), parts=1),
         "floats_all": dict(numbers=net, out=np.zeros(246, np.float32)),
-        "off": dict(text=text), "report": dict(data=data, page=page), "merge": dict(other=page.copy(), page=page),
+        "off": dict(text=text, out=room()), "report": dict(data=data, page=page), "merge": dict(other=page.copy(), page=page),
     }
 
 
@@ -581,8 +633,7 @@ def lists_in(arguments):
 @pytest.mark.parametrize("name", list(CALLS))
 def test_wrong_types_shapes_and_layouts(name):
     call, arguments = getattr(mahunopi, name), good_calls()[name]
-    if name != "off":
-        call(**arguments)
+    call(**arguments)
     tried = 0
     for list_name, array, replaced in lists_in(arguments):
         other = np.int64 if array.dtype != np.int64 else np.int32
@@ -600,16 +651,39 @@ def test_wrong_types_shapes_and_layouts(name):
 
 @pytest.mark.parametrize("name", [name for name, arguments in good_calls().items() if "out" in arguments] + ["report", "merge"])
 def test_lists_that_are_written_to(name):
+    lists = ["coordinates", "sides", "corners", "sharpness"]
+    written = {"decode": lists, "off": lists, "turn": ["corners", "sharpness", "out"], "triangles": ["points", "out"], "report": ["page"],
+               "merge": ["page"]}.get(name, ["out"])
     call, arguments = getattr(mahunopi, name), good_calls()[name]
-    tried = 0
     for list_name, array, replaced in lists_in(arguments):
-        if list_name in ("out", "points", "page"):
-            locked = array.copy()
-            locked.flags.writeable = False
-            with pytest.raises(ValueError):
+        locked = array.copy()
+        locked.flags.writeable = False
+        if list_name in written:
+            with pytest.raises(ValueError, match="read-only"):
                 call(**replaced(locked))
-            tried += 1
-    assert tried == (2 if name == "triangles" else 1)
+            written.remove(list_name)
+        else:
+            call(**replaced(locked))
+    assert not written
+
+
+@pytest.mark.parametrize("name", list(CALLS))
+def test_lists_go_to_the_library_as_they_are(name, monkeypatch):
+    """A call gets the addresses of the lists themselves: nothing is copied on the way in or out."""
+    arguments, passed = good_calls()[name], []
+    monkeypatch.setitem(calls.functions, name, lambda *given: passed.extend(given) or 0)
+    getattr(mahunopi, name)(**arguments)
+    lists = [array for _, array, _ in lists_in(arguments)]
+    assert lists and all(array.ctypes.data in passed for array in lists)
+
+
+def test_bytes_are_not_copied(monkeypatch):
+    passed = []
+    monkeypatch.setitem(calls.functions, "survey", lambda *given: passed.extend(given) or 0)
+    for data in (b"DMS" * 9, bytearray(b"DMS" * 9), memoryview(b"DMS" * 9)):
+        mahunopi.survey(data)
+        assert passed[0] == np.frombuffer(data, np.uint8).ctypes.data
+        passed.clear()
 
 
 def test_lists_that_overlap():
@@ -693,6 +767,27 @@ def test_calls_run_at_the_same_time():
 
     on_threads(work, 8)
     assert np.array_equal(output, whole)
+
+
+def numbers_in(value):
+    """All that a call answers or changes, as plain lists."""
+    if isinstance(value, np.ndarray):
+        return value.tolist()
+    if isinstance(value, Mesh):
+        return [numbers_in(array) for array in vars(value).values()]
+    if isinstance(value, (tuple, dict)):
+        return [numbers_in(part) for part in (value.values() if isinstance(value, dict) else value)]
+    return value
+
+
+def test_every_call_on_threads():
+    def run(arguments):
+        return {name: numbers_in((getattr(mahunopi, name)(**arguments[name]), arguments[name])) for name in CALLS}
+
+    alone, found = run(good_calls()), {}
+    lent = [good_calls() for _ in range(8)]
+    on_threads(lambda number: found.update({number: run(lent[number])}), 8)
+    assert len(found) == 8 and all(answers == alone for answers in found.values())
 
 
 def test_calls_release_the_lock():

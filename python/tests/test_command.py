@@ -11,6 +11,7 @@ from pathlib import Path
 import pytest
 
 import mahunopi
+from mahunopi.command import main
 from mahunopi.shape import Shape
 from mahunopi.surface import sizes
 from shapes import CUBE_FACES, CUBE_POINTS, bipyramid, cube, faces_of, mesh_of, obj, off, ply, prism, round_torus, size_at, stl, torus, turned
@@ -18,6 +19,7 @@ from shapes import CUBE_FACES, CUBE_POINTS, bipyramid, cube, faces_of, mesh_of, 
 ROOT = Path(__file__).resolve().parents[2]
 COMMAND = [str(ROOT / "mahunopi")]
 OUTWARD = [tuple(reversed(face)) for face in CUBE_FACES]
+COMMANDS = ["info", "import", "turn", "triangles", "view", "report", "nest"]
 
 
 @pytest.fixture(autouse=True)
@@ -86,6 +88,13 @@ def test_info_of_other_meshes(room):
     assert "24 vertices not of four corners: 0 1 2 3 4 5 6 7 8 9 ..\n" in sharp
     assert text.startswith("cube.off: 8 vertices, 6 faces, 24 corners, version 1")
     assert run("info", "-", given=files["cube.off"])[1].decode() == text.replace("cube.off", "standard input")
+    # all into one file, without those that are refused
+    (room / "flat.dms").write_bytes((ROOT / "meshes/flat.dms").read_bytes())
+    status, out, err = run("info", *files, "flat.dms", "-o", "told.txt")
+    assert (status, out, err.split(":")[0]) == (1, b"", "flat.dms") and (room / "told.txt").read_text() == said
+    assert run("info", "flat.dms", "-o", "none.txt")[0] == 1 and not (room / "none.txt").exists()
+    assert run("info", "cube.off", "-o", "none/told.txt") == (2, b"", "none/told.txt: No such file or directory\n")
+    assert run("info", "cube.off", "-o", "-")[1].decode() == text
 
 
 def test_levels_are_those_of_sampled_nets():
@@ -161,11 +170,12 @@ def test_import_refuses(room):
             ("open.off", 1, r"refused 34: 4 edges are not in exactly two faces: point 0 \(3 3 3\) to point 3 \(-3 3 3\) in 1 face; .*"),
             ("tips.obj", 1, r"refused 12: 2 vertices have fewer than 3 or more than 16 corners: \(0 0 1\) has 20; \(0 0 -1\) has 20"),
             ("large.stl", 1, r"refused 4: 3,600 vertices are 1,552 more than the 2,048 that a mesh may have, .*"),
-            ("empty.off", 1, r"refused 4: it has no faces"), ("empty.obj", 2, r"assimp: .*"),
+            ("empty.off", 1, r"refused 4: it has no faces"), ("empty.obj", 2, r"it is empty"),
             ("name", 2, r"its name has no ending that tells the format"), ("none.obj", 2, r"No such file or directory"),
             (".", 2, r"Is a directory")]:
         got, out, err = run("import", name, "-o", "made.dms")
         assert (got, out) == (status, b"") and re.fullmatch(re.escape(name) + ": " + line + "\n", err), err
+    assert run("import", "--format", "obj", "-", given=b"") == (2, b"", "standard input: it is empty\n")
     assert not os.path.exists("made.dms")
 
 
@@ -198,14 +208,19 @@ def test_turn_of_a_text_and_refusals(room):
 # ---- refusals in words
 
 
-def test_refusals_in_words(room):
+def test_refusals_in_words(room, capfd):
     files = {
         "hull.off": (off([(x / 6, y, z) for x, y, z in CUBE_POINTS], CUBE_FACES),
                      "refused 25 at word 4: '0.5' is no whole number (mahunopi import takes it)"),
         "word.off": (b"OFF 1 0 0 7 seven 0", "refused 25 at word 5: 'seven' is no number"),
         "range.off": (b"OFF 70000 0 0", "refused 25 at word 1: '70000' is out of its range"),
         "short.off": (b"OFF 1 0 0 7", "refused 25 at word 5: the text ends after 5 words, where more are needed"),
-        "more.off": (whole_off() + b"\n7", "refused 26 at word 58: a word stands after the last face"),
+        "more.off": (whole_off().replace(b"\n", b" ").replace(b"# counts", b"") + b" 7", "refused 26 at word 58: a word stands after the last face"),
+        "colour.off": (whole_off() + b" 7", "refused 26 at word 58: a word stands after the last face (mahunopi import takes it)"),
+        "far.off": (whole_off().replace(b"-3 3 -3", b"-3 3 1234567890"),
+                    "refused 25 at word 27: '1234567890' is out of its range (mahunopi import takes it)"),
+        "half.off": (whole_off().replace(b"4 0 1 2 3", b"4 0 1.5 2 3"), "refused 25 at word 30: '1.5' is no whole number"),
+        "odd.off": (b"OFF 1 0 0 7 \x1b[1m 0", "refused 25 at word 5: '\\x1b[1m' is no number"),
         "cube.obj": (obj(CUBE_POINTS, CUBE_FACES),
                      "refused 1: the file has fewer than 11 bytes or another mark than DMS (mahunopi import takes it)"),
         "none.dms": (b"", "refused 1: the file has fewer than 11 bytes or another mark than DMS"),
@@ -215,9 +230,15 @@ def test_refusals_in_words(room):
     }
     for name, (data, line) in files.items():
         (room / name).write_bytes(data)
-        assert run("info", name) == (1, b"", f"{name}: {line}\n")
+        assert (main(["info", name]), *capfd.readouterr()) == (1, "", f"{name}: {line}\n")
     status, out, err = run("info", *files)
     assert (status, out, err.count("\n")) == (1, b"", len(files))
+    # the very example: hull.off has 0.5 as its fourth word
+    (room / "hull.off").write_bytes(b"OFF 4 4 6\n0.5 0 0\n0 0.5 0\n0 0 0.5\n0 0 0\n3 0 1 2\n3 0 3 1\n3 1 3 2\n3 2 3 0\n")
+    for command in (["info"], ["turn"], ["triangles", "--format", "obj"], ["view", "-o", "page.html"]):
+        line = "hull.off: refused 25 at word 4: '0.5' is no whole number (mahunopi import takes it)\n"
+        assert (main([*command, "hull.off"]), *capfd.readouterr()) == (1, "", line)
+    assert main(["import", "hull.off", "-o", "hull.dms"]) == main(["info", "hull.dms"]) == 0
     (room / "cube.dms").write_bytes(mahunopi.encode(cube()))
     assert run("info", "flat.dms", "cube.dms", "nowhere.dms")[0] == 2
     name = "two\nlines.dms"
@@ -233,24 +254,27 @@ def test_refusals_in_words(room):
 def test_usage():
     for words in [(), ("nonsense",), ("info",), ("import", "a", "--largest", "0"), ("import", "a", "--largest", "65537"),
                   ("import", "a", "--step", "0"), ("import", "a", "--step", "nan"), ("import", "a", "--sharpness", "181"),
-                  ("import", "a", "--step", "1", "--largest", "9"), ("turn", "a", "--step", "1"), ("info", "a", "-o", "b"), ("import", "-")]:
+                  ("import", "a", "--step", "1", "--largest", "9"), ("turn", "a", "--step", "1"), ("info", "a", "--level", "2"), ("import", "-"),
+                  ("info", "-", "-"), ("turn", "-", "-", "-o", ".")]:
         status, out, err = run(*words, given=b"")
         assert (status, out) == (2, b"") and err.startswith("mahunopi") and err.count("\n") == 1, (words, err)
-    for words in [(), ("info",), ("import",), ("turn",)]:
-        status, out, err = run(*words, "--help")
-        assert (status, err) == (0, "") and b"example:\n  mahunopi " in out
+    assert re.findall(r"(?m)^    (\w+)\b", run("--help")[1].decode()) == COMMANDS
     assert run("--version") == (0, f"mahunopi {mahunopi.__version__}\n".encode(), "")
 
 
 def test_examples_of_the_help_work(room):
     (room / "hull.obj").write_bytes(obj(*round_torus(12, 8)))
     (room / "drawn-wrong.off").write_bytes(whole_off(faces_of(wrong_cube())))
-    (room / "meshes").mkdir()
-    (room / "meshes/cube.dms").write_bytes(mahunopi.encode(cube()))
+    for name in ("meshes/cube.dms", "archive/cube.dms", "before.dms", "after.dms"):
+        (room / name).parent.mkdir(exist_ok=True)
+        (room / name).write_bytes(mahunopi.encode(cube()))
+    (room / "examples").symlink_to(ROOT / "examples")
     (room / "bin").mkdir()
     (room / "bin/mahunopi").symlink_to(ROOT / "mahunopi")
-    for words in [(), ("info",), ("import",), ("turn",)]:
-        example = run(*words, "--help")[1].decode().split("example:\n")[1]
+    for words in [[], *([name] for name in COMMANDS)]:
+        status, said, err = run(*words, "--help")
+        example = said.decode().split("example:\n  ")[1]
+        assert (status, err) == (0, "") and " ".join(["mahunopi", *words]) in example
         path = f"{room}/bin:{os.environ['PATH']}"
         done = subprocess.run(["sh", "-c", example], env={**os.environ, "PATH": path}, capture_output=True, timeout=60)
         assert (done.returncode, done.stderr) == (0, b"") and done.stdout, example
@@ -268,6 +292,8 @@ def test_streams_that_fail(room):
             ("turn cube.dms > /dev/full", 2, "standard output: No space left on device\n"),
             ("turn cube.dms >&-", 2, "standard output: Bad file descriptor\n"), ("info nowhere 2>&-", 2, ""),
             ("info cube.dms 2>/dev/full", 0, ""), ("info nowhere 2>/dev/full", 2, ""),
+            ("--help >&-", 2, "standard output: Bad file descriptor\n"), ("import --help > /dev/full", 2, "standard output: No space left on device\n"),
+            ("--version > /dev/full", 2, "standard output: No space left on device\n"),
             ("turn cube.dms -o nowhere/a.dms", 2, "nowhere/a.dms: No such file or directory\n"),
             ("turn cube.dms -o /dev/full", 2, "/dev/full: No space left on device\n")]:
         done = subprocess.run(["sh", "-c", f"{COMMAND[0]} {words}"], capture_output=True, timeout=60)
@@ -278,14 +304,16 @@ def test_streams_that_fail(room):
 
 def test_broken_pipes(room):
     (room / "cube.dms").write_bytes(mahunopi.encode(cube()))
-    for words in (["info"] + ["cube.dms"] * 500, ["turn", "cube.dms"]):
+    (room / "cube.off").write_bytes(off(CUBE_POINTS, CUBE_FACES))
+    for words in (["info"] + ["cube.dms"] * 500, ["turn", "cube.dms"], ["import", "cube.off"],
+                  ["triangles", "--level", "16", "cube.dms", "--format", "obj"], ["--help"], ["--version"]):
         done = subprocess.Popen([*COMMAND, *words], stdout=subprocess.PIPE, stderr=subprocess.PIPE)
         done.stdout.close()
         assert done.stderr.read() == b"" and done.wait(60) == 141
         done.stderr.close()
 
 
-@pytest.mark.parametrize("number, status", [(signal.SIGINT, 130), (signal.SIGTERM, 143)])
+@pytest.mark.parametrize("number, status", [(signal.SIGINT, 130), (signal.SIGTERM, 143), (signal.SIGHUP, 129)])
 def test_interrupts(room, number, status):
     """Ended while it waits for its input: quietly, and no file is left."""
     os.mkfifo(room / "pipe.dms")
@@ -295,6 +323,33 @@ def test_interrupts(room, number, status):
         done.send_signal(number)
         out, err = done.communicate(timeout=60)
     assert (done.returncode, out, err) == (status, b"", b"") and os.listdir() == ["pipe.dms"]
+
+
+@pytest.mark.parametrize("number, status", [(signal.SIGINT, 130), (signal.SIGTERM, 143), (signal.SIGHUP, 129)])
+def test_interrupts_at_the_start(room, number, status):
+    """Ended by the shell's part, while Python and numpy start, or done before: quietly."""
+    (room / "cube.dms").write_bytes(mahunopi.encode(cube()))
+    for delay in (0.01, 0.04, 0.08, 0.12):
+        done = subprocess.Popen([*COMMAND, "info", "cube.dms"], stdout=subprocess.PIPE, stderr=subprocess.PIPE)
+        time.sleep(delay)
+        done.send_signal(number)
+        _, err = done.communicate(timeout=60)
+        assert done.returncode in (status, -number, 0) and err == b""
+
+
+@pytest.mark.parametrize("number, status", [(signal.SIGINT, 130), (signal.SIGTERM, 143), (signal.SIGHUP, 129)])
+def test_interrupts_while_writing(room, number, status):
+    """Ended while a file is written: what was there stays, and nothing lies beside it."""
+    (room / "torus.dms").write_bytes(mahunopi.encode(mesh_of(*round_torus(16, 16))))
+    (room / "made.obj").write_bytes(b"before")
+    done = subprocess.Popen([*COMMAND, "triangles", "--level", "16", "torus.dms", "-o", "made.obj"], stdout=subprocess.PIPE, stderr=subprocess.PIPE)
+    while not any(name.startswith(".made.obj.") for name in os.listdir()):
+        assert done.poll() is None
+        time.sleep(0.005)
+    done.send_signal(number)
+    out, err = done.communicate(timeout=60)
+    assert (done.returncode, out, err) == (status, b"", b"") and (room / "made.obj").read_bytes() == b"before"
+    assert sorted(os.listdir()) == ["made.obj", "torus.dms"]
 
 
 def test_files_are_whole_or_not_there(room, monkeypatch):
@@ -321,6 +376,18 @@ def test_files_are_whole_or_not_there(room, monkeypatch):
     with pytest.raises(KeyboardInterrupt):
         command._write("made.dms", [b"never"])
     assert (room / "made.dms").read_bytes() == b"through" and sorted(os.listdir()) == ["link.dms", "made.dms", "new.dms"]
+
+
+def test_too_little_memory(room, monkeypatch, capfd):
+    from mahunopi import command, models
+
+    def none(*given):
+        raise MemoryError
+
+    monkeypatch.setattr(models, "read", none)
+    (room / "a.off").write_bytes(whole_off())
+    assert command.main(["import", "a.off", "-o", "a.dms"]) == 2
+    assert capfd.readouterr() == ("", "a.off: there is not enough memory for it\n") and os.listdir() == ["a.off"]
 
 
 def test_input_and_output_may_be_one_file(room):

@@ -185,6 +185,48 @@ def test_what_stands_in_the_way_is_said(clone, tmp_path):
     assert status == 0 and err == ""
 
 
+def test_what_is_missing_is_installed_where_that_is_allowed(clone, tmp_path):
+    """Root, with stand-ins for id and apt-get, on a path without a C compiler."""
+    poor = tmp_path / "poor"
+    poor.mkdir()
+    for name in ("sh", "dirname", "readlink", "mkdir", "awk", "wc", "grep", "date", "sleep", "flock", "env", "find", "cc", "ld"):
+        (poor / name).symlink_to(shutil.which(name))
+    (poor / "id").write_text("#!/bin/sh\necho 0\n")
+    (poor / "apt-get").write_text(f"#!/bin/sh\necho \"apt-get $*\"\n[ $1 = update ] || /bin/ln -s {shutil.which('gcc')} {poor}/gcc\n")
+    for name in ("id", "apt-get"):
+        (poor / name).chmod(0o755)
+    status, out, err = run(clone, "--version", env={"PATH": str(poor), "HOME": str(tmp_path), "MAHUNOPI_LIB": str(LIBRARY.parent)})
+    assert status == 0 and err == "mahunopi: installing gcc ..\n"
+    assert (clone / "target/log/install.txt").read_text() == "apt-get update\napt-get install -y --no-install-recommends gcc\n"
+
+
+@pytest.mark.parametrize("ci, status", [("", 0), ("true", 1)])
+def test_a_browser_that_cannot_be_installed(tmp_path, ci, status):
+    """Its tests are skipped in words, and fail in CI."""
+    poor = tmp_path / "poor"
+    poor.mkdir()
+    (poor / "sh").symlink_to(shutil.which("sh"))
+    for name in ("gcc", "g++", "cmake", "pkg-config", "cargo", "rustc"):
+        (poor / name).symlink_to(shutil.which("true"))
+    (poor / "apt-get").symlink_to(shutil.which("false"))
+    environment = {"PATH": str(poor), "HOME": str(tmp_path), "CI": ci}
+    done = subprocess.run([ROOT / ".ci/install"], env=environment, capture_output=True, text=True, check=False)
+    said = "chromium cannot be installed: the tests that need it are skipped, and in CI they fail\n"
+    assert (done.returncode, done.stdout, done.stderr) == (status, "", said)
+    listed = subprocess.run([ROOT / ".ci/install", "--missing"], env=environment, capture_output=True, text=True, check=False)
+    assert (listed.returncode, listed.stdout) == (0, "chromium\n")
+    code = "import sys; sys.path.insert(0, sys.argv[1]); import browser; browser.browser()"
+    tried = subprocess.run(["/usr/bin/python3", "-c", code, str(Path(__file__).parent)], env=environment, capture_output=True, text=True, check=False)
+    assert f"{'Failed' if ci else 'Skipped'}: chromium is not installed (.ci/install installs it)" in tried.stderr
+
+
+def test_modules_of_the_folder_that_one_is_in_are_not_taken(clone, tmp_path, monkeypatch):
+    monkeypatch.setenv("MAHUNOPI_LIB", str(LIBRARY.parent))
+    for name in ("argparse", "numpy", "library"):
+        (tmp_path / f"{name}.py").write_text("raise ImportError('not meant')")
+    assert run(clone, "info", clone / "meshes/cube.dms", cwd=tmp_path)[::2] == (0, "")
+
+
 def test_a_library_that_is_older_than_the_header_is_said(clone):
     header = clone / "include/mahunopi.h"
     text = header.read_text()

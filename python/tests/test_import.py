@@ -1,5 +1,6 @@
 """Models as meshes: scaled, rounded, welded, cleaned, turned, sharpened, or refused with the model's own points."""
 
+import re
 from fractions import Fraction
 
 import numpy as np
@@ -7,10 +8,11 @@ import pytest
 
 import mahunopi
 from mahunopi import Mesh, Refused
+from mahunopi.command import done
 from mahunopi.importing import import_model
 from mahunopi.models import Model, read
 from mahunopi.shape import Shape
-from shapes import CUBE_FACES, CUBE_POINTS, bipyramid, cube, faces_of, fans, mesh_of, obj, off, prism, round_torus, stl, torus, turned
+from shapes import CUBE_FACES, CUBE_POINTS, bipyramid, cube, faces_of, fans, mesh_of, obj, off, ply, prism, round_torus, stl, torus, turned
 
 OUTWARD = [tuple(reversed(face)) for face in CUBE_FACES]  # counter-clockwise seen from outside, as OBJ has them
 
@@ -69,6 +71,14 @@ def test_halves_go_away_from_zero():
 def test_what_cannot_be_scaled():
     assert "the largest coordinate is 300,000 steps" in refused(model_of(CUBE_POINTS, CUBE_FACES), step=1e-5)
     assert "a step of 4.57764e-05 or more serves" in refused(model_of(CUBE_POINTS, CUBE_FACES), step=1e-5)
+    assert "is above 10^12 steps" in refused(model_of(CUBE_POINTS, CUBE_FACES), step=5e-324)
+    # the step that is named serves, wherever the model's middle lies
+    for shift in (0, 0.25, 0.5, 1 / 3):
+        model = model_of([(x + shift, y, z) for x, y, z in CUBE_POINTS], CUBE_FACES)
+        for size in (1, 7, 65_536 / 3, 1e-7):
+            model.points[:] = np.array(CUBE_POINTS) * size + shift
+            step = float(re.search(r"\(a step of (\S+) or more serves\)", refused(model, step=size / 1e6))[1])
+            assert 65_535 <= np.abs(import_model(model, step=step).mesh.coordinates).max() <= 65_536
     assert refused(model_of([(1, 2, 3)] * 8, CUBE_FACES)) == "refused 4: all its points are one point"
     assert refused(model_of(CUBE_POINTS, CUBE_FACES), step=1e6) == "refused 4: no face is left on the grid: each shrinks to nothing"
     assert refused(model_of(CUBE_POINTS, [])) == "refused 4: it has no faces"
@@ -191,6 +201,10 @@ def test_open_edges():
     # coordinates as the file has them, and no numbers where the reader has none
     said = refused(read(obj([(x / 7, y, z) for x, y, z in CUBE_POINTS], CUBE_FACES[:5]), "obj"))
     assert "(0.42857143 3 3) to (0.42857143 3 -3) in 1 face" in said and "point" not in said
+    for form, kind, x in (("ascii", "float", 3 / 7), ("binary_big_endian", "double", 3 / 7), ("binary_little_endian", "float", "0.42857143"),
+                          ("binary_big_endian", "float", "0.42857143")):
+        said = refused(read(ply([(x / 7, y, z) for x, y, z in CUBE_POINTS], CUBE_FACES[:5], form, kinds=(kind, "uchar", "int")), "ply"))
+        assert f"point 0 ({x} 3 3) to point 3 (" in said
     points, faces = round_torus(10, 10)
     said = refused(model_of(points, faces[:-30]))
     assert "refused 34: 20 edges are" in said and said.count(" in 1 face") == 10 and said.endswith("; and 10 more")
@@ -258,6 +272,45 @@ def test_over_the_limits():
     assert "90,000 vertices are 87,952 more" in said and "180,000 faces are 175,904 more" in said and "540,000 corners" in said
 
 
+# ---- files of all kinds
+
+
+@pytest.mark.parametrize("write, form", [(obj, "obj"), (off, "off"), (ply, "ply"), (lambda *model: ply(*model, "binary_big_endian"), "ply")])
+def test_polygons_of_5_to_16_sides(write, form):
+    for n in range(5, 17):
+        points, faces = prism(n)
+        made = import_model(read(write(points, faces), form), step=1.0)
+        rounded = mesh_of(np.rint(points), faces)
+        assert made.mesh.sides.tolist() == [n, n] + [4] * n and made.mesh.corners.size == 6 * n
+        # the same faces by their points, however the reader numbers these
+        there = made.mesh.coordinates + made.centre
+        assert there[made.mesh.corners].tolist() == rounded.coordinates[rounded.corners].tolist()
+
+
+@pytest.mark.parametrize("write, form", [(obj, "obj"), (off, "off"), (ply, "ply"), (stl, "stl")])
+def test_what_is_no_closed_surface(write, form):
+    triangles = fans(CUBE_FACES)
+    for points, faces, number, words in [
+            (CUBE_POINTS, triangles[1:], 34, "3 edges are not in exactly two faces: "),
+            (CUBE_POINTS + [(9, 9, 9)], triangles + [(0, 1, 8)], 34, "3 edges are not in exactly two faces: "),
+            (CUBE_POINTS, triangles + triangles[:1], 34, "3 edges are not in exactly two faces: "),
+            (*bipyramid(17), 12, "2 vertices have fewer than 3 or more than 16 corners: "),
+            (*round_torus(46, 46), 4, "2,116 vertices are 68 more than the 2,048 that a mesh may have, ")]:
+        if form == "stl" or number != 4:
+            faces = fans(faces)
+        said = refused(read(write(points, faces), form))
+        assert said.startswith(f"refused {number}: {words}")
+        # by number where the reader keeps numbers, and by coordinates
+        assert number == 4 or ("point " in said) == (form in ("off", "ply")) and re.search(r"\(-?\d\S* \S+ \S+\)", said)
+
+
+def test_inside_out_files():
+    for write, form in ((obj, "obj"), (off, "off"), (ply, "ply"), (stl, "stl")):
+        for faces, sense in ((CUBE_FACES, "clockwise"), (OUTWARD, "turned")):
+            made = import_model(read(write(CUBE_POINTS, faces), form), step=1.0)
+            assert (made.sense, volume(made.mesh)) == (sense, -216)
+
+
 # ---- what comes out is a file
 
 
@@ -269,3 +322,9 @@ def test_whole_ways():
         assert again == made.mesh and mahunopi.build(again, mahunopi.link(again)).shape[0] == made.mesh.corners.size
         assert Shape(again).volume() < 0 and len(again.sides) == (96 if form != "stl" else 192)
     assert len(fans(faces)) == 192
+
+
+def test_what_is_passed_over_is_told():
+    assert import_model(read(off(CUBE_POINTS, CUBE_FACES), "off")).note == ""
+    made = import_model(read(off(CUBE_POINTS, CUBE_FACES) + b"\n3 0 1 2", "off"))
+    assert made.note == "1 line after the last of its 6 faces passed over" and done(made).endswith("; " + made.note)

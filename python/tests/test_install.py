@@ -52,9 +52,9 @@ def packages(prefix):
     return next(prefix.glob("lib/python3*/*-packages"))
 
 
-def drawn(program, mesh):
+def drawn(program, mesh, **more):
     """What examples/draw.cpp has to print of a mesh."""
-    said = re.fullmatch(r"(\d+) vertices, (\d+) triangles, volume (\d+) cubic steps\n", run(program, ROOT / "meshes" / mesh, 4))
+    said = re.fullmatch(r"(\d+) vertices, (\d+) triangles, volume (\d+) cubic steps\n", run(program, ROOT / "meshes" / mesh, 4, **more))
     mesh = mahunopi.decode((ROOT / "meshes" / mesh).read_bytes())
     assert (int(said[1]), int(said[2])) == size_at(mesh, 4)
     assert 0.5 * abs(float(Shape(mesh).volume())) < float(said[3]) < abs(float(Shape(mesh).volume()))
@@ -64,9 +64,10 @@ def test_examples_by_pkg_config(prefix, tmp_path):
     environment = {**os.environ, "PKG_CONFIG_PATH": str(prefix / "lib/pkgconfig"), "LD_LIBRARY_PATH": str(prefix / "lib")}
     flags = run(tool("pkg-config"), "--cflags", "--libs", "mahunopi", env=environment).split()
     assert run("pkg-config", "--modversion", "mahunopi", env=environment) == f"{mahunopi.VERSION}.0\n"
-    for source, compiler in (("cube.c", ["gcc", "-std=c11"]), ("draw.cpp", ["g++", "-std=c++17"])):
-        run(*compiler, *WARNINGS, ROOT / "examples" / source, "-o", tmp_path / source[:4], *flags)
+    for source, compiler in (("cube.c", ["gcc", "-std=c11"]), ("inspect.c", ["gcc", "-std=c11"]), ("draw.cpp", ["g++", "-std=c++17"])):
+        run(*compiler, *WARNINGS, ROOT / "examples" / source, "-o", tmp_path / source.split(".")[0], *flags)
     assert run(tmp_path / "cube", env=environment) == (ROOT / "examples/cube.expected").read_text()
+    drawn(tmp_path / "draw", "torus.dms", env=environment)
     assert f"libmahunopi.so.{mahunopi.VERSION}" in run("objdump", "-p", tmp_path / "cube")
     run("gcc", "-static", ROOT / "examples/cube.c", "-o", tmp_path / "alone", *flags)
     assert run(tmp_path / "alone") == (ROOT / "examples/cube.expected").read_text()
@@ -103,13 +104,20 @@ def test_the_package_and_the_command(prefix, tmp_path):
 def test_the_manual_page(prefix):
     page = prefix / "share/man/man1/mahunopi.1"
     text = page.read_text()
-    for command in ("info", "import", "turn", "view", "report", "nest"):
+    for command in ("info", "import", "turn", "triangles", "view", "report", "nest"):
         assert f'.SH "{command.upper()}"' in text
         for option in re.findall(r"(?m)^  (-\S)", run(prefix / "bin/mahunopi", command, "--help")):
             assert option.replace("-", "\\-") in text
     if shutil.which("groff"):
         done = subprocess.run(["groff", "-man", "-ww", "-z", page], capture_output=True, check=False)
         assert (done.returncode, done.stderr) == (0, b"")
+
+
+def test_the_blender_add_on():
+    """As far as that goes without Blender (python/blender/try.py tries it there)."""
+    text = (ROOT / "python/blender/mahunopi_surface.py").read_text()
+    compile(text, "mahunopi_surface.py", "exec")
+    assert f'"version": ({mahunopi.VERSION}, 0)' in text and text.count("\n") <= 150
 
 
 def test_an_installation_is_renewed(prefix):

@@ -72,7 +72,9 @@ def test_a_table_of_any_shape_is_drawn():
 def test_grids_on_a_drawing_do_not_overlap():
     table = read_table((ROOT / "examples/bodies.csv").read_bytes())
     discs = []
-    for group in tree.fromstring(drawing(table)).iter(SVG + "g"):
+    whole = tree.fromstring(drawing(table))
+    left, top, width, height = map(float, whole.get("viewBox").split())
+    for group in whole.iter(SVG + "g"):
         x, y, scale = map(float, re.findall(r"-?\d[-\d.e]*", group.get("transform")))
         disc = [circle for circle in group.iter(SVG + "circle") if circle.get("class").startswith("grid")][0]
         discs.append((group.find(SVG + "text").text, x, y, scale * float(disc.get("r"))))
@@ -82,6 +84,7 @@ def test_grids_on_a_drawing_do_not_overlap():
         if name == "Sun":
             continue
         assert np.hypot(x - at[holder[name]][0], y - at[holder[name]][1]) + radius <= at[holder[name]][2] + 0.1
+        assert left < x - radius and x + radius < left + width and top < y - radius and y + radius < top + height
         for other, (ox, oy, oradius) in at.items():
             if other not in (name, "Sun") and holder[other] == holder[name]:
                 assert np.hypot(x - ox, y - oy) >= radius + oradius

@@ -14,6 +14,7 @@ import pytest
 
 import mahunopi
 from mahunopi.borders import misses
+from mahunopi.reporting import where
 from shapes import cube, mesh_of, prism, round_torus
 from test_command import COMMAND, room, run  # noqa: F401
 
@@ -46,6 +47,9 @@ def test_the_sample_meshes(room):  # noqa: F811
     assert run("report", "--page", *names) == (1, (line + "\n").encode(), "")
     if PROGRAM.exists():
         assert subprocess.run([PROGRAM, *names], capture_output=True, check=False).stdout.decode().split("\n")[-2] == line
+        pages = "".join(run("report", "--page", *part)[1].decode() for part in (names[:3], names[3:]))
+        merged = subprocess.run([PROGRAM, "merge"], input=pages, capture_output=True, text=True, check=False).stdout
+        assert pages.count("\n") == 2 and merged.split("\n")[-2] == line
     told = json.loads(run("report", "--json", *names)[1])
     assert told["pages"] == [page_of(names)] and told["finished"] and told["names"] == told["reported"] == 7
     assert told["refused"][0]["number"] == 12 and told["refused_by"]["12"] == 1
@@ -54,6 +58,32 @@ def test_the_sample_meshes(room):  # noqa: F811
         links = mahunopi.link(mesh)
         found = misses(mesh, links, mahunopi.build(mesh, links))
         assert abs(found[one["corner"], one["side"], one["condition"] - 1, "xyz".index(one["coordinate"])]) == one["miss"]
+
+
+def test_where_the_largest_misses_are(room):  # noqa: F811
+    """Corner by corner without numpy, and all corners at once with it."""
+    rng = np.random.default_rng(5)
+    for sides in range(3, 17):
+        mesh = whole(*prism(sides), 1)
+        mesh.coordinates[:] = rng.integers(-65_536, 65_537, mesh.coordinates.shape)
+        mesh = mahunopi.Mesh(mesh.coordinates, mesh.sides, mesh.corners, rng.integers(0, 17, (mesh.corners.size, 2), np.uint8))
+        (room / "it.dms").write_bytes(mahunopi.encode(mesh))
+        links = mahunopi.link(mesh)
+        found = np.abs(misses(mesh, links, mahunopi.build(mesh, links)))
+        largest = found.max(axis=(0, 1, 3)).tolist()
+        places = [np.argwhere(found[:, :, condition] == miss)[0].tolist() for condition, miss in enumerate(largest)]
+        assert where("it.dms", list(enumerate(largest))) == {condition: (corner, side, "xyz"[axis])
+                                                             for condition, (corner, side, axis) in enumerate(places)}
+    assert where("it.dms", [(0, 1 << 40)]) == where("gone.dms", [(0, 1)]) == {}
+
+
+def test_a_report_needs_no_numpy(room):  # noqa: F811
+    """Which takes as long to start as hundreds of files take."""
+    (room / "poor").mkdir()
+    (room / "poor/numpy.py").write_text("raise ImportError")
+    environment = {**os.environ, "PYTHONPATH": "poor"}
+    assert run("report", str(ROOT / "meshes"), env=environment) == run("report", str(ROOT / "meshes"))
+    assert b"ImportError" in subprocess.run([*COMMAND, "info", str(ROOT / "meshes/cube.dms")], env=environment, capture_output=True, check=False).stderr
 
 
 def test_five_thousand_files(room):  # noqa: F811
@@ -99,7 +129,7 @@ def test_names(room):  # noqa: F811
     (room / "deep/er").mkdir(parents=True)
     (room / "deep/er/B.DMS").write_bytes(mahunopi.encode(cube()))
     (room / "deep/notes.txt").write_bytes(b"no mesh")
-    status, out, err = run("report", "--names", "-", "deep", given=b"a.dms\r\nwith space.dms\r\n\r\n./a.dms\r\n")
+    status, out, err = run("report", "--names", "-", "deep", given=b"\xef\xbb\xbfa.dms\r\nwith space.dms\r\n\r\n./a.dms\r\n")
     assert (status, err) == (0, "") and out.startswith(b"meshes offered: 3\n")
     assert out.endswith(b"named more than once, counted once:\n  a.dms\n")
     (room / "list").write_bytes(b"a.dms\0with space.dms\0")

@@ -119,6 +119,27 @@ def read_obj(data):
     return points, normals, triangles
 
 
+def check_obj(data, mesh, levels):
+    """An OBJ that came out: closed, outwards, and at each point the normal of its exact tangents within a degree."""
+    points, normals, triangles = read_obj(data)
+    places = np.array(points) - np.mean(points, axis=0)
+    check_closed(places, triangles)
+    p, q, r = (places[np.array(triangles)[:, i]] for i in range(3))
+    areas = np.zeros_like(places)
+    for i in range(3):
+        np.add.at(areas, np.array(triangles)[:, i], np.cross(q - p, r - p))
+    pairs = mahunopi.tangents(mesh, mahunopi.link(mesh), levels).tolist()
+    assert len(pairs) == len(points)
+    for normal, (a, b), area in zip(normals, pairs, areas):
+        exact = crossed(a, b)
+        if any(exact):
+            # of the two directions the one to the side from which the triangles run counter-clockwise
+            outwards = math.copysign(1, sum(float(x) * y for x, y in zip(exact, area)))
+            assert degrees(normal, [outwards * float(x) for x in exact]) < 1
+        assert abs(math.hypot(*normal) - 1) < 1e-5
+    return points, triangles
+
+
 @pytest.mark.parametrize("name", meshes())
 def test_an_obj_is_closed_outwards_and_has_the_exact_normals(room, name):  # noqa: F811
     mesh = meshes()[name]
@@ -128,6 +149,7 @@ def test_an_obj_is_closed_outwards_and_has_the_exact_normals(room, name):  # noq
     assert (status, err) == (0, "") and sorted(os.listdir()) == ["a.dms", "a.obj"]
     assert out.decode() == f"a.dms: {len(points):,} points, {len(triangles):,} triangles at level 3\n"
     assert (len(points), len(triangles)) == size_at(mesh, 3)
+    check_obj((room / "a.obj").read_bytes(), mesh, even_levels(mesh, 3))
     check_closed(points, triangles)
     exact = exact_normals(mesh, 3)
     # a small model shows its ticks: there the normal is that of one of the nets that share the point
@@ -242,6 +264,8 @@ def test_the_command_writes_every_format(room):  # noqa: F811
         expected = b"".join(bytes(part) for part in write(surface(cube(), even_levels(cube(), 1)), Scale()))
         assert run("triangles", "--level", "1", "a.dms", "-o", f"a.{form.upper()}") == (0, f"a.dms: {said}".encode(), "")
         assert (room / f"a.{form.upper()}").read_bytes() == expected
+        if form == "obj":
+            check_obj(expected, cube(), even_levels(cube(), 1))
         assert run("triangles", "--level", "1", "-", "--format", form, given=data) == (0, expected, f"standard input: {said}")
     (room / "b.dms").write_bytes(data)
     status, out, err = run("triangles", "a.dms", "b.dms", "--format", ".PLY", "-o", "made")
@@ -261,13 +285,13 @@ def test_the_scale_is_undone_by_what_import_prints(room):  # noqa: F811
     printed = re.search(r"--undo-scale (\S+ \S+ \S+ \S+) undoes the scale", out.decode())[1].split()
     assert printed[2].startswith("-3") and "e-05" in printed[2]
     assert run("triangles", "--undo-scale", *printed, "b.dms", "-o", "back.obj")[0] == 0
-    back, _, triangles = read_obj((room / "back.obj").read_bytes())
-    check_closed(np.array(back) - np.mean(back, axis=0), triangles)
+    imported = mahunopi.decode((room / "b.dms").read_bytes())
+    back, triangles = check_obj((room / "back.obj").read_bytes(), imported, even_levels(imported, 4))
     # all corners are crisp: the surface reaches the model's own points
     step = float(printed[0])
     distances = np.abs(np.array(back)[None] - np.array(points)[:, None]).max(axis=2).min(axis=1)
     assert distances.max() <= step
-    made = surface(mahunopi.decode((room / "b.dms").read_bytes()), even_levels(cube(), 4))
+    made = surface(imported, even_levels(imported, 4))
     assert np.array_equal(back, made.points / 256 * step + np.array(printed[1:], float))
     # in a format of floats as near as floats are
     assert run("triangles", "--undo-scale", *printed, "b.dms", "-o", "back.ply")[0] == 0
@@ -298,10 +322,13 @@ def test_spacing(room, spacing):  # noqa: F811
     assert levels.tolist() == [min(n, 16) for n in wanted] and coarse == wanted.count(17)
     if spacing in (12_345, 1):
         (room / "a.dms").write_bytes(mahunopi.encode(mesh))
-        status, out, err = run("triangles", "--spacing", str(spacing), "a.dms", "-o", "a.stl")
+        name = "a.stl" if spacing == 1 else "a.obj"
+        status, out, err = run("triangles", "--spacing", str(spacing), "a.dms", "-o", name)
         size = mahunopi.count_triangles(mesh, mahunopi.link(mesh), levels)
         said = "level 16, where 96 corners would need more" if spacing == 1 else f"levels {min(wanted)} to {max(wanted)}"
         assert (status, out.decode(), err) == (0, f"a.dms: {size.points:,} points, {size.triangles:,} triangles at {said}\n", "")
+        if name == "a.obj":
+            check_obj((room / name).read_bytes(), mesh, levels)
 
 
 def test_control_edges():

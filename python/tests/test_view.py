@@ -123,6 +123,30 @@ def test_the_largest_page_is_small():
     assert mesh.corners.size == mahunopi.MAX_CORNERS and len(text) < 8_000_000
 
 
+def brightness(colour):
+    """The relative luminance of a colour, as the guidelines for accessible pages have it."""
+    parts = [int(colour[at: at + 2], 16) / 255 for at in (0, 2, 4)]
+    return sum(weight * (part / 12.92 if part <= 0.04045 else ((part + 0.055) / 1.055) ** 2.4)
+               for weight, part in zip((0.2126, 0.7152, 0.0722), parts))
+
+
+def contrast(one, other):
+    low, high = sorted([brightness(one), brightness(other)])
+    return (high + 0.05) / (low + 0.05)
+
+
+def test_text_is_readable_in_light_and_dark():
+    style = (ROOT / "python/mahunopi/view.html").read_text()
+    schemes = [dict(re.findall(r"--(\w+): #(\w{6})", block)) for block in re.findall(r":root \{(.*?)\}", style, re.S)]
+    assert len(schemes) == 2 and schemes[0].keys() == schemes[1].keys()
+    for colours in schemes:
+        for ground in ("ground", "panel"):
+            assert contrast(colours["text"], colours[ground]) >= 7
+            # marks of the legend
+            assert all(contrast(colours[mark], colours[ground]) >= 3 for mark in ("coarse", "vertex", "face"))
+        assert contrast(colours["border"], colours["surface"]) >= 3
+
+
 # ---- in a browser
 
 # colours in the picture, of the triangles drawn last, of a volume, and of levels
@@ -224,7 +248,7 @@ def test_the_page_in_a_browser(room):  # noqa: F811
     switched = [found["bare"][1]] + [seen[1] for seen in found["switched"].values()]
     # a torus of squares has no irregular vertex or face
     assert len(set(switched)) == 4 and found["switched"]["irregular"] == found["bare"] == found["again"]
-    assert "13 ticks" in found["misses"] and "Largest: 1.000, 7.000, 6.000, 1.000." in found["misses"] and "crisp" in found["sharpness"]
+    assert "13 ticks" in found["misses"] and "Largest of conditions 1 to 4: 1.000, 7.000, 6.000, 1.000." in found["misses"] and "crisp" in found["sharpness"]
     assert found["pressed"] != found["keys"] and all(a != b for a, b in zip(found["pressed"], found["keys"]))
     assert found["checked"] == [True, True, True]
     assert found["dragged"][0] < found["pressed"][0] and found["dragged"][1] > found["pressed"][1]
@@ -272,6 +296,33 @@ def test_two_meshes_beside_one_another(room):  # noqa: F811
     assert re.search(r"before\.dms \d+\.\d{3}, .*; after\.dms 6\.648, 8\.000, 6\.000, 1\.000\.", found["largest"])
     assert "24 and 24 vertices not of four corners" in found["irregular"] and "2 and 2 faces" in found["irregular"]
     assert picture_colours(room / "page.png") > 100
+
+
+def test_a_narrow_window(room):  # noqa: F811
+    """As on a phone: one mesh above the other, and the panel, once it is opened, above both."""
+    browser()
+    mesh = mahunopi.decode((ROOT / "meshes/prism.dms").read_bytes())
+    found = browse(room, page([("before.dms", mesh), ("after.dms", sharpened(mesh))]), HELPERS + """
+      const labels = () => [...document.querySelectorAll(".name")].map((label) => label.getBoundingClientRect());
+      found.wide = window.innerWidth;
+      found.high = window.innerHeight;
+      found.open = byId("panel").open;
+      found.closed = labels().map((box) => [box.left, box.bottom]);
+      byId("panel").open = true;
+      document.querySelector("input[value=misses]").click();
+      found.panel = byId("panel").getBoundingClientRect().bottom;
+      found.opened = labels().map((box) => [box.left, box.top]);
+      found.fits = byId("panel").scrollWidth <= byId("panel").clientWidth;
+      found.drawn = colours();
+      found.ground = getComputedStyle(document.body).backgroundColor;
+      found.text = getComputedStyle(document.body).color;
+    """, size="390,844")
+    assert found["faults"] == [] and found["wide"] < 700 and found["open"] is False
+    (left, bottom), (other, below) = found["closed"]
+    assert left == other and bottom < 0.55 * found["high"] < below <= found["high"]
+    assert found["panel"] <= 0.6 * found["high"] and found["fits"] and min(top for _, top in found["opened"]) > found["panel"]
+    assert found["drawn"][0] > 100
+    assert (found["ground"], found["text"]) == ("rgb(238, 241, 245)", "rgb(22, 32, 44)")
 
 
 def test_without_webgl_the_page_says_so(room):  # noqa: F811

@@ -319,6 +319,10 @@ fn one_version_in_header_wrapper_and_package() {
     let header = include_str!("../../../include/mahunopi.h");
     assert!(header.contains(&format!("#define MAHUNOPI_VERSION {VERSION}\n")));
     assert_eq!(env!("CARGO_PKG_VERSION"), format!("{VERSION}.0.0"));
+    for field in [env!("CARGO_PKG_LICENSE"), env!("CARGO_PKG_DESCRIPTION"), env!("CARGO_PKG_REPOSITORY")] {
+        assert!(!field.is_empty());
+    }
+    assert!(include_str!("../Cargo.toml").contains("\nreadme = \"../README.md\"\n"));
 }
 
 #[test]
