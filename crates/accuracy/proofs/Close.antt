@@ -1,11 +1,11 @@
 -- A whole number beside a fraction that it stands for, and how far the two are apart, in hundredths of a tick. Sums, differences and multiples
 -- add up what their parts are off, and a division rounds by at most half: one law for each thing that the construction does with numbers.
 use Prim.Native.Nat.{ℕ, zero, suc, _+_, _*_, _<_, _≤_}
-use native.Mathlib.Nat.{mul-le-mul, mul-le-mul-right}
+use native.Mathlib.Nat.{mul-le-mul}
 use native.Mathlib.Omega.{arith}
 use lib.IntN.{ℤ, pos, negsuc, _+ℤ_, _-ℤ_, _*ℤ_, negℤ, natAbs}
 use lib.Signed.{_≤ℤ_, _<ℤ_}
-use Rattle.numbers.proofs.Diff.{as-diff, diff}
+use Rattle.numbers.proofs.Diff.{diff}
 use Rattle.numbers.proofs.Poly.{over, poly}
 use Rattle.numbers.proofs.Laws.{mul-le, nonneg}
 use Rattle.paper.specs.Numbers.{Numbers, round, sum, sumBy, Fraction, exact}
@@ -32,12 +32,6 @@ itself = over 2 _ λ ρ. simp (poly, ρ) (omega arith)
 
 pub close-whole : (x : ℤ) → Close 0 x (whole x)
 close-whole x = record { proper = omega arith; off = itself x (pos 0) (nonneg 0) }
-
-pub close-wider : (e f : ℕ) (x : ℤ) (q : Fraction) → Close e x q → e ≤ f → Close f x q
-close-wider e f x q h l = record { proper = h .proper; off = wide (pos 100 *ℤ (pos (q .bottom) *ℤ x -ℤ q .top)) (h .off) }
-  where
-    wide : (z : ℤ) → Within z (pos (e * q .bottom)) → Within z (pos (f * q .bottom))
-    wide z h = let m = mul-le-mul-right (q .bottom) l in as-diff z λ a b d. let k = simp (diff, d) at h in simp (diff, d) (omega arith)
 
 -- ---- sum and difference: n and k over D and E
 plus-core : (D E n k x y e f : ℤ) → Within (E *ℤ (pos 100 *ℤ (D *ℤ x -ℤ n))) (E *ℤ (e *ℤ D)) → Within (D *ℤ (pos 100 *ℤ (E *ℤ y -ℤ k))) (D *ℤ (f *ℤ E))

@@ -29,11 +29,11 @@ three-less = over 1 _ λ ρ. simp (poly, ρ) (omega arith)
 
 -- ---- the numbers of two lists, each off by as much as a third list says
 infixr 25 _then_
-pub data All : List ℕ → List ℤ → List Fraction → Type 0 where
-  none : All [] [] []
-  _then_ : {e : ℕ} {z : ℤ} {q : Fraction} {d : List ℕ} {l : List ℤ} {r : List Fraction} → Close e z q → All d l r → All (e ∷ d) (z ∷ l) (q ∷ r)
+pub data AllClose : List ℕ → List ℤ → List Fraction → Type 0 where
+  none : AllClose [] [] []
+  _then_ : {e : ℕ} {z : ℤ} {q : Fraction} {d : List ℕ} {l : List ℤ} {r : List Fraction} → Close e z q → AllClose d l r → AllClose (e ∷ d) (z ∷ l) (q ∷ r)
 
-pub all-at : (d : List ℕ) (l : List ℤ) (r : List Fraction) → All d l r → (j : ℕ)
+pub all-at : (d : List ℕ) (l : List ℤ) (r : List Fraction) → AllClose d l r → (j : ℕ)
     → Close (getD d j 0) (getD l j (pos 0)) (getD r j (exact .whole (pos 0)))
 all-at [] [] [] none j = close-whole (pos 0)
 all-at (e ∷ d) (z ∷ l) (q ∷ r) (h then t) zero = h
@@ -160,7 +160,7 @@ module _ (G : Corners) (ok : Sound G) (v : ℕ → ℤ) (q : ℕ → Fraction) (
   b22-close = close-over 2 419 (omega arith) (omega arith) (close-plus (aTail-close side0) (aTail-close side3))
 
   -- all 41
-  pub all-close : All bounds (net K c) (net L c)
+  pub all-close : AllClose bounds (net K c) (net L c)
   unfolding net bGrid aGrid bounds
   all-close =
       H-close side0 then outer1-close side0 then outer2-close side0 then outer3-close side0 then T-close side0

@@ -11,7 +11,6 @@ use Rattle.paper.specs.Report.{pageWith, conditions, largestMiss, added, pageVe
 use Rattle.paper.specs.declared.Answer.the-variants.{Done, Refused}
 use Rattle.paper.specs.declared.Page.{Page}
 use Rattle.surface.specs.Points.{pointRow}
-use Rattle.walk.specs.Table.{rowLength}
 use Rattle.border_report.specs.four.Four.{inMisses}
 use Rattle.border_report.specs.declared.four.Misses.{Misses}
 use Rattle.border_report.proofs.page_laws.Runs.{values-equal}

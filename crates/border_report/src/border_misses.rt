@@ -2,7 +2,7 @@
 // large for the stack, so that the quad-nets are made face by face: those of a face's corners stand side by side, and for each corner that of its link
 // is made besides.
 use crate::four::Misses;
-use crate::misses::Row;
+use crate::misses::FourPoints;
 use crate::misses::wide;
 use net::STENCIL;
 use numbers::cosines;
@@ -23,7 +23,7 @@ ghost use Rattle.net.specs.sides.Values.{SideSized};
 ghost use Rattle.building.specs.writing.Written.{Faced, NetsWritten};
 ghost use Rattle.border_report.specs.four.Four.{inMisses};
 ghost use Rattle.border_report.specs.misses.Row.{inRow, SmallRow};
-ghost use Rattle.border_report.specs.border_misses.Held.{pointIn, SmallOn, HeldAll, WholeFace, cornerMiss, AxisMisses, fourOf};
+ghost use Rattle.border_report.specs.border_misses.Held.{pointIn, SmallOn, NetHeldAll, WholeFace, cornerMiss, AxisMisses, fourOf};
 
 // The numbers of the corners of a face, at most.
 const FACE_NUMBERS: usize = MOST_SIDES * NUMBERS_PER_CORNER;
@@ -113,9 +113,9 @@ fn corner_misses(
     stencil: &mut [i32],
 ) -> Misses
     requires mesh { ⌜ Drawn n (now table) (now points) × (c < n) × (now rows ≡ stored) × (length (now stencil) ≡ 128) ⌝ }
-    requires here { ⌜ HeldAll (drawn n (now table) (now points)) c (now face) here ⌝ }
-    requires linked { ⌜ HeldAll (drawn n (now table) (now points)) (entry (now table) toLink c) (now linked) 0 ⌝ }
-    requires next { ⌜ HeldAll (drawn n (now table) (now points)) (entry (now table) toNext c) (now face) next ⌝ }
+    requires here { ⌜ NetHeldAll (drawn n (now table) (now points)) c (now face) here ⌝ }
+    requires linked { ⌜ NetHeldAll (drawn n (now table) (now points)) (entry (now table) toLink c) (now linked) 0 ⌝ }
+    requires next { ⌜ NetHeldAll (drawn n (now table) (now points)) (entry (now table) toNext c) (now face) next ⌝ }
     ensures { λ r. ⌜ ((j : ℕ) → j < conditions → inMisses r j ≡ cornerMiss (drawn n (now (table .entry)) (now (points .entry))) j c) ⌝ }
 {
     net::stencil::take_face(points, table, rows, n, c, 1, stencil);
@@ -157,12 +157,12 @@ fn axis_misses(
 }
 
 // Four points of a corner's numbers, from `at` on, on an axis.
-fn row(net: &[i32], at: usize, axis: usize, p: usize, q: usize, r: usize, s: usize) -> Row
+fn row(net: &[i32], at: usize, axis: usize, p: usize, q: usize, r: usize, s: usize) -> FourPoints
     requires net { ⌜ SmallOn (now net) at axis × (axis < 3) ⌝ }
     requires places { ⌜ (p < netPoints) × (q < netPoints) × (r < netPoints) × (s < netPoints) ⌝ }
     ensures { λ t. ⌜ ((j : ℕ) → inRow t j ≡ fourOf (pointIn (now (net .entry)) at axis) p q r s j) × SmallRow t ⌝ }
 {
-    Row {
+    FourPoints {
         p0: point(net, at, axis, p),
         p1: point(net, at, axis, q),
         p2: point(net, at, axis, r),

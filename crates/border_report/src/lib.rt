@@ -27,7 +27,7 @@ ghost use Rattle.paper.specs.Faults.{sound, verdict};
 ghost use Rattle.paper.specs.File.{fileMesh, fileVerdict};
 ghost use Rattle.paper.specs.Report.{added, pageVerdict, offered, ReportedTo, MergedTo};
 ghost use Rattle.surface.specs.Points.{pointRow};
-ghost use Rattle.refine.specs.sums.Sources.{Small};
+ghost use Rattle.refine.specs.sums.Sources.{SmallPoints};
 ghost use Rattle.dms.specs.header.ListsWithin.{ListsWithin};
 ghost use Rattle.checks.specs.Checked.{RowsFor};
 
@@ -146,7 +146,7 @@ fn over(
 ) -> Page
     requires page { ⌜ pageVerdict page ≡ sound ⌝ }
     requires table { ⌜ RowsFor (length (now corners)) (now table) ⌝ }
-    requires points { ⌜ (length (now corners) ≤ mostCorners → pointRow * length (now corners) ≤ length (now points)) × Small (now points) ⌝ }
+    requires points { ⌜ (length (now corners) ≤ mostCorners → pointRow * length (now corners) ≤ length (now points)) × SmallPoints (now points) ⌝ }
     ensures { λ r. ⌜ r ≡ added page (meshOf (now (coordinates .entry)) (now (sides .entry)) (now (corners .entry)) (now (sharpness .entry))) (verdict (meshOf (now (coordinates .entry)) (now (sides .entry)) (now (corners .entry)) (now (sharpness .entry)))) ⌝ }
 {
     let a = checks::check_within(coordinates, sides, corners, sharpness, table);

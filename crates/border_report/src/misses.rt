@@ -21,7 +21,7 @@ const THREE: i64 = 3 * UNIT;
 const FOUR: i64 = 4 * UNIT;
 
 // Four points of a row, at the places that the conditions name.
-pub struct Row {
+pub struct FourPoints {
     pub p0: i64,
     pub p1: i64,
     pub p2: i64,
@@ -29,7 +29,12 @@ pub struct Row {
 }
 
 // The misses of one side on one axis.
-pub(crate) fn side_misses(side: SideValues, outer: Row, own: Row, other: Row) -> Misses
+pub(crate) fn side_misses(
+    side: SideValues,
+    outer: FourPoints,
+    own: FourPoints,
+    other: FourPoints,
+) -> Misses
     requires { ⌜ SideSized side × SmallRow outer × SmallRow own × SmallRow other ⌝ }
     ensures { λ r. ⌜ ((j : ℕ) → j < conditions → inMisses r j ≡ natAbs (condition j (side .head) (side .tail) (side .x) (side .y) (side .cosine) (inRow outer j) (inRow own j) (inRow other j))) ⌝ }
 {

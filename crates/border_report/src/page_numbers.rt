@@ -10,7 +10,7 @@ ghost use Rattle.paper.specs.Report.{lines, conditions, numbersOn};
 ghost use Rattle.paper.specs.CFace.{pageIn};
 
 // How many numbers, and where refusals and misses start.
-pub const NUMBERS: usize = 21;
+pub const NUMBERS_ON_PAGE: usize = 21;
 
 const FIRST_LINE: usize = 3;
 
@@ -56,13 +56,13 @@ fn read_misses(numbers: &[u64; 21]) -> [u64; CONDITIONS]
 }
 
 // The numbers of the page.
-pub fn numbers(page: Page) -> [u64; NUMBERS]
+pub fn numbers(page: Page) -> [u64; NUMBERS_ON_PAGE]
     requires { ⌜ (length (page .refusals) ≡ lines) × (length (page .misses) ≡ conditions) ⌝ }
     ensures { λ r. ⌜ r ≡ numbersOn page ⌝ }
 {
-    let mut new = [0u64; NUMBERS];
+    let mut new = [0u64; NUMBERS_ON_PAGE];
     let mut i = 0;
-    while i < NUMBERS {
+    while i < NUMBERS_ON_PAGE {
         new[i] = number_at(page, i);
         i += 1;
     }

@@ -12,13 +12,13 @@ use Rattle.paper.specs.declared.Answer.the-variants.{Done, Refused}
 use Rattle.mesh.proofs.Accepted.{sound-of, few-corners}
 use Rattle.mesh.proofs.Verdicts.{orElse-fault, past}
 use Rattle.surface.specs.Points.{pointRow}
-use Rattle.refine.specs.sums.Sources.{Small}
+use Rattle.refine.specs.sums.Sources.{SmallPoints}
 use Rattle.refine.proofs.sums.Laws.{small-zeros}
 use Rattle.checks.specs.Request.{linksFaults, rangeFaults}
 use Rattle.checks.proofs.requests.Laws.{verdict-is}
 
 pub point-room : (n p : ℕ) → (n ≤ mostCorners → n ≤ p)
-    → (n ≤ mostCorners → pointRow * n ≤ length (replicate (pointRow * p) (pos 0))) × Small (replicate (pointRow * p) (pos 0))
+    → (n ≤ mostCorners → pointRow * n ≤ length (replicate (pointRow * p) (pos 0))) × SmallPoints (replicate (pointRow * p) (pos 0))
 point-room n p few = (λ h. rw (length-replicate {A = ℤ} (pointRow * p) (pos 0)) (omega (arith, few h)), small-zeros (pointRow * p))
 
 pub few : (M : Mesh) → Accepted M → cornerCount M ≤ mostCorners

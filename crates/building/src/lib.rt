@@ -13,7 +13,7 @@ ghost use lib.ListN.{length};
 ghost use Rattle.paper.specs.Mesh.{mostCorners, meshOf};
 ghost use Rattle.paper.specs.Calls.{Built};
 ghost use Rattle.surface.specs.Points.{pointRow};
-ghost use Rattle.refine.specs.sums.Sources.{Small};
+ghost use Rattle.refine.specs.sums.Sources.{SmallPoints};
 ghost use Rattle.checks.specs.Checked.{RowsFor};
 
 // What is asked for: `count` corners from `first` on.
@@ -113,7 +113,7 @@ fn build_over(
     out: &mut [i32],
 ) -> Answer
     requires table { ⌜ RowsFor (length (now corners)) (now table) ⌝ }
-    requires points { ⌜ (length (now corners) ≤ mostCorners → pointRow * length (now corners) ≤ length (now points)) × Small (now points) ⌝ }
+    requires points { ⌜ (length (now corners) ≤ mostCorners → pointRow * length (now corners) ≤ length (now points)) × SmallPoints (now points) ⌝ }
     ensures { λ r. ⌜ Built (meshOf (now (coordinates .entry)) (now (sides .entry)) (now (corners .entry)) (now (sharpness .entry))) (now (links .entry)) (range .first) (range .count) (now (out .entry)) r (now (out .exit)) ⌝ }
 {
     let a = checks::check_within(coordinates, sides, corners, sharpness, table);

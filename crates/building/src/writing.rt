@@ -17,9 +17,9 @@ ghost use Rattle.paper.specs.Calls.{perCorner};
 ghost use Rattle.numbers.specs.Stored.{stored};
 ghost use Rattle.surface.specs.Points.{pointRow};
 ghost use Rattle.walk.specs.Table.{Tabled};
-ghost use Rattle.refine.specs.sums.Sources.{Small};
+ghost use Rattle.refine.specs.sums.Sources.{SmallPoints};
 ghost use Rattle.net.specs.sides.Drawn.{drawn, Drawn};
-ghost use Rattle.building.specs.writing.Written.{Rounds, InFace, Faced, NetsDrawn, NetsWritten};
+ghost use Rattle.building.specs.writing.Written.{WalksFaces, InFace, Faced, NetsDrawn, NetsWritten};
 
 // The refined points of which the nets of `count` corners from `first` on are made: those of the corners at the vertices of the range's faces.
 pub fn fill_range(
@@ -35,7 +35,7 @@ pub fn fill_range(
     requires mesh { ⌜ Accepted (meshOf (now coordinates) (now sides) (now corners) (now sharpness)) ⌝ }
     requires table { ⌜ Tabled (cornersOf (meshOf (now coordinates) (now sides) (now corners) (now sharpness))) (now table) ⌝ }
     requires range { ⌜ (0 < count) × (first + count ≤ length (now corners)) ⌝ }
-    requires points { ⌜ (pointRow * length (now corners) ≤ length (now points)) × Small (now points) ⌝ }
+    requires points { ⌜ (pointRow * length (now corners) ≤ length (now points)) × SmallPoints (now points) ⌝ }
     ensures { λ _. ⌜ NetsDrawn (meshOf (now (coordinates .entry)) (now (sides .entry)) (now (corners .entry)) (now (sharpness .entry))) (now (table .entry)) (now (points .exit)) first count ⌝ }
 {
     let start = face_start(table, first);
@@ -56,7 +56,7 @@ pub fn fill_range(
 // The first corner of a corner's face: there the previous corner is not the one before it in the list.
 fn face_start(table: &[u16], c: usize) -> usize
     requires { ⌜ InFace (now table) c ⌝ }
-    ensures { λ r. ⌜ ((sides : List ℕ) → Rounds sides (now (table .entry)) → c < sumOf sides → r ≡ firstOf sides c) ⌝ }
+    ensures { λ r. ⌜ ((sides : List ℕ) → WalksFaces sides (now (table .entry)) → c < sumOf sides → r ≡ firstOf sides c) ⌝ }
 {
     let mut start = c;
     loop {
@@ -73,7 +73,7 @@ fn face_start(table: &[u16], c: usize) -> usize
 // The corner after the last one of a corner's face.
 fn face_end(table: &[u16], c: usize) -> usize
     requires { ⌜ InFace (now table) c ⌝ }
-    ensures { λ r. ⌜ ((sides : List ℕ) → Rounds sides (now (table .entry)) → c < sumOf sides → r ≡ firstOf sides c + sidesOf sides c) ⌝ }
+    ensures { λ r. ⌜ ((sides : List ℕ) → WalksFaces sides (now (table .entry)) → c < sumOf sides → r ≡ firstOf sides c + sidesOf sides c) ⌝ }
 {
     let start = face_start(table, c);
     let at = Walker { corner: start };

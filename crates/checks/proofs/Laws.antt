@@ -23,7 +23,7 @@ use Rattle.walk.proofs.Table.{blank}
 use Rattle.checks.specs.columns.Vertices.{vertexRow, Rowed}
 use Rattle.checks.specs.columns.Chain.{EarliersTo, EarliersFrom, LastsTo, Ready}
 use Rattle.checks.specs.columns.Filled.{FacesFilled, CornersCounted}
-use Rattle.checks.specs.edges.Entries.{Entries, Valences, Searchable, ChainsFrom, HeadsFrom, StepsBelong, Found}
+use Rattle.checks.specs.edges.Entries.{Entries, Valences, Searchable, ChainsFrom, HeadsFrom, StepsBelong, EntriesFound}
 use Rattle.checks.specs.vertices.Ring.{Linking}
 use Rattle.checks.specs.Checked.{RowsFor, RoomFor, Checked, ListsChecked, Listed}
 
@@ -111,7 +111,7 @@ pub record FilledFor (M : Mesh) (table vertices : List ℕ) : Type 0 where
 
 -- after the search, which leaves the columns of the faces as they were
 pub filled-for : (M : Mesh) → listFaults M ≡ sound → (old table vertices : List ℕ) → rowLength * cornerCount M ≤ length table
-    → vertexRow * vertexCount M ≤ length vertices → FacesFilled (M .sides) old → Found (M .corners) old table vertices → FilledFor M table vertices
+    → vertexRow * vertexCount M ≤ length vertices → FacesFilled (M .sides) old → EntriesFound (M .corners) old table vertices → FilledFor M table vertices
 filled-for M e old table vertices lt lv f k =
     let faced : FacesFilled (M .sides) table =
     record {

@@ -6,7 +6,7 @@ use walk::SIDES;
 ghost use mathlib.Core.Path.{_≡_};
 ghost use Prim.Native.Nat.{_≤_};
 ghost use Rattle.paper.specs.Mesh.{mostCorners};
-ghost use Rattle.checks.specs.columns.Filled.{filled, RowAt, Countable, CornersCounted};
+ghost use Rattle.checks.specs.columns.Filled.{rowFilled, RowAt, Countable, CornersCounted};
 
 // The numbers in a row of the table of vertices: four, so that a row needs no product to be found.
 pub const VERTEX_ROW: usize = 4;
@@ -26,7 +26,7 @@ pub const LOWEST: usize = 0;
 // The row of corner c, which comes after `last` in a face of n sides: its previous corner and the sides, and the next of that corner.
 pub(crate) fn put_corner(table: &mut [u16], c: usize, last: usize, n: usize)
     requires { ⌜ RowAt (now table) c × RowAt (now table) last × (n ≤ mostCorners) ⌝ }
-    ensures { λ _. ⌜ now (table .exit) ≡ filled (now (table .entry)) c last n ⌝ }
+    ensures { λ _. ⌜ now (table .exit) ≡ rowFilled (now (table .entry)) c last n ⌝ }
 {
     table[ROW * last + NEXT] = c as u16;
     table[ROW * c + PREVIOUS] = last as u16;

@@ -21,10 +21,10 @@ ghost use Rattle.paper.specs.Links.{vertexOf, valence};
 ghost use Rattle.paper.specs.Faults.{lowestOf, stated};
 ghost use Rattle.mesh.specs.Tables.{Named};
 ghost use Rattle.walk.specs.Table.{rowLength, toLink, entry};
-ghost use Rattle.checks.specs.columns.Vertices.{vertexRow, leavingHere, arrivingHere, countHere, Row};
+ghost use Rattle.checks.specs.columns.Vertices.{vertexRow, leavingHere, arrivingHere, countHere, HasRow};
 ghost use Rattle.checks.specs.columns.Chain.{lastOf, Clear};
 ghost use Rattle.checks.specs.edges.Entries.{has, Searchable, ChainsFrom, HeadsFrom, BothKeyed};
-ghost use Rattle.checks.specs.edges.Entries.{MarkedFrom, CountedAt, Unmarked, EntryFor, Collected, Found, EdgesChecked};
+ghost use Rattle.checks.specs.edges.Entries.{MarkedFrom, CountedAt, Unmarked, EntryFor, Collected, EntriesFound, EdgesChecked};
 
 // The entry of a corner whose leaving edge already left an earlier one, and of a corner whose leaving edge has no reverse.
 const REPEATED: u16 = 8193;
@@ -52,7 +52,7 @@ pub(crate) fn fill_links(corners: &[u16], count: usize, table: &mut [u16], verti
     requires walk { ⌜ Searchable (now corners) (now table) (now vertices) × ChainsFrom (now corners) (now table) 0 × HeadsFrom (now corners) (now vertices) 0 ⌝ }
     requires vertices { ⌜ Named (now corners) count × (vertexRow * count ≤ length (now vertices)) ⌝ }
     requires clear { ⌜ Clear (now vertices) leavingHere × Clear (now vertices) arrivingHere × Clear (now vertices) countHere ⌝ }
-    ensures { λ _. ⌜ Found (now (corners .entry)) (now (table .entry)) (now (table .exit)) (now (vertices .exit)) ⌝ }
+    ensures { λ _. ⌜ EntriesFound (now (corners .entry)) (now (table .entry)) (now (table .exit)) (now (vertices .exit)) ⌝ }
 {
     let mut u = 0;
     while u < count {
@@ -66,7 +66,7 @@ pub(crate) fn fill_links(corners: &[u16], count: usize, table: &mut [u16], verti
 // Marks the corners of u from the highest down, so that the lowest one of an edge stays; `last` is one more than the highest. Answers how
 // many there are, and notes that, and the lowest in place of the last.
 fn mark(corners: &[u16], table: &[u16], u: usize, last: u16, vertices: &mut [u16]) -> u16
-    requires walk { ⌜ Searchable (now corners) (now table) (now vertices) × Row (now vertices) u × ChainsFrom (now corners) (now table) u ⌝ }
+    requires walk { ⌜ Searchable (now corners) (now table) (now vertices) × HasRow (now vertices) u × ChainsFrom (now corners) (now table) u ⌝ }
     requires last { ⌜ last ≡ lastOf (now corners) u ⌝ }
     requires keyed { ⌜ BothKeyed (now corners) (now table) (now vertices) ⌝ }
     ensures marks { λ _. ⌜ MarkedFrom (now (corners .entry)) (now (table .entry)) (now (vertices .exit)) u 0 ⌝ }

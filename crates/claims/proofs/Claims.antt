@@ -22,7 +22,8 @@ use Rattle.preview.proofs.Theorems.{as-building, previews-build, previews-from-
 use Rattle.touching.proofs.Untouched.{untouched}
 use Rattle.sampling.proofs.Theorems.{samples-close, rays-agree, sample-ends, samples-between, triangles-sample}
 use Rattle.closing.proofs.Calls.{surface-closes, points-used, points-sample, plain-strips, ranges-join, counts-serve}
-use Rattle.closing.proofs.FromC.{triangles-from-c, counts-from-c}
+use Rattle.closing.proofs.FromC.{triangles-from-c, counts-from-c, tangents-from-c}
+use Rattle.closing.proofs.TangentSizes.{tangents-within}
 use Rattle.sampling.proofs.TangentLaws.{tangents-close}
 use Rattle.turning.proofs.Theorems.{turned-passes, turns-decide, one-choice, turned-twice, turned-back, nothing-turned, none-farther}
 use Rattle.turning.proofs.Listing.{listing-rises}
@@ -94,6 +95,8 @@ claims = record {
     counts-serve = counts-serve;
     triangles-from-c = triangles-from-c;
     counts-from-c = counts-from-c;
+    tangents-from-c = tangents-from-c;
     tangents-close = tangents-close;
+    tangents-within = tangents-within;
   };
 }

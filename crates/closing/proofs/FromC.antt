@@ -1,4 +1,4 @@
--- A call of `mahunopi_triangles` or `mahunopi_count_triangles` that answers 0 is a call that is not refused: no fault has the number 0.
+-- A call of `mahunopi_triangles`, `mahunopi_count_triangles`, `mahunopi_tangents` or `mahunopi_tangents_at` that answers 0 is a call that is not refused: no fault has the number 0.
 use mathlib.Core.Path.{_≡_, sym, ap, _∙_}
 use mathlib.Core.List.{List}
 use Prim.Native.Nat.{ℕ}
@@ -9,8 +9,11 @@ use Rattle.paper.specs.Mesh.{Mesh}
 use Rattle.paper.specs.Faults.{Verdict, sound, kept}
 use Rattle.paper.specs.File.{begins}
 use Rattle.paper.specs.Triangles.{pointList, triangleList, levelVerdict, triangleRoom}
+use Rattle.paper.specs.Floats.{netVerdict}
+use Rattle.paper.specs.Sampling.{Weights, sampleVerdict, sideAt}
+use Rattle.paper.specs.Tangents.{tangentPair, tangentList, tangentVerdict}
 use Rattle.paper.specs.CFace.{Sizes, sizesOf, fillVerdict}
-use Rattle.paper.specs.Claims.{TrianglesFromC, CountsFromC}
+use Rattle.paper.specs.Claims.{TrianglesFromC, CountsFromC, TangentsFromC}
 use Rattle.borders.proofs.FromC.{Numbered, one, lowest, linked, _or_}
 
 leveled : (M : Mesh) (links : List ℕ) (first count : ℕ) (levels : List ℕ) → Numbered (levelVerdict M links first count levels)
@@ -40,3 +43,25 @@ triangles-from-c M links levels first count old old′ lent before after points 
       points-hold = call .points-hold ∙ ap (λ (w : Verdict). kept w (begins (pointList M levels first count) old) old) e;
       triangles-hold = call .triangles-hold ∙ ap (λ (w : Verdict). kept w (begins (triangleList M levels first count) old′) old′) e;
     }
+
+sampled : (numbers : List ℤ) (side : ℕ) (w : Weights) → Numbered (sampleVerdict numbers side w)
+unfolding sampleVerdict netVerdict
+sampled numbers side w = (one 18 _ _ (omega arith) or lowest 19 _ _ (omega arith)) or one 32 _ _ (omega arith) or one 33 _ _ (omega arith)
+
+ranged : (M : Mesh) (links : List ℕ) (first count : ℕ) (levels : List ℕ) (room : ℕ) → Numbered (tangentVerdict M links first count levels room)
+unfolding tangentVerdict
+ranged M links first count levels room = leveled M links first count levels or one 255 _ _ (omega arith)
+
+pub tangents-from-c : TangentsFromC
+tangents-from-c = (
+  λ numbers side w old before after out call.
+      let e = sampled numbers side w .none (sym (call .answers .number)) in
+      record { answers = sym e; holds = call .holds ∙ ap (λ (v : Verdict). kept v (tangentPair numbers (sideAt side) w) old) e },
+  λ M links levels first count old lent before after out told call.
+      let e = ranged M links first count levels (length old) .none (sym (call .answers .number)) in
+      record {
+        answers = sym e;
+        numbers-are = call .tells ∙ ap (λ (v : Verdict). kept v (length (tangentList M levels first count)) lent) e;
+        holds = call .holds ∙ ap (λ (v : Verdict). kept v (begins (tangentList M levels first count) old) old) e;
+      },
+)

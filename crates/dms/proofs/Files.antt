@@ -6,28 +6,26 @@ use Prim.Native.Nat.{ℕ, _*_, _<_, _≤_}
 use native.Mathlib.Omega.{arith}
 use lib.Dec.{ltb}
 use lib.ListN.{length, take}
+use lib.IntN.{ℤ}
 use lib.Seq.{take-all}
 use borrow.Author.Tests.{lt-ltb, le-ltb, ltb-true, ltb-false}
 use Rattle.paper.specs.Mesh.{Mesh, meshOf}
-use Rattle.paper.specs.Faults.{Verdict, sound, fault, single, _orElse_}
-use Rattle.paper.specs.File.{verticesIn, facesIn, cornersIn, fileMesh, fileVerdict, noRoom, Surveyed, roomVerdict, decodeVerdict, DecodedTo}
+use Rattle.paper.specs.Faults.{Verdict, sound, fault, single, _orElse_, verdict}
+use Rattle.paper.specs.File.{verticesIn, facesIn, cornersIn, fileMesh, headerVerdict, fileVerdict, noRoom, Surveyed, begins, roomVerdict, decodeVerdict, DecodedTo}
 use Rattle.paper.specs.declared.Answer.the-variants.{Done, Refused}
 use Rattle.paper.specs.declared.Summary.{Summary}
 use Rattle.paper.specs.declared.Decoded.{Decoded}
 use Rattle.mesh.proofs.Scans.{ways}
-use Rattle.mesh.proofs.Verdicts.{orElse-sound, sound-left, sound-right, single-sound}
-use Rattle.dms.specs.header.ListsWithin.{ListsWithin}
+use Rattle.mesh.proofs.Verdicts.{orElse-fault, orElse-sound, sound-left, sound-right, single-sound}
 use Rattle.dms.specs.lists.Room.{Room, ListsRead}
 use Rattle.dms.proofs.lists.Lists.{read-back, file-coordinates, file-faces, file-corners, file-sharpness}
-use Rattle.dms.proofs.header.Headers.{header-within}
 
 -- ---- the bytes of the file
 pub held-bytes : (bytes : List ℕ) (held counted : ℕ) → (held < counted → held ≡ length bytes) → held ≤ counted → take held bytes ≡ take counted bytes
 held-bytes bytes held counted all le =
     ⊎-elim
-    (λ l. let q : held ≡ length bytes = all (ltb-true _ _ l) in
-    take-all held bytes (omega arith) ∙ sym (take-all counted bytes (omega arith)))
-    (λ l. let q : held ≡ counted = omega (arith, ltb-false held counted l) in ap (λ (n : ℕ). take n bytes) q)
+    (λ l. let q = all (ltb-true _ _ l) in take-all held bytes (omega arith) ∙ sym (take-all counted bytes (omega arith)))
+    (λ l. let q : held ≡ counted = omega (arith, ltb-false held counted l) in rw q)
     (ways (ltb held counted))
 
 -- ---- surveying
@@ -35,22 +33,37 @@ pub later-survey : (M : Mesh) {w : Verdict} (v : Verdict) (r : Summary) → w �
 later-survey M v r e s = subst (λ (x : Verdict). Surveyed M x r) (sym (orElse-sound v e)) s
 
 -- the lists that were read make the file's mesh
-pub mesh-read : (file : List ℕ) (n f k p : ℕ) (lent left : Mesh) → n ≡ 3 * verticesIn file → f ≡ facesIn file → k ≡ cornersIn file → p ≡ 2 * cornersIn file
-    → ListsRead file lent left
-    → meshOf (take n (left .coordinates)) (take f (left .sides)) (take k (left .corners)) (take p (left .sharpness)) ≡ fileMesh file
-mesh-read file n f k p lent left q r s t h =
-    rw (
-      read-back n (fileMesh file .coordinates) (lent .coordinates) (left .coordinates) (q ∙ file-coordinates file) (h .coordinates-hold),
-      read-back f (fileMesh file .sides) (lent .sides) (left .sides) (r ∙ file-faces file) (h .sides-hold),
-      read-back k (fileMesh file .corners) (lent .corners) (left .corners) (s ∙ file-corners file) (h .corners-hold),
-      read-back p (fileMesh file .sharpness) (lent .sharpness) (left .sharpness) (t ∙ file-sharpness file) (h .sharpness-hold),
-    )
+module _ (file : List ℕ) (lent left : Mesh) (h : ListsRead file lent left) where
+  coordinates-back : (n : ℕ) → n ≡ verticesIn file → take (3 * n) (left .coordinates) ≡ fileMesh file .coordinates
+  coordinates-back n q = read-back (3 * n) (fileMesh file .coordinates) (lent .coordinates) _ (rw q (file-coordinates file)) (h .coordinates-hold)
+
+  sides-back : (n : ℕ) → n ≡ facesIn file → take n (left .sides) ≡ fileMesh file .sides
+  sides-back n q = read-back _ (fileMesh file .sides) (lent .sides) _ (q ∙ file-faces file) (h .sides-hold)
+
+  corners-back : (n : ℕ) → n ≡ cornersIn file → take n (left .corners) ≡ fileMesh file .corners
+  corners-back n q = read-back _ (fileMesh file .corners) (lent .corners) _ (q ∙ file-corners file) (h .corners-hold)
+
+  sharpness-back : (n : ℕ) → n ≡ cornersIn file → take (2 * n) (left .sharpness) ≡ fileMesh file .sharpness
+  sharpness-back n q = read-back (2 * n) (fileMesh file .sharpness) (lent .sharpness) _ (rw q (file-sharpness file)) (h .sharpness-hold)
+
+  pub mesh-read : (n f k : ℕ) → n ≡ verticesIn file → f ≡ facesIn file → k ≡ cornersIn file
+      → meshOf (take (3 * n) (left .coordinates)) (take f (left .sides)) (take k (left .corners)) (take (2 * k) (left .sharpness)) ≡ fileMesh file
+  mesh-read n f k q r s = rw (coordinates-back n q, sides-back f r, corners-back k s, sharpness-back k s)
+
+  -- as a part of a list asks it
+  pub coordinates-long : (n : ℕ) → n ≡ verticesIn file → 3 * n ≡ length (take (3 * n) (left .coordinates))
+  coordinates-long n q = rw (coordinates-back n q, q) (file-coordinates file)
+
+  pub sides-long : (n : ℕ) → n ≡ facesIn file → n ≡ length (take n (left .sides))
+  sides-long n q = rw (sides-back n q) (q ∙ file-faces file)
+
+  pub corners-long : (n : ℕ) → n ≡ cornersIn file → n ≡ length (take n (left .corners))
+  corners-long n q = rw (corners-back n q) (q ∙ file-corners file)
+
+  pub sharpness-long : (n : ℕ) → n ≡ cornersIn file → 2 * n ≡ length (take (2 * n) (left .sharpness))
+  sharpness-long n q = rw (sharpness-back n q, q) (file-sharpness file)
 
 -- ---- decoding
-pub file-within : (file : List ℕ) (counted : ℕ) → fileVerdict file counted ≡ sound → ListsWithin file
-unfolding fileVerdict
-file-within file counted e = header-within file counted (sound-left _ _ e)
-
 module _ (file : List ℕ) (a b c d : ℕ) where
   pub no-coordinates : (n : ℕ) → n ≡ 3 * verticesIn file → a < n → fault noRoom n ≡ roomVerdict file a b c d
   unfolding roomVerdict single _orElse_
@@ -89,52 +102,52 @@ module _ (file : List ℕ) (a b c d : ℕ) where
         sharpness-fit = ltb-false d _ (single-sound noRoom _ _ (sound-right _ _ last));
       }
 
-module _ (file : List ℕ) (counted : ℕ) (a b c d : ℕ) (e : decodeVerdict file counted a b c d ≡ sound) where
-  pub decode-within : ListsWithin file
-  unfolding decodeVerdict
-  decode-within = file-within file counted (sound-left _ _ e)
-
-  pub decode-room : Room file a b c d
-  unfolding decodeVerdict
-  decode-room = room-of file a b c d (sound-right _ _ e)
-
 -- what decoding answers, into these spaces
 abbrev lentVerdict : List ℕ → ℕ → Mesh → Verdict
 lentVerdict file counted lent =
     decodeVerdict file counted (length (lent .coordinates)) (length (lent .sides)) (length (lent .corners)) (length (lent .sharpness))
 
+-- and after the mesh, for room
+abbrev lentRoom : List ℕ → Mesh → Verdict
+lentRoom file lent = roomVerdict file (length (lent .coordinates)) (length (lent .sides)) (length (lent .corners)) (length (lent .sharpness))
+
+pub header-decides : (file : List ℕ) (counted : ℕ) (lent : Mesh) (k p : ℕ) → fault k p ≡ headerVerdict file counted → fault k p ≡ lentVerdict file counted lent
+unfolding decodeVerdict fileVerdict
+header-decides file counted lent k p e = sym (orElse-fault k p _ (orElse-fault k p _ (sym e)))
+
+pub lists-decide : (file : List ℕ) (counted : ℕ) (lent : Mesh) {v : Verdict} → headerVerdict file counted ≡ sound
+    → v ≡ verdict (fileMesh file) orElse lentRoom file lent → v ≡ lentVerdict file counted lent
+unfolding decodeVerdict fileVerdict
+lists-decide file counted lent h e = e ∙ ap (λ (w : Verdict). w orElse lentRoom file lent) (sym (orElse-sound (verdict (fileMesh file)) h))
+
+-- the lists that were read, copied to the lent spaces
+pub lists-copied : (file : List ℕ) (n f k p : ℕ) (old own lent left : Mesh) → n ≡ 3 * verticesIn file → f ≡ facesIn file → k ≡ cornersIn file
+    → p ≡ 2 * cornersIn file → ListsRead file old own → left .coordinates ≡ begins (take n (own .coordinates)) (lent .coordinates)
+    → left .sides ≡ begins (take f (own .sides)) (lent .sides) → left .corners ≡ begins (take k (own .corners)) (lent .corners)
+    → left .sharpness ≡ begins (take p (own .sharpness)) (lent .sharpness) → ListsRead file lent left
+lists-copied file n f k p old own lent left q r s t h a b c d =
+    record {
+      coordinates-hold = a ∙ ap (λ (l : List ℤ). begins l (lent .coordinates))
+          (read-back n (fileMesh file .coordinates) (old .coordinates) (own .coordinates) (q ∙ file-coordinates file) (h .coordinates-hold));
+      sides-hold = b ∙ ap (λ (l : List ℕ). begins l (lent .sides))
+          (read-back f (fileMesh file .sides) (old .sides) (own .sides) (r ∙ file-faces file) (h .sides-hold));
+      corners-hold = c ∙ ap (λ (l : List ℕ). begins l (lent .corners))
+          (read-back k (fileMesh file .corners) (old .corners) (own .corners) (s ∙ file-corners file) (h .corners-hold));
+      sharpness-hold = d ∙ ap (λ (l : List ℕ). begins l (lent .sharpness))
+          (read-back p (fileMesh file .sharpness) (old .sharpness) (own .sharpness) (t ∙ file-sharpness file) (h .sharpness-hold));
+    }
+
 module _ (file : List ℕ) (counted : ℕ) (lent : Mesh) where
   pub refused-decode : (r : Decoded) (k p : ℕ)
       → (r .answer ≡ Refused k p) × (r .coordinates ≡ 0) × (r .sides ≡ 0) × (r .corners ≡ 0) × (r .sharpness ≡ 0)
       → fault k p ≡ lentVerdict file counted lent → DecodedTo file counted lent r lent
-  refused-decode r k p q e =
-      record {
-        answers = rw (q .0) e;
-        coordinates-length = rw (q .0) (q .1);
-        sides-length = rw (q .0) (q .2);
-        corners-length = rw (q .0) (q .3);
-        sharpness-length = rw (q .0) (q .4);
-        coordinates-hold = rw (q .0);
-        sides-hold = rw (q .0);
-        corners-hold = rw (q .0);
-        sharpness-hold = rw (q .0);
-      }
+  refused-decode r k p q e = search (q .0)
 
   pub done-decode : (n f k p : ℕ) (left : Mesh) → n ≡ 3 * verticesIn file → f ≡ facesIn file → k ≡ cornersIn file → p ≡ 2 * cornersIn file
       → sound ≡ lentVerdict file counted lent → ListsRead file lent left
       → DecodedTo file counted lent (record { answer = Done; coordinates = n; sides = f; corners = k; sharpness = p }) left
   done-decode n f k p left q r s t e h =
-      record {
-        answers = e;
-        coordinates-length = q ∙ file-coordinates file;
-        sides-length = r ∙ file-faces file;
-        corners-length = s ∙ file-corners file;
-        sharpness-length = t ∙ file-sharpness file;
-        coordinates-hold = h .coordinates-hold;
-        sides-hold = h .sides-hold;
-        corners-hold = h .corners-hold;
-        sharpness-hold = h .sharpness-hold;
-      }
+      search (q ∙ file-coordinates file, r ∙ file-faces file, s ∙ file-corners file, t ∙ file-sharpness file)
 
 -- the bytes held are the file
 pub decode-held : (held file : List ℕ) (counted : ℕ) (lent : Mesh) (r : Decoded) (left : Mesh) → held ≡ file

@@ -15,11 +15,11 @@ use paper::MOST_NUMBERS;
 use paper::MOST_PAIRS;
 use paper::Summary;
 ghost use mathlib.Core.Path.{_≡_};
-ghost use Prim.Native.Nat.{_<_, _≤_};
+ghost use Prim.Native.Nat.{ℕ, _<_, _≤_};
 ghost use lib.ListN.{length};
 ghost use Rattle.paper.specs.Mesh.{meshOf};
-ghost use Rattle.paper.specs.Faults.{verdict, stated};
-ghost use Rattle.paper.specs.File.{headerLength, fileMesh, fileOf, Surveyed, FileSurveyed, roomVerdict, decodeVerdict, DecodedTo};
+ghost use Rattle.paper.specs.Faults.{sound, verdict, stated};
+ghost use Rattle.paper.specs.File.{headerLength, headerVerdict, fileMesh, fileOf, Surveyed, FileSurveyed, roomVerdict, DecodedTo};
 ghost use Rattle.dms.specs.header.ListsWithin.{ListsWithin};
 
 // Our own number, outside 01's list: a lent space is shorter than its list.
@@ -120,44 +120,62 @@ fn decode_file(
 ) -> Decoded
     ensures { λ r. ⌜ DecodedTo (now (file .entry)) counted (meshOf (now (coordinates .entry)) (now (sides .entry)) (now (corners .entry)) (now (sharpness .entry))) r (meshOf (now (coordinates .exit)) (now (sides .exit)) (now (corners .exit)) (now (sharpness .exit))) ⌝ }
 {
-    let answer = check_decode(
+    let header = crate::header::check_header(file, counted);
+    if let Answer::Refused(number, place) = header {
+        return refused(number, place);
+    }
+    decode_lists(file, coordinates, sides, corners, sharpness)
+}
+
+// The same of a file whose header passes, `counted` bytes long: its lists are read once, checked, and copied.
+fn decode_lists(
+    file: &[u8],
+    coordinates: &mut [i32],
+    sides: &mut [u8],
+    corners: &mut [u16],
+    sharpness: &mut [u8],
+) -> Decoded
+    requires { ⌜ ListsWithin (now file) ⌝ }
+    ensures { λ r. ⌜ ((counted : ℕ) → headerVerdict (now (file .entry)) counted ≡ sound → DecodedTo (now (file .entry)) counted (meshOf (now (coordinates .entry)) (now (sides .entry)) (now (corners .entry)) (now (sharpness .entry))) r (meshOf (now (coordinates .exit)) (now (sides .exit)) (now (corners .exit)) (now (sharpness .exit)))) ⌝ }
+{
+    let mut numbers = [0i32; MOST_NUMBERS];
+    let mut counts = [0u8; MOST_FACES];
+    let mut names = [0u16; MOST_CORNERS];
+    let mut pairs = [0u8; MOST_PAIRS];
+    crate::lists::read_lists(file, &mut numbers, &mut counts, &mut names, &mut pairs);
+    let n = 3 * crate::header::vertex_count(file);
+    let f = crate::header::face_count(file);
+    let k = crate::header::corner_count(file);
+    let p = 2 * k;
+    let own_numbers = &numbers[..n];
+    let own_counts = &counts[..f];
+    let own_names = &names[..k];
+    let own_pairs = &pairs[..p];
+    let answer = checks::check(own_numbers, own_counts, own_names, own_pairs);
+    if let Answer::Refused(number, place) = answer {
+        return refused(number, place);
+    }
+    let room = check_room(
         file,
-        counted,
         coordinates.len(),
         sides.len(),
         corners.len(),
         sharpness.len(),
     );
-    if let Answer::Refused(number, place) = answer {
+    if let Answer::Refused(number, place) = room {
         return refused(number, place);
     }
-    crate::lists::read_lists(file, coordinates, sides, corners, sharpness);
+    mesh::copy_words(own_numbers, coordinates);
+    mesh::copy_bytes(own_counts, sides);
+    mesh::copy_halves(own_names, corners);
+    mesh::copy_bytes(own_pairs, sharpness);
     Decoded {
         answer: Answer::Done,
-        coordinates: 3 * crate::header::vertex_count(file),
-        sides: crate::header::face_count(file),
-        corners: crate::header::corner_count(file),
-        sharpness: 2 * crate::header::corner_count(file),
+        coordinates: n,
+        sides: f,
+        corners: k,
+        sharpness: p,
     }
-}
-
-// All that decoding into spaces of these lengths refuses.
-fn check_decode(
-    file: &[u8],
-    counted: usize,
-    coordinates: usize,
-    sides: usize,
-    corners: usize,
-    sharpness: usize,
-) -> Answer
-    ensures { λ r. ⌜ stated r ≡ decodeVerdict (now (file .entry)) counted coordinates sides corners sharpness ⌝ }
-{
-    let summary = survey_file(file, counted);
-    let answer = summary.answer;
-    if let Answer::Refused(number, place) = answer {
-        return Answer::Refused(number, place);
-    }
-    check_room(file, coordinates, sides, corners, sharpness)
 }
 
 // Whether spaces of these lengths have room for the lists.

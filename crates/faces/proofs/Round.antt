@@ -72,7 +72,7 @@ abbrev pub plain : ℤ → ℤ
 plain z = toZ w64 (ofZ w64 z)
 
 -- before the turn at j: where the walk stands, and the sums x, y and z
-pub record Turn (points : List ℤ) (table : List ℕ) (column c m : ℕ) (g : ℕ → ℤ) (j d x y z : ℕ) : Type 0 where
+pub record RingTurn (points : List ℤ) (table : List ℕ) (column c m : ℕ) (g : ℕ → ℤ) (j d x y z : ℕ) : Type 0 where
   pub left : j ≤ m
   pub place : d ≡ iterate j (entry table column) c
   pub sum-x : toZ w64 x ≡ weighted g (around points 0 table column c) j
@@ -80,7 +80,7 @@ pub record Turn (points : List ℤ) (table : List ℕ) (column c m : ℕ) (g : �
   pub sum-z : toZ w64 z ≡ weighted g (around points 2 table column c) j
 
 module _ (points : List ℤ) (table : List ℕ) (column c m : ℕ) (g : ℕ → ℤ) where
-  pub turn-first : Turn points table column c m g 0 c 0 0 0
+  pub turn-first : RingTurn points table column c m g 0 c 0 0 0
   turn-first = record {
     left = omega arith;
     place = sym (iterate-zero _ _);
@@ -99,7 +99,7 @@ module _ (points : List ℤ) (table : List ℕ) (column c m : ℕ) (r : Ring poi
       le-trans (sum-abs (λ k. g k *ℤ p k) n (7 * unit * 2 ^ 24) (λ k t. term k)) (le-trans (mul-le-mul-right (7 * unit * 2 ^ 24) most) (lit≤ tt))
 
   -- what `add_point` asks, on each axis
-  pub asks : (j d x y z : ℕ) (w : ℤ) → Turn points table column c m g j d x y z → w ≡ g j
+  pub asks : (j d x y z : ℕ) (w : ℤ) → RingTurn points table column c m g j d x y z → w ≡ g j
       → (ReadableOn points 0 d × ((natAbs (toZ w64 x) ≤ 2 ^ 61) × (natAbs w ≤ 7 * unit)))
       × (ReadableOn points 1 d × ((natAbs (toZ w64 y) ≤ 2 ^ 61) × (natAbs w ≤ 7 * unit)))
       × (ReadableOn points 2 d × ((natAbs (toZ w64 z) ≤ 2 ^ 61) × (natAbs w ≤ 7 * unit)))
@@ -122,9 +122,9 @@ module _ (points : List ℤ) (table : List ℕ) (column c m : ℕ) (r : Ring poi
       ap plain e ∙ toZ-ofZ (abs-fits w64 _ (2 ^ 61) (sum-size axis l (j + 1) (omega arith)) (lit< tt))
 
   -- the next turn
-  pub turn-next : (j d e x y z : ℕ) (w u v t : ℤ) → j < m → Turn points table column c m g j d x y z → w ≡ g j → e ≡ entry table column d
+  pub turn-next : (j d e x y z : ℕ) (w u v t : ℤ) → j < m → RingTurn points table column c m g j d x y z → w ≡ g j → e ≡ entry table column d
       → u ≡ toZ w64 x +ℤ w *ℤ pointAt points 0 d → v ≡ toZ w64 y +ℤ w *ℤ pointAt points 1 d → t ≡ toZ w64 z +ℤ w *ℤ pointAt points 2 d
-      → Turn points table column c m g (j + 1) e (ofZ w64 u) (ofZ w64 v) (ofZ w64 t)
+      → RingTurn points table column c m g (j + 1) e (ofZ w64 u) (ofZ w64 v) (ofZ w64 t)
   turn-next j d e x y z w u v t h a ew ee eu ev et = record {
     left = omega arith;
     place = ee ∙ ap (entry table column) (a .place) ∙ sym (iterate-suc (entry table column) j c)
@@ -201,14 +201,14 @@ module _ (points : List ℤ) (table : List ℕ) (column c m d x y z : ℕ) (r : 
   on : (axis : ℕ) → axis < 3 → PointRing (around points axis table column c) m
   on = point-ring points table column c m r
 
-  pub centre-end : Turn points table column c m equal m d x y z → Quotient → OnAxes (λ axis. IsCentre (around points axis table column c) m) f
+  pub centre-end : RingTurn points table column c m equal m d x y z → Quotient → OnAxes (λ axis. IsCentre (around points axis table column c) m) f
   centre-end t q = record {
     x = centre-is _ m (on 0 (lit< tt)) _ _ (t .sum-x) (q .0);
     y = centre-is _ m (on 1 (lit< tt)) _ _ (t .sum-y) (q .1);
     z = centre-is _ m (on 2 (lit< tt)) _ _ (t .sum-z) (q .2);
   }
 
-  pub toward-end : Turn points table column c m (weight m) m d x y z → Quotient → OnAxes (λ axis. IsToward (around points axis table column c) m 0) f
+  pub toward-end : RingTurn points table column c m (weight m) m d x y z → Quotient → OnAxes (λ axis. IsToward (around points axis table column c) m 0) f
   toward-end t q = record {
     x = toward-is _ m (on 0 (lit< tt)) _ _ (t .sum-x) (q .0);
     y = toward-is _ m (on 1 (lit< tt)) _ _ (t .sum-y) (q .1);

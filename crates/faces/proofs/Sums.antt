@@ -57,13 +57,13 @@ size b (s ⊕ t) = size b s + size b t
 size b (s ⊖ t) = size b s + size b t
 size b (k ⊗ s) = k * size b s
 
-abbrev pub Small : Width → ℕ → Sum → Type 0
-Small w b (arg z) = b < 2 ^ hbits w
-Small w b (s ⊕ t) = Small w b s × Small w b t × (size b s + size b t < 2 ^ hbits w)
-Small w b (s ⊖ t) = Small w b s × Small w b t × (size b s + size b t < 2 ^ hbits w)
-Small w b (k ⊗ s) = Small w b s × (k * size b s < 2 ^ hbits w)
+abbrev pub SmallSum : Width → ℕ → Sum → Type 0
+SmallSum w b (arg z) = b < 2 ^ hbits w
+SmallSum w b (s ⊕ t) = SmallSum w b s × SmallSum w b t × (size b s + size b t < 2 ^ hbits w)
+SmallSum w b (s ⊖ t) = SmallSum w b s × SmallSum w b t × (size b s + size b t < 2 ^ hbits w)
+SmallSum w b (k ⊗ s) = SmallSum w b s × (k * size b s < 2 ^ hbits w)
 
-pub record Held (w : Width) (b : ℕ) (s : Sum) : Type 0 where
+pub record SumHeld (w : Width) (b : ℕ) (s : Sum) : Type 0 where
   pub is : held w s ≡ value s
   pub fits : Fits w s
   pub sized : natAbs (held w s) ≤ size b s
@@ -75,7 +75,7 @@ abs-sub-le x y j k = as-diff x λ p n ex. as-diff y λ q m ey. simp (diff, ex, e
 step : (w : Width) (z v : ℤ) (k : ℕ) → z ≡ v → natAbs z ≤ k → k < 2 ^ hbits w → (toZ w (ofZ w z) ≡ v) × SFits w z × (natAbs (toZ w (ofZ w z)) ≤ k)
 step w z v k e h l = let f = abs-fits w z k h l in rw (toZ-ofZ f) (e, f, h)
 
-pub holds : (w : Width) (b : ℕ) (s : Sum) → ArgumentsWithin b s → Small w b s → Held w b s
+pub holds : (w : Width) (b : ℕ) (s : Sum) → ArgumentsWithin b s → SmallSum w b s → SumHeld w b s
 holds w b (arg z) h l = let k = step w z z b refl h l in record { is = k .0; fits = k .1; sized = k .2 }
 holds w b (s ⊕ t) h l =
     let p = holds w b s (h .0) (l .0) in
@@ -102,11 +102,11 @@ answers n d q P t size f e = rw (toZ-ofZ f) (e, size (within-half-is n d q t e))
 
 -- of one sum by `round_small`, and of two by `round_eighth`
 module _ (b : ℕ) (n q : ℤ) (P : ℤ → Type 0) (f : SFits w32 q) where
-  pub small-answers : (s : Sum) (d : ℤ) → Held w32 b s → value s ≡ n → T (ltZ (pos 0) d) → (WithinHalf n d q → P q) → q ≡ round (held w32 s) d
+  pub small-answers : (s : Sum) (d : ℤ) → SumHeld w32 b s → value s ≡ n → T (ltZ (pos 0) d) → (WithinHalf n d q → P q) → q ≡ round (held w32 s) d
       → (toZ w32 (ofZ w32 q) ≡ round n d) × P (toZ w32 (ofZ w32 q))
   small-answers s d h e t size r = answers n d q P t size f (r ∙ ap (λ (z : ℤ). round z d) (h .is ∙ e))
 
-  pub eighth-answers : (s t : Sum) (c c′ : ℤ) → Held w32 b s → Held w32 b t → c′ ≡ c → pos (2 ^ 30) *ℤ value t +ℤ c *ℤ value s ≡ n
+  pub eighth-answers : (s t : Sum) (c c′ : ℤ) → SumHeld w32 b s → SumHeld w32 b t → c′ ≡ c → pos (2 ^ 30) *ℤ value t +ℤ c *ℤ value s ≡ n
       → (WithinHalf n (pos (8 * 2 ^ 30)) q → P q) → q ≡ round (pos (2 ^ 30) *ℤ held w32 t +ℤ c′ *ℤ held w32 s) (pos (8 * 2 ^ 30))
       → (toZ w32 (ofZ w32 q) ≡ round n (pos (8 * 2 ^ 30))) × P (toZ w32 (ofZ w32 q))
   eighth-answers s t c c′ h k e same size r = answers n _ q P tt size f (r ∙ ap (λ (z : ℤ). round z (pos (8 * 2 ^ 30))) (terms ∙ same))

@@ -2,9 +2,9 @@
 use mathlib.Core.Path.{_≡_, refl, sym, ap, _∙_, subst}
 use mathlib.Core.Bool.{Bool, true, false, not, _||_}
 use mathlib.Core.List.{List, [], _∷_}
-use Prim.Native.Nat.{ℕ, zero, suc, _+_, _-_, _*_, _/_, _%_, _^_, _≤_, _<_}
+use Prim.Native.Nat.{ℕ, zero, suc, _+_, _*_, _/_, _%_, _^_, _≤_, _<_}
 use native.Mathlib.Omega.{arith}
-use borrow.Author.Tests.{leb-true, ltb-true, ltb-false, lt-ltb, le-ltb, eqb-true, eq-eqb, ne-eqb, not-false}
+use borrow.Author.Tests.{leb-true, ltb-false, lt-ltb, le-ltb, eqb-true, eq-eqb, ne-eqb, not-false}
 use lib.Dec.{T, ltb, eqb, lit≤}
 use lib.ListN.{length, getD, take, drop, set, length-take, length-drop}
 use lib.Seq.{getD-take, getD-drop}
@@ -12,21 +12,20 @@ use lib.IntN.{ℤ, pos, natAbs}
 use lib.Ieee.{Float, binary32, ofInt, inFloat}
 use mir.Syntax.{w32}
 use mir.Val.{toZ, ofZ}
-use Rattle.paper.specs.Scan.{valuesFrom}
 use Rattle.paper.specs.Mesh.{mostCorners}
 use Rattle.paper.specs.Calls.{perCorner}
 use Rattle.paper.specs.File.{noRoom, begins}
-use Rattle.paper.specs.Faults.{Verdict, sound, fault, _orElse_, single, lowestOf, stated}
-use Rattle.paper.specs.Floats.{within, fault19, fault20, netVerdict, pointVerdict, difference, isNear, split, parts, unless, sixOf, pointOf, readBack}
+use Rattle.paper.specs.Faults.{Verdict, sound, _orElse_, single, lowestOf, stated}
+use Rattle.paper.specs.Floats.{within, fault19, netVerdict, difference, isNear, split, parts, unless, sixOf, pointOf, readBack}
 use Rattle.paper.specs.Floats.{farFirst, farSecond, floatNumber, allFloats, allVerdict, NoneRounded, AllInFloats}
 use Rattle.paper.specs.declared.Answer.{Answer}
 use Rattle.paper.specs.declared.Answer.the-variants.{Done, Refused}
 use Rattle.mesh.proofs.Ranges.{none-left, none-right, or-left, or-right, or-none}
-use Rattle.mesh.proofs.Verdicts.{sound-left, sound-right, single-sound, single-miss, lowest-sound, orElse-sound}
-use Rattle.mesh.proofs.Fills.{filled-none, filled-step, filled-all}
-use Rattle.floats.specs.Exact.{FloatOf, firstPart, secondPart, FilledTo, SixPut, NetPut, sixSet}
+use Rattle.mesh.proofs.Verdicts.{sound-left, sound-right, single-sound, lowest-sound}
+use Rattle.mesh.proofs.Fills.{filled-step, filled-all}
+use Rattle.floats.specs.Exact.{FloatOf, firstPart, secondPart, FloatsFilled, SixPut, NetPut, sixSet}
 use Rattle.floats.proofs.Exact.{whole-carried, float-of, first-carried, first-size, second-size}
-use Rattle.floats.proofs.Laws.{d-bits, in-float, near-x, near-y, near-z, number-le, apart}
+use Rattle.floats.proofs.Laws.{bits, d-bits, in-float, near-all, plain-test, number-le, point-sound, apart}
 use Rattle.floats.proofs.nets.Nets.{passes}
 
 -- ---- six floats
@@ -54,12 +53,12 @@ six-is x y z false e = ap (λ (b : Bool). sixOf (parts b x y z)) (sym e)
 
 -- six stores
 module _ (f : ℕ → Float) (old : List Float) (at : ℕ) (h : at + 6 ≤ length old) where
-  to : (i j : ℕ) (out : List Float) → i ≡ j → FilledTo f old i out → FilledTo f old j out
-  to i j out e q = subst (λ (k : ℕ). FilledTo f old k out) e q
+  to : (i j : ℕ) (out : List Float) → i ≡ j → FloatsFilled f old i out → FloatsFilled f old j out
+  to i j out e q = subst (λ (k : ℕ). FloatsFilled f old k out) e q
 
   pub six-stores : (before : List Float) (a b c d e g : Float) → a ≡ f at → b ≡ f (at + 1) → c ≡ f (at + 2) → d ≡ f (at + 3) → e ≡ f (at + 4) → g ≡ f (at + 5)
-      → FilledTo f old at before
-      → FilledTo f old (at + 6) (set (set (set (set (set (set before at a) (at + 1) b) (at + 2) c) (at + 3) d) (at + 4) e) (at + 5) g)
+      → FloatsFilled f old at before
+      → FloatsFilled f old (at + 6) (set (set (set (set (set (set before at a) (at + 1) b) (at + 2) c) (at + 3) d) (at + 4) e) (at + 5) g)
   six-stores before a b c d e g ea eb ec ed ee eg q =
       let q1 = filled-step f old at before a a (omega arith) q ea in
       let q2 = to (at + 1 + 1) (at + 2) _ (omega arith) (filled-step f old (at + 1) _ b b (omega arith) q1 eb) in
@@ -68,59 +67,47 @@ module _ (f : ℕ → Float) (old : List Float) (at : ℕ) (h : at + 6 ≤ lengt
       let q5 = to (at + 4 + 1) (at + 5) _ (omega arith) (filled-step f old (at + 4) _ e e (omega arith) q4 ee) in
       to (at + 5 + 1) (at + 6) _ (omega arith) (filled-step f old (at + 5) _ g g (omega arith) q5 eg)
 
-pub six-put : (x y z : ℤ) (t : Bool) → t ≡ isNear x y z → (at : ℕ) (before : List Float) (a b c d e g : Float)
-    → FloatOf (firstPart t x) a → FloatOf (firstPart t y) b → FloatOf (firstPart t z) c → FloatOf (secondPart t x) d → FloatOf (secondPart t y) e
-    → FloatOf (secondPart t z) g
-    → SixPut x y z at before (sixSet before at a b c d e g)
-six-put x y z t near at before a b c d e g fa fb fc fd fe fg f old h aim q =
-    let is : (n : ℕ) (v : ℤ) (w : Float) → n < 6 → getD (sixOf (split x y z)) n (pos 0) ≡ v → FloatOf v w → w ≡ f (at + n) =
-    λ n v w l i k. float-is v w k ∙ ap (ofInt binary32) (sym i) ∙ sym (aim n l) in
-    let l = six-is x y z t near in
-    six-stores f old at h before a b c d e g
-    (is 0 (firstPart t x) a (omega arith) (ap (λ (k : List ℤ). getD k 0 (pos 0)) l) fa ∙ ap f (let z : at + 0 ≡ at = omega arith in z))
-    (is 1 (firstPart t y) b (omega arith) (ap (λ (k : List ℤ). getD k 1 (pos 0)) l) fb) (is 2 (firstPart t z) c (omega arith) (ap (λ (k : List ℤ). getD k 2 (pos 0)) l) fc)
-    (is 3 (secondPart t x) d (omega arith) (ap (λ (k : List ℤ). getD k 3 (pos 0)) l) fd) (is 4 (secondPart t y) e (omega arith) (ap (λ (k : List ℤ). getD k 4 (pos 0)) l) fe)
-    (is 5 (secondPart t z) g (omega arith) (ap (λ (k : List ℤ). getD k 5 (pos 0)) l) fg) q
-
 -- of differences by their bits
-abbrev bits : ℤ → ℤ
-bits z = toZ w32 (ofZ w32 z)
-
 pub bits-size : (d : ℤ) → natAbs d ≤ 2 ^ 28 → natAbs (bits d) ≤ 2 ^ 28
 bits-size d h = rw (d-bits d h) h
 
-pub six-put-bits : (x y z : ℤ) → natAbs x ≤ 2 ^ 28 → natAbs y ≤ 2 ^ 28 → natAbs z ≤ 2 ^ 28 → (t : Bool) → t ≡ isNear (bits x) (bits y) (bits z) → (at : ℕ)
-    (before : List Float) (a b c d e g : Float) → FloatOf (firstPart t (bits x)) a → FloatOf (firstPart t (bits y)) b → FloatOf (firstPart t (bits z)) c
+pub six-put : (x y z : ℤ) → natAbs x ≤ 2 ^ 28 → natAbs y ≤ 2 ^ 28 → natAbs z ≤ 2 ^ 28 → {t : Bool} → t ≡ isNear (bits x) (bits y) (bits z)
+    → (at : ℕ) (before : List Float) {a b c d e g : Float} → FloatOf (firstPart t (bits x)) a → FloatOf (firstPart t (bits y)) b → FloatOf (firstPart t (bits z)) c
     → FloatOf (secondPart t (bits x)) d → FloatOf (secondPart t (bits y)) e → FloatOf (secondPart t (bits z)) g
     → SixPut x y z at before (sixSet before at a b c d e g)
-six-put-bits x y z hx hy hz t near at before a b c d e g fa fb fc fd fe fg =
+six-put x y z hx hy hz {t} near at before fa fb fc fd fe fg f old h aim q =
     let ex = d-bits x hx in
     let ey = d-bits y hy in
     let ez = d-bits z hz in
-    six-put x y z t (rw (ex, ey, ez) at near) at before a b c d e g (rw ex at fa) (rw ey at fb) (rw ez at fc) (rw ex at fd) (rw ey at fe) (rw ez at fg)
+    let is : (n : ℕ) (v : ℤ) (w : Float) → n < 6 → getD (sixOf (split x y z)) n (pos 0) ≡ v → FloatOf v w → w ≡ f (at + n) =
+    λ n v w l i k. float-is v w k ∙ ap (ofInt binary32) (sym i) ∙ sym (aim n l) in
+    let l = six-is x y z t (sym (plain-test x y z hx hy hz near)) in
+    six-stores f old at h before _ _ _ _ _ _
+    (is 0 _ _ (omega arith) (ap (λ (k : List ℤ). getD k 0 (pos 0)) l) (rw ex at fa) ∙ ap f (let z : at + 0 ≡ at = omega arith in z))
+    (is 1 _ _ (omega arith) (ap (λ (k : List ℤ). getD k 1 (pos 0)) l) (rw ey at fb))
+    (is 2 _ _ (omega arith) (ap (λ (k : List ℤ). getD k 2 (pos 0)) l) (rw ez at fc))
+    (is 3 _ _ (omega arith) (ap (λ (k : List ℤ). getD k 3 (pos 0)) l) (rw ex at fd))
+    (is 4 _ _ (omega arith) (ap (λ (k : List ℤ). getD k 4 (pos 0)) l) (rw ey at fe))
+    (is 5 _ _ (omega arith) (ap (λ (k : List ℤ). getD k 5 (pos 0)) l) (rw ez at fg)) q
 
 -- ---- one quad-net, point by point
 -- the net's floats before point p are written
 abbrev pub NetTo : List ℤ → ℕ → ℕ → List Float → List Float → Type 0
 NetTo net at p before out =
     (f : ℕ → Float) (old : List Float) → at + 246 ≤ length old → ((x : ℕ) → x < 246 → f (at + x) ≡ ofInt binary32 (getD (sixOf (pointOf net (x / 6))) (x % 6) (pos 0)))
-    → FilledTo f old at before → FilledTo f old (at + 6 * p) out
+    → FloatsFilled f old at before → FloatsFilled f old (at + 6 * p) out
 
 module _ (net : List ℤ) (s : netVerdict net ≡ sound) where
-  pub point-sound : (p : ℕ) → p ≤ 40 → pointVerdict net p ≡ sound
-  unfolding pointVerdict fault20
-  point-sound p h = orElse-sound _ s ∙ single-miss 20 p (le-ltb 40 p h)
-
   pub point-six : (p : ℕ) → p ≤ 40 → sixOf (pointOf net p) ≡ sixOf (split (difference net p 0) (difference net p 1) (difference net p 2))
   unfolding pointOf
   point-six p h =
-      ap (λ (w : Verdict). sixOf (unless w (split (difference net p 0) (difference net p 1) (difference net p 2)))) (point-sound p h)
+      ap (λ (w : Verdict). sixOf (unless w (split (difference net p 0) (difference net p 1) (difference net p 2)))) (point-sound net s p h)
 
-  pub net-step : (at p : ℕ) (before mid out : List Float) → p ≤ 40 → (x y z : ℤ) → x ≡ difference net p 0 → y ≡ difference net p 1 → z ≡ difference net p 2
+  pub net-step : (at p : ℕ) (before mid out : List Float) → p ≤ 40 → {x y z : ℤ} → x ≡ difference net p 0 → y ≡ difference net p 1 → z ≡ difference net p 2
       → NetTo net at p before mid → SixPut x y z (at + 6 * p) mid out → NetTo net at (p + 1) before out
-  net-step at p before mid out h x y z ex ey ez n six f old room aim q =
+  net-step at p before mid out h {x} {y} {z} ex ey ez n six f old room aim q =
       let k : at + 6 * p + 6 ≡ at + 6 * (p + 1) = omega arith in
-      subst (λ (i : ℕ). FilledTo f old i out) k
+      subst (λ (i : ℕ). FloatsFilled f old i out) k
       (six f old (omega arith)
       (λ e l.
       let i : at + 6 * p + e ≡ at + (6 * p + e) = omega arith in
@@ -138,7 +125,7 @@ module _ (net : List ℤ) (s : netVerdict net ≡ sound) where
 -- ---- the list's quad-nets
 -- the floats of the quad-nets before t are written
 abbrev pub FloatsTo : List ℤ → List Float → ℕ → List Float → Type 0
-FloatsTo numbers old t out = FilledTo (λ x. ofInt binary32 (floatNumber numbers x)) old (246 * t) out
+FloatsTo numbers old t out = FloatsFilled (λ x. ofInt binary32 (floatNumber numbers x)) old (246 * t) out
 
 module _ (numbers : List ℤ) (room : ℕ) (s : allVerdict numbers room ≡ sound) where
   no-fault18 : (not (eqb (length numbers % perCorner) 0) || ltb (perCorner * mostCorners) (length numbers)) ≡ false
@@ -191,7 +178,7 @@ module _ (numbers : List ℤ) (room : ℕ) (s : allVerdict numbers room ≡ soun
       → (at : ℕ) → at ≡ 246 * t → FloatsTo numbers old t mid → NetPut net at mid out → FloatsTo numbers old (t + 1) out
   nets-step t old mid out e l net is at there q put =
       let k : 246 * t + 246 ≡ 246 * (t + 1) = omega arith in
-      subst (λ (i : ℕ). FilledTo floatAt old i out) k
+      subst (λ (i : ℕ). FloatsFilled floatAt old i out) k
       (subst (λ (i : ℕ). NetPut net i mid out) there put floatAt old (omega (arith, nets-room))
       (λ x h. float-at t x h ∙ ap (λ (u : List ℤ). ofInt binary32 (getD (sixOf (pointOf u (x / 6))) (x % 6) (pos 0))) (sym is)) q)
 
@@ -211,9 +198,9 @@ module _ (numbers : List ℤ) (room : ℕ) (s : allVerdict numbers room ≡ soun
 
   six-reads : (x y z : ℤ) → natAbs x ≤ 2 ^ 28 → natAbs y ≤ 2 ^ 28 → natAbs z ≤ 2 ^ 28 → (t : Bool) → isNear x y z ≡ t → (e : ℕ) → e < 6
       → readBack (ofInt binary32 (getD (sixOf (parts t x y z)) e (pos 0))) ≡ getD (sixOf (parts t x y z)) e (pos 0)
-  six-reads x y z hx hy hz true n zero l = reads x (near-x x y z n)
-  six-reads x y z hx hy hz true n (suc zero) l = reads y (near-y x y z n)
-  six-reads x y z hx hy hz true n (suc (suc zero)) l = reads z (near-z x y z n)
+  six-reads x y z hx hy hz true n zero l = reads x (near-all x y z n .0)
+  six-reads x y z hx hy hz true n (suc zero) l = reads y (near-all x y z n .1)
+  six-reads x y z hx hy hz true n (suc (suc zero)) l = reads z (near-all x y z n .2)
   six-reads x y z hx hy hz true n (suc (suc (suc zero))) l = reads (pos 0) (lit≤ tt)
   six-reads x y z hx hy hz true n (suc (suc (suc (suc zero)))) l = reads (pos 0) (lit≤ tt)
   six-reads x y z hx hy hz true n (suc (suc (suc (suc (suc zero))))) l = reads (pos 0) (lit≤ tt)
@@ -247,13 +234,13 @@ module _ (numbers : List ℤ) (room : ℕ) (s : allVerdict numbers room ≡ soun
 
 -- ---- what the call answers
 module _ (numbers : List ℤ) (old : List Float) where
-  pub all-refused : (a : Answer) → stated a ≡ allVerdict numbers (length old) → (k p : ℕ) → a ≡ Refused k p → AllInFloats numbers old (Refused k p) old
-  all-refused a e k p q =
+  pub all-refused : {a : Answer} {k p : ℕ} → stated a ≡ allVerdict numbers (length old) → a ≡ Refused k p → AllInFloats numbers old (Refused k p) old
+  all-refused {k = k} {p = p} e q =
       let v : stated (Refused k p) ≡ allVerdict numbers (length old) = sym (ap stated q) ∙ e in
       record { answers = v; holds = refl; exact = λ s. none-rounded numbers (length old) (sym v ∙ s) }
 
-  pub all-done : (out : List Float) → allVerdict numbers (length old) ≡ sound → out ≡ begins (allFloats numbers) old → AllInFloats numbers old Done out
-  all-done out e h = record { answers = sym e; holds = h; exact = λ s. none-rounded numbers (length old) e }
+  pub all-done : {out : List Float} → allVerdict numbers (length old) ≡ sound → out ≡ begins (allFloats numbers) old → AllInFloats numbers old Done out
+  all-done e h = record { answers = sym e; holds = h; exact = λ s. none-rounded numbers (length old) e }
 
 -- the chain of the checks
 pub all-chain : (numbers : List ℤ) (room : ℕ) → allVerdict numbers room

@@ -1,5 +1,5 @@
 -- The checks, the differences and the two cases, as the code meets them.
-use mathlib.Core.Path.{_≡_, refl, sym, ap, _∙_, subst}
+use mathlib.Core.Path.{_≡_, sym, ap, _∙_}
 use mathlib.Core.Bool.{Bool, true, false, not, _&&_, true≢false}
 use mathlib.Core.List.{List}
 use Prim.Native.Nat.{ℕ, suc, _+_, _/_, _^_, _≤_, _<_}
@@ -13,11 +13,11 @@ use lib.Ieee.{Float, binary32, binary64, ofInt, inFloat, fits, isNan}
 use mir.Syntax.{w32, w64}
 use mir.Val.{SFits, toZ, ofZ}
 use mir.ValLaws.{toZ-ofZ, toZ-pos}
-use borrow.Author.Tests.{leb-true, ltb-true, ltb-false, eqb-true, not-false, le-leb, lt-leb}
+use borrow.Author.Tests.{leb-true, ltb-true, ltb-false, eqb-true, not-true, not-false, le-leb, lt-leb, le-ltb}
 use Rattle.paper.specs.Numbers.{floor}
-use Rattle.paper.specs.Faults.{Verdict, sound, fault, _orElse_, single, lowestOf, stated}
+use Rattle.paper.specs.Faults.{Verdict, sound, _orElse_, single, lowestOf, stated}
 use Rattle.paper.specs.Floats.{within, fault18, fault19, fault20, netVerdict, pointVerdict, difference, isNear, farFirst, farSecond}
-use Rattle.paper.specs.Floats.{axes, parts, near, far, unless, split, pointOf, readBack, InFloats}
+use Rattle.paper.specs.Floats.{unless, split, pointOf, readBack, InFloats}
 use Rattle.paper.specs.declared.Floats.{Floats}
 use Rattle.paper.specs.declared.Answer.{Answer}
 use Rattle.paper.specs.declared.Answer.the-variants.{Done, Refused}
@@ -28,7 +28,7 @@ use Rattle.numbers.proofs.Poly.{over, poly}
 use Rattle.numbers.proofs.Laws.{mul-comm}
 use Rattle.numbers.proofs.Machine.{abs-fits}
 use Rattle.mesh.proofs.Scans.{and-left, and-right}
-use Rattle.mesh.proofs.Verdicts.{sound-left, sound-right, single-sound, lowest-sound, orElse-assoc}
+use Rattle.mesh.proofs.Verdicts.{sound-left, sound-right, single-sound, single-miss, lowest-sound, orElse-sound, orElse-assoc}
 use Rattle.floats.specs.Exact.{FloatOf, firstPart, SplitTo}
 use Rattle.floats.proofs.Exact.{whole-carried, float-of, narrows, narrow-float-of, first-carried, first-size, second-size}
 
@@ -73,66 +73,42 @@ module _ (z : ℤ) (m : ℕ) (fz : SFits w32 z) (fm : m < 2 ^ 32) where
   is-between g h = sym (between m z (rw (z-bits, low-bits) at g) (rw (z-bits, m-bits) at h))
 
 -- ---- near, in three tests
-module _ (x y z : ℤ) where
-  pub near-x : isNear x y z ≡ true → natAbs x ≤ 2 ^ 24
-  unfolding isNear
-  near-x e = leb-true (natAbs x) (2 ^ 24) (and-left (within (2 ^ 24) x) _ e)
+pub near-all : (x y z : ℤ) → isNear x y z ≡ true → (natAbs x ≤ 2 ^ 24) × (natAbs y ≤ 2 ^ 24) × (natAbs z ≤ 2 ^ 24)
+unfolding isNear
+near-all x y z e =
+    let yz = and-right (within (2 ^ 24) x) _ e in (
+      leb-true (natAbs x) (2 ^ 24) (and-left (within (2 ^ 24) x) _ e),
+      leb-true (natAbs y) (2 ^ 24) (and-left (within (2 ^ 24) y) _ yz),
+      leb-true (natAbs z) (2 ^ 24) (and-right (within (2 ^ 24) y) _ yz),
+    )
 
-  pub near-y : isNear x y z ≡ true → natAbs y ≤ 2 ^ 24
-  unfolding isNear
-  near-y e = leb-true (natAbs y) (2 ^ 24) (and-left (within (2 ^ 24) y) _ (and-right (within (2 ^ 24) x) _ e))
-
-  pub near-z : isNear x y z ≡ true → natAbs z ≤ 2 ^ 24
-  unfolding isNear
-  near-z e = leb-true (natAbs z) (2 ^ 24) (and-right (within (2 ^ 24) y) _ (and-right (within (2 ^ 24) x) _ e))
+-- a number by its bits
+abbrev pub bits : ℤ → ℤ
+bits z = toZ w32 (ofZ w32 z)
 
 -- the code's tests, one after the other, and of each number's bits
-first-no : (a b : Bool) → not a ≡ true → false ≡ a && b
-first-no true b h = absurd (true≢false (sym h))
-first-no false b h = refl
+test : (m : ℕ) (v : ℤ) → SFits w32 v → {t : Bool} → t ≡ within m (bits v) → within m v ≡ t
+test m v f e = sym (e ∙ ap (within m) (toZ-ofZ w32 v f))
 
-second-no : (a b c : Bool) → not a ≡ false → not b ≡ true → false ≡ a && (b && c)
-second-no true b c h k = first-no b c k
-second-no false b c h k = absurd (true≢false h)
-
-third : (a b c : Bool) → not a ≡ false → not b ≡ false → c ≡ a && (b && c)
-third true true c h k = refl
-third true false c h k = absurd (true≢false k)
-third false b c h k = absurd (true≢false h)
-
-module _ (x y z : ℤ) (fx : SFits w32 x) (fy : SFits w32 y) (fz : SFits w32 z) where
-  test : (v : ℤ) → SFits w32 v → (t : Bool) → t ≡ within (2 ^ 24) (toZ w32 (ofZ w32 v)) → within (2 ^ 24) v ≡ t
-  test v f t e = sym (e ∙ ap (within (2 ^ 24)) (toZ-ofZ w32 v f))
-
-  pub x-far : (s : Bool) → s ≡ within (2 ^ 24) (toZ w32 (ofZ w32 x)) → not s ≡ true → false ≡ isNear x y z
+module _ {x y z : ℤ} (fx : SFits w32 x) (fy : SFits w32 y) (fz : SFits w32 z) {s : Bool} (ex : s ≡ within (2 ^ 24) (bits x)) where
+  pub x-far : not s ≡ true → false ≡ isNear x y z
   unfolding isNear
-  x-far s ex h = first-no (within (2 ^ 24) x) _ (ap not (test x fx s ex) ∙ h)
+  x-far h = rw (test (2 ^ 24) x fx ex, not-true s h)
 
-  pub y-far : (s t : Bool) → s ≡ within (2 ^ 24) (toZ w32 (ofZ w32 x)) → not s ≡ false
-      → t ≡ within (2 ^ 24) (toZ w32 (ofZ w32 y)) → not t ≡ true → false ≡ isNear x y z
-  unfolding isNear
-  y-far s t ex h ey k =
-      second-no (within (2 ^ 24) x) (within (2 ^ 24) y) (within (2 ^ 24) z) (ap not (test x fx s ex) ∙ h) (ap not (test y fy t ey) ∙ k)
+  module _ (h : not s ≡ false) {t : Bool} (ey : t ≡ within (2 ^ 24) (bits y)) where
+    pub y-far : not t ≡ true → false ≡ isNear x y z
+    unfolding isNear
+    y-far k = rw (test (2 ^ 24) x fx ex, not-false s h, test (2 ^ 24) y fy ey, not-true t k)
 
-  pub z-decides : (s t u : Bool) → s ≡ within (2 ^ 24) (toZ w32 (ofZ w32 x)) → not s ≡ false
-      → t ≡ within (2 ^ 24) (toZ w32 (ofZ w32 y)) → not t ≡ false → u ≡ within (2 ^ 24) (toZ w32 (ofZ w32 z)) → u ≡ isNear x y z
-  unfolding isNear
-  z-decides s t u ex h ey k ez =
-      sym (test z fz u ez)
-      ∙ third (within (2 ^ 24) x) (within (2 ^ 24) y) (within (2 ^ 24) z) (ap not (test x fx s ex) ∙ h) (ap not (test y fy t ey) ∙ k)
+    pub z-decides : not t ≡ false → {u : Bool} → u ≡ within (2 ^ 24) (bits z) → u ≡ isNear x y z
+    unfolding isNear
+    z-decides k ez = rw (test (2 ^ 24) x fx ex, not-false s h, test (2 ^ 24) y fy ey, not-false t k) (sym (test (2 ^ 24) z fz ez))
 
 -- ---- a number of the list, by the test of its bits
-module _ (numbers : List ℤ) (i : ℕ) (f : SFits w32 (getD numbers i (pos 0))) (t : Bool)
-    (e : t ≡ within (2 ^ 27) (toZ w32 (ofZ w32 (getD numbers i (pos 0))))) where
-  tested : fault19 numbers i ≡ not t
-  unfolding fault19
-  tested = ap not (sym (e ∙ ap (within (2 ^ 27)) (toZ-ofZ w32 (getD numbers i (pos 0)) f)))
-
-  pub number-out : not t ≡ true → fault19 numbers i ≡ true
-  number-out h = tested ∙ h
-
-  pub number-in : not t ≡ false → fault19 numbers i ≡ false
-  number-in h = tested ∙ h
+pub number-tested : (numbers : List ℤ) (i : ℕ) → SFits w32 (getD numbers i (pos 0)) → {t : Bool} → t ≡ within (2 ^ 27) (bits (getD numbers i (pos 0)))
+    → fault19 numbers i ≡ not t
+unfolding fault19
+number-tested numbers i f e = ap not (test (2 ^ 27) (getD numbers i (pos 0)) f e)
 
 -- ---- a list that passes 18 and 19, and a point that passes 20
 module _ (numbers : List ℤ) (e : netVerdict numbers ≡ sound) where
@@ -145,6 +121,10 @@ module _ (numbers : List ℤ) (e : netVerdict numbers ≡ sound) where
   number-le i l =
       leb-true (natAbs (getD numbers i (pos 0))) (2 ^ 27)
       (not-false _ (lowest-sound 19 (length numbers) (fault19 numbers) (sound-right _ _ e) i (omega (arith, is-long))))
+
+  pub point-sound : (p : ℕ) → p ≤ 40 → pointVerdict numbers p ≡ sound
+  unfolding pointVerdict fault20
+  point-sound p h = orElse-sound _ e ∙ single-miss 20 p (le-ltb 40 p h)
 
 module _ (numbers : List ℤ) (point : ℕ) (e : pointVerdict numbers point ≡ sound) where
   pub net-sound : netVerdict numbers ≡ sound
@@ -242,54 +222,48 @@ module _ (d : ℤ) (h : natAbs d ≤ 2 ^ 28) where
     rest-float =
         rw rest-is (float-of (farSecond d) (whole-carried binary32 (farSecond d) (omega (arith, second-size d))) (omega (arith, second-size d)))
 
--- ---- the two cases
-axes-same : (x y z x' y' z' : ℤ) → x ≡ x' → y ≡ y' → z ≡ z' → axes x y z ≡ axes x' y' z'
-axes-same x y z x' y' z' e f g = rw (e, f, g)
+-- ---- the two cases, of differences by their bits
+module _ (x y z : ℤ) (hx : natAbs x ≤ 2 ^ 28) (hy : natAbs y ≤ 2 ^ 28) (hz : natAbs z ≤ 2 ^ 28)
+    {t : Bool} (e : t ≡ isNear (bits x) (bits y) (bits z)) where
+  pub plain-test : isNear x y z ≡ t
+  plain-test = sym (rw (d-bits x hx, d-bits y hy, d-bits z hz) at e)
 
-module _ (x y z : ℤ) (t : Bool) (e : t ≡ isNear x y z) (p : Floats)
-    (fx : FloatOf (firstPart t x) (p .x)) (fy : FloatOf (firstPart t y) (p .y)) (fz : FloatOf (firstPart t z) (p .z)) where
-  split-near : t ≡ true → SplitTo x y z (Near p)
-  split-near h =
-      record {
-        answers =
-            ap near (axes-same _ _ _ x y z (fx .reads ∙ ap (λ (b : Bool). firstPart b x) h) (fy .reads ∙ ap (λ (b : Bool). firstPart b y) h)
-            (fz .reads ∙ ap (λ (b : Bool). firstPart b z) h))
-            ∙ ap (λ (b : Bool). parts b x y z) (sym h ∙ e);
-        whole = (fx .whole, fy .whole, fz .whole);
-      }
+  near-bits : t ≡ true → (natAbs (bits x) ≤ 2 ^ 24) × (natAbs (bits y) ≤ 2 ^ 24) × (natAbs (bits z) ≤ 2 ^ 24)
+  near-bits h = near-all (bits x) (bits y) (bits z) (sym e ∙ h)
 
-  split-far : (q : Floats) → FloatOf (farSecond x) (q .x) → FloatOf (farSecond y) (q .y) → FloatOf (farSecond z) (q .z) → t ≡ false → SplitTo x y z (Far p q)
-  split-far q gx gy gz h =
-      record {
-        answers =
-            ap (λ (l : List ℤ). far l (axes (readBack (q .x)) (readBack (q .y)) (readBack (q .z))))
-            (axes-same _ _ _ (farFirst x) (farFirst y) (farFirst z) (fx .reads ∙ ap (λ (b : Bool). firstPart b x) h)
-            (fy .reads ∙ ap (λ (b : Bool). firstPart b y) h) (fz .reads ∙ ap (λ (b : Bool). firstPart b z) h))
-            ∙ ap (λ (l : List ℤ). far (axes (farFirst x) (farFirst y) (farFirst z)) l) (axes-same _ _ _ _ _ _ (gx .reads) (gy .reads) (gz .reads))
-            ∙ ap (λ (b : Bool). parts b x y z) (sym h ∙ e);
-        whole = ((fx .whole, fy .whole, fz .whole), (gx .whole, gy .whole, gz .whole));
-      }
+  -- what `first` asks of each difference
+  pub asked : ((natAbs (bits x) ≤ 2 ^ 28) × (t ≡ true → natAbs (bits x) ≤ 2 ^ 24)) × ((natAbs (bits y) ≤ 2 ^ 28) × (t ≡ true → natAbs (bits y) ≤ 2 ^ 24))
+      × ((natAbs (bits z) ≤ 2 ^ 28) × (t ≡ true → natAbs (bits z) ≤ 2 ^ 24))
+  asked = ((rw (d-bits x hx) hx, λ h. near-bits h .0), (rw (d-bits y hy) hy, λ h. near-bits h .1), (rw (d-bits z hz) hz, λ h. near-bits h .2))
 
--- of differences by their bits
-abbrev bits : ℤ → ℤ
-bits z = toZ w32 (ofZ w32 z)
+  reads : (v : ℤ) → natAbs v ≤ 2 ^ 28 → (part : ℤ → ℤ) {f : Float} → FloatOf (part (bits v)) f → readBack f ≡ part v
+  reads v h part g = g .reads ∙ ap part (d-bits v h)
 
-module _ (x y z : ℤ) (hx : natAbs x ≤ 2 ^ 28) (hy : natAbs y ≤ 2 ^ 28) (hz : natAbs z ≤ 2 ^ 28) (t : Bool) (e : t ≡ isNear (bits x) (bits y) (bits z))
-    (p : Floats) (fx : FloatOf (firstPart t (bits x)) (p .x)) (fy : FloatOf (firstPart t (bits y)) (p .y)) (fz : FloatOf (firstPart t (bits z)) (p .z)) where
-  plain-test : t ≡ isNear x y z
-  plain-test = rw (d-bits x hx, d-bits y hy, d-bits z hz) at e
+  module _ {p : Floats} (fx : FloatOf (firstPart t (bits x)) (p .x)) (fy : FloatOf (firstPart t (bits y)) (p .y))
+      (fz : FloatOf (firstPart t (bits z)) (p .z)) where
+    pub near-split : t ≡ true → SplitTo x y z (Near p)
+    near-split h =
+        record {
+          answers = rw (reads x hx (firstPart t) fx, reads y hy (firstPart t) fy, reads z hz (firstPart t) fz, plain-test, h);
+          whole = (fx .whole, fy .whole, fz .whole);
+        }
 
-  plain-first : (v : ℤ) (h : natAbs v ≤ 2 ^ 28) (f : Float) → FloatOf (firstPart t (bits v)) f → FloatOf (firstPart t v) f
-  plain-first v h f g = subst (λ (w : ℤ). FloatOf (firstPart t w) f) (d-bits v h) g
-
-  pub near-split : t ≡ true → SplitTo x y z (Near p)
-  near-split h = split-near x y z t plain-test p (plain-first x hx _ fx) (plain-first y hy _ fy) (plain-first z hz _ fz) h
-
-  pub far-split : (q : Floats) → FloatOf (farSecond (bits x)) (q .x) → FloatOf (farSecond (bits y)) (q .y) → FloatOf (farSecond (bits z)) (q .z)
-      → t ≡ false → SplitTo x y z (Far p q)
-  far-split q gx gy gz h =
-      split-far x y z t plain-test p (plain-first x hx _ fx) (plain-first y hy _ fy) (plain-first z hz _ fz) q
-      (rw (d-bits x hx) at gx) (rw (d-bits y hy) at gy) (rw (d-bits z hz) at gz) h
+    pub far-split : {q : Floats} → FloatOf (farSecond (bits x)) (q .x) → FloatOf (farSecond (bits y)) (q .y) → FloatOf (farSecond (bits z)) (q .z)
+        → t ≡ false → SplitTo x y z (Far p q)
+    far-split gx gy gz h =
+        record {
+          answers = rw (
+            reads x hx (firstPart t) fx,
+            reads y hy (firstPart t) fy,
+            reads z hz (firstPart t) fz,
+            reads x hx farSecond gx,
+            reads y hy farSecond gy,
+            reads z hz farSecond gz,
+            plain-test,
+            h,
+          );
+          whole = ((fx .whole, fy .whole, fz .whole), (gx .whole, gy .whole, gz .whole));
+        }
 
 -- ---- the chain of checks, and what the call answers
 pub chain : (numbers : List ℤ) (point : ℕ) → pointVerdict numbers point
@@ -297,24 +271,24 @@ pub chain : (numbers : List ℤ) (point : ℕ) → pointVerdict numbers point
 unfolding pointVerdict netVerdict
 chain numbers point = orElse-assoc _ _ _
 
-module _ (numbers : List ℤ) (point : ℕ) (a : Answer) (e : stated a ≡ pointVerdict numbers point) where
-  pub point-refused : (k p : ℕ) → a ≡ Refused k p → InFloats numbers point (NoPoint k p)
+module _ (numbers : List ℤ) (point : ℕ) {a : Answer} (e : stated a ≡ pointVerdict numbers point) where
+  pub point-refused : {k p : ℕ} → a ≡ Refused k p → InFloats numbers point (NoPoint k p)
   unfolding pointOf
-  point-refused k p q =
-      let v : pointVerdict numbers point ≡ fault k p = sym e ∙ ap stated q in
+  point-refused {k} {p} q =
       record {
-        answers = sym (ap (λ (w : Verdict). unless w (split (difference numbers point 0) (difference numbers point 1) (difference numbers point 2))) v);
+        answers =
+            ap (λ (w : Verdict). unless w (split (difference numbers point 0) (difference numbers point 1) (difference numbers point 2)))
+            (sym (ap stated q) ∙ e);
         whole = tt;
       }
 
-  pub point-split : a ≡ Done → (x y z : ℤ) → natAbs x ≤ 2 ^ 28 → natAbs y ≤ 2 ^ 28 → natAbs z ≤ 2 ^ 28
+  pub point-split : a ≡ Done → {x y z : ℤ} → natAbs x ≤ 2 ^ 28 → natAbs y ≤ 2 ^ 28 → natAbs z ≤ 2 ^ 28
       → x ≡ difference numbers point 0 → y ≡ difference numbers point 1 → z ≡ difference numbers point 2
-      → (r : FloatPoint) → SplitTo (toZ w32 (ofZ w32 x)) (toZ w32 (ofZ w32 y)) (toZ w32 (ofZ w32 z)) r → InFloats numbers point r
+      → {r : FloatPoint} → SplitTo (bits x) (bits y) (bits z) r → InFloats numbers point r
   unfolding pointOf
-  point-split q x y z hx hy hz ex ey ez r s =
+  point-split q {x} {y} {z} hx hy hz ex ey ez s =
       let v : pointVerdict numbers point ≡ sound = sym e ∙ ap stated q in
-      let t : SplitTo x y z r = rw (d-bits x hx, d-bits y hy, d-bits z hz) at s in
-      let u : SplitTo (difference numbers point 0) (difference numbers point 1) (difference numbers point 2) r = rw (ex, ey, ez) at t in
+      let u = rw (ex, ey, ez) at (rw (d-bits x hx, d-bits y hy, d-bits z hz) at s) in
       record {
         answers =
             u .answers

@@ -30,14 +30,14 @@ secondPart true d = pos 0
 secondPart false d = farSecond d
 
 -- ---- a list that is filled from the front: with the values of f before i, with what it held from i on
-abbrev pub FilledTo : (ℕ → Float) → List Float → ℕ → List Float → Type 0
-FilledTo f old i out = out ≡ valuesFrom f 0 i ++ drop i old
+abbrev pub FloatsFilled : (ℕ → Float) → List Float → ℕ → List Float → Type 0
+FloatsFilled f old i out = out ≡ valuesFrom f 0 i ++ drop i old
 
 -- the floats of whole numbers from `at` on, `count` of them: a list that was filled up to them is then filled with them, whatever the values of f before
 abbrev pub Puts : (ℕ → ℤ) → ℕ → ℕ → List Float → List Float → Type 0
 Puts v count at before after =
     (f : ℕ → Float) (old : List Float) → at + count ≤ length old → ((x : ℕ) → x < count → f (at + x) ≡ ofInt binary32 (v x))
-    → FilledTo f old at before → FilledTo f old (at + count) after
+    → FloatsFilled f old at before → FloatsFilled f old (at + count) after
 
 -- those of three differences, and those of a quad-net's points
 abbrev pub SixPut : ℤ → ℤ → ℤ → ℕ → List Float → List Float → Type 0

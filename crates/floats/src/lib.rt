@@ -28,13 +28,13 @@ const MOST_NEAR: u32 = 16777216;
 // The first float of a far pair is a multiple of 2^12 = 4,096.
 const UNIT_BITS: u32 = 12;
 
-const UNIT: i32 = 4096;
+const FAR_UNIT: i32 = 4096;
 
 // The number of the last point.
 const LAST_POINT: usize = 40;
 
 // The most numbers of a list of quad-nets.
-const MOST_NUMBERS: usize = NUMBERS_PER_CORNER * MOST_CORNERS;
+const MOST_NET_NUMBERS: usize = NUMBERS_PER_CORNER * MOST_CORNERS;
 
 // Our own number for a lent list that is too short.
 const NO_ROOM: u8 = 255;
@@ -90,7 +90,7 @@ fn is_nets(n: usize) -> bool
     if n % NUMBERS_PER_CORNER != 0 {
         return false;
     }
-    if MOST_NUMBERS < n {
+    if MOST_NET_NUMBERS < n {
         return false;
     }
     true
@@ -286,5 +286,5 @@ fn multiple(d: i32) -> i32
     requires { ⌜ natAbs d ≤ 2 ^ 28 ⌝ }
     ensures { λ r. ⌜ r ≡ farFirst d ⌝ }
 {
-    (d >> UNIT_BITS) * UNIT
+    (d >> UNIT_BITS) * FAR_UNIT
 }

@@ -12,6 +12,7 @@ use Rattle.paper.specs.Links.{valence}
 use Rattle.paper.specs.Faults.{Verdict, sound, fault, verdict, stated, Accepted}
 use Rattle.paper.specs.declared.Answer.{Answer}
 use Rattle.paper.specs.declared.Answer.the-variants.{Refused as Fault}
+use Rattle.mesh.specs.Tables.{Named}
 use Rattle.mesh.proofs.Accepted.{sound-of, few-vertices, few-corners, named-of}
 use Rattle.walk.proofs.Table.{blank}
 use Rattle.checks.specs.columns.Vertices.{vertexRow, countHere}
@@ -20,7 +21,7 @@ use Rattle.paper.specs.declared.Irregular.{Irregular}
 use Rattle.paper.specs.declared.Irregular.the-variants.{Face, Vertex, None, Refused}
 use Rattle.paper.specs.Irregular.{irregularFace, irregularVertex, SearchCase, faceFound, vertexFound}
 use Rattle.paper.specs.Irregular.{noneFound, searchRefused, irregularStated, pickCase, lowestFace, lowestVertex, found, searchUnless, irregularOf, Searched}
-use Rattle.irregular.specs.Found.{Named, FacesSearched}
+use Rattle.irregular.specs.Found.{FacesSearched}
 
 -- ---- the tests, as the code makes them
 module _ (sides : List ℕ) (f : ℕ) where
@@ -84,12 +85,12 @@ unfolding irregularOf
 verdict-is M r c = ap verdictOf (c .answers) ∙ after-checks (verdict M) (found M) (found-sound M)
 
 -- ---- refused
-pub search-refused : (M : Mesh) (a : Answer) (k p : ℕ) → stated a ≡ verdict M → a ≡ Fault k p → Searched M (Refused k p)
+pub search-refused : (M : Mesh) {a : Answer} {k p : ℕ} → stated a ≡ verdict M → a ≡ Fault k p → Searched M (Refused k p)
 unfolding irregularOf
-search-refused M a k p e q = record { answers = sym (ap (λ (v : Verdict). searchUnless v (found M)) (sym e ∙ ap stated q)) }
+search-refused M e q = record { answers = sym (ap (λ (v : Verdict). searchUnless v (found M)) (sym e ∙ ap stated q)) }
 
 -- ---- an accepted mesh: a face; a vertex, where there is no face; neither
-module _ (M : Mesh) (accepted : Accepted M) (f read : ℕ) (s : FacesSearched (M .sides) f read) where
+module _ (M : Mesh) (accepted : Accepted M) {f read : ℕ} (s : FacesSearched (M .sides) f read) where
   is-found : irregularOf M ≡ found M
   unfolding irregularOf
   is-found = ap (λ (v : Verdict). searchUnless v (found M)) accepted
@@ -106,7 +107,7 @@ module _ (M : Mesh) (accepted : Accepted M) (f read : ℕ) (s : FacesSearched (M
   unfolding found
   search-face h = record { answers = sym (is-found ∙ rw (some-face h, ← s .lowest-is, s .read-to h)) }
 
-  module _ (h : faceCount M ≤ f) (u : ℕ) (e : u ≡ lowestVertex M) where
+  module _ (h : faceCount M ≤ f) {u : ℕ} (e : u ≡ lowestVertex M) where
     some-vertex : u < vertexCount M → someBelow (vertexCount M) (irregularVertex (M .corners)) ≡ true
     unfolding someBelow
     some-vertex l = lt-ltb (lowestVertex M) (vertexCount M) (omega (arith, e))

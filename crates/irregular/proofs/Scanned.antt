@@ -1,13 +1,11 @@
 -- A search that stops at what it finds: n numbers, a test, the lowest found so far (n where there is none), and the number looked at next.
 use mathlib.Core.Path.{_≡_, sym}
 use mathlib.Core.Bool.{Bool, true, false}
-use mathlib.Core.Logic.{⊎-elim}
 use Prim.Native.Nat.{ℕ, _+_, _<_, _≤_}
 use native.Mathlib.Omega.{arith}
-use lib.Dec.{ltb}
-use borrow.Author.Tests.{ltb-true, ltb-false}
 use Rattle.paper.specs.Scan.{firstBelow}
-use Rattle.mesh.proofs.Scans.{ways, first-at, first-none, fails-step}
+use Rattle.mesh.proofs.ByCases.{by-less}
+use Rattle.mesh.proofs.Scans.{first-at, first-none, fails-step}
 
 pub record Scanned (n : ℕ) (f : ℕ → Bool) (lowest at : ℕ) : Type 0 where
   pub within : at ≤ n
@@ -18,17 +16,17 @@ pub record Scanned (n : ℕ) (f : ℕ → Bool) (lowest at : ℕ) : Type 0 where
   pub passes : lowest < n → f lowest ≡ true
   pub stops : lowest < n → at ≡ lowest + 1
 
-module _ (n : ℕ) (f : ℕ → Bool) where
-  pub scan-start : Scanned n f n 0
-  scan-start = record {
-    within = omega arith;
-    bounded = omega arith;
-    fails = λ j h l. absurd (omega arith);
-    passes = λ h. absurd (omega arith);
-    stops = λ h. absurd (omega arith);
-  }
+pub scan-start : (n : ℕ) (f : ℕ → Bool) → Scanned n f n 0
+scan-start n f = record {
+  within = omega arith;
+  bounded = omega arith;
+  fails = λ j h l. absurd (omega arith);
+  passes = λ h. absurd (omega arith);
+  stops = λ h. absurd (omega arith);
+}
 
-  module _ (lowest at : ℕ) (s : Scanned n f lowest at) (h : at < lowest) where
+module _ {n : ℕ} {f : ℕ → Bool} {lowest at : ℕ} (s : Scanned n f lowest at) where
+  module _ (h : at < lowest) where
     pub scan-hit : f at ≡ true → Scanned n f at (at + 1)
     scan-hit e =
         let b = s .bounded in
@@ -51,14 +49,12 @@ module _ (n : ℕ) (f : ℕ → Bool) where
           stops = λ q. absurd (omega (arith, s .stops q));
         }
 
-  module _ (lowest at : ℕ) (s : Scanned n f lowest at) (h : lowest ≤ at) where
+  module _ (h : lowest ≤ at) where
     pub scan-end : lowest ≡ firstBelow n f
     scan-end =
-        ⊎-elim
-        (λ l. let k = ltb-true lowest n l in sym (first-at n f lowest k (s .passes k) (λ j i. s .fails j (omega arith) i)))
-        (λ l. let q : lowest ≡ n = omega (arith, ltb-false lowest n l, s .bounded) in
-        omega (arith, first-none n f (λ j i. s .fails j (omega arith) (omega arith))))
-        (ways (ltb lowest n))
+        by-less lowest n
+        (λ l. sym (first-at n f lowest l (s .passes l) (λ j i. s .fails j (omega arith) i)))
+        (λ l. let b = s .bounded in omega (arith, first-none n f (λ j i. s .fails j (omega arith) (omega arith))))
 
     pub scan-all : n ≤ lowest → at ≡ n
     scan-all l = omega (arith, s .within, s .bounded)

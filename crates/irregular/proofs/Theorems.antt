@@ -2,13 +2,12 @@
 -- counts faces, since all numbers of sides have a line; so for the vertices.
 use mathlib.Core.Path.{_≡_, refl, sym, ap, _∙_}
 use mathlib.Core.Bool.{Bool, true, false, not, _&&_}
-use mathlib.Core.Logic.{⊎-elim}
 use mathlib.Core.List.{List}
 use Prim.Native.Nat.{ℕ, _+_, _<_, _≤_}
 use native.Mathlib.Omega.{arith}
 use lib.Dec.{ltb, eqb}
 use lib.ListN.{getD}
-use borrow.Author.Tests.{eqb-true, eqb-false, eq-eqb, ne-eqb, lt-ltb, ltb-true, ltb-false, not-false}
+use borrow.Author.Tests.{eqb-true, eq-eqb, ne-eqb, lt-ltb, not-false}
 use Rattle.paper.specs.Scan.{firstBelow, someBelow, countBelow}
 use Rattle.paper.specs.Mesh.{mostSides, Mesh, vertexCount, faceCount}
 use Rattle.paper.specs.Links.{valence}
@@ -17,15 +16,16 @@ use Rattle.paper.specs.Counts.{verticesWith, facesWith, forEach, Counted}
 use Rattle.paper.specs.File.{fileMesh, fileVerdict}
 use Rattle.paper.specs.Claims.{LinesAgree}
 use Rattle.paper.specs.declared.Counts.{Counts}
-use Rattle.mesh.proofs.Scans.{ways, clash, and-true, some-true, some-false, some-below, some-passes, none}
+use Rattle.mesh.proofs.Scans.{clash, and-true, some-true, some-false, some-below, some-passes, none}
+use Rattle.mesh.proofs.ByCases.{by-test, by-equal, by-less}
 use Rattle.mesh.proofs.Links.{values-at}
 use Rattle.mesh.proofs.Rings.{count-none, none-counted}
 use Rattle.mesh.proofs.Verdicts.{sound-right}
 use Rattle.mesh.proofs.Accepted.{sound-of, sides-within, valence-within}
 use Rattle.paper.specs.declared.Irregular.{Irregular}
 use Rattle.paper.specs.declared.Irregular.the-variants.{Face, Vertex, None, Refused}
-use Rattle.paper.specs.Irregular.{irregularFace, irregularVertex, SearchCase, faceFound, vertexFound}
-use Rattle.paper.specs.Irregular.{noneFound, searchRefused, irregularStated, pickCase, lowestFace}
+use Rattle.paper.specs.Irregular.{irregularFace, irregularVertex, faceFound, vertexFound}
+use Rattle.paper.specs.Irregular.{noneFound, irregularStated, pickCase, lowestFace}
 use Rattle.paper.specs.Irregular.{lowestVertex, found, searchUnless, irregularOf, Searched, otherLine, countsFaces, countsVertices, isFace, isVertex, Agreed}
 
 and-none : (a : Bool) → a && false ≡ false
@@ -49,13 +49,8 @@ module _ (n : ℕ) (v : ℕ → ℕ) (most : (j : ℕ) → j < n → v j ≤ mos
 
   above : (m j : ℕ) → j < n → v j ≡ m → 0 < counted m
   above m j h e =
-      ⊎-elim
-      (λ z. ltb-true 0 (counted m) z)
-      (λ z. absurd (clash (eq-eqb (v j) m e) (none-counted (λ i. eqb (v i) m) n (below z) j h)))
-      (ways (ltb 0 (counted m)))
-    where
-      below : {k : ℕ} → ltb 0 k ≡ false → k ≡ 0
-      below {k} z = omega (arith, ltb-false 0 k z)
+      by-less 0 (counted m) (λ z. z)
+      (λ z. absurd (clash (eq-eqb (v j) m e) (none-counted (λ i. eqb (v i) m) n (omega (arith, z)) j h)))
 
   four : someBelow n odd ≡ false → (j : ℕ) → j < n → v j ≡ 4
   four e j h = eqb-true (v j) 4 (not-false (eqb (v j) 4) (none n odd e j h))
@@ -74,56 +69,30 @@ module _ (n : ℕ) (v : ℕ → ℕ) (most : (j : ℕ) → j < n → v j ≤ mos
   no-line : someBelow n odd ≡ false → someBelow (mostSides + 1) line ≡ false
   no-line e =
       some-false (mostSides + 1) line (λ m l.
-      ⊎-elim
-      (λ q. rw q)
+      by-equal m 4
+      (λ q. rw (eq-eqb m 4 q))
       (λ q. ap (λ (k : ℕ). not (eqb m 4) && ltb 0 k)
-      (counts-at m l ∙ count-none (λ j. eqb (v j) m) n (λ j h. ne-eqb (v j) m (λ w. eqb-false m 4 q (sym w ∙ four e j h))))
-      ∙ and-none (not (eqb m 4)))
-      (ways (eqb m 4)))
+      (counts-at m l ∙ count-none (λ j. eqb (v j) m) n (λ j h. ne-eqb (v j) m (λ w. q (sym w ∙ four e j h))))
+      ∙ and-none (not (eqb m 4))))
 
   pub same-lines : someBelow n odd ≡ someBelow (mostSides + 1) line
-  same-lines = ⊎-elim (λ e. e ∙ sym (some-line e)) (λ e. e ∙ sym (no-line e)) (ways (someBelow n odd))
+  same-lines = by-test (someBelow n odd) (λ e. e ∙ sym (some-line e)) (λ e. e ∙ sym (no-line e))
 
--- ---- what is answered, by what it states
-foundFace : SearchCase → Bool
-foundFace (faceFound f read) = true
-foundFace (vertexFound u read) = false
-foundFace (noneFound read) = false
-foundFace (searchRefused number place) = false
-
-foundVertex : SearchCase → Bool
-foundVertex (faceFound f read) = false
-foundVertex (vertexFound u read) = true
-foundVertex (noneFound read) = false
-foundVertex (searchRefused number place) = false
-
-face-stated : (r : Irregular) → isFace r ≡ foundFace (irregularStated r)
-unfolding foundFace
-face-stated (Face f read) = refl
-face-stated (Vertex u read) = refl
-face-stated (None read) = refl
-face-stated (Refused number place) = refl
-
-vertex-stated : (r : Irregular) → isVertex r ≡ foundVertex (irregularStated r)
-unfolding foundVertex
-vertex-stated (Face f read) = refl
-vertex-stated (Vertex u read) = refl
-vertex-stated (None read) = refl
-vertex-stated (Refused number place) = refl
-
--- of a search by two tests
-module _ (f u i j k : ℕ) where
-  face-found : (a b : Bool) → foundFace (pickCase a (faceFound f i) (pickCase b (vertexFound u j) (noneFound k))) ≡ a
-  unfolding foundFace
-  face-found true b = refl
-  face-found false true = refl
-  face-found false false = refl
-
-  vertex-found : (a b : Bool) → a ≡ false → foundVertex (pickCase a (faceFound f i) (pickCase b (vertexFound u j) (noneFound k))) ≡ b
-  unfolding foundVertex
-  vertex-found true b e = absurd (clash refl e)
-  vertex-found false true e = refl
-  vertex-found false false e = refl
+-- ---- what is answered, by what it states: a search by two tests
+found-is : (r : Irregular) (a b : Bool) (f i u j k : ℕ) → irregularStated r ≡ pickCase a (faceFound f i) (pickCase b (vertexFound u j) (noneFound k))
+    → (isFace r ≡ a) × (a ≡ false → isVertex r ≡ b)
+found-is (Face g read) true b f i u j k e = (cc, λ q. cc)
+found-is (Face g read) false true f i u j k e = (cc, λ q. cc)
+found-is (Face g read) false false f i u j k e = (cc, λ q. cc)
+found-is (Vertex v read) true b f i u j k e = (cc, λ q. cc)
+found-is (Vertex v read) false true f i u j k e = (cc, λ q. cc)
+found-is (Vertex v read) false false f i u j k e = (cc, λ q. cc)
+found-is (None read) true b f i u j k e = (cc, λ q. cc)
+found-is (None read) false true f i u j k e = (cc, λ q. cc)
+found-is (None read) false false f i u j k e = (cc, λ q. cc)
+found-is (Refused number place) true b f i u j k e = (cc, λ q. cc)
+found-is (Refused number place) false true f i u j k e = (cc, λ q. cc)
+found-is (Refused number place) false false f i u j k e = (cc, λ q. cc)
 
 -- ---- of an accepted mesh
 module _ (M : Mesh) (lines : Counts) (r : Irregular) (accepted : Accepted M) (counts : Counted M lines) (call : Searched M r) where
@@ -133,19 +102,11 @@ module _ (M : Mesh) (lines : Counts) (r : Irregular) (accepted : Accepted M) (co
   abbrev vertices : Bool
   vertices = someBelow (vertexCount M) (irregularVertex (M .corners))
 
-  answered : irregularStated r ≡ found M
-  unfolding irregularOf
-  answered = call .answers ∙ ap (λ (v : Verdict). searchUnless v (found M)) accepted
-
-  face-is : isFace r ≡ faces
-  unfolding found
-  face-is = face-stated r ∙ ap foundFace answered ∙ face-found (lowestFace M) (lowestVertex M) (lowestFace M + 1) (faceCount M) (faceCount M) faces vertices
-
-  vertex-is : faces ≡ false → isVertex r ≡ vertices
-  unfolding found
-  vertex-is e =
-      vertex-stated r ∙ ap foundVertex answered
-      ∙ vertex-found (lowestFace M) (lowestVertex M) (lowestFace M + 1) (faceCount M) (faceCount M) faces vertices e
+  answered : (isFace r ≡ faces) × (faces ≡ false → isVertex r ≡ vertices)
+  unfolding irregularOf found
+  answered =
+      found-is r faces vertices (lowestFace M) (lowestFace M + 1) (lowestVertex M) (faceCount M) (faceCount M)
+      (call .answers ∙ ap (λ (v : Verdict). searchUnless v (found M)) accepted)
 
   faces-line : faces ≡ countsFaces lines
   unfolding irregularFace countsFaces facesWith
@@ -160,7 +121,7 @@ module _ (M : Mesh) (lines : Counts) (r : Irregular) (accepted : Accepted M) (co
       ∙ ap (λ (l : List ℕ). someBelow (mostSides + 1) (otherLine l)) (sym (counts .cornered))
 
   pub agreed : Agreed lines r
-  agreed = record { faces = face-is ∙ faces-line; vertices = λ e. vertex-is (faces-line ∙ e) ∙ vertices-line }
+  agreed = record { faces = answered .0 ∙ faces-line; vertices = λ e. answered .1 (faces-line ∙ e) ∙ vertices-line }
 
 -- ---- of a file that `inspect` does not refuse
 pub lines-agree : LinesAgree

@@ -1,15 +1,10 @@
--- What the search asks of a mesh, and what it finds among the faces.
+-- What the search finds among the faces.
 use mathlib.Core.Path.{_≡_}
 use mathlib.Core.List.{List}
 use Prim.Native.Nat.{ℕ, _+_, _<_, _≤_}
 use lib.ListN.{length}
 use Rattle.paper.specs.Scan.{firstBelow}
-use Rattle.paper.specs.Links.{vertexOf}
 use Rattle.paper.specs.Irregular.{irregularFace}
-
--- every corner names a vertex below the count
-abbrev pub Named : List ℕ → ℕ → Type 0
-Named corners count = (c : ℕ) → c < length corners → vertexOf corners c < count
 
 -- the lowest irregular face, or the face count; the side counts read are one more than the face, or all of them
 pub record FacesSearched (sides : List ℕ) (lowest read : ℕ) : Type 0 where

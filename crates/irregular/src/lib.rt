@@ -13,16 +13,17 @@ ghost use Rattle.paper.specs.Mesh.{mostVertices, mostCorners, meshOf};
 ghost use Rattle.checks.specs.columns.Vertices.{vertexRow};
 ghost use Rattle.checks.specs.columns.Filled.{CornersCounted};
 ghost use Rattle.paper.specs.Irregular.{irregularVertex, Searched};
-ghost use Rattle.irregular.specs.Found.{Named, FacesSearched};
+ghost use Rattle.mesh.specs.Tables.{Named};
+ghost use Rattle.irregular.specs.Found.{FacesSearched};
 
 // The sides of a regular face.
-const SIDES: u8 = 4;
+const REGULAR_SIDES: u8 = 4;
 
 // The corners of a regular vertex.
-const CORNERS: u16 = 4;
+const REGULAR_CORNERS: u16 = 4;
 
 // What was found among the faces: the lowest that is irregular, or the face count where none is; and how many side counts were read.
-struct Faces {
+struct FaceSearch {
     lowest: usize,
     read: usize,
 }
@@ -50,7 +51,7 @@ pub fn search(coordinates: &[i32], sides: &[u8], corners: &[u16], sharpness: &[u
 }
 
 // The lowest face that has not four sides.
-fn search_faces(sides: &[u8]) -> Faces
+fn search_faces(sides: &[u8]) -> FaceSearch
     ensures { λ r. ⌜ FacesSearched (now (sides .entry)) (r .lowest) (r .read) ⌝ }
 {
     let mut lowest = sides.len();
@@ -59,12 +60,12 @@ fn search_faces(sides: &[u8]) -> Faces
     while f < lowest {
         let n = sides[f];
         read += 1;
-        if n != SIDES {
+        if n != REGULAR_SIDES {
             lowest = f;
         }
         f += 1;
     }
-    Faces {
+    FaceSearch {
         lowest: lowest,
         read: read,
     }
@@ -89,7 +90,7 @@ fn search_vertices(corners: &[u16], vertices: &[u16], count: usize) -> usize
     let mut u = 0;
     while u < lowest {
         let n = vertices[VERTEX_ROW * u + COUNT];
-        if n != CORNERS {
+        if n != REGULAR_CORNERS {
             lowest = u;
         }
         u += 1;

@@ -8,7 +8,7 @@ use native.Mathlib.Omega.{arith}
 use borrow.Author.Count.{below-more}
 use lib.ListN.{length, take, getD, set, length-set, List·getD-append}
 use lib.Seq.{length-take-le, getD-take, getD-set-same, getD-set-other}
-use Rattle.line_input.specs.Places.{feed, Lined, LineOf, NoLine, FirstFeed, MovedDown, Whole, LineRead, NextLine}
+use Rattle.line_input.specs.Places.{feed, Lined, LineOf, NoLine, FirstFeed, MovedDown, WholeLine, LineRead, NextLine}
 use Rattle.line_input.specs.declared.Held.{Held}
 use Rattle.line_input.specs.declared.Line.{Line}
 
@@ -36,7 +36,7 @@ moved-all old at count i new h m = record { same = m .same; moved = λ k l. m .m
 -- ---- a line that was found
 whole-of : (buffer : List ℕ) (start end next held : ℕ) (r : Line) → LineOf start end next held r
     → ((k : ℕ) → k < end → start ≤ k → getD buffer k 0 ≡ feed → ⊥)
-    → ((next ≡ end + 1) × (getD buffer end 0 ≡ feed)) ⊎ ((next ≡ end) × (held ≡ end)) → Whole buffer r
+    → ((next ≡ end + 1) × (getD buffer end 0 ≡ feed)) ⊎ ((next ≡ end) × (held ≡ end)) → WholeLine buffer r
 whole-of buffer start end next held r o none after = record {
   went-well = o .ok-is;
   plain = λ k l h. none k (omega (arith, o .end-is)) (omega (arith, o .start-is));

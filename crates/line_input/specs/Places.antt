@@ -46,7 +46,7 @@ pub record MovedDown (old : List ℕ) (at count : ℕ) (new : List ℕ) : Type 0
   pub moved : (k : ℕ) → k < count → getD new k 0 ≡ getD old (at + k) 0
 
 -- a line of the buffer: no line feed stands in it; one stands after it, before what is held then, or nothing is held any more
-pub record Whole (buffer : List ℕ) (r : Line) : Type 0 where
+pub record WholeLine (buffer : List ℕ) (r : Line) : Type 0 where
   pub went-well : r .ok ≡ true
   pub plain : (k : ℕ) → k < r .end → r .start ≤ k → getD buffer k 0 ≡ feed → ⊥
   pub after : ((r .held .at ≡ r .end + 1) × (getD buffer (r .end) 0 ≡ feed)) ⊎ ((r .held .at ≡ r .end) × (r .held .end ≡ r .end))
@@ -57,7 +57,7 @@ pub record LineRead (old : List ℕ) (kept : ℕ) (r : Line) (new : List ℕ) : 
   pub same : length new ≡ length old
   pub stays : (k : ℕ) → k < kept → getD new k 0 ≡ getD old k 0
   pub first : r .found ≡ true → (r .start ≡ 0) × (kept ≤ r .held .end)
-  pub whole : r .found ≡ true → Whole new r
+  pub whole : r .found ≡ true → WholeLine new r
   pub none : r .found ≡ false → r .ok ≡ true → kept ≡ 0
 
 -- ---- a call with a buffer that held `old`: where it finds a line, this begins with the bytes that were held, of which none is lost; where it finds none
@@ -67,5 +67,5 @@ pub record NextLine (old : List ℕ) (held : Held) (r : Line) (new : List ℕ) :
   pub same : length new ≡ length old
   pub begins : r .found ≡ true → (k : ℕ) → held .at + k < held .end → getD new (r .start + k) 0 ≡ getD old (held .at + k) 0
   pub all : r .found ≡ true → held .end + r .start ≤ r .held .end + held .at
-  pub whole : r .found ≡ true → Whole new r
+  pub whole : r .found ≡ true → WholeLine new r
   pub none : r .found ≡ false → r .ok ≡ true → held .at ≡ held .end

@@ -19,22 +19,22 @@ use Rattle.walk.specs.Table.{toLink, entry, Tabled}
 use Rattle.checks.proofs.requests.Laws.{length-of}
 
 -- the links below c are copied
-pub Copied : List ℕ → List ℕ → ℕ → Type 0
-Copied table links c = (d : ℕ) → d < c → getD links d 0 ≡ entry table toLink d
+pub LinksCopied : List ℕ → List ℕ → ℕ → Type 0
+LinksCopied table links c = (d : ℕ) → d < c → getD links d 0 ≡ entry table toLink d
 
-pub copied-none : (table links : List ℕ) → Copied table links 0
-unfolding Copied
+pub copied-none : (table links : List ℕ) → LinksCopied table links 0
+unfolding LinksCopied
 copied-none table links d l = absurd (omega arith)
 
-pub copied-step : (table links : List ℕ) (c : ℕ) → c < length links → Copied table links c → Copied table (set links c (entry table toLink c)) (c + 1)
-unfolding Copied
+pub copied-step : (table links : List ℕ) (c : ℕ) → c < length links → LinksCopied table links c → LinksCopied table (set links c (entry table toLink c)) (c + 1)
+unfolding LinksCopied
 copied-step table links c h k =
     below-more (λ d. getD (set links c (entry table toLink c)) d 0 ≡ entry table toLink d) c
     (λ d l. getD-set-other links c d (entry table toLink c) 0 (λ q. omega arith) ∙ k d l)
     (getD-set-same links c (entry table toLink c) 0 h)
 
-pub copied-all : (table links : List ℕ) (c n : ℕ) → n ≤ c → Copied table links c → (d : ℕ) → d < n → getD links d 0 ≡ entry table toLink d
-unfolding Copied
+pub copied-all : (table links : List ℕ) (c n : ℕ) → n ≤ c → LinksCopied table links c → (d : ℕ) → d < n → getD links d 0 ≡ entry table toLink d
+unfolding LinksCopied
 copied-all table links c n h k d l = k d (omega arith)
 
 module _ (M : Mesh) (old : List ℕ) where

@@ -17,7 +17,7 @@ use Rattle.paper.specs.Faults.{Verdict, sound, fault, verdict, stated, kept, An
 use Rattle.paper.specs.Counts.{verticesWith, facesWith, forEach}
 use Rattle.paper.specs.File.{fileVerdict, fileMesh, begins, noRoom, FileSurveyed, DecodedTo}
 use Rattle.paper.specs.Floats.{pointVerdict, InFloats}
-use Rattle.paper.specs.CFace.{States, Called, lentVerdict, DecodeCall, countsOf, surveyVerdict, SurveyCall, put}
+use Rattle.paper.specs.CFace.{States, Called, DecodeCall, countsOf, surveyVerdict, SurveyCall, put, laid, pairsOf}
 use Rattle.paper.specs.Irregular.{SearchCase, faceFound, vertexFound, noneFound, searchRefused, irregularStated, Searched}
 use Rattle.paper.specs.CFace.{OffCall, FloatsCall, Finding, finding, findingOf, IrregularCall, PreviewCall}
 use Rattle.paper.specs.Off.{offVerdict, OffRead}
@@ -44,48 +44,44 @@ use Rattle.paper.specs.declared.Irregular.the-variants.{Face, Vertex, None, Ref
 use Rattle.irregular.proofs.Laws.{verdictOf, verdict-is}
 use Rattle.floats.proofs.Theorems.{near-sound, far-sound, refused-fault}
 
+-- nothing is refused
+done : {before : ℕ} → States sound before 0 before
+done = record { number = refl; place = refl }
+
 -- the verdict v that the answer r states
 module _ (v : Verdict) (r : Answer) (before : ℕ) (e : stated r ≡ v) where
   pub states-done : r ≡ Done → States v before 0 before
-  states-done d = subst (λ (w : Verdict). States w before 0 before) (sym (ap stated d) ∙ e) (record { number = refl; place = refl })
+  states-done d = record { number = cc; place = cc }
 
--- what is told of an answer, where the call states that answer
-pub told : (v : Verdict) (r : Answer) (before n after : ℕ) → stated r ≡ v → States (stated r) before n after → States v before n after
-told v r before n after e s = subst (λ (w : Verdict). States w before n after) e s
+  pub states-refused : (n p m q : ℕ) → r ≡ Refused n p → States (fault n p) before m q → States v before m q
+  states-refused n p m q d s = record { number = cc; place = cc }
+
+  -- what is told of an answer, where the call states that answer
+  pub told : (n after : ℕ) → States (stated r) before n after → States v before n after
+  told n after s = rw e at s
 
 -- ---- a call that fills one lent space, told in C
 pub called : {A : Type 0} (v : Verdict) (new old : A) (r : Answer) (out : A) (before n after : ℕ) → Answered v new old r out
     → States (stated r) before n after → Called v new old before n after out
-called v new old r out before n after k s = record {
-  answers = told v r before n after (k .answers) s;
-  holds = subst (λ (w : Verdict). out ≡ kept w new old) (k .answers) (k .holds);
-}
+called v new old r out before n after k s = record { answers = told v r before (k .answers) n after s; holds = rw (k .answers) at (k .holds) }
 
 -- the coordinates as they come from C
 pub preview-call : (M : Mesh) (u : ℕ) (x y z x′ y′ z′ : ℤ) → x′ ≡ x → y′ ≡ y → z′ ≡ z → (links : List ℕ) (first count : ℕ) (old : List ℤ) (r : Answer)
     (out : List ℤ) (before n after : ℕ) → Previewed M (moveOf u x′ y′ z′) links first count old r out → States (stated r) before n after
     → PreviewCall M (moveOf u x y z) links first count old before n after out
 preview-call M u x y z x′ y′ z′ ex ey ez links first count old r out before n after p s =
-    let q : Previewed M (moveOf u x y z) links first count old r out = rw (ex, ey, ez) at p in
-    called _ _ _ r out before n after q s
+    called _ _ _ r out before n after (rw (ex, ey, ez) at p) s
 
 pub floats-all-call : (numbers : List ℤ) (old : List Float) (r : Answer) (out : List Float) (before n after : ℕ)
     → AllInFloats numbers old r out → States (stated r) before n after → FloatsAllCall numbers old before n after out
 floats-all-call numbers old r out before n after k s = record {
-  answers = told _ r before n after (k .answers) s;
-  holds = subst (λ (v : Verdict). out ≡ kept v (begins (allFloats numbers) old) old) (k .answers) (k .holds);
+  answers = told _ r before (k .answers) n after s;
+  holds = rw (k .answers) at (k .holds);
   exact = λ e. k .exact (k .answers ∙ e);
 }
 
--- ---- decoding
-kept-new : {A : Type 0} (v : Verdict) (new old x : A) → v ≡ sound → x ≡ new → x ≡ kept v new old
-kept-new sound new old x e h = h
-kept-new (fault n p) new old x e h = let z : _≡_ {A = ℕ} 0 1 = cc in absurd (omega arith)
-
-kept-old : {A : Type 0} (v : Verdict) (n p : ℕ) (new old x : A) → v ≡ fault n p → x ≡ old → x ≡ kept v new old
-kept-old sound n p new old x e h = let z : _≡_ {A = ℕ} 0 1 = cc in absurd (omega arith)
-kept-old (fault k q) n p new old x e h = h
-
+-- ---- calls that fill more: what each space holds and what is told, after `Done` and after a refusal
+-- decoding
 module _ (file : List ℕ) (counted : ℕ) (cs : List ℤ) (sides corners sharpness : List ℕ) (r : Decoded)
     (cs' : List ℤ) (sides' corners' sharpness' : List ℕ) (lengths : Lengths) (before : ℕ)
     (d : DecodedTo file counted (meshOf cs sides corners sharpness) r (meshOf cs' sides' corners' sharpness')) where
@@ -95,169 +91,58 @@ module _ (file : List ℕ) (counted : ℕ) (cs : List ℤ) (sides corners sharpn
   abbrev lists : Mesh
   lists = meshOf cs' sides' corners' sharpness'
 
-  -- what a lent space or a length holds, by what the answer states
-  at : {A : Type 0} (x new old : A) (w : Verdict) → stated (r .answer) ≡ w → x ≡ kept (stated (r .answer)) new old → x ≡ kept w new old
-  at x new old w e h = subst (λ (u : Verdict). x ≡ kept u new old) e h
-
   pub decode-done : r .answer ≡ Done
       → DecodeCall file counted lent lengths before 0 before lists (four (r .coordinates) (r .sides) (r .corners) (r .sharpness))
-  decode-done e =
-      let s : stated (r .answer) ≡ sound = ap stated e in
-      let v : lentVerdict file counted lent ≡ sound = sym (d .answers) ∙ s in
-      let x = at cs' _ _ _ s (d .coordinates-hold) in
-      let y = at sides' _ _ _ s (d .sides-hold) in
-      let z = at corners' _ _ _ s (d .corners-hold) in
-      let w = at sharpness' _ _ _ s (d .sharpness-hold) in
-      let k = at (r .coordinates) _ _ _ s (d .coordinates-length) in
-      let l = at (r .sides) _ _ _ s (d .sides-length) in
-      let m = at (r .corners) _ _ _ s (d .corners-length) in
-      let n = at (r .sharpness) _ _ _ s (d .sharpness-length) in
-      record {
-        answers = states-done _ (r .answer) before (d .answers) e;
-        holds = kept-new _ _ _ _ v (cc);
-        tells = kept-new _ _ _ _ v (cc);
-      }
+  decode-done e = record { answers = states-done _ _ before (d .answers) e; holds = cc; tells = cc }
 
   pub decode-refused : (n p m q : ℕ) → r .answer ≡ Refused n p → States (fault n p) before m q
       → DecodeCall file counted lent lengths before m q lists lengths
-  decode-refused n p m q e tells =
-      let s : stated (r .answer) ≡ fault n p = ap stated e in
-      let v : lentVerdict file counted lent ≡ fault n p = sym (d .answers) ∙ s in
-      let x = at cs' _ _ _ s (d .coordinates-hold) in
-      let y = at sides' _ _ _ s (d .sides-hold) in
-      let z = at corners' _ _ _ s (d .corners-hold) in
-      let w = at sharpness' _ _ _ s (d .sharpness-hold) in
-      record {
-        answers = subst (λ (w : Verdict). States w before m q) (sym v) tells;
-        holds = kept-old _ n p _ _ _ v (cc);
-        tells = kept-old _ n p _ _ _ v refl;
-      }
+  decode-refused n p m q e s = record { answers = states-refused _ _ before (d .answers) n p m q e s; holds = cc; tells = cc }
 
--- ---- reading OFF
+-- reading OFF
 module _ (text : List ℕ) (lent : Mesh) (r : Decoded) (lists : Mesh) (lengths : Lengths) (before : ℕ) (d : OffRead text lent r lists) where
-  told-at : {A : Type 0} (x new old : A) (w : Verdict) → stated (r .answer) ≡ w → x ≡ kept (stated (r .answer)) new old → x ≡ kept w new old
-  told-at x new old w e h = subst (λ (u : Verdict). x ≡ kept u new old) e h
-
   pub off-done : r .answer ≡ Done → OffCall text lent lengths before 0 before lists (four (r .coordinates) (r .sides) (r .corners) (r .sharpness))
-  off-done e =
-      let s : stated (r .answer) ≡ sound = ap stated e in
-      let v : offVerdict text (lengthsOf lent) ≡ sound = sym (d .answers) ∙ s in
-      let x = told-at lists _ _ _ s (d .holds) in
-      let k = told-at (r .coordinates) _ _ _ s (d .coordinates-length) in
-      let l = told-at (r .sides) _ _ _ s (d .sides-length) in
-      let m = told-at (r .corners) _ _ _ s (d .corners-length) in
-      let n = told-at (r .sharpness) _ _ _ s (d .sharpness-length) in
-      record {
-        answers = states-done _ (r .answer) before (d .answers) e;
-        holds = kept-new _ _ _ _ v x;
-        tells = kept-new _ _ _ _ v (cc);
-      }
+  off-done e = record { answers = states-done _ _ before (d .answers) e; holds = cc; tells = cc }
 
   pub off-refused : (n p m q : ℕ) → r .answer ≡ Refused n p → States (fault n p) before m q → OffCall text lent lengths before m q lists lengths
-  off-refused n p m q e tells =
-      let s : stated (r .answer) ≡ fault n p = ap stated e in
-      let v : offVerdict text (lengthsOf lent) ≡ fault n p = sym (d .answers) ∙ s in
-      record {
-        answers = subst (λ (w : Verdict). States w before m q) (sym v) tells;
-        holds = kept-old _ n p _ _ _ v (told-at lists _ _ _ s (d .holds));
-        tells = kept-old _ n p _ _ _ v refl;
-      }
+  off-refused n p m q e s = record { answers = states-refused _ _ before (d .answers) n p m q e s; holds = cc; tells = cc }
 
--- ---- turning faces
+-- turning faces
 module _ (M : Mesh) (old : List ℕ) (r : Turned) (lists : Mesh) (out : List ℕ) (count before : ℕ) (t : TurnedTo M old r lists out) where
-  turned-at : {A : Type 0} (x new old : A) (w : Verdict) → stated (r .answer) ≡ w → x ≡ kept (stated (r .answer)) new old → x ≡ kept w new old
-  turned-at x new old w e h = subst (λ (u : Verdict). x ≡ kept u new old) e h
-
   pub turn-done : r .answer ≡ Done → TurnCall M old count before 0 before lists out (r .turned)
-  turn-done e =
-      let s : stated (r .answer) ≡ sound = ap stated e in
-      let v : turnVerdict M (length old) ≡ sound = sym (t .answers) ∙ s in
-      record {
-        answers = states-done _ (r .answer) before (t .answers) e;
-        holds = kept-new _ _ _ _ v (turned-at lists _ _ _ s (t .holds));
-        listing-holds = kept-new _ _ _ _ v (turned-at out _ _ _ s (t .listing-holds));
-        tells = kept-new _ _ _ _ v (turned-at (r .turned) _ _ _ s (t .counts));
-      }
+  turn-done e = record { answers = states-done _ _ before (t .answers) e; holds = cc; listing-holds = cc; tells = cc }
 
   pub turn-refused : (n p m q : ℕ) → r .answer ≡ Refused n p → States (fault n p) before m q → TurnCall M old count before m q lists out count
-  turn-refused n p m q e tells =
-      let s : stated (r .answer) ≡ fault n p = ap stated e in
-      let v : turnVerdict M (length old) ≡ fault n p = sym (t .answers) ∙ s in
-      record {
-        answers = subst (λ (w : Verdict). States w before m q) (sym v) tells;
-        holds = kept-old _ n p _ _ _ v (turned-at lists _ _ _ s (t .holds));
-        listing-holds = kept-old _ n p _ _ _ v (turned-at out _ _ _ s (t .listing-holds));
-        tells = kept-old _ n p _ _ _ v refl;
-      }
+  turn-refused n p m q e s = record { answers = states-refused _ _ before (t .answers) n p m q e s; holds = cc; listing-holds = cc; tells = cc }
 
--- ---- triangles: what is told, by what the answer states
-by-answer : {A : Type 0} (a : Answer) (x new old : A) (w : Verdict) → stated a ≡ w → x ≡ kept (stated a) new old → x ≡ kept w new old
-by-answer a x new old w e h = subst (λ (u : Verdict). x ≡ kept u new old) e h
-
+-- triangles
 module _ (M : Mesh) (links levels : List ℕ) (first count : ℕ) (r : Triangles) (lent : Sizes) (before : ℕ) (t : TrianglesCounted M links levels first count r) where
   pub counted-done : r .answer ≡ Done → CountTrianglesCall M links levels first count lent before 0 before (sizes (r .points) (r .triangles))
-  counted-done e =
-      let s : stated (r .answer) ≡ sound = ap stated e in
-      let v : levelVerdict M links first count levels ≡ sound = sym (t .answers) ∙ s in
-      let k = by-answer (r .answer) (r .points) _ _ _ s (t .points-length) in
-      let l = by-answer (r .answer) (r .triangles) _ _ _ s (t .triangles-length) in
-      record { answers = states-done _ (r .answer) before (t .answers) e; tells = kept-new _ _ _ _ v (cc) }
+  counted-done e = record { answers = states-done _ _ before (t .answers) e; tells = cc }
 
   pub counted-refused : (n p m q : ℕ) → r .answer ≡ Refused n p → States (fault n p) before m q → CountTrianglesCall M links levels first count lent before m q lent
-  counted-refused n p m q e tells =
-      let v : levelVerdict M links first count levels ≡ fault n p = sym (t .answers) ∙ ap stated e in
-      record { answers = subst (λ (w : Verdict). States w before m q) (sym v) tells; tells = kept-old _ n p _ _ _ v refl }
+  counted-refused n p m q e s = record { answers = states-refused _ _ before (t .answers) n p m q e s; tells = cc }
 
 module _ (M : Mesh) (links levels : List ℕ) (first count : ℕ) (old : List ℤ) (old′ : List ℕ) (r : Triangles) (points : List ℤ) (triangles : List ℕ) (lent : Sizes)
     (before : ℕ) (t : Triangulated M links levels first count old old′ r points triangles) where
   pub triangles-done : r .answer ≡ Done
       → TrianglesCall M links levels first count old old′ lent before 0 before points triangles (sizes (r .points) (r .triangles))
-  triangles-done e =
-      let s : stated (r .answer) ≡ sound = ap stated e in
-      let v : fillVerdict M links levels first count (length old) (length old′) ≡ sound = sym (t .answers) ∙ s in
-      let k = by-answer (r .answer) (r .points) _ _ _ s (t .points-length) in
-      let l = by-answer (r .answer) (r .triangles) _ _ _ s (t .triangles-length) in
-      record {
-        answers = states-done _ (r .answer) before (t .answers) e;
-        points-hold = kept-new _ _ _ _ v (by-answer (r .answer) points _ _ _ s (t .points-hold));
-        triangles-hold = kept-new _ _ _ _ v (by-answer (r .answer) triangles _ _ _ s (t .triangles-hold));
-        tells = kept-new _ _ _ _ v (cc);
-      }
+  triangles-done e = record { answers = states-done _ _ before (t .answers) e; points-hold = cc; triangles-hold = cc; tells = cc }
 
   pub triangles-refused : (n p m q : ℕ) → r .answer ≡ Refused n p → States (fault n p) before m q
       → TrianglesCall M links levels first count old old′ lent before m q points triangles lent
-  triangles-refused n p m q e tells =
-      let s : stated (r .answer) ≡ fault n p = ap stated e in
-      let v : fillVerdict M links levels first count (length old) (length old′) ≡ fault n p = sym (t .answers) ∙ s in
-      record {
-        answers = subst (λ (w : Verdict). States w before m q) (sym v) tells;
-        points-hold = kept-old _ n p _ _ _ v (by-answer (r .answer) points _ _ _ s (t .points-hold));
-        triangles-hold = kept-old _ n p _ _ _ v (by-answer (r .answer) triangles _ _ _ s (t .triangles-hold));
-        tells = kept-old _ n p _ _ _ v refl;
-      }
+  triangles-refused n p m q e s =
+      record { answers = states-refused _ _ before (t .answers) n p m q e s; points-hold = cc; triangles-hold = cc; tells = cc }
 
+-- tangents
 module _ (M : Mesh) (links levels : List ℕ) (first count : ℕ) (old : List ℤ) (r : Tangents) (out : List ℤ) (lent before : ℕ)
     (t : TangentsFilled M links levels first count old r out) where
   pub tangents-done : r .answer ≡ Done → TangentsCall M links levels first count old lent before 0 before out (r .numbers)
-  tangents-done e =
-      let s : stated (r .answer) ≡ sound = ap stated e in
-      let v : tangentVerdict M links first count levels (length old) ≡ sound = sym (t .answers) ∙ s in
-      record {
-        answers = states-done _ (r .answer) before (t .answers) e;
-        holds = kept-new _ _ _ _ v (by-answer (r .answer) out _ _ _ s (t .holds));
-        tells = kept-new _ _ _ _ v (by-answer (r .answer) (r .numbers) _ _ _ s (t .numbers-are));
-      }
+  tangents-done e = record { answers = states-done _ _ before (t .answers) e; holds = cc; tells = cc }
 
   pub tangents-refused : (n p m q : ℕ) → r .answer ≡ Refused n p → States (fault n p) before m q
       → TangentsCall M links levels first count old lent before m q out lent
-  tangents-refused n p m q e tells =
-      let s : stated (r .answer) ≡ fault n p = ap stated e in
-      let v : tangentVerdict M links first count levels (length old) ≡ fault n p = sym (t .answers) ∙ s in
-      record {
-        answers = subst (λ (w : Verdict). States w before m q) (sym v) tells;
-        holds = kept-old _ n p _ _ _ v (by-answer (r .answer) out _ _ _ s (t .holds));
-        tells = kept-old _ n p _ _ _ v refl;
-      }
+  tangents-refused n p m q e s = record { answers = states-refused _ _ before (t .answers) n p m q e s; holds = cc; tells = cc }
 
 -- ---- surveying
 -- both lent lists have room for a list with a number for each m
@@ -279,10 +164,7 @@ numbered file counted r s e =
 
 module _ (file : List ℕ) (counted : ℕ) (lent : Counts) (before : ℕ) where
   refuses : (n p m q : ℕ) → surveyVerdict file counted lent ≡ fault n p → States (fault n p) before m q → SurveyCall file counted lent before m q lent
-  refuses n p m q v s = record {
-    answers = subst (λ (w : Verdict). States w before m q) (sym v) s;
-    holds = kept-old _ n p _ _ _ v refl;
-  }
+  refuses n p m q v s = record { answers = rw (← v) at s; holds = cc }
 
   module _ (r : Summary) (s : FileSurveyed file counted r) where
     pub survey-refused : (n p m q : ℕ) → r .answer ≡ Refused n p → States (fault n p) before m q → SurveyCall file counted lent before m q lent
@@ -306,76 +188,48 @@ module _ (file : List ℕ) (counted : ℕ) (lent : Counts) (before : ℕ) where
       survey-done t told e =
           let v : surveyVerdict file counted lent ≡ sound = orElse-sound _ passes ∙ single-miss noRoom (mostSides + 1) t in
           let k = s .counts passes in
-          let vertices = k .vertices in
-          let faces = k .faces in
-          let corners = k .corners in
-          let by-corners = ap (λ (l : List ℕ). begins l (lent .cornered)) (k .cornered) in
-          let by-sides = ap (λ (l : List ℕ). begins l (lent .sided)) (k .sided) in
-          record {
-            answers = subst (λ (w : Verdict). States w before 0 before) (sym v) (record { number = refl; place = refl });
-            holds = kept-new _ _ _ _ v (e ∙ cc);
-          }
+          record { answers = record { number = cc; place = cc }; holds = cc }
 
 -- ---- floats
 module _ (numbers : List ℤ) (point : ℕ) (r : FloatPoint) (c : InFloats numbers point r) (old : List Float) (pairs before : ℕ) where
-  stated-sound : pointVerdict numbers point ≡ sound → States (pointVerdict numbers point) before 0 before
-  stated-sound e = subst (λ (w : Verdict). States w before 0 before) (sym e) (record { number = refl; place = refl })
+  -- the point p that is answered, and the verdict v
+  laid-out : (p : FloatPoint) (v : Verdict) (m q : ℕ) → InFloats numbers point p → pointVerdict numbers point ≡ v → States v before m q
+      → FloatsCall numbers point old pairs before m q (laid p old) (pairsOf p pairs)
+  laid-out p v m q k e s = record { answers = rw (← e) at s; point-is = p; pointed = k; holds = refl; tells = refl }
 
   pub floats-near : (p : Floats) → r ≡ Near p → FloatsCall numbers point old pairs before 0 before (put 0 p old) 0
   floats-near p e =
-      let k : InFloats numbers point (Near p) = subst (InFloats numbers point) e c in
-      record {
-        answers = stated-sound (near-sound numbers point p k);
-        point-is = Near p;
-        pointed = k;
-        holds = refl;
-        tells = refl;
-      }
+      let k : InFloats numbers point (Near p) = rw e at c in
+      laid-out _ sound 0 before k (near-sound numbers point p k) done
 
   pub floats-far : (p q : Floats) → r ≡ Far p q → FloatsCall numbers point old pairs before 0 before (put 3 q (put 0 p old)) 1
   floats-far p q e =
-      let k : InFloats numbers point (Far p q) = subst (InFloats numbers point) e c in
-      record {
-        answers = stated-sound (far-sound numbers point p q k);
-        point-is = Far p q;
-        pointed = k;
-        holds = refl;
-        tells = refl;
-      }
+      let k : InFloats numbers point (Far p q) = rw e at c in
+      laid-out _ sound 0 before k (far-sound numbers point p q k) done
 
   pub floats-refused : (n at m q : ℕ) → r ≡ NoPoint n at → States (fault n at) before m q → FloatsCall numbers point old pairs before m q old pairs
   floats-refused n at m q e s =
-      let k : InFloats numbers point (NoPoint n at) = subst (InFloats numbers point) e c in
-      record {
-        answers = subst (λ (w : Verdict). States w before m q) (sym (refused-fault numbers point n at k)) s;
-        point-is = NoPoint n at;
-        pointed = k;
-        holds = refl;
-        tells = refl;
-      }
+      let k : InFloats numbers point (NoPoint n at) = rw e at c in
+      laid-out _ (fault n at) m q k (refused-fault numbers point n at k) s
 
 -- ---- an irregular face or vertex
 module _ (M : Mesh) (r : Irregular) (c : Searched M r) (lent : Finding) (before : ℕ) where
   stated-as : (s : SearchCase) → irregularStated r ≡ s → verdictOf s ≡ verdict M
   stated-as s e = ap verdictOf (sym e) ∙ verdict-is M r c
 
-  irregular-found : (s : SearchCase) → irregularStated r ≡ s → verdictOf s ≡ sound → IrregularCall M lent before 0 before (findingOf s lent)
-  irregular-found s e v = record {
-    answers = subst (λ (w : Verdict). States w before 0 before) (sym v ∙ stated-as s e) (record { number = refl; place = refl });
-    tells = ap (λ (t : SearchCase). findingOf t lent) (sym e ∙ c .answers);
-  }
+  -- the case s that is answered, and its verdict v
+  irregular-call : (s : SearchCase) (v : Verdict) (m q : ℕ) → irregularStated r ≡ s → verdictOf s ≡ v → States v before m q
+      → IrregularCall M lent before m q (findingOf s lent)
+  irregular-call s v m q e f t = record { answers = rw (sym f ∙ stated-as s e) at t; tells = ap (λ (t : SearchCase). findingOf t lent) (sym e ∙ c .answers) }
 
   pub irregular-face : (f read : ℕ) → r ≡ Face f read → IrregularCall M lent before 0 before (finding 1 f read)
-  irregular-face f read e = irregular-found (faceFound f read) (ap irregularStated e) refl
+  irregular-face f read e = irregular-call (faceFound f read) sound 0 before (ap irregularStated e) refl done
 
   pub irregular-vertex : (u read : ℕ) → r ≡ Vertex u read → IrregularCall M lent before 0 before (finding 2 u read)
-  irregular-vertex u read e = irregular-found (vertexFound u read) (ap irregularStated e) refl
+  irregular-vertex u read e = irregular-call (vertexFound u read) sound 0 before (ap irregularStated e) refl done
 
   pub irregular-none : (read : ℕ) → r ≡ None read → IrregularCall M lent before 0 before (finding 0 0 read)
-  irregular-none read e = irregular-found (noneFound read) (ap irregularStated e) refl
+  irregular-none read e = irregular-call (noneFound read) sound 0 before (ap irregularStated e) refl done
 
   pub irregular-refused : (n at m q : ℕ) → r ≡ NoMesh n at → States (fault n at) before m q → IrregularCall M lent before m q lent
-  irregular-refused n at m q e s = record {
-    answers = subst (λ (w : Verdict). States w before m q) (stated-as (searchRefused n at) (ap irregularStated e)) s;
-    tells = ap (λ (t : SearchCase). findingOf t lent) (sym (ap irregularStated e) ∙ c .answers);
-  }
+  irregular-refused n at m q e s = irregular-call (searchRefused n at) (fault n at) m q (ap irregularStated e) refl s

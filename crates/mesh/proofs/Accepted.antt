@@ -25,7 +25,7 @@ use Rattle.mesh.proofs.Rings.{Turns, turn, all-met, iterate-zero, itera
 use Rattle.mesh.proofs.Verdicts.{sound-left, sound-right, single-sound, lowest-sound}
 
 -- no fault of 4 to 13, nor 27 or 28
-pub record Sound (M : Mesh) : Type 0 where
+pub record Faultless (M : Mesh) : Type 0 where
   pub four : fault4 (length (M .coordinates)) (faceCount M) (cornerCount M) ≡ false
   pub twenty-seven : fault27 (length (M .sharpness)) (cornerCount M) ≡ false
   pub five : (f : ℕ) → f < faceCount M → fault5 (M .sides) f ≡ false
@@ -39,7 +39,7 @@ pub record Sound (M : Mesh) : Type 0 where
   pub twelve : (u : ℕ) → u < vertexCount M → fault12 (M .corners) u ≡ false
   pub thirteen : (u : ℕ) → u < vertexCount M → fault13 (M .sides) (M .corners) u ≡ false
 
-pub sound-of : (M : Mesh) → Accepted M → Sound M
+pub sound-of : (M : Mesh) → Accepted M → Faultless M
 unfolding verdict listFaults linkFaults
 sound-of M e =
     let e4 = sound-left (listFaults M) (linkFaults M) e in
@@ -119,7 +119,7 @@ sharp-within M a i =
     (λ l. rw (List·getD-eq-default (M .sharpness) plain (ltb-false i (length (M .sharpness)) l)) (omega arith))
     (ways (ltb i (length (M .sharpness))))
 
-pub closed-of : (M : Mesh) → Sound M → Closed (M .sides) (M .corners)
+pub closed-of : (M : Mesh) → Faultless M → Closed (M .sides) (M .corners)
 closed-of M s = record { sums = sums-of (M .sides) (cornerCount M) (s .six); ten = s .ten; eleven = s .eleven }
 
 -- the links of closed tables, at a vertex that some corner names

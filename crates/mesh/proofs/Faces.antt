@@ -41,19 +41,19 @@ face-at (s ∷ rest) (suc f) d a b h =
     ∙ ap suc (face-at rest f (d - s) (omega (arith, start-suc s rest f)) (omega (arith, start-suc s rest f)) (omega arith))
 
 -- corner c is among those of face f
-pub record Held (sides : List ℕ) (c f : ℕ) : Type 0 where
+pub record OfFace (sides : List ℕ) (c f : ℕ) : Type 0 where
   pub exists : f < length sides
   pub from : startOf sides f ≤ c
   pub to : c < startOf sides f + getD sides f 0
   pub ends : startOf sides f + getD sides f 0 ≤ sumOf sides
 
-pub held : (sides : List ℕ) (c : ℕ) → c < sumOf sides → Held sides c (faceOf sides c)
+pub held : (sides : List ℕ) (c : ℕ) → c < sumOf sides → OfFace sides c (faceOf sides c)
 unfolding sumOf
 held [] c h = absurd (omega arith)
 held (s ∷ rest) c h =
     ⊎-elim
     (λ l. let k : c < s = ltb-true c s l in
-    subst (λ (f : ℕ). Held (s ∷ rest) c f) (sym (face-here s rest c k))
+    subst (λ (f : ℕ). OfFace (s ∷ rest) c f) (sym (face-here s rest c k))
     (record {
       exists = omega arith;
       from = omega (arith, start-zero (s ∷ rest));
@@ -62,8 +62,8 @@ held (s ∷ rest) c h =
     }))
     (λ l. let k : s ≤ c = ltb-false c s l in
     let g = faceOf rest (c - s) in
-    let r : Held rest (c - s) (faceOf rest (c - s)) = held rest (c - s) (omega (arith, sum-cons s rest)) in
-    subst (λ (f : ℕ). Held (s ∷ rest) c f) (sym (face-later s rest c k))
+    let r : OfFace rest (c - s) (faceOf rest (c - s)) = held rest (c - s) (omega (arith, sum-cons s rest)) in
+    subst (λ (f : ℕ). OfFace (s ∷ rest) c f) (sym (face-later s rest c k))
     (record {
       exists = omega (arith, r .exists);
       from = omega (arith, r .from, start-suc s rest (faceOf rest (c - s)));
@@ -116,84 +116,65 @@ module _ (sides : List ℕ) (c : ℕ) where
   unfolding previous
   previous-inner n = rw (ne-eqb (positionOf sides c) 0 n)
 
+module _ {G : Type 0} (sides : List ℕ) (c : ℕ) where
+  by-next : (positionOf sides c + 1 < sidesOf sides c → next sides c ≡ c + 1 → G) → (sidesOf sides c ≤ positionOf sides c + 1 → next sides c ≡ firstOf sides c → G) → G
+  by-next f g =
+      ⊎-elim (λ l. let b = ltb-true _ _ l in f b (next-inner sides c b)) (λ l. let b = ltb-false _ _ l in g b (next-last sides c b))
+      (ways (ltb (positionOf sides c + 1) (sidesOf sides c)))
+
+  by-previous : (positionOf sides c ≡ 0 → previous sides c ≡ firstOf sides c + sidesOf sides c - 1 → G) → ((positionOf sides c ≡ 0 → ⊥) → previous sides c ≡ c - 1 → G) → G
+  by-previous f g =
+      ⊎-elim (λ l. let b = eqb-true _ _ l in f b (previous-first sides c b)) (λ l. let b = eqb-false _ _ l in g b (previous-inner sides c b))
+      (ways (eqb (positionOf sides c) 0))
+
 -- they stay in the face and undo each other: in each case, in numbers that omega reads
 module _ (sides : List ℕ) (c : ℕ) (h : c < sumOf sides) where
-  next-from : firstOf sides c ≤ next sides c
-  next-from =
-      ⊎-elim
-      (λ l. omega (arith, next-inner sides c (ltb-true _ _ l), first-from sides c h))
-      (λ l. omega (arith, next-last sides c (ltb-false _ _ l)))
-      (ways (ltb (positionOf sides c + 1) (sidesOf sides c)))
+  low : firstOf sides c ≤ c
+  low = first-from sides c h
 
-  next-to : next sides c < firstOf sides c + sidesOf sides c
-  next-to =
-      ⊎-elim
-      (λ l. omega (arith, next-inner sides c (ltb-true _ _ l), ltb-true (positionOf sides c + 1) (sidesOf sides c) l))
-      (λ l. omega (arith, next-last sides c (ltb-false _ _ l), first-from sides c h, first-to sides c h))
-      (ways (ltb (positionOf sides c + 1) (sidesOf sides c)))
+  high : c < firstOf sides c + sidesOf sides c
+  high = first-to sides c h
 
-  previous-from : firstOf sides c ≤ previous sides c
-  previous-from =
-      ⊎-elim
-      (λ l. omega (arith, previous-first sides c (eqb-true _ _ l), first-from sides c h, first-to sides c h))
-      (λ l. omega (arith, previous-inner sides c (eqb-false _ _ l), first-from sides c h, eqb-false (positionOf sides c) 0 l))
-      (ways (eqb (positionOf sides c) 0))
+  next-within : (firstOf sides c ≤ next sides c) × (next sides c < firstOf sides c + sidesOf sides c)
+  next-within = by-next sides c (λ l e. omega (arith, low, high)) (λ l e. omega (arith, low, high))
 
-  previous-to : previous sides c < firstOf sides c + sidesOf sides c
-  previous-to =
-      ⊎-elim
-      (λ l. omega (arith, previous-first sides c (eqb-true _ _ l), first-from sides c h, first-to sides c h))
-      (λ l. omega (arith, previous-inner sides c (eqb-false _ _ l), first-to sides c h))
-      (ways (eqb (positionOf sides c) 0))
+  previous-within : (firstOf sides c ≤ previous sides c) × (previous sides c < firstOf sides c + sidesOf sides c)
+  previous-within = by-previous sides c (λ z e. omega (arith, low, high)) (λ n e. omega (arith, low, high, n))
 
   pub next-below : next sides c < sumOf sides
-  next-below = omega (arith, next-to, first-ends sides c h)
+  next-below = omega (arith, next-within, first-ends sides c h)
 
   pub previous-below : previous sides c < sumOf sides
-  previous-below = omega (arith, previous-to, first-ends sides c h)
+  previous-below = omega (arith, previous-within, first-ends sides c h)
 
   pub face-next : faceOf sides (next sides c) ≡ faceOf sides c
-  face-next = face-same sides c h (next sides c) next-from next-to
+  face-next = face-same sides c h (next sides c) (next-within .0) (next-within .1)
 
   pub face-previous : faceOf sides (previous sides c) ≡ faceOf sides c
-  face-previous = face-same sides c h (previous sides c) previous-from previous-to
+  face-previous = face-same sides c h (previous sides c) (previous-within .0) (previous-within .1)
 
   pub first-next : firstOf sides (next sides c) ≡ firstOf sides c
-  first-next = first-same sides c h (next sides c) next-from next-to
+  first-next = first-same sides c h (next sides c) (next-within .0) (next-within .1)
 
   pub sides-next : sidesOf sides (next sides c) ≡ sidesOf sides c
-  sides-next = sides-same sides c h (next sides c) next-from next-to
+  sides-next = sides-same sides c h (next sides c) (next-within .0) (next-within .1)
 
   pub first-previous : firstOf sides (previous sides c) ≡ firstOf sides c
-  first-previous = first-same sides c h (previous sides c) previous-from previous-to
+  first-previous = first-same sides c h (previous sides c) (previous-within .0) (previous-within .1)
 
   pub sides-previous : sidesOf sides (previous sides c) ≡ sidesOf sides c
-  sides-previous = sides-same sides c h (previous sides c) previous-from previous-to
+  sides-previous = sides-same sides c h (previous sides c) (previous-within .0) (previous-within .1)
 
   pub previous-next : previous sides (next sides c) ≡ c
   previous-next =
-      let f = first-from sides c h in
-      let t = first-to sides c h in
-      ⊎-elim
-      (λ l. let e : next sides c ≡ c + 1 = next-inner sides c (ltb-true _ _ l) in
-      previous-inner sides (next sides c) (λ q. omega (arith, first-next)) ∙ omega arith)
-      (λ l. let e : next sides c ≡ firstOf sides c = next-last sides c (ltb-false _ _ l) in
-      previous-first sides (next sides c) (omega (arith, first-next))
-      ∙ omega (arith, first-next, sides-next, ltb-false (positionOf sides c + 1) (sidesOf sides c) l))
-      (ways (ltb (positionOf sides c + 1) (sidesOf sides c)))
+      by-next sides c (λ l e. previous-inner sides (next sides c) (λ q. omega (arith, first-next, low)) ∙ omega arith)
+      (λ l e. previous-first sides (next sides c) (omega (arith, first-next)) ∙ omega (arith, first-next, sides-next, low, high))
 
   pub next-previous : next sides (previous sides c) ≡ c
   next-previous =
-      let f = first-from sides c h in
-      let t = first-to sides c h in
-      ⊎-elim
-      (λ l. let e : previous sides c ≡ firstOf sides c + sidesOf sides c - 1 = previous-first sides c (eqb-true _ _ l) in
-      next-last sides (previous sides c) (omega (arith, first-previous, sides-previous))
-      ∙ omega (arith, first-previous, eqb-true (positionOf sides c) 0 l))
-      (λ l. let e : previous sides c ≡ c - 1 = previous-inner sides c (eqb-false _ _ l) in
-      next-inner sides (previous sides c) (omega (arith, first-previous, sides-previous, eqb-false (positionOf sides c) 0 l))
-      ∙ omega (arith, eqb-false (positionOf sides c) 0 l))
-      (ways (eqb (positionOf sides c) 0))
+      by-previous sides c
+      (λ z e. next-last sides (previous sides c) (omega (arith, first-previous, sides-previous, low, high)) ∙ omega (arith, first-previous, low))
+      (λ n e. next-inner sides (previous sides c) (omega (arith, first-previous, sides-previous, low, high, n)) ∙ omega (arith, low, n))
 
 -- where the faces start
 pub start-next : (sides : List ℕ) (f : ℕ) → f < length sides → startOf sides (f + 1) ≡ startOf sides f + getD sides f 0

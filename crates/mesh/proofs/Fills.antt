@@ -15,10 +15,7 @@ zero-add n = omega arith
 
 pub values-snoc : {A : Type 0} (f : ℕ → A) (at left : ℕ) → valuesFrom f at (suc left) ≡ valuesFrom f at left ++ (f (at + left) ∷ [])
 unfolding valuesFrom
-values-snoc f at zero = rw (add-zero at)
-  where
-    add-zero : (n : ℕ) → n + 0 ≡ n
-    add-zero n = omega arith
+values-snoc f at zero = rw (let z : at + 0 ≡ at = omega arith in z)
 values-snoc f at (suc left) = ap (λ l. f at ∷ l) (values-snoc f (suc at) left ∙ ap (λ (k : ℕ). valuesFrom f (suc at) left ++ (f k ∷ [])) (omega arith))
 
 pub values-same : {A : Type 0} (f g : ℕ → A) (at n : ℕ) → ((k : ℕ) → f k ≡ g k) → valuesFrom f at n ≡ valuesFrom g at n

@@ -1,9 +1,10 @@
 -- Laws of scans.
-use mathlib.Core.Path.{_≡_, refl, _∙_, sym, subst}
+use mathlib.Core.Path.{_≡_, refl, _∙_, sym}
 use mathlib.Core.Bool.{Bool, true, false, _&&_, true≢false}
 use mathlib.Core.Logic.{_⊎_, inl, inr, ⊎-elim}
 use Prim.Native.Nat.{ℕ, zero, suc, _+_, _<_, _≤_}
 use native.Mathlib.Omega.{arith}
+use native.Mathlib.Nat.{eq-or-lt-of-le}
 use lib.Dec.{ltb, eqb}
 use borrow.Author.Tests.{ltb-true, ltb-false, lt-ltb, le-ltb, eqb-true, eqb-false}
 use Rattle.paper.specs.Scan.{firstFrom, firstBelow, someBelow}
@@ -71,10 +72,7 @@ module _ (f : ℕ → Bool) where
   from-fails at (suc left) j a h =
       ⊎-elim
       (λ e. absurd (omega (arith, from-hit at left e)))
-      (λ e. ⊎-elim
-      (λ (q : at ≡ j). subst (λ (k : ℕ). f k ≡ false) q e)
-      (λ o. from-fails (suc at) left j (⊎-elim (λ (l : at < j). l) (λ (l : j < at). absurd (omega arith)) o) (omega (arith, from-miss at left e)))
-      (compared at j))
+      (λ e. ⊎-elim (λ q. rw (← q) e) (λ l. from-fails (suc at) left j l (omega (arith, from-miss at left e))) (eq-or-lt-of-le a))
       (ways (f at))
 
 module _ (n : ℕ) (f : ℕ → Bool) where
@@ -128,15 +126,9 @@ module _ (n : ℕ) (f : ℕ → Bool) where
 -- one more number that fails
 pub fails-step : (f : ℕ → Bool) (c : ℕ) → ((j : ℕ) → j < c → f j ≡ false) → f c ≡ false → (j : ℕ) → j < c + 1 → f j ≡ false
 fails-step f c h e j l =
-    ⊎-elim
-    (λ (q : j ≡ c). subst (λ (k : ℕ). f k ≡ false) (sym q) e)
-    (λ o. h j (⊎-elim (λ (z : j < c). z) (λ (z : c < j). absurd (omega arith)) o))
-    (compared j c)
+    let b : j ≤ c = omega arith in ⊎-elim (λ q. rw q e) (h j) (eq-or-lt-of-le b)
 
 -- no value up to i is above a number that bounds those before it, and the one there
 pub all-below-step : (f : ℕ → ℕ) (i m r : ℕ) → ((j : ℕ) → j < i → f j ≤ m) → m ≤ r → f i ≤ r → (j : ℕ) → j < i + 1 → f j ≤ r
 all-below-step f i m r before grown here j h =
-    ⊎-elim
-    (λ (q : j ≡ i). subst (λ (k : ℕ). f k ≤ r) (sym q) here)
-    (λ o. let l : j < i = ⊎-elim (λ (z : j < i). z) (λ (z : i < j). absurd (omega arith)) o in omega (arith, before j l))
-    (compared j i)
+    let b : j ≤ i = omega arith in ⊎-elim (λ q. rw q here) (λ l. omega (arith, before j l)) (eq-or-lt-of-le b)

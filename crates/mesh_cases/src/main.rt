@@ -14,7 +14,7 @@ ghost use Prim.Native.Nat.{_≤_};
 const ROOM: usize = 16400;
 
 // What is read of a line so far.
-struct Line {
+struct CaseLine {
     start: usize,
     colon: usize,
     list: usize,
@@ -78,8 +78,8 @@ fn lines(
 }
 
 // An empty line.
-fn fresh(start: usize) -> Line {
-    Line {
+fn fresh(start: usize) -> CaseLine {
+    CaseLine {
         start: start,
         colon: 0,
         list: 0,
@@ -97,7 +97,7 @@ fn fresh(start: usize) -> Line {
 }
 
 // One byte that ends no number.
-fn read(line: Line, i: usize, b: u8) -> Line {
+fn read(line: CaseLine, i: usize, b: u8) -> CaseLine {
     let mut l = line;
     if b == b':' {
         l.colon = i;
@@ -133,12 +133,12 @@ fn decimal(value: usize, digit: u8) -> usize {
 
 // The number at hand goes to the end of its list.
 fn put(
-    line: Line,
+    line: CaseLine,
     coordinates: &mut [i32; ROOM],
     sides: &mut [u8; ROOM],
     corners: &mut [u16; ROOM],
     sharpness: &mut [u8; ROOM],
-) -> Line {
+) -> CaseLine {
     let mut l = line;
     if !l.begun || l.colon == 0 {
         return l;
@@ -223,7 +223,7 @@ fn put_corners(list: &mut [u16; ROOM], at: usize, value: usize, times: usize) ->
 // One case, and its line.
 fn run(
     text: &[u8],
-    line: Line,
+    line: CaseLine,
     coordinates: &[i32; ROOM],
     sides: &[u8; ROOM],
     corners: &[u16; ROOM],
@@ -260,7 +260,7 @@ fn call(
     corners: &[u16],
     sharpness: &[u8],
     links: &mut [u16],
-    line: Line,
+    line: CaseLine,
 ) -> Answer {
     let n = least(line.coordinates, coordinates.len());
     let f = least(line.faces, sides.len());

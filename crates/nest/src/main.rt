@@ -23,10 +23,10 @@ const ROOM: usize = MOST_BODIES + 1;
 const BUFFER: usize = 4096;
 
 // Room for all that is printed. The picture is longest where each body hangs in the one before: the last of 256 is then 512 spaces in.
-const LINES: usize = 69632;
+const LINES_ROOM: usize = 69632;
 
 // What a line says; and what a text does: how many bodies it has, or the number, from 1, of the first line that is neither.
-enum Line {
+enum TableLine {
     Holder(u16),
     Neither,
 }
@@ -72,7 +72,7 @@ fn read_table(text: &[u8], holders: &mut [u16]) -> Table {
         }
         let end = line_end(text, at);
         let line = read_line(&text[at..end]);
-        let Line::Holder(h) = line else {
+        let TableLine::Holder(h) = line else {
             return Table::BadLine(count + 1);
         };
         holders[count] = h;
@@ -98,32 +98,32 @@ fn line_end(text: &[u8], at: usize) -> usize
 }
 
 // The holder that a line names: `sun`, or a number of at most nine digits.
-fn read_line(line: &[u8]) -> Line {
+fn read_line(line: &[u8]) -> TableLine {
     if line.len() == 3 && line[0] == b's' && line[1] == b'u' && line[2] == b'n' {
-        return Line::Holder(SUN);
+        return TableLine::Holder(SUN);
     }
     if line.len() == 0 || 9 < line.len() {
-        return Line::Neither;
+        return TableLine::Neither;
     }
     read_digits(line)
 }
 
 // The number that these digits make. One above 65,535 is given as 65,534, which is no body's number either.
-fn read_digits(line: &[u8]) -> Line {
+fn read_digits(line: &[u8]) -> TableLine {
     let mut value: usize = 0;
     let mut i = 0;
     while i < line.len() {
         let byte = line[i];
         if byte < b'0' || b'9' < byte {
-            return Line::Neither;
+            return TableLine::Neither;
         }
         value = appended(value, byte);
         i += 1;
     }
     if value <= SUN as usize {
-        return Line::Holder(value as u16);
+        return TableLine::Holder(value as u16);
     }
-    Line::Holder(SUN - 1)
+    TableLine::Holder(SUN - 1)
 }
 
 // A number with one digit more; above 65,535 it stays.
@@ -163,7 +163,7 @@ fn print_nested(holders: &[u16], listing: &mut [u16]) {
 
 // The listing and the picture, in one write.
 fn print_lines(holders: &[u16], listing: &[u16]) {
-    let mut lines = [0u8; LINES];
+    let mut lines = [0u8; LINES_ROOM];
     let first = put_listing(&mut lines, listing);
     let end = put_picture(&mut lines, first, holders);
     say_up_to(&lines, end);

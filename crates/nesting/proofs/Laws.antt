@@ -1,7 +1,6 @@
 -- What each test of the code says of the table, what the marks tell, and the turns of the loop that lists.
 use mathlib.Core.Path.{_≡_, refl, sym, ap, _∙_, subst}
 use mathlib.Core.Bool.{Bool, true, false, not, _&&_}
-use mathlib.Core.Logic.{⊎-elim}
 use mathlib.Core.List.{List, [], _∷_, _++_, append-nil}
 use Prim.Native.Nat.{ℕ, zero, suc, _+_, _<_, _≤_}
 use native.Mathlib.Numerals.{add-one}
@@ -9,7 +8,7 @@ use native.Mathlib.Omega.{arith}
 use lib.Dec.{leb, eqb}
 use lib.ListN.{length, getD, set, take, replicate, length-replicate, List·getD-eq-default}
 use lib.Seq.{take-suc-set, length-take-le, drop-length, getD-set-same, getD-set-other}
-use borrow.Author.Tests.{eqb-true, eqb-false, eq-eqb, ne-eqb, le-leb, lt-leb, not-false}
+use borrow.Author.Tests.{eqb-true, eq-eqb, ne-eqb, le-leb, lt-leb, not-false}
 use Rattle.paper.specs.Scan.{pickN}
 use Rattle.paper.specs.File.{begins}
 use Rattle.paper.specs.Faults.{Verdict, sound, fault, _orElse_, single, lowestOf, outside}
@@ -17,7 +16,8 @@ use Rattle.paper.specs.Nesting.{mostBodies, sun, holder, endsAtSun, fault21, fa
 use Rattle.paper.specs.Nesting.{tableVerdict, nestingVerdict, Nested}
 use Rattle.paper.specs.declared.Answer.{Answer}
 use Rattle.paper.specs.declared.Answer.the-variants.{Done, Refused}
-use Rattle.mesh.proofs.Scans.{ways, and-true}
+use Rattle.mesh.proofs.Scans.{and-true}
+use Rattle.mesh.proofs.ByCases.{by-equal, true-of, false-of}
 use Rattle.mesh.proofs.Ranges.{or-left, or-right, or-none, none-right}
 use Rattle.mesh.proofs.Verdicts.{single-sound, lowest-sound, orElse-assoc, past}
 use Rattle.nesting.specs.Marks.{Marks, ChainMarks, Arrangeable, Arranged, ListedIn}
@@ -71,10 +71,10 @@ module _ (B : List ℕ) (b : ℕ) (l : b < length B) where
 -- ---- marks: 1 where the test holds, else 0
 module _ (x : ℕ) (t : Bool) (e : x ≡ pickN t 1 0) where
   marked : (x ≡ 0 → ⊥) → t ≡ true
-  marked d = ⊎-elim (λ q. q) (λ q. absurd (d (e ∙ ap (λ (z : Bool). pickN z 1 0) q))) (ways t)
+  marked d = true-of t (λ q. d (e ∙ ap (λ (z : Bool). pickN z 1 0) q))
 
   unmarked : x ≡ 0 → t ≡ false
-  unmarked z = ⊎-elim (λ q. absurd (omega (arith, e, ap (λ (z : Bool). pickN z 1 0) q))) (λ q. q) (ways t)
+  unmarked z = false-of t (λ q. omega (arith, e, ap (λ (z : Bool). pickN z 1 0) q))
 
 -- 23
 module _ (B marks : List ℕ) (m : ChainMarks B marks) (b : ℕ) (l : b < length B) where
@@ -87,7 +87,7 @@ module _ (B marks : List ℕ) (m : ChainMarks B marks) (b : ℕ) (l : b < length
   an-end d = ap not (marked (getD marks b 0) (endsAtSun B b) (m b l) d)
 
 -- what may follow, by the marks; h is what b hangs in
-module _ (B list marks : List ℕ) (m : Marks list marks) (b h : ℕ) (e : holder B b ≡ h) where
+module _ (B list marks : List ℕ) (m : Marks list marks) (b : ℕ) {h : ℕ} (e : holder B b ≡ h) where
   listed-if : (x : ℕ) → (getD marks x 0 ≡ 0 → ⊥) → listed list x ≡ true
   unfolding Marks
   listed-if x = marked (getD marks x 0) (listed list x) (m x)
@@ -98,7 +98,7 @@ module _ (B list marks : List ℕ) (m : Marks list marks) (b h : ℕ) (e : holde
 
   listed-is : (x : ℕ) → not (eqb (getD marks x 0) 0) ≡ listed list x
   listed-is x =
-      ⊎-elim (λ t. ap not t ∙ sym (unlisted-if x (eqb-true _ _ t))) (λ t. ap not t ∙ sym (listed-if x (eqb-false _ _ t))) (ways (eqb (getD marks x 0) 0))
+      by-equal (getD marks x 0) 0 (λ t. rw (eq-eqb _ _ t) (sym (unlisted-if x t))) (λ t. rw (ne-eqb _ _ t) (sym (listed-if x t)))
 
   pub not-again : (getD marks b 0 ≡ 0 → ⊥) → false ≡ mayFollow B list b
   unfolding mayFollow
@@ -126,66 +126,58 @@ pub record Filling (B marks order : List ℕ) (k : ℕ) : Type 0 where
   pub marks-are : Marks (places B k) marks
   pub order-is : take k order ≡ places B k
 
-module _ (B marks order : List ℕ) where
-  pub filling-none : ((b : ℕ) → getD marks b 0 ≡ 0) → Filling B marks order 0
-  unfolding Marks
-  filling-none z =
-      record {
-        run = λ i l. absurd (omega arith);
-        marks-are = λ b. z b ∙ sym (ap (λ (l : List ℕ). pickN (listed l b) 1 0) (places-zero B) ∙ ap (λ (t : Bool). pickN t 1 0) (none-listed b));
-        order-is = sym (places-zero B);
-      }
+pub filling-none : (B marks order : List ℕ) → ((b : ℕ) → getD marks b 0 ≡ 0) → Filling B marks order 0
+unfolding Marks
+filling-none B marks order z =
+    record {
+      run = λ i l. absurd (omega arith);
+      marks-are = λ b. z b ∙ sym (ap (λ (l : List ℕ). pickN (listed l b) 1 0) (places-zero B) ∙ ap (λ (t : Bool). pickN t 1 0) (none-listed b));
+      order-is = sym (places-zero B);
+    }
 
-  module _ (k : ℕ) (f : Filling B marks order k) where
-    -- body b comes next
-    module _ (b : ℕ) (e : b ≡ nextBody B (places B k)) (h : b < length B) (i : b < length marks) (j : k < length order) where
-      longer : places B (k + 1) ≡ places B k ++ (b ∷ [])
-      longer = rw add-one (places-suc B k ∙ ap (λ (x : ℕ). places B k ++ (x ∷ [])) (sym e))
+module _ {B marks order : List ℕ} {k : ℕ} (f : Filling B marks order k) where
+  -- body b comes next
+  module _ {b : ℕ} (e : b ≡ nextBody B (places B k)) (h : b < length B) (i : b < length marks) (j : k < length order) where
+    longer : places B (k + 1) ≡ places B k ++ (b ∷ [])
+    longer = rw add-one (places-suc B k ∙ ap (λ (x : ℕ). places B k ++ (x ∷ [])) (sym e))
 
-      mark-step : Marks (places B k ++ (b ∷ [])) (set marks b 1)
-      unfolding Marks
-      mark-step c =
-          ⊎-elim
-          (λ t. let q : c ≡ b = eqb-true c b t in
-          rw q (getD-set-same marks b 1 0 i ∙ sym (ap (λ (z : Bool). pickN z 1 0) (snoc-same (places B k) b))))
-          (λ t. getD-set-other marks b c 1 0 (eqb-false c b t) ∙ f .marks-are c
-          ∙ sym (ap (λ (z : Bool). pickN z 1 0) (snoc-other (places B k) b c (eqb-false c b t))))
-          (ways (eqb c b))
+    mark-step : Marks (places B k ++ (b ∷ [])) (set marks b 1)
+    unfolding Marks
+    mark-step c =
+        by-equal c b
+        (λ q. rw q (getD-set-same marks b 1 0 i ∙ sym (ap (λ (z : Bool). pickN z 1 0) (snoc-same (places B k) b))))
+        (λ q. getD-set-other marks b c 1 0 q ∙ f .marks-are c ∙ sym (ap (λ (z : Bool). pickN z 1 0) (snoc-other (places B k) b c q)))
 
-      pub filling-step : Filling B (set marks b 1) (set order k b) (k + 1)
-      filling-step =
-          record {
-            run = rw add-one (run-step B k (f .run) (omega arith));
-            marks-are = rw longer mark-step;
-            order-is = rw (longer, add-one) (take-suc-set order k b j ∙ ap (λ (l : List ℕ). l ++ (b ∷ [])) (f .order-is));
-          }
-
-    -- none comes next
-    pub filled : (few : length B ≤ mostBodies) → ((b : ℕ) → b < length B → fault22 B b ≡ false)
-        → (k < length B → length B ≤ nextBody B (places B k)) → Arranged B marks order
-    unfolding listing Marks ChainMarks
-    filled few held stop =
-        let d = decided B few held k (f .run) stop in
+    pub filling-step : Filling B (set marks b 1) (set order k b) (k + 1)
+    filling-step =
         record {
-          marked = λ b h. f .marks-are b ∙ ap (λ (z : Bool). pickN z 1 0) (d b h);
-          lists = λ ends. let q : k ≡ length B = all-filled B k (f .run) (λ b h. d b h ∙ ends b h) in
-              subst (λ (n : ℕ). take n order ≡ places B n) q (f .order-is);
+          run = rw add-one (run-step B k (f .run) (omega arith));
+          marks-are = rw longer mark-step;
+          order-is = rw (longer, add-one) (take-suc-set order k b j ∙ ap (λ (l : List ℕ). l ++ (b ∷ [])) (f .order-is));
         }
 
--- ---- check 23 and the listing, way by way
-module _ (B old : List ℕ) where
-  pub list-refused : (k p : ℕ) → fault k p ≡ lowestOf 23 (length B) (fault23 B) → ListedIn B old (Refused k p) old
-  list-refused k p e = record { answers = e; holds = refl }
-
-  pub list-done : lowestOf 23 (length B) (fault23 B) ≡ sound → length old ≡ length B → (marks order out : List ℕ) → Arranged B marks order
-      → out ≡ take (length old) order → ListedIn B old Done out
-  unfolding fault23
-  list-done c q marks order out g e =
+  -- none comes next
+  pub filled : (few : length B ≤ mostBodies) → ((b : ℕ) → b < length B → fault22 B b ≡ false)
+      → (k < length B → length B ≤ nextBody B (places B k)) → Arranged B marks order
+  unfolding listing Marks ChainMarks
+  filled few held stop =
+      let d = decided B few held k (f .run) stop in
       record {
-        answers = sym c;
-        holds = e ∙ ap (λ (n : ℕ). take n order) q
-            ∙ g .lists (λ b h. not-false (endsAtSun B b) (lowest-sound 23 (length B) (λ d. not (endsAtSun B d)) c b h));
+        marked = λ b h. f .marks-are b ∙ ap (λ (z : Bool). pickN z 1 0) (d b h);
+        lists = λ ends. let q : k ≡ length B = all-filled B k (f .run) (λ b h. d b h ∙ ends b h) in
+            subst (λ (n : ℕ). take n order ≡ places B n) q (f .order-is);
       }
+
+-- ---- check 23 and the listing, way by way
+pub list-done : {B old marks order out : List ℕ} → lowestOf 23 (length B) (fault23 B) ≡ sound → length old ≡ length B → Arranged B marks order
+    → out ≡ take (length old) order → ListedIn B old Done out
+unfolding fault23
+list-done {B} {order = order} c q g e =
+    record {
+      answers = sym c;
+      holds = e ∙ ap (λ (n : ℕ). take n order) q
+          ∙ g .lists (λ b h. not-false (endsAtSun B b) (lowest-sound 23 (length B) (λ d. not (endsAtSun B d)) c b h));
+    }
 
 -- ---- the call, way by way
 zeros : (n b : ℕ) → getD {A = ℕ} (replicate n 0) b 0 ≡ 0
@@ -229,5 +221,5 @@ module _ (B old : List ℕ) where
             blank = zeros mostBodies;
           }
 
-      pub nest-listed : (r : Answer) (out : List ℕ) → ListedIn B old r out → Nested B old r out
-      nest-listed r out l = record { answers = past a _ (past b _ (l .answers)) ∙ sym in-order; holds = l .holds }
+      pub nest-listed : {r : Answer} {out : List ℕ} → ListedIn B old r out → Nested B old r out
+      nest-listed l = record { answers = past a _ (past b _ (l .answers)) ∙ sym in-order; holds = l .holds }

@@ -1,17 +1,17 @@
 -- A body's place in a list, a list with one body more, and how often a body stands in it.
 use mathlib.Core.Path.{_≡_, refl, sym, ap, _∙_}
 use mathlib.Core.Bool.{Bool, true, false}
-use mathlib.Core.Logic.{⊎-elim}
 use mathlib.Core.List.{List, [], _∷_, _++_}
 use Prim.Native.Nat.{ℕ, zero, suc, _<_, _≤_}
 use native.Mathlib.Omega.{arith}
 use lib.Dec.{eqb}
 use lib.ListN.{length, getD, length-append, List·getD-append}
 use lib.Seq.{getD-at}
-use borrow.Author.Tests.{eqb-true, eqb-false, eq-eqb}
+use borrow.Author.Tests.{eqb-true, eq-eqb}
 use Rattle.paper.specs.Scan.{firstBelow, countBelow}
 use Rattle.paper.specs.Nesting.{listed}
-use Rattle.mesh.proofs.Scans.{ways, clash, compared, some-true, some-false, some-below, some-passes}
+use Rattle.mesh.proofs.Scans.{clash, some-true, some-false, some-below, some-passes}
+use Rattle.mesh.proofs.ByCases.{by-test, by-equal, true-both}
 use Rattle.mesh.proofs.Rings.{count-hit, count-miss, count-none, count-same, none-counted}
 
 -- ---- standing in a list
@@ -40,26 +40,16 @@ module _ (l : List ℕ) (x : ℕ) where
   pub snoc-same : listed (l ++ (x ∷ [])) x ≡ true
   snoc-same = listed-at (l ++ (x ∷ [])) x (length l) (omega (arith, snoc-length)) snoc-last
 
-  snoc-old : (b : ℕ) → listed l b ≡ true → listed (l ++ (x ∷ [])) b ≡ true
-  snoc-old b e =
-      let p = place-of l b e in
-      listed-at (l ++ (x ∷ [])) b (p .0) (omega (arith, snoc-length, p .1)) (List·getD-append l (x ∷ []) 0 (p .0) (p .1) ∙ p .2)
-
   pub snoc-other : (b : ℕ) → (b ≡ x → ⊥) → listed (l ++ (x ∷ [])) b ≡ listed l b
   snoc-other b d =
-      ⊎-elim
-      (λ e. snoc-old b e ∙ sym e)
-      (λ e. ⊎-elim
+      true-both _ _
       (λ g. let p = place-of (l ++ (x ∷ [])) b g in
-      ⊎-elim
-      (λ (q : p .0 ≡ length l). absurd (d (sym (p .2) ∙ getD-at l x [] 0 (p .0) (sym q))))
-      (⊎-elim
-      (λ (q : p .0 < length l). absurd (clash (listed-at l b (p .0) q (sym (List·getD-append l (x ∷ []) 0 (p .0) q) ∙ p .2)) e))
-      (λ (q : length l < p .0). absurd (omega (arith, snoc-length, p .1))))
-      (compared (p .0) (length l)))
-      (λ g. g ∙ sym e)
-      (ways (listed (l ++ (x ∷ [])) b)))
-      (ways (listed l b))
+      by-equal (p .0) (length l)
+      (λ q. absurd (d (sym (p .2) ∙ getD-at l x [] 0 (p .0) (sym q))))
+      (λ q. let i : p .0 < length l = omega (arith, snoc-length, p .1, q) in
+      listed-at l b (p .0) i (sym (List·getD-append l (x ∷ []) 0 (p .0) i) ∙ p .2)))
+      (λ e. let p = place-of l b e in
+      listed-at (l ++ (x ∷ [])) b (p .0) (omega (arith, snoc-length, p .1)) (List·getD-append l (x ∷ []) 0 (p .0) (p .1) ∙ p .2))
 
 -- ---- how often a body stands in a list
 abbrev pub times : List ℕ → ℕ → ℕ
@@ -98,16 +88,14 @@ count-all g (suc n) h = count-hit g n (h n (omega arith)) ∙ ap suc (count-all 
 count-more : (g : ℕ → Bool) (m n : ℕ) → m ≤ n → countBelow m g ≤ countBelow n g
 count-more g m zero h = let q : m ≡ 0 = omega arith in omega (arith, ap (λ (k : ℕ). countBelow k g) q)
 count-more g m (suc n) h =
-    ⊎-elim
-    (λ (q : m ≡ suc n). omega (arith, ap (λ (k : ℕ). countBelow k g) q))
-    (λ o. let l : m ≤ n = ⊎-elim (λ (z : m < suc n). omega arith) (λ (z : suc n < m). absurd (omega arith)) o in
-    ⊎-elim (λ e. omega (arith, count-hit g n e, count-more g m n l)) (λ e. omega (arith, count-miss g n e, count-more g m n l)) (ways (g n)))
-    (compared m (suc n))
+    by-equal m (suc n)
+    (λ q. omega (arith, ap (λ (k : ℕ). countBelow k g) q))
+    (λ q. let r = count-more g m n (omega (arith, q)) in
+    by-test (g n) (λ e. omega (arith, count-hit g n e)) (λ e. omega (arith, count-miss g n e)))
 
 -- two numbers that pass
 pub two-hits : (g : ℕ → Bool) (i j n : ℕ) → i < j → j < n → g i ≡ true → g j ≡ true → 2 ≤ countBelow n g
 two-hits g i j n l h p q =
-    ⊎-elim
-    (λ e. absurd (clash p (none-counted g j (eqb-true (countBelow j g) 0 e) i l)))
-    (λ e. let d = eqb-false (countBelow j g) 0 e in omega (arith, count-hit g j q, count-more g (suc j) n h, d))
-    (ways (eqb (countBelow j g) 0))
+    by-equal (countBelow j g) 0
+    (λ e. absurd (clash p (none-counted g j e i l)))
+    (λ e. omega (arith, count-hit g j q, count-more g (suc j) n h, e))

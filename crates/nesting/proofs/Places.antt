@@ -2,20 +2,20 @@
 -- body's chain goes through listed ones to the Sun. So a filling that stops has listed exactly the bodies whose chains end at the Sun.
 use mathlib.Core.Path.{_≡_, refl, sym, ap, _∙_, subst}
 use mathlib.Core.Bool.{Bool, true, false, not, _||_}
-use mathlib.Core.Logic.{⊎-elim}
 use mathlib.Core.List.{List, [], _∷_, _++_}
 use Prim.Native.Nat.{ℕ, zero, suc, _+_, _<_, _≤_}
 use native.Mathlib.Omega.{arith}
-use lib.Dec.{leb, eqb, ltb}
+use lib.Dec.{leb, eqb}
 use lib.ListN.{length, getD, take, List·getD-append}
 use lib.Seq.{getD-at, take-append-le, take-all}
-use borrow.Author.Tests.{eqb-true, eqb-false, eq-eqb, ne-eqb, ltb-true, ltb-false, leb-false, not-false, not-true}
+use borrow.Author.Tests.{eqb-true, eqb-false, eq-eqb, ne-eqb, leb-false, not-false, not-true}
 use Rattle.paper.specs.Scan.{pickN, firstBelow, someBelow, countBelow, iterate}
 use Rattle.paper.specs.Nesting.{mostBodies, sun, holder, chain, endsAtSun, fault22, listed, mayFollow, nextBody, places, ReachesSun}
-use Rattle.mesh.proofs.Scans.{ways, clash, compared, and-true, and-left, and-right, first-le, first-passes, first-fails}
+use Rattle.mesh.proofs.Scans.{clash, and-true, and-left, and-right, first-le, first-passes, first-fails}
 use Rattle.mesh.proofs.Scans.{some-true, some-below, some-passes, none}
 use Rattle.mesh.proofs.Rings.{count-none, count-less, none-counted, iterate-zero, iterate-swap}
-use Rattle.mesh.proofs.Ranges.{or-left, or-right}
+use Rattle.mesh.proofs.Ranges.{none-left, none-right}
+use Rattle.mesh.proofs.ByCases.{by-test, by-equal, by-less, true-of, false-of, true-both}
 use Rattle.nesting.proofs.Lists.{place-of, none-listed, snoc-length, snoc-same, snoc-other, times, times-none, times-hit, times-miss, count-all}
 
 or-other : (a b : Bool) → a ≡ false → a || b ≡ true → b ≡ true
@@ -77,33 +77,26 @@ module _ (B : List ℕ) where
       let q : i ≡ 0 = omega arith in
       ap (λ (j : ℕ). take j (places B 0)) q ∙ sym places-zero ∙ ap (places B) (sym q)
   prefix (suc k) i l =
-      ⊎-elim
-      (λ (q : i ≡ suc k). ap (λ (j : ℕ). take j (places B (suc k))) q
-      ∙ take-all (suc k) (places B (suc k)) (omega (arith, length-places (suc k))) ∙ ap (places B) (sym q))
-      (λ o. let q : i ≤ k = ⊎-elim (λ (z : i < suc k). omega arith) (λ (z : suc k < i). absurd (omega arith)) o in
-      ap (take i) (places-suc k) ∙ take-append-le i (places B k) (nextBody B (places B k) ∷ []) (omega (arith, length-places k)) ∙ prefix k i q)
-      (compared i (suc k))
+      by-equal i (suc k)
+      (λ q. rw q (take-all (suc k) (places B (suc k)) (omega (arith, length-places (suc k)))))
+      (λ q. ap (take i) (places-suc k) ∙ take-append-le i (places B k) (nextBody B (places B k) ∷ []) (omega (arith, length-places k, q))
+      ∙ prefix k i (omega (arith, q)))
 
   pub entry : (k i : ℕ) → i < k → getD (places B k) i 0 ≡ nextBody B (places B i)
   entry zero i l = absurd (omega arith)
   entry (suc k) i l =
       ap (λ (z : List ℕ). getD z i 0) (places-suc k)
-      ∙ ⊎-elim
-      (λ (q : i ≡ k). getD-at (places B k) (nextBody B (places B k)) [] 0 i (length-places k ∙ sym q) ∙ ap (λ (j : ℕ). nextBody B (places B j)) (sym q))
-      (λ o. let q : i < k = ⊎-elim (λ (z : i < k). z) (λ (z : k < i). absurd (omega arith)) o in
-      List·getD-append (places B k) (nextBody B (places B k) ∷ []) 0 i (omega (arith, length-places k)) ∙ entry k i q)
-      (compared i k)
+      ∙ by-equal i k
+      (λ q. getD-at (places B k) (nextBody B (places B k)) [] 0 i (length-places k ∙ sym q) ∙ ap (λ (j : ℕ). nextBody B (places B j)) (sym q))
+      (λ q. let j : i < k = omega (arith, q) in
+      List·getD-append (places B k) (nextBody B (places B k) ∷ []) 0 i (omega (arith, length-places k)) ∙ entry k i j)
 
   -- the first k places have bodies
   abbrev pub Occupied : ℕ → Type 0
   Occupied k = (i : ℕ) → i < k → nextBody B (places B i) < length B
 
   pub run-step : (k : ℕ) → Occupied k → nextBody B (places B k) < length B → Occupied (suc k)
-  run-step k run h i l =
-      ⊎-elim
-      (λ (q : i ≡ k). subst (λ (j : ℕ). nextBody B (places B j) < length B) (sym q) h)
-      (λ o. run i (⊎-elim (λ (z : i < k). z) (λ (z : k < i). absurd (omega arith)) o))
-      (compared i k)
+  run-step k run h i l = by-equal i k (λ q. rw q h) (λ q. run i (omega (arith, q)))
 
 -- ---- chains
 module _ (B : List ℕ) where
@@ -148,13 +141,11 @@ module _ (B : List ℕ) (k : ℕ) (run : Occupied B k) where
       let f = fresh B l x (next-may B l (run j h)) in
       let before = once-each j b (omega arith) in
       ap (λ (z : List ℕ). times z b) (places-suc B j)
-      ∙ ⊎-elim
-      (λ e. let q : x ≡ b = eqb-true x b e in
-      let s : listed l b ≡ false = subst (λ (z : ℕ). listed l z ≡ false) q f in
-      let r : listed (l ++ (x ∷ [])) b ≡ true = subst (λ (z : ℕ). listed (l ++ (x ∷ [])) z ≡ true) q (snoc-same l x) in
-      times-hit l x b e ∙ ap suc (before ∙ ap (λ (z : Bool). pickN z 1 0) s) ∙ sym (ap (λ (z : Bool). pickN z 1 0) r))
-      (λ e. times-miss l x b e ∙ before ∙ sym (ap (λ (z : Bool). pickN z 1 0) (snoc-other l x b (λ q. eqb-false x b e (sym q)))))
-      (ways (eqb x b))
+      ∙ by-equal x b
+      (λ q. times-hit l x b (eq-eqb x b q)
+      ∙ ap suc (before ∙ ap (λ (z : Bool). pickN z 1 0) (subst (λ (z : ℕ). listed l z ≡ false) q f))
+      ∙ sym (ap (λ (z : Bool). pickN z 1 0) (subst (λ (z : ℕ). listed (l ++ (x ∷ [])) z ≡ true) q (snoc-same l x))))
+      (λ q. times-miss l x b (ne-eqb x b q) ∙ before ∙ sym (ap (λ (z : Bool). pickN z 1 0) (snoc-other l x b (λ e. q (sym e)))))
       ∙ ap (λ (z : List ℕ). pickN (listed z b) 1 0) (sym (places-suc B j))
 
   -- the body at place i is at most i + 1 steps from the Sun
@@ -162,15 +153,13 @@ module _ (B : List ℕ) (k : ℕ) (run : Occupied B k) where
   steps zero i l h = absurd (omega arith)
   steps (suc fuel) i l h =
       let c = nextBody B (places B i) in
-      ⊎-elim
-      (λ q. (1, omega arith, no-step B c (eqb-true (holder B c) sun q)))
-      (λ q. let m = next-may B (places B i) (run i h) in
-      let p = place-of (places B i) (holder B c) (may-holder B (places B i) c m (eqb-false (holder B c) sun q)) in
+      by-equal (holder B c) sun
+      (λ q. (1, omega arith, no-step B c q))
+      (λ q. let p = place-of (places B i) (holder B c) (may-holder B (places B i) c (next-may B (places B i) (run i h)) q) in
       let j : p .0 < i = omega (arith, p .1, length-places B i) in
       let r = steps fuel (p .0) (omega arith) (omega arith) in
       let e : nextBody B (places B (p .0)) ≡ holder B c = sym (entry B i (p .0) j) ∙ p .2 in
-      (suc (r .0), omega (arith, r .1), one-more B c (r .0) (subst (λ (z : ℕ). chain B z (r .0) ≡ sun) e (r .2))))
-      (ways (eqb (holder B c) sun))
+      (suc (r .0), omega (arith, r .1), one-more B c (r .0) (rw e at (r .2))))
 
   pub listed-ends : (b : ℕ) → listed (places B k) b ≡ true → endsAtSun B b ≡ true
   listed-ends b t =
@@ -178,7 +167,7 @@ module _ (B : List ℕ) (k : ℕ) (run : Occupied B k) where
       let i : p .0 < k = omega (arith, p .1, length-places B k) in
       let r = steps (suc (p .0)) (p .0) (omega arith) i in
       let e : nextBody B (places B (p .0)) ≡ b = sym (entry B k (p .0) i) ∙ p .2 in
-      within B b (r .0) (omega (arith, r .1, left-over k (omega arith))) (subst (λ (z : ℕ). chain B z (r .0) ≡ sun) e (r .2))
+      within B b (r .0) (omega (arith, r .1, left-over k (omega arith))) (rw e at (r .2))
 
   pub all-listed : k ≡ length B → (b : ℕ) → b < length B → listed (places B k) b ≡ true
   all-listed e b h =
@@ -192,21 +181,17 @@ module _ (B : List ℕ) (few : length B ≤ mostBodies) (held : (b : ℕ) → b 
   holder-in : (b : ℕ) → b < length B → (holder B b ≡ sun → ⊥) → holder B b < length B
   unfolding fault22
   holder-in b h d =
-      ⊎-elim (λ e. absurd (clash (and-true _ _ e (ap not (ne-eqb (holder B b) sun d))) (held b h))) (λ e. leb-false _ _ e)
-      (ways (leb (length B) (holder B b)))
+      leb-false _ _ (false-of (leb (length B) (holder B b)) (λ e. clash (and-true _ _ e (ap not (ne-eqb (holder B b) sun d))) (held b h)))
 
   -- along the chain of an unlisted body, one may follow
   follow : (l : List ℕ) (k b : ℕ) → b < length B → listed l b ≡ false → chain B b k ≡ sun → nextBody B l < length B
   unfolding chain iterate
   follow l zero b h e s = absurd (omega (arith, iterate-zero (holder B) b, few))
   follow l (suc k) b h e s =
-      ⊎-elim
-      (λ q. omega (arith, next-le B l b (may B l b e (or-left (eqb (holder B b) sun) (listed l (holder B b)) q))))
-      (λ q. ⊎-elim
-      (λ g. omega (arith, next-le B l b (may B l b e (or-right (eqb (holder B b) sun) (listed l (holder B b)) g))))
-      (λ g. follow l k (holder B b) (holder-in b h (eqb-false _ _ q)) g (iterate-swap (holder B) k 1 b ∙ s))
-      (ways (listed l (holder B b))))
-      (ways (eqb (holder B b) sun))
+      by-test (eqb (holder B b) sun || listed l (holder B b))
+      (λ q. omega (arith, next-le B l b (may B l b e q)))
+      (λ q. follow l k (holder B b) (holder-in b h (eqb-false _ _ (none-left _ _ q))) (none-right (eqb (holder B b) sun) _ q)
+      (iterate-swap (holder B) k 1 b ∙ s))
 
   -- a filling that stopped has listed the bodies whose chains end at the Sun, and no others
   abbrev pub Stopped : ℕ → Type 0
@@ -214,31 +199,20 @@ module _ (B : List ℕ) (few : length B ≤ mostBodies) (held : (b : ℕ) → b 
 
   pub ends-listed : (k : ℕ) → Occupied B k → Stopped k → (b : ℕ) → b < length B → ReachesSun B b → listed (places B k) b ≡ true
   ends-listed k run stop b h s =
-      ⊎-elim
-      (λ e. e)
-      (λ e. ⊎-elim
-      (λ (q : k ≡ length B). absurd (clash (all-listed B k run q b h) e))
-      (λ o. let l : k < length B = ⊎-elim (λ (z : k < length B). z) (λ (z : length B < k). absurd (omega (arith, left-over B k run k (omega arith)))) o in
-      absurd (omega (arith, stop l, follow (places B k) (s .0) b h e (s .1))))
-      (compared k (length B)))
-      (ways (listed (places B k) b))
+      true-of _ (λ e. by-equal k (length B)
+      (λ q. clash (all-listed B k run q b h) e)
+      (λ q. omega (arith, stop (omega (arith, q, left-over B k run k (omega arith))), follow (places B k) (s .0) b h e (s .1))))
 
   pub decided : (k : ℕ) → Occupied B k → Stopped k → (b : ℕ) → b < length B → listed (places B k) b ≡ endsAtSun B b
-  decided k run stop b h =
-      ⊎-elim
-      (λ t. ends-listed k run stop b h (some-step B b t) ∙ sym t)
-      (λ t. ⊎-elim (λ e. absurd (clash (listed-ends B k run b e) t)) (λ e. e ∙ sym t) (ways (listed (places B k) b)))
-      (ways (endsAtSun B b))
+  decided k run stop b h = true-both _ _ (listed-ends B k run b) (λ t. ends-listed k run stop b h (some-step B b t))
 
   -- a filling goes on until it has stopped
   filled : (left k : ℕ) → left + k ≡ length B → Occupied B k → (j : ℕ) × Occupied B j × Stopped j
   filled zero k e run = (k, run, λ h. absurd (omega arith))
   filled (suc left) k e run =
-      let x = nextBody B (places B k) in
-      ⊎-elim
-      (λ l. filled left (suc k) (omega arith) (run-step B k run (ltb-true x (length B) l)))
-      (λ l. (k, run, λ h. ltb-false x (length B) l))
-      (ways (ltb x (length B)))
+      by-less (nextBody B (places B k)) (length B)
+      (λ l. filled left (suc k) (omega arith) (run-step B k run l))
+      (λ l. (k, run, λ h. l))
 
   -- a chain that ends after however many steps ends within as many as there are bodies
   pub ends-soon : (b : ℕ) → b < length B → ReachesSun B b → endsAtSun B b ≡ true
@@ -251,12 +225,11 @@ module _ (B : List ℕ) (few : length B ≤ mostBodies) (held : (b : ℕ) → b 
     further : (k : ℕ) → Occupied B k → k < length B → nextBody B (places B k) < length B
     further k run h =
         let u : ℕ → Bool = λ b. not (listed (places B k) b) in
-        ⊎-elim
+        by-test (someBelow (length B) u)
         (λ e. let b = firstBelow (length B) u in
         let l : b < length B = some-below (length B) u e in
         follow (places B k) (ends b l .0) b l (not-true _ (some-passes (length B) u e)) (ends b l .1))
         (λ e. absurd (omega (arith, count-none u (length B) (none (length B) u e), left-over B k run k (omega arith))))
-        (ways (someBelow (length B) u))
 
     pub runs : (k : ℕ) → k ≤ length B → Occupied B k
     runs zero h = λ i l. absurd (omega arith)

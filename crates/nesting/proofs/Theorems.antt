@@ -2,7 +2,6 @@
 -- after the one it hangs in, with none lower possible, and is the only such list.
 use mathlib.Core.Path.{_≡_, refl, sym, ap, _∙_, subst}
 use mathlib.Core.Bool.{Bool, true, false, not}
-use mathlib.Core.Logic.{⊎-elim}
 use mathlib.Core.List.{List, [], _∷_, _++_}
 use Prim.Native.Nat.{ℕ, zero, suc, _<_, _≤_}
 use native.Mathlib.Nat.{min-le-left}
@@ -10,13 +9,14 @@ use native.Mathlib.Omega.{arith}
 use lib.Dec.{eqb}
 use lib.ListN.{length, getD, take, length-take}
 use lib.Seq.{getD-take, take-all, take-suc}
-use borrow.Author.Tests.{eqb-false, eq-eqb, not-false}
+use borrow.Author.Tests.{eq-eqb, not-false}
 use Rattle.paper.specs.Scan.{pickN}
 use Rattle.paper.specs.Faults.{sound}
 use Rattle.paper.specs.Nesting.{mostBodies, sun, holder, endsAtSun, fault21, fault22, fault23, tableVerdict, nestingVerdict, listed, mayFollow}
 use Rattle.paper.specs.Nesting.{nextBody, places, listing, ReachesSun, Ordered}
 use Rattle.paper.specs.Claims.{ChainsDecide, EachChain, ListingOrdered, OneListing}
-use Rattle.mesh.proofs.Scans.{ways, clash, compared}
+use Rattle.mesh.proofs.Scans.{clash}
+use Rattle.mesh.proofs.ByCases.{by-equal, by-order, false-of}
 use Rattle.mesh.proofs.Ranges.{none-left, or-left, or-right, at-most}
 use Rattle.mesh.proofs.Verdicts.{sound-left, sound-right, single-sound, lowest-sound, orElse-sound, lowest-none}
 use Rattle.nesting.proofs.Lists.{place-of, two-hits}
@@ -73,23 +73,19 @@ module _ (B : List ℕ) (run : Occupied B (length B)) where
     apart : (i : ℕ) → i < length out → getD out i 0 < length B → listed (take i out) (getD out i 0) ≡ false
     apart i h l =
         let b = getD out i 0 in
-        let g : ℕ → Bool = λ j. eqb (getD out j 0) b in
-        ⊎-elim
-        (λ e. let p = place-of (take i out) b e in
+        false-of _ (λ e.
+        let p = place-of (take i out) b e in
         let j : p .0 < i = omega (arith, p .1, length-take i out, min-le-left i (length out)) in
         let q : getD out (p .0) 0 ≡ b = sym (getD-take i out (p .0) 0 j) ∙ p .2 in
-        absurd (omega (arith, two-hits g (p .0) i (length out) j h (eq-eqb (getD out (p .0) 0) b q) (eq-eqb b b refl), o .once b l)))
-        (λ e. e)
-        (ways (listed (take i out) b))
+        omega (arith, two-hits (λ j. eqb (getD out j 0) b) (p .0) i (length out) j h (eq-eqb _ b q) (eq-eqb b b refl), o .once b l))
 
     follows : (i : ℕ) → i < length out → getD out i 0 < length B → mayFollow B (take i out) (getD out i 0) ≡ true
     follows i h l =
         let b = getD out i 0 in
         may B (take i out) b (apart i h l)
-        (⊎-elim
-        (λ q. or-left (eqb (holder B b) sun) (listed (take i out) (holder B b)) q)
-        (λ q. or-right (eqb (holder B b) sun) (listed (take i out) (holder B b)) (o .later i h (eqb-false (holder B b) sun q)))
-        (ways (eqb (holder B b) sun)))
+        (by-equal (holder B b) sun
+        (λ q. or-left (eqb (holder B b) sun) (listed (take i out) (holder B b)) (eq-eqb _ _ q))
+        (λ q. or-right (eqb (holder B b) sun) (listed (take i out) (holder B b)) (o .later i h q)))
 
     same-place : (i : ℕ) → i < length B → take i out ≡ places B i → getD out i 0 ≡ nextBody B (places B i)
     same-place i h e =
@@ -97,12 +93,9 @@ module _ (B : List ℕ) (run : Occupied B (length B)) where
         let x = nextBody B (places B i) in
         let k : i < length out = omega (arith, o .whole) in
         let l : x < length B = run i h in
-        ⊎-elim
-        (λ (q : b ≡ x). q)
-        (⊎-elim
-        (λ (q : b < x). absurd (clash (follows i k (omega arith)) (ap (λ (z : List ℕ). mayFollow B z b) e ∙ lower B (places B i) b q)))
-        (λ (q : x < b). absurd (clash (next-may B (places B i) l) (sym (ap (λ (z : List ℕ). mayFollow B z x) e) ∙ o .lowest i k x q))))
-        (compared b x)
+        by-order b x (λ q. q)
+        (λ q. absurd (clash (follows i k (omega arith)) (ap (λ (z : List ℕ). mayFollow B z b) e ∙ lower B (places B i) b q)))
+        (λ q. absurd (clash (next-may B (places B i) l) (sym (ap (λ (z : List ℕ). mayFollow B z x) e) ∙ o .lowest i k x q)))
 
     same-prefix : (i : ℕ) → i ≤ length B → take i out ≡ places B i
     same-prefix zero h = sym (places-zero B)

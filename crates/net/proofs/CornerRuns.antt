@@ -26,7 +26,7 @@ use Rattle.net.specs.sides.Drawn.{drawn, Drawn}
 use Rattle.net.specs.sides.Values.{FaceSized}
 use Rattle.net.specs.stencil.Taken.{Run, Quiet, FaceTaken, CornerTaken}
 use Rattle.net.specs.lanes.Lanes.{rowsFace, RingsAt, LaneReady, LaneHas, LaneFilled}
-use Rattle.net.specs.copy.Copy.{Copied}
+use Rattle.net.specs.copy.Copy.{PointsCopied}
 use Rattle.net.specs.Put.{RunPut}
 use Rattle.net.proofs.sides.Laws.{as-face}
 use Rattle.net.proofs.stencil.Rings.{step-more, around-in, face-behind, place-in}
@@ -154,7 +154,7 @@ module _ (K : ℕ → RefinedMesh rounded) (c at : ℕ) where
 
   -- one corner more
   pub run-more : (r : ℕ) (rows : List ℤ) (g : Rings) (lanes old mid new : List ℤ) → RunPut K c r at old mid → ((a : ℕ) → a < 3 → LaneHas (K a) (c + r) rows a g)
-      → ((k : ℕ) → k < 4 → LaneFilled rows k g lanes) → Copied lanes (at + perCorner * r) 0 41 mid new → RunPut K c (r + 1) at old new
+      → ((k : ℕ) → k < 4 → LaneFilled rows k g lanes) → PointsCopied lanes (at + perCorner * r) 0 41 mid new → RunPut K c (r + 1) at old new
   run-more r rows g lanes old mid new m has filled d = record {
     same = d .same ∙ m .same;
     points-are = below-more _ r (λ q l a p la lp. d .before (at + perCorner * q + 3 * p + a) (omega arith) ∙ m .points-are q l a p la lp)

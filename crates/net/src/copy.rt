@@ -4,7 +4,7 @@ ghost use Prim.Native.Nat.{_+_, _≤_};
 ghost use lib.ListN.{length, getD};
 ghost use lib.IntN.{pos};
 ghost use Rattle.paper.specs.Calls.{perCorner};
-ghost use Rattle.net.specs.copy.Copy.{PointPut, Copied};
+ghost use Rattle.net.specs.copy.Copy.{PointPut, PointsCopied};
 
 // The three numbers of a point, to the output from `to` on.
 pub(crate) fn put_three(x: i32, y: i32, z: i32, out: &mut [i32], to: usize)
@@ -28,7 +28,7 @@ pub(crate) fn put_four(x: i32, y: i32, z: i32, w: i32, out: &mut [i32], to: usiz
 // `count` points from `point` on, to the output from `at` on.
 fn copy_run(lanes: &[i32], point: usize, count: usize, out: &mut [i32], at: usize)
     requires { ⌜ (point + count ≤ 40) × (length (now lanes) ≡ 164) × (at + perCorner ≤ length (now out)) ⌝ }
-    ensures { λ _. ⌜ Copied (now (lanes .entry)) at point (point + count) (now (out .entry)) (now (out .exit)) ⌝ }
+    ensures { λ _. ⌜ PointsCopied (now (lanes .entry)) at point (point + count) (now (out .entry)) (now (out .exit)) ⌝ }
 {
     let mut j: usize = 0;
     while j < count {
@@ -46,7 +46,7 @@ fn copy_run(lanes: &[i32], point: usize, count: usize, out: &mut [i32], at: usiz
 // All 41, by runs that the compiler writes out.
 pub(crate) fn copy(lanes: &[i32], out: &mut [i32], at: usize)
     requires { ⌜ (length (now lanes) ≡ 164) × (at + perCorner ≤ length (now out)) ⌝ }
-    ensures { λ _. ⌜ Copied (now (lanes .entry)) at 0 41 (now (out .entry)) (now (out .exit)) ⌝ }
+    ensures { λ _. ⌜ PointsCopied (now (lanes .entry)) at 0 41 (now (out .entry)) (now (out .exit)) ⌝ }
 {
     let mut i: usize = 0;
     while i < 5 {

@@ -1,6 +1,6 @@
 // The nets in the lanes: a lane is one place of each row. One loop over the four lanes makes the net of each from the rows that it has; the compiler
 // turns it into steps on four numbers at once. The points stand in rows of four too.
-use crate::sides::Face;
+use crate::sides::FaceValues;
 use crate::stencil::FACE;
 use crate::stencil::VERTEX;
 use faces::point;
@@ -18,11 +18,11 @@ pub struct Rings {
 }
 
 // The face of a ring in lane k: the centre in row i, the points behind and ahead from row j on.
-fn ring_face(stencil: &[i32], k: usize, i: usize, j: usize) -> Face
+fn ring_face(stencil: &[i32], k: usize, i: usize, j: usize) -> FaceValues
     requires { ⌜ (pointRow * i + k < length (now stencil)) × (pointRow * (j + 1) + k < length (now stencil)) ⌝ }
     ensures { λ r. ⌜ r ≡ rowsFace (now (stencil .entry)) k i j ⌝ }
 {
-    Face {
+    FaceValues {
         centre: point(stencil, k, i),
         ahead: point(stencil, k, j + 1),
         behind: point(stencil, k, j),

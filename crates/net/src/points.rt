@@ -4,13 +4,13 @@ ghost use Prim.Native.Nat.{_+_, _*_, _≤_, _<_};
 ghost use lib.ListN.{length};
 ghost use Rattle.paper.specs.Net.{rows};
 ghost use Rattle.net.specs.rows.SideRows.{Square};
-ghost use Rattle.net.specs.points.Placed.{Placed, LaneLaid};
+ghost use Rattle.net.specs.points.Placed.{PointsPlaced, LaneLaid};
 ghost use Rattle.net.specs.sides.Values.{FourSized};
 
 // A row of points, every fourth number from `from` on.
 fn put_row(row: &[i32], out: &mut [i32], from: usize)
     requires { ⌜ from + 4 * length (now row) ≤ length (now out) + 3 ⌝ }
-    ensures { λ _. ⌜ Placed (now (out .entry)) (now (out .exit)) from (now (row .entry)) ⌝ }
+    ensures { λ _. ⌜ PointsPlaced (now (out .entry)) (now (out .exit)) from (now (row .entry)) ⌝ }
 {
     let mut j: usize = 0;
     while j < row.len() {
@@ -23,7 +23,7 @@ fn put_row(row: &[i32], out: &mut [i32], from: usize)
 // The five rows of five b points.
 fn put_b(g: [[i32; 5]; 5], out: &mut [i32], from: usize)
     requires { ⌜ (from + 4 * (5 * 5) ≤ length (now out) + 3) × Square 5 g ⌝ }
-    ensures { λ _. ⌜ Placed (now (out .entry)) (now (out .exit)) from (rows g) ⌝ }
+    ensures { λ _. ⌜ PointsPlaced (now (out .entry)) (now (out .exit)) from (rows g) ⌝ }
 {
     let mut i: usize = 0;
     while i < 5 {
@@ -36,7 +36,7 @@ fn put_b(g: [[i32; 5]; 5], out: &mut [i32], from: usize)
 // The four rows of four a points.
 fn put_a(g: [[i32; 4]; 4], out: &mut [i32], from: usize)
     requires { ⌜ (from + 4 * (4 * 4) ≤ length (now out) + 3) × Square 4 g ⌝ }
-    ensures { λ _. ⌜ Placed (now (out .entry)) (now (out .exit)) from (rows g) ⌝ }
+    ensures { λ _. ⌜ PointsPlaced (now (out .entry)) (now (out .exit)) from (rows g) ⌝ }
 {
     let mut i: usize = 0;
     while i < 4 {

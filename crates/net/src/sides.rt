@@ -10,7 +10,7 @@ ghost use Rattle.faces.specs.Ring.{ReadableOn};
 ghost use Rattle.net.specs.sides.Values.{Through, Made, FaceSized, SidesOf};
 
 // A refined face at one of its corners: its centre, and its points towards the side that leaves the corner and the one before.
-pub struct Face {
+pub struct FaceValues {
     pub centre: i32,
     pub ahead: i32,
     pub behind: i32,
@@ -34,7 +34,7 @@ pub struct NetSides {
 }
 
 // The four-sided refined face of four rows in turn in lane k, at the first.
-fn face_through(stencil: &[i32], k: usize, a: usize, b: usize, c: usize, d: usize) -> Face
+fn face_through(stencil: &[i32], k: usize, a: usize, b: usize, c: usize, d: usize) -> FaceValues
     requires { ⌜ ReadableOn (now stencil) k a × ReadableOn (now stencil) k b × ReadableOn (now stencil) k c × ReadableOn (now stencil) k d ⌝ }
     ensures { λ r. ⌜ Through (pointAt (now (stencil .entry)) k) a b c d r ⌝ }
 {
@@ -42,7 +42,7 @@ fn face_through(stencil: &[i32], k: usize, a: usize, b: usize, c: usize, d: usiz
     let w = point(stencil, k, b);
     let x = point(stencil, k, c);
     let y = point(stencil, k, d);
-    Face {
+    FaceValues {
         centre: mean(v, w, x, y),
         ahead: toward(v, w, x, y),
         behind: toward(y, v, w, x),
@@ -65,7 +65,14 @@ fn side(head: i32, tail: i32, x: i32, y: i32, v: i32, w: i32, cosine: i64) -> Si
 }
 
 // The four sides in lane k, from the faces v of the vertex and f of the mesh face, C of these, and the rows of the corners around.
-pub(crate) fn sides_of(stencil: &[i32], k: usize, v: Face, f: Face, c: i64, d: i64) -> NetSides
+pub(crate) fn sides_of(
+    stencil: &[i32],
+    k: usize,
+    v: FaceValues,
+    f: FaceValues,
+    c: i64,
+    d: i64,
+) -> NetSides
     requires rows { ⌜ ((i : ℕ) → i < 7 → ReadableOn (now stencil) k i) ⌝ }
     requires rings { ⌜ FaceSized v × FaceSized f × CosineSize c × CosineSize d ⌝ }
     ensures { λ r. ⌜ SidesOf (pointAt (now (stencil .entry)) k) v f c d r ⌝ }

@@ -9,26 +9,26 @@ use lib.Dec.{eqb, ltb}
 use lib.ListN.{length, getD, set}
 use lib.Seq.{getD-set-same, getD-set-other}
 use mathlib.Core.Logic.{_⊎_, ⊎-elim}
-use borrow.Author.Tests.{eq-eqb, ne-eqb, eqb-true, eqb-false, le-ltb}
+use borrow.Author.Tests.{eq-eqb, ne-eqb, le-ltb}
 use Rattle.paper.specs.Scan.{pickN}
 use Rattle.paper.specs.Mesh.{Mesh, cornerCount, mostCorners}
 use Rattle.paper.specs.Corners.{startOf}
-use Rattle.paper.specs.Links.{vertexOf, reverse, names, lowest}
+use Rattle.paper.specs.Links.{vertexOf, names, lowest}
 use Rattle.paper.specs.Net.{Side, side0, side1, side2, side3}
 use Rattle.paper.specs.Borders.{beside}
-use Rattle.paper.specs.Sampling.{sideAt, sideNumber}
+use Rattle.paper.specs.Sampling.{sideAt}
 use Rattle.paper.specs.Triangles.{begin, turn, rowSegments, endNumber, curveNumber, pointNumber, groups, level, segments, vertexOwner, edgeOwner, faceOwner}
 use Rattle.paper.specs.Triangles.{groupSize, pointGroups, pointsBefore, trianglesBefore, numberIn}
-use Rattle.mesh.proofs.Scans.{ways, compared, first-le}
+use Rattle.mesh.proofs.Scans.{first-le}
 use Rattle.mesh.proofs.Accepted.{sound-of, closed-of, few-corners}
 use Rattle.mesh.proofs.Faces.{first-from, start-zero}
-use Rattle.mesh.proofs.Links.{reverse-in}
-use Rattle.numbering.specs.Meshed.{Here, Place, Wide, Of, Given, Started, Starting, groupStart, curveStart, upward, RowOf, ringPlace}
+use Rattle.numbering.specs.Meshed.{Here, Place, Wide, Of, Given, PointsStarted, Starting, groupStart, curveStart, upward, RowOf, ringPlace}
 use Rattle.closing.proofs.Spots.{own-curve0, own-curve1}
-use Rattle.closing.proofs.Shared.{beside-below}
+use Rattle.closing.proofs.Cases.{test-equal, by-last, number-back}
+use Rattle.closing.proofs.Shared.{beside-below, edge-lower}
 use Rattle.closing.proofs.Counts.{group-step, rings-all, points-few, triangles-more, most-inner}
-use Rattle.numbering.specs.declared.Row.{Row}
-use Rattle.numbering.specs.PointRows.{numberAt}
+use Rattle.numbering.specs.declared.NumberedRow.{NumberedRow}
+use Rattle.numbering.specs.PointRows.{rowNumber}
 use Rattle.numbering.proofs.Rowed.{number-first, number-last, number-up}
 
 -- ---- what the functions ask
@@ -64,12 +64,9 @@ module _ {corners low table levels : List ℕ} (g : Given corners low table leve
   pub inner-few : level levels c * (level levels c - 1) ≤ 240
   inner-few = most-inner (level levels c) level-few
 
-module _ {corners low table levels : List ℕ} (g : Given corners low table levels) (c : ℕ) (h : c < length levels) (n : ℕ) (e : n ≡ level levels c) where
-  pub inner-at : n * (n - 1) ≤ 240
-  inner-at = rw e (inner-few g c h)
-
-  pub some-at : (1 ≤ n) × (n ≤ 16)
-  some-at = (omega (arith, level-some g c h), omega (arith, level-few g c h))
+pub level-bounds : {corners low table levels : List ℕ} (g : Given corners low table levels) (c : ℕ) → c < length levels → (n : ℕ) → n ≡ level levels c
+    → (n * (n - 1) ≤ 240) × (1 ≤ n) × (n ≤ 16)
+level-bounds g c h n e = (rw e (inner-few g c h), omega (arith, level-some g c h), omega (arith, level-few g c h))
 
 pub given-of : {corners low table levels starts : List ℕ} → Starting corners low table levels starts → Given corners low table levels
 given-of s = record { mesh = s .mesh; is = s .is .of }
@@ -135,14 +132,11 @@ module _ {corners low table levels : List ℕ} (M : Mesh) (o : Of M corners low 
       let z : startOf (pointGroups M levels) (groups * (c + 1)) ≡ startOf (pointGroups M levels) (groups * c) + (a + 2 * (level levels c * (level levels c - 1)) + 1) = omega arith in z)
 
 -- ---- starts are few
-pub corners-few : {corners low table levels : List ℕ} (M : Mesh) → Of M corners low table levels → length levels ≤ mostCorners
-corners-few M o = omega (arith, o .many, few-corners _ _ _ (sound-of M (o .accepted) .four))
-
-module _ {corners low table levels starts : List ℕ} (M : Mesh) (s : Started M corners low table levels starts) (c : ℕ) (h : c < length levels) where
+module _ {corners low table levels starts : List ℕ} (M : Mesh) (s : PointsStarted M corners low table levels starts) (c : ℕ) (h : c < length levels) where
   pub start-few : getD starts c 0 ≤ 4210688
   start-few =
       let b = below-of M (s .of) c h in
-      omega (arith, s .starts-are c b, points-few M levels (s .of .accepted) (s .of .leveled) c (omega arith), corners-few M (s .of))
+      omega (arith, s .starts-are c b, points-few M levels (s .of .accepted) (s .of .leveled) c (omega arith), levels-few M (s .of))
 
   pub group-at : (g a r : ℕ) → groupStart M levels c g ≡ pointsBefore M levels c + a → r ≡ getD starts c 0 + a → r ≡ groupStart M levels c g
   group-at g a r e f = omega (arith, s .starts-are c (below-of M (s .of) c h))
@@ -162,16 +156,7 @@ module _ {corners low table levels : List ℕ} (M : Mesh) (o : Of M corners low 
   vertex-is = rw (o .corners-are)
 
   pub edge-below : edgeOwner M c < length levels
-  unfolding edgeOwner
-  edge-below =
-      let b = below-of M o c h in
-      let r = reverse-in (M .sides) (M .corners) (closed-of M (sound-of M (o .accepted))) c b in
-      let n : reverse (M .sides) (M .corners) c < length levels = omega (arith, o .many) in
-      ways-below (ltb c (reverse (M .sides) (M .corners) c)) n
-    where
-      ways-below : (b : Bool) → reverse (M .sides) (M .corners) c < length levels → pickN b c (reverse (M .sides) (M .corners) c) < length levels
-      ways-below true n = h
-      ways-below false n = n
+  edge-below = omega (arith, edge-lower M c)
 
   pub face-below : faceOwner M c < length levels
   unfolding faceOwner
@@ -196,9 +181,7 @@ sum-all f first c count sum q p = let z = ap (λ (x : ℕ). f (first + x)) q in 
 pub starts-step : (f : ℕ → ℕ) (starts : List ℕ) (c x : ℕ) → c < length starts → x ≡ f c → ((e : ℕ) → e < c → getD starts e 0 ≡ f e)
     → (e : ℕ) → e < c + 1 → getD (set starts c x) e 0 ≡ f e
 starts-step f starts c x h p old e l =
-    ⊎-elim (λ q. let z : e ≡ c = eqb-true e c q in rw z (getD-set-same starts c x 0 h ∙ p))
-    (λ q. let n : e ≡ c → ⊥ = eqb-false e c q in getD-set-other starts c e x 0 n ∙ old e (omega (arith, n)))
-    (ways (eqb e c))
+    test-equal e c (λ q z. rw z (getD-set-same starts c x 0 h ∙ p)) (λ q n. getD-set-other starts c e x 0 n ∙ old e (omega (arith, n)))
 
 -- ---- the triangles of a corner
 pub triangles-rest : {corners low table levels : List ℕ} (M : Mesh) (o : Of M corners low table levels) (c : ℕ) → c < length levels → (a b d e n : ℕ)
@@ -210,26 +193,21 @@ triangles-rest {levels = levels} M o c h a b d e n p q r s t =
 
 -- ---- a row of a ring
 module _ (start b w last : ℕ) (short : b ≤ 3 * w) (wraps : b + w ≡ 4 * w → last ≡ start) (goes : (b + w ≡ 4 * w → ⊥) → last ≡ start + b + w) where
-  abbrev ringed : Row
+  abbrev ringed : NumberedRow
   ringed = record { first = start + b; last = last; base = start + b + 1; parts = w; up = true }
 
   placed : (j x : ℕ) → (b + j ≡ 4 * w → x ≡ start) → ((b + j ≡ 4 * w → ⊥) → x ≡ start + (b + j)) → x ≡ start + pickN (eqb (b + j) (4 * w)) 0 (b + j)
   placed j x p q =
-      ⊎-elim (λ e. rw e (p (eqb-true (b + j) (4 * w) e) ∙ omega arith)) (λ e. rw e (q (eqb-false (b + j) (4 * w) e))) (ways (eqb (b + j) (4 * w)))
+      test-equal (b + j) (4 * w) (λ e z. rw e (p z ∙ omega arith)) (λ e z. rw e (q z))
 
-  pub ring-numbers : (j : ℕ) → j ≤ w → numberAt ringed j ≡ start + pickN (eqb (b + j) (4 * w)) 0 (b + j)
-  ring-numbers j l =
-      ⊎-elim
-      (λ (e : j ≡ 0). sym (number-first ringed j e) ∙ placed j (start + b) (λ z. omega arith) (λ z. omega arith))
-      (λ o. ⊎-elim (λ (z : j < 0). absurd (omega arith))
-      (λ (a : 0 < j). let n : j ≡ 0 → ⊥ = λ z. omega arith in
-      ⊎-elim
-      (λ (e : j ≡ w). sym (number-last ringed j n e) ∙ placed j last (λ z. wraps (omega arith)) (λ z. goes (λ y. z (omega arith)) ∙ omega arith))
-      (λ o. ⊎-elim
-      (λ (m : j < w). sym (number-up ringed j n (λ z. omega arith) refl) ∙ placed j (start + b + 1 + (j - 1)) (λ z. absurd (omega arith)) (λ z. omega arith))
-      (λ (m : w < j). absurd (omega arith)) o)
-      (compared j w)) o)
-      (compared j 0)
+  pub ring-numbers : (j : ℕ) → j ≤ w → rowNumber ringed j ≡ start + pickN (eqb (b + j) (4 * w)) 0 (b + j)
+  ring-numbers zero l = sym (number-first ringed 0 refl) ∙ placed 0 (start + b) (λ z. omega arith) (λ z. omega arith)
+  ring-numbers (suc j) l =
+      let n : suc j ≡ 0 → ⊥ = λ z. omega arith in
+      by-last (suc j) w l
+      (λ e. sym (number-last ringed (suc j) n e) ∙ placed (suc j) last (λ z. wraps (omega arith)) (λ z. goes (λ y. z (omega arith)) ∙ omega arith))
+      (λ m. sym (number-up ringed (suc j) n (λ z. omega arith) refl)
+      ∙ placed (suc j) (start + b + 1 + (suc j - 1)) (λ z. absurd (omega arith)) (λ z. omega arith))
 
 pub ring-wraps : (start side w last : ℕ) → side ≤ 3 → ((side < 3) × (last ≡ start + side * w + w)) ⊎ ((3 ≤ side) × (last ≡ start))
     → (side * w ≤ 3 * w) × (side * w + w ≡ 4 * w → last ≡ start) × ((side * w + w ≡ 4 * w → ⊥) → last ≡ start + side * w + w)
@@ -241,7 +219,7 @@ ring-wraps start side w last h o =
     let q : side * w ≡ 3 * w = ap (λ (x : ℕ). x * w) (let z : side ≡ 3 = omega arith in z) in (omega arith, λ e. t .1, λ n. absurd (n (omega arith)))) o
 
 -- ---- the row on the border
-module _ (M : Mesh) (levels : List ℕ) (c : ℕ) (s : Side) (r : Row) (first : r .first ≡ endNumber M levels c (begin s))
+module _ (M : Mesh) (levels : List ℕ) (c : ℕ) (s : Side) (r : NumberedRow) (first : r .first ≡ endNumber M levels c (begin s))
     (last : r .last ≡ endNumber M levels c (begin (turn s))) (base : r .base ≡ curveStart M levels c s) (parts : r .parts ≡ segments M levels c s) where
   curve-is : (s : Side) (j : ℕ) (b : Bool) → b ≡ upward s
       → pickN b (curveStart M levels c s + (j - 1)) (curveStart M levels c s + (segments M levels c s - j - 1)) ≡ curveNumber M levels c s j
@@ -251,8 +229,8 @@ module _ (M : Mesh) (levels : List ℕ) (c : ℕ) (s : Side) (r : Row) (first : 
   curve-is side2 j b e = rw e
   curve-is side3 j b e = rw e
 
-  outer-numbers : r .up ≡ upward s → (j : ℕ) → numberAt r j ≡ pointNumber M levels c s 0 j
-  unfolding numberAt pointNumber
+  outer-numbers : r .up ≡ upward s → (j : ℕ) → rowNumber r j ≡ pointNumber M levels c s 0 j
+  unfolding rowNumber pointNumber
   outer-numbers e j = rw (first, last, base, parts, curve-is s j (r .up) e)
 
   pub outer-of : r .up ≡ upward s → RowOf M levels c s 0 r
@@ -278,18 +256,12 @@ turn-last (suc (suc zero)) h = absurd (omega arith)
 turn-last (suc (suc (suc n))) h = refl
 
 -- ---- a ring's row
-pub side-number : (side : ℕ) → side ≤ 3 → sideNumber (sideAt side) ≡ side
-side-number zero h = refl
-side-number (suc zero) h = refl
-side-number (suc (suc zero)) h = refl
-side-number (suc (suc (suc n))) h = omega arith
-
-pub ring-of : (M : Mesh) (levels : List ℕ) (c side k start : ℕ) (r : Row) → side ≤ 3 → r .parts ≡ level levels c - suc k → start ≡ groupStart M levels c (5 + k)
-    → ((j : ℕ) → j ≤ level levels c - suc k → numberAt r j ≡ start + ringPlace side (level levels c - suc k) j) → RowOf M levels c (sideAt side) (suc k) r
+pub ring-of : (M : Mesh) (levels : List ℕ) (c side k start : ℕ) (r : NumberedRow) → side ≤ 3 → r .parts ≡ level levels c - suc k → start ≡ groupStart M levels c (5 + k)
+    → ((j : ℕ) → j ≤ level levels c - suc k → rowNumber r j ≡ start + ringPlace side (level levels c - suc k) j) → RowOf M levels c (sideAt side) (suc k) r
 unfolding rowSegments pointNumber numberIn
 ring-of M levels c side k start r h p q n = record {
   parts = p;
-  numbers = λ j l. n j (omega arith) ∙ rw (side-number side h) (ap (λ (x : ℕ). x + ringPlace side (level levels c - suc k) j) q);
+  numbers = λ j l. n j (omega arith) ∙ rw (number-back side h) (ap (λ (x : ℕ). x + ringPlace side (level levels c - suc k) j) q);
 }
 
 pub beside-in : {corners low table levels : List ℕ} (M : Mesh) → Of M corners low table levels → (c : ℕ) → c < length levels → (s : Side) (d : ℕ) → d ≡ beside M c s

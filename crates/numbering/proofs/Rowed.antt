@@ -11,26 +11,26 @@ use Rattle.paper.specs.Net.{Side, side0}
 use Rattle.paper.specs.Sampling.{sideAt}
 use Rattle.paper.specs.Triangles.{apex, foot}
 use Rattle.mesh.proofs.Fills.{filled-step}
-use Rattle.numbering.specs.declared.Row.{Row}
-use Rattle.numbering.specs.PointRows.{numberAt, overNumber, underNumber, stripNumber, FilledTo, Fills, three}
+use Rattle.numbering.specs.declared.NumberedRow.{NumberedRow}
+use Rattle.numbering.specs.PointRows.{rowNumber, overNumber, underNumber, stripNumber, FilledTo, Fills, three}
 use Rattle.closing.proofs.Strips.{apex-rises, foot-head, foot-tail, stepAt, foot-at}
 
 -- ---- the number at a place
-module _ (r : Row) (j : ℕ) where
-  pub number-first : j ≡ 0 → r .first ≡ numberAt r j
-  unfolding numberAt
+module _ (r : NumberedRow) (j : ℕ) where
+  pub number-first : j ≡ 0 → r .first ≡ rowNumber r j
+  unfolding rowNumber
   number-first e = rw (eq-eqb j 0 e)
 
-  pub number-last : (j ≡ 0 → ⊥) → j ≡ r .parts → r .last ≡ numberAt r j
-  unfolding numberAt
+  pub number-last : (j ≡ 0 → ⊥) → j ≡ r .parts → r .last ≡ rowNumber r j
+  unfolding rowNumber
   number-last n e = rw (ne-eqb j 0 n, eq-eqb j (r .parts) e)
 
-  pub number-up : (j ≡ 0 → ⊥) → (j ≡ r .parts → ⊥) → r .up ≡ true → r .base + (j - 1) ≡ numberAt r j
-  unfolding numberAt
+  pub number-up : (j ≡ 0 → ⊥) → (j ≡ r .parts → ⊥) → r .up ≡ true → r .base + (j - 1) ≡ rowNumber r j
+  unfolding rowNumber
   number-up n m e = rw (ne-eqb j 0 n, ne-eqb j (r .parts) m, e)
 
-  pub number-down : (j ≡ 0 → ⊥) → (j ≡ r .parts → ⊥) → r .up ≡ false → r .base + (r .parts - j - 1) ≡ numberAt r j
-  unfolding numberAt
+  pub number-down : (j ≡ 0 → ⊥) → (j ≡ r .parts → ⊥) → r .up ≡ false → r .base + (r .parts - j - 1) ≡ rowNumber r j
+  unfolding rowNumber
   number-down n m e = rw (ne-eqb j 0 n, ne-eqb j (r .parts) m, e)
 
 -- ---- shares and steps
@@ -103,7 +103,7 @@ fills-three at a b c out h f old e values =
     subst (λ (x : ℕ). FilledTo f old x (set (set (set out at a) (at + 1) b) (at + 2) c)) (let z : at + 2 + 1 ≡ at + 3 = omega arith in z) s2
 
 -- ---- the numbers of a strip, three by three
-module _ (s : Side) (L U : Row) where
+module _ (s : Side) (L U : NumberedRow) where
   strip-over : (t x e : ℕ) → t < L .parts → x / 3 ≡ t → x % 3 ≡ e → overNumber s L U t e ≡ stripNumber s L U x
   unfolding stripNumber
   strip-over t x e h q r = rw (q, r, lt-ltb t (L .parts) h)
@@ -114,7 +114,7 @@ module _ (s : Side) (L U : Row) where
       rw (q, r, le-ltb (L .parts + i) (L .parts) (let z : L .parts ≤ L .parts + i = omega arith in z))
       (ap (λ (y : ℕ). underNumber s L U y e) (let z : i ≡ L .parts + i - L .parts = omega arith in z))
 
-  pub over-three : (t a b c : ℕ) → t < L .parts → a ≡ numberAt L t → b ≡ numberAt L (t + 1) → c ≡ numberAt U (apex s (L .parts) (U .parts + 1) t)
+  pub over-three : (t a b c : ℕ) → t < L .parts → a ≡ rowNumber L t → b ≡ rowNumber L (t + 1) → c ≡ rowNumber U (apex s (L .parts) (U .parts + 1) t)
       → (x : ℕ) → x < 3 → three a b c x ≡ stripNumber s L U (3 * t + x)
   unfolding overNumber
   over-three t a b c h p q r zero l = p ∙ strip-over t (3 * t + 0) 0 h (omega arith) (omega arith)
@@ -122,7 +122,7 @@ module _ (s : Side) (L U : Row) where
   over-three t a b c h p q r (suc (suc zero)) l = r ∙ strip-over t (3 * t + 2) 2 h (omega arith) (omega arith)
   over-three t a b c h p q r (suc (suc (suc n))) l = absurd (omega arith)
 
-  pub under-three : (i a b c : ℕ) → a ≡ numberAt U (i + 1) → b ≡ numberAt U i → c ≡ numberAt L (foot s (L .parts) (U .parts + 1) i)
+  pub under-three : (i a b c : ℕ) → a ≡ rowNumber U (i + 1) → b ≡ rowNumber U i → c ≡ rowNumber L (foot s (L .parts) (U .parts + 1) i)
       → (x : ℕ) → x < 3 → three a b c x ≡ stripNumber s L U (3 * L .parts + (3 * i + x))
   unfolding underNumber
   under-three i a b c p q r zero l = p ∙ strip-under i (3 * L .parts + (3 * i + 0)) 0 (omega arith) (omega arith)

@@ -1,32 +1,28 @@
 -- Laws of the fills of strips, sides and corners: the numbers between two rows are those of the list of triangles.
 use mathlib.Core.Path.{_≡_, sym, ap, _∙_, subst}
-use mathlib.Core.Logic.{⊎-elim}
 use mathlib.Core.List.{List}
 use Prim.Native.Nat.{ℕ, zero, suc, _+_, _-_, _*_, _/_, _%_, _≤_, _<_}
 use native.Mathlib.Omega.{arith}
-use lib.Dec.{ltb}
 use lib.ListN.{length}
-use borrow.Author.Tests.{ltb-true, ltb-false}
 use Rattle.paper.specs.Mesh.{Mesh, cornerCount}
 use Rattle.paper.specs.Corners.{startOf}
 use Rattle.paper.specs.Net.{Side}
 use Rattle.paper.specs.Sampling.{mostParts, sideAt}
 use Rattle.paper.specs.Triangles.{apex, foot, strips, level, rowSegments, pointNumber, lowerCorner, upperCorner, triangleCorner, stripSizes, indexAt}
 use Rattle.paper.specs.Triangles.{trianglesBefore}
-use Rattle.mesh.proofs.Scans.{ways}
-use Rattle.mesh.proofs.Faces.{start-next}
-use Rattle.numbering.specs.declared.Row.{Row}
+use Rattle.numbering.specs.declared.NumberedRow.{NumberedRow}
 use Rattle.numbering.specs.PointRows.{overNumber, underNumber, stripNumber, FilledTo, Fills}
 use Rattle.numbering.specs.Meshed.{RowOf, sideStart}
+use Rattle.closing.proofs.Cases.{test-less, number-back}
+use Rattle.closing.proofs.Calls.{start-rises}
 use Rattle.closing.proofs.Strips.{apex-rises, foot-at}
 use Rattle.closing.proofs.Partners.{Leveled, Triangle, row-wide, row-later, lower-is, upper-is}
 use Rattle.closing.proofs.Places.{stripAt, strips-length, size-some, index-is}
 use Rattle.closing.proofs.Counts.{strip-step}
 use Rattle.numbering.proofs.Rowed.{fills-more, fills-as}
-use Rattle.numbering.proofs.Lent.{side-number}
 
 -- ---- the numbers between two rows
-module _ (M : Mesh) (levels : List ℕ) (leveled : Leveled M levels) (c : ℕ) (h : c < cornerCount M) (s : Side) (k : ℕ) (l : k < level levels c) (L U : Row)
+module _ (M : Mesh) (levels : List ℕ) (leveled : Leveled M levels) (c : ℕ) (h : c < cornerCount M) (s : Side) (k : ℕ) (l : k < level levels c) (L U : NumberedRow)
     (lower : RowOf M levels c s k L) (upper : RowOf M levels c s (suc k) U) where
   upper-parts : U .parts ≡ level levels c - suc k
   upper-parts = upper .parts ∙ row-later M levels c s k
@@ -60,13 +56,10 @@ module _ (M : Mesh) (levels : List ℕ) (leveled : Leveled M levels) (c : ℕ) (
   corner-is : (x : ℕ) → x < 3 * (L .parts + U .parts) → stripNumber s L U x ≡ triangleCorner M levels c s k (x / 3) (x % 3)
   unfolding stripNumber
   corner-is x b =
-      ⊎-elim
-      (λ q. let t : x / 3 < L .parts = ltb-true (x / 3) (L .parts) q in
-      rw q (over-is (x / 3) (x % 3) t ∙ sym (lower-is M levels c s k (x / 3) (x % 3) (omega (arith, lower .parts)))))
-      (λ q. let t : L .parts ≤ x / 3 = ltb-false (x / 3) (L .parts) q in
-      rw q (under-is (x / 3 - L .parts) (x % 3) (omega arith) ∙ sym (upper-is M levels c s k (x / 3 - L .parts) (x % 3))
+      test-less (x / 3) (L .parts)
+      (λ q t. rw q (over-is (x / 3) (x % 3) t ∙ sym (lower-is M levels c s k (x / 3) (x % 3) (omega (arith, lower .parts)))))
+      (λ q t. rw q (under-is (x / 3 - L .parts) (x % 3) (omega arith) ∙ sym (upper-is M levels c s k (x / 3 - L .parts) (x % 3))
       ∙ ap (λ (y : ℕ). triangleCorner M levels c s k y (x % 3)) (let z : rowSegments M levels c s k + (x / 3 - L .parts) ≡ x / 3 = omega (arith, lower .parts) in z)))
-      (ways (ltb (x / 3) (L .parts)))
 
   pub strip-index : (x : ℕ) → x < 3 * (L .parts + U .parts) → stripNumber s L U x ≡ indexAt M levels (3 * startOf (stripSizes M levels) (stripAt c s k) + x)
   strip-index x b =
@@ -79,25 +72,21 @@ module _ (M : Mesh) (levels : List ℕ) (leveled : Leveled M levels) (c : ℕ) (
 
 -- ---- starts rise
 pub starts-rise : (l : List ℕ) (i d : ℕ) → i + d ≤ length l → startOf l i ≤ startOf l (i + d)
-starts-rise l i zero h = rw (let z : i + 0 ≡ i = omega arith in z) (omega arith)
-starts-rise l i (suc d) h =
-    let a = starts-rise l i d (omega arith) in
-    let b = start-next l (i + d) (omega arith) in
-    subst (λ (x : ℕ). startOf l i ≤ startOf l x) (let z : i + d + 1 ≡ i + suc d = omega arith in z) (omega arith)
+starts-rise l i d h = start-rises l i d
 
 module _ (M : Mesh) (levels : List ℕ) where
   pub strips-rise : (i j : ℕ) → i ≤ j → j ≤ strips * cornerCount M → startOf (stripSizes M levels) i ≤ startOf (stripSizes M levels) j
   strips-rise i j h l =
       subst (λ (x : ℕ). startOf (stripSizes M levels) i ≤ startOf (stripSizes M levels) x) (let z : i + (j - i) ≡ j = omega arith in z)
-      (starts-rise (stripSizes M levels) i (j - i) (omega (arith, strips-length M levels)))
+      (start-rises (stripSizes M levels) i (j - i))
 
   pub side-first : (c side : ℕ) → side ≤ 3 → sideStart M levels c side ≡ startOf (stripSizes M levels) (stripAt c (sideAt side) 0)
   side-first c side h =
-      ap (startOf (stripSizes M levels)) (let e = side-number side h in let z : strips * c + mostParts * side ≡ stripAt c (sideAt side) 0 = omega arith in z)
+      ap (startOf (stripSizes M levels)) (let e = number-back side h in let z : strips * c + mostParts * side ≡ stripAt c (sideAt side) 0 = omega arith in z)
 
   pub side-last : (c side : ℕ) → side ≤ 3 → sideStart M levels c (side + 1) ≡ startOf (stripSizes M levels) (stripAt c (sideAt side) 16)
   side-last c side h =
-      ap (startOf (stripSizes M levels)) (let e = side-number side h in let z : strips * c + mostParts * (side + 1) ≡ stripAt c (sideAt side) 16 = omega arith in z)
+      ap (startOf (stripSizes M levels)) (let e = number-back side h in let z : strips * c + mostParts * (side + 1) ≡ stripAt c (sideAt side) 16 = omega arith in z)
 
   pub corner-first : (c : ℕ) → sideStart M levels c 0 ≡ trianglesBefore M levels c
   unfolding trianglesBefore

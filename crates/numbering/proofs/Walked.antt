@@ -4,10 +4,10 @@ use mathlib.Core.Logic.{⊎-elim}
 use mathlib.Core.List.{List}
 use Prim.Native.Nat.{ℕ, _+_, _*_, _≤_, _<_}
 use native.Mathlib.Omega.{arith}
-use lib.Dec.{eqb}
+use native.Mathlib.Nat.{eq-zero-or-pos}
 use lib.ListN.{length, getD, set}
 use lib.Seq.{getD-set-same, getD-set-other}
-use borrow.Author.Tests.{lt-ltb, le-ltb, eq-eqb, ne-eqb, eqb-true, eqb-false}
+use borrow.Author.Tests.{lt-ltb, le-ltb, eq-eqb, ne-eqb}
 use Rattle.paper.specs.Mesh.{Mesh, cornerCount}
 use Rattle.paper.specs.Corners.{sumOf, firstOf, positionOf, next, previous}
 use Rattle.paper.specs.Links.{vertexOf, link, reverse, names, lowest}
@@ -17,11 +17,12 @@ use Rattle.paper.specs.Borders.{beside}
 use Rattle.paper.specs.Triangles.{level, segments, edgeOwner, faceOwner}
 use Rattle.walk.specs.Table.{rowLength, toNext, toPrevious, toLink, Led}
 use Rattle.mesh.specs.Tables.{Named}
-use Rattle.mesh.proofs.Scans.{ways, compared, first-at}
+use Rattle.mesh.proofs.Scans.{first-at}
 use Rattle.mesh.proofs.Faces.{first-from, previous-inner, first-previous}
 use Rattle.mesh.proofs.Accepted.{sound-of, closed-of}
 use Rattle.mesh.proofs.Theorems.{manifold}
 use Rattle.numbering.specs.Meshed.{Here, Lowests}
+use Rattle.closing.proofs.Cases.{test-equal}
 use Rattle.closing.proofs.Shared.{reverse-is}
 
 -- ---- steps
@@ -85,13 +86,9 @@ module _ (M : Mesh) (table : List ℕ) (c d : ℕ) (h : Here M table c) (a : Led
   unfolding faceOwner
   face-this l =
       let f = first-from (M .sides) c in-sum in
-      ⊎-elim
-      (λ (e : positionOf (M .sides) c ≡ 0). omega arith)
-      (λ o. let n : positionOf (M .sides) c ≡ 0 → ⊥ = λ e. ⊎-elim (λ (x : positionOf (M .sides) c < 0). omega arith) (λ (x : 0 < positionOf (M .sides) c). omega arith) o in
-      let p = previous-inner (M .sides) c n in
-      ⊎-elim (λ (x : positionOf (M .sides) c < 0). absurd (omega arith))
-      (λ (x : 0 < positionOf (M .sides) c). absurd (omega (arith, to-previous M table c h d a))) o)
-      (compared (positionOf (M .sides) c) 0)
+      ⊎-elim (λ e. omega arith)
+      (λ x. let p = previous-inner (M .sides) c (λ e. omega arith) in absurd (omega (arith, to-previous M table c h d a)))
+      (eq-zero-or-pos (positionOf (M .sides) c))
 
 -- ---- the larger level
 module _ (M : Mesh) (levels : List ℕ) (c : ℕ) (s : Side) (d n m : ℕ) (e : d ≡ beside M c s) (p : n ≡ level levels c) (q : m ≡ level levels d) where
@@ -116,16 +113,13 @@ module _ (corners low : List ℕ) (c u : ℕ) (e : u ≡ vertexOf corners c) (h 
     (old : (e : ℕ) → c + 1 ≤ e → e < length corners → Low corners low (c + 1) e) where
   pub low-step : (j : ℕ) → c ≤ j → j < length corners → Low corners (set low u c) c j
   low-step j a b =
-      ⊎-elim
-      (λ q. let v : vertexOf corners j ≡ u = eqb-true (vertexOf corners j) u q in
-      let g : getD (set low u c) (vertexOf corners j) 0 ≡ c = rw v (getD-set-same low u c 0 h) in
+      test-equal (vertexOf corners j) u
+      (λ q v. let g : getD (set low u c) (vertexOf corners j) 0 ≡ c = rw v (getD-set-same low u c 0 h) in
       record { from = omega (arith, g); to = omega (arith, g); same = rw g (sym e ∙ sym v) })
-      (λ q. let n : vertexOf corners j ≡ u → ⊥ = eqb-false (vertexOf corners j) u q in
-      let g : getD (set low u c) (vertexOf corners j) 0 ≡ getD low (vertexOf corners j) 0 = getD-set-other low u (vertexOf corners j) c 0 n in
+      (λ q n. let g : getD (set low u c) (vertexOf corners j) 0 ≡ getD low (vertexOf corners j) 0 = getD-set-other low u (vertexOf corners j) c 0 n in
       let d : c ≡ j → ⊥ = λ z. n (ap (vertexOf corners) (sym z) ∙ sym e) in
       let o = old j (omega (arith, d)) b in
       record { from = omega (arith, g, o .from); to = omega (arith, g, o .to); same = rw g (o .same) })
-      (ways (eqb (vertexOf corners j) u))
 
 pub lows-of : (corners low : List ℕ) → Named corners (length low) → ((e : ℕ) → 0 ≤ e → e < length corners → Low corners low 0 e) → Lowests corners low
 unfolding lowest names

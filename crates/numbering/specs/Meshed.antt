@@ -16,8 +16,8 @@ use lib.Dec.{eqb}
 use Rattle.paper.specs.Sampling.{mostParts, sideAt}
 use Rattle.paper.specs.Triangles.{groups, strips, level, segments, pointGroups, stripSizes, pointsBefore, trianglesBefore, rowSegments, pointNumber, indexAt}
 use Rattle.walk.specs.Table.{Tabled}
-use Rattle.numbering.specs.declared.Row.{Row}
-use Rattle.numbering.specs.PointRows.{numberAt, Small, Stands}
+use Rattle.numbering.specs.declared.NumberedRow.{NumberedRow}
+use Rattle.numbering.specs.PointRows.{rowNumber, RowFits, Stands}
 
 -- c is a corner of the accepted mesh M, whose table this is; of some mesh
 pub record Here (M : Mesh) (table : List ℕ) (c : ℕ) : Type 0 where
@@ -55,14 +55,14 @@ pub record Given (corners low table levels : List ℕ) : Type 0 where
   pub is : Of mesh corners low table levels
 
 -- the numbers at which the corners' points start
-pub record Started (M : Mesh) (corners low table levels starts : List ℕ) : Type 0 where
+pub record PointsStarted (M : Mesh) (corners low table levels starts : List ℕ) : Type 0 where
   pub of : Of M corners low table levels
   pub long : cornerCount M ≤ length starts
   pub starts-are : (c : ℕ) → c < cornerCount M → getD starts c 0 ≡ pointsBefore M levels c
 
 pub record Starting (corners low table levels starts : List ℕ) : Type 0 where
   pub mesh : Mesh
-  pub is : Started mesh corners low table levels starts
+  pub is : PointsStarted mesh corners low table levels starts
 
 -- where group g of corner c starts, and where the inner points of a side's curve
 abbrev pub groupStart : Mesh → List ℕ → ℕ → ℕ → ℕ
@@ -75,9 +75,9 @@ curveStart M levels c side2 = groupStart M levels (beside M c side2) 4
 curveStart M levels c side3 = groupStart M levels (beside M c side3) 3
 
 -- row k of a side
-pub record RowOf (M : Mesh) (levels : List ℕ) (c : ℕ) (s : Side) (k : ℕ) (r : Row) : Type 0 where
+pub record RowOf (M : Mesh) (levels : List ℕ) (c : ℕ) (s : Side) (k : ℕ) (r : NumberedRow) : Type 0 where
   pub parts : r .parts ≡ rowSegments M levels c s k
-  pub numbers : (j : ℕ) → j ≤ r .parts → numberAt r j ≡ pointNumber M levels c s k j
+  pub numbers : (j : ℕ) → j ≤ r .parts → rowNumber r j ≡ pointNumber M levels c s k j
 
 -- place j of a side's row of w segments in its ring
 abbrev pub ringPlace : ℕ → ℕ → ℕ → ℕ
@@ -95,5 +95,5 @@ abbrev pub sideStart : Mesh → List ℕ → ℕ → ℕ → ℕ
 sideStart M levels c side = startOf (stripSizes M levels) (strips * c + mostParts * side)
 
 -- the triangles from number a to number b of the list stand from `at` to `to`
-abbrev pub Put : Mesh → List ℕ → ℕ → ℕ → ℕ → ℕ → List ℕ → List ℕ → Type 0
-Put M levels = Stands (indexAt M levels)
+abbrev pub TrianglesPut : Mesh → List ℕ → ℕ → ℕ → ℕ → ℕ → List ℕ → List ℕ → Type 0
+TrianglesPut M levels = Stands (indexAt M levels)

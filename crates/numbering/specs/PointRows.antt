@@ -8,48 +8,48 @@ use lib.ListN.{length, drop}
 use Rattle.paper.specs.Scan.{pickN, valuesFrom}
 use Rattle.paper.specs.Net.{Side}
 use Rattle.paper.specs.Triangles.{apex, foot}
-use Rattle.numbering.specs.declared.Row.{Row}
+use Rattle.numbering.specs.declared.NumberedRow.{NumberedRow}
 
 -- the number at place j of a row
-unfoldable pub numberAt : Row → ℕ → ℕ
-numberAt r j =
+unfoldable pub rowNumber : NumberedRow → ℕ → ℕ
+rowNumber r j =
     pickN (eqb j 0) (r .first) (pickN (eqb j (r .parts)) (r .last) (pickN (r .up) (r .base + (j - 1)) (r .base + (r .parts - j - 1))))
 
 -- its numbers fit
-pub record Small (r : Row) : Type 0 where
+pub record RowFits (r : NumberedRow) : Type 0 where
   pub parts : r .parts ≤ 16
   pub base : r .base + r .parts < 2 ^ 32
 
 -- the rows of a strip: the upper one has fewer segments
-pub record Strip (s : ℕ) (L U : Row) : Type 0 where
+pub record Strip (s : ℕ) (L U : NumberedRow) : Type 0 where
   pub side : s ≤ 3
-  pub lower : Small L
-  pub upper : Small U
+  pub lower : RowFits L
+  pub upper : RowFits U
   pub fewer : U .parts < L .parts
 
 -- a row whose numbers rise from its first on, up to its last; and two of them with a point over each lower segment
-pub record Rising (r : Row) : Type 0 where
+pub record RisingRow (r : NumberedRow) : Type 0 where
   pub up : r .up ≡ true
   pub base : r .base ≡ r .first + 1
 
-pub record PlainStrip (L U : Row) : Type 0 where
+pub record PlainStrip (L U : NumberedRow) : Type 0 where
   pub as-many : L .parts ≡ U .parts + 1
-  pub lower : Rising L
-  pub upper : Rising U
+  pub lower : RisingRow L
+  pub upper : RisingRow U
 
 -- number e of the triangle over lower segment t, and of that under upper segment i
-unfoldable pub overNumber : Side → Row → Row → ℕ → ℕ → ℕ
-overNumber s L U t zero = numberAt L t
-overNumber s L U t (suc zero) = numberAt L (t + 1)
-overNumber s L U t (suc (suc e)) = numberAt U (apex s (L .parts) (U .parts + 1) t)
+unfoldable pub overNumber : Side → NumberedRow → NumberedRow → ℕ → ℕ → ℕ
+overNumber s L U t zero = rowNumber L t
+overNumber s L U t (suc zero) = rowNumber L (t + 1)
+overNumber s L U t (suc (suc e)) = rowNumber U (apex s (L .parts) (U .parts + 1) t)
 
-unfoldable pub underNumber : Side → Row → Row → ℕ → ℕ → ℕ
-underNumber s L U i zero = numberAt U (i + 1)
-underNumber s L U i (suc zero) = numberAt U i
-underNumber s L U i (suc (suc e)) = numberAt L (foot s (L .parts) (U .parts + 1) i)
+unfoldable pub underNumber : Side → NumberedRow → NumberedRow → ℕ → ℕ → ℕ
+underNumber s L U i zero = rowNumber U (i + 1)
+underNumber s L U i (suc zero) = rowNumber U i
+underNumber s L U i (suc (suc e)) = rowNumber L (foot s (L .parts) (U .parts + 1) i)
 
 -- number x of the strip
-unfoldable pub stripNumber : Side → Row → Row → ℕ → ℕ
+unfoldable pub stripNumber : Side → NumberedRow → NumberedRow → ℕ → ℕ
 stripNumber s L U x = pickN (ltb (x / 3) (L .parts)) (overNumber s L U (x / 3) (x % 3)) (underNumber s L U (x / 3 - L .parts) (x % 3))
 
 -- ---- the first i numbers of a list that was `old` are those of f

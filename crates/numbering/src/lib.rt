@@ -15,11 +15,11 @@ ghost use Rattle.paper.specs.Triangles.{apex, foot, level, segments, edgeOwner,
 ghost use Rattle.paper.specs.File.{begins};
 ghost use Rattle.paper.specs.Scan.{pickN};
 ghost use Rattle.mesh.specs.Tables.{Named};
-ghost use Rattle.numbering.specs.Meshed.{Here, Place, Wide, Lowests, Of, Given, Started, Starting, groupStart, curveStart, RowOf, ringPlace, sideStart, Put};
-ghost use Rattle.numbering.specs.PointRows.{numberAt, Small, Strip, Rising, PlainStrip, stripNumber, Fills, three};
+ghost use Rattle.numbering.specs.Meshed.{Here, Place, Wide, Lowests, Of, Given, PointsStarted, Starting, groupStart, curveStart, RowOf, ringPlace, sideStart, TrianglesPut};
+ghost use Rattle.numbering.specs.PointRows.{rowNumber, RowFits, Strip, RisingRow, PlainStrip, stripNumber, Fills, three};
 
 // A row of a net's points: the numbers of its first and its last, and of those between, which rise or fall by one; and its segments.
-pub struct Row {
+pub struct NumberedRow {
     pub first: u32,
     pub last: u32,
     pub base: u32,
@@ -28,9 +28,9 @@ pub struct Row {
 }
 
 // The number of the point at place j.
-fn number(row: Row, j: usize) -> u32
-    requires { ⌜ Small row × (j ≤ row .parts) ⌝ }
-    ensures { λ r. ⌜ r ≡ numberAt row j ⌝ }
+fn number(row: NumberedRow, j: usize) -> u32
+    requires { ⌜ RowFits row × (j ≤ row .parts) ⌝ }
+    ensures { λ r. ⌜ r ≡ rowNumber row j ⌝ }
 {
     let parts = row.parts;
     if j == 0 {
@@ -94,7 +94,7 @@ fn put_three(out: &mut [u32], at: usize, a: u32, b: u32, c: u32)
 }
 
 // The triangles over the lower segments.
-fn put_over(side: usize, lower: Row, upper: Row, out: &mut [u32], at: usize)
+fn put_over(side: usize, lower: NumberedRow, upper: NumberedRow, out: &mut [u32], at: usize)
     requires { ⌜ Strip side lower upper × (at + 3 * lower .parts ≤ length (now out)) ⌝ }
     ensures { λ _. ⌜ Fills (stripNumber (sideAt side) lower upper) at (3 * lower .parts) (now (out .entry)) (now (out .exit)) ⌝ }
 {
@@ -111,7 +111,7 @@ fn put_over(side: usize, lower: Row, upper: Row, out: &mut [u32], at: usize)
 }
 
 // The triangles under the upper segments.
-fn put_under(side: usize, lower: Row, upper: Row, out: &mut [u32], at: usize)
+fn put_under(side: usize, lower: NumberedRow, upper: NumberedRow, out: &mut [u32], at: usize)
     requires { ⌜ Strip side lower upper × (at + 3 * upper .parts ≤ length (now out)) ⌝ }
     ensures { λ _. ⌜ Fills (λ x. stripNumber (sideAt side) lower upper (3 * lower .parts + x)) at (3 * upper .parts) (now (out .entry)) (now (out .exit)) ⌝ }
 {
@@ -128,8 +128,8 @@ fn put_under(side: usize, lower: Row, upper: Row, out: &mut [u32], at: usize)
 }
 
 // Whether a row's numbers rise from its first on, up to its last.
-fn rises(row: Row) -> bool
-    ensures { λ r. ⌜ (r ≡ true → Rising row) ⌝ }
+fn rises(row: NumberedRow) -> bool
+    ensures { λ r. ⌜ (r ≡ true → RisingRow row) ⌝ }
 {
     if row.up {
         if row.first < row.base {
@@ -140,7 +140,7 @@ fn rises(row: Row) -> bool
 }
 
 // Whether a strip is plain: both rows rise, and a point stands over each lower segment.
-fn is_plain(lower: Row, upper: Row) -> bool
+fn is_plain(lower: NumberedRow, upper: NumberedRow) -> bool
     requires { ⌜ upper .parts < lower .parts ⌝ }
     ensures { λ r. ⌜ (r ≡ true → PlainStrip lower upper) ⌝ }
 {
@@ -154,7 +154,7 @@ fn is_plain(lower: Row, upper: Row) -> bool
 
 // The triangles of a plain strip, in a second way, without divisions and without a row's cases: those over the lower segments. All strips of a net
 // but the outermost are plain, whatever its border's level. So the call for points and triangles takes 0.89 of the time at level 8 and 0.79 at 16.
-fn put_over_plain(side: usize, lower: Row, upper: Row, out: &mut [u32], at: usize)
+fn put_over_plain(side: usize, lower: NumberedRow, upper: NumberedRow, out: &mut [u32], at: usize)
     requires { ⌜ Strip side lower upper × PlainStrip lower upper × (at + 3 * lower .parts ≤ length (now out)) ⌝ }
     ensures { λ _. ⌜ Fills (stripNumber (sideAt side) lower upper) at (3 * lower .parts) (now (out .entry)) (now (out .exit)) ⌝ }
 {
@@ -172,7 +172,7 @@ fn put_over_plain(side: usize, lower: Row, upper: Row, out: &mut [u32], at: usiz
 }
 
 // Those under the upper segments.
-fn put_under_plain(side: usize, lower: Row, upper: Row, out: &mut [u32], at: usize)
+fn put_under_plain(side: usize, lower: NumberedRow, upper: NumberedRow, out: &mut [u32], at: usize)
     requires { ⌜ Strip side lower upper × PlainStrip lower upper × (at + 3 * upper .parts ≤ length (now out)) ⌝ }
     ensures { λ _. ⌜ Fills (λ x. stripNumber (sideAt side) lower upper (3 * lower .parts + x)) at (3 * upper .parts) (now (out .entry)) (now (out .exit)) ⌝ }
 {
@@ -193,7 +193,7 @@ fn put_under_plain(side: usize, lower: Row, upper: Row, out: &mut [u32], at: usi
 }
 
 // The triangles of a strip.
-fn put_strip(side: usize, lower: Row, upper: Row, out: &mut [u32], at: usize)
+fn put_strip(side: usize, lower: NumberedRow, upper: NumberedRow, out: &mut [u32], at: usize)
     requires { ⌜ Strip side lower upper × (at + 3 * (lower .parts + upper .parts) ≤ length (now out)) ⌝ }
     ensures { λ _. ⌜ Fills (stripNumber (sideAt side) lower upper) at (3 * (lower .parts + upper .parts)) (now (out .entry)) (now (out .exit)) ⌝ }
 {
@@ -449,7 +449,7 @@ pub fn triangles_in(
 // Where the points of each corner start.
 fn fill_starts(corners: &[u16], low: &[u16], table: &[u16], levels: &[u8], starts: &mut [u32])
     requires { ⌜ Given (now corners) (now low) (now table) (now levels) × (length (now levels) ≤ length (now starts)) × (length (now levels) ≤ mostCorners) ⌝ }
-    ensures { λ _. ⌜ ((M : Mesh) → Of M (now (corners .entry)) (now (low .entry)) (now (table .entry)) (now (levels .entry)) → Started M (now (corners .entry)) (now (low .entry)) (now (table .entry)) (now (levels .entry)) (now (starts .exit))) ⌝ }
+    ensures { λ _. ⌜ ((M : Mesh) → Of M (now (corners .entry)) (now (low .entry)) (now (table .entry)) (now (levels .entry)) → PointsStarted M (now (corners .entry)) (now (low .entry)) (now (table .entry)) (now (levels .entry)) (now (starts .exit))) ⌝ }
 {
     let mut sum = 0;
     let mut c = 0;
@@ -471,7 +471,7 @@ fn group_start(
     g: usize,
 ) -> u32
     requires { ⌜ Starting (now corners) (now low) (now table) (now levels) (now starts) × (c < length (now levels)) × (g ≤ 5) ⌝ }
-    ensures { λ r. ⌜ (r < 8388608) × ((M : Mesh) → Started M (now (corners .entry)) (now (low .entry)) (now (table .entry)) (now (levels .entry)) (now (starts .entry)) → r ≡ groupStart M (now (levels .entry)) c g) ⌝ }
+    ensures { λ r. ⌜ (r < 8388608) × ((M : Mesh) → PointsStarted M (now (corners .entry)) (now (low .entry)) (now (table .entry)) (now (levels .entry)) (now (starts .entry)) → r ≡ groupStart M (now (levels .entry)) c g) ⌝ }
 {
     let a = group_offset(corners, low, table, levels, c, g);
     starts[c] + a as u32
@@ -488,7 +488,7 @@ fn end_number(
     side: usize,
 ) -> u32
     requires { ⌜ Starting (now corners) (now low) (now table) (now levels) (now starts) × (c < length (now levels)) × (side ≤ 3) ⌝ }
-    ensures { λ r. ⌜ ((M : Mesh) → Started M (now (corners .entry)) (now (low .entry)) (now (table .entry)) (now (levels .entry)) (now (starts .entry)) → r ≡ endNumber M (now (levels .entry)) c (begin (sideAt side))) ⌝ }
+    ensures { λ r. ⌜ ((M : Mesh) → PointsStarted M (now (corners .entry)) (now (low .entry)) (now (table .entry)) (now (levels .entry)) (now (starts .entry)) → r ≡ endNumber M (now (levels .entry)) c (begin (sideAt side))) ⌝ }
 {
     if side == 0 {
         let d = vertex_owner(corners, low, c);
@@ -518,7 +518,7 @@ fn curve_start(
     side: usize,
 ) -> u32
     requires { ⌜ Starting (now corners) (now low) (now table) (now levels) (now starts) × (c < length (now levels)) × (side ≤ 3) ⌝ }
-    ensures { λ r. ⌜ (r < 8388608) × ((M : Mesh) → Started M (now (corners .entry)) (now (low .entry)) (now (table .entry)) (now (levels .entry)) (now (starts .entry)) → r ≡ curveStart M (now (levels .entry)) c (sideAt side)) ⌝ }
+    ensures { λ r. ⌜ (r < 8388608) × ((M : Mesh) → PointsStarted M (now (corners .entry)) (now (low .entry)) (now (table .entry)) (now (levels .entry)) (now (starts .entry)) → r ≡ curveStart M (now (levels .entry)) c (sideAt side)) ⌝ }
 {
     if side == 0 {
         return group_start(corners, low, table, levels, starts, c, 3);
@@ -542,9 +542,9 @@ fn outer_row(
     starts: &[u32],
     c: usize,
     side: usize,
-) -> Row
+) -> NumberedRow
     requires { ⌜ Starting (now corners) (now low) (now table) (now levels) (now starts) × (c < length (now levels)) × (side ≤ 3) ⌝ }
-    ensures { λ r. ⌜ Small r × ((M : Mesh) → Started M (now (corners .entry)) (now (low .entry)) (now (table .entry)) (now (levels .entry)) (now (starts .entry)) → RowOf M (now (levels .entry)) c (sideAt side) 0 r) ⌝ }
+    ensures { λ r. ⌜ RowFits r × ((M : Mesh) → PointsStarted M (now (corners .entry)) (now (low .entry)) (now (table .entry)) (now (levels .entry)) (now (starts .entry)) → RowOf M (now (levels .entry)) c (sideAt side) 0 r) ⌝ }
 {
     let first = end_number(corners, low, table, levels, starts, c, side);
     let mut after = 0;
@@ -554,7 +554,7 @@ fn outer_row(
     let last = end_number(corners, low, table, levels, starts, c, after);
     let base = curve_start(corners, low, table, levels, starts, c, side);
     let parts = segments_at(table, levels, c, side);
-    Row {
+    NumberedRow {
         first: first,
         last: last,
         base: base,
@@ -564,16 +564,16 @@ fn outer_row(
 }
 
 // A side's row of w segments on a ring whose points start at `start`.
-fn ring_row(start: u32, side: usize, w: usize) -> Row
+fn ring_row(start: u32, side: usize, w: usize) -> NumberedRow
     requires { ⌜ (start < 16777216) × (side ≤ 3) × (w ≤ 15) ⌝ }
-    ensures { λ r. ⌜ Small r × (r .parts ≡ w) × ((j : ℕ) → j ≤ w → numberAt r j ≡ start + ringPlace side w j) ⌝ }
+    ensures { λ r. ⌜ RowFits r × (r .parts ≡ w) × ((j : ℕ) → j ≤ w → rowNumber r j ≡ start + ringPlace side w j) ⌝ }
 {
     let at = start + (side * w) as u32;
     let mut last = start;
     if side < 3 {
         last = at + w as u32;
     }
-    Row {
+    NumberedRow {
         first: at,
         last: last,
         base: at + 1,
@@ -603,8 +603,8 @@ fn put_side(
     at: usize,
 ) -> usize
     requires { ⌜ Starting (now corners) (now low) (now table) (now levels) (now starts) × (c < length (now levels)) × (side ≤ 3) ⌝ }
-    requires room { ⌜ ((M : Mesh) → Started M (now corners) (now low) (now table) (now levels) (now starts) → at + 3 * (sideStart M (now levels) c (side + 1) - sideStart M (now levels) c side) ≤ length (now out)) ⌝ }
-    ensures { λ r. ⌜ ((M : Mesh) → Started M (now (corners .entry)) (now (low .entry)) (now (table .entry)) (now (levels .entry)) (now (starts .entry)) → Put M (now (levels .entry)) (sideStart M (now (levels .entry)) c side) (sideStart M (now (levels .entry)) c (side + 1)) at r (now (out .entry)) (now (out .exit))) ⌝ }
+    requires room { ⌜ ((M : Mesh) → PointsStarted M (now corners) (now low) (now table) (now levels) (now starts) → at + 3 * (sideStart M (now levels) c (side + 1) - sideStart M (now levels) c side) ≤ length (now out)) ⌝ }
+    ensures { λ r. ⌜ ((M : Mesh) → PointsStarted M (now (corners .entry)) (now (low .entry)) (now (table .entry)) (now (levels .entry)) (now (starts .entry)) → TrianglesPut M (now (levels .entry)) (sideStart M (now (levels .entry)) c side) (sideStart M (now (levels .entry)) c (side + 1)) at r (now (out .entry)) (now (out .exit))) ⌝ }
 {
     let n = level_at(levels, c);
     let five = group_start(corners, low, table, levels, starts, c, 5);
@@ -636,8 +636,8 @@ fn put_corner(
     at: usize,
 ) -> usize
     requires { ⌜ Starting (now corners) (now low) (now table) (now levels) (now starts) × (c < length (now levels)) ⌝ }
-    requires room { ⌜ ((M : Mesh) → Started M (now corners) (now low) (now table) (now levels) (now starts) → at + 3 * (trianglesBefore M (now levels) (c + 1) - trianglesBefore M (now levels) c) ≤ length (now out)) ⌝ }
-    ensures { λ r. ⌜ ((M : Mesh) → Started M (now (corners .entry)) (now (low .entry)) (now (table .entry)) (now (levels .entry)) (now (starts .entry)) → Put M (now (levels .entry)) (trianglesBefore M (now (levels .entry)) c) (trianglesBefore M (now (levels .entry)) (c + 1)) at r (now (out .entry)) (now (out .exit))) ⌝ }
+    requires room { ⌜ ((M : Mesh) → PointsStarted M (now corners) (now low) (now table) (now levels) (now starts) → at + 3 * (trianglesBefore M (now levels) (c + 1) - trianglesBefore M (now levels) c) ≤ length (now out)) ⌝ }
+    ensures { λ r. ⌜ ((M : Mesh) → PointsStarted M (now (corners .entry)) (now (low .entry)) (now (table .entry)) (now (levels .entry)) (now (starts .entry)) → TrianglesPut M (now (levels .entry)) (trianglesBefore M (now (levels .entry)) c) (trianglesBefore M (now (levels .entry)) (c + 1)) at r (now (out .entry)) (now (out .exit))) ⌝ }
 {
     let mut to = at;
     let mut side = 0;
@@ -660,8 +660,8 @@ fn put_corners(
     out: &mut [u32],
 )
     requires { ⌜ Starting (now corners) (now low) (now table) (now levels) (now starts) × (first + count ≤ length (now levels)) ⌝ }
-    requires room { ⌜ ((M : Mesh) → Started M (now corners) (now low) (now table) (now levels) (now starts) → 3 * (trianglesBefore M (now levels) (first + count) - trianglesBefore M (now levels) first) ≤ length (now out)) ⌝ }
-    ensures { λ _. ⌜ ((M : Mesh) → Started M (now (corners .entry)) (now (low .entry)) (now (table .entry)) (now (levels .entry)) (now (starts .entry)) → now (out .exit) ≡ begins (triangleList M (now (levels .entry)) first count) (now (out .entry))) ⌝ }
+    requires room { ⌜ ((M : Mesh) → PointsStarted M (now corners) (now low) (now table) (now levels) (now starts) → 3 * (trianglesBefore M (now levels) (first + count) - trianglesBefore M (now levels) first) ≤ length (now out)) ⌝ }
+    ensures { λ _. ⌜ ((M : Mesh) → PointsStarted M (now (corners .entry)) (now (low .entry)) (now (table .entry)) (now (levels .entry)) (now (starts .entry)) → now (out .exit) ≡ begins (triangleList M (now (levels .entry)) first count) (now (out .entry))) ⌝ }
 {
     let mut to = 0;
     let mut c = 0;

@@ -9,9 +9,9 @@ ghost use Rattle.paper.specs.Cosines.{cosine};
 ghost use Rattle.numbers.specs.Stored.{stored};
 
 // Rows 3 to 16.
-const COUNT: usize = MOST_SIDES + 1 - LEAST_SIDES;
+const COSINE_ROWS: usize = MOST_SIDES + 1 - LEAST_SIDES;
 
-pub type Rows = [[i64; MOST_SIDES]; COUNT];
+pub type Rows = [[i64; MOST_SIDES]; COSINE_ROWS];
 
 const TABLE: Rows = [
     [

@@ -11,7 +11,7 @@ ghost use lib.ListN.{length};
 ghost use Rattle.paper.specs.Mesh.{Mesh, plainMesh, mostCorners};
 ghost use Rattle.paper.specs.Faults.{verdict, stated};
 ghost use Rattle.off.specs.words.Cursor.{Before};
-ghost use Rattle.off.specs.checking.Call.{Lists, Room, WordsRead, Checked};
+ghost use Rattle.off.specs.checking.Call.{Lists, OwnRoom, WordsRead, TextChecked};
 
 // Checks 25, 26 and 4 to 13, with the lists in own ones.
 pub(crate) fn read_checked(
@@ -21,8 +21,8 @@ pub(crate) fn read_checked(
     sides: &mut [u8],
     corners: &mut [u16],
 ) -> Decoded
-    requires { ⌜ Before (now text) 1 c × Room (now coordinates) (now sides) (now corners) ⌝ }
-    ensures { λ r. ⌜ Checked (now (text .entry)) r (now (coordinates .exit)) (now (sides .exit)) (now (corners .exit)) ⌝ }
+    requires { ⌜ Before (now text) 1 c × OwnRoom (now coordinates) (now sides) (now corners) ⌝ }
+    ensures { λ r. ⌜ TextChecked (now (text .entry)) r (now (coordinates .exit)) (now (sides .exit)) (now (corners .exit)) ⌝ }
 {
     let d = read_words(text, c, coordinates, sides, corners);
     let answer = d.answer;
@@ -78,7 +78,7 @@ pub fn read_words(
 
 // Checks 4 to 13, of lists of these lengths in own ones: first 4, by the lengths alone, as not all need have room.
 fn check(d: Decoded, coordinates: &[i32], sides: &[u8], corners: &[u16]) -> Answer
-    requires { ⌜ Room (now coordinates) (now sides) (now corners) ⌝ }
+    requires { ⌜ OwnRoom (now coordinates) (now sides) (now corners) ⌝ }
     ensures { λ r. ⌜ ((M : Mesh) → Lists M d (now (coordinates .entry)) (now (sides .entry)) (now (corners .entry)) → stated r ≡ verdict M) ⌝ }
 {
     let n = d.coordinates;

@@ -5,7 +5,7 @@ ghost use Prim.Native.Nat.{_+_, _-_, _*_, _<_, _≤_};
 ghost use lib.IntN.{pos, negℤ};
 ghost use lib.ListN.{length, drop};
 ghost use Rattle.paper.specs.Faults.{outside};
-ghost use Rattle.paper.specs.Off.{allDigits, isNumber, decimal as Off·decimal, valueOf};
+ghost use Rattle.paper.specs.Off.{allDigits, isNumber, valueAfter, valueOf};
 ghost use Rattle.off.specs.digits.Start.{Start};
 
 // The most digits of a number.
@@ -86,7 +86,7 @@ fn with_digit(n: u32, byte: u8) -> u32
 // The number that the digits from a place on are.
 fn decimal(word: &[u8], from: usize) -> u32
     requires { ⌜ (from ≤ length (now word)) × (length (now word) ≤ from + 9) × (allDigits (drop from (now word)) ≡ true) ⌝ }
-    ensures { λ r. ⌜ (r ≡ Off·decimal 0 (drop from (now (word .entry)))) × (r < 1000000000) ⌝ }
+    ensures { λ r. ⌜ (r ≡ valueAfter 0 (drop from (now (word .entry)))) × (r < 1000000000) ⌝ }
 {
     let mut n: u32 = 0;
     let mut i = from;

@@ -21,7 +21,7 @@ ghost use lib.ListN.{length};
 ghost use Rattle.paper.specs.Mesh.{meshOf, four, mostCorners};
 ghost use Rattle.paper.specs.Off.{short, OffRead};
 ghost use Rattle.off.specs.words.Cursor.{Before};
-ghost use Rattle.off.specs.checking.Call.{Room, Copied};
+ghost use Rattle.off.specs.checking.Call.{OwnRoom, TextCopied};
 
 // The lists of an OFF text, into the beginnings of the lent ones.
 pub fn read(
@@ -84,8 +84,8 @@ fn read_through(
     corners: &mut [u16],
     sharpness: &mut [u8],
 ) -> Decoded
-    requires { ⌜ Before (now text) 1 c × Room (now numbers) (now sizes) (now names) × Room (now coordinates) (now sides) (now corners) × (2 * mostCorners ≤ length (now sharpness)) ⌝ }
-    ensures { λ r. ⌜ Copied (now (text .entry)) (meshOf (now (coordinates .entry)) (now (sides .entry)) (now (corners .entry)) (now (sharpness .entry))) r (meshOf (now (coordinates .exit)) (now (sides .exit)) (now (corners .exit)) (now (sharpness .exit))) ⌝ }
+    requires { ⌜ Before (now text) 1 c × OwnRoom (now numbers) (now sizes) (now names) × OwnRoom (now coordinates) (now sides) (now corners) × (2 * mostCorners ≤ length (now sharpness)) ⌝ }
+    ensures { λ r. ⌜ TextCopied (now (text .entry)) (meshOf (now (coordinates .entry)) (now (sides .entry)) (now (corners .entry)) (now (sharpness .entry))) r (meshOf (now (coordinates .exit)) (now (sides .exit)) (now (corners .exit)) (now (sharpness .exit))) ⌝ }
 {
     let d = read_checked(text, c, numbers, sizes, names);
     let answer = d.answer;

@@ -36,14 +36,14 @@ pub struct Header {
 }
 
 // The same, with the side count of a face.
-pub struct Face {
+pub struct ReadFace {
     pub ok: bool,
     pub next: Cursor,
     pub sides: usize,
 }
 
 // The same, with the corners of all faces.
-pub struct Faces {
+pub struct ReadFaces {
     pub ok: bool,
     pub next: Cursor,
     pub corners: usize,
@@ -206,13 +206,13 @@ fn read_face(
     face: usize,
     corners: &mut [u16],
     at: usize,
-) -> Face
+) -> ReadFace
     requires { ⌜ Before (now text) (c .word) c × (at < 18446744073709551000) ⌝ }
     ensures { λ r. ⌜ FaceRead (now (text .entry)) (c .word) face at (now (sides .entry)) (now (corners .entry)) r (now (sides .exit)) (now (corners .exit)) ⌝ }
 {
     let s = read_natural(text, c, MOST_SIDE_COUNT);
     if !s.ok {
-        return Face {
+        return ReadFace {
             ok: false,
             next: c,
             sides: 0,
@@ -222,7 +222,7 @@ fn read_face(
     let first = s.next;
     let p = read_corners(text, first, s.value, corners, at);
     let next = p.next;
-    Face {
+    ReadFace {
         ok: p.ok,
         next: next,
         sides: s.value,
@@ -236,7 +236,7 @@ pub(crate) fn read_faces(
     count: usize,
     sides: &mut [u8],
     corners: &mut [u16],
-) -> Faces
+) -> ReadFaces
     requires { ⌜ Before (now text) (c .word) c × (count ≤ 65535) ⌝ }
     ensures { λ r. ⌜ FacesRead (now (text .entry)) (c .word) count (now (sides .entry)) (now (corners .entry)) r (now (sides .exit)) (now (corners .exit)) ⌝ }
 {
@@ -247,7 +247,7 @@ pub(crate) fn read_faces(
         let face = read_face(text, next, sides, f, corners, k);
         next = face.next;
         if !face.ok {
-            return Faces {
+            return ReadFaces {
                 ok: false,
                 next: next,
                 corners: 0,
@@ -256,7 +256,7 @@ pub(crate) fn read_faces(
         k += face.sides;
         f += 1;
     }
-    Faces {
+    ReadFaces {
         ok: true,
         next: next,
         corners: k,

@@ -15,7 +15,7 @@ use Rattle.paper.specs.Links.{leavesTo, arrivesFrom, linked, link, sameEdge, re
 use Rattle.paper.specs.Faults.{Verdict, sound, fault, _orElse_, single, lowestOf, fault4, fault27}
 use Rattle.paper.specs.Faults.{fault5, fault6, fault7, fault8, fault28, sameVertexFrom, fault9, fault10}
 use Rattle.paper.specs.Faults.{fault11, fault12, after, ringLength, met, fault13, listFaults, linkFaults, verdict}
-use Rattle.paper.specs.Off.{separates, comments, uncommented, piecesOf, wordsOf, isNumber, decimal, valueOf, bad, valueAt, naturalAt, endFrom, wordsEnd}
+use Rattle.paper.specs.Off.{separates, comments, uncommented, piecesOf, wordsOf, isNumber, valueAfter, valueOf, bad, valueAt, naturalAt, endFrom, wordsEnd}
 use Rattle.paper.specs.Off.{badFrom, badFaces, neededVerdict, sidesFrom, cornersFrom, wordsMesh, isOff, short, fault24, fault26, wordsVerdict, offVerdict}
 use Rattle.paper.specs.Off.{textMesh}
 use Rattle.paper.specs.Examples.{Row, _gives_, AllGive}
@@ -174,6 +174,6 @@ off-examples : AllGive offTable
 unfolding offTable all-same same firstFrom firstBelow someBelow countBelow iterate sumOf faceOf startOf firstOf sidesOf next previous
     leavesTo arrivesFrom linked link valuesFrom sameEdge reverseEdge names valence lowest _orElse_ single lowestOf fault4 fault27 fault5
     fault6 fault7 fault8 fault28 sameVertexFrom fault9 fault10 fault11 fault12 after ringLength met fault13 listFaults linkFaults verdict
-    separates comments uncommented piecesOf wordsOf isNumber decimal valueOf bad valueAt naturalAt endFrom wordsEnd badFrom badFaces
+    separates comments uncommented piecesOf wordsOf isNumber valueAfter valueOf bad valueAt naturalAt endFrom wordsEnd badFrom badFaces
     neededVerdict sidesFrom cornersFrom wordsMesh isOff short fault24 fault26 wordsVerdict offVerdict textMesh
 off-examples = agree offTable tt

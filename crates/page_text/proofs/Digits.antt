@@ -3,7 +3,7 @@ use mathlib.Core.Path.{_≡_, refl, sym, subst}
 use mathlib.Core.List.{List, [], _∷_, _++_}
 use Prim.Native.Nat.{ℕ, _+_, _*_, _-_, _≤_}
 use native.Mathlib.Omega.{arith}
-use Rattle.page_text.specs.Reading.{Digit, Digits, Ended, valueAfter}
+use Rattle.page_text.specs.Reading.{Digit, Digits, NoDigit, valueAfter}
 
 pub one-digit-more : (a : List ℕ) (b : ℕ) → Digits a → Digit b → Digits (a ++ (b ∷ []))
 unfolding Digits
@@ -24,8 +24,8 @@ no-cons : {x : ℕ} {l : List ℕ} → [] ≡ x ∷ l → ⊥
 no-cons q = let z : _≡_ {A = ℕ} 0 1 = cc in omega arith
 
 -- a run of digits that no digit follows is as long as any
-pub longest : (a b t rest : List ℕ) → Digits a → Ended rest → b ++ rest ≡ a ++ t → (more : List ℕ) × (b ≡ a ++ more)
-unfolding Digits Ended
+pub longest : (a b t rest : List ℕ) → Digits a → NoDigit rest → b ++ rest ≡ a ++ t → (more : List ℕ) × (b ≡ a ++ more)
+unfolding Digits NoDigit
 longest [] b t rest d e q = (b, refl)
 longest (x ∷ a) [] t [] d e q = absurd (no-cons q)
 longest (x ∷ a) [] t (y ∷ rest) d e q = let h : x ≡ y = cc in absurd (e (subst (λ (z : ℕ). Digit z) h (d .0)))
@@ -37,8 +37,8 @@ longest (x ∷ a) (y ∷ b) t rest d e q =
     (r .0, cc)
 
 -- and there is one such run
-pub same-split : (a b s t : List ℕ) → Digits a → Digits b → Ended s → Ended t → a ++ s ≡ b ++ t → (a ≡ b) × (s ≡ t)
-unfolding Digits Ended
+pub same-split : (a b s t : List ℕ) → Digits a → Digits b → NoDigit s → NoDigit t → a ++ s ≡ b ++ t → (a ≡ b) × (s ≡ t)
+unfolding Digits NoDigit
 same-split [] [] s t da db es et q = (refl, q)
 same-split [] (y ∷ b) [] t da db es et q = absurd (no-cons q)
 same-split [] (y ∷ b) (x ∷ s) t da db es et q = let h : y ≡ x = cc in absurd (es (subst (λ (z : ℕ). Digit z) h (db .0)))

@@ -9,26 +9,26 @@ use native.Mathlib.Omega.{arith}
 use lib.ListN.{length, drop, getD, length-append, drop-of-length-le}
 use lib.Seq.{drop-cons}
 use Rattle.mesh.proofs.Scans.{ways}
-use Rattle.page_text.specs.Reading.{mostRead, Digit, Digits, Ended, valueAfter, Decimal, Passed, DigitsRead, Found, NumberRead}
-use Rattle.page_text.specs.declared.Number.{Number}
+use Rattle.page_text.specs.Reading.{Digit, Digits, NoDigit, valueAfter, DigitsPassed, DigitsRead, SpacedRead}
+use Rattle.page_text.specs.declared.ReadNumber.{ReadNumber}
 use Rattle.page_text.proofs.Digits.{one-digit-more, value-append, value-grows, longest, same-split}
 
 -- ---- what follows the digits
-pub ended-here : (line : List ℕ) (at : ℕ) → at < length line → (Digit (getD line at 0) → ⊥) → Ended (drop at line)
-unfolding Ended
-ended-here line at h n = subst Ended (sym (drop-cons line at 0 h)) n
+pub ended-here : (line : List ℕ) (at : ℕ) → at < length line → (Digit (getD line at 0) → ⊥) → NoDigit (drop at line)
+unfolding NoDigit
+ended-here line at h n = subst NoDigit (sym (drop-cons line at 0 h)) n
 
-pub ended-end : (line : List ℕ) (at : ℕ) → length line ≤ at → Ended (drop at line)
-unfolding Ended
-ended-end line at h = subst Ended (sym (drop-of-length-le line h)) tt
+pub ended-end : (line : List ℕ) (at : ℕ) → length line ≤ at → NoDigit (drop at line)
+unfolding NoDigit
+ended-end line at h = subst NoDigit (sym (drop-of-length-le line h)) tt
 
 -- ---- digits
-pub passed-none : (line : List ℕ) (from : ℕ) → from ≤ length line → Passed line from from 0
+pub passed-none : (line : List ℕ) (from : ℕ) → from ≤ length line → DigitsPassed line from from 0
 unfolding Digits valueAfter
 passed-none line from h =
     record { passed = []; split = refl; digits = tt; value-is = refl; onward = omega arith; inside = h; within = omega arith }
 
-module _ (line : List ℕ) (from at value : ℕ) (h : at < length line) (d : Digit (getD line at 0)) (p : Passed line from at value) where
+module _ (line : List ℕ) (from at value : ℕ) (h : at < length line) (d : Digit (getD line at 0)) (p : DigitsPassed line from at value) where
   one-more : List ℕ
   one-more = p .passed ++ (getD line at 0 ∷ [])
 
@@ -46,7 +46,7 @@ module _ (line : List ℕ) (from at value : ℕ) (h : at < length line) (d : Dig
   unfolding one-more
   digits-more = one-digit-more (p .passed) (getD line at 0) (p .digits) d
 
-  pub passed-more : value ≤ 1844674407370955160 → Passed line from (at + 1) (10 * value + (getD line at 0 - 48))
+  pub passed-more : value ≤ 1844674407370955160 → DigitsPassed line from (at + 1) (10 * value + (getD line at 0 - 48))
   unfolding one-more
   passed-more m = record {
     passed = one-more;
@@ -59,7 +59,7 @@ module _ (line : List ℕ) (from at value : ℕ) (h : at < length line) (d : Dig
   }
 
   -- a number to which no digit can be appended, and the digit after it
-  pub digits-large : (r : Number) → r .ok ≡ false → r .end ≡ 0 → 1844674407370955160 < value → DigitsRead line from r
+  pub digits-large : (r : ReadNumber) → r .ok ≡ false → r .end ≡ 0 → 1844674407370955160 < value → DigitsRead line from r
   digits-large r e z m = record {
     found = λ t. absurd (true≢false (sym t ∙ e));
     ends = λ t. absurd (true≢false (sym t ∙ e));
@@ -69,7 +69,7 @@ module _ (line : List ℕ) (from at value : ℕ) (h : at < length line) (d : Dig
     nowhere = λ f. z;
   }
 
-pub digits-found : (line : List ℕ) (from : ℕ) (r : Number) → r .ok ≡ true → Passed line from (r .end) (r .value) → Ended (drop (r .end) line)
+pub digits-found : (line : List ℕ) (from : ℕ) (r : ReadNumber) → r .ok ≡ true → DigitsPassed line from (r .end) (r .value) → NoDigit (drop (r .end) line)
     → DigitsRead line from r
 digits-found line from r t p e = record {
   found = λ _. p;
@@ -79,7 +79,7 @@ digits-found line from r t p e = record {
 }
 
 -- ---- a space, and digits
-pub number-past : (line : List ℕ) (at : ℕ) (r : Number) → r .ok ≡ false → length line ≤ at → NumberRead line at r
+pub number-past : (line : List ℕ) (at : ℕ) (r : ReadNumber) → r .ok ≡ false → length line ≤ at → SpacedRead line at r
 number-past line at r e h = record {
   found = λ t. absurd (true≢false (sym t ∙ e));
   none = λ f digits rest n q d w. no-bytes (sym (drop-of-length-le line h) ∙ q);
@@ -95,14 +95,14 @@ module _ (line : List ℕ) (at : ℕ) (h : at < length line) where
   later : (x : ℕ) (l : List ℕ) → drop at line ≡ x ∷ l → drop (at + 1) line ≡ l
   later x l q = let e = drop-cons line at 0 h in let f : drop (suc at) line ≡ l = cc in ap (λ (n : ℕ). drop n line) (add-one at) ∙ f
 
-  pub number-other : (r : Number) → r .ok ≡ false → (getD line at 0 ≡ 32 → ⊥) → NumberRead line at r
+  pub number-other : (r : ReadNumber) → r .ok ≡ false → (getD line at 0 ≡ 32 → ⊥) → SpacedRead line at r
   number-other r e n = record {
     found = λ t. absurd (true≢false (sym t ∙ e));
     none = λ f digits rest k q d w. n (first 32 (digits ++ rest) q);
   }
 
-  module _ (space : getD line at 0 ≡ 32) (s : Number) (d : DigitsRead line (at + 1) s) where
-    pub number-here : (s .end ≡ at + 1 → ⊥) → NumberRead line at s
+  module _ (space : getD line at 0 ≡ 32) (s : ReadNumber) (d : DigitsRead line (at + 1) s) where
+    pub number-here : (s .end ≡ at + 1 → ⊥) → SpacedRead line at s
     number-here n = record {
       found = λ t. let p = d .found t in record {
         text = p .passed;
@@ -125,7 +125,7 @@ module _ (line : List ℕ) (at : ℕ) (h : at < length line) where
         nothing-or-some zero = inl refl
         nothing-or-some (suc n) = inr (omega arith)
 
-    pub number-none : (r : Number) → r .ok ≡ false → s .end ≡ at + 1 → NumberRead line at r
+    pub number-none : (r : ReadNumber) → r .ok ≡ false → s .end ≡ at + 1 → SpacedRead line at r
     number-none r e z = record {
       found = λ t. absurd (true≢false (sym t ∙ e));
       none = λ f digits rest k q g w. ⊎-elim

@@ -1,6 +1,6 @@
 -- Numbers read one after the other from a line: what was read stands in the list, and each list of numbers that the line has agrees with it.
 use mathlib.Core.Path.{_≡_, refl, sym, ap, subst, _∙_}
-use mathlib.Core.Bool.{Bool, true, false, true≢false}
+use mathlib.Core.Bool.{false, true≢false}
 use mathlib.Core.List.{List, [], _∷_, _++_, append-assoc, append-nil}
 use Prim.Native.Nat.{ℕ, suc, _+_, _<_, _≤_}
 use native.Mathlib.Numerals.{add-one}
@@ -9,15 +9,15 @@ use lib.Dec.{eqb}
 use lib.ListN.{length, take, drop, getD, set, length-drop, drop-of-length-le}
 use lib.Seq.{drop-cons, take-suc, take-suc-set, take-all}
 use borrow.Author.Tests.{eqb-true, eq-eqb}
-use Rattle.page_text.specs.Reading.{Ended, valueAfter, Decimal, Spaced, PageForm, PageRead, Found, NumberRead}
-use Rattle.page_text.specs.declared.Number.{Number}
+use Rattle.page_text.specs.Reading.{NoDigit, valueAfter, Spaced, PageRead, SpacedFound, SpacedRead}
+use Rattle.page_text.specs.declared.ReadNumber.{ReadNumber}
 use Rattle.page_text.proofs.Digits.{same-split}
 
 -- after a number the line ends, or a space follows
-pub spaced-ended : (text numbers : List ℕ) → Spaced text numbers → Ended text
-unfolding Spaced Ended
-spaced-ended text [] s = subst Ended (sym s) tt
-spaced-ended text (n ∷ numbers) s = subst Ended (sym (s .2)) (λ d. omega (arith, d .0))
+pub spaced-ended : (text numbers : List ℕ) → Spaced text numbers → NoDigit text
+unfolding Spaced NoDigit
+spaced-ended text [] s = subst NoDigit (sym s) tt
+spaced-ended text (n ∷ numbers) s = subst NoDigit (sym (s .2)) (λ d. omega (arith, d .0))
 
 -- i numbers were read, up to a place
 pub record Taken (line : List ℕ) (i at : ℕ) (numbers : List ℕ) : Type 0 where
@@ -34,7 +34,7 @@ module _ (line : List ℕ) (i at : ℕ) (numbers : List ℕ) (h : i < 21) (t : T
   whole : (others : List ℕ) → length others ≡ 21 → Spaced (drop 4 line) others → Spaced (drop at line) (getD others i 0 ∷ drop (suc i) others)
   whole others w s = subst (Spaced (drop at line)) (drop-cons others i 0 (omega arith)) (t .complete others w s .0)
 
-  pub taken-more : (end value : ℕ) → length numbers ≡ 21 → Found line at end value → Taken line (i + 1) end (set numbers i value)
+  pub taken-more : (end value : ℕ) → length numbers ≡ 21 → SpacedFound line at end value → Taken line (i + 1) end (set numbers i value)
   unfolding Spaced
   taken-more end value l f =
       let k : i < length numbers = omega arith in
@@ -62,7 +62,7 @@ module _ (line : List ℕ) (i at : ℕ) (numbers : List ℕ) (h : i < 21) (t : T
       tail : {x y : ℕ} {a b : List ℕ} → x ∷ a ≡ y ∷ b → a ≡ b
       tail e = cc
 
-  pub page-none : (r : Number) (left : List ℕ) → r .ok ≡ false → NumberRead line at r → PageRead line false left
+  pub page-none : (r : ReadNumber) (left : List ℕ) → r .ok ≡ false → SpacedRead line at r → PageRead line false left
   unfolding Spaced
   page-none r left e n = record {
     says = λ f. absurd (true≢false (sym f));

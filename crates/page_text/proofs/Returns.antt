@@ -8,8 +8,8 @@ use native.Mathlib.Nat.{pow-succ'}
 use native.Mathlib.Omega.{arith}
 use lib.Dec.{ltb}
 use lib.ListN.{length, take, drop, getD, length-append}
-use lib.Seq.{take-suc, take-all, take-append-seam, drop-append-seam}
-use borrow.Author.Tests.{ltb-true, ltb-false}
+use lib.Seq.{take-suc, take-all, take-append-seam}
+use borrow.Author.Tests.{ltb-true}
 use Rattle.mesh.proofs.Scans.{ways}
 use Rattle.streams.specs.text.Text.{decimalWithin, decimal}
 use Rattle.page_text.specs.Lines.{textsBelow, feed, pageWord, spacedNumber, pageLine}

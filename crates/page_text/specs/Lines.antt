@@ -26,8 +26,8 @@ cornersWord = 99 ∷ 111 ∷ 114 ∷ 110 ∷ 101 ∷ 114 ∷ 115 ∷ 32 ∷ 98 �
 abbrev pub bordersWord : List ℕ
 bordersWord = 98 ∷ 111 ∷ 114 ∷ 100 ∷ 101 ∷ 114 ∷ 115 ∷ 32 ∷ 109 ∷ 101 ∷ 116 ∷ 58 ∷ 32 ∷ []
 
-abbrev pub refusedWord : List ℕ
-refusedWord = 114 ∷ 101 ∷ 102 ∷ 117 ∷ 115 ∷ 101 ∷ 100 ∷ 32 ∷ 98 ∷ 121 ∷ 32 ∷ []
+abbrev pub refusedByWord : List ℕ
+refusedByWord = 114 ∷ 101 ∷ 102 ∷ 117 ∷ 115 ∷ 101 ∷ 100 ∷ 32 ∷ 98 ∷ 121 ∷ 32 ∷ []
 
 abbrev pub colon : List ℕ
 colon = 58 ∷ 32 ∷ []
@@ -44,7 +44,7 @@ pageWord = 112 ∷ 97 ∷ 103 ∷ 101 ∷ []
 
 -- the meshes refused by a number; the line of 1 is that of the number after the first three
 abbrev pub refusedByLine : ℕ → ℕ → List ℕ
-refusedByLine number n = refusedWord ++ (decimal number ++ namedLine colon n)
+refusedByLine number n = refusedByWord ++ (decimal number ++ namedLine colon n)
 
 abbrev pub refusalsLine : List ℕ → ℕ → List ℕ
 refusalsLine numbers l = refusedByLine (l + 1) (getD numbers (3 + l) 0)

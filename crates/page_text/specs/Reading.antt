@@ -5,7 +5,7 @@ use mathlib.Core.Bool.{Bool, true, false}
 use mathlib.Core.List.{List, [], _∷_, _++_}
 use Prim.Native.Nat.{ℕ, _+_, _*_, _-_, _<_, _≤_}
 use lib.ListN.{length, take, drop}
-use Rattle.page_text.specs.declared.Number.{Number}
+use Rattle.page_text.specs.declared.ReadNumber.{ReadNumber}
 
 -- r says whether a line begins with a word
 abbrev pub Begins : List ℕ → List ℕ → Bool → Type 0
@@ -24,9 +24,9 @@ Digits [] = Unit {0}
 Digits (byte ∷ text) = Digit byte × Digits text
 
 -- no digit stands first
-unfoldable pub Ended : List ℕ → Type 0
-Ended [] = Unit {0}
-Ended (byte ∷ text) = Digit byte → ⊥
+unfoldable pub NoDigit : List ℕ → Type 0
+NoDigit [] = Unit {0}
+NoDigit (byte ∷ text) = Digit byte → ⊥
 
 -- the number that digits make, the first one first, after those that make n
 unfoldable pub valueAfter : ℕ → List ℕ → ℕ
@@ -57,7 +57,7 @@ pub record PageRead (line : List ℕ) (r : Bool) (numbers : List ℕ) : Type 0 w
 
 -- ---- one number
 -- digits from a place on to another, which make a value
-pub record Passed (line : List ℕ) (from at value : ℕ) : Type 0 where
+pub record DigitsPassed (line : List ℕ) (from at value : ℕ) : Type 0 where
   pub passed : List ℕ
   pub split : drop from line ≡ passed ++ drop at line
   pub digits : Digits passed
@@ -67,20 +67,20 @@ pub record Passed (line : List ℕ) (from at value : ℕ) : Type 0 where
   pub within : value ≤ mostRead
 
 -- all digits from a place on were read, unless their number is too large
-pub record DigitsRead (line : List ℕ) (from : ℕ) (r : Number) : Type 0 where
-  pub found : r .ok ≡ true → Passed line from (r .end) (r .value)
-  pub ends : r .ok ≡ true → Ended (drop (r .end) line)
-  pub none : r .ok ≡ false → (digits rest : List ℕ) → drop from line ≡ digits ++ rest → Digits digits → Ended rest → mostRead < valueAfter 0 digits
+pub record DigitsRead (line : List ℕ) (from : ℕ) (r : ReadNumber) : Type 0 where
+  pub found : r .ok ≡ true → DigitsPassed line from (r .end) (r .value)
+  pub ends : r .ok ≡ true → NoDigit (drop (r .end) line)
+  pub none : r .ok ≡ false → (digits rest : List ℕ) → drop from line ≡ digits ++ rest → Digits digits → NoDigit rest → mostRead < valueAfter 0 digits
   pub nowhere : r .ok ≡ false → r .end ≡ 0
 
 -- a space and the number after it were read
-pub record Found (line : List ℕ) (at end value : ℕ) : Type 0 where
+pub record SpacedFound (line : List ℕ) (at end value : ℕ) : Type 0 where
   pub text : List ℕ
   pub split : drop at line ≡ 32 ∷ (text ++ drop end line)
   pub decimal : Decimal text value
-  pub ends : Ended (drop end line)
+  pub ends : NoDigit (drop end line)
   pub inside : end ≤ length line
 
-pub record NumberRead (line : List ℕ) (at : ℕ) (r : Number) : Type 0 where
-  pub found : r .ok ≡ true → Found line at (r .end) (r .value)
-  pub none : r .ok ≡ false → (digits rest : List ℕ) (n : ℕ) → drop at line ≡ 32 ∷ (digits ++ rest) → Decimal digits n → Ended rest → ⊥
+pub record SpacedRead (line : List ℕ) (at : ℕ) (r : ReadNumber) : Type 0 where
+  pub found : r .ok ≡ true → SpacedFound line at (r .end) (r .value)
+  pub none : r .ok ≡ false → (digits rest : List ℕ) (n : ℕ) → drop at line ≡ 32 ∷ (digits ++ rest) → Decimal digits n → NoDigit rest → ⊥

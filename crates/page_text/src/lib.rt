@@ -10,11 +10,11 @@ ghost use lib.ListN.{length};
 ghost use Rattle.streams.specs.text.Text.{Put};
 ghost use Rattle.page_text.specs.Lines.{textsBelow, namedLine, refusedByLine, refusalsLine, inTicks, missLine, conditionLine};
 ghost use Rattle.page_text.specs.Lines.{spaced, spacedNumber, pageLine, pageLines};
-ghost use Rattle.page_text.specs.Reading.{Begins, PageRead, DigitsRead, NumberRead};
+ghost use Rattle.page_text.specs.Reading.{Begins, PageRead, DigitsRead, SpacedRead};
 ghost use Rattle.page_text.specs.Lines.{thousandths as Lines·thousandths, digit as Lines·digit};
 
 // Meshes, corners, borders, refusals under 1 to 13 and under 28, the four misses.
-pub const NUMBERS: usize = 21;
+pub const NUMBERS_ON_PAGE: usize = 21;
 
 const FIRST_REFUSALS: usize = 3;
 
@@ -38,14 +38,14 @@ const HALF: u64 = TICK / 2;
 const MOST_BEFORE: u64 = 1844674407370955160;
 
 // A number that was read, if there is one, and where it ends.
-struct Number {
+struct ReadNumber {
     ok: bool,
     value: u64,
     end: usize,
 }
 
 // The lines of a page, as far as the buffer reaches.
-pub fn put_page(lines: &mut [u8], numbers: &[u64; NUMBERS]) -> usize
+pub fn put_page(lines: &mut [u8], numbers: &[u64; NUMBERS_ON_PAGE]) -> usize
     ensures { λ r. ⌜ Put (now (lines .entry)) 0 (pageLines (now (numbers .entry))) (now (lines .exit)) r ⌝ }
 {
     let meshes = put_count(lines, 0, b"meshes offered: ", numbers[0]);
@@ -76,7 +76,7 @@ fn put_refused(lines: &mut [u8], at: usize, number: u64, n: u64) -> usize
 }
 
 // The lines of refusals under 1 to 13.
-fn put_refusals(lines: &mut [u8], from: usize, numbers: &[u64; NUMBERS]) -> usize
+fn put_refusals(lines: &mut [u8], from: usize, numbers: &[u64; NUMBERS_ON_PAGE]) -> usize
     ensures { λ r. ⌜ Put (now (lines .entry)) from (textsBelow (refusalsLine (now (numbers .entry))) 13) (now (lines .exit)) r ⌝ }
 {
     let mut at = from;
@@ -100,7 +100,7 @@ fn put_miss(lines: &mut [u8], at: usize, condition: u64, miss: u64) -> usize
 }
 
 // The lines of all misses.
-fn put_misses(lines: &mut [u8], from: usize, numbers: &[u64; NUMBERS]) -> usize
+fn put_misses(lines: &mut [u8], from: usize, numbers: &[u64; NUMBERS_ON_PAGE]) -> usize
     ensures { λ r. ⌜ Put (now (lines .entry)) from (textsBelow (conditionLine (now (numbers .entry))) 4) (now (lines .exit)) r ⌝ }
 {
     let mut at = from;
@@ -139,7 +139,7 @@ fn put_digit(lines: &mut [u8], at: usize, digit: u64) -> usize
 }
 
 // The line `page`.
-fn put_numbers(lines: &mut [u8], at: usize, numbers: &[u64; NUMBERS]) -> usize
+fn put_numbers(lines: &mut [u8], at: usize, numbers: &[u64; NUMBERS_ON_PAGE]) -> usize
     ensures { λ r. ⌜ Put (now (lines .entry)) at (pageLine (now (numbers .entry))) (now (lines .exit)) r ⌝ }
 {
     let word = put_word(lines, at, b"page");
@@ -148,12 +148,12 @@ fn put_numbers(lines: &mut [u8], at: usize, numbers: &[u64; NUMBERS]) -> usize
 }
 
 // All numbers, a space before each.
-fn put_all(lines: &mut [u8], from: usize, numbers: &[u64; NUMBERS]) -> usize
+fn put_all(lines: &mut [u8], from: usize, numbers: &[u64; NUMBERS_ON_PAGE]) -> usize
     ensures { λ r. ⌜ Put (now (lines .entry)) from (textsBelow (spacedNumber (now (numbers .entry))) 21) (now (lines .exit)) r ⌝ }
 {
     let mut at = from;
     let mut i = 0;
-    while i < NUMBERS {
+    while i < NUMBERS_ON_PAGE {
         at = put_spaced(lines, at, numbers[i]);
         i += 1;
     }
@@ -187,7 +187,7 @@ pub fn begins(line: &[u8], word: &[u8]) -> bool
 // Reads the numbers of a line that begins with `page`, and answers whether they are its 21 and nothing else follows. The line feed is not part of it.
 // Where it answers no, what the numbers hold is free: those before the fault were read. The line that `put_page` writes is read back as its numbers
 // (`reads-back` in proofs/Returns.antt).
-pub fn read_numbers(line: &[u8], numbers: &mut [u64; NUMBERS]) -> bool
+pub fn read_numbers(line: &[u8], numbers: &mut [u64; NUMBERS_ON_PAGE]) -> bool
     ensures { λ r. ⌜ PageRead (now (line .entry)) r (now (numbers .exit)) ⌝ }
 {
     read_all(line, numbers)
@@ -200,7 +200,7 @@ fn read_all(line: &[u8], numbers: &mut [u64]) -> bool
 {
     let mut at = 4;
     let mut i = 0;
-    while i < NUMBERS {
+    while i < NUMBERS_ON_PAGE {
         let n = read_number(line, at);
         if !n.ok {
             return false;
@@ -213,8 +213,8 @@ fn read_all(line: &[u8], numbers: &mut [u64]) -> bool
 }
 
 // A space, and the number after it.
-fn read_number(line: &[u8], at: usize) -> Number
-    ensures { λ r. ⌜ NumberRead (now (line .entry)) at r ⌝ }
+fn read_number(line: &[u8], at: usize) -> ReadNumber
+    ensures { λ r. ⌜ SpacedRead (now (line .entry)) at r ⌝ }
 {
     if line.len() <= at {
         return no_number();
@@ -231,7 +231,7 @@ fn read_number(line: &[u8], at: usize) -> Number
 }
 
 // The number that the digits from a place on make. None where it is above the largest that is read.
-fn read_digits(line: &[u8], from: usize) -> Number
+fn read_digits(line: &[u8], from: usize) -> ReadNumber
     requires { ⌜ from ≤ length (now line) ⌝ }
     ensures { λ r. ⌜ DigitsRead (now (line .entry)) from r ⌝ }
 {
@@ -248,7 +248,7 @@ fn read_digits(line: &[u8], from: usize) -> Number
         value = appended(value, byte);
         at += 1;
     }
-    Number {
+    ReadNumber {
         ok: true,
         value: value,
         end: at,
@@ -263,10 +263,10 @@ fn appended(value: u64, digit: u8) -> u64
     10 * value + (digit - b'0') as u64
 }
 
-fn no_number() -> Number
+fn no_number() -> ReadNumber
     ensures { λ r. ⌜ (r .ok ≡ false) × (r .end ≡ 0) ⌝ }
 {
-    Number {
+    ReadNumber {
         ok: false,
         value: 0,
         end: 0,

@@ -7,7 +7,7 @@ use mathlib.Core.List.{List, _++_}
 use mathlib.Core.Logic.{_↔_}
 use Prim.Native.Nat.{ℕ, _+_, _*_, _%_, _≤_, _<_}
 use lib.ListN.{length, getD, take, drop}
-use lib.IntN.{ℤ, pos}
+use lib.IntN.{ℤ, pos, natAbs}
 use Rattle.paper.specs.Mesh.{Mesh, vertexCount, faceCount, cornerCount, leastSides, mostSides, plainList}
 use Rattle.paper.specs.Links.{linkTable}
 use Rattle.paper.specs.Faults.{sound, fault, listFaults, Accepted, fault27, fault28, stated}
@@ -24,11 +24,11 @@ use Rattle.paper.specs.Archive.{Archived, Restored, All32Bit, AllBytes}
 use Rattle.paper.specs.Off.{wordsOf, wordsEnd, OffRead}
 use Rattle.paper.specs.Preview.{moved, Previewed, Touched}
 use Rattle.paper.specs.Turning.{turnedMesh, edgeFaults, inSteps, connected, keepsLowest, turnsOf, TurnedTo}
-use Rattle.paper.specs.CFace.{BuildCall, PreviewCall, Sizes, TrianglesCall, CountTrianglesCall}
+use Rattle.paper.specs.CFace.{BuildCall, PreviewCall, Sizes, TrianglesCall, CountTrianglesCall, TangentsAtCall, TangentsCall}
 use Rattle.paper.specs.Borders.{Output, outputAt, Wrote, outputOf, Holds, written, mostMiss, beside, Borders, Smooth}
 use Rattle.paper.specs.Sampling.{Weights, weights, onAxis, Sampled, TriangleSampled, sideNumber, netIn, Alike, controlPoint, Leaves, Between, rowStart}
 use Rattle.paper.specs.Triangles.{apex, foot, pointNumber, sampleNumber, pointList, triangleList, Triangulated, TrianglesCounted, ClosedMesh, Spot}
-use Rattle.paper.specs.Tangents.{TangentsSampled}
+use Rattle.paper.specs.Tangents.{mostTangent, TangentsSampled, TangentsFilled}
 use Rattle.paper.specs.Report.{Once, Offered, verdictIn, zeroPage, mostMeshes, conditions, pageVerdict, run, pageOf, AddsOne, Reordered, MergedTo}
 use Rattle.paper.specs.Mirror.{Mirror}
 use Rattle.paper.specs.Accuracy.{Same, Accurate}
@@ -42,6 +42,7 @@ use Rattle.paper.specs.declared.Irregular.{Irregular}
 use Rattle.paper.specs.declared.Move.{Move}
 use Rattle.paper.specs.declared.Reported.{Reported}
 use Rattle.paper.specs.declared.Summary.{Summary}
+use Rattle.paper.specs.declared.Tangents.{Tangents}
 use Rattle.paper.specs.declared.Triangles.{Triangles}
 use Rattle.paper.specs.declared.Turned.{Turned}
 
@@ -392,6 +393,15 @@ CountsFromC =
     → CountTrianglesCall M links levels first count lent before 0 after told
     → TrianglesCounted M links levels first count (record { answer = Done; points = told .points; triangles = told .triangles })
 
+-- so is a call of `mahunopi_tangents_at` or `mahunopi_tangents` that answers 0 a call for tangents that is not refused
+abbrev pub TangentsFromC : Type 0
+TangentsFromC =
+    ((numbers : List ℤ) (side : ℕ) (w : Weights) (old : List ℤ) (before after : ℕ) (out : List ℤ)
+    → TangentsAtCall numbers side w old before 0 after out → TangentsSampled numbers side w old Done out)
+    × ((M : Mesh) (links levels : List ℕ) (first count : ℕ) (old : List ℤ) (lent before after : ℕ) (out : List ℤ) (told : ℕ)
+    → TangentsCall M links levels first count old lent before 0 after out told
+    → TangentsFilled M links levels first count old (record { answer = Done; numbers = told }) out)
+
 -- the tangents along a border agree: at a point of a common curve two calls, one on each of its nets, of any two outputs of a mesh, answer the same and leave the
 -- same tangent towards the tail. The weights are i of the head and j of the tail
 abbrev pub TangentsClose : Type 0
@@ -401,6 +411,15 @@ TangentsClose =
     → TangentsSampled (netIn A c) (sideNumber s) (weights i j 0 N) old r out
     → TangentsSampled (netIn B (beside M c s)) (sideNumber (across s)) (weights i j 0 N) old′ r′ out′
     → (r ≡ r′) × (r ≡ Done → take 3 out ≡ take 3 out′)
+
+-- the numbers of tangents are small: each that a call leaves, for one sample or for a range of corners, lies within -`mostTangent` to
+-- `mostTangent`
+abbrev pub TangentsWithin : Type 0
+TangentsWithin =
+    ((numbers : List ℤ) (side : ℕ) (w : Weights) (old out : List ℤ) → TangentsSampled numbers side w old Done out
+    → (e : ℕ) → e < 6 → natAbs (getD out e (pos 0)) ≤ mostTangent)
+    × ((M : Mesh) (links levels : List ℕ) (first count : ℕ) (old : List ℤ) (r : Tangents) (out : List ℤ)
+    → TangentsFilled M links levels first count old r out → r .answer ≡ Done → (x : ℕ) → x < r .numbers → natAbs (getD out x (pos 0)) ≤ mostTangent)
 
 -- ========================================================================================================================================================
 -- All of them
@@ -469,7 +488,9 @@ pub record Further : Type 0 where
   pub counts-serve : CountsServe
   pub triangles-from-c : TrianglesFromC
   pub counts-from-c : CountsFromC
+  pub tangents-from-c : TangentsFromC
   pub tangents-close : TangentsClose
+  pub tangents-within : TangentsWithin
 
 pub record Claims : Type 0 where
   pub demanded : Demanded

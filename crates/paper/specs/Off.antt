@@ -64,13 +64,13 @@ unfoldable pub isNumber : List ℕ → Bool
 isNumber word = allDigits (digitsOf word) && not (outside 1 9 (length (digitsOf word)))
 
 -- the value of digits after those of value n
-unfoldable pub decimal : ℕ → List ℕ → ℕ
-decimal n [] = n
-decimal n (b ∷ digits) = decimal (10 * n + (b - 48)) digits
+unfoldable pub valueAfter : ℕ → List ℕ → ℕ
+valueAfter n [] = n
+valueAfter n (b ∷ digits) = valueAfter (10 * n + (b - 48)) digits
 
 -- -0 is 0
 unfoldable pub valueOf : List ℕ → ℤ
-valueOf word = cond (isMinus word) (negℤ (pos (decimal 0 (digitsOf word)))) (pos (decimal 0 (digitsOf word)))
+valueOf word = cond (isMinus word) (negℤ (pos (valueAfter 0 (digitsOf word)))) (pos (valueAfter 0 (digitsOf word)))
 
 -- ---- what a needed word has to be: any number, or one from 0 to a largest
 pub data Kind : Type 0 where

@@ -177,15 +177,15 @@ pageOf files = pageWith
     (valuesFrom (λ j. largest (λ M. largestMiss M j) files) 0 conditions)
 
 -- a number has the line l, and one more under it
-abbrev pub Line : ℕ → ℕ → Type 0
-Line number l = (l < lines) × (getD lineNumbers l 0 ≡ number)
+abbrev pub AtLine : ℕ → ℕ → Type 0
+AtLine number l = (l < lines) × (getD lineNumbers l 0 ≡ number)
 
 abbrev pub oneMore : Page → ℕ → Page
 oneMore P l = pageWith (P .meshes + 1) (P .corners) (P .borders) (set (P .refusals) l (getD (P .refusals) l 0 + 1)) (P .misses)
 
 pub record AddsOne (P : Page) (F : Offered) (number : ℕ) : Type 0 where
   pub line : ℕ
-  pub has-line : Line number line
+  pub has-line : AtLine number line
   pub adds-one : pageAfter P F ≡ oneMore P line
 
 -- the same files in another order: two neighbours changed places, as often as one likes

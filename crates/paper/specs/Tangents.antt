@@ -1,7 +1,7 @@
 -- Beyond the requests: the two tangents of a patch at a sample, for shading, and those of the whole surface's points. They are the derivatives of the quartic at
 -- weights i/N, j/N, k/N. The first goes towards the side's tail: by the tail's weight, where the head's weight falls as it rises. The second goes towards the
 -- centre: by the centre's weight, where the head's weight falls as it rises. Times N^3 they are whole numbers, so that nothing is rounded: four times the cubic
--- Bernstein sum of the differences between control points that lie next to each other. Of a net that passes 19 each number is within 2^42.
+-- Bernstein sum of the differences between control points that lie next to each other.
 use mathlib.Core.Path.{_≡_}
 use mathlib.Core.List.{List, _++_}
 use Prim.Native.Nat.{ℕ, _+_, _-_, _*_, _/_, _%_, _^_}
@@ -23,12 +23,12 @@ use Rattle.paper.specs.declared.Answer.{Answer}
 use Rattle.paper.specs.declared.Tangents.{Tangents}
 
 -- ---- the cubic Bernstein sum: the difference beside the powers l, m, n of the three weights, which sum to 3, counts 3!/(l! m! n!) times
-unfoldable pub cubic : ℕ → ℕ → ℕ → ℕ → ℕ → ℕ → ℕ
-cubic i j k l m n = factorial 3 / (factorial l * factorial m * factorial n) * (i ^ l * j ^ m * k ^ n)
+unfoldable pub cubicBernstein : ℕ → ℕ → ℕ → ℕ → ℕ → ℕ → ℕ
+cubicBernstein i j k l m n = factorial 3 / (factorial l * factorial m * factorial n) * (i ^ l * j ^ m * k ^ n)
 
 -- row n has the differences with power n of the third weight, from the head those with power 0, 1, .. of the second
-unfoldable pub cubicSum : (ℕ → ℕ → ℤ) → ℕ → ℕ → ℕ → ℤ
-cubicSum d i j k = sum (λ n. sum (λ m. pos (cubic i j k (3 - n - m) m n) *ℤ d n m) (4 - n)) 4
+unfoldable pub cubicBernsteinSum : (ℕ → ℕ → ℤ) → ℕ → ℕ → ℕ → ℤ
+cubicBernsteinSum d i j k = sum (λ n. sum (λ m. pos (cubicBernstein i j k (3 - n - m) m n) *ℤ d n m) (4 - n)) 4
 
 -- ---- the differences: from a control point to the next one of its row, and to the one at the same place of the next row
 unfoldable pub along : (ℕ → ℤ) → Side → ℕ → ℕ → ℤ
@@ -39,10 +39,10 @@ inward p s n m = control p s (n + 1) m -ℤ control p s n m
 
 -- ---- the tangents on an axis, towards the tail and towards the centre
 unfoldable pub tangentAlong : List ℤ → Side → Weights → ℕ → ℤ
-tangentAlong numbers s w axis = pos 4 *ℤ cubicSum (along (onAxis numbers axis) s) (w .head) (w .tail) (w .centre)
+tangentAlong numbers s w axis = pos 4 *ℤ cubicBernsteinSum (along (onAxis numbers axis) s) (w .head) (w .tail) (w .centre)
 
 unfoldable pub tangentInward : List ℤ → Side → Weights → ℕ → ℤ
-tangentInward numbers s w axis = pos 4 *ℤ cubicSum (inward (onAxis numbers axis) s) (w .head) (w .tail) (w .centre)
+tangentInward numbers s w axis = pos 4 *ℤ cubicBernsteinSum (inward (onAxis numbers axis) s) (w .head) (w .tail) (w .centre)
 
 -- both as six numbers: x, y, z towards the tail, then x, y, z towards the centre. The tail of a side is that of the side across it, so that along a common
 -- curve the first tangent is the same from both nets. Sides 0 and 2 run from head to tail in the direction of the mesh's faces, sides 1 and 3 against it: so on
@@ -51,6 +51,10 @@ unfoldable pub tangentPair : List ℤ → Side → Weights → List ℤ
 tangentPair numbers s w =
     axes (tangentAlong numbers s w 0) (tangentAlong numbers s w 1) (tangentAlong numbers s w 2)
     ++ axes (tangentInward numbers s w 0) (tangentInward numbers s w 1) (tangentInward numbers s w 2)
+
+-- how large their numbers are at most (`TangentsWithin`)
+abbrev pub mostTangent : ℕ
+mostTangent = 2 ^ 42
 
 -- ---- a call for the tangents at one sample, under the checks of a sample, with six lent numbers that held `old`: it writes both
 abbrev pub TangentsSampled : List ℤ → ℕ → Weights → List ℤ → Answer → List ℤ → Type 0

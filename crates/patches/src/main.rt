@@ -17,10 +17,10 @@ ghost use Rattle.paper.specs.Mesh.{mostCorners};
 // The corners of one call of building, and their numbers.
 const RANGE: usize = 64;
 
-const NUMBERS: usize = NUMBERS_PER_CORNER * RANGE;
+const RANGE_NUMBERS: usize = NUMBERS_PER_CORNER * RANGE;
 
 // Room for a corner's 42 lines.
-const LINES: usize = 2048;
+const LINES_ROOM: usize = 2048;
 
 fn main() {
     if 1 < os::arg_count() {
@@ -113,7 +113,7 @@ fn print_range(
 ) -> bool
     requires { ⌜ (first < mostCorners) × (count ≤ 64) ⌝ }
 {
-    let mut output = [0i32; NUMBERS];
+    let mut output = [0i32; RANGE_NUMBERS];
     let answer = building::build(
         coordinates,
         sides,
@@ -131,7 +131,7 @@ fn print_range(
 }
 
 // Prints the corners of a range, as long as writing goes well.
-fn print_corners(output: &[i32; NUMBERS], first: usize, count: usize) -> bool
+fn print_corners(output: &[i32; RANGE_NUMBERS], first: usize, count: usize) -> bool
     requires { ⌜ (first < mostCorners) × (count ≤ 64) ⌝ }
 {
     let mut i = 0;
@@ -145,10 +145,10 @@ fn print_corners(output: &[i32; NUMBERS], first: usize, count: usize) -> bool
 }
 
 // The lines of one corner, the one with this place in the range, in one write.
-fn print_corner(output: &[i32; NUMBERS], place: usize, corner: usize) -> bool
+fn print_corner(output: &[i32; RANGE_NUMBERS], place: usize, corner: usize) -> bool
     requires { ⌜ place < 64 ⌝ }
 {
-    let mut lines = [0u8; LINES];
+    let mut lines = [0u8; LINES_ROOM];
     let word = streams::text::put_word(&mut lines, 0, b"corner ");
     let first = print::lines::put_ended(&mut lines, word, corner as u64, b'\n');
     let end = put_points(&mut lines, first, output, place);
@@ -156,7 +156,7 @@ fn print_corner(output: &[i32; NUMBERS], place: usize, corner: usize) -> bool
 }
 
 // Puts the numbers of one corner, three in a line.
-fn put_points(lines: &mut [u8], from: usize, output: &[i32; NUMBERS], place: usize) -> usize
+fn put_points(lines: &mut [u8], from: usize, output: &[i32; RANGE_NUMBERS], place: usize) -> usize
     requires { ⌜ place < 64 ⌝ }
 {
     let mut at = from;

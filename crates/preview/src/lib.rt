@@ -50,7 +50,8 @@ pub fn preview(
         first: first,
         count: count,
     };
-    if coordinates.len() <= FEW_NUMBERS {
+    let vertices = (coordinates.len() + 2) / 3;
+    if mesh::table_rows(vertices) == SMALL_MESH {
         let mut copy = [0i32; FEW_NUMBERS];
         return build_moved(
             coordinates,

@@ -18,7 +18,7 @@ ghost use Rattle.paper.specs.Mesh.{meshOf};
 ghost use Rattle.print.specs.mesh_input.Fitting.{NoMesh, FileRead, MeshRead};
 
 // The lengths of a mesh's lists, if there is a mesh.
-pub struct Lengths {
+pub struct MeshLengths {
     pub ok: bool,
     pub numbers: usize,
     pub faces: usize,
@@ -33,7 +33,7 @@ pub fn read_mesh(
     corners: &mut [u16],
     sharpness: &mut [u8],
     aside: bool,
-) -> Lengths
+) -> MeshLengths
     ensures { λ r. ⌜ MeshRead (meshOf (now (coordinates .entry)) (now (sides .entry)) (now (corners .entry)) (now (sharpness .entry))) r (meshOf (now (coordinates .exit)) (now (sides .exit)) (now (corners .exit)) (now (sharpness .exit))) ⌝ }
 {
     let mut bytes = [0u8; BUFFER];
@@ -62,7 +62,7 @@ fn decode_lists(
     corners: &mut [u16],
     sharpness: &mut [u8],
     aside: bool,
-) -> Lengths
+) -> MeshLengths
     ensures { λ r. ⌜ FileRead (now (bytes .entry)) counted (meshOf (now (coordinates .entry)) (now (sides .entry)) (now (corners .entry)) (now (sharpness .entry))) r (meshOf (now (coordinates .exit)) (now (sides .exit)) (now (corners .exit)) (now (sharpness .exit))) ⌝ }
 {
     let d = decode(bytes, counted, coordinates, sides, corners, sharpness);
@@ -71,7 +71,7 @@ fn decode_lists(
         tell(number, place, aside);
         return no_mesh();
     }
-    Lengths {
+    MeshLengths {
         ok: true,
         numbers: least(d.coordinates, MOST_NUMBERS),
         faces: least(d.sides, MOST_FACES),
@@ -89,10 +89,10 @@ fn tell(number: u8, place: usize, aside: bool) {
     }
 }
 
-fn no_mesh() -> Lengths
+fn no_mesh() -> MeshLengths
     ensures { λ r. ⌜ NoMesh r ⌝ }
 {
-    Lengths {
+    MeshLengths {
         ok: false,
         numbers: 0,
         faces: 0,

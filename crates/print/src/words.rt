@@ -6,7 +6,7 @@ use streams::text::put_word;
 ghost use Prim.Native.Nat.{_≤_};
 ghost use lib.ListN.{length};
 ghost use Rattle.streams.specs.text.Text.{Put};
-ghost use Rattle.print.specs.words.Worded.{placed, RowPut, Worded};
+ghost use Rattle.print.specs.words.Worded.{placed, PlacePut, Worded};
 
 // Room for the longest line.
 pub(crate) const ROOM: usize = 256;
@@ -67,7 +67,7 @@ pub(crate) fn put_worded(lines: &mut [u8], number: u8, place: usize) -> usize
 
 // A number's row after the number, with the place before the colon; nothing where there is no such row.
 fn put_row(lines: &mut [u8], at: usize, rows: &[u8], number: u8, place: u64) -> usize
-    ensures { λ r. ⌜ RowPut (now (lines .entry)) at place (now (lines .exit)) r ⌝ }
+    ensures { λ r. ⌜ PlacePut (now (lines .entry)) at place (now (lines .exit)) r ⌝ }
 {
     let start = row_start(rows, number);
     let name = past_digits(rows, start);

@@ -3,26 +3,26 @@ ghost use mathlib.Core.Path.{_≡_};
 ghost use Prim.Native.Nat.{_*_, _≤_};
 ghost use lib.ListN.{length};
 ghost use Rattle.paper.specs.Scan.{valuesFrom};
-ghost use Rattle.rearrange.specs.four_bytes.Words.{numberIn, Worded};
+ghost use Rattle.rearrange.specs.four_bytes.Words.{numberIn, NumbersStored};
 
 // The longest list that a program takes: 131,072 vertices, 1.5 MiB.
-pub const NUMBERS: usize = 393216;
+pub const LONGEST_LIST: usize = 393216;
 
-pub const BYTES: usize = 1572864;
+pub const LONGEST_BYTES: usize = 1572864;
 
 // Room for the longest list, and for one byte more, so that a longer one is noticed. Only its length is stated: what it holds is free, since every
 // caller fills what it then reads.
-pub fn byte_room() -> [u8; BYTES + 1]
+pub fn byte_room() -> [u8; LONGEST_BYTES + 1]
     ensures { λ r. ⌜ 1572865 ≡ length r ⌝ }
 {
-    [0; BYTES + 1]
+    [0; LONGEST_BYTES + 1]
 }
 
 // Room for the numbers of the longest list, with contents as free.
-pub fn number_room() -> [i32; NUMBERS]
+pub fn number_room() -> [i32; LONGEST_LIST]
     ensures { λ r. ⌜ 393216 ≡ length r ⌝ }
 {
-    [0; NUMBERS]
+    [0; LONGEST_LIST]
 }
 
 // The numbers at the beginning of the bytes, as many as there is room for.
@@ -40,7 +40,7 @@ pub fn read_numbers(bytes: &[u8], numbers: &mut [i32])
 // The bytes of the numbers.
 pub fn write_numbers(numbers: &[i32], bytes: &mut [u8])
     requires { ⌜ length (now bytes) ≡ 4 * length (now numbers) ⌝ }
-    ensures { λ _. ⌜ Worded (now (numbers .entry)) (length (now (numbers .entry))) (now (bytes .exit)) ⌝ }
+    ensures { λ _. ⌜ NumbersStored (now (numbers .entry)) (length (now (numbers .entry))) (now (bytes .exit)) ⌝ }
 {
     let mut i = 0;
     while i < numbers.len() {

@@ -5,7 +5,7 @@ use crate::differences::delta_at;
 ghost use mathlib.Core.Path.{_≡_};
 ghost use Prim.Native.Nat.{_+_, _*_, _%_, _<_, _≤_};
 ghost use lib.ListN.{length};
-ghost use Rattle.rearrange.specs.planes.Planes.{Planed, spaced};
+ghost use Rattle.rearrange.specs.planes.Planes.{Planed, fourSet};
 
 // The four numbers from a position on.
 pub(crate) fn put_four(numbers: &[i32], bytes: &mut [u8], i: usize)
@@ -42,7 +42,7 @@ pub(crate) fn put_four(numbers: &[i32], bytes: &mut [u8], i: usize)
 // The lowest bytes of four numbers, the first at a place and each `step` places after the one before.
 pub(crate) fn put(bytes: &mut [u8], step: usize, at: usize, a: u32, b: u32, c: u32, d: u32)
     requires { ⌜ 3 * step + at < length (now bytes) ⌝ }
-    ensures { λ _. ⌜ now (bytes .exit) ≡ spaced (now (bytes .entry)) step at (a % 256) (b % 256) (c % 256) (d % 256) ⌝ }
+    ensures { λ _. ⌜ now (bytes .exit) ≡ fourSet (now (bytes .entry)) step at (a % 256) (b % 256) (c % 256) (d % 256) ⌝ }
 {
     bytes[at] = (a % 256) as u8;
     bytes[step + at] = (b % 256) as u8;

@@ -13,10 +13,10 @@ use Rattle.surface.specs.Sound.{Sound, Agree}
 use Rattle.surface.proofs.Hull.{coordinate-size, corners-sound}
 use Rattle.surface.proofs.Agree.{sound-same}
 use Rattle.walk.specs.Table.{Tabled, tabled}
-use Rattle.refine.specs.sums.Sources.{Faces, Refinable}
+use Rattle.refine.specs.sums.Sources.{FacesWithin, Refinable}
 
 module _ (M : Mesh) (a : Accepted M) where
-  pub faces-of : Faces (M .sides)
+  pub faces-of : FacesWithin (M .sides)
   faces-of =
       let s = sound-of M a in
       record {

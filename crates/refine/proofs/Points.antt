@@ -11,7 +11,7 @@ use lib.IntN.{ℤ, natAbs}
 use Rattle.mesh.proofs.Scans.{ways}
 use Rattle.surface.specs.Points.{pointRow}
 use Rattle.refine.specs.Marks.{AtMark, MarkedIn}
-use Rattle.refine.specs.sums.Sources.{Small, PointsPut}
+use Rattle.refine.specs.sums.Sources.{SmallPoints, PointsPut}
 use Rattle.refine.proofs.sums.Laws.{three, three-at, three-beside, three-small}
 
 -- the same choice, with values that are the same there
@@ -35,7 +35,7 @@ put-choice to from h = record {
 }
 
 -- none
-pub put-none : {value : ℕ → ℕ → ℤ} {P : ℕ → Type 0} (points : List ℤ) → ((c : ℕ) → P c → ⊥) → Small points → PointsPut value P points points
+pub put-none : {value : ℕ → ℕ → ℤ} {P : ℕ → Type 0} (points : List ℤ) → ((c : ℕ) → P c → ⊥) → SmallPoints points → PointsPut value P points points
 put-none points never h = record { points-are = λ axis c a p. absurd (never c p); others = λ i n. refl; same = refl; small = h }
 
 -- those from `start` to before `mid`, and then those to before `end`
@@ -56,7 +56,7 @@ module _ {value : ℕ → ℕ → ℤ} (corners marked : List ℕ) (start mid en
 
 -- one corner: three numbers at its row
 module _ {value : ℕ → ℕ → ℤ} (c : ℕ) (old : List ℤ) (x y z : ℤ) (room : pointRow * c + 3 ≤ length old) where
-  pub put-one : x ≡ value 0 c → y ≡ value 1 c → z ≡ value 2 c → ((axis : ℕ) → axis < 3 → natAbs (value axis c) ≤ 2 ^ 24) → Small old
+  pub put-one : x ≡ value 0 c → y ≡ value 1 c → z ≡ value 2 c → ((axis : ℕ) → axis < 3 → natAbs (value axis c) ≤ 2 ^ 24) → SmallPoints old
       → PointsPut value (λ d. d ≡ c) old (three old (pointRow * c) x y z)
   put-one ex ey ez size h = record {
     points-are = λ axis d a e. rw e (three-at old (pointRow * c) x y z room (λ k. value k c) ex ey ez axis a);
@@ -71,6 +71,6 @@ module _ {value : ℕ → ℕ → ℤ} (corners marked : List ℕ) (c : ℕ) whe
       → PointsPut value (MarkedIn corners marked c (c + 1)) old new
   put-marked m = put-choice (λ d e. (omega arith, omega arith, subst (AtMark corners marked) (sym e) m)) (λ d r. omega (arith, r .0, r .1))
 
-  pub put-passed : (points : List ℤ) → (AtMark corners marked c → ⊥) → Small points → PointsPut value (MarkedIn corners marked c (c + 1)) points points
+  pub put-passed : (points : List ℤ) → (AtMark corners marked c → ⊥) → SmallPoints points → PointsPut value (MarkedIn corners marked c (c + 1)) points points
   put-passed points never =
       put-none points (λ d r. never (subst (AtMark corners marked) (let e : d ≡ c = omega (arith, r .0, r .1) in e) (r .2)))

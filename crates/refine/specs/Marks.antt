@@ -19,12 +19,12 @@ pub record Tells (r : ℕ) (A : Type 0) : Type 0 where
   pub only : 0 < r → A
 
 -- u is the vertex of one of `count` corners from `first` on
-abbrev pub Asked : List ℕ → ℕ → ℕ → ℕ → Type 0
-Asked corners first count u = SomeIn (λ c. vertexOf corners c ≡ u) first (first + count)
+abbrev pub NamedIn : List ℕ → ℕ → ℕ → ℕ → Type 0
+NamedIn corners first count u = SomeIn (λ c. vertexOf corners c ≡ u) first (first + count)
 
 -- the table tells of each vertex whether a corner of the range names it
 abbrev pub Marked : List ℕ → ℕ → ℕ → List ℕ → Type 0
-Marked corners first count marked = (u : ℕ) → u < length marked → Tells (getD marked u 0) (Asked corners first count u)
+Marked corners first count marked = (u : ℕ) → u < length marked → Tells (getD marked u 0) (NamedIn corners first count u)
 
 -- the vertex of corner c is marked
 abbrev pub AtMark : List ℕ → List ℕ → ℕ → Type 0

@@ -12,10 +12,13 @@ ghost use Prim.Native.Nat.{_+_, _*_, _≤_, _<_};
 ghost use lib.ListN.{length, getD};
 ghost use Rattle.paper.specs.Mesh.{leastSides, mostSides};
 ghost use Rattle.surface.specs.Points.{pointRow};
-ghost use Rattle.refine.specs.sums.Sources.{Placed, Small, sumRow};
-ghost use Rattle.refine.specs.corners.Mean.{Pair, weightsOf, Balanced, Steps, Known, mean, MeanOf, CornerLists, FaceRead, FaceKnown, CornerPointed};
+ghost use Rattle.refine.specs.sums.Sources.{Placed, SmallPoints, sumRow};
+ghost use Rattle.refine.specs.corners.Mean.{Pair, sharpnessWeights, Balanced, Steps, Known, mean, MeanOf, CornerLists, FaceSumsRead, FaceKnown, CornerPointed};
 
-// What the corners of a face share: its sides with the reciprocal of their double, and Σ in grid steps.
+// What V is divided by for each side of its face: 512 in ticks (L8), of which a grid step has 256.
+const PER_SIDE: i32 = 2;
+
+// What the corners of a face share: its sides with the reciprocal of V's divisor, and Σ in grid steps.
 pub struct FaceSums {
     pub sides: u8,
     pub reciprocal: u64,
@@ -25,7 +28,7 @@ pub struct FaceSums {
 }
 
 // A corner with the previous and the next corner of its face.
-struct Around {
+struct ThreeCorners {
     before: usize,
     here: usize,
     after: usize,
@@ -43,12 +46,12 @@ struct CornerWeights {
 pub(crate) fn read_face(sides: &[u8], sums: &[i32], f: usize) -> FaceSums
     requires sides { ⌜ (f < length (now sides)) × (leastSides ≤ getD (now sides) f 0) × (getD (now sides) f 0 ≤ mostSides) ⌝ }
     requires sums { ⌜ sumRow * f + sumRow ≤ length (now sums) ⌝ }
-    ensures { λ r. ⌜ FaceRead (now (sides .entry)) (now (sums .entry)) f r ⌝ }
+    ensures { λ r. ⌜ FaceSumsRead (now (sides .entry)) (now (sums .entry)) f r ⌝ }
 {
     let n = sides[f];
     FaceSums {
         sides: n,
-        reciprocal: reciprocal(2 * n as i32),
+        reciprocal: reciprocal(PER_SIDE * n as i32),
         x: sums[SUM_ROW * f],
         y: sums[SUM_ROW * f + 1],
         z: sums[SUM_ROW * f + 2],
@@ -68,14 +71,14 @@ pub(crate) fn fill_corner(
 )
     requires lists { ⌜ CornerLists (now coordinates) (now corners) (now sharpness) (now table) ⌝ }
     requires face { ⌜ (c < length (now corners)) × FaceKnown face ⌝ }
-    requires points { ⌜ (pointRow * length (now corners) ≤ length (now points)) × Small (now points) ⌝ }
+    requires points { ⌜ (pointRow * length (now corners) ≤ length (now points)) × SmallPoints (now points) ⌝ }
     ensures { λ _. ⌜ CornerPointed (now (coordinates .entry)) (now (corners .entry)) (now (sharpness .entry)) (now (table .entry)) face c (now (points .entry)) (now (points .exit)) ⌝ }
 {
     let at = Walker { corner: c };
     let p = at.previous(table);
     let q = at.next(table);
     let w = weigh(sharpness, c);
-    let around = Around {
+    let around = ThreeCorners {
         before: p.corner,
         here: c,
         after: q.corner,
@@ -91,7 +94,7 @@ pub(crate) fn fill_corner(
 // The weights of a corner, by its sharpness.
 fn weigh(sharpness: &[u8], c: usize) -> CornerWeights
     requires { ⌜ Pair (now sharpness) c ⌝ }
-    ensures { λ r. ⌜ r ≡ weightsOf (now (sharpness .entry)) c ⌝ }
+    ensures { λ r. ⌜ r ≡ sharpnessWeights (now (sharpness .entry)) c ⌝ }
 {
     let u = sharpness[SHARPNESS_PER_CORNER * c] as u32;
     let v = sharpness[SHARPNESS_PER_CORNER * c + 1] as u32;
@@ -110,7 +113,7 @@ fn on_axis(
     coordinates: &[i32],
     corners: &[u16],
     axis: usize,
-    around: Around,
+    around: ThreeCorners,
     w: CornerWeights,
     total: i32,
     face: FaceSums,
@@ -135,5 +138,5 @@ fn refined(w: CornerWeights, total: i32, before: i32, here: i32, after: i32, fac
     let m = face.reciprocal;
     let three = w.before as i32 * before + w.here as i32 * here + w.after as i32 * after;
     let t = w.face as i32 * total + n as i32 * three;
-    round_by(t, 2 * n as i32, m)
+    round_by(t, PER_SIDE * n as i32, m)
 }

@@ -6,7 +6,6 @@ pub mod sums;
 use crate::corners::FaceSums;
 use crate::corners::fill_corner;
 use crate::corners::read_face;
-use crate::sums::SUM_ROW;
 use crate::sums::fill_sums;
 use mesh::SMALL_MESH;
 use paper::MOST_CORNERS;
@@ -20,7 +19,7 @@ ghost use Rattle.mesh.specs.Tables.{Named};
 ghost use Rattle.surface.specs.Points.{pointRow};
 ghost use Rattle.walk.specs.Table.{Tabled};
 ghost use Rattle.refine.specs.Marks.{Marked};
-ghost use Rattle.refine.specs.sums.Sources.{sumRow, Refinable, Small, Covered, SumsFit};
+ghost use Rattle.refine.specs.sums.Sources.{sumRow, Refinable, SmallPoints, Covered, SumsFit};
 ghost use Rattle.refine.specs.corners.Mean.{CornerLists, FaceKnown, FacePointed, TablePointed, MarkedPointed};
 
 // Marks the vertices of `count` corners from `first` on, in a table of zeros.
@@ -37,7 +36,8 @@ pub fn mark_vertices(corners: &[u16], first: usize, count: usize, marked: &mut [
     }
 }
 
-// The refined points of the corners whose vertex has a nonzero entry in `marked`.
+// The refined points of the corners whose vertex has a nonzero entry in `marked`. The table of sums has a number for each row of a table of the corners:
+// a face has at least three corners, as many as its row of sums has numbers.
 pub fn fill_points(
     coordinates: &[i32],
     sides: &[u8],
@@ -50,10 +50,10 @@ pub fn fill_points(
     requires mesh { ⌜ Refinable (meshOf (now coordinates) (now sides) (now corners) (now sharpness)) ⌝ }
     requires table { ⌜ Tabled (cornersOf (meshOf (now coordinates) (now sides) (now corners) (now sharpness))) (now table) ⌝ }
     requires marked { ⌜ Named (now corners) (length (now marked)) ⌝ }
-    requires points { ⌜ (pointRow * length (now corners) ≤ length (now points)) × Small (now points) ⌝ }
+    requires points { ⌜ (pointRow * length (now corners) ≤ length (now points)) × SmallPoints (now points) ⌝ }
     ensures { λ _. ⌜ MarkedPointed (meshOf (now (coordinates .entry)) (now (sides .entry)) (now (corners .entry)) (now (sharpness .entry))) (now (marked .entry)) (now (points .entry)) (now (points .exit)) ⌝ }
 {
-    if SUM_ROW * sides.len() <= SMALL_MESH {
+    if mesh::table_rows(corners.len()) == SMALL_MESH {
         let mut sums = [0i32; SMALL_MESH];
         let mut wanted = [0u8; SMALL_MESH];
         fill_over(
@@ -101,7 +101,7 @@ fn fill_over(
     requires table { ⌜ Tabled (cornersOf (meshOf (now coordinates) (now sides) (now corners) (now sharpness))) (now table) ⌝ }
     requires marked { ⌜ Named (now corners) (length (now marked)) ⌝ }
     requires room { ⌜ (length (now sides) ≤ length (now wanted)) × (sumRow * length (now sides) ≤ length (now sums)) ⌝ }
-    requires points { ⌜ (pointRow * length (now corners) ≤ length (now points)) × Small (now points) ⌝ }
+    requires points { ⌜ (pointRow * length (now corners) ≤ length (now points)) × SmallPoints (now points) ⌝ }
     ensures { λ _. ⌜ MarkedPointed (meshOf (now (coordinates .entry)) (now (sides .entry)) (now (corners .entry)) (now (sharpness .entry))) (now (marked .entry)) (now (points .entry)) (now (points .exit)) ⌝ }
 {
     fill_sums(coordinates, sides, corners, marked, wanted, sums);
@@ -135,7 +135,7 @@ fn fill_faces(
     requires table { ⌜ Tabled (cornersOf (meshOf (now coordinates) (now sides) (now corners) (now sharpness))) (now table) ⌝ }
     requires marked { ⌜ Named (now corners) (length (now marked)) × Covered (now sides) (now corners) (now marked) (now wanted) ⌝ }
     requires sums { ⌜ SumsFit (now sides) (now wanted) (now sums) ⌝ }
-    requires points { ⌜ (pointRow * length (now corners) ≤ length (now points)) × Small (now points) ⌝ }
+    requires points { ⌜ (pointRow * length (now corners) ≤ length (now points)) × SmallPoints (now points) ⌝ }
     ensures { λ _. ⌜ TablePointed (meshOf (now (coordinates .entry)) (now (sides .entry)) (now (corners .entry)) (now (sharpness .entry))) (now (sums .entry)) (now (marked .entry)) (length (now (corners .entry))) (now (points .entry)) (now (points .exit)) ⌝ }
 {
     let mut start = 0;
@@ -174,7 +174,7 @@ fn fill_face(
     requires lists { ⌜ CornerLists (now coordinates) (now corners) (now sharpness) (now table) ⌝ }
     requires marked { ⌜ Named (now corners) (length (now marked)) ⌝ }
     requires face { ⌜ (start + face .sides ≤ length (now corners)) × FaceKnown face ⌝ }
-    requires points { ⌜ (pointRow * length (now corners) ≤ length (now points)) × Small (now points) ⌝ }
+    requires points { ⌜ (pointRow * length (now corners) ≤ length (now points)) × SmallPoints (now points) ⌝ }
     ensures { λ _. ⌜ FacePointed (now (coordinates .entry)) (now (corners .entry)) (now (sharpness .entry)) (now (table .entry)) (now (marked .entry)) face start (start + face .sides) (now (points .entry)) (now (points .exit)) ⌝ }
 {
     let end = start + face.sides as usize;

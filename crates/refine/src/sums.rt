@@ -6,7 +6,7 @@ ghost use Rattle.paper.specs.Mesh.{mostSides, plainMesh};
 ghost use Rattle.paper.specs.Corners.{sumOf};
 ghost use Rattle.mesh.specs.Tables.{Named};
 ghost use Rattle.refine.specs.Marks.{SomeIn, Tells, AtMark};
-ghost use Rattle.refine.specs.sums.Sources.{Faces, Placed, stepsOf, sumRow, RowSummed, SumsAre};
+ghost use Rattle.refine.specs.sums.Sources.{FacesWithin, Placed, vertexSteps, sumRow, RowSummed, SumsAre};
 
 // The numbers in a row of the table, one for each axis. A face has at least three corners, so the table has no more numbers than the mesh has
 // corners.
@@ -22,7 +22,7 @@ pub(crate) fn fill_sums(
     wanted: &mut [u8],
     sums: &mut [i32],
 )
-    requires mesh { ⌜ Faces (now sides) × (sumOf (now sides) ≡ length (now corners)) × Placed (now coordinates) (now corners) ⌝ }
+    requires mesh { ⌜ FacesWithin (now sides) × (sumOf (now sides) ≡ length (now corners)) × Placed (now coordinates) (now corners) ⌝ }
     requires marked { ⌜ Named (now corners) (length (now marked)) ⌝ }
     requires room { ⌜ (length (now sides) ≤ length (now wanted)) × (sumRow * length (now sides) ≤ length (now sums)) ⌝ }
     ensures { λ _. ⌜ SumsAre (plainMesh (now (coordinates .entry)) (now (sides .entry)) (now (corners .entry))) (now (marked .entry)) (length (now (sides .entry))) (now (wanted .exit)) (now (sums .exit)) ⌝ }
@@ -94,7 +94,7 @@ fn sum_face(
 pub(crate) fn coordinate(coordinates: &[i32], corners: &[u16], axis: usize, c: usize) -> i32
     requires placed { ⌜ Placed (now coordinates) (now corners) ⌝ }
     requires corner { ⌜ (axis < 3) × (c < length (now corners)) ⌝ }
-    ensures { λ r. ⌜ r ≡ stepsOf (now (coordinates .entry)) (now (corners .entry)) axis c ⌝ }
+    ensures { λ r. ⌜ r ≡ vertexSteps (now (coordinates .entry)) (now (corners .entry)) axis c ⌝ }
 {
     let v = corners[c] as usize;
     coordinates[3 * v + axis]

@@ -1,7 +1,7 @@
 // The border report over a run of mesh files, whose names are the arguments, or with none the lines of standard input: the page in words on standard
 // output, and last the line `page` with its numbers. `report merge` makes one page of all such lines on standard input. A file that cannot be opened or
 // read is named on standard error and not counted. A refusal goes there too, and leaves standard output empty.
-use border_report::page_numbers::NUMBERS;
+use border_report::page_numbers::NUMBERS_ON_PAGE;
 use libc::STDERR_FILENO;
 use libc::STDIN_FILENO;
 use line_input::next_line;
@@ -26,21 +26,21 @@ const LINE: usize = 8192;
 const MOST_LINES: u64 = 4294967296;
 
 fn main() {
-    let mut numbers = [0u64; NUMBERS];
+    let mut numbers = [0u64; NUMBERS_ON_PAGE];
     if fill_page(&mut numbers) {
         say_page(&numbers);
     }
 }
 
 // Writes the page to standard output, in one write.
-fn say_page(numbers: &[u64; NUMBERS]) {
+fn say_page(numbers: &[u64; NUMBERS_ON_PAGE]) {
     let mut lines = [0u8; page_text::ROOM];
     let end = page_text::put_page(&mut lines, numbers);
     say_up_to(&lines, end);
 }
 
 // The page that the arguments ask, from the all-zero one; answers whether there is one.
-fn fill_page(numbers: &mut [u64; NUMBERS]) -> bool {
+fn fill_page(numbers: &mut [u64; NUMBERS_ON_PAGE]) -> bool {
     let shown = libc::isatty(STDERR_FILENO) == 1;
     let count = os::arg_count();
     let merging = asks_merge();
@@ -62,7 +62,7 @@ fn asks_merge() -> bool {
 }
 
 // Offers the files that the arguments name.
-fn offer_arguments(count: usize, numbers: &mut [u64; NUMBERS], shown: bool) -> bool {
+fn offer_arguments(count: usize, numbers: &mut [u64; NUMBERS_ON_PAGE], shown: bool) -> bool {
     let mut i = 1;
     while i < count {
         if !offer_argument(i, numbers, shown) {
@@ -74,7 +74,7 @@ fn offer_arguments(count: usize, numbers: &mut [u64; NUMBERS], shown: bool) -> b
 }
 
 // Offers the file that an argument names.
-fn offer_argument(i: usize, numbers: &mut [u64; NUMBERS], shown: bool) -> bool {
+fn offer_argument(i: usize, numbers: &mut [u64; NUMBERS_ON_PAGE], shown: bool) -> bool {
     let mut name = io::buffer();
     let held = os::arg(i, &mut name);
     if held == 0 && os::errno() != 0 {
@@ -85,7 +85,7 @@ fn offer_argument(i: usize, numbers: &mut [u64; NUMBERS], shown: bool) -> bool {
 }
 
 // Offers a file, if it can be opened, and shows how many there were. Answers whether the run goes on.
-fn offer_file(name: &[u8], numbers: &mut [u64; NUMBERS], shown: bool) -> bool {
+fn offer_file(name: &[u8], numbers: &mut [u64; NUMBERS_ON_PAGE], shown: bool) -> bool {
     let fd = os::open_read(name);
     if fd < 0 {
         os::fail(name);
@@ -100,7 +100,7 @@ fn offer_file(name: &[u8], numbers: &mut [u64; NUMBERS], shown: bool) -> bool {
 }
 
 // Offers an open file, if it can be read.
-fn offer_open(fd: i32, name: &[u8], numbers: &mut [u64; NUMBERS]) -> bool {
+fn offer_open(fd: i32, name: &[u8], numbers: &mut [u64; NUMBERS_ON_PAGE]) -> bool {
     let mut bytes = [0u8; BUFFER];
     let read = read_file(fd, name, &mut bytes);
     let held = read.held;
@@ -111,14 +111,14 @@ fn offer_open(fd: i32, name: &[u8], numbers: &mut [u64; NUMBERS]) -> bool {
 }
 
 // Offers the bytes of a file to the page.
-fn offer(bytes: &[u8], counted: usize, numbers: &mut [u64; NUMBERS]) -> bool {
+fn offer(bytes: &[u8], counted: usize, numbers: &mut [u64; NUMBERS_ON_PAGE]) -> bool {
     let page = border_report::page_numbers::read(numbers);
     let reported = border_report::report(bytes, counted, page);
     take_page(reported, numbers)
 }
 
 // The next page's numbers, or the line of a refusal.
-fn take_page(reported: Reported, numbers: &mut [u64; NUMBERS]) -> bool {
+fn take_page(reported: Reported, numbers: &mut [u64; NUMBERS_ON_PAGE]) -> bool {
     let answer = reported.answer;
     if let Answer::Refused(number, place) = answer {
         complain_refusal(number, place);
@@ -138,13 +138,18 @@ fn show(meshes: u64) {
 }
 
 // Reads the lines of standard input, with room for one.
-fn read_lines(numbers: &mut [u64; NUMBERS], merging: bool, shown: bool) -> bool {
+fn read_lines(numbers: &mut [u64; NUMBERS_ON_PAGE], merging: bool, shown: bool) -> bool {
     let mut buffer = [0u8; LINE];
     take_lines(&mut buffer, numbers, merging, shown)
 }
 
 // Takes one line after the other.
-fn take_lines(buffer: &mut [u8], numbers: &mut [u64; NUMBERS], merging: bool, shown: bool) -> bool {
+fn take_lines(
+    buffer: &mut [u8],
+    numbers: &mut [u64; NUMBERS_ON_PAGE],
+    merging: bool,
+    shown: bool,
+) -> bool {
     let mut held = line_input::nothing();
     let mut i: u64 = 0;
     while i < MOST_LINES {
@@ -167,7 +172,7 @@ fn take_lines(buffer: &mut [u8], numbers: &mut [u64; NUMBERS], merging: bool, sh
 fn take_line(
     line: &[u8],
     i: u64,
-    numbers: &mut [u64; NUMBERS],
+    numbers: &mut [u64; NUMBERS_ON_PAGE],
     merging: bool,
     shown: bool,
 ) -> bool {
@@ -181,11 +186,11 @@ fn take_line(
 }
 
 // Merges the page of a line, if it begins with the word.
-fn merge_line(line: &[u8], i: u64, numbers: &mut [u64; NUMBERS]) -> bool {
+fn merge_line(line: &[u8], i: u64, numbers: &mut [u64; NUMBERS_ON_PAGE]) -> bool {
     if !begins(line, b"page ") {
         return true;
     }
-    let mut others = [0u64; NUMBERS];
+    let mut others = [0u64; NUMBERS_ON_PAGE];
     if !page_text::read_numbers(line, &mut others) {
         complain_line(i);
         return false;
@@ -194,7 +199,7 @@ fn merge_line(line: &[u8], i: u64, numbers: &mut [u64; NUMBERS]) -> bool {
 }
 
 // Merges a page.
-fn merge(others: &[u64; NUMBERS], numbers: &mut [u64; NUMBERS]) -> bool {
+fn merge(others: &[u64; NUMBERS_ON_PAGE], numbers: &mut [u64; NUMBERS_ON_PAGE]) -> bool {
     let page = border_report::page_numbers::read(numbers);
     let other = border_report::page_numbers::read(others);
     let reported = border_report::merge(page, other);

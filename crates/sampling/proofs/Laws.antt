@@ -27,8 +27,8 @@ use Rattle.mesh.proofs.Ranges.{or-left, or-right, none-left, none-right, inside
 use Rattle.mesh.proofs.Verdicts.{sound-left, sound-right, single-sound, single-miss, single-hit, orElse-fault, orElse-sound, stop, past}
 use Rattle.sampling.specs.declared.bernstein.Vector5.{Vector5}
 use Rattle.sampling.specs.declared.bernstein.Matrix5.{Matrix5}
-use Rattle.sampling.specs.bernstein.Sums.{AllSized, Tapered, AllTapered, rowsOf, polynomialOf, rowOf, valueOf, quarticSum}
-use Rattle.sampling.proofs.bernstein.Laws.{bits, sized-bits, polynomial-tapers, row-tapers, value-size}
+use Rattle.sampling.specs.bernstein.Sums.{AllSized, Tapered, AllTapered, rowsOf, polynomialOf, rowOf, polynomialAt, quarticSum}
+use Rattle.sampling.proofs.bernstein.Laws.{bits, sized-bits, abs-bounds, polynomial-tapers, row-tapers, value-size}
 use Rattle.sampling.proofs.bernstein.Identity.{polynomial-sum}
 use Rattle.sampling.proofs.bernstein.Sum.{bernstein-is, sum-size}
 use Rattle.sampling.specs.points.Places.{bPlace, aPlace}
@@ -156,9 +156,6 @@ module _ (numbers : List ℤ) (e : netVerdict numbers ≡ sound) (side axis : �
         (c 4 0 (lit≤ tt), z, z, z, z),
       )
 
-  abs-bounds : (z : ℤ) (k : ℕ) → natAbs z ≤ k → (negℤ (pos k) ≤ℤ z) × (z ≤ℤ pos k)
-  abs-bounds z k = as-diff z λ p n e. simp (diff, e) (λ h. (omega arith, omega arith))
-
   pub points-small : (n i j k : ℕ) → i + j + k ≡ n → natAbs (quarticSum (rowsOf P) (pos i) (pos j) (pos k)) ≤ 2 ^ 27 * n ^ 4
   points-small n i j k q =
       subst (λ (z : ℤ). natAbs z ≤ 2 ^ 27 * n ^ 4) (bernstein-is (onAxis numbers axis) (sideAt side) i j k)
@@ -170,11 +167,11 @@ module _ (numbers : List ℤ) (e : netVerdict numbers ≡ sound) (side axis : �
 
   -- the sample from a row's value
   pub sample-is : (i j k n : ℕ) → i + j + k ≡ n
-      → round (valueOf (rowOf (polynomialOf (rowsOf P) (pos n)) k) j) (pos (n ^ 4)) ≡ sampleAt numbers (sideAt side) (weights i j k n) axis
+      → round (polynomialAt (rowOf (polynomialOf (rowsOf P) (pos n)) k) j) (pos (n ^ 4)) ≡ sampleAt numbers (sideAt side) (weights i j k n) axis
   unfolding sampleAt
   sample-is i j k n q =
       ap (λ (z : ℤ). round z (pos (n ^ 4)))
-      (subst (λ (m : ℕ). valueOf (rowOf (polynomialOf (rowsOf P) (pos m)) k) j ≡ quarticSum (rowsOf P) (pos i) (pos j) (pos k)) q
+      (subst (λ (m : ℕ). polynomialAt (rowOf (polynomialOf (rowsOf P) (pos m)) k) j ≡ quarticSum (rowsOf P) (pos i) (pos j) (pos k)) q
       (polynomial-sum (rowsOf P) i j k)
       ∙ sym (bernstein-is (onAxis numbers axis) (sideAt side) i j k))
 
@@ -198,14 +195,14 @@ module _ (numbers : List ℤ) (e : netVerdict numbers ≡ sound) (side axis : �
       r-tapers =
           subst (λ (q : Vector5). Tapered (5 * 2 ^ 34) q) (sym row-is) (row-tapers (polynomialOf points (pos n)) k (omega arith) tapers)
 
-      module _ (v : ℤ) (is-value : v ≡ valueOf r j) where
+      module _ (v : ℤ) (is-value : v ≡ polynomialAt r j) where
         v-bits : bits v ≡ v
         v-bits =
             sized-bits v (5 * (65536 * (5 * 2 ^ 34))) (subst (λ (z : ℤ). natAbs z ≤ 5 * (65536 * (5 * 2 ^ 34))) (sym is-value)
             (value-size r j (5 * 2 ^ 34) (omega arith) r-tapers)) (lit≤ tt)
 
-        v-is : bits v ≡ valueOf (rowOf (polynomialOf points (pos n)) k) j
-        v-is = v-bits ∙ is-value ∙ ap (λ (q : Vector5). valueOf q j) row-is
+        v-is : bits v ≡ polynomialAt (rowOf (polynomialOf points (pos n)) k) j
+        v-is = v-bits ∙ is-value ∙ ap (λ (q : Vector5). polynomialAt q j) row-is
 
         pub v-small : natAbs (bits v) ≤ 2 ^ 27 * n ^ 4
         v-small =

@@ -17,11 +17,11 @@ use Rattle.paper.specs.Sampling.{control, weights, onAxis, sampleAt, samplePoin
 use Rattle.mesh.proofs.Scans.{compared}
 use Rattle.sampling.specs.declared.bernstein.Vector5.{Vector5}
 use Rattle.sampling.specs.declared.bernstein.Matrix5.{Matrix5}
-use Rattle.sampling.specs.bernstein.Sums.{Tapered, AllTapered, rowsOf, polynomialOf, rowOf, valueOf, quarticSum}
+use Rattle.sampling.specs.bernstein.Sums.{Tapered, AllTapered, rowsOf, polynomialOf, rowOf, polynomialAt, quarticSum}
 use Rattle.sampling.proofs.bernstein.Identity.{polynomial-sum}
 use Rattle.sampling.proofs.bernstein.Laws.{row-tapers}
 use Rattle.sampling.proofs.bernstein.Sum.{bernstein-is}
-use Rattle.sampling.specs.Grid.{before, Sampleable, RowSampleable, RowPut, RowsPut}
+use Rattle.sampling.specs.Grid.{samplesBefore, Sampleable, RowSampleable, RowPut, RowsPut}
 
 pub below-or-last : {A : Type 0} (j k : ℕ) → j < k + 1 → (j < k → A) → (j ≡ k → A) → A
 below-or-last j k h f g = ⊎-elim (λ e. g e) (λ o. ⊎-elim (λ l. f l) (λ l. absurd (omega arith)) o) (compared j k)
@@ -31,7 +31,7 @@ pub row-none : (e : Vector5) (n first from : ℕ) (old : List ℤ) → RowPut e 
 row-none e n first from old = record { same = refl; values = λ j l. absurd (omega arith); others = λ t h. refl }
 
 module _ (e : Vector5) (n first j from : ℕ) (old mid : List ℤ) (v : ℤ) (m : RowPut e n first j from old mid) (room : from + 3 * j < length mid)
-    (is : v ≡ round (valueOf e (first + j)) (pos (n ^ 4))) where
+    (is : v ≡ round (polynomialAt e (first + j)) (pos (n ^ 4))) where
   pub row-step : RowPut e n first (j + 1) from old (set mid (from + 3 * j) v)
   row-step = record {
     same = length-set mid (from + 3 * j) v ∙ m .same;
@@ -47,15 +47,15 @@ pub from-none : (j : ℕ) → 0 + j ≡ j
 from-none j = omega arith
 
 -- ---- rows
-pub before-next : (n k : ℕ) → before n (k + 1) ≡ before n k + (n - k + 1)
-unfolding before
-before-next n k = ap (before n) (add-one k)
+pub before-next : (n k : ℕ) → samplesBefore n (k + 1) ≡ samplesBefore n k + (n - k + 1)
+unfolding samplesBefore
+before-next n k = ap (samplesBefore n) (add-one k)
 
-pub before-le : (n k r : ℕ) → k < r → before n k + (n - k + 1) ≤ before n r
-unfolding before
+pub before-le : (n k r : ℕ) → k < r → samplesBefore n k + (n - k + 1) ≤ samplesBefore n r
+unfolding samplesBefore
 before-le n k zero h = absurd (omega arith)
 before-le n k (suc r) h =
-    ⊎-elim (λ (e : k ≡ r). rw e (let q : before n r + (n - r + 1) ≤ before n r + (n - r + 1) = omega arith in q))
+    ⊎-elim (λ (e : k ≡ r). rw e (let q : samplesBefore n r + (n - r + 1) ≤ samplesBefore n r + (n - r + 1) = omega arith in q))
     (λ o. ⊎-elim (λ (l : k < r). let q = before-le n k r l in omega arith) (λ (l : r < k). absurd (omega arith)) o) (compared k r)
 
 pub rows-none : (p : Matrix5) (n axis : ℕ) (old : List ℤ) → RowsPut p n axis 0 old old
@@ -63,40 +63,40 @@ rows-none p n axis old = record { same = refl; values = λ k j l h. absurd (omeg
 
 -- what a row's polynomial is
 pub row-value : (p : Matrix5) (n k j : ℕ) → k + j ≤ n
-    → valueOf (rowOf (polynomialOf p (pos n)) k) j ≡ quarticSum p (pos (n - k - j)) (pos j) (pos k)
+    → polynomialAt (rowOf (polynomialOf p (pos n)) k) j ≡ quarticSum p (pos (n - k - j)) (pos j) (pos k)
 row-value p n k j h =
-    subst (λ (x : ℕ). valueOf (rowOf (polynomialOf p (pos x)) k) j ≡ quarticSum p (pos (n - k - j)) (pos j) (pos k))
+    subst (λ (x : ℕ). polynomialAt (rowOf (polynomialOf p (pos x)) k) j ≡ quarticSum p (pos (n - k - j)) (pos j) (pos k))
     (let q : n - k - j + j + k ≡ n = omega arith in q) (polynomial-sum p (n - k - j) j k)
 
-module _ (p : Matrix5) (n axis k at : ℕ) (old mid new : List ℤ) (l : k ≤ n) (a : axis < 3) (place : at ≡ 3 * before n k + axis)
+module _ (p : Matrix5) (n axis k at : ℕ) (old mid new : List ℤ) (l : k ≤ n) (a : axis < 3) (place : at ≡ 3 * samplesBefore n k + axis)
     (m : RowsPut p n axis k old mid) (e : Vector5) (is : e ≡ rowOf (polynomialOf p (pos n)) k) (r : RowPut e n 0 (n - k + 1) at mid new) where
-  value-is : (j : ℕ) → k + j ≤ n → valueOf e j ≡ quarticSum p (pos (n - k - j)) (pos j) (pos k)
-  value-is j h = ap (λ (f : Vector5). valueOf f j) is ∙ row-value p n k j h
+  value-is : (j : ℕ) → k + j ≤ n → polynomialAt e j ≡ quarticSum p (pos (n - k - j)) (pos j) (pos k)
+  value-is j h = ap (λ (f : Vector5). polynomialAt f j) is ∙ row-value p n k j h
 
   earlier : (k′ j : ℕ) → k′ < k → k′ + j ≤ n
-      → getD new (3 * (before n k′ + j) + axis) (pos 0) ≡ round (quarticSum p (pos (n - k′ - j)) (pos j) (pos k′)) (pos (n ^ 4))
+      → getD new (3 * (samplesBefore n k′ + j) + axis) (pos 0) ≡ round (quarticSum p (pos (n - k′ - j)) (pos j) (pos k′)) (pos (n ^ 4))
   earlier k′ j h g =
       let b = before-le n k′ k h in
-      r .others (3 * (before n k′ + j) + axis) (λ i o q. omega arith) ∙ m .values k′ j h g
+      r .others (3 * (samplesBefore n k′ + j) + axis) (λ i o q. omega arith) ∙ m .values k′ j h g
 
-  here : (j : ℕ) → k + j ≤ n → getD new (3 * (before n k + j) + axis) (pos 0) ≡ round (quarticSum p (pos (n - k - j)) (pos j) (pos k)) (pos (n ^ 4))
+  here : (j : ℕ) → k + j ≤ n → getD new (3 * (samplesBefore n k + j) + axis) (pos 0) ≡ round (quarticSum p (pos (n - k - j)) (pos j) (pos k)) (pos (n ^ 4))
   here j g =
-      ap (λ (t : ℕ). getD new t (pos 0)) (let q : 3 * (before n k + j) + axis ≡ at + 3 * j = omega arith in q)
-      ∙ r .values j (omega arith) ∙ ap (λ (z : ℤ). round z (pos (n ^ 4))) (ap (valueOf e) (from-none j) ∙ value-is j g)
+      ap (λ (t : ℕ). getD new t (pos 0)) (let q : 3 * (samplesBefore n k + j) + axis ≡ at + 3 * j = omega arith in q)
+      ∙ r .values j (omega arith) ∙ ap (λ (z : ℤ). round z (pos (n ^ 4))) (ap (polynomialAt e) (from-none j) ∙ value-is j g)
 
   pub rows-step : RowsPut p n axis (k + 1) old new
   rows-step = record {
     same = r .same ∙ m .same;
     values = λ k′ j h g. below-or-last k′ k h (λ o. earlier k′ j o g)
         (λ q. subst
-        (λ (x : ℕ). getD new (3 * (before n x + j) + axis) (pos 0) ≡ round (quarticSum p (pos (n - x - j)) (pos j) (pos x)) (pos (n ^ 4))) (sym q)
+        (λ (x : ℕ). getD new (3 * (samplesBefore n x + j) + axis) (pos 0) ≡ round (quarticSum p (pos (n - x - j)) (pos j) (pos x)) (pos (n ^ 4))) (sym q)
         (here j (omega arith)));
     others = λ t h.
         let b = before-next n k in
-        r .others t (λ i o q. h (before n k + i) (omega arith) (omega arith)) ∙ m .others t (λ u o q. h u (omega arith) q);
+        r .others t (λ i o q. h (samplesBefore n k + i) (omega arith) (omega arith)) ∙ m .others t (λ u o q. h u (omega arith) q);
   }
 
-  pub place-next : at + 3 * (n - k + 1) ≡ 3 * before n (k + 1) + axis
+  pub place-next : at + 3 * (n - k + 1) ≡ 3 * samplesBefore n (k + 1) + axis
   place-next = let b = before-next n k in omega arith
 
 -- ---- what a row asks
@@ -111,7 +111,7 @@ module _ (p : Matrix5) (n k : ℕ) (l : k ≤ n) (s : Sampleable p n) (t : AllTa
     early = omega arith;
     small = λ j h.
         subst (λ (z : ℤ). natAbs z ≤ 2 ^ 27 * n ^ 4)
-        (sym (ap (valueOf e) (from-none j) ∙ ap (λ (f : Vector5). valueOf f j) is ∙ row-value p n k j (omega arith)))
+        (sym (ap (polynomialAt e) (from-none j) ∙ ap (λ (f : Vector5). polynomialAt f j) is ∙ row-value p n k j (omega arith)))
         (s .small (n - k - j) j k (omega arith));
   }
 
@@ -124,32 +124,32 @@ row-part {e} {n} {all} r first count h l = record {
   short = omega (arith, r .short);
   early = h;
   small = λ j o.
-      subst (λ (x : ℕ). natAbs (valueOf e x) ≤ 2 ^ 27 * n ^ 4) (from-none (first + j)) (r .small (first + j) (omega arith));
+      subst (λ (x : ℕ). natAbs (polynomialAt e x) ≤ 2 ^ 27 * n ^ 4) (from-none (first + j)) (r .small (first + j) (omega arith));
 }
 
-pub row-room : (n k axis at size : ℕ) → k ≤ n → axis < 3 → at ≡ 3 * before n k + axis → 3 * before n (n + 1) ≤ size → at + 3 * (n - k + 1) ≤ size + 2
+pub row-room : (n k axis at size : ℕ) → k ≤ n → axis < 3 → at ≡ 3 * samplesBefore n k + axis → 3 * samplesBefore n (n + 1) ≤ size → at + 3 * (n - k + 1) ≤ size + 2
 row-room n k axis at size l a e h = let b = before-le n k (n + 1) (omega arith) in omega arith
 
 -- ---- how many samples there are
 half : (n k b q : ℕ) → k ≤ n → q + k ≡ 2 * n + 2 → 2 * b ≡ k * (q + 1) → 2 * (b + (n - k + 1)) ≡ (k + 1) * q
 half n k b q l e h = omega arith
 
-twice : (n k : ℕ) → k ≤ n + 1 → 2 * before n k ≡ k * (2 * n + 3 - k)
-unfolding before
+twice : (n k : ℕ) → k ≤ n + 1 → 2 * samplesBefore n k ≡ k * (2 * n + 3 - k)
+unfolding samplesBefore
 twice n zero h = omega arith
 twice n (suc k) h =
     let i = twice n k (omega arith) in
     let q = 2 * n + 2 - k in
-    let e : 2 * before n k ≡ k * (q + 1) = i ∙ ap (λ (m : ℕ). k * m) (let f : 2 * n + 3 - k ≡ q + 1 = omega arith in f) in
-    half n k (before n k) q (omega arith) (omega arith) e
+    let e : 2 * samplesBefore n k ≡ k * (q + 1) = i ∙ ap (λ (m : ℕ). k * m) (let f : 2 * n + 3 - k ≡ q + 1 = omega arith in f) in
+    half n k (samplesBefore n k) q (omega arith) (omega arith) e
     ∙ ap (λ (m : ℕ). (k + 1) * m) (let f : q ≡ 2 * n + 3 - suc k = omega arith in f)
     ∙ ap (λ (m : ℕ). m * (2 * n + 3 - suc k)) (let f : k + 1 ≡ suc k = omega arith in f)
 
-pub row-start : (n k : ℕ) → k ≤ n + 1 → rowStart n k ≡ before n k
+pub row-start : (n k : ℕ) → k ≤ n + 1 → rowStart n k ≡ samplesBefore n k
 unfolding rowStart
 row-start n k h = let e = twice n k h in omega arith
 
-pub count-is : (n : ℕ) → sampleCount n ≡ before n (n + 1)
+pub count-is : (n : ℕ) → sampleCount n ≡ samplesBefore n (n + 1)
 unfolding sampleCount
 count-is n =
     let e = twice n (n + 1) (omega arith) in
@@ -176,50 +176,50 @@ take-three l m h =
     two = omega arith
 
 -- ---- a list that has every sample at its place is the list of samples
-module _ (numbers : List ℤ) (s : Side) (n : ℕ) (new : List ℤ) (long : 3 * before n (n + 1) ≤ length new)
+module _ (numbers : List ℤ) (s : Side) (n : ℕ) (new : List ℤ) (long : 3 * samplesBefore n (n + 1) ≤ length new)
     (at : (k j axis : ℕ) → k + j ≤ n → axis < 3
-    → getD new (3 * (before n k + j) + axis) (pos 0) ≡ sampleAt numbers s (weights (n - k - j) j k n) axis) where
+    → getD new (3 * (samplesBefore n k + j) + axis) (pos 0) ≡ sampleAt numbers s (weights (n - k - j) j k n) axis) where
   point-at : (k j : ℕ) → k + j ≤ n
-      → axes (getD new (3 * (before n k + j)) (pos 0)) (getD new (3 * (before n k + j) + 1) (pos 0)) (getD new (3 * (before n k + j) + 2) (pos 0))
+      → axes (getD new (3 * (samplesBefore n k + j)) (pos 0)) (getD new (3 * (samplesBefore n k + j) + 1) (pos 0)) (getD new (3 * (samplesBefore n k + j) + 2) (pos 0))
       ≡ samplePoint numbers s (weights (n - k - j) j k n)
   unfolding samplePoint
   point-at k j h =
-      let m = 3 * (before n k + j) in
+      let m = 3 * (samplesBefore n k + j) in
       let x : getD new m (pos 0) ≡ sampleAt numbers s (weights (n - k - j) j k n) 0 =
       ap (λ (t : ℕ). getD new t (pos 0)) (let e : m ≡ m + 0 = omega arith in e) ∙ at k j 0 h (omega arith) in
       rw (x, at k j 1 h (omega arith), at k j 2 h (omega arith))
 
-  row-taken : (k j : ℕ) → k ≤ n → j ≤ n - k + 1 → take (3 * (before n k + j)) new ≡ take (3 * before n k) new ++ rowSamples numbers s n k j
+  row-taken : (k j : ℕ) → k ≤ n → j ≤ n - k + 1 → take (3 * (samplesBefore n k + j)) new ≡ take (3 * samplesBefore n k) new ++ rowSamples numbers s n k j
   unfolding rowSamples
   row-taken k zero l h =
-      ap (λ (t : ℕ). take t new) (let e : 3 * (before n k + 0) ≡ 3 * before n k = omega arith in e) ∙ sym (append-nil (take (3 * before n k) new))
+      ap (λ (t : ℕ). take t new) (let e : 3 * (samplesBefore n k + 0) ≡ 3 * samplesBefore n k = omega arith in e) ∙ sym (append-nil (take (3 * samplesBefore n k) new))
   row-taken k (suc j) l h =
-      let m = 3 * (before n k + j) in
+      let m = 3 * (samplesBefore n k + j) in
       let b = before-le n k (n + 1) (omega arith) in
-      ap (λ (t : ℕ). take t new) (let e : 3 * (before n k + suc j) ≡ m + 3 = omega arith in e)
+      ap (λ (t : ℕ). take t new) (let e : 3 * (samplesBefore n k + suc j) ≡ m + 3 = omega arith in e)
       ∙ take-three new m (omega arith)
       ∙ ap (λ (r : List ℤ). r ++ axes (getD new m (pos 0)) (getD new (m + 1) (pos 0)) (getD new (m + 2) (pos 0))) (row-taken k j l (omega arith))
-      ∙ append-assoc (take (3 * before n k) new) (rowSamples numbers s n k j) (axes (getD new m (pos 0)) (getD new (m + 1) (pos 0)) (getD new (m + 2) (pos 0)))
-      ∙ ap (λ (r : List ℤ). take (3 * before n k) new ++ (rowSamples numbers s n k j ++ r)) (point-at k j (omega arith))
+      ∙ append-assoc (take (3 * samplesBefore n k) new) (rowSamples numbers s n k j) (axes (getD new m (pos 0)) (getD new (m + 1) (pos 0)) (getD new (m + 2) (pos 0)))
+      ∙ ap (λ (r : List ℤ). take (3 * samplesBefore n k) new ++ (rowSamples numbers s n k j ++ r)) (point-at k j (omega arith))
 
-  rows-taken : (k : ℕ) → k ≤ n + 1 → take (3 * before n k) new ≡ firstRows numbers s n k
-  unfolding firstRows before
+  rows-taken : (k : ℕ) → k ≤ n + 1 → take (3 * samplesBefore n k) new ≡ firstRows numbers s n k
+  unfolding firstRows samplesBefore
   rows-taken zero h = refl
   rows-taken (suc k) h =
       row-taken k (n - k + 1) (omega arith) (omega arith)
       ∙ ap (λ (r : List ℤ). r ++ rowSamples numbers s n k (n - k + 1)) (rows-taken k (omega arith))
 
-  pub all-taken : take (3 * before n (n + 1)) new ≡ triangleSamples numbers s n
+  pub all-taken : take (3 * samplesBefore n (n + 1)) new ≡ triangleSamples numbers s n
   unfolding triangleSamples
   all-taken = rows-taken (n + 1) (omega arith)
 
-  samples-long : length (triangleSamples numbers s n) ≡ 3 * before n (n + 1)
-  samples-long = ap length (sym all-taken) ∙ length-take-le (3 * before n (n + 1)) new long
+  samples-long : length (triangleSamples numbers s n) ≡ 3 * samplesBefore n (n + 1)
+  samples-long = ap length (sym all-taken) ∙ length-take-le (3 * samplesBefore n (n + 1)) new long
 
   pub samples-begin : (old : List ℤ) → length new ≡ length old
-      → ((t : ℕ) → 3 * before n (n + 1) ≤ t → getD new t (pos 0) ≡ getD old t (pos 0)) → new ≡ begins (triangleSamples numbers s n) old
+      → ((t : ℕ) → 3 * samplesBefore n (n + 1) ≤ t → getD new t (pos 0) ≡ getD old t (pos 0)) → new ≡ begins (triangleSamples numbers s n) old
   samples-begin old e rest =
-      let m = 3 * before n (n + 1) in
+      let m = 3 * samplesBefore n (n + 1) in
       sym (take-append-drop m new)
       ∙ ap (λ (r : List ℤ). r ++ drop m new) all-taken
       ∙ ap (λ (r : List ℤ). triangleSamples numbers s n ++ r)
@@ -244,16 +244,16 @@ module _ (numbers : List ℤ) (e : netVerdict numbers ≡ sound) (side n : ℕ) 
     same = z .same ∙ y .same ∙ x .same
 
     found : (k j axis : ℕ) → k + j ≤ n → axis < 3
-        → getD zs (3 * (before n k + j) + axis) (pos 0) ≡ sampleAt numbers (sideAt side) (weights (n - k - j) j k n) axis
+        → getD zs (3 * (samplesBefore n k + j) + axis) (pos 0) ≡ sampleAt numbers (sideAt side) (weights (n - k - j) j k n) axis
     found k j zero h a =
-        let t = 3 * (before n k + j) + 0 in
+        let t = 3 * (samplesBefore n k + j) + 0 in
         z .others t (λ u o q. omega arith) ∙ y .others t (λ u o q. omega arith) ∙ x .values k j (omega arith) h ∙ sum-sample 0 k j h
     found k j (suc zero) h a =
-        z .others (3 * (before n k + j) + 1) (λ u o q. omega arith) ∙ y .values k j (omega arith) h ∙ sum-sample 1 k j h
+        z .others (3 * (samplesBefore n k + j) + 1) (λ u o q. omega arith) ∙ y .values k j (omega arith) h ∙ sum-sample 1 k j h
     found k j (suc (suc zero)) h a = z .values k j (omega arith) h ∙ sum-sample 2 k j h
     found k j (suc (suc (suc axis))) h a = absurd (omega arith)
 
-    beyond : (t : ℕ) → 3 * before n (n + 1) ≤ t → getD zs t (pos 0) ≡ getD old t (pos 0)
+    beyond : (t : ℕ) → 3 * samplesBefore n (n + 1) ≤ t → getD zs t (pos 0) ≡ getD old t (pos 0)
     beyond t h = z .others t (λ u o q. omega arith) ∙ y .others t (λ u o q. omega arith) ∙ x .others t (λ u o q. omega arith)
 
     pub triangle-put : zs ≡ begins (triangleSamples numbers (sideAt side) n) old

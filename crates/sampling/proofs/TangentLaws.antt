@@ -21,7 +21,7 @@ use Rattle.paper.specs.Claims.{TangentsClose}
 use Rattle.numbers.proofs.Diff.{diff, each}
 use Rattle.borders.proofs.Theorem.{demand3}
 use Rattle.sampling.specs.declared.bernstein.Matrix5.{Matrix5}
-use Rattle.sampling.specs.bernstein.Sums.{AllSized, AllTapered, rowsOf, polynomialOf, rowOf, valueOf}
+use Rattle.sampling.specs.bernstein.Sums.{AllSized, AllTapered, rowsOf, polynomialOf, rowOf, polynomialAt}
 use Rattle.sampling.specs.bernstein.Tangents.{alongRows, inwardRows, cubicSum, alongOf, inwardOf}
 use Rattle.sampling.proofs.bernstein.Derivative.{along-is, inward-is, along-sum, inward-sum}
 use Rattle.sampling.specs.Grid.{TangentOn}
@@ -36,18 +36,18 @@ module _ (numbers : List ℤ) (side axis : ℕ) where
   points = rowsOf (control (onAxis numbers axis) (sideAt side))
 
   pub along-value : (i j k n : ℕ) → i + j + k ≡ n
-      → valueOf (rowOf (alongOf (polynomialOf points (pos n))) k) j ≡ tangentAlong numbers (sideAt side) (weights i j k n) axis
+      → polynomialAt (rowOf (alongOf (polynomialOf points (pos n))) k) j ≡ tangentAlong numbers (sideAt side) (weights i j k n) axis
   unfolding tangentAlong
   along-value i j k n q =
-      subst (λ (m : ℕ). valueOf (rowOf (alongOf (polynomialOf points (pos m))) k) j ≡ pos 4 *ℤ cubicSum (alongRows points) (pos i) (pos j) (pos k)) q
+      subst (λ (m : ℕ). polynomialAt (rowOf (alongOf (polynomialOf points (pos m))) k) j ≡ pos 4 *ℤ cubicSum (alongRows points) (pos i) (pos j) (pos k)) q
       (along-is points i j k)
       ∙ ap (λ (z : ℤ). pos 4 *ℤ z) (sym (along-sum (onAxis numbers axis) (sideAt side) i j k))
 
   pub inward-value : (i j k n : ℕ) → i + j + k ≡ n
-      → valueOf (rowOf (inwardOf (polynomialOf points (pos n))) k) j ≡ tangentInward numbers (sideAt side) (weights i j k n) axis
+      → polynomialAt (rowOf (inwardOf (polynomialOf points (pos n))) k) j ≡ tangentInward numbers (sideAt side) (weights i j k n) axis
   unfolding tangentInward
   inward-value i j k n q =
-      subst (λ (m : ℕ). valueOf (rowOf (inwardOf (polynomialOf points (pos m))) k) j ≡ pos 4 *ℤ cubicSum (inwardRows points) (pos i) (pos j) (pos k)) q
+      subst (λ (m : ℕ). polynomialAt (rowOf (inwardOf (polynomialOf points (pos m))) k) j ≡ pos 4 *ℤ cubicSum (inwardRows points) (pos i) (pos j) (pos k)) q
       (inward-is points i j k)
       ∙ ap (λ (z : ℤ). pos 4 *ℤ z) (sym (inward-sum (onAxis numbers axis) (sideAt side) i j k))
 
@@ -61,12 +61,12 @@ module _ (numbers : List ℤ) (e : netVerdict numbers ≡ sound) (side axis : �
     pub tapers : AllTapered c
     tapers = subst (λ (q : Matrix5). AllTapered q) (sym is) (polynomial-tapers p n points-fit f)
 
-    small : (d : Matrix5) → AllTapered d → (v : ℤ) → v ≡ valueOf (rowOf d k) j → natAbs v ≤ 2 ^ 62
+    small : (d : Matrix5) → AllTapered d → (v : ℤ) → v ≡ polynomialAt (rowOf d k) j → natAbs v ≤ 2 ^ 62
     small d t v q =
         le-trans (subst (λ (z : ℤ). natAbs z ≤ 5 * (65536 * (5 * 2 ^ 34))) (sym q) (value-size (rowOf d k) j (5 * 2 ^ 34) (omega arith) (row-tapers d k (omega arith) t)))
         (lit≤ tt)
 
-    module _ (d u : Matrix5) (by-tail : d ≡ alongOf c) (by-centre : u ≡ inwardOf c) (v w : ℤ) (first : v ≡ valueOf (rowOf d k) j) (second : w ≡ valueOf (rowOf u k) j) where
+    module _ (d u : Matrix5) (by-tail : d ≡ alongOf c) (by-centre : u ≡ inwardOf c) (v w : ℤ) (first : v ≡ polynomialAt (rowOf d k) j) (second : w ≡ polynomialAt (rowOf u k) j) where
       first-small : natAbs v ≤ 2 ^ 62
       first-small = small d (subst (λ (q : Matrix5). AllTapered q) (sym by-tail) (along-tapers c tapers)) v first
 
@@ -82,9 +82,9 @@ module _ (numbers : List ℤ) (e : netVerdict numbers ≡ sound) (side axis : �
           let b = sized-bits w (2 ^ 62) second-small (lit≤ tt) in
           record {
             first = λ i q.
-                a ∙ first ∙ ap (λ (m : Matrix5). valueOf (rowOf m k) j) (by-tail ∙ ap alongOf polynomial) ∙ along-value numbers side axis i j k n q;
+                a ∙ first ∙ ap (λ (m : Matrix5). polynomialAt (rowOf m k) j) (by-tail ∙ ap alongOf polynomial) ∙ along-value numbers side axis i j k n q;
             second = λ i q.
-                b ∙ second ∙ ap (λ (m : Matrix5). valueOf (rowOf m k) j) (by-centre ∙ ap inwardOf polynomial) ∙ inward-value numbers side axis i j k n q;
+                b ∙ second ∙ ap (λ (m : Matrix5). polynomialAt (rowOf m k) j) (by-centre ∙ ap inwardOf polynomial) ∙ inward-value numbers side axis i j k n q;
             first-size = subst (λ (z : ℤ). natAbs z ≤ 2 ^ 62) (sym a) first-small;
             second-size = subst (λ (z : ℤ). natAbs z ≤ 2 ^ 62) (sym b) second-small;
           }
@@ -121,33 +121,33 @@ zero-times : (x : ℤ) → pos 0 *ℤ x ≡ pos 0
 zero-times x = each (λ z. pos 0 *ℤ z ≡ pos 0) (λ a a′. simp diff (omega arith)) x
 
 -- with k = 0 the rows after the first count nothing
-none1 : (i j l m : ℕ) (x : ℤ) → pos (paper.cubic i j 0 l m 1) *ℤ x ≡ pos 0
-unfolding paper.cubic
+none1 : (i j l m : ℕ) (x : ℤ) → pos (paper.cubicBernstein i j 0 l m 1) *ℤ x ≡ pos 0
+unfolding paper.cubicBernstein
 none1 i j l m x = simp mul-zero (zero-times x)
 
-none2 : (i j l m : ℕ) (x : ℤ) → pos (paper.cubic i j 0 l m 2) *ℤ x ≡ pos 0
-unfolding paper.cubic
+none2 : (i j l m : ℕ) (x : ℤ) → pos (paper.cubicBernstein i j 0 l m 2) *ℤ x ≡ pos 0
+unfolding paper.cubicBernstein
 none2 i j l m x = simp mul-zero (zero-times x)
 
-none3 : (i j l m : ℕ) (x : ℤ) → pos (paper.cubic i j 0 l m 3) *ℤ x ≡ pos 0
-unfolding paper.cubic
+none3 : (i j l m : ℕ) (x : ℤ) → pos (paper.cubicBernstein i j 0 l m 3) *ℤ x ≡ pos 0
+unfolding paper.cubicBernstein
 none3 i j l m x = simp mul-zero (zero-times x)
 
 module _ (d : ℕ → ℕ → ℤ) (i j : ℕ) where
   -- the sum of the outer row
   outer-sum : ℤ
   outer-sum =
-      pos 0 +ℤ pos (paper.cubic i j 0 3 0 0) *ℤ d 0 0 +ℤ pos (paper.cubic i j 0 2 1 0) *ℤ d 0 1 +ℤ pos (paper.cubic i j 0 1 2 0) *ℤ d 0 2
-      +ℤ pos (paper.cubic i j 0 0 3 0) *ℤ d 0 3
+      pos 0 +ℤ pos (paper.cubicBernstein i j 0 3 0 0) *ℤ d 0 0 +ℤ pos (paper.cubicBernstein i j 0 2 1 0) *ℤ d 0 1 +ℤ pos (paper.cubicBernstein i j 0 1 2 0) *ℤ d 0 2
+      +ℤ pos (paper.cubicBernstein i j 0 0 3 0) *ℤ d 0 3
 
-  on-side : paper.cubicSum d i j 0 ≡ pos 0 +ℤ outer-sum +ℤ (pos 0 +ℤ pos 0 +ℤ pos 0 +ℤ pos 0) +ℤ (pos 0 +ℤ pos 0 +ℤ pos 0) +ℤ (pos 0 +ℤ pos 0)
-  unfolding paper.cubicSum sumBy outer-sum
+  on-side : paper.cubicBernsteinSum d i j 0 ≡ pos 0 +ℤ outer-sum +ℤ (pos 0 +ℤ pos 0 +ℤ pos 0 +ℤ pos 0) +ℤ (pos 0 +ℤ pos 0 +ℤ pos 0) +ℤ (pos 0 +ℤ pos 0)
+  unfolding paper.cubicBernsteinSum sumBy outer-sum
   on-side = λ z.
       pos 0 +ℤ outer-sum +ℤ (pos 0 +ℤ none1 i j 2 0 (d 1 0) z +ℤ none1 i j 1 1 (d 1 1) z +ℤ none1 i j 0 2 (d 1 2) z)
       +ℤ (pos 0 +ℤ none2 i j 1 0 (d 2 0) z +ℤ none2 i j 0 1 (d 2 1) z) +ℤ (pos 0 +ℤ none3 i j 0 0 (d 3 0) z)
 
 side-sum : (p q : ℕ → ℤ) (s t : Side) (i j : ℕ) → ((m : ℕ) → m < 5 → outerRow p s m ≡ outerRow q t m)
-    → paper.cubicSum (paper.along p s) i j 0 ≡ paper.cubicSum (paper.along q t) i j 0
+    → paper.cubicBernsteinSum (paper.along p s) i j 0 ≡ paper.cubicBernsteinSum (paper.along q t) i j 0
 unfolding outer-sum paper.along
 side-sum p q s t i j h =
     on-side (paper.along p s) i j ∙ cc (h 0 (omega arith), h 1 (omega arith), h 2 (omega arith), h 3 (omega arith), h 4 (omega arith))

@@ -33,7 +33,7 @@ use Rattle.sampling.specs.bernstein.Sums.{rowsOf}
 use Rattle.sampling.proofs.bernstein.Laws.{round-between}
 use Rattle.sampling.proofs.bernstein.Sum.{bernstein-is, sum-from, sum-to, on-side, from-head, from-tail, head-alone, tail-alone, centre-alone}
 use Rattle.sampling.proofs.bernstein.Sum.{round-multiple}
-use Rattle.sampling.specs.Grid.{before}
+use Rattle.sampling.specs.Grid.{samplesBefore}
 use Rattle.sampling.proofs.Laws.{some-parts, few-parts, parts-sum, net-passed, side-passed, all-passed, triangle-chain}
 use Rattle.sampling.proofs.Lists.{row-start, below-or-last}
 
@@ -262,8 +262,8 @@ module _ (numbers : List ℤ) (s : Side) (n : ℕ) where
       length-append (rowSamples numbers s n k c) (samplePoint numbers s (weights (n - k - c) c k n))
       ∙ omega (arith, row-long k c, three (weights (n - k - c) c k n))
 
-  rows-long : (k : ℕ) → length (firstRows numbers s n k) ≡ 3 * before n k
-  unfolding firstRows before
+  rows-long : (k : ℕ) → length (firstRows numbers s n k) ≡ 3 * samplesBefore n k
+  unfolding firstRows samplesBefore
   rows-long zero = refl
   rows-long (suc k) = length-append (firstRows numbers s n k) (rowSamples numbers s n k (n - k + 1)) ∙ omega (arith, rows-long k, row-long k (n - k + 1))
 
@@ -282,19 +282,19 @@ module _ (numbers : List ℤ) (s : Side) (n : ℕ) where
         long = row-long k c ∙ omega arith;
       })
 
-  in-rows : (k j r : ℕ) → k < r → k + j ≤ n → Split (firstRows numbers s n r) (samplePoint numbers s (weights (n - k - j) j k n)) (3 * (before n k + j))
+  in-rows : (k j r : ℕ) → k < r → k + j ≤ n → Split (firstRows numbers s n r) (samplePoint numbers s (weights (n - k - j) j k n)) (3 * (samplesBefore n k + j))
   unfolding firstRows
   in-rows k j zero h l = absurd (omega arith)
   in-rows k j (suc r) h l =
       below-or-last k r (omega arith)
-      (λ o. split-more (firstRows numbers s n r) _ (3 * (before n k + j)) (rowSamples numbers s n r (n - r + 1)) (in-rows k j r o l))
+      (λ o. split-more (firstRows numbers s n r) _ (3 * (samplesBefore n k + j)) (rowSamples numbers s n r (n - r + 1)) (in-rows k j r o l))
       (λ e. subst
       (λ (x : ℕ). Split (firstRows numbers s n r ++ rowSamples numbers s n r (n - r + 1)) (samplePoint numbers s (weights (n - x - j) j x n))
-      (3 * (before n x + j)))
+      (3 * (samplesBefore n x + j)))
       (sym e)
       (subst (λ (x : ℕ). Split (firstRows numbers s n r ++ rowSamples numbers s n r (n - r + 1)) (samplePoint numbers s (weights (n - r - j) j r n)) x)
-      (let f : 3 * before n r + 3 * j ≡ 3 * (before n r + j) = omega arith in f)
-      (split-after (rowSamples numbers s n r (n - r + 1)) _ (3 * j) (3 * before n r) (firstRows numbers s n r) (rows-long r)
+      (let f : 3 * samplesBefore n r + 3 * j ≡ 3 * (samplesBefore n r + j) = omega arith in f)
+      (split-after (rowSamples numbers s n r (n - r + 1)) _ (3 * j) (3 * samplesBefore n r) (firstRows numbers s n r) (rows-long r)
       (in-row r j (n - r + 1) (omega arith)))))
 
 -- three numbers at their place
@@ -318,13 +318,13 @@ triangles-sample numbers side N old out t i j k e old′ point r c =
     or-none (outside 1 mostParts N) (not (eqb (i + j + k) N)) (inside 1 mostParts N some few) (ap not (eq-eqb (i + j + k) N e)) in
     let v = all-passed numbers side (weights i j k N) (net-passed numbers side N 0 0 N first) (side-passed numbers side N 0 0 N first) no33 in
     let d = same-answer r Done (c .answers ∙ sym v) in
-    let split = split-more (firstRows numbers (sideAt side) N (N + 1)) _ (3 * (before N k + j)) _
+    let split = split-more (firstRows numbers (sideAt side) N (N + 1)) _ (3 * (samplesBefore N k + j)) _
     (in-rows numbers (sideAt side) N k j (N + 1) (omega arith) (omega arith)) in
     let w : weights (N - k - j) j k N ≡ weights i j k N = ap (λ (x : ℕ). weights x j k N) (let f : N - k - j ≡ i = omega arith in f) in (
       d,
       left numbers side (weights i j k N) old′ point r c d
           ∙ sym (ap (λ (l : List ℤ). take 3 (drop (3 * (rowStart N k + j)) l)) (t .holds)
           ∙ ap (λ (m : ℕ). take 3 (drop (3 * (m + j)) (begins (firstRows numbers (sideAt side) N (N + 1)) old))) (row-start N k (omega arith))
-          ∙ sample-taken numbers (sideAt side) (weights (N - k - j) j k N) _ (3 * (before N k + j)) split
+          ∙ sample-taken numbers (sideAt side) (weights (N - k - j) j k N) _ (3 * (samplesBefore N k + j)) split
           ∙ ap (samplePoint numbers (sideAt side)) w),
     )

@@ -21,8 +21,8 @@ ghost use Rattle.paper.specs.Floats.{netVerdict, axes};
 ghost use Rattle.paper.specs.Sampling.{weights, sampleAt, fault33, sampleVerdict, sideAt, Sampled, sampleCount, triangleSamples};
 ghost use Rattle.paper.specs.Sampling.{TriangleSampled};
 ghost use Rattle.paper.specs.Tangents.{TangentsSampled};
-ghost use Rattle.sampling.specs.bernstein.Sums.{AllSized, Tapered, AllTapered, polynomialOf, rowOf, valueOf, stateOf};
-ghost use Rattle.sampling.specs.Grid.{before, Sampleable, RowSampleable, RowPut, RowsPut, TangentOn};
+ghost use Rattle.sampling.specs.bernstein.Sums.{AllSized, Tapered, AllTapered, polynomialOf, rowOf, polynomialAt, stateOf};
+ghost use Rattle.sampling.specs.Grid.{samplesBefore, Sampleable, RowSampleable, RowPut, RowsPut, TangentOn};
 
 // Our own number for a lent list that is too short.
 const NO_ROOM: u8 = 255;
@@ -201,7 +201,7 @@ fn tangents_on(numbers: &[i32], side: usize, axis: usize, j: usize, k: usize, n:
 // The value of a polynomial at j and k.
 fn value_in(c: Matrix5, j: usize, k: usize) -> i64
     requires { ⌜ AllTapered c × (j ≤ 16) × (k ≤ 16) ⌝ }
-    ensures { λ r. ⌜ r ≡ valueOf (rowOf c k) j ⌝ }
+    ensures { λ r. ⌜ r ≡ polynomialAt (rowOf c k) j ⌝ }
 {
     let e = row_in(c, k);
     value_at(e, j)
@@ -252,7 +252,7 @@ fn state_at(e: Vector5, j: usize) -> Vector5
 // Its value at j, from the highest power down.
 pub fn value_at(e: Vector5, j: usize) -> i64
     requires { ⌜ Tapered (5 * 2 ^ 34) e × (j ≤ 16) ⌝ }
-    ensures { λ r. ⌜ r ≡ valueOf e j ⌝ }
+    ensures { λ r. ⌜ r ≡ polynomialAt e j ⌝ }
 {
     let x = j as i64;
     let d = e.d + x * e.e;
@@ -263,7 +263,7 @@ pub fn value_at(e: Vector5, j: usize) -> i64
 
 // The samples of all rows on one axis, every third number of the list.
 fn put_axis(p: Matrix5, n: usize, points: &mut [i32], axis: usize)
-    requires { ⌜ Sampleable p n × (axis < 3) × (3 * before n (n + 1) ≤ length (now points)) ⌝ }
+    requires { ⌜ Sampleable p n × (axis < 3) × (3 * samplesBefore n (n + 1) ≤ length (now points)) ⌝ }
     ensures { λ _. ⌜ RowsPut p n axis (n + 1) (now (points .entry)) (now (points .exit)) ⌝ }
 {
     let mut s = crate::bernstein::start(p, n);

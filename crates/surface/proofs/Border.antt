@@ -13,7 +13,7 @@ use Rattle.paper.specs.Cosines.{unit, cosine}
 use Rattle.paper.specs.Refined.{RefinedMesh}
 use Rattle.paper.specs.Face.{centre, toward}
 use Rattle.paper.specs.Net.{vertex, leaving, face, arriving, Side, side0, side1, side2, side3, neighbour, across, atHead, atTail, quad, points, H, T, X, Y, C}
-use Rattle.surface.specs.Sound.{Sound, Small}
+use Rattle.surface.specs.Sound.{Sound, RefinedSmall}
 use Rattle.surface.proofs.Within.{Within}
 use Rattle.surface.proofs.Faces.{toward-same, centre-same, Defect, HeadRule, TailRule, head-defect, tail-defect}
 use Rattle.surface.proofs.Rings.{iterate-first, quad-across, points-small, points-cyclic}
@@ -78,10 +78,7 @@ module _ (v : ℕ → ℤ) (step n : ℕ → ℕ) (c : ℕ) (cyc : Cyclic (λ j.
   ring-after : toward rounded there (n (step c)) 0 ≡ toward rounded here (n c) (0 + 1)
   ring-after =
       ap (λ (m : ℕ). toward rounded there m 0) same
-      ∙ toward-same there here (n c) 0 (0 + 1) (λ k l. moved (0 + k) ∙ ap here (index k))
-    where
-      index : (k : ℕ) → 0 + k + 1 ≡ 0 + 1 + k
-      index k = omega arith
+      ∙ toward-same there here (n c) 0 (0 + 1) (λ k l. moved (0 + k) ∙ ap here (let z : 0 + k + 1 ≡ 0 + 1 + k = omega arith in z))
 
   ring-rule : HeadRule (cosine (n c) 1) (centre rounded here (n c)) (toward rounded here (n c) 0) (toward rounded here (n c) (n c - 1))
       (toward rounded there (n (step c)) 0)
@@ -93,7 +90,7 @@ module _ (v : ℕ → ℤ) (step n : ℕ → ℕ) (c : ℕ) (cyc : Cyclic (λ j.
       index : (k : ℕ) → k ≡ 0 + k
       index k = omega arith
 
-module _ (K : RefinedMesh rounded) (ok : Sound (K .corners)) (size : Small K) (c : ℕ) (here : c < K .corners .count) where
+module _ (K : RefinedMesh rounded) (ok : Sound (K .corners)) (size : RefinedSmall K) (c : ℕ) (here : c < K .corners .count) where
   -- ---- across side 0, at the linked corner: the ring of the leaving edge starts two later
   link-edge : (j : ℕ) → points K (K .corners .link c) arriving j ≡ points K c leaving (j + 2)
   link-edge j = ap (K .point) (quad-across (K .corners) ok c here j)
@@ -101,10 +98,7 @@ module _ (K : RefinedMesh rounded) (ok : Sound (K .corners)) (size : Small K) (c
   link-Y* : toward rounded (points K c leaving) 4 0 ≡ toward rounded (points K c leaving) 4 (3 + 1)
   link-Y* =
       toward-same (points K c leaving) (points K c leaving) 4 0 4
-      (λ k l. sym (points-cyclic K ok c here leaving (0 + k)) ∙ ap (points K c leaving) (index k))
-    where
-      index : (k : ℕ) → 0 + k + 4 ≡ 4 + k
-      index k = omega arith
+      (λ k l. sym (points-cyclic K ok c here leaving (0 + k)) ∙ ap (points K c leaving) (let z : 0 + k + 4 ≡ 4 + k = omega arith in z))
 
   link-Y^ : toward rounded (points K (K .corners .link c) arriving) 4 0 ≡ toward rounded (points K c leaving) 4 (3 + 3)
   link-Y^ =
@@ -170,7 +164,7 @@ module _ (K : RefinedMesh rounded) (ok : Sound (K .corners)) (size : Small K) (c
       }
 
 -- ---- every side of every corner belongs to one
-pub border : (K : RefinedMesh rounded) → Sound (K .corners) → Small K → (c : ℕ) → c < K .corners .count → (s : Side)
+pub border : (K : RefinedMesh rounded) → Sound (K .corners) → RefinedSmall K → (c : ℕ) → c < K .corners .count → (s : Side)
     → Border K c s (neighbour (K .corners) c s) (across s)
 border K ok size c here side0 = border0 K ok size c here
 border K ok size c here side1 = border1 K ok size c here

@@ -54,10 +54,7 @@ centre-within-half p m h = round-within-half _ _ (positive m h)
 -- ---- sums
 pub weight-period : (m k : ℕ) → weight m (k + m) ≡ weight m k
 unfolding weight
-weight-period m k = cc (period m k, ap (cosine m) (turn m k), period m (k + (m - 1)))
-  where
-    turn : (m k : ℕ) → k + m + (m - 1) ≡ k + (m - 1) + m
-    turn m k = omega arith
+weight-period m k = cc (period m k, ap (cosine m) (let z : k + m + (m - 1) ≡ k + (m - 1) + m = omega arith in z), period m (k + (m - 1)))
 
 -- the paper's own numbering: the sum over j of V[j] · (3·2^30 + 2C(m,k) + 2C(m,k-1)) with k = j - i, read modulo m
 pub toward-by-place : (p : ℕ → ℤ) (m i : ℕ) → i ≤ m → Cyclic p m
@@ -66,15 +63,9 @@ toward-by-place p m i l cyc =
     toward-is p m i
     ∙ ap (λ (z : ℤ). round z (pos (3 * unit) *ℤ pos m))
     (sum-same (λ k. p (i + k) *ℤ weight m k) (λ k. p (k + i) *ℤ weight m (k + i + (m - i))) m
-    (λ k h. cc (ap p (swapped k), ap (weight m) (whole k), weight-period m k))
+    (λ k h. cc (ap p (let z : i + k ≡ k + i = omega arith in z), ap (weight m) (let z : k + i + (m - i) ≡ k + m = omega arith in z), weight-period m k))
     ∙ cycle (λ j. p j *ℤ weight m (j + (m - i))) m (λ j. cc (cyc j, ap (weight m) (later j), weight-period m (j + (m - i)))) i)
   where
-    swapped : (k : ℕ) → i + k ≡ k + i
-    swapped k = omega arith
-
-    whole : (k : ℕ) → k + i + (m - i) ≡ k + m
-    whole k = omega arith
-
     later : (j : ℕ) → j + m + (m - i) ≡ j + (m - i) + m
     later j = omega arith
 
@@ -102,18 +93,12 @@ module _ (p : ℕ → ℤ) (m : ℕ) (some : leastSides ≤ m) (cyc : Cyclic p m
   unfolding gather
   after =
       sum-same (λ k. p (i + 1 + k) *ℤ weight m k) (λ k. p (i + (k + 1)) *ℤ weight m (k + 1 + (m - 1))) m
-      (λ k l. cc (ap p (turn1 k), ap (weight m) (turn2 k), weight-period m k))
+      (λ k l. cc (ap p (let z : i + 1 + k ≡ i + (k + 1) = omega arith in z), ap (weight m) (turn2 k), weight-period m k))
       ∙ cycle-one (λ k. p (i + k) *ℤ weight m (k + (m - 1))) m
-      (λ k. cc (ap p (turn3 k), cyc (i + k), ap (weight m) (turn4 k), weight-period m (k + (m - 1))))
+      (λ k. cc (ap p (let z : i + (k + m) ≡ i + k + m = omega arith in z), cyc (i + k), ap (weight m) (turn4 k), weight-period m (k + (m - 1))))
     where
-      turn1 : (k : ℕ) → i + 1 + k ≡ i + (k + 1)
-      turn1 k = omega arith
-
       turn2 : (k : ℕ) → k + 1 + (m - 1) ≡ k + m
       turn2 k = omega arith
-
-      turn3 : (k : ℕ) → i + (k + m) ≡ i + k + m
-      turn3 k = omega arith
 
       turn4 : (k : ℕ) → k + m + (m - 1) ≡ k + (m - 1) + m
       turn4 k = omega arith
@@ -131,10 +116,7 @@ module _ (p : ℕ → ℤ) (m : ℕ) (some : leastSides ≤ m) (cyc : Cyclic p m
       turn2 k = omega arith
 
   total : sum (λ k. p (i + k)) m ≡ sum p m
-  total = sum-same (λ k. p (i + k)) (λ k. p (k + i)) m (λ k l. ap p (turn k)) ∙ cycle p m cyc i
-    where
-      turn : (k : ℕ) → i + k ≡ k + i
-      turn k = omega arith
+  total = sum-same (λ k. p (i + k)) (λ k. p (k + i)) m (λ k l. ap p (let z : i + k ≡ k + i = omega arith in z)) ∙ cycle p m cyc i
 
   leftOver : ℕ → ℤ
   leftOver k = Left (p (i + k)) (rest m k) (rest m (k + (m - 1)))
@@ -144,12 +126,9 @@ module _ (p : ℕ → ℤ) (m : ℕ) (some : leastSides ≤ m) (cyc : Cyclic p m
       -ℤ pos (6 * unit) *ℤ (pos unit -ℤ cosine m 1) *ℤ p (i + k)
       -ℤ pos 2 *ℤ cosine m 1 *ℤ (p (i + k) *ℤ weight m k)
   unfolding leftOver weight
-  one k = rw (ap (cosine m) (turn1 k) ∙ period m k, ap (cosine m) (turn2 k) ∙ period m k)
+  one k = rw (ap (cosine m) (let z : k + (m - 1) + 1 ≡ k + m = omega arith in z) ∙ period m k, ap (cosine m) (turn2 k) ∙ period m k)
       (terms (p (i + k)) (cosine m (k + 1)) (cosine m k) (cosine m (k + (m - 1))) (cosine m (k + (m - 1) + (m - 1))) (cosine m 1))
     where
-      turn1 : (k : ℕ) → k + (m - 1) + 1 ≡ k + m
-      turn1 k = omega arith
-
       turn2 : (k : ℕ) → k + 1 + (m - 1) ≡ k + m
       turn2 k = omega arith
 

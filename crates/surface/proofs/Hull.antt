@@ -26,7 +26,7 @@ use Rattle.numbers.proofs.Nearest.{round-within-half}
 use Rattle.mesh.proofs.Scans.{ways}
 use Rattle.mesh.proofs.Accepted.{sound-of, sharp-within}
 use Rattle.mesh.proofs.Theorems.{manifold}
-use Rattle.surface.specs.Sound.{Sound, Small}
+use Rattle.surface.specs.Sound.{Sound, RefinedSmall}
 use Rattle.surface.proofs.Within.{Within, within-cancel, abs-within, positive}
 
 -- ---- a vertex in ticks
@@ -121,5 +121,5 @@ corners-sound M a = record {
   valence-most = λ c h. manifold M a c h .valence-to;
 }
 
-pub points-small : (M : Mesh) → Accepted M → (axis : ℕ) → Small (refinedOf rounded M axis)
+pub points-small : (M : Mesh) → Accepted M → (axis : ℕ) → RefinedSmall (refinedOf rounded M axis)
 points-small M a axis c h = refined-size M a axis c (omega (arith, manifold M a c h .sides-from))

@@ -20,7 +20,7 @@ pub record Beside (M : Mesh) (c d : ℕ) : Type 0 where
   pub in-face : faceOf (M .sides) d ≡ faceOf (M .sides) at
 
 -- d is at a vertex of the face of c: at that of its corner `at`
-pub record Seen (M : Mesh) (c d : ℕ) : Type 0 where
+pub record MeetsFace (M : Mesh) (c d : ℕ) : Type 0 where
   pub at : ℕ
   pub at-in : at < cornerCount M
   pub at-face : faceOf (M .sides) at ≡ faceOf (M .sides) c
@@ -94,19 +94,19 @@ module _ (M : Mesh) (a : Accepted M) where
     ring-beside arriving j = quad-arriving j
 
     -- a corner at the vertex of c, and a corner of c's own face
-    turned : (d : ℕ) → vertexOf (M .corners) d ≡ vertexOf (M .corners) c → Seen M c d
+    turned : (d : ℕ) → vertexOf (M .corners) d ≡ vertexOf (M .corners) c → MeetsFace M c d
     turned d e = record { at = c; at-in = h; at-face = refl; same-vertex = e }
 
-    inside : (d : ℕ) → d < cornerCount M → faceOf (M .sides) d ≡ faceOf (M .sides) c → Seen M c d
+    inside : (d : ℕ) → d < cornerCount M → faceOf (M .sides) d ≡ faceOf (M .sides) c → MeetsFace M c d
     inside d l e = record { at = d; at-in = l; at-face = e; same-vertex = refl }
 
-    seen-leaving : (j : ℕ) → Seen M c (quad (cornersOf M) c j)
+    seen-leaving : (j : ℕ) → MeetsFace M c (quad (cornersOf M) c j)
     unfolding quad
     seen-leaving j =
         let m = manifold M a c h in
         let l = manifold M a (linkOf c) (m .link-below) in
         let x = manifold M a (previousOf (linkOf c)) (l .previous-below) in
-        pick-one (Seen M c) c (nextOf c) (previousOf (linkOf c)) (linkOf c)
+        pick-one (MeetsFace M c) c (nextOf c) (previousOf (linkOf c)) (linkOf c)
         (turned c refl)
         (inside (nextOf c) (m .next-below) (m .face-next))
         (record {
@@ -118,21 +118,21 @@ module _ (M : Mesh) (a : Accepted M) where
         (turned (linkOf c) (m .link-vertex))
         (j % 4)
 
-    seen-arriving : (j : ℕ) → Seen M c (quad (cornersOf M) (previousOf c) j)
+    seen-arriving : (j : ℕ) → MeetsFace M c (quad (cornersOf M) (previousOf c) j)
     unfolding quad
     seen-arriving j =
         let m = manifold M a c h in
         let p = manifold M a (previousOf c) (m .previous-below) in
         let l = manifold M a (linkOf (previousOf c)) (p .link-below) in
         let x = previousOf (linkOf (previousOf c)) in
-        pick-one (Seen M c) (previousOf c) (nextOf (previousOf c)) x (linkOf (previousOf c))
+        pick-one (MeetsFace M c) (previousOf c) (nextOf (previousOf c)) x (linkOf (previousOf c))
         (inside (previousOf c) (m .previous-below) (m .face-previous))
         (turned (nextOf (previousOf c)) (ap (vertexOf (M .corners)) (m .next-previous)))
         (turned x (sym (manifold M a x (l .previous-below) .link-vertex) ∙ ap (vertexOf (M .corners)) (m .relinked)))
         (record { at = previousOf c; at-in = m .previous-below; at-face = m .face-previous; same-vertex = p .link-vertex })
         (j % 4)
 
-    pub ring-seen : (e : End) (j : ℕ) → Seen M c (ring (cornersOf M) c e j)
+    pub ring-seen : (e : End) (j : ℕ) → MeetsFace M c (ring (cornersOf M) c e j)
     ring-seen vertex j = turned (iterate j linkOf c) (links-vertex c h j)
     ring-seen leaving j = seen-leaving j
     ring-seen face j =

@@ -11,7 +11,7 @@ use Rattle.paper.specs.Numbers.{rounded}
 use Rattle.paper.specs.Refined.{Corners, RefinedMesh}
 use Rattle.paper.specs.Net.{End, vertex, leaving, face, arriving, Side, side0, side1, side2, side3, neighbour, pick, quad, size, ring, points}
 use Rattle.mesh.proofs.Rings.{iterate-add}
-use Rattle.surface.specs.Sound.{Sound, Small}
+use Rattle.surface.specs.Sound.{Sound, RefinedSmall}
 
 -- ---- steps
 pub iterate-first : (f : ℕ → ℕ) (j c : ℕ) → iterate j f (f c) ≡ iterate (j + 1) f c
@@ -94,7 +94,7 @@ module _ (K : Corners) (ok : Sound K) (c : ℕ) (here : c < K .count) where
 
 -- ---- the refined points of a ring
 module _ (K : RefinedMesh rounded) (ok : Sound (K .corners)) (c : ℕ) (here : c < K .corners .count) where
-  pub points-small : Small K → (e : End) (j : ℕ) → natAbs (points K c e j) ≤ 2 ^ 24
+  pub points-small : RefinedSmall K → (e : End) (j : ℕ) → natAbs (points K c e j) ≤ 2 ^ 24
   points-small small e j = small (ring (K .corners) c e j) (ring-in (K .corners) ok c here e j)
 
   pub points-cyclic : (e : End) → Cyclic (points K c e) (size (K .corners) c e)

@@ -1,4 +1,4 @@
--- Sizes at a corner of an accepted mesh: the ends, the face points with their sums before the division, the inner points and all 41 points.
+-- Sizes at a corner of an accepted mesh: the ends, the face points, the inner points and all 41 points.
 -- The weights of a face point add up, signs dropped, to at most 10/9 of its divisor: one computed test over all rows (`heavy`).
 use mathlib.Core.Path.{_≡_, _∙_, ap, refl, subst}
 use mathlib.Core.Bool.{Bool}
@@ -23,7 +23,7 @@ use Rattle.paper.proofs.Below.{below-at}
 use Rattle.numbers.specs.WithinHalf.{WithinHalf}
 use Rattle.numbers.proofs.Nearest.{within-half-is}
 use Rattle.numbers.proofs.Rules.{bottom, cosine-size}
-use Rattle.surface.specs.Sound.{Sound, Small}
+use Rattle.surface.specs.Sound.{Sound, RefinedSmall}
 use Rattle.surface.specs.Sizes.{RefinedSize, FaceSize, ValueSize, WrittenSize, CosineSize}
 use Rattle.surface.proofs.Within.{Within, within-cancel, abs-within, positive}
 use Rattle.surface.proofs.Faces.{toward-within-half, centre-within-half}
@@ -66,9 +66,6 @@ face-mean = over 4 _ λ ρ. simp (poly, ρ) (omega arith)
 ninth : (Q : ℤ) → Within (pos 18 *ℤ Q) (pos (20 * 2 ^ 24 + 9)) → FaceSize Q
 ninth = over 1 _ λ ρ. simp (poly, ρ) (omega arith)
 
-before : (G W M : ℤ) → (pos 3 *ℤ W) ≤ℤ (pos (10 * unit) *ℤ M) → Within G (pos (2 ^ 24) *ℤ W) → M ≤ℤ pos mostSides → natAbs G ≤ 2 ^ 60
-before = over 3 _ λ ρ. simp (poly, ρ) (omega arith)
-
 module _ (p : ℕ → ℤ) (m : ℕ) (low : leastSides ≤ m) (high : m ≤ mostSides) (small : (j : ℕ) → RefinedSize (p j)) where
   pub centre-size : RefinedSize (centre rounded p m)
   centre-size =
@@ -86,11 +83,6 @@ module _ (p : ℕ → ℤ) (m : ℕ) (low : leastSides ≤ m) (high : m ≤ most
       (face-mean (pos m) (sum (λ k. p (i + k) *ℤ weight m k) m) (sum (λ k. pos (natAbs (weight m k))) m) (toward rounded p m i)
       (heavy m low high) (bounded i) (toward-within-half p m i here)))
 
-  -- the sum of a face point before its division; a weight; and the sum as far as a loop has come
-  pub gather-size : (i : ℕ) → natAbs (sum (λ k. p (i + k) *ℤ weight m k) m) ≤ 2 ^ 60
-  gather-size i =
-      before (sum (λ k. p (i + k) *ℤ weight m k) m) (sum (λ k. pos (natAbs (weight m k))) m) (pos m) (heavy m low high) (bounded i) (simp diff (omega arith))
-
   pub weight-size : (k : ℕ) → natAbs (weight m k) ≤ 7 * unit
   unfolding weight
   weight-size k = seven (cosine m k) (cosine m (k + (m - 1))) (cosine-size m low high k) (cosine-size m low high (k + (m - 1)))
@@ -98,27 +90,26 @@ module _ (p : ℕ → ℤ) (m : ℕ) (low : leastSides ≤ m) (high : m ≤ most
       seven : (x y : ℤ) → natAbs x ≤ unit → natAbs y ≤ unit → natAbs (pos (3 * unit) +ℤ pos 2 *ℤ x +ℤ pos 2 *ℤ y) ≤ 7 * unit
       seven = over 2 _ λ ρ. simp (poly, ρ) (omega arith)
 
--- ---- smaller classes within larger ones
-refined-value : (z : ℤ) → RefinedSize z → ValueSize z
-refined-value z h = omega arith
-
-face-value : (z : ℤ) → FaceSize z → ValueSize z
-face-value z h = omega arith
-
-face-written : (z : ℤ) → FaceSize z → WrittenSize z
-face-written z h = omega arith
-
-refined-written : (z : ℤ) → RefinedSize z → WrittenSize z
-refined-written z h = omega arith
-
+-- ---- a cosine; a mean of two
 top : (z : ℤ) → natAbs z ≤ unit → z ≤ℤ pos unit
 top = over 1 _ λ ρ. simp (poly, ρ) (omega arith)
 
 half-small : (x y : ℤ) → WrittenSize x → WrittenSize y → WrittenSize (round (x +ℤ y) (pos 2))
 half-small x y h l = half-written x y (round (x +ℤ y) (pos 2)) (h, l) (within-half-is (x +ℤ y) (pos 2) (round (x +ℤ y) (pos 2)) tt refl)
 
+-- ---- a list of numbers that are all small
+infixr 25 _then_
+data All : List ℤ → Type 0 where
+  none : All []
+  _then_ : {z : ℤ} {l : List ℤ} → WrittenSize z → All l → All (z ∷ l)
+
+all-at : (l : List ℤ) → All l → (j : ℕ) → WrittenSize (getD l j (pos 0))
+all-at [] none j = omega arith
+all-at (z ∷ l) (h then t) zero = h
+all-at (z ∷ l) (h then t) (suc j) = all-at l t j
+
 -- ---- of a corner's sides
-module _ (K : RefinedMesh rounded) (ok : Sound (K .corners)) (bound : Small K) (c : ℕ) (here : c < K .corners .count) where
+module _ (K : RefinedMesh rounded) (ok : Sound (K .corners)) (bound : RefinedSmall K) (c : ℕ) (here : c < K .corners .count) where
   end-size : (e : End) → natAbs (centre rounded (points K c e) (size (K .corners) c e)) ≤ 2 ^ 24
   end-size e = centre-size (points K c e) (size (K .corners) c e) (size-least (K .corners) ok c here e) (size-most (K .corners) ok c here e)
       (points-small K ok c here bound e)
@@ -156,16 +147,16 @@ module _ (K : RefinedMesh rounded) (ok : Sound (K .corners)) (bound : Small K) (
       (bottom (size (K .corners) c (head s)) low high, top (C K c s) (cosine-size (size (K .corners) c (head s)) low high 1))
 
   H-value : (s : Side) → ValueSize (H K c s)
-  H-value s = refined-value (H K c s) (H-size s)
+  H-value s = omega (arith, H-size s)
 
   T-value : (s : Side) → ValueSize (T K c s)
-  T-value s = refined-value (T K c s) (T-size s)
+  T-value s = omega (arith, T-size s)
 
   X-value : (s : Side) → ValueSize (X K c s)
-  X-value s = face-value (X K c s) (X-size s)
+  X-value s = omega (arith, X-size s)
 
   Y-value : (s : Side) → ValueSize (Y K c s)
-  Y-value s = face-value (Y K c s) (Y-size s)
+  Y-value s = omega (arith, Y-size s)
 
   -- ---- the points
   pub outer1-size : (s : Side) → WrittenSize (outer1 K c s)
@@ -173,7 +164,7 @@ module _ (K : RefinedMesh rounded) (ok : Sound (K .corners)) (bound : Small K) (
 
   pub outer2-size : (s : Side) → WrittenSize (outer2 K c s)
   unfolding outer2
-  outer2-size s = half-small (X K c s) (Y K c s) (face-written (X K c s) (X-size s)) (face-written (Y K c s) (Y-size s))
+  outer2-size s = half-small (X K c s) (Y K c s) (omega (arith, X-size s)) (omega (arith, Y-size s))
 
   pub outer3-size : (s : Side) → WrittenSize (outer3 K c s)
   outer3-size s =
@@ -225,44 +216,25 @@ module _ (K : RefinedMesh rounded) (ok : Sound (K .corners)) (bound : Small K) (
   unfolding b22
   b22-size = half-small (aTail K c side0) (aTail K c side3) (aTail-size side0) (aTail-size side3)
 
--- ---- all 41
-infixr 25 _then_
-data All : List ℤ → Type 0 where
-  none : All []
-  _then_ : {z : ℤ} {l : List ℤ} → WrittenSize z → All l → All (z ∷ l)
+  -- ---- all 41
+  H-written : (s : Side) → WrittenSize (H K c s)
+  H-written s = omega (arith, H-size s)
 
-all-at : (l : List ℤ) → All l → (j : ℕ) → WrittenSize (getD l j (pos 0))
-all-at [] none j = omega arith
-all-at (z ∷ l) (h then t) zero = h
-all-at (z ∷ l) (h then t) (suc j) = all-at l t j
+  T-written : (s : Side) → WrittenSize (T K c s)
+  T-written s = omega (arith, T-size s)
 
-module _ (K : RefinedMesh rounded) (ok : Sound (K .corners)) (bound : Small K) (c : ℕ) (here : c < K .corners .count) where
   all-small : All (net K c)
   unfolding net bGrid aGrid
   all-small =
-      let h : (s : Side) → WrittenSize (H K c s) = λ s. refined-written (H K c s) (H-size K ok bound c here s) in
-      let t : (s : Side) → WrittenSize (T K c s) = λ s. refined-written (T K c s) (T-size K ok bound c here s) in
-      let b1 : (s : Side) → WrittenSize (outer1 K c s) = outer1-size K ok bound c here in
-      let b2 : (s : Side) → WrittenSize (outer2 K c s) = outer2-size K ok bound c here in
-      let b3 : (s : Side) → WrittenSize (outer3 K c s) = outer3-size K ok bound c here in
-      let r0 : (s : Side) → WrittenSize (a0 K c s) = a0-size K ok bound c here in
-      let r1 : (s : Side) → WrittenSize (a1 K c s) = a1-size K ok bound c here in
-      let r2 : (s : Side) → WrittenSize (a2 K c s) = a2-size K ok bound c here in
-      let r3 : (s : Side) → WrittenSize (a3 K c s) = a3-size K ok bound c here in
-      let m : (s : Side) → WrittenSize (middle K c s) = middle-size K ok bound c here in
-      let bh : (s : Side) → WrittenSize (bHead K c s) = bHead-size K ok bound c here in
-      let bt : (s : Side) → WrittenSize (bTail K c s) = bTail-size K ok bound c here in
-      let ah : (s : Side) → WrittenSize (aHead K c s) = aHead-size K ok bound c here in
-      let at : (s : Side) → WrittenSize (aTail K c s) = aTail-size K ok bound c here in
-      h side0 then b1 side0 then b2 side0 then b3 side0 then t side0
-      then b1 side3 then bh side0 then m side0 then bt side0 then b3 side1
-      then b2 side3 then m side3 then b22-size K ok bound c here then m side1 then b2 side1
-      then b3 side3 then bt side3 then m side2 then bh side1 then b1 side1
-      then t side3 then b3 side2 then b2 side2 then b1 side2 then h side2
-      then r0 side0 then r1 side0 then r2 side0 then r3 side0
-      then r1 side3 then ah side0 then at side0 then r2 side1
-      then r2 side3 then at side3 then ah side1 then r1 side1
-      then r3 side3 then r2 side2 then r1 side2 then r0 side2
+      H-written side0 then outer1-size side0 then outer2-size side0 then outer3-size side0 then T-written side0
+      then outer1-size side3 then bHead-size side0 then middle-size side0 then bTail-size side0 then outer3-size side1
+      then outer2-size side3 then middle-size side3 then b22-size then middle-size side1 then outer2-size side1
+      then outer3-size side3 then bTail-size side3 then middle-size side2 then bHead-size side1 then outer1-size side1
+      then T-written side3 then outer3-size side2 then outer2-size side2 then outer1-size side2 then H-written side2
+      then a0-size side0 then a1-size side0 then a2-size side0 then a3-size side0
+      then a1-size side3 then aHead-size side0 then aTail-size side0 then a2-size side1
+      then a2-size side3 then aTail-size side3 then aHead-size side1 then a1-size side1
+      then a3-size side3 then a2-size side2 then a1-size side2 then a0-size side2
       then none
 
   -- every number that is written fits 32 bits

@@ -33,5 +33,5 @@ pub record Agree (K L : Corners) : Type 0 where
   pub valence : (c : ℕ) → c < K .count → K .valence c ≡ L .valence c
 
 -- as large as the refined points of an accepted mesh may be
-abbrev pub Small : RefinedMesh rounded → Type 0
-Small K = (c : ℕ) → c < K .corners .count → natAbs (K .point c) ≤ 2 ^ 24
+abbrev pub RefinedSmall : RefinedMesh rounded → Type 0
+RefinedSmall K = (c : ℕ) → c < K .corners .count → natAbs (K .point c) ≤ 2 ^ 24

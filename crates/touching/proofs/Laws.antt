@@ -1,7 +1,6 @@
 -- Marks one corner and one face further; a vertex stands with u in some face exactly when u touches its corners; the ways out.
 use mathlib.Core.Path.{_≡_, refl, sym, ap, _∙_, subst}
 use mathlib.Core.Bool.{Bool, true, false, not, _&&_, _||_}
-use mathlib.Core.Logic.{⊎-elim}
 use mathlib.Core.List.{List}
 use Prim.Native.Nat.{ℕ, _+_, _-_, _<_, _≤_}
 use native.Mathlib.Omega.{arith}
@@ -9,7 +8,7 @@ use lib.Dec.{eqb}
 use lib.ListN.{length, getD, set, replicate, getD-replicate}
 use lib.Seq.{getD-set-same, getD-set-other, ext-getD}
 use borrow.Author.Count.{below-more}
-use borrow.Author.Tests.{eqb-true, eqb-false, eq-eqb, ne-eqb, le-leb, lt-leb}
+use borrow.Author.Tests.{eqb-true, eq-eqb, ne-eqb, le-leb, lt-leb}
 use Rattle.paper.specs.Scan.{pickN, firstBelow, someBelow}
 use Rattle.paper.specs.Mesh.{mostVertices, Mesh, vertexCount, cornerCount}
 use Rattle.paper.specs.Corners.{sumOf, faceOf, startOf}
@@ -20,12 +19,13 @@ use Rattle.paper.specs.declared.Answer.{Answer}
 use Rattle.paper.specs.declared.Answer.the-variants.{Done, Refused}
 use Rattle.paper.specs.Preview.{fault29, vertexVerdict, hasVertex, touchesAt, touchMarks, touchedVerdict, Touched}
 use Rattle.mesh.specs.Tables.{Named}
-use Rattle.mesh.proofs.Scans.{ways, clash, and-true, and-left, and-right, some-true, some-false, some-below, some-passes, none, fails-step}
-use Rattle.mesh.proofs.Faces.{Held, held, face-at, start-ends}
+use Rattle.mesh.proofs.Scans.{and-true, and-left, and-right, some-true, some-false, some-below, some-passes, none, fails-step}
+use Rattle.mesh.proofs.ByCases.{by-test, by-equal, true-both}
+use Rattle.mesh.proofs.Faces.{OfFace, held, face-at, start-ends}
 use Rattle.mesh.proofs.Links.{values-length, values-at}
 use Rattle.mesh.proofs.Verdicts.{orElse-fault, orElse-sound, single-hit, single-miss}
 use Rattle.mesh.proofs.Accepted.{sound-of, few-vertices, sums-of}
-use Rattle.refine.specs.sums.Sources.{Faces}
+use Rattle.refine.specs.sums.Sources.{FacesWithin}
 use Rattle.refine.proofs.Accepted.{faces-of, vertex-in}
 use Rattle.touching.specs.Sharing.{among, AllMarked, FaceMarked, inFace, SharingMarked}
 
@@ -40,14 +40,11 @@ or-some false = refl
 
 some-step : (n : ℕ) (f : ℕ → Bool) → someBelow (n + 1) f ≡ (someBelow n f || f n)
 some-step n f =
-    ⊎-elim
-    (λ e. let i = firstBelow n f in
-    some-true (n + 1) f i (omega (arith, some-below n f e)) (some-passes n f e) ∙ sym (ap (λ (b : Bool). b || f n) e))
-    (λ e. ⊎-elim
-    (λ q. some-true (n + 1) f n (omega arith) q ∙ sym (ap (λ (b : Bool). someBelow n f || b) q ∙ or-some (someBelow n f)))
-    (λ q. some-false (n + 1) f (fails-step f n (none n f e) q) ∙ sym (ap (λ (b : Bool). someBelow n f || b) q ∙ or-none (someBelow n f) ∙ e))
-    (ways (f n)))
-    (ways (someBelow n f))
+    by-test (someBelow n f)
+    (λ e. rw e (some-true (n + 1) f (firstBelow n f) (omega (arith, some-below n f e)) (some-passes n f e)))
+    (λ e. rw e (by-test (f n)
+    (λ q. rw q (some-true (n + 1) f n (omega arith) q))
+    (λ q. rw q (some-false (n + 1) f (fails-step f n (none n f e) q)))))
 
 pick-or : (a b : Bool) (x : ℕ) → pickN (a || b) 1 x ≡ pickN b 1 (pickN a 1 x)
 pick-or true true x = refl
@@ -56,7 +53,7 @@ pick-or false true x = refl
 pick-or false false x = refl
 
 -- ---- among n corners
-among-none : (corners : List ℕ) (start w : ℕ) → among corners start 0 w ≡ false
+pub among-none : (corners : List ℕ) (start w : ℕ) → among corners start 0 w ≡ false
 unfolding among
 among-none corners start w = some-false 0 _ (λ j h. absurd (omega arith))
 
@@ -64,31 +61,22 @@ among-step : (corners : List ℕ) (start n w : ℕ) → among corners start (n +
 unfolding among
 among-step corners start n w = some-step n (λ j. names corners w (start + j))
 
--- found among no corners; one corner further
-pub found-none : (corners : List ℕ) (start u : ℕ) → false ≡ among corners start 0 u
-found-none corners start u = sym (among-none corners start u)
-
+-- one corner further
 module _ (corners : List ℕ) (start n u : ℕ) where
   pub found-here : vertexOf corners (start + n) ≡ u → true ≡ among corners start (n + 1) u
   unfolding names
-  found-here e =
-      sym (among-step corners start n u ∙ ap (λ (b : Bool). among corners start n u || b) (eq-eqb (vertexOf corners (start + n)) u e)
-      ∙ or-some (among corners start n u))
+  found-here e = rw (among-step corners start n u, eq-eqb (vertexOf corners (start + n)) u e) (sym (or-some (among corners start n u)))
 
-  pub found-not : (vertexOf corners (start + n) ≡ u → ⊥) → (r : Bool) → r ≡ among corners start n u → r ≡ among corners start (n + 1) u
+  pub found-not : (vertexOf corners (start + n) ≡ u → ⊥) → {r : Bool} → r ≡ among corners start n u → r ≡ among corners start (n + 1) u
   unfolding names
-  found-not e r q =
-      q ∙ sym (among-step corners start n u ∙ ap (λ (b : Bool). among corners start n u || b) (ne-eqb (vertexOf corners (start + n)) u e)
-      ∙ or-none (among corners start n u))
+  found-not e q = rw (among-step corners start n u, ne-eqb (vertexOf corners (start + n)) u e) (q ∙ sym (or-none (among corners start n u)))
 
 -- ---- one mark more
 mark-set : (sharing : List ℕ) (u w : ℕ) → u < length sharing → getD (set sharing u 1) w 0 ≡ pickN (eqb u w) 1 (getD sharing w 0)
 mark-set sharing u w h =
-    ⊎-elim
-    (λ e. let q : w ≡ u = sym (eqb-true u w e) in
-    ap (λ (k : ℕ). getD (set sharing u 1) k 0) q ∙ getD-set-same sharing u 1 0 h ∙ sym (ap (λ (b : Bool). pickN b 1 (getD sharing w 0)) e))
-    (λ e. getD-set-other sharing u w 1 0 (λ q. eqb-false u w e (sym q)) ∙ sym (ap (λ (b : Bool). pickN b 1 (getD sharing w 0)) e))
-    (ways (eqb u w))
+    by-equal u w
+    (λ q. rw (eq-eqb u w q) (ap (λ (k : ℕ). getD (set sharing u 1) k 0) (sym q) ∙ getD-set-same sharing u 1 0 h))
+    (λ q. rw (ne-eqb u w q) (getD-set-other sharing u w 1 0 (λ e. q (sym e))))
 
 pub all-none : (corners : List ℕ) (start : ℕ) (sharing : List ℕ) → AllMarked corners start 0 sharing sharing
 all-none corners start sharing w h = sym (ap (λ (b : Bool). pickN b 1 (getD sharing w 0)) (among-none corners start w))
@@ -133,27 +121,25 @@ module _ (sides corners : List ℕ) (sums : sumOf sides ≡ length corners) (u w
   abbrev together : ℕ → Bool
   together = inFace sides corners u w
 
-  -- a corner of face g at the vertex v
-  module _ (g : ℕ) (h : g < length sides) (v : ℕ) (e : among corners (startOf sides g) (getD sides g 0) v ≡ true) where
-    abbrev spot : ℕ
-    spot = firstBelow (getD sides g 0) (λ j. names corners v (startOf sides g + j))
+  -- a corner d of face g at the vertex v
+  record Spot (g v d : ℕ) : Type 0 where
+    inside : d < length corners
+    at : names corners v d ≡ true
+    of : faceOf sides d ≡ g
 
-    spot-in : spot < getD sides g 0
-    unfolding among
-    spot-in = some-below (getD sides g 0) (λ j. names corners v (startOf sides g + j)) e
-
-    spot-names : names corners v (startOf sides g + spot) ≡ true
-    unfolding among
-    spot-names = some-passes (getD sides g 0) (λ j. names corners v (startOf sides g + j)) e
-
-    spot-below : startOf sides g + spot < length corners
-    spot-below = omega (arith, spot-in, start-ends sides g h, sums)
-
-    spot-face : faceOf sides (startOf sides g + spot) ≡ g
-    spot-face = face-at sides g (startOf sides g + spot) (omega arith) (omega (arith, spot-in)) h
+  spot : (g : ℕ) → g < length sides → (v : ℕ) → among corners (startOf sides g) (getD sides g 0) v ≡ true
+      → Spot g v (startOf sides g + firstBelow (getD sides g 0) (λ j. names corners v (startOf sides g + j)))
+  unfolding among
+  spot g h v e =
+      let i = some-below (getD sides g 0) (λ j. names corners v (startOf sides g + j)) e in
+      record {
+        inside = omega (arith, i, start-ends sides g h, sums);
+        at = some-passes (getD sides g 0) (λ j. names corners v (startOf sides g + j)) e;
+        of = face-at sides g _ (omega arith) (omega (arith, i)) h;
+      }
 
   -- corner d of face g is among its corners
-  among-at : (v d g : ℕ) → Held sides d g → names corners v d ≡ true → among corners (startOf sides g) (getD sides g 0) v ≡ true
+  among-at : (v d g : ℕ) → OfFace sides d g → names corners v d ≡ true → among corners (startOf sides g) (getD sides g 0) v ≡ true
   unfolding among
   among-at v d g k e =
       let q : startOf sides g + (d - startOf sides g) ≡ d = omega (arith, k .from) in
@@ -166,14 +152,10 @@ module _ (sides corners : List ℕ) (sums : sumOf sides ≡ length corners) (u w
       let g = firstBelow (length sides) together in
       let h = some-below (length sides) together e in
       let p = some-passes (length sides) together e in
-      let pu = and-left _ _ p in
-      let pw = and-right (among corners (startOf sides g) (getD sides g 0) u) _ p in
-      let d = startOf sides g + spot g h w pw in
-      let x = startOf sides g + spot g h u pu in
-      some-true (length corners) _ d (spot-below g h w pw)
-      (and-true _ _ (spot-names g h w pw)
-      (some-true (length corners) _ x (spot-below g h u pu)
-      (and-true _ _ (eq-eqb (faceOf sides x) (faceOf sides d) (spot-face g h u pu ∙ sym (spot-face g h w pw))) (spot-names g h u pu))))
+      let du = spot g h u (and-left _ _ p) in
+      let dw = spot g h w (and-right (among corners (startOf sides g) (getD sides g 0) u) _ p) in
+      some-true (length corners) _ _ (dw .inside) (and-true _ _ (dw .at)
+      (some-true (length corners) _ _ (du .inside) (and-true _ _ (eq-eqb _ _ (du .of ∙ sym (dw .of))) (du .at))))
 
   of-touches : touchesAt sides corners u w ≡ true → someBelow (length sides) together ≡ true
   unfolding inFace touchesAt hasVertex
@@ -191,24 +173,20 @@ module _ (sides corners : List ℕ) (sums : sumOf sides ≡ length corners) (u w
       let face : faceOf sides x ≡ faceOf sides d = eqb-true _ _ (and-left _ _ q) in
       let g = faceOf sides d in
       let kd = held sides d (omega (arith, hd, sums)) in
-      let kx : Held sides x g = subst (Held sides x) face (held sides x (omega (arith, hx, sums))) in
+      let kx : OfFace sides x g = subst (OfFace sides x) face (held sides x (omega (arith, hx, sums))) in
       some-true (length sides) together g (kd .exists)
       (and-true _ _ (among-at u x g kx (and-right (eqb (faceOf sides x) (faceOf sides d)) _ q)) (among-at w d g kd pw))
 
   pub together-is : someBelow (length sides) together ≡ touchesAt sides corners u w
-  together-is =
-      ⊎-elim
-      (λ e. e ∙ sym (touches-of e))
-      (λ e. ⊎-elim (λ t. absurd (clash (of-touches t) e)) (λ t. e ∙ sym t) (ways (touchesAt sides corners u w)))
-      (ways (someBelow (length sides) together))
+  together-is = true-both _ _ touches-of of-touches
 
 -- ---- each corner has the mark of its vertex
 module _ (corners sharing : List ℕ) where
   -- the corners below c
-  abbrev pub Copied : List ℕ → ℕ → Type 0
-  Copied marks c = (d : ℕ) → d < c → getD marks d 0 ≡ getD sharing (vertexOf corners d) 0
+  abbrev pub MarksCopied : List ℕ → ℕ → Type 0
+  MarksCopied marks c = (d : ℕ) → d < c → getD marks d 0 ≡ getD sharing (vertexOf corners d) 0
 
-  pub copied-step : (marks : List ℕ) (c : ℕ) → c < length marks → Copied marks c → Copied (set marks c (getD sharing (vertexOf corners c) 0)) (c + 1)
+  pub copied-step : (marks : List ℕ) (c : ℕ) → c < length marks → MarksCopied marks c → MarksCopied (set marks c (getD sharing (vertexOf corners c) 0)) (c + 1)
   copied-step marks c h k =
       let x = getD sharing (vertexOf corners c) 0 in
       below-more (λ d. getD (set marks c x) d 0 ≡ getD sharing (vertexOf corners d) 0) c
@@ -227,7 +205,7 @@ module _ (sides corners : List ℕ) (u : ℕ) where
       ∙ ap (λ (d : ℕ). pickN (touchesAt sides corners u (vertexOf corners d)) 1 0) (let q : 0 + c ≡ c = omega arith in q)
 
   pub marks-are : sumOf sides ≡ length corners → (sharing marks : List ℕ) → SharingMarked sides corners u (length sides) sharing → Named corners (length sharing)
-      → length marks ≡ length corners → Copied corners sharing marks (length corners) → marks ≡ touchMarks sides corners u
+      → length marks ≡ length corners → MarksCopied corners sharing marks (length corners) → marks ≡ touchMarks sides corners u
   marks-are sums sharing marks m named l k =
       ext-getD 0 marks (touchMarks sides corners u) (l ∙ sym marks-length)
       (λ c h. let b : c < length corners = omega arith in
@@ -242,7 +220,7 @@ module _ (M : Mesh) (a : Accepted M) where
   pub names-few : Named (M .corners) mostVertices
   names-few c h = omega (arith, vertex-in M a c h, few-vertices _ _ _ (sound-of M a .four))
 
-  pub faces : Faces (M .sides)
+  pub faces : FacesWithin (M .sides)
   faces = faces-of M a
 
 -- ---- the ways out
@@ -256,9 +234,9 @@ module _ (M : Mesh) (u : ℕ) (old : List ℕ) where
     unfolding fault29
     passes = single-miss 29 u (lt-leb _ _ h)
 
-    pub touched-refused : (a : Answer) (k p : ℕ) → stated a ≡ verdict M → a ≡ Refused k p → Touched M u old (Refused k p) old
+    pub touched-refused : {a : Answer} {k p : ℕ} → stated a ≡ verdict M → a ≡ Refused k p → Touched M u old (Refused k p) old
     unfolding touchedVerdict
-    touched-refused a k p e q =
+    touched-refused {k = k} {p = p} e q =
         record { answers = sym (orElse-sound _ passes ∙ orElse-fault k p _ (sym e ∙ ap stated q)); holds = refl }
 
     module _ (a : Accepted M) where
@@ -271,9 +249,9 @@ module _ (M : Mesh) (u : ℕ) (old : List ℕ) where
             holds = refl;
           }
 
-      pub touched-done : length old ≡ cornerCount M → (out : List ℕ) → out ≡ touchMarks (M .sides) (M .corners) u → Touched M u old Done out
+      pub touched-done : length old ≡ cornerCount M → {out : List ℕ} → out ≡ touchMarks (M .sides) (M .corners) u → Touched M u old Done out
       unfolding touchedVerdict
-      touched-done e out m =
+      touched-done e m =
           record {
             answers =
                 sym (orElse-sound _ passes ∙ orElse-sound _ a ∙ single-miss noRoom (cornerCount M) (ap not (eq-eqb (length old) (cornerCount M) e)));

@@ -8,7 +8,7 @@ ghost use Rattle.paper.specs.Mesh.{meshOf, mostVertices};
 ghost use Rattle.paper.specs.Corners.{sumOf};
 ghost use Rattle.paper.specs.Links.{vertexOf};
 ghost use Rattle.mesh.specs.Tables.{Named};
-ghost use Rattle.refine.specs.sums.Sources.{Faces};
+ghost use Rattle.refine.specs.sums.Sources.{FacesWithin};
 ghost use Rattle.paper.specs.Preview.{touchMarks, Touched};
 ghost use Rattle.touching.specs.Sharing.{among, AllMarked, FaceMarked, SharingMarked};
 
@@ -45,7 +45,7 @@ pub fn touched(
 
 // The marks of a mesh that passes: its vertices are marked first, then its corners.
 fn mark(sides: &[u8], corners: &[u16], vertex: usize, marks: &mut [u8])
-    requires faces { ⌜ Faces (now sides) × (sumOf (now sides) ≡ length (now corners)) ⌝ }
+    requires faces { ⌜ FacesWithin (now sides) × (sumOf (now sides) ≡ length (now corners)) ⌝ }
     requires named { ⌜ Named (now corners) mostVertices × (length (now marks) ≡ length (now corners)) ⌝ }
     ensures { λ _. ⌜ now (marks .exit) ≡ touchMarks (now (sides .entry)) (now (corners .entry)) vertex ⌝ }
 {
@@ -56,7 +56,7 @@ fn mark(sides: &[u8], corners: &[u16], vertex: usize, marks: &mut [u8])
 
 // Marks, in a table of zeros, the vertices that stand in a face with this one.
 fn mark_vertices(sides: &[u8], corners: &[u16], vertex: usize, sharing: &mut [u8])
-    requires faces { ⌜ Faces (now sides) × (sumOf (now sides) ≡ length (now corners)) ⌝ }
+    requires faces { ⌜ FacesWithin (now sides) × (sumOf (now sides) ≡ length (now corners)) ⌝ }
     requires named { ⌜ Named (now corners) (length (now sharing)) × (now sharing ≡ replicate (length (now sharing)) 0) ⌝ }
     ensures { λ _. ⌜ SharingMarked (now (sides .entry)) (now (corners .entry)) vertex (length (now (sides .entry))) (now (sharing .exit)) ⌝ }
 {

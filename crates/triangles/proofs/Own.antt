@@ -27,7 +27,7 @@ use Rattle.mesh.proofs.Scans.{ways}
 use Rattle.mesh.proofs.Links.{values-length, values-at}
 use Rattle.borders.proofs.Ranges.{ranges}
 use Rattle.floats.proofs.nets.Nets.{nets-pass}
-use Rattle.mesh.proofs.Faces.{Held, held, start-next, start-all}
+use Rattle.mesh.proofs.Faces.{OfFace, held, start-next, start-all}
 use Rattle.net_points.specs.declared.writing.Shape.{Shape}
 use Rattle.numbering.specs.PointRows.{Fills}
 use Rattle.triangles.specs.Owned.{ShapeOf, Pointed}
@@ -63,10 +63,10 @@ start-le : (l : List ℕ) (i j : ℕ) → i ≤ j → j ≤ length l → startOf
 start-le l i j h b = subst (λ (x : ℕ). startOf l i ≤ startOf l x) (let z : i + (j - i) ≡ j = omega arith in z) (starts-rise l i (j - i) (omega arith))
 
 group-of : (l : List ℕ) (lo hi n : ℕ) → lo ≤ hi → hi ≤ length l → startOf l lo ≤ n → n < startOf l hi
-    → (lo ≤ faceOf l n) × (faceOf l n < hi) × Held l n (faceOf l n)
+    → (lo ≤ faceOf l n) × (faceOf l n < hi) × OfFace l n (faceOf l n)
 group-of l lo hi n o b p q = (low, high, there)
   where
-    there : Held l n (faceOf l n)
+    there : OfFace l n (faceOf l n)
     there = held l n (omega (arith, start-le l hi (length l) b (omega arith), start-all l (length l) (omega arith)))
 
     low : lo ≤ faceOf l n
@@ -241,7 +241,7 @@ module _ (M : Mesh) (levels : List ℕ) (ok : Accepted M) (leveled : Leveled M l
       last-is : startOf (pointGroups M levels) (groups * (c + 1)) ≡ pointsBefore M levels (c + 1)
       last-is = refl
 
-      found : (groups * c ≤ faceOf (pointGroups M levels) n) × (faceOf (pointGroups M levels) n < groups * (c + 1)) × Held (pointGroups M levels) n (faceOf (pointGroups M levels) n)
+      found : (groups * c ≤ faceOf (pointGroups M levels) n) × (faceOf (pointGroups M levels) n < groups * (c + 1)) × OfFace (pointGroups M levels) n (faceOf (pointGroups M levels) n)
       found =
           group-of (pointGroups M levels) (groups * c) (groups * (c + 1)) n (omega arith) (omega (arith, groups-length M levels)) (omega (arith, first-is))
           (omega (arith, last-is, all-is))

@@ -1,13 +1,9 @@
-// The tangents of a range of a mesh that has passed the checks. The nets are made for a run of corners at a time, as for the points, and the tangents of
-// each run are put from them. A tangent has three numbers, and a point has two of them.
+// The tangents of a range of a mesh that has passed the checks. A tangent has three numbers, and a point has two of them.
 use mesh::LARGE_MESH;
 use mesh::SMALL_MESH;
-use mesh::least;
-use numbers::cosines;
 use paper::Answer;
 use paper::MOST_CORNERS;
 use paper::MOST_VERTICES;
-use paper::NUMBERS_PER_CORNER;
 use paper::Tangents;
 use surface::POINT_ROW;
 ghost use mathlib.Core.Path.{_≡_};
@@ -19,18 +15,9 @@ ghost use Rattle.paper.specs.File.{begins};
 ghost use Rattle.paper.specs.Floats.{netVerdict};
 ghost use Rattle.paper.specs.Calls.{nets};
 ghost use Rattle.paper.specs.Tangents.{tangentList};
-ghost use Rattle.numbers.specs.Stored.{stored};
-ghost use Rattle.surface.specs.Points.{pointRow};
-ghost use Rattle.refine.specs.sums.Sources.{Small};
-ghost use Rattle.building.specs.writing.Written.{NetsDrawn};
 ghost use Rattle.numbering.specs.Meshed.{Given, Of};
 ghost use Rattle.triangles.specs.Checks.{Levelled};
-ghost use Rattle.triangles.specs.Owned.{Netted};
-ghost use Rattle.triangles.specs.filling.Filled.{Drawing};
-ghost use Rattle.triangles.specs.tangent_filling.Paired.{tangentsBefore, Paired, PairsFilled};
-
-// The corners of a run.
-const RUN: usize = 16;
+ghost use Rattle.triangles.specs.tangent_filling.Paired.{tangentsBefore, TangentsPut, PairsFilled};
 
 // The tangents, or that the lent list is too short.
 pub(crate) fn fill(
@@ -94,10 +81,11 @@ fn fill_pairs(
     requires room { ⌜ ((M : Mesh) → Of M (now corners) (now low) (now table) (now levels) → 3 * (tangentsBefore M (now levels) (first + count) - tangentsBefore M (now levels) first) ≤ length (now out)) ⌝ }
     ensures { λ _. ⌜ now (out .exit) ≡ begins (tangentList (meshOf (now (coordinates .entry)) (now (sides .entry)) (now (corners .entry)) (now (sharpness .entry))) (now (levels .entry)) first count) (now (out .entry)) ⌝ }
 {
+    let mut none = [0i32; 1];
     let rows = mesh::table_rows(corners.len());
     if rows == SMALL_MESH {
         let mut refined = [0i32; POINT_ROW * SMALL_MESH];
-        pairs_over(
+        crate::runs::over_refined(
             coordinates,
             sides,
             corners,
@@ -107,12 +95,14 @@ fn fill_pairs(
             levels,
             first,
             count,
+            true,
             &mut refined,
+            &mut none,
             out,
         )
     } else if rows == LARGE_MESH {
         let mut refined = [0i32; POINT_ROW * LARGE_MESH];
-        pairs_over(
+        crate::runs::over_refined(
             coordinates,
             sides,
             corners,
@@ -122,12 +112,14 @@ fn fill_pairs(
             levels,
             first,
             count,
+            true,
             &mut refined,
+            &mut none,
             out,
         )
     } else {
         let mut refined = [0i32; POINT_ROW * MOST_CORNERS];
-        pairs_over(
+        crate::runs::over_refined(
             coordinates,
             sides,
             corners,
@@ -137,123 +129,16 @@ fn fill_pairs(
             levels,
             first,
             count,
+            true,
             &mut refined,
+            &mut none,
             out,
         )
     }
 }
 
-// The same over a table of its own.
-fn pairs_over(
-    coordinates: &[i32],
-    sides: &[u8],
-    corners: &[u16],
-    sharpness: &[u8],
-    low: &[u16],
-    table: &[u16],
-    levels: &[u8],
-    first: usize,
-    count: usize,
-    refined: &mut [i32],
-    out: &mut [i64],
-)
-    requires mesh { ⌜ Of (meshOf (now coordinates) (now sides) (now corners) (now sharpness)) (now corners) (now low) (now table) (now levels) ⌝ }
-    requires range { ⌜ (0 < count) × (first + count ≤ length (now levels)) ⌝ }
-    requires room { ⌜ ((M : Mesh) → Of M (now corners) (now low) (now table) (now levels) → 3 * (tangentsBefore M (now levels) (first + count) - tangentsBefore M (now levels) first) ≤ length (now out)) ⌝ }
-    requires refined { ⌜ (pointRow * length (now corners) ≤ length (now refined)) × Small (now refined) ⌝ }
-    ensures { λ _. ⌜ now (out .exit) ≡ begins (tangentList (meshOf (now (coordinates .entry)) (now (sides .entry)) (now (corners .entry)) (now (sharpness .entry))) (now (levels .entry)) first count) (now (out .entry)) ⌝ }
-{
-    building::writing::fill_range(
-        coordinates,
-        sides,
-        corners,
-        sharpness,
-        table,
-        first,
-        count,
-        refined,
-    );
-    let rows = cosines::rows();
-    pair_runs(
-        corners,
-        low,
-        table,
-        levels,
-        refined,
-        &rows,
-        first,
-        count,
-        out,
-    );
-}
-
-// The same over the refined points, a run of corners at a time.
-fn pair_runs(
-    corners: &[u16],
-    low: &[u16],
-    table: &[u16],
-    levels: &[u8],
-    refined: &[i32],
-    rows: &cosines::Rows,
-    first: usize,
-    count: usize,
-    out: &mut [i64],
-)
-    requires mesh { ⌜ Drawing (now corners) (now low) (now table) (now levels) (now refined) first count × (now rows ≡ stored) ⌝ }
-    requires range { ⌜ first + count ≤ length (now levels) ⌝ }
-    requires room { ⌜ ((M : Mesh) → Of M (now corners) (now low) (now table) (now levels) → 3 * (tangentsBefore M (now levels) (first + count) - tangentsBefore M (now levels) first) ≤ length (now out)) ⌝ }
-    ensures { λ _. ⌜ ((M : Mesh) → Of M (now (corners .entry)) (now (low .entry)) (now (table .entry)) (now (levels .entry)) → NetsDrawn M (now (table .entry)) (now (refined .entry)) first count → now (out .exit) ≡ begins (tangentList M (now (levels .entry)) first count) (now (out .entry))) ⌝ }
-{
-    let mut numbers = [0i32; RUN * NUMBERS_PER_CORNER];
-    let mut to = 0;
-    let mut c = 0;
-    while c < count {
-        let run = least(count - c, RUN);
-        building::writing::write_corners(
-            refined,
-            table,
-            rows,
-            corners.len(),
-            first + c,
-            run,
-            &mut numbers,
-        );
-        let nets = &numbers[..NUMBERS_PER_CORNER * run];
-        to = pair_run(corners, low, table, levels, nets, first + c, run, out, to);
-        c += run;
-    }
-}
-
-// The tangents of `count` corners from `first` on, out of the numbers of their nets. It answers where they end.
-fn pair_run(
-    corners: &[u16],
-    low: &[u16],
-    table: &[u16],
-    levels: &[u8],
-    numbers: &[i32],
-    first: usize,
-    count: usize,
-    out: &mut [i64],
-    at: usize,
-) -> usize
-    requires { ⌜ Netted (now corners) (now low) (now table) (now levels) (now numbers) first count × (first + count ≤ length (now levels)) ⌝ }
-    requires room { ⌜ ((M : Mesh) → Of M (now corners) (now low) (now table) (now levels) → at + 3 * (tangentsBefore M (now levels) (first + count) - tangentsBefore M (now levels) first) ≤ length (now out)) ⌝ }
-    ensures ends { λ r. ⌜ ((M : Mesh) → Of M (now (corners .entry)) (now (low .entry)) (now (table .entry)) (now (levels .entry)) → r ≡ at + 3 * (tangentsBefore M (now (levels .entry)) (first + count) - tangentsBefore M (now (levels .entry)) first)) ⌝ }
-    ensures tangents { λ r. ⌜ ((M : Mesh) → Of M (now (corners .entry)) (now (low .entry)) (now (table .entry)) (now (levels .entry)) → now (numbers .entry) ≡ nets M first count → Paired M (now (levels .entry)) (tangentsBefore M (now (levels .entry)) first) (tangentsBefore M (now (levels .entry)) (first + count)) at r (now (out .entry)) (now (out .exit))) ⌝ }
-{
-    let mut to = at;
-    let mut c = 0;
-    while c < count {
-        let from = NUMBERS_PER_CORNER * c;
-        let net = &numbers[from..from + NUMBERS_PER_CORNER];
-        to = put_own(corners, low, table, levels, net, first + c, out, to);
-        c += 1;
-    }
-    to
-}
-
 // The tangents of a corner, out of the numbers of its net. It answers where they end.
-fn put_own(
+pub(crate) fn put_tangents(
     corners: &[u16],
     low: &[u16],
     table: &[u16],
@@ -266,7 +151,7 @@ fn put_own(
     requires { ⌜ Given (now corners) (now low) (now table) (now levels) × (c < length (now levels)) × (netVerdict (now numbers) ≡ sound) ⌝ }
     requires room { ⌜ ((M : Mesh) → Of M (now corners) (now low) (now table) (now levels) → at + 3 * (tangentsBefore M (now levels) (c + 1) - tangentsBefore M (now levels) c) ≤ length (now out)) ⌝ }
     ensures ends { λ r. ⌜ ((M : Mesh) → Of M (now (corners .entry)) (now (low .entry)) (now (table .entry)) (now (levels .entry)) → r ≡ at + 3 * (tangentsBefore M (now (levels .entry)) (c + 1) - tangentsBefore M (now (levels .entry)) c)) ⌝ }
-    ensures tangents { λ r. ⌜ ((M : Mesh) → Of M (now (corners .entry)) (now (low .entry)) (now (table .entry)) (now (levels .entry)) → now (numbers .entry) ≡ nets M c 1 → Paired M (now (levels .entry)) (tangentsBefore M (now (levels .entry)) c) (tangentsBefore M (now (levels .entry)) (c + 1)) at r (now (out .entry)) (now (out .exit))) ⌝ }
+    ensures tangents { λ r. ⌜ ((M : Mesh) → Of M (now (corners .entry)) (now (low .entry)) (now (table .entry)) (now (levels .entry)) → now (numbers .entry) ≡ nets M c 1 → TangentsPut M (now (levels .entry)) (tangentsBefore M (now (levels .entry)) c) (tangentsBefore M (now (levels .entry)) (c + 1)) at r (now (out .entry)) (now (out .exit))) ⌝ }
 {
     let shape = crate::shape_of(corners, low, table, levels, c);
     let third = numbering::segments_at(table, levels, c, 2);

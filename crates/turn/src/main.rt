@@ -21,7 +21,7 @@ ghost use lib.ListN.{length};
 ghost use Rattle.dms.specs.header.ListsWithin.{ListsWithin};
 
 // Room for a line for each face, its number of at most four digits.
-const LINES: usize = 5 * MOST_FACES;
+const LINES_ROOM: usize = 5 * MOST_FACES;
 
 fn main() {
     if 1 < os::arg_count() {
@@ -135,7 +135,7 @@ fn say_turned(
 
 // Writes the beginning of the listing to standard error, one number a line.
 fn complain_listing(listing: &[u16], turned: usize) {
-    let mut lines = [0u8; LINES];
+    let mut lines = [0u8; LINES_ROOM];
     let count = least(turned, listing.len());
     let end = put_listing(&mut lines, listing, count);
     complain_up_to(&lines, end);

@@ -1,15 +1,14 @@
 -- Laws of choices: a search over all of them finds one where there is one.
 use mathlib.Core.Path.{_≡_, refl, ap, _∙_}
 use mathlib.Core.Bool.{Bool, true, false}
-use mathlib.Core.Logic.{⊎-elim}
 use mathlib.Core.List.{List, [], _∷_}
 use Prim.Native.Nat.{ℕ, zero, suc, _<_}
 use native.Mathlib.Omega.{arith}
 use lib.ListN.{length}
 use Rattle.paper.specs.Scan.{valuesFrom}
 use Rattle.mesh.proofs.Ranges.{or-left, or-right}
-use Rattle.mesh.proofs.Scans.{ways}
 use Rattle.mesh.proofs.Links.{values-length, values-at}
+use Rattle.mesh.proofs.ByCases.{by-test}
 use Rattle.paper.specs.Turning.{says, someChoice, firstChoice}
 
 -- a choice that passes is found
@@ -30,10 +29,9 @@ pub first-choice : (n : ℕ) (p : List Bool → Bool) → someChoice n p ≡ tru
 unfolding someChoice firstChoice
 first-choice zero p e = record { long = refl; passes = e }
 first-choice (suc n) p e =
-    ⊎-elim
+    by-test (someChoice n (λ s. p (false ∷ s)))
     (λ b. let r = first-choice n (λ s. p (false ∷ s)) b in rw b (record { long = ap suc (r .long); passes = r .passes }))
     (λ b. let r = first-choice n (λ s. p (true ∷ s)) (rw b at e) in rw b (record { long = ap suc (r .long); passes = r .passes }))
-    (ways (someChoice n (λ s. p (false ∷ s))))
 
 -- every test of numbers is a choice below n
 module _ (f : ℕ → Bool) where

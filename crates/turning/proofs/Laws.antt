@@ -9,7 +9,7 @@ use borrow.Author.Tests.{eq-eqb, ne-eqb}
 use Rattle.paper.specs.Mesh.{mostCorners, Mesh, meshOf, vertexCount, faceCount, cornerCount}
 use Rattle.paper.specs.Faults.{sound, fault, _orElse_, listFaults, stated}
 use Rattle.paper.specs.File.{begins}
-use Rattle.paper.specs.Turning.{turnedCorners, turnedPairs, facesOf, turnsOf, fault36, turnFaults, turnVerdict, TurnedTo}
+use Rattle.paper.specs.Turning.{turnedPairs, facesOf, turnsOf, fault36, turnFaults, turnVerdict, TurnedTo}
 use Rattle.paper.specs.declared.Answer.{Answer}
 use Rattle.mesh.proofs.Verdicts.{sound-left, sound-right, single-sound, lowest-sound, orElse-fault, orElse-sound, single-hit, single-miss, unsound}
 use Rattle.mesh.proofs.Accepted.{few-vertices, few-faces, few-corners, named-of}
@@ -41,22 +41,22 @@ lists-pass M e =
     }
 
 -- the table of corners is long enough, and then has the next corners
-module _ (vertices : ℕ) (sides corners table : List ℕ) (z : ListsPass vertices sides corners) (l : rowLength * mostCorners ≤ length table) where
-  pub nexted-of : FacesFilled sides table → Nexted sides corners table
-  nexted-of f = let s = z .listed .sums in let g = z .few-corners in record { long = omega arith; nexts = λ c h. f .nexts c (omega arith) }
+pub nexted-of : {vertices : ℕ} {sides corners table : List ℕ} → ListsPass vertices sides corners → rowLength * mostCorners ≤ length table
+    → FacesFilled sides table → Nexted sides corners table
+nexted-of z l f = let s = z .listed .sums in let g = z .few-corners in record { long = omega arith; nexts = λ c h. f .nexts c (omega arith) }
 
 -- 4 to 9 stop the search, or 34 and 35 decide
-module _ (M : Mesh) (a : Answer) (v : stated a ≡ listFaults M) where
-  pub lists-refused : (k p : ℕ) (states : List ℕ) → a ≡ Answer.Refused k p → ChosenFor M (Answer.Refused k p) states
-  lists-refused k p states e =
+module _ (M : Mesh) {a : Answer} (v : stated a ≡ listFaults M) where
+  pub lists-refused : {k p : ℕ} (states : List ℕ) → a ≡ Answer.Refused k p → ChosenFor M (Answer.Refused k p) states
+  lists-refused {k} {p} states e =
       record { answers = sym (orElse-fault k p (turnFaults M) (sym v ∙ ap stated e)); turns = λ q. unsound k p q }
 
   pub lists-sound : a ≡ Answer.Done → listFaults M ≡ sound
   lists-sound e = sym v ∙ ap stated e
 
-  pub lists-passed : a ≡ Answer.Done → (b : Answer) (states : List ℕ) → Chosen (M .sides) (M .corners) b states → ChosenFor M b states
+  pub lists-passed : {b : Answer} {states : List ℕ} → a ≡ Answer.Done → Chosen (M .sides) (M .corners) b states → ChosenFor M b states
   unfolding turnFaults
-  lists-passed e b states c = record { answers = c .answers ∙ sym (orElse-sound (turnFaults M) (lists-sound e)); turns = c .turns }
+  lists-passed e c = record { answers = c .answers ∙ sym (orElse-sound (turnFaults M) (lists-sound e)); turns = c .turns }
 
 -- the whole: refused, or done
 module _ (M : Mesh) (old : List ℕ) where
@@ -68,7 +68,7 @@ module _ (M : Mesh) (old : List ℕ) where
   length-refused n =
       orElse-fault 36 (length old) (listFaults M orElse turnFaults M) (single-hit 36 (length old) (ap not (ne-eqb (length old) (faceCount M) n)))
 
-  module _ (q : length old ≡ faceCount M) (a : Answer) (states : List ℕ) (c : ChosenFor M a states) where
+  module _ (q : length old ≡ faceCount M) {a : Answer} {states : List ℕ} (c : ChosenFor M a states) where
     pub verdict-is : turnVerdict M (length old) ≡ stated a
     unfolding turnVerdict fault36
     verdict-is =
@@ -78,11 +78,10 @@ module _ (M : Mesh) (old : List ℕ) where
       pub passes : listFaults M ≡ sound
       passes = sound-left _ _ (sym (c .answers) ∙ ap stated d)
 
-      pub turned-done : (count : ℕ) (corners sharpness out : List ℕ)
-          → sharpness ≡ turnedPairs (M .sides) (M .sharpness) (turnsBy states)
+      pub turned-done : {count : ℕ} {corners sharpness out : List ℕ} → sharpness ≡ turnedPairs (M .sides) (M .sharpness) (turnsBy states)
           → Written (turnsBy states) (M .sides) (M .corners) old count corners out
           → TurnedTo M old (record { answer = Answer.Done; turned = count }) (meshOf (M .coordinates) (M .sides) corners sharpness) out
-      turned-done count corners sharpness out s w =
+      turned-done {sharpness = sharpness} s w =
           let same : (f : ℕ) → f < faceCount M → turnsBy states f ≡ turnsOf M f = c .turns (ap stated d) in
           let sums = listed-of M passes .sums in
           let long = long-of M passes in
@@ -92,9 +91,9 @@ module _ (M : Mesh) (old : List ℕ) where
             answers = sym (verdict-is ∙ ap stated d);
             counts = w .counts ∙ ap length faces;
             holds =
-                ap (λ (l : List ℕ). meshOf (M .coordinates) (M .sides) l sharpness)
-                (w .corners-are ∙ corners-same (M .sides) (M .corners) (M .sharpness) sums long (turnsBy states) (turnsOf M) same)
-                ∙ ap (meshOf (M .coordinates) (M .sides) (turnedCorners (M .sides) (M .corners) (turnsOf M)))
-                (s ∙ pairs-same (M .sides) (M .corners) (M .sharpness) sums long (turnsBy states) (turnsOf M) same);
+                rw (
+                  w .corners-are ∙ corners-same (M .sides) (M .corners) (M .sharpness) sums long (turnsBy states) (turnsOf M) same,
+                  s ∙ pairs-same (M .sides) (M .corners) (M .sharpness) sums long (turnsBy states) (turnsOf M) same,
+                );
             listing-holds = w .listing-is ∙ ap (λ (l : List ℕ). begins l old) faces;
           }

@@ -1,21 +1,20 @@
 -- The faces of a choice as a list: each higher than the one before, and those that are turned and no others.
 use mathlib.Core.Path.{_≡_, ap, _∙_, sym, subst}
-use mathlib.Core.Bool.{Bool, true, false}
-use mathlib.Core.Logic.{⊎-elim}
+use mathlib.Core.Bool.{Bool, true}
 use mathlib.Core.List.{List, _∷_}
 use Prim.Native.Nat.{ℕ, zero, suc, _+_, _<_, _≤_}
 use native.Mathlib.Omega.{arith}
-use lib.Dec.{eqb}
 use lib.ListN.{length, getD, take, drop, List·getD-append}
 use lib.Seq.{take-append-seam}
-use borrow.Author.Tests.{eqb-true, eqb-false, eq-eqb, ne-eqb}
+use borrow.Author.Tests.{eq-eqb, ne-eqb}
 use Rattle.paper.specs.Mesh.{Mesh, faceCount}
 use Rattle.paper.specs.Faults.{Verdict, stated, kept}
 use Rattle.paper.specs.File.{begins}
 use Rattle.paper.specs.Nesting.{listed}
 use Rattle.paper.specs.Turning.{facesOf, turnsOf, turnedFaces}
 use Rattle.paper.specs.Claims.{ListingRises}
-use Rattle.mesh.proofs.Scans.{ways, clash, some-true, some-false}
+use Rattle.mesh.proofs.Scans.{clash, some-true, some-false}
+use Rattle.mesh.proofs.ByCases.{by-test, by-equal, beyond}
 use Rattle.turning.proofs.Models.{faces-hit, faces-miss, faces-none}
 
 module _ (t : ℕ → Bool) where
@@ -29,19 +28,14 @@ module _ (t : ℕ → Bool) where
   more : (at left : ℕ) (l : List ℕ) → t at ≡ true → Rising (suc at) left l → Rising at (suc left) (at ∷ l)
   more at left l e r =
       record {
-        low = λ i h. low-at i h;
-        rises = λ i j a b. rise-at i j a b;
-        turned = λ i h. turned-at i h;
-        stands = λ f a b q. ⊎-elim
-            (λ x. (0, omega arith, eqb-true at f x))
-            (λ x. let n : at ≡ f → ⊥ = eqb-false at f x in
-            let s = r .stands f (above at f a n) (omega arith) q in (suc (s .0), omega (arith, s .1), s .2))
-            (ways (eqb at f));
+        low = low-at;
+        rises = rise-at;
+        turned = turned-at;
+        stands = λ f a b q. by-equal f at
+            (λ x. (0, omega arith, sym x))
+            (λ x. let s = r .stands f (beyond f at a x) (omega arith) q in (suc (s .0), omega (arith, s .1), s .2));
       }
     where
-      above : (at f : ℕ) → at ≤ f → (at ≡ f → ⊥) → suc at ≤ f
-      above at f a n = omega (arith, n)
-
       low-at : (i : ℕ) → i < length (at ∷ l) → at ≤ getD (at ∷ l) i 0
       low-at zero h = omega arith
       low-at (suc i) h = let z = r .low i (omega arith) in omega arith
@@ -57,7 +51,7 @@ module _ (t : ℕ → Bool) where
 
   pub rising : (at left : ℕ) → Rising at left (facesOf t at left)
   rising at zero =
-      subst (Rising at zero) (sym (faces-none t at))
+      rw (faces-none t at)
       (record {
         low = λ i h. absurd (omega arith);
         rises = λ i j a b. absurd (omega arith);
@@ -66,29 +60,23 @@ module _ (t : ℕ → Bool) where
       })
   rising at (suc left) =
       let r = rising (suc at) left in
-      ⊎-elim
-      (λ e. subst (Rising at (suc left)) (sym (faces-hit t at left e)) (more at left _ e r))
-      (λ e. subst (Rising at (suc left)) (sym (faces-miss t at left e))
+      by-test (t at)
+      (λ e. rw (faces-hit t at left e) (more at left _ e r))
+      (λ e. rw (faces-miss t at left e)
       (record {
         low = λ i h. let z = r .low i h in omega arith;
         rises = r .rises;
         turned = r .turned;
-        stands = λ f a b q.
-            r .stands f (above f a (λ (z : at ≡ f). clash q (subst (λ (x : ℕ). t x ≡ false) z e))) (omega arith) q;
+        stands = λ f a b q. r .stands f (beyond f at a (λ z. clash q (ap t z ∙ e))) (omega arith) q;
       }))
-      (ways (t at))
-    where
-      above : (f : ℕ) → at ≤ f → (at ≡ f → ⊥) → suc at ≤ f
-      above f a n = omega (arith, n)
 
   listed-is : (n f : ℕ) → f < n → listed (facesOf t 0 n) f ≡ t f
   unfolding listed
   listed-is n f h =
       let r = rising 0 n in
-      ⊎-elim
+      by-test (t f)
       (λ e. let s = r .stands f (omega arith) (omega arith) e in some-true _ _ (s .0) (s .1) (eq-eqb _ f (s .2)) ∙ sym e)
       (λ e. some-false _ _ (λ i l. ne-eqb _ f (λ z. clash (subst (λ (x : ℕ). t x ≡ true) z (r .turned i l)) e)) ∙ sym e)
-      (ways (t f))
 
 -- the turned faces rise
 turned-rising : (M : Mesh) → Rising (turnsOf M) 0 (faceCount M) (turnedFaces M)

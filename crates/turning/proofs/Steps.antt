@@ -1,5 +1,5 @@
 -- Steps over shared edges: the faces that k steps lead to grow with k until nothing is new, which takes at most as many steps as there are faces.
-use mathlib.Core.Path.{_≡_, refl, ap, subst}
+use mathlib.Core.Path.{_≡_, refl, ap, _∙_, sym, subst}
 use mathlib.Core.Bool.{Bool, true, false, not, _&&_}
 use mathlib.Core.Logic.{_⊎_, inl, inr, ⊎-elim}
 use mathlib.Core.List.{List}
@@ -12,34 +12,30 @@ use Rattle.paper.specs.Scan.{firstBelow, someBelow, countBelow}
 use Rattle.paper.specs.Corners.{faceOf}
 use Rattle.paper.specs.Turning.{sharesEdge, adjoin, inSteps, connected}
 use Rattle.mesh.proofs.Ranges.{or-left, or-right}
-use Rattle.mesh.proofs.Scans.{ways, clash, compared, and-true, and-left, and-right, some-true, some-below, some-passes, none}
+use Rattle.mesh.proofs.Scans.{clash, and-true, and-left, and-right, some-true, some-below, some-passes, none}
 use Rattle.mesh.proofs.Rings.{count-hit, count-miss, count-le}
+use Rattle.mesh.proofs.ByCases.{by-test, by-equal, true-of}
 use Rattle.turning.proofs.Edges.{either}
 
 -- counts of two tests, one within the other
 module _ (g h : ℕ → Bool) (inside : (j : ℕ) → g j ≡ true → h j ≡ true) where
+  -- where the count of g rises, that of h does
+  count-rise : (n : ℕ) → countBelow (suc n) g + countBelow n h ≤ countBelow n g + countBelow (suc n) h
+  count-rise n =
+      by-test (g n)
+      (λ e. omega (arith, count-hit g n e, count-hit h n (inside n e)))
+      (λ e. by-test (h n) (λ b. omega (arith, count-miss g n e, count-hit h n b)) (λ b. omega (arith, count-miss g n e, count-miss h n b)))
+
   count-within : (n : ℕ) → countBelow n g ≤ countBelow n h
   count-within zero = unfold countBelow in omega arith
-  count-within (suc n) =
-      let r = count-within n in
-      ⊎-elim
-      (λ e. omega (arith, count-hit g n e, count-hit h n (inside n e)))
-      (λ e. ⊎-elim (λ b. omega (arith, count-miss g n e, count-hit h n b)) (λ b. omega (arith, count-miss g n e, count-miss h n b)) (ways (h n)))
-      (ways (g n))
+  count-within (suc n) = omega (arith, count-within n, count-rise n)
 
   count-more : (n x : ℕ) → x < n → g x ≡ false → h x ≡ true → countBelow n g < countBelow n h
   count-more zero x l p q = absurd (omega arith)
   count-more (suc n) x l p q =
-      ⊎-elim
-      (λ (e : x ≡ n).
-      omega (arith, count-miss g n (subst (λ (y : ℕ). g y ≡ false) e p), count-hit h n (subst (λ (y : ℕ). h y ≡ true) e q), count-within n))
-      (λ o. let b : x < n = ⊎-elim (λ (z : x < n). z) (λ (z : n < x). absurd (omega arith)) o in
-      let r = count-more n x b p q in
-      ⊎-elim
-      (λ e. omega (arith, count-hit g n e, count-hit h n (inside n e)))
-      (λ e. ⊎-elim (λ b. omega (arith, count-miss g n e, count-hit h n b)) (λ b. omega (arith, count-miss g n e, count-miss h n b)) (ways (h n)))
-      (ways (g n)))
-      (compared x n)
+      by-equal x n
+      (λ e. omega (arith, count-miss g n (ap g (sym e) ∙ p), count-hit h n (ap h (sym e) ∙ q), count-within n))
+      (λ e. omega (arith, count-more n x (omega (arith, e)) p q, count-rise n))
 
 module _ (sides corners : List ℕ) where
   -- corners that share an edge make their faces adjoin
@@ -69,14 +65,12 @@ module _ (sides corners : List ℕ) where
   pub sharing : (f g : ℕ) → adjoin sides corners f g ≡ true → Sharing f g (first-sharing f g) (second-sharing f g)
   unfolding adjoin first-sharing second-sharing
   sharing f g e =
-      let p = some-passes (length corners)
-      (λ c. eqb (faceOf sides c) f && someBelow (length corners) (λ d. eqb (faceOf sides d) g && sharesEdge sides corners c d)) e in
+      let p = some-passes (length corners) _ e in
       let q = and-right (eqb (faceOf sides (first-sharing f g)) f) _ p in
-      let b = some-passes (length corners) (λ d. eqb (faceOf sides d) g && sharesEdge sides corners (first-sharing f g) d) q in
+      let b = some-passes (length corners) _ q in
       record {
-        first-in = some-below (length corners)
-            (λ c. eqb (faceOf sides c) f && someBelow (length corners) (λ d. eqb (faceOf sides d) g && sharesEdge sides corners c d)) e;
-        second-in = some-below (length corners) (λ d. eqb (faceOf sides d) g && sharesEdge sides corners (first-sharing f g) d) q;
+        first-in = some-below (length corners) _ e;
+        second-in = some-below (length corners) _ q;
         first-of = eqb-true _ _ (and-left _ _ p);
         second-of = eqb-true _ _ (and-left _ _ b);
         shares = and-right (eqb (faceOf sides (second-sharing f g)) g) _ b;
@@ -108,12 +102,10 @@ module _ (sides corners : List ℕ) where
     pub last-step : (k x : ℕ) → inSteps sides corners (suc k) f x ≡ true → (inSteps sides corners k f x ≡ true) ⊎ Stepped k x (from-face k x)
     unfolding inSteps from-face
     last-step k x e =
-        ⊎-elim
-        (λ p. inl p)
-        (λ p.
-        let q = some-passes (length sides) (λ h. inSteps sides corners k f h && adjoin sides corners h x) p in
+        ⊎-elim inl
+        (λ p. let q = some-passes (length sides) _ p in
         inr (record {
-          inside = some-below (length sides) (λ h. inSteps sides corners k f h && adjoin sides corners h x) p;
+          inside = some-below (length sides) _ p;
           from = and-left _ _ q;
           over = and-right (inSteps sides corners k f (from-face k x)) _ q;
         }))
@@ -129,28 +121,24 @@ module _ (sides corners : List ℕ) where
     still-on : (k : ℕ) → Still k → Still (suc k)
     unfolding Still
     still-on k s x l e =
-        ⊎-elim
-        (λ p. p)
-        (λ p. let r : Stepped (suc k) x (from-face (suc k) x) = p in step k _ x (r .inside) (s _ (r .inside) (r .from)) (r .over))
+        ⊎-elim (λ p. p)
+        (λ (r : Stepped (suc k) x (from-face (suc k) x)). step k _ x (r .inside) (s _ (r .inside) (r .from)) (r .over))
         (last-step (suc k) x e)
 
     grows : (k : ℕ) → Still k ⊎ (countBelow (length sides) (inSteps sides corners k f) < countBelow (length sides) (inSteps sides corners (suc k) f))
     unfolding Still new
     grows k =
-        ⊎-elim
+        by-test (someBelow (length sides) (new k))
         (λ e. inr (
         let x = firstBelow (length sides) (new k) in
         let p = some-passes (length sides) (new k) e in
         count-more (inSteps sides corners k f) (inSteps sides corners (suc k) f) (more k) (length sides) x (some-below (length sides) (new k) e)
         (not-true _ (and-right (inSteps sides corners (suc k) f x) _ p)) (and-left _ _ p)))
-        (λ e. inl (λ x l p. ⊎-elim (λ q. q) (λ q. absurd (clash (and-true _ _ p (ap not q)) (none (length sides) (new k) e x l)))
-        (ways (inSteps sides corners k f x))))
-        (ways (someBelow (length sides) (new k)))
+        (λ e. inl (λ x l p. true-of _ (λ q. clash (and-true _ _ p (ap not q)) (none (length sides) (new k) e x l))))
 
     still-or-more : (k : ℕ) → Still k ⊎ (k < countBelow (length sides) (inSteps sides corners (suc k) f))
-    still-or-more zero = ⊎-elim (λ s. inl s) (λ g. inr (omega arith)) (grows zero)
-    still-or-more (suc k) =
-        ⊎-elim (λ s. inl (still-on k s)) (λ m. ⊎-elim (λ s. inl s) (λ g. inr (omega arith)) (grows (suc k))) (still-or-more k)
+    still-or-more zero = ⊎-elim inl (λ g. inr (omega arith)) (grows zero)
+    still-or-more (suc k) = ⊎-elim (λ s. inl (still-on k s)) (λ m. ⊎-elim inl (λ g. inr (omega arith)) (grows (suc k))) (still-or-more k)
 
     still : Still (length sides)
     still =
@@ -161,10 +149,8 @@ module _ (sides corners : List ℕ) where
     unfolding Still
     stays k s zero x l e = subst (λ (n : ℕ). inSteps sides corners n f x ≡ true) (omega arith) e
     stays k s (suc j) x l e =
-        ⊎-elim
-        (λ p. stays k s j x l p)
-        (λ p. let r : Stepped (j + k) x (from-face (j + k) x) = p in
-        s x l (step k _ x (r .inside) (stays k s j _ (r .inside) (r .from)) (r .over)))
+        ⊎-elim (stays k s j x l)
+        (λ (r : Stepped (j + k) x (from-face (j + k) x)). s x l (step k _ x (r .inside) (stays k s j _ (r .inside) (r .from)) (r .over)))
         (last-step (j + k) x (subst (λ (n : ℕ). inSteps sides corners n f x ≡ true) (omega arith) e))
 
     later : (k j x : ℕ) → inSteps sides corners k f x ≡ true → inSteps sides corners (j + k) f x ≡ true

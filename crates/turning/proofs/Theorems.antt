@@ -6,9 +6,9 @@ use Prim.Native.Nat.{ℕ, _*_, _<_}
 use native.Mathlib.Omega.{arith}
 use lib.ListN.{length}
 use borrow.Author.Tests.{not-true, eq-eqb}
-use Rattle.paper.specs.Mesh.{Mesh, meshOf, faceCount, cornerCount}
+use Rattle.paper.specs.Mesh.{Mesh, faceCount, cornerCount}
 use Rattle.paper.specs.Faults.{Verdict, sound, fault10, listFaults, stated, kept}
-use Rattle.paper.specs.Turning.{turnedCorners, turnedPairs, turnedMesh, edgeFaults, faulty, serves, keepsLowest, turnsOf, turnedFaces}
+use Rattle.paper.specs.Turning.{turnedCorners, turnedMesh, edgeFaults, faulty, serves, keepsLowest, turnsOf, turnedFaces}
 use Rattle.paper.specs.Turning.{fault36, turnFaults, turnVerdict, TurnedTo}
 use Rattle.paper.specs.File.{begins}
 use Rattle.paper.specs.Claims.{TurnedPasses, TurnsDecide, OneChoice, TurnedTwice, TurnedBack, NothingTurned, NoneFarther}
@@ -53,15 +53,15 @@ stated-done : (a : Answer) → stated a ≡ sound → a ≡ Answer.Done
 stated-done Answer.Done e = refl
 stated-done (Answer.Refused k p) e = unsound k p e
 
-module _ (M lists : Mesh) (old out : List ℕ) (r : Turned) (T : TurnedTo M old r lists out) where
+module _ {M lists : Mesh} {old out : List ℕ} {r : Turned} (T : TurnedTo M old r lists out) where
   module _ (d : r .answer ≡ Answer.Done) where
     all-sound : turnVerdict M (length old) ≡ sound
     all-sound = sym (T .answers) ∙ ap stated d
 
-    pub lists-sound : listFaults M ≡ sound
+    lists-sound : listFaults M ≡ sound
     lists-sound = unfold turnVerdict in sound-left _ _ (sound-right _ _ all-sound)
 
-    pub turns-sound : turnFaults M ≡ sound
+    turns-sound : turnFaults M ≡ sound
     turns-sound = unfold turnVerdict in sound-right (listFaults M) _ (sound-right _ _ all-sound)
 
     lists-are : lists ≡ turnedMesh M (turnsOf M)
@@ -73,48 +73,42 @@ module _ (M lists : Mesh) (old out : List ℕ) (r : Turned) (T : TurnedTo M old 
     unfolding turnVerdict fault36
     rest-is = orElse-sound _ (single-miss 36 (length old) (ap not (eq-eqb (length old) (faceCount M) n))) ∙ orElse-sound (turnFaults M) e
 
-    pub done-of : turnFaults M ≡ sound → r .answer ≡ Answer.Done
+    done-of : turnFaults M ≡ sound → r .answer ≡ Answer.Done
     done-of s = stated-done (r .answer) (T .answers ∙ rest-is ∙ s)
 
 pub turned-passes : TurnedPasses
 turned-passes M lists old out r T d =
-    let e = lists-sound M lists old out r T d in
-    subst (λ (L : Mesh). edgeFaults L ≡ sound) (sym (lists-are M lists old out r T d))
-    (passes-of M e (turnsOf M) (complete M e .made-serves (turns-sound M lists old out r T d)))
+    let e = lists-sound T d in
+    rw (lists-are T d) (passes-of M e (turnsOf M) (complete M e .made-serves (turns-sound T d)))
 
 pub turns-decide : TurnsDecide
 turns-decide M lists old out r T n e = (
-  (λ refused t s. refused (done-of M lists old out r T n e (complete M e .unrefused t (serves-of M e t s)))),
-  (λ never d. never (turnsOf M) (passes-of M e (turnsOf M) (complete M e .made-serves (turns-sound M lists old out r T d)))),
+  (λ refused t s. refused (done-of T n e (complete M e .unrefused t (serves-of M e t s)))),
+  (λ never d. never (turnsOf M) (passes-of M e (turnsOf M) (complete M e .made-serves (turns-sound T d)))),
 )
 
 pub one-choice : OneChoice
 one-choice M lists old out r T d =
-    let e = lists-sound M lists old out r T d in (
-      complete M e .made-keeps (turns-sound M lists old out r T d),
-      (λ t s q f h. complete M e .only t (serves-of M e t s) q f h),
-    )
+    let e = lists-sound T d in
+    (complete M e .made-keeps (turns-sound T d), (λ t s q f h. complete M e .only t (serves-of M e t s) q f h))
 
 pub turned-twice : TurnedTwice
 turned-twice M e t =
     let sums = listed-of M e .sums in
     let long = long-of M e in
-    ap (λ (l : List ℕ). meshOf (M .coordinates) (M .sides) l (turnedPairs (M .sides) (turnedPairs (M .sides) (M .sharpness) t) t))
-    (corners-twice (M .sides) (M .corners) (M .sharpness) sums long t)
-    ∙ ap (meshOf (M .coordinates) (M .sides) (M .corners)) (pairs-twice (M .sides) (M .corners) (M .sharpness) sums long t)
+    rw (corners-twice (M .sides) (M .corners) (M .sharpness) sums long t, pairs-twice (M .sides) (M .corners) (M .sharpness) sums long t)
 
 pub turned-back : TurnedBack
 turned-back M lists old out r T d =
-    ap (λ (L : Mesh). turnedMesh L (turnsOf M)) (lists-are M lists old out r T d) ∙ turned-twice M (lists-sound M lists old out r T d) (turnsOf M)
+    rw (lists-are T d) (turned-twice M (lists-sound T d) (turnsOf M))
 
 -- ---- a model that passes needs no turn
 module _ (M : Mesh) (e : listFaults M ≡ sound) where
   untouched : turnedMesh M noFace ≡ M
   untouched =
       let sums = listed-of M e .sums in
-      ap (λ (l : List ℕ). meshOf (M .coordinates) (M .sides) l (turnedPairs (M .sides) (M .sharpness) noFace))
-      (corners-untouched (M .sides) (M .corners) (M .sharpness) sums)
-      ∙ ap (meshOf (M .coordinates) (M .sides) (M .corners)) (pairs-untouched (M .sides) (M .corners) (M .sharpness) sums)
+      let long = long-of M e in
+      rw (corners-untouched (M .sides) (M .corners) (M .sharpness) sums long, pairs-untouched (M .sides) (M .corners) (M .sharpness) sums long)
 
   module _ (s : edgeFaults M ≡ sound) where
     none-serves : serves (M .sides) (M .corners) noFace ≡ true
@@ -131,18 +125,17 @@ module _ (M : Mesh) (e : listFaults M ≡ sound) where
     mesh-same =
         let sums = listed-of M e .sums in
         let long = long-of M e in
-        ap (λ (l : List ℕ). meshOf (M .coordinates) (M .sides) l (turnedPairs (M .sides) (M .sharpness) (turnsOf M)))
-        (corners-same (M .sides) (M .corners) (M .sharpness) sums long (turnsOf M) noFace none-made)
-        ∙ ap (meshOf (M .coordinates) (M .sides) (turnedCorners (M .sides) (M .corners) noFace))
-        (pairs-same (M .sides) (M .corners) (M .sharpness) sums long (turnsOf M) noFace none-made)
-        ∙ untouched
+        rw (
+          corners-same (M .sides) (M .corners) (M .sharpness) sums long (turnsOf M) noFace none-made,
+          pairs-same (M .sides) (M .corners) (M .sharpness) sums long (turnsOf M) noFace none-made,
+        ) untouched
 
     faces-empty : turnedFaces M ≡ List.[]
     faces-empty = faces-same (turnsOf M) noFace 0 (faceCount M) (λ f a b. none-made f (omega arith)) ∙ no-faces 0 (faceCount M)
 
 pub nothing-turned : NothingTurned
 nothing-turned M lists old out r T n e s =
-    let d = done-of M lists old out r T n e (complete M e .unrefused noFace (none-serves M e s)) in
+    let d = done-of T n e (complete M e .unrefused noFace (none-serves M e s)) in
     let v = ap stated d in (
       d,
       T .counts ∙ ap (λ (v : Verdict). kept v (length (turnedFaces M)) 0) v ∙ ap length (faces-empty M e s),

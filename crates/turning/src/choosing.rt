@@ -8,7 +8,7 @@ ghost use Prim.Native.Nat.{_≤_};
 ghost use lib.ListN.{length};
 ghost use Rattle.walk.specs.Table.{Blank};
 ghost use Rattle.turning.specs.partners.Keys.{Afters, PartnersOver};
-ghost use Rattle.turning.specs.choosing.Choice.{ListsPass, Nexted, Ended, Chosen};
+ghost use Rattle.turning.specs.choosing.Choice.{ListsPass, Nexted, EdgeEnds, Chosen};
 
 // Checks 34 and 35, and the state of every face.
 pub(crate) fn find_turns(
@@ -67,7 +67,7 @@ fn find_partners(
 
 // The next corner with the same ends, of every corner.
 fn fill_afters(lows: &[u16], highs: &[u16], vertices: usize, afters: &mut [u16])
-    requires ends { ⌜ Ended vertices (now lows) (now highs) ⌝ }
+    requires ends { ⌜ EdgeEnds vertices (now lows) (now highs) ⌝ }
     requires room { ⌜ length (now lows) ≤ length (now afters) ⌝ }
     ensures { λ _. ⌜ Afters (now (lows .entry)) (now (highs .entry)) (now (afters .exit)) ⌝ }
 {

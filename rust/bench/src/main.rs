@@ -12,8 +12,10 @@
 //! - `samples`: samples of a patch, in nanoseconds per sample;
 //! - `triangles`: the whole surface as triangles beside building it and sampling each net's four triangles;
 //! - `turning`: turning faces beside linking the same mesh;
-//! - `report`: the border report beside building all corners.
+//! - `report`: the border report beside building all corners;
+//! - `builds`, only where it is named: linking and building by two builds of the library (bench/builds).
 
+mod builds;
 mod report;
 mod samples;
 mod triangles;
@@ -307,6 +309,20 @@ fn main() {
     }
     if wanted("report") {
         measure_report(&meshes, budget);
+    }
+    if tables.iter().any(|name| name == "builds") {
+        measure_builds(&meshes, budget);
+    }
+}
+
+/// Each mesh by two builds of the library. L3's benchmark is the line of the prisms.
+fn measure_builds(meshes: &[Named], budget: Duration) {
+    let [before, after] = ["MAHUNOPI_BEFORE", "MAHUNOPI_AFTER"].map(builds::Library::named);
+    println!("{}", builds::HEADING);
+    for (name, solid, numbers, sharpness) in meshes {
+        let word = format!("{} | {}", numbers.word(), sharpness_word(*sharpness));
+        let tables = numbers.tables(solid).sharpened(*sharpness, &mut Random::new(11));
+        builds::line(&before, &after, name, &word, &tables, budget);
     }
 }
 

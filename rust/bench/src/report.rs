@@ -9,7 +9,7 @@ use shapes::Tables;
 
 use crate::least;
 
-pub const LIMIT: f64 = 4.0;
+pub const LIMIT: f64 = 3.3;
 pub const HEADING: &str = "| mesh | numbers | sharpness | corners | report, ns per corner | building all \
      | report over building | plain | ratio |\n|---|---|---|---|---|---|---|---|---|";
 

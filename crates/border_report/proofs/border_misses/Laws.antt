@@ -25,12 +25,12 @@ use Rattle.net.specs.sides.Values.{IsSide}
 use Rattle.net.specs.declared.sides.SideValues.{SideValues}
 use Rattle.building.specs.writing.Written.{Faced, NetsWritten}
 use Rattle.building.proofs.writing.Laws.{run-of}
-use Rattle.border_report.specs.border_misses.Held.{pointIn, Held, HeldAll, WholeFace, fourOf, netPoint, netMiss, cornerMiss}
+use Rattle.border_report.specs.border_misses.Held.{pointIn, NetHeld, NetHeldAll, WholeFace, fourOf, netPoint, netMiss, cornerMiss}
 
 -- ---- the numbers of corner j of those that are written
 pub held-of : (n : ℕ) (table : List ℕ) (points : List ℤ) → Drawn n table points → (first count : ℕ) → first + count ≤ n → (out : List ℤ)
     → perCorner * count ≤ length out → NetsWritten (drawn n table points) first count out → (j : ℕ) → j < count
-    → HeldAll (drawn n table points) (first + j) out (perCorner * j)
+    → NetHeldAll (drawn n table points) (first + j) out (perCorner * j)
 unfolding NetsWritten
 held-of n table points d first count here out room w j l axis small = record {
   points-are = is;
@@ -45,9 +45,9 @@ held-of n table points d first count here out room w j l axis small = record {
 
 -- of one corner alone
 pub held-one : (n : ℕ) (table : List ℕ) (points : List ℤ) → Drawn n table points → (c : ℕ) → c < n → (out : List ℤ) → perCorner ≤ length out
-    → NetsWritten (drawn n table points) c 1 out → HeldAll (drawn n table points) c out 0
+    → NetsWritten (drawn n table points) c 1 out → NetHeldAll (drawn n table points) c out 0
 held-one n table points d c here out room w =
-    subst (λ (e : ℕ). HeldAll (drawn n table points) e out 0) (let e : c + 0 ≡ c = omega arith in e)
+    subst (λ (e : ℕ). NetHeldAll (drawn n table points) e out 0) (let e : c + 0 ≡ c = omega arith in e)
     (held-of n table points d c 1 (omega arith) out (omega arith) w 0 (omega arith))
 
 -- ---- the corners of a face, and the first corner of the next face
@@ -110,8 +110,8 @@ module _ (K : RefinedMesh rounded) (c axis : ℕ) where
   unfolding netMiss
   miss-is s v i j b a o eb ea eo = rw (i .head, i .tail, i .x, i .y, i .cosine, eb, ea, eo)
 
-  module _ (here there : List ℤ) (at other : ℕ) (h : Held K c axis here at) where
-    pub miss0 : Held K (K .corners .link c) axis there other → (v : SideValues) → IsSide K c side0 v → (j : ℕ) → j < conditions → (b a o : ℤ)
+  module _ (here there : List ℤ) (at other : ℕ) (h : NetHeld K c axis here at) where
+    pub miss0 : NetHeld K (K .corners .link c) axis there other → (v : SideValues) → IsSide K c side0 v → (j : ℕ) → j < conditions → (b a o : ℤ)
         → b ≡ fourOf (pointIn here at axis) 0 1 2 3 j → a ≡ fourOf (pointIn here at axis) 25 26 27 28 j → o ≡ fourOf (pointIn there other axis) 25 29 33 37 j
         → natAbs (condition j (v .head) (v .tail) (v .x) (v .y) (v .cosine) b a o) ≡ netMiss K j c side0
     miss0 t v i j few b a o eb ea eo =
@@ -124,7 +124,7 @@ module _ (K : RefinedMesh rounded) (c axis : ℕ) where
         ∙ four-same (pointIn there other axis) q (t .points-are) 25 29 33 37 (lit< tt, lit< tt, lit< tt, lit< tt) (aRow q (across side0)) (refl, refl, refl, refl)
         j few)
 
-    pub miss1 : Held K (K .corners .next c) axis there other → (v : SideValues) → IsSide K c side1 v → (j : ℕ) → j < conditions → (b a o : ℤ)
+    pub miss1 : NetHeld K (K .corners .next c) axis there other → (v : SideValues) → IsSide K c side1 v → (j : ℕ) → j < conditions → (b a o : ℤ)
         → b ≡ fourOf (pointIn here at axis) 24 19 14 9 j → a ≡ fourOf (pointIn here at axis) 40 36 32 28 j → o ≡ fourOf (pointIn there other axis) 40 39 38 37 j
         → natAbs (condition j (v .head) (v .tail) (v .x) (v .y) (v .cosine) b a o) ≡ netMiss K j c side1
     miss1 t v i j few b a o eb ea eo =

@@ -7,7 +7,6 @@ use Rattle.mesh.proofs.Verdicts.{passed}
 use Rattle.dms.proofs.surveying.Surveys.{limits}
 use Rattle.border_report.proofs.Laws.{refused-added, accepted-added}
 use borrow.Author.Needs.{needs}
-use Rattle.border_report.proofs.over.Statement.{statement}
 use Rattle.border_report.proofs.over.Tie as tie
 
 abbrev mesh : tie.Start → Mesh
@@ -46,7 +45,7 @@ returns-2 c =
     accepted-added (s .args .page) (mesh s) (verdict (mesh s)) (c .accept .result) (c .before .before .largest .result) (accepts t) (c .accept .ensures)
     (c .before .before .largest .ensures)
 
-pub over-spec : {M : Type 1} → statement M
+pub over-spec : {M : Type 1} → Rattle.border_report.proofs.over.Statement.statement M
 over-spec =
     tie.close (tie.spec (λ c κs. search needs) (λ c. search needs) (λ c κs. search needs) (λ c. search needs) returns (λ c. search needs) largest-requires
     accept-requires (λ c. search needs) (λ c. search needs) returns-2)

@@ -18,14 +18,14 @@ use Rattle.mesh.proofs.Scans.{compared}
 use Rattle.mesh.proofs.Verdicts.{single-miss}
 use Rattle.dms.proofs.lists.Lists.{file-corners, file-sharpness}
 use Rattle.paper.specs.declared.Page.{Page}
-use Rattle.paper.specs.Report.{pageWith, lineNumbers, lines, added, meshIn, zeroPage, run, Line, oneMore}
+use Rattle.paper.specs.Report.{pageWith, lineNumbers, lines, added, meshIn, zeroPage, run, AtLine, oneMore}
 use Rattle.paper.specs.Claims.{RefusedAdds}
 use Rattle.border_report.proofs.page_laws.Runs.{values-of, zero-within, after-file}
 
 -- ---- the numbers of the checks
 pub record HasLine (number : ℕ) : Type 0 where
   pub line : ℕ
-  pub has-line : Line number line
+  pub has-line : AtLine number line
 
 abbrev Lined : Verdict → Type 0
 Lined v = (k p : ℕ) → v ≡ fault k p → HasLine k
@@ -95,7 +95,7 @@ lineOf number = pickN (eqb number 28) 13 (number - 1)
 line-of : (l : ℕ) → l < lines → lineOf (getD lineNumbers l 0) ≡ l
 line-of l h = eqb→eq (lineOf (getD lineNumbers l 0)) l (below-at (λ l. eqb (lineOf (getD lineNumbers l 0)) l) lines tt l h)
 
-module _ (P : Page) (k l : ℕ) (h : Line k l) (long : length (P .refusals) ≡ lines) where
+module _ (P : Page) (k l : ℕ) (h : AtLine k l) (long : length (P .refusals) ≡ lines) where
   abbrev line-with : ℕ → ℕ
   line-with i = getD (P .refusals) i 0 + pickN (eqb (getD lineNumbers i 0) k) 1 0
 

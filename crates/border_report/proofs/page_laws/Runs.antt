@@ -3,7 +3,7 @@
 -- of its parts.
 use mathlib.Core.Path.{_≡_, refl, sym, ap, _∙_, subst}
 use mathlib.Core.Bool.{Bool, true, false}
-use mathlib.Core.List.{List, [], _∷_, _++_}
+use mathlib.Core.List.{List, [], _∷_, _++_, append-nil}
 use Prim.Native.Nat.{ℕ, zero, suc, _+_, _*_, _<_, _≤_, max}
 use native.Mathlib.Omega.{arith}
 use borrow.Author.Tests.{le-ltb, lt-leb}
@@ -49,7 +49,7 @@ zeros (suc n) zero = refl
 zeros (suc n) (suc i) = zeros n i
 
 -- ---- a page that counts n meshes, as a run leaves it
-pub record Within (P : Page) (n : ℕ) : Type 0 where
+pub record PageWithin (P : Page) (n : ℕ) : Type 0 where
   pub meshes-are : P .meshes ≡ n
   pub corners-within : P .corners ≤ mostCorners * n
   pub borders-within : P .borders ≤ 2 * mostCorners * n
@@ -58,7 +58,7 @@ pub record Within (P : Page) (n : ℕ) : Type 0 where
   pub misses-long : length (P .misses) ≡ conditions
   pub misses-within : (j : ℕ) → j < conditions → getD (P .misses) j 0 ≤ mostMiss * unit
 
-within-zero : Within zeroPage 0
+within-zero : PageWithin zeroPage 0
 within-zero = record {
   meshes-are = refl;
   corners-within = omega arith;
@@ -76,24 +76,15 @@ none-above [] rest h e = e
 none-above (n ∷ l) rest h e =
     rw (le-ltb mostOnPage n (h 0 (omega arith)), none-above l rest (λ i b. h (suc i) (omega arith)) e)
 
-all-above : (l : List ℕ) → ((i : ℕ) → i < length l → getD l i 0 ≤ mostOnPage) → someAbove l ≡ false
+not-38 : (P : Page) (n : ℕ) → PageWithin P n → n ≤ mostMeshes → fault38 P ≡ false
 unfolding someAbove
-all-above [] h = refl
-all-above (n ∷ l) h = rw (le-ltb mostOnPage n (h 0 (omega arith)), all-above l (λ i b. h (suc i) (omega arith)))
+not-38 P n w few =
+    let misses = none-above (P .misses) [] (λ i b. omega (arith, w .misses-within i (omega (arith, w .misses-long)))) refl in
+    rw (le-ltb mostOnPage (P .meshes) (omega (arith, w .meshes-are)), le-ltb mostOnPage (P .corners) (omega (arith, w .corners-within)))
+    (rw (le-ltb mostOnPage (P .borders) (omega (arith, w .borders-within)))
+    (none-above (P .refusals) (P .misses) (λ i b. omega (arith, w .refusals-within i (omega (arith, w .refusals-long)))) (rw append-nil at misses)))
 
-module _ (P : Page) (n : ℕ) (w : Within P n) (few : n ≤ mostMeshes) where
-  not-38 : fault38 P ≡ false
-  unfolding someAbove
-  not-38 =
-      rw (
-        le-ltb mostOnPage (P .meshes) (omega (arith, w .meshes-are)),
-        le-ltb mostOnPage (P .corners) (omega (arith, w .corners-within)),
-        le-ltb mostOnPage (P .borders) (omega (arith, w .borders-within)),
-      )
-      (none-above (P .refusals) (P .misses) (λ i b. omega (arith, w .refusals-within i (omega (arith, w .refusals-long))))
-      (all-above (P .misses) (λ i b. omega (arith, w .misses-within i (omega (arith, w .misses-long))))))
-
-pub page-passes : (P : Page) (n : ℕ) → Within P n → n < mostMeshes → pageVerdict P ≡ sound
+pub page-passes : (P : Page) (n : ℕ) → PageWithin P n → n < mostMeshes → pageVerdict P ≡ sound
 unfolding pageVerdict
 page-passes P n w few =
     orElse-sound _ (single-miss 37 mostMeshes (lt-leb mostMeshes (P .meshes) (omega (arith, w .meshes-are))))
@@ -112,28 +103,26 @@ under-most number (fault k p) = picked (eqb number k)
     picked true = omega arith
     picked false = omega arith
 
-within-added : (P : Page) (n : ℕ) (M : Mesh) (v : Verdict) → (v ≡ sound → Accepted M) → Within P n → Within (added P M v) (n + 1)
+within-added : (P : Page) (n : ℕ) (M : Mesh) (v : Verdict) → (v ≡ sound → Accepted M) → PageWithin P n → PageWithin (added P M v) (n + 1)
 unfolding added
 within-added P n M sound ok w =
     let a = ok refl in
-    let f : ℕ → ℕ = λ j. max (getD (P .misses) j 0) (largestMiss M j) in
     record {
       meshes-are = ap (λ (k : ℕ). k + 1) (w .meshes-are);
       corners-within = omega (arith, w .corners-within, limits M a .1 .1);
       borders-within = omega (arith, w .borders-within, limits M a .1 .1);
       refusals-long = w .refusals-long;
       refusals-within = λ l h. omega (arith, w .refusals-within l h);
-      misses-long = values-length f 0 conditions;
-      misses-within = λ j h. omega (arith, value-at f conditions j h, w .misses-within j h, largest-miss-within M a j h);
+      misses-long = values-length _ 0 conditions;
+      misses-within = λ j h. simp value-at (omega (arith, w .misses-within j h, largest-miss-within M a j h));
     }
 within-added P n M (fault k p) ok w =
-    let f : ℕ → ℕ = λ l. getD (P .refusals) l 0 + pickN (eqb (getD lineNumbers l 0) k) 1 0 in
     record {
       meshes-are = ap (λ (k : ℕ). k + 1) (w .meshes-are);
       corners-within = omega (arith, w .corners-within);
       borders-within = omega (arith, w .borders-within);
-      refusals-long = values-length f 0 lines;
-      refusals-within = λ l h. omega (arith, value-at f lines l h, w .refusals-within l h, under-most (getD lineNumbers l 0) (fault k p));
+      refusals-long = values-length _ 0 lines;
+      refusals-within = λ l h. simp value-at (omega (arith, w .refusals-within l h, under-most (getD lineNumbers l 0) (fault k p)));
       misses-long = w .misses-long;
       misses-within = w .misses-within;
     }
@@ -158,51 +147,35 @@ module _ (P : Page) (M : Mesh) (n c b : ℕ) (r m : ℕ → ℕ) where
   unfolding merged added
   added-merged sound =
       page-same _ _ _ _ _ _ _ _ _ _ (omega arith) (omega arith) (omega arith)
-      (values-equal _ _ lines (λ l h. omega (arith, value-at r lines l h, value-at (refusals-with sound) lines l h)))
-      (values-equal _ _ conditions
-      (λ j h.
-      omega (
-        arith,
-        value-at (λ j. max (getD (P .misses) j 0) (largestMiss M j)) conditions j h,
-        value-at m conditions j h,
-        value-at (misses-with sound) conditions j h,
-      )))
+      (values-equal _ _ lines (λ l h. simp value-at (omega arith))) (values-equal _ _ conditions (λ j h. simp value-at (omega arith)))
   added-merged (fault k p) =
       page-same _ _ _ _ _ _ _ _ _ _ (omega arith) (omega arith) (omega arith)
-      (values-equal _ _ lines
-      (λ l h.
-      omega (
-        arith,
-        value-at (λ l. getD (P .refusals) l 0 + pickN (eqb (getD lineNumbers l 0) k) 1 0) lines l h,
-        value-at r lines l h,
-        value-at (refusals-with (fault k p)) lines l h,
-      )))
-      (values-equal _ _ conditions (λ j h. omega (arith, value-at m conditions j h, value-at (misses-with (fault k p)) conditions j h)))
+      (values-equal _ _ lines (λ l h. simp value-at (omega arith))) (values-equal _ _ conditions (λ j h. simp value-at (omega arith)))
 
-merged-none : (P : Page) (n : ℕ) → Within P n → P ≡ merged P (pageOf [])
+merged-none : (P : Page) (n : ℕ) → PageWithin P n → P ≡ merged P (pageOf [])
 unfolding merged pageOf
 merged-none P n w =
     page-same _ _ _ _ _ _ _ _ _ _ (omega arith) (omega arith) (omega arith)
-    (sym (values-of _ (P .refusals) lines (w .refusals-long) (λ l h. omega (arith, value-at (λ l. 0) lines l h))))
-    (sym (values-of _ (P .misses) conditions (w .misses-long) (λ j h. omega (arith, value-at (λ j. 0) conditions j h))))
+    (sym (values-of _ (P .refusals) lines (w .refusals-long) (λ l h. simp value-at (omega arith))))
+    (sym (values-of _ (P .misses) conditions (w .misses-long) (λ j h. simp value-at (omega arith))))
 
 -- ---- a run
-pub after-file : (P : Page) (n : ℕ) (F : Offered) → Within P n → n < mostMeshes → pageAfter P F ≡ added P (meshIn F) (verdictIn F)
+pub after-file : (P : Page) (n : ℕ) (F : Offered) → PageWithin P n → n < mostMeshes → pageAfter P F ≡ added P (meshIn F) (verdictIn F)
 unfolding pageAfter
 after-file P n F w few = rw (page-passes P n w few)
 
 -- the page after one file, of which n were counted before
-next-within : (P : Page) (n : ℕ) (F : Offered) → Within P n → n < mostMeshes → Within (pageAfter P F) (n + 1)
+next-within : (P : Page) (n : ℕ) (F : Offered) → PageWithin P n → n < mostMeshes → PageWithin (pageAfter P F) (n + 1)
 next-within P n F w few =
     rw (after-file P n F w few) (within-added P n (meshIn F) (verdictIn F) (accepted-in F) w)
 
-pub run-within : (files : List Offered) (P : Page) (n : ℕ) → Within P n → n + length files ≤ mostMeshes → Within (run P files) (n + length files)
-run-within [] P n w h = subst (Within P) (let e : n ≡ n + 0 = omega arith in e) w
+pub run-within : (files : List Offered) (P : Page) (n : ℕ) → PageWithin P n → n + length files ≤ mostMeshes → PageWithin (run P files) (n + length files)
+run-within [] P n w h = subst (PageWithin P) (let e : n ≡ n + 0 = omega arith in e) w
 run-within (F ∷ files) P n w h =
-    subst (Within (run (pageAfter P F) files)) (let e : n + 1 + length files ≡ n + suc (length files) = omega arith in e)
+    subst (PageWithin (run (pageAfter P F) files)) (let e : n + 1 + length files ≡ n + suc (length files) = omega arith in e)
     (run-within files (pageAfter P F) (n + 1) (next-within P n F w (omega arith)) (omega arith))
 
-run-from : (files : List Offered) (P : Page) (n : ℕ) → Within P n → n + length files ≤ mostMeshes → run P files ≡ merged P (pageOf files)
+run-from : (files : List Offered) (P : Page) (n : ℕ) → PageWithin P n → n + length files ≤ mostMeshes → run P files ≡ merged P (pageOf files)
 unfolding pageOf
 run-from [] P n w h = merged-none P n w
 run-from (F ∷ files) P n w h =
@@ -221,7 +194,7 @@ zero-merged files =
 pub runs-sum : RunsSum
 runs-sum files few = run-from files zeroPage 0 within-zero (omega arith) ∙ zero-merged files
 
-pub zero-within : (files : List Offered) → length files ≤ mostMeshes → Within (run zeroPage files) (0 + length files)
+pub zero-within : (files : List Offered) → length files ≤ mostMeshes → PageWithin (run zeroPage files) (0 + length files)
 zero-within files few = run-within files zeroPage 0 within-zero (omega arith)
 
 pub runs-pass : RunsPass
@@ -248,28 +221,14 @@ parts : (files more : List Offered) → pageOf (files ++ more) ≡ merged (pageO
 unfolding merged pageOf
 parts files more =
     page-same _ _ _ _ _ _ _ _ _ _ (length-append files more) (total-append cornerCount files more) (total-append borderCount files more)
-    (values-equal _ _ lines
-    (λ l h.
-    omega (
-      arith,
-      refused-append (getD lineNumbers l 0) files more,
-      value-at (λ l. refusedUnder (getD lineNumbers l 0) files) lines l h,
-      value-at (λ l. refusedUnder (getD lineNumbers l 0) more) lines l h,
-    )))
-    (values-equal _ _ conditions
-    (λ j h.
-    omega (
-      arith,
-      largest-append (λ M. largestMiss M j) files more,
-      value-at (λ j. largest (λ M. largestMiss M j) files) conditions j h,
-      value-at (λ j. largest (λ M. largestMiss M j) more) conditions j h,
-    )))
+    (values-equal _ _ lines (λ l h. simp value-at (refused-append (getD lineNumbers l 0) files more)))
+    (values-equal _ _ conditions (λ j h. simp value-at (largest-append (λ M. largestMiss M j) files more)))
 
 answered : (a : Answer) → stated a ≡ sound → a ≡ Done
 answered Done e = refl
 answered (Refused k p) e = unsound k p e
 
-merge-passes : (P Q : Page) (n m : ℕ) → Within P n → Within Q m → n + m ≤ mostMeshes → mergeVerdict P Q ≡ sound
+merge-passes : (P Q : Page) (n m : ℕ) → PageWithin P n → PageWithin Q m → n + m ≤ mostMeshes → mergeVerdict P Q ≡ sound
 unfolding mergeVerdict
 merge-passes P Q n m v w few =
     orElse-sound _ (single-miss 37 mostMeshes (le-ltb mostMeshes (P .meshes + Q .meshes) (omega (arith, v .meshes-are, w .meshes-are))))
@@ -279,17 +238,10 @@ pub parts-merge : PartsMerge
 parts-merge files more r few c =
     let P = run zeroPage files in
     let Q = run zeroPage more in
-    let v : mergeVerdict (run zeroPage files) (run zeroPage more) ≡ sound =
-    merge-passes P Q (0 + length files) (0 + length more) (zero-within files (omega arith)) (zero-within more (omega arith)) (omega arith)
-    in
-    let whole = runs-sum (files ++ more) (omega (arith, length-append files more)) in
-    let page : r .page ≡ merged (run zeroPage files) (run zeroPage more) = rw v at (c .holds) in (
+    let v = merge-passes P Q _ _ (zero-within files (omega arith)) (zero-within more (omega arith)) (omega arith) in
+    let whole = runs-sum (files ++ more) (omega (arith, length-append files more)) in (
       answered (r .answer) (c .answers ∙ v),
-      page
-          ∙ ap (λ (X : Page). merged X Q) (runs-sum files (omega arith))
-          ∙ ap (λ (X : Page). merged (pageOf files) X) (runs-sum more (omega arith))
-          ∙ sym (parts files more)
-          ∙ sym whole,
+      (rw v at (c .holds)) ∙ rw (runs-sum files (omega arith), runs-sum more (omega arith), whole) (sym (parts files more)),
     )
 
 -- ---- the order of the files

@@ -1,28 +1,14 @@
--- Lists that are filled number by number, and where a page's numbers stand.
+-- Where a page's numbers stand.
 use mathlib.Core.Path.{_≡_, refl, sym, ap, _∙_}
 use mathlib.Core.List.{List}
 use Prim.Native.Nat.{ℕ, suc, _+_, _-_, _<_, _≤_}
 use native.Mathlib.Omega.{arith}
 use lib.ListN.{length, getD, replicate, length-append, List·getD-append}
 use lib.Seq.{getD-append-add}
-use Rattle.paper.specs.Scan.{valuesFrom}
 use Rattle.paper.specs.Report.{lines, conditions, numbersOn}
 use Rattle.paper.specs.declared.Page.{Page}
-use Rattle.mesh.proofs.Fills.{Filled, filled-all}
+use Rattle.mesh.proofs.Fills.{Filled, filled-whole}
 use Rattle.border_report.proofs.page_laws.Runs.{values-of}
-
--- ---- the whole of a new list
-pub all-lines : (f : ℕ → ℕ) (i : ℕ) (new : List ℕ) → i ≡ lines → Filled f (replicate lines 0) i new → new ≡ valuesFrom f 0 lines
-unfolding valuesFrom
-all-lines f i new e h = filled-all f (replicate lines 0) i lines new e h
-
-pub all-conditions : (f : ℕ → ℕ) (i : ℕ) (new : List ℕ) → i ≡ conditions → Filled f (replicate conditions 0) i new → new ≡ valuesFrom f 0 conditions
-unfolding valuesFrom
-all-conditions f i new e h = filled-all f (replicate conditions 0) i conditions new e h
-
-all-numbers : (f : ℕ → ℕ) (i : ℕ) (new : List ℕ) → i ≡ 21 → Filled f (replicate 21 0) i new → new ≡ valuesFrom f 0 21
-unfolding valuesFrom
-all-numbers f i new e h = filled-all f (replicate 21 0) i 21 new e h
 
 -- ---- a page's numbers
 module _ (P : Page) (r : length (P .refusals) ≡ lines) (m : length (P .misses) ≡ conditions) where
@@ -38,4 +24,4 @@ module _ (P : Page) (r : length (P .refusals) ≡ lines) (m : length (P .misses)
 
   pub page-numbers : (i : ℕ) (new : List ℕ) → i ≡ 21 → Filled (λ k. getD (numbersOn P) k 0) (replicate 21 0) i new → new ≡ numbersOn P
   page-numbers i new e h =
-      all-numbers _ i new e h ∙ values-of _ (numbersOn P) 21 (omega (arith, length-append (P .refusals) (P .misses))) (λ k l. refl)
+      filled-whole _ _ new i e h ∙ values-of _ (numbersOn P) 21 (omega (arith, length-append (P .refusals) (P .misses))) (λ k l. refl)

@@ -117,12 +117,12 @@ module _ (P Q : Page) where
     both-pass e f = rw (le-ltb mostMeshes (P .meshes + Q .meshes) h, ← e, ← f)
 
 -- ---- a page that passes
-pub record Small (P : Page) : Type 0 where
+pub record SmallPage (P : Page) : Type 0 where
   pub corners-small : P .corners ≤ mostOnPage
   pub borders-small : P .borders ≤ mostOnPage
   pub refusals-small : (l : ℕ) → getD (P .refusals) l 0 ≤ mostOnPage
 
-small-of : (P : Page) → fault38 P ≡ false → Small P
+small-of : (P : Page) → fault38 P ≡ false → SmallPage P
 unfolding someAbove
 small-of P e =
     let later = or-right (ltb mostOnPage (P .meshes)) _ e in
@@ -134,12 +134,12 @@ small-of P e =
       refusals-small = none-of (P .refusals) (or-left _ _ (sym (append-some (P .refusals) (P .misses)) ∙ rest));
     }
 
-pub page-small : (P : Page) → pageVerdict P ≡ sound → (P .meshes < mostMeshes) × Small P
+pub page-small : (P : Page) → pageVerdict P ≡ sound → (P .meshes < mostMeshes) × SmallPage P
 unfolding pageVerdict
 page-small P e =
     (leb-false mostMeshes (P .meshes) (single-sound 37 _ _ (sound-left _ _ e)), small-of P (single-sound 38 _ _ (sound-right _ _ e)))
 
-pub both-small : (P Q : Page) → mergeVerdict P Q ≡ sound → (P .meshes + Q .meshes ≤ mostMeshes) × Small P × Small Q
+pub both-small : (P Q : Page) → mergeVerdict P Q ≡ sound → (P .meshes + Q .meshes ≤ mostMeshes) × SmallPage P × SmallPage Q
 unfolding mergeVerdict
 both-small P Q e =
     let last = single-sound 38 _ _ (sound-right _ _ e) in (

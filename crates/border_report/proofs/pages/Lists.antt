@@ -1,19 +1,14 @@
--- A page's lists: filled line by line, the numbers of the lines, and four misses.
+-- A page's lists: the numbers of the lines, and four misses.
 use mathlib.Core.Path.{_≡_, refl}
 use mathlib.Core.List.{List, [], _∷_}
 use Prim.Native.Nat.{ℕ, _+_, _<_, max}
 use lib.Dec.{eqb, eqb→eq}
-use lib.ListN.{getD, replicate}
+use lib.ListN.{getD}
 use Rattle.paper.proofs.Below.{below-at}
 use Rattle.paper.specs.Scan.{valuesFrom}
-use Rattle.paper.specs.Report.{pageWith, lineNumbers, lines, conditions}
+use Rattle.paper.specs.Report.{pageWith, lineNumbers, conditions}
 use Rattle.border_report.specs.four.Four.{inMisses}
-use Rattle.mesh.proofs.Fills.{Filled, filled-all}
-
--- all lines of a new list
-pub all-lines : (f : ℕ → ℕ) (l : ℕ) (new : List ℕ) → l ≡ lines → Filled f (replicate lines 0) l new → new ≡ valuesFrom f 0 lines
-unfolding valuesFrom
-all-lines f l new e h = filled-all f (replicate lines 0) l lines new e h
+use Rattle.border_report.specs.declared.four.Misses.{Misses}
 
 -- the first thirteen lines have the numbers from 1 on
 pub number-at : (l : ℕ) → l < 13 → l + 1 ≡ getD lineNumbers l 0
@@ -26,14 +21,8 @@ four-values f w x y z ew ex ey ez = rw (ew, ex, ey, ez)
 
 -- the misses of a page as four numbers
 pub four-of : (old others : List ℕ)
-    → valuesFrom (λ j. max (getD old j 0) (inMisses (record {
-      first = getD others 0 0;
-      second = getD others 1 0;
-      third = getD others 2 0;
-      fourth =
-          getD others 3 0;
-    }) j)) 0 conditions
-    ≡ valuesFrom (λ j. max (getD old j 0) (getD others j 0)) 0 conditions
+    → let four : Misses = record { first = getD others 0 0; second = getD others 1 0; third = getD others 2 0; fourth = getD others 3 0 } in
+    valuesFrom (λ j. max (getD old j 0) (inMisses four j)) 0 conditions ≡ valuesFrom (λ j. max (getD old j 0) (getD others j 0)) 0 conditions
 unfolding valuesFrom
 four-of old others = refl
 

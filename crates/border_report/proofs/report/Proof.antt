@@ -10,7 +10,6 @@ use Rattle.mesh.proofs.Verdicts.{passed}
 use Rattle.dms.proofs.Files.{held-bytes}
 use Rattle.border_report.proofs.Laws.{refused-report, done-report}
 use borrow.Author.Needs.{needs}
-use Rattle.border_report.proofs.report.Statement.{statement}
 use Rattle.border_report.proofs.report.Tie as tie
 
 returns : tie.Need-returns
@@ -36,7 +35,7 @@ returns-2 c =
     (c .with-file .ensures
     ∙ ap (λ (file : List ℕ). added P (fileMesh file) (fileVerdict file k)) (held-bytes (s .args .bytes .now) _ k (l .ensures .1 .0) (l .ensures .1 .1)))
 
-pub report-spec : {M : Type 1} → statement M
+pub report-spec : {M : Type 1} → Rattle.border_report.proofs.report.Statement.statement M
 report-spec =
     tie.close (tie.spec (λ c κs. search needs) (λ c. search needs) returns (λ c. search needs) (λ c κs. search needs) slice-aggregate-with-file
     with-file-requires returns-2)

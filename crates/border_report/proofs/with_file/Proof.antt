@@ -1,14 +1,11 @@
 -- `border_report::with_file` meets its contract: a header that is refused decides; one that passes leaves it to the lists.
-use mathlib.Core.Path.{sym, ap, _∙_}
 use denote.Ref.{now}
 use Rattle.paper.specs.Faults.{verdict}
 use Rattle.paper.specs.File.{fileMesh, fileVerdict}
-use Rattle.paper.specs.Report.{added}
 use Rattle.mesh.proofs.Verdicts.{passed, stop, orElse-sound}
 use Rattle.dms.proofs.header.Headers.{header-within}
 use Rattle.border_report.proofs.Laws.{refused-added}
 use borrow.Author.Needs.{needs}
-use Rattle.border_report.proofs.with_file.Statement.{statement}
 use Rattle.border_report.proofs.with_file.Tie as tie
 
 returns : tie.Need-returns
@@ -29,13 +26,8 @@ with-lists-requires c κs =
 
 returns-2 : tie.Need-returns-2
 unfolding fileVerdict
-returns-2 c =
-    let s = c .before .before .before .before .before in
-    let M = fileMesh (now (s .args .file)) in
-    c .with-lists .ensures
-    ∙ ap (added (s .args .page) M)
-    (sym (orElse-sound (verdict M) (passed _ (c .before .before .before .check-header .ensures) (c .before .enum-told .given .1))))
+returns-2 c = search (needs, orElse-sound, passed)
 
-pub with-file-spec : {M : Type 1} → statement M
+pub with-file-spec : {M : Type 1} → Rattle.border_report.proofs.with_file.Statement.statement M
 with-file-spec =
     tie.close (tie.spec (λ c κs. search needs) (λ c. search needs) (λ c κs. search needs) returns (λ c. search needs) with-lists-requires returns-2)

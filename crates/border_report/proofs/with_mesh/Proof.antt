@@ -11,7 +11,6 @@ use Rattle.checks.proofs.Laws.{rows-for}
 use Rattle.border_report.proofs.Laws.{point-room}
 use native.Mathlib.Omega.{arith}
 use borrow.Author.Needs.{needs}
-use Rattle.border_report.proofs.with_mesh.Statement.{statement}
 use Rattle.border_report.proofs.with_mesh.Tie as tie
 
 over-requires : tie.Need-over-requires
@@ -28,7 +27,7 @@ over-requires-2 c κs =
     let n = length (now (s .args .corners)) in
     (s .pre, (rows-for n mostCorners (λ h. h), (point-room n mostCorners (λ h. h), small-zeros (pointRow * mostCorners))))
 
-pub with-mesh-spec : {M : Type 1} → statement M
+pub with-mesh-spec : {M : Type 1} → Rattle.border_report.proofs.with_mesh.Statement.statement M
 with-mesh-spec =
     tie.close (tie.spec (λ c κs. search needs) (λ c. search needs) (λ c. search needs) over-requires (λ c. search needs) (λ c. search needs)
     (λ c. search needs) over-requires-2 (λ c. search needs))

@@ -27,12 +27,12 @@ pub record SmallOn (numbers : List ℤ) (at axis : ℕ) : Type 0 where
   pub small : (k : ℕ) → k < netPoints → WrittenSize (pointIn numbers at axis k)
 
 -- the points on an axis are those of corner c
-pub record Held (K : RefinedMesh rounded) (c axis : ℕ) (numbers : List ℤ) (at : ℕ) : Type 0 where
+pub record NetHeld (K : RefinedMesh rounded) (c axis : ℕ) (numbers : List ℤ) (at : ℕ) : Type 0 where
   pub points-are : (k : ℕ) → k < netPoints → pointIn numbers at axis k ≡ getD (net K c) k (pos 0)
   pub small : SmallOn numbers at axis
 
-abbrev pub HeldAll : (ℕ → RefinedMesh rounded) → ℕ → List ℤ → ℕ → Type 0
-HeldAll K c numbers at = (axis : ℕ) → axis < 3 → Held (K axis) c axis numbers at
+abbrev pub NetHeldAll : (ℕ → RefinedMesh rounded) → ℕ → List ℤ → ℕ → Type 0
+NetHeldAll K c numbers at = (axis : ℕ) → axis < 3 → NetHeld (K axis) c axis numbers at
 
 -- the k corners from `start` on are those of a face, in turn
 pub record WholeFace (table : List ℕ) (n start k : ℕ) : Type 0 where
@@ -65,5 +65,5 @@ cornerMiss K j c = largestBelow 3 (λ axis. max (netMiss (K axis) j c side0) (ne
 -- the misses of sides 0 and 1 on an axis, at whichever corner has these sides and these numbers
 abbrev pub AxisMisses : NetSides → ℕ → List ℤ → ℕ → List ℤ → ℕ → Misses → Type 0
 AxisMisses s axis face here linked next r =
-    (K : RefinedMesh rounded) (c : ℕ) → FourSides K c s → Held K c axis face here → Held K (K .corners .link c) axis linked 0
-    → Held K (K .corners .next c) axis face next → (j : ℕ) → j < conditions → inMisses r j ≡ max (netMiss K j c side0) (netMiss K j c side1)
+    (K : RefinedMesh rounded) (c : ℕ) → FourSides K c s → NetHeld K c axis face here → NetHeld K (K .corners .link c) axis linked 0
+    → NetHeld K (K .corners .next c) axis face next → (j : ℕ) → j < conditions → inMisses r j ≡ max (netMiss K j c side0) (netMiss K j c side1)

@@ -25,18 +25,18 @@ use Rattle.mesh.proofs.Scans.{ways, compared}
 use Rattle.surface.specs.Points.{pointRow}
 use Rattle.surface.proofs.Hull.{corners-sound}
 use Rattle.surface.proofs.Rings.{ring-in}
-use Rattle.surface.proofs.RingFaces.{Seen, ring-seen}
+use Rattle.surface.proofs.RingFaces.{MeetsFace, ring-seen}
 use Rattle.surface.proofs.Agree.{net-same}
 use Rattle.walk.specs.Table.{toNext, toPrevious, entry, Tabled}
-use Rattle.refine.specs.Marks.{Asked, Marked}
-use Rattle.refine.specs.sums.Sources.{Faces, PointsPut}
+use Rattle.refine.specs.Marks.{NamedIn, Marked}
+use Rattle.refine.specs.sums.Sources.{FacesWithin, PointsPut}
 use Rattle.refine.specs.corners.Mean.{MarkedPointed}
 use Rattle.refine.proofs.Accepted.{vertex-in, faces-of, refinable-of, table-agrees, table-sound}
 use Rattle.refine.proofs.Points.{put-choice}
 use Rattle.net.specs.sides.Drawn.{drawn, Drawn}
 use Rattle.net.specs.stencil.Taken.{Run, Quiet}
 use Rattle.net.specs.Put.{RunPut}
-use Rattle.building.specs.writing.Written.{Rounds, Faced, NetsDrawn, NetsWritten}
+use Rattle.building.specs.writing.Written.{WalksFaces, Faced, NetsDrawn, NetsWritten}
 
 -- ---- place i of the output holds point `i % perCorner / 3` of corner `i / perCorner` on axis `i % 3`
 place : (i : ℕ) → perCorner * (i / perCorner) + 3 * (i % perCorner / 3) + i % 3 ≡ i
@@ -82,7 +82,7 @@ written-run K first k run old new w x a j p h hj hp =
 
 -- ---- the table of an accepted mesh has the rounds of its faces
 module _ (M : Mesh) (accepted : Accepted M) (table : List ℕ) (t : Tabled (cornersOf M) table) where
-  pub rounds-of : Rounds (M .sides) table
+  pub rounds-of : WalksFaces (M .sides) table
   rounds-of =
       let sums = refinable-of M accepted .sums in
       record {
@@ -136,7 +136,7 @@ module _ (M : Mesh) (accepted : Accepted M) where
       )
 
 -- ---- the walk back to the first corner of c's face, at its corner d
-pub sides-some : (sides : List ℕ) → Faces sides → (c : ℕ) → c < sumOf sides → 1 < sidesOf sides c
+pub sides-some : (sides : List ℕ) → FacesWithin sides → (c : ℕ) → c < sumOf sides → 1 < sidesOf sides c
 unfolding sidesOf
 sides-some sides F c h = omega (arith, F .least (faceOf sides c) (held sides c h .exists))
 
@@ -200,7 +200,7 @@ module _ (sides : List ℕ) (first last c d : ℕ) (a : first ≤ c) (b : c ≤ 
 -- the table of refined points has those of the corners at the vertices of `count` corners from `first` on, and is otherwise as before
 abbrev AskedPointed : Mesh → ℕ → ℕ → List ℤ → List ℤ → Type 0
 AskedPointed M first count =
-    PointsPut (refinedPoint rounded M) (λ c. (c < cornerCount M) × Asked (M .corners) first count (vertexOf (M .corners) c))
+    PointsPut (refinedPoint rounded M) (λ c. (c < cornerCount M) × NamedIn (M .corners) first count (vertexOf (M .corners) c))
 
 pub asked-of : (M : Mesh) (marked : List ℕ) (first count : ℕ) (old points : List ℤ) → Named (M .corners) (length marked)
     → Marked (M .corners) first count marked → MarkedPointed M marked old points → AskedPointed M first count old points
@@ -223,7 +223,7 @@ module _ (M : Mesh) (accepted : Accepted M) (table : List ℕ) (old points : Lis
   }
 
   -- a corner at a vertex of the face of a corner of the range is one of them
-  asked : (k d : ℕ) → k < count → d < cornerCount M → Seen M (first + k) d → Asked (M .corners) start all (vertexOf (M .corners) d)
+  asked : (k d : ℕ) → k < count → d < cornerCount M → MeetsFace M (first + k) d → NamedIn (M .corners) start all (vertexOf (M .corners) d)
   asked k d l h s =
       let sums = refinable-of M accepted .sums in
       let last : first + count - 1 < sumOf (M .sides) = omega arith in

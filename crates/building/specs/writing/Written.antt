@@ -12,11 +12,11 @@ use Rattle.paper.specs.Net.{net, netPoints}
 use Rattle.paper.specs.Calls.{perCorner}
 use Rattle.walk.specs.Table.{rowLength, toPrevious, sidesHere, Column}
 use Rattle.net.specs.sides.Drawn.{drawn, Drawn}
-use Rattle.refine.specs.sums.Sources.{Faces}
+use Rattle.refine.specs.sums.Sources.{FacesWithin}
 
 -- the table leads from each corner to the previous one of its face, and has the sides of the face
-pub record Rounds (sides table : List ℕ) : Type 0 where
-  pub faces : Faces sides
+pub record WalksFaces (sides table : List ℕ) : Type 0 where
+  pub faces : FacesWithin sides
   pub long : rowLength * sumOf sides ≤ length table
   pub previouses : Column table toPrevious (previous sides) (sumOf sides)
   pub counts : Column table sidesHere (sidesOf sides) (sumOf sides)
@@ -24,13 +24,13 @@ pub record Rounds (sides table : List ℕ) : Type 0 where
 -- it does so for a list of sides, of which c is a corner
 pub record InFace (table : List ℕ) (c : ℕ) : Type 0 where
   pub sides : List ℕ
-  pub rounds : Rounds sides table
+  pub rounds : WalksFaces sides table
   pub here : c < sumOf sides
 
 -- it does so for a list of sides with n corners
 pub record Faced (n : ℕ) (table : List ℕ) : Type 0 where
   pub sides : List ℕ
-  pub rounds : Rounds sides table
+  pub rounds : WalksFaces sides table
   pub all : sumOf sides ≡ n
 
 -- the tables draw the mesh M, as far as the nets of `count` corners from `first` on look

@@ -199,25 +199,25 @@ unfolding EarliersTo LastsTo
 chained-own corners = record { earliers-are = λ c l. refl; lasts-are = λ u. refl }
 
 -- ---- the corners of u from `at` on: n of them, and the lowest one
-pub record Passed (corners : List ℕ) (u at n low : ℕ) : Type 0 where
+pub record CornersPassed (corners : List ℕ) (u at n low : ℕ) : Type 0 where
   pub count : n + countBelow at (names corners u) ≡ valence corners u
   pub own : (n ≡ 0 → ⊥) → vertexOf corners low ≡ u
   pub inside : (n ≡ 0 → ⊥) → low < length corners
   pub before : (n ≡ 0 → ⊥) → at ≡ lastBelow low (names corners u)
 
 module _ (corners : List ℕ) (u : ℕ) where
-  pub passed-none : Passed corners u (lastOf corners u) 0 0
+  pub passed-none : CornersPassed corners u (lastOf corners u) 0 0
   unfolding valence
   passed-none =
       let q = last-counted (names corners u) (length corners) in
       record { count = omega (arith, q); own = λ n. absurd (n refl); inside = λ n. absurd (n refl); before = λ n. absurd (n refl) }
 
-  pub passed-few : (at n low : ℕ) → Passed corners u at n low → n ≤ length corners
+  pub passed-few : (at n low : ℕ) → CornersPassed corners u at n low → n ≤ length corners
   unfolding valence
   passed-few at n low k = omega (arith, k .count, count-le (names corners u) (length corners))
 
-  pub passed-more : (at n low : ℕ) → (at ≡ 0 → ⊥) → On corners u at → Passed corners u at n low
-      → Passed corners u (earlierOf corners (at - 1)) (n + 1) (at - 1)
+  pub passed-more : (at n low : ℕ) → (at ≡ 0 → ⊥) → On corners u at → CornersPassed corners u at n low
+      → CornersPassed corners u (earlierOf corners (at - 1)) (n + 1) (at - 1)
   unfolding names Chain
   passed-more at n low z o k =
       let d = at - 1 in
@@ -229,7 +229,7 @@ module _ (corners : List ℕ) (u : ℕ) where
       record { count = omega (arith, k .count, b, h); own = λ m. v; inside = λ m. omega (arith, o .inside); before = λ m. q }
 
   -- the whole chain
-  module _ (at n low : ℕ) (z : at ≡ 0) (k : Passed corners u at n low) where
+  module _ (at n low : ℕ) (z : at ≡ 0) (k : CornersPassed corners u at n low) where
     pub passed-count : n ≡ valence corners u
     passed-count = omega (arith, k .count, ap (λ (x : ℕ). countBelow x (names corners u)) z, count-le (names corners u) 0)
 

@@ -16,7 +16,7 @@ use Rattle.walk.specs.Table.{rowLength, toNext, toPrevious, sidesHere, valenceH
 use Rattle.walk.proofs.Table.{put, kept-put}
 use Rattle.checks.specs.columns.Vertices.{vertexRow, countHere, lowestHere, noted, NotesKept}
 use Rattle.checks.specs.columns.Chain.{Clear}
-use Rattle.checks.specs.columns.Filled.{FacesTo, FacesFilled, filled, CornersCounted}
+use Rattle.checks.specs.columns.Filled.{FacesTo, FacesFilled, rowFilled, CornersCounted}
 use Rattle.checks.proofs.columns.Notes.{note-put, note-kept}
 
 -- ---- the corners of face f
@@ -62,16 +62,16 @@ module _ (sides table : List ℕ) where
     second-kept = kept-put (set table (rowLength * last + toNext) c) toPrevious c last (omega arith)
 
     third-kept : (k : ℕ) → k < rowLength → (k ≡ sidesHere → ⊥)
-        → Kept (set (set table (rowLength * last + toNext) c) (rowLength * c + toPrevious) last) (filled table c last n) k
+        → Kept (set (set table (rowLength * last + toNext) c) (rowLength * c + toPrevious) last) (rowFilled table c last n) k
     third-kept = kept-put (set (set table (rowLength * last + toNext) c) (rowLength * c + toPrevious) last) sidesHere c n (omega arith)
 
-    pub faces-chains : Kept table (filled table c last n) valenceHere
+    pub faces-chains : Kept table (rowFilled table c last n) valenceHere
     faces-chains d =
         third-kept valenceHere (omega arith) (λ q. omega arith) d
         ∙ second-kept valenceHere (omega arith) (λ q. omega arith) d
         ∙ first-kept valenceHere (omega arith) (λ q. omega arith) d
 
-    pub faces-step : FacesTo sides table c → FacesTo sides (filled table c last n) (c + 1)
+    pub faces-step : FacesTo sides table c → FacesTo sides (rowFilled table c last n) (c + 1)
     faces-step t =
         let one : length (set table (rowLength * last + toNext) c) ≡ length table = length-set table (rowLength * last + toNext) c in
         let two : length (set (set table (rowLength * last + toNext) c) (rowLength * c + toPrevious) last) ≡ length table =

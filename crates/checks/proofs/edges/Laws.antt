@@ -25,14 +25,14 @@ use Rattle.mesh.proofs.Links.{unique, reverse-in, reverse-vertex, reverse-to, l
 use Rattle.mesh.proofs.Verdicts.{lowest-hit, lowest-none, lowest-sound, orElse-fault, orElse-sound, unsound}
 use Rattle.walk.specs.Table.{rowLength, toNext, toPrevious, toLink, sidesHere, valenceHere, entry, Column}
 use Rattle.walk.proofs.Table.{put, kept-put}
-use Rattle.checks.specs.columns.Vertices.{vertexRow, lastHere, leavingHere, arrivingHere, countHere, lowestHere, noted, NotesKept, Row}
+use Rattle.checks.specs.columns.Vertices.{vertexRow, lastHere, leavingHere, arrivingHere, countHere, lowestHere, noted, NotesKept, HasRow}
 use Rattle.checks.specs.columns.Chain.{earlierOf, EarliersFrom, lastOf, Chain, Chained, Clear}
 use Rattle.checks.specs.columns.Filled.{CornersCounted}
 use Rattle.checks.proofs.columns.Notes.{note-put, note-kept}
 use Rattle.checks.proofs.columns.Chains.{On, above-head, at-vertex, on-falls, on-from, chained-own}
 use Rattle.checks.specs.edges.Entries.{repeated, alone, Entry, again, single, joined, Entries, has, to, from, Searchable}
-use Rattle.checks.specs.edges.Entries.{ChainsFrom, HeadsFrom, Keyed, BothKeyed, Hit, InColumn, MarkedFrom, CountedAt, Unmarked, StepsBelong, EntryFor}
-use Rattle.checks.specs.edges.Entries.{FacesKept, Collected, Found, EdgesChecked}
+use Rattle.checks.specs.edges.Entries.{ChainsFrom, HeadsFrom, ColumnKeyed, BothKeyed, Hit, InColumn, MarkedFrom, CountedAt, Unmarked, StepsBelong, EntryFor}
+use Rattle.checks.specs.edges.Entries.{FacesKept, Collected, EntriesFound, EdgesChecked}
 
 -- ---- marking
 pub keyed-clear : (corners table vertices : List ℕ) → Clear vertices leavingHere → Clear vertices arrivingHere → BothKeyed corners table vertices
@@ -52,7 +52,7 @@ chain-here corners table u at o z f = f (at - 1) (omega (arith, z, o .inside)) (
 module _ (corners : List ℕ) (earlier last : ℕ → ℕ) (k : Chained corners earlier last) (u at : ℕ) (o : On corners u at) (n : at ≡ 0 → ⊥)
     (key column column' : ℕ → ℕ)
     (stored : (P : ℕ → Type 0) (j : ℕ) → (j ≡ key (at - 1) → P at) → ((j ≡ key (at - 1) → ⊥) → P (column j)) → P (column' j)) where
-  keyed-step : Keyed corners key column → Keyed corners key column'
+  keyed-step : ColumnKeyed corners key column → ColumnKeyed corners key column'
   keyed-step m =
       record {
         inside = λ t. stored (λ x. (x ≡ 0 → ⊥) → x ≤ length corners) t (λ q z. o .inside) (λ q. m .inside t);
@@ -128,7 +128,7 @@ module _ (corners table vertices : List ℕ) (u at : ℕ)
 abbrev pub noting : List ℕ → ℕ → ℕ → ℕ → List ℕ
 noting vertices u n low = set (set vertices (vertexRow * u + countHere) n) (vertexRow * u + lowestHere) low
 
-module _ (corners table vertices : List ℕ) (u n low : ℕ) (r : Row vertices u) where
+module _ (corners table vertices : List ℕ) (u n low : ℕ) (r : HasRow vertices u) where
   noted-kept : (j : ℕ) → j < vertexRow → (j ≡ countHere → ⊥) → (j ≡ lowestHere → ⊥) → NotesKept vertices (noting vertices u n low) j
   noted-kept j l p q c =
       note-kept (set vertices (vertexRow * u + countHere) n) lowestHere u low (omega arith) j l q c
@@ -174,7 +174,7 @@ module _ (corners table vertices : List ℕ) (u n low : ℕ) (r : Row vertices u
         arrived-from = λ d b h v. subst (Hit corners u d) (sym (a (from corners table d))) (m .arrived-from d b h v);
       }
     where
-      keyed-same : {key f g : ℕ → ℕ} → ((t : ℕ) → g t ≡ f t) → Keyed corners key f → Keyed corners key g
+      keyed-same : {key f g : ℕ → ℕ} → ((t : ℕ) → g t ≡ f t) → ColumnKeyed corners key f → ColumnKeyed corners key g
       keyed-same {key} {f} {g} e k =
           record {
             inside = λ t. subst (λ (x : ℕ). (x ≡ 0 → ⊥) → x ≤ length corners) (sym (e t)) (k .inside t);
@@ -319,7 +319,7 @@ module _ (corners old new : List ℕ) (k : FacesKept old new) where
         previouses = λ c l. k .previouses c ∙ e .previouses c l;
       }
 
-  keyed-on : {f g column : ℕ → ℕ} → ((c : ℕ) → g c ≡ f c) → Keyed corners f column → Keyed corners g column
+  keyed-on : {f g column : ℕ → ℕ} → ((c : ℕ) → g c ≡ f c) → ColumnKeyed corners f column → ColumnKeyed corners g column
   keyed-on {f} {g} {column} e m = record { inside = m .inside; key-is = λ t n. e (column t - 1) ∙ m .key-is t n }
 
   pub both-keyed-on : (vertices : List ℕ) → BothKeyed corners old vertices → BothKeyed corners new vertices
@@ -514,7 +514,7 @@ module _ (corners : List ℕ) where
         }
 
     pub found : (old new vertices : List ℕ) → EntriesBelow corners new u → ValencesBelow corners new u → FacesKept old new
-        → CountedBelow corners vertices u → Found corners old new vertices
+        → CountedBelow corners vertices u → EntriesFound corners old new vertices
     unfolding EntriesBelow ValencesBelow Entries
     found old new vertices b w k c =
         record {

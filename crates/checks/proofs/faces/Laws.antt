@@ -45,20 +45,20 @@ module _ (first : ℕ) (corners : List ℕ) (c last : ℕ) (e : last ≡ lastBel
       (ways (ltb d first)))
 
 -- check 9 before corner c: the chains of the vertices, and no fault
-pub record Passed (sides corners table vertices : List ℕ) (c : ℕ) : Type 0 where
+pub record FacesPassed (sides corners table vertices : List ℕ) (c : ℕ) : Type 0 where
   pub chains : ChainsTo corners table vertices c
   pub faultless : (j : ℕ) → j < c → fault9 sides corners j ≡ false
 
-pub passed-none : (sides corners table vertices : List ℕ) → Blank vertices → Passed sides corners table vertices 0
+pub passed-none : (sides corners table vertices : List ℕ) → Blank vertices → FacesPassed sides corners table vertices 0
 passed-none sides corners table vertices z = record { chains = chains-none corners table vertices z; faultless = λ j l. absurd (omega arith) }
 
-pub passed-kept : (sides corners old new vertices : List ℕ) (c : ℕ) → Kept old new valenceHere → Passed sides corners old vertices c
-    → Passed sides corners new vertices c
+pub passed-kept : (sides corners old new vertices : List ℕ) (c : ℕ) → Kept old new valenceHere → FacesPassed sides corners old vertices c
+    → FacesPassed sides corners new vertices c
 passed-kept sides corners old new vertices c k p = record { chains = chains-kept corners old vertices new c k (p .chains); faultless = p .faultless }
 
 -- a corner of face f, whose first corner is where the face starts
 module _ (sides corners table vertices : List ℕ) (f c start : ℕ) (l : f < length sides) (s : start ≡ startOf sides f)
-    (h : start ≤ c) (k : c < start + getD sides f 0) (p : Passed sides corners table vertices c) where
+    (h : start ≤ c) (k : c < start + getD sides f 0) (p : FacesPassed sides corners table vertices c) where
   in-face : fault9 sides corners c ≡ someBelow c (sameVertexFrom start corners c)
   unfolding fault9 firstOf
   in-face =
@@ -73,7 +73,7 @@ module _ (sides corners table vertices : List ℕ) (f c start : ℕ) (l : f < le
 
   pub passed-step : rowLength * c + valenceHere < length table → vertexRow * vertexOf corners c + lastHere < length vertices
       → noted vertices lastHere (vertexOf corners c) ≤ start
-      → Passed sides corners (set table (rowLength * c + valenceHere) (noted vertices lastHere (vertexOf corners c)))
+      → FacesPassed sides corners (set table (rowLength * c + valenceHere) (noted vertices lastHere (vertexOf corners c)))
       (set vertices (vertexRow * vertexOf corners c + lastHere) (c + 1)) (c + 1)
   passed-step ht hv q =
       record {

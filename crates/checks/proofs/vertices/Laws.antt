@@ -30,17 +30,17 @@ use Rattle.checks.specs.vertices.Ring.{ringWithin, Cornered, Ringed, Ver
 abbrev pub backAt : (ℕ → ℕ) → ℕ → ℕ → Bool
 backAt step start j = eqb (iterate (suc j) step start) start
 
-pub record Around (step : ℕ → ℕ) (count start bound left len at : ℕ) : Type 0 where
+pub record RingWalked (step : ℕ → ℕ) (count start bound left len at : ℕ) : Type 0 where
   pub sum : len + left ≡ bound
   pub place : at ≡ iterate len step start
   pub within : at < count
   pub fresh : (j : ℕ) → j < len → backAt step start j ≡ false
 
-pub around-start : (step : ℕ → ℕ) (count start bound : ℕ) → start < count → Around step count start bound bound 0 start
+pub around-start : (step : ℕ → ℕ) (count start bound : ℕ) → start < count → RingWalked step count start bound bound 0 start
 around-start step count start bound h =
     record { sum = omega arith; place = sym (iterate-zero step start); within = h; fresh = λ j l. absurd (omega arith) }
 
-module _ (step : ℕ → ℕ) (count start bound left len at : ℕ) (a : Around step count start bound left len at) where
+module _ (step : ℕ → ℕ) (count start bound left len at : ℕ) (a : RingWalked step count start bound left len at) where
   pub ring-none : left ≡ 0 → 0 ≡ ringWithin step start bound
   unfolding ringWithin
   ring-none e =
@@ -59,7 +59,7 @@ module _ (step : ℕ → ℕ) (count start bound left len at : ℕ) (a : Around 
         let f : firstBelow bound (backAt step start) ≡ len = first-at bound (backAt step start) len l (eq-eqb _ _ (sym stepped ∙ sym q ∙ e)) (a .fresh) in
         rw (lt-ltb (firstBelow bound (backAt step start)) bound (omega arith)) (omega arith)
 
-    pub around-next : step at < count → (to ≡ start → ⊥) → Around step count start bound (left - 1) (len + 1) to
+    pub around-next : step at < count → (to ≡ start → ⊥) → RingWalked step count start bound (left - 1) (len + 1) to
     around-next w ne =
         record {
           sum = omega (arith, a .sum);
@@ -124,16 +124,16 @@ module _ (sides corners table : List ℕ) (k : Closed sides corners) (t : Column
       ⊎-elim (λ b. b) (λ b. absurd (ne (ring-is ∙ ring-full sides corners k u (lowest corners u) low (lowest-of corners u low) b)))
       (ways (fault13 sides corners u))
 
-pub Whole : List ℕ → List ℕ → ℕ → Type 0
-Whole corners table u =
+pub RingsWhole : List ℕ → List ℕ → ℕ → Type 0
+RingsWhole corners table u =
     (sides : List ℕ) → Closed sides corners → Column table toLink (link sides corners) (length corners) → (j : ℕ) → j < u → fault13 sides corners j ≡ false
 
 module _ (corners table : List ℕ) where
-  pub whole-none : Whole corners table 0
-  unfolding Whole
+  pub whole-none : RingsWhole corners table 0
+  unfolding RingsWhole
   whole-none sides k t j l = absurd (omega arith)
 
-  module _ (u count : ℕ) (w : Whole corners table u) (f : Cornered corners count) (l : u < count)
+  module _ (u count : ℕ) (w : RingsWhole corners table u) (f : Cornered corners count) (l : u < count)
       (vertices : List ℕ) (g : CornersCounted corners vertices) (len : ℕ)
       (en : len ≡ ringWithin (entry table toLink) (noted vertices lowestHere u) (noted vertices countHere u)) where
     len-is : len ≡ ringWithin (entry table toLink) (lowest corners u) (valence corners u)
@@ -141,8 +141,8 @@ module _ (corners table : List ℕ) where
         en ∙ ap (λ (x : ℕ). ringWithin (entry table toLink) x (noted vertices countHere u)) (g .lowest-is u (lowest-in corners u (f u l)))
         ∙ ap (ringWithin (entry table toLink) (lowest corners u)) (g .count-is u)
 
-    pub whole-more : len ≡ noted vertices countHere u → Whole corners table (u + 1)
-    unfolding Whole
+    pub whole-more : len ≡ noted vertices countHere u → RingsWhole corners table (u + 1)
+    unfolding RingsWhole
     whole-more e sides k t =
         fails-step (fault13 sides corners) u (w sides k t)
         (whole-ring sides corners table k t u (f u l) (sym len-is ∙ e ∙ g .count-is u))
@@ -150,14 +150,14 @@ module _ (corners table : List ℕ) where
     pub whole-torn : (len ≡ noted vertices countHere u → ⊥)
         → (sides : List ℕ) → Closed sides corners → Column table toLink (link sides corners) (length corners) → fault 13 u ≡ lowestOf 13 count
         (fault13 sides corners)
-    unfolding Whole
+    unfolding RingsWhole
     whole-torn ne sides k t =
         sym (lowest-hit 13 count (fault13 sides corners) u l
         (torn-ring sides corners table k t u (f u l) (λ e. ne (len-is ∙ e ∙ sym (g .count-is u)))) (w sides k t))
 
-  pub whole-all : (u count : ℕ) → Whole corners table u → count ≤ u → (sides : List ℕ) → Closed sides corners → Column table toLink (link sides corners)
+  pub whole-all : (u count : ℕ) → RingsWhole corners table u → count ≤ u → (sides : List ℕ) → Closed sides corners → Column table toLink (link sides corners)
       (length corners) → sound ≡ lowestOf 13 count (fault13 sides corners)
-  unfolding Whole
+  unfolding RingsWhole
   whole-all u count w e sides k t = sym (lowest-none 13 count (fault13 sides corners) (λ j l. w sides k t j (omega arith)))
 
 -- after check 12 each vertex has corners

@@ -23,8 +23,8 @@ pub record FacesFilled (sides table : List ℕ) : Type 0 where
   pub sides-are : Column table sidesHere (sidesOf sides) (sumOf sides)
 
 -- the row of corner c in them, after corner `last` in a face of n sides, and the next of that corner
-abbrev pub filled : List ℕ → ℕ → ℕ → ℕ → List ℕ
-filled table c last n = set (set (set table (rowLength * last + toNext) c) (rowLength * c + toPrevious) last) (rowLength * c + sidesHere) n
+abbrev pub rowFilled : List ℕ → ℕ → ℕ → ℕ → List ℕ
+rowFilled table c last n = set (set (set table (rowLength * last + toNext) c) (rowLength * c + toPrevious) last) (rowLength * c + sidesHere) n
 
 -- a row for corner c
 abbrev pub RowAt : List ℕ → ℕ → Type 0

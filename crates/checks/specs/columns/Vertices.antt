@@ -34,9 +34,9 @@ abbrev pub NotesKept : List ℕ → List ℕ → ℕ → Type 0
 NotesKept old new k = (u : ℕ) → noted new k u ≡ noted old k u
 
 -- vertex u has a row
-abbrev pub Row : List ℕ → ℕ → Type 0
-Row vertices u = vertexRow * u + vertexRow ≤ length vertices
+abbrev pub HasRow : List ℕ → ℕ → Type 0
+HasRow vertices u = vertexRow * u + vertexRow ≤ length vertices
 
 -- the vertex of every corner has one
 abbrev pub Rowed : List ℕ → List ℕ → Type 0
-Rowed corners vertices = (c : ℕ) → c < length corners → Row vertices (vertexOf corners c)
+Rowed corners vertices = (c : ℕ) → c < length corners → HasRow vertices (vertexOf corners c)

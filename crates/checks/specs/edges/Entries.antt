@@ -60,14 +60,14 @@ abbrev pub HeadsFrom : List ℕ → List ℕ → ℕ → Type 0
 HeadsFrom corners vertices u = (v : ℕ) → u ≤ v → noted vertices lastHere v ≡ lastOf corners v
 
 -- a column of corners by their key, the far end of an edge: each entry is 0, or one more than a corner that has the key
-pub record Keyed (corners : List ℕ) (key column : ℕ → ℕ) : Type 0 where
+pub record ColumnKeyed (corners : List ℕ) (key column : ℕ → ℕ) : Type 0 where
   pub inside : (t : ℕ) → (column t ≡ 0 → ⊥) → column t ≤ length corners
   pub key-is : (t : ℕ) → (column t ≡ 0 → ⊥) → key (column t - 1) ≡ t
 
 -- both columns of edges
 pub record BothKeyed (corners table vertices : List ℕ) : Type 0 where
-  pub left : Keyed corners (to corners table) (noted vertices leavingHere)
-  pub arrived : Keyed corners (from corners table) (noted vertices arrivingHere)
+  pub left : ColumnKeyed corners (to corners table) (noted vertices leavingHere)
+  pub arrived : ColumnKeyed corners (from corners table) (noted vertices arrivingHere)
 
 -- an entry that is one more than a corner of u, and no higher one than d
 pub record Hit (corners : List ℕ) (u d x : ℕ) : Type 0 where
@@ -124,7 +124,7 @@ abbrev pub Valences : List ℕ → List ℕ → Type 0
 Valences corners table = Column table valenceHere (λ c. valence corners (vertexOf corners c)) (length corners)
 
 -- all corners have their entries and their valences, and the vertices are counted; the columns of the faces hold what they held
-pub record Found (corners old new vertices : List ℕ) : Type 0 where
+pub record EntriesFound (corners old new vertices : List ℕ) : Type 0 where
   pub entries : (sides : List ℕ) → StepsBelong sides corners new → Entries sides corners new
   pub valences : Valences corners new
   pub faces : FacesKept old new

@@ -12,7 +12,6 @@ use Rattle.numbers.proofs.Laws.{abs-mul-le, abs-add-le}
 use Rattle.numbers.proofs.Machine.{abs-fits}
 use Rattle.surface.specs.Points.{pointAt}
 use Rattle.faces.proofs.Few.{read}
-use Rattle.faces.proofs.add_point.Statement.{statement}
 use Rattle.faces.proofs.add_point.Tie as tie
 
 module _ (s : tie.Start) where
@@ -48,5 +47,5 @@ returns c =
     let s = c .before in
     rw (is c, toZ-ofZ (s .fits .sum), toZ-ofZ (s .fits .w), toZ-ofZ (point-fits s), toZ-ofZ (product s)) (toZ-ofZ (total s))
 
-pub add-point-spec : {M : Type 1} → statement M
+pub add-point-spec : {M : Type 1} → Rattle.faces.proofs.add_point.Statement.statement M
 add-point-spec = tie.close (tie.spec (λ c κs. search needs) cast-result mul-result add-result returns)

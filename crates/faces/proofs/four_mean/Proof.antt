@@ -4,7 +4,6 @@ use mir.Syntax.{w32}
 use mir.Val.{SFits}
 use mir.Facts.{toZ-ofZ}
 use Rattle.faces.proofs.Few.{read, four-centre}
-use Rattle.faces.proofs.four_mean.Statement.{statement}
 use Rattle.faces.proofs.four_mean.Tie as tie
 
 mean-requires : tie.Need-mean-requires
@@ -27,5 +26,5 @@ returns c =
     let f : SFits w32 (c .mean .result) = search needs in
     rw (toZ-ofZ f) (four-centre _ _ _ _ _ (rw (v, w, x, y) at (c .mean .ensures)))
 
-pub four-mean-spec : {M : Type 1} → statement M
+pub four-mean-spec : {M : Type 1} → Rattle.faces.proofs.four_mean.Statement.statement M
 four-mean-spec = tie.close (tie.spec (λ c κs. search needs) (λ c κs. search needs) (λ c κs. search needs) (λ c κs. search needs) mean-requires returns)

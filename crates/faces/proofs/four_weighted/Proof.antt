@@ -4,7 +4,6 @@ use mir.Syntax.{w32}
 use mir.Val.{SFits}
 use mir.Facts.{toZ-ofZ}
 use Rattle.faces.proofs.Few.{read, four-toward}
-use Rattle.faces.proofs.four_weighted.Statement.{statement}
 use Rattle.faces.proofs.four_weighted.Tie as tie
 
 toward-requires : tie.Need-toward-requires
@@ -27,5 +26,6 @@ returns c =
     let f : SFits w32 (c .toward .result) = search needs in
     rw (toZ-ofZ f) (four-toward _ _ _ _ _ (rw (v, w, x, y) at (c .toward .ensures)))
 
-pub four-weighted-spec : {M : Type 1} → statement M
-four-weighted-spec = tie.close (tie.spec (λ c κs. search needs) (λ c κs. search needs) (λ c κs. search needs) (λ c κs. search needs) toward-requires returns)
+pub four-weighted-spec : {M : Type 1} → Rattle.faces.proofs.four_weighted.Statement.statement M
+four-weighted-spec =
+    tie.close (tie.spec (λ c κs. search needs) (λ c κs. search needs) (λ c κs. search needs) (λ c κs. search needs) toward-requires returns)

@@ -9,7 +9,6 @@ use mir.Val.{SFits, toZ}
 use mir.Facts.{toZ-ofZ, toZ-pos}
 use Rattle.paper.specs.Numbers.{round}
 use Rattle.paper.specs.Cosines.{unit}
-use Rattle.faces.proofs.quotient.Statement.{statement}
 use Rattle.faces.proofs.quotient.Tie as tie
 
 module _ (s : tie.Start) where
@@ -56,5 +55,5 @@ returns c =
       toZ-ofZ g ∙ (rw (count s, toZ-ofZ (divisor s), toZ-ofZ (s .fits .z)) at (c .round-units3 .ensures)) ∙ by-weights (s .args .z) (s .args .m),
     )
 
-pub quotient-spec : {M : Type 1} → statement M
+pub quotient-spec : {M : Type 1} → Rattle.faces.proofs.quotient.Statement.statement M
 quotient-spec = tie.close (tie.spec (λ c. search needs) mul-d round-units-requires round-units-requires-2 round-units-requires-3 returns)

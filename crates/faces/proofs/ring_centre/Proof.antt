@@ -3,12 +3,11 @@ use Prim.Native.Nat.{_-_}
 use mathlib.Core.Path.{_≡_, refl}
 use native.Mathlib.Omega.{arith}
 use lib.Dec.{lit<}
-use Rattle.faces.proofs.Round.{Turn, turn-first, turn-next, asks, place-in, point-ring, equal, equal-size, centre-units, centre-end}
-use Rattle.faces.proofs.ring_centre.Statement.{statement}
+use Rattle.faces.proofs.Round.{RingTurn, turn-first, turn-next, asks, place-in, point-ring, equal, equal-size, centre-units, centre-end}
 use Rattle.faces.proofs.ring_centre.Tie as tie
 
 abbrev Inv-loop : tie.InvT-loop
-Inv-loop points table column c m f x₀ y₀ z₀ at₀ j₀ x y z at j = Turn points table column c m equal j (at .corner) x y z
+Inv-loop points table column c m f x₀ y₀ z₀ at₀ j₀ x y z at j = RingTurn points table column c m equal j (at .corner) x y z
 
 abbrev μ-loop : tie.MeasureT-loop
 μ-loop points table column c m f x₀ y₀ z₀ at₀ j₀ x y z at j = m - j
@@ -81,7 +80,7 @@ returns c =
     let e : a .loop .j ≡ s .args .m = omega (arith, i .left) in
     centre-end _ _ _ _ _ _ _ _ _ (s .pre .0) _ (rw e at i) (c .quotient .ensures)
 
-pub ring-centre-spec : {M : Type 1} → statement M
+pub ring-centre-spec : {M : Type 1} → Rattle.faces.proofs.ring_centre.Statement.statement M
 ring-centre-spec =
     tie.close (tie.spec Inv-loop μ-loop loop-holds add-point-requires add-point-requires-2 add-point-requires-3 by-requires add-j loop-less loop-again
     quotient-requires returns)

@@ -10,14 +10,13 @@ use mir.Val.{toZ}
 use Rattle.paper.specs.Cosines.{unit, cosine}
 use Rattle.paper.specs.Face.{weight}
 use Rattle.numbers.proofs.Rules.{period, cosine-size}
-use Rattle.faces.proofs.Round.{plain, Turn, turn-first, turn-next, asks, place-in, point-ring, toward-units, toward-end}
+use Rattle.faces.proofs.Round.{plain, RingTurn, turn-first, turn-next, asks, place-in, point-ring, toward-units, toward-end}
 use Rattle.faces.proofs.Round.{cosine-plain, weights-small, weight-plain}
-use Rattle.faces.proofs.ring_toward.Statement.{statement}
 use Rattle.faces.proofs.ring_toward.Tie as tie
 
 abbrev Inv-loop : tie.InvT-loop
 Inv-loop points table column rows c m f x₀ y₀ z₀ last₀ at₀ j₀ x y z last at j =
-    Turn points table column c m (weight m) j (at .corner) x y z × (toZ w64 last ≡ cosine m (j + (m - 1)))
+    RingTurn points table column c m (weight m) j (at .corner) x y z × (toZ w64 last ≡ cosine m (j + (m - 1)))
 
 abbrev μ-loop : tie.MeasureT-loop
 μ-loop points table column rows c m f x₀ y₀ z₀ last₀ at₀ j₀ x y z last at j = m - j
@@ -142,7 +141,7 @@ returns c =
     let e : a .loop .j ≡ s .args .m = omega (arith, i .left) in
     toward-end _ _ _ _ _ _ _ _ _ (s .pre .0) _ (rw e at i) (c .quotient .ensures)
 
-pub ring-toward-spec : {M : Type 1} → statement M
+pub ring-toward-spec : {M : Type 1} → Rattle.faces.proofs.ring_toward.Statement.statement M
 ring-toward-spec =
     tie.close (tie.spec Inv-loop μ-loop sub-cosine cosine-requires loop-holds cosine-requires-2 weigh-requires add-point-requires add-point-requires-2
     add-point-requires-3 by-requires add-j loop-less loop-again quotient-requires returns)

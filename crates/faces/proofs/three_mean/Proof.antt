@@ -4,7 +4,6 @@ use mir.Syntax.{w32}
 use mir.Val.{SFits}
 use mir.Facts.{toZ-ofZ}
 use Rattle.faces.proofs.Few.{read, three-centre}
-use Rattle.faces.proofs.three_mean.Statement.{statement}
 use Rattle.faces.proofs.three_mean.Tie as tie
 
 mean-of-three-requires : tie.Need-mean-of-three-requires
@@ -25,5 +24,5 @@ returns c =
     let f : SFits w32 (c .mean-of-three .result) = search needs in
     rw (toZ-ofZ f) (three-centre _ _ _ _ (rw (v, w, x) at (c .mean-of-three .ensures)))
 
-pub three-mean-spec : {M : Type 1} → statement M
+pub three-mean-spec : {M : Type 1} → Rattle.faces.proofs.three_mean.Statement.statement M
 three-mean-spec = tie.close (tie.spec (λ c κs. search needs) (λ c κs. search needs) (λ c κs. search needs) mean-of-three-requires returns)

@@ -4,7 +4,6 @@ use mir.Syntax.{w32}
 use mir.Val.{SFits}
 use mir.Facts.{toZ-ofZ}
 use Rattle.faces.proofs.Few.{read, three-toward}
-use Rattle.faces.proofs.three_weighted.Statement.{statement}
 use Rattle.faces.proofs.three_weighted.Tie as tie
 
 toward-of-three-requires : tie.Need-toward-of-three-requires
@@ -25,5 +24,5 @@ returns c =
     let f : SFits w32 (c .toward-of-three .result) = search needs in
     rw (toZ-ofZ f) (three-toward _ _ _ _ (rw (v, w, x) at (c .toward-of-three .ensures)))
 
-pub three-weighted-spec : {M : Type 1} → statement M
+pub three-weighted-spec : {M : Type 1} → Rattle.faces.proofs.three_weighted.Statement.statement M
 three-weighted-spec = tie.close (tie.spec (λ c κs. search needs) (λ c κs. search needs) (λ c κs. search needs) toward-of-three-requires returns)

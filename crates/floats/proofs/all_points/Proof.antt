@@ -11,30 +11,21 @@ use Rattle.floats.proofs.all_points.Statement.{statement}
 use Rattle.floats.proofs.all_points.Tie as tie
 
 -- after the checks
-module _ (t : tie.After-enum-told) where
-  abbrev s : tie.Start
-  s = search
-
-  is-sound : allVerdict (now (s .args .numbers)) (length (now (s .args .floats))) ≡ sound
-  is-sound = passed (t .before .before .check-all .result) (t .before .before .check-all .ensures) (t .enum-told .given .1)
+is-sound : (t : tie.After-enum-told) → let s : tie.Start = search in allVerdict (now (s .args .numbers)) (length (now (s .args .floats))) ≡ sound
+is-sound t = let k : tie.After-check-all = search in passed (k .check-all .result) (k .check-all .ensures) (t .enum-told .given .1)
 
 returns : tie.Need-returns
 returns c =
-    let a = c .before .a .given in
-    let k = c .before .before .before .check-all in
     let s : tie.Start = search in
-    all-refused (now (s .args .numbers)) (now (s .args .floats)) (k .result) (k .ensures) (a .0 .0) (a .0 .1 .0) (a .1)
-
-put-nets-requires : tie.Need-put-nets-requires
-put-nets-requires c κs =
-    let t : tie.After-enum-told = search in is-sound t
+    let k : tie.After-check-all = search in
+    all-refused (now (s .args .numbers)) (now (s .args .floats)) (k .check-all .ensures) (c .before .a .given .1)
 
 returns-2 : tie.Need-returns-2
 returns-2 c =
-    let t : tie.After-enum-told = search in
-    let u = s t in
-    all-done (now (u .args .numbers)) (now (u .args .floats)) _ (is-sound t) (let k : tie.After-put-nets = search in k .put-nets .ensures)
+    let s : tie.Start = search in
+    let k : tie.After-put-nets = search in
+    all-done (now (s .args .numbers)) (now (s .args .floats)) (is-sound search) (k .put-nets .ensures)
 
 pub all-points-spec : {M : Type 1} → statement M
 all-points-spec =
-    tie.close (tie.spec (λ c κs. search needs) (λ c. search needs) returns (λ c. search needs) put-nets-requires (λ c. search needs) returns-2)
+    tie.close (tie.spec (λ c κs. search needs) (λ c. search needs) returns (λ c. search needs) (λ c κs. is-sound search) (λ c. search needs) returns-2)

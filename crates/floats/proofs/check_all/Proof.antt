@@ -1,5 +1,5 @@
 -- Checks 18 and 19 of a list of quad-nets and the room meet their contract: each stops the chain with its fault or is passed.
-use mathlib.Core.Path.{_≡_, sym, ap, _∙_, subst}
+use mathlib.Core.Path.{_≡_, sym, ap, _∙_}
 use mathlib.Core.Bool.{Bool, not, _||_}
 use Prim.Native.Nat.{ℕ, _*_, _%_, _≤_}
 use native.Mathlib.Omega.{arith}
@@ -9,7 +9,7 @@ use denote.Ref.{now}
 use borrow.Author.Needs.{needs}
 use Rattle.paper.specs.Mesh.{mostCorners}
 use Rattle.paper.specs.Calls.{perCorner}
-use Rattle.paper.specs.Faults.{Verdict, sound, single, lowestOf, stated}
+use Rattle.paper.specs.Faults.{sound, single, lowestOf, stated}
 use Rattle.paper.specs.Floats.{fault19}
 use Rattle.mesh.proofs.Verdicts.{stop, passed, past}
 use Rattle.floats.proofs.All.{all-chain, few-of}
@@ -57,12 +57,6 @@ returns-2 c =
     (stop (c .before .before .before .check-numbers .result) (c .before .before .before .check-numbers .ensures) (a .0 .0) (a .0 .1 .0) (a .1) _)
     ∙ sym (all-chain _ _)
 
-mul-refused-if : tie.Need-mul-refused-if
-mul-refused-if c = let t : tie.After-enum-told = search in record { fits = omega (arith, few t) }
-
-mul-refused-if-2 : tie.Need-mul-refused-if-2
-mul-refused-if-2 c = let t : tie.After-enum-told = search in record { fits = omega (arith, few t) }
-
 returns-3 : tie.Need-returns-3
 returns-3 c =
     let t : tie.After-enum-told2 = search in
@@ -71,4 +65,5 @@ returns-3 c =
 pub check-all-spec : {M : Type 1} → statement M
 check-all-spec =
     tie.close (tie.spec (λ c κs. search needs) (λ c κs. search needs) (λ c. search needs) returns (λ c. search needs) (λ c κs. search needs)
-    (λ c. search needs) returns-2 (λ c. search needs) mul-refused-if mul-refused-if-2 (λ c κs. search needs) returns-3)
+    (λ c. search needs) returns-2 (λ c. search needs) (λ c. record { fits = omega (arith, few search) })
+    (λ c. record { fits = omega (arith, few search) }) (λ c κs. search needs) returns-3)

@@ -1,7 +1,7 @@
 -- `search_faces` meets its contract: what is found is the lowest, and as many side counts were read as faces looked at.
-use mathlib.Core.Path.{_≡_, sym, subst}
+use mathlib.Core.Path.{_≡_}
 use mathlib.Core.Logic.{⊎-elim}
-use Prim.Native.Nat.{ℕ, _+_, _-_, _<_, _≤_}
+use Prim.Native.Nat.{_-_, _<_, _≤_}
 use lib.ListN.{length}
 use Rattle.paper.specs.Irregular.{irregularFace}
 use Rattle.irregular.proofs.Laws.{face-odd, face-square}
@@ -20,19 +20,14 @@ abbrev μ-loop : tie.MeasureT-loop
 from-start : tie.In-loop Inv-loop μ-loop → tie.In-loop Inv-loop μ-loop × tie.Start Inv-loop μ-loop
 from-start i = (i, search)
 
-loop-holds : tie.Need-loop-holds Inv-loop μ-loop
-loop-holds c = (omega arith, scan-start _ _)
-
 loop-again : tie.Need-loop-again Inv-loop μ-loop
 loop-again c =
-    let sides = c .before .before .before .before .args .sides .now in
     let l = c .before .before .before .loop in
-    let scan : ℕ → Type 0 = λ k. Scanned (length sides) (irregularFace sides) k (l .f + 1) in
     let further : l .f < l .lowest = omega arith in (
       omega arith,
       ⊎-elim
-          (λ w. subst scan (sym (w .1)) (scan-hit _ _ (l .lowest) (l .f) (l .inv .1) further (face-odd sides (l .f) (w .0 .taken))))
-          (λ w. subst scan (sym (w .1)) (scan-miss _ _ (l .lowest) (l .f) (l .inv .1) further (face-square sides (l .f) (w .0 .left))))
+          (λ w. rw (w .1) (scan-hit (l .inv .1) further (face-odd _ (l .f) (w .0 .taken))))
+          (λ w. rw (w .1) (scan-miss (l .inv .1) further (face-square _ (l .f) (w .0 .left))))
           (c .if1 .came),
     )
 
@@ -41,12 +36,12 @@ returns c =
     let l = c .before .loop in
     let over : l .lowest ≤ l .f = omega arith in
     record {
-      lowest-is = scan-end _ _ (l .lowest) (l .f) (l .inv .1) over;
+      lowest-is = scan-end (l .inv .1) over;
       read-to = λ h. omega (arith, l .inv .1 .stops h);
-      read-all = λ h. omega (arith, scan-all _ _ (l .lowest) (l .f) (l .inv .1) over h);
+      read-all = λ h. omega (arith, scan-all (l .inv .1) over h);
     }
 
 pub search-faces-spec : {M : Type 1} → Rattle.irregular.proofs.search_faces.Statement.statement M
 search-faces-spec =
-    tie.close (tie.spec Inv-loop μ-loop loop-holds (λ c. omega (arith, from-start search)) (λ c. search needs) (λ c. search needs)
+    tie.close (tie.spec Inv-loop μ-loop (λ c. (omega arith, scan-start _ _)) (λ c. omega (arith, from-start search)) (λ c. search needs) (λ c. search needs)
     (λ c. omega (arith, from-start search)) loop-again returns)

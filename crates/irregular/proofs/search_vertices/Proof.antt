@@ -1,7 +1,6 @@
 -- `search_vertices` meets its contract: what is found is the lowest, by the counts of corners.
-use mathlib.Core.Path.{sym, subst}
 use mathlib.Core.Logic.{⊎-elim}
-use Prim.Native.Nat.{ℕ, _+_, _-_, _<_}
+use Prim.Native.Nat.{_-_, _<_}
 use Rattle.paper.specs.Irregular.{irregularVertex}
 use Rattle.irregular.proofs.Laws.{vertex-odd, vertex-square}
 use Rattle.irregular.proofs.Scanned.{Scanned, scan-start, scan-hit, scan-miss, scan-end}
@@ -19,26 +18,19 @@ abbrev μ-loop : tie.MeasureT-loop
 from-start : tie.In-loop Inv-loop μ-loop → tie.In-loop Inv-loop μ-loop × tie.Start Inv-loop μ-loop
 from-start i = (i, search)
 
-loop-holds : tie.Need-loop-holds Inv-loop μ-loop
-loop-holds c = scan-start _ _
-
 loop-again : tie.Need-loop-again Inv-loop μ-loop
 loop-again c =
     let s : tie.Start Inv-loop μ-loop = search in
     let l = c .before .before .before .loop in
-    let corners = s .args .corners .now in
     let count-is = s .pre .2 .count-is (l .u) in
-    let scan : ℕ → Type 0 = λ k. Scanned (s .args .count) (irregularVertex corners) k (l .u + 1) in
     let further : l .u < l .lowest = omega arith in
     ⊎-elim
-    (λ w. subst scan (sym (w .1)) (scan-hit _ _ (l .lowest) (l .u) (l .inv) further (vertex-odd corners (l .u) _ count-is (w .0 .taken))))
-    (λ w. subst scan (sym (w .1)) (scan-miss _ _ (l .lowest) (l .u) (l .inv) further (vertex-square corners (l .u) _ count-is (w .0 .left))))
+    (λ w. rw (w .1) (scan-hit (l .inv) further (vertex-odd _ (l .u) _ count-is (w .0 .taken))))
+    (λ w. rw (w .1) (scan-miss (l .inv) further (vertex-square _ (l .u) _ count-is (w .0 .left))))
     (c .if1 .came)
-
-returns : tie.Need-returns Inv-loop μ-loop
-returns c = let l = c .before .loop in scan-end _ _ (l .lowest) (l .u) (l .inv) (omega arith)
 
 pub search-vertices-spec : {M : Type 1} → Rattle.irregular.proofs.search_vertices.Statement.statement M
 search-vertices-spec =
-    tie.close (tie.spec Inv-loop μ-loop loop-holds (λ c. omega (arith, from-start search)) (λ c. omega (arith, from-start search)) (λ c. omega (arith, from-start search))
-    (λ c. omega (arith, c .before .before .loop .inv .bounded)) (λ c. search needs) (λ c. omega (arith, from-start search)) loop-again returns)
+    tie.close (tie.spec Inv-loop μ-loop (λ c. scan-start _ _) (λ c. omega (arith, from-start search)) (λ c. omega (arith, from-start search))
+    (λ c. omega (arith, from-start search)) (λ c. omega (arith, c .before .before .loop .inv .bounded)) (λ c. search needs)
+    (λ c. omega (arith, from-start search)) loop-again (λ c. scan-end (c .before .loop .inv) (omega arith)))

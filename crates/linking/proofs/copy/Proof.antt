@@ -3,13 +3,13 @@ use mathlib.Core.Path.{_≡_, refl}
 use Prim.Native.Nat.{_≤_, _-_}
 use lib.ListN.{length, length-set}
 use denote.Ref.{now}
-use Rattle.linking.proofs.Laws.{Copied, copied-none, copied-step, copied-all}
+use Rattle.linking.proofs.Laws.{LinksCopied, copied-none, copied-step, copied-all}
 use native.Mathlib.Omega.{arith}
 use borrow.Author.Needs.{needs}
 use Rattle.linking.proofs.copy.Tie as tie
 
 abbrev Inv-loop : tie.InvT-loop
-Inv-loop table links₀ c₀ links c = (c ≤ length links₀) × (length links ≡ length links₀) × Copied table links c
+Inv-loop table links₀ c₀ links c = (c ≤ length links₀) × (length links ≡ length links₀) × LinksCopied table links c
 
 abbrev μ-loop : tie.MeasureT-loop
 μ-loop table links₀ c₀ links c = length links₀ - c

@@ -1,9 +1,9 @@
 -- `arrange` meets its contract: before each turn k bodies are listed and marked; it stops where all are, or where none may come next.
-use mathlib.Core.Path.{_≡_, refl, _∙_}
+use mathlib.Core.Path.{_≡_, refl}
 use Prim.Native.Nat.{_≤_, _-_}
 use lib.ListN.{length, length-set}
 use denote.Ref.{now}
-use Rattle.paper.specs.Nesting.{places}
+use Rattle.paper.specs.Nesting.{nextBody, places}
 use Rattle.nesting.proofs.Laws.{Filling, filling-none, filling-step, filled}
 use native.Mathlib.Omega.{arith}
 use borrow.Author.Needs.{needs}
@@ -16,38 +16,42 @@ Inv-loop holders marks₀ order₀ k₀ marks order k =
 abbrev μ-loop : tie.MeasureT-loop
 μ-loop holders marks₀ order₀ k₀ marks order k = length holders - k
 
-loop-holds : tie.Need-loop-holds Inv-loop μ-loop
-loop-holds c = (omega arith, refl, refl, filling-none _ _ _ (c .before .before .before .pre .blank))
+-- In the loop: the call found the lowest body that may come next.
+told : (v : tie.After-next-body Inv-loop μ-loop) → let s : tie.Start Inv-loop μ-loop = search in
+    let i : tie.In-loop Inv-loop μ-loop = search in
+    v .next-body .result ≡ nextBody (now (s .args .holders)) (places (now (s .args .holders)) (i .before .loop .k))
+told v =
+    let s : tie.Start Inv-loop μ-loop = search in
+    let i : tie.In-loop Inv-loop μ-loop = search in
+    v .next-body .ensures (places (now (s .args .holders)) (i .before .loop .k)) (i .before .loop .inv .3 .marks-are)
 
 returns : tie.Need-returns Inv-loop μ-loop
 returns c =
-    let s : tie.Start Inv-loop μ-loop = search in let l = c .before .before .before .before .loop in
-    let f = l .inv .3 in
-    filled (now (s .args .holders)) (l .marks) (l .order) (l .k) f (s .pre .few) (s .pre .held)
-    (λ z. let e = c .before .next-body .ensures (places (now (s .args .holders)) (l .k)) (f .marks-are) in omega (arith, c .if1 .taken))
+    let s : tie.Start Inv-loop μ-loop = search in
+    let i : tie.In-loop Inv-loop μ-loop = search in
+    filled (i .before .loop .inv .3) (s .pre .few) (s .pre .held) (λ z. omega (arith, told (c .before), c .if1 .taken))
 
 cast-order : tie.Need-cast-order Inv-loop μ-loop
 cast-order c = let s : tie.Start Inv-loop μ-loop = search in omega (arith, s .pre .few, c .if1 .left)
 
 loop-again : tie.Need-loop-again Inv-loop μ-loop
 loop-again c =
-    let s : tie.Start Inv-loop μ-loop = search in let l = c .before .before .before .before .loop in
-    let b = c .before .next-body .result in
-    let f = l .inv .3 in
-    let e = c .before .next-body .ensures (places (now (s .args .holders)) (l .k)) (f .marks-are) in (
+    let s : tie.Start Inv-loop μ-loop = search in
+    let i : tie.In-loop Inv-loop μ-loop = search in
+    let inv = i .before .loop .inv in (
       search needs,
-      length-set (l .marks) b 1 ∙ l .inv .1,
-      length-set (l .order) (l .k) b ∙ l .inv .2,
-      filling-step (now (s .args .holders)) (l .marks) (l .order) (l .k) f b e (c .if1 .left)
-          (omega (arith, s .pre .marks-room, c .if1 .left)) (omega (arith, s .pre .order-room)),
+      simp length-set (inv .1),
+      simp length-set (inv .2),
+      filling-step (inv .3) (told (c .before)) (c .if1 .left) (omega (arith, s .pre .marks-room, c .if1 .left)) (omega (arith, s .pre .order-room)),
     )
 
 returns-2 : tie.Need-returns-2 Inv-loop μ-loop
 returns-2 c =
-    let s : tie.Start Inv-loop μ-loop = search in let l = c .before .loop in
-    filled (now (s .args .holders)) (l .marks) (l .order) (l .k) (l .inv .3) (s .pre .few) (s .pre .held) (λ z. absurd (omega arith))
+    let s : tie.Start Inv-loop μ-loop = search in
+    filled (c .before .loop .inv .3) (s .pre .few) (s .pre .held) (λ z. absurd (omega arith))
 
 pub arrange-spec : {M : Type 1} → Rattle.nesting.proofs.arrange.Statement.statement M
 arrange-spec =
-    tie.close (tie.spec Inv-loop μ-loop loop-holds (λ c κs. search needs) (search needs) (search needs) returns cast-order (search needs) (search needs)
-    (search needs) (search needs) (search needs) loop-again (search needs) (search needs) returns-2)
+    tie.close (tie.spec Inv-loop μ-loop (λ c. (omega arith, refl, refl, filling-none _ _ _ (c .before .before .before .pre .blank)))
+    (λ c κs. search needs) (search needs) (search needs) returns cast-order (search needs) (search needs) (search needs) (search needs) (search needs)
+    loop-again (search needs) (search needs) returns-2)

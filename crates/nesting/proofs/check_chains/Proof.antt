@@ -3,7 +3,6 @@ use mathlib.Core.Path.{_≡_, sym}
 use mathlib.Core.Bool.{false}
 use Prim.Native.Nat.{ℕ, _≤_, _<_, _-_}
 use lib.ListN.{length}
-use denote.Ref.{now}
 use Rattle.paper.specs.Nesting.{fault23}
 use Rattle.mesh.proofs.Scans.{fails-step}
 use Rattle.mesh.proofs.Verdicts.{lowest-hit, lowest-none}
@@ -18,27 +17,20 @@ Inv-loop holders marks b₀ b = (b ≤ length holders) × ((j : ℕ) → j < b �
 abbrev μ-loop : tie.MeasureT-loop
 μ-loop holders marks b₀ b = length holders - b
 
-loop-holds : tie.Need-loop-holds Inv-loop μ-loop
-loop-holds c = (omega arith, λ j h. absurd (omega arith))
-
 returns : tie.Need-returns Inv-loop μ-loop
 returns c =
-    let s : tie.Start Inv-loop μ-loop = search in let l = c .before .before .before .loop in
-    let xs = now (s .args .holders) in
-    let h : l .b < length xs = search needs in
-    sym (lowest-hit 23 (length xs) (fault23 xs) (l .b) h (no-end xs (now (s .args .marks)) (s .pre .1) (l .b) h (c .if1 .taken)) (l .inv .1))
+    let s : tie.Start Inv-loop μ-loop = search in
+    let i : tie.In-loop Inv-loop μ-loop = search in
+    let h = i .loop-test .taken in
+    sym (lowest-hit 23 _ _ _ h (no-end _ _ (s .pre .1) _ h (c .if1 .taken)) (i .before .loop .inv .1))
 
 loop-again : tie.Need-loop-again Inv-loop μ-loop
 loop-again c =
-    let s : tie.Start Inv-loop μ-loop = search in let l = c .before .before .before .loop in
-    let xs = now (s .args .holders) in
-    let h : l .b < length xs = search needs in
-    (search needs, fails-step (fault23 xs) (l .b) (l .inv .1) (an-end xs (now (s .args .marks)) (s .pre .1) (l .b) h (c .if1 .left)))
-
-returns-2 : tie.Need-returns-2 Inv-loop μ-loop
-returns-2 c =
-    let l = c .before .loop in
-    sym (lowest-none 23 _ (fault23 (now (c .before .before .args .holders))) (λ j h. l .inv .1 j (omega arith)))
+    let s : tie.Start Inv-loop μ-loop = search in
+    let i : tie.In-loop Inv-loop μ-loop = search in
+    (search needs, fails-step _ _ (i .before .loop .inv .1) (an-end _ _ (s .pre .1) _ (i .loop-test .taken) (c .if1 .left)))
 
 pub check-chains-spec : {M : Type 1} → Rattle.nesting.proofs.check_chains.Statement.statement M
-check-chains-spec = tie.close (tie.spec Inv-loop μ-loop loop-holds (search needs) returns (search needs) (search needs) loop-again returns-2)
+check-chains-spec =
+    tie.close (tie.spec Inv-loop μ-loop (λ c. (omega arith, λ j h. absurd (omega arith))) (search needs) returns (search needs) (search needs) loop-again
+    (λ c. sym (lowest-none 23 _ _ (λ j h. c .before .loop .inv .1 j (omega arith)))))

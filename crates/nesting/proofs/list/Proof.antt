@@ -1,22 +1,18 @@
 -- `list` meets its contract: 23 refuses and nothing was written, or the order is copied.
-use mathlib.Core.Path.{_≡_, sym, ap, _∙_}
+use mathlib.Core.Path.{_≡_, refl, sym, ap, _∙_}
 use Prim.Native.Nat.{_≤_}
 use lib.ListN.{length, take}
 use lib.Seq.{length-take-le}
 use denote.Ref.{now}
 use Rattle.paper.specs.Faults.{stated}
 use Rattle.mesh.proofs.Verdicts.{passed}
-use Rattle.nesting.proofs.Laws.{list-refused, list-done, copied-whole}
+use Rattle.nesting.proofs.Laws.{list-done, copied-whole}
 use native.Mathlib.Omega.{arith}
 use borrow.Author.Needs.{needs}
 use Rattle.nesting.proofs.list.Tie as tie
 
 returns : tie.Need-returns
-returns c =
-    let s : tie.Start = search in
-    let r = c .before .a23 .given in
-    list-refused (now (s .args .holders)) (now (s .args .listing)) (r .0 .0) (r .0 .1 .0)
-    (ap stated (sym (r .1)) ∙ c .before .before .before .check-chains .ensures)
+returns c = record { answers = ap stated (sym (c .before .a23 .given .1)) ∙ c .before .before .before .check-chains .ensures; holds = refl }
 
 -- the order has room for the listing
 room : (a : tie.After-arrange) → let s : tie.Start = search in length (now (s .args .listing)) ≤ length (a .arrange .last .1 .1 .0)
@@ -33,11 +29,8 @@ returns-2 c =
     let told : tie.After-enum-told = search in
     let a : tie.After-arrange = search in
     let k : tie.After-copy-halves = search in
-    let order = a .arrange .last .1 .1 .0 in
-    let e23 = passed (t .check-chains .result) (t .check-chains .ensures) (told .enum-told .given .1) in
-    list-done (now (s .args .holders)) (now (s .args .listing)) e23 (s .pre .1) (a .arrange .last .1 .0) order (k .copy-halves .last .1 .0)
-    (a .arrange .ensures)
-    (copied-whole order (now (s .args .listing)) _ (room a) (k .copy-halves .ensures))
+    list-done (passed (t .check-chains .result) (t .check-chains .ensures) (told .enum-told .given .1)) (s .pre .1) (a .arrange .ensures)
+    (copied-whole (a .arrange .last .1 .1 .0) (now (s .args .listing)) _ (room a) (k .copy-halves .ensures))
 
 pub list-spec : {M : Type 1} → Rattle.nesting.proofs.list.Statement.statement M
 list-spec =

@@ -9,7 +9,7 @@ use lib.ListN.{length, getD, set, length-set}
 use lib.Seq.{getD-set-same, getD-set-other}
 use lib.IntN.{ℤ, pos}
 use Rattle.paper.specs.Calls.{perCorner}
-use Rattle.net.specs.copy.Copy.{PointPut, Copied}
+use Rattle.net.specs.copy.Copy.{PointPut, PointsCopied}
 
 other : (l : List ℤ) (n : ℕ) (v : ℤ) (k : ℕ) → (k ≡ n → ⊥) → getD (set l n v) k (pos 0) ≡ getD l k (pos 0)
 other l n v k h = getD-set-other l n k v (pos 0) h
@@ -38,13 +38,13 @@ four-put x y z w to old mid p = record {
 }
 
 -- ---- a run
-pub copied-none : (lanes : List ℤ) (at first : ℕ) (old : List ℤ) → Copied lanes at first first old old
+pub copied-none : (lanes : List ℤ) (at first : ℕ) (old : List ℤ) → PointsCopied lanes at first first old old
 copied-none lanes at first old = record { same = refl; points-are = λ p a l m. absurd (omega arith); before = λ i l. refl; after = λ i l. refl }
 
 -- one point more
 pub copied-more : (lanes : List ℤ) (at first n width to : ℕ) (old mid new : List ℤ) (x y z : ℤ) → to ≡ at + 3 * n → first ≤ n → 3 * n + width ≤ perCorner
-    → Copied lanes at first n old mid → x ≡ getD lanes (4 * n) (pos 0) → y ≡ getD lanes (4 * n + 1) (pos 0) → z ≡ getD lanes (4 * n + 2) (pos 0)
-    → PointPut x y z to width mid new → Copied lanes at first (n + 1) old new
+    → PointsCopied lanes at first n old mid → x ≡ getD lanes (4 * n) (pos 0) → y ≡ getD lanes (4 * n + 1) (pos 0) → z ≡ getD lanes (4 * n + 2) (pos 0)
+    → PointPut x y z to width mid new → PointsCopied lanes at first (n + 1) old new
 copied-more lanes at first n width to old mid new x y z t f room c ex ey ez p = record {
   same = p .same ∙ c .same;
   points-are = λ q a l m k. which q a l m k (ltb q n) (λ u. ltb→lt q n u) (λ u. nltb→le q n u);
@@ -64,8 +64,8 @@ copied-more lanes at first n width to old mid new x y z t f room c ex ey ez p = 
     which q a l m k false g h = let i = h tt in let e : q ≡ n = omega arith in rw e (point a k)
 
 -- one run after another
-pub copied-join : (lanes : List ℤ) (at first n end : ℕ) (old mid new : List ℤ) → Copied lanes at first n old mid → Copied lanes at n end mid new
-    → first ≤ n → Copied lanes at first end old new
+pub copied-join : (lanes : List ℤ) (at first n end : ℕ) (old mid new : List ℤ) → PointsCopied lanes at first n old mid → PointsCopied lanes at n end mid new
+    → first ≤ n → PointsCopied lanes at first end old new
 copied-join lanes at first n end old mid new c d l = record {
   same = d .same ∙ c .same;
   points-are = λ q a k m i. which q a k m i (ltb q n) (λ u. ltb→lt q n u) (λ u. nltb→le q n u);

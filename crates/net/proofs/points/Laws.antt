@@ -18,12 +18,12 @@ use Rattle.net.specs.sides.Values.{FourSides, FourSized}
 use Rattle.net.specs.declared.rows.RowValues.{RowValues}
 use Rattle.net.specs.rows.SideRows.{RowsOf, AllRows, FourRowsSized, IsAGrid, IsBGrid, Square}
 use Rattle.net.proofs.rows.Laws.{plain, value-is}
-use Rattle.net.specs.points.Placed.{Placed}
+use Rattle.net.specs.points.Placed.{PointsPlaced}
 
-pub placed-none : (old : List ℤ) (from : ℕ) → Placed old old from []
+pub placed-none : (old : List ℤ) (from : ℕ) → PointsPlaced old old from []
 placed-none old from = record { same = refl; points-are = λ p h. absurd (omega arith); others = λ i n. refl }
 
-pub placed-one : (old : List ℤ) (from : ℕ) (v : ℤ) → from < length old → Placed old (set old from v) from (v ∷ [])
+pub placed-one : (old : List ℤ) (from : ℕ) (v : ℤ) → from < length old → PointsPlaced old (set old from v) from (v ∷ [])
 placed-one old from v h = record {
   same = length-set old from v;
   points-are = λ p l. let e : p ≡ 0 = omega arith in rw e (ap (λ (i : ℕ). getD (set old from v) i (pos 0)) (none from) ∙ getD-set-same old from v (pos 0) h);
@@ -34,8 +34,8 @@ placed-one old from v h = record {
     none from = omega arith
 
 -- two runs, the second where the first ends
-pub placed-append : (old mid new : List ℤ) (from at : ℕ) (xs ys : List ℤ) → at ≡ from + 4 * length xs → Placed old mid from xs → Placed mid new at ys
-    → Placed old new from (xs ++ ys)
+pub placed-append : (old mid new : List ℤ) (from at : ℕ) (xs ys : List ℤ) → at ≡ from + 4 * length xs → PointsPlaced old mid from xs → PointsPlaced mid new at ys
+    → PointsPlaced old new from (xs ++ ys)
 placed-append old mid new from at xs ys e p q = record {
   same = q .same ∙ p .same;
   points-are = λ k h. which k (simp length-append at h) (ltb k (length xs)) (λ t. ltb→lt k (length xs) t) (λ t. nltb→le k (length xs) t);
@@ -57,8 +57,8 @@ placed-append old mid new from at xs ys e p q = record {
         ∙ ap (λ (i : ℕ). getD (xs ++ ys) i (pos 0)) (sym d)
 
 -- ---- a row, number by number
-pub row-step : (old mid : List ℤ) (from at j : ℕ) (row : List ℤ) → j < length row → at ≡ from + 4 * j → at < length mid → Placed old mid from (take j row)
-    → Placed old (set mid at (getD row j (pos 0))) from (take (j + 1) row)
+pub row-step : (old mid : List ℤ) (from at j : ℕ) (row : List ℤ) → j < length row → at ≡ from + 4 * j → at < length mid → PointsPlaced old mid from (take j row)
+    → PointsPlaced old (set mid at (getD row j (pos 0))) from (take (j + 1) row)
 row-step old mid from at j row l e h p =
     rw (add-one, take-suc row j (pos 0) l)
     (placed-append old mid _ from at (take j row) (getD row j (pos 0) ∷ [])
@@ -78,11 +78,11 @@ rows-more g i l = rw (add-one, take-suc g i [] l) (rows-append (take i g) (getD 
     empty (x ∷ l) = ap (λ (k : List ℤ). x ∷ k) (empty l)
 
 -- after i rows
-abbrev pub Rowed : List ℤ → List ℤ → ℕ → List (List ℤ) → ℕ → ℕ → Type 0
-Rowed old new from g n i = (length (rows (take i g)) ≡ n * i) × Placed old new from (rows (take i g))
+abbrev pub RowsPlaced : List ℤ → List ℤ → ℕ → List (List ℤ) → ℕ → ℕ → Type 0
+RowsPlaced old new from g n i = (length (rows (take i g)) ≡ n * i) × PointsPlaced old new from (rows (take i g))
 
 pub grid-step : (old mid new : List ℤ) (from at : ℕ) (g : List (List ℤ)) (n i : ℕ) → i < length g → length (getD g i []) ≡ n → at ≡ from + 4 * (n * i)
-    → Rowed old mid from g n i → Placed mid new at (getD g i []) → Rowed old new from g n (i + 1)
+    → RowsPlaced old mid from g n i → PointsPlaced mid new at (getD g i []) → RowsPlaced old new from g n (i + 1)
 grid-step old mid new from at g n i l r e p q = (
   rw (rows-more g i l) (length-append (rows (take i g)) (getD g i []) ∙ more (p .0) r),
   rw (rows-more g i l) (placed-append old mid new from at (rows (take i g)) (getD g i []) (e ∙ ap (λ (k : ℕ). from + 4 * k) (sym (p .0))) (p .1) q),
@@ -92,17 +92,17 @@ grid-step old mid new from at g n i l r e p q = (
     more e f = omega arith
 
 -- a grid that is written row by row: before the first row, at row i, and after the last
-pub grid-start : (old : List ℤ) (from n : ℕ) (g : List (List ℤ)) → Rowed old old from g n 0
+pub grid-start : (old : List ℤ) (from n : ℕ) (g : List (List ℤ)) → RowsPlaced old old from g n 0
 grid-start old from n g = (omega arith, placed-none old from)
 
 pub grid-row : (old out : List ℤ) (from at : ℕ) (g : List (List ℤ)) (n i : ℕ) → Square n g → i < n → at ≡ from + 4 * (n * i)
-    → from + 4 * (n * n) ≤ length old + 3 → Rowed old out from g n i → at + 4 * length (getD g i []) ≤ length out + 3
+    → from + 4 * (n * n) ≤ length old + 3 → RowsPlaced old out from g n i → at + 4 * length (getD g i []) ≤ length out + 3
 grid-row old out from at g n i q l e room p =
     let h : i + 1 ≤ n = omega arith in
     omega (arith, mul-le-mul-left n h, q i l, p .1 .same)
 
-pub grid-end : (old new : List ℤ) (from : ℕ) (g : List (List ℤ)) (n i : ℕ) → length g ≤ i → Rowed old new from g n i → Placed old new from (rows g)
-grid-end old new from g n i l p = subst (λ (h : List (List ℤ)). Placed old new from (rows h)) (take-all i g l) (p .1)
+pub grid-end : (old new : List ℤ) (from : ℕ) (g : List (List ℤ)) (n i : ℕ) → length g ≤ i → RowsPlaced old new from g n i → PointsPlaced old new from (rows g)
+grid-end old new from g n i l p = subst (λ (h : List (List ℤ)). PointsPlaced old new from (rows h)) (take-all i g l) (p .1)
 
 -- ---- the grids of a corner, as the calls give them
 module _ (K : RefinedMesh rounded) (c : ℕ) (n : NetSides) (f : FourSides K c n) (z : FourSized n) (r0 r1 r2 r3 : RowValues)
@@ -140,14 +140,14 @@ module _ (K : RefinedMesh rounded) (c : ℕ) (n : NetSides) (f : FourSides K c n
       all-rows (a-is a ha)
 
 -- ---- the net in a lane: its b grid, then its a grid
-pub lane-laid : (K : RefinedMesh rounded) (c k : ℕ) (old mid new : List ℤ) → Placed old mid k (rows (bGrid K c)) → Placed mid new (k + 100) (rows (aGrid K c))
+pub lane-laid : (K : RefinedMesh rounded) (c k : ℕ) (old mid new : List ℤ) → PointsPlaced old mid k (rows (bGrid K c)) → PointsPlaced mid new (k + 100) (rows (aGrid K c))
     → (p : ℕ) → p < netPoints → getD new (k + 4 * p) (pos 0) ≡ getD (net K c) p (pos 0)
 unfolding net bGrid aGrid
 lane-laid K c k old mid new p q i h =
-    let r : Placed old new k (net K c) = placed-append old mid new k (k + 100) (rows (bGrid K c)) (rows (aGrid K c)) refl p q in
+    let r : PointsPlaced old new k (net K c) = placed-append old mid new k (k + 100) (rows (bGrid K c)) (rows (aGrid K c)) refl p q in
     r .points-are i h
 
-pub other-lanes : (k : ℕ) (old mid new : List ℤ) (xs ys : List ℤ) → k < 4 → Placed old mid k xs → Placed mid new (k + 100) ys
+pub other-lanes : (k : ℕ) (old mid new : List ℤ) (xs ys : List ℤ) → k < 4 → PointsPlaced old mid k xs → PointsPlaced mid new (k + 100) ys
     → (j p : ℕ) → j < 4 → (j ≡ k → ⊥) → getD new (j + 4 * p) (pos 0) ≡ getD old (j + 4 * p) (pos 0)
 other-lanes k old mid new xs ys l p q j i m n =
     q .others (j + 4 * i) (λ u h e. n (omega arith)) ∙ p .others (j + 4 * i) (λ u h e. n (omega arith))

@@ -13,7 +13,6 @@ use Rattle.net.specs.sides.Drawn.{drawn, Drawn}
 use Rattle.net.specs.stencil.Taken.{Quiet, FaceTaken}
 use Rattle.net.specs.Put.{RunPut}
 use Rattle.net.proofs.CornerRuns.{face-held, face-kept, run-place, lane-has, ready, run-none, run-more}
-use Rattle.net.proofs.put_run.Statement.{statement}
 use Rattle.net.proofs.put_run.Tie as tie
 
 -- what the lent spaces hold
@@ -124,7 +123,7 @@ returns c =
     let e : l .r ≡ s .args .run = omega arith in
     (rw e at (l .inv .2), l .inv .1 .quiet)
 
-pub put-run-spec : {M : Type 1} → statement M
+pub put-run-spec : {M : Type 1} → Rattle.net.proofs.put_run.Statement.statement M
 put-run-spec =
     tie.close (tie.spec Inv-loop μ-loop take-face-requires loop-holds (λ c. search needs)
     (λ c κs. let l : tie.In-loop Inv-loop μ-loop = search in ((mesh l, here l, start l .pre .1 .1 .1), l .before .loop .inv .1 .long))

@@ -8,7 +8,6 @@ use mir.Val.{SFits}
 use mir.Facts.{toZ-ofZ}
 use Rattle.paper.specs.Mesh.{leastSides, mostSides}
 use Rattle.paper.specs.Cosines.{cosine}
-use Rattle.net.proofs.rings_at.Statement.{statement}
 use Rattle.net.proofs.rings_at.Tie as tie
 
 -- the two counts are counts of an accepted mesh
@@ -33,7 +32,7 @@ returns c =
       place-is = refl;
     }
 
-pub rings-at-spec : {M : Type 1} → statement M
+pub rings-at-spec : {M : Type 1} → Rattle.net.proofs.rings_at.Statement.statement M
 rings-at-spec =
     tie.close (tie.spec
     (λ c κs. let p = c .before .pre .0 in omega (arith, p .table-long, p .here))

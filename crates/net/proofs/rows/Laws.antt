@@ -27,8 +27,8 @@ abbrev pub plain : ℤ → ℤ
 plain z = toZ w32 (ofZ w32 z)
 
 -- a refined point y that is read as z
-abbrev pub Read : ℤ → ℤ → Type 0
-Read z y = (plain z ≡ y) × RefinedSize (plain z)
+abbrev pub ReadAs : ℤ → ℤ → Type 0
+ReadAs z y = (plain z ≡ y) × RefinedSize (plain z)
 
 abbrev pub wide : ℤ → ℤ
 wide z = toZ w64 (ofZ w64 z)

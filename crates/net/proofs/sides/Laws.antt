@@ -1,6 +1,6 @@
 -- The faces of the edges at a corner, as the code has them from the rows, are those of the definitions; and so are the sides made from them.
 use mathlib.Core.Path.{_≡_, refl, sym, ap, _∙_}
-use Prim.Native.Nat.{ℕ, _+_, _^_, _<_}
+use Prim.Native.Nat.{ℕ, _+_, _^_}
 use native.Mathlib.Omega.{arith}
 use lib.Dec.{lit<}
 use lib.IntN.{ℤ, pos, _+ℤ_, _*ℤ_}
@@ -14,7 +14,7 @@ use Rattle.paper.specs.Net.{leaving, arriving, Side, side0, side1, side2, side3
 use Rattle.surface.specs.Sizes.{RefinedSize, FaceSize}
 use Rattle.surface.proofs.Rings.{points-cyclic}
 use Rattle.faces.proofs.Few.{four-centre, four-toward}
-use Rattle.net.specs.declared.sides.Face.{Face}
+use Rattle.net.specs.declared.sides.FaceValues.{FaceValues}
 use Rattle.net.specs.declared.sides.SideValues.{SideValues}
 use Rattle.net.specs.sides.Values.{Through, Around, IsSide, Made}
 use Rattle.net.proofs.rows.Laws.{plain}
@@ -53,7 +53,7 @@ module _ (p : ℕ → ℤ) (a b c d : ℕ) (v w x y m t u : ℤ) (va : plain v �
 
 -- ---- the faces of the two edges at corner c
 module _ (K : RefinedMesh rounded) (c : ℕ) (p : ℕ → ℤ) (r : Around K c p) where
-  pub leaving-is : (f : Face) → Through p 0 1 2 3 f → (f .centre ≡ T K c side0) × (f .behind ≡ Y K c side0) × (f .ahead ≡ Y K c side1)
+  pub leaving-is : (f : FaceValues) → Through p 0 1 2 3 f → (f .centre ≡ T K c side0) × (f .behind ≡ Y K c side0) × (f .ahead ≡ Y K c side1)
   unfolding T Y quad
   leaving-is f h =
       let q = points K c leaving in
@@ -67,7 +67,7 @@ module _ (K : RefinedMesh rounded) (c : ℕ) (p : ℕ → ℤ) (r : Around K c p
         h .ahead .of q 0 (record { cyclic = cyclic; first = e0; second = e1; third = e2; fourth = e3 }) .is,
       )
 
-  pub arriving-is : (f : Face) → Through p 0 4 5 6 f → (f .centre ≡ T K c side3) × (f .behind ≡ Y K c side2) × (f .ahead ≡ Y K c side3)
+  pub arriving-is : (f : FaceValues) → Through p 0 4 5 6 f → (f .centre ≡ T K c side3) × (f .behind ≡ Y K c side2) × (f .ahead ≡ Y K c side3)
   unfolding T Y quad
   arriving-is f h =
       let q = points K c arriving in
@@ -82,7 +82,7 @@ module _ (K : RefinedMesh rounded) (c : ℕ) (p : ℕ → ℤ) (r : Around K c p
       )
 
 -- ---- a side from its parts
-pub record Parts (K : RefinedMesh rounded) (c : ℕ) (s : Side) (h t p q v w k : ℤ) : Type 0 where
+pub record SideParts (K : RefinedMesh rounded) (c : ℕ) (s : Side) (h t p q v w k : ℤ) : Type 0 where
   pub head : h ≡ H K c s
   pub tail : t ≡ T K c s
   pub x : p ≡ X K c s
@@ -91,7 +91,7 @@ pub record Parts (K : RefinedMesh rounded) (c : ℕ) (s : Side) (h t p q v w k :
   pub there : w ≡ K .point (neighbour (K .corners) c s)
   pub cosine : k ≡ C K c s
 
-pub side-is : (K : RefinedMesh rounded) (c : ℕ) (s : Side) (h t p q v w k : ℤ) (r : SideValues) → Parts K c s h t p q v w k → Made h t p q v w k r
+pub side-is : (K : RefinedMesh rounded) (c : ℕ) (s : Side) (h t p q v w k : ℤ) (r : SideValues) → SideParts K c s h t p q v w k → Made h t p q v w k r
     → IsSide K c s r
 unfolding N
 side-is K c s h t p q v w k r e m = record {

@@ -25,11 +25,11 @@ use Rattle.net.proofs.stencil.Rings.{around-in}
 
 -- ---- one row
 -- row i has the numbers v of the three axes
-abbrev pub Row : (ℕ → ℤ) → ℕ → List ℤ → Type 0
-Row v i rows = (a : ℕ) → a < 3 → pointAt rows a i ≡ v a
+abbrev pub RowHas : (ℕ → ℤ) → ℕ → List ℤ → Type 0
+RowHas v i rows = (a : ℕ) → a < 3 → pointAt rows a i ≡ v a
 
 module _ (p : FacePoint) (i : ℕ) (old new : List ℤ) (t : PointPut (p .x) (p .y) (p .z) (pointRow * i) 3 old new) where
-  pub row-at : (Is : ℕ → ℤ → Type 0) (v : ℕ → ℤ) → ((a : ℕ) → a < 3 → (r : ℤ) → Is a r → r ≡ v a) → OnAxes Is p → Row v i new
+  pub row-at : (Is : ℕ → ℤ → Type 0) (v : ℕ → ℤ) → ((a : ℕ) → a < 3 → (r : ℤ) → Is a r → r ≡ v a) → OnAxes Is p → RowHas v i new
   row-at Is v is o zero l = ap (λ (n : ℕ). getD new n (pos 0)) (omega arith) ∙ t .first ∙ is 0 l (p .x) (o .x)
   row-at Is v is o (suc zero) l = t .second ∙ is 1 l (p .y) (o .y)
   row-at Is v is o (suc (suc zero)) l = t .third ∙ is 2 l (p .z) (o .z)
@@ -44,13 +44,13 @@ module _ (p : FacePoint) (i : ℕ) (old new : List ℤ) (t : PointPut (p .x) (p 
 
 -- ---- the rows of a face's ring
 module _ (K : ℕ → RefinedMesh rounded) (c : ℕ) where
-  pub face-none : (rows : List ℤ) → Row (λ a. H (K a) c side1) 10 rows → FaceTaken K c 0 rows rows
+  pub face-none : (rows : List ℤ) → RowHas (λ a. H (K a) c side1) 10 rows → FaceTaken K c 0 rows rows
   face-none rows h = record { same = refl; centre = h; toward = λ r l. absurd (omega arith); fourth = λ i. refl }
 
   -- one row more
   pub face-more : (n : ℕ) (old mid new : List ℤ) (p : FacePoint) → FaceTaken K c n old mid
       → PointPut (p .x) (p .y) (p .z) (pointRow * (11 + n)) 3 mid new
-      → Row (λ a. X (K a) (iterate n (K a .corners .next) (K a .corners .previous c)) side1) (11 + n) new → FaceTaken K c (n + 1) old new
+      → RowHas (λ a. X (K a) (iterate n (K a .corners .next) (K a .corners .previous c)) side1) (11 + n) new → FaceTaken K c (n + 1) old new
   face-more n old mid new p f t h = record {
     same = t .same ∙ f .same;
     centre = λ a l. t .before (pointRow * 10 + a) (omega arith) ∙ f .centre a l;
@@ -70,8 +70,8 @@ module _ (K : ℕ → RefinedMesh rounded) (c : ℕ) where
 
   -- ---- the rows of a vertex's ring
   pub vertex-taken : (p q r : FacePoint) (e f g h : List ℤ) → PointPut (p .x) (p .y) (p .z) (pointRow * 7) 3 e f
-      → PointPut (q .x) (q .y) (q .z) (pointRow * 8) 3 f g → PointPut (r .x) (r .y) (r .z) (pointRow * 9) 3 g h → Row (λ a. H (K a) c side0) 7 f
-      → Row (λ a. X (K a) c side3) 8 g → Row (λ a. X (K a) c side0) 9 h → VertexTaken K c e h
+      → PointPut (q .x) (q .y) (q .z) (pointRow * 8) 3 f g → PointPut (r .x) (r .y) (r .z) (pointRow * 9) 3 g h → RowHas (λ a. H (K a) c side0) 7 f
+      → RowHas (λ a. X (K a) c side3) 8 g → RowHas (λ a. X (K a) c side0) 9 h → VertexTaken K c e h
   vertex-taken p q r e f g h t u v centre behind ahead = record {
     same = v .same ∙ u .same ∙ t .same;
     centre = λ a l. v .before (pointRow * 7 + a) (omega arith) ∙ u .before (pointRow * 7 + a) (omega arith) ∙ centre a l;

@@ -17,7 +17,7 @@ pub record PointPut (x y z : ℤ) (to width : ℕ) (old new : List ℤ) : Type 0
 
 -- the points from `first` up to `end` stand in the output from `at` on; what lies before the first of them and from the end of a corner's numbers on
 -- is as before
-pub record Copied (lanes : List ℤ) (at first end : ℕ) (old new : List ℤ) : Type 0 where
+pub record PointsCopied (lanes : List ℤ) (at first end : ℕ) (old new : List ℤ) : Type 0 where
   pub same : length new ≡ length old
   pub points-are : (p a : ℕ) → first ≤ p → p < end → a < 3 → getD new (at + 3 * p + a) (pos 0) ≡ getD lanes (a + 4 * p) (pos 0)
   pub before : (i : ℕ) → i < at + 3 * first → getD new i (pos 0) ≡ getD old i (pos 0)

@@ -12,20 +12,20 @@ use Rattle.paper.specs.Net.{net, netPoints}
 use Rattle.surface.specs.Points.{pointAt}
 use Rattle.surface.specs.Sizes.{RefinedSize, CosineSize}
 use Rattle.walk.specs.Table.{sidesHere, valenceHere, entry}
-use Rattle.net.specs.declared.sides.Face.{Face}
+use Rattle.net.specs.declared.sides.FaceValues.{FaceValues}
 use Rattle.net.specs.declared.sides.NetSides.{NetSides}
 use Rattle.net.specs.declared.lanes.Rings.{Rings}
 use Rattle.net.specs.sides.Values.{FaceSized, FourSized, FourSides, Around, AtVertex, AtFace}
 
 -- the face of a ring in lane k: its centre in row i, its points behind and ahead from row j on
-abbrev pub rowsFace : List ℤ → ℕ → ℕ → ℕ → Face
+abbrev pub rowsFace : List ℤ → ℕ → ℕ → ℕ → FaceValues
 rowsFace stencil k i j = record { centre = pointAt stencil k i; ahead = pointAt stencil k (j + 1); behind = pointAt stencil k j }
 
 -- the rows of the vertex's ring, and those of the face's
-abbrev pub vertexFace : List ℤ → ℕ → Face
+abbrev pub vertexFace : List ℤ → ℕ → FaceValues
 vertexFace stencil k = rowsFace stencil k 7 8
 
-abbrev pub meshFace : List ℤ → ℕ → ℕ → Face
+abbrev pub meshFace : List ℤ → ℕ → ℕ → FaceValues
 meshFace stencil k place = rowsFace stencil k 10 (11 + place)
 
 -- C of the two rings at corner c, and its place in the run

@@ -11,7 +11,7 @@ use Rattle.net.specs.declared.sides.NetSides.{NetSides}
 use Rattle.net.specs.sides.Values.{FourSides}
 
 -- every fourth number from `from` on, as many as there are points, is a point's; the others are as before
-pub record Placed (old new : List ℤ) (from : ℕ) (points : List ℤ) : Type 0 where
+pub record PointsPlaced (old new : List ℤ) (from : ℕ) (points : List ℤ) : Type 0 where
   pub same : length new ≡ length old
   pub points-are : (p : ℕ) → p < length points → getD new (from + 4 * p) (pos 0) ≡ getD points p (pos 0)
   pub others : (i : ℕ) → ((p : ℕ) → p < length points → i ≡ from + 4 * p → ⊥) → getD new i (pos 0) ≡ getD old i (pos 0)

@@ -5,7 +5,7 @@ use lib.ListN.{length}
 use lib.IntN.{ℤ}
 use Rattle.paper.specs.Numbers.{rounded}
 use Rattle.paper.specs.Refined.{RefinedMesh}
-use Rattle.surface.specs.Sound.{Sound, Small}
+use Rattle.surface.specs.Sound.{Sound, RefinedSmall}
 use Rattle.surface.specs.Points.{pointRow, pointAt}
 use Rattle.surface.specs.Sizes.{RefinedSize}
 use Rattle.walk.specs.Table.{rowLength, tabled}
@@ -20,7 +20,7 @@ pub record Drawn (count : ℕ) (table : List ℕ) (points : List ℤ) : Type 0 w
   pub sound : Sound (tabled count table)
   pub table-long : rowLength * count ≤ length table
   pub points-long : pointRow * count ≤ length points
-  pub small : (axis : ℕ) → axis < 3 → Small (drawn count table points axis)
+  pub small : (axis : ℕ) → axis < 3 → RefinedSmall (drawn count table points axis)
   pub fourth : (c : ℕ) → c < count → RefinedSize (pointAt points 3 c)
 
 -- c is one of the `count` corners of an accepted mesh that the table has

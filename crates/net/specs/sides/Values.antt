@@ -10,32 +10,32 @@ use Rattle.paper.specs.Net.{Side, side0, side1, side2, side3, H, T, X, Y, N, C}
 use Rattle.surface.specs.Sound.{Sound}
 use Rattle.surface.specs.Sizes.{RefinedSize, FaceSize, ValueSize, CosineSize}
 use Rattle.faces.specs.Ring.{FourCentre, FourToward}
-use Rattle.net.specs.declared.sides.Face.{Face}
+use Rattle.net.specs.declared.sides.FaceValues.{FaceValues}
 use Rattle.net.specs.declared.sides.SideValues.{SideValues}
 use Rattle.net.specs.declared.sides.NetSides.{NetSides}
 
 -- ---- refined faces
 -- the numbers of a face that sides are made from
-pub record FaceSized (f : Face) : Type 0 where
+pub record FaceSized (f : FaceValues) : Type 0 where
   pub centre : RefinedSize (f .centre)
   pub ahead : FaceSize (f .ahead)
   pub behind : FaceSize (f .behind)
 
 -- the four-sided face through a, b, c and d in turn, whose refined points are p, at a
-pub record Through (p : ℕ → ℤ) (a b c d : ℕ) (r : Face) : Type 0 where
+pub record Through (p : ℕ → ℤ) (a b c d : ℕ) (r : FaceValues) : Type 0 where
   pub centre : FourCentre (p a) (p b) (p c) (p d) (r .centre)
   pub ahead : FourToward (p a) (p b) (p c) (p d) (r .ahead)
   pub behind : FourToward (p d) (p a) (p b) (p c) (r .behind)
   pub sized : FaceSized r
 
 -- the face of the vertex of c and C of its ring, and the same of the mesh face of c
-pub record AtVertex (K : RefinedMesh rounded) (c : ℕ) (f : Face) (v : ℤ) : Type 0 where
+pub record AtVertex (K : RefinedMesh rounded) (c : ℕ) (f : FaceValues) (v : ℤ) : Type 0 where
   pub centre : f .centre ≡ H K c side0
   pub ahead : f .ahead ≡ X K c side0
   pub behind : f .behind ≡ X K c side3
   pub cosine : v ≡ C K c side0
 
-pub record AtFace (K : RefinedMesh rounded) (c : ℕ) (f : Face) (v : ℤ) : Type 0 where
+pub record AtFace (K : RefinedMesh rounded) (c : ℕ) (f : FaceValues) (v : ℤ) : Type 0 where
   pub centre : f .centre ≡ H K c side1
   pub ahead : f .ahead ≡ X K c side1
   pub behind : f .behind ≡ X K c side2
@@ -94,6 +94,6 @@ pub record FourSized (r : NetSides) : Type 0 where
   pub side3 : SideSized (r .side3)
 
 -- the sides of whichever corner has the points p around it, the face v at its vertex and the mesh face f, with C of these
-pub record SidesOf (p : ℕ → ℤ) (v f : Face) (k l : ℤ) (r : NetSides) : Type 0 where
+pub record SidesOf (p : ℕ → ℤ) (v f : FaceValues) (k l : ℤ) (r : NetSides) : Type 0 where
   pub four : (K : RefinedMesh rounded) (c : ℕ) → Around K c p → AtVertex K c v k → AtFace K c f l → FourSides K c r
   pub sized : FourSized r

@@ -6,7 +6,7 @@ use lib.IntN.{ℤ, pos, _+ℤ_, _*ℤ_}
 use Rattle.numbers.proofs.Poly.{over, poly}
 use Rattle.sampling.specs.declared.bernstein.Matrix5.{Matrix5}
 use Rattle.sampling.specs.declared.bernstein.Vector5.{Vector5}
-use Rattle.sampling.specs.bernstein.Sums.{Tapered, AllTapered, vector5, slopesOf, columnsOf, weightedOf, weightsOf, scaledOf, polynomialOf, rowOf, valueOf}
+use Rattle.sampling.specs.bernstein.Sums.{Tapered, AllTapered, vector5, slopesOf, columnsOf, weightedOf, weightsOf, scaledOf, polynomialOf, rowOf, polynomialAt}
 use Rattle.sampling.specs.bernstein.Tangents.{timesOf, alongOf, slopeOf, inwardOf}
 use Rattle.sampling.proofs.bernstein.Identity.{vector5-same}
 use Rattle.sampling.proofs.bernstein.Laws.{row-tapers}
@@ -67,13 +67,13 @@ still c d h e = subst (λ (m : Matrix5). AllTapered m) (sym (e ∙ h .cubic)) (h
 pub row-still : (v d : Vector5) → CubicRow v → d ≡ truncatedRowOf v → Tapered (5 * 2 ^ 34) d
 row-still v d h e = subst (λ (q : Vector5). Tapered (5 * 2 ^ 34) q) (sym (e ∙ h .cubic)) (h .tapers)
 
-pub value-still : (v d : Vector5) (t : ℕ) (z : ℤ) → CubicRow v → d ≡ truncatedRowOf v → z ≡ valueOf d t → z ≡ valueOf v t
-value-still v d t z h e q = q ∙ ap (λ (x : Vector5). valueOf x t) (e ∙ h .cubic)
+pub value-still : (v d : Vector5) (t : ℕ) (z : ℤ) → CubicRow v → d ≡ truncatedRowOf v → z ≡ polynomialAt d t → z ≡ polynomialAt v t
+value-still v d t z h e q = q ∙ ap (λ (x : Vector5). polynomialAt x t) (e ∙ h .cubic)
 
 -- a row of them
 module _ (c : Matrix5) (k : ℕ) (l : k ≤ 16) (h : CubicTapered c) where
   truncated-row : truncatedRowOf (rowOf (truncatedOf c) k) ≡ rowOf (truncatedOf c) k
-  unfolding truncatedRowOf rowOf truncatedOf valueOf
+  unfolding truncatedRowOf rowOf truncatedOf polynomialAt
   truncated-row = vector5-same refl refl refl refl (nothing (pos k))
 
   row-cubic : CubicRow (rowOf c k)

@@ -18,7 +18,7 @@ use Rattle.paper.specs.Tangents.{tangentPair}
 use Rattle.mesh.proofs.Fills.{filled-step}
 use Rattle.sampling.specs.declared.bernstein.Matrix5.{Matrix5}
 use Rattle.sampling.specs.declared.bernstein.Vector5.{Vector5}
-use Rattle.sampling.specs.bernstein.Sums.{Tapered, rowOf, valueOf}
+use Rattle.sampling.specs.bernstein.Sums.{Tapered, rowOf, polynomialAt}
 use Rattle.sampling.proofs.bernstein.Laws.{bits, sized-bits, value-size}
 use Rattle.sampling.proofs.TangentLaws.{along-value, inward-value, pair-is}
 use Rattle.net_points.specs.declared.writing.Shape.{Shape}
@@ -58,17 +58,17 @@ fills-same g h at n first last same a f old e values = a f old e (λ x l. values
 
 -- what a pair's six numbers are, by their bits
 module _ (r : RowSlopes) (t : ℕ) (h : RowTapering r) (l : t ≤ 16) where
-  bit : (v : Vector5) (z : ℤ) → Tapered (5 * 2 ^ 34) v → z ≡ valueOf v t → bits z ≡ valueOf v t
+  bit : (v : Vector5) (z : ℤ) → Tapered (5 * 2 ^ 34) v → z ≡ polynomialAt v t → bits z ≡ polynomialAt v t
   bit v z w q =
       sized-bits z (5 * (65536 * (5 * 2 ^ 34))) (subst (λ (y : ℤ). natAbs y ≤ 5 * (65536 * (5 * 2 ^ 34))) (sym q) (value-size v t (5 * 2 ^ 34) l w)) (lit≤ tt) ∙ q
 
-  six-values : (a b c d e g : ℤ) → a ≡ valueOf (r .x) t → b ≡ valueOf (r .y) t → c ≡ valueOf (r .z) t → d ≡ valueOf (r .u) t → e ≡ valueOf (r .v) t
-      → g ≡ valueOf (r .w) t → axes (bits a) (bits b) (bits c) ++ axes (bits d) (bits e) (bits g) ≡ sixAt r t
+  six-values : (a b c d e g : ℤ) → a ≡ polynomialAt (r .x) t → b ≡ polynomialAt (r .y) t → c ≡ polynomialAt (r .z) t → d ≡ polynomialAt (r .u) t → e ≡ polynomialAt (r .v) t
+      → g ≡ polynomialAt (r .w) t → axes (bits a) (bits b) (bits c) ++ axes (bits d) (bits e) (bits g) ≡ sixAt r t
   six-values a b c d e g p q s u v w =
       rw (bit (r .x) a (h .0 .tapers) p, bit (r .y) b (h .1 .tapers) q, bit (r .z) c (h .2 .tapers) s, bit (r .u) d (h .3 .tapers) u, bit (r .v) e (h .4 .tapers) v, bit (r .w) g (h .5 .tapers) w)
 
-  pub six-put : (a b c d e g : ℤ) → a ≡ valueOf (r .x) t → b ≡ valueOf (r .y) t → c ≡ valueOf (r .z) t → d ≡ valueOf (r .u) t → e ≡ valueOf (r .v) t
-      → g ≡ valueOf (r .w) t → (at : ℕ) (old out : List ℤ)
+  pub six-put : (a b c d e g : ℤ) → a ≡ polynomialAt (r .x) t → b ≡ polynomialAt (r .y) t → c ≡ polynomialAt (r .z) t → d ≡ polynomialAt (r .u) t → e ≡ polynomialAt (r .v) t
+      → g ≡ polynomialAt (r .w) t → (at : ℕ) (old out : List ℤ)
       → Fills (λ x. getD (axes (bits a) (bits b) (bits c) ++ axes (bits d) (bits e) (bits g)) x (pos 0)) at 6 old out
       → Fills (λ x. getD (sixAt r t) x (pos 0)) at 6 old out
   six-put a b c d e g p q s u v w at old out k =
@@ -98,8 +98,8 @@ module _ (r : RowSlopes) (side n k first : ℕ) where
 
 -- by the net's numbers
 module _ (numbers : List ℤ) (side n k : ℕ) (m : Slopes) (s : Sloped numbers side n m) where
-  by : (d c : Matrix5) (t : ℕ) → d ≡ c → valueOf (rowOf d k) t ≡ valueOf (rowOf c k) t
-  by d c t e = ap (λ (q : Matrix5). valueOf (rowOf q k) t) e
+  by : (d c : Matrix5) (t : ℕ) → d ≡ c → polynomialAt (rowOf d k) t ≡ polynomialAt (rowOf c k) t
+  by d c t e = ap (λ (q : Matrix5). polynomialAt (rowOf q k) t) e
 
   six-is : (i t : ℕ) → i + t + k ≡ n → sixAt (rowsAt m k) t ≡ tangentPair numbers (sideAt side) (weights i t k n)
   six-is i t q =

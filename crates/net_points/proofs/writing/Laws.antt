@@ -18,7 +18,7 @@ use Rattle.numbers.proofs.Poly.{over, poly}
 use Rattle.mesh.proofs.Scans.{ways, compared}
 use Rattle.sampling.specs.declared.bernstein.Vector5.{Vector5}
 use Rattle.sampling.specs.declared.bernstein.Matrix5.{Matrix5}
-use Rattle.sampling.specs.bernstein.Sums.{vector5, linear, quadratic, cubic, quartic, quarticSum, rowsOf, polynomialOf, rowOf, valueOf, AllSized}
+use Rattle.sampling.specs.bernstein.Sums.{vector5, linear, quadratic, cubic, quartic, quarticSum, rowsOf, polynomialOf, rowOf, polynomialAt, AllSized}
 use Rattle.sampling.specs.Grid.{Sampleable, RowSampleable, RowPut}
 use Rattle.sampling.proofs.bernstein.Sum.{bernstein-is}
 use Rattle.sampling.proofs.bernstein.Laws.{polynomial-tapers}
@@ -66,7 +66,7 @@ three-reaches f old at x y z h p q r =
 
 -- ---- a row
 module _ {e : Vector5} {n first count from : ℕ} {old new : List ℤ} (r : RowPut e n first count from old new) (f : ℕ → ℤ)
-    (aim : (j : ℕ) → j < count → f (from + 3 * j) ≡ round (valueOf e (first + j)) (pos (n ^ 4))) where
+    (aim : (j : ℕ) → j < count → f (from + 3 * j) ≡ round (polynomialAt e (first + j)) (pos (n ^ 4))) where
   at-place : (t j : ℕ) → j < count → t ≡ from + 3 * j → getD new t (pos 0) ≡ f t
   at-place t j h q = subst (λ (x : ℕ). getD new x (pos 0) ≡ f x) (sym q) (r .values j h ∙ sym (aim j h))
 

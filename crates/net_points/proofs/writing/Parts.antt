@@ -8,7 +8,7 @@ use lib.IntN.{ℤ, pos}
 use Rattle.paper.specs.Numbers.{round}
 use Rattle.sampling.specs.declared.bernstein.Vector5.{Vector5}
 use Rattle.sampling.specs.declared.bernstein.Matrix5.{Matrix5}
-use Rattle.sampling.specs.bernstein.Sums.{polynomialOf, rowOf, valueOf, quarticSum}
+use Rattle.sampling.specs.bernstein.Sums.{polynomialOf, rowOf, polynomialAt, quarticSum}
 use Rattle.sampling.specs.Grid.{RowPut}
 use Rattle.sampling.proofs.Lists.{row-value, from-none, below-or-last}
 use Rattle.net_points.specs.writing.Laid.{Reaches, InTurn, CurveAim, CurvePlace, ringAt, SpokeAim, SpokePlace, RingsAim, RingsPlace}
@@ -21,8 +21,8 @@ module _ (p : Matrix5) (n side at k : ℕ) (old mid new : List ℤ) (h : k + 1 <
   spot : (j : ℕ) → from + 3 * j ≡ at + 3 * ringAt n side k j
   spot j = (let q : from + 3 * j ≡ at + 3 * (ring + side * w + j) = omega arith in q) ∙ (λ z. at + 3 * (ring-is z + side * w-is z + j))
 
-  value-is : (j : ℕ) → j < w → valueOf e (0 + j) ≡ quarticSum p (pos (n - suc k - j)) (pos j) (pos (suc k))
-  value-is j l = ap (valueOf e) (from-none j) ∙ ap (λ (f : Vector5). valueOf f j) is ∙ row-value p n (suc k) j (omega arith)
+  value-is : (j : ℕ) → j < w → polynomialAt e (0 + j) ≡ quarticSum p (pos (n - suc k - j)) (pos j) (pos (suc k))
+  value-is j l = ap (polynomialAt e) (from-none j) ∙ ap (λ (f : Vector5). polynomialAt f j) is ∙ row-value p n (suc k) j (omega arith)
 
   pub spokes-step : (f : ℕ → ℤ) → SpokeAim p side n at f → Reaches f (SpokePlace side n at k) old mid → Reaches f (SpokePlace side n at (k + 1)) old new
   spokes-step f aim m =
@@ -76,7 +76,7 @@ module _ (numbers : List ℤ) (side m at : ℕ) (some : 1 ≤ m) (f : ℕ → �
       row-reaches r f (λ j l.
       ap f (let z : x + 3 * j ≡ at + 3 * j + axis = omega arith in z) ∙ aim j axis (omega arith) a ∙ sym (t .samples m 0 (j + 1) (omega arith))
       ∙ ap (λ (z : ℤ). round z (pos (m ^ 4)))
-      (sym (row-value p m 0 (j + 1) (omega arith)) ∙ ap (valueOf (rowOf (polynomialOf p (pos m)) 0)) (let z : j + 1 ≡ 1 + j = omega arith in z)))
+      (sym (row-value p m 0 (j + 1) (omega arith)) ∙ ap (polynomialAt (rowOf (polynomialOf p (pos m)) 0)) (let z : j + 1 ≡ 1 + j = omega arith in z)))
 
   module _ (a b c d : List ℤ) (x : Reaches f (λ t. (j : ℕ) × (j < m - 1) × (t ≡ at + 3 * j)) a b)
       (y : Reaches f (λ t. (j : ℕ) × (j < m - 1) × (t ≡ at + 1 + 3 * j)) b c) (z : Reaches f (λ t. (j : ℕ) × (j < m - 1) × (t ≡ at + 2 + 3 * j)) c d) where

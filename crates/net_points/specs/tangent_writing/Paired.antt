@@ -13,7 +13,7 @@ use Rattle.paper.specs.Triangles.{groups, turnWeights}
 use Rattle.paper.specs.Tangents.{tangentPair}
 use Rattle.sampling.specs.declared.bernstein.Matrix5.{Matrix5}
 use Rattle.sampling.specs.declared.bernstein.Vector5.{Vector5}
-use Rattle.sampling.specs.bernstein.Sums.{Tapered, AllTapered, vector5, rowsOf, polynomialOf, rowOf, valueOf}
+use Rattle.sampling.specs.bernstein.Sums.{Tapered, AllTapered, vector5, rowsOf, polynomialOf, rowOf, polynomialAt}
 use Rattle.sampling.specs.bernstein.Tangents.{alongOf, inwardOf}
 use Rattle.net_points.specs.declared.writing.Shape.{Shape}
 use Rattle.net_points.specs.declared.tangent_writing.Slopes.{Slopes}
@@ -79,7 +79,7 @@ RowTapering r = CubicRow (r .x) × CubicRow (r .y) × CubicRow (r .z) × CubicRo
 
 -- both tangents where the tail has the weight t
 abbrev pub sixAt : RowSlopes → ℕ → List ℤ
-sixAt r t = axes (valueOf (r .x) t) (valueOf (r .y) t) (valueOf (r .z) t) ++ axes (valueOf (r .u) t) (valueOf (r .v) t) (valueOf (r .w) t)
+sixAt r t = axes (polynomialAt (r .x) t) (polynomialAt (r .y) t) (polynomialAt (r .z) t) ++ axes (polynomialAt (r .u) t) (polynomialAt (r .v) t) (polynomialAt (r .w) t)
 
 -- the tail's weight at place j of row k: on sides 1 and 3 the places run from the tail
 abbrev pub tailAt : ℕ → ℕ → ℕ → ℕ → ℕ

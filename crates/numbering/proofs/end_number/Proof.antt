@@ -5,10 +5,13 @@ use Prim.Native.Nat.{ℕ}
 use Rattle.paper.specs.Sampling.{sideAt}
 use Rattle.paper.specs.Net.{side2}
 use Rattle.paper.specs.Triangles.{begin, endNumber, edgeOwner}
-use Rattle.numbering.specs.Meshed.{groupStart}
+use Rattle.numbering.specs.Meshed.{Place, groupStart}
 use Rattle.numbering.proofs.Lent.{given-of, given-corner, place-of, here-of, beside-in, vertex-below, vertex-is, edge-below, face-below, number-start}
 use Rattle.numbering.proofs.end_number.Statement.{statement}
 use Rattle.numbering.proofs.end_number.Tie as tie
+
+place : (s : tie.Start) → Place (s .args .table .now) (s .args .c)
+place s = place-of (given-of (s .pre .0)) (s .args .c) (s .pre .1)
 
 vertex-owner-requires : tie.Need-vertex-owner-requires
 vertex-owner-requires c κs = let s = c .before .before .before .before .before .before in let g = given-of (s .pre .0) in (g .is .lows, given-corner g (s .args .c) (s .pre .1))
@@ -24,9 +27,6 @@ returns c =
     ∙ number-start M (s .args .levels .now) _ 0
     ∙ ap (λ (x : ℕ). endNumber M (s .args .levels .now) (s .args .c) (begin (sideAt x))) (sym (c .before .before .if1 .taken))
 
-edge-owner-requires : tie.Need-edge-owner-requires
-edge-owner-requires c κs = let s = c .before .before .before .before .before .before .before in place-of (given-of (s .pre .0)) (s .args .c) (s .pre .1)
-
 group-start-requires-2 : tie.Need-group-start-requires-2
 group-start-requires-2 c κs = let s = c .before .before .before .before .before .before .before .before in let g = given-of (s .pre .0) in (s .pre .0, omega (arith, c .edge-owner .ensures (g .mesh) (here-of (g .mesh) (g .is) (s .args .c) (s .pre .1)), edge-below (g .mesh) (g .is) (s .args .c) (s .pre .1)), omega arith)
 
@@ -38,9 +38,6 @@ returns-2 c =
     ∙ number-start M (s .args .levels .now) _ 1
     ∙ ap (λ (x : ℕ). endNumber M (s .args .levels .now) (s .args .c) (begin (sideAt x))) (sym (c .before .before .if2 .taken))
 
-face-owner-requires : tie.Need-face-owner-requires
-face-owner-requires c κs = let s = c .before .before .before .before .before .before .before .before in place-of (given-of (s .pre .0)) (s .args .c) (s .pre .1)
-
 group-start-requires-3 : tie.Need-group-start-requires-3
 group-start-requires-3 c κs = let s = c .before .before .before .before .before .before .before .before .before in let g = given-of (s .pre .0) in (s .pre .0, omega (arith, c .face-owner .ensures (g .mesh) (here-of (g .mesh) (g .is) (s .args .c) (s .pre .1)), face-below (g .mesh) (g .is) (s .args .c) (s .pre .1)), omega arith)
 
@@ -51,9 +48,6 @@ returns-3 c =
     ∙ ap (λ (x : ℕ). groupStart M (s .args .levels .now) x 2) (c .before .face-owner .ensures M (here-of M (t .of) (s .args .c) (s .pre .1)))
     ∙ number-start M (s .args .levels .now) _ 2
     ∙ ap (λ (x : ℕ). endNumber M (s .args .levels .now) (s .args .c) (begin (sideAt x))) (sym (c .before .before .if3 .taken))
-
-beside-requires : tie.Need-beside-requires
-beside-requires c κs = let s = c .before .before .before .before .before .before .before .before in (place-of (given-of (s .pre .0)) (s .args .c) (s .pre .1), omega arith)
 
 edge-owner-requires-2 : tie.Need-edge-owner-requires-2
 edge-owner-requires-2 c κs =
@@ -77,5 +71,5 @@ returns-4 c =
 
 pub end-number-spec : {M : Type 1} → statement M
 end-number-spec =
-    tie.close (tie.spec vertex-owner-requires group-start-requires returns edge-owner-requires group-start-requires-2 returns-2 face-owner-requires
-    group-start-requires-3 returns-3 beside-requires edge-owner-requires-2 group-start-requires-4 returns-4)
+    tie.close (tie.spec vertex-owner-requires group-start-requires returns (λ c κs. place search) group-start-requires-2 returns-2 (λ c κs. place search)
+    group-start-requires-3 returns-3 (λ c κs. (place search, omega arith)) edge-owner-requires-2 group-start-requires-4 returns-4)

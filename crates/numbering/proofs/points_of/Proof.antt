@@ -1,27 +1,20 @@
 -- `points_of` meets its contract.
+use Prim.Native.Nat.{_-_, _*_, _≤_}
 use native.Mathlib.Omega.{arith}
 use borrow.Author.Needs.{needs}
-use Rattle.numbering.proofs.Lent.{inner-at, some-at, points-rest}
+use Rattle.numbering.proofs.Lent.{level-bounds, points-rest}
 use Rattle.numbering.proofs.points_of.Statement.{statement}
 use Rattle.numbering.proofs.points_of.Tie as tie
 
-sub-result : tie.Need-sub-result
-sub-result c = let s = c .before .before .before .before .before .before in let i = inner-at (s .pre .0) (s .args .c) (s .pre .1) (c .level-at .result) (c .level-at .ensures) in let k = some-at (s .pre .0) (s .args .c) (s .pre .1) (c .level-at .result) (c .level-at .ensures) in omega arith
-
-mul-result : tie.Need-mul-result
-mul-result c = let s = c .before .before .before .before .before .before in let i = inner-at (s .pre .0) (s .args .c) (s .pre .1) (c .level-at .result) (c .level-at .ensures) in let k = some-at (s .pre .0) (s .args .c) (s .pre .1) (c .level-at .result) (c .level-at .ensures) in omega arith
-
-mul-result-2 : tie.Need-mul-result-2
-mul-result-2 c = let s = c .before .before .before .before .before .before in let i = inner-at (s .pre .0) (s .args .c) (s .pre .1) (c .level-at .result) (c .level-at .ensures) in let k = some-at (s .pre .0) (s .args .c) (s .pre .1) (c .level-at .result) (c .level-at .ensures) in omega arith
-
-add-result : tie.Need-add-result
-add-result c = let s = c .before .before .before .before .before .before in let i = inner-at (s .pre .0) (s .args .c) (s .pre .1) (c .level-at .result) (c .level-at .ensures) in let k = some-at (s .pre .0) (s .args .c) (s .pre .1) (c .level-at .result) (c .level-at .ensures) in omega arith
-
-add-result-2 : tie.Need-add-result-2
-add-result-2 c = let s = c .before .before .before .before .before .before in let i = inner-at (s .pre .0) (s .args .c) (s .pre .1) (c .level-at .result) (c .level-at .ensures) in let k = some-at (s .pre .0) (s .args .c) (s .pre .1) (c .level-at .result) (c .level-at .ensures) in omega arith
+few : (l : tie.After-level-at) → (l .level-at .result * (l .level-at .result - 1) ≤ 240) × (1 ≤ l .level-at .result) × (l .level-at .result ≤ 16)
+few l = let s : tie.Start = search in level-bounds (s .pre .0) (s .args .c) (s .pre .1) _ (l .level-at .ensures)
 
 returns : tie.Need-returns
-returns c = let s = c .before .before .before .before .before .before in let i = inner-at (s .pre .0) (s .args .c) (s .pre .1) (c .level-at .result) (c .level-at .ensures) in let k = some-at (s .pre .0) (s .args .c) (s .pre .1) (c .level-at .result) (c .level-at .ensures) in (omega arith, λ M o. points-rest M o (s .args .c) (s .pre .1) _ _ (c .before .group-offset .ensures .1 M o) (c .level-at .ensures))
+returns c =
+    let s : tie.Start = search in let o : tie.After-group-offset = search in let l : tie.After-level-at = search in
+    (omega (arith, few l), λ M t. points-rest M t (s .args .c) (s .pre .1) _ _ (o .group-offset .ensures .1 M t) (l .level-at .ensures))
 
 pub points-of-spec : {M : Type 1} → statement M
-points-of-spec = tie.close (tie.spec (λ c κs. search needs) (λ c κs. search needs) sub-result mul-result mul-result-2 add-result add-result-2 returns)
+points-of-spec =
+    tie.close (tie.spec (λ c κs. search needs) (λ c κs. search needs) (λ c. omega (arith, few search)) (λ c. omega (arith, few search))
+    (λ c. omega (arith, few search)) (λ c. omega (arith, few search)) (λ c. omega (arith, few search)) returns)

@@ -5,14 +5,14 @@ use native.Mathlib.Omega.{arith}
 use borrow.Author.Needs.{needs}
 use lib.ListN.{length}
 use Rattle.paper.specs.Mesh.{Mesh}
-use Rattle.numbering.specs.Meshed.{Started, sideStart, Put}
+use Rattle.numbering.specs.Meshed.{PointsStarted, sideStart, TrianglesPut}
 use Rattle.numbering.proofs.Turns.{corner-room, corner-step, corner-end}
 use Rattle.numbering.proofs.Stood.{put-none}
 use Rattle.numbering.proofs.put_corner.Statement.{statement}
 use Rattle.numbering.proofs.put_corner.Tie as tie
 
 abbrev Inv-loop : tie.InvT-loop
-Inv-loop corners low table levels starts c out₀ at to₀ side₀ out to side = (side ≤ 4) × (length out ≡ length out₀) × ((M : Mesh) → Started M corners low table levels starts → Put M levels (sideStart M levels c 0) (sideStart M levels c side) at to out₀ out)
+Inv-loop corners low table levels starts c out₀ at to₀ side₀ out to side = (side ≤ 4) × (length out ≡ length out₀) × ((M : Mesh) → PointsStarted M corners low table levels starts → TrianglesPut M levels (sideStart M levels c 0) (sideStart M levels c side) at to out₀ out)
 
 abbrev μ-loop : tie.MeasureT-loop
 μ-loop corners low table levels starts c out₀ at to₀ side₀ out to side = 4 - side

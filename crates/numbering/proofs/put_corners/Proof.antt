@@ -6,14 +6,14 @@ use borrow.Author.Needs.{needs}
 use lib.ListN.{length}
 use Rattle.paper.specs.Mesh.{Mesh}
 use Rattle.paper.specs.Triangles.{trianglesBefore}
-use Rattle.numbering.specs.Meshed.{Started, Put}
+use Rattle.numbering.specs.Meshed.{PointsStarted, TrianglesPut}
 use Rattle.numbering.proofs.Turns.{corners-room, corners-step, corners-end}
 use Rattle.numbering.proofs.Stood.{put-none}
 use Rattle.numbering.proofs.put_corners.Statement.{statement}
 use Rattle.numbering.proofs.put_corners.Tie as tie
 
 abbrev Inv-loop : tie.InvT-loop
-Inv-loop corners low table levels starts first count out₀ to₀ c₀ out to c = (c ≤ count) × (length out ≡ length out₀) × ((M : Mesh) → Started M corners low table levels starts → Put M levels (trianglesBefore M levels first) (trianglesBefore M levels (first + c)) 0 to out₀ out)
+Inv-loop corners low table levels starts first count out₀ to₀ c₀ out to c = (c ≤ count) × (length out ≡ length out₀) × ((M : Mesh) → PointsStarted M corners low table levels starts → TrianglesPut M levels (trianglesBefore M levels first) (trianglesBefore M levels (first + c)) 0 to out₀ out)
 
 abbrev μ-loop : tie.MeasureT-loop
 μ-loop corners low table levels starts first count out₀ to₀ c₀ out to c = count - c

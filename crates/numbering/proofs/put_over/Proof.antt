@@ -5,7 +5,7 @@ use native.Mathlib.Omega.{arith}
 use borrow.Author.Needs.{needs}
 use lib.ListN.{length}
 use Rattle.paper.specs.Sampling.{sideAt}
-use Rattle.numbering.specs.PointRows.{numberAt, stripNumber, Fills, three}
+use Rattle.numbering.specs.PointRows.{rowNumber, stripNumber, Fills, three}
 use Rattle.numbering.proofs.Rowed.{fills-none, fills-more, fills-as, over-three}
 use Rattle.numbering.proofs.put_over.Statement.{statement}
 use Rattle.numbering.proofs.put_over.Tie as tie
@@ -28,7 +28,7 @@ loop-again c =
           (fills-more g (three (c .before .before .before .before .before .before .before .number .result) (c .before .before .before .before .before .before .number2 .result) (c .before .before .before .before .number3 .result)) (s .args .at) (3 * l .t) (s .args .at + 3 * l .t) 3 _ _ _ refl
           (l .inv .4) (c .before .before .put-three .ensures)
           (over-three (sideAt (s .args .side)) (s .args .lower) (s .args .upper) (l .t) _ _ _ (omega arith) (c .before .before .before .before .before .before .before .number .ensures) (c .before .before .before .before .before .before .number2 .ensures)
-          (c .before .before .before .before .number3 .ensures ∙ ap (numberAt (s .args .upper)) (c .before .before .before .before .before .over .ensures .0)))),
+          (c .before .before .before .before .number3 .ensures ∙ ap (rowNumber (s .args .upper)) (c .before .before .before .before .before .over .ensures .0)))),
     )
 
 returns : tie.Need-returns Inv-loop μ-loop

@@ -4,12 +4,12 @@ use Prim.Native.Nat.{_-_}
 use native.Mathlib.Omega.{arith}
 use borrow.Author.Needs.{needs}
 use Rattle.numbering.proofs.Lent.{given-of, level-few}
-use Rattle.numbering.proofs.Turns.{Turn, side-none, turn-strip, turn-room, turn-step, turn-end}
+use Rattle.numbering.proofs.Turns.{StripTurn, side-none, turn-strip, turn-room, turn-step, turn-end}
 use Rattle.numbering.proofs.put_side.Statement.{statement}
 use Rattle.numbering.proofs.put_side.Tie as tie
 
 abbrev Inv-loop : tie.InvT-loop
-Inv-loop corners low table levels starts c side out₀ at n five lower₀ to₀ k₀ out lower to k = Turn corners low table levels starts c side out₀ at n five out lower to k
+Inv-loop corners low table levels starts c side out₀ at n five lower₀ to₀ k₀ out lower to k = StripTurn corners low table levels starts c side out₀ at n five out lower to k
 
 abbrev μ-loop : tie.MeasureT-loop
 μ-loop corners low table levels starts c side out₀ at n five lower₀ to₀ k₀ out lower to k = n - k

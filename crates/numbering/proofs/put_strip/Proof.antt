@@ -5,14 +5,14 @@ use Prim.Native.Nat.{ℕ, _+_, _*_}
 use native.Mathlib.Omega.{arith}
 use Rattle.paper.specs.Net.{Side}
 use Rattle.paper.specs.Sampling.{sideAt}
-use Rattle.numbering.specs.declared.Row.{Row}
+use Rattle.numbering.specs.declared.NumberedRow.{NumberedRow}
 use Rattle.numbering.specs.PointRows.{stripNumber, Fills}
 use Rattle.numbering.proofs.Rowed.{fills-more, fills-as}
 use borrow.Author.Needs.{needs}
 use Rattle.numbering.proofs.put_strip.Statement.{statement}
 use Rattle.numbering.proofs.put_strip.Tie as tie
 
-both : (s : Side) (L U : Row) (at : ℕ) (first mid last : List ℕ) → Fills (stripNumber s L U) at (3 * L .parts) first mid
+both : (s : Side) (L U : NumberedRow) (at : ℕ) (first mid last : List ℕ) → Fills (stripNumber s L U) at (3 * L .parts) first mid
     → Fills (λ x. stripNumber s L U (3 * L .parts + x)) (at + 3 * L .parts) (3 * U .parts) mid last
     → Fills (stripNumber s L U) at (3 * (L .parts + U .parts)) first last
 both s L U at first mid last a b =

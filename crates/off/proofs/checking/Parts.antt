@@ -24,11 +24,15 @@ use Rattle.paper.specs.Off.{neededVerdict, sidesFrom, wordsMesh, isOff, short, 
 use Rattle.off.specs.lists.Reading.{HeaderRead, ListRead, FacesRead}
 use Rattle.off.specs.declared.lists.Progress.{Progress}
 use Rattle.off.specs.declared.lists.Header.{Header}
-use Rattle.off.specs.declared.lists.Faces.{Faces}
-use Rattle.off.specs.checking.Call.{Lists, Room, readVerdict, WordsRead, Checked, Copied}
+use Rattle.off.specs.declared.lists.ReadFaces.{ReadFaces}
+use Rattle.off.specs.checking.Call.{Lists, OwnRoom, readVerdict, WordsRead, TextChecked, TextCopied}
 
 not-done : {A : Type 0} {k p : ℕ} (a : Answer) → a ≡ Refused k p → a ≡ Done → A
 not-done a e f = let z : _≡_ {A = ℕ} 0 1 = cc in absurd (omega arith)
+
+-- what a refusal answers
+abbrev pub RefusedWith : ℕ → ℕ → Decoded → Type 0
+RefusedWith k p r = (r .answer ≡ Refused k p) × (r .coordinates ≡ 0) × (r .sides ≡ 0) × (r .corners ≡ 0) × (r .sharpness ≡ 0)
 
 -- ---- 25 and 26
 sides-length : (words : List (List ℕ)) (p n : ℕ) → length (sidesFrom words p n) ≡ n
@@ -58,10 +62,7 @@ module _ (text : List ℕ) (h : Header) (eh : HeaderRead text h) (coordinates : 
     count-is = ap (λ (n : ℕ). 3 * n) (eh .vertices-are good)
 
     coordinates-read : ListRead text coordinate (valueAt (wordsOf text) coordinate) 4 (3 * vertices (wordsOf text)) 0 old coordinates x
-    coordinates-read =
-        subst (λ (n : ℕ). ListRead text coordinate (valueAt (wordsOf text) coordinate) 4 n 0 old coordinates x) count-is
-        (subst (λ (n : ℕ). ListRead text coordinate (valueAt (wordsOf text) coordinate) n (3 * h .vertices) 0 old coordinates x)
-        (eh .read .next-is good .number) ex)
+    coordinates-read = rw (eh .read .next-is good .number, count-is) at ex
 
     counts-sound : badFrom (wordsOf text) listCount 1 3 ≡ sound
     counts-sound = eh .read .answers ∙ single-miss 25 _ (ap not good)
@@ -72,15 +73,13 @@ module _ (text : List ℕ) (h : Header) (eh : HeaderRead text h) (coordinates : 
         needed-refused text coordinates sides corners r 25 (x .next .word) a
         (orElse-sound _ counts-sound ∙ orElse-fault 25 (x .next .word) _ (coordinates-read .read .answers ∙ single-hit 25 _ (ap not o)))
 
-    module _ (fine : x .ok ≡ true) (old-sides old-corners : List ℕ) (f : Faces)
+    module _ (fine : x .ok ≡ true) (old-sides old-corners : List ℕ) (f : ReadFaces)
         (ef : FacesRead text (x .next .word) (h .faces) old-sides old-corners f sides corners) where
       coordinates-sound : badFrom (wordsOf text) coordinate 4 (3 * vertices (wordsOf text)) ≡ sound
       coordinates-sound = coordinates-read .read .answers ∙ single-miss 25 _ (ap not fine)
 
       faces-read : FacesRead text (facesStart (wordsOf text)) (faces (wordsOf text)) old-sides old-corners f sides corners
-      faces-read =
-          subst (λ (n : ℕ). FacesRead text (facesStart (wordsOf text)) n old-sides old-corners f sides corners) (eh .faces-are good)
-          (subst (λ (n : ℕ). FacesRead text n (h .faces) old-sides old-corners f sides corners) (coordinates-read .read .next-is fine .number) ef)
+      faces-read = rw (coordinates-read .read .next-is fine .number, eh .faces-are good) at ef
 
       pub faces-refused : f .ok ≡ false → (r : Decoded) → r .answer ≡ Refused 25 (f .next .word) → WordsRead text r coordinates sides corners
       unfolding neededVerdict
@@ -139,7 +138,7 @@ module _ (n f k : ℕ) (e : fault4 n f k ≡ false) where
   pub few-numbers : n ≤ 3 * mostVertices
   few-numbers = omega (arith, few-vertices n f k e, thirds)
 
-module _ (d : Decoded) (coordinates : List ℤ) (sides corners : List ℕ) (room : Room coordinates sides corners)
+module _ (d : Decoded) (coordinates : List ℤ) (sides corners : List ℕ) (room : OwnRoom coordinates sides corners)
     (e : fault4 (d .coordinates) (d .sides) (d .corners) ≡ false) where
   pub coordinates-fit : d .coordinates ≤ length coordinates
   coordinates-fit = omega (arith, few-numbers _ _ _ e, room .coordinates-room)
@@ -190,7 +189,7 @@ eights (suc k) (suc n) h = ap {B = List ℕ} (λ r. plain ∷ r) (eights k n (om
 -- ---- the checks in a row
 module _ (text : List ℕ) (coordinates : List ℤ) (sides corners : List ℕ) where
   pub checked-words : (d r : Decoded) (k p : ℕ) → WordsRead text d coordinates sides corners → d .answer ≡ Refused k p → r .answer ≡ Refused k p
-      → Checked text r coordinates sides corners
+      → TextChecked text r coordinates sides corners
   checked-words d r k p w e a =
       record { answers = ap stated a ∙ stop (d .answer) (w .answers) k p e (verdict (wordsMesh (wordsOf text))); lists = not-done (r .answer) a }
 
@@ -199,39 +198,29 @@ module _ (text : List ℕ) (coordinates : List ℤ) (sides corners : List ℕ) w
     whole : stated c ≡ verdict (wordsMesh (wordsOf text))
     whole = q (wordsMesh (wordsOf text)) (w .lists done)
 
-    pub checked-lists : (r : Decoded) (k p : ℕ) → c ≡ Refused k p → r .answer ≡ Refused k p → Checked text r coordinates sides corners
+    pub checked-lists : (r : Decoded) (k p : ℕ) → c ≡ Refused k p → r .answer ≡ Refused k p → TextChecked text r coordinates sides corners
     checked-lists r k p e a =
-        record {
-          answers = ap stated a ∙ past (passed (d .answer) (w .answers) done) _ (ap stated (sym e) ∙ whole);
-          lists = not-done (r .answer) a;
-        }
+        record { answers = ap stated a ∙ past (passed (d .answer) (w .answers) done) _ (ap stated (sym e) ∙ whole); lists = not-done (r .answer) a }
 
-    pub checked-all : c ≡ Done → Checked text d coordinates sides corners
+    pub checked-all : c ≡ Done → TextChecked text d coordinates sides corners
     checked-all e =
-        record {
-          answers = ap stated done ∙ past (passed (d .answer) (w .answers) done) _ (ap stated (sym e) ∙ whole);
-          lists = w .lists;
-        }
+        record { answers = ap stated done ∙ past (passed (d .answer) (w .answers) done) _ (ap stated (sym e) ∙ whole); lists = w .lists }
 
   -- an accepted text's lists are within the limits
-  pub within-limits : (d : Decoded) → Checked text d coordinates sides corners → d .answer ≡ Done
+  pub within-limits : (d : Decoded) → TextChecked text d coordinates sides corners → d .answer ≡ Done
       → fault4 (d .coordinates) (d .sides) (d .corners) ≡ false
   within-limits d c done =
       let v = sound-right _ _ (sym (c .answers) ∙ ap stated done) in
       let l = c .lists done in
       rw (l .coordinates-count, l .sides-count, l .corners-count) (sound-of (wordsMesh (wordsOf text)) v .four)
 
-  pub few-pairs : (d : Decoded) → Checked text d coordinates sides corners → d .answer ≡ Done → d .corners ≤ mostCorners
+  pub few-pairs : (d : Decoded) → TextChecked text d coordinates sides corners → d .answer ≡ Done → d .corners ≤ mostCorners
   few-pairs d c done = few-corners _ _ _ (within-limits d c done)
 
-pub room-kept : (coordinates coordinates' : List ℤ) (sides corners sides' corners' : List ℕ) → Room coordinates sides corners
-    → length coordinates' ≡ length coordinates → length sides' ≡ length sides → length corners' ≡ length corners → Room coordinates' sides' corners'
+pub room-kept : (coordinates coordinates' : List ℤ) (sides corners sides' corners' : List ℕ) → OwnRoom coordinates sides corners
+    → length coordinates' ≡ length coordinates → length sides' ≡ length sides → length corners' ≡ length corners → OwnRoom coordinates' sides' corners'
 room-kept cs cs' ss ks ss' ks' r p q k =
-    record {
-      coordinates-room = omega (arith, r .coordinates-room);
-      sides-room = omega (arith, r .sides-room);
-      corners-room = omega (arith, r .corners-room);
-    }
+    omega (arith, r)
 
 -- ---- copying
 pub taken : {A : Type 0} (n : ℕ) (list : List A) → n ≤ length list → n ≡ length (take n list)
@@ -242,27 +231,20 @@ taken-fits n list lent h k = omega (arith, taken n list h)
 
 -- ---- what the lent lists hold
 module _ (text : List ℕ) (lent : Mesh) where
-  module _ (coordinates : List ℤ) (sides corners : List ℕ) (d : Decoded) (c : Checked text d coordinates sides corners) where
-    pub copied-none : (k p : ℕ) → d .answer ≡ Refused k p → (r : Decoded) → r .answer ≡ Refused k p → r .coordinates ≡ 0 → r .sides ≡ 0
-        → r .corners ≡ 0 → r .sharpness ≡ 0 → Copied text lent r lent
-    copied-none k p e r a n f m s =
-        record {
-          answers = ap stated (a ∙ sym e) ∙ c .answers;
-          coordinates-length = rw a n;
-          sides-length = rw a f;
-          corners-length = rw a m;
-          sharpness-length = rw a s;
-          holds = rw a;
-        }
+  module _ (coordinates : List ℤ) (sides corners : List ℕ) (d : Decoded) (c : TextChecked text d coordinates sides corners) where
+    pub copied-none : (k p : ℕ) → d .answer ≡ Refused k p → (r : Decoded) → RefusedWith k p r → TextCopied text lent r lent
+    copied-none k p e r a =
+        let v = ap stated (a .0 ∙ sym e) ∙ c .answers in
+        record { answers = v; coordinates-length = cc; sides-length = cc; corners-length = cc; sharpness-length = cc; holds = cc }
 
-    module _ (done : d .answer ≡ Done) (room : Room coordinates sides corners) where
+    module _ (done : d .answer ≡ Done) (room : OwnRoom coordinates sides corners) where
       four : fault4 (d .coordinates) (d .sides) (d .corners) ≡ false
       four = within-limits text coordinates sides corners d c done
 
       pub copied-all : (lists : Mesh) → lists .coordinates ≡ begins (take (d .coordinates) coordinates) (lent .coordinates)
           → lists .sides ≡ begins (take (d .sides) sides) (lent .sides) → lists .corners ≡ begins (take (d .corners) corners) (lent .corners)
           → lists .sharpness ≡ begins (replicate (2 * d .corners) plain) (lent .sharpness)
-          → Copied text lent
+          → TextCopied text lent
           (record { answer = Done; coordinates = d .coordinates; sides = d .sides; corners = d .corners; sharpness = 2 * d .corners }) lists
       copied-all lists p q r s =
           let l = c .lists done in
@@ -276,8 +258,7 @@ module _ (text : List ℕ) (lent : Mesh) where
             sides-length = l .sides-count;
             corners-length = l .corners-count;
             sharpness-length = sym (length-replicate (2 * d .corners) plain) ∙ ap length w;
-            holds = same lists (p ∙ ap (λ (m : List ℤ). begins m (lent .coordinates)) x) (q ∙ ap (λ (m : List ℕ). begins m (lent .sides)) y)
-                (r ∙ ap (λ (m : List ℕ). begins m (lent .corners)) z) (s ∙ ap (λ (m : List ℕ). begins m (lent .sharpness)) w);
+            holds = same lists (rw x at p) (rw y at q) (rw z at r) (rw w at s);
           }
         where
           same : (L : Mesh) {cs : List ℤ} {ss ks hs : List ℕ} → L .coordinates ≡ cs → L .sides ≡ ss → L .corners ≡ ks → L .sharpness ≡ hs
@@ -286,18 +267,11 @@ module _ (text : List ℕ) (lent : Mesh) where
 
 -- ---- 24, and the call as a whole
 module _ (text : List ℕ) (lent : Mesh) where
-  pub read-refused : fault24 (wordsOf text) (lengthsOf lent) ≡ true → (r : Decoded) → r .answer ≡ Refused 24 0
-      → r .coordinates ≡ 0 → r .sides ≡ 0 → r .corners ≡ 0 → r .sharpness ≡ 0 → OffRead text lent r lent
+  pub read-refused : fault24 (wordsOf text) (lengthsOf lent) ≡ true → (r : Decoded) → RefusedWith 24 0 r → OffRead text lent r lent
   unfolding offVerdict wordsVerdict
-  read-refused e r a n f m s =
-      record {
-        answers = ap stated a ∙ sym (orElse-fault 24 0 _ (single-hit 24 0 e));
-        coordinates-length = rw a n;
-        sides-length = rw a f;
-        corners-length = rw a m;
-        sharpness-length = rw a s;
-        holds = rw a;
-      }
+  read-refused e r a =
+      let v = ap stated (a .0) ∙ sym (orElse-fault 24 0 _ (single-hit 24 0 e)) in
+      record { answers = v; coordinates-length = cc; sides-length = cc; corners-length = cc; sharpness-length = cc; holds = cc }
 
   pub too-short : short (lengthsOf lent) ≡ true → fault24 (wordsOf text) (lengthsOf lent) ≡ true
   unfolding fault24
@@ -312,39 +286,21 @@ module _ (text : List ℕ) (lent : Mesh) where
   marked e o = or-none (short (lengthsOf lent)) _ e (ap not o)
 
   module _ (e : short (lengthsOf lent) ≡ false) where
-    abbrev a : Bool
-    a = ltb (length (lent .coordinates)) (3 * mostVertices)
-
-    abbrev b : Bool
-    b = ltb (length (lent .sides)) mostFaces
-
-    abbrev c : Bool
-    c = ltb (length (lent .corners)) mostCorners
-
-    after-sides : (c || ltb (length (lent .sharpness)) (2 * mostCorners)) ≡ false
+    pub lent-all : OwnRoom (lent .coordinates) (lent .sides) (lent .corners) × (2 * mostCorners ≤ length (lent .sharpness))
     unfolding short
-    after-sides = none-right b _ (none-right a _ e)
+    lent-all =
+        let sides = none-right (ltb (length (lent .coordinates)) (3 * mostVertices)) _ e in
+        let corners = none-right (ltb (length (lent .sides)) mostFaces) _ sides in (
+          record {
+            coordinates-room = ltb-false _ _ (none-left _ _ e);
+            sides-room = ltb-false _ _ (none-left _ _ sides);
+            corners-room = ltb-false _ _ (none-left _ _ corners);
+          },
+          ltb-false _ _ (none-right (ltb (length (lent .corners)) mostCorners) _ corners),
+        )
 
-    pub lent-room : Room (lent .coordinates) (lent .sides) (lent .corners)
-    unfolding short
-    lent-room =
-        record {
-          coordinates-room = ltb-false _ _ (none-left a _ e);
-          sides-room = ltb-false _ _ (none-left b _ (none-right a _ e));
-          corners-room = ltb-false _ _ (none-left c _ after-sides);
-        }
-
-    pub lent-pairs : 2 * mostCorners ≤ length (lent .sharpness)
-    lent-pairs = ltb-false _ _ (none-right c _ after-sides)
-
-  pub read-all : fault24 (wordsOf text) (lengthsOf lent) ≡ false → (r : Decoded) (lists : Mesh) → Copied text lent r lists → OffRead text lent r lists
+  pub read-all : fault24 (wordsOf text) (lengthsOf lent) ≡ false → (r : Decoded) (lists : Mesh) → TextCopied text lent r lists → OffRead text lent r lists
   unfolding offVerdict wordsVerdict textMesh readVerdict
   read-all e r lists c =
-      record {
-        answers = c .answers ∙ orElse-assoc _ _ _ ∙ sym (orElse-sound _ (single-miss 24 0 e));
-        coordinates-length = c .coordinates-length;
-        sides-length = c .sides-length;
-        corners-length = c .corners-length;
-        sharpness-length = c .sharpness-length;
-        holds = c .holds;
-      }
+      let v : stated (r .answer) ≡ offVerdict text (lengthsOf lent) = c .answers ∙ orElse-assoc _ _ _ ∙ sym (orElse-sound _ (single-miss 24 0 e)) in
+      search

@@ -16,7 +16,7 @@ use Rattle.paper.specs.Faults.{outside}
 use Rattle.mesh.proofs.Scans.{and-left, and-right}
 use Rattle.mesh.proofs.Ranges.{or-left, or-right, or-none, none-left, none-right}
 use Rattle.off.specs.digits.Start.{Start}
-use Rattle.paper.specs.Off.{digitsOf, allDigits, isNumber, decimal, valueOf}
+use Rattle.paper.specs.Off.{digitsOf, allDigits, isNumber, valueAfter, valueOf}
 
 -- ---- a number within two others, or not
 module _ (low high n : ℕ) where
@@ -61,15 +61,15 @@ module _ (word : List ℕ) (i : ℕ) (h : i < length word) where
   pub digits-on : allDigits (drop i word) ≡ true → allDigits (drop (i + 1) word) ≡ true
   digits-on e = rw (add-one) (and-right (not (outside 48 57 (getD word i 0))) _ (sym all-at ∙ e))
 
-  pub decimal-on : (n : ℕ) → decimal n (drop i word) ≡ decimal (10 * n + (getD word i 0 - 48)) (drop (i + 1) word)
-  unfolding decimal
+  pub decimal-on : (n : ℕ) → valueAfter n (drop i word) ≡ valueAfter (10 * n + (getD word i 0 - 48)) (drop (i + 1) word)
+  unfolding valueAfter
   decimal-on n = rw (add-one, drop-cons word i 0 h)
 
 pub all-none : (word : List ℕ) (i : ℕ) → length word ≤ i → true ≡ allDigits (drop i word)
 all-none word i h = rw (drop-of-length-le word h)
 
-pub decimal-none : (n : ℕ) (word : List ℕ) (i : ℕ) → length word ≤ i → decimal n (drop i word) ≡ n
-unfolding decimal
+pub decimal-none : (n : ℕ) (word : List ℕ) (i : ℕ) → length word ≤ i → valueAfter n (drop i word) ≡ n
+unfolding valueAfter
 decimal-none n word i h = rw (drop-of-length-le word h)
 
 -- ---- what so many digits keep below
@@ -143,11 +143,11 @@ module _ (word : List ℕ) (from : ℕ) (s : Start word from) where
         let o = not-true (outside 1 9 (length (digitsOf word))) (and-right (allDigits (digitsOf word)) _ e) in
         omega (arith, ltb-false 9 (length (digitsOf word)) (none-right (ltb (length (digitsOf word)) 1) _ o), count-is)
 
-  pub negative-is : eqb from 1 ≡ true → (n : ℕ) → n ≡ decimal 0 (drop from word) → negℤ (pos n) ≡ valueOf word
+  pub negative-is : eqb from 1 ≡ true → (n : ℕ) → n ≡ valueAfter 0 (drop from word) → negℤ (pos n) ≡ valueOf word
   unfolding valueOf
   negative-is e n q = rw (← s .minus, e, q, s .digits)
 
-  pub positive-is : eqb from 1 ≡ false → (n : ℕ) → n ≡ decimal 0 (drop from word) → pos n ≡ valueOf word
+  pub positive-is : eqb from 1 ≡ false → (n : ℕ) → n ≡ valueAfter 0 (drop from word) → pos n ≡ valueOf word
   unfolding valueOf
   positive-is e n q = rw (← s .minus, e, q, s .digits)
 

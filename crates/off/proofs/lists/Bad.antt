@@ -66,6 +66,14 @@ within-is most (pos a) e h = rw (le-leb 0 a (omega arith), le-leb a most h)
 within-is most (negsuc a) e h = absurd (clash refl e)
 
 -- ---- a row of words
+-- one of those that are left
+pub suc-left : (n i : ℕ) → i < n → n - i ≡ suc (n - (i + 1))
+suc-left n i h = omega arith
+
+-- nothing is said of what was not read
+pub never : {A : Type 0} → false ≡ true → A
+never z = absurd (clash z refl)
+
 module _ (words : List (List ℕ)) (kind : Kind) where
   pub row-none : (p : ℕ) → badFrom words kind p 0 ≡ sound
   unfolding badFrom
@@ -80,16 +88,13 @@ module _ (words : List (List ℕ)) (kind : Kind) where
   row-step p n e = orElse-sound (badFrom words kind (suc p) n) (single-miss 25 p e)
 
   module _ (p n i : ℕ) (h : i < n) where
-    suc-left : n - i ≡ suc (n - (i + 1))
-    suc-left = omega arith
-
     pub left-stop : bad words kind (p + i) ≡ true → badFrom words kind (p + i) (n - i) ≡ fault 25 (p + i)
-    left-stop e = rw suc-left (row-stop (p + i) (n - (i + 1)) e)
+    left-stop e = rw (suc-left n i h) (row-stop (p + i) (n - (i + 1)) e)
 
     pub left-step : bad words kind (p + i) ≡ false → badFrom words kind (p + i) (n - i) ≡ badFrom words kind (p + (i + 1)) (n - (i + 1))
     left-step e =
         let q : suc (p + i) ≡ p + (i + 1) = omega arith in
-        rw suc-left (row-step (p + i) (n - (i + 1)) e ∙ ap (λ (k : ℕ). badFrom words kind k (n - (i + 1))) q)
+        rw (suc-left n i h) (row-step (p + i) (n - (i + 1)) e ∙ ap (λ (k : ℕ). badFrom words kind k (n - (i + 1))) q)
 
   pub left-none : (p n i : ℕ) → i ≡ n → badFrom words kind (p + i) (n - i) ≡ sound
   left-none p n i e =

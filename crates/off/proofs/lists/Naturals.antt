@@ -71,35 +71,38 @@ module _ (text : List ℕ) (n most : ℕ) (r : Natural) (e : NaturalRead text n 
   natural-bad o = not-false _ (sym (e .ok) ∙ o)
 
 -- ---- the three counts
+-- what stands for none, with the cursor before the bad word
+abbrev pub NoHeader : Header → Cursor → Type 0
+NoHeader r c = (r .ok ≡ false) × (r .next ≡ c) × (r .vertices ≡ 0) × (r .faces ≡ 0)
+
 module _ (text : List ℕ) where
-  stops : (r : Header) (c : Cursor) (n : ℕ) → r .ok ≡ false → r .next ≡ c → r .vertices ≡ 0 → r .faces ≡ 0 → Before text n c
-      → badFrom (wordsOf text) listCount 1 3 ≡ fault 25 n → HeaderRead text r
-  stops r c n o q v f b e =
+  stops : (r : Header) (c : Cursor) (n : ℕ) → NoHeader r c → Before text n c → badFrom (wordsOf text) listCount 1 3 ≡ fault 25 n → HeaderRead text r
+  stops r c n h b e =
       record {
         read = record {
-          answers = e ∙ sym (single-hit 25 (r .next .word) (ap not o) ∙ ap (fault 25) (ap (λ (x : Cursor). x .word) q ∙ b .number));
-          next-is = λ z. absurd (clash z o);
+          answers = e ∙ sym (single-hit 25 (r .next .word) (ap not (h .0)) ∙ ap (fault 25) (ap (λ (x : Cursor). x .word) (h .1) ∙ b .number));
+          next-is = λ z. absurd (clash z (h .0));
         };
-        vertices-are = λ z. absurd (clash z o);
-        faces-are = λ z. absurd (clash z o);
+        vertices-are = λ z. absurd (clash z (h .0));
+        faces-are = λ z. absurd (clash z (h .0));
         vertices-within = omega arith;
         faces-within = omega arith;
       }
 
   module _ (c : Cursor) (b : Before text 1 c) (v : Natural) (e : NaturalRead text 1 65535 v) where
-    pub header-first : v .ok ≡ false → (r : Header) → r .ok ≡ false → r .next ≡ c → r .vertices ≡ 0 → r .faces ≡ 0 → HeaderRead text r
-    header-first o r p q x y = stops r c 1 p q x y b (first-bad (wordsOf text) listCount 1 (natural-bad text 1 65535 v e o))
+    pub header-first : v .ok ≡ false → (r : Header) → NoHeader r c → HeaderRead text r
+    header-first o r n = stops r c 1 n b (first-bad (wordsOf text) listCount 1 (natural-bad text 1 65535 v e o))
 
     module _ (good : v .ok ≡ true) (f : Natural) (g : NaturalRead text 2 65535 f) where
-      pub header-second : f .ok ≡ false → (r : Header) → r .ok ≡ false → r .next ≡ v .next → r .vertices ≡ 0 → r .faces ≡ 0 → HeaderRead text r
-      header-second o r p q x y =
-          stops r (v .next) 2 p q x y (e .next good)
+      pub header-second : f .ok ≡ false → (r : Header) → NoHeader r (v .next) → HeaderRead text r
+      header-second o r n =
+          stops r (v .next) 2 n (e .next good)
           (second-bad (wordsOf text) listCount 1 (natural-good text 1 65535 v e good) (natural-bad text 2 65535 f g o))
 
       module _ (fine : f .ok ≡ true) (k : Natural) (h : NaturalRead text 3 65535 k) where
-        pub header-third : k .ok ≡ false → (r : Header) → r .ok ≡ false → r .next ≡ f .next → r .vertices ≡ 0 → r .faces ≡ 0 → HeaderRead text r
-        header-third o r p q x y =
-            stops r (f .next) 3 p q x y (g .next fine)
+        pub header-third : k .ok ≡ false → (r : Header) → NoHeader r (f .next) → HeaderRead text r
+        header-third o r n =
+            stops r (f .next) 3 n (g .next fine)
             (third-bad (wordsOf text) listCount 1 (natural-good text 1 65535 v e good) (natural-good text 2 65535 f g fine) (natural-bad text 3 65535 k h o))
 
         pub header-read : k .ok ≡ true → HeaderRead text (record { ok = true; next = k .next; vertices = v .value; faces = f .value })

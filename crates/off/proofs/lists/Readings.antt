@@ -1,15 +1,15 @@
 -- A row of words read into an own list: what the loops keep, and what they end with.
-use mathlib.Core.Path.{_≡_, refl, sym, ap, _∙_, subst}
+use mathlib.Core.Path.{_≡_, refl, sym, ap, _∙_}
 use mathlib.Core.Bool.{true, false}
 use mathlib.Core.List.{List, [], _∷_, _++_, append-nil, append-assoc}
 use Prim.Native.Nat.{ℕ, suc, _+_, _-_, _<_}
 use native.Mathlib.Omega.{arith}
+use native.Mathlib.Numerals.{add-one}
 use lib.IntN.{ℤ}
 use lib.ListN.{getD, take, set, length-set}
 use lib.Seq.{take-suc-set}
 use Rattle.mesh.proofs.Fills.{values-snoc}
 use Rattle.mesh.proofs.Verdicts.{single-hit, single-miss}
-use Rattle.mesh.proofs.Scans.{clash}
 use Rattle.paper.specs.Scan.{valuesFrom}
 use Rattle.paper.specs.Faults.{fault}
 use Rattle.paper.specs.Off.{Kind, coordinate, vertexNumber, wordsOf, isNumber, valueOf, bad, valueAt, naturalAt, badFrom}
@@ -18,7 +18,7 @@ use Rattle.off.specs.declared.words.Number.{Number}
 use Rattle.off.specs.declared.words.Cursor.{Cursor}
 use Rattle.off.specs.lists.Reading.{Stored, ListRead, NaturalRead}
 use Rattle.off.specs.declared.lists.Natural.{Natural}
-use Rattle.off.proofs.lists.Bad.{no-number, serves, value-is, left-stop, left-step, left-none}
+use Rattle.off.proofs.lists.Bad.{no-number, serves, value-is, left-stop, left-step, left-none, never}
 use Rattle.off.proofs.lists.Naturals.{natural-good, natural-bad, natural-at}
 
 module _ {A : Type 0} (f : ℕ → A) (p at : ℕ) (old : List A) where
@@ -36,11 +36,7 @@ module _ {A : Type 0} (f : ℕ → A) (p at : ℕ) (old : List A) where
         same = length-set new (at + i) v ∙ s .same;
         holds = λ h.
             let q : at + (i + 1) ≡ suc (at + i) = omega arith in
-            let r : i + 1 ≡ suc i = omega arith in
-            ap (λ (k : ℕ). take k (set new (at + i) v)) q ∙ take-suc-set new (at + i) v (omega (arith, s .same))
-            ∙ ap (λ (l : List A). l ++ (v ∷ [])) (s .holds (omega arith)) ∙ append-assoc (take at old) (valuesFrom f p i) (v ∷ [])
-            ∙ ap (λ (x : A). take at old ++ (valuesFrom f p i ++ (x ∷ []))) e ∙ ap (λ (l : List A). take at old ++ l) (sym (values-snoc f p i))
-            ∙ ap (λ (k : ℕ). take at old ++ valuesFrom f p k) (sym r);
+            rw (q, add-one i, take-suc-set new (at + i) v (omega (arith, s .same)), s .holds (omega arith), values-snoc, append-assoc, e);
       }
 
 module _ {A : Type 0} (text : List ℕ) (kind : Kind) (f : ℕ → A) (p n at : ℕ) (old : List A) where
@@ -54,11 +50,7 @@ module _ {A : Type 0} (text : List ℕ) (kind : Kind) (f : ℕ → A) (p n at : 
   reading-none c b =
       let q : p + 0 ≡ p = omega arith in
       let r : n - 0 ≡ n = omega arith in
-      record {
-        before = rw q b;
-        rest = rw (q, r);
-        stored = stored-none f p at old;
-      }
+      record { before = rw q b; rest = rw (q, r); stored = stored-none f p at old }
 
   module _ (new : List A) (i : ℕ) (next : Cursor) (r : Reading new i next) where
     pub reading-step : i < n → bad (wordsOf text) kind (p + i) ≡ false → (v : A) → v ≡ f (p + i) → (after : Cursor) → Before text (p + i + 1) after
@@ -66,7 +58,7 @@ module _ {A : Type 0} (text : List ℕ) (kind : Kind) (f : ℕ → A) (p n at : 
     reading-step h e v q after b =
         let z : p + i + 1 ≡ p + (i + 1) = omega arith in
         record {
-          before = subst (λ (k : ℕ). Before text k after) z b;
+          before = rw z at b;
           rest = r .rest ∙ left-step (wordsOf text) kind p n i h e;
           stored = stored-step f p at old i new v q (r .stored);
         }
@@ -76,9 +68,9 @@ module _ {A : Type 0} (text : List ℕ) (kind : Kind) (f : ℕ → A) (p n at : 
         record {
           read = record {
             answers = r .rest ∙ left-stop (wordsOf text) kind p n i h e ∙ sym (single-hit 25 (next .word) refl ∙ ap (fault 25) (r .before .number));
-            next-is = λ z. absurd (clash z refl);
+            next-is = never;
           };
-          stored = λ z. absurd (clash z refl);
+          stored = never;
         }
 
     pub reading-all : i ≡ n → ListRead text kind f p n at old new (record { ok = true; next = next })
@@ -86,9 +78,9 @@ module _ {A : Type 0} (text : List ℕ) (kind : Kind) (f : ℕ → A) (p n at : 
         record {
           read = record {
             answers = r .rest ∙ left-none (wordsOf text) kind p n i q ∙ sym (single-miss 25 (next .word) refl);
-            next-is = λ z. subst (λ (k : ℕ). Before text (p + k) next) q (r .before);
+            next-is = λ z. rw q at (r .before);
           };
-          stored = λ z. subst (λ (k : ℕ). Stored f p k at old new) q (r .stored);
+          stored = λ z. rw q at (r .stored);
         }
 
 -- ---- coordinates
@@ -101,11 +93,10 @@ module _ (text : List ℕ) where
     coordinate-good o = serves (wordsOf text) p coordinate (ap (λ (k : ℕ). isNumber (getD (wordsOf text) k [])) (sym (b .number)) ∙ sym (e .ok) ∙ o) refl
 
     coordinate-is : m .ok ≡ true → m .value ≡ valueAt (wordsOf text) coordinate p
-    coordinate-is o = e .value o ∙ ap (λ (k : ℕ). valueOf (getD (wordsOf text) k [])) (b .number) ∙ sym (value-is (wordsOf text) p coordinate
-        (coordinate-good o))
+    coordinate-is o = rw (value-is (wordsOf text) p coordinate (coordinate-good o), ← b .number) (e .value o)
 
     coordinate-next : m .ok ≡ true → Before text (p + 1) (m .next)
-    coordinate-next o = subst (λ (k : ℕ). Before text (k + 1) (m .next)) (b .number) (e .next o)
+    coordinate-next o = rw (b .number) at (e .next o)
 
   pub coordinate-step : (p n : ℕ) (old new : List ℤ) (i : ℕ) (next : Cursor) (r : Reading text coordinate (valueAt
       (wordsOf text) coordinate) p n 0 old new i next)
@@ -113,10 +104,9 @@ module _ (text : List ℕ) where
       → Reading text coordinate (valueAt (wordsOf text) coordinate) p n 0 old put (i + 1) (m .next)
   coordinate-step p n old new i next r h m e o z q put w =
       let x : 0 + i ≡ i = omega arith in
-      let s = reading-step text coordinate (valueAt (wordsOf text) coordinate) p n 0 old new i next r h (coordinate-good next (p + i) (r .before) m e o) z
-      (q ∙ coordinate-is next (p + i) (r .before) m e o) (m .next) (coordinate-next next (p + i) (r .before) m e o) in
-      subst (λ (l : List ℤ). Reading text coordinate (valueAt (wordsOf text) coordinate) p n 0 old l (i + 1) (m .next))
-      (ap (λ (k : ℕ). set new k z) x ∙ sym w) s
+      let b = r .before in
+      rw w (rw x at
+      (reading-step _ _ _ p n 0 old new i next r h (coordinate-good next _ b m e o) z (q ∙ coordinate-is next _ b m e o) _ (coordinate-next next _ b m e o)))
 
   -- ---- corners
   pub corner-step : (p n at : ℕ) (old new : List ℕ) (i : ℕ) (next : Cursor)
@@ -125,10 +115,7 @@ module _ (text : List ℕ) where
       → Reading text vertexNumber (naturalAt (wordsOf text) vertexNumber) p n at old put (i + 1) (m .next)
   corner-step p n at old new i next r h m e o put w =
       let d = natural-at text (p + i) (next .word) 65535 m (r .before .number) e in
-      let s = reading-step text vertexNumber (naturalAt (wordsOf text) vertexNumber) p n at old new i next r h (natural-good text (p + i) 65535 m d o)
-      (m .value)
-      (d .value o) (m .next) (d .next o) in
-      subst (λ (l : List ℕ). Reading text vertexNumber (naturalAt (wordsOf text) vertexNumber) p n at old l (i + 1) (m .next)) (sym w) s
+      rw w (reading-step _ _ _ p n at old new i next r h (natural-good text (p + i) 65535 m d o) (m .value) (d .value o) (m .next) (d .next o))
 
   pub corner-bad : (p : ℕ) (next : Cursor) → Before text p next → (m : Natural) → NaturalRead text (next .word) 65535 m → m .ok ≡ false
       → bad (wordsOf text) vertexNumber p ≡ true

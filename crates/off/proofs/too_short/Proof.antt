@@ -1,5 +1,5 @@
 -- Each list is looked at by itself.
-use mathlib.Core.Path.{refl}
+use borrow.Author.Needs.{needs}
 use borrow.Author.Tests.{lt-ltb, le-ltb}
 use Rattle.paper.specs.Off.{short}
 use Rattle.off.proofs.too_short.Tie as tie
@@ -18,7 +18,7 @@ returns-3 c = rw (le-ltb _ _ (c .before .before .if1 .left), le-ltb _ _ (c .befo
 
 returns-4 : tie.Need-returns-4
 unfolding short
-returns-4 c = rw (le-ltb _ _ (c .before .before .if1 .left), le-ltb _ _ (c .before .if2 .left), le-ltb _ _ (c .if3 .left)) refl
+returns-4 c = search (needs, le-ltb)
 
 pub too-short-spec : {M : Type 1} → Rattle.off.proofs.too_short.Statement.statement M
 too-short-spec = tie.close (tie.spec returns returns-2 returns-3 returns-4)

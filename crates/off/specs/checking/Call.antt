@@ -22,7 +22,7 @@ pub record Lists (M : Mesh) (r : Decoded) (coordinates : List ℤ) (sides corner
   pub plain-pairs : M .sharpness ≡ plainList (length (M .corners))
 
 -- own lists with room for every list that passes 4
-pub record Room (coordinates : List ℤ) (sides corners : List ℕ) : Type 0 where
+pub record OwnRoom (coordinates : List ℤ) (sides corners : List ℕ) : Type 0 where
   pub coordinates-room : 3 * mostVertices ≤ length coordinates
   pub sides-room : mostFaces ≤ length sides
   pub corners-room : mostCorners ≤ length corners
@@ -36,12 +36,12 @@ pub record WordsRead (text : List ℕ) (r : Decoded) (coordinates : List ℤ) (s
   pub lists : r .answer ≡ Done → Lists (wordsMesh (wordsOf text)) r coordinates sides corners
 
 -- then 4 to 13
-pub record Checked (text : List ℕ) (r : Decoded) (coordinates : List ℤ) (sides corners : List ℕ) : Type 0 where
+pub record TextChecked (text : List ℕ) (r : Decoded) (coordinates : List ℤ) (sides corners : List ℕ) : Type 0 where
   pub answers : stated (r .answer) ≡ readVerdict (wordsOf text) orElse verdict (wordsMesh (wordsOf text))
   pub lists : r .answer ≡ Done → Lists (wordsMesh (wordsOf text)) r coordinates sides corners
 
 -- and the lists copied to lent ones, unless a check refuses
-pub record Copied (text : List ℕ) (lent : Mesh) (r : Decoded) (lists : Mesh) : Type 0 where
+pub record TextCopied (text : List ℕ) (lent : Mesh) (r : Decoded) (lists : Mesh) : Type 0 where
   pub answers : stated (r .answer) ≡ readVerdict (wordsOf text) orElse verdict (wordsMesh (wordsOf text))
   pub coordinates-length : r .coordinates ≡ kept (stated (r .answer)) (length (wordsMesh (wordsOf text) .coordinates)) 0
   pub sides-length : r .sides ≡ kept (stated (r .answer)) (length (wordsMesh (wordsOf text) .sides)) 0

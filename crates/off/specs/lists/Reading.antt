@@ -13,8 +13,8 @@ use Rattle.off.specs.declared.words.Cursor.{Cursor}
 use Rattle.off.specs.declared.lists.Natural.{Natural}
 use Rattle.off.specs.declared.lists.Progress.{Progress}
 use Rattle.off.specs.declared.lists.Header.{Header}
-use Rattle.off.specs.declared.lists.Face.{Face}
-use Rattle.off.specs.declared.lists.Faces.{Faces}
+use Rattle.off.specs.declared.lists.ReadFace.{ReadFace}
+use Rattle.off.specs.declared.lists.ReadFaces.{ReadFaces}
 
 -- word n as a number from 0 to a largest, and then a cursor before the next word
 pub record NaturalRead (text : List ℕ) (n most : ℕ) (r : Natural) : Type 0 where
@@ -24,13 +24,13 @@ pub record NaturalRead (text : List ℕ) (n most : ℕ) (r : Natural) : Type 0 w
   pub next : r .ok ≡ true → Before text (n + 1) (r .next)
 
 -- words were read whose fault, if any, is v, and which end before word n: all of them, or up to the bad one, before which the cursor stands
-pub record Read (text : List ℕ) (v : Verdict) (n : ℕ) (ok : Bool) (next : Cursor) : Type 0 where
+pub record ReadTo (text : List ℕ) (v : Verdict) (n : ℕ) (ok : Bool) (next : Cursor) : Type 0 where
   pub answers : v ≡ single 25 (not ok) (next .word)
   pub next-is : ok ≡ true → Before text n next
 
 -- the three counts
 pub record HeaderRead (text : List ℕ) (r : Header) : Type 0 where
-  pub read : Read text (badFrom (wordsOf text) listCount 1 3) 4 (r .ok) (r .next)
+  pub read : ReadTo text (badFrom (wordsOf text) listCount 1 3) 4 (r .ok) (r .next)
   pub vertices-are : r .ok ≡ true → r .vertices ≡ vertices (wordsOf text)
   pub faces-are : r .ok ≡ true → r .faces ≡ faces (wordsOf text)
   pub vertices-within : r .vertices ≤ 65535
@@ -43,12 +43,12 @@ pub record Stored {A : Type 0} (f : ℕ → A) (p n at : ℕ) (old new : List A)
 
 -- n words of a kind from p on
 pub record ListRead {A : Type 0} (text : List ℕ) (kind : Kind) (f : ℕ → A) (p n at : ℕ) (old new : List A) (r : Progress) : Type 0 where
-  pub read : Read text (badFrom (wordsOf text) kind p n) (p + n) (r .ok) (r .next)
+  pub read : ReadTo text (badFrom (wordsOf text) kind p n) (p + n) (r .ok) (r .next)
   pub stored : r .ok ≡ true → Stored f p n at old new
 
 -- a face at word p, number `face` of the text, with `at` corners before it
-pub record FaceRead (text : List ℕ) (p face at : ℕ) (sides corners : List ℕ) (r : Face) (sides' corners' : List ℕ) : Type 0 where
-  pub read : Read text
+pub record FaceRead (text : List ℕ) (p face at : ℕ) (sides corners : List ℕ) (r : ReadFace) (sides' corners' : List ℕ) : Type 0 where
+  pub read : ReadTo text
       (badFrom (wordsOf text) sideCount p 1 orElse badFrom (wordsOf text) vertexNumber (p + 1) (sidesAt (wordsOf text) p))
       (faceAfter (wordsOf text) p) (r .ok) (r .next)
   pub sides-are : r .ok ≡ true → r .sides ≡ sidesAt (wordsOf text) p
@@ -57,8 +57,8 @@ pub record FaceRead (text : List ℕ) (p face at : ℕ) (sides corners : List �
   pub corners-stored : r .ok ≡ true → Stored (naturalAt (wordsOf text) vertexNumber) (p + 1) (sidesAt (wordsOf text) p) at corners corners'
 
 -- n faces from word p on
-pub record FacesRead (text : List ℕ) (p n : ℕ) (sides corners : List ℕ) (r : Faces) (sides' corners' : List ℕ) : Type 0 where
-  pub read : Read text (badFaces (wordsOf text) p n) (endFrom (wordsOf text) p n) (r .ok) (r .next)
+pub record FacesRead (text : List ℕ) (p n : ℕ) (sides corners : List ℕ) (r : ReadFaces) (sides' corners' : List ℕ) : Type 0 where
+  pub read : ReadTo text (badFaces (wordsOf text) p n) (endFrom (wordsOf text) p n) (r .ok) (r .next)
   pub corners-count : r .ok ≡ true → r .corners ≡ length (cornersFrom (wordsOf text) p n)
   pub sides-same : r .ok ≡ true → length sides' ≡ length sides
   pub corners-same : r .ok ≡ true → length corners' ≡ length corners

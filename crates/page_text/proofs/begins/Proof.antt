@@ -14,15 +14,7 @@ abbrev μ-loop : tie.MeasureT-loop
 μ-loop line word i₀ i = length word - i
 
 returns : tie.Need-returns Inv-loop μ-loop
-returns c =
-    let s : tie.Start Inv-loop μ-loop = search in
-    begins-short (s .args .line .now) (s .args .word .now) (omega arith)
-
-returns-2 : tie.Need-returns-2 Inv-loop μ-loop
-returns-2 c =
-    let s : tie.Start Inv-loop μ-loop = search in
-    let l : tie.At-loop Inv-loop μ-loop = search in
-    begins-other (s .args .line .now) (s .args .word .now) (l .loop .i) (omega arith) (λ e. omega arith)
+returns c = let s : tie.Start Inv-loop μ-loop = search in search (needs, begins-short (s .args .line .now) (s .args .word .now) (omega arith))
 
 loop-again : tie.Need-loop-again Inv-loop μ-loop
 loop-again c =
@@ -38,5 +30,5 @@ returns-3 c =
 
 pub begins-spec : {M : Type 1} → Rattle.page_text.proofs.begins.Statement.statement M
 begins-spec =
-    tie.close (tie.spec Inv-loop μ-loop returns (λ c. (omega arith, refl)) (λ c. search needs) (λ c. search needs) returns-2 (λ c. search needs)
-    (λ c. search needs) loop-again returns-3)
+    tie.close (tie.spec Inv-loop μ-loop returns (λ c. (omega arith, refl)) (λ c. search needs) (λ c. search needs) (λ c. search (needs, begins-other))
+    (λ c. search needs) (λ c. search needs) loop-again returns-3)

@@ -14,17 +14,6 @@ Inv-loop line numbers₀ at₀ i₀ numbers at i = (i ≤ 21) × (length numbers
 abbrev μ-loop : tie.MeasureT-loop
 μ-loop line numbers₀ at₀ i₀ numbers at i = 21 - i
 
-loop-holds : tie.Need-loop-holds Inv-loop μ-loop
-loop-holds c = let s : tie.Start Inv-loop μ-loop = search in (omega arith, s .pre, taken-none _ _)
-
-returns : tie.Need-returns Inv-loop μ-loop
-returns c =
-    let s : tie.Start Inv-loop μ-loop = search in
-    let l : tie.At-loop Inv-loop μ-loop = search in
-    let n : tie.After-read-number Inv-loop μ-loop = search in
-    page-none (s .args .line .now) (l .loop .i) (l .loop .at) (l .loop .numbers) (omega arith) (l .loop .inv .2) (n .read-number .result) _
-    (not-true (n .read-number .result .ok) (c .if1 .taken)) (n .read-number .ensures)
-
 loop-again : tie.Need-loop-again Inv-loop μ-loop
 loop-again c =
     let s : tie.Start Inv-loop μ-loop = search in
@@ -36,13 +25,8 @@ loop-again c =
           (n .read-number .result .value) (l .loop .inv .1) (n .read-number .ensures .found (not-false (n .read-number .result .ok) (c .if1 .left))),
     )
 
-returns-2 : tie.Need-returns-2 Inv-loop μ-loop
-returns-2 c =
-    let s : tie.Start Inv-loop μ-loop = search in
-    let l : tie.At-loop Inv-loop μ-loop = search in
-    page-end (s .args .line .now) (l .loop .i) (l .loop .at) (l .loop .numbers) (omega arith) (omega arith) (l .loop .inv .1) (l .loop .inv .2)
-
 pub read-all-spec : {M : Type 1} → Rattle.page_text.proofs.read_all.Statement.statement M
 read-all-spec =
-    tie.close (tie.spec Inv-loop μ-loop loop-holds (λ c κs. search needs) (λ c. search needs) returns (λ c. search needs) (λ c. search needs)
-    (λ c. search needs) (λ c. search needs) loop-again (λ c. search needs) returns-2)
+    tie.close (tie.spec Inv-loop μ-loop (λ c. search (needs, taken-none)) (λ c κs. search needs) (λ c. search needs)
+    (λ c. search (needs, page-none, not-true)) (λ c. search needs) (λ c. search needs) (λ c. search needs) (λ c. search needs) loop-again
+    (λ c. search needs) (λ c. search (needs, page-end)))

@@ -19,7 +19,7 @@ use Rattle.mesh.proofs.Verdicts.{passed, sound-left, sound-right}
 use Rattle.dms.proofs.surveying.Surveys.{limits}
 use Rattle.dms.proofs.lists.Lists.{file-coordinates, file-faces, file-corners, file-sharpness}
 use Rattle.print.specs.mesh_input.Fitting.{Fitting, NoMesh, Decodes, FileRead, MeshRead}
-use Rattle.print.specs.declared.mesh_input.Lengths.{Lengths}
+use Rattle.print.specs.declared.mesh_input.MeshLengths.{MeshLengths}
 
 same-lists : (M N : Mesh) → M .coordinates ≡ N .coordinates → M .sides ≡ N .sides → M .corners ≡ N .corners → M .sharpness ≡ N .sharpness → M ≡ N
 same-lists M N a b c d =
@@ -41,7 +41,7 @@ module _ (bytes : List ℕ) (counted : ℕ) (lent : Mesh) (d : Decoded) (left : 
   mesh : Mesh
   mesh = fileMesh (fileOf bytes counted)
 
-  pub mesh-refused : (k p : ℕ) (r : Lengths) → d .answer ≡ Refused k p → NoMesh r → FileRead bytes counted lent r left
+  pub mesh-refused : (k p : ℕ) (r : MeshLengths) → d .answer ≡ Refused k p → NoMesh r → FileRead bytes counted lent r left
   unfolding mesh
   mesh-refused k p r e n =
       let v : stated (d .answer) ≡ fault k p = ap stated e in
@@ -66,7 +66,7 @@ module _ (bytes : List ℕ) (counted : ℕ) (lent : Mesh) (d : Decoded) (left : 
     whole : {A : Type 0} (n : ℕ) (l : List A) → n ≡ kept (stated (d .answer)) (length l) 0 → n ≡ length l
     whole n l e = e ∙ ap (λ (z : Verdict). kept z (length l) 0) (ap stated done)
 
-    pub mesh-found : (r : Lengths) → r .ok ≡ true → Least (d .coordinates) (3 * mostVertices) (r .numbers) → Least (d .sides) mostFaces (r .faces)
+    pub mesh-found : (r : MeshLengths) → r .ok ≡ true → Least (d .coordinates) (3 * mostVertices) (r .numbers) → Least (d .sides) mostFaces (r .faces)
         → Least (d .corners) mostCorners (r .corners) → Least (d .sharpness) (2 * mostCorners) (r .pairs) → FileRead bytes counted lent r left
     unfolding mesh
     mesh-found r t a b c e =
@@ -91,7 +91,7 @@ module _ (bytes : List ℕ) (counted : ℕ) (lent : Mesh) (d : Decoded) (left : 
         }
 
 -- nothing was read
-pub mesh-none : (lent : Mesh) (r : Lengths) → NoMesh r → MeshRead lent r lent
+pub mesh-none : (lent : Mesh) (r : MeshLengths) → NoMesh r → MeshRead lent r lent
 mesh-none lent r n = record {
   bytes = [];
   counted = 0;

@@ -10,7 +10,7 @@ placed [] p = []
 placed (b ∷ name) p = (b ∷ name) ++ ((space ∷ []) ++ decimal p)
 
 -- the place and some words were put
-pub record RowPut (old : List ℕ) (at place : ℕ) (new : List ℕ) (to : ℕ) : Type 0 where
+pub record PlacePut (old : List ℕ) (at place : ℕ) (new : List ℕ) (to : ℕ) : Type 0 where
   pub name : List ℕ
   pub words : List ℕ
   pub put : Put old at (placed name place ++ words) new to

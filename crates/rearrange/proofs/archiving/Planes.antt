@@ -8,7 +8,7 @@ use lib.IntN.{ℤ}
 use Rattle.paper.specs.Archive.{archived}
 use Rattle.rearrange.proofs.laws.Planes.{first-plane, second-plane, third-plane, last-plane, archived-length, same-planes}
 use Rattle.rearrange.specs.differences.Deltas.{deltaAt}
-use Rattle.rearrange.specs.planes.Planes.{Planed, spaced, spread}
+use Rattle.rearrange.specs.planes.Planes.{Planed, fourSet, spread}
 use Rattle.rearrange.proofs.planes.BytesPut.{run-one, lowest-byte}
 use Rattle.rearrange.proofs.planes.Planes.{Bytes, planed-runs, byte-here}
 
@@ -34,7 +34,7 @@ module _ (numbers : List ℤ) where
       (λ j h. p .highest j (omega arith) ∙ sym (last-plane numbers j h))
 
   one : (i d : ℕ) (bytes : List ℕ) → i < m → d ≡ deltaAt numbers i → Planed numbers i bytes → Planed numbers (i + 1) (spread bytes m i d)
-  unfolding spaced
+  unfolding fourSet
   one i d bytes h e p =
       let b1 = set bytes i (d % 256) in
       let b2 = set b1 (m + i) (d / 256 % 256) in

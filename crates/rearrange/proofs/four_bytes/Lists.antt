@@ -13,7 +13,7 @@ use Rattle.mesh.proofs.Scans.{compared}
 use Rattle.rearrange.proofs.laws.Words.{four-bytes}
 use Rattle.rearrange.specs.planes.Planes.{spread}
 use Rattle.rearrange.proofs.planes.BytesPut.{BytesPut, run-row, lowest-byte}
-use Rattle.rearrange.specs.four_bytes.Words.{Worded}
+use Rattle.rearrange.specs.four_bytes.Words.{NumbersStored}
 
 module _ (l : List ℕ) (at d : ℕ) (room : at + 3 < length l) (h : d < 2 ^ 32) where
   abbrev put : List ℕ
@@ -44,11 +44,11 @@ module _ (l : List ℕ) (at d : ℕ) (room : at + 3 < length l) (h : d < 2 ^ 32)
       rw (b j (omega arith), b (j + 1) (omega arith), b (j + 2) (omega arith), b (j + 2 + 1) (omega arith))
 
 module _ (numbers : List ℤ) where
-  pub worded-none : (bytes : List ℕ) → length bytes ≡ 4 * length numbers → Worded numbers 0 bytes
+  pub worded-none : (bytes : List ℕ) → length bytes ≡ 4 * length numbers → NumbersStored numbers 0 bytes
   worded-none bytes e = record { long = e; words = λ j h. absurd (omega arith) }
 
-  pub worded-step : (i d : ℕ) (bytes : List ℕ) → i < length numbers → d < 2 ^ 32 → d ≡ ofZ w32 (getD numbers i (pos 0)) → Worded numbers i bytes
-      → Worded numbers (i + 1) (spread bytes 1 (4 * i) d)
+  pub worded-step : (i d : ℕ) (bytes : List ℕ) → i < length numbers → d < 2 ^ 32 → d ≡ ofZ w32 (getD numbers i (pos 0)) → NumbersStored numbers i bytes
+      → NumbersStored numbers (i + 1) (spread bytes 1 (4 * i) d)
   worded-step i d bytes h b e w =
       let r : 4 * i + 3 < length bytes = omega (arith, w .long) in
       let out = put bytes (4 * i) d r b in

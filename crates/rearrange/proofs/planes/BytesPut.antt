@@ -8,7 +8,7 @@ use native.Mathlib.Omega.{arith}
 use lib.ListN.{length, getD, set, length-set}
 use lib.Seq.{getD-set-same, getD-set-other}
 use Rattle.mesh.proofs.Scans.{compared}
-use Rattle.rearrange.specs.planes.Planes.{spaced}
+use Rattle.rearrange.specs.planes.Planes.{fourSet}
 
 -- the first w values of f, from a place on
 pub record BytesPut (f : ℕ → ℕ) (w at : ℕ) (old out : List ℕ) : Type 0 where
@@ -39,8 +39,8 @@ module _ (f : ℕ → ℕ) (at : ℕ) (old : List ℕ) where
   pub run-one : (x : ℕ) → at < length old → x ≡ f 0 → BytesPut f 1 at old (set old at x)
   run-one x room q = more 0 at x old (omega arith) room q none
 
-  pub run-row : (a b c d : ℕ) → at + 3 < length old → a ≡ f 0 → b ≡ f 1 → c ≡ f 2 → d ≡ f 3 → BytesPut f 4 at old (spaced old 1 at a b c d)
-  unfolding spaced
+  pub run-row : (a b c d : ℕ) → at + 3 < length old → a ≡ f 0 → b ≡ f 1 → c ≡ f 2 → d ≡ f 3 → BytesPut f 4 at old (fourSet old 1 at a b c d)
+  unfolding fourSet
   run-row a b c d room p q r s =
       let r1 = run-one a (omega arith) p in
       let r2 = more 1 (1 + at) b _ (omega arith) (omega arith) q r1 in

@@ -11,7 +11,7 @@ use lib.IntN.{ℤ}
 use Rattle.mesh.proofs.Scans.{ways}
 use Rattle.paper.specs.Archive.{byteOf}
 use Rattle.rearrange.specs.differences.Deltas.{deltaAt}
-use Rattle.rearrange.specs.planes.Planes.{Planed, spaced}
+use Rattle.rearrange.specs.planes.Planes.{Planed, fourSet}
 use Rattle.rearrange.proofs.planes.BytesPut.{BytesPut, run-row, lowest-byte}
 
 module _ (numbers : List ℤ) where
@@ -68,19 +68,19 @@ module _ (numbers : List ℤ) where
   module _ (i a b c d : ℕ) (ea : a ≡ deltaAt numbers i) (eb : b ≡ deltaAt numbers (i + 1))
       (ec : c ≡ deltaAt numbers (i + 2)) (ed : d ≡ deltaAt numbers (i + 3)) where
     row-run : (k at : ℕ) (old out : List ℕ) → at + 3 < length old
-        → out ≡ spaced old 1 at (a / 256 ^ k % 256) (b / 256 ^ k % 256) (c / 256 ^ k % 256) (d / 256 ^ k % 256) → BytesPut (Bytes k i) 4 at old out
+        → out ≡ fourSet old 1 at (a / 256 ^ k % 256) (b / 256 ^ k % 256) (c / 256 ^ k % 256) (d / 256 ^ k % 256) → BytesPut (Bytes k i) 4 at old out
     row-run k at old out room e =
         subst (BytesPut (Bytes k i) 4 at old) (sym e)
         (run-row (Bytes k i) at old _ _ _ _ room (byte-here k i a ea) (byte k (i + 1) b eb) (byte k (i + 2) c ec) (byte k (i + 3) d ed))
 
     pub planed-four : (bytes b1 b2 b3 out : List ℕ) → i + 4 ≤ m → Planed numbers i bytes
-        → b1 ≡ spaced bytes 1 i (a % 256) (b % 256) (c % 256) (d % 256)
-        → b2 ≡ spaced b1 1 (m + i) (a / 256 % 256) (b / 256 % 256) (c / 256 % 256) (d / 256 % 256)
-        → b3 ≡ spaced b2 1 (2 * m + i) (a / 65536 % 256) (b / 65536 % 256) (c / 65536 % 256) (d / 65536 % 256)
-        → out ≡ spaced b3 1 (3 * m + i) (a / 16777216 % 256) (b / 16777216 % 256) (c / 16777216 % 256) (d / 16777216 % 256)
+        → b1 ≡ fourSet bytes 1 i (a % 256) (b % 256) (c % 256) (d % 256)
+        → b2 ≡ fourSet b1 1 (m + i) (a / 256 % 256) (b / 256 % 256) (c / 256 % 256) (d / 256 % 256)
+        → b3 ≡ fourSet b2 1 (2 * m + i) (a / 65536 % 256) (b / 65536 % 256) (c / 65536 % 256) (d / 65536 % 256)
+        → out ≡ fourSet b3 1 (3 * m + i) (a / 16777216 % 256) (b / 16777216 % 256) (c / 16777216 % 256) (d / 16777216 % 256)
         → Planed numbers (i + 4) out
     planed-four bytes b1 b2 b3 out h p e0 e1 e2 e3 =
-        let f0 : b1 ≡ spaced bytes 1 i (a / 256 ^ 0 % 256) (b / 256 ^ 0 % 256) (c / 256 ^ 0 % 256) (d / 256 ^ 0 % 256) =
+        let f0 : b1 ≡ fourSet bytes 1 i (a / 256 ^ 0 % 256) (b / 256 ^ 0 % 256) (c / 256 ^ 0 % 256) (d / 256 ^ 0 % 256) =
         rw (lowest-byte a, lowest-byte b, lowest-byte c, lowest-byte d) at e0 in
         let r0 = row-run 0 i bytes b1 (omega (arith, p .long)) f0 in
         let r1 = row-run 1 (m + i) b1 b2 (omega (arith, p .long, r0 .long)) e1 in

@@ -12,21 +12,21 @@ use mir.Val.{toZ}
 use Rattle.mesh.proofs.Fills.{Filled, filled-step, filled-whole}
 use Rattle.paper.specs.Archive.{storedAt, sumAt, restoredAt, restored}
 use Rattle.rearrange.specs.differences.Deltas.{OneRestored}
-use Rattle.rearrange.specs.restoring.Sums.{before}
+use Rattle.rearrange.specs.restoring.Sums.{sumBefore}
 use Rattle.rearrange.proofs.laws.Words.{third, rest}
 
 module _ (bytes : List ℕ) (n : ℕ) where
-  pub before-first : (a : ℕ) → before bytes n 0 a ≡ 0
-  unfolding before
+  pub before-first : (a : ℕ) → sumBefore bytes n 0 a ≡ 0
+  unfolding sumBefore
   before-first a = refl
 
-  before-next : (v a : ℕ) → before bytes n (v + 1) a ≡ sumAt bytes n v a
-  unfolding before
+  before-next : (v a : ℕ) → sumBefore bytes n (v + 1) a ≡ sumAt bytes n v a
+  unfolding sumBefore
   before-next v a = rw add-one
 
   -- the first vertex starts from 0
-  sum-step : (v a : ℕ) → storedAt bytes n (3 * v + a) < 2 ^ 32 → (before bytes n v a + storedAt bytes n (3 * v + a)) % 2 ^ 32 ≡ sumAt bytes n v a
-  unfolding before sumAt
+  sum-step : (v a : ℕ) → storedAt bytes n (3 * v + a) < 2 ^ 32 → (sumBefore bytes n v a + storedAt bytes n (3 * v + a)) % 2 ^ 32 ≡ sumAt bytes n v a
+  unfolding sumBefore sumAt
   sum-step zero a h =
       let e : storedAt bytes n (3 * 0 + a) ≡ storedAt bytes n a = ap (storedAt bytes n) (let q : 3 * 0 + a ≡ a = omega arith in q) in
       ap (λ (k : ℕ). k % 2 ^ 32) (let q : 0 + storedAt bytes n (3 * 0 + a) ≡ storedAt bytes n a = omega arith in q) ∙ mod-eq-of-lt (omega (arith, e))
@@ -37,13 +37,13 @@ module _ (bytes : List ℕ) (n : ℕ) where
     number-is : toZ w32 (sumAt bytes n v a) ≡ restoredAt bytes n i
     number-is = rw (q, third v a h, rest v a h)
 
-    module _ (l out : List ℤ) (sum r : ℕ) (e : sum ≡ before bytes n v a) (t : OneRestored bytes n l i sum r out) where
+    module _ (l out : List ℤ) (sum r : ℕ) (e : sum ≡ sumBefore bytes n v a) (t : OneRestored bytes n l i sum r out) where
       one-sum : r ≡ sumAt bytes n v a
       one-sum =
-          t .sums ∙ ap (λ (k : ℕ). (k + storedAt bytes n i) % 2 ^ 32) e ∙ ap (λ (k : ℕ). (before bytes n v a + storedAt bytes n k) % 2 ^ 32) q
+          t .sums ∙ ap (λ (k : ℕ). (k + storedAt bytes n i) % 2 ^ 32) e ∙ ap (λ (k : ℕ). (sumBefore bytes n v a + storedAt bytes n k) % 2 ^ 32) q
           ∙ sum-step v a (rw q at (t .small))
 
-      pub one-next : r ≡ before bytes n (v + 1) a
+      pub one-next : r ≡ sumBefore bytes n (v + 1) a
       one-next = one-sum ∙ sym (before-next v a)
 
       pub one-fills : (old : List ℤ) (j : ℕ) → i < length old → i + 1 ≡ j → Filled (restoredAt bytes n) old i l → Filled (restoredAt bytes n) old j out

@@ -13,6 +13,6 @@ abbrev pub numberIn : List ℕ → ℕ → ℤ
 numberIn bytes i = signedAt bytes (4 * i)
 
 -- the first i numbers stand in the bytes
-pub record Worded (numbers : List ℤ) (i : ℕ) (bytes : List ℕ) : Type 0 where
+pub record NumbersStored (numbers : List ℤ) (i : ℕ) (bytes : List ℕ) : Type 0 where
   pub long : length bytes ≡ 4 * length numbers
   pub words : (j : ℕ) → j < i → wordAt bytes (4 * j) ≡ ofZ w32 (getD numbers j (pos 0))

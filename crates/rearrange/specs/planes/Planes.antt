@@ -15,9 +15,9 @@ pub record Planed (numbers : List ℤ) (i : ℕ) (bytes : List ℕ) : Type 0 whe
   pub highest : (j : ℕ) → j < i → getD bytes (3 * length numbers + j) 0 ≡ byteOf numbers 3 j
 
 -- four bytes, the first at a place and each `step` places after the one before
-unfoldable pub spaced : List ℕ → ℕ → ℕ → ℕ → ℕ → ℕ → ℕ → List ℕ
-spaced bytes step at a b c d = set (set (set (set bytes at a) (step + at) b) (2 * step + at) c) (3 * step + at) d
+unfoldable pub fourSet : List ℕ → ℕ → ℕ → ℕ → ℕ → ℕ → ℕ → List ℕ
+fourSet bytes step at a b c d = set (set (set (set bytes at a) (step + at) b) (2 * step + at) c) (3 * step + at) d
 
 -- the bytes of d at position i of four planes of n bytes each
 abbrev pub spread : List ℕ → ℕ → ℕ → ℕ → List ℕ
-spread bytes n i d = spaced bytes n i (d % 256) (d / 256 % 256) (d / 65536 % 256) (d / 16777216 % 256)
+spread bytes n i d = fourSet bytes n i (d % 256) (d / 256 % 256) (d / 65536 % 256) (d / 16777216 % 256)

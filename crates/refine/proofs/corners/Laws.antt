@@ -26,8 +26,8 @@ use Rattle.mesh.proofs.Faces.{held, face-at, start-next, start-ends, next-below
 use Rattle.surface.proofs.Hull.{blend-size, mean-size, weights-sum}
 use Rattle.walk.specs.Table.{toNext, toPrevious, entry, Tabled}
 use Rattle.refine.specs.Marks.{MarkedIn, Needed}
-use Rattle.refine.specs.sums.Sources.{Refinable, stepsOf, faceSteps, sumRow, sumAt, SumsAre, SumsFit, Covered, PointsPut}
-use Rattle.refine.specs.corners.Mean.{Pair, weightsOf, Balanced, Steps, blend, mean, totalOn, FaceRead, FaceKnown, CornerLists}
+use Rattle.refine.specs.sums.Sources.{Refinable, vertexSteps, faceSteps, sumRow, faceSumAt, SumsAre, SumsFit, Covered, PointsPut}
+use Rattle.refine.specs.corners.Mean.{Pair, sharpnessWeights, Balanced, Steps, blend, mean, totalOn, FaceSumsRead, FaceKnown, CornerLists}
 use Rattle.refine.specs.corners.Mean.{facePoint, tablePoint, FacePointed}
 use Rattle.refine.specs.declared.corners.CornerWeights.{CornerWeights}
 use Rattle.refine.specs.declared.corners.FaceSums.{FaceSums}
@@ -36,15 +36,15 @@ use Rattle.refine.proofs.sums.Laws.{by-axis, steps-size, face-steps, in
 
 -- ---- weights
 -- those of a pair within its limits sum to 512
-pub balanced : (sharpness : List ℕ) (c : ℕ) → Pair sharpness c → Balanced (weightsOf sharpness c)
-unfolding weightsOf
+pub balanced : (sharpness : List ℕ) (c : ℕ) → Pair sharpness c → Balanced (sharpnessWeights sharpness c)
+unfolding sharpnessWeights
 balanced sharpness c p = weights-sum (getD sharpness (2 * c) plain) (getD sharpness (2 * c + 1) plain) (p .u-most) (p .v-most)
 
 -- ---- the sizes on the way to a refined point
 abbrev pub threefold : CornerWeights → ℤ → ℤ → ℤ → ℤ
 threefold w before here after = pos (w .before) *ℤ before +ℤ pos (w .here) *ℤ here +ℤ pos (w .after) *ℤ after
 
-pub record Sizes (w : CornerWeights) (total before here after : ℤ) (n : ℕ) : Type 0 where
+pub record MeanSizes (w : CornerWeights) (total before here after : ℤ) (n : ℕ) : Type 0 where
   pub read : toZ w32 n ≡ pos n
   pub read-face : toZ w32 (w .face) ≡ pos (w .face)
   pub read-before : toZ w32 (w .before) ≡ pos (w .before)
@@ -68,7 +68,7 @@ divisors z n l h k =
     as-diff z λ a b e. let k′ = simp (diff, e) at k in simp (diff, e) (omega arith, omega arith, omega arith, omega arith)
 
 module _ (w : CornerWeights) (b : Balanced w) (total before here after : ℤ) (face : FaceSums) (t : Steps total before here after face) where
-  pub sizes : Sizes w total before here after (face .sides)
+  pub sizes : MeanSizes w total before here after (face .sides)
   sizes =
       let n = face .sides in
       let B = mostCoordinate in
@@ -139,8 +139,8 @@ module _ (coordinates : List ℤ) (corners sharpness table : List ℕ) (L : Corn
 
   pub point-size : (face : FaceSums) → FaceKnown face → (axis : ℕ) → axis < 3 → natAbs (facePoint coordinates corners sharpness table face axis c) ≤ 2 ^ 24
   point-size face k axis a =
-      let P = stepsOf coordinates corners axis in
-      let w = weightsOf sharpness c in
+      let P = vertexSteps coordinates corners axis in
+      let w = sharpnessWeights sharpness c in
       let s = sizes w (balanced sharpness c pair-of) (totalOn face axis) (P (entry table toPrevious c)) (P c) (P (entry table toNext c)) face (record {
         known = k axis a;
         before-size = steps-size coordinates corners (L .placed) axis (entry table toPrevious c) a (L .previous-in c h);
@@ -151,9 +151,9 @@ module _ (coordinates : List ℤ) (corners sharpness table : List ℕ) (L : Corn
 
 -- ---- a face that is wanted, from its row
 module _ (M : Mesh) (R : Refinable M) (wanted : List ℕ) (sums : List ℤ) (t : SumsFit (M .sides) wanted sums) (f : ℕ) (l : f < faceCount M)
-    (w : 0 < getD wanted f 0) (face : FaceSums) (r : FaceRead (M .sides) sums f face) where
-  totals-are : (axis : ℕ) → axis < 3 → totalOn face axis ≡ sumAt sums f axis
-  totals-are = by-axis (λ axis. totalOn face axis ≡ sumAt sums f axis) (r .xs) (r .ys) (r .zs)
+    (w : 0 < getD wanted f 0) (face : FaceSums) (r : FaceSumsRead (M .sides) sums f face) where
+  totals-are : (axis : ℕ) → axis < 3 → totalOn face axis ≡ faceSumAt sums f axis
+  totals-are = by-axis (λ axis. totalOn face axis ≡ faceSumAt sums f axis) (r .xs) (r .ys) (r .zs)
 
   pub face-known : FaceKnown face
   face-known axis a = record {
@@ -191,14 +191,14 @@ module _ (M : Mesh) (R : Refinable M) where
   }
 
   -- V, in grid steps
-  steps-mean : (axis c : ℕ) → c < cornerCount M → let P = stepsOf (M .coordinates) (M .corners) axis in refinedPoint rounded M axis c
-      ≡ mean (weightsOf (M .sharpness) c) (faceSteps M (faceOf (M .sides) c) axis) (P (previous (M .sides) c)) (P c) (P (next (M .sides) c)) (sidesOf (M .sides) c)
-  unfolding refinedPoint sidesOf uOf vOf ticks weightsOf
+  steps-mean : (axis c : ℕ) → c < cornerCount M → let P = vertexSteps (M .coordinates) (M .corners) axis in refinedPoint rounded M axis c
+      ≡ mean (sharpnessWeights (M .sharpness) c) (faceSteps M (faceOf (M .sides) c) axis) (P (previous (M .sides) c)) (P c) (P (next (M .sides) c)) (sidesOf (M .sides) c)
+  unfolding refinedPoint sidesOf uOf vOf ticks sharpnessWeights
   steps-mean axis c h =
       let f = faceOf (M .sides) c in
-      let P = stepsOf (M .coordinates) (M .corners) axis in
+      let P = vertexSteps (M .coordinates) (M .corners) axis in
       rw (face-steps M f axis)
-      (in-ticks (weightsOf (M .sharpness) c) (faceSteps M f axis) (P (previous (M .sides) c)) (P c) (P (next (M .sides) c)) (getD (M .sides) f 0)
+      (in-ticks (sharpnessWeights (M .sharpness) c) (faceSteps M f axis) (P (previous (M .sides) c)) (P c) (P (next (M .sides) c)) (getD (M .sides) f 0)
       (omega (arith, R .faces .least f (held (M .sides) c (omega (arith, R .sums)) .exists))))
 
   -- ---- from the table that holds the sums of the faces that are needed
@@ -210,8 +210,8 @@ module _ (M : Mesh) (R : Refinable M) where
     needs-face c h m =
         let i = held (M .sides) c (omega (arith, R .sums)) in (i .exists, record { at = c; from = i .from; to = i .to; holds = m })
 
-    row-is : (f axis : ℕ) → f < faceCount M → axis < 3 → Needed (M .sides) (M .corners) marked f → sumAt sums f axis ≡ faceSteps M f axis
-    row-is f axis l a n = in-steps (plainMesh (M .coordinates) (M .sides) (M .corners)) f axis (sumAt sums f axis) (S .sums-are f axis l a n)
+    row-is : (f axis : ℕ) → f < faceCount M → axis < 3 → Needed (M .sides) (M .corners) marked f → faceSumAt sums f axis ≡ faceSteps M f axis
+    row-is f axis l a n = in-steps (plainMesh (M .coordinates) (M .sides) (M .corners)) f axis (faceSumAt sums f axis) (S .sums-are f axis l a n)
 
     pub covered-of : Covered (M .sides) (M .corners) marked wanted
     covered-of c h m = let n = needs-face c h m in S .told (faceOf (M .sides) c) (n .0) .yes (n .1)

@@ -13,8 +13,8 @@ use lib.IntN.{ℤ, pos, natAbs, _+ℤ_, _*ℤ_}
 use mir.Syntax.{w32}
 use mir.Val.{SFits, toZ, ofZ}
 use mir.Facts.{toZ-ofZ}
-use Rattle.paper.specs.Mesh.{mostSides, mostCorners, mostCoordinate, Mesh, faceCount}
-use Rattle.paper.specs.Corners.{startOf}
+use Rattle.paper.specs.Mesh.{mostSides, mostCoordinate, Mesh, faceCount}
+use Rattle.paper.specs.Corners.{sumOf, startOf}
 use Rattle.paper.specs.Links.{vertexOf}
 use Rattle.paper.specs.Refined.{ticksPerStep, ticks, faceSum}
 use Rattle.numbers.proofs.Machine.{abs-fits}
@@ -23,7 +23,7 @@ use Rattle.numbers.proofs.Sum.{sum-more, sum-times, sum-abs}
 use Rattle.mesh.proofs.Scans.{ways}
 use Rattle.mesh.proofs.Faces.{start-next, start-ends, start-all}
 use Rattle.refine.specs.Marks.{Tells, Needed}
-use Rattle.refine.specs.sums.Sources.{Faces, Placed, Refinable, Small, stepsOf, stepSum, faceSteps, sumRow, sumAt, SumsAre}
+use Rattle.refine.specs.sums.Sources.{FacesWithin, Placed, Refinable, SmallPoints, vertexSteps, stepSum, faceSteps, sumRow, faceSumAt, SumsAre}
 
 -- ---- the vertices of corners and their sums, in grid steps
 -- one more vertex r to the sum t of j of them, as the machine adds it
@@ -35,18 +35,18 @@ module _ (coordinates : List ℤ) (corners : List ℕ) (p : Placed coordinates c
   pub place-in : (axis c : ℕ) → axis < 3 → c < length corners → 3 * vertexOf corners c + axis < length coordinates
   place-in axis c a h = omega (arith, p .named c h)
 
-  pub steps-size : (axis c : ℕ) → axis < 3 → c < length corners → natAbs (stepsOf coordinates corners axis c) ≤ mostCoordinate
+  pub steps-size : (axis c : ℕ) → axis < 3 → c < length corners → natAbs (vertexSteps coordinates corners axis c) ≤ mostCoordinate
   steps-size axis c a h = p .within (3 * vertexOf corners c + axis) (place-in axis c a h)
 
   pub sum-size : (start n axis : ℕ) → axis < 3 → start + n ≤ length corners → natAbs (stepSum coordinates corners start n axis) ≤ n * mostCoordinate
   sum-size start n axis a h =
-      sum-abs (λ j. stepsOf coordinates corners axis (start + j)) n mostCoordinate (λ j l. steps-size axis (start + j) a (omega arith))
+      sum-abs (λ j. vertexSteps coordinates corners axis (start + j)) n mostCoordinate (λ j l. steps-size axis (start + j) a (omega arith))
 
   pub sum-turn : (start j axis : ℕ) → axis < 3 → start + (j + 1) ≤ length corners → j + 1 ≤ mostSides → (t : ℕ) (r : ℤ) → SFits w32 r
-      → toZ w32 t ≡ stepSum coordinates corners start j axis → r ≡ stepsOf coordinates corners axis (start + j)
+      → toZ w32 t ≡ stepSum coordinates corners start j axis → r ≡ vertexSteps coordinates corners axis (start + j)
       → SumMore coordinates corners start j axis t r
   sum-turn start j axis a h l t r f e q =
-      let more = sum-more (λ i. stepsOf coordinates corners axis (start + i)) j in
+      let more = sum-more (λ i. vertexSteps coordinates corners axis (start + i)) j in
       let k = abs-fits w32 (stepSum coordinates corners start (j + 1) axis) (2 ^ 20) (omega (arith, sum-size start (j + 1) axis a h)) (lit< tt) in
       record { fits = rw (toZ-ofZ f, e, q, ← more) k; is = rw (toZ-ofZ f, e, q, ← more) (toZ-ofZ k) }
 
@@ -54,7 +54,7 @@ module _ (coordinates : List ℤ) (corners : List ℕ) (p : Placed coordinates c
 pub face-steps : (M : Mesh) (f axis : ℕ) → faceSum M axis f ≡ pos ticksPerStep *ℤ faceSteps M f axis
 unfolding faceSum ticks
 face-steps M f axis =
-    sum-times (pos ticksPerStep) (λ j. stepsOf (M .coordinates) (M .corners) axis (startOf (M .sides) f + j)) (getD (M .sides) f 0)
+    sum-times (pos ticksPerStep) (λ j. vertexSteps (M .coordinates) (M .corners) axis (startOf (M .sides) f + j)) (getD (M .sides) f 0)
 
 pub in-steps : (M : Mesh) (f axis : ℕ) (total : ℤ) → pos ticksPerStep *ℤ total ≡ faceSum M axis f → total ≡ faceSteps M f axis
 in-steps M f axis total e = cancel total (faceSteps M f axis) (e ∙ face-steps M f axis)
@@ -68,7 +68,7 @@ face-steps-size M R f axis l a =
     (omega (arith, start-ends (M .sides) f l, R .sums))
 
 -- ---- tables: a new one, and three numbers put in from place `at` on
-pub small-zeros : (n : ℕ) → Small (replicate n (pos 0))
+pub small-zeros : (n : ℕ) → SmallPoints (replicate n (pos 0))
 small-zeros n c =
     ⊎-elim
     (λ b. rw (getD-replicate n c (pos 0) (pos 0) (ltb-true c n b)) (omega arith))
@@ -120,15 +120,15 @@ module _ (old : List ℤ) (at : ℕ) (x y z : ℤ) (b : at + 3 ≤ length old) w
 
 -- ---- the table of sums
 -- a face has at least three corners, so there are no more sums than corners
-sums-before : (sides : List ℕ) → Faces sides → (f : ℕ) → f ≤ length sides → sumRow * f ≤ startOf sides f
+sums-before : (sides : List ℕ) → FacesWithin sides → (f : ℕ) → f ≤ length sides → sumRow * f ≤ startOf sides f
 sums-before sides h zero l = omega arith
 sums-before sides h (suc f) l =
     let k : suc f ≡ f + 1 = omega arith in
     let e : startOf sides (suc f) ≡ startOf sides f + getD sides f 0 = ap (startOf sides) k ∙ start-next sides f (omega arith) in
     omega (arith, sums-before sides h f (omega arith), e, h .least f (omega arith))
 
-pub sums-fit : (sides : List ℕ) → Faces sides → sumRow * length sides ≤ mostCorners
-sums-fit sides h = omega (arith, sums-before sides h (length sides) (omega arith), start-all sides (length sides) (omega arith), h .few)
+pub sums-fit : (sides : List ℕ) → FacesWithin sides → sumRow * length sides ≤ sumOf sides
+sums-fit sides h = omega (arith, sums-before sides h (length sides) (omega arith), start-all sides (length sides) (omega arith))
 
 -- no face yet, and one more, of which r tells whether it is needed; then its row is its Σ
 module _ (M : Mesh) (marked : List ℕ) where
@@ -137,13 +137,13 @@ module _ (M : Mesh) (marked : List ℕ) where
 
   pub sums-more : (f r : ℕ) (wanted : List ℕ) (old new : List ℤ) → f < length wanted → Tells r (Needed (M .sides) (M .corners) marked f)
       → ((i : ℕ) → i < sumRow * f → getD new i (pos 0) ≡ getD old i (pos 0))
-      → (0 < r → (axis : ℕ) → axis < 3 → sumAt new f axis ≡ faceSteps M f axis)
+      → (0 < r → (axis : ℕ) → axis < 3 → faceSumAt new f axis ≡ faceSteps M f axis)
       → SumsAre M marked f wanted old → SumsAre M marked (f + 1) (set wanted f r) new
   sums-more f r wanted old new b t before row h = record {
     told = below-more (λ g. Tells (getD (set wanted f r) g 0) (Needed (M .sides) (M .corners) marked g)) f
         (λ g k. rw (getD-set-other wanted f g r 0 (λ q. omega arith)) (h .told g k)) (rw (getD-set-same wanted f r 0 b) t);
     sums-are = λ g axis l a n.
-        below-more (λ k. Needed (M .sides) (M .corners) marked k → pos ticksPerStep *ℤ sumAt new k axis ≡ faceSum M axis k) f
+        below-more (λ k. Needed (M .sides) (M .corners) marked k → pos ticksPerStep *ℤ faceSumAt new k axis ≡ faceSum M axis k) f
         (λ k j m. rw (before (sumRow * k + axis) (omega arith)) (h .sums-are k axis j a m))
         (λ m. rw (row (t .yes m) axis a) (sym (face-steps M f axis))) g l n;
   }

@@ -11,8 +11,8 @@ use Rattle.paper.specs.Refined.{refinedPoint}
 use Rattle.numbers.specs.Units.{Reciprocal}
 use Rattle.walk.specs.Table.{rowLength, toNext, toPrevious, entry}
 use Rattle.refine.specs.Marks.{MarkedIn}
-use Rattle.refine.specs.sums.Sources.{Placed, Sharp, stepsOf, sumAt, PointsPut}
-use Rattle.refine.specs.declared.corners.Around.{Around}
+use Rattle.refine.specs.sums.Sources.{Placed, Sharp, vertexSteps, faceSumAt, PointsPut}
+use Rattle.refine.specs.declared.corners.ThreeCorners.{ThreeCorners}
 use Rattle.refine.specs.declared.corners.CornerWeights.{CornerWeights}
 use Rattle.refine.specs.declared.corners.FaceSums.{FaceSums}
 
@@ -23,8 +23,8 @@ pub record Pair (sharpness : List ℕ) (c : ℕ) : Type 0 where
   pub v-most : getD sharpness (2 * c + 1) plain ≤ mostSharpness
 
 -- the weights of its u and v
-unfoldable pub weightsOf : List ℕ → ℕ → CornerWeights
-weightsOf sharpness c =
+unfoldable pub sharpnessWeights : List ℕ → ℕ → CornerWeights
+sharpnessWeights sharpness c =
     let u = getD sharpness (2 * c) plain in
     let v = getD sharpness (2 * c + 1) plain in
     record { face = 2 * (16 - u) * (16 - v); before = (16 - u) * v; here = 16 * (u + v); after = u * (16 - v) }
@@ -59,9 +59,9 @@ abbrev pub mean : CornerWeights → ℤ → ℤ → ℤ → ℤ → ℕ → ℤ
 mean w total before here after n = round (blend w total before here after n) (pos 2 *ℤ pos n)
 
 -- that of three corners on an axis
-abbrev pub MeanOf : List ℤ → List ℕ → ℕ → Around → CornerWeights → ℤ → ℕ → ℤ → Type 0
+abbrev pub MeanOf : List ℤ → List ℕ → ℕ → ThreeCorners → CornerWeights → ℤ → ℕ → ℤ → Type 0
 MeanOf coordinates corners axis around w total n r =
-    let P = stepsOf coordinates corners axis in r ≡ mean w total (P (around .before)) (P (around .here)) (P (around .after)) n
+    let P = vertexSteps coordinates corners axis in r ≡ mean w total (P (around .before)) (P (around .here)) (P (around .after)) n
 
 -- ---- what the corners of a face share: Σ on an axis, as it is read from the row of face f, and as large as it may be
 abbrev pub totalOn : FaceSums → ℕ → ℤ
@@ -69,12 +69,12 @@ totalOn face zero = face .x
 totalOn face (suc zero) = face .y
 totalOn face (suc (suc axis)) = face .z
 
-pub record FaceRead (sides : List ℕ) (sums : List ℤ) (f : ℕ) (face : FaceSums) : Type 0 where
+pub record FaceSumsRead (sides : List ℕ) (sums : List ℤ) (f : ℕ) (face : FaceSums) : Type 0 where
   pub sides-are : face .sides ≡ getD sides f 0
   pub reciprocal-is : SideReciprocal (face .sides) (face .reciprocal)
-  pub xs : face .x ≡ sumAt sums f 0
-  pub ys : face .y ≡ sumAt sums f 1
-  pub zs : face .z ≡ sumAt sums f 2
+  pub xs : face .x ≡ faceSumAt sums f 0
+  pub ys : face .y ≡ faceSumAt sums f 1
+  pub zs : face .z ≡ faceSumAt sums f 2
 
 abbrev pub FaceKnown : FaceSums → Type 0
 FaceKnown face = (axis : ℕ) → axis < 3 → Known (totalOn face axis) face
@@ -92,14 +92,14 @@ pub record CornerLists (coordinates : List ℤ) (corners sharpness table : List 
 -- by what the corners of its face share, and the table of corners
 abbrev pub facePoint : List ℤ → List ℕ → List ℕ → List ℕ → FaceSums → ℕ → ℕ → ℤ
 facePoint coordinates corners sharpness table face axis c =
-    let P = stepsOf coordinates corners axis in
-    mean (weightsOf sharpness c) (totalOn face axis) (P (entry table toPrevious c)) (P c) (P (entry table toNext c)) (face .sides)
+    let P = vertexSteps coordinates corners axis in
+    mean (sharpnessWeights sharpness c) (totalOn face axis) (P (entry table toPrevious c)) (P c) (P (entry table toNext c)) (face .sides)
 
 -- by the row of its face in the table of sums, whatever stands there
 abbrev pub tablePoint : Mesh → List ℤ → ℕ → ℕ → ℤ
 tablePoint M sums axis c =
-    let P = stepsOf (M .coordinates) (M .corners) axis in
-    mean (weightsOf (M .sharpness) c) (sumAt sums (faceOf (M .sides) c) axis) (P (previous (M .sides) c)) (P c) (P (next (M .sides) c)) (sidesOf (M .sides) c)
+    let P = vertexSteps (M .coordinates) (M .corners) axis in
+    mean (sharpnessWeights (M .sharpness) c) (faceSumAt sums (faceOf (M .sides) c) axis) (P (previous (M .sides) c)) (P c) (P (next (M .sides) c)) (sidesOf (M .sides) c)
 
 -- that of one corner
 abbrev pub CornerPointed : List ℤ → List ℕ → List ℕ → List ℕ → FaceSums → ℕ → List ℤ → List ℤ → Type 0

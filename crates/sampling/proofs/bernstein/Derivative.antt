@@ -13,7 +13,7 @@ use Rattle.numbers.proofs.Sum.{sum-same}
 use Rattle.sampling.specs.declared.bernstein.Vector5.{Vector5}
 use Rattle.sampling.specs.declared.bernstein.Matrix5.{Matrix5}
 use Rattle.sampling.specs.bernstein.Sums.{vector5, linear, quadratic, cubic, rowsOf, differencesOf, slopesOf, columnsOf, weightedOf, scaledOf, weightsOf}
-use Rattle.sampling.specs.bernstein.Sums.{polynomialOf, valueOf, rowOf}
+use Rattle.sampling.specs.bernstein.Sums.{polynomialOf, polynomialAt, rowOf}
 use Rattle.sampling.specs.bernstein.Tangents.{alongRows, inwardRows, cubicSum, timesOf, alongOf, slopeOf, inwardOf}
 use Rattle.sampling.proofs.bernstein.Identity.{linear-turn, quadratic-turn, cubic-turn, weigh1}
 use Rattle.sampling.proofs.bernstein.Sum.{power, power-is}
@@ -90,10 +90,10 @@ outside : (a b c d j : ℤ)
 outside = over 5 _ λ ρ. simp (poly, ρ) (omega arith)
 
 along-weighed : (g : Matrix5) (n : ℤ) (j k : ℕ)
-    → valueOf (rowOf (alongOf (scaledOf g (weightsOf n))) k) j
+    → polynomialAt (rowOf (alongOf (scaledOf g (weightsOf n))) k) j
     ≡ pos 4 *ℤ (cubic (g .r1 .a) (g .r1 .b) (g .r1 .c) (g .r1 .d) n (pos k) +ℤ pos 3 *ℤ pos j *ℤ quadratic (g .r2 .a) (g .r2 .b) (g .r2 .c) n (pos k)
     +ℤ pos 3 *ℤ pos j *ℤ pos j *ℤ linear (g .r3 .a) (g .r3 .b) n (pos k) +ℤ pos j *ℤ pos j *ℤ pos j *ℤ g .r4 .a)
-unfolding valueOf rowOf alongOf timesOf scaledOf weightedOf weightsOf
+unfolding polynomialAt rowOf alongOf timesOf scaledOf weightedOf weightsOf
 along-weighed g n j k =
     cc (
       weigh1 (g .r1 .a) (g .r1 .b) (g .r1 .c) (g .r1 .d) (g .r1 .e) n (pos k),
@@ -114,7 +114,7 @@ unfolding slopesOf columnsOf differencesOf alongRows
 along-columns p M j k = refl
 
 pub along-is : (p : Matrix5) (i j k : ℕ)
-    → valueOf (rowOf (alongOf (polynomialOf p (pos (i + j + k)))) k) j ≡ pos 4 *ℤ cubicSum (alongRows p) (pos i) (pos j) (pos k)
+    → polynomialAt (rowOf (alongOf (polynomialOf p (pos (i + j + k)))) k) j ≡ pos 4 *ℤ cubicSum (alongRows p) (pos i) (pos j) (pos k)
 unfolding polynomialOf
 along-is p i j k =
     along-weighed (slopesOf (columnsOf (slopesOf p))) (pos (i + j + k)) j k
@@ -145,10 +145,10 @@ slope4 : (b c d e x : ℤ)
 slope4 = over 5 _ λ ρ. simp (poly, ρ) (omega arith)
 
 inward-weighed : (g : Matrix5) (n : ℤ) (j k : ℕ)
-    → valueOf (rowOf (inwardOf (scaledOf g (weightsOf n))) k) j
+    → polynomialAt (rowOf (inwardOf (scaledOf g (weightsOf n))) k) j
     ≡ pos 4 *ℤ (cubic (g .r0 .b) (g .r0 .c) (g .r0 .d) (g .r0 .e) n (pos k) +ℤ pos 3 *ℤ pos j *ℤ quadratic (g .r1 .b) (g .r1 .c) (g .r1 .d) n (pos k)
     +ℤ pos 3 *ℤ pos j *ℤ pos j *ℤ linear (g .r2 .b) (g .r2 .c) n (pos k) +ℤ pos j *ℤ pos j *ℤ pos j *ℤ g .r3 .b)
-unfolding valueOf rowOf inwardOf slopeOf scaledOf weightedOf weightsOf
+unfolding polynomialAt rowOf inwardOf slopeOf scaledOf weightedOf weightsOf
 inward-weighed g n j k =
     cc (
       slope0 (g .r0 .a) (g .r0 .b) (g .r0 .c) (g .r0 .d) (g .r0 .e) n (pos k),
@@ -193,7 +193,7 @@ unfolding slopesOf columnsOf differencesOf inwardRows
 inward-columns d M j k = refl
 
 pub inward-is : (p : Matrix5) (i j k : ℕ)
-    → valueOf (rowOf (inwardOf (polynomialOf p (pos (i + j + k)))) k) j ≡ pos 4 *ℤ cubicSum (inwardRows p) (pos i) (pos j) (pos k)
+    → polynomialAt (rowOf (inwardOf (polynomialOf p (pos (i + j + k)))) k) j ≡ pos 4 *ℤ cubicSum (inwardRows p) (pos i) (pos j) (pos k)
 unfolding polynomialOf
 inward-is p i j k =
     inward-weighed (slopesOf (columnsOf (slopesOf p))) (pos (i + j + k)) j k
@@ -210,8 +210,8 @@ times n m = factorial 3 / (factorial (3 - n - m) * factorial m * factorial n)
 abbrev weight : ℤ → ℤ → ℤ → ℕ → ℕ → ℤ
 weight i j k n m = pos (times n m) *ℤ (power i (3 - n - m) *ℤ power j m *ℤ power k n)
 
-weight-is : (i j k n m : ℕ) → pos (tangents.cubic i j k (3 - n - m) m n) ≡ weight (pos i) (pos j) (pos k) n m
-unfolding tangents.cubic
+weight-is : (i j k n m : ℕ) → pos (tangents.cubicBernstein i j k (3 - n - m) m n) ≡ weight (pos i) (pos j) (pos k) n m
+unfolding tangents.cubicBernstein
 weight-is i j k n m =
     ap (λ (z : ℤ). pos (times n m) *ℤ (z *ℤ pos (j ^ m) *ℤ pos (k ^ n))) (power-is i (3 - n - m))
     ∙ ap (λ (z : ℤ). pos (times n m) *ℤ (power (pos i) (3 - n - m) *ℤ z *ℤ pos (k ^ n))) (power-is j m)
@@ -233,21 +233,21 @@ row3 = over 4 _ λ ρ. simp (poly, ρ) (omega arith)
 four-rows : (r s t u r′ s′ t′ u′ : ℤ) → r ≡ r′ → s ≡ s′ → t ≡ t′ → u ≡ u′ → pos 0 +ℤ r +ℤ s +ℤ t +ℤ u ≡ r′ +ℤ s′ +ℤ t′ +ℤ u′
 four-rows r s t u r′ s′ t′ u′ e f g h = cc (zero-add r)
 
-sum-is : (D : ℕ → ℕ → ℤ) (i j k : ℕ)
-    → tangents.cubicSum D i j k
+pub sum-is : (D : ℕ → ℕ → ℤ) (i j k : ℕ)
+    → tangents.cubicBernsteinSum D i j k
     ≡ cubic (D 0 0) (D 0 1) (D 0 2) (D 0 3) (pos i) (pos j) +ℤ pos 3 *ℤ pos k *ℤ quadratic (D 1 0) (D 1 1) (D 1 2) (pos i) (pos j)
     +ℤ pos 3 *ℤ pos k *ℤ pos k *ℤ linear (D 2 0) (D 2 1) (pos i) (pos j) +ℤ pos k *ℤ pos k *ℤ pos k *ℤ D 3 0
-unfolding tangents.cubicSum sumBy
+unfolding tangents.cubicBernsteinSum sumBy
 sum-is D i j k =
     sum-same _ _ 4 (λ n a. sum-same _ _ (4 - n) (λ m b. ap (λ (z : ℤ). z *ℤ D n m) (weight-is i j k n m)))
     ∙ four-rows _ _ _ _ _ _ _ _ (row0 (pos i) (pos j) (pos k) (D 0 0) (D 0 1) (D 0 2) (D 0 3)) (row1 (pos i) (pos j) (pos k) (D 1 0) (D 1 1) (D 1 2))
     (row2 (pos i) (pos j) (pos k) (D 2 0) (D 2 1)) (row3 (pos i) (pos j) (pos k) (D 3 0))
 
 module _ (p : ℕ → ℤ) (s : Side) (i j k : ℕ) where
-  pub along-sum : tangents.cubicSum (tangents.along p s) i j k ≡ cubicSum (alongRows (rowsOf (control p s))) (pos i) (pos j) (pos k)
+  pub along-sum : tangents.cubicBernsteinSum (tangents.along p s) i j k ≡ cubicSum (alongRows (rowsOf (control p s))) (pos i) (pos j) (pos k)
   unfolding cubicSum alongRows tangents.along
   along-sum = sum-is (tangents.along p s) i j k
 
-  pub inward-sum : tangents.cubicSum (tangents.inward p s) i j k ≡ cubicSum (inwardRows (rowsOf (control p s))) (pos i) (pos j) (pos k)
+  pub inward-sum : tangents.cubicBernsteinSum (tangents.inward p s) i j k ≡ cubicSum (inwardRows (rowsOf (control p s))) (pos i) (pos j) (pos k)
   unfolding cubicSum inwardRows tangents.inward
   inward-sum = sum-is (tangents.inward p s) i j k

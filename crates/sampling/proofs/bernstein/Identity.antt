@@ -9,7 +9,7 @@ use Rattle.sampling.specs.declared.bernstein.Vector5.{Vector5}
 use Rattle.sampling.specs.declared.bernstein.Matrix5.{Matrix5}
 use Rattle.sampling.specs.bernstein.Sums.{vector5, linear, quadratic, cubic, quartic, quarticSum}
 use Rattle.sampling.specs.bernstein.Sums.{differencesOf, slopesOf, columnsOf, weightedOf, scaledOf, weightsOf}
-use Rattle.sampling.specs.bernstein.Sums.{polynomialOf, valueOf, stateOf, statesOf, stepOf, stepsOf, rowOf, firstsOf}
+use Rattle.sampling.specs.bernstein.Sums.{polynomialOf, polynomialAt, stateOf, statesOf, stepOf, stepsOf, rowOf, firstsOf}
 
 -- ---- one more weight in the first: x + y for x
 pub linear-turn : (a b x y : ℤ) → linear a b x y ≡ linear a (b -ℤ a) (x +ℤ y) y
@@ -69,7 +69,7 @@ pub vector5-same : {a b c d e a′ b′ c′ d′ e′ : ℤ} → a ≡ a′ →
 vector5-same p q r s t = cc
 
 pub state-step : (f : Vector5) (x : ℕ) → stepOf (stateOf f x) ≡ stateOf f (x + 1)
-unfolding stepOf stateOf valueOf
+unfolding stepOf stateOf polynomialAt
 state-step f x =
     vector5-same (step-value (f .a) (f .b) (f .c) (f .d) (f .e) (pos x)) (step-first (f .b) (f .c) (f .d) (f .e) (pos x))
     (step-second (f .c) (f .d) (f .e) (pos x)) (step-third (f .d) (f .e) (pos x)) refl
@@ -77,7 +77,7 @@ state-step f x =
 pub state-start : (f : Vector5)
     → vector5 (f .a) (f .b +ℤ f .c +ℤ f .d +ℤ f .e) (pos 2 *ℤ f .c +ℤ pos 6 *ℤ f .d +ℤ pos 14 *ℤ f .e) (pos 6 *ℤ f .d +ℤ pos 36 *ℤ f .e) (pos 24 *ℤ f .e)
     ≡ stateOf f 0
-unfolding stateOf valueOf
+unfolding stateOf polynomialAt
 state-start f = let e = start-is (f .a) (f .b) (f .c) (f .d) (f .e) in vector5-same (e .0) (e .1) (e .2) (e .3) refl
 
 -- ---- by powers of the second weight instead of the third; the rows' differences stand for the columns'
@@ -158,8 +158,8 @@ turn-all c M j k =
       linear-turn (c .r3 .a) (c .r3 .b) M k,
     )
 
-weighed : (g : Matrix5) (n : ℤ) (j k : ℕ) → valueOf (rowOf (scaledOf g (weightsOf n)) k) j ≡ byColumns n (pos j) (pos k) g
-unfolding valueOf rowOf scaledOf weightedOf weightsOf
+weighed : (g : Matrix5) (n : ℤ) (j k : ℕ) → polynomialAt (rowOf (scaledOf g (weightsOf n)) k) j ≡ byColumns n (pos j) (pos k) g
+unfolding polynomialAt rowOf scaledOf weightedOf weightsOf
 weighed g n j k =
     cc (
       weigh0 (g .r0 .a) (g .r0 .b) (g .r0 .c) (g .r0 .d) (g .r0 .e) n (pos k),
@@ -172,7 +172,7 @@ weighed g n j k =
     )
 
 -- the polynomial at j and k is the sum at i, j and k, where the three make n
-pub polynomial-sum : (p : Matrix5) (i j k : ℕ) → valueOf (rowOf (polynomialOf p (pos (i + j + k))) k) j ≡ quarticSum p (pos i) (pos j) (pos k)
+pub polynomial-sum : (p : Matrix5) (i j k : ℕ) → polynomialAt (rowOf (polynomialOf p (pos (i + j + k))) k) j ≡ quarticSum p (pos i) (pos j) (pos k)
 unfolding polynomialOf
 polynomial-sum p i j k =
     weighed (slopesOf (columnsOf (slopesOf p))) (pos (i + j + k)) j k

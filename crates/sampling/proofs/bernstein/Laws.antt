@@ -20,7 +20,7 @@ use Rattle.numbers.proofs.Nearest.{round-within-half}
 use Rattle.sampling.specs.declared.bernstein.Vector5.{Vector5}
 use Rattle.sampling.specs.declared.bernstein.Matrix5.{Matrix5}
 use Rattle.sampling.specs.bernstein.Sums.{Sized, AllSized, Tapered, AllTapered, differencesOf, slopesOf, columnsOf, weightedOf, weightsOf, scaledOf}
-use Rattle.sampling.specs.bernstein.Sums.{polynomialOf, valueOf, stateOf, statesOf, rowOf}
+use Rattle.sampling.specs.bernstein.Sums.{polynomialOf, polynomialAt, stateOf, statesOf, rowOf}
 
 -- ---- numbers by their bits
 abbrev pub bits : ℤ → ℤ
@@ -52,7 +52,7 @@ round-between n d l h o f t = (
   step-le d (round n d) h o (upper n d (round n d) h o (round-within-half n d o) t),
 )
 
-abs-bounds : (z : ℤ) (k : ℕ) → natAbs z ≤ k → (negℤ (pos k) ≤ℤ z) × (z ≤ℤ pos k)
+pub abs-bounds : (z : ℤ) (k : ℕ) → natAbs z ≤ k → (negℤ (pos k) ≤ℤ z) × (z ≤ℤ pos k)
 abs-bounds z k = as-diff z λ p n e. simp (diff, e) (λ h. (omega arith, omega arith))
 
 pub bounds-abs : (z : ℤ) (k : ℕ) → negℤ (pos k) ≤ℤ z → z ≤ℤ pos k → natAbs z ≤ k
@@ -250,8 +250,8 @@ sum4 : (p q r s : ℤ) (i j k m : ℕ) → natAbs p ≤ i → natAbs q ≤ j →
 sum4 p q r s i j k m f g h o = abs-add-le (p +ℤ q +ℤ r) s (i + j + k) m (sum3 p q r i j k f g h) o
 
 module _ (f : Vector5) (x A : ℕ) (l : x ≤ 16) (h : Tapered A f) where
-  pub value-size : natAbs (valueOf f x) ≤ 5 * (65536 * A)
-  unfolding valueOf
+  pub value-size : natAbs (polynomialAt f x) ≤ 5 * (65536 * A)
+  unfolding polynomialAt
   value-size =
       let s1 = horner (f .d) (f .e) x (16 * A) A l (h .3) (h .4) in
       let s2 = horner (f .c) (f .d +ℤ pos x *ℤ f .e) x (256 * A) (32 * A) l (h .2) (omega (arith, s1)) in

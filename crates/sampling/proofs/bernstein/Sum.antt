@@ -82,7 +82,7 @@ bernstein-is p s i j k = sum-is (control p s) i j k
 add-le : (a b c d : ℤ) → a ≤ℤ b → c ≤ℤ d → (a +ℤ c) ≤ℤ (b +ℤ d)
 add-le = over 4 _ λ ρ. simp poly (omega arith)
 
-sum-le : (f g : ℕ → ℤ) (n : ℕ) → ((m : ℕ) → m < n → f m ≤ℤ g m) → sum f n ≤ℤ sum g n
+pub sum-le : (f g : ℕ → ℤ) (n : ℕ) → ((m : ℕ) → m < n → f m ≤ℤ g m) → sum f n ≤ℤ sum g n
 unfolding sumBy
 sum-le f g zero h = nonneg 0
 sum-le f g (suc n) h = add-le (sum f n) (sum g n) (f n) (g n) (sum-le f g n (λ m l. h m (omega arith))) (h n (omega arith))
@@ -108,10 +108,10 @@ module _ (p : ℕ → ℤ) (s : Side) (i j k : ℕ) (low high : ℤ) (h : (n m :
   sum-to = subst (λ (z : ℤ). sumOf (control p s) i j k ≤ℤ z) (all-same high i j k) (sums-le (control p s) (λ n m. high) i j k (λ n m l. h n m l .1))
 
 -- a sum of numbers within B
-less : (d b : ℤ) → d *ℤ negℤ b ≡ negℤ (b *ℤ d)
+pub less : (d b : ℤ) → d *ℤ negℤ b ≡ negℤ (b *ℤ d)
 less = over 2 _ λ ρ. simp poly (omega arith)
 
-more : (d b : ℤ) → d *ℤ b ≡ b *ℤ d
+pub more : (d b : ℤ) → d *ℤ b ≡ b *ℤ d
 more = over 2 _ λ ρ. simp poly (omega arith)
 
 pub sum-size : (p : ℕ → ℤ) (s : Side) (i j k B : ℕ)

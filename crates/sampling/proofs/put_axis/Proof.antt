@@ -10,14 +10,14 @@ use Rattle.sampling.specs.declared.bernstein.Matrix5.{Matrix5}
 use Rattle.sampling.specs.bernstein.Sums.{AllSized, AllTapered, polynomialOf, statesOf, stepsOf, firstsOf, rowOf}
 use Rattle.sampling.proofs.bernstein.Laws.{polynomial-tapers, states-size}
 use Rattle.sampling.proofs.bernstein.Identity.{states-step, firsts-row}
-use Rattle.sampling.specs.Grid.{before, RowsPut}
+use Rattle.sampling.specs.Grid.{samplesBefore, RowsPut}
 use Rattle.sampling.proofs.Lists.{rows-none, rows-step, place-next, row-sampleable, row-room}
 use Rattle.sampling.proofs.put_axis.Statement.{statement}
 use Rattle.sampling.proofs.put_axis.Tie as tie
 
 abbrev Inv-loop : tie.InvT-loop
 Inv-loop n points₀ axis s₀ at₀ k₀ points s at k =
-    (k ≤ n + 1) × (at ≡ 3 * before n k + axis)
+    (k ≤ n + 1) × (at ≡ 3 * samplesBefore n k + axis)
     × ((p : Matrix5) → s₀ ≡ statesOf (polynomialOf p (pos n)) 0 → (s ≡ statesOf (polynomialOf p (pos n)) k) × RowsPut p n axis k points₀ points)
 
 abbrev μ-loop : tie.MeasureT-loop
@@ -61,7 +61,7 @@ row-of : (c : Matrix5) (k : ℕ) (s : Matrix5) (e : Vector5) → e ≡ firstsOf 
 row-of c k s e h g = h ∙ ap firstsOf g ∙ firsts-row c k
 
 loop-holds : tie.Need-loop-holds Inv-loop μ-loop
-unfolding before
+unfolding samplesBefore
 loop-holds c = (omega arith, omega arith, λ p h. (h, rows-none p (c .before .args .n) (c .before .args .axis) (c .before .args .points .now)))
 
 put-row-requires : tie.Need-put-row-requires Inv-loop μ-loop
@@ -95,7 +95,7 @@ loop-again a =
     let l = t .before .loop in
     let r = a .before .before .before .before in
     let s = p t in
-    let place : l .at + 3 * (n t - l .k + 1) ≡ 3 * before (n t) (l .k + 1) + s .args .axis =
+    let place : l .at + 3 * (n t - l .k + 1) ≡ 3 * samplesBefore (n t) (l .k + 1) + s .args .axis =
     place-next (s .args .p) (n t) (s .args .axis) (l .k) (l .at) (s .args .points .now) (l .points) _ (below t) (s .pre .1) (l .inv .1) (inv t .1)
     (r .row .result) (row-of (c t) (l .k) (l .s) (r .row .result) (r .row .ensures) (inv t .0)) (a .before .before .put-row .ensures) in (
       omega (arith, below t),

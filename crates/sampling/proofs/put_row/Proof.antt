@@ -11,7 +11,7 @@ use mir.Val.{toZ, ofZ}
 use mir.Facts.{toZ-ofZ}
 use Rattle.paper.specs.Numbers.{round}
 use Rattle.sampling.specs.declared.bernstein.Vector5.{Vector5}
-use Rattle.sampling.specs.bernstein.Sums.{Sized, stateOf, valueOf, stepOf}
+use Rattle.sampling.specs.bernstein.Sums.{Sized, stateOf, polynomialAt, stepOf}
 use Rattle.sampling.proofs.bernstein.Laws.{bits, state-size, sized-bits}
 use Rattle.sampling.proofs.bernstein.Identity.{state-step}
 use Rattle.sampling.specs.Grid.{RowPut}
@@ -26,7 +26,7 @@ Inv-loop n first count points₀ from g₀ j₀ points g j =
 abbrev μ-loop : tie.MeasureT-loop
 μ-loop n first count points₀ from g₀ j₀ points g j = count - j
 
-value-same : (e : Vector5) (g : Vector5) (x : ℕ) → g ≡ stateOf e x → g .a ≡ valueOf e x
+value-same : (e : Vector5) (g : Vector5) (x : ℕ) → g ≡ stateOf e x → g .a ≡ polynomialAt e x
 unfolding stateOf
 value-same e g x h = ap (λ (f : Vector5). f .a) h
 
@@ -61,7 +61,7 @@ module _ (t : tie.In-loop Inv-loop μ-loop) where
       subst (λ (g : Vector5). Sized (2 ^ 60) g) (sym (inv .0))
       (state-size e (first + j) (5 * 2 ^ 34) (omega (arith, below, p .pre .0 .short)) (p .pre .0 .tapers) (lit≤ tt))
 
-  value-is : bits (t .before .loop .g .a) ≡ valueOf e (first + j)
+  value-is : bits (t .before .loop .g .a) ≡ polynomialAt e (first + j)
   value-is = sized-bits (t .before .loop .g .a) (2 ^ 60) (sized .0) (lit≤ tt) ∙ value-same e (t .before .loop .g) (first + j) (inv .0)
 
   small : natAbs (bits (t .before .loop .g .a)) ≤ 2 ^ 27 * p .args .n ^ 4

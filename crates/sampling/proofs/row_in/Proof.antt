@@ -5,7 +5,7 @@ use borrow.Author.Needs.{needs}
 use lib.Dec.{lit≤}
 use lib.IntN.{ℤ, natAbs}
 use Rattle.sampling.specs.declared.bernstein.Vector5.{Vector5}
-use Rattle.sampling.specs.bernstein.Sums.{Tapered, rowOf, valueOf}
+use Rattle.sampling.specs.bernstein.Sums.{Tapered, rowOf, polynomialAt}
 use Rattle.sampling.proofs.bernstein.Laws.{bits, sized-bits, value-size}
 use Rattle.sampling.proofs.bernstein.Tapering.{widened}
 use Rattle.sampling.proofs.row_in.Statement.{statement}
@@ -16,7 +16,7 @@ module _ (s : tie.Start) where
   wide f A l h = widened f A (5 * 2 ^ 34) l h
 
   -- a value, by its bits
-  bit : (f : Vector5) (z : ℤ) → Tapered (5 * 2 ^ 34) f → z ≡ valueOf f (s .args .k) → bits z ≡ valueOf f (s .args .k)
+  bit : (f : Vector5) (z : ℤ) → Tapered (5 * 2 ^ 34) f → z ≡ polynomialAt f (s .args .k) → bits z ≡ polynomialAt f (s .args .k)
   bit f z h q =
       sized-bits z (5 * (65536 * (5 * 2 ^ 34))) (subst (λ (y : ℤ). natAbs y ≤ 5 * (65536 * (5 * 2 ^ 34))) (sym q) (value-size f (s .args .k) (5 * 2 ^ 34) (s .pre .1) h)) (lit≤ tt) ∙ q
 

@@ -11,7 +11,7 @@ use mir.Val.{SFits, toZ}
 use mir.Facts.{toZ-ofZ}
 use mir.ValLaws.{toZ-pos}
 use Rattle.numbers.proofs.Laws.{abs-mul-le}
-use Rattle.sampling.specs.bernstein.Sums.{valueOf}
+use Rattle.sampling.specs.bernstein.Sums.{polynomialAt}
 use Rattle.sampling.proofs.bernstein.Laws.{size-fits, horner}
 use Rattle.sampling.proofs.value_at.Statement.{statement}
 use Rattle.sampling.proofs.value_at.Tie as tie
@@ -119,7 +119,7 @@ add-result c =
     simp (plain s, toZ-ofZ, k .0, k .1, k .2, k .3, k .4, k .5, k .6, k .7, k .8, k .9, k .10, k .11, k .12) (k .12)
 
 returns : tie.Need-returns
-unfolding valueOf
+unfolding polynomialAt
 returns c =
     let s : tie.Start = search in
     let k = facts s in

@@ -3,7 +3,7 @@ use mathlib.Core.Path.{sym, ap, _∙_, subst}
 use Prim.Native.Nat.{_*_, _^_}
 use borrow.Author.Needs.{needs}
 use Rattle.sampling.specs.declared.bernstein.Vector5.{Vector5}
-use Rattle.sampling.specs.bernstein.Sums.{Tapered, valueOf}
+use Rattle.sampling.specs.bernstein.Sums.{Tapered, polynomialAt}
 use Rattle.sampling.proofs.bernstein.Laws.{row-tapers}
 use Rattle.sampling.proofs.value_in.Statement.{statement}
 use Rattle.sampling.proofs.value_in.Tie as tie
@@ -16,7 +16,7 @@ value-at-requires c κs =
     )
 
 returns : tie.Need-returns
-returns c = search needs ∙ ap (λ (e : Vector5). valueOf e (c .before .before .args .j)) (c .before .row-in .ensures)
+returns c = search needs ∙ ap (λ (e : Vector5). polynomialAt e (c .before .before .args .j)) (c .before .row-in .ensures)
 
 pub value-in-spec : {M : Type 1} → statement M
 value-in-spec = tie.close (tie.spec (λ c κs. search needs) value-at-requires returns)

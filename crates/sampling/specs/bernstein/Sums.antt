@@ -95,12 +95,12 @@ unfoldable pub polynomialOf : Matrix5 → ℤ → Matrix5
 polynomialOf p n = scaledOf (slopesOf (columnsOf (slopesOf p))) (weightsOf n)
 
 -- ---- a polynomial of degree four at x, and its differences there
-unfoldable pub valueOf : Vector5 → ℕ → ℤ
-valueOf f x = f .a +ℤ pos x *ℤ (f .b +ℤ pos x *ℤ (f .c +ℤ pos x *ℤ (f .d +ℤ pos x *ℤ f .e)))
+unfoldable pub polynomialAt : Vector5 → ℕ → ℤ
+polynomialAt f x = f .a +ℤ pos x *ℤ (f .b +ℤ pos x *ℤ (f .c +ℤ pos x *ℤ (f .d +ℤ pos x *ℤ f .e)))
 
 unfoldable pub stateOf : Vector5 → ℕ → Vector5
 stateOf f x =
-    vector5 (valueOf f x)
+    vector5 (polynomialAt f x)
     (f .b +ℤ f .c *ℤ pos (2 * x + 1) +ℤ f .d *ℤ pos (3 * (x * x) + 3 * x + 1) +ℤ f .e *ℤ pos (4 * (x * x * x) + 6 * (x * x) + 4 * x + 1))
     (pos 2 *ℤ f .c +ℤ f .d *ℤ pos (6 * x + 6) +ℤ f .e *ℤ pos (12 * (x * x) + 24 * x + 14))
     (pos 6 *ℤ f .d +ℤ f .e *ℤ pos (24 * x + 36))
@@ -129,7 +129,7 @@ firstsOf s = vector5 (s .r0 .a) (s .r1 .a) (s .r2 .a) (s .r3 .a) (s .r4 .a)
 
 -- the polynomial in the second weight alone, for the third weight k
 unfoldable pub rowOf : Matrix5 → ℕ → Vector5
-rowOf c k = vector5 (valueOf (c .r0) k) (valueOf (c .r1) k) (valueOf (c .r2) k) (valueOf (c .r3) k) (valueOf (c .r4) k)
+rowOf c k = vector5 (polynomialAt (c .r0) k) (polynomialAt (c .r1) k) (polynomialAt (c .r2) k) (polynomialAt (c .r3) k) (polynomialAt (c .r4) k)
 
 -- ---- sizes
 -- five numbers within B

@@ -1,10 +1,9 @@
 -- `has_vertex` meets its contract: what is found is whether the vertex is among the corners looked at.
-use mathlib.Core.Path.{_≡_, _∙_}
+use mathlib.Core.Path.{_≡_, sym, _∙_}
 use mathlib.Core.Logic.{⊎-elim}
 use Prim.Native.Nat.{_+_, _-_, _≤_}
-use denote.Ref.{now}
 use Rattle.touching.specs.Sharing.{among}
-use Rattle.touching.proofs.Laws.{found-none, found-here, found-not}
+use Rattle.touching.proofs.Laws.{among-none, found-here, found-not}
 use native.Mathlib.Omega.{arith}
 use borrow.Author.Needs.{needs}
 use Rattle.touching.proofs.has_vertex.Tie as tie
@@ -15,22 +14,14 @@ Inv-loop corners vertex start n found₀ j₀ found j = (j ≤ n) × (found ≡ 
 abbrev μ-loop : tie.MeasureT-loop
 μ-loop corners vertex start n found₀ j₀ found j = n - j
 
-loop-holds : tie.Need-loop-holds Inv-loop μ-loop
-loop-holds c = (omega arith, found-none _ _ _)
-
 cast-u : tie.Need-cast-u Inv-loop μ-loop
 cast-u c = let l = c .before .before .loop in omega (arith, c .shared-slice-known .given (c .before .before .before .args .start + l .j))
 
 loop-again : tie.Need-loop-again Inv-loop μ-loop
 loop-again c =
-    let s : tie.Start Inv-loop μ-loop = search in
-    let l = c .before .before .before .loop in
-    let corners = now (s .args .corners) in (
+    let i : tie.In-loop Inv-loop μ-loop = search in (
       omega arith,
-      ⊎-elim
-          (λ w. w .1 ∙ found-here corners (s .args .start) (l .j) (s .args .vertex) (w .0 .taken))
-          (λ w. w .1 ∙ found-not corners (s .args .start) (l .j) (s .args .vertex) (w .0 .left) (l .found) (l .inv .1))
-          (c .if1 .came),
+      ⊎-elim (λ w. w .1 ∙ found-here _ _ _ _ (w .0 .taken)) (λ w. w .1 ∙ found-not _ _ _ _ (w .0 .left) (i .before .loop .inv .1)) (c .if1 .came),
     )
 
 returns : tie.Need-returns Inv-loop μ-loop
@@ -42,5 +33,5 @@ returns c =
 
 pub has-vertex-spec : {M : Type 1} → Rattle.touching.proofs.has_vertex.Statement.statement M
 has-vertex-spec =
-    tie.close (tie.spec Inv-loop μ-loop loop-holds (λ c. search needs) (λ c. search needs) (λ c. search needs) cast-u (λ c. search needs)
-    (λ c. search needs) loop-again returns)
+    tie.close (tie.spec Inv-loop μ-loop (λ c. (omega arith, sym (among-none _ _ _))) (λ c. search needs) (λ c. search needs) (λ c. search needs) cast-u
+    (λ c. search needs) (λ c. search needs) loop-again returns)

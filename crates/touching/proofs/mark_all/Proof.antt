@@ -1,8 +1,9 @@
 -- `mark_all` meets its contract: the vertices of the first j corners are marked.
 use mathlib.Core.Path.{_≡_, refl}
-use Prim.Native.Nat.{_+_, _-_, _≤_}
+use Prim.Native.Nat.{_+_, _-_, _≤_, _<_}
 use lib.ListN.{length, length-set}
 use denote.Ref.{now}
+use Rattle.paper.specs.Links.{vertexOf}
 use Rattle.touching.specs.Sharing.{AllMarked}
 use Rattle.touching.proofs.Laws.{all-none, all-step}
 use native.Mathlib.Omega.{arith}
@@ -21,21 +22,19 @@ loop-holds c = (omega arith, refl, all-none (now (c .args .corners)) (c .args .s
 cast-u : tie.Need-cast-u Inv-loop μ-loop
 cast-u c = let l = c .before .before .loop in omega (arith, c .shared-slice-known .given (c .before .before .before .args .start + l .j))
 
-slice-write-sharing : tie.Need-slice-write-sharing Inv-loop μ-loop
-slice-write-sharing c =
+-- In the loop: the corner's vertex has its mark.
+inside : (i : tie.In-loop Inv-loop μ-loop) → let s : tie.Start Inv-loop μ-loop = search in
+    vertexOf (now (s .args .corners)) (s .args .start + i .before .loop .j) < length (i .before .loop .sharing)
+inside i =
     let s : tie.Start Inv-loop μ-loop = search in
-    let l = c .before .before .loop in
-    omega (arith, l .inv .1, s .pre .1 (s .args .start + l .j) (omega (arith, s .pre .0)))
+    omega (arith, i .before .loop .inv .1, s .pre .1 (s .args .start + i .before .loop .j) (omega (arith, s .pre .0, i .loop-test .taken)))
 
 loop-again : tie.Need-loop-again Inv-loop μ-loop
 loop-again c =
     let s : tie.Start Inv-loop μ-loop = search in
-    let l = c .before .before .loop in (
-      omega arith,
-      simp length-set (l .inv .1),
-      all-step (now (s .args .corners)) (s .args .start) (l .j) (now (s .args .sharing)) (l .sharing) (l .inv .1)
-          (omega (arith, l .inv .1, s .pre .1 (s .args .start + l .j) (omega (arith, s .pre .0)))) (l .inv .2),
-    )
+    let i : tie.In-loop Inv-loop μ-loop = search in
+    let l = i .before .loop in
+    (omega arith, simp length-set (l .inv .1), all-step _ (s .args .start) (l .j) (now (s .args .sharing)) (l .sharing) (l .inv .1) (inside i) (l .inv .2))
 
 returns : tie.Need-returns Inv-loop μ-loop
 returns c =
@@ -46,5 +45,5 @@ returns c =
 
 pub mark-all-spec : {M : Type 1} → Rattle.touching.proofs.mark_all.Statement.statement M
 mark-all-spec =
-    tie.close (tie.spec Inv-loop μ-loop loop-holds (λ c. search needs) (λ c. search needs) (λ c. search needs) cast-u slice-write-sharing (λ c. search needs)
-    (λ c. search needs) loop-again (λ c. search needs) returns)
+    tie.close (tie.spec Inv-loop μ-loop loop-holds (λ c. search needs) (λ c. search needs)
+    (λ c. search needs) cast-u (λ c. omega (arith, inside search)) (λ c. search needs) (λ c. search needs) loop-again (λ c. search needs) returns)

@@ -11,8 +11,8 @@ abbrev mesh : tie.Start → Mesh
 mesh s = meshOf (now (s .args .coordinates)) (now (s .args .sides)) (now (s .args .corners)) (now (s .args .sharpness))
 
 -- past the checks
-accepts : (t : tie.After-enum-told) → Accepted (mesh (t .before .before .before .before .before .before .before .before))
-accepts t = passed _ (t .before .before .check .ensures) (t .enum-told .given .1)
+accepts : (t : tie.After-enum-told) → let s : tie.Start = search in Accepted (mesh s)
+accepts t = let k : tie.After-check = search in passed _ (k .check .ensures) (t .enum-told .given .1)
 
 returns : tie.Need-returns
 returns c = let s : tie.Start = search in touched-none (mesh s) (s .args .vertex) (now (s .args .marks)) (search needs)
@@ -20,26 +20,24 @@ returns c = let s : tie.Start = search in touched-none (mesh s) (s .args .vertex
 returns-2 : tie.Need-returns-2
 returns-2 c =
     let s : tie.Start = search in
-    let k = c .before .before .before .check in
-    let a = c .before .a .given in
-    touched-refused (mesh s) (s .args .vertex) (now (s .args .marks)) (search needs) (k .result) (a .0 .0) (a .0 .1 .0) (k .ensures) (a .1)
+    let k : tie.After-check = search in
+    touched-refused (mesh s) (s .args .vertex) (now (s .args .marks)) (search needs) (k .check .ensures) (c .before .a .given .1)
 
 returns-3 : tie.Need-returns-3
 returns-3 c =
     let s : tie.Start = search in
-    touched-no-room (mesh s) (s .args .vertex) (now (s .args .marks)) (search needs) (accepts (c .before)) (search needs)
+    touched-no-room (mesh s) (s .args .vertex) (now (s .args .marks)) (search needs) (accepts search) (search needs)
 
 mark-requires : tie.Need-mark-requires
 mark-requires c κs =
-    let s = c .before .before .before .before .before .before .before .before .before .before in
-    let a = accepts (c .before .before) in
+    let s : tie.Start = search in
+    let a = accepts search in
     ((faces (mesh s) a, sums (mesh s) a), (names-few (mesh s) a, search needs))
 
 returns-4 : tie.Need-returns-4
 returns-4 c =
-    let t = c .before .before .before .before .before in
     let s : tie.Start = search in
-    touched-done (mesh s) (s .args .vertex) (now (s .args .marks)) (search needs) (accepts t) (search needs) _ (c .before .before .mark .ensures)
+    touched-done (mesh s) (s .args .vertex) (now (s .args .marks)) (search needs) (accepts search) (search needs) (c .before .before .mark .ensures)
 
 pub touched-spec : {M : Type 1} → Rattle.touching.proofs.touched.Statement.statement M
 touched-spec =

@@ -1,75 +1,26 @@
--- Laws of a call for triangles: runs of corners, the numbers of a run, and what the call answers and leaves.
-use mathlib.Core.Path.{_≡_, refl, sym, ap, _∙_, subst}
-use mathlib.Core.Bool.{Bool, true, false}
+-- Laws of a call for triangles: what it answers and leaves.
+use mathlib.Core.Path.{_≡_, refl, sym, ap, _∙_}
 use mathlib.Core.List.{List}
 use Prim.Native.Nat.{ℕ, _+_, _-_, _*_, _≤_, _<_}
 use native.Mathlib.Omega.{arith}
 use lib.Dec.{eqb, ltb}
 use borrow.Author.Tests.{eqb-false, ltb-false}
-use lib.ListN.{length, getD, take, length-take}
-use lib.Seq.{getD-take}
-use lib.IntN.{ℤ, pos}
-use Rattle.paper.specs.Mesh.{Mesh, cornerCount}
-use Rattle.paper.specs.Numbers.{rounded}
-use Rattle.paper.specs.Refined.{RefinedMesh}
-use Rattle.paper.specs.Net.{netPoints}
-use Rattle.paper.specs.Faults.{Verdict, sound, fault, _orElse_, single, stated, kept}
-use Rattle.paper.specs.Calls.{perCorner, nets, fault16}
+use lib.ListN.{length}
+use lib.IntN.{ℤ}
+use Rattle.paper.specs.Mesh.{Mesh}
+use Rattle.paper.specs.Faults.{sound, fault, _orElse_, single, stated}
+use Rattle.paper.specs.Calls.{fault16}
 use Rattle.paper.specs.File.{noRoom, begins}
 use Rattle.paper.specs.Triangles.{pointList, triangleList, coordinateAt, indexAt, pointsBefore, trianglesBefore, levelVerdict, triangleRoom, Triangulated}
-use Rattle.paper.specs.declared.Answer.{Answer}
 use Rattle.paper.specs.declared.Answer.the-variants.{Done, Refused}
 use Rattle.paper.specs.declared.Triangles.{Triangles}
 use Rattle.mesh.proofs.Links.{values-length}
 use Rattle.mesh.proofs.Ranges.{none-left}
-use Rattle.mesh.proofs.Verdicts.{sound-left, sound-right, unsound, single-sound, past, orElse-fault}
-use Rattle.net.specs.sides.Drawn.{drawn}
-use Rattle.building.specs.writing.Written.{NetsDrawn, NetsWritten}
-use Rattle.building.proofs.writing.Laws.{drawn-written}
-use Rattle.numbering.specs.PointRows.{Stands}
+use Rattle.mesh.proofs.Verdicts.{sound-left, sound-right, single-sound, past, orElse-fault}
 use Rattle.triangles.specs.Checks.{CountedAs}
-use Rattle.triangles.specs.filling.Filled.{Filled}
+use Rattle.triangles.specs.filling.Filled.{TrianglesFilled}
 use Rattle.triangles.specs.Owned.{Pointed}
-use Rattle.numbering.proofs.Stood.{put-as, put-join, filled-list}
-
--- ---- a run of corners more: B says where each corner's part begins
-module _ (B : ℕ → ℕ) (most : ℕ) (rises : (c d : ℕ) → c ≤ d → d ≤ most → B c ≤ B d) (first count : ℕ) (h : first + count ≤ most) where
-  pub run-step : {A : Type 0} (f : ℕ → A) (c run to to′ : ℕ) (old out new : List A) → c + run ≤ count → Stands f (B first) (B (first + c)) 0 to old out
-      → Stands f (B (first + c)) (B (first + c + run)) to to′ out new → Stands f (B first) (B (first + (c + run))) 0 to′ old new
-  run-step f c run to to′ old out new l p q =
-      put-as f (B first) (B (first + c + run)) (B first) (B (first + (c + run))) 0 to′ old new refl
-      (ap B (let z : first + c + run ≡ first + (c + run) = omega arith in z))
-      (put-join f (B first) (B (first + c)) (B (first + c + run)) 0 to to′ old out new
-      (rises first (first + c) (omega arith) (omega arith)) (rises (first + c) (first + c + run) (omega arith) (omega arith)) p q)
-
-  pub run-room : (c run to len : ℕ) → c + run ≤ count → to ≡ 3 * (B (first + c) - B first)
-      → 3 * (B (first + count) - B first) ≤ len → to + 3 * (B (first + c + run) - B (first + c)) ≤ len
-  run-room c run to len l e r =
-      let x = rises first (first + c) (omega arith) (omega arith) in
-      let y = rises (first + c) (first + c + run) (omega arith) (omega arith) in
-      let z = rises (first + c + run) (first + count) (omega arith) (omega arith) in
-      omega arith
-
-  pub run-end : (c run to to′ : ℕ) → c + run ≤ count → to ≡ 3 * (B (first + c) - B first)
-      → to′ ≡ to + 3 * (B (first + c + run) - B (first + c)) → to′ ≡ 3 * (B (first + (c + run)) - B first)
-  run-end c run to to′ l e g =
-      let x = rises first (first + c) (omega arith) (omega arith) in
-      let y = rises (first + c) (first + c + run) (omega arith) (omega arith) in
-      omega (arith, ap B (let z : first + c + run ≡ first + (c + run) = omega arith in z))
-
--- ---- the numbers of a run stand at the beginning of a longer list
-written-part : (K : ℕ → RefinedMesh rounded) (first run : ℕ) (out : List ℤ) → NetsWritten K first run out
-    → NetsWritten K first run (take (perCorner * run) out)
-unfolding NetsWritten
-written-part K first run out w a j p h hj hp = getD-take (perCorner * run) out (perCorner * j + 3 * p + a) (pos 0) (omega arith) ∙ w a j p h hj hp
-
-pub run-nets : (M : Mesh) (table : List ℕ) (refined : List ℤ) (first count n : ℕ) → NetsDrawn M table refined first count → cornerCount M ≡ n → (c run : ℕ)
-    → c + run ≤ count → (out : List ℤ) → perCorner * run ≤ length out → NetsWritten (drawn n table refined) (first + c) run out
-    → take (perCorner * run) out ≡ nets M (first + c) run
-run-nets M table refined first count n d e c run l out long w =
-    drawn-written M table refined first count d (first + c) run (omega arith) (omega arith) (take (perCorner * run) out)
-    (length-take (perCorner * run) out ∙ omega arith)
-    (written-part _ (first + c) run out (rw e w))
+use Rattle.numbering.proofs.Stood.{filled-list}
 
 -- ---- what the call answers and leaves
 module _ (M : Mesh) (links levels : List ℕ) (first count : ℕ) where
@@ -113,12 +64,12 @@ module _ (M : Mesh) (levels : List ℕ) (first count : ℕ) where
 
   module _ (old : List ℤ) (old′ : List ℕ) where
     pub filled-refused : (k p : ℕ) → fault k p ≡ triangleRoom M levels first count (length old) (length old′)
-        → Filled M levels first count old old′ (record { answer = Refused k p; points = 0; triangles = 0 }) old old′
+        → TrianglesFilled M levels first count old old′ (record { answer = Refused k p; points = 0; triangles = 0 }) old old′
     filled-refused k p e = record { answers = e; points-length = refl; triangles-length = refl; points-hold = refl; triangles-hold = refl }
 
     pub filled : (r : Triangles) (points : List ℤ) (triangles : List ℕ) → triangleRoom M levels first count (length old) (length old′) ≡ sound
         → r .answer ≡ Done → CountedAs M levels first count (r .points) (r .triangles) → points ≡ begins (pointList M levels first count) old
-        → triangles ≡ begins (triangleList M levels first count) old′ → Filled M levels first count old old′ r points triangles
+        → triangles ≡ begins (triangleList M levels first count) old′ → TrianglesFilled M levels first count old old′ r points triangles
     filled r points triangles s e c p t = record {
       answers = ap stated e ∙ sym s;
       points-length = rw e (c .points-are ∙ sym points-many);
@@ -140,7 +91,7 @@ module _ (M : Mesh) (links levels : List ℕ) (first count : ℕ) (old : List �
   }
 
   pub triangulated : (r : Triangles) (points : List ℤ) (triangles : List ℕ) → levelVerdict M links first count levels ≡ sound
-      → Filled M levels first count old old′ r points triangles → Triangulated M links levels first count old old′ r points triangles
+      → TrianglesFilled M levels first count old old′ r points triangles → Triangulated M links levels first count old old′ r points triangles
   triangulated r points triangles s f = record {
     answers = past s _ (f .answers);
     points-length = f .points-length;

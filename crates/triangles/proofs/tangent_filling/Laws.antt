@@ -30,7 +30,7 @@ use Rattle.numbering.specs.PointRows.{FilledTo, Fills}
 use Rattle.triangles.specs.Owned.{ShapeOf}
 use Rattle.net_points.specs.writing.Shapes.{shapeGroup, shapeStart, shapeSize}
 use Rattle.net_points.specs.tangent_writing.Paired.{shapePair, PairAim, NetPaired}
-use Rattle.triangles.specs.tangent_filling.Paired.{tangentsBefore, Paired, PairsFilled}
+use Rattle.triangles.specs.tangent_filling.Paired.{tangentsBefore, TangentsPut, PairsFilled}
 use Rattle.triangles.proofs.Own.{in-group, all-is, place-below}
 use Rattle.numbering.proofs.Stood.{filled-list}
 
@@ -81,7 +81,7 @@ module _ (M : Mesh) (levels : List ℕ) (ok : Accepted M) (leveled : Leveled M l
       ∙ tangent-is M levels (pointsBefore M levels c + (shapeStart s g + place)) c g place i e a ∙ pair-is g place e
 
   pub paired : (numbers : List ℤ) → numbers ≡ net → (at to : ℕ) (old out : List ℤ) → to ≡ at + 6 * shapeSize s → NetPaired numbers s third at old out
-      → Paired M levels (tangentsBefore M levels c) (tangentsBefore M levels (c + 1)) at to old out
+      → TangentsPut M levels (tangentsBefore M levels c) (tangentsBefore M levels (c + 1)) at to old out
   paired numbers as-net at to old out e r =
       let q = all-is M levels ok leveled c h s is in
       let n : 6 * shapeSize s ≡ 3 * (2 * pointsBefore M levels (c + 1) - 2 * pointsBefore M levels c) = omega arith in
@@ -99,7 +99,7 @@ module _ (M : Mesh) (levels : List ℕ) (first count : ℕ) where
 
   -- all corners of the range
   pub tangents-filled : (c to : ℕ) (old out : List ℤ) → c ≡ count
-      → Paired M levels (tangentsBefore M levels first) (tangentsBefore M levels (first + c)) 0 to old out → out ≡ begins (tangentList M levels first count) old
+      → TangentsPut M levels (tangentsBefore M levels first) (tangentsBefore M levels (first + c)) 0 to old out → out ≡ begins (tangentList M levels first count) old
   unfolding tangentList
   tangents-filled c to old out e p =
       subst (λ (l : List ℤ). out ≡ begins l old) (same c e)

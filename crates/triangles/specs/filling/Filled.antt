@@ -9,16 +9,8 @@ use Rattle.paper.specs.Faults.{stated, kept}
 use Rattle.paper.specs.File.{begins}
 use Rattle.paper.specs.Triangles.{pointList, triangleList, triangleRoom}
 use Rattle.paper.specs.declared.Triangles.{Triangles}
-use Rattle.building.specs.writing.Written.{NetsDrawn}
-use Rattle.numbering.specs.Meshed.{Of}
 
--- a mesh with levels whose nets of `count` corners from `first` on the refined points give
-pub record Drawing (corners low table levels : List ℕ) (refined : List ℤ) (first count : ℕ) : Type 0 where
-  pub mesh : Mesh
-  pub is : Of mesh corners low table levels
-  pub draws : NetsDrawn mesh table refined first count
-
-pub record Filled (M : Mesh) (levels : List ℕ) (first count : ℕ) (old : List ℤ) (old′ : List ℕ) (r : Triangles) (points : List ℤ) (triangles : List ℕ) : Type 0 where
+pub record TrianglesFilled (M : Mesh) (levels : List ℕ) (first count : ℕ) (old : List ℤ) (old′ : List ℕ) (r : Triangles) (points : List ℤ) (triangles : List ℕ) : Type 0 where
   pub answers : stated (r .answer) ≡ triangleRoom M levels first count (length old) (length old′)
   pub points-length : r .points ≡ kept (stated (r .answer)) (length (pointList M levels first count)) 0
   pub triangles-length : r .triangles ≡ kept (stated (r .answer)) (length (triangleList M levels first count)) 0

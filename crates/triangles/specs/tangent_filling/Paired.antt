@@ -18,8 +18,8 @@ abbrev pub tangentsBefore : Mesh → List ℕ → ℕ → ℕ
 tangentsBefore M levels c = 2 * pointsBefore M levels c
 
 -- the tangents from number a to number b of the list stand from `at` to `to`
-abbrev pub Paired : Mesh → List ℕ → ℕ → ℕ → ℕ → ℕ → List ℤ → List ℤ → Type 0
-Paired M levels = Stands (tangentAt M levels)
+abbrev pub TangentsPut : Mesh → List ℕ → ℕ → ℕ → ℕ → ℕ → List ℤ → List ℤ → Type 0
+TangentsPut M levels = Stands (tangentAt M levels)
 
 pub record PairsFilled (M : Mesh) (levels : List ℕ) (first count : ℕ) (old : List ℤ) (r : Tangents) (tangents : List ℤ) : Type 0 where
   pub answers : stated (r .answer) ≡ single noRoom (ltb (length old) (length (tangentList M levels first count))) (length (tangentList M levels first count))

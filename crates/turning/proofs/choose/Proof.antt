@@ -4,7 +4,7 @@ use denote.Ref.{now}
 use mathlib.Core.Path.{ap}
 use Rattle.paper.specs.Faults.{stated}
 use borrow.Author.Needs.{needs}
-use Rattle.paper.specs.Mesh.{Mesh, meshOf, vertexCount, cornerCount, mostVertices, mostCorners}
+use Rattle.paper.specs.Mesh.{Mesh, meshOf, cornerCount, mostVertices, mostCorners}
 use Rattle.checks.proofs.Laws.{rows-for, room}
 use Rattle.turning.proofs.Laws.{lists-pass, nexted-of, lists-refused, lists-sound, lists-passed}
 use Rattle.turning.proofs.choose.Tie as tie
@@ -21,33 +21,25 @@ check-lists-requires c κs =
 returns : tie.Need-returns
 returns c =
     let s : tie.Start = search in
-    let a = c .before .before .before .before .before .check-lists in
-    let k = c .before .a .given in
-    lists-refused (mesh s) (a .result) (a .ensures .answers) (k .0 .0) (k .0 .1 .0) (now (s .args .states)) (k .1)
+    let a : tie.After-check-lists = search in
+    lists-refused (mesh s) (a .check-lists .ensures .answers) (now (s .args .states)) (c .before .a .given .1)
 
 find-turns-requires : tie.Need-find-turns-requires
 find-turns-requires c κs =
-    let e = c .before .before in
-    let h = e .before .before .before .before in
     let s : tie.Start = search in
-    let a = h .check-lists in
-    let z = lists-pass (mesh s) (lists-sound (mesh s) (a .result) (a .ensures .answers) (e .enum-told .given .1)) in (
-      (
-        z,
-        nexted-of (vertexCount (mesh s)) (now (s .args .sides)) (now (s .args .corners)) (a .last .1 .1 .1 .1 .0) z (omega (arith, a .kept .1 .1 .1 .1 .0))
-            (a .ensures .faced (ap stated (e .enum-told .given .1))),
-      ),
+    let a : tie.After-check-lists = search in
+    let d = c .before .before .enum-told .given .1 in
+    let z = lists-pass (mesh s) (lists-sound (mesh s) (a .check-lists .ensures .answers) d) in (
+      (z, nexted-of z (omega (arith, a .check-lists .kept .1 .1 .1 .1 .0)) (a .check-lists .ensures .faced (ap stated d))),
       (omega (arith, z .few-faces, s .pre .0), s .pre .1),
     )
 
 returns-2 : tie.Need-returns-2
 returns-2 c =
-    let e = c .before .before .before .before .before in
-    let h = e .before .before .before .before in
-    let s = h .before .before .before .before .before .before .before in
-    let a = h .check-lists in
-    let w = c .before .before .find-turns in
-    lists-passed (mesh s) (a .result) (a .ensures .answers) (e .enum-told .given .1) (w .result) (w .last .1 .1 .1 .1 .0) (w .ensures)
+    let s : tie.Start = search in
+    let a : tie.After-check-lists = search in
+    lists-passed (mesh s) (a .check-lists .ensures .answers) (c .before .before .before .before .before .enum-told .given .1)
+    (c .before .before .find-turns .ensures)
 
 pub choose-spec : {M : Type 1} → Rattle.turning.proofs.choose.Statement.statement M
 choose-spec =

@@ -14,27 +14,27 @@ use Rattle.turning.proofs.Stores.{put}
 use Rattle.turning.specs.partners.Keys.{Chains}
 
 -- the chains below corner c
-pub record ChainsTo (lows earliers heads : List ℕ) (c : ℕ) : Type 0 where
+pub record EndChainsTo (lows earliers heads : List ℕ) (c : ℕ) : Type 0 where
   pub earliers-to : EarliersTo lows (λ c. getD earliers c 0) c
   pub lasts-to : LastsTo lows (λ u. getD heads u 0) c
 
-module _ (lows earliers heads : List ℕ) where
-  pub chains-none : Blank heads → ChainsTo lows earliers heads 0
-  unfolding EarliersTo LastsTo
-  chains-none z = record { earliers-to = λ c h. absurd (omega arith); lasts-to = λ u. z u ∙ sym (last-zero (names lows u)) }
+pub chains-none : (lows earliers heads : List ℕ) → Blank heads → EndChainsTo lows earliers heads 0
+unfolding EarliersTo LastsTo
+chains-none lows earliers heads z = record { earliers-to = λ c h. absurd (omega arith); lasts-to = λ u. z u ∙ sym (last-zero (names lows u)) }
 
-  pub chains-all : (c : ℕ) → c ≡ length lows → ChainsTo lows earliers heads c → Chains lows earliers heads
-  chains-all c e k =
+module _ {lows earliers heads : List ℕ} {c : ℕ} where
+  pub chains-all : c ≡ length lows → EndChainsTo lows earliers heads c → Chains lows earliers heads
+  chains-all e k =
       record {
         earliers-are = subst (EarliersTo lows (λ c. getD earliers c 0)) e (k .earliers-to);
         lasts-are = subst (LastsTo lows (λ u. getD heads u 0)) e (k .lasts-to);
       }
 
   -- one corner more: its earlier one is the last with its lower end, and then it is the last
-  pub chains-step : (c : ℕ) → ChainsTo lows earliers heads c → c < length earliers → vertexOf lows c < length heads
-      → ChainsTo lows (set earliers c (getD heads (vertexOf lows c) 0)) (set heads (vertexOf lows c) (c + 1)) (c + 1)
+  pub chains-step : EndChainsTo lows earliers heads c → c < length earliers → vertexOf lows c < length heads
+      → EndChainsTo lows (set earliers c (getD heads (vertexOf lows c) 0)) (set heads (vertexOf lows c) (c + 1)) (c + 1)
   unfolding EarliersTo LastsTo names
-  chains-step c k he hh =
+  chains-step k he hh =
       let v = vertexOf lows c in
       record {
         earliers-to = λ d b.

@@ -27,7 +27,7 @@ pub record Nexted (sides corners table : List ℕ) : Type 0 where
   pub nexts : Column table toNext (next sides) (length corners)
 
 -- the ends of edges, by which corners are followed
-pub record Ended (vertices : ℕ) (lows highs : List ℕ) : Type 0 where
+pub record EdgeEnds (vertices : ℕ) (lows highs : List ℕ) : Type 0 where
   pub few-vertices : vertices ≤ mostVertices
   pub few-corners : length lows ≤ mostCorners
   pub highs-long : length lows ≤ length highs

@@ -12,14 +12,14 @@ use Rattle.turning.specs.declared.visiting.Reach.{Reach}
 use Rattle.turning.specs.declared.visiting.Reach.the-variants.{To, Clash}
 
 -- a round from r
-pub record Rounded (sides corners : List ℕ) (r : ℕ) (old states queue : List ℕ) (tail : ℕ) : Type 0 where
+pub record RoundDone (sides corners : List ℕ) (r : ℕ) (old states queue : List ℕ) (tail : ℕ) : Type 0 where
   pub round : Round sides corners r old states
   pub kept : getD states r 0 ≡ 1
   pub settled : AllSettled sides corners states
   pub queued : Queued (length sides) states queue tail
 
 abbrev pub Wandered : List ℕ → List ℕ → ℕ → List ℕ → Reach → List ℕ → List ℕ → Type 0
-Wandered sides corners r old (To tail) states queue = Rounded sides corners r old states queue tail
+Wandered sides corners r old (To tail) states queue = RoundDone sides corners r old states queue tail
 Wandered sides corners r old Clash states queue = Unturnable sides corners r
 
 -- and the whole: check 35, and where it finds nothing each face has the state that the choice says

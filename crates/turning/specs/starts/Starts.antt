@@ -14,11 +14,11 @@ pub record Startable (sides faces starts : List ℕ) : Type 0 where
   pub faces-long : sumOf sides ≤ length faces
   pub starts-long : length sides ≤ length starts
 
-pub record Started (sides faces starts : List ℕ) (f : ℕ) : Type 0 where
+pub record StartsTo (sides faces starts : List ℕ) (f : ℕ) : Type 0 where
   pub faces-are : (c : ℕ) → c < startOf sides f → getD faces c 0 ≡ faceOf sides c
   pub starts-are : (g : ℕ) → g < f → getD starts g 0 ≡ startOf sides g
 
 -- the corners of a face from `start` on, below c, have its number
-pub record Faced (f start : ℕ) (old new : List ℕ) (c : ℕ) : Type 0 where
+pub record FaceNumbered (f start : ℕ) (old new : List ℕ) (c : ℕ) : Type 0 where
   pub filled : (d : ℕ) → start ≤ d → d < c → getD new d 0 ≡ f
   pub kept : (d : ℕ) → d < start → getD new d 0 ≡ getD old d 0

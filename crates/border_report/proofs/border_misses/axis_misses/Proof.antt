@@ -5,23 +5,10 @@ use lib.Dec.{lit<}
 use denote.Ref.{now}
 use Rattle.border_report.proofs.border_misses.Laws.{miss0, miss1}
 use borrow.Author.Needs.{needs}
-use Rattle.border_report.proofs.border_misses.axis_misses.Statement.{statement}
 use Rattle.border_report.proofs.border_misses.axis_misses.Tie as tie
 
 both : {a b x y : ℕ} → a ≡ x → b ≡ y → max a b ≡ max x y
 both e f = rw (e, f)
-
-row-requires : tie.Need-row-requires
-row-requires c κs = let p = c .before .pre .1 in ((p .1, p .0), (lit< tt, lit< tt, lit< tt, lit< tt))
-
-row-requires-2 : tie.Need-row-requires-2
-row-requires-2 c κs = let p = c .before .before .pre .1 in ((p .1, p .0), (lit< tt, lit< tt, lit< tt, lit< tt))
-
-row-requires-3 : tie.Need-row-requires-3
-row-requires-3 c κs = let p = c .before .before .before .pre .1 in ((p .2, p .0), (lit< tt, lit< tt, lit< tt, lit< tt))
-
-row-requires-4 : tie.Need-row-requires-4
-row-requires-4 c κs = let p = c .before .before .before .before .before .before .pre .1 in ((p .1, p .0), (lit< tt, lit< tt, lit< tt, lit< tt))
 
 row-requires-5 : tie.Need-row-requires-5
 row-requires-5 c κs = let p = c .before .before .before .before .before .before .before .pre .1 in ((p .1, p .0), (lit< tt, lit< tt, lit< tt, lit< tt))
@@ -50,7 +37,7 @@ returns c K e four held-here held-linked held-next j few =
     in
     c .larger-of .ensures j ∙ both across-link across-next
 
-pub axis-misses-spec : {M : Type 1} → statement M
+pub axis-misses-spec : {M : Type 1} → Rattle.border_report.proofs.border_misses.axis_misses.Statement.statement M
 axis-misses-spec =
-    tie.close (tie.spec row-requires row-requires-2 row-requires-3 (λ c κs. search needs) row-requires-4 row-requires-5 row-requires-6
-    side-misses-requires-2 (λ c κs. search needs) returns)
+    tie.close (tie.spec (λ c κs. search needs) (λ c κs. search needs) (λ c κs. search needs) (λ c κs. search needs) (λ c κs. search needs) row-requires-5
+    row-requires-6 side-misses-requires-2 (λ c κs. search needs) returns)

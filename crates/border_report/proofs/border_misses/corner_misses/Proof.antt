@@ -1,10 +1,9 @@
 -- `border_report::border_misses::corner_misses` meets its contract: the rows have the corner's sides on the three axes, and the answer is the larger of
 -- the misses there.
-use mathlib.Core.Path.{_≡_, refl, _∙_}
+use mathlib.Core.Path.{refl, _∙_}
 use Prim.Native.Nat.{ℕ, _<_}
-use native.Mathlib.Omega.{arith}
 use borrow.Author.Needs.{needs}
-use lib.Dec.{lit<, lit≤}
+use lib.Dec.{lit<}
 use denote.Ref.{now}
 use Rattle.paper.specs.Scan.{iterate}
 use Rattle.paper.specs.Numbers.{rounded}
@@ -13,7 +12,6 @@ use Rattle.net.specs.sides.Drawn.{drawn}
 use Rattle.net.specs.lanes.Lanes.{LaneReady, LaneHas}
 use Rattle.net.proofs.CornerRuns.{face-held, lane-has, ready-axis}
 use Rattle.border_report.proofs.border_misses.Laws.{corner-is}
-use Rattle.border_report.proofs.border_misses.corner_misses.Statement.{statement}
 use Rattle.border_report.proofs.border_misses.corner_misses.Tie as tie
 
 -- the rows once they are taken
@@ -44,19 +42,6 @@ module _ (g : tie.After-rings-at) where
       ready-axis _ _ _ (p .0) (start .args .c) 0 2 (start .args .c) (p .1) (p .1) refl (lit< tt) (g .rings-at .result) (g .rings-at .ensures) _ _
       (face-held _ _ _ _ _ (face .take-face .ensures)) (corner .take-corner .ensures)
       (corner .take-corner .ensures .same ∙ face .take-face .ensures .same ∙ p .3) (lit< tt)
-
-take-face-requires : tie.Need-take-face-requires
-take-face-requires c κs = let p = c .before .before .pre .0 in ((p .0, p .1, p .2), (p .3, lit≤ tt))
-
-take-corner-requires : tie.Need-take-corner-requires
-take-corner-requires c κs =
-    let f : tie.After-take-face = search in
-    let p = f .before .before .before .pre .0 in ((p .0, p .1, p .2), f .take-face .ensures .same ∙ p .3)
-
-rings-at-requires : tie.Need-rings-at-requires
-rings-at-requires c κs =
-    let f : tie.After-take-face = search in
-    let p = f .before .before .before .pre .0 in (record { sound = p .0 .sound; table-long = p .0 .table-long; here = p .1 }, p .2)
 
 axis-misses-requires : tie.Need-axis-misses-requires
 axis-misses-requires c κs =
@@ -100,11 +85,11 @@ returns c j few =
     (c .before .before .axis-misses3 .ensures (K 2) e (z .lane-sides3 .ensures .four (K 2) e (has g 2 (lit< tt))) (p .0 2 (lit< tt))
     (p .1 .0 2 (lit< tt)) (p .1 .1 2 (lit< tt)) j few)
 
-pub corner-misses-spec : {M : Type 1} → statement M
+pub corner-misses-spec : {M : Type 1} → Rattle.border_report.proofs.border_misses.corner_misses.Statement.statement M
 corner-misses-spec =
-    tie.close (tie.spec take-face-requires take-corner-requires rings-at-requires
+    tie.close (tie.spec (λ c κs. search needs) (λ c κs. search needs) (λ c κs. search needs)
     (λ c κs. let g : tie.After-rings-at = search in sized g 0 (lit< tt)) (λ c κs. let g : tie.After-rings-at = search in sized g 1 (lit< tt))
     (λ c κs. let l : tie.After-lane-sides = search in sized (l .before .before) 2 (lit< tt)) axis-misses-requires axis-misses-requires-2
     axis-misses-requires-3 (λ c κs. search needs) (λ c κs. search needs)
-    (λ c. let l : tie.After-lane-sides2 = search in let g : tie.After-rings-at = search in
-    corner g .take-corner .ensures .same ∙ face g .take-face .ensures .same) returns)
+    (λ c. let l : tie.After-lane-sides2 = search in let g : tie.After-rings-at = search in corner g .take-corner .ensures .same ∙ face g .take-face .ensures .same)
+    returns)

@@ -12,12 +12,11 @@ use Rattle.paper.specs.Numbers.{rounded}
 use Rattle.paper.specs.Refined.{RefinedMesh}
 use Rattle.paper.specs.Calls.{perCorner}
 use Rattle.paper.specs.Report.{conditions, largestBelow}
-use Rattle.walk.specs.Table.{toNext, toLink, entry}
+use Rattle.walk.specs.Table.{toNext, entry}
 use Rattle.net.specs.sides.Drawn.{drawn}
 use Rattle.border_report.specs.four.Four.{inMisses}
-use Rattle.border_report.specs.border_misses.Held.{HeldAll, cornerMiss}
+use Rattle.border_report.specs.border_misses.Held.{NetHeldAll, cornerMiss}
 use Rattle.border_report.proofs.border_misses.Laws.{held-of, held-one, one-more}
-use Rattle.border_report.proofs.border_misses.face_misses.Statement.{statement}
 use Rattle.border_report.proofs.border_misses.face_misses.Tie as tie
 
 abbrev Inv-loop : tie.InvT-loop
@@ -58,7 +57,7 @@ module _ (l : tie.In-loop Inv-loop μ-loop) where
   few : l .before .loop .j < mostSides
   few = omega (arith, l .loop-test .taken, begin .pre .1 .0 .run .short)
 
-  held : (q : ℕ) → q < begin .args .k → HeldAll mesh (begin .args .start + q) (now (begin .args .face)) (perCorner * q)
+  held : (q : ℕ) → q < begin .args .k → NetHeldAll mesh (begin .args .start + q) (now (begin .args .face)) (perCorner * q)
   held = held-of _ _ _ (begin .pre .0 .0) _ _ (begin .pre .1 .0 .within) _ (begin .pre .1 .1 .0 .0) (begin .pre .1 .1 .0 .1)
 
 linked-requires : tie.Need-linked-requires Inv-loop μ-loop
@@ -111,10 +110,10 @@ corner-misses-requires c κs =
       (
         held l _ (l .loop-test .taken),
         (
-          subst (λ (d : ℕ). HeldAll (mesh l) d (w .write-corners .last .1 .1 .1 .1 .1 .1 .0) 0) (a .linked .ensures .read)
+          subst (λ (d : ℕ). NetHeldAll (mesh l) d (w .write-corners .last .1 .1 .1 .1 .1 .1 .0) 0) (a .linked .ensures .read)
               (held-one _ _ _ (p .0) _ (link-in a) _ (omega (arith, l .before .loop .inv .1, w .write-corners .kept .1 .1 .1 .1 .1 .1 .0))
               (w .write-corners .ensures)),
-          subst (λ (d : ℕ). HeldAll (mesh l) d (now (begin l .args .face)) (perCorner * f .if1 .q)) (sym (q .1)) (held l _ (q .0)),
+          subst (λ (d : ℕ). NetHeldAll (mesh l) d (now (begin l .args .face)) (perCorner * f .if1 .q)) (sym (q .1)) (held l _ (q .0)),
         ),
       ),
     )
@@ -140,14 +139,14 @@ returns c i few =
     ∙ ap (λ (d : ℕ). largestBelow (s .args .start + d) (cornerMiss (drawn (s .args .n) (now (s .args .table)) (now (s .args .points))) i))
     (let e : l .j ≡ s .args .k = omega arith in e)
 
-pub face-misses-spec : {M : Type 1} → statement M
+pub face-misses-spec : {M : Type 1} → Rattle.border_report.proofs.border_misses.face_misses.Statement.statement M
 face-misses-spec =
     tie.close (tie.spec Inv-loop μ-loop loop-holds (λ c. search (needs, corner-in c)) linked-requires
     (λ c. let l : tie.In-loop Inv-loop μ-loop = search in sym (l .before .loop .inv .1)) write-corners-requires
-    (λ c. let l : tie.In-loop Inv-loop μ-loop = search in search (needs, few l)) (λ c. let l : tie.In-loop Inv-loop μ-loop = search in search (needs, few l))
-    (λ c. search (needs, few (turn c))) (λ c. search (needs, few-next (c .before)))
-    (λ c. let w : tie.After-write-corners Inv-loop μ-loop = search in let l : tie.In-loop Inv-loop μ-loop = search in
-    sym (w .write-corners .kept .1 .1 .1 .1 .1 .1 .0 ∙ l .before .loop .inv .1))
+    (λ c. let l : tie.In-loop Inv-loop μ-loop = search in search (needs, few l))
+    (λ c. let l : tie.In-loop Inv-loop μ-loop = search in search (needs, few l)) (λ c. search (needs, few (turn c)))
+    (λ c. search (needs, few-next (c .before)))
+    (λ c. let w : tie.After-write-corners Inv-loop μ-loop = search in let l : tie.In-loop Inv-loop μ-loop = search in sym (w .write-corners .kept .1 .1 .1 .1 .1 .1 .0 ∙ l .before .loop .inv .1))
     (λ c. let l : tie.In-loop Inv-loop μ-loop = search in sym (l .before .loop .inv .2)) corner-misses-requires (λ c κs. search needs)
     (λ c. let l : tie.In-loop Inv-loop μ-loop = search in search (needs, few l))
     (λ c. let l : tie.In-loop Inv-loop μ-loop = search in omega (arith, l .loop-test .taken)) loop-again returns)

@@ -1,11 +1,11 @@
 -- `border_report::border_misses::largest` meets its contract: so far the largest over the corners before `start`, which is the first corner of a face.
 use mathlib.Core.Path.{_≡_, refl, sym, ap, _∙_}
-use Prim.Native.Nat.{ℕ, zero, suc, _+_, _-_, _*_, _<_, _≤_}
+use Prim.Native.Nat.{ℕ, zero, suc, _-_, _<_, _≤_}
 use native.Mathlib.Omega.{arith}
 use borrow.Author.Needs.{needs}
 use lib.ListN.{length}
 use denote.Ref.{now}
-use Rattle.paper.specs.Corners.{firstOf, sumOf}
+use Rattle.paper.specs.Corners.{firstOf}
 use Rattle.paper.specs.Report.{conditions, largestBelow}
 use Rattle.mesh.proofs.Faces.{first-from}
 use Rattle.net.specs.sides.Drawn.{drawn}
@@ -13,7 +13,6 @@ use Rattle.building.specs.writing.Written.{Faced}
 use Rattle.border_report.specs.four.Four.{inMisses}
 use Rattle.border_report.specs.border_misses.Held.{WholeFace, cornerMiss}
 use Rattle.border_report.proofs.border_misses.Laws.{whole-face, next-first, none-so-far}
-use Rattle.border_report.proofs.border_misses.largest.Statement.{statement}
 use Rattle.border_report.proofs.border_misses.largest.Tie as tie
 
 abbrev Inv-loop : tie.InvT-loop
@@ -37,9 +36,6 @@ loop-holds c = (
   refl,
   λ j few. nothing j ∙ sym (none-so-far _ j),
 )
-
-sides-requires : tie.Need-sides-requires Inv-loop μ-loop
-sides-requires c κs = let s : tie.Start Inv-loop μ-loop = search in omega (arith, s .pre .0 .table-long, c .loop-test .taken)
 
 -- the face
 module _ (a : tie.After-sides Inv-loop μ-loop) where
@@ -100,11 +96,10 @@ returns c j few =
     ∙ ap (λ (k : ℕ). largestBelow k (cornerMiss (drawn (s .args .n) (now (s .args .table)) (now (s .args .points))) j))
     (let e : l .start ≡ s .args .n = omega arith in e)
 
-pub largest-spec : {M : Type 1} → statement M
+pub largest-spec : {M : Type 1} → Rattle.border_report.proofs.border_misses.largest.Statement.statement M
 largest-spec =
-    tie.close (tie.spec Inv-loop μ-loop (λ c κs. search needs) loop-holds sides-requires
+    tie.close (tie.spec Inv-loop μ-loop (λ c κs. search needs) loop-holds (λ c κs. search needs)
     (λ c. let l : tie.In-loop Inv-loop μ-loop = search in sym (l .before .loop .inv .2)) write-corners-requires
-    (λ c. let p : tie.After-write-corners Inv-loop μ-loop = search in let l : tie.In-loop Inv-loop μ-loop = search in
-    sym (p .write-corners .kept .1 .1 .1 .1 .1 .1 .0 ∙ l .before .loop .inv .2)) face-misses-requires
-    (λ c. let a : tie.After-sides Inv-loop μ-loop = search in let s = begin a in search (needs, whole a .within, s .fits .n))
+    (λ c. let p : tie.After-write-corners Inv-loop μ-loop = search in let l : tie.In-loop Inv-loop μ-loop = search in sym (p .write-corners .kept .1 .1 .1 .1 .1 .1 .0 ∙ l .before .loop .inv .2))
+    face-misses-requires (λ c. let a : tie.After-sides Inv-loop μ-loop = search in let s = begin a in search (needs, whole a .within, s .fits .n))
     (λ c. let a : tie.After-sides Inv-loop μ-loop = search in omega (arith, whole a .some, whole a .within)) loop-again returns)

@@ -6,7 +6,6 @@ use mir.Val.{SFits}
 use mir.Facts.{toZ-ofZ}
 use Rattle.border_report.specs.border_misses.Held.{pointIn}
 use borrow.Author.Needs.{needs}
-use Rattle.border_report.proofs.border_misses.point.Statement.{statement}
 use Rattle.border_report.proofs.border_misses.point.Tie as tie
 
 -- the place of the number
@@ -22,7 +21,7 @@ returns c =
     let e = toZ-ofZ f ∙ c .wide .ensures ∙ toZ-ofZ g in
     (e, rw e (s .pre .0 .small (a .k) (s .pre .2)))
 
-pub point-spec : {M : Type 1} → statement M
+pub point-spec : {M : Type 1} → Rattle.border_report.proofs.border_misses.point.Statement.statement M
 point-spec =
     tie.close (tie.spec (λ c. search (needs, inside c)) (λ c. search (needs, inside c)) (λ c. search (needs, inside c)) (λ c. search (needs, inside c))
     inside (λ c κs. search needs) returns)

@@ -9,10 +9,9 @@ use mir.Facts.{toZ-ofZ}
 use Rattle.numbers.proofs.Machine.{abs-fits}
 use Rattle.surface.specs.Sizes.{WrittenSize}
 use Rattle.border_report.specs.misses.Row.{inRow}
-use Rattle.border_report.specs.border_misses.Held.{pointIn, fourOf}
+use Rattle.border_report.specs.border_misses.Held.{fourOf}
 use native.Mathlib.Omega.{arith}
 use borrow.Author.Needs.{needs}
-use Rattle.border_report.proofs.border_misses.row.Statement.{statement}
 use Rattle.border_report.proofs.border_misses.row.Tie as tie
 
 -- a written number is as it was after it is copied
@@ -29,22 +28,6 @@ four-is f p q r s w x y z ew ex ey ez (suc zero) = ex
 four-is f p q r s w x y z ew ex ey ez (suc (suc zero)) = ey
 four-is f p q r s w x y z ew ex ey ez (suc (suc (suc j))) = ez
 
-returns : tie.Need-returns
-returns c =
-    let a = c .before .before .before .before .args in
-    let p = copied _ _ (c .before .before .before .point .ensures) in
-    let q = copied _ _ (c .before .before .point2 .ensures) in
-    let r = copied _ _ (c .before .point3 .ensures) in
-    let s = copied _ _ (c .point4 .ensures) in (
-      four-is (pointIn (a .net .now) (a .at) (a .axis)) (a .p) (a .q) (a .r) (a .s) _ _ _ _ (p .0) (q .0) (r .0) (s .0),
-      record {
-        p0 = p .1;
-        p1 = q .1;
-        p2 = r
-            .1;
-        p3 = s .1;
-      },
-    )
-
-pub row-spec : {M : Type 1} → statement M
-row-spec = tie.close (tie.spec (λ c κs. search needs) (λ c κs. search needs) (λ c κs. search needs) (λ c κs. search needs) returns)
+pub row-spec : {M : Type 1} → Rattle.border_report.proofs.border_misses.row.Statement.statement M
+row-spec =
+    tie.close (tie.spec (λ c κs. search needs) (λ c κs. search needs) (λ c κs. search needs) (λ c κs. search needs) (λ c. search (needs, four-is, copied)))

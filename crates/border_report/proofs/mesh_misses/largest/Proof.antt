@@ -6,7 +6,6 @@ use Rattle.refine.proofs.Accepted.{refinable-of}
 use Rattle.building.proofs.writing.Laws.{faced-of}
 use Rattle.border_report.proofs.mesh_misses.Laws.{ones-named, drawn-all, largest-is}
 use borrow.Author.Needs.{needs}
-use Rattle.border_report.proofs.mesh_misses.largest.Statement.{statement}
 use Rattle.border_report.proofs.mesh_misses.largest.Tie as tie
 
 abbrev mesh : tie.Start → Mesh
@@ -33,5 +32,5 @@ returns c j few =
     ∙ largest-is (mesh s) (s .pre .0) (now (s .args .table)) (now (s .args .points)) _ (s .pre .1 .0) (s .pre .1 .1 .0)
     (c .before .before .before .fill-points .ensures) j few
 
-pub largest-spec : {M : Type 1} → statement M
+pub largest-spec : {M : Type 1} → Rattle.border_report.proofs.mesh_misses.largest.Statement.statement M
 largest-spec = tie.close (tie.spec (λ c. search needs) fill-points-requires largest-requires (λ c. search needs) returns)

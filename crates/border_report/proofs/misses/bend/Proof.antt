@@ -10,7 +10,6 @@ use mir.Facts.{toZ-ofZ}
 use Rattle.numbers.proofs.Poly.{over, poly}
 use Rattle.paper.specs.Borders.{one}
 use Rattle.surface.specs.Sizes.{WrittenSize}
-use Rattle.border_report.proofs.misses.bend.Statement.{statement}
 use Rattle.border_report.proofs.misses.bend.Tie as tie
 
 abbrev total : ℤ → ℤ → ℤ → ℤ
@@ -41,5 +40,5 @@ mul-result-2 c = search (needs, facts c)
 returns : tie.Need-returns
 returns c = let k = facts c in simp (toZ-ofZ, c .fits .b, c .fits .a, c .fits .other, k .0, k .1, k .2, k .3) (refl, k .4)
 
-pub bend-spec : {M : Type 1} → statement M
+pub bend-spec : {M : Type 1} → Rattle.border_report.proofs.misses.bend.Statement.statement M
 bend-spec = tie.close (tie.spec add-result mul-result sub-result mul-result-2 returns)

@@ -9,7 +9,6 @@ use mir.Val.{SFits}
 use mir.Facts.{toZ-ofZ}
 use Rattle.numbers.proofs.Poly.{over, poly}
 use Rattle.paper.specs.Borders.{one}
-use Rattle.border_report.proofs.misses.first_miss.Statement.{statement}
 use Rattle.border_report.proofs.misses.first_miss.Tie as tie
 
 abbrev Fine : ℤ → ℤ → Type 0
@@ -42,5 +41,5 @@ returns c =
     ∙ ap natAbs (same (s .args .c) (s .args .h) (s .args .x) (s .args .bent) (l .lean .result)
     (simp (toZ-ofZ, s .fits .c, s .fits .h, s .fits .x) at (l .lean .ensures .0)))
 
-pub first-miss-spec : {M : Type 1} → statement M
+pub first-miss-spec : {M : Type 1} → Rattle.border_report.proofs.misses.first_miss.Statement.statement M
 first-miss-spec = tie.close (tie.spec (λ c κs. search needs) mul-magnitude (λ c. search (toZ-ofZ, facts c)) magnitude-requires returns)

@@ -8,7 +8,6 @@ use mir.Facts.{toZ-ofZ}
 use Rattle.numbers.proofs.Poly.{over, poly}
 use Rattle.paper.specs.Borders.{one}
 use Rattle.surface.specs.Sizes.{ValueSize}
-use Rattle.border_report.proofs.misses.fourth_miss.Statement.{statement}
 use Rattle.border_report.proofs.misses.fourth_miss.Tie as tie
 
 abbrev total : ℤ → ℤ → ℤ → ℤ
@@ -36,5 +35,5 @@ returns c =
     let k = facts s in
     simp (toZ-ofZ, s .fits .bent, s .fits .t, s .fits .y, k .0, k .1, k .2) at (c .magnitude .ensures)
 
-pub fourth-miss-spec : {M : Type 1} → statement M
+pub fourth-miss-spec : {M : Type 1} → Rattle.border_report.proofs.misses.fourth_miss.Statement.statement M
 fourth-miss-spec = tie.close (tie.spec sub-magnitude (λ c. search (toZ-ofZ, facts c)) (λ c. search (toZ-ofZ, facts c)) magnitude-requires returns)

@@ -13,7 +13,6 @@ use Rattle.numbers.proofs.Machine.{abs-fits}
 use Rattle.paper.specs.Borders.{one}
 use Rattle.surface.specs.Sizes.{ValueSize, CosineSize}
 use lib.Dec.{lit<}
-use Rattle.border_report.proofs.misses.lean.Statement.{statement}
 use Rattle.border_report.proofs.misses.lean.Tie as tie
 
 abbrev Fine : ℤ → ℤ → ℤ → Type 0
@@ -43,5 +42,5 @@ mul-result c = let k = facts c in simp (toZ-ofZ, c .fits .c, c .fits .u, c .fits
 returns : tie.Need-returns
 returns c = let k = facts c in simp (toZ-ofZ, c .fits .c, c .fits .u, c .fits .v, k .0, k .1, product-fits c) (refl, product c)
 
-pub lean-spec : {M : Type 1} → statement M
+pub lean-spec : {M : Type 1} → Rattle.border_report.proofs.misses.lean.Statement.statement M
 lean-spec = tie.close (tie.spec add-result sub-result mul-result returns)

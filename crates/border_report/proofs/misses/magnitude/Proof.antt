@@ -9,7 +9,6 @@ use mir.Facts.{toZ-ofZ}
 use Rattle.numbers.proofs.Machine.{abs-fits}
 use native.Mathlib.Omega.{arith}
 use borrow.Author.Needs.{needs}
-use Rattle.border_report.proofs.misses.magnitude.Statement.{statement}
 use Rattle.border_report.proofs.misses.magnitude.Tie as tie
 
 magnitude-fits : (n : ℕ) → n ≤ 2 ^ 62 → SFits w64 (pos n)
@@ -38,5 +37,5 @@ returns c =
     let n = natAbs (c .before .args .z) in
     rw (product c, toZ-ofZ (magnitude-fits n (c .before .pre)))
 
-pub magnitude-spec : {M : Type 1} → statement M
+pub magnitude-spec : {M : Type 1} → Rattle.border_report.proofs.misses.magnitude.Statement.statement M
 magnitude-spec = tie.close (tie.spec (λ c κs. search needs) mul-result cast-result returns)

@@ -10,7 +10,6 @@ use mir.Facts.{toZ-ofZ}
 use Rattle.numbers.proofs.Poly.{over, poly}
 use Rattle.paper.specs.Borders.{one}
 use Rattle.surface.specs.Sizes.{ValueSize}
-use Rattle.border_report.proofs.misses.second_miss.Statement.{statement}
 use Rattle.border_report.proofs.misses.second_miss.Tie as tie
 
 abbrev total : ℤ → ℤ → ℤ → ℤ → ℤ
@@ -63,7 +62,7 @@ returns c =
     ∙ ap natAbs (same (s .args .c) (s .args .h) (s .args .x) (s .args .y) (s .args .bent) (l .lean .result)
     (simp (toZ-ofZ, f .c, f .x, f .y) at (l .lean .ensures .0)))
 
-pub second-miss-spec : {M : Type 1} → statement M
+pub second-miss-spec : {M : Type 1} → Rattle.border_report.proofs.misses.second_miss.Statement.statement M
 second-miss-spec =
     tie.close (tie.spec (λ c κs. search needs) mul-magnitude (λ c. search (toZ-ofZ, facts c)) sub-magnitude-2 (λ c. search (toZ-ofZ, facts c))
     sub-magnitude-3 magnitude-requires returns)

@@ -8,7 +8,6 @@ use lib.Signed.{ltZ}
 use mir.Facts.{toZ-ofZ}
 use Rattle.mesh.proofs.Scans.{clash}
 use native.Mathlib.Omega.{arith}
-use Rattle.border_report.proofs.misses.sign_of.Statement.{statement}
 use Rattle.border_report.proofs.misses.sign_of.Tie as tie
 
 below : (z : ℤ) → ltZ z (pos 0) ≡ true → negsuc 0 *ℤ z ≡ pos (natAbs z)
@@ -25,5 +24,5 @@ returns c = below (c .before .args .z) (simp (toZ-ofZ, c .before .fits .z) at (c
 returns-2 : tie.Need-returns-2
 returns-2 c = not-below (c .before .args .z) (simp (toZ-ofZ, c .before .fits .z) at (c .if1 .left))
 
-pub sign-of-spec : {M : Type 1} → statement M
+pub sign-of-spec : {M : Type 1} → Rattle.border_report.proofs.misses.sign_of.Statement.statement M
 sign-of-spec = tie.close (tie.spec returns returns-2)

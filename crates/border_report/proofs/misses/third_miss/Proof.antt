@@ -10,7 +10,6 @@ use mir.Facts.{toZ-ofZ}
 use Rattle.numbers.proofs.Poly.{over, poly}
 use Rattle.paper.specs.Borders.{one}
 use Rattle.surface.specs.Sizes.{ValueSize}
-use Rattle.border_report.proofs.misses.third_miss.Statement.{statement}
 use Rattle.border_report.proofs.misses.third_miss.Tie as tie
 
 abbrev total : ℤ → ℤ → ℤ → ℤ → ℤ
@@ -62,6 +61,6 @@ returns c =
     ∙ ap natAbs (same (s .args .c) (s .args .t) (s .args .x) (s .args .y) (s .args .bent) (l .lean .result)
     (simp (toZ-ofZ, f .c, f .t, f .y) at (l .lean .ensures .0)))
 
-pub third-miss-spec : {M : Type 1} → statement M
+pub third-miss-spec : {M : Type 1} → Rattle.border_report.proofs.misses.third_miss.Statement.statement M
 third-miss-spec =
     tie.close (tie.spec (λ c κs. search needs) sub-magnitude sub-magnitude-2 (λ c. search (toZ-ofZ, facts c)) sub-magnitude-3 magnitude-requires returns)

@@ -2,7 +2,6 @@
 use mathlib.Core.Path.{sym, _∙_}
 use Rattle.border_report.proofs.pages.Checks.{many, large, passes}
 use borrow.Author.Needs.{needs}
-use Rattle.border_report.proofs.pages.check.Statement.{statement}
 use Rattle.border_report.proofs.pages.check.Tie as tie
 
 returns : tie.Need-returns
@@ -14,5 +13,5 @@ returns-2 c = large (c .before .before .before .before .args .page) (search need
 returns-3 : tie.Need-returns-3
 returns-3 c = passes (c .before .before .before .before .args .page) (search needs) (sym (c .if2 .left) ∙ c .before .is-above .ensures)
 
-pub check-spec : {M : Type 1} → statement M
+pub check-spec : {M : Type 1} → Rattle.border_report.proofs.pages.check.Statement.statement M
 check-spec = tie.close (tie.spec returns (λ c κs. search needs) returns-2 returns-3)

@@ -2,7 +2,6 @@
 use mathlib.Core.Path.{sym, _∙_}
 use Rattle.border_report.proofs.pages.Checks.{many-both, large-first, large-second, both-pass}
 use borrow.Author.Needs.{needs}
-use Rattle.border_report.proofs.pages.check_merge.Statement.{statement}
 use Rattle.border_report.proofs.pages.check_merge.Tie as tie
 
 returns : tie.Need-returns
@@ -10,9 +9,6 @@ returns c = let a = c .before .before .args in many-both (a .page) (a .other) (s
 
 returns-2 : tie.Need-returns-2
 returns-2 c = let a = c .before .before .before .before .args in many-both (a .page) (a .other) (search needs)
-
-returns-3 : tie.Need-returns-3
-returns-3 c = let a = c .before .before .before .before .before .before .before .args in many-both (a .page) (a .other) (search needs)
 
 returns-4 : tie.Need-returns-4
 returns-4 c =
@@ -31,6 +27,7 @@ returns-6 c =
     both-pass (a .page) (a .other) (search needs) (sym (c .before .before .if4 .left) ∙ c .before .before .before .is-above .ensures)
     (sym (c .if5 .left) ∙ c .before .is-above2 .ensures)
 
-pub check-merge-spec : {M : Type 1} → statement M
+pub check-merge-spec : {M : Type 1} → Rattle.border_report.proofs.pages.check_merge.Statement.statement M
 check-merge-spec =
-    tie.close (tie.spec returns returns-2 (λ c. search needs) returns-3 (λ c κs. search needs) returns-4 (λ c κs. search needs) returns-5 returns-6)
+    tie.close (tie.spec returns returns-2 (λ c. search needs) (λ c. search (needs, many-both)) (λ c κs. search needs) returns-4 (λ c κs. search needs)
+    returns-5 returns-6)

@@ -2,7 +2,6 @@
 use mathlib.Core.Path.{sym, _∙_}
 use Rattle.border_report.proofs.pages.Checks.{above-meshes, above-corners, above-borders, above-refusals, above-misses}
 use borrow.Author.Needs.{needs}
-use Rattle.border_report.proofs.pages.is_above.Statement.{statement}
 use Rattle.border_report.proofs.pages.is_above.Tie as tie
 
 returns : tie.Need-returns
@@ -10,9 +9,6 @@ returns c = above-meshes (c .before .before .before .before .args .page) (search
 
 returns-2 : tie.Need-returns-2
 returns-2 c = above-corners (c .before .before .before .before .before .before .args .page) (search needs) (search needs)
-
-returns-3 : tie.Need-returns-3
-returns-3 c = above-borders (c .before .before .before .before .before .before .before .before .args .page) (search needs) (search needs) (search needs)
 
 returns-4 : tie.Need-returns-4
 returns-4 c =
@@ -26,7 +22,7 @@ returns-5 c =
     needs) (search needs) (search needs)
     (sym (c .before .before .if4 .left) ∙ c .before .before .before .some-above .ensures)
 
-pub is-above-spec : {M : Type 1} → statement M
+pub is-above-spec : {M : Type 1} → Rattle.border_report.proofs.pages.is_above.Statement.statement M
 is-above-spec =
-    tie.close (tie.spec returns returns-2 returns-3 (λ c. search needs) (λ c κs. search needs) returns-4 (λ c. search needs) (λ c κs. search needs)
-    returns-5)
+    tie.close (tie.spec returns returns-2 (λ c. search (needs, above-borders)) (λ c. search needs) (λ c κs. search needs) returns-4 (λ c. search needs)
+    (λ c κs. search needs) returns-5)

@@ -4,7 +4,6 @@ use Rattle.paper.specs.Faults.{stated}
 use Rattle.mesh.proofs.Verdicts.{passed}
 use Rattle.border_report.proofs.pages.Checks.{refused-merge, done-merge}
 use borrow.Author.Needs.{needs}
-use Rattle.border_report.proofs.pages.merge.Statement.{statement}
 use Rattle.border_report.proofs.pages.merge.Tie as tie
 
 returns : tie.Need-returns
@@ -15,11 +14,6 @@ returns c =
 sum-pages-requires : tie.Need-sum-pages-requires
 sum-pages-requires c κs = passed (c .before .before .check-merge .result) (c .before .before .check-merge .ensures) (c .enum-told .given .1)
 
-returns-2 : tie.Need-returns-2
-returns-2 c =
-    let a = c .before .before .before .before .args in
-    let m = c .before .before .before .check-merge in
-    done-merge (a .page) (a .other) _ (passed (m .result) (m .ensures) (c .before .enum-told .given .1)) (c .sum-pages .ensures)
-
-pub merge-spec : {M : Type 1} → statement M
-merge-spec = tie.close (tie.spec (λ c κs. search needs) (λ c. search needs) returns (λ c. search needs) sum-pages-requires returns-2)
+pub merge-spec : {M : Type 1} → Rattle.border_report.proofs.pages.merge.Statement.statement M
+merge-spec =
+    tie.close (tie.spec (λ c κs. search needs) (λ c. search needs) returns (λ c. search needs) sum-pages-requires (λ c. search (needs, done-merge, passed)))

@@ -6,7 +6,6 @@ use Rattle.paper.specs.Report.{lineNumbers}
 use Rattle.border_report.proofs.pages.Lists.{number-at}
 use native.Mathlib.Omega.{arith}
 use borrow.Author.Needs.{needs}
-use Rattle.border_report.proofs.pages.number_of.Statement.{statement}
 use Rattle.border_report.proofs.pages.number_of.Tie as tie
 
 returns : tie.Need-returns
@@ -15,5 +14,5 @@ returns c = number-at (c .before .args .l) (search needs)
 returns-2 : tie.Need-returns-2
 returns-2 c = let e : c .before .args .l ≡ 13 = omega arith in ap (λ (l : ℕ). getD lineNumbers l 0) (sym e)
 
-pub number-of-spec : {M : Type 1} → statement M
+pub number-of-spec : {M : Type 1} → Rattle.border_report.proofs.pages.number_of.Statement.statement M
 number-of-spec = tie.close (tie.spec (λ c. search needs) (λ c. search needs) returns returns-2)

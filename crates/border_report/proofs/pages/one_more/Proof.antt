@@ -3,13 +3,11 @@ use Prim.Native.Nat.{ℕ, _+_, _-_, _≤_}
 use mathlib.Core.Path.{ap}
 use lib.ListN.{getD, replicate}
 use Rattle.paper.specs.Report.{lines, lineNumbers}
-use Rattle.mesh.proofs.Fills.{Filled, filled-none, filled-step}
-use Rattle.border_report.proofs.pages.Lists.{all-lines}
+use Rattle.mesh.proofs.Fills.{Filled, filled-none, filled-step, filled-whole}
 use lib.Dec.{eqb}
 use Rattle.paper.specs.Scan.{pickN}
 use native.Mathlib.Omega.{arith}
 use borrow.Author.Needs.{needs}
-use Rattle.border_report.proofs.pages.one_more.Statement.{statement}
 use Rattle.border_report.proofs.pages.one_more.Tie as tie
 
 abbrev Inv-loop : tie.InvT-loop
@@ -18,9 +16,6 @@ Inv-loop number old new₀ l₀ new l =
 
 abbrev μ-loop : tie.MeasureT-loop
 μ-loop number old new₀ l₀ new l = lines - l
-
-loop-holds : tie.Need-loop-holds Inv-loop μ-loop
-loop-holds c = (omega arith, filled-none _ (replicate lines 0))
 
 add-new : tie.Need-add-new Inv-loop μ-loop
 add-new c = omega (arith, c .before .before .before .pre (c .before .before .loop .l), c .under .ensures .1)
@@ -34,9 +29,9 @@ loop-again c =
     )
 
 returns : tie.Need-returns Inv-loop μ-loop
-returns c = let l = c .before .loop in all-lines _ (l .l) (l .new) (omega arith) (l .inv .1)
+returns c = let l = c .before .loop in filled-whole _ _ (l .new) (l .l) (omega arith) (l .inv .1)
 
-pub one-more-spec : {M : Type 1} → statement M
+pub one-more-spec : {M : Type 1} → Rattle.border_report.proofs.pages.one_more.Statement.statement M
 one-more-spec =
-    tie.close (tie.spec Inv-loop μ-loop loop-holds (λ c κs. search needs) (λ c. search needs) (λ c. search needs) add-new (λ c. search needs)
-    (λ c. search needs) (λ c. search needs) (λ c. search needs) loop-again returns)
+    tie.close (tie.spec Inv-loop μ-loop (λ c. search (needs, filled-none)) (λ c κs. search needs) (λ c. search needs) (λ c. search needs) add-new
+    (λ c. search needs) (λ c. search needs) (λ c. search needs) (λ c. search needs) loop-again returns)

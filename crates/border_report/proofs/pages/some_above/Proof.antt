@@ -1,12 +1,11 @@
 -- `border_report::pages::some_above` meets its contract: the numbers before `i` are not above 2^40.
-use mathlib.Core.Path.{_≡_, refl, sym, _∙_}
+use mathlib.Core.Path.{_≡_, sym, _∙_}
 use Prim.Native.Nat.{_≤_, _-_}
 use lib.ListN.{length, drop}
 use Rattle.paper.specs.Report.{someAbove}
 use Rattle.border_report.proofs.pages.Checks.{some-here, some-later, some-end}
 use native.Mathlib.Omega.{arith}
 use borrow.Author.Needs.{needs}
-use Rattle.border_report.proofs.pages.some_above.Statement.{statement}
 use Rattle.border_report.proofs.pages.some_above.Tie as tie
 
 abbrev Inv-loop : tie.InvT-loop
@@ -14,9 +13,6 @@ Inv-loop numbers i₀ i = (i ≤ length numbers) × (someAbove numbers ≡ someA
 
 abbrev μ-loop : tie.MeasureT-loop
 μ-loop numbers i₀ i = length numbers - i
-
-loop-holds : tie.Need-loop-holds Inv-loop μ-loop
-loop-holds c = (omega arith, refl)
 
 returns : tie.Need-returns Inv-loop μ-loop
 returns c =
@@ -31,7 +27,7 @@ loop-again c =
 returns-2 : tie.Need-returns-2 Inv-loop μ-loop
 returns-2 c = let l = c .before .loop in sym (l .inv .1 ∙ some-end (c .before .before .args .numbers .now) (l .i) (omega arith))
 
-pub some-above-spec : {M : Type 1} → statement M
+pub some-above-spec : {M : Type 1} → Rattle.border_report.proofs.pages.some_above.Statement.statement M
 some-above-spec =
-    tie.close (tie.spec Inv-loop μ-loop loop-holds (λ c. search needs) (λ c. search needs) returns (λ c. search needs) (λ c. search needs) loop-again
-    returns-2)
+    tie.close (tie.spec Inv-loop μ-loop (λ c. search needs) (λ c. search needs) (λ c. search needs) returns (λ c. search needs) (λ c. search needs)
+    loop-again returns-2)

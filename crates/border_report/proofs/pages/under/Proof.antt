@@ -5,7 +5,6 @@ use borrow.Author.Tests.{eq-eqb, ne-eqb}
 use lib.ListN.{getD}
 use Rattle.paper.specs.Report.{lineNumbers}
 use borrow.Author.Needs.{needs}
-use Rattle.border_report.proofs.pages.under.Statement.{statement}
 use Rattle.border_report.proofs.pages.under.Tie as tie
 
 returns : tie.Need-returns
@@ -20,5 +19,5 @@ returns-2 c =
     let n : getD lineNumbers (s .args .l) 0 ≡ s .args .number → ⊥ = λ e. c .if1 .left (c .before .number-of .ensures ∙ e) in
     (rw (ne-eqb (getD lineNumbers (s .args .l) 0) (s .args .number) n), omega arith)
 
-pub under-spec : {M : Type 1} → statement M
+pub under-spec : {M : Type 1} → Rattle.border_report.proofs.pages.under.Statement.statement M
 under-spec = tie.close (tie.spec (λ c κs. search needs) returns returns-2)

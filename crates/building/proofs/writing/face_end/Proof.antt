@@ -7,7 +7,7 @@ use borrow.Author.Needs.{needs}
 use denote.Ref.{now}
 use Rattle.paper.specs.Corners.{sumOf, firstOf, sidesOf}
 use Rattle.mesh.proofs.Faces.{first-from, first-to, first-ends, sides-same}
-use Rattle.building.specs.writing.Written.{Rounds}
+use Rattle.building.specs.writing.Written.{WalksFaces}
 use Rattle.building.proofs.writing.face_end.Statement.{statement}
 use Rattle.building.proofs.writing.face_end.Tie as tie
 
@@ -19,7 +19,7 @@ below c =
     omega (arith, c .face-start .ensures (w .sides) (w .rounds) (w .here), first-from (w .sides) (s .args .c) (w .here), w .here)
 
 -- by any list of sides that the table is of
-ends : (c : tie.After-sides) (sides : List ℕ) → Rounds sides (now (c .before .before .before .args .table)) → let s = c .before .before .before in
+ends : (c : tie.After-sides) (sides : List ℕ) → WalksFaces sides (now (c .before .before .before .args .table)) → let s = c .before .before .before in
     s .args .c < sumOf sides → c .before .face-start .result + c .sides .result ≡ firstOf sides (s .args .c) + sidesOf sides (s .args .c)
 ends c sides r h =
     let d = c .before .before .before .args .c in

@@ -6,19 +6,19 @@ use native.Mathlib.Omega.{arith}
 use denote.Ref.{now}
 use Rattle.paper.specs.Corners.{sumOf, firstOf, previous}
 use Rattle.mesh.proofs.Faces.{first-from}
-use Rattle.building.specs.writing.Written.{Rounds}
+use Rattle.building.specs.writing.Written.{WalksFaces}
 use Rattle.building.proofs.writing.Laws.{sides-some, walk-back, walk-start}
 use Rattle.building.proofs.writing.face_start.Statement.{statement}
 use Rattle.building.proofs.writing.face_start.Tie as tie
 
 abbrev Inv-loop : tie.InvT-loop
-Inv-loop table c start₀ start = (start ≤ c) × ((sides : List ℕ) → Rounds sides table → c < sumOf sides → firstOf sides c ≤ start)
+Inv-loop table c start₀ start = (start ≤ c) × ((sides : List ℕ) → WalksFaces sides table → c < sumOf sides → firstOf sides c ≤ start)
 
 abbrev μ-loop : tie.MeasureT-loop
 μ-loop table c start₀ start = start
 
 -- a step back, by any list of sides that the table is of
-module _ (p : tie.After-previous Inv-loop μ-loop) (sides : List ℕ) (r : Rounds sides (now (p .before .before .before .args .table)))
+module _ (p : tie.After-previous Inv-loop μ-loop) (sides : List ℕ) (r : WalksFaces sides (now (p .before .before .before .args .table)))
     (h : p .before .before .before .args .c < sumOf sides) where
   abbrev d : ℕ
   d = p .before .loop .start

@@ -12,7 +12,7 @@ use Rattle.paper.specs.Corners.{sumOf, firstOf, sidesOf}
 use Rattle.mesh.specs.Tables.{Named}
 use Rattle.mesh.proofs.Faces.{first-from, first-to, first-ends}
 use Rattle.refine.proofs.Accepted.{refinable-of}
-use Rattle.building.specs.writing.Written.{Rounds}
+use Rattle.building.specs.writing.Written.{WalksFaces}
 use Rattle.building.proofs.writing.Laws.{zeros, named-in, asked-of, rounds-of, nets-drawn}
 use Rattle.building.proofs.writing.fill_range.Statement.{statement}
 use Rattle.building.proofs.writing.fill_range.Tie as tie
@@ -24,7 +24,7 @@ module _ (s : tie.Start) where
   sums : sumOf (now (s .args .sides)) ≡ length (now (s .args .corners))
   sums = refinable-of mesh (s .pre .0) .sums
 
-  rounds : Rounds (now (s .args .sides)) (now (s .args .table))
+  rounds : WalksFaces (now (s .args .sides)) (now (s .args .table))
   rounds = rounds-of mesh (s .pre .0) (now (s .args .table)) (s .pre .1 .0)
 
   -- the first and the last corner of the range

@@ -4,7 +4,7 @@ use Prim.Native.Nat.{ℕ, _≤_, _<_, _-_}
 use lib.ListN.{length, length-set}
 use denote.Ref.{now}
 use Rattle.paper.specs.Links.{vertexOf}
-use Rattle.checks.specs.columns.Vertices.{Row}
+use Rattle.checks.specs.columns.Vertices.{HasRow}
 use Rattle.checks.proofs.columns.Laws.{CountedFrom, counted-start, counted-small, counted-step, counted-done}
 use native.Mathlib.Omega.{arith}
 use borrow.Author.Needs.{needs}
@@ -27,7 +27,7 @@ module _ (i : tie.In-loop Inv-loop μ-loop) where
   here : d < length (now (start .args .corners))
   here = search needs
 
-  row : Row (i .before .loop .vertices) (vertexOf (now (start .args .corners)) d)
+  row : HasRow (i .before .loop .vertices) (vertexOf (now (start .args .corners)) d)
   row = omega (arith, i .before .loop .inv .1, start .pre .rowed d here)
 
 add-vertices : tie.Need-add-vertices Inv-loop μ-loop

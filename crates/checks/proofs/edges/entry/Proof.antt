@@ -7,7 +7,7 @@ use denote.Ref.{now}
 use Rattle.paper.specs.Mesh.{mostCorners}
 use Rattle.paper.specs.Links.{vertexOf}
 use Rattle.walk.specs.Table.{toNext, entry}
-use Rattle.checks.specs.columns.Vertices.{vertexRow, leavingHere, arrivingHere, noted, Row}
+use Rattle.checks.specs.columns.Vertices.{vertexRow, leavingHere, arrivingHere, noted, HasRow}
 use Rattle.checks.specs.edges.Entries.{repeated, alone, to, EntryFor}
 use Rattle.checks.proofs.edges.Laws.{entry-again, entry-single, entry-joined}
 use native.Mathlib.Omega.{arith}
@@ -28,7 +28,7 @@ module _ (s : tie.Start) where
   small : length (now (s .args .corners)) ≤ mostCorners
   small = s .pre .0 .2 .small
 
-  row : Row (now (s .args .vertices)) far
+  row : HasRow (now (s .args .vertices)) far
   row = s .pre .0 .2 .rowed next next-in
 
   -- the ways out, for all side counts

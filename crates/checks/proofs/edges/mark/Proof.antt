@@ -6,10 +6,10 @@ use lib.ListN.{length, length-set}
 use denote.Ref.{now}
 use Rattle.paper.specs.Mesh.{mostCorners}
 use Rattle.walk.specs.Table.{rowLength, toNext, toPrevious, valenceHere, entry}
-use Rattle.checks.specs.columns.Vertices.{Row}
+use Rattle.checks.specs.columns.Vertices.{HasRow}
 use Rattle.checks.specs.columns.Chain.{earlierOf, lastOf}
 use Rattle.checks.proofs.columns.Chains.{On, on-head, on-next, on-falls, chained-own}
-use Rattle.checks.proofs.columns.Chains.{Passed, passed-none, passed-few, passed-more, passed-count, passed-lowest}
+use Rattle.checks.proofs.columns.Chains.{CornersPassed, passed-none, passed-few, passed-more, passed-count, passed-lowest}
 use Rattle.checks.specs.edges.Entries.{to, from, MarkedFrom}
 use Rattle.checks.proofs.edges.Laws.{chain-here, marked-none, marked-more, RowsKept, rows-more, noted-marks, noted-at, noted-rest}
 use native.Mathlib.Omega.{arith}
@@ -19,7 +19,7 @@ use Rattle.checks.proofs.edges.mark.Tie as tie
 abbrev Inv-loop : tie.InvT-loop
 Inv-loop corners table u last vertices₀ at₀ n₀ lowest₀ vertices at n lowest =
     On corners u at × (length vertices ≡ length vertices₀) × MarkedFrom corners table vertices u at × RowsKept vertices₀ vertices
-    × Passed corners u at n lowest
+    × CornersPassed corners u at n lowest
 
 abbrev μ-loop : tie.MeasureT-loop
 μ-loop corners table u last vertices₀ at₀ n₀ lowest₀ vertices at n lowest = at
@@ -33,7 +33,7 @@ loop-holds c =
       refl,
       subst (MarkedFrom cs _ _ u) q (marked-none cs _ _ u (s .pre .1 .1)),
       record { heads = λ v. refl; counts = λ v. refl },
-      subst (λ (x : ℕ). Passed cs u x 0 0) q (passed-none cs u),
+      subst (λ (x : ℕ). CornersPassed cs u x 0 0) q (passed-none cs u),
     )
 
 -- in a turn: the corner before `at` has a row, its steps lead to corners, and the vertices of these have rows
@@ -77,10 +77,10 @@ module _ (i : tie.In-loop Inv-loop μ-loop) where
   small : length cs ≤ mostCorners
   small = start .pre .0 .0 .small
 
-  to-row : Row (i .before .loop .vertices) (to cs ts (at - 1))
+  to-row : HasRow (i .before .loop .vertices) (to cs ts (at - 1))
   to-row = omega (arith, start .pre .0 .0 .rowed next next-in, i .before .loop .inv .1)
 
-  from-row : Row (i .before .loop .vertices) (from cs ts (at - 1))
+  from-row : HasRow (i .before .loop .vertices) (from cs ts (at - 1))
   from-row = omega (arith, start .pre .0 .0 .rowed previous previous-in, i .before .loop .inv .1)
 
   goes-on : entry ts valenceHere (at - 1) ≡ earlierOf cs (at - 1)
@@ -107,7 +107,7 @@ loop-again c =
           (marked-more (cs i) (ts i) (l .vertices) u (l .at) (l .inv .0) (some i) _ _ refl refl (omega (arith, to-row i)) (omega (arith, from-row i))
           (l .inv .2)),
       rows-more (cs i) (ts i) (l .vertices) u (l .at) (l .inv .0) (some i) _ _ refl refl (omega (arith, to-row i)) (omega (arith, from-row i)) _ (l .inv .3),
-      subst (λ (x : ℕ). Passed (cs i) u x (l .n + 1) (l .at - 1)) q
+      subst (λ (x : ℕ). CornersPassed (cs i) u x (l .n + 1) (l .at - 1)) q
           (passed-more (cs i) u (l .at) (l .n) (l .lowest) (some i) (l .inv .0) (l .inv .4)),
     )
 
@@ -121,7 +121,7 @@ returns c =
     let l = c .before .loop in let s = c .before .before in
     let cs = now (s .args .corners) in let u = s .args .u in
     let z : l .at ≡ 0 = search needs in
-    let r : Row (l .vertices) u = omega (arith, s .pre .0 .1, l .inv .1) in
+    let r : HasRow (l .vertices) u = omega (arith, s .pre .0 .1, l .inv .1) in
     let m = passed-count cs u (l .at) (l .n) (l .lowest) z (l .inv .4) in (
       noted-marks cs (now (s .args .table)) (l .vertices) u (l .n) (l .lowest) r 0 (subst (MarkedFrom _ _ _ _) z (l .inv .2)),
       (

@@ -12,11 +12,11 @@ use Rattle.paper.specs.Faults.{fault9}
 use Rattle.mesh.proofs.Faces.{start-zero, start-next, start-all, start-ends}
 use Rattle.mesh.proofs.Verdicts.{lowest-none, unsound}
 use Rattle.walk.specs.Table.{rowLength, valenceHere}
-use Rattle.checks.specs.columns.Vertices.{vertexRow, lastHere, noted, Row}
-use Rattle.checks.specs.columns.Filled.{FacesTo, filled}
+use Rattle.checks.specs.columns.Vertices.{vertexRow, lastHere, noted, HasRow}
+use Rattle.checks.specs.columns.Filled.{FacesTo, rowFilled}
 use Rattle.checks.proofs.columns.Chains.{chains-all}
 use Rattle.checks.proofs.columns.Laws.{sides-is, previous-start, previous-later, faces-none, faces-step, faces-chains, faces-beside, faces-all}
-use Rattle.checks.proofs.faces.Laws.{Passed, passed-none, passed-kept, passed-step, doubled}
+use Rattle.checks.proofs.faces.Laws.{FacesPassed, passed-none, passed-kept, passed-step, doubled}
 use native.Mathlib.Omega.{arith}
 use borrow.Author.Needs.{needs}
 use Rattle.checks.proofs.faces.check_faces.Tie as tie
@@ -24,7 +24,7 @@ use Rattle.checks.proofs.faces.check_faces.Tie as tie
 abbrev Inv-loop2 : tie.InvT-loop2
 Inv-loop2 sides corners table₀ vertices₀ start f count end before₀ c₀ table vertices before c =
     (f < length sides) × (start ≡ startOf sides f) × (end ≡ start + getD sides f 0) × (end ≤ length corners) × (start ≤ c) × (c ≤ end)
-    × (length table ≡ length table₀) × (length vertices ≡ length vertices₀) × Passed sides corners table vertices c
+    × (length table ≡ length table₀) × (length vertices ≡ length vertices₀) × FacesPassed sides corners table vertices c
     × ((before < sumOf sides) × (c < end → before ≡ previous sides c) × FacesTo sides table c)
 
 abbrev μ-loop2 : tie.MeasureT-loop2
@@ -33,7 +33,7 @@ abbrev μ-loop2 : tie.MeasureT-loop2
 abbrev Inv-loop : tie.InvT-loop
 Inv-loop sides corners table₀ vertices₀ start₀ f₀ table vertices start f =
     (f ≤ length sides) × (start ≡ startOf sides f) × (length table ≡ length table₀) × (length vertices ≡ length vertices₀)
-    × Passed sides corners table vertices start × FacesTo sides table start
+    × FacesPassed sides corners table vertices start × FacesTo sides table start
 
 abbrev μ-loop : tie.MeasureT-loop
 μ-loop sides corners table₀ vertices₀ start₀ f₀ table vertices start f = length sides - f
@@ -80,7 +80,7 @@ module _ (i : tie.In-loop2 Inv-loop2 μ-loop2 Inv-loop μ-loop) where
   long : rowLength * length (corners in-face) ≤ length (i .before .loop2 .table)
   long = omega (arith, in-face .before .loop .inv .2, i .before .loop2 .inv .6, start in-face .pre .1 .0)
 
-  row : Row (i .before .loop2 .vertices) (vertexOf (corners in-face) c)
+  row : HasRow (i .before .loop2 .vertices) (vertexOf (corners in-face) c)
   row = omega (arith, in-face .before .loop .inv .3, i .before .loop2 .inv .7, start in-face .pre .1 .1 c here)
 
 loop2-holds : tie.Need-loop2-holds Inv-loop2 μ-loop2 Inv-loop μ-loop
@@ -141,7 +141,7 @@ loop2-again c =
     let p : l .before ≡ previous (sides i) (l .c) = l .inv .9 .1 taken in
     let m = sym (sides-is (sides i) f (l .inv .0) (l .c) (omega (arith, l .inv .1, l .inv .4)) (omega (arith, l .inv .1, l .inv .2, taken))) in
     let r : rowLength * sumOf (sides i) ≤ length (l .table) = omega (arith, within i, long j) in
-    let t = filled (l .table) (l .c) (l .before) n in
+    let t = rowFilled (l .table) (l .c) (l .before) n in
     let x = noted (l .vertices) lastHere (getD (corners i) (l .c) 0) in
     let e = ap (λ (y : List ℕ). set y (rowLength * l .c + valenceHere) x) (sym (k .ensures)) in
     let size : length t ≡ length (l .table) = sym (ap length (k .ensures)) ∙ k .kept .0 in
@@ -155,7 +155,7 @@ loop2-again c =
       omega (arith, taken),
       simp length-set (k .kept .0 ∙ l .inv .6),
       simp length-set (l .inv .7),
-      subst (λ (y : List ℕ). Passed (sides i) (corners i) y (set (l .vertices) (vertexRow * getD (corners i) (l .c) 0 + lastHere) (l .c + 1)) (l .c + 1)) e
+      subst (λ (y : List ℕ). FacesPassed (sides i) (corners i) y (set (l .vertices) (vertexRow * getD (corners i) (l .c) 0 + lastHere) (l .c + 1)) (l .c + 1)) e
           (passed-step (sides i) (corners i) t (l .vertices) f (l .c) (i .before .loop .start) (l .inv .0) (l .inv .1) (l .inv .4)
           (omega (arith, l .inv .2, taken)) q (omega (arith, here j, long j, size)) (omega (arith, row j)) (c .before .before .before .before .if1 .left)),
       (
@@ -176,7 +176,7 @@ loop-again c =
       omega (arith, l .inv .1, start-next (sides i) (o .f) (l .inv .0)),
       l .inv .6 ∙ o .inv .2,
       l .inv .7 ∙ o .inv .3,
-      subst (Passed (sides i) (corners i) (l .table) (l .vertices)) q (l .inv .8),
+      subst (FacesPassed (sides i) (corners i) (l .table) (l .vertices)) q (l .inv .8),
       subst (FacesTo (sides i) (l .table)) q (l .inv .9 .2),
     )
 

@@ -2,13 +2,13 @@
 use Prim.Native.Nat.{_+_, _*_, _≤_, _<_, _-_}
 use denote.Ref.{now}
 use Rattle.checks.specs.columns.Vertices.{vertexRow, countHere, lowestHere}
-use Rattle.checks.proofs.vertices.Laws.{Whole, whole-none, whole-more, whole-torn, whole-all, lowest-in}
+use Rattle.checks.proofs.vertices.Laws.{RingsWhole, whole-none, whole-more, whole-torn, whole-all, lowest-in}
 use native.Mathlib.Omega.{arith}
 use borrow.Author.Needs.{needs}
 use Rattle.checks.proofs.vertices.check_rings.Tie as tie
 
 abbrev Inv-loop : tie.InvT-loop
-Inv-loop corners table vertices count u₀ u = (u ≤ count) × Whole corners table u
+Inv-loop corners table vertices count u₀ u = (u ≤ count) × RingsWhole corners table u
 
 abbrev μ-loop : tie.MeasureT-loop
 μ-loop corners table vertices count u₀ u = count - u

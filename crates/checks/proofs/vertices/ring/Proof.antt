@@ -2,13 +2,13 @@
 -- What is left of the bound falls.
 use denote.Ref.{now}
 use Rattle.walk.specs.Table.{toLink, entry}
-use Rattle.checks.proofs.vertices.Laws.{Around, around-start, ring-none, ring-back, around-next}
+use Rattle.checks.proofs.vertices.Laws.{RingWalked, around-start, ring-none, ring-back, around-next}
 use native.Mathlib.Omega.{arith}
 use borrow.Author.Needs.{needs}
 use Rattle.checks.proofs.vertices.ring.Tie as tie
 
 abbrev Inv-loop : tie.InvT-loop
-Inv-loop table count start bound left₀ len₀ w₀ left len w = Around (entry table toLink) count start bound left len (w .corner)
+Inv-loop table count start bound left₀ len₀ w₀ left len w = RingWalked (entry table toLink) count start bound left len (w .corner)
 
 abbrev μ-loop : tie.MeasureT-loop
 μ-loop table count start bound left₀ len₀ w₀ left len w = left

@@ -9,15 +9,14 @@ use mir.Syntax.{w32}
 use Rattle.numbers.proofs.Poly.{over, poly}
 use Rattle.surface.specs.Sizes.{ValueSize}
 use Rattle.surface.proofs.Formulas.{inner-value}
-use Rattle.faces.proofs.Sums.{Sum, arg, _⊕_, _⊖_, _⊗_, Held, holds, small-answers}
-use Rattle.faces.proofs.formulas.inner.Statement.{statement}
+use Rattle.faces.proofs.Sums.{Sum, arg, _⊕_, _⊖_, _⊗_, SumHeld, holds, small-answers}
 use Rattle.faces.proofs.formulas.inner.Tie as tie
 
 module _ (c : tie.Start) where
   abbrev sum : Sum
   sum = 3 ⊗ (arg (c .args .x) ⊕ arg (c .args .y)) ⊕ arg (c .args .v) ⊖ arg (c .args .w)
 
-  fine : Held w32 (2 ^ 25) sum
+  fine : SumHeld w32 (2 ^ 25) sum
   fine = holds w32 (2 ^ 25) sum (omega arith) (omega arith)
 
 same : (x y v w : ℤ) → pos 3 *ℤ (x +ℤ y) +ℤ v -ℤ w ≡ pos 3 *ℤ x +ℤ pos 3 *ℤ y +ℤ v -ℤ w
@@ -32,5 +31,5 @@ returns c =
     let q = c .round-small .result in
     small-answers (2 ^ 25) _ q ValueSize (search needs) (sum s) (pos 6) (fine s) (same (s .args .x) (s .args .y) (s .args .v) (s .args .w)) tt (inner-value (s .args .x) (s .args .y) (s .args .v) (s .args .w) q (s .pre)) (c .round-small .ensures)
 
-pub inner-spec : {M : Type 1} → statement M
+pub inner-spec : {M : Type 1} → Rattle.faces.proofs.formulas.inner.Statement.statement M
 inner-spec = tie.close (tie.spec (λ c. search (fine c)) (λ c. search (fine c)) (λ c. search (fine c)) (λ c. search (fine c)) round-small-requires returns)

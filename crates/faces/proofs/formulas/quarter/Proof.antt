@@ -8,15 +8,14 @@ use lib.Signed.{leZ-yes, ltZ-yes}
 use mir.Syntax.{w32}
 use Rattle.surface.specs.Sizes.{WrittenSize}
 use Rattle.surface.proofs.Formulas.{quarter-written}
-use Rattle.faces.proofs.Sums.{Sum, arg, _⊕_, _⊗_, Held, holds, small-answers}
-use Rattle.faces.proofs.formulas.quarter.Statement.{statement}
+use Rattle.faces.proofs.Sums.{Sum, arg, _⊕_, _⊗_, SumHeld, holds, small-answers}
 use Rattle.faces.proofs.formulas.quarter.Tie as tie
 
 module _ (c : tie.Start) where
   abbrev sum : Sum
   sum = arg (c .args .e) ⊕ 3 ⊗ arg (c .args .x)
 
-  fine : Held w32 (2 ^ 25) sum
+  fine : SumHeld w32 (2 ^ 25) sum
   fine = holds w32 (2 ^ 25) sum (omega arith) (omega arith)
 
 round-small-requires : tie.Need-round-small-requires
@@ -28,5 +27,5 @@ returns c =
     let q = c .round-small .result in
     small-answers (2 ^ 25) _ q WrittenSize (search needs) (sum s) (pos 4) (fine s) refl tt (quarter-written (s .args .e) (s .args .x) q (s .pre)) (c .round-small .ensures)
 
-pub quarter-spec : {M : Type 1} → statement M
+pub quarter-spec : {M : Type 1} → Rattle.faces.proofs.formulas.quarter.Statement.statement M
 quarter-spec = tie.close (tie.spec (λ c. search (fine c)) (λ c. search (fine c)) round-small-requires returns)

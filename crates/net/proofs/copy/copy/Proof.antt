@@ -8,14 +8,13 @@ use lib.IntN.{pos}
 use mir.Syntax.{w32}
 use mir.Val.{SFits}
 use mir.Facts.{toZ-ofZ}
-use Rattle.net.specs.copy.Copy.{Copied}
+use Rattle.net.specs.copy.Copy.{PointsCopied}
 use Rattle.net.proofs.copy.Copies.{copied-none, copied-more, copied-join}
 use borrow.Author.Needs.{needs}
-use Rattle.net.proofs.copy.copy.Statement.{statement}
 use Rattle.net.proofs.copy.copy.Tie as tie
 
 abbrev Inv-loop : tie.InvT-loop
-Inv-loop lanes out₀ at i₀ out i = (i ≤ 5) × Copied lanes at 0 (8 * i) out₀ out
+Inv-loop lanes out₀ at i₀ out i = (i ≤ 5) × PointsCopied lanes at 0 (8 * i) out₀ out
 
 abbrev μ-loop : tie.MeasureT-loop
 μ-loop lanes out₀ at i₀ out i = 5 - i
@@ -38,7 +37,7 @@ loop-again c =
     let s = l .before .before in
     let i = l .before .loop .i in (
       omega (arith, l .loop-test .taken),
-      subst (λ (n : ℕ). Copied (s .args .lanes .now) (s .args .at) 0 n (s .args .out .now) (c .before .copy-run .last .1 .1 .1 .0)) (eight-more i)
+      subst (λ (n : ℕ). PointsCopied (s .args .lanes .now) (s .args .at) 0 n (s .args .out .now) (c .before .copy-run .last .1 .1 .1 .0)) (eight-more i)
           (copied-join (s .args .lanes .now) (s .args .at) 0 (8 * i) (8 * i + 8) (s .args .out .now) (l .before .loop .out) _ (l .before .loop .inv .1)
           (c .before .copy-run .ensures) (omega arith)),
     )
@@ -55,11 +54,11 @@ returns c =
     let fy : SFits w32 (getD (s .args .lanes .now) 161 (pos 0)) = search needs in
     let fz : SFits w32 (getD (s .args .lanes .now) 162 (pos 0)) = search needs in
     copied-more (s .args .lanes .now) (s .args .at) 0 40 3 (s .args .at + 120) (s .args .out .now) (l .out) _ _ _ _ refl (omega arith) (lit≤ tt)
-    (subst (λ (i : ℕ). Copied (s .args .lanes .now) (s .args .at) 0 (8 * i) (s .args .out .now) (l .out)) e (l .inv .1)) (toZ-ofZ fx) (toZ-ofZ fy)
+    (subst (λ (i : ℕ). PointsCopied (s .args .lanes .now) (s .args .at) 0 (8 * i) (s .args .out .now) (l .out)) e (l .inv .1)) (toZ-ofZ fx) (toZ-ofZ fy)
     (toZ-ofZ fz)
     (c .before .put-three .ensures)
 
-pub copy-spec : {M : Type 1} → statement M
+pub copy-spec : {M : Type 1} → Rattle.net.proofs.copy.copy.Statement.statement M
 copy-spec =
     tie.close (tie.spec Inv-loop μ-loop loop-holds (λ c. search needs) copy-run-requires (λ c. search needs) (λ c. search needs) loop-again
     (λ c. let s = c .before .before in search (needs, s .pre .0))

@@ -7,14 +7,13 @@ use lib.IntN.{pos}
 use mir.Syntax.{w32}
 use mir.Val.{SFits}
 use mir.Facts.{toZ-ofZ}
-use Rattle.net.specs.copy.Copy.{Copied}
+use Rattle.net.specs.copy.Copy.{PointsCopied}
 use Rattle.net.proofs.copy.Copies.{copied-none, copied-more}
 use borrow.Author.Needs.{needs}
-use Rattle.net.proofs.copy.copy_run.Statement.{statement}
 use Rattle.net.proofs.copy.copy_run.Tie as tie
 
 abbrev Inv-loop : tie.InvT-loop
-Inv-loop lanes point count out₀ at j₀ out j = (j ≤ count) × Copied lanes at point (point + j) out₀ out
+Inv-loop lanes point count out₀ at j₀ out j = (j ≤ count) × PointsCopied lanes at point (point + j) out₀ out
 
 abbrev μ-loop : tie.MeasureT-loop
 μ-loop lanes point count out₀ at j₀ out j = count - j
@@ -32,7 +31,7 @@ below l = omega (arith, l .before .before .pre .0, l .loop-test .taken)
 loop-holds : tie.Need-loop-holds Inv-loop μ-loop
 loop-holds c = (
   search needs,
-  subst (λ (n : ℕ). Copied (c .args .lanes .now) (c .args .at) (c .args .point) n (c .args .out .now) (c .args .out .now))
+  subst (λ (n : ℕ). PointsCopied (c .args .lanes .now) (c .args .at) (c .args .point) n (c .args .out .now) (c .args .out .now))
       (zero-more (c .args .point)) (copied-none _ _ _ _),
 )
 
@@ -45,7 +44,7 @@ loop-again c =
     let fy : SFits w32 (getD (s .args .lanes .now) (4 * n + 1) (pos 0)) = search needs in
     let fz : SFits w32 (getD (s .args .lanes .now) (4 * n + 2) (pos 0)) = search needs in (
       omega (arith, l .loop-test .taken),
-      subst (λ (i : ℕ). Copied (s .args .lanes .now) (s .args .at) (s .args .point) i (s .args .out .now) (c .before .put-four .last .1 .1 .1 .1 .0))
+      subst (λ (i : ℕ). PointsCopied (s .args .lanes .now) (s .args .at) (s .args .point) i (s .args .out .now) (c .before .put-four .last .1 .1 .1 .1 .0))
           (one-more (s .args .point) (l .before .loop .j))
           (copied-more (s .args .lanes .now) (s .args .at) (s .args .point) n 4 (s .args .at + 3 * n) (s .args .out .now) (l .before .loop .out) _ _ _ _ refl
           (omega arith) (omega (arith, below l)) (l .before .loop .inv .1) (toZ-ofZ fx) (toZ-ofZ fy) (toZ-ofZ fz) (c .before .put-four .ensures .0)),
@@ -56,9 +55,9 @@ returns c =
     let s = c .before .before in
     let l = c .before .loop in
     let e : l .j ≡ s .args .count = omega arith in
-    subst (λ (n : ℕ). Copied (s .args .lanes .now) (s .args .at) (s .args .point) (s .args .point + n) (s .args .out .now) (l .out)) e (l .inv .1)
+    subst (λ (n : ℕ). PointsCopied (s .args .lanes .now) (s .args .at) (s .args .point) (s .args .point + n) (s .args .out .now) (l .out)) e (l .inv .1)
 
-pub copy-run-spec : {M : Type 1} → statement M
+pub copy-run-spec : {M : Type 1} → Rattle.net.proofs.copy.copy_run.Statement.statement M
 copy-run-spec =
     tie.close (tie.spec Inv-loop μ-loop loop-holds (λ c. search (needs, below c)) (λ c. search (needs, below c)) (λ c. search (needs, below c))
     (λ c. search (needs, below c)) (λ c. search (needs, below (c .before))) (λ c. search (needs, below (c .before)))

@@ -4,7 +4,6 @@ use borrow.Author.Needs.{needs}
 use lib.ListN.{length-set}
 use mir.Facts.{toZ-ofZ}
 use Rattle.net.proofs.copy.Copies.{three-put}
-use Rattle.net.proofs.copy.put_three.Statement.{statement}
 use Rattle.net.proofs.copy.put_three.Tie as tie
 
 slice-set-from-y : tie.Need-slice-set-from-y
@@ -18,7 +17,7 @@ returns c =
     rw (toZ-ofZ (c .fits .x), toZ-ofZ (c .fits .y), toZ-ofZ (c .fits .z)) (three-put (c .args .x) (c .args .y) (c .args .z) (c .args .to) (c .args .out
     .now) (c .pre))
 
-pub put-three-spec : {M : Type 1} → statement M
+pub put-three-spec : {M : Type 1} → Rattle.net.proofs.copy.put_three.Statement.statement M
 put-three-spec =
     tie.close (tie.spec (λ c. search needs) (λ c. search needs) (λ c. search needs) (λ c. search needs) slice-set-from-y (λ c. search needs)
     (λ c. search needs) slice-set-from-z (λ c. search needs) returns)

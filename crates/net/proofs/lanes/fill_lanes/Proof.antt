@@ -6,7 +6,6 @@ use lib.ListN.{length}
 use borrow.Author.Count.{below-more}
 use borrow.Author.Needs.{needs}
 use Rattle.net.specs.lanes.Lanes.{LaneFilled}
-use Rattle.net.proofs.lanes.fill_lanes.Statement.{statement}
 use Rattle.net.proofs.lanes.fill_lanes.Tie as tie
 
 abbrev Inv-loop : tie.InvT-loop
@@ -39,7 +38,7 @@ returns c =
     let e : l .k ≡ 4 = omega arith in
     λ k h. l .inv .2 k (omega arith)
 
-pub fill-lanes-spec : {M : Type 1} → statement M
+pub fill-lanes-spec : {M : Type 1} → Rattle.net.proofs.lanes.fill_lanes.Statement.statement M
 fill-lanes-spec =
     tie.close (tie.spec Inv-loop μ-loop loop-holds
     (λ c κs. c .before .before .pre .0 (c .before .loop .k) (c .loop-test .taken))

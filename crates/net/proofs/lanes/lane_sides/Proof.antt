@@ -3,7 +3,6 @@ use mathlib.Core.Path.{refl}
 use native.Mathlib.Omega.{arith}
 use borrow.Author.Needs.{needs}
 use Rattle.net.proofs.rows.Laws.{row, row-is}
-use Rattle.net.proofs.lanes.lane_sides.Statement.{statement}
 use Rattle.net.proofs.lanes.lane_sides.Tie as tie
 
 sides-of-requires : tie.Need-sides-of-requires
@@ -28,7 +27,7 @@ returns c =
       sized = c .sides-of .ensures .sized;
     }
 
-pub lane-sides-spec : {M : Type 1} → statement M
+pub lane-sides-spec : {M : Type 1} → Rattle.net.proofs.lanes.lane_sides.Statement.statement M
 lane-sides-spec =
     tie.close (tie.spec (λ c. search needs)
     (λ c κs. let s : tie.Start = search in (omega (arith, s .pre .long, s .pre .lane), omega (arith, s .pre .long, s .pre .lane)))

@@ -4,7 +4,6 @@ use borrow.Author.Needs.{needs}
 use mir.Syntax.{w32}
 use mir.Val.{SFits}
 use mir.Facts.{toZ-ofZ}
-use Rattle.net.proofs.lanes.ring_face.Statement.{statement}
 use Rattle.net.proofs.lanes.ring_face.Tie as tie
 
 returns : tie.Need-returns
@@ -16,6 +15,6 @@ returns c =
     let fr : SFits w32 (c .point3 .result) = search needs in
     cc (toZ-ofZ fp ∙ p .point .ensures, toZ-ofZ fq ∙ q .point2 .ensures, toZ-ofZ fr ∙ c .point3 .ensures)
 
-pub ring-face-spec : {M : Type 1} → statement M
+pub ring-face-spec : {M : Type 1} → Rattle.net.proofs.lanes.ring_face.Statement.statement M
 ring-face-spec =
     tie.close (tie.spec (λ c κs. search needs) (λ c. search needs) (λ c κs. search needs) (λ c κs. search needs) returns)

@@ -1,14 +1,13 @@
 -- `net::points::put_a` meets its contract. The invariant: the first i rows of four are placed. One law, `grid-step`, has both grids.
 use mathlib.Core.Path.{sym}
 use Prim.Native.Nat.{_+_, _-_, _*_, _≤_}
-use Rattle.net.proofs.points.Laws.{Rowed, grid-start, grid-row, grid-step, grid-end}
+use Rattle.net.proofs.points.Laws.{RowsPlaced, grid-start, grid-row, grid-step, grid-end}
 use native.Mathlib.Omega.{arith}
 use borrow.Author.Needs.{needs}
-use Rattle.net.proofs.points.put_a.Statement.{statement}
 use Rattle.net.proofs.points.put_a.Tie as tie
 
 abbrev Inv-loop : tie.InvT-loop
-Inv-loop out₀ from g i₀ out i = (i ≤ 4) × Rowed out₀ out from g 4 i
+Inv-loop out₀ from g i₀ out i = (i ≤ 4) × RowsPlaced out₀ out from g 4 i
 
 abbrev μ-loop : tie.MeasureT-loop
 μ-loop out₀ from g i₀ out i = 4 - i
@@ -39,7 +38,7 @@ returns c =
     let l = c .before .loop in
     grid-end (s .args .out .now) (l .out) (s .args .from) (s .args .t1) 4 (l .i) (omega (arith, s .good .0 .1 .0 .1)) (l .inv .1)
 
-pub put-a-spec : {M : Type 1} → statement M
+pub put-a-spec : {M : Type 1} → Rattle.net.proofs.points.put_a.Statement.statement M
 put-a-spec =
     tie.close (tie.spec Inv-loop μ-loop loop-holds (λ c. search needs) (λ c. search needs)
     (λ c. let a = c .before .before .before in sym (a .before .pre .1 (a .loop .i) (c .before .before .loop-test .taken)))

@@ -6,9 +6,8 @@ use native.Mathlib.Omega.{arith}
 use borrow.Author.Needs.{needs}
 use lib.IntN.{ℤ}
 use Rattle.paper.specs.Net.{rows}
-use Rattle.net.specs.points.Placed.{Placed}
+use Rattle.net.specs.points.Placed.{PointsPlaced}
 use Rattle.net.proofs.points.Laws.{a-is, b-is, lane-laid, other-lanes}
-use Rattle.net.proofs.points.put_lane.Statement.{statement}
 use Rattle.net.proofs.points.put_lane.Tie as tie
 
 b-grid-requires : tie.Need-b-grid-requires
@@ -60,16 +59,16 @@ returns c =
       same = c .before .put-a .ensures .same ∙ b .put-b .ensures .same;
       laid = λ K d f.
           lane-laid K d (s .args .k) (s .args .lanes .now) mid new
-          (subst (λ (z : List (List ℤ)). Placed (s .args .lanes .now) mid (s .args .k) (rows z))
+          (subst (λ (z : List (List ℤ)). PointsPlaced (s .args .lanes .now) mid (s .args .k) (rows z))
           (b-is K d (s .args .n) f (s .pre .0) _ _ _ _ (r .side-rows .ensures) (t .side-rows2 .ensures) (u .side-rows3 .ensures) (v .side-rows4 .ensures) _ _
           (a .a-grid .ensures) (g .b-grid .ensures)) (b .put-b .ensures))
-          (subst (λ (z : List (List ℤ)). Placed mid new (s .args .k + 100) (rows z))
+          (subst (λ (z : List (List ℤ)). PointsPlaced mid new (s .args .k + 100) (rows z))
           (a-is K d (s .args .n) f (s .pre .0) _ _ _ _ (r .side-rows .ensures) (t .side-rows2 .ensures) (u .side-rows3 .ensures) (v .side-rows4 .ensures) _
           (a .a-grid .ensures)) (c .before .put-a .ensures));
       others = other-lanes (s .args .k) (s .args .lanes .now) mid new _ _ (s .pre .1) (b .put-b .ensures) (c .before .put-a .ensures);
     }
 
-pub put-lane-spec : {M : Type 1} → statement M
+pub put-lane-spec : {M : Type 1} → Rattle.net.proofs.points.put_lane.Statement.statement M
 put-lane-spec =
     tie.close (tie.spec (λ c κs. search needs) (λ c κs. search needs) (λ c κs. search needs) (λ c κs. search needs) (λ c κs. search needs) b-grid-requires
     put-b-requires add-put-a put-a-requires (λ c. search needs) returns)

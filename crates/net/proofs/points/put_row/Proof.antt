@@ -10,13 +10,12 @@ use lib.IntN.{ℤ, pos}
 use mir.Syntax.{w32}
 use mir.Val.{SFits}
 use mir.Facts.{toZ-ofZ}
-use Rattle.net.specs.points.Placed.{Placed}
+use Rattle.net.specs.points.Placed.{PointsPlaced}
 use Rattle.net.proofs.points.Laws.{placed-none, row-step}
-use Rattle.net.proofs.points.put_row.Statement.{statement}
 use Rattle.net.proofs.points.put_row.Tie as tie
 
 abbrev Inv-loop : tie.InvT-loop
-Inv-loop row out₀ from j₀ out j = (j ≤ length row) × Placed out₀ out from (take j row)
+Inv-loop row out₀ from j₀ out j = (j ≤ length row) × PointsPlaced out₀ out from (take j row)
 
 abbrev μ-loop : tie.MeasureT-loop
 μ-loop row out₀ from j₀ out j = length row - j
@@ -42,10 +41,9 @@ returns : tie.Need-returns Inv-loop μ-loop
 returns c =
     let s = c .before .before in
     let l = c .before .loop in
-    subst (λ (r : List ℤ). Placed (s .args .out .now) (l .out) (s .args .from) r) (take-all (l .j) (s .args .row .now) (omega arith)) (l .inv .1)
+    subst (λ (r : List ℤ). PointsPlaced (s .args .out .now) (l .out) (s .args .from) r) (take-all (l .j) (s .args .row .now) (omega arith)) (l .inv .1)
 
-pub put-row-spec : {M : Type 1} → statement M
+pub put-row-spec : {M : Type 1} → Rattle.net.proofs.points.put_row.Statement.statement M
 put-row-spec =
-    tie.close (tie.spec Inv-loop μ-loop loop-holds (λ c. search needs) (λ c. search needs) (λ c. omega (arith, room c)) (λ c. omega (arith, room c)) (λ c. omega (arith, room c)) room
-    (λ c. search needs)
-    (λ c. search needs) loop-again (λ c. c .before .loop .inv .1 .same) returns)
+    tie.close (tie.spec Inv-loop μ-loop loop-holds (λ c. search needs) (λ c. search needs) (λ c. omega (arith, room c)) (λ c. omega (arith, room c))
+    (λ c. omega (arith, room c)) room (λ c. search needs) (λ c. search needs) loop-again (λ c. c .before .loop .inv .1 .same) returns)

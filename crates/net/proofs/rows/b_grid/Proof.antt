@@ -1,7 +1,6 @@
 -- `net::rows::b_grid` meets its contract: the law `b-grid-is` reads what the calls give.
 use borrow.Author.Needs.{needs}
 use Rattle.net.proofs.rows.Laws.{written, b-grid-is}
-use Rattle.net.proofs.rows.b_grid.Statement.{statement}
 use Rattle.net.proofs.rows.b_grid.Tie as tie
 
 returns : tie.Need-returns
@@ -17,7 +16,7 @@ returns c =
     (s .pre .0) (s .args .t9) (s .pre .1) (s .pre .2) _ _ _ _ _ (a .half .ensures) (b .half2 .ensures) (d .half3 .ensures) (e .half4 .ensures)
     (f .half5 .ensures)
 
-pub b-grid-spec : {M : Type 1} → statement M
+pub b-grid-spec : {M : Type 1} → Rattle.net.proofs.rows.b_grid.Statement.statement M
 b-grid-spec =
     tie.close (tie.spec (λ c κs. search written) (λ c κs. search written) (λ c κs. search written)
     (λ c κs. let q : tie.After-half = search in search written) (λ c. search needs) (λ c. search needs) (λ c. search needs) (λ c. search needs)

@@ -1,6 +1,5 @@
 -- `net::rows::side_rows` meets its contract: each call is given numbers of its size, and the law `rows-of` reads what the calls give.
 use Rattle.net.proofs.rows.Laws.{value, value-written, row, rows-of}
-use Rattle.net.proofs.rows.side_rows.Statement.{statement}
 use Rattle.net.proofs.rows.side_rows.Tie as tie
 
 -- before the sides' values are read
@@ -18,7 +17,7 @@ returns c =
     rows-of (s .args .f) (s .args .g) (s .args .l) (s .args .o) (s .pre) _ _ _ _ _ _ (p .quarter .ensures) (q .half .ensures) (t .quarter2 .ensures)
     (u .second .ensures) (v .third .ensures) (c .middle .ensures)
 
-pub side-rows-spec : {M : Type 1} → statement M
+pub side-rows-spec : {M : Type 1} → Rattle.net.proofs.rows.side_rows.Statement.statement M
 side-rows-spec =
     tie.close (tie.spec (λ c κs. let s = start c in search value) (λ c κs. let s = start (c .before) in search value-written)
     (λ c κs. let s = start (c .before .before) in search value)

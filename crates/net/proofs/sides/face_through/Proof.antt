@@ -2,9 +2,8 @@
 use borrow.Author.Needs.{needs}
 use Rattle.surface.specs.Points.{pointAt}
 use Rattle.faces.proofs.Few.{read}
-use Rattle.net.proofs.rows.Laws.{Read}
+use Rattle.net.proofs.rows.Laws.{ReadAs}
 use Rattle.net.proofs.sides.Laws.{through}
-use Rattle.net.proofs.sides.face_through.Statement.{statement}
 use Rattle.net.proofs.sides.face_through.Tie as tie
 
 -- the points, as they are read
@@ -12,16 +11,16 @@ module _ (c : tie.After-point4) where
   abbrev s : tie.Start
   s = c .before .before .before .before
 
-  first : Read (c .before .before .before .point .result) (pointAt (s .args .stencil .now) (s .args .k) (s .args .a))
+  first : ReadAs (c .before .before .before .point .result) (pointAt (s .args .stencil .now) (s .args .k) (s .args .a))
   first = read _ _ (c .before .before .before .point .ensures) (s .pre .0 .1)
 
-  second : Read (c .before .before .point2 .result) (pointAt (s .args .stencil .now) (s .args .k) (s .args .b))
+  second : ReadAs (c .before .before .point2 .result) (pointAt (s .args .stencil .now) (s .args .k) (s .args .b))
   second = read _ _ (c .before .before .point2 .ensures) (s .pre .1 .1)
 
-  third : Read (c .before .point3 .result) (pointAt (s .args .stencil .now) (s .args .k) (s .args .c))
+  third : ReadAs (c .before .point3 .result) (pointAt (s .args .stencil .now) (s .args .k) (s .args .c))
   third = read _ _ (c .before .point3 .ensures) (s .pre .2 .1)
 
-  fourth : Read (c .point4 .result) (pointAt (s .args .stencil .now) (s .args .k) (s .args .d))
+  fourth : ReadAs (c .point4 .result) (pointAt (s .args .stencil .now) (s .args .k) (s .args .d))
   fourth = read _ _ (c .point4 .ensures) (s .pre .3 .1)
 
 returns : tie.Need-returns
@@ -31,7 +30,7 @@ returns c =
     (first p .0) (second p .0) (third p .0) (fourth p .0) (c .before .before .mean .ensures) (c .before .toward .ensures)
     (c .toward2 .ensures)
 
-pub face-through-spec : {M : Type 1} → statement M
+pub face-through-spec : {M : Type 1} → Rattle.net.proofs.sides.face_through.Statement.statement M
 face-through-spec =
     tie.close (tie.spec (λ c κs. search needs) (λ c κs. search needs) (λ c κs. search needs) (λ c κs. search needs)
     (λ c κs. (first c .1, second c .1, third c .1, fourth c .1))

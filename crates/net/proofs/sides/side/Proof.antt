@@ -9,7 +9,6 @@ use mir.Val.{SFits}
 use mir.Facts.{toZ-ofZ}
 use Rattle.paper.specs.Numbers.{round}
 use Rattle.surface.specs.Sizes.{FaceSize, ValueSize}
-use Rattle.net.proofs.sides.side.Statement.{statement}
 use Rattle.net.proofs.sides.side.Tie as tie
 
 wider : (z y : ℤ) → z ≡ y → natAbs y ≤ 2 ^ 24 + 2 ^ 21 → ValueSize z
@@ -43,5 +42,5 @@ returns c =
       };
     }
 
-pub side-spec : {M : Type 1} → statement M
+pub side-spec : {M : Type 1} → Rattle.net.proofs.sides.side.Statement.statement M
 side-spec = tie.close (tie.spec (λ c κs. search needs) returns)

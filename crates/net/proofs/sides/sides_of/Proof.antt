@@ -1,13 +1,11 @@
 -- `net::sides::sides_of` meets its contract: each side is made from numbers of its sizes, which are those of the definitions.
 use mathlib.Core.Path.{_∙_}
-use Prim.Native.Nat.{_<_}
 use lib.Dec.{lit<}
 use Rattle.paper.specs.Net.{side0, side1, side2, side3, H, T, C}
 use Rattle.surface.specs.Points.{pointAt}
 use Rattle.faces.proofs.Few.{read}
-use Rattle.net.proofs.rows.Laws.{Read, row, row-is}
+use Rattle.net.proofs.rows.Laws.{ReadAs, row, row-is}
 use Rattle.net.proofs.sides.Laws.{face, face-is, refined, refined-is, leaving-is, arriving-is, side-is}
-use Rattle.net.proofs.sides.sides_of.Statement.{statement}
 use Rattle.net.proofs.sides.sides_of.Tie as tie
 
 -- the five points, as they are read
@@ -15,19 +13,19 @@ module _ (c : tie.After-point5) where
   abbrev s : tie.Start
   s = c .before .before .before .before .before .before .before
 
-  here : Read (c .before .before .before .before .point .result) (pointAt (s .args .stencil .now) (s .args .k) 0)
+  here : ReadAs (c .before .before .before .before .point .result) (pointAt (s .args .stencil .now) (s .args .k) 0)
   here = read _ _ (c .before .before .before .before .point .ensures) (s .pre .0 0 (lit< tt) .1)
 
-  next : Read (c .before .before .before .point2 .result) (pointAt (s .args .stencil .now) (s .args .k) 1)
+  next : ReadAs (c .before .before .before .point2 .result) (pointAt (s .args .stencil .now) (s .args .k) 1)
   next = read _ _ (c .before .before .before .point2 .ensures) (s .pre .0 1 (lit< tt) .1)
 
-  link : Read (c .before .before .point3 .result) (pointAt (s .args .stencil .now) (s .args .k) 3)
+  link : ReadAs (c .before .before .point3 .result) (pointAt (s .args .stencil .now) (s .args .k) 3)
   link = read _ _ (c .before .before .point3 .ensures) (s .pre .0 3 (lit< tt) .1)
 
-  across : Read (c .before .point4 .result) (pointAt (s .args .stencil .now) (s .args .k) 4)
+  across : ReadAs (c .before .point4 .result) (pointAt (s .args .stencil .now) (s .args .k) 4)
   across = read _ _ (c .before .point4 .ensures) (s .pre .0 4 (lit< tt) .1)
 
-  previous : Read (c .point5 .result) (pointAt (s .args .stencil .now) (s .args .k) 6)
+  previous : ReadAs (c .point5 .result) (pointAt (s .args .stencil .now) (s .args .k) 6)
   previous = read _ _ (c .point5 .ensures) (s .pre .0 6 (lit< tt) .1)
 
 side-requires : tie.Need-side-requires
@@ -145,7 +143,7 @@ returns c =
       };
     }
 
-pub sides-of-spec : {M : Type 1} → statement M
+pub sides-of-spec : {M : Type 1} → Rattle.net.proofs.sides.sides_of.Statement.statement M
 sides-of-spec =
     tie.close (tie.spec
     (λ c κs. let r = c .pre .0 in (r 0 (lit< tt), r 1 (lit< tt), r 2 (lit< tt), r 3 (lit< tt)))

@@ -2,7 +2,6 @@
 use Prim.Native.Nat.{_<_}
 use native.Mathlib.Omega.{arith}
 use borrow.Author.Needs.{needs}
-use Rattle.net.proofs.stencil.corners_around.Statement.{statement}
 use Rattle.net.proofs.stencil.corners_around.Tie as tie
 
 previous-requires : tie.Need-previous-requires
@@ -28,6 +27,7 @@ previous-requires-3 c κs =
 returns : tie.Need-returns
 returns c = cc
 
-pub corners-around-spec : {M : Type 1} → statement M
+pub corners-around-spec : {M : Type 1} → Rattle.net.proofs.stencil.corners_around.Statement.statement M
 corners-around-spec =
-    tie.close (tie.spec (λ c κs. search needs) (λ c κs. search needs) previous-requires (λ c κs. search needs) linked-requires-2 previous-requires-3 returns)
+    tie.close (tie.spec (λ c κs. search needs) (λ c κs. search needs) previous-requires (λ c κs. search needs) linked-requires-2 previous-requires-3
+    returns)

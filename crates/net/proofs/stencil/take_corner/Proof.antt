@@ -7,7 +7,6 @@ use borrow.Author.Needs.{needs}
 use lib.ListN.{getD}
 use Rattle.net.proofs.stencil.Taken.{RowsTaken, rows-none, rows-more, corner-taken}
 use Rattle.net.proofs.stencil.Rings.{around-in}
-use Rattle.net.proofs.stencil.take_corner.Statement.{statement}
 use Rattle.net.proofs.stencil.take_corner.Tie as tie
 
 abbrev Inv-loop : tie.InvT-loop
@@ -65,7 +64,7 @@ returns c =
     corner-taken _ _ _ (s .pre .0 .0) _ (s .pre .0 .1) _ _ _ (v .take-vertex .ensures)
     (rw (n .corners-around .ensures, e) at (l .inv .1))
 
-pub take-corner-spec : {M : Type 1} → statement M
+pub take-corner-spec : {M : Type 1} → Rattle.net.proofs.stencil.take_corner.Statement.statement M
 take-corner-spec =
     tie.close (tie.spec Inv-loop μ-loop
     (λ c κs. let p = c .before .pre .0 in record { sound = p .0 .sound; table-long = p .0 .table-long; here = p .1 })

@@ -3,7 +3,6 @@ use mathlib.Core.Path.{sym, _∙_}
 use borrow.Author.Needs.{needs}
 use lib.Dec.{lit<}
 use Rattle.net.proofs.stencil.Rings.{row-in}
-use Rattle.net.proofs.stencil.take_face.Statement.{statement}
 use Rattle.net.proofs.stencil.take_face.Tie as tie
 
 sides-requires : tie.Need-sides-requires
@@ -21,7 +20,7 @@ take-ring-requires c κs =
     let s : tie.Start = search in
     ((s .pre .0 .0, s .pre .0 .1, sym (n .sides .ensures .read), s .pre .0 .2), s .pre .1)
 
-pub take-face-spec : {M : Type 1} → statement M
+pub take-face-spec : {M : Type 1} → Rattle.net.proofs.stencil.take_face.Statement.statement M
 take-face-spec =
     tie.close (tie.spec sides-requires take-quad-requires take-ring-requires (λ c. search needs) (λ c. c .before .take-quad .ensures) (λ c. search needs)
     (λ c. c .before .take-ring .ensures))

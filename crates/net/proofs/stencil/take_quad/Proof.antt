@@ -10,7 +10,6 @@ use Rattle.net.specs.sides.Drawn.{drawn}
 use Rattle.net.specs.stencil.Taken.{FaceTaken}
 use Rattle.net.proofs.stencil.Taken.{row-at, face-none, face-more, face-end}
 use Rattle.net.proofs.stencil.Rings.{row-in, readable, Quad, quad-more, quad-start, quad-in, quad-X, quad-H}
-use Rattle.net.proofs.stencil.take_quad.Statement.{statement}
 use Rattle.net.proofs.stencil.take_quad.Tie as tie
 
 abbrev Inv-loop : tie.InvT-loop
@@ -100,7 +99,7 @@ returns c =
     face-end _ _ _ _ _ _ (f .four-centre .result) (r .take-row .ensures)
     (rw e at (l .inv .1))
 
-pub take-quad-spec : {M : Type 1} → statement M
+pub take-quad-spec : {M : Type 1} → Rattle.net.proofs.stencil.take_quad.Statement.statement M
 take-quad-spec =
     tie.close (tie.spec Inv-loop μ-loop
     (λ c κs. let p = c .before .pre .0 in row-in _ _ _ (p .0) _ _ (lit< tt) (p .1))

@@ -16,7 +16,6 @@ use Rattle.net.specs.sides.Drawn.{drawn, Drawn}
 use Rattle.net.specs.stencil.Taken.{FaceTaken}
 use Rattle.net.proofs.stencil.Taken.{row-at, face-none, face-more, face-end}
 use Rattle.net.proofs.stencil.Rings.{step-more, Divisor, divisor, row-in, face-ring, face-H, face-X, walked-in, sides-along}
-use Rattle.net.proofs.stencil.take_ring.Statement.{statement}
 use Rattle.net.proofs.stencil.take_ring.Tie as tie
 
 abbrev Inv-loop : tie.InvT-loop
@@ -111,7 +110,7 @@ returns c =
     face-end _ _ _ _ _ _ (f .ring-centre .result) (r .take-row .ensures)
     (rw e at (l .inv .1))
 
-pub take-ring-spec : {M : Type 1} → statement M
+pub take-ring-spec : {M : Type 1} → Rattle.net.proofs.stencil.take_ring.Statement.statement M
 take-ring-spec =
     tie.close (tie.spec Inv-loop μ-loop (λ c. let d = by (c .before) in search needs) (λ c. let d = by (c .before) in rw (d .count-is) (d .fits))
     (λ c κs. let d = by (c .before) in rw (d .count-is, toZ-ofZ (d .fits)) (d .from, d .to))

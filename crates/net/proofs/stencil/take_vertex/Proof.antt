@@ -13,7 +13,6 @@ use Rattle.net.specs.sides.Drawn.{Drawn}
 use Rattle.net.proofs.stencil.Taken.{row-at, vertex-taken}
 use Rattle.net.proofs.stencil.Rings.{Divisor, divisor, row-in, readable, vertex-ring, valence-before, vertex-H, vertex-X, ring-behind}
 use Rattle.net.proofs.stencil.Rings.{three-H, three-behind, three-ahead, four-H, four-behind, four-ahead}
-use Rattle.net.proofs.stencil.take_vertex.Statement.{statement}
 use Rattle.net.proofs.stencil.take_vertex.Tie as tie
 
 -- the mesh, and the three corners
@@ -158,7 +157,7 @@ ring-toward-requires-2 c κs =
     let s = start i in
     (vertex-ring _ _ _ (drawn-is s) _ _ (s .pre .0 .1) (valence-is (counted i)), (s .pre .0 .2, reciprocal-is r))
 
-pub take-vertex-spec : {M : Type 1} → statement M
+pub take-vertex-spec : {M : Type 1} → Rattle.net.proofs.stencil.take_vertex.Statement.statement M
 take-vertex-spec =
     tie.close (tie.spec
     (λ c κs. row-in _ _ _ (drawn-is (c .before)) _ _ (lit< tt) (c .before .pre .0 .1))

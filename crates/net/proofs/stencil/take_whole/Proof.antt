@@ -5,7 +5,6 @@ use mir.Syntax.{w32}
 use mir.Val.{SFits}
 use mir.Facts.{toZ-ofZ}
 use Rattle.net.proofs.stencil.Taken.{whole-taken}
-use Rattle.net.proofs.stencil.take_whole.Statement.{statement}
 use Rattle.net.proofs.stencil.take_whole.Tie as tie
 
 returns : tie.Need-returns
@@ -22,7 +21,7 @@ returns c =
     whole-taken _ _ _ _ _ _ _ _ _ (toZ-ofZ fx ∙ x .point .ensures) (toZ-ofZ fy ∙ y .point2 .ensures) (toZ-ofZ fz ∙ z .point3 .ensures)
     (toZ-ofZ fw ∙ w .point4 .ensures) (p .0) (p .1)
 
-pub take-whole-spec : {M : Type 1} → statement M
+pub take-whole-spec : {M : Type 1} → Rattle.net.proofs.stencil.take_whole.Statement.statement M
 take-whole-spec =
-    tie.close (tie.spec (λ c κs. search needs) (λ c κs. search needs) (λ c κs. search needs) (λ c κs. search needs) (λ c. search needs) (λ c κs. search needs)
-    (λ c. search needs) returns)
+    tie.close (tie.spec (λ c κs. search needs) (λ c κs. search needs) (λ c κs. search needs) (λ c κs. search needs) (λ c. search needs)
+    (λ c κs. search needs) (λ c. search needs) returns)

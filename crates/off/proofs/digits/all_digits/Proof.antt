@@ -1,5 +1,5 @@
 -- All bytes up to `i` are digits.
-use mathlib.Core.Path.{_≡_, refl, sym, _∙_}
+use mathlib.Core.Path.{_≡_, sym, _∙_}
 use Prim.Native.Nat.{_≤_, _-_}
 use lib.ListN.{length, drop}
 use borrow.Author.Tests.{not-true, not-false}
@@ -14,9 +14,6 @@ Inv-loop word from i₀ i = (i ≤ length word) × (allDigits (drop from word) �
 
 abbrev μ-loop : tie.MeasureT-loop
 μ-loop word from i₀ i = length word - i
-
-loop-holds : tie.Need-loop-holds Inv-loop μ-loop
-loop-holds c = (omega arith, refl)
 
 returns : tie.Need-returns Inv-loop μ-loop
 returns c =
@@ -34,5 +31,5 @@ returns-2 c =
 
 pub all-digits-spec : {M : Type 1} → Rattle.off.proofs.digits.all_digits.Statement.statement M
 all-digits-spec =
-    tie.close (tie.spec Inv-loop μ-loop loop-holds (λ c. search needs) (λ c κs. search needs) returns (λ c. search needs) (λ c. search needs) loop-again
-    returns-2)
+    tie.close (tie.spec Inv-loop μ-loop (λ c. search needs) (λ c. search needs) (λ c κs. search needs) returns (λ c. search needs) (λ c. search needs)
+    loop-again returns-2)

@@ -1,9 +1,9 @@
 -- The value of all digits is that of those after `i`, continued from `n`, which so many digits keep below a power of ten.
-use mathlib.Core.Path.{_≡_, refl, sym, ap, _∙_}
+use mathlib.Core.Path.{_≡_, sym, ap, _∙_}
 use mathlib.Core.Bool.{true}
 use Prim.Native.Nat.{ℕ, _+_, _≤_, _<_, _-_}
 use lib.ListN.{length, getD, drop}
-use Rattle.paper.specs.Off.{allDigits, decimal}
+use Rattle.paper.specs.Off.{allDigits, valueAfter}
 use Rattle.off.proofs.digits.Numbers.{digit-here, digits-on, decimal-on, decimal-none, tens, tens-start, tens-on, below-eight, below-nine}
 use native.Mathlib.Omega.{arith}
 use borrow.Author.Needs.{needs}
@@ -11,15 +11,13 @@ use Rattle.off.proofs.digits.decimal.Tie as tie
 
 abbrev Inv-loop : tie.InvT-loop
 Inv-loop word from n₀ i₀ n i =
-    (from ≤ i) × (i ≤ length word) × (allDigits (drop i word) ≡ true) × (decimal 0 (drop from word) ≡ decimal n (drop i word)) × (n < tens (i - from))
+    (from ≤ i) × (i ≤ length word) × (allDigits (drop i word) ≡ true) × (valueAfter 0 (drop from word) ≡ valueAfter n (drop i word)) × (n < tens (i - from))
 
 abbrev μ-loop : tie.MeasureT-loop
 μ-loop word from n₀ i₀ n i = length word - i
 
 loop-holds : tie.Need-loop-holds Inv-loop μ-loop
-loop-holds c =
-    let s = c .before in
-    (omega arith, omega (arith, s .pre .0), s .pre .2, refl, tens-start (s .args .from - s .args .from) (omega arith))
+loop-holds c = search (needs, tens-start ((c .before) .args .from - (c .before) .args .from) (omega arith))
 
 with-digit-requires : tie.Need-with-digit-requires Inv-loop μ-loop
 with-digit-requires c κs =
@@ -40,7 +38,7 @@ loop-again c =
       omega arith,
       omega arith,
       digits-on w (l .i) h (l .inv .2),
-      l .inv .3 ∙ decimal-on w (l .i) h (l .n) ∙ ap (λ (k : ℕ). decimal k (drop (l .i + 1) w)) (sym e),
+      l .inv .3 ∙ decimal-on w (l .i) h (l .n) ∙ ap (λ (k : ℕ). valueAfter k (drop (l .i + 1) w)) (sym e),
       rw e (tens-on (l .n) (l .i - s .args .from) (l .i + 1 - s .args .from) (getD w (l .i) 0 - 48) (l .inv .4) (omega (arith, d .1)) (omega arith)),
     )
 

@@ -7,12 +7,10 @@ use borrow.Author.Needs.{needs}
 use Rattle.off.proofs.digits.negative.Tie as tie
 
 sub-result : tie.Need-sub-result
-sub-result c =
-    rw (toZ-pos w32 (c .args .size) (omega arith), zero-minus (c .args .size)) (negative-fits (c .args .size) (c .pre))
+sub-result c = search (needs, toZ-pos w32 (c .args .size) (omega arith), zero-minus (c .args .size), negative-fits (c .args .size) (c .pre))
 
 returns : tie.Need-returns
-returns c =
-    rw (toZ-pos w32 (c .args .size) (omega arith), zero-minus (c .args .size)) (toZ-ofZ w32 _ (negative-fits (c .args .size) (c .pre)))
+returns c = search (needs, toZ-pos w32 (c .args .size) (omega arith), zero-minus (c .args .size), toZ-ofZ w32 _ (negative-fits (c .args .size) (c .pre)))
 
 pub negative-spec : {M : Type 1} → Rattle.off.proofs.digits.negative.Statement.statement M
 negative-spec = tie.close (tie.spec (λ c. search needs) sub-result returns)

@@ -8,12 +8,6 @@ use native.Mathlib.Omega.{arith}
 use borrow.Author.Needs.{needs}
 use Rattle.off.proofs.digits.value.Tie as tie
 
-decimal-requires : tie.Need-decimal-requires
-decimal-requires c κs =
-    let s = c .digits-start in
-    let e = c .before .before .pre in
-    (s .ensures .inside, value-few _ (s .result) (s .ensures) e, value-digits _ (s .result) (s .ensures) e)
-
 returns : tie.Need-returns
 returns c =
     let d = c .before .before in
@@ -29,4 +23,6 @@ returns-2 c =
     ∙ positive-is _ (s .result) (s .ensures) (ne-eqb _ _ (c .if1 .left)) _ (d .decimal .ensures .0)
 
 pub value-spec : {M : Type 1} → Rattle.off.proofs.digits.value.Statement.statement M
-value-spec = tie.close (tie.spec (λ c κs. search needs) decimal-requires (λ c κs. search needs) returns (λ c. search needs) returns-2)
+value-spec =
+    tie.close (tie.spec (λ c κs. search needs) (λ c κs. search (needs, value-few, value-digits)) (λ c κs. search needs) returns (λ c. search needs)
+    returns-2)

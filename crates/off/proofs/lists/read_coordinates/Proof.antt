@@ -17,23 +17,8 @@ Inv-loop text count list₀ next₀ i₀ list next i = (i ≤ count) × Reading 
 abbrev μ-loop : tie.MeasureT-loop
 μ-loop text count list₀ next₀ i₀ list next i = count - i
 
-loop-holds : tie.Need-loop-holds Inv-loop μ-loop
-loop-holds c =
-    let s = c .before in
-    (omega arith, reading-none _ coordinate _ (s .args .c .word) (s .args .count) 0 (s .args .list .now) (s .args .c) (s .pre))
-
 number-requires : tie.Need-number-requires Inv-loop μ-loop
 number-requires c κs = own _ _ _ (c .before .loop .inv .1 .before)
-
-same-length : tie.Need-same-length Inv-loop μ-loop
-same-length c = c .before .before .before .before .loop .inv .1 .stored .same
-
-returns : tie.Need-returns Inv-loop μ-loop
-returns c =
-    let l = c .before .before .before .before .loop in
-    let n = c .before .before .number in
-    reading-stop _ coordinate _ _ _ 0 _ (l .list) (l .i) (l .next) (l .inv .1) (search needs)
-    (coordinate-bad _ (l .next) _ (l .inv .1 .before) (n .result) (n .ensures) (not-true _ (c .if1 .taken)))
 
 loop-again : tie.Need-loop-again Inv-loop μ-loop
 loop-again c =
@@ -48,14 +33,12 @@ loop-again c =
           (c .before .before .put-coordinate .ensures),
     )
 
-same-length-2 : tie.Need-same-length-2 Inv-loop μ-loop
-same-length-2 c = c .before .loop .inv .1 .stored .same
-
 returns-2 : tie.Need-returns-2 Inv-loop μ-loop
 returns-2 c =
     let l = c .before .loop in reading-all _ coordinate _ _ _ 0 _ (l .list) (l .i) (l .next) (l .inv .1) (omega arith)
 
 pub read-coordinates-spec : {M : Type 1} → Rattle.off.proofs.lists.read_coordinates.Statement.statement M
 read-coordinates-spec =
-    tie.close (tie.spec Inv-loop μ-loop loop-holds number-requires same-length returns (λ c κs. search needs) (λ c. search needs) (λ c. search needs)
-    loop-again same-length-2 returns-2)
+    tie.close (tie.spec Inv-loop μ-loop (λ c. search (needs, reading-none)) number-requires (λ c. search needs)
+    (λ c. search (needs, reading-stop, coordinate-bad, not-true)) (λ c κs. search needs) (λ c. search needs) (λ c. search needs) loop-again
+    (λ c. search needs) returns-2)

@@ -1,5 +1,5 @@
 -- Up to `at` there is no line feed, so the words after the comment are those after its rest.
-use mathlib.Core.Path.{_≡_, refl, _∙_}
+use mathlib.Core.Path.{_≡_, _∙_}
 use Prim.Native.Nat.{_≤_, _-_}
 use lib.ListN.{length, drop}
 use borrow.Author.Tests.{ne-eqb}
@@ -14,9 +14,6 @@ Inv-loop text from at₀ at = (from ≤ at) × (at ≤ length text) × (commentW
 
 abbrev μ-loop : tie.MeasureT-loop
 μ-loop text from at₀ at = length text - at
-
-loop-holds : tie.Need-loop-holds Inv-loop μ-loop
-loop-holds c = (omega arith, omega arith, refl)
 
 returns : tie.Need-returns Inv-loop μ-loop
 returns c =
@@ -34,4 +31,5 @@ returns-2 c =
     (l .inv .0, l .inv .1, l .inv .2 ∙ comment-last _ (l .at) (omega arith))
 
 pub comment-end-spec : {M : Type 1} → Rattle.off.proofs.words.comment_end.Statement.statement M
-comment-end-spec = tie.close (tie.spec Inv-loop μ-loop loop-holds (λ c. search needs) returns (λ c. search needs) (λ c. search needs) loop-again returns-2)
+comment-end-spec =
+    tie.close (tie.spec Inv-loop μ-loop (λ c. search needs) (λ c. search needs) returns (λ c. search needs) (λ c. search needs) loop-again returns-2)

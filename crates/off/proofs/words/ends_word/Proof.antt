@@ -8,11 +8,8 @@ use Rattle.off.proofs.words.ends_word.Tie as tie
 returns : tie.Need-returns
 returns c = ends-separator _ (sym (c .before .separates .ensures) ∙ c .if1 .taken)
 
-returns-2 : tie.Need-returns-2
-returns-2 c = ends-hash _ (omega (arith, c .if2 .taken))
-
 returns-3 : tie.Need-returns-3
 returns-3 c = sym (ends-none _ (sym (c .before .before .separates .ensures) ∙ c .before .if1 .left) (λ e. c .if2 .left (omega arith)))
 
 pub ends-word-spec : {M : Type 1} → Rattle.off.proofs.words.ends_word.Statement.statement M
-ends-word-spec = tie.close (tie.spec (λ c κs. search needs) returns returns-2 returns-3)
+ends-word-spec = tie.close (tie.spec (λ c κs. search needs) returns (λ c. search (needs, ends-hash)) returns-3)

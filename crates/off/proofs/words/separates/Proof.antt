@@ -1,4 +1,5 @@
 -- Each of the four bytes is tried by itself.
+use borrow.Author.Needs.{needs}
 use borrow.Author.Tests.{eq-eqb, ne-eqb}
 use Rattle.paper.specs.Off.{separates}
 use Rattle.off.proofs.words.separates.Tie as tie
@@ -17,7 +18,7 @@ returns-3 c = rw (ne-eqb _ _ (c .before .before .if1 .left), ne-eqb _ _ (c .befo
 
 returns-4 : tie.Need-returns-4
 unfolding separates
-returns-4 c = rw (ne-eqb _ _ (c .before .before .if1 .left), ne-eqb _ _ (c .before .if2 .left), ne-eqb _ _ (c .if3 .left))
+returns-4 c = search (needs, ne-eqb)
 
 pub separates-spec : {M : Type 1} → Rattle.off.proofs.words.separates.Statement.statement M
 separates-spec = tie.close (tie.spec returns returns-2 returns-3 returns-4)

@@ -3,7 +3,7 @@ use mathlib.Core.Path.{_≡_, sym, _∙_, subst}
 use Prim.Native.Nat.{ℕ, _+_, _-_, _≤_}
 use lib.ListN.{length}
 use denote.Ref.{now}
-use Rattle.rearrange.specs.four_bytes.Words.{Worded}
+use Rattle.rearrange.specs.four_bytes.Words.{NumbersStored}
 use Rattle.rearrange.proofs.differences.Deltas.{read-bits}
 use Rattle.rearrange.proofs.four_bytes.Lists.{worded-none, worded-step}
 use native.Mathlib.Omega.{arith}
@@ -11,7 +11,7 @@ use borrow.Author.Needs.{needs}
 use Rattle.rearrange.proofs.four_bytes.write_numbers.Tie as tie
 
 abbrev Inv-loop : tie.InvT-loop
-Inv-loop numbers bytes₀ i₀ bytes i = (i ≤ length numbers) × Worded numbers i bytes
+Inv-loop numbers bytes₀ i₀ bytes i = (i ≤ length numbers) × NumbersStored numbers i bytes
 
 abbrev μ-loop : tie.MeasureT-loop
 μ-loop numbers bytes₀ i₀ bytes i = length numbers - i
@@ -32,7 +32,7 @@ loop-again c =
     let list = now (s .args .numbers) in
     let d = b .bits .ensures ∙ read-bits list (l .i) (record { sfits = b .before .bits-arg .given }) in (
       omega arith,
-      subst (Worded list (l .i + 1)) (sym (p .put .ensures))
+      subst (NumbersStored list (l .i + 1)) (sym (p .put .ensures))
           (worded-step list (l .i) (b .bits .result) (l .bytes) (omega arith) (b .bits .ok) d (l .inv .1)),
     )
 
@@ -41,7 +41,7 @@ returns c =
     let s : tie.Start Inv-loop μ-loop = search in
     let l = c .before .loop in
     let e : l .i ≡ length (now (s .args .numbers)) = omega arith in
-    subst (λ (k : ℕ). Worded (now (s .args .numbers)) k (l .bytes)) e (l .inv .1)
+    subst (λ (k : ℕ). NumbersStored (now (s .args .numbers)) k (l .bytes)) e (l .inv .1)
 
 pub write-numbers-spec : {M : Type 1} → Rattle.rearrange.proofs.four_bytes.write_numbers.Statement.statement M
 write-numbers-spec =

@@ -1,7 +1,7 @@
 -- `put` meets its contract, store by store.
 use mathlib.Core.Path.{refl}
 use lib.ListN.{length-set}
-use Rattle.rearrange.specs.planes.Planes.{spaced}
+use Rattle.rearrange.specs.planes.Planes.{fourSet}
 use native.Mathlib.Omega.{arith}
 use borrow.Author.Needs.{needs}
 use Rattle.rearrange.proofs.planes.put.Tie as tie
@@ -16,7 +16,7 @@ slice-write-bytes-4 : tie.Need-slice-write-bytes-4
 slice-write-bytes-4 c = simp length-set (omega arith)
 
 returns : tie.Need-returns
-unfolding spaced
+unfolding fourSet
 returns c = refl
 
 pub put-spec : {M : Type 1} → Rattle.rearrange.proofs.planes.put.Statement.statement M

@@ -6,7 +6,7 @@ use lib.ListN.{length}
 use denote.Ref.{now}
 use Rattle.mesh.proofs.Fills.{Filled, filled-none}
 use Rattle.paper.specs.Archive.{restoredAt}
-use Rattle.rearrange.specs.restoring.Sums.{before}
+use Rattle.rearrange.specs.restoring.Sums.{sumBefore}
 use Rattle.rearrange.proofs.restoring.Sums.{before-first, one-next, one-fills, one-length, restored-all}
 use native.Mathlib.Omega.{arith}
 use Rattle.rearrange.proofs.restoring.fill_vertices.Tie as tie
@@ -14,7 +14,7 @@ use Rattle.rearrange.proofs.restoring.fill_vertices.Tie as tie
 abbrev Inv-loop : tie.InvT-loop
 Inv-loop bytes numbers₀ n x₀ y₀ z₀ v₀ numbers x y z v =
     (v ≤ length numbers₀ / 3) × (length numbers ≡ length numbers₀) × Filled (restoredAt bytes (length numbers₀)) numbers₀ (3 * v) numbers
-    × (x ≡ before bytes (length numbers₀) v 0) × (y ≡ before bytes (length numbers₀) v 1) × (z ≡ before bytes (length numbers₀) v 2)
+    × (x ≡ sumBefore bytes (length numbers₀) v 0) × (y ≡ sumBefore bytes (length numbers₀) v 1) × (z ≡ sumBefore bytes (length numbers₀) v 2)
 
 abbrev μ-loop : tie.MeasureT-loop
 μ-loop bytes numbers₀ n x₀ y₀ z₀ v₀ numbers x y z v = length numbers₀ / 3 - v

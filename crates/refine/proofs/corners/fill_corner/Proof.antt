@@ -13,7 +13,7 @@ use mir.Syntax.{w32}
 use mir.Val.{SFits, toZ, ofZ}
 use mir.Facts.{toZ-ofZ}
 use Rattle.numbers.proofs.Machine.{abs-fits}
-use Rattle.refine.specs.sums.Sources.{stepsOf}
+use Rattle.refine.specs.sums.Sources.{vertexSteps}
 use Rattle.refine.specs.corners.Mean.{Balanced, Known, mean, totalOn, facePoint}
 use Rattle.refine.specs.declared.corners.CornerWeights.{CornerWeights}
 use Rattle.refine.proofs.Points.{put-one}
@@ -23,7 +23,7 @@ use Rattle.refine.proofs.corners.fill_corner.Tie as tie
 
 -- means of the same numbers
 same-mean : (coordinates : List ℤ) (corners : List ℕ) (axis c n : ℕ) (v w : CornerWeights) (p q p′ q′ : ℕ) (t u : ℤ) → v ≡ w → t ≡ u → p ≡ p′ → q ≡ q′
-    → let P = stepsOf coordinates corners axis in mean v t (P p) (P c) (P q) n ≡ mean w u (P p′) (P c) (P q′) n
+    → let P = vertexSteps coordinates corners axis in mean v t (P p) (P c) (P q) n ≡ mean w u (P p′) (P c) (P q′) n
 same-mean coordinates corners axis c n v w p q p′ q′ t u ew et ep eq = rw (ew, et, ep, eq)
 
 module _ (s : tie.Start) where
@@ -62,7 +62,7 @@ module _ (w : tie.After-weigh) where
   known k l = rw (toZ-ofZ (total-fits s k l)) (s .pre .1 .0 .1 k l)
 
   -- what a call answers is the corner's point on that axis
-  value-is : (k : ℕ) (r : ℤ) → k < 3 → SFits w32 r → let P = stepsOf (now (s .args .coordinates)) (now (s .args .corners)) k in
+  value-is : (k : ℕ) (r : ℤ) → k < 3 → SFits w32 r → let P = vertexSteps (now (s .args .coordinates)) (now (s .args .corners)) k in
       r ≡ mean (w .weigh .result) (toZ w32 (ofZ w32 (totalOn (s .args .face) k))) (P p) (P (s .args .c)) (P q) (s .args .face .sides)
       → toZ w32 (ofZ w32 r) ≡ facePoint (now (s .args .coordinates)) (now (s .args .corners)) (now (s .args .sharpness)) (now (s .args .table)) (s .args .face) k (s .args .c)
   value-is k r l f h =

@@ -9,13 +9,13 @@ use mir.Syntax.{w32}
 use mir.Val.{SFits}
 use mir.Facts.{toZ-ofZ}
 use Rattle.paper.specs.Mesh.{mostCoordinate}
-use Rattle.refine.specs.sums.Sources.{stepsOf}
+use Rattle.refine.specs.sums.Sources.{vertexSteps}
 use Rattle.refine.proofs.sums.Laws.{steps-size}
 use Rattle.refine.proofs.corners.on_axis.Statement.{statement}
 use Rattle.refine.proofs.corners.on_axis.Tie as tie
 
 size-at : (s : tie.Start) (d : ℕ) → d < length (now (s .args .corners))
-    → natAbs (stepsOf (now (s .args .coordinates)) (now (s .args .corners)) (s .args .axis) d) ≤ mostCoordinate
+    → natAbs (vertexSteps (now (s .args .coordinates)) (now (s .args .corners)) (s .args .axis) d) ≤ mostCoordinate
 size-at s d h = steps-size (now (s .args .coordinates)) (now (s .args .corners)) (s .pre .0) (s .args .axis) d (s .pre .1 .0 .0) h
 
 refined-requires : tie.Need-refined-requires

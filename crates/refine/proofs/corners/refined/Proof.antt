@@ -4,11 +4,11 @@ use borrow.Author.Needs.{needs}
 use mir.Syntax.{w32}
 use mir.Val.{SFits}
 use mir.Facts.{toZ-ofZ}
-use Rattle.refine.proofs.corners.Laws.{Sizes, sizes}
+use Rattle.refine.proofs.corners.Laws.{MeanSizes, sizes}
 use Rattle.refine.proofs.corners.refined.Statement.{statement}
 use Rattle.refine.proofs.corners.refined.Tie as tie
 
-facts : (s : tie.Start) → Sizes (s .args .w) (s .args .total) (s .args .before) (s .args .here) (s .args .after) (s .args .face .sides)
+facts : (s : tie.Start) → MeanSizes (s .args .w) (s .args .total) (s .args .before) (s .args .here) (s .args .after) (s .args .face .sides)
 facts s = sizes (s .args .w) (s .pre .1) (s .args .total) (s .args .before) (s .args .here) (s .args .after) (s .args .face) (s .pre .0)
 
 mul-three : tie.Need-mul-three

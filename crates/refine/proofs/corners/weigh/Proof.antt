@@ -10,7 +10,7 @@ use mir.Syntax.{w32}
 use mir.Val.{Fits}
 use Rattle.paper.specs.Mesh.{mostSharpness, plain}
 use Rattle.mesh.proofs.Accepted.{in-list}
-use Rattle.refine.specs.corners.Mean.{weightsOf}
+use Rattle.refine.specs.corners.Mean.{sharpnessWeights}
 use Rattle.refine.proofs.corners.weigh.Statement.{statement}
 use Rattle.refine.proofs.corners.weigh.Tie as tie
 
@@ -38,38 +38,21 @@ in-width a b ha hb = omega (arith, mul-le-mul ha hb)
 twice-in-width : (a b : ℕ) → a ≤ 16 → b ≤ 16 → Fits w32 (2 * a * b)
 twice-in-width a b ha hb = omega (arith, mul-le-mul ha hb)
 
-cast-u : tie.Need-cast-u
-cast-u c = omega (arith, limits (c .before))
-
-cast-v : tie.Need-cast-v
-cast-v c = omega (arith, limits (c .before .before))
-
-sub-to-u : tie.Need-sub-to-u
-sub-to-u c = omega (arith, limits (c .before .before))
-
-sub-to-v : tie.Need-sub-to-v
-sub-to-v c = omega (arith, limits (c .before .before))
-
 mul-t13 : tie.Need-mul-t13
 mul-t13 c = twice-in-width _ _ (omega (arith, limits (c .before .before))) (omega (arith, limits (c .before .before)))
 
 mul-t14 : tie.Need-mul-t14
 mul-t14 c = in-width _ _ (omega (arith, limits (c .before .before))) (omega (arith, limits (c .before .before)))
 
-add-t15 : tie.Need-add-t15
-add-t15 c = omega (arith, limits (c .before .before))
-
-mul-t16 : tie.Need-mul-t16
-mul-t16 c = omega (arith, limits (c .before .before))
-
 mul-t17 : tie.Need-mul-t17
 mul-t17 c = in-width _ _ (omega (arith, limits (c .before .before))) (omega (arith, limits (c .before .before)))
 
 returns : tie.Need-returns
-unfolding weightsOf
+unfolding sharpnessWeights
 returns c = let s = c .before .before in rw (u-is s, v-is s)
 
 pub weigh-spec : {M : Type 1} → statement M
 weigh-spec =
-    tie.close (tie.spec (λ c. search needs) (λ c. search needs) cast-u (λ c. search needs) (λ c. search needs) (λ c. search needs) cast-v sub-to-u sub-to-v
-    (λ c. search needs) mul-t13 mul-t14 add-t15 mul-t16 mul-t17 returns)
+    tie.close (tie.spec (λ c. search needs) (λ c. search needs) (λ c. omega (arith, limits search)) (λ c. search needs) (λ c. search needs)
+    (λ c. search needs) (λ c. omega (arith, limits search)) (λ c. omega (arith, limits search)) (λ c. omega (arith, limits search)) (λ c. search needs)
+    mul-t13 mul-t14 (λ c. omega (arith, limits search)) (λ c. omega (arith, limits search)) mul-t17 returns)

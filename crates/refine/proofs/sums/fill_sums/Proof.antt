@@ -11,7 +11,7 @@ use denote.Ref.{now}
 use Rattle.paper.specs.Mesh.{Mesh, plainMesh}
 use Rattle.paper.specs.Corners.{startOf}
 use Rattle.mesh.proofs.Faces.{start-zero, start-next, start-ends}
-use Rattle.refine.specs.sums.Sources.{faceSteps, sumRow, sumAt, SumsAre}
+use Rattle.refine.specs.sums.Sources.{faceSteps, sumRow, faceSumAt, SumsAre}
 use Rattle.refine.proofs.sums.Laws.{sums-none, sums-more}
 use Rattle.refine.proofs.sums.fill_sums.Statement.{statement}
 use Rattle.refine.proofs.sums.fill_sums.Tie as tie
@@ -65,7 +65,7 @@ module _ (j : tie.Joined1 Inv-loop μ-loop) where
   Summed new = SumsAre (mesh i) (now (s i .args .marked)) (f + 1) (set (i .before .loop .wanted) f any) new × (length new ≡ length (i .before .loop .sums))
 
   more : (new : List ℤ) → ((k : ℕ) → k < sumRow * f → getD new k (pos 0) ≡ getD (i .before .loop .sums) k (pos 0))
-      → (0 < any → (axis : ℕ) → axis < 3 → sumAt new f axis ≡ faceSteps (mesh i) f axis) → length new ≡ length (i .before .loop .sums) → Summed new
+      → (0 < any → (axis : ℕ) → axis < 3 → faceSumAt new f axis ≡ faceSteps (mesh i) f axis) → length new ≡ length (i .before .loop .sums) → Summed new
   more new b r e =
       let l = i .before .loop in
       (sums-more (mesh i) (now (s i .args .marked)) f any (l .wanted) (l .sums) new (room i .0) (rw (← l .inv .1) (j .before .any-marked .ensures)) b r (l .inv .4), e)

@@ -10,7 +10,7 @@ use denote.Ref.{now}
 use mir.Syntax.{w32}
 use mir.Val.{SFits, toZ}
 use Rattle.numbers.proofs.Sum.{sum-zero}
-use Rattle.refine.specs.sums.Sources.{stepsOf, stepSum, sumRow}
+use Rattle.refine.specs.sums.Sources.{vertexSteps, stepSum, sumRow}
 use Rattle.refine.proofs.sums.Laws.{SumMore, sum-turn, three-at, three-beside}
 use Rattle.refine.proofs.sums.sum_face.Statement.{statement}
 use Rattle.refine.proofs.sums.sum_face.Tie as tie
@@ -35,7 +35,7 @@ module _ (i : tie.In-loop Inv-loop μ-loop) where
 
   more : (axis t : ℕ) (r : ℤ) → axis < 3 → SFits w32 r
       → toZ w32 t ≡ stepSum (now (s .args .coordinates)) (now (s .args .corners)) (s .args .start) (i .before .loop .j) axis
-      → r ≡ stepsOf (now (s .args .coordinates)) (now (s .args .corners)) axis (s .args .start + i .before .loop .j) → More axis t r
+      → r ≡ vertexSteps (now (s .args .coordinates)) (now (s .args .corners)) axis (s .args .start + i .before .loop .j) → More axis t r
   more axis t r a =
       sum-turn (now (s .args .coordinates)) (now (s .args .corners)) (s .pre .0) (s .args .start) (i .before .loop .j) axis a
       (omega (arith, i .loop-test .taken, s .pre .1 .0)) (omega (arith, i .loop-test .taken, s .pre .1 .0)) t r

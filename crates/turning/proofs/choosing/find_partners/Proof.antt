@@ -5,86 +5,64 @@ use lib.ListN.{length, take}
 use denote.Ref.{now}
 use native.Mathlib.Omega.{arith}
 use lib.Seq.{length-take-le}
+use Rattle.turning.specs.partners.Keys.{KeysTo}
 use Rattle.turning.proofs.choosing.Laws.{keyable-of, keys-taken, low-below, high-below}
 use Rattle.turning.proofs.choosing.find_partners.Tie as tie
 
 fill-keys-requires : tie.Need-fill-keys-requires
 fill-keys-requires c κs =
     let s : tie.Start = search in
-    keyable-of (s .args .vertices) (now (s .args .sides)) (now (s .args .corners)) (now (s .args .table)) _ _ (s .pre .0 .0) (s .pre .0 .1)
-    (omega (arith, s .pre .0 .0 .few-corners)) (omega (arith, s .pre .0 .0 .few-corners))
+    keyable-of (s .pre .0 .0) (s .pre .0 .1) (omega (arith, s .pre .0 .0 .few-corners)) (omega (arith, s .pre .0 .0 .few-corners))
 
-slice-aggregate-low : tie.Need-slice-aggregate-low
-slice-aggregate-low c =
-    let s : tie.Start = search in
-    let v = c .before .before .before .fill-keys in
-    let tl : length (take (length (now (s .args .corners))) (v .last .1 .1 .0)) ≡ length (now (s .args .corners)) = length-take-le
-    (length (now (s .args .corners))) (v .last .1 .1 .0) (omega (arith, v .kept .1 .1 .0, s .pre .0 .0 .few-corners)) in
-    let th : length (take (length (now (s .args .corners))) (v .last .1 .1 .1 .0)) ≡ length (now (s .args .corners)) = length-take-le
-    (length (now (s .args .corners))) (v .last .1 .1 .1 .0) (omega (arith, v .kept .1 .1 .1 .0, s .pre .0 .0 .few-corners)) in
-    sym tl
+-- After the ends are filled: cut to the corner count, they are as long as the corners.
+module _ (v : tie.After-fill-keys) where
+  cut : let s : tie.Start = search in
+      let n = length (now (s .args .corners)) in
+      (length (take n (v .fill-keys .last .1 .1 .0)) ≡ n) × (length (take n (v .fill-keys .last .1 .1 .1 .0)) ≡ n)
+  cut =
+      let s : tie.Start = search in (
+        length-take-le _ _ (omega (arith, v .fill-keys .kept .1 .1 .0, s .pre .0 .0 .few-corners)),
+        length-take-le _ _ (omega (arith, v .fill-keys .kept .1 .1 .1 .0, s .pre .0 .0 .few-corners)),
+      )
 
-slice-aggregate-high : tie.Need-slice-aggregate-high
-slice-aggregate-high c =
-    let s : tie.Start = search in
-    let v = c .before .before .before .before .fill-keys in
-    let tl : length (take (length (now (s .args .corners))) (v .last .1 .1 .0)) ≡ length (now (s .args .corners)) = length-take-le
-    (length (now (s .args .corners))) (v .last .1 .1 .0) (omega (arith, v .kept .1 .1 .0, s .pre .0 .0 .few-corners)) in
-    let th : length (take (length (now (s .args .corners))) (v .last .1 .1 .1 .0)) ≡ length (now (s .args .corners)) = length-take-le
-    (length (now (s .args .corners))) (v .last .1 .1 .1 .0) (omega (arith, v .kept .1 .1 .1 .0, s .pre .0 .0 .few-corners)) in
-    sym th
+  keyed : let s : tie.Start = search in
+      KeysTo (now (s .args .sides)) (now (s .args .corners)) (v .fill-keys .last .1 .1 .0) (v .fill-keys .last .1 .1 .1 .0) (length (now (s .args .corners)))
+  keyed = let s : tie.Start = search in v .fill-keys .ensures (now (s .args .sides)) (s .pre .0 .1 .nexts)
 
 fill-afters-requires : tie.Need-fill-afters-requires
 fill-afters-requires c κs =
     let s : tie.Start = search in
-    let v = c .before .before .before .before .before .fill-keys in
-    let tl : length (take (length (now (s .args .corners))) (v .last .1 .1 .0)) ≡ length (now (s .args .corners)) = length-take-le
-    (length (now (s .args .corners))) (v .last .1 .1 .0) (omega (arith, v .kept .1 .1 .0, s .pre .0 .0 .few-corners)) in
-    let th : length (take (length (now (s .args .corners))) (v .last .1 .1 .1 .0)) ≡ length (now (s .args .corners)) = length-take-le
-    (length (now (s .args .corners))) (v .last .1 .1 .1 .0) (omega (arith, v .kept .1 .1 .1 .0, s .pre .0 .0 .few-corners)) in (
+    let v : tie.After-fill-keys = search in
+    let lists = s .pre .0 .0 in
+    let l = cut v in (
       record {
-        few-vertices = s .pre .0 .0 .few-vertices;
-        few-corners = omega (arith, tl, s .pre .0 .0 .few-corners);
-        highs-long = omega (arith, tl, th);
-        lows-in = λ x l.
-            low-below (s .args .vertices) (now (s .args .sides)) (now (s .args .corners)) (v .last .1 .1 .0) (v .last .1 .1 .1 .0) (s .pre .0 .0)
-            (v .ensures (now (s .args .sides)) (s .pre .0 .1 .nexts)) x (omega (arith, tl));
-        highs-in = λ x l.
-            high-below (s .args .vertices) (now (s .args .sides)) (now (s .args .corners)) (v .last .1 .1 .0) (v .last .1 .1 .1 .0) (s .pre .0 .0)
-            (v .ensures (now (s .args .sides)) (s .pre .0 .1 .nexts)) x (omega (arith, tl));
+        few-vertices = lists .few-vertices;
+        few-corners = omega (arith, l, lists .few-corners);
+        highs-long = omega (arith, l);
+        lows-in = λ x b. low-below lists (keyed v) x (omega (arith, l));
+        highs-in = λ x b. high-below lists (keyed v) x (omega (arith, l));
       },
-      omega (arith, tl, s .pre .0 .0 .few-corners),
+      omega (arith, l, lists .few-corners),
     )
 
 pair-requires : tie.Need-pair-requires
 pair-requires c κs =
-    let m = c .before .before .before .before .before .before .before .before .before .before .before .before in
-    let s = m .before .before .before .before
-    in
-    let v = c .before .before .before .before .before .before .before .before .before .fill-keys in
-    let tl : length (take (length (now (s .args .corners))) (v .last .1 .1 .0)) ≡ length (now (s .args .corners)) = length-take-le
-    (length (now (s .args .corners))) (v .last .1 .1 .0) (omega (arith, v .kept .1 .1 .0, s .pre .0 .0 .few-corners)) in
-    let th : length (take (length (now (s .args .corners))) (v .last .1 .1 .1 .0)) ≡ length (now (s .args .corners)) = length-take-le
-    (length (now (s .args .corners))) (v .last .1 .1 .1 .0) (omega (arith, v .kept .1 .1 .1 .0, s .pre .0 .0 .few-corners)) in
-    let w = c .before .before .before .fill-afters in (
-      omega (arith, tl, s .pre .0 .0 .few-corners),
-      ((omega (arith, tl, w .kept .1 .1 .1 .0, s .pre .0 .0 .few-corners), w .ensures), (omega (arith, tl, s .pre .1 .0), s .pre .1 .1)),
+    let s : tie.Start = search in
+    let v : tie.After-fill-keys = search in
+    let w : tie.After-fill-afters = search in
+    let few = s .pre .0 .0 .few-corners in
+    let l = cut v in (
+      omega (arith, l, few),
+      ((omega (arith, l, w .fill-afters .kept .1 .1 .1 .0, few), w .fill-afters .ensures), (omega (arith, l, s .pre .1 .0), s .pre .1 .1)),
     )
 
 returns : tie.Need-returns
 returns c =
-    let m = c .before .before .before .before .before .before .before .before .before .before .before .before in
     let s : tie.Start = search in
-    let v = c .before .before .before .before .before .before .before .before .before .before .before .before .fill-keys in
-    let tl : length (take (length (now (s .args .corners))) (v .last .1 .1 .0)) ≡ length (now (s .args .corners)) = length-take-le
-    (length (now (s .args .corners))) (v .last .1 .1 .0) (omega (arith, v .kept .1 .1 .0, s .pre .0 .0 .few-corners)) in
-    let th : length (take (length (now (s .args .corners))) (v .last .1 .1 .1 .0)) ≡ length (now (s .args .corners)) = length-take-le
-    (length (now (s .args .corners))) (v .last .1 .1 .1 .0) (omega (arith, v .kept .1 .1 .1 .0, s .pre .0 .0 .few-corners)) in
-    c .before .before .pair .ensures (now (s .args .sides)) (now (s .args .corners)) (s .pre .0 .0 .listed) tl
-    (keys-taken (s .args .vertices) (now (s .args .sides)) (now (s .args .corners)) (v .last .1 .1 .0) (v .last .1 .1 .1 .0) (s .pre .0 .0)
-    (v .ensures (now (s .args .sides)) (s .pre .0 .1 .nexts)))
+    let v : tie.After-fill-keys = search in
+    c .before .before .pair .ensures (now (s .args .sides)) (now (s .args .corners)) (s .pre .0 .0 .listed) (cut v .0) (keys-taken (s .pre .0 .0) (keyed v))
 
 pub find-partners-spec : {M : Type 1} → Rattle.turning.proofs.choosing.find_partners.Statement.statement M
 find-partners-spec =
-    tie.close (tie.spec (λ c. search needs) (λ c. search needs) fill-keys-requires (λ c. search needs) slice-aggregate-low (λ c. search needs)
-    slice-aggregate-high (λ c. search needs) fill-afters-requires (λ c. search needs) pair-requires (λ c. search needs) returns)
+    tie.close (tie.spec (λ c. search needs) (λ c. search needs) fill-keys-requires (λ c. search needs) (λ c. sym (cut (search) .0)) (λ c. search needs)
+    (λ c. sym (cut (search) .1)) (λ c. search needs) fill-afters-requires (λ c. search needs) pair-requires (λ c. search needs) returns)

@@ -14,33 +14,28 @@ find-partners-requires c κs =
 returns : tie.Need-returns
 returns c =
     let s : tie.Start = search in
-    let v = c .before .before .before .before .find-partners in
-    let k = c .before .a .given in
-    chosen-refused (now (s .args .sides)) (now (s .args .corners)) (v .result) (v .last .1 .1 .1 .1 .0) (now (s .args .states)) (k .0 .0) (k .0 .1 .0)
-    (v .ensures) (k .1)
+    let v : tie.After-find-partners = search in
+    chosen-refused (now (s .args .states)) (v .find-partners .ensures) (c .before .a .given .1)
 
 spread-requires : tie.Need-spread-requires
 spread-requires c κs =
-    let m = c .before .before .before .before .before .before .before .before .before .before .before .before in
     let s : tie.Start = search in
-    let v = c .before .before .before .before .before .before .before .before .before .before .before .before .before .find-partners in
-    let w = c .before .before .before .before .before .before .before .fill-starts in
+    let v : tie.After-find-partners = search in
+    let w : tie.After-fill-starts = search in
+    let lists = s .pre .0 .0 in
     let e = c .before .before .before .before .before .before .before .before .before .before .enum-told .given .1 in (
-      spreadable-of (s .args .vertices) (now (s .args .sides)) (now (s .args .corners)) (v .last .1 .1 .1 .1 .0) (w .last .1 .0) (w .last .1 .1 .0)
-          (v .result) (s .pre .0 .0) (v .ensures) e (w .ensures)
-          (omega (arith, v .kept .1 .1 .1 .1 .0, s .pre .0 .0 .few-corners)) (omega (arith, w .kept .1 .0, s .pre .0 .0 .few-corners))
-          (omega (arith, w .kept .1 .1 .0, s .pre .0 .0 .few-faces)),
-      (s .pre .1 .0, omega (arith, s .pre .0 .0 .few-faces), s .pre .1 .1),
+      spreadable-of (v .find-partners .ensures) e lists (w .fill-starts .ensures)
+          (omega (arith, v .find-partners .kept .1 .1 .1 .1 .0, lists .few-corners)) (omega (arith, w .fill-starts .kept .1 .0, lists .few-corners))
+          (omega (arith, w .fill-starts .kept .1 .1 .0, lists .few-faces)),
+      (s .pre .1 .0, omega (arith, lists .few-faces), s .pre .1 .1),
     )
 
 returns-2 : tie.Need-returns-2
 returns-2 c =
-    let m = c .before .before .before .before .before .before .before .before .before .before .before .before in
-    let s : tie.Start = search in
-    let v = m .before .before .before .before .before .find-partners in
-    let w = c .before .before .before .spread in
-    chosen-spread (now (s .args .sides)) (now (s .args .corners)) (v .result) (w .result) (v .last .1 .1 .1 .1 .0) (w .last .1 .1 .1 .1 .1 .0) (v .ensures)
-    (c .before .before .before .before .before .before .before .before .before .before .before .before .before .before .enum-told .given .1) (w .ensures)
+    let v : tie.After-find-partners = search in
+    chosen-spread (v .find-partners .ensures)
+    (c .before .before .before .before .before .before .before .before .before .before .before .before .before .before .enum-told .given .1)
+    (c .before .before .before .spread .ensures)
 
 pub find-turns-spec : {M : Type 1} → Rattle.turning.proofs.choosing.find_turns.Statement.statement M
 find-turns-spec =

@@ -20,35 +20,35 @@ from-start : tie.In-loop Inv-loop μ-loop → tie.In-loop Inv-loop μ-loop × ti
 from-start i = (i, search)
 
 loop-holds : tie.Need-loop-holds Inv-loop μ-loop
-loop-holds c = let s : tie.Start Inv-loop μ-loop = search in
+loop-holds c =
+    let s : tie.Start Inv-loop μ-loop = search in
     (below-none _ _ _ _ (s .pre .1 .0) (s .pre .1 .1), (λ x l b. absurd (omega arith)), refl, refl, omega arith)
 
 follow-requires : tie.Need-follow-requires Inv-loop μ-loop
-follow-requires c κs = let i = c .before .before in let t = i .before in let s : tie.Start Inv-loop μ-loop = search in let l = t .loop in
-    ((i .loop-test .taken, s .pre .0), (l .inv .0, (omega (arith, s .pre .1 .2, l .inv .3), l .inv .1)))
+follow-requires c κs =
+    let s : tie.Start Inv-loop μ-loop = search in
+    let i : tie.In-loop Inv-loop μ-loop = search in
+    let inv = i .before .loop .inv in
+    ((i .loop-test .taken, s .pre .0), (inv .0, (omega (arith, s .pre .1 .2, inv .3), inv .1)))
 
 loop-again : tie.Need-loop-again Inv-loop μ-loop
-loop-again c = let i = c .before .before .before .before .before .before .before in let t = i .before in
-    let s = t .before .before .before .before .before .before .before in let l = t .loop in
-    let v = c .before .before .before .before .follow in (
-      v .ensures .0,
-      v .ensures .1,
-      v .kept .1 .1 .1 .1 .1 .1 .0 ∙ l .inv .2,
-      v .kept .1 .1 .1 .1 .1 .1 .1 .0 ∙ l .inv .3,
+loop-again c =
+    let i : tie.In-loop Inv-loop μ-loop = search in
+    let v : tie.After-follow Inv-loop μ-loop = search in
+    let inv = i .before .loop .inv in (
+      v .follow .ensures .0,
+      v .follow .ensures .1,
+      v .follow .kept .1 .1 .1 .1 .1 .1 .0 ∙ inv .2,
+      v .follow .kept .1 .1 .1 .1 .1 .1 .1 .0 ∙ inv .3,
       omega (arith, i .loop-test .taken),
     )
 
-same-length : tie.Need-same-length Inv-loop μ-loop
-same-length c = c .before .loop .inv .2
-
-same-length-2 : tie.Need-same-length-2 Inv-loop μ-loop
-same-length-2 c = c .before .loop .inv .3
-
 returns : tie.Need-returns Inv-loop μ-loop
-returns c = let t = c .before in let s : tie.Start Inv-loop μ-loop = search in let l = t .loop in λ x h.
-    l .inv .1 x h (omega (arith, s .pre .0 .lows-in x h, c .loop-test .left))
+returns c x h =
+    let s : tie.Start Inv-loop μ-loop = search in
+    c .before .loop .inv .1 x h (omega (arith, s .pre .0 .lows-in x h, c .loop-test .left))
 
 pub fill-afters-spec : {M : Type 1} → Rattle.turning.proofs.partners.fill_afters.Statement.statement M
 fill-afters-spec =
-    tie.close (tie.spec Inv-loop μ-loop loop-holds follow-requires (λ c. omega (arith, from-start search)) (λ c. omega (arith, from-start search)) loop-again
-    same-length same-length-2 returns)
+    tie.close (tie.spec Inv-loop μ-loop loop-holds follow-requires (λ c. omega (arith, from-start search)) (λ c. omega (arith, from-start search))
+    loop-again (λ c. c .before .loop .inv .2) (λ c. c .before .loop .inv .3) returns)

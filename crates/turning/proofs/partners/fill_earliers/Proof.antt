@@ -1,59 +1,37 @@
 -- `fill_earliers` meets its contract: the heads hold the highest corner below `c` with each lower end, which is the earlier corner of `c`.
-use mathlib.Core.Path.{_≡_, refl, _∙_}
-use Prim.Native.Nat.{_+_, _≤_, _<_, _-_}
+use mathlib.Core.Path.{_≡_, refl}
+use Prim.Native.Nat.{_≤_, _<_, _-_}
 use lib.ListN.{length, getD, length-set}
 use denote.Ref.{now}
-use Rattle.turning.proofs.partners.Chains.{ChainsTo, chains-none, chains-step, chains-all}
+use Rattle.turning.proofs.partners.Chains.{EndChainsTo, chains-none, chains-step, chains-all}
 use native.Mathlib.Omega.{arith}
 use borrow.Author.Needs.{needs}
 use Rattle.turning.proofs.partners.fill_earliers.Tie as tie
 
 abbrev Inv-loop : tie.InvT-loop
 Inv-loop lows vertices earliers₀ heads₀ c₀ earliers heads c =
-    (c ≤ length lows) × (length earliers ≡ length earliers₀) × (length heads ≡ length heads₀) × ChainsTo lows earliers heads c
+    (c ≤ length lows) × (length earliers ≡ length earliers₀) × (length heads ≡ length heads₀) × EndChainsTo lows earliers heads c
 
 abbrev μ-loop : tie.MeasureT-loop
 μ-loop lows vertices earliers₀ heads₀ c₀ earliers heads c = length lows - c
 
-loop-holds : tie.Need-loop-holds Inv-loop μ-loop
-loop-holds c = (search needs, refl, refl, chains-none _ _ _ (c .pre .blank))
-
-cast-u : tie.Need-cast-u Inv-loop μ-loop
-cast-u c = let s : tie.Start Inv-loop μ-loop = search in let l = c .before .before .loop in
-    omega (arith, s .pre .lows-in (l .c) (search needs), s .pre .heads-long)
-
-mul-head : tie.Need-mul-head Inv-loop μ-loop
-mul-head c = let s : tie.Start Inv-loop μ-loop = search in let l = c .before .before .loop in
-    omega (arith, s .pre .lows-in (l .c) (search needs), s .pre .heads-long)
-
-slice-read-head : tie.Need-slice-read-head Inv-loop μ-loop
-slice-read-head c = let s : tie.Start Inv-loop μ-loop = search in let l = c .before .before .before .loop in
-    omega (arith, s .pre .lows-in (l .c) (search needs), s .pre .heads-long)
-
-mul-heads : tie.Need-mul-heads Inv-loop μ-loop
-mul-heads c = let s : tie.Start Inv-loop μ-loop = search in let l = c .before .before .before .loop in
-    omega (arith, s .pre .lows-in (l .c) (search needs), s .pre .heads-long)
-
-slice-write-heads : tie.Need-slice-write-heads Inv-loop μ-loop
-slice-write-heads c = let s : tie.Start Inv-loop μ-loop = search in let l = c .before .before .before .loop in
-    omega (arith, s .pre .lows-in (l .c) (search needs), s .pre .heads-long)
+-- In the loop: the lower end of the corner is a vertex, and has a head.
+inside : (i : tie.In-loop Inv-loop μ-loop) → let s : tie.Start Inv-loop μ-loop = search in
+    getD (now (s .args .lows)) (i .before .loop .c) 0 < length (i .before .loop .heads)
+inside i =
+    let s : tie.Start Inv-loop μ-loop = search in
+    omega (arith, s .pre .lows-in (i .before .loop .c) (i .loop-test .taken), s .pre .heads-long)
 
 loop-again : tie.Need-loop-again Inv-loop μ-loop
-loop-again c = let s : tie.Start Inv-loop μ-loop = search in let l = c .before .before .before .loop in
-    let v = getD (now (s .args .lows)) (l .c) 0 in
-    let b : getD (now (s .args .lows)) (l .c) 0 < length (l .heads) = omega (arith, s .pre .lows-in (l .c) (search needs), s .pre .heads-long) in (
-      search needs,
-      length-set (l .earliers) (l .c) (getD (l .heads) v 0) ∙ l .inv .1,
-      length-set (l .heads) v (l .c + 1) ∙ l .inv .2,
-      chains-step (now (s .args .lows)) (l .earliers) (l .heads) (l .c) (l .inv .3) (omega (arith, s .pre .earliers-long)) b,
-    )
-
-returns : tie.Need-returns Inv-loop μ-loop
-returns c = let s = c .before .before in let l = c .before .loop in
-    chains-all (now (s .args .lows)) (l .earliers) (l .heads) (l .c) (omega arith) (l .inv .3)
+loop-again c =
+    let s : tie.Start Inv-loop μ-loop = search in
+    let i : tie.In-loop Inv-loop μ-loop = search in
+    let inv = i .before .loop .inv in
+    (search needs, simp length-set (inv .1), simp length-set (inv .2), chains-step (inv .3) (omega (arith, s .pre .earliers-long)) (inside i))
 
 pub fill-earliers-spec : {M : Type 1} → Rattle.turning.proofs.partners.fill_earliers.Statement.statement M
 fill-earliers-spec =
-    tie.close (tie.spec Inv-loop μ-loop loop-holds (λ c. search needs) (λ c. search needs) cast-u mul-head slice-read-head (λ c. search needs)
-    (λ c. search needs) (λ c. search needs) (λ c. search needs) mul-heads slice-write-heads (λ c. search needs) (λ c. search needs) loop-again
-    (λ c. search needs) (λ c. search needs) returns)
+    tie.close (tie.spec Inv-loop μ-loop (λ c. (search needs, refl, refl, chains-none _ _ _ (c .pre .blank))) (λ c. search needs) (λ c. search needs)
+    (λ c. omega (arith, inside search)) (λ c. omega (arith, inside search)) (λ c. omega (arith, inside search)) (λ c. search needs) (λ c. search needs)
+    (λ c. search needs) (λ c. search needs) (λ c. omega (arith, inside search)) (λ c. omega (arith, inside search)) (λ c. search needs) (λ c. search needs)
+    loop-again (λ c. search needs) (λ c. search needs) (λ c. chains-all (omega arith) (c .before .loop .inv .3)))

@@ -1,5 +1,5 @@
 -- `fill_keys` meets its contract: the corners below `c` have their ends.
-use mathlib.Core.Path.{_≡_, refl, _∙_, subst}
+use mathlib.Core.Path.{_≡_, refl, subst}
 use Prim.Native.Nat.{_-_, _*_, _≤_, _<_}
 use lib.ListN.{length, length-set}
 use denote.Ref.{now}
@@ -19,12 +19,7 @@ abbrev μ-loop : tie.MeasureT-loop
 μ-loop corners table lows₀ highs₀ c₀ lows highs c = length corners - c
 
 loop-holds : tie.Need-loop-holds Inv-loop μ-loop
-loop-holds c = let s : tie.Start Inv-loop μ-loop = search in (
-  keys-none (now (s .args .corners)) (now (s .args .table)) (now (s .args .lows)) (now (s .args .highs)),
-  refl,
-  refl,
-  omega arith,
-)
+loop-holds c = let s : tie.Start Inv-loop μ-loop = search in (keys-none _ (now (s .args .table)) _ _, refl, refl, omega arith)
 
 -- In the loop: the corner is one of the list, and the tables have room for it.
 inside : (i : tie.In-loop Inv-loop μ-loop) → let s : tie.Start Inv-loop μ-loop = search in
@@ -53,17 +48,23 @@ loop-again c =
     let i : tie.In-loop Inv-loop μ-loop = search in
     let l = i .before .loop in
     let k = inside i in (
-      keys-step (now (s .args .corners)) (now (s .args .table)) (l .lows) (l .highs) (l .c) (c .before .lower .result) (c .higher .result) (k .0) (k .4) (k .5) (c .before .lower .ensures)
-          (c .higher .ensures) (l .inv .0),
-      length-set (l .lows) (l .c) (c .before .lower .result) ∙ l .inv .1,
-      length-set (l .highs) (l .c) (c .higher .result) ∙ l .inv .2,
+      keys-step (now (s .args .corners)) (now (s .args .table)) (k .0) (k .4) (k .5) (c .before .lower .ensures) (c .higher .ensures) (l .inv .0),
+      simp length-set (l .inv .1),
+      simp length-set (l .inv .2),
       omega (arith, k),
     )
 
 returns : tie.Need-returns Inv-loop μ-loop
-returns c = let t = c .before in let s : tie.Start Inv-loop μ-loop = search in let l = t .loop in
+returns c =
+    let s : tie.Start Inv-loop μ-loop = search in
+    let l = c .before .loop in
     subst (Keyed (now (s .args .corners)) (now (s .args .table)) (l .lows) (l .highs)) (omega (arith, l .inv .3, c .loop-test .left)) (l .inv .0)
 
 pub fill-keys-spec : {M : Type 1} → Rattle.turning.proofs.partners.fill_keys.Statement.statement M
 fill-keys-spec =
-    tie.close (tie.spec Inv-loop μ-loop loop-holds (λ c. omega (arith, inside search)) (λ c. omega (arith, inside search)) (λ c. omega (arith, inside search)) (λ c. omega (arith, inside search)) (λ c. omega (arith, inside search)) (λ c. omega (arith, inside search)) (λ c. omega (arith, inside search)) (λ c. omega (arith, inside search)) (λ c. omega (arith, inside search)) (λ c κs. search needs) (λ c. omega (arith, inside search)) (λ c. omega (arith, inside search)) (λ c κs. search needs) (λ c. omega (arith, inside search)) (λ c. omega (arith, inside search)) (λ c. omega (arith, inside search)) (λ c. omega (arith, inside search)) loop-again (λ c. c .before .loop .inv .1) (λ c. c .before .loop .inv .2) returns)
+    tie.close (tie.spec Inv-loop μ-loop loop-holds (λ c. omega (arith, inside search)) (λ c. omega (arith, inside search))
+    (λ c. omega (arith, inside search)) (λ c. omega (arith, inside search)) (λ c. omega (arith, inside search)) (λ c. omega (arith, inside search))
+    (λ c. omega (arith, inside search)) (λ c. omega (arith, inside search)) (λ c. omega (arith, inside search)) (λ c κs. search needs)
+    (λ c. omega (arith, inside search)) (λ c. omega (arith, inside search)) (λ c κs. search needs) (λ c. omega (arith, inside search))
+    (λ c. omega (arith, inside search)) (λ c. omega (arith, inside search)) (λ c. omega (arith, inside search)) loop-again
+    (λ c. c .before .loop .inv .1) (λ c. c .before .loop .inv .2) returns)

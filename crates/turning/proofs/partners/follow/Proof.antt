@@ -1,5 +1,5 @@
 -- `follow` meets its contract: the corners of the chain from `at` on are entered, the lowest last. The chain falls.
-use mathlib.Core.Path.{_≡_, refl, _∙_, subst}
+use mathlib.Core.Path.{_≡_, refl}
 use Prim.Native.Nat.{_-_, _<_}
 use lib.ListN.{length, getD, length-set}
 use denote.Ref.{now}
@@ -23,11 +23,12 @@ head-in : (s : tie.Start Inv-loop μ-loop) → s .args .u < length (now (s .args
 head-in s = omega (arith, s .pre .0 .0, s .pre .0 .1 .heads-long)
 
 loop-holds : tie.Need-loop-holds Inv-loop μ-loop
-loop-holds c = let s : tie.Start Inv-loop μ-loop = search in
-    let hu = head-in s in (
-      on-head _ _ _ (s .pre .0 .1 .chained) (s .args .u),
-      latest-none _ _ _ _ _ (s .pre .0 .1) (s .args .u) (now (s .args .table)) (s .pre .1 .0),
-      afters-none _ _ _ _ _ (s .pre .0 .1) (s .args .u) (now (s .args .afters)) (s .pre .1 .1 .1),
+loop-holds c =
+    let s : tie.Start Inv-loop μ-loop = search in
+    let k = s .pre .0 .1 in (
+      on-head _ _ _ (k .chained) (s .args .u),
+      latest-none k (s .args .u) (s .pre .1 .0),
+      afters-none k (s .args .u) (now (s .args .afters)) (s .pre .1 .1 .1),
       refl,
       refl,
     )
@@ -78,16 +79,14 @@ loop-again : tie.Need-loop-again Inv-loop μ-loop
 loop-again c =
     let s : tie.Start Inv-loop μ-loop = search in
     let i : tie.In-loop Inv-loop μ-loop = search in
+    let k = s .pre .0 .1 in
     let l = i .before .loop in
-    let n = i .loop-test .taken in
-    let hu = head-in s in
-    let x = c .before .own in (
-      on-next _ _ _ (s .pre .0 .1 .chained) (s .args .u) (l .at) (l .inv .0) n,
-      latest-step _ _ _ _ _ (s .pre .0 .1) (s .args .u) (l .at) (l .inv .0) n (l .table) (l .inv .1),
-      afters-step _ _ _ _ _ (s .pre .0 .1) (s .args .u) (l .at) (l .inv .0) n (l .table) (l .inv .1) (x .result) (x .ensures) (l .afters)
-          (inside i .4) (l .inv .2),
-      length-set (l .table) _ (l .at) ∙ l .inv .3,
-      length-set (l .afters) (l .at - 1) (x .result) ∙ l .inv .4,
+    let n = i .loop-test .taken in (
+      on-next _ _ _ (k .chained) (s .args .u) (l .at) (l .inv .0) n,
+      latest-step k (s .args .u) (l .inv .0) n (l .inv .1),
+      afters-step k (s .args .u) (l .inv .0) n (l .inv .1) (c .before .own .ensures) (l .afters) (inside i .4) (l .inv .2),
+      simp length-set (l .inv .3),
+      simp length-set (l .inv .4),
     )
 
 returns : tie.Need-returns Inv-loop μ-loop
@@ -95,10 +94,7 @@ returns c =
     let s : tie.Start Inv-loop μ-loop = search in
     let l = c .before .loop in
     let z : l .at ≡ 0 = search needs in
-    let hu = head-in s in (
-      latest-all _ _ _ _ _ (s .pre .0 .1) (s .args .u) (l .table) (subst (Latest _ _ _ _ _) z (l .inv .1)),
-      afters-all _ _ _ _ _ (s .pre .0 .1) (s .args .u) (l .afters) (subst (AftersTo _ _ (l .afters) (s .args .u)) z (l .inv .2)),
-    )
+    (latest-all (s .pre .0 .1) (s .args .u) (rw z at (l .inv .1)), afters-all (s .pre .0 .1) (s .args .u) (l .afters) (rw z at (l .inv .2)))
 
 pub follow-spec : {M : Type 1} → Rattle.turning.proofs.partners.follow.Statement.statement M
 follow-spec =

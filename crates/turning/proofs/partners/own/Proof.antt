@@ -1,5 +1,5 @@
-use borrow.Author.Needs.{needs}
 -- `own` meets its contract: it goes by the two tests.
+use borrow.Author.Needs.{needs}
 use Prim.Native.Nat.{_-_}
 use lib.ListN.{getD}
 use denote.Ref.{now}

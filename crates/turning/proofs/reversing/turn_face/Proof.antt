@@ -1,5 +1,5 @@
-use borrow.Author.Needs.{needs}
 -- `turn_face` meets its contract: all corners but the first are reversed.
+use borrow.Author.Needs.{needs}
 use denote.Ref.{now}
 use Rattle.turning.proofs.reversing.Laws.{face-turned}
 use Rattle.turning.proofs.reversing.turn_face.Tie as tie

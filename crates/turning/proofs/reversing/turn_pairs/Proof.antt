@@ -1,5 +1,5 @@
-use borrow.Author.Needs.{needs}
 -- `turn_pairs` meets its contract: the first corner's pair is reversed, and the others as a whole.
+use borrow.Author.Needs.{needs}
 use denote.Ref.{now}
 use Rattle.turning.proofs.reversing.Laws.{pairs-turned}
 use Rattle.turning.proofs.reversing.turn_pairs.Tie as tie

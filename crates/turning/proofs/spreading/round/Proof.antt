@@ -1,6 +1,6 @@
 -- `round` meets its contract: the faces of the queue before `head` are settled, and each visit adds to the queue what it reaches.
 -- The states before the round are those at the function's entry, which the invariant takes as any list.
-use mathlib.Core.Path.{_≡_, refl, _∙_, subst}
+use mathlib.Core.Path.{_≡_, refl, _∙_}
 use mathlib.Core.List.{List}
 use Prim.Native.Nat.{ℕ, _+_, _-_, _≤_, _<_}
 use lib.ListN.{length, getD, set, length-set}
@@ -8,8 +8,7 @@ use denote.Ref.{now}
 use native.Mathlib.Omega.{arith}
 use borrow.Author.Needs.{needs}
 use Rattle.paper.specs.Mesh.{mostFaces}
-use Rattle.turning.specs.visiting.Visit.{Visited}
-use Rattle.turning.proofs.spreading.Laws.{Rounding, rounding-none, rounding-step, rounding-clash, rounding-all, tail-most}
+use Rattle.turning.proofs.spreading.Laws.{Rounding, rounding-none, rounding-step, rounding-all, tail-most}
 use Rattle.turning.proofs.visiting.Laws.{tail-below}
 use Rattle.turning.proofs.spreading.round.Tie as tie
 
@@ -27,7 +26,7 @@ module _ (s : tie.Start Inv-loop μ-loop) where
   room : (s .args .r < mostFaces) × (s .args .r < length (now (s .args .states))) × (s .args .from < mostFaces)
       × (s .args .from < length (now (s .args .queue)))
   room =
-      let b = tail-below _ _ _ _ (s .pre .1 .1 .1) (s .args .r) 1 (s .pre .1 .0 .0) (s .pre .1 .0 .1) (λ q. omega arith) in (
+      let b = tail-below (s .pre .1 .1 .1) (s .args .r) 1 (s .pre .1 .0 .0) (s .pre .1 .0 .1) (λ q. omega arith) in (
         omega (arith, s .pre .1 .0 .0, s .pre .0 .few-faces),
         omega (arith, s .pre .1 .0 .0, s .pre .1 .1 .1 .states-long),
         omega (arith, b, s .pre .0 .few-faces),
@@ -36,11 +35,7 @@ module _ (s : tie.Start Inv-loop μ-loop) where
 
   begun : Rounding (now (s .args .sides)) (now (s .args .corners)) (s .args .r) (s .args .from) (now (s .args .states))
       (set (now (s .args .states)) (s .args .r) 1) (set (now (s .args .queue)) (s .args .from) (s .args .r)) (s .args .from) (s .args .from + 1)
-  begun = rounding-none _ _ (s .pre .0 .listed) (s .pre .0 .two) (s .args .r) (now (s .args .states)) (now (s .args .queue)) (s .args .from) (s .pre .1 .0 .0)
-      (s .pre .1 .0 .1) (s .pre .1 .1 .0) (s .pre .1 .1 .1)
-
-loop-holds : tie.Need-loop-holds Inv-loop μ-loop
-loop-holds c = (λ old d. d, refl, refl)
+  begun = rounding-none (s .pre .0 .listed) (s .pre .0 .two) (s .pre .1 .0 .0) (s .pre .1 .0 .1) (s .pre .1 .1 .0) (s .pre .1 .1 .1)
 
 -- In the loop: what holds of the queue, and the place in it.
 module _ (i : tie.In-loop Inv-loop μ-loop) where
@@ -59,7 +54,7 @@ module _ (i : tie.In-loop Inv-loop μ-loop) where
       let s : tie.Start Inv-loop μ-loop = search in
       let l = i .before .loop in
       let q = going .queued in
-      let m = tail-most _ _ _ _ q in (
+      let m = tail-most q in (
         omega (arith, m, i .loop-test .taken),
         s .pre .0 .few-faces,
         omega (arith, m, i .loop-test .taken, q .queue-long),
@@ -75,54 +70,47 @@ visit-requires c κs =
     (s .pre .0, ((q .inside (l .head) (i .loop-test .taken), q .reached (l .head) (i .loop-test .taken)), q))
 
 same-length : tie.Need-same-length Inv-loop μ-loop
-same-length c = let v = c .before .before .before .before .before .before .visit in
-    let l = c .before .before .before .before .before .before .before .before .before .before .before .loop in
-    v .kept .1 .1 .1 .1 .1 .1 .0 ∙ l .inv .1 ∙ simp length-set
+same-length c =
+    let i : tie.In-loop Inv-loop μ-loop = search in
+    let v : tie.After-visit Inv-loop μ-loop = search in
+    v .visit .kept .1 .1 .1 .1 .1 .1 .0 ∙ i .before .loop .inv .1 ∙ simp length-set
 
 same-length-2 : tie.Need-same-length-2 Inv-loop μ-loop
-same-length-2 c = let v = c .before .before .before .before .before .before .visit in
-    let l = c .before .before .before .before .before .before .before .before .before .before .before .loop in
-    v .kept .1 .1 .1 .1 .1 .1 .1 .0 ∙ l .inv .2 ∙ simp length-set
+same-length-2 c =
+    let i : tie.In-loop Inv-loop μ-loop = search in
+    let v : tie.After-visit Inv-loop μ-loop = search in
+    v .visit .kept .1 .1 .1 .1 .1 .1 .1 .0 ∙ i .before .loop .inv .2 ∙ simp length-set
 
 returns : tie.Need-returns Inv-loop μ-loop
 returns c =
     let s : tie.Start Inv-loop μ-loop = search in
     let i : tie.In-loop Inv-loop μ-loop = search in
-    let l = i .before .loop in
-    let v = c .before .before .before .before .before .before .visit in
-    rounding-clash _ _ (s .pre .0 .listed) (s .pre .0 .two) (s .args .r) (s .args .from) (now (s .args .states)) (l .states) (l .queue) (l .head) (l .tail)
-    (going i) (i .loop-test .taken) (s .pre .1 .1 .0)
-    (subst (λ x. Visited (now (s .args .sides)) (now (s .args .corners)) (getD (l .queue) (l .head) 0) (l .states) (l .queue) (l .tail) x (v .last .1 .1 .1 .1 .1 .1 .0)
-    (v .last .1 .1 .1 .1 .1 .1 .1 .0)) (c .enum-told .given .1) (v .ensures))
+    let v : tie.After-visit Inv-loop μ-loop = search in
+    let d = going i in
+    let clash = rw (c .enum-told .given .1) at (v .visit .ensures) in
+    clash _ _ (d .round) (d .fresh _ (d .later) (i .loop-test .taken)) (s .pre .1 .1 .0)
 
 loop-again : tie.Need-loop-again Inv-loop μ-loop
 loop-again c =
     let s : tie.Start Inv-loop μ-loop = search in
     let i : tie.In-loop Inv-loop μ-loop = search in
-    let l = i .before .loop in
-    let v = c .before .before .before .before .before .before .before .visit in
-    let k = c .before .reach .given in (
-      λ old z. rounding-step _ _ (s .pre .0 .listed) (s .pre .0 .two) (s .args .r) (s .args .from) old (l .states) (l .queue) (l .head) (l .tail)
-          (l .inv .0 old z) (i .loop-test .taken) (v .last .1 .1 .1 .1 .1 .1 .0) (v .last .1 .1 .1 .1 .1 .1 .1 .0) (k .0 .0)
-          (subst (λ x. Visited (now (s .args .sides)) (now (s .args .corners)) (getD (l .queue) (l .head) 0) (l .states) (l .queue) (l .tail) x (v .last .1 .1 .1 .1 .1 .1 .0)
-          (v .last .1 .1 .1 .1 .1 .1 .1 .0)) (k .1) (v .ensures)),
-      v .kept .1 .1 .1 .1 .1 .1 .0 ∙ l .inv .1,
-      v .kept .1 .1 .1 .1 .1 .1 .1 .0 ∙ l .inv .2,
+    let v : tie.After-visit Inv-loop μ-loop = search in
+    let l = i .before .loop in (
+      λ old z. rounding-step (s .pre .0 .listed) (s .pre .0 .two) (l .inv .0 old z) (i .loop-test .taken)
+          (rw (c .before .reach .given .1) at (v .visit .ensures)),
+      v .visit .kept .1 .1 .1 .1 .1 .1 .0 ∙ l .inv .1,
+      v .visit .kept .1 .1 .1 .1 .1 .1 .1 .0 ∙ l .inv .2,
     )
-
-same-length-3 : tie.Need-same-length-3 Inv-loop μ-loop
-same-length-3 c = c .before .loop .inv .1 ∙ simp length-set
-
-same-length-4 : tie.Need-same-length-4 Inv-loop μ-loop
-same-length-4 c = c .before .loop .inv .2 ∙ simp length-set
 
 returns-2 : tie.Need-returns-2 Inv-loop μ-loop
 returns-2 c =
     let s : tie.Start Inv-loop μ-loop = search in
-    let l = c .before .loop in
-    rounding-all _ _ (s .pre .0 .listed) (s .pre .0 .two) (s .args .r) (s .args .from) (now (s .args .states)) (l .states) (l .queue) (l .head) (l .tail)
-    (l .inv .0 (now (s .args .states)) (begun s)) (c .loop-test .left)
+    rounding-all (s .pre .0 .listed) (s .pre .0 .two) (c .before .loop .inv .0 (now (s .args .states)) (begun s)) (c .loop-test .left)
 
 pub round-spec : {M : Type 1} → Rattle.turning.proofs.spreading.round.Statement.statement M
 round-spec =
-    tie.close (tie.spec Inv-loop μ-loop (λ c. omega (arith, room search)) (λ c. omega (arith, room search)) (λ c. omega (arith, room search)) (λ c. omega (arith, room search)) (λ c. omega (arith, room search)) loop-holds (λ c. omega (arith, inside search)) (λ c. omega (arith, inside search)) (λ c. omega (arith, inside search)) visit-requires (λ c. search needs) (λ c. search needs) same-length same-length-2 returns (λ c. omega (arith, inside search)) (λ c. omega (arith, inside search)) loop-again same-length-3 same-length-4 returns-2)
+    tie.close (tie.spec Inv-loop μ-loop (λ c. omega (arith, room search)) (λ c. omega (arith, room search)) (λ c. omega (arith, room search))
+    (λ c. omega (arith, room search)) (λ c. omega (arith, room search)) (λ c. (λ old d. d, refl, refl)) (λ c. omega (arith, inside search))
+    (λ c. omega (arith, inside search)) (λ c. omega (arith, inside search)) visit-requires (λ c. search needs) (λ c. search needs) same-length
+    same-length-2 returns (λ c. omega (arith, inside search)) (λ c. omega (arith, inside search)) loop-again
+    (λ c. c .before .loop .inv .1 ∙ simp length-set) (λ c. c .before .loop .inv .2 ∙ simp length-set) returns-2)

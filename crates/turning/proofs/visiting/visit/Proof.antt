@@ -1,5 +1,5 @@
 -- `visit` meets its contract: the invariant is that the corners below `c` are settled.
-use mathlib.Core.Path.{_≡_, refl, ap, _∙_, sym, subst}
+use mathlib.Core.Path.{_≡_, refl, ap, _∙_}
 use mathlib.Core.Logic.{⊎-elim}
 use Prim.Native.Nat.{_-_, _≤_, _<_}
 use lib.ListN.{length, getD, length-set}
@@ -23,24 +23,16 @@ abbrev μ-loop : tie.MeasureT-loop
 cast-c : tie.Need-cast-c Inv-loop μ-loop
 cast-c c = let s : tie.Start Inv-loop μ-loop = search in omega (arith, c .shared-slice-known6 .given (s .args .f))
 
-cast-end : tie.Need-cast-end Inv-loop μ-loop
-cast-end c = let s : tie.Start Inv-loop μ-loop = search in
-    omega (arith, c .shared-slice-known7 .given (s .args .f))
-
 add-end : tie.Need-add-end Inv-loop μ-loop
-add-end c = let s : tie.Start Inv-loop μ-loop = search in
+add-end c =
+    let s : tie.Start Inv-loop μ-loop = search in
     omega (arith, c .shared-slice-known7 .given (s .args .f), c .before .shared-slice-known6 .given (s .args .f))
 
 loop-holds : tie.Need-loop-holds Inv-loop μ-loop
 loop-holds c =
     let s : tie.Start Inv-loop μ-loop = search in
-    let e = start-is _ _ _ _ _ (s .pre .0) (s .args .f) (s .pre .1 .0 .0) in (
-      subst (Visiting _ _ _ _ _ _ _ _ _) (sym e)
-          (visiting-none _ _ (s .pre .0 .listed) (s .pre .0 .two) (s .args .f) (now (s .args .states)) (now (s .args .queue)) (s .args .tail) (s .pre .1 .1)),
-      omega (arith, e),
-      refl,
-      refl,
-    )
+    let e = start-is (s .pre .0) (s .pre .1 .0 .0) in
+    (rw e (visiting-none (s .pre .0 .listed) (s .pre .0 .two) (s .args .f) (s .pre .1 .1)), omega (arith, e), refl, refl)
 
 -- In the loop: c is a corner of the face, its partner d one of the mesh, and g, the face of d, one of its faces.
 module _ (i : tie.In-loop Inv-loop μ-loop) where
@@ -48,7 +40,7 @@ module _ (i : tie.In-loop Inv-loop μ-loop) where
       (now (s .args .faces)) (s .args .f) (i .before .loop .c)
   here =
       let s : tie.Start Inv-loop μ-loop = search in
-      corner-at _ _ _ _ _ (s .pre .0) (s .args .f) (s .pre .1 .0 .0) (i .before .loop .c) (i .before .loop .inv .1) (i .loop-test .taken)
+      corner-at (s .pre .0) (s .pre .1 .0 .0) (i .before .loop .c) (i .before .loop .inv .1) (i .loop-test .taken)
 
   inside : let s : tie.Start Inv-loop μ-loop = search in
       let c = i .before .loop .c in
@@ -87,8 +79,13 @@ room t =
     let s : tie.Start Inv-loop μ-loop = search in
     let i : tie.In-loop Inv-loop μ-loop = search in
     let q = i .before .loop .inv .0 .queued in
-    let b = tail-below _ _ _ _ q _ 1 (here i .face-below) (t .if1 .taken) (λ z. omega arith) in
+    let b = tail-below q _ 1 (here i .face-below) (t .if1 .taken) (λ z. omega arith) in
     (omega (arith, b, s .pre .0 .few-faces), omega (arith, b, q .queue-long))
+
+-- the lists keep their lengths
+lengths : (t : tie.At-loop Inv-loop μ-loop) → let s : tie.Start Inv-loop μ-loop = search in
+    (length (t .loop .states) ≡ length (now (s .args .states))) × (length (t .loop .queue) ≡ length (now (s .args .queue)))
+lengths t = (t .loop .inv .2, t .loop .inv .3)
 
 cast-d : tie.Need-cast-d Inv-loop μ-loop
 cast-d c = let i : tie.In-loop Inv-loop μ-loop = search in omega (arith, c .shared-slice-known8 .given (i .before .loop .c))
@@ -96,54 +93,40 @@ cast-d c = let i : tie.In-loop Inv-loop μ-loop = search in omega (arith, c .sha
 across-requires : tie.Need-across-requires Inv-loop μ-loop
 across-requires c κs = let s : tie.Start Inv-loop μ-loop = search in omega (arith, s .pre .1 .1 .small (s .args .f))
 
-same-length : tie.Need-same-length Inv-loop μ-loop
-same-length c = let t = c .before .before .before .before .before .before .before .before .before in t .loop .inv .2
-
-same-length-2 : tie.Need-same-length-2 Inv-loop μ-loop
-same-length-2 c = let t = c .before .before .before .before .before .before .before .before .before in t .loop .inv .3
-
 returns : tie.Need-returns Inv-loop μ-loop
-returns c = let i : tie.In-loop Inv-loop μ-loop = search in let t = i .before in
-    let s : tie.Start Inv-loop μ-loop = search in let x = c .before .before .before .across in
-    turn-clash _ _ _ _ _ (s .pre .0)
-    (s .args .f) (s .pre .1 .0 .0) (now (s .args .states)) (now (s .args .queue)) (s .args .tail) (s .pre .1 .0 .1) (s .pre .1 .1) (t .loop .states)
-    (t .loop .queue) (t .loop .next) (t .loop .c) (t .loop .inv .0) (t .loop .inv .1) (i .loop-test .taken)
-    (x .result) (x .ensures) (c .before .if1 .left) (c .if2 .taken)
+returns c =
+    let s : tie.Start Inv-loop μ-loop = search in
+    let i : tie.In-loop Inv-loop μ-loop = search in
+    turn-clash (s .pre .0) (s .pre .1 .0 .1) (s .pre .1 .1) (i .before .loop .inv .0) (here i) (c .before .before .before .across .ensures)
+    (c .before .if1 .left) (c .if2 .taken)
 
 loop-again : tie.Need-loop-again Inv-loop μ-loop
-loop-again c = let i : tie.In-loop Inv-loop μ-loop = search in let t = i .before in
-    let s : tie.Start Inv-loop μ-loop = search in let x = c .before .before .across in (
+loop-again c =
+    let s : tie.Start Inv-loop μ-loop = search in
+    let i : tie.In-loop Inv-loop μ-loop = search in
+    let inv = i .before .loop .inv in
+    let x = c .before .before .across .ensures in (
       ⊎-elim
-          (λ u. turn-new _ _ _ _ _ (s .pre .0)
-          (s .args .f) (s .pre .1 .0 .0) (now (s .args .states)) (now (s .args .queue)) (s .args .tail) (s .pre .1 .0 .1) (s .pre .1 .1) (t .loop .states)
-          (t .loop .queue) (t .loop .next) (t .loop .c) (t .loop .inv .0) (t .loop .inv .1) (i .loop-test .taken) (x .result) (x .ensures) (c .if1 .states)
-          (c .if1 .queue) (c .if1 .next) (u .0 .taken) (u .1) (u .2) (u .3))
-          (λ u. turn-old _ _ _ _ _ (s .pre .0)
-          (s .args .f) (s .pre .1 .0 .0) (now (s .args .states)) (now (s .args .queue)) (s .args .tail) (s .pre .1 .0 .1) (s .pre .1 .1) (t .loop .states)
-          (t .loop .queue) (t .loop .next) (t .loop .c) (t .loop .inv .0) (t .loop .inv .1) (i .loop-test .taken) (x .result) (x .ensures) (c .if1 .states)
-          (c .if1 .queue) (c .if1 .next) (u .1 .left) (u .2) (u .3) (u .4))
+          (λ u. rw (u .1, u .2, u .3) (turn-new (s .pre .0) (s .pre .1 .0 .1) (s .pre .1 .1) (inv .0) (here i) x (u .0 .taken)))
+          (λ u. rw (u .2, u .3, u .4) (turn-old (s .pre .0) (s .pre .1 .0 .1) (s .pre .1 .1) (inv .0) (here i) x (u .1 .left)))
           (c .if1 .came),
-      omega (arith, t .loop .inv .1),
-      ⊎-elim (λ u. ap length (u .1) ∙ simp length-set (t .loop .inv .2)) (λ u. ap length (u .2) ∙ t .loop .inv .2) (c .if1 .came),
-      ⊎-elim (λ u. ap length (u .2) ∙ simp length-set (t .loop .inv .3)) (λ u. ap length (u .3) ∙ t .loop .inv .3) (c .if1 .came),
+      omega (arith, inv .1),
+      ⊎-elim (λ u. ap length (u .1) ∙ simp length-set (inv .2)) (λ u. ap length (u .2) ∙ inv .2) (c .if1 .came),
+      ⊎-elim (λ u. ap length (u .2) ∙ simp length-set (inv .3)) (λ u. ap length (u .3) ∙ inv .3) (c .if1 .came),
     )
 
-same-length-3 : tie.Need-same-length-3 Inv-loop μ-loop
-same-length-3 c = c .before .loop .inv .2
-
-same-length-4 : tie.Need-same-length-4 Inv-loop μ-loop
-same-length-4 c = c .before .loop .inv .3
-
 returns-2 : tie.Need-returns-2 Inv-loop μ-loop
-returns-2 c = let t = c .before in let s : tie.Start Inv-loop μ-loop = search in
-    let e = start-is _ _ _ _ _ (s .pre .0)
-    (s .args .f) (s .pre .1 .0 .0) in
-    visiting-all (now (s .args .sides)) (now (s .args .corners)) (s .pre .0 .listed) (s .pre .0 .two) (s .args .f) (now (s .args .states))
-    (now (s .args .queue)) (s .args .tail) (t .loop .states) (t .loop .queue) (t .loop .next) (t .loop .c)
-    (omega (arith, e, c .loop-test .left)) (t .loop .inv .0)
+returns-2 c =
+    let s : tie.Start Inv-loop μ-loop = search in
+    visiting-all (s .pre .0 .listed) (s .pre .0 .two) (omega (arith, start-is (s .pre .0) (s .pre .1 .0 .0), c .loop-test .left)) (c .before .loop .inv .0)
 
 pub visit-spec : {M : Type 1} → Rattle.turning.proofs.visiting.visit.Statement.statement M
 visit-spec =
-    tie.close (tie.spec Inv-loop μ-loop (λ c. search needs) (λ c. search needs) (λ c. search needs) cast-c (λ c. search needs) cast-end add-end loop-holds
-    (λ c. omega (arith, inside search)) (λ c. omega (arith, inside search)) (λ c. omega (arith, inside search)) cast-d (λ c. omega (arith, inside search)) (λ c. omega (arith, inside search)) (λ c. omega (arith, inside search)) (λ c. omega (arith, inside search)) (λ c. omega (arith, inside search)) (λ c. omega (arith, inside search)) (λ c. omega (arith, inside search)) across-requires (λ c. omega (arith, inside search)) (λ c. omega (arith, inside search)) (λ c. omega (arith, inside search)) (λ c. omega (arith, room search)) (λ c. omega (arith, room search)) (λ c. omega (arith, room search)) same-length same-length-2 returns (λ c. omega (arith, inside search))
-    (λ c. search needs) loop-again same-length-3 same-length-4 returns-2)
+    tie.close (tie.spec Inv-loop μ-loop (λ c. search needs) (λ c. search needs) (λ c. search needs) cast-c (λ c. search needs)
+    (λ c. let s : tie.Start Inv-loop μ-loop = search in omega (arith, c .shared-slice-known7 .given (s .args .f))) add-end loop-holds
+    (λ c. omega (arith, inside search)) (λ c. omega (arith, inside search)) (λ c. omega (arith, inside search)) cast-d (λ c. omega (arith, inside search))
+    (λ c. omega (arith, inside search)) (λ c. omega (arith, inside search)) (λ c. omega (arith, inside search)) (λ c. omega (arith, inside search))
+    (λ c. omega (arith, inside search)) (λ c. omega (arith, inside search)) across-requires (λ c. omega (arith, inside search))
+    (λ c. omega (arith, inside search)) (λ c. omega (arith, inside search)) (λ c. omega (arith, room search)) (λ c. omega (arith, room search))
+    (λ c. omega (arith, room search)) (λ c. lengths (search) .0) (λ c. lengths (search) .1) returns (λ c. omega (arith, inside search)) (λ c. search needs)
+    loop-again (λ c. lengths (search) .0) (λ c. lengths (search) .1) returns-2)

@@ -1,5 +1,5 @@
 -- What is passed over leaves the cursor before the same word; it stops where no separator and no comment stands.
-use mathlib.Core.Path.{_≡_, refl, sym, _∙_}
+use mathlib.Core.Path.{_≡_, sym, _∙_}
 use Prim.Native.Nat.{_-_}
 use lib.ListN.{length}
 use borrow.Author.Tests.{not-true, not-false}
@@ -14,9 +14,6 @@ Inv-loop text c₀ at₀ c at = (c .at ≡ at) × Before text (c₀ .word) c
 
 abbrev μ-loop : tie.MeasureT-loop
 μ-loop text c₀ at₀ c at = length text - at
-
-loop-holds : tie.Need-loop-holds Inv-loop μ-loop
-loop-holds c = (refl, c .before .pre)
 
 past-comment-requires : tie.Need-past-comment-requires Inv-loop μ-loop
 past-comment-requires c κs =
@@ -39,21 +36,11 @@ past-separator-requires c κs =
     let e = l .inv .0 in
     (search needs, rw e (sym (c .before .separates .ensures) ∙ not-false _ (c .if2 .left)), own _ _ _ (l .inv .1))
 
-loop-less : tie.Need-loop-less Inv-loop μ-loop
-loop-less c =
-    let l = c .before .before .before .before .loop in omega (arith, c .past-comment .ensures .0, l .inv .0)
-
 loop-again : tie.Need-loop-again Inv-loop μ-loop
-loop-again c =
-    let l = c .before .before .before .before .loop in (refl, same _ _ _ _ (l .inv .1 .number) (c .past-comment .ensures .1))
-
-loop-less-2 : tie.Need-loop-less-2 Inv-loop μ-loop
-loop-less-2 c =
-    let l = c .before .before .before .before .before .before .loop in omega (arith, c .past-separator .ensures .0, l .inv .0)
+loop-again c = search (needs, same _ _ _ _ ((c .before .before .before .before .loop) .inv .1 .number) (c .past-comment .ensures .1))
 
 loop-again-2 : tie.Need-loop-again-2 Inv-loop μ-loop
-loop-again-2 c =
-    let l = c .before .before .before .before .before .before .loop in (refl, same _ _ _ _ (l .inv .1 .number) (c .past-separator .ensures .1))
+loop-again-2 c = search (needs, same _ _ _ _ ((c .before .before .before .before .before .before .loop) .inv .1 .number) (c .past-separator .ensures .1))
 
 returns-2 : tie.Need-returns-2 Inv-loop μ-loop
 returns-2 c =
@@ -61,5 +48,5 @@ returns-2 c =
 
 pub to-word-spec : {M : Type 1} → Rattle.off.proofs.words.Cursor.to_word.Statement.statement M
 to-word-spec =
-    tie.close (tie.spec Inv-loop μ-loop loop-holds (λ c. search needs) past-comment-requires (λ c κs. search needs) returns past-separator-requires
-    loop-less loop-again loop-less-2 loop-again-2 returns-2)
+    tie.close (tie.spec Inv-loop μ-loop (λ c. search needs) (λ c. search needs) past-comment-requires (λ c κs. search needs) returns past-separator-requires
+    (λ c. search needs) loop-again (λ c. search needs) loop-again-2 returns-2)

@@ -1,4 +1,4 @@
--- `put_own` meets its contract: the net's tangents are those of the list of tangents.
+-- `put_tangents` meets its contract: the net's tangents are those of the list of tangents.
 use Prim.Native.Nat.{_+_, _*_, _≤_}
 use native.Mathlib.Omega.{arith}
 use borrow.Author.Needs.{needs}
@@ -11,8 +11,8 @@ use Rattle.net_points.specs.writing.Shapes.{shapeSize}
 use Rattle.numbering.proofs.Lent.{below-of, wide-of, here-of}
 use Rattle.triangles.proofs.Own.{all-is}
 use Rattle.triangles.proofs.tangent_filling.Laws.{paired}
-use Rattle.triangles.proofs.tangent_filling.put_own.Statement.{statement}
-use Rattle.triangles.proofs.tangent_filling.put_own.Tie as tie
+use Rattle.triangles.proofs.tangent_filling.put_tangents.Statement.{statement}
+use Rattle.triangles.proofs.tangent_filling.put_tangents.Tie as tie
 
 -- the room that the call has
 room-of : (s : tie.Start) (r : Shape)
@@ -68,6 +68,6 @@ returns c =
           (s .args .numbers .now) e (s .args .at) _ (s .args .out .now) _ (omega (arith, z .size .ensures .0)) (w .put-pairs .ensures),
     )
 
-pub put-own-spec : {M : Type 1} → statement M
-put-own-spec =
+pub put-tangents-spec : {M : Type 1} → statement M
+put-tangents-spec =
     tie.close (tie.spec (λ c κs. search needs) segments-at-requires (λ c κs. let h : tie.After-shape-of = search in h .shape-of .ensures .0) put-pairs-requires mul-result add-result (λ c. search needs) returns)

@@ -1,12 +1,12 @@
--- `tangent_filling::pairs_over` meets its contract: the refined points, then the tangents.
+-- `over_refined` meets its contract: the refined points, then the numbers.
 use Prim.Native.Nat.{_+_, _≤_}
 use native.Mathlib.Omega.{arith}
 use borrow.Author.Needs.{needs}
 use lib.ListN.{length}
 use denote.Ref.{now}
 use Rattle.paper.specs.Mesh.{Mesh, meshOf}
-use Rattle.triangles.proofs.tangent_filling.pairs_over.Statement.{statement}
-use Rattle.triangles.proofs.tangent_filling.pairs_over.Tie as tie
+use Rattle.triangles.proofs.runs.over_refined.Statement.{statement}
+use Rattle.triangles.proofs.runs.over_refined.Tie as tie
 
 module _ (s : tie.Start) where
   abbrev mesh : Mesh
@@ -20,8 +20,8 @@ fill-range-requires c κs =
     let s : tie.Start = search in
     (s .pre .0 .accepted, (s .pre .0 .tabled, ((s .pre .1 .0 .0, within s), s .pre .1 .1 .1)))
 
-pair-runs-requires : tie.Need-pair-runs-requires
-pair-runs-requires c κs =
+put-runs-requires : tie.Need-put-runs-requires
+put-runs-requires c κs =
     let s : tie.Start = search in
     let f : tie.After-fill-range = search in
     let w : tie.After-rows = search in
@@ -31,9 +31,9 @@ returns : tie.Need-returns
 returns c =
     let s : tie.Start = search in
     let f : tie.After-fill-range = search in
-    let p : tie.After-pair-runs = search in
-    p .pair-runs .ensures (mesh s) (s .pre .0) (f .fill-range .ensures)
+    let p : tie.After-put-runs = search in
+    p .put-runs .ensures (mesh s) (s .pre .0) (f .fill-range .ensures)
 
-pub pairs-over-spec : {M : Type 1} → statement M
-pairs-over-spec =
-    tie.close (tie.spec fill-range-requires (λ c κs. search needs) pair-runs-requires (λ c. search needs) (λ c. search needs) returns)
+pub over-refined-spec : {M : Type 1} → statement M
+over-refined-spec =
+    tie.close (tie.spec fill-range-requires (λ c κs. search needs) put-runs-requires (λ c. search needs) (λ c. search needs) (λ c. search needs) returns)

@@ -13,8 +13,8 @@ use Rattle.triangles.specs.Owned.{ShapeOf}
 use Rattle.net_points.specs.writing.Shapes.{shapeSize, ShapeAim}
 use Rattle.numbering.proofs.Lent.{below-of}
 use Rattle.triangles.proofs.Own.{all-is, pointed}
-use Rattle.triangles.proofs.put_points.Statement.{statement}
-use Rattle.triangles.proofs.put_points.Tie as tie
+use Rattle.triangles.proofs.filling.put_points.Statement.{statement}
+use Rattle.triangles.proofs.filling.put_points.Tie as tie
 
 -- the room that the call has
 room-of : (s : tie.Start) (r : Shape)
