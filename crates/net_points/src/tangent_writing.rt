@@ -1,8 +1,8 @@
 // The tangents of a corner's own points, out of the net's 123 numbers: six numbers for each point, in the order of the points. The derivatives of a
 // side are taken once for each number of parts, those of a row once for the row, and their values at each place.
 use crate::writing::Shape;
-use sampling::bernstein::Matrix5;
-use sampling::bernstein::Vector5;
+use bernstein::Matrix5;
+use bernstein::Vector5;
 use sampling::points::control_points;
 ghost use mathlib.Core.Path.{_≡_};
 ghost use mathlib.Core.List.{_++_};
@@ -12,7 +12,7 @@ ghost use lib.IntN.{pos};
 ghost use Rattle.paper.specs.Faults.{sound};
 ghost use Rattle.paper.specs.Floats.{netVerdict, axes};
 ghost use Rattle.numbering.specs.PointRows.{Fills};
-ghost use Rattle.sampling.specs.bernstein.Sums.{Tapered, AllTapered};
+ghost use Rattle.bernstein.specs.Sums.{Tapered, AllTapered};
 ghost use Rattle.net_points.specs.writing.Shapes.{Shapely, shapeSize};
 ghost use Rattle.net_points.specs.tangent_writing.Paired.{Sloped, SideSloped, Tapering, RowTapering, rowsAt, sixAt, tailAt, placesNumber, partNumber, RingsPaired, NetPaired};
 ghost use Rattle.net_points.specs.tangent_writing.Paired.{truncatedOf, truncatedRowOf};
@@ -134,15 +134,15 @@ fn side_slopes(numbers: &[i32], side: usize, n: usize) -> Slopes
     requires { ⌜ (netVerdict (now numbers) ≡ sound) × (side ≤ 3) × (n ≤ 16) ⌝ }
     ensures { λ r. ⌜ Tapering r × Sloped (now (numbers .entry)) side n r ⌝ }
 {
-    let a = sampling::bernstein::polynomial(control_points(numbers, side, 0), n);
-    let b = sampling::bernstein::polynomial(control_points(numbers, side, 1), n);
-    let c = sampling::bernstein::polynomial(control_points(numbers, side, 2), n);
-    let x = sampling::derivatives::along(a);
-    let y = sampling::derivatives::along(b);
-    let z = sampling::derivatives::along(c);
-    let u = sampling::derivatives::inward(a);
-    let v = sampling::derivatives::inward(b);
-    let w = sampling::derivatives::inward(c);
+    let a = bernstein::polynomial(control_points(numbers, side, 0), n);
+    let b = bernstein::polynomial(control_points(numbers, side, 1), n);
+    let c = bernstein::polynomial(control_points(numbers, side, 2), n);
+    let x = bernstein::derivatives::along(a);
+    let y = bernstein::derivatives::along(b);
+    let z = bernstein::derivatives::along(c);
+    let u = bernstein::derivatives::inward(a);
+    let v = bernstein::derivatives::inward(b);
+    let w = bernstein::derivatives::inward(c);
     Slopes {
         x: x,
         y: y,
@@ -231,12 +231,12 @@ fn row_slopes(m: Slopes, k: usize) -> RowSlopes
     requires { ⌜ Tapering m × (k ≤ 16) ⌝ }
     ensures { λ r. ⌜ RowTapering r × (r ≡ rowsAt m k) ⌝ }
 {
-    let x = sampling::row_in(truncated(m.x), k);
-    let y = sampling::row_in(truncated(m.y), k);
-    let z = sampling::row_in(truncated(m.z), k);
-    let u = sampling::row_in(truncated(m.u), k);
-    let v = sampling::row_in(truncated(m.v), k);
-    let w = sampling::row_in(truncated(m.w), k);
+    let x = bernstein::row_in(truncated(m.x), k);
+    let y = bernstein::row_in(truncated(m.y), k);
+    let z = bernstein::row_in(truncated(m.z), k);
+    let u = bernstein::row_in(truncated(m.u), k);
+    let v = bernstein::row_in(truncated(m.v), k);
+    let w = bernstein::row_in(truncated(m.w), k);
     RowSlopes {
         x: x,
         y: y,
@@ -286,12 +286,12 @@ fn put_pair(r: RowSlopes, t: usize, out: &mut [i64], at: usize)
     requires { ⌜ RowTapering r × (t ≤ 16) × (at + 6 ≤ length (now out)) ⌝ }
     ensures { λ _. ⌜ Fills (λ e. getD (sixAt r t) e (pos 0)) at 6 (now (out .entry)) (now (out .exit)) ⌝ }
 {
-    let a = sampling::value_at(truncated_row(r.x), t);
-    let b = sampling::value_at(truncated_row(r.y), t);
-    let c = sampling::value_at(truncated_row(r.z), t);
-    let d = sampling::value_at(truncated_row(r.u), t);
-    let e = sampling::value_at(truncated_row(r.v), t);
-    let f = sampling::value_at(truncated_row(r.w), t);
+    let a = bernstein::value_at(truncated_row(r.x), t);
+    let b = bernstein::value_at(truncated_row(r.y), t);
+    let c = bernstein::value_at(truncated_row(r.z), t);
+    let d = bernstein::value_at(truncated_row(r.u), t);
+    let e = bernstein::value_at(truncated_row(r.v), t);
+    let f = bernstein::value_at(truncated_row(r.w), t);
     put_six(out, at, a, b, c, d, e, f);
 }
 

@@ -1,7 +1,7 @@
 // The points of a corner's net that are the corner's own, out of the net's 123 numbers: each side's samples by differences from row to row and
 // from place to place, put to their places in a lent list.
-use sampling::bernstein::Matrix5;
-use sampling::bernstein::Vector5;
+use bernstein::Matrix5;
+use bernstein::Vector5;
 use sampling::points::control_points;
 ghost use mathlib.Core.Path.{_≡_};
 ghost use Prim.Native.Nat.{ℕ, _+_, _-_, _*_, _^_, _<_, _≤_};
@@ -9,7 +9,7 @@ ghost use lib.ListN.{length};
 ghost use lib.IntN.{ℤ, pos};
 ghost use Rattle.paper.specs.Faults.{sound};
 ghost use Rattle.paper.specs.Floats.{netVerdict};
-ghost use Rattle.sampling.specs.bernstein.Sums.{AllSized, rowOf, polynomialOf};
+ghost use Rattle.bernstein.specs.Sums.{AllSized, rowOf, polynomialOf};
 ghost use Rattle.sampling.specs.Grid.{Sampleable, RowPut};
 ghost use Rattle.net_points.specs.writing.Laid.{Reaches, reversedOf, InTurn, PointPlace, EndAim, EndPlace, CurveAim, CurvePlace, SpokeAim, SpokePlace, RingsAim, RingsPlace};
 ghost use Rattle.net_points.specs.writing.Shapes.{Shapely, shapeSize, ShapeAim, ShapePlace};
@@ -155,7 +155,7 @@ fn put_curve_on(p: Matrix5, m: usize, points: &mut [i32], at: usize)
     requires { ⌜ Sampleable p m × (at + 3 * (m - 1) ≤ length (now points) + 2) ⌝ }
     ensures { λ _. ⌜ RowPut (rowOf (polynomialOf p (pos m)) 0) m 1 (m - 1) at (now (points .entry)) (now (points .exit)) ⌝ }
 {
-    let e = sampling::row_at(p, 0, m);
+    let e = bernstein::row_at(p, 0, m);
     sampling::put_row(e, m, 1, m - 1, points, at);
 }
 
@@ -178,12 +178,12 @@ fn put_spokes(p: Matrix5, side: usize, n: usize, points: &mut [i32], at: usize)
     requires { ⌜ Sampleable p n × (side ≤ 3) × (at + 6 * (n * (n - 1)) ≤ length (now points) + 2) ⌝ }
     ensures { λ _. ⌜ ((f : ℕ → ℤ) → SpokeAim p side n at f → Reaches f (SpokePlace side n at n) (now (points .entry)) (now (points .exit))) ⌝ }
 {
-    let mut s = sampling::bernstein::start(p, n);
+    let mut s = bernstein::start(p, n);
     let mut k = 0;
     while k + 1 < n {
-        s = sampling::bernstein::next(s);
+        s = bernstein::next(s);
         let w = n - k - 1;
-        let e = sampling::bernstein::row(s);
+        let e = bernstein::row(s);
         let ring = numbering::rings_before(n, k);
         sampling::put_row(e, n, 0, w, points, at + 3 * (ring + side * w));
         k += 1;

@@ -25,12 +25,12 @@ use Rattle.paper.specs.Sampling.{Sampled, sampleCount, triangleSamples, triangl
 use Rattle.numbers.proofs.Diff.{as-diff, diff}
 use Rattle.mesh.proofs.Ranges.{or-left, or-right, none-left, none-right, inside, at-least, at-most}
 use Rattle.mesh.proofs.Verdicts.{sound-left, sound-right, single-sound, single-miss, single-hit, orElse-fault, orElse-sound, stop, past}
-use Rattle.sampling.specs.declared.bernstein.Vector5.{Vector5}
-use Rattle.sampling.specs.declared.bernstein.Matrix5.{Matrix5}
-use Rattle.sampling.specs.bernstein.Sums.{AllSized, Tapered, AllTapered, rowsOf, polynomialOf, rowOf, polynomialAt, quarticSum}
-use Rattle.sampling.proofs.bernstein.Laws.{bits, sized-bits, abs-bounds, polynomial-tapers, row-tapers, value-size}
-use Rattle.sampling.proofs.bernstein.Identity.{polynomial-sum}
-use Rattle.sampling.proofs.bernstein.Sum.{bernstein-is, sum-size}
+use Rattle.bernstein.specs.declared.Vector5.{Vector5}
+use Rattle.bernstein.specs.declared.Matrix5.{Matrix5}
+use Rattle.bernstein.specs.Sums.{AllSized, Tapered, AllTapered, rowsOf, polynomialOf, rowOf, polynomialAt, quarticSum}
+use Rattle.bernstein.proofs.Laws.{bits, sized-bits, abs-bounds, polynomial-tapers, row-tapers, value-size}
+use Rattle.bernstein.proofs.Identity.{polynomial-sum}
+use Rattle.bernstein.proofs.Sum.{bernstein-is, sum-size}
 use Rattle.sampling.specs.points.Places.{bPlace, aPlace}
 use Rattle.sampling.proofs.points.Laws.{outer-place, a-place, inner-place, inner-a-place, number-size}
 use Rattle.sampling.specs.Grid.{Sampleable}

@@ -15,12 +15,12 @@ use Rattle.paper.specs.File.{begins}
 use Rattle.paper.specs.Floats.{netVerdict, axes}
 use Rattle.paper.specs.Sampling.{control, weights, onAxis, sampleAt, samplePoint, sideAt, rowSamples, firstRows, triangleSamples, sampleCount, rowStart}
 use Rattle.mesh.proofs.Scans.{compared}
-use Rattle.sampling.specs.declared.bernstein.Vector5.{Vector5}
-use Rattle.sampling.specs.declared.bernstein.Matrix5.{Matrix5}
-use Rattle.sampling.specs.bernstein.Sums.{Tapered, AllTapered, rowsOf, polynomialOf, rowOf, polynomialAt, quarticSum}
-use Rattle.sampling.proofs.bernstein.Identity.{polynomial-sum}
-use Rattle.sampling.proofs.bernstein.Laws.{row-tapers}
-use Rattle.sampling.proofs.bernstein.Sum.{bernstein-is}
+use Rattle.bernstein.specs.declared.Vector5.{Vector5}
+use Rattle.bernstein.specs.declared.Matrix5.{Matrix5}
+use Rattle.bernstein.specs.Sums.{Tapered, AllTapered, rowsOf, polynomialOf, rowOf, polynomialAt, quarticSum}
+use Rattle.bernstein.proofs.Identity.{polynomial-sum}
+use Rattle.bernstein.proofs.Laws.{row-tapers}
+use Rattle.bernstein.proofs.Sum.{bernstein-is}
 use Rattle.sampling.specs.Grid.{samplesBefore, Sampleable, RowSampleable, RowPut, RowsPut}
 
 pub below-or-last : {A : Type 0} (j k : ℕ) → j < k + 1 → (j < k → A) → (j ≡ k → A) → A

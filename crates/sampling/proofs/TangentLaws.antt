@@ -20,13 +20,13 @@ use Rattle.paper.specs.Tangents.{tangentAlong, tangentInward, tangentPair, Tang
 use Rattle.paper.specs.Claims.{TangentsClose}
 use Rattle.numbers.proofs.Diff.{diff, each}
 use Rattle.borders.proofs.Theorem.{demand3}
-use Rattle.sampling.specs.declared.bernstein.Matrix5.{Matrix5}
-use Rattle.sampling.specs.bernstein.Sums.{AllSized, AllTapered, rowsOf, polynomialOf, rowOf, polynomialAt}
-use Rattle.sampling.specs.bernstein.Tangents.{alongRows, inwardRows, cubicSum, alongOf, inwardOf}
-use Rattle.sampling.proofs.bernstein.Derivative.{along-is, inward-is, along-sum, inward-sum}
+use Rattle.bernstein.specs.declared.Matrix5.{Matrix5}
+use Rattle.bernstein.specs.Sums.{AllSized, AllTapered, rowsOf, polynomialOf, rowOf, polynomialAt}
+use Rattle.bernstein.specs.Tangents.{alongRows, inwardRows, cubicSum, alongOf, inwardOf}
+use Rattle.bernstein.proofs.Derivative.{along-is, inward-is, along-sum, inward-sum}
 use Rattle.sampling.specs.Grid.{TangentOn}
-use Rattle.sampling.proofs.bernstein.Laws.{bits, sized-bits, polynomial-tapers, row-tapers, value-size}
-use Rattle.sampling.proofs.bernstein.Tapering.{along-tapers, inward-tapers}
+use Rattle.bernstein.proofs.Laws.{bits, sized-bits, polynomial-tapers, row-tapers, value-size}
+use Rattle.bernstein.proofs.Tapering.{along-tapers, inward-tapers}
 use Rattle.sampling.proofs.Laws.{points-sized}
 use Rattle.sampling.proofs.Theorems.{same-answer, verdict-is, side-back, outer-at, net-passes}
 

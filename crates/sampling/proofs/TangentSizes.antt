@@ -19,10 +19,10 @@ use Rattle.paper.specs.Tangents.{along, inward, tangentAlong, tangentInward, ta
 use Rattle.numbers.proofs.Diff.{as-diff, diff}
 use Rattle.numbers.proofs.Poly.{over, poly}
 use Rattle.numbers.proofs.Laws.{mul-le, nonneg, abs-mul-le}
-use Rattle.sampling.specs.bernstein.Sums.{linear, quadratic, cubic}
-use Rattle.sampling.proofs.bernstein.Laws.{abs-bounds, bounds-abs}
-use Rattle.sampling.proofs.bernstein.Sum.{power, power-is, sum-le, less, more}
-use Rattle.sampling.proofs.bernstein.Derivative.{sum-is}
+use Rattle.bernstein.specs.Sums.{linear, quadratic, cubic}
+use Rattle.bernstein.proofs.Laws.{abs-bounds, bounds-abs}
+use Rattle.bernstein.proofs.Sum.{power, power-is, sum-le, less, more}
+use Rattle.bernstein.proofs.Derivative.{sum-is}
 use Rattle.sampling.proofs.Laws.{net-passed, few-parts, parts-sum, control-size}
 use Rattle.sampling.proofs.Theorems.{side-back}
 

@@ -29,10 +29,10 @@ use Rattle.mesh.proofs.Ranges.{inside, or-none}
 use Rattle.mesh.proofs.Verdicts.{orElse-sound, single-miss, sound-left}
 use Rattle.floats.proofs.nets.Nets.{nets-pass}
 use Rattle.borders.proofs.Theorem.{demand3}
-use Rattle.sampling.specs.bernstein.Sums.{rowsOf}
-use Rattle.sampling.proofs.bernstein.Laws.{round-between}
-use Rattle.sampling.proofs.bernstein.Sum.{bernstein-is, sum-from, sum-to, on-side, from-head, from-tail, head-alone, tail-alone, centre-alone}
-use Rattle.sampling.proofs.bernstein.Sum.{round-multiple}
+use Rattle.bernstein.specs.Sums.{rowsOf}
+use Rattle.bernstein.proofs.Laws.{round-between}
+use Rattle.bernstein.proofs.Sum.{bernstein-is, sum-from, sum-to, on-side, from-head, from-tail, head-alone, tail-alone, centre-alone}
+use Rattle.bernstein.proofs.Sum.{round-multiple}
 use Rattle.sampling.specs.Grid.{samplesBefore}
 use Rattle.sampling.proofs.Laws.{some-parts, few-parts, parts-sum, net-passed, side-passed, all-passed, triangle-chain}
 use Rattle.sampling.proofs.Lists.{row-start, below-or-last}

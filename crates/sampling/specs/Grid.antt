@@ -8,9 +8,9 @@ use Rattle.paper.specs.Numbers.{round}
 use Rattle.paper.specs.Sampling.{weights, sideAt}
 use Rattle.paper.specs.Tangents.{tangentAlong, tangentInward}
 use Rattle.sampling.specs.declared.Tangent.{Tangent}
-use Rattle.sampling.specs.declared.bernstein.Vector5.{Vector5}
-use Rattle.sampling.specs.declared.bernstein.Matrix5.{Matrix5}
-use Rattle.sampling.specs.bernstein.Sums.{AllSized, Tapered, polynomialAt, quarticSum}
+use Rattle.bernstein.specs.declared.Vector5.{Vector5}
+use Rattle.bernstein.specs.declared.Matrix5.{Matrix5}
+use Rattle.bernstein.specs.Sums.{AllSized, Tapered, polynomialAt, quarticSum}
 
 -- ---- control points that can be sampled in n parts: no sum of theirs is too large
 pub record Sampleable (p : Matrix5) (n : ℕ) : Type 0 where

@@ -1,18 +1,15 @@
 // L12: the point of one of a quad-net's four triangles at weights i/n, j/n, k/n. Checks 18, 19, 32 and 33, then one sample, or all samples of the
 // triangle into a lent list. Nothing is written before the last check has passed.
-pub mod bernstein;
-pub mod derivatives;
 pub mod points;
 
-use crate::bernstein::Matrix5;
-use crate::bernstein::Vector5;
 use crate::points::control_points;
+use bernstein::Matrix5;
+use bernstein::Vector5;
 use paper::Answer;
 use paper::MOST_PARTS;
 ghost use mathlib.Core.Path.{_≡_};
-ghost use Prim.Native.Nat.{ℕ, _+_, _*_, _^_, _≤_, _<_};
+ghost use Prim.Native.Nat.{ℕ, _+_, _*_, _≤_, _<_};
 ghost use lib.ListN.{length};
-ghost use lib.IntN.{pos};
 ghost use mathlib.Core.Bool.{not};
 ghost use mathlib.Core.List.{_++_};
 ghost use Rattle.paper.specs.Faults.{sound, stated};
@@ -21,7 +18,7 @@ ghost use Rattle.paper.specs.Floats.{netVerdict, axes};
 ghost use Rattle.paper.specs.Sampling.{weights, sampleAt, fault33, sampleVerdict, sideAt, Sampled, sampleCount, triangleSamples};
 ghost use Rattle.paper.specs.Sampling.{TriangleSampled};
 ghost use Rattle.paper.specs.Tangents.{TangentsSampled};
-ghost use Rattle.sampling.specs.bernstein.Sums.{AllSized, Tapered, AllTapered, polynomialOf, rowOf, polynomialAt, stateOf};
+ghost use Rattle.bernstein.specs.Sums.{AllTapered, rowOf, polynomialAt};
 ghost use Rattle.sampling.specs.Grid.{samplesBefore, Sampleable, RowSampleable, RowPut, RowsPut, TangentOn};
 
 // Our own number for a lent list that is too short.
@@ -133,9 +130,9 @@ fn sample_on(numbers: &[i32], side: usize, axis: usize, j: usize, k: usize, n: u
     ensures { λ r. ⌜ ((i : ℕ) → i + j + k ≡ n → r ≡ sampleAt (now (numbers .entry)) (sideAt side) (weights i j k n) axis) ⌝ }
 {
     let p = control_points(numbers, side, axis);
-    let e = row_at(p, k, n);
-    let v = value_at(e, j);
-    crate::bernstein::rounded(v, n)
+    let e = bernstein::row_at(p, k, n);
+    let v = bernstein::value_at(e, j);
+    bernstein::rounded(v, n)
 }
 
 // The tangents at one sample: x, y, z towards the tail, then x, y, z towards the centre.
@@ -189,9 +186,9 @@ fn tangents_on(numbers: &[i32], side: usize, axis: usize, j: usize, k: usize, n:
     ensures { λ r. ⌜ TangentOn (now (numbers .entry)) side axis j k n r ⌝ }
 {
     let p = control_points(numbers, side, axis);
-    let c = crate::bernstein::polynomial(p, n);
-    let u = value_in(crate::derivatives::along(c), j, k);
-    let v = value_in(crate::derivatives::inward(c), j, k);
+    let c = bernstein::polynomial(p, n);
+    let u = value_in(bernstein::derivatives::along(c), j, k);
+    let v = value_in(bernstein::derivatives::inward(c), j, k);
     Tangent {
         along: u,
         inward: v,
@@ -203,62 +200,8 @@ fn value_in(c: Matrix5, j: usize, k: usize) -> i64
     requires { ⌜ AllTapered c × (j ≤ 16) × (k ≤ 16) ⌝ }
     ensures { λ r. ⌜ r ≡ polynomialAt (rowOf c k) j ⌝ }
 {
-    let e = row_in(c, k);
-    value_at(e, j)
-}
-
-// The polynomial of row k.
-pub fn row_at(p: Matrix5, k: usize, n: usize) -> Vector5
-    requires { ⌜ AllSized (2 ^ 27) p × (k ≤ 16) × (n ≤ 16) ⌝ }
-    ensures { λ r. ⌜ r ≡ rowOf (polynomialOf p (pos n)) k ⌝ }
-{
-    let c = crate::bernstein::polynomial(p, n);
-    row_in(c, k)
-}
-
-// A polynomial in the second weight alone, for the third weight k.
-pub fn row_in(c: Matrix5, k: usize) -> Vector5
-    requires { ⌜ AllTapered c × (k ≤ 16) ⌝ }
-    ensures { λ r. ⌜ r ≡ rowOf c k ⌝ }
-{
-    let a = value_at(c.r0, k);
-    let b = value_at(c.r1, k);
-    let d = value_at(c.r2, k);
-    let e = value_at(c.r3, k);
-    let f = value_at(c.r4, k);
-    Vector5 {
-        a: a,
-        b: b,
-        c: d,
-        d: e,
-        e: f,
-    }
-}
-
-// Its value and its differences at j.
-fn state_at(e: Vector5, j: usize) -> Vector5
-    requires { ⌜ Tapered (5 * 2 ^ 34) e × (j ≤ 16) ⌝ }
-    ensures { λ r. ⌜ r ≡ stateOf e j ⌝ }
-{
-    let mut g = crate::bernstein::ahead(e);
-    let mut x = 0;
-    while x < j {
-        g = crate::bernstein::step(g);
-        x += 1;
-    }
-    g
-}
-
-// Its value at j, from the highest power down.
-pub fn value_at(e: Vector5, j: usize) -> i64
-    requires { ⌜ Tapered (5 * 2 ^ 34) e × (j ≤ 16) ⌝ }
-    ensures { λ r. ⌜ r ≡ polynomialAt e j ⌝ }
-{
-    let x = j as i64;
-    let d = e.d + x * e.e;
-    let c = e.c + x * d;
-    let b = e.b + x * c;
-    e.a + x * b
+    let e = bernstein::row_in(c, k);
+    bernstein::value_at(e, j)
 }
 
 // The samples of all rows on one axis, every third number of the list.
@@ -266,15 +209,15 @@ fn put_axis(p: Matrix5, n: usize, points: &mut [i32], axis: usize)
     requires { ⌜ Sampleable p n × (axis < 3) × (3 * samplesBefore n (n + 1) ≤ length (now points)) ⌝ }
     ensures { λ _. ⌜ RowsPut p n axis (n + 1) (now (points .entry)) (now (points .exit)) ⌝ }
 {
-    let mut s = crate::bernstein::start(p, n);
+    let mut s = bernstein::start(p, n);
     let mut at = axis;
     let mut k = 0;
     while k <= n {
         let count = n - k + 1;
-        let e = crate::bernstein::row(s);
+        let e = bernstein::row(s);
         put_row(e, n, 0, count, points, at);
         at += 3 * count;
-        s = crate::bernstein::next(s);
+        s = bernstein::next(s);
         k += 1;
     }
 }
@@ -284,12 +227,12 @@ pub fn put_row(e: Vector5, n: usize, first: usize, count: usize, points: &mut [i
     requires { ⌜ RowSampleable e n first count × (from + 3 * count ≤ length (now points) + 2) ⌝ }
     ensures { λ _. ⌜ RowPut e n first count from (now (points .entry)) (now (points .exit)) ⌝ }
 {
-    let mut g = state_at(e, first);
+    let mut g = bernstein::state_at(e, first);
     let mut j = 0;
     while j < count {
-        let v = crate::bernstein::rounded(g.a, n);
+        let v = bernstein::rounded(g.a, n);
         points[from + 3 * j] = v;
-        g = crate::bernstein::step(g);
+        g = bernstein::step(g);
         j += 1;
     }
 }

@@ -1,13 +1,13 @@
 // L12: the control points of one of a quad-net's four triangles, read out of the net's 123 numbers.
-use crate::bernstein::Matrix5;
-use crate::bernstein::Vector5;
+use bernstein::Matrix5;
+use bernstein::Vector5;
 ghost use mathlib.Core.Path.{_≡_};
 ghost use Prim.Native.Nat.{_+_, _*_, _^_, _≤_, _<_};
 ghost use lib.IntN.{natAbs};
 ghost use Rattle.paper.specs.Faults.{sound};
 ghost use Rattle.paper.specs.Floats.{netVerdict};
 ghost use Rattle.paper.specs.Sampling.{onAxis, control, sideAt};
-ghost use Rattle.sampling.specs.bernstein.Sums.{rowsOf};
+ghost use Rattle.bernstein.specs.Sums.{rowsOf};
 ghost use Rattle.sampling.specs.points.Places.{bPlace, aPlace};
 
 // The 15 control points of a side's triangle on an axis, in rows from the side inwards and each row from the head.

@@ -4,13 +4,13 @@ use Prim.Native.Nat.{ℕ, _*_, _^_, _≤_}
 use native.Mathlib.Omega.{arith}
 use lib.IntN.{ℤ, pos, _+ℤ_, _*ℤ_}
 use Rattle.numbers.proofs.Poly.{over, poly}
-use Rattle.sampling.specs.declared.bernstein.Matrix5.{Matrix5}
-use Rattle.sampling.specs.declared.bernstein.Vector5.{Vector5}
-use Rattle.sampling.specs.bernstein.Sums.{Tapered, AllTapered, vector5, slopesOf, columnsOf, weightedOf, weightsOf, scaledOf, polynomialOf, rowOf, polynomialAt}
-use Rattle.sampling.specs.bernstein.Tangents.{timesOf, alongOf, slopeOf, inwardOf}
-use Rattle.sampling.proofs.bernstein.Identity.{vector5-same}
-use Rattle.sampling.proofs.bernstein.Laws.{row-tapers}
-use Rattle.sampling.proofs.bernstein.Tapering.{along-tapers, inward-tapers}
+use Rattle.bernstein.specs.declared.Matrix5.{Matrix5}
+use Rattle.bernstein.specs.declared.Vector5.{Vector5}
+use Rattle.bernstein.specs.Sums.{Tapered, AllTapered, vector5, slopesOf, columnsOf, weightedOf, weightsOf, scaledOf, polynomialOf, rowOf, polynomialAt}
+use Rattle.bernstein.specs.Tangents.{timesOf, alongOf, slopeOf, inwardOf}
+use Rattle.bernstein.proofs.Identity.{vector5-same}
+use Rattle.bernstein.proofs.Laws.{row-tapers}
+use Rattle.bernstein.proofs.Tapering.{along-tapers, inward-tapers}
 use Rattle.net_points.specs.tangent_writing.Paired.{truncatedOf, truncatedRowOf, CubicTapered, CubicRow}
 
 matrix-same : {p q r s t p′ q′ r′ s′ t′ : Vector5} → p ≡ p′ → q ≡ q′ → r ≡ r′ → s ≡ s′ → t ≡ t′

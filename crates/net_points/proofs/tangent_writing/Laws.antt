@@ -16,10 +16,10 @@ use Rattle.paper.specs.Sampling.{weights, sideAt}
 use Rattle.paper.specs.Triangles.{groups, turnWeights}
 use Rattle.paper.specs.Tangents.{tangentPair}
 use Rattle.mesh.proofs.Fills.{filled-step}
-use Rattle.sampling.specs.declared.bernstein.Matrix5.{Matrix5}
-use Rattle.sampling.specs.declared.bernstein.Vector5.{Vector5}
-use Rattle.sampling.specs.bernstein.Sums.{Tapered, rowOf, polynomialAt}
-use Rattle.sampling.proofs.bernstein.Laws.{bits, sized-bits, value-size}
+use Rattle.bernstein.specs.declared.Matrix5.{Matrix5}
+use Rattle.bernstein.specs.declared.Vector5.{Vector5}
+use Rattle.bernstein.specs.Sums.{Tapered, rowOf, polynomialAt}
+use Rattle.bernstein.proofs.Laws.{bits, sized-bits, value-size}
 use Rattle.sampling.proofs.TangentLaws.{along-value, inward-value, pair-is}
 use Rattle.net_points.specs.declared.writing.Shape.{Shape}
 use Rattle.net_points.specs.declared.tangent_writing.Slopes.{Slopes}

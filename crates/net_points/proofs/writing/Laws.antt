@@ -16,12 +16,12 @@ use Rattle.paper.specs.Sampling.{control, onAxis, weights, sampleAt, sideAt}
 use Rattle.paper.specs.Triangles.{turnWeights}
 use Rattle.numbers.proofs.Poly.{over, poly}
 use Rattle.mesh.proofs.Scans.{ways, compared}
-use Rattle.sampling.specs.declared.bernstein.Vector5.{Vector5}
-use Rattle.sampling.specs.declared.bernstein.Matrix5.{Matrix5}
-use Rattle.sampling.specs.bernstein.Sums.{vector5, linear, quadratic, cubic, quartic, quarticSum, rowsOf, polynomialOf, rowOf, polynomialAt, AllSized}
+use Rattle.bernstein.specs.declared.Vector5.{Vector5}
+use Rattle.bernstein.specs.declared.Matrix5.{Matrix5}
+use Rattle.bernstein.specs.Sums.{vector5, linear, quadratic, cubic, quartic, quarticSum, rowsOf, polynomialOf, rowOf, polynomialAt, AllSized}
 use Rattle.sampling.specs.Grid.{Sampleable, RowSampleable, RowPut}
-use Rattle.sampling.proofs.bernstein.Sum.{bernstein-is}
-use Rattle.sampling.proofs.bernstein.Laws.{polynomial-tapers}
+use Rattle.bernstein.proofs.Sum.{bernstein-is}
+use Rattle.bernstein.proofs.Laws.{polynomial-tapers}
 use Rattle.sampling.proofs.Laws.{points-sampleable}
 use Rattle.sampling.proofs.Lists.{row-sampleable, row-part}
 use Rattle.net_points.specs.writing.Laid.{Reaches, reversedOf, InTurn, PointPlace}

@@ -6,9 +6,9 @@ use Prim.Native.Nat.{ℕ, zero, suc, _+_, _-_, _*_, _^_, _≤_, _<_}
 use native.Mathlib.Omega.{arith}
 use lib.IntN.{ℤ, pos}
 use Rattle.paper.specs.Numbers.{round}
-use Rattle.sampling.specs.declared.bernstein.Vector5.{Vector5}
-use Rattle.sampling.specs.declared.bernstein.Matrix5.{Matrix5}
-use Rattle.sampling.specs.bernstein.Sums.{polynomialOf, rowOf, polynomialAt, quarticSum}
+use Rattle.bernstein.specs.declared.Vector5.{Vector5}
+use Rattle.bernstein.specs.declared.Matrix5.{Matrix5}
+use Rattle.bernstein.specs.Sums.{polynomialOf, rowOf, polynomialAt, quarticSum}
 use Rattle.sampling.specs.Grid.{RowPut}
 use Rattle.sampling.proofs.Lists.{row-value, from-none, below-or-last}
 use Rattle.net_points.specs.writing.Laid.{Reaches, InTurn, CurveAim, CurvePlace, ringAt, SpokeAim, SpokePlace, RingsAim, RingsPlace}

@@ -11,10 +11,10 @@ use Rattle.paper.specs.Floats.{axes}
 use Rattle.paper.specs.Sampling.{control, onAxis, sideAt}
 use Rattle.paper.specs.Triangles.{groups, turnWeights}
 use Rattle.paper.specs.Tangents.{tangentPair}
-use Rattle.sampling.specs.declared.bernstein.Matrix5.{Matrix5}
-use Rattle.sampling.specs.declared.bernstein.Vector5.{Vector5}
-use Rattle.sampling.specs.bernstein.Sums.{Tapered, AllTapered, vector5, rowsOf, polynomialOf, rowOf, polynomialAt}
-use Rattle.sampling.specs.bernstein.Tangents.{alongOf, inwardOf}
+use Rattle.bernstein.specs.declared.Matrix5.{Matrix5}
+use Rattle.bernstein.specs.declared.Vector5.{Vector5}
+use Rattle.bernstein.specs.Sums.{Tapered, AllTapered, vector5, rowsOf, polynomialOf, rowOf, polynomialAt}
+use Rattle.bernstein.specs.Tangents.{alongOf, inwardOf}
 use Rattle.net_points.specs.declared.writing.Shape.{Shape}
 use Rattle.net_points.specs.declared.tangent_writing.Slopes.{Slopes}
 use Rattle.net_points.specs.declared.tangent_writing.RowSlopes.{RowSlopes}

@@ -8,8 +8,8 @@ use lib.IntN.{ℤ, pos}
 use Rattle.paper.specs.Numbers.{round}
 use Rattle.paper.specs.Sampling.{onAxis, sampleAt, sideAt}
 use Rattle.paper.specs.Triangles.{turnWeights}
-use Rattle.sampling.specs.declared.bernstein.Matrix5.{Matrix5}
-use Rattle.sampling.specs.bernstein.Sums.{vector5, quarticSum}
+use Rattle.bernstein.specs.declared.Matrix5.{Matrix5}
+use Rattle.bernstein.specs.Sums.{vector5, quarticSum}
 use Rattle.sampling.specs.Grid.{Sampleable}
 
 -- ---- f says what each place is to hold. No place has changed but to hold that, and those of S do hold it

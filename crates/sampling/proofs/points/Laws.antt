@@ -13,7 +13,7 @@ use Rattle.paper.specs.Floats.{netVerdict}
 use Rattle.paper.specs.Sampling.{control, onAxis, sideAt}
 use Rattle.numbers.proofs.Machine.{abs-fits}
 use Rattle.floats.proofs.Laws.{number-le}
-use Rattle.sampling.proofs.bernstein.Laws.{sized-bits}
+use Rattle.bernstein.proofs.Laws.{sized-bits}
 use Rattle.sampling.specs.points.Places.{bPlace, aPlace}
 
 -- ---- the control points of a side by their places

@@ -5,11 +5,11 @@ use native.Mathlib.Omega.{arith}
 use borrow.Author.Needs.{needs}
 use lib.ListN.{length}
 use lib.IntN.{pos}
-use Rattle.sampling.specs.declared.bernstein.Vector5.{Vector5}
-use Rattle.sampling.specs.declared.bernstein.Matrix5.{Matrix5}
-use Rattle.sampling.specs.bernstein.Sums.{AllSized, AllTapered, polynomialOf, statesOf, stepsOf, firstsOf, rowOf}
-use Rattle.sampling.proofs.bernstein.Laws.{polynomial-tapers, states-size}
-use Rattle.sampling.proofs.bernstein.Identity.{states-step, firsts-row}
+use Rattle.bernstein.specs.declared.Vector5.{Vector5}
+use Rattle.bernstein.specs.declared.Matrix5.{Matrix5}
+use Rattle.bernstein.specs.Sums.{AllSized, AllTapered, polynomialOf, statesOf, stepsOf, firstsOf, rowOf}
+use Rattle.bernstein.proofs.Laws.{polynomial-tapers, states-size}
+use Rattle.bernstein.proofs.Identity.{states-step, firsts-row}
 use Rattle.sampling.specs.Grid.{samplesBefore, RowsPut}
 use Rattle.sampling.proofs.Lists.{rows-none, rows-step, place-next, row-sampleable, row-room}
 use Rattle.sampling.proofs.put_axis.Statement.{statement}

@@ -10,10 +10,10 @@ use mir.Syntax.{w32}
 use mir.Val.{toZ, ofZ}
 use mir.Facts.{toZ-ofZ}
 use Rattle.paper.specs.Numbers.{round}
-use Rattle.sampling.specs.declared.bernstein.Vector5.{Vector5}
-use Rattle.sampling.specs.bernstein.Sums.{Sized, stateOf, polynomialAt, stepOf}
-use Rattle.sampling.proofs.bernstein.Laws.{bits, state-size, sized-bits}
-use Rattle.sampling.proofs.bernstein.Identity.{state-step}
+use Rattle.bernstein.specs.declared.Vector5.{Vector5}
+use Rattle.bernstein.specs.Sums.{Sized, stateOf, polynomialAt, stepOf}
+use Rattle.bernstein.proofs.Laws.{bits, state-size, sized-bits}
+use Rattle.bernstein.proofs.Identity.{state-step}
 use Rattle.sampling.specs.Grid.{RowPut}
 use Rattle.sampling.proofs.Lists.{row-none, row-step}
 use Rattle.sampling.proofs.put_row.Statement.{statement}

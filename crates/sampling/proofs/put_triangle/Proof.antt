@@ -7,7 +7,7 @@ use native.Mathlib.Omega.{arith}
 use borrow.Author.Needs.{needs}
 use lib.Dec.{lit<}
 use denote.Ref.{now}
-use Rattle.sampling.specs.declared.bernstein.Matrix5.{Matrix5}
+use Rattle.bernstein.specs.declared.Matrix5.{Matrix5}
 use Rattle.sampling.specs.Grid.{samplesBefore, Sampleable, RowsPut}
 use Rattle.sampling.proofs.Laws.{points-sampleable}
 use Rattle.sampling.proofs.Lists.{count-is, triangle-put}

@@ -9,7 +9,7 @@ use Rattle.paper.specs.Faults.{sound}
 use Rattle.paper.specs.Floats.{netVerdict}
 use Rattle.paper.specs.Sampling.{weights, sampleVerdict, sideAt}
 use Rattle.mesh.proofs.Verdicts.{passed}
-use Rattle.sampling.proofs.bernstein.Laws.{sized-bits}
+use Rattle.bernstein.proofs.Laws.{sized-bits}
 use Rattle.sampling.proofs.Laws.{net-passed, side-passed, some-parts, few-parts, parts-sum}
 use Rattle.sampling.proofs.TangentLaws.{tangents-refused, tangents-done, pair-is}
 use Rattle.sampling.proofs.tangents.Statement.{statement}

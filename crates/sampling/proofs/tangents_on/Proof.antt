@@ -3,9 +3,9 @@ use mathlib.Core.Path.{sym, subst}
 use borrow.Author.Needs.{needs}
 use denote.Ref.{now}
 use native.Mathlib.Omega.{arith}
-use Rattle.sampling.specs.declared.bernstein.Matrix5.{Matrix5}
-use Rattle.sampling.specs.bernstein.Sums.{AllTapered}
-use Rattle.sampling.proofs.bernstein.Tapering.{along-tapers, inward-tapers, tapered-sized}
+use Rattle.bernstein.specs.declared.Matrix5.{Matrix5}
+use Rattle.bernstein.specs.Sums.{AllTapered}
+use Rattle.bernstein.proofs.Tapering.{along-tapers, inward-tapers, tapered-sized}
 use Rattle.sampling.proofs.TangentLaws.{points-fit, tapers, tangent-on}
 use Rattle.sampling.proofs.tangents_on.Statement.{statement}
 use Rattle.sampling.proofs.tangents_on.Tie as tie

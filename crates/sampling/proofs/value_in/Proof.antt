@@ -2,9 +2,9 @@
 use mathlib.Core.Path.{sym, ap, _∙_, subst}
 use Prim.Native.Nat.{_*_, _^_}
 use borrow.Author.Needs.{needs}
-use Rattle.sampling.specs.declared.bernstein.Vector5.{Vector5}
-use Rattle.sampling.specs.bernstein.Sums.{Tapered, polynomialAt}
-use Rattle.sampling.proofs.bernstein.Laws.{row-tapers}
+use Rattle.bernstein.specs.declared.Vector5.{Vector5}
+use Rattle.bernstein.specs.Sums.{Tapered, polynomialAt}
+use Rattle.bernstein.proofs.Laws.{row-tapers}
 use Rattle.sampling.proofs.value_in.Statement.{statement}
 use Rattle.sampling.proofs.value_in.Tie as tie
 

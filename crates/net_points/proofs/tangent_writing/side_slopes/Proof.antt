@@ -6,10 +6,10 @@ use borrow.Author.Needs.{needs}
 use lib.Dec.{lit<}
 use lib.IntN.{pos}
 use denote.Ref.{now}
-use Rattle.sampling.specs.declared.bernstein.Matrix5.{Matrix5}
-use Rattle.sampling.specs.bernstein.Sums.{AllSized, AllTapered, polynomialOf}
-use Rattle.sampling.specs.bernstein.Tangents.{alongOf, inwardOf}
-use Rattle.sampling.proofs.bernstein.Tapering.{tapered-sized}
+use Rattle.bernstein.specs.declared.Matrix5.{Matrix5}
+use Rattle.bernstein.specs.Sums.{AllSized, AllTapered, polynomialOf}
+use Rattle.bernstein.specs.Tangents.{alongOf, inwardOf}
+use Rattle.bernstein.proofs.Tapering.{tapered-sized}
 use Rattle.sampling.proofs.TangentLaws.{points-fit, tapers}
 use Rattle.net_points.specs.tangent_writing.Paired.{sidePoints}
 use Rattle.net_points.proofs.tangent_writing.Cubic.{along-in, inward-in}

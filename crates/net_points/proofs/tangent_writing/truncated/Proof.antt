@@ -2,8 +2,8 @@
 use Prim.Native.Nat.{_^_}
 use lib.Dec.{lit≤}
 use mir.Facts.{toZ-ofZ}
-use Rattle.sampling.proofs.bernstein.Laws.{fits}
-use Rattle.sampling.proofs.bernstein.Tapering.{tapered-sized}
+use Rattle.bernstein.proofs.Laws.{fits}
+use Rattle.bernstein.proofs.Tapering.{tapered-sized}
 use Rattle.net_points.specs.tangent_writing.Paired.{truncatedOf}
 use Rattle.net_points.proofs.tangent_writing.truncated.Statement.{statement}
 use Rattle.net_points.proofs.tangent_writing.truncated.Tie as tie

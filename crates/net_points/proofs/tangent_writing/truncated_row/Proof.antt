@@ -2,7 +2,7 @@
 use Prim.Native.Nat.{_*_, _^_}
 use lib.Dec.{lit≤}
 use mir.Facts.{toZ-ofZ}
-use Rattle.sampling.proofs.bernstein.Laws.{fits, tapered-size}
+use Rattle.bernstein.proofs.Laws.{fits, tapered-size}
 use Rattle.net_points.specs.tangent_writing.Paired.{truncatedRowOf}
 use Rattle.net_points.proofs.tangent_writing.truncated_row.Statement.{statement}
 use Rattle.net_points.proofs.tangent_writing.truncated_row.Tie as tie

@@ -6,11 +6,11 @@ use native.Mathlib.Numerals.{add-one}
 use borrow.Author.Needs.{needs}
 use lib.ListN.{length}
 use lib.IntN.{ℤ, pos}
-use Rattle.sampling.specs.declared.bernstein.Vector5.{Vector5}
-use Rattle.sampling.specs.declared.bernstein.Matrix5.{Matrix5}
-use Rattle.sampling.specs.bernstein.Sums.{AllSized, polynomialOf, statesOf, stepsOf, firstsOf, rowOf}
-use Rattle.sampling.proofs.bernstein.Laws.{polynomial-tapers, states-size}
-use Rattle.sampling.proofs.bernstein.Identity.{states-step, firsts-row}
+use Rattle.bernstein.specs.declared.Vector5.{Vector5}
+use Rattle.bernstein.specs.declared.Matrix5.{Matrix5}
+use Rattle.bernstein.specs.Sums.{AllSized, polynomialOf, statesOf, stepsOf, firstsOf, rowOf}
+use Rattle.bernstein.proofs.Laws.{polynomial-tapers, states-size}
+use Rattle.bernstein.proofs.Identity.{states-step, firsts-row}
 use Rattle.net_points.specs.writing.Laid.{Reaches, SpokeAim, SpokePlace}
 use Rattle.closing.proofs.Counts.{most-inner}
 use Rattle.net_points.proofs.writing.Laws.{reaches-none, spoke-sampleable, ring-room}

@@ -2,7 +2,7 @@
 use Prim.Native.Nat.{_^_}
 use lib.Dec.{lit≤}
 use mir.Facts.{toZ-ofZ}
-use Rattle.sampling.proofs.bernstein.Laws.{fits}
+use Rattle.bernstein.proofs.Laws.{fits}
 use Rattle.net_points.specs.writing.Laid.{reversedOf}
 use Rattle.net_points.proofs.writing.reversed.Statement.{statement}
 use Rattle.net_points.proofs.writing.reversed.Tie as tie

@@ -4,8 +4,8 @@ use Prim.Native.Nat.{_^_}
 use native.Mathlib.Omega.{arith}
 use borrow.Author.Needs.{needs}
 use denote.Ref.{now}
-use Rattle.sampling.specs.declared.bernstein.Matrix5.{Matrix5}
-use Rattle.sampling.specs.bernstein.Sums.{AllSized}
+use Rattle.bernstein.specs.declared.Matrix5.{Matrix5}
+use Rattle.bernstein.specs.Sums.{AllSized}
 use Rattle.sampling.proofs.Laws.{points-sized}
 use Rattle.net_points.proofs.writing.Laws.{turn-even, turn-odd}
 use Rattle.net_points.proofs.writing.turn_points.Statement.{statement}

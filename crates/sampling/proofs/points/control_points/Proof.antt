@@ -4,9 +4,9 @@ use borrow.Author.Needs.{needs}
 use lib.Dec.{lit≤}
 use denote.Ref.{now}
 use Rattle.paper.specs.Sampling.{onAxis}
-use Rattle.sampling.specs.declared.bernstein.Vector5.{Vector5}
-use Rattle.sampling.specs.declared.bernstein.Matrix5.{Matrix5}
-use Rattle.sampling.proofs.bernstein.Identity.{vector5-same}
+use Rattle.bernstein.specs.declared.Vector5.{Vector5}
+use Rattle.bernstein.specs.declared.Matrix5.{Matrix5}
+use Rattle.bernstein.proofs.Identity.{vector5-same}
 use Rattle.sampling.proofs.points.Laws.{by-bits, inner-a-place, centre-place}
 use Rattle.sampling.proofs.points.control_points.Statement.{statement}
 use Rattle.sampling.proofs.points.control_points.Tie as tie
