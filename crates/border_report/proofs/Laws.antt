@@ -11,9 +11,9 @@ use Rattle.paper.specs.Report.{pageWith, conditions, largestMiss, added, pageVe
 use Rattle.paper.specs.declared.Answer.the-variants.{Done, Refused}
 use Rattle.paper.specs.declared.Page.{Page}
 use Rattle.surface.specs.Points.{pointRow}
-use Rattle.border_report.specs.four.Four.{inMisses}
-use Rattle.border_report.specs.declared.four.Misses.{Misses}
-use Rattle.border_report.proofs.page_laws.Runs.{values-equal}
+use Rattle.pages.specs.four.Four.{inMisses}
+use Rattle.pages.specs.declared.four.Misses.{Misses}
+use Rattle.pages.proofs.Lists.{values-equal}
 
 -- a mesh whose checks give a fault, and an accepted one
 pub refused-added : (P : Page) (M : Mesh) (v : Verdict) (r : Page) (k p : ℕ) → ((M : Mesh) (p : ℕ) → r ≡ added P M (fault k p)) → fault k p ≡ v → r ≡

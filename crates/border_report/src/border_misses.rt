@@ -1,11 +1,11 @@
 // L14: the largest misses across the borders of a mesh. Each border counts once: sides 0 and 1 of each corner. The output for all corners is too
 // large for the stack, so that the quad-nets are made face by face: those of a face's corners stand side by side, and for each corner that of its link
 // is made besides.
-use crate::four::Misses;
 use crate::misses::FourPoints;
 use crate::misses::wide;
 use net::STENCIL;
 use numbers::cosines;
+use pages::four::Misses;
 use paper::MOST_SIDES;
 use paper::NUMBERS_PER_CORNER;
 use walk::Walker;
@@ -21,7 +21,7 @@ ghost use Rattle.walk.specs.Table.{toNext, toLink, entry};
 ghost use Rattle.net.specs.sides.Drawn.{drawn, Drawn};
 ghost use Rattle.net.specs.sides.Values.{SideSized};
 ghost use Rattle.building.specs.writing.Written.{Faced, NetsWritten};
-ghost use Rattle.border_report.specs.four.Four.{inMisses};
+ghost use Rattle.pages.specs.four.Four.{inMisses};
 ghost use Rattle.border_report.specs.misses.Row.{inRow, SmallRow};
 ghost use Rattle.border_report.specs.border_misses.Held.{pointIn, SmallOn, NetHeldAll, WholeFace, cornerMiss, AxisMisses, fourOf};
 
@@ -93,7 +93,7 @@ fn face_misses(
             next,
             &mut stencil,
         );
-        most = crate::four::larger_of(most, m);
+        most = pages::four::larger_of(most, m);
         j += 1;
     }
     most
@@ -127,7 +127,7 @@ fn corner_misses(
     let x = axis_misses(a, 0, face, here, linked, next);
     let y = axis_misses(b, 1, face, here, linked, next);
     let z = axis_misses(d, 2, face, here, linked, next);
-    crate::four::larger_of(crate::four::larger_of(x, y), z)
+    pages::four::larger_of(pages::four::larger_of(x, y), z)
 }
 
 // The same on one axis, from the sides there.
@@ -153,7 +153,7 @@ fn axis_misses(
     let own1 = row(face, here, axis, 40, 36, 32, 28);
     let other1 = row(face, next, axis, 40, 39, 38, 37);
     let across_next = crate::misses::side_misses(side1, outer1, own1, other1);
-    crate::four::larger_of(across_link, across_next)
+    pages::four::larger_of(across_link, across_next)
 }
 
 // Four points of a corner's numbers, from `at` on, on an axis.

@@ -1,12 +1,9 @@
 // L14, the yearly border report: a call takes a page with one file and returns the next page. The file is checked as behind `inspect`, in local copies of
 // its lists; of an accepted mesh the misses are taken over a table of its corners and one of its refined points.
 pub mod border_misses;
-pub mod four;
 pub mod mesh_misses;
 pub mod misses;
 pub mod page_laws;
-pub mod page_numbers;
-pub mod pages;
 
 use mesh::SMALL_MESH;
 use mesh::least;
@@ -25,7 +22,7 @@ ghost use lib.ListN.{length};
 ghost use Rattle.paper.specs.Mesh.{meshOf, mostCorners};
 ghost use Rattle.paper.specs.Faults.{sound, verdict};
 ghost use Rattle.paper.specs.File.{fileMesh, fileVerdict};
-ghost use Rattle.paper.specs.Report.{added, pageVerdict, offered, ReportedTo, MergedTo};
+ghost use Rattle.paper.specs.Report.{added, pageVerdict, offered, ReportedTo};
 ghost use Rattle.surface.specs.Points.{pointRow};
 ghost use Rattle.refine.specs.sums.Sources.{SmallPoints};
 ghost use Rattle.dms.specs.header.ListsWithin.{ListsWithin};
@@ -35,7 +32,7 @@ ghost use Rattle.checks.specs.Checked.{RowsFor};
 pub fn report(bytes: &[u8], counted: usize, page: Page) -> Reported
     ensures { λ r. ⌜ ReportedTo page (offered (now (bytes .entry)) counted) r ⌝ }
 {
-    let a = crate::pages::check(page);
+    let a = pages::check(page);
     if let Answer::Refused(k, p) = a {
         return Reported {
             answer: Answer::Refused(k, p),
@@ -50,13 +47,6 @@ pub fn report(bytes: &[u8], counted: usize, page: Page) -> Reported
     }
 }
 
-// Two pages as one.
-pub fn merge(page: Page, other: Page) -> Reported
-    ensures { λ r. ⌜ MergedTo page other r ⌝ }
-{
-    crate::pages::merge(page, other)
-}
-
 // The page after the file itself: its header is checked first.
 fn with_file(file: &[u8], counted: usize, page: Page) -> Page
     requires { ⌜ pageVerdict page ≡ sound ⌝ }
@@ -64,7 +54,7 @@ fn with_file(file: &[u8], counted: usize, page: Page) -> Page
 {
     let header = dms::header::check_header(file, counted);
     if let Answer::Refused(number, place) = header {
-        return crate::pages::refuse(page, number);
+        return pages::refuse(page, number);
     }
     with_lists(file, page)
 }
@@ -151,7 +141,7 @@ fn over(
 {
     let a = checks::check_within(coordinates, sides, corners, sharpness, table);
     if let Answer::Refused(number, place) = a {
-        return crate::pages::refuse(page, number);
+        return pages::refuse(page, number);
     }
     let largest = crate::mesh_misses::largest(
         coordinates,
@@ -161,5 +151,5 @@ fn over(
         table,
         points,
     );
-    crate::pages::accept(page, corners.len(), largest)
+    pages::accept(page, corners.len(), largest)
 }

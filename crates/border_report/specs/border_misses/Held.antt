@@ -14,8 +14,8 @@ use Rattle.walk.specs.Table.{toNext, entry}
 use Rattle.net.specs.stencil.Taken.{Run}
 use Rattle.net.specs.declared.sides.NetSides.{NetSides}
 use Rattle.net.specs.sides.Values.{FourSides}
-use Rattle.border_report.specs.declared.four.Misses.{Misses}
-use Rattle.border_report.specs.four.Four.{inMisses}
+use Rattle.pages.specs.declared.four.Misses.{Misses}
+use Rattle.pages.specs.four.Four.{inMisses}
 
 -- point k on an axis, of the numbers from `at` on
 abbrev pub pointIn : List ℤ → ℕ → ℕ → ℕ → ℤ

@@ -14,7 +14,7 @@ use Rattle.paper.specs.Calls.{perCorner}
 use Rattle.paper.specs.Report.{conditions, largestBelow}
 use Rattle.walk.specs.Table.{toNext, entry}
 use Rattle.net.specs.sides.Drawn.{drawn}
-use Rattle.border_report.specs.four.Four.{inMisses}
+use Rattle.pages.specs.four.Four.{inMisses}
 use Rattle.border_report.specs.border_misses.Held.{NetHeldAll, cornerMiss}
 use Rattle.border_report.proofs.border_misses.Laws.{held-of, held-one, one-more}
 use Rattle.border_report.proofs.border_misses.face_misses.Tie as tie
