@@ -9,6 +9,7 @@ use Rattle.paper.specs.Refined.{RefinedMesh}
 use Rattle.paper.specs.Net.{Side, side0, side1, neighbour, across, H, T, X, Y, C, net, netPoints, outerRow, aRow}
 use Rattle.paper.specs.Calls.{perCorner}
 use Rattle.paper.specs.Report.{conditions, condition, largestBelow}
+use Rattle.surface.specs.Points.{pointRow}
 use Rattle.surface.specs.Sizes.{WrittenSize}
 use Rattle.walk.specs.Table.{toNext, entry}
 use Rattle.net.specs.stencil.Taken.{Run}
@@ -40,6 +41,10 @@ pub record WholeFace (table : List ℕ) (n start k : ℕ) : Type 0 where
   pub within : start + k ≤ n
   pub run : Run table start k
   pub round : (j : ℕ) → j + 1 ≡ k → entry table toNext (start + j) ≡ start
+
+-- the rows of a face's ring are as before
+abbrev pub FaceKept : List ℤ → List ℤ → Type 0
+FaceKept old new = (i : ℕ) → pointRow * 10 ≤ i → getD new i (pos 0) ≡ getD old i (pos 0)
 
 -- four of a list's points
 abbrev pub fourOf : (ℕ → ℤ) → ℕ → ℕ → ℕ → ℕ → ℕ → ℤ
