@@ -26,6 +26,7 @@ ghost use Rattle.paper.specs.Report.{added, pageVerdict, offered, ReportedTo};
 ghost use Rattle.surface.specs.Points.{pointRow};
 ghost use Rattle.refine.specs.sums.Sources.{SmallPoints};
 ghost use Rattle.dms.specs.header.ListsWithin.{ListsWithin};
+ghost use Rattle.dms.specs.lists.Room.{Room};
 ghost use Rattle.checks.specs.Checked.{RowsFor};
 
 // The page after one file more, from the bytes read and the length counted, or the page as it was.
@@ -59,22 +60,56 @@ fn with_file(file: &[u8], counted: usize, page: Page) -> Page
     with_lists(file, page)
 }
 
-// The same of a file whose header passes, with copies of its lists.
+// The same of a file whose header passes, with copies of its lists. They are short where the file has few vertices, faces and corners in all.
 fn with_lists(file: &[u8], page: Page) -> Page
     requires { ⌜ ListsWithin (now file) × (pageVerdict page ≡ sound) ⌝ }
     ensures { λ r. ⌜ r ≡ added page (fileMesh (now (file .entry))) (verdict (fileMesh (now (file .entry)))) ⌝ }
 {
+    let vertices = dms::header::vertex_count(file);
+    let faces = dms::header::face_count(file);
+    let count = dms::header::corner_count(file);
+    if mesh::table_rows(vertices + faces + count) == SMALL_MESH {
+        let mut coordinates = [0i32; 3 * SMALL_MESH];
+        let mut sides = [0u8; SMALL_MESH];
+        let mut corners = [0u16; SMALL_MESH];
+        let mut sharpness = [0u8; 2 * SMALL_MESH];
+        return with_copies(
+            file,
+            page,
+            &mut coordinates,
+            &mut sides,
+            &mut corners,
+            &mut sharpness,
+        );
+    }
     let mut coordinates = [0i32; MOST_NUMBERS];
     let mut sides = [0u8; MOST_FACES];
     let mut corners = [0u16; MOST_CORNERS];
     let mut sharpness = [0u8; MOST_PAIRS];
-    dms::lists::read_lists(
+    with_copies(
         file,
+        page,
         &mut coordinates,
         &mut sides,
         &mut corners,
         &mut sharpness,
-    );
+    )
+}
+
+// The same over lent spaces, into which the lists are read.
+fn with_copies(
+    file: &[u8],
+    page: Page,
+    coordinates: &mut [i32],
+    sides: &mut [u8],
+    corners: &mut [u16],
+    sharpness: &mut [u8],
+) -> Page
+    requires file { ⌜ ListsWithin (now file) × (pageVerdict page ≡ sound) ⌝ }
+    requires room { ⌜ Room (now file) (length (now coordinates)) (length (now sides)) (length (now corners)) (length (now sharpness)) ⌝ }
+    ensures { λ r. ⌜ r ≡ added page (fileMesh (now (file .entry))) (verdict (fileMesh (now (file .entry)))) ⌝ }
+{
+    dms::lists::read_lists(file, coordinates, sides, corners, sharpness);
     let numbers = 3 * dms::header::vertex_count(file);
     let faces = dms::header::face_count(file);
     let count = dms::header::corner_count(file);
