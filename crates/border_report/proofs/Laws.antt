@@ -1,19 +1,24 @@
--- The ways out of the report, as laws over pages.
+-- The ways out of the report, as laws over pages; how many rows its tables have.
 use mathlib.Core.Path.{_≡_, sym, ap, _∙_}
+use mathlib.Core.Logic.{⊎-elim}
 use Prim.Native.Nat.{ℕ, _+_, _*_, _<_, _≤_, max}
 use native.Mathlib.Omega.{arith}
+use lib.Dec.{ltb}
 use lib.ListN.{length, getD, replicate, length-replicate}
 use lib.IntN.{ℤ, pos}
+use borrow.Author.Tests.{ltb-true, ltb-false}
 use Rattle.paper.specs.Scan.{valuesFrom}
 use Rattle.paper.specs.Mesh.{Mesh, cornerCount, mostCorners}
 use Rattle.paper.specs.Faults.{Verdict, sound, fault}
 use Rattle.paper.specs.Report.{pageWith, conditions, largestMiss, added, pageVerdict, Offered, meshIn, verdictIn, pageAfter, ReportedTo}
 use Rattle.paper.specs.declared.Answer.the-variants.{Done, Refused}
 use Rattle.paper.specs.declared.Page.{Page}
+use Rattle.mesh.specs.Tables.{smallMesh, largeMesh, TableRows}
+use Rattle.mesh.proofs.Scans.{ways}
 use Rattle.surface.specs.Points.{pointRow}
-use Rattle.border_report.specs.four.Four.{inMisses}
-use Rattle.border_report.specs.declared.four.Misses.{Misses}
-use Rattle.border_report.proofs.page_laws.Runs.{values-equal}
+use Rattle.pages.specs.four.Four.{inMisses}
+use Rattle.pages.specs.declared.four.Misses.{Misses}
+use Rattle.pages.proofs.Lists.{values-equal}
 
 -- a mesh whose checks give a fault, and an accepted one
 pub refused-added : (P : Page) (M : Mesh) (v : Verdict) (r : Page) (k p : ℕ) → ((M : Mesh) (p : ℕ) → r ≡ added P M (fault k p)) → fault k p ≡ v → r ≡
@@ -40,6 +45,15 @@ module _ (P : Page) (F : Offered) where
   pub done-report : (N : Page) → pageVerdict P ≡ sound → N ≡ added P (meshIn F) (verdictIn F) → ReportedTo P F (record { answer = Done; page = N })
   unfolding pageAfter
   done-report N e n = record { answers = sym e; holds = rw e n }
+
+-- a short table is chosen only for few rows
+pub few-rows : (count r : ℕ) → TableRows count r → r ≡ smallMesh → count ≤ smallMesh
+few-rows count r t e =
+    ⊎-elim
+    (λ l. let more : smallMesh < count = ltb-true smallMesh count l in
+    ⊎-elim (λ k. absurd (omega (arith, t .2 (ltb-true largeMesh count k)))) (λ k. absurd (omega (arith, t .1 more (ltb-false largeMesh count k))))
+    (ways (ltb largeMesh count)))
+    (λ l. ltb-false smallMesh count l) (ways (ltb smallMesh count))
 
 -- tables of zeros with p rows, for n corners
 pub point-room : (n p : ℕ) → (n ≤ mostCorners → n ≤ p) → n ≤ mostCorners → pointRow * n ≤ length (replicate (pointRow * p) (pos 0))

@@ -1,3 +1,2 @@
-pub mod four
 pub mod misses
 pub mod border_misses

@@ -1,11 +1,11 @@
 // L14: the largest misses across the borders of a mesh. Each border counts once: sides 0 and 1 of each corner. The output for all corners is too
 // large for the stack, so that the quad-nets are made face by face: those of a face's corners stand side by side, and for each corner that of its link
 // is made besides.
-use crate::four::Misses;
 use crate::misses::FourPoints;
 use crate::misses::wide;
 use net::STENCIL;
 use numbers::cosines;
+use pages::four::Misses;
 use paper::MOST_SIDES;
 use paper::NUMBERS_PER_CORNER;
 use walk::Walker;
@@ -20,10 +20,11 @@ ghost use Rattle.surface.specs.Sizes.{WrittenSize};
 ghost use Rattle.walk.specs.Table.{toNext, toLink, entry};
 ghost use Rattle.net.specs.sides.Drawn.{drawn, Drawn};
 ghost use Rattle.net.specs.sides.Values.{SideSized};
+ghost use Rattle.net.specs.stencil.Taken.{Run, FaceTaken};
 ghost use Rattle.building.specs.writing.Written.{Faced, NetsWritten};
-ghost use Rattle.border_report.specs.four.Four.{inMisses};
+ghost use Rattle.pages.specs.four.Four.{inMisses};
 ghost use Rattle.border_report.specs.misses.Row.{inRow, SmallRow};
-ghost use Rattle.border_report.specs.border_misses.Held.{pointIn, SmallOn, NetHeldAll, WholeFace, cornerMiss, AxisMisses, fourOf};
+ghost use Rattle.border_report.specs.border_misses.Held.{pointIn, SmallOn, NetHeldAll, WholeFace, FaceKept, cornerMiss, AxisMisses, fourOf};
 
 // The numbers of the corners of a face, at most.
 const FACE_NUMBERS: usize = MOST_SIDES * NUMBERS_PER_CORNER;
@@ -52,7 +53,8 @@ pub(crate) fn largest(points: &[i32], table: &[u16], n: usize) -> Misses
     most
 }
 
-// The same over the borders of the k corners of a face from `start` on, and over those before: `face` has the numbers of these corners.
+// The same over the borders of the k corners of a face from `start` on, and over those before: `face` has the numbers of these corners. The rows of the
+// face's ring are taken once for all of them.
 fn face_misses(
     points: &[i32],
     table: &[u16],
@@ -71,63 +73,66 @@ fn face_misses(
 {
     let mut linked = [0i32; NUMBERS_PER_CORNER];
     let mut stencil = [0i32; STENCIL];
+    net::stencil::take_face(points, table, rows, n, start, k, &mut stencil);
     let mut most = before;
     let mut j = 0;
     while j < k {
-        let c = start + j;
-        let at = Walker { corner: c };
+        let at = Walker { corner: start + j };
         let l = at.linked(table);
         building::writing::write_corners(points, table, rows, n, l.corner, 1, &mut linked);
         let q = if j + 1 < k { j + 1 } else { 0 };
-        let here = NUMBERS_PER_CORNER * j;
         let next = NUMBERS_PER_CORNER * q;
         let m = corner_misses(
             points,
             table,
             rows,
             n,
-            c,
+            start,
+            j,
             face,
-            here,
             &linked,
             next,
             &mut stencil,
         );
-        most = crate::four::larger_of(most, m);
+        most = pages::four::larger_of(most, m);
         j += 1;
     }
     most
 }
 
-// The largest misses of sides 0 and 1 of a corner, from its numbers and those of the next corner in its face's, and from those of its link.
+// The largest misses of sides 0 and 1 of corner j of a face, from its numbers and those of the next corner in its face's, and from those of its link. The
+// rows of the face's ring stand in `stencil`, and are left there.
 fn corner_misses(
     points: &[i32],
     table: &[u16],
     rows: &cosines::Rows,
     n: usize,
-    c: usize,
+    start: usize,
+    j: usize,
     face: &[i32],
-    here: usize,
     linked: &[i32],
     next: usize,
     stencil: &mut [i32],
 ) -> Misses
-    requires mesh { ⌜ Drawn n (now table) (now points) × (c < n) × (now rows ≡ stored) × (length (now stencil) ≡ 128) ⌝ }
-    requires here { ⌜ NetHeldAll (drawn n (now table) (now points)) c (now face) here ⌝ }
-    requires linked { ⌜ NetHeldAll (drawn n (now table) (now points)) (entry (now table) toLink c) (now linked) 0 ⌝ }
-    requires next { ⌜ NetHeldAll (drawn n (now table) (now points)) (entry (now table) toNext c) (now face) next ⌝ }
-    ensures { λ r. ⌜ ((j : ℕ) → j < conditions → inMisses r j ≡ cornerMiss (drawn n (now (table .entry)) (now (points .entry))) j c) ⌝ }
+    requires mesh { ⌜ Drawn n (now table) (now points) × (start + j < n) × (now rows ≡ stored) ⌝ }
+    requires ring { ⌜ Run (now table) start (j + 1) × (length (now stencil) ≡ 128) × FaceTaken (drawn n (now table) (now points)) start (j + 2) (now stencil) (now stencil) ⌝ }
+    requires here { ⌜ NetHeldAll (drawn n (now table) (now points)) (start + j) (now face) (perCorner * j) ⌝ }
+    requires linked { ⌜ NetHeldAll (drawn n (now table) (now points)) (entry (now table) toLink (start + j)) (now linked) 0 ⌝ }
+    requires next { ⌜ NetHeldAll (drawn n (now table) (now points)) (entry (now table) toNext (start + j)) (now face) next ⌝ }
+    ensures misses { λ r. ⌜ ((i : ℕ) → i < conditions → inMisses r i ≡ cornerMiss (drawn n (now (table .entry)) (now (points .entry))) i (start + j)) ⌝ }
+    ensures ring { λ _. ⌜ FaceKept (now (stencil .entry)) (now (stencil .exit)) ⌝ }
 {
-    net::stencil::take_face(points, table, rows, n, c, 1, stencil);
+    let c = start + j;
+    let here = NUMBERS_PER_CORNER * j;
     net::stencil::take_corner(points, table, rows, n, c, stencil);
-    let rings = net::rings_at(table, rows, n, c, 0);
+    let rings = net::rings_at(table, rows, n, c, j);
     let a = net::lanes::lane_sides(stencil, 0, rings);
     let b = net::lanes::lane_sides(stencil, 1, rings);
     let d = net::lanes::lane_sides(stencil, 2, rings);
     let x = axis_misses(a, 0, face, here, linked, next);
     let y = axis_misses(b, 1, face, here, linked, next);
     let z = axis_misses(d, 2, face, here, linked, next);
-    crate::four::larger_of(crate::four::larger_of(x, y), z)
+    pages::four::larger_of(pages::four::larger_of(x, y), z)
 }
 
 // The same on one axis, from the sides there.
@@ -153,7 +158,7 @@ fn axis_misses(
     let own1 = row(face, here, axis, 40, 36, 32, 28);
     let other1 = row(face, next, axis, 40, 39, 38, 37);
     let across_next = crate::misses::side_misses(side1, outer1, own1, other1);
-    crate::four::larger_of(across_link, across_next)
+    pages::four::larger_of(across_link, across_next)
 }
 
 // Four points of a corner's numbers, from `at` on, on an axis.

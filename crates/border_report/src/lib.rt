@@ -1,12 +1,9 @@
 // L14, the yearly border report: a call takes a page with one file and returns the next page. The file is checked as behind `inspect`, in local copies of
 // its lists; of an accepted mesh the misses are taken over a table of its corners and one of its refined points.
 pub mod border_misses;
-pub mod four;
 pub mod mesh_misses;
 pub mod misses;
 pub mod page_laws;
-pub mod page_numbers;
-pub mod pages;
 
 use mesh::SMALL_MESH;
 use mesh::least;
@@ -25,17 +22,18 @@ ghost use lib.ListN.{length};
 ghost use Rattle.paper.specs.Mesh.{meshOf, mostCorners};
 ghost use Rattle.paper.specs.Faults.{sound, verdict};
 ghost use Rattle.paper.specs.File.{fileMesh, fileVerdict};
-ghost use Rattle.paper.specs.Report.{added, pageVerdict, offered, ReportedTo, MergedTo};
+ghost use Rattle.paper.specs.Report.{added, pageVerdict, offered, ReportedTo};
 ghost use Rattle.surface.specs.Points.{pointRow};
 ghost use Rattle.refine.specs.sums.Sources.{SmallPoints};
 ghost use Rattle.dms.specs.header.ListsWithin.{ListsWithin};
+ghost use Rattle.dms.specs.lists.Room.{Room};
 ghost use Rattle.checks.specs.Checked.{RowsFor};
 
 // The page after one file more, from the bytes read and the length counted, or the page as it was.
 pub fn report(bytes: &[u8], counted: usize, page: Page) -> Reported
     ensures { λ r. ⌜ ReportedTo page (offered (now (bytes .entry)) counted) r ⌝ }
 {
-    let a = crate::pages::check(page);
+    let a = pages::check(page);
     if let Answer::Refused(k, p) = a {
         return Reported {
             answer: Answer::Refused(k, p),
@@ -50,13 +48,6 @@ pub fn report(bytes: &[u8], counted: usize, page: Page) -> Reported
     }
 }
 
-// Two pages as one.
-pub fn merge(page: Page, other: Page) -> Reported
-    ensures { λ r. ⌜ MergedTo page other r ⌝ }
-{
-    crate::pages::merge(page, other)
-}
-
 // The page after the file itself: its header is checked first.
 fn with_file(file: &[u8], counted: usize, page: Page) -> Page
     requires { ⌜ pageVerdict page ≡ sound ⌝ }
@@ -64,27 +55,61 @@ fn with_file(file: &[u8], counted: usize, page: Page) -> Page
 {
     let header = dms::header::check_header(file, counted);
     if let Answer::Refused(number, place) = header {
-        return crate::pages::refuse(page, number);
+        return pages::refuse(page, number);
     }
     with_lists(file, page)
 }
 
-// The same of a file whose header passes, with copies of its lists.
+// The same of a file whose header passes, with copies of its lists. They are short where the file has few vertices, faces and corners in all.
 fn with_lists(file: &[u8], page: Page) -> Page
     requires { ⌜ ListsWithin (now file) × (pageVerdict page ≡ sound) ⌝ }
     ensures { λ r. ⌜ r ≡ added page (fileMesh (now (file .entry))) (verdict (fileMesh (now (file .entry)))) ⌝ }
 {
+    let vertices = dms::header::vertex_count(file);
+    let faces = dms::header::face_count(file);
+    let count = dms::header::corner_count(file);
+    if mesh::table_rows(vertices + faces + count) == SMALL_MESH {
+        let mut coordinates = [0i32; 3 * SMALL_MESH];
+        let mut sides = [0u8; SMALL_MESH];
+        let mut corners = [0u16; SMALL_MESH];
+        let mut sharpness = [0u8; 2 * SMALL_MESH];
+        return with_copies(
+            file,
+            page,
+            &mut coordinates,
+            &mut sides,
+            &mut corners,
+            &mut sharpness,
+        );
+    }
     let mut coordinates = [0i32; MOST_NUMBERS];
     let mut sides = [0u8; MOST_FACES];
     let mut corners = [0u16; MOST_CORNERS];
     let mut sharpness = [0u8; MOST_PAIRS];
-    dms::lists::read_lists(
+    with_copies(
         file,
+        page,
         &mut coordinates,
         &mut sides,
         &mut corners,
         &mut sharpness,
-    );
+    )
+}
+
+// The same over lent spaces, into which the lists are read.
+fn with_copies(
+    file: &[u8],
+    page: Page,
+    coordinates: &mut [i32],
+    sides: &mut [u8],
+    corners: &mut [u16],
+    sharpness: &mut [u8],
+) -> Page
+    requires file { ⌜ ListsWithin (now file) × (pageVerdict page ≡ sound) ⌝ }
+    requires room { ⌜ Room (now file) (length (now coordinates)) (length (now sides)) (length (now corners)) (length (now sharpness)) ⌝ }
+    ensures { λ r. ⌜ r ≡ added page (fileMesh (now (file .entry))) (verdict (fileMesh (now (file .entry)))) ⌝ }
+{
+    dms::lists::read_lists(file, coordinates, sides, corners, sharpness);
     let numbers = 3 * dms::header::vertex_count(file);
     let faces = dms::header::face_count(file);
     let count = dms::header::corner_count(file);
@@ -151,7 +176,7 @@ fn over(
 {
     let a = checks::check_within(coordinates, sides, corners, sharpness, table);
     if let Answer::Refused(number, place) = a {
-        return crate::pages::refuse(page, number);
+        return pages::refuse(page, number);
     }
     let largest = crate::mesh_misses::largest(
         coordinates,
@@ -161,5 +186,5 @@ fn over(
         table,
         points,
     );
-    crate::pages::accept(page, corners.len(), largest)
+    pages::accept(page, corners.len(), largest)
 }

@@ -520,14 +520,14 @@ pub extern "C" fn mahunopi_report(
 ) -> u32
     ensures { λ r. ⌜ ReportCall (offered (now (bytes .entry)) length) (now (page .entry)) (now (place .entry)) r (now (place .exit)) (now (page .exit)) ⌝ }
 {
-    let before = border_report::page_numbers::read(page);
+    let before = pages::page_numbers::read(page);
     let reported = border_report::report(bytes, length as usize, before);
     let a = reported.answer;
     if let Answer::Refused(number, at) = a {
         return tell(Answer::Refused(number, at), place);
     }
     let after = reported.page;
-    *page = border_report::page_numbers::numbers(after);
+    *page = pages::page_numbers::numbers(after);
     0
 }
 
@@ -536,15 +536,15 @@ pub extern "C" fn mahunopi_report(
 pub extern "C" fn mahunopi_merge(other: &[u64; 21], page: &mut [u64; 21], place: &mut u64) -> u32
     ensures { λ r. ⌜ MergeCall (now (other .entry)) (now (page .entry)) (now (place .entry)) r (now (place .exit)) (now (page .exit)) ⌝ }
 {
-    let before = border_report::page_numbers::read(page);
-    let more = border_report::page_numbers::read(other);
-    let reported = border_report::merge(before, more);
+    let before = pages::page_numbers::read(page);
+    let more = pages::page_numbers::read(other);
+    let reported = pages::merge(before, more);
     let a = reported.answer;
     if let Answer::Refused(number, at) = a {
         return tell(Answer::Refused(number, at), place);
     }
     let after = reported.page;
-    *page = border_report::page_numbers::numbers(after);
+    *page = pages::page_numbers::numbers(after);
     0
 }
 

@@ -132,7 +132,7 @@ pub struct Page {
     pub misses: [u64; CONDITIONS],
 }
 
-// What `border_report::report` and `border_report::merge` answer: done or refused, and the next page, or the page as it was.
+// What `border_report::report` and `pages::merge` answer: done or refused, and the next page, or the page as it was.
 pub struct Reported {
     pub answer: Answer,
     pub page: Page,

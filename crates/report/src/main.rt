@@ -1,11 +1,11 @@
 // The border report over a run of mesh files, whose names are the arguments, or with none the lines of standard input: the page in words on standard
 // output, and last the line `page` with its numbers. `report merge` makes one page of all such lines on standard input. A file that cannot be opened or
 // read is named on standard error and not counted. A refusal goes there too, and leaves standard output empty.
-use border_report::page_numbers::NUMBERS_ON_PAGE;
 use libc::STDERR_FILENO;
 use libc::STDIN_FILENO;
 use line_input::next_line;
 use page_text::begins;
+use pages::page_numbers::NUMBERS_ON_PAGE;
 use paper::Answer;
 use paper::Reported;
 use print::complain_refusal;
@@ -112,7 +112,7 @@ fn offer_open(fd: i32, name: &[u8], numbers: &mut [u64; NUMBERS_ON_PAGE]) -> boo
 
 // Offers the bytes of a file to the page.
 fn offer(bytes: &[u8], counted: usize, numbers: &mut [u64; NUMBERS_ON_PAGE]) -> bool {
-    let page = border_report::page_numbers::read(numbers);
+    let page = pages::page_numbers::read(numbers);
     let reported = border_report::report(bytes, counted, page);
     take_page(reported, numbers)
 }
@@ -125,7 +125,7 @@ fn take_page(reported: Reported, numbers: &mut [u64; NUMBERS_ON_PAGE]) -> bool {
         return false;
     }
     let page = reported.page;
-    *numbers = border_report::page_numbers::numbers(page);
+    *numbers = pages::page_numbers::numbers(page);
     true
 }
 
@@ -200,9 +200,9 @@ fn merge_line(line: &[u8], i: u64, numbers: &mut [u64; NUMBERS_ON_PAGE]) -> bool
 
 // Merges a page.
 fn merge(others: &[u64; NUMBERS_ON_PAGE], numbers: &mut [u64; NUMBERS_ON_PAGE]) -> bool {
-    let page = border_report::page_numbers::read(numbers);
-    let other = border_report::page_numbers::read(others);
-    let reported = border_report::merge(page, other);
+    let page = pages::page_numbers::read(numbers);
+    let other = pages::page_numbers::read(others);
+    let reported = pages::merge(page, other);
     take_page(reported, numbers)
 }
 

@@ -20,7 +20,8 @@ use Rattle.dms.proofs.lists.Lists.{file-corners, file-sharpness}
 use Rattle.paper.specs.declared.Page.{Page}
 use Rattle.paper.specs.Report.{pageWith, lineNumbers, lines, added, meshIn, zeroPage, run, AtLine, oneMore}
 use Rattle.paper.specs.Claims.{RefusedAdds}
-use Rattle.border_report.proofs.page_laws.Runs.{values-of, zero-within, after-file}
+use Rattle.pages.proofs.Lists.{values-of}
+use Rattle.border_report.proofs.page_laws.Runs.{zero-within, after-file}
 
 -- ---- the numbers of the checks
 pub record HasLine (number : ℕ) : Type 0 where

@@ -9,7 +9,6 @@ use native.Mathlib.Omega.{arith}
 use borrow.Author.Tests.{le-ltb, lt-leb}
 use lib.Dec.{eqb}
 use lib.ListN.{length, getD, replicate, length-append}
-use lib.Seq.{ext-getD}
 use Rattle.paper.specs.Scan.{pickN, valuesFrom}
 use Rattle.paper.specs.Mesh.{Mesh, cornerCount, mostCorners}
 use Rattle.paper.specs.Cosines.{unit}
@@ -18,7 +17,7 @@ use Rattle.paper.specs.Borders.{mostMiss}
 use Rattle.paper.specs.File.{fileVerdict}
 use Rattle.paper.specs.declared.Answer.{Answer}
 use Rattle.paper.specs.declared.Answer.the-variants.{Done, Refused}
-use Rattle.mesh.proofs.Links.{values-length, values-at}
+use Rattle.mesh.proofs.Links.{values-length}
 use Rattle.mesh.proofs.Verdicts.{orElse-sound, single-miss, sound-right, unsound}
 use Rattle.dms.proofs.surveying.Surveys.{limits}
 use Rattle.paper.specs.declared.Page.{Page}
@@ -26,23 +25,10 @@ use Rattle.paper.specs.Report.{pageWith, lineNumbers, lines, conditions, zeroPa
 use Rattle.paper.specs.Report.{someAbove, fault38, pageVerdict, Offered, meshIn, verdictIn, pageAfter, run, ifAccepted, total, largest, isUnder}
 use Rattle.paper.specs.Report.{refusedUnder, pageOf, Reordered, same, swapped, then, merged, mergeVerdict}
 use Rattle.paper.specs.Claims.{RunsPass, RunsSum, MissesWithin, OrderFree, PartsMerge}
-use Rattle.border_report.proofs.pages.Lists.{page-same}
+use Rattle.pages.proofs.Lists.{value-at, values-equal, values-of, page-same}
 use Rattle.border_report.proofs.page_laws.Once.{largest-miss-within}
 
--- ---- values in a row
-pub value-at : (f : ℕ → ℕ) (n i : ℕ) → i < n → getD (valuesFrom f 0 n) i 0 ≡ f i
-value-at f n i h = values-at f 0 0 n i h ∙ ap f (let q : 0 + i ≡ i = omega arith in q)
-
-pub values-equal : (f g : ℕ → ℕ) (n : ℕ) → ((i : ℕ) → i < n → f i ≡ g i) → valuesFrom f 0 n ≡ valuesFrom g 0 n
-values-equal f g n h =
-    ext-getD 0 (valuesFrom f 0 n) (valuesFrom g 0 n) (values-length f 0 n ∙ sym (values-length g 0 n))
-    (λ i l. let b : i < n = omega (arith, values-length f 0 n) in value-at f n i b ∙ h i b ∙ sym (value-at g n i b))
-
-pub values-of : (f : ℕ → ℕ) (l : List ℕ) (n : ℕ) → length l ≡ n → ((i : ℕ) → i < n → f i ≡ getD l i 0) → valuesFrom f 0 n ≡ l
-values-of f l n e h =
-    ext-getD 0 (valuesFrom f 0 n) l (values-length f 0 n ∙ sym e)
-    (λ i b. let k : i < n = omega (arith, values-length f 0 n) in value-at f n i k ∙ h i k)
-
+-- ---- zeros
 zeros : (n i : ℕ) → _≡_ {A = ℕ} (getD (replicate n 0) i 0) 0
 zeros zero i = refl
 zeros (suc n) zero = refl

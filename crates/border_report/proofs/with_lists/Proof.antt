@@ -1,31 +1,24 @@
--- `border_report::with_lists` meets its contract: the lists that were read are those of the file's mesh, so what is added of them is added of it.
-use mathlib.Core.Path.{ap, _∙_}
+-- `border_report::with_lists` meets its contract: the short copies have room for the lists where these have few entries in all, and the long ones for
+-- those of every file whose header passes.
+use native.Mathlib.Omega.{arith}
 use borrow.Author.Needs.{needs}
-use Rattle.paper.specs.Mesh.{Mesh}
-use Rattle.paper.specs.Faults.{verdict}
-use Rattle.paper.specs.Report.{added}
-use Rattle.dms.proofs.Files.{mesh-read, coordinates-long, sides-long, corners-long, sharpness-long}
+use Rattle.border_report.proofs.Laws.{few-rows}
 use Rattle.border_report.proofs.with_lists.Tie as tie
 
-returns : tie.Need-returns
-returns c =
+with-copies-requires : tie.Need-with-copies-requires
+with-copies-requires c κs =
     let s : tie.Start = search in
-    let k : tie.After-read-lists = search in
-    let n : tie.After-vertex-count = search in
-    let f : tie.After-face-count = search in
-    let m : tie.After-corner-count = search in
-    let read = mesh-read _ _ _ (k .read-lists .ensures) _ _ _ (n .vertex-count .ensures .0) (f .face-count .ensures .0) (m .corner-count .ensures .0) in
-    c .with-mesh .ensures ∙ ap (λ (M : Mesh). added (s .args .page) M (verdict M)) read
+    let r : tie.After-table-rows = search in
+    let few = few-rows _ _ (r .table-rows .ensures) (omega arith) in
+    (s .pre, record { coordinates-fit = omega arith; sides-fit = omega arith; corners-fit = omega arith; sharpness-fit = omega arith })
+
+with-copies-requires-2 : tie.Need-with-copies-requires-2
+with-copies-requires-2 c κs =
+    let s : tie.Start = search in
+    (s .pre, record { coordinates-fit = omega arith; sides-fit = omega arith; corners-fit = omega arith; sharpness-fit = omega arith })
 
 pub with-lists-spec : {M : Type 1} → Rattle.border_report.proofs.with_lists.Statement.statement M
 with-lists-spec =
-    tie.close (tie.spec (λ c. search needs) (λ c. search needs) (λ c. search needs) (λ c. search needs) (λ c κs. search needs) (λ c κs. search needs)
-    (λ c. search needs) (λ c κs. search needs) (λ c κs. search needs) (λ c. search needs)
-    (λ c. let k : tie.After-read-lists = search in let n : tie.After-vertex-count = search in coordinates-long _ _ _ (k .read-lists .ensures) _ (n .vertex-count .ensures .0))
-    (λ c. search needs)
-    (λ c. let k : tie.After-read-lists = search in let n : tie.After-face-count = search in sides-long _ _ _ (k .read-lists .ensures) _ (n .face-count .ensures .0))
-    (λ c. search needs)
-    (λ c. let k : tie.After-read-lists = search in let n : tie.After-corner-count = search in corners-long _ _ _ (k .read-lists .ensures) _ (n .corner-count .ensures .0))
-    (λ c. search needs) (λ c. search needs)
-    (λ c. let k : tie.After-read-lists = search in let n : tie.After-corner-count = search in sharpness-long _ _ _ (k .read-lists .ensures) _ (n .corner-count .ensures .0))
-    (λ c κs. search needs) returns)
+    tie.close (tie.spec (λ c κs. search needs) (λ c κs. search needs) (λ c κs. search needs) (λ c. search needs) (λ c. search needs) (λ c κs. search needs)
+    (λ c. search needs) (λ c. search needs) (λ c. search needs) (λ c. search needs) with-copies-requires (λ c. search needs) (λ c. search needs)
+    (λ c. search needs) (λ c. search needs) (λ c. search needs) with-copies-requires-2 (λ c. search needs))

@@ -1,10 +1,10 @@
--- `mahunopi::mahunopi_merge` meets its contract: it tells what `border_report::merge` answers, and leaves the numbers of the two pages as one.
+-- `mahunopi::mahunopi_merge` meets its contract: it tells what `pages::merge` answers, and leaves the numbers of the two pages as one.
 use mathlib.Core.Path.{subst}
 use denote.Ref.{now}
 use Rattle.paper.specs.Report.{MergedTo}
 use Rattle.paper.specs.CFace.{pageIn}
 use Rattle.paper.specs.declared.Page.{Page}
-use Rattle.border_report.proofs.page_numbers.Calls.{merge-refused, merge-done}
+use Rattle.pages.proofs.page_numbers.Calls.{merge-refused, merge-done}
 use borrow.Author.Needs.{needs}
 use Rattle.mahunopi.proofs.mahunopi_merge.Tie as tie
 

@@ -3,7 +3,7 @@ use mathlib.Core.Path.{subst}
 use denote.Ref.{now}
 use Rattle.paper.specs.Report.{offered, ReportedTo}
 use Rattle.paper.specs.declared.Page.{Page}
-use Rattle.border_report.proofs.page_numbers.Calls.{report-refused, report-done}
+use Rattle.pages.proofs.page_numbers.Calls.{report-refused, report-done}
 use borrow.Author.Needs.{needs}
 use Rattle.mahunopi.proofs.mahunopi_report.Tie as tie
 

@@ -1,11 +1,13 @@
--- `border_report::border_misses::face_misses` meets its contract: so far the largest over the corners before the face and over its first j. The next corner's
--- numbers stand after the corner's own, or at the beginning.
+-- `border_report::border_misses::face_misses` meets its contract: so far the largest over the corners before the face and over its first j, and the rows of
+-- the face's ring are as they were taken. The next corner's numbers stand after the corner's own, or at the beginning.
 use mathlib.Core.Path.{_≡_, refl, sym, ap, _∙_, subst}
 use mathlib.Core.Logic.{⊎-elim}
+use mathlib.Core.List.{List}
 use Prim.Native.Nat.{ℕ, _+_, _-_, _*_, _<_, _≤_}
 use native.Mathlib.Omega.{arith}
 use borrow.Author.Needs.{needs}
 use lib.ListN.{length}
+use lib.IntN.{ℤ}
 use denote.Ref.{now}
 use Rattle.paper.specs.Mesh.{mostSides}
 use Rattle.paper.specs.Numbers.{rounded}
@@ -14,14 +16,16 @@ use Rattle.paper.specs.Calls.{perCorner}
 use Rattle.paper.specs.Report.{conditions, largestBelow}
 use Rattle.walk.specs.Table.{toNext, entry}
 use Rattle.net.specs.sides.Drawn.{drawn}
-use Rattle.border_report.specs.four.Four.{inMisses}
+use Rattle.net.specs.stencil.Taken.{Run, FaceTaken}
+use Rattle.net.proofs.CornerRuns.{face-held, face-kept}
+use Rattle.pages.specs.four.Four.{inMisses}
 use Rattle.border_report.specs.border_misses.Held.{NetHeldAll, cornerMiss}
 use Rattle.border_report.proofs.border_misses.Laws.{held-of, held-one, one-more}
 use Rattle.border_report.proofs.border_misses.face_misses.Tie as tie
 
 abbrev Inv-loop : tie.InvT-loop
 Inv-loop points table rows n start k face linked₀ stencil₀ most₀ j₀ linked stencil most j =
-    (j ≤ k) × (length linked ≡ perCorner) × (length stencil ≡ 128)
+    (j ≤ k) × (length linked ≡ perCorner) × ((length stencil ≡ 128) × FaceTaken (drawn n table points) start (k + 1) stencil stencil)
     × ((i : ℕ) → i < conditions → inMisses most i ≡ largestBelow (start + j) (cornerMiss (drawn n table points) i))
 
 abbrev μ-loop : tie.MeasureT-loop
@@ -30,12 +34,18 @@ abbrev μ-loop : tie.MeasureT-loop
 none-more : (n : ℕ) → n ≡ n + 0
 none-more n = omega arith
 
+take-face-requires : tie.Need-take-face-requires Inv-loop μ-loop
+take-face-requires c κs =
+    let s : tie.Start Inv-loop μ-loop = search in
+    let w = s .pre .1 .0 in ((s .pre .0 .0, omega (arith, w .some, w .within), s .pre .0 .2), (refl, w .run .short))
+
 loop-holds : tie.Need-loop-holds Inv-loop μ-loop
 loop-holds c =
-    let s = c .before in (
+    let s : tie.Start Inv-loop μ-loop = search in
+    let t : tie.After-take-face Inv-loop μ-loop = search in (
       search needs,
       refl,
-      refl,
+      (t .take-face .ensures .same, face-held _ _ _ _ _ (t .take-face .ensures)),
       λ i few. s .pre .1 .1 .1 i few
           ∙ ap (λ (d : ℕ). largestBelow d (cornerMiss (drawn (s .args .n) (now (s .args .table)) (now (s .args .points))) i)) (none-more (s .args .start)),
     )
@@ -43,7 +53,7 @@ loop-holds c =
 -- corner j of the face
 module _ (l : tie.In-loop Inv-loop μ-loop) where
   abbrev begin : tie.Start Inv-loop μ-loop
-  begin = l .before .before .before
+  begin = search
 
   abbrev mesh : ℕ → RefinedMesh rounded
   mesh = drawn (begin .args .n) (now (begin .args .table)) (now (begin .args .points))
@@ -56,6 +66,15 @@ module _ (l : tie.In-loop Inv-loop μ-loop) where
 
   few : l .before .loop .j < mostSides
   few = omega (arith, l .loop-test .taken, begin .pre .1 .0 .run .short)
+
+  -- the face up to it
+  run-here : Run (now (begin .args .table)) (begin .args .start) (l .before .loop .j + 1)
+  run-here = record { short = omega (arith, few); along = λ r h. begin .pre .1 .0 .run .along r (omega (arith, l .loop-test .taken)) }
+
+  ring-here : (stencil : List ℤ) → FaceTaken mesh (begin .args .start) (begin .args .k + 1) stencil stencil
+      → FaceTaken mesh (begin .args .start) (l .before .loop .j + 2) stencil stencil
+  ring-here stencil f =
+      record { same = refl; centre = f .centre; toward = λ r h. f .toward r (omega (arith, l .loop-test .taken)); fourth = λ i. refl }
 
   held : (q : ℕ) → q < begin .args .k → NetHeldAll mesh (begin .args .start + q) (now (begin .args .face)) (perCorner * q)
   held = held-of _ _ _ (begin .pre .0 .0) _ _ (begin .pre .1 .0 .within) _ (begin .pre .1 .1 .0 .0) (begin .pre .1 .1 .0 .1)
@@ -106,14 +125,17 @@ corner-misses-requires c κs =
     let l = a .before in
     let p = begin l .pre .0 in
     let q = next-place f in (
-      (p .0, corner-in l, p .2, l .before .loop .inv .2),
+      (p .0, corner-in l, p .2),
       (
-        held l _ (l .loop-test .taken),
+        (run-here l, l .before .loop .inv .2 .0, ring-here l _ (l .before .loop .inv .2 .1)),
         (
-          subst (λ (d : ℕ). NetHeldAll (mesh l) d (w .write-corners .last .1 .1 .1 .1 .1 .1 .0) 0) (a .linked .ensures .read)
-              (held-one _ _ _ (p .0) _ (link-in a) _ (omega (arith, l .before .loop .inv .1, w .write-corners .kept .1 .1 .1 .1 .1 .1 .0))
-              (w .write-corners .ensures)),
-          subst (λ (d : ℕ). NetHeldAll (mesh l) d (now (begin l .args .face)) (perCorner * f .if1 .q)) (sym (q .1)) (held l _ (q .0)),
+          held l _ (l .loop-test .taken),
+          (
+            subst (λ (d : ℕ). NetHeldAll (mesh l) d (w .write-corners .last .1 .1 .1 .1 .1 .1 .0) 0) (a .linked .ensures .read)
+                (held-one _ _ _ (p .0) _ (link-in a) _ (omega (arith, l .before .loop .inv .1, w .write-corners .kept .1 .1 .1 .1 .1 .1 .0))
+                (w .write-corners .ensures)),
+            subst (λ (d : ℕ). NetHeldAll (mesh l) d (now (begin l .args .face)) (perCorner * f .if1 .q)) (sym (q .1)) (held l _ (q .0)),
+          ),
         ),
       ),
     )
@@ -126,8 +148,11 @@ loop-again c =
     let i = l .before .loop .inv in (
       omega (arith, l .loop-test .taken),
       w .write-corners .kept .1 .1 .1 .1 .1 .1 .0 ∙ i .1,
-      m .corner-misses .kept .1 .1 .1 .1 .1 .1 .1 .1 .1 .0 ∙ i .2,
-      λ h few. one-more _ h _ _ _ _ (c .larger-of .ensures h) (i .3 h few) (m .corner-misses .ensures h few)
+      (
+        m .corner-misses .kept .1 .1 .1 .1 .1 .1 .1 .1 .1 .0 ∙ i .2 .0,
+        face-kept _ _ _ _ _ (m .corner-misses .ensures .1) (i .2 .1),
+      ),
+      λ h few. one-more _ h _ _ _ _ (c .larger-of .ensures h) (i .3 h few) (m .corner-misses .ensures .0 h few)
           ∙ ap (λ (d : ℕ). largestBelow d (cornerMiss (mesh l) h)) (let e : corner l + 1 ≡ begin l .args .start + (l .before .loop .j + 1) = omega arith in e),
     )
 
@@ -141,12 +166,11 @@ returns c i few =
 
 pub face-misses-spec : {M : Type 1} → Rattle.border_report.proofs.border_misses.face_misses.Statement.statement M
 face-misses-spec =
-    tie.close (tie.spec Inv-loop μ-loop loop-holds (λ c. search (needs, corner-in c)) linked-requires
+    tie.close (tie.spec Inv-loop μ-loop (λ c. search needs) take-face-requires loop-holds (λ c. search (needs, corner-in c)) linked-requires
     (λ c. let l : tie.In-loop Inv-loop μ-loop = search in sym (l .before .loop .inv .1)) write-corners-requires
-    (λ c. let l : tie.In-loop Inv-loop μ-loop = search in search (needs, few l))
-    (λ c. let l : tie.In-loop Inv-loop μ-loop = search in search (needs, few l)) (λ c. search (needs, few (turn c)))
-    (λ c. search (needs, few-next (c .before)))
+    (λ c. let l : tie.In-loop Inv-loop μ-loop = search in search (needs, few l)) (λ c. let l : tie.In-loop Inv-loop μ-loop = search in search (needs, few l))
+    (λ c. let f : tie.Joined1 Inv-loop μ-loop = search in search (needs, few-next f))
     (λ c. let w : tie.After-write-corners Inv-loop μ-loop = search in let l : tie.In-loop Inv-loop μ-loop = search in sym (w .write-corners .kept .1 .1 .1 .1 .1 .1 .0 ∙ l .before .loop .inv .1))
-    (λ c. let l : tie.In-loop Inv-loop μ-loop = search in sym (l .before .loop .inv .2)) corner-misses-requires (λ c κs. search needs)
+    (λ c. let l : tie.In-loop Inv-loop μ-loop = search in sym (l .before .loop .inv .2 .0)) corner-misses-requires (λ c κs. search needs)
     (λ c. let l : tie.In-loop Inv-loop μ-loop = search in search (needs, few l))
     (λ c. let l : tie.In-loop Inv-loop μ-loop = search in omega (arith, l .loop-test .taken)) loop-again returns)

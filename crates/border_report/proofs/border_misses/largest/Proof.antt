@@ -10,7 +10,7 @@ use Rattle.paper.specs.Report.{conditions, largestBelow}
 use Rattle.mesh.proofs.Faces.{first-from}
 use Rattle.net.specs.sides.Drawn.{drawn}
 use Rattle.building.specs.writing.Written.{Faced}
-use Rattle.border_report.specs.four.Four.{inMisses}
+use Rattle.pages.specs.four.Four.{inMisses}
 use Rattle.border_report.specs.border_misses.Held.{WholeFace, cornerMiss}
 use Rattle.border_report.proofs.border_misses.Laws.{whole-face, next-first, none-so-far}
 use Rattle.border_report.proofs.border_misses.largest.Tie as tie

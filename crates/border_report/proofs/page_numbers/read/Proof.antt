@@ -1,9 +1,0 @@
--- `border_report::page_numbers::read` meets its contract, number by number.
-use Rattle.border_report.proofs.pages.Lists.{page-same}
-use borrow.Author.Needs.{needs}
-use Rattle.border_report.proofs.page_numbers.read.Tie as tie
-
-pub read-spec : {M : Type 1} → Rattle.border_report.proofs.page_numbers.read.Statement.statement M
-read-spec =
-    tie.close (tie.spec (λ c κs. search needs) (λ c κs. search needs) (λ c. search needs) (λ c. search needs) (λ c. search needs)
-    (λ c. search (needs, page-same)))
