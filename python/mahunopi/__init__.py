@@ -29,15 +29,17 @@ Calls share no state, release the interpreter's lock and may run at the same tim
 bytes of its thread's stack; a stack that is too small ends the program (`threading.stack_size` sets that of new threads).
 """
 
-from typing import TYPE_CHECKING, Any, List
+from __future__ import annotations
 
 try:
     from ._header import __version__
 except ModuleNotFoundError as _error:
     raise ImportError("the package is not complete: run `rt staticlib mahunopi`, then python/make-library") from _error
-from .library import Refused
+from .library import TYPE_CHECKING, Refused
 
 if TYPE_CHECKING:
+    from typing import Any, List
+
     from .calls import (
         CALL_STACK,
         MAX_BODIES,

@@ -12,4 +12,5 @@ from mahunopi.command import SIGNALS, main  # noqa: E402
 status = main()
 # what comes now is too late to end anything
 signal.pthread_sigmask(signal.SIG_BLOCK, SIGNALS)
-sys.exit(status)
+# all is written, and to take the interpreter apart takes as long as a hundred files of a report
+os._exit(status)

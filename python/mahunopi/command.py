@@ -12,14 +12,14 @@ import re
 import signal
 import stat
 import sys
-from typing import TYPE_CHECKING, Any, Callable, Iterable, Iterator, List, NoReturn, Optional, Tuple, Union
 
 # what only one of the commands needs, numpy above all, is imported there: a report starts in half the time
 from ._header import LIMITS, __version__
-from .library import DEFAULT_LARGEST, LARGEST_COORDINATE, MOST_SPACING, Refused, Unreadable
+from .library import DEFAULT_LARGEST, LARGEST_COORDINATE, MOST_SPACING, TYPE_CHECKING, Refused, Unreadable
 
 if TYPE_CHECKING:
     from fractions import Fraction
+    from typing import Any, Callable, Iterable, Iterator, List, NoReturn, Optional, Tuple, Union
 
     from .calls import Mesh
     from .importing import Imported
@@ -41,8 +41,13 @@ class Parser(argparse.ArgumentParser):
     """Says what is wrong in one line, and takes -1e-05 for a number."""
 
     def __init__(self, *words: Any, **named: Any) -> None:
-        super().__init__(*words, **named)
+        # argparse makes a formatter for each argument that is added, and to ask how wide the terminal is takes as long as a hundred files
+        super().__init__(*words, formatter_class=lambda prog: argparse.RawDescriptionHelpFormatter(prog, width=80), **named)
         self._negative_number_matcher = re.compile(r"-(\d+\.?\d*|\.\d+)([eE][-+]?\d+)?$")
+
+    def format_help(self) -> str:
+        self.formatter_class = argparse.RawDescriptionHelpFormatter
+        return super().format_help()
 
     def error(self, message: str) -> NoReturn:
         self.exit(FAILED, f"{self.prog}: {message} ({self.prog} --help says more)\n")
@@ -58,14 +63,12 @@ class Parser(argparse.ArgumentParser):
 def parser() -> Parser:
     def command(name: str, does: str, example: str, count: Union[str, int] = "+",
                 what: str = "a file, or - for standard input") -> argparse.ArgumentParser:
-        made = commands.add_parser(name, help=does, description=does[0].upper() + does[1:] + ".", epilog="example:\n  " + example,
-                                   formatter_class=argparse.RawDescriptionHelpFormatter)
+        made = commands.add_parser(name, help=does, description=does[0].upper() + does[1:] + ".", epilog="example:\n  " + example)
         made.add_argument("files", nargs=count, metavar="FILE", help=what)
         made.set_defaults(run_all=_run_each)
         return made
 
-    whole = Parser(prog="mahunopi", description=DESCRIPTION, formatter_class=argparse.RawDescriptionHelpFormatter,
-                   epilog="example:\n  mahunopi import hull.obj -o hull.dms && mahunopi info hull.dms")
+    whole = Parser(prog="mahunopi", description=DESCRIPTION, epilog="example:\n  mahunopi import hull.obj -o hull.dms && mahunopi info hull.dms")
     whole.add_argument("--version", action="version", version=f"mahunopi {__version__}")
     commands = whole.add_subparsers(dest="command", metavar="COMMAND", required=True, parser_class=Parser)
 
@@ -160,6 +163,7 @@ def _spacing(word: str) -> int:
 
 
 def _format(word: str) -> str:
+    _find_packages()
     from .writing import WRITERS
 
     if _ending(word) not in WRITERS:
@@ -199,6 +203,7 @@ def main(arguments: Optional[List[str]] = None) -> int:
         with _held_back():
             asked = parser().parse_args(arguments)
             if asked.command != "report":
+                _find_packages()
                 from . import importing, surface  # noqa: F401
         if asked.files.count("-") > 1:
             _wrong(asked, "standard input can be read once only")
@@ -207,6 +212,14 @@ def main(arguments: Optional[List[str]] = None) -> int:
         return _quiet(INTERRUPTED)
     except BrokenPipeError:
         return _quiet(BROKEN_PIPE)
+
+
+def _find_packages() -> None:
+    """Has imports find installed packages where Python was started without them (-S), as ./mahunopi does: a report needs none."""
+    if "site" not in sys.modules:
+        import site
+
+        site.main()
 
 
 def _end(number: int, frame: object) -> NoReturn:
@@ -261,6 +274,7 @@ def _progress(files: List[str]) -> Iterator[str]:
 def _start_bar(count: int) -> None:
     global _bar
     if count > 1 and sys.stderr is not None and sys.stderr.isatty():
+        _find_packages()
         from tqdm import tqdm
 
         tqdm.monitor_interval = 0  # no thread: a report starts processes

@@ -5,9 +5,13 @@ from __future__ import annotations
 
 import ctypes
 import os
-from typing import Dict, List, Optional, Tuple
 
 from ._header import CALLS, REFUSALS
+
+TYPE_CHECKING = False
+"""What only checkers of types import is under this name, which they take for true. That of `typing` would be imported at every start."""
+if TYPE_CHECKING:
+    from typing import Dict, List, Optional, Tuple
 
 TICKS = 256
 """The ticks of a grid step."""
