@@ -37,6 +37,10 @@ Coarse closed meshes and their smooth surfaces. FILE is a name, or - for standar
 The status is 0 when all is done, 1 when a mesh is refused, 2 for wrong usage and for files that cannot be read or written."""
 
 
+# argparse looks for a translation of each of its words, which nobody has made: that takes as long as a hundred files of a report
+argparse._ = str  # type: ignore[attr-defined]
+
+
 class Parser(argparse.ArgumentParser):
     """Says what is wrong in one line, and takes -1e-05 for a number."""
 
