@@ -87,7 +87,8 @@ def parser() -> Parser:
                       help=f"the largest coordinate of the centred model in grid steps, at most {LARGEST_COORDINATE} "
                            f"(default {DEFAULT_LARGEST})")
     size.add_argument("--step", type=_length, metavar="LENGTH", help="the length of a grid step in the model's units")
-    made.add_argument("--as-drawn", action="store_true", help="leave out the last step, which turns all faces where they run counter-clockwise seen from outside")
+    made.add_argument("--as-drawn", action="store_true",
+                      help="leave out the last step, which turns all faces where they run counter-clockwise seen from outside")
     made.add_argument("--sharpness", type=_angle, metavar="DEGREES",
                       help="make a corner crisp where the model bends by more than DEGREES across both of its edges (writes a file of version 2)")
     made.add_argument("--format", metavar="NAME", help="the format, such as obj, where the file's name does not end in it")
@@ -119,7 +120,8 @@ def parser() -> Parser:
 
     viewed = command("view", "make a page that shows the surface of a mesh in a browser, or those of two meshes side by side",
                      "mahunopi view before.dms after.dms -o both.html")
-    viewed.add_argument("-o", dest="output", metavar="PAGE", help="where to write the page; without -o, the mesh's name with .html, in the current folder")
+    viewed.add_argument("-o", dest="output", metavar="PAGE",
+                        help="where to write the page; without -o, the mesh's name with .html, in the current folder")
     viewed.set_defaults(run_all=run_view)
 
     reported = command("report", "report on the borders of any number of .dms files: what they hold, which of them are refused and why, and "
@@ -136,8 +138,8 @@ def parser() -> Parser:
 
     nested = command("nest", "list the bodies of a table of nested grids, each after the one whose grid it hangs in",
                      "mahunopi nest examples/bodies.csv -o wall.svg", 1,
-                     "a CSV table, or - for standard input; its columns are a body, the body whose grid it hangs in or Sun, and its grid's spacing where "
-                     "that is known")
+                     "a CSV table, or - for standard input; its columns are a body, the body whose grid it hangs in or Sun, and the spacing of "
+                     "its own grid where that is known")
     nested.add_argument("-o", dest="drawing", metavar="DRAWING", help="where to write a drawing of the nested grids, an SVG")
     nested.set_defaults(run=run_nest, output=None)
     return whole

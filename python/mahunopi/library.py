@@ -9,7 +9,8 @@ import os
 from ._header import CALLS, REFUSALS
 
 TYPE_CHECKING = False
-"""What only checkers of types import is under this name, which they take for true. That of `typing` would be imported at every start."""
+"""Names that only checkers of types need are imported where this holds, and checkers take it to hold. `typing` has it too, and takes as
+long to import as a hundred files of a report."""
 if TYPE_CHECKING:
     from typing import Dict, List, Optional, Tuple
 
