@@ -2,18 +2,32 @@
  * Mahunopi: smooth patches over a closed mesh, in whole numbers.
  *
  * The functions below are the proved library's C face (libmahunopi.a). A mesh is four lists: coordinates, side counts,
- * corners, and the sharpness of the corners. mahunopi_survey counts what a .dms file holds, mahunopi_decode reads its
- * lists, mahunopi_off reads those of an OFF text, mahunopi_link fills the link table of a mesh, mahunopi_build writes
- * the control points of a range of corners, mahunopi_floats gives one of these points as floats, mahunopi_floats_all
- * all of them, mahunopi_sample and mahunopi_sample_triangle points of the surface, mahunopi_tangents_at the two tangents
- * at such a point. mahunopi_triangles writes the whole surface as one closed mesh of triangles, mahunopi_tangents the
- * tangents at its points, and mahunopi_count_triangles says how long these lists are. mahunopi_irregular says whether a
- * mesh is all squares.
- * mahunopi_preview builds with one vertex moved, mahunopi_touched marks the corners that a vertex can change.
- * mahunopi_turn turns faces that are drawn the wrong way round. mahunopi_nest lists a table of nested grids.
- * mahunopi_archive rearranges a coordinate list for the archive, and mahunopi_restore undoes it. mahunopi_report adds
- * a .dms file to the page of a border report, and mahunopi_merge makes one page of two. Each is complete in itself:
- * none relies on an earlier call.
+ * corners, and the sharpness of the corners.
+ *
+ *   mahunopi_survey            counts what a .dms file holds
+ *   mahunopi_decode            reads the mesh of a .dms file
+ *   mahunopi_off               reads the mesh of an OFF text
+ *   mahunopi_turn              turns faces that are drawn the wrong way round
+ *   mahunopi_irregular         says whether a mesh is all squares
+ *   mahunopi_link              fills the link table of a mesh
+ *   mahunopi_build             writes the control points of a range of corners
+ *   mahunopi_preview           does so with one vertex moved
+ *   mahunopi_touched           marks the corners that a vertex can change
+ *   mahunopi_floats            gives a control point as floats
+ *   mahunopi_floats_all        gives all control points as floats
+ *   mahunopi_sample            gives a point of the surface
+ *   mahunopi_sample_triangle   gives all points of a triangle of the surface
+ *   mahunopi_tangents_at       gives the two tangents at a point of the surface
+ *   mahunopi_count_triangles   says how long the lists of the next two are
+ *   mahunopi_triangles         writes the whole surface as one closed mesh of triangles
+ *   mahunopi_tangents          writes the tangents at the points of that mesh
+ *   mahunopi_report            adds a .dms file to the page of a border report
+ *   mahunopi_merge             makes one page of two
+ *   mahunopi_nest              lists a table of nested grids
+ *   mahunopi_archive           rearranges a coordinate list for the archive
+ *   mahunopi_restore           undoes that
+ *
+ * Each call is complete in itself: none relies on an earlier one.
  *
  * Every function returns MAHUNOPI_DONE, or the number of a refusal (enum mahunopi_refusal). After a refusal *place
  * says where, and everything else that was lent keeps its contents; when done, *place keeps its contents.
@@ -63,13 +77,27 @@ extern "C" {
 #define MAHUNOPI_CALL_STACK 327680
 
 /*
- * What a function answers. A file is checked by 1 to 13, linking by 4 to 14, building by 4 to 17, the search for an
- * irregular face or vertex by 4 to 13, a control point in floats by 18 to 20, a nesting table by 21 to 23, an OFF text
- * by 24 to 26 and then 4 to 13, a preview by 29 and then 4 to 17, the marks of a vertex by 29 and then 4 to 13, lists
- * for the archive by 30 and 31, a model whose faces are to be turned by 36, then 4 to 9, then 34 and 35, a page of the
- * border report by 37 and 38, a call for triangles by 4 to 16 and then 39 and 40. 27 and 28 are tried wherever 4 to 9
- * are, 27 after 4 and 28 after 8: the order is 4, 27, 5, 6, 7, 8, 28, 9 and so on. Each number is tried over the whole
- * input before the next, and the place is the lowest that applies.
+ * What a function answers: MAHUNOPI_DONE or the number of a refusal. Each call tries these, in this order:
+ *
+ *   1 to 13                      mahunopi_survey, mahunopi_decode
+ *   24 to 26, 4 to 13            mahunopi_off
+ *   36, 4 to 9, 34, 35           mahunopi_turn
+ *   4 to 13                      mahunopi_irregular
+ *   4 to 14                      mahunopi_link
+ *   4 to 17                      mahunopi_build
+ *   29, 4 to 17                  mahunopi_preview
+ *   29, 4 to 13                  mahunopi_touched
+ *   18 to 20                     mahunopi_floats
+ *   18, 19                       mahunopi_floats_all
+ *   18, 19, 32, 33               mahunopi_sample, mahunopi_sample_triangle, mahunopi_tangents_at
+ *   4 to 16, 39, 40              mahunopi_count_triangles, mahunopi_triangles, mahunopi_tangents
+ *   37, 38                       mahunopi_report, mahunopi_merge
+ *   21 to 23                     mahunopi_nest
+ *   30, 31                       mahunopi_archive, mahunopi_restore
+ *
+ * 27 and 28 are tried wherever 4 to 9 are, 27 after 4 and 28 after 8: the order is 4, 27, 5, 6, 7, 8, 28, 9 and so on.
+ * 255 is tried last, by the calls that its comment names. Each number is tried over the whole input before the next, and
+ * the place is the lowest that applies.
  *
  * The comment above each number is read by programs too (python/make-library): what is wrong, then in parentheses the
  * place, either always the same number or `place: the NOUN`, and what the place is in full after a comma.
@@ -83,7 +111,7 @@ extern "C" {
  * lies in other faces, which touch these in the vertex alone, as where two closed parts share one vertex.
  *
  * Each corner has two sharpness numbers of 0 to 16 sixteenths: u pulls the surface towards its leaving edge, v towards
- * its arriving edge. With 8 and 8 a corner is as soft as before there was sharpness. With 0 and 0 its refined point
+ * its arriving edge. 8 and 8 is plain: the corner of Loop's construction. With 0 and 0 its refined point
  * lies amid its face, with 16 and 0 amid its leaving edge, with 0 and 16 amid its arriving edge, with 16 and 16 at its
  * vertex.
  *
@@ -644,8 +672,9 @@ uint32_t mahunopi_preview(
     uint64_t *place);
 
 /*
- * For dragging: marks the corners whose control points a vertex can change, those at the vertices of the faces that have
- * it. All other corners have the same numbers wherever it is moved to, so a drag needs to build the marked ones only.
+ * For dragging: checks by 29 and then 4 to 13, and marks the corners whose control points a vertex can change. These are
+ * the corners at the vertices of the faces that have the vertex. All other corners have the same numbers wherever it is
+ * moved to, so a drag needs to build the marked ones only.
  */
 uint32_t mahunopi_touched(
     /* the four lists, as for mahunopi_link */

@@ -1,17 +1,34 @@
 """Smooth patches over a closed mesh, in whole numbers: the proved library, called from Python.
 
-A `Mesh` is four numpy arrays. `survey` counts what a .dms file holds, `decode` reads its mesh, `encode` writes one, `off` reads
-the mesh of an OFF text, `link` makes the mesh's link table, and `build` the control points of a range of corners: 41 points for
-each, in ticks of 1/256 of a grid step. `floats` gives one of these points as floats, `floats_all` all of them, `sample` a point
-of the surface, `sample_triangle` all of a triangle; `triangles` the whole surface as one closed mesh, each corner at a level of
-its own, `count_triangles` how large that is, and `tangents` two exact tangents at each of its points, `tangents_at` those at
-one sample. `irregular` says whether a mesh is all squares. `preview` builds with one vertex moved, and `touched` marks the
-corners that a vertex can change. `turn` turns faces that are drawn the wrong way round. `report` adds a file to the page of a
-border report, `merge` makes one page of two. `nest` lists a table of nested grids. `archive` rearranges a coordinate list for
-the archive, and `restore` undoes it. `mahunopi.models` reads OBJ, OFF, PLY, STL, glTF and other models, and
-`mahunopi.importing` makes meshes of them; `mahunopi.surface` makes triangles with normals, `mahunopi.writing` files of them;
-`mahunopi.borders` has the misses of every border, `mahunopi.view` makes pages to look at a surface, `mahunopi.reporting`
-reports on many files, `mahunopi.nested` reads and draws tables of nested grids.
+A `Mesh` is four numpy arrays. The calls:
+
+    survey                           counts what a .dms file holds
+    decode, off                      read the mesh of a .dms file, or of an OFF text
+    encode                           writes a mesh as a .dms file
+    turn                             turns faces that are drawn the wrong way round
+    irregular                        says whether a mesh is all squares
+    link                             makes the link table of a mesh
+    build                            makes the control points of a range of corners: 41 for each, in ticks of 1/256 of a grid step
+    preview, touched                 build with one vertex moved, and mark the corners that a vertex can change
+    floats, floats_all               give one control point as floats, or all of them
+    sample, sample_triangle          give a point of the surface, or all points of a triangle
+    tangents_at                      gives the two exact tangents at a point of the surface
+    triangles                        makes the whole surface one closed mesh of triangles, each corner at a level of its own
+    count_triangles, tangents        say how large that mesh is, and give the tangents at its points
+    report, merge                    add a file to the page of a border report, and make one page of two
+    nest                             lists a table of nested grids
+    archive, restore                 rearrange a coordinate list for the archive, and undo that
+
+The modules beside them:
+
+    mahunopi.models                  reads OBJ, OFF, PLY, STL, glTF and other models
+    mahunopi.importing               makes meshes of models
+    mahunopi.surface                 makes triangles with normals
+    mahunopi.writing                 makes files of triangles
+    mahunopi.view                    makes pages to look at a surface
+    mahunopi.borders                 has the misses of every border
+    mahunopi.reporting               reports on many files
+    mahunopi.nested                  reads and draws tables of nested grids
 
     >>> import mahunopi
     >>> cube = mahunopi.decode(open("meshes/cube.dms", "rb").read())
@@ -29,15 +46,17 @@ Calls share no state, release the interpreter's lock and may run at the same tim
 bytes of its thread's stack; a stack that is too small ends the program (`threading.stack_size` sets that of new threads).
 """
 
-from typing import TYPE_CHECKING, Any, List
+from __future__ import annotations
 
 try:
     from ._header import __version__
 except ModuleNotFoundError as _error:
     raise ImportError("the package is not complete: run `rt staticlib mahunopi`, then python/make-library") from _error
-from .library import Refused
+from .library import TYPE_CHECKING, Refused
 
 if TYPE_CHECKING:
+    from typing import Any, List
+
     from .calls import (
         CALL_STACK,
         MAX_BODIES,

@@ -4,12 +4,13 @@ lines count in two ways: over lists corner by corner, without numpy, and over ar
 from __future__ import annotations
 
 import math
-from typing import TYPE_CHECKING, Any, Callable, List, Sequence, Tuple
 
 from ._header import LIMITS
-from .library import CONTROL, TICKS, UNIT
+from .library import CONTROL, TICKS, TYPE_CHECKING, UNIT
 
 if TYPE_CHECKING:
+    from typing import Any, Callable, List, Sequence, Tuple
+
     import numpy as np
 
     from .calls import Mesh

@@ -12,14 +12,14 @@ import re
 import signal
 import stat
 import sys
-from typing import TYPE_CHECKING, Any, Callable, Iterable, Iterator, List, NoReturn, Optional, Tuple, Union
 
 # what only one of the commands needs, numpy above all, is imported there: a report starts in half the time
 from ._header import LIMITS, __version__
-from .library import DEFAULT_LARGEST, LARGEST_COORDINATE, MOST_SPACING, Refused, Unreadable
+from .library import DEFAULT_LARGEST, LARGEST_COORDINATE, MOST_SPACING, TYPE_CHECKING, Refused, Unreadable
 
 if TYPE_CHECKING:
     from fractions import Fraction
+    from typing import Any, Callable, Iterable, Iterator, List, NoReturn, Optional, Tuple, Union
 
     from .calls import Mesh
     from .importing import Imported
@@ -34,15 +34,24 @@ FORMATS = "OBJ, PLY, STL and GLB"
 
 DESCRIPTION = """\
 Coarse closed meshes and their smooth surfaces. FILE is a name, or - for standard input.
-The status is 0 when all is done, 1 when a mesh is refused, 2 for wrong usage and for files that cannot be read or written."""
+The exit status is 0 when all is done, 1 when a mesh is refused, 2 for wrong usage and for files that cannot be read or written."""
+
+
+# argparse looks for a translation of each of its words, which nobody has made: that takes as long as a hundred files of a report
+argparse._ = str  # type: ignore[attr-defined]
 
 
 class Parser(argparse.ArgumentParser):
     """Says what is wrong in one line, and takes -1e-05 for a number."""
 
     def __init__(self, *words: Any, **named: Any) -> None:
-        super().__init__(*words, **named)
+        # argparse makes a formatter for each argument that is added, and to ask how wide the terminal is takes as long as a hundred files
+        super().__init__(*words, formatter_class=lambda prog: argparse.RawDescriptionHelpFormatter(prog, width=80), **named)
         self._negative_number_matcher = re.compile(r"-(\d+\.?\d*|\.\d+)([eE][-+]?\d+)?$")
+
+    def format_help(self) -> str:
+        self.formatter_class = argparse.RawDescriptionHelpFormatter
+        return super().format_help()
 
     def error(self, message: str) -> NoReturn:
         self.exit(FAILED, f"{self.prog}: {message} ({self.prog} --help says more)\n")
@@ -58,19 +67,17 @@ class Parser(argparse.ArgumentParser):
 def parser() -> Parser:
     def command(name: str, does: str, example: str, count: Union[str, int] = "+",
                 what: str = "a file, or - for standard input") -> argparse.ArgumentParser:
-        made = commands.add_parser(name, help=does, description=does[0].upper() + does[1:] + ".", epilog="example:\n  " + example,
-                                   formatter_class=argparse.RawDescriptionHelpFormatter)
+        made = commands.add_parser(name, help=does, description=does[0].upper() + does[1:] + ".", epilog="example:\n  " + example)
         made.add_argument("files", nargs=count, metavar="FILE", help=what)
         made.set_defaults(run_all=_run_each)
         return made
 
-    whole = Parser(prog="mahunopi", description=DESCRIPTION, formatter_class=argparse.RawDescriptionHelpFormatter,
-                   epilog="example:\n  mahunopi import hull.obj -o hull.dms && mahunopi info hull.dms")
+    whole = Parser(prog="mahunopi", description=DESCRIPTION, epilog="example:\n  mahunopi import hull.obj -o hull.dms && mahunopi info hull.dms")
     whole.add_argument("--version", action="version", version=f"mahunopi {__version__}")
     commands = whole.add_subparsers(dest="command", metavar="COMMAND", required=True, parser_class=Parser)
 
     info = command("info", "say in words what a .dms file or an OFF text of whole numbers holds", "mahunopi info meshes/*.dms")
-    info.add_argument("-o", dest="output", default="-", metavar="FILE", help="where to write all of it; without it standard output")
+    info.add_argument("-o", dest="output", default="-", metavar="FILE", help="where to write all of it; without -o, standard output")
     info.set_defaults(run_all=run_info)
 
     made = command("import", "make a .dms file of an OBJ, OFF, PLY, STL, glTF or other model",
@@ -80,10 +87,11 @@ def parser() -> Parser:
                       help=f"the largest coordinate of the centred model in grid steps, at most {LARGEST_COORDINATE} "
                            f"(default {DEFAULT_LARGEST})")
     size.add_argument("--step", type=_length, metavar="LENGTH", help="the length of a grid step in the model's units")
-    made.add_argument("--as-drawn", action="store_true", help="do not turn the whole to run clockwise seen from outside")
+    made.add_argument("--as-drawn", action="store_true",
+                      help="leave out the last step, which turns all faces where they run counter-clockwise seen from outside")
     made.add_argument("--sharpness", type=_angle, metavar="DEGREES",
-                      help="make corners crisp across both of whose edges the surface bends by more (writes version 2)")
-    made.add_argument("--format", metavar="NAME", help="the format, as obj, where the file's name does not end in it")
+                      help="make a corner crisp where the model bends by more than DEGREES across both of its edges (writes a file of version 2)")
+    made.add_argument("--format", metavar="NAME", help="the format, such as obj, where the file's name does not end in it")
     made.set_defaults(run=run_import)
 
     turned = command("turn", "turn faces that are drawn the wrong way round, and list them",
@@ -92,7 +100,7 @@ def parser() -> Parser:
 
     for one in (made, turned):
         one.add_argument("-o", dest="output", default="-", metavar="FILE",
-                         help="where to write; a folder takes a .dms file for each FILE; without it standard output")
+                         help="where to write; a folder takes a .dms file for each FILE; without -o, standard output")
 
     cut = command("triangles", "write the surface as one closed mesh of triangles with normals: OBJ, PLY, STL or GLB",
                   "mahunopi triangles --spacing 2000 --undo-scale 5e-05 0.0 0.0 0.0 hull.dms -o hull.ply")
@@ -100,37 +108,39 @@ def parser() -> Parser:
     fine.add_argument("--level", type=_level, default=DEFAULT_LEVEL, metavar="N",
                       help=f"cut the sides of each patch into N parts, 1 to {MAX_PARTS} (default {DEFAULT_LEVEL})")
     fine.add_argument("--spacing", type=_spacing, metavar="TICKS",
-                      help="instead give each corner's patches the lowest level at which their longest control edge, divided by it, is at "
-                           "most so many ticks (a grid step has 256)")
+                      help="instead give each corner the lowest level at which its longest control edge, divided by the level, is at most TICKS "
+                           "(a grid step has 256 ticks)")
     cut.add_argument("--undo-scale", type=float, nargs=4, metavar=("STEP", "X", "Y", "Z"),
-                     help="write in the units of the model that was imported, by the numbers that `mahunopi import` printed; without it in "
-                          "grid steps")
-    cut.add_argument("--format", type=_format, metavar="NAME", help="the format, as ply, where the name of -o does not end in it")
+                     help="write in the units of the imported model, by the four numbers that `mahunopi import` printed; without this option, "
+                          "in grid steps")
+    cut.add_argument("--format", type=_format, metavar="NAME", help="the format, such as ply, where the name of -o does not end in it")
     cut.add_argument("-o", dest="output", default="-", metavar="FILE",
-                     help="where to write; a folder takes a file for each FILE; without it standard output")
+                     help="where to write; a folder takes a file for each FILE; without -o, standard output")
     cut.set_defaults(run=run_triangles, run_all=run_all_triangles)
 
-    viewed = command("view", "make a page that shows a mesh's surface in a browser, or two meshes beside one another",
+    viewed = command("view", "make a page that shows the surface of a mesh in a browser, or those of two meshes side by side",
                      "mahunopi view before.dms after.dms -o both.html")
-    viewed.add_argument("-o", dest="output", metavar="PAGE", help="the page; without it the mesh's name with .html, in this folder")
+    viewed.add_argument("-o", dest="output", metavar="PAGE",
+                        help="where to write the page; without -o, the mesh's name with .html, in the current folder")
     viewed.set_defaults(run_all=run_view)
 
-    reported = command("report", "report on the borders of any number of .dms files: the page of the year, the refused files, the "
-                       "largest misses", "find archive -name '*.dms' -print0 | mahunopi report --names -", "*",
+    reported = command("report", "report on the borders of any number of .dms files: what they hold, which of them are refused and why, and "
+                       "where the largest misses are", "find archive -name '*.dms' -print0 | mahunopi report --names -", "*",
                        "a .dms file, or a folder, which stands for all .dms files in it")
-    reported.add_argument("--names", metavar="LIST", help="a list of further files and folders, one a line or ended by zero bytes; "
-                          "- for standard input")
+    reported.add_argument("--names", metavar="LIST", help="a file that lists further files and folders, one on each line, or each ended by a "
+                          "zero byte; - for standard input")
     reported.add_argument("--jobs", type=_jobs, default=len(os.sched_getaffinity(0)), metavar="N",
-                          help="how many processors to work on (default all)")
+                          help="how many processors to use (default: all)")
     form = reported.add_mutually_exclusive_group()
-    form.add_argument("--json", action="store_true", help="print all of it as JSON")
-    form.add_argument("--page", action="store_true", help="print only the lines that the Rattle program's `report merge` reads")
+    form.add_argument("--json", action="store_true", help="print the whole report as JSON")
+    form.add_argument("--page", action="store_true", help="print only the lines that `report merge` of the Rattle program reads")
     reported.set_defaults(run_all=run_report)
 
     nested = command("nest", "list the bodies of a table of nested grids, each after the one whose grid it hangs in",
                      "mahunopi nest examples/bodies.csv -o wall.svg", 1,
-                     "a CSV table of body, the body whose grid it hangs in or Sun, and the spacing where it is known; - for standard input")
-    nested.add_argument("-o", dest="drawing", metavar="DRAWING", help="an SVG of the nested grids")
+                     "a CSV table, or - for standard input; its columns are a body, the body whose grid it hangs in or Sun, and the spacing of "
+                     "its own grid where that is known")
+    nested.add_argument("-o", dest="drawing", metavar="DRAWING", help="where to write a drawing of the nested grids, an SVG")
     nested.set_defaults(run=run_nest, output=None)
     return whole
 
@@ -160,6 +170,7 @@ def _spacing(word: str) -> int:
 
 
 def _format(word: str) -> str:
+    _find_packages()
     from .writing import WRITERS
 
     if _ending(word) not in WRITERS:
@@ -199,6 +210,7 @@ def main(arguments: Optional[List[str]] = None) -> int:
         with _held_back():
             asked = parser().parse_args(arguments)
             if asked.command != "report":
+                _find_packages()
                 from . import importing, surface  # noqa: F401
         if asked.files.count("-") > 1:
             _wrong(asked, "standard input can be read once only")
@@ -207,6 +219,14 @@ def main(arguments: Optional[List[str]] = None) -> int:
         return _quiet(INTERRUPTED)
     except BrokenPipeError:
         return _quiet(BROKEN_PIPE)
+
+
+def _find_packages() -> None:
+    """Has imports find installed packages where Python was started without them (-S), as ./mahunopi does: a report needs none."""
+    if "site" not in sys.modules:
+        import site
+
+        site.main()
 
 
 def _end(number: int, frame: object) -> NoReturn:
@@ -261,6 +281,7 @@ def _progress(files: List[str]) -> Iterator[str]:
 def _start_bar(count: int) -> None:
     global _bar
     if count > 1 and sys.stderr is not None and sys.stderr.isatty():
+        _find_packages()
         from tqdm import tqdm
 
         tqdm.monitor_interval = 0  # no thread: a report starts processes

@@ -5,9 +5,14 @@ from __future__ import annotations
 
 import ctypes
 import os
-from typing import Dict, List, Optional, Tuple
 
 from ._header import CALLS, REFUSALS
+
+TYPE_CHECKING = False
+"""Names that only checkers of types need are imported where this holds, and checkers take it to hold. `typing` has it too, and takes as
+long to import as a hundred files of a report."""
+if TYPE_CHECKING:
+    from typing import Dict, List, Optional, Tuple
 
 TICKS = 256
 """The ticks of a grid step."""

@@ -9,10 +9,12 @@ import os
 import select
 import signal
 from codecs import BOM_UTF8
-from typing import Any, Callable, Dict, Iterator, List, NoReturn, Optional, Sequence, Tuple
 
 from ._header import LIMITS
-from .library import HEADER, MOST_MISS, UNIT, Refused, functions
+from .library import HEADER, MOST_MISS, TYPE_CHECKING, UNIT, Refused, functions
+
+if TYPE_CHECKING:
+    from typing import Any, Callable, Dict, Iterator, List, NoReturn, Optional, Sequence, Tuple
 
 PAGE_NUMBERS, MAX_PAGE_MESHES = LIMITS["PAGE_NUMBERS"], LIMITS["MAX_PAGE_MESHES"]
 # a page's numbers

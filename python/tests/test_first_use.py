@@ -19,6 +19,7 @@ echo "$*" >>target/asked
 case $1 in
 check)
     shift
+    sleep 0.6
     for crate in "$@"; do
         echo "library std: modules loaded=0 checked=0"
         echo "rt: $crate proved (1 s)"
@@ -143,7 +144,8 @@ def test_one_line_of_progress_on_a_terminal(clone):
     assert f"proving {count + 1} of" not in shown and shown.split("\r\033[K")[0].count("\n") == 0 and f"mahunopi: {count} crates proved in" in shown
 
 
-def test_an_interrupt_ends_the_prover(clone, tmp_path):
+@pytest.mark.parametrize("number", [signal.SIGINT, signal.SIGTERM, signal.SIGHUP])
+def test_an_interrupt_ends_the_prover(clone, tmp_path, number):
     slow = tmp_path / "tools/rt"
     slow.write_text("#!/bin/sh\necho $$ >target/prover\nsleep 300\n")
     process = subprocess.Popen([clone / "mahunopi", "--version"], stderr=subprocess.PIPE, start_new_session=True)
@@ -152,9 +154,9 @@ def test_an_interrupt_ends_the_prover(clone, tmp_path):
         if prover.exists() and prover.read_text().strip():
             break
         time.sleep(0.1)
-    os.killpg(process.pid, signal.SIGINT)
+    os.killpg(process.pid, number)
     process.communicate(timeout=60)
-    assert process.returncode in (130, -signal.SIGINT)
+    assert process.returncode in (128 + number, -number)
     for _ in range(100):
         if not Path(f"/proc/{prover.read_text().strip()}").exists():
             break

@@ -18,6 +18,7 @@ PAGES = [ROOT / "README.md", ROOT / "CHANGES.md", *sorted((ROOT / "docs").glob("
 LIMITS = {"README.md": 800, "docs/DECISIONS.md": 3000}
 NOTE_LIMIT = 300
 SECONDS = 300
+PROGRAM_LINES = 10
 # what three readers from outside had to ask about
 UNCLEAR = ["gone over", "said of", "asked besides", "the fringe"]
 # in code font, and no name of ours: what programs read and write, letters, words of the languages, programs that come with the machine
@@ -356,6 +357,12 @@ def test_the_commands_of_the_readme(command, checkout, crates, commands):
 def printed(block, comment):
     """What a program is said to print: the comment behind the line that prints it."""
     return re.search(rf"print.*?{comment[0]} (.*?){comment[1]}$", block, re.M)[1]
+
+
+def test_the_programs_of_the_readme_are_short():
+    for language in ("c", "rust", "python"):
+        (block,) = blocks(language)
+        assert len(block.splitlines()) <= PROGRAM_LINES, language
 
 
 def test_the_c_of_the_readme(tmp_path):

@@ -1,16 +1,25 @@
 //! Smooth patches over a closed mesh, in whole numbers: the proved library, called from safe Rust.
 //!
-//! A [`Mesh`] is four lists; [`MeshRef`] borrows them. [`survey`] counts what a .dms file holds, [`decode`] reads the
-//! mesh from it, [`off`] the mesh of an OFF text, [`link`] makes the mesh's link table, and [`build`] makes the control
-//! points of a range of corners: 123 numbers for each, in ticks of 1/256 of a grid step, five rows of five b points and
-//! then four rows of four a points. [`build_all`] builds all corners on several threads. [`floats`] gives one of these
-//! points as floats, [`sample`] a point of the surface, [`sample_triangle`] all of a triangle. [`triangles`] makes the
-//! whole surface one closed mesh of triangles, and [`triangles_all`] does so on several threads. [`irregular`] says whether
-//! a mesh is all squares. [`preview`] builds with one vertex moved, and [`touched`] names the corners that a vertex can
-//! change. [`turn`] turns faces that are drawn the wrong way round. A [`Page`] reports on the borders of a run of files.
-//! [`nest`] lists a table of nested grids. [`archive`] rearranges a coordinate list for the archive, and [`restore`]
-//! undoes it. An input that is turned down gives a [`Refusal`]. The functions ending in `_into` fill what the caller
-//! lends them, which keeps its contents after a refusal.
+//! A [`Mesh`] is four lists; [`MeshRef`] borrows them.
+//!
+//! - [`survey`] counts what a .dms file holds. [`decode`] reads its mesh, and [`off`] reads the mesh of an OFF text.
+//! - [`turn`] turns faces that are drawn the wrong way round. [`irregular`] says whether a mesh is all squares.
+//! - [`link`] makes the link table of a mesh.
+//! - [`build`] makes the control points of a range of corners: 123 numbers for each corner, in ticks of 1/256 of a grid
+//!   step, five rows of five b points and then four rows of four a points. [`build_all`] builds all corners on several
+//!   threads.
+//! - [`preview`] builds with one vertex moved. [`touched`] names the corners that a vertex can change.
+//! - [`floats`] gives one control point as floats, and [`floats_all`] a list of them.
+//! - [`sample`] gives a point of the surface, [`sample_triangle`] all points of a triangle, and [`tangents_at`] the two
+//!   tangents at a point.
+//! - [`triangles`] makes the whole surface one closed mesh of triangles, and [`triangles_all`] does so on several threads.
+//!   [`count_triangles`] says how large that mesh is, and [`tangents`] gives the tangents at its points.
+//! - A [`Page`] reports on the borders of a run of files.
+//! - [`nest`] lists a table of nested grids.
+//! - [`archive`] rearranges a coordinate list for the archive, and [`restore`] undoes that.
+//!
+//! An input that is turned down gives a [`Refusal`]. The functions ending in `_into` fill what the caller lends them,
+//! which keeps its contents after a refusal.
 //!
 //! Calls share no state and may run at the same time on any threads. Each needs up to [`CALL_STACK`] bytes of its
 //! thread's stack.

@@ -5,8 +5,8 @@ use std::thread;
 
 use mahunopi::{
     build, build_all, build_into, count_triangles, decode, floats_all, irregular, link, link_into, off, preview,
-    preview_into, ranges, survey, survey_counted, tangents_into, touched, touched_into, triangles_into, Fault, Irregular,
-    Mesh, MeshRef, Refusal, CALL_STACK, MAX_SIDES, NUMBERS_PER_CORNER, VERSION,
+    preview_into, ranges, survey, survey_counted, tangents_into, touched, touched_into, triangles_into, Fault,
+    Irregular, Mesh, MeshRef, Refusal, CALL_STACK, MAX_SIDES, NUMBERS_PER_CORNER, VERSION,
 };
 
 const CUBE: &[u8] = include_bytes!("../../../meshes/cube.dms");
