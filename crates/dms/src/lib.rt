@@ -13,6 +13,7 @@ use paper::MOST_CORNERS;
 use paper::MOST_FACES;
 use paper::MOST_NUMBERS;
 use paper::MOST_PAIRS;
+use paper::NO_ROOM;
 use paper::Summary;
 ghost use mathlib.Core.Path.{_≡_};
 ghost use Prim.Native.Nat.{ℕ, _<_, _≤_};
@@ -21,9 +22,6 @@ ghost use Rattle.paper.specs.Mesh.{meshOf};
 ghost use Rattle.paper.specs.Faults.{sound, verdict, stated};
 ghost use Rattle.paper.specs.File.{headerLength, headerVerdict, fileMesh, fileOf, Surveyed, FileSurveyed, roomVerdict, DecodedTo};
 ghost use Rattle.dms.specs.header.ListsWithin.{ListsWithin};
-
-// Our own number, outside 01's list: a lent space is shorter than its list.
-pub const NO_ROOM: u8 = 255;
 
 // The counts of the file, from the bytes read and the length counted.
 pub fn survey(bytes: &[u8], counted: usize) -> Summary

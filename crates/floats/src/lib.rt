@@ -6,6 +6,7 @@ use paper::Answer;
 use paper::FloatPoint;
 use paper::Floats;
 use paper::MOST_CORNERS;
+use paper::NO_ROOM;
 use paper::NUMBERS_PER_CORNER;
 ghost use mathlib.Core.Path.{_≡_};
 ghost use mathlib.Core.Bool.{true, not, _||_};
@@ -35,9 +36,6 @@ const LAST_POINT: usize = 40;
 
 // The most numbers of a list of quad-nets.
 const MOST_NET_NUMBERS: usize = NUMBERS_PER_CORNER * MOST_CORNERS;
-
-// Our own number for a lent list that is too short.
-const NO_ROOM: u8 = 255;
 
 // The point's difference from b00: near, far or refused.
 pub fn point(numbers: &[i32], point: usize) -> FloatPoint

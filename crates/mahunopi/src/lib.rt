@@ -21,7 +21,9 @@ use paper::Answer;
 use paper::FloatPoint;
 use paper::Irregular;
 use paper::Move;
+use paper::NO_ROOM;
 use paper::NUMBERS;
+use paper::NUMBERS_ON_PAGE;
 use telling::tell;
 use telling::tell_counts;
 
@@ -126,7 +128,7 @@ pub extern "C" fn mahunopi_survey(
         return tell(Answer::Refused(number, at), place);
     }
     if too_short(cornered.len(), sided.len()) {
-        return tell(Answer::Refused(dms::NO_ROOM, NUMBERS), place);
+        return tell(Answer::Refused(NO_ROOM, NUMBERS), place);
     }
     let counts = s.counts;
     tell_counts(counts, vertices, faces, corners, cornered, sided);
@@ -515,7 +517,7 @@ pub extern "C" fn mahunopi_turn(
 pub extern "C" fn mahunopi_report(
     bytes: &[u8],
     length: u64,
-    page: &mut [u64; 21],
+    page: &mut [u64; NUMBERS_ON_PAGE],
     place: &mut u64,
 ) -> u32
     ensures { λ r. ⌜ ReportCall (offered (now (bytes .entry)) length) (now (page .entry)) (now (place .entry)) r (now (place .exit)) (now (page .exit)) ⌝ }
@@ -533,7 +535,11 @@ pub extern "C" fn mahunopi_report(
 
 // Two pages as one, in the second, which is left alone beside a refusal.
 #[no_mangle]
-pub extern "C" fn mahunopi_merge(other: &[u64; 21], page: &mut [u64; 21], place: &mut u64) -> u32
+pub extern "C" fn mahunopi_merge(
+    other: &[u64; NUMBERS_ON_PAGE],
+    page: &mut [u64; NUMBERS_ON_PAGE],
+    place: &mut u64,
+) -> u32
     ensures { λ r. ⌜ MergeCall (now (other .entry)) (now (page .entry)) (now (place .entry)) r (now (place .exit)) (now (page .exit)) ⌝ }
 {
     let before = pages::page_numbers::read(page);

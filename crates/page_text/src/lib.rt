@@ -1,5 +1,7 @@
 // A page of the border report as text: a line in words for each of its 21 numbers, and last the line `page` with the numbers themselves, which is read
 // back. Numbers are decimal; misses are in ticks, with three decimals, halves up.
+use paper::CONDITIONS;
+use paper::NUMBERS_ON_PAGE;
 use streams::text::put_byte;
 use streams::text::put_number;
 use streams::text::put_word;
@@ -13,9 +15,7 @@ ghost use Rattle.page_text.specs.Lines.{spaced, spacedNumber, pageLine, 
 ghost use Rattle.page_text.specs.Reading.{Begins, PageRead, DigitsRead, SpacedRead};
 ghost use Rattle.page_text.specs.Lines.{thousandths as Lines·thousandths, digit as Lines·digit};
 
-// Meshes, corners, borders, refusals under 1 to 13 and under 28, the four misses.
-pub const NUMBERS_ON_PAGE: usize = 21;
-
+// Where the refusals under 1 to 13, under 28 and the misses stand on a page.
 const FIRST_REFUSALS: usize = 3;
 
 const COUNTED: usize = 13;
@@ -23,8 +23,6 @@ const COUNTED: usize = 13;
 const LAST_REFUSALS: usize = FIRST_REFUSALS + COUNTED;
 
 const FIRST_MISSES: usize = LAST_REFUSALS + 1;
-
-const CONDITIONS: usize = 4;
 
 // Room for the 22 lines, of which the first 21 have at most 57 bytes each and the last one 446.
 pub const ROOM: usize = 2048;

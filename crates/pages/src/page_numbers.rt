@@ -1,6 +1,7 @@
 // A page of the border report as its 21 numbers, for C: meshes, corners, borders, refusals 1 to 13, refusals 28, the four misses.
 use paper::CONDITIONS;
 use paper::LINES;
+use paper::NUMBERS_ON_PAGE;
 use paper::Page;
 ghost use mathlib.Core.Path.{_≡_};
 ghost use Prim.Native.Nat.{_+_, _<_};
@@ -9,15 +10,13 @@ ghost use Rattle.paper.specs.Scan.{valuesFrom};
 ghost use Rattle.paper.specs.Report.{lines, conditions, numbersOn};
 ghost use Rattle.paper.specs.CFace.{pageIn};
 
-// How many numbers, and where refusals and misses start.
-pub const NUMBERS_ON_PAGE: usize = 21;
-
+// Where refusals and misses start.
 const FIRST_LINE: usize = 3;
 
 const FIRST_MISS: usize = FIRST_LINE + LINES;
 
 // The page of these numbers.
-pub fn read(numbers: &[u64; 21]) -> Page
+pub fn read(numbers: &[u64; NUMBERS_ON_PAGE]) -> Page
     ensures { λ r. ⌜ r ≡ pageIn (now (numbers .entry)) ⌝ }
 {
     let refusals = read_lines(numbers);
@@ -31,7 +30,7 @@ pub fn read(numbers: &[u64; 21]) -> Page
     }
 }
 
-fn read_lines(numbers: &[u64; 21]) -> [u64; LINES]
+fn read_lines(numbers: &[u64; NUMBERS_ON_PAGE]) -> [u64; LINES]
     ensures { λ r. ⌜ r ≡ valuesFrom (λ l. getD (now (numbers .entry)) (3 + l) 0) 0 lines ⌝ }
 {
     let mut refusals = [0u64; LINES];
@@ -43,7 +42,7 @@ fn read_lines(numbers: &[u64; 21]) -> [u64; LINES]
     refusals
 }
 
-fn read_misses(numbers: &[u64; 21]) -> [u64; CONDITIONS]
+fn read_misses(numbers: &[u64; NUMBERS_ON_PAGE]) -> [u64; CONDITIONS]
     ensures { λ r. ⌜ r ≡ valuesFrom (λ j. getD (now (numbers .entry)) (3 + lines + j) 0) 0 conditions ⌝ }
 {
     let mut misses = [0u64; CONDITIONS];

@@ -48,6 +48,11 @@ pub enum Answer {
     Refused(u8, usize),
 }
 
+// The number of a refusal that is our own, for a lent list that is too short; and that of L9, for a vertex that the mesh does not have.
+pub const NO_ROOM: u8 = 255;
+
+pub const NO_VERTEX: u8 = 29;
+
 // How many numbers m there are, from 0 to the most sides or corners.
 pub const NUMBERS: usize = MOST_SIDES + 1;
 
@@ -122,6 +127,9 @@ pub const MOST_ON_PAGE: u64 = 1099511627776;
 pub const LINES: usize = 14;
 
 pub const CONDITIONS: usize = 4;
+
+// The numbers of a page: meshes, corners and borders, then a number for each of these lines.
+pub const NUMBERS_ON_PAGE: usize = 3 + LINES + CONDITIONS;
 
 // A page of the border report (L14): meshes offered, corners built, borders met; refusals under 1 to 13 and 28; the largest misses over 2^30.
 pub struct Page {

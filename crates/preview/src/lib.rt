@@ -3,6 +3,7 @@ use mesh::SMALL_MESH;
 use paper::Answer;
 use paper::MOST_NUMBERS;
 use paper::Move;
+use paper::NO_VERTEX;
 ghost use mathlib.Core.Path.{_≡_};
 ghost use Prim.Native.Nat.{_/_, _<_, _≤_};
 ghost use lib.ListN.{length};
@@ -11,9 +12,7 @@ ghost use Rattle.paper.specs.File.{begins};
 ghost use Rattle.paper.specs.Calls.{Built};
 ghost use Rattle.paper.specs.Preview.{movedList, moved, Previewed};
 
-// Check 29's number, and 4's, which refuses a list that is longer than the copy.
-const NO_VERTEX: u8 = 29;
-
+// The number of check 4, which refuses a list that is longer than the copy.
 const LENGTHS: u8 = 4;
 
 // The numbers of a small mesh's coordinate list.

@@ -7,6 +7,7 @@ use bernstein::Matrix5;
 use bernstein::Vector5;
 use paper::Answer;
 use paper::MOST_PARTS;
+use paper::NO_ROOM;
 ghost use mathlib.Core.Path.{_≡_};
 ghost use Prim.Native.Nat.{ℕ, _+_, _*_, _≤_, _<_};
 ghost use lib.ListN.{length};
@@ -20,9 +21,6 @@ ghost use Rattle.paper.specs.Sampling.{TriangleSampled};
 ghost use Rattle.paper.specs.Tangents.{TangentsSampled};
 ghost use Rattle.bernstein.specs.Sums.{AllTapered, rowOf, polynomialAt};
 ghost use Rattle.sampling.specs.Grid.{samplesBefore, Sampleable, RowSampleable, RowPut, RowsPut, TangentOn};
-
-// Our own number for a lent list that is too short.
-const NO_ROOM: u8 = 255;
 
 // The two tangents at a sample, on one axis.
 struct Tangent {

@@ -1,6 +1,8 @@
 // L9, for dragging: marks the corners whose quad-nets a vertex can change, in one pass over the faces and one over the corners.
 use paper::Answer;
 use paper::MOST_VERTICES;
+use paper::NO_ROOM;
+use paper::NO_VERTEX;
 ghost use mathlib.Core.Path.{_≡_};
 ghost use Prim.Native.Nat.{ℕ, _+_, _<_, _≤_};
 ghost use lib.ListN.{length, getD, replicate};
@@ -11,12 +13,6 @@ ghost use Rattle.mesh.specs.Tables.{Named};
 ghost use Rattle.refine.specs.sums.Sources.{FacesWithin};
 ghost use Rattle.paper.specs.Preview.{touchMarks, Touched};
 ghost use Rattle.touching.specs.Sharing.{among, AllMarked, FaceMarked, SharingMarked};
-
-// Check 29's number.
-const NO_VERTEX: u8 = 29;
-
-// Our own number, outside 01's list: the lent list has not a mark for each corner.
-const NO_ROOM: u8 = 255;
 
 // A mark for each corner: 1 where the vertex can change its quad-net, else 0. Nothing is written before the last check has passed.
 pub fn touched(

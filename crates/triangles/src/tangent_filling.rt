@@ -4,6 +4,7 @@ use mesh::SMALL_MESH;
 use paper::Answer;
 use paper::MOST_CORNERS;
 use paper::MOST_VERTICES;
+use paper::NO_ROOM;
 use paper::Tangents;
 use surface::POINT_ROW;
 ghost use mathlib.Core.Path.{_≡_};
@@ -41,7 +42,7 @@ pub(crate) fn fill(
     let needed = 6 * points;
     if out.len() < needed {
         return Tangents {
-            answer: Answer::Refused(crate::NO_ROOM, needed),
+            answer: Answer::Refused(NO_ROOM, needed),
             numbers: 0,
         };
     }
