@@ -11,7 +11,7 @@ ghost use lib.ListN.{length, getD};
 ghost use lib.IntN.{pos};
 ghost use Rattle.paper.specs.Faults.{sound};
 ghost use Rattle.paper.specs.Floats.{netVerdict, axes};
-ghost use Rattle.numbering.specs.PointRows.{Fills};
+ghost use Rattle.strips.specs.PointRows.{Fills};
 ghost use Rattle.bernstein.specs.Sums.{Tapered, AllTapered};
 ghost use Rattle.net_points.specs.writing.Shapes.{Shapely, shapeSize};
 ghost use Rattle.net_points.specs.tangent_writing.Paired.{Sloped, SideSloped, Tapering, RowTapering, rowsAt, sixAt, tailAt, placesNumber, partNumber, RingsPaired, NetPaired};

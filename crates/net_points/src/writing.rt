@@ -184,7 +184,7 @@ fn put_spokes(p: Matrix5, side: usize, n: usize, points: &mut [i32], at: usize)
         s = bernstein::next(s);
         let w = n - k - 1;
         let e = bernstein::row(s);
-        let ring = numbering::rings_before(n, k);
+        let ring = strips::rings_before(n, k);
         sampling::put_row(e, n, 0, w, points, at + 3 * (ring + side * w));
         k += 1;
     }

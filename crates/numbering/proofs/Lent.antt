@@ -1,35 +1,26 @@
 -- Laws of the lists that the functions are lent: what they ask of each other, and where a corner's groups of points start.
 use mathlib.Core.Path.{_≡_, refl, sym, ap, _∙_}
-use mathlib.Core.Bool.{Bool, true, false}
 use mathlib.Core.List.{List}
-use native.Mathlib.Nat.{mul-le-mul-right}
-use Prim.Native.Nat.{ℕ, zero, suc, _+_, _-_, _*_, _≤_, _<_}
+use Prim.Native.Nat.{ℕ, _+_, _-_, _*_, _≤_, _<_}
 use native.Mathlib.Omega.{arith}
-use lib.Dec.{eqb, ltb}
-use lib.ListN.{length, getD, set}
-use lib.Seq.{getD-set-same, getD-set-other}
-use mathlib.Core.Logic.{_⊎_, ⊎-elim}
-use borrow.Author.Tests.{eq-eqb, ne-eqb, le-ltb}
+use lib.Dec.{eqb}
+use lib.ListN.{length, getD}
+use borrow.Author.Tests.{eq-eqb, ne-eqb}
 use Rattle.paper.specs.Scan.{pickN}
 use Rattle.paper.specs.Mesh.{Mesh, cornerCount, mostCorners}
 use Rattle.paper.specs.Corners.{startOf}
 use Rattle.paper.specs.Links.{vertexOf, names, lowest}
 use Rattle.paper.specs.Net.{Side, side0, side1, side2, side3}
 use Rattle.paper.specs.Borders.{beside}
-use Rattle.paper.specs.Sampling.{sideAt}
-use Rattle.paper.specs.Triangles.{begin, turn, rowSegments, endNumber, curveNumber, pointNumber, groups, level, segments, vertexOwner, edgeOwner, faceOwner}
+use Rattle.paper.specs.Triangles.{groups, level, segments, vertexOwner, edgeOwner, faceOwner}
 use Rattle.paper.specs.Triangles.{groupSize, pointGroups, pointsBefore, trianglesBefore, numberIn}
 use Rattle.mesh.proofs.Scans.{first-le}
 use Rattle.mesh.proofs.Accepted.{sound-of, closed-of, few-corners}
-use Rattle.mesh.proofs.Faces.{first-from, start-zero}
-use Rattle.numbering.specs.Meshed.{Here, Place, Wide, Of, Given, PointsStarted, Starting, groupStart, curveStart, upward, RowOf, ringPlace}
+use Rattle.mesh.proofs.Faces.{first-from}
+use Rattle.numbering.specs.Meshed.{Here, Place, Wide, Of, Given, PointsStarted, Starting, groupStart}
 use Rattle.closing.proofs.Spots.{own-curve0, own-curve1}
-use Rattle.closing.proofs.Cases.{test-equal, by-last, number-back}
 use Rattle.closing.proofs.Shared.{beside-below, edge-lower}
 use Rattle.closing.proofs.Counts.{group-step, rings-all, points-few, triangles-more, most-inner}
-use Rattle.numbering.specs.declared.NumberedRow.{NumberedRow}
-use Rattle.numbering.specs.PointRows.{rowNumber}
-use Rattle.numbering.proofs.Rowed.{number-first, number-last, number-up}
 
 -- ---- what the functions ask
 pub levels-few : {corners low table levels : List ℕ} (M : Mesh) → Of M corners low table levels → length levels ≤ mostCorners
@@ -165,10 +156,6 @@ module _ {corners low table levels : List ℕ} (M : Mesh) (o : Of M corners low 
       omega (arith, first-from (M .sides) c (omega (arith, closed-of M (sound-of M (o .accepted)) .sums)))
 
 -- ---- running sums
-pub points-zero : (M : Mesh) (levels : List ℕ) → pointsBefore M levels 0 ≡ 0
-unfolding pointsBefore
-points-zero M levels = ap (startOf (pointGroups M levels)) (let z : groups * 0 ≡ 0 = omega arith in z) ∙ start-zero (pointGroups M levels)
-
 pub sum-none : (f : ℕ → ℕ) (first : ℕ) → f (first + 0) ≡ f first + 0
 sum-none f first = ap f (let z : first + 0 ≡ first = omega arith in z) ∙ omega arith
 
@@ -178,11 +165,6 @@ sum-more f first c sum r p q = ap f (let z : first + (c + 1) ≡ first + c + 1 =
 pub sum-all : (f : ℕ → ℕ) (first c count sum : ℕ) → c ≡ count → f (first + c) ≡ f first + sum → sum ≡ f (first + count) - f first
 sum-all f first c count sum q p = let z = ap (λ (x : ℕ). f (first + x)) q in omega arith
 
-pub starts-step : (f : ℕ → ℕ) (starts : List ℕ) (c x : ℕ) → c < length starts → x ≡ f c → ((e : ℕ) → e < c → getD starts e 0 ≡ f e)
-    → (e : ℕ) → e < c + 1 → getD (set starts c x) e 0 ≡ f e
-starts-step f starts c x h p old e l =
-    test-equal e c (λ q z. rw z (getD-set-same starts c x 0 h ∙ p)) (λ q n. getD-set-other starts c e x 0 n ∙ old e (omega (arith, n)))
-
 -- ---- the triangles of a corner
 pub triangles-rest : {corners low table levels : List ℕ} (M : Mesh) (o : Of M corners low table levels) (c : ℕ) → c < length levels → (a b d e n : ℕ)
     → a ≡ segments M levels c side0 → b ≡ segments M levels c side1 → d ≡ segments M levels c side2 → e ≡ segments M levels c side3 → n ≡ level levels c
@@ -191,79 +173,7 @@ triangles-rest {levels = levels} M o c h a b d e n p q r s t =
     let m = triangles-more M levels (o .leveled) c (below-of M o c h) in
     rw t (let z : trianglesBefore M levels (c + 1) ≡ trianglesBefore M levels c + (a + b + d + e + 4 * (level levels c * (level levels c - 1))) = omega arith in z)
 
--- ---- a row of a ring
-module _ (start b w last : ℕ) (short : b ≤ 3 * w) (wraps : b + w ≡ 4 * w → last ≡ start) (goes : (b + w ≡ 4 * w → ⊥) → last ≡ start + b + w) where
-  abbrev ringed : NumberedRow
-  ringed = record { first = start + b; last = last; base = start + b + 1; parts = w; up = true }
-
-  placed : (j x : ℕ) → (b + j ≡ 4 * w → x ≡ start) → ((b + j ≡ 4 * w → ⊥) → x ≡ start + (b + j)) → x ≡ start + pickN (eqb (b + j) (4 * w)) 0 (b + j)
-  placed j x p q =
-      test-equal (b + j) (4 * w) (λ e z. rw e (p z ∙ omega arith)) (λ e z. rw e (q z))
-
-  pub ring-numbers : (j : ℕ) → j ≤ w → rowNumber ringed j ≡ start + pickN (eqb (b + j) (4 * w)) 0 (b + j)
-  ring-numbers zero l = sym (number-first ringed 0 refl) ∙ placed 0 (start + b) (λ z. omega arith) (λ z. omega arith)
-  ring-numbers (suc j) l =
-      let n : suc j ≡ 0 → ⊥ = λ z. omega arith in
-      by-last (suc j) w l
-      (λ e. sym (number-last ringed (suc j) n e) ∙ placed (suc j) last (λ z. wraps (omega arith)) (λ z. goes (λ y. z (omega arith)) ∙ omega arith))
-      (λ m. sym (number-up ringed (suc j) n (λ z. omega arith) refl)
-      ∙ placed (suc j) (start + b + 1 + (suc j - 1)) (λ z. absurd (omega arith)) (λ z. omega arith))
-
-pub ring-wraps : (start side w last : ℕ) → side ≤ 3 → ((side < 3) × (last ≡ start + side * w + w)) ⊎ ((3 ≤ side) × (last ≡ start))
-    → (side * w ≤ 3 * w) × (side * w + w ≡ 4 * w → last ≡ start) × ((side * w + w ≡ 4 * w → ⊥) → last ≡ start + side * w + w)
-ring-wraps start side w last h o =
-    ⊎-elim
-    (λ (t : (side < 3) × (last ≡ start + side * w + w)).
-    let s : side ≤ 2 = omega arith in let m : side * w ≤ 2 * w = mul-le-mul-right w s in (omega arith, λ e. omega arith, λ n. t .1))
-    (λ (t : (3 ≤ side) × (last ≡ start)).
-    let q : side * w ≡ 3 * w = ap (λ (x : ℕ). x * w) (let z : side ≡ 3 = omega arith in z) in (omega arith, λ e. t .1, λ n. absurd (n (omega arith)))) o
-
--- ---- the row on the border
-module _ (M : Mesh) (levels : List ℕ) (c : ℕ) (s : Side) (r : NumberedRow) (first : r .first ≡ endNumber M levels c (begin s))
-    (last : r .last ≡ endNumber M levels c (begin (turn s))) (base : r .base ≡ curveStart M levels c s) (parts : r .parts ≡ segments M levels c s) where
-  curve-is : (s : Side) (j : ℕ) (b : Bool) → b ≡ upward s
-      → pickN b (curveStart M levels c s + (j - 1)) (curveStart M levels c s + (segments M levels c s - j - 1)) ≡ curveNumber M levels c s j
-  unfolding numberIn
-  curve-is side0 j b e = rw e
-  curve-is side1 j b e = rw e
-  curve-is side2 j b e = rw e
-  curve-is side3 j b e = rw e
-
-  outer-numbers : r .up ≡ upward s → (j : ℕ) → rowNumber r j ≡ pointNumber M levels c s 0 j
-  unfolding rowNumber pointNumber
-  outer-numbers e j = rw (first, last, base, parts, curve-is s j (r .up) e)
-
-  pub outer-of : r .up ≡ upward s → RowOf M levels c s 0 r
-  unfolding rowSegments
-  outer-of e = record { parts = parts; numbers = λ j l. outer-numbers e j }
-
-pub upward-is : (side : ℕ) → side ≤ 3 → ltb side 2 ≡ upward (sideAt side)
-upward-is zero h = refl
-upward-is (suc zero) h = refl
-upward-is (suc (suc zero)) h = refl
-upward-is (suc (suc (suc n))) h = le-ltb (suc (suc (suc n))) 2 (omega arith)
-
-pub turn-next : (side : ℕ) → side < 3 → sideAt (side + 1) ≡ turn (sideAt side)
-turn-next zero h = refl
-turn-next (suc zero) h = refl
-turn-next (suc (suc zero)) h = refl
-turn-next (suc (suc (suc n))) h = absurd (omega arith)
-
-pub turn-last : (side : ℕ) → 3 ≤ side → sideAt 0 ≡ turn (sideAt side)
-turn-last zero h = absurd (omega arith)
-turn-last (suc zero) h = absurd (omega arith)
-turn-last (suc (suc zero)) h = absurd (omega arith)
-turn-last (suc (suc (suc n))) h = refl
-
--- ---- a ring's row
-pub ring-of : (M : Mesh) (levels : List ℕ) (c side k start : ℕ) (r : NumberedRow) → side ≤ 3 → r .parts ≡ level levels c - suc k → start ≡ groupStart M levels c (5 + k)
-    → ((j : ℕ) → j ≤ level levels c - suc k → rowNumber r j ≡ start + ringPlace side (level levels c - suc k) j) → RowOf M levels c (sideAt side) (suc k) r
-unfolding rowSegments pointNumber numberIn
-ring-of M levels c side k start r h p q n = record {
-  parts = p;
-  numbers = λ j l. n j (omega arith) ∙ rw (number-back side h) (ap (λ (x : ℕ). x + ringPlace side (level levels c - suc k) j) q);
-}
-
+-- ---- the net beside a corner's
 pub beside-in : {corners low table levels : List ℕ} (M : Mesh) → Of M corners low table levels → (c : ℕ) → c < length levels → (s : Side) (d : ℕ) → d ≡ beside M c s
     → d < length levels
 beside-in M o c h s d e = omega (arith, e, beside-below M (o .accepted) c (below-of M o c h) s, o .many)

@@ -1,8 +1,7 @@
 -- What the functions over the table of corners assume: it is an accepted mesh's; what each gives holds of every such mesh.
 use mathlib.Core.Path.{_≡_}
-use mathlib.Core.Bool.{Bool, true, false}
 use mathlib.Core.List.{List}
-use Prim.Native.Nat.{ℕ, suc, _+_, _-_, _*_, _≤_, _<_}
+use Prim.Native.Nat.{ℕ, _+_, _*_, _≤_, _<_}
 use lib.ListN.{length, getD}
 use Rattle.paper.specs.Mesh.{Mesh, cornerCount}
 use Rattle.paper.specs.Corners.{startOf}
@@ -11,13 +10,9 @@ use Rattle.paper.specs.Faults.{Accepted}
 use Rattle.paper.specs.Refined.{cornersOf}
 use Rattle.paper.specs.Net.{Side, side0, side1, side2, side3}
 use Rattle.paper.specs.Borders.{beside}
-use Rattle.paper.specs.Scan.{pickN}
-use lib.Dec.{eqb}
-use Rattle.paper.specs.Sampling.{mostParts, sideAt}
-use Rattle.paper.specs.Triangles.{groups, strips, level, segments, pointGroups, stripSizes, pointsBefore, trianglesBefore, rowSegments, pointNumber, indexAt}
+use Rattle.paper.specs.Sampling.{mostParts}
+use Rattle.paper.specs.Triangles.{groups, level, pointGroups, pointsBefore}
 use Rattle.walk.specs.Table.{Tabled}
-use Rattle.numbering.specs.declared.NumberedRow.{NumberedRow}
-use Rattle.numbering.specs.PointRows.{rowNumber, RowFits, Stands}
 
 -- c is a corner of the accepted mesh M, whose table this is; of some mesh
 pub record Here (M : Mesh) (table : List ℕ) (c : ℕ) : Type 0 where
@@ -73,27 +68,3 @@ curveStart M levels c side0 = groupStart M levels c 3
 curveStart M levels c side1 = groupStart M levels c 4
 curveStart M levels c side2 = groupStart M levels (beside M c side2) 4
 curveStart M levels c side3 = groupStart M levels (beside M c side3) 3
-
--- row k of a side
-pub record RowOf (M : Mesh) (levels : List ℕ) (c : ℕ) (s : Side) (k : ℕ) (r : NumberedRow) : Type 0 where
-  pub parts : r .parts ≡ rowSegments M levels c s k
-  pub numbers : (j : ℕ) → j ≤ r .parts → rowNumber r j ≡ pointNumber M levels c s k j
-
--- place j of a side's row of w segments in its ring
-abbrev pub ringPlace : ℕ → ℕ → ℕ → ℕ
-ringPlace side w j = pickN (eqb (side * w + j) (4 * w)) 0 (side * w + j)
-
--- the numbers of a side's curve rise in turn order where the corner has them itself
-abbrev pub upward : Side → Bool
-upward side0 = true
-upward side1 = true
-upward side2 = false
-upward side3 = false
-
--- where the triangles of a side start, and those of the next
-abbrev pub sideStart : Mesh → List ℕ → ℕ → ℕ → ℕ
-sideStart M levels c side = startOf (stripSizes M levels) (strips * c + mostParts * side)
-
--- the triangles from number a to number b of the list stand from `at` to `to`
-abbrev pub TrianglesPut : Mesh → List ℕ → ℕ → ℕ → ℕ → ℕ → List ℕ → List ℕ → Type 0
-TrianglesPut M levels = Stands (indexAt M levels)

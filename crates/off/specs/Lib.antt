@@ -1,4 +1,2 @@
-pub mod digits
-pub mod words
 pub mod lists
 pub mod checking

@@ -1,6 +1,6 @@
 // The words of an OFF text after the mark, read into lent lists, with checks 25, 26 and then 4 to 13. The text is read once, each word's
 // number taken from its bytes when its end is found.
-use crate::words::Cursor;
+use off_words::Cursor;
 use paper::Answer;
 use paper::Decoded;
 use paper::MOST_PAIRS;
@@ -10,7 +10,7 @@ ghost use Prim.Native.Nat.{_*_, _≤_};
 ghost use lib.ListN.{length};
 ghost use Rattle.paper.specs.Mesh.{Mesh, plainMesh, mostCorners};
 ghost use Rattle.paper.specs.Faults.{verdict, stated};
-ghost use Rattle.off.specs.words.Cursor.{Before};
+ghost use Rattle.off_words.specs.Cursor.{Before};
 ghost use Rattle.off.specs.checking.Call.{Lists, OwnRoom, WordsRead, TextChecked};
 
 // Checks 25, 26 and 4 to 13, with the lists in own ones.

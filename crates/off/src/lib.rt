@@ -1,13 +1,11 @@
 // L6, reading OFF files: check 24, then 25, 26 and 4 to 13 (`checking`), and the four lists, the last of them 8 and 8 throughout. The
 // lists are read into own ones, and copied to the lent ones when every check has passed.
 pub mod checking;
-pub mod digits;
 pub mod lists;
-pub mod words;
 
 use crate::checking::read_checked;
 use crate::checking::refused;
-use crate::words::Cursor;
+use off_words::Cursor;
 use paper::Answer;
 use paper::Decoded;
 use paper::MOST_CORNERS;
@@ -20,7 +18,7 @@ ghost use Prim.Native.Nat.{_*_, _<_, _≤_};
 ghost use lib.ListN.{length};
 ghost use Rattle.paper.specs.Mesh.{meshOf, four, mostCorners};
 ghost use Rattle.paper.specs.Off.{short, OffRead};
-ghost use Rattle.off.specs.words.Cursor.{Before};
+ghost use Rattle.off_words.specs.Cursor.{Before};
 ghost use Rattle.off.specs.checking.Call.{OwnRoom, TextCopied};
 
 // The lists of an OFF text, into the beginnings of the lent ones.
@@ -36,7 +34,7 @@ pub fn read(
     if too_short(coordinates, sides, corners, sharpness) {
         return refused(24, 0);
     }
-    let mark = crate::words::read_mark(text);
+    let mark = off_words::read_mark(text);
     if !mark.ok {
         return refused(24, 0);
     }

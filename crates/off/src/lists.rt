@@ -1,12 +1,12 @@
 // The words of an OFF text, read in their order into own lists. A word that is missing or no number of its kind ends the reading before it.
 // Numbers past the end of an own list are read and not kept: how many there are is all that 4 asks.
-use crate::words::Cursor;
+use off_words::Cursor;
 ghost use mathlib.Core.Path.{_≡_};
 ghost use mathlib.Core.Bool.{false};
 ghost use Prim.Native.Nat.{_+_, _*_, _<_, _≤_};
 ghost use lib.ListN.{length, set};
 ghost use Rattle.paper.specs.Off.{coordinate, vertexNumber, wordsOf, valueAt, naturalAt};
-ghost use Rattle.off.specs.words.Cursor.{Before};
+ghost use Rattle.off_words.specs.Cursor.{Before};
 ghost use Rattle.off.specs.lists.Reading.{NaturalRead, HeaderRead, ListRead, FaceRead, FacesRead};
 
 // The largest count and vertex number, and the largest side count.

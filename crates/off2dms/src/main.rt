@@ -3,7 +3,7 @@
 // argument `as-drawn` the lists are written as the text has them, checked by 24, 25, 26 and 4 alone, for `turn` to check the rest.
 use libc::STDIN_FILENO;
 use mesh::least;
-use off::words::Cursor;
+use off_words::Cursor;
 use paper::Answer;
 use paper::Decoded;
 use paper::MOST_CORNERS;
@@ -13,7 +13,7 @@ use paper::MOST_PAIRS;
 use print::complain_refusal;
 use streams::output::complain;
 ghost use Prim.Native.Nat.{_≤_};
-ghost use Rattle.off.specs.words.Cursor.{Before};
+ghost use Rattle.off_words.specs.Cursor.{Before};
 
 // The longest text. The buffer has a byte more, which a longer text fills.
 const MOST_BYTES: usize = 1048576;
@@ -125,7 +125,7 @@ fn convert(text: &[u8]) {
 
 // Check 24, and then the lists as they are drawn.
 fn convert_drawn(text: &[u8]) {
-    let mark = off::words::read_mark(text);
+    let mark = off_words::read_mark(text);
     if mark.ok {
         read_drawn(text, mark.next);
     } else {

@@ -10,21 +10,6 @@ pub const LONGEST_LIST: usize = 393216;
 
 pub const LONGEST_BYTES: usize = 1572864;
 
-// Room for the longest list, and for one byte more, so that a longer one is noticed. Only its length is stated: what it holds is free, since every
-// caller fills what it then reads.
-pub fn byte_room() -> [u8; LONGEST_BYTES + 1]
-    ensures { λ r. ⌜ 1572865 ≡ length r ⌝ }
-{
-    [0; LONGEST_BYTES + 1]
-}
-
-// Room for the numbers of the longest list, with contents as free.
-pub fn number_room() -> [i32; LONGEST_LIST]
-    ensures { λ r. ⌜ 393216 ≡ length r ⌝ }
-{
-    [0; LONGEST_LIST]
-}
-
 // The numbers at the beginning of the bytes, as many as there is room for.
 pub fn read_numbers(bytes: &[u8], numbers: &mut [i32])
     requires { ⌜ 4 * length (now numbers) ≤ length (now bytes) ⌝ }

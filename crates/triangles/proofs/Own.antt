@@ -29,7 +29,7 @@ use Rattle.borders.proofs.Ranges.{ranges}
 use Rattle.floats.proofs.nets.Nets.{nets-pass}
 use Rattle.mesh.proofs.Faces.{OfFace, held, start-next, start-all}
 use Rattle.net_points.specs.declared.writing.Shape.{Shape}
-use Rattle.numbering.specs.PointRows.{Fills}
+use Rattle.strips.specs.PointRows.{Fills}
 use Rattle.triangles.specs.Owned.{ShapeOf, Pointed}
 use Rattle.net_points.specs.writing.Laid.{Reaches}
 use Rattle.net_points.specs.writing.Shapes.{shapeGroup, shapeRings, shapeStart, shapeSize, shapeNumber, ShapeAim, ShapePlace}
@@ -39,7 +39,7 @@ use Rattle.closing.proofs.Outer.{some-segments}
 use Rattle.closing.proofs.Counts.{ringsBefore, group-step, ring-start, rings-all}
 use Rattle.closing.proofs.Samples.{outer-is, inner-is, head-end, tail-end}
 use Rattle.closing.proofs.Listed.{coordinate-is}
-use Rattle.numbering.proofs.Striped.{starts-rise}
+use Rattle.closing.proofs.Calls.{start-rises}
 use Rattle.net_points.proofs.writing.Laws.{reaches-part}
 use Rattle.net_points.proofs.writing.Groups.{no-size}
 use Rattle.net_points.proofs.writing.Fill.{fills-of}
@@ -60,7 +60,7 @@ face-size M levels c a p = p
 
 -- ---- the group that has a number between two starts
 start-le : (l : List ℕ) (i j : ℕ) → i ≤ j → j ≤ length l → startOf l i ≤ startOf l j
-start-le l i j h b = subst (λ (x : ℕ). startOf l i ≤ startOf l x) (let z : i + (j - i) ≡ j = omega arith in z) (starts-rise l i (j - i) (omega arith))
+start-le l i j h b = subst (λ (x : ℕ). startOf l i ≤ startOf l x) (let z : i + (j - i) ≡ j = omega arith in z) (start-rises l i (j - i))
 
 group-of : (l : List ℕ) (lo hi n : ℕ) → lo ≤ hi → hi ≤ length l → startOf l lo ≤ n → n < startOf l hi
     → (lo ≤ faceOf l n) × (faceOf l n < hi) × OfFace l n (faceOf l n)
@@ -205,7 +205,7 @@ module _ (M : Mesh) (levels : List ℕ) (ok : Accepted M) (leveled : Leveled M l
   pub place-below : (g place : ℕ) → g < groups → place < shapeGroup s g → shapeStart s g + place < shapeSize s
   place-below g place l b =
       let e = start-is g place b in let n = step g l in let t = all-is in
-      let r = starts-rise (pointGroups M levels) (groups * c + (g + 1)) (groups * (c + 1) - (groups * c + (g + 1))) (omega (arith, groups-length M levels)) in
+      let r = start-rises (pointGroups M levels) (groups * c + (g + 1)) (groups * (c + 1) - (groups * c + (g + 1))) in
       let q = last-start in
       let m = ap (startOf (pointGroups M levels)) (let z : groups * c + (g + 1) + (groups * (c + 1) - (groups * c + (g + 1))) ≡ groups * (c + 1) = omega arith in z) in
       omega arith

@@ -8,7 +8,7 @@ use Rattle.paper.specs.Net.{side0, side1}
 use Rattle.paper.specs.Calls.{nets}
 use Rattle.paper.specs.Triangles.{level, segments, groupSize, coordinateAt}
 use Rattle.net_points.specs.declared.writing.Shape.{Shape}
-use Rattle.numbering.specs.PointRows.{Stands}
+use Rattle.strips.specs.PointRows.{Stands}
 use Rattle.numbering.specs.Meshed.{Of}
 
 -- the shape of corner c

@@ -65,7 +65,7 @@ pub(crate) fn fill(
         count,
         points,
     );
-    numbering::put_indices(corners, &low, table, levels, first, count, triangles);
+    index_list::put_indices(corners, &low, table, levels, first, count, triangles);
     counted
 }
 

@@ -16,7 +16,7 @@ ghost use Rattle.numbers.specs.Stored.{stored};
 ghost use Rattle.surface.specs.Points.{pointRow};
 ghost use Rattle.refine.specs.sums.Sources.{SmallPoints};
 ghost use Rattle.building.specs.writing.Written.{NetsDrawn};
-ghost use Rattle.numbering.specs.PointRows.{Stands};
+ghost use Rattle.strips.specs.PointRows.{Stands};
 ghost use Rattle.numbering.specs.Meshed.{Given, Of};
 ghost use Rattle.triangles.specs.Owned.{Netted};
 ghost use Rattle.triangles.specs.runs.Chosen.{Drawing, ownBefore, ownAt, ownList, lentOf};

@@ -11,7 +11,7 @@ use Rattle.paper.specs.Sampling.{sideAt}
 use Rattle.paper.specs.Triangles.{turnWeights}
 use Rattle.paper.specs.Tangents.{tangentPair}
 use Rattle.net_points.specs.declared.writing.Shape.{Shape}
-use Rattle.numbering.specs.PointRows.{FilledTo, Fills}
+use Rattle.strips.specs.PointRows.{FilledTo, Fills}
 use Rattle.net_points.specs.writing.Shapes.{Shapely, shapeGroup, shapeRings, shapeStart, shapeSize}
 use Rattle.net_points.specs.tangent_writing.Paired.{partNumber, RingPairs, CentrePair, RingsPaired, shapePair, PairAim, NetPaired}
 use Rattle.closing.proofs.Listed.{ring-side, ring-rest}

@@ -24,12 +24,12 @@ use Rattle.sampling.proofs.TangentLaws.{along-value, inward-value, pair-is}
 use Rattle.net_points.specs.declared.writing.Shape.{Shape}
 use Rattle.net_points.specs.declared.tangent_writing.Slopes.{Slopes}
 use Rattle.net_points.specs.declared.tangent_writing.RowSlopes.{RowSlopes}
-use Rattle.numbering.specs.PointRows.{FilledTo, Fills}
+use Rattle.strips.specs.PointRows.{FilledTo, Fills}
 use Rattle.net_points.specs.writing.Laid.{ringAt}
 use Rattle.net_points.specs.writing.Shapes.{Shapely, shapeGroup, shapeRings, shapeStart, shapeSize}
 use Rattle.net_points.specs.tangent_writing.Paired.{Sloped, RowTapering, rowsAt, sixAt, tailAt, placesNumber, partNumber, RingPairs, CentrePair, RingsPaired}
 use Rattle.net_points.specs.tangent_writing.Paired.{shapePair, PairAim, NetPaired}
-use Rattle.numbering.proofs.Rowed.{fills-more}
+use Rattle.strips.proofs.Rowed.{fills-more}
 use Rattle.closing.proofs.Listed.{ring-side, ring-rest}
 use Rattle.net_points.proofs.writing.Laws.{ring-room}
 use Rattle.net_points.proofs.writing.Groups.{ring-size, centre-size, centre-start}

@@ -13,7 +13,7 @@ use lib.IntN.{ℤ, pos}
 use Rattle.paper.specs.Scan.{valuesFrom}
 use Rattle.mesh.proofs.Scans.{ways}
 use Rattle.mesh.proofs.Links.{values-length, values-at}
-use Rattle.numbering.specs.PointRows.{Fills}
+use Rattle.strips.specs.PointRows.{Fills}
 use Rattle.net_points.specs.writing.Laid.{Reaches}
 
 -- ---- a list that is filled, number by number

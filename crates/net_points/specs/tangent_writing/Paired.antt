@@ -18,7 +18,7 @@ use Rattle.bernstein.specs.Tangents.{alongOf, inwardOf}
 use Rattle.net_points.specs.declared.writing.Shape.{Shape}
 use Rattle.net_points.specs.declared.tangent_writing.Slopes.{Slopes}
 use Rattle.net_points.specs.declared.tangent_writing.RowSlopes.{RowSlopes}
-use Rattle.numbering.specs.PointRows.{FilledTo}
+use Rattle.strips.specs.PointRows.{FilledTo}
 use Rattle.net_points.specs.writing.Laid.{ringAt}
 use Rattle.net_points.specs.writing.Shapes.{shapeGroup, shapeStart, shapeSize}
 

@@ -11,8 +11,8 @@ use Rattle.mesh.proofs.Verdicts.{single-hit, single-miss, orElse-fault, orElse-
 use Rattle.mesh.proofs.Links.{values-length}
 use Rattle.paper.specs.Scan.{valuesFrom}
 use Rattle.paper.specs.Off.{wordsOf, sideCount, vertexNumber, naturalAt, sidesAt, faceAfter, endFrom, badFrom, badFaces, sidesFrom, cornersFrom}
-use Rattle.off.specs.words.Cursor.{Before}
-use Rattle.off.specs.declared.words.Cursor.{Cursor}
+use Rattle.off_words.specs.Cursor.{Before}
+use Rattle.off_words.specs.declared.Cursor.{Cursor}
 use Rattle.off.specs.lists.Reading.{NaturalRead, Stored, ListRead, FaceRead, FacesRead}
 use Rattle.off.specs.declared.lists.Natural.{Natural}
 use Rattle.off.specs.declared.lists.Progress.{Progress}

@@ -12,18 +12,14 @@ use Rattle.mesh.proofs.Scans.{clash}
 use Rattle.mesh.proofs.Verdicts.{single-hit, single-miss}
 use Rattle.paper.specs.Faults.{fault}
 use Rattle.paper.specs.Off.{wordsOf, isNumber, valueOf, upTo, listCount, allowed, bad, vertices, faces, badFrom}
-use Rattle.off.specs.words.Cursor.{Before, NumberRead}
-use Rattle.off.specs.declared.words.Cursor.{Cursor}
-use Rattle.off.specs.declared.words.Number.{Number}
+use Rattle.off_words.specs.Cursor.{Before, NumberRead}
+use Rattle.off_words.specs.declared.Cursor.{Cursor}
+use Rattle.off_words.specs.declared.Number.{Number}
 use Rattle.off.specs.lists.Reading.{NaturalRead, HeaderRead}
 use Rattle.off.specs.declared.lists.Natural.{Natural}
 use Rattle.off.specs.declared.lists.Header.{Header}
 use Rattle.off.proofs.lists.Bad.{no-number, serves, not-allowed, natural-is, below-zero, too-large, within-is, first-bad, second-bad, third-bad}
 use Rattle.off.proofs.lists.Bad.{none-bad}
-
--- a cursor's own word number
-pub own : (text : List ℕ) (n : ℕ) (c : Cursor) → Before text n c → Before text (c .word) c
-own text n c b = subst (λ (k : ℕ). Before text k c) (sym (b .number)) b
 
 module _ (text : List ℕ) (n most : ℕ) (m : Number) (e : NumberRead text n m) where
   none : (r : Natural) → r .ok ≡ false → r .value ≡ 0 → bad (wordsOf text) (upTo most) n ≡ true → NaturalRead text n most r

@@ -13,9 +13,9 @@ use Rattle.mesh.proofs.Verdicts.{single-hit, single-miss}
 use Rattle.paper.specs.Scan.{valuesFrom}
 use Rattle.paper.specs.Faults.{fault}
 use Rattle.paper.specs.Off.{Kind, coordinate, vertexNumber, wordsOf, isNumber, valueOf, bad, valueAt, naturalAt, badFrom}
-use Rattle.off.specs.words.Cursor.{Before, NumberRead}
-use Rattle.off.specs.declared.words.Number.{Number}
-use Rattle.off.specs.declared.words.Cursor.{Cursor}
+use Rattle.off_words.specs.Cursor.{Before, NumberRead}
+use Rattle.off_words.specs.declared.Number.{Number}
+use Rattle.off_words.specs.declared.Cursor.{Cursor}
 use Rattle.off.specs.lists.Reading.{Stored, ListRead, NaturalRead}
 use Rattle.off.specs.declared.lists.Natural.{Natural}
 use Rattle.off.proofs.lists.Bad.{no-number, serves, value-is, left-stop, left-step, left-none, never}

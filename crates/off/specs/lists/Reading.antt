@@ -8,8 +8,8 @@ use Rattle.paper.specs.Scan.{valuesFrom}
 use Rattle.paper.specs.Faults.{Verdict, _orElse_, single}
 use Rattle.paper.specs.Off.{Kind, upTo, listCount, sideCount, vertexNumber, wordsOf, bad, naturalAt, vertices, faces, sidesAt, faceAfter}
 use Rattle.paper.specs.Off.{endFrom, badFrom, badFaces, sidesFrom, cornersFrom}
-use Rattle.off.specs.words.Cursor.{Before}
-use Rattle.off.specs.declared.words.Cursor.{Cursor}
+use Rattle.off_words.specs.Cursor.{Before}
+use Rattle.off_words.specs.declared.Cursor.{Cursor}
 use Rattle.off.specs.declared.lists.Natural.{Natural}
 use Rattle.off.specs.declared.lists.Progress.{Progress}
 use Rattle.off.specs.declared.lists.Header.{Header}

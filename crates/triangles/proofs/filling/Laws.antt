@@ -20,7 +20,7 @@ use Rattle.mesh.proofs.Verdicts.{sound-left, sound-right, single-sound, past, o
 use Rattle.triangles.specs.Checks.{CountedAs}
 use Rattle.triangles.specs.filling.Filled.{TrianglesFilled}
 use Rattle.triangles.specs.Owned.{Pointed}
-use Rattle.numbering.proofs.Stood.{filled-list}
+use Rattle.strips.proofs.Stood.{filled-list}
 
 -- ---- what the call answers and leaves
 module _ (M : Mesh) (links levels : List ℕ) (first count : ℕ) where

@@ -18,8 +18,8 @@ use Rattle.closing.proofs.Calls.{points-between}
 use Rattle.net.specs.sides.Drawn.{drawn}
 use Rattle.building.specs.writing.Written.{NetsDrawn, NetsWritten}
 use Rattle.building.proofs.writing.Laws.{drawn-written}
-use Rattle.numbering.specs.PointRows.{Stands}
-use Rattle.numbering.proofs.Stood.{put-as, put-join}
+use Rattle.strips.specs.PointRows.{Stands}
+use Rattle.strips.proofs.Stood.{put-as, put-join}
 use Rattle.triangles.specs.tangent_filling.Paired.{tangentsBefore}
 use Rattle.triangles.specs.runs.Chosen.{ownBefore, ownAt, ownList, lentOf}
 use Rattle.triangles.proofs.filling.Laws.{points-filled}

@@ -26,13 +26,13 @@ use Rattle.closing.proofs.Partners.{Leveled}
 use Rattle.closing.proofs.Numbered.{In, group-is, number-is}
 use Rattle.closing.proofs.Calls.{points-between}
 use Rattle.net_points.specs.declared.writing.Shape.{Shape}
-use Rattle.numbering.specs.PointRows.{FilledTo, Fills}
+use Rattle.strips.specs.PointRows.{FilledTo, Fills}
 use Rattle.triangles.specs.Owned.{ShapeOf}
 use Rattle.net_points.specs.writing.Shapes.{shapeGroup, shapeStart, shapeSize}
 use Rattle.net_points.specs.tangent_writing.Paired.{shapePair, PairAim, NetPaired}
 use Rattle.triangles.specs.tangent_filling.Paired.{tangentsBefore, TangentsPut, PairsFilled}
 use Rattle.triangles.proofs.Own.{in-group, all-is, place-below}
-use Rattle.numbering.proofs.Stood.{filled-list}
+use Rattle.strips.proofs.Stood.{filled-list}
 
 -- ---- the list
 module _ (M : Mesh) (levels : List ℕ) where

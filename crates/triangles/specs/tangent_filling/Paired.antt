@@ -11,7 +11,7 @@ use Rattle.paper.specs.File.{noRoom, begins}
 use Rattle.paper.specs.Triangles.{pointsBefore}
 use Rattle.paper.specs.Tangents.{tangentAt, tangentList}
 use Rattle.paper.specs.declared.Tangents.{Tangents}
-use Rattle.numbering.specs.PointRows.{Stands}
+use Rattle.strips.specs.PointRows.{Stands}
 
 -- how many tangents the corners before c have: two for each point
 abbrev pub tangentsBefore : Mesh → List ℕ → ℕ → ℕ

@@ -6,9 +6,9 @@ use native.Mathlib.Omega.{arith}
 use borrow.Author.Needs.{needs}
 use lib.ListN.{length}
 use denote.Ref.{now}
-use Rattle.numbering.specs.PointRows.{Fills}
+use Rattle.strips.specs.PointRows.{Fills}
 use Rattle.net_points.specs.tangent_writing.Paired.{placesNumber}
-use Rattle.numbering.proofs.Rowed.{fills-none}
+use Rattle.strips.proofs.Rowed.{fills-none}
 use Rattle.net_points.proofs.tangent_writing.Laws.{places-step}
 use Rattle.net_points.proofs.tangent_writing.put_places.Statement.{statement}
 use Rattle.net_points.proofs.tangent_writing.put_places.Tie as tie

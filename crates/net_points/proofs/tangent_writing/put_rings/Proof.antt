@@ -8,7 +8,7 @@ use lib.Dec.{lit≤}
 use lib.ListN.{length}
 use lib.IntN.{ℤ}
 use denote.Ref.{now}
-use Rattle.numbering.specs.PointRows.{FilledTo}
+use Rattle.strips.specs.PointRows.{FilledTo}
 use Rattle.net_points.specs.tangent_writing.Paired.{RingPairs}
 use Rattle.net_points.proofs.tangent_writing.Laws.{places-part, ring-step, ring-fits, ring-next, last-fits, rings-end}
 use Rattle.net_points.proofs.tangent_writing.put_rings.Statement.{statement}

@@ -2,7 +2,7 @@
 use mathlib.Core.Path.{_≡_, sym, _∙_}
 use mathlib.Core.Bool.{true}
 use borrow.Author.Tests.{not-true, not-false}
-use Rattle.off.proofs.lists.Naturals.{own}
+use Rattle.off_words.proofs.Cursors.{own}
 use Rattle.off.proofs.checking.Parts.{header-refused, vertices-refused, faces-refused, more-refused, words-done}
 use borrow.Author.Needs.{needs}
 use Rattle.off.proofs.checking.read_words.Tie as tie

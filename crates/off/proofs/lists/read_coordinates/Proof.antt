@@ -2,7 +2,7 @@
 use borrow.Author.Tests.{not-true, not-false}
 use mir.Syntax.{w32}
 use mir.ValLaws.{toZ-ofZ}
-use Rattle.off.proofs.lists.Naturals.{own}
+use Rattle.off_words.proofs.Cursors.{own}
 use Rattle.off.proofs.lists.Readings.{coordinate-bad, coordinate-step, Reading, reading-none, reading-stop, reading-all}
 use Prim.Native.Nat.{_≤_, _-_}
 use Rattle.paper.specs.Off.{coordinate, wordsOf, valueAt}

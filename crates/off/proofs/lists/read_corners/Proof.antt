@@ -1,6 +1,6 @@
 -- Each word is a vertex number and is stored where there is room, or ends the reading.
 use borrow.Author.Tests.{not-true, not-false}
-use Rattle.off.proofs.lists.Naturals.{own}
+use Rattle.off_words.proofs.Cursors.{own}
 use Rattle.off.proofs.lists.Readings.{corner-bad, corner-step, Reading, reading-none, reading-stop, reading-all}
 use Prim.Native.Nat.{_≤_, _-_}
 use Rattle.paper.specs.Off.{vertexNumber, wordsOf, naturalAt}

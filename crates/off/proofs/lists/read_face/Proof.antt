@@ -1,6 +1,6 @@
 -- A side count, stored where there is room, and then its corners.
 use borrow.Author.Tests.{not-true, not-false}
-use Rattle.off.proofs.lists.Naturals.{own}
+use Rattle.off_words.proofs.Cursors.{own}
 use Rattle.off.proofs.lists.Facing.{face-none, face-read}
 use native.Mathlib.Omega.{arith}
 use borrow.Author.Needs.{needs}

@@ -3,7 +3,8 @@ use mathlib.Core.Path.{_≡_}
 use mathlib.Core.Bool.{true}
 use borrow.Author.Tests.{not-true, not-false}
 use Rattle.off.specs.lists.Reading.{NaturalRead}
-use Rattle.off.proofs.lists.Naturals.{own, natural-at, header-first, header-second, header-third, header-read}
+use Rattle.off_words.proofs.Cursors.{own}
+use Rattle.off.proofs.lists.Naturals.{natural-at, header-first, header-second, header-third, header-read}
 use borrow.Author.Needs.{needs}
 use Rattle.off.proofs.lists.read_header.Tie as tie
 

@@ -11,10 +11,10 @@ use Rattle.paper.specs.Faults.{sound}
 use Rattle.paper.specs.Floats.{netVerdict}
 use Rattle.paper.specs.Calls.{perCorner, nets}
 use Rattle.numbering.specs.Meshed.{Of}
-use Rattle.numbering.specs.PointRows.{Stands}
+use Rattle.strips.specs.PointRows.{Stands}
 use Rattle.triangles.specs.runs.Chosen.{ownBefore, ownAt, lentOf}
 use Rattle.triangles.proofs.Own.{nets-length, net-part, net-sound}
-use Rattle.numbering.proofs.Stood.{put-none, range-step, range-end}
+use Rattle.strips.proofs.Stood.{put-none, range-step, range-end}
 use Rattle.triangles.proofs.runs.Laws.{own-between, lentOf-long}
 use Rattle.triangles.proofs.runs.put_run.Statement.{statement}
 use Rattle.triangles.proofs.runs.put_run.Tie as tie

@@ -10,9 +10,9 @@ use Rattle.paper.specs.Mesh.{Mesh, cornerCount}
 use Rattle.paper.specs.Calls.{perCorner, nets}
 use Rattle.building.specs.writing.Written.{NetsDrawn}
 use Rattle.numbering.specs.Meshed.{Of}
-use Rattle.numbering.specs.PointRows.{Stands}
+use Rattle.strips.specs.PointRows.{Stands}
 use Rattle.triangles.specs.runs.Chosen.{ownBefore, ownAt, lentOf}
-use Rattle.numbering.proofs.Stood.{put-none}
+use Rattle.strips.proofs.Stood.{put-none}
 use Rattle.triangles.proofs.runs.Laws.{run-step, run-room, run-end, run-nets, own-between, own-filled, lentOf-long}
 use Rattle.triangles.proofs.runs.put_runs.Statement.{statement}
 use Rattle.triangles.proofs.runs.put_runs.Tie as tie

@@ -1,0 +1,3 @@
+pub mod Rowed
+pub mod Plains
+pub mod Stood
