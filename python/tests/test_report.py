@@ -182,7 +182,7 @@ def test_a_process_that_is_killed_ends_the_run(room):  # noqa: F811
     one.write_bytes(mahunopi.encode(whole(*round_torus(16, 32), 10_000)))
     for number in range(20_000):
         os.link(one, f"year/{number:04}.dms")
-    process = subprocess.Popen([*COMMAND, "report", "year", "--jobs", "2"], stdout=subprocess.PIPE, stderr=subprocess.PIPE)
+    process = subprocess.Popen([*COMMAND, "report", "year", "--jobs", "3"], stdout=subprocess.PIPE, stderr=subprocess.PIPE)
     children = Path(f"/proc/{process.pid}/task/{process.pid}/children")
     for _ in range(300):
         if len(children.read_text().split()) == 2:
