@@ -11,7 +11,7 @@ import signal
 from codecs import BOM_UTF8
 
 from ._header import LIMITS
-from .library import HEADER, MOST_MISS, TYPE_CHECKING, UNIT, Refused, functions
+from .library import HEADER, MOST_MISS, SIGNALS, TYPE_CHECKING, UNIT, Refused, functions
 
 if TYPE_CHECKING:
     from typing import Any, Callable, Dict, Iterator, List, NoReturn, Optional, Sequence, Tuple
@@ -168,8 +168,8 @@ def chunks_of(names: Sequence[str], jobs: int, meanwhile: Callable[[], None] = l
 
 def _start(chunks: Sequence[Sequence[str]], count: int, numbers: int, workers: Dict[int, int]) -> None:
     """Starts processes that report on chunks. multiprocessing would do, and takes as long to import as hundreds of files."""
-    # an interrupt goes to all processes of a terminal; it is for the first one to end the others
-    held = signal.pthread_sigmask(signal.SIG_BLOCK, (signal.SIGINT, signal.SIGTERM))
+    # an interrupt goes to all processes of a terminal, as its end does; it is for the first one to end the others
+    held = signal.pthread_sigmask(signal.SIG_BLOCK, SIGNALS)
     try:
         for _ in range(count):
             ours, theirs = os.pipe()
@@ -186,16 +186,17 @@ def _work(chunks: Sequence[Sequence[str]], numbers: int, pipe: int) -> NoReturn:
     """What a process does: reports on chunk after chunk, and writes what it found."""
     status = 1
     try:
-        signal.signal(signal.SIGINT, signal.SIG_IGN)
+        for number in (signal.SIGINT, signal.SIGHUP):
+            signal.signal(number, signal.SIG_IGN)
         signal.signal(signal.SIGTERM, signal.SIG_DFL)
-        signal.pthread_sigmask(signal.SIG_UNBLOCK, (signal.SIGINT, signal.SIGTERM))
+        signal.pthread_sigmask(signal.SIG_UNBLOCK, SIGNALS)
         with open(pipe, "wb") as out:
-            number = os.read(numbers, NUMBER_BYTES)
-            while number:
-                found = marshal.dumps(vars(report_on(chunks[int.from_bytes(number, "little")])))
-                out.write(number + len(found).to_bytes(NUMBER_BYTES, "little") + found)
+            chunk = os.read(numbers, NUMBER_BYTES)
+            while chunk:
+                found = marshal.dumps(vars(report_on(chunks[int.from_bytes(chunk, "little")])))
+                out.write(chunk + len(found).to_bytes(NUMBER_BYTES, "little") + found)
                 out.flush()
-                number = os.read(numbers, NUMBER_BYTES)
+                chunk = os.read(numbers, NUMBER_BYTES)
         status = 0
     except BrokenPipeError:
         pass  # the first process has ended
