@@ -15,7 +15,7 @@ import sys
 
 # what only one of the commands needs, numpy above all, is imported there: a report starts in half the time
 from ._header import LIMITS, __version__
-from .library import DEFAULT_LARGEST, LARGEST_COORDINATE, MOST_SPACING, TYPE_CHECKING, Refused, Unreadable
+from .library import DEFAULT_LARGEST, LARGEST_COORDINATE, MOST_SPACING, SIGNALS, TYPE_CHECKING, Refused, Unreadable
 
 if TYPE_CHECKING:
     from fractions import Fraction
@@ -26,8 +26,7 @@ if TYPE_CHECKING:
 
 MAX_PARTS = LIMITS["MAX_PARTS"]
 REFUSED, FAILED = 1, 2
-INTERRUPTED, BROKEN_PIPE, ENDED = 130, 141, 143
-SIGNALS = (signal.SIGINT, signal.SIGTERM, signal.SIGHUP)
+INTERRUPTED, BROKEN_PIPE = 130, 141
 MOST_JOBS = 1024
 DEFAULT_LEVEL = 4
 FORMATS = "OBJ, PLY, STL and GLB"
@@ -708,8 +707,8 @@ def run_report(asked: argparse.Namespace) -> int:
                 _advance(chunk.names)
     except KeyboardInterrupt:
         stopped = INTERRUPTED
-    except SystemExit:
-        stopped = ENDED
+    except SystemExit as ended:
+        stopped = ended.code
     except Lost:
         stopped, why = FAILED, "a process was ended from outside"
     if stopped:

@@ -39,9 +39,10 @@ class Imported:
 def import_model(model: Model, largest: int = DEFAULT_LARGEST, step: Optional[float] = None, as_drawn: bool = False,
                  sharpness: Optional[float] = None) -> Imported:
     """The mesh of a model. It is centred; its largest coordinate becomes `largest` steps, or a step is `step` of the model's units.
-    Equal points become one, unused ones and faces that shrink to nothing are left out, and faces are turned to run the same way
-    round, clockwise seen from outside unless `as_drawn`. `sharpness` is an angle in degrees: corners across both of whose edges the
-    surface bends by more get sharpness 16 and 16. Raises `Refused`, with the model's own points in its words."""
+    Equal points become one. Unused points, and faces that shrink to nothing, are left out. Faces are turned to run the same way round,
+    and then all of them to run clockwise seen from outside, unless `as_drawn`. `sharpness` is an angle in degrees: a corner gets
+    sharpness 16 and 16 where the model bends by more across both of its edges. Raises `Refused`, with the model's own points in its
+    words."""
     if not model.sides.size:
         raise Refused(4, 0, "it has no faces", "")
     used, named = np.unique(model.corners, return_inverse=True)

@@ -5,6 +5,7 @@ from __future__ import annotations
 
 import ctypes
 import os
+import signal
 
 from ._header import CALLS, REFUSALS
 
@@ -28,6 +29,8 @@ MOST_SPACING = 1 << 27
 CONTROL = [[0, 1, 2, 3, 4, 25, 26, 27, 28, 6, 7, 8, 30, 31, 12], [24, 19, 14, 9, 4, 40, 36, 32, 28, 18, 13, 8, 35, 31, 12],
            [24, 23, 22, 21, 20, 40, 39, 38, 37, 18, 17, 16, 35, 34, 12], [0, 5, 10, 15, 20, 25, 29, 33, 37, 6, 11, 16, 30, 34, 12]]
 """The control points of each side's triangle, in rows from the side to the centre, each from the head, as the header has them."""
+SIGNALS = (signal.SIGINT, signal.SIGTERM, signal.SIGHUP)
+"""The signals by which somebody ends a command."""
 MARK = b"DMS"
 HEADER = len(MARK) + 4 * 2
 """The bytes of a .dms file before its lists."""

@@ -18,7 +18,7 @@ from typing import Any, Dict, Iterator, List, NoReturn, Optional, Sequence, Tupl
 
 import numpy as np
 
-from .library import Unreadable
+from .library import SIGNALS, Unreadable
 
 
 @dataclass
@@ -437,7 +437,7 @@ def _read_apart(data: bytes, form: str, path: Optional[str], pipe: int) -> NoRet
     """What that process does. What assimp writes by itself goes nowhere."""
     status = 1
     try:
-        for number in (signal.SIGINT, signal.SIGTERM, signal.SIGHUP):
+        for number in SIGNALS:
             signal.signal(number, signal.SIG_DFL)
         faulthandler.disable()
         resource.setrlimit(resource.RLIMIT_CORE, (0, 0))

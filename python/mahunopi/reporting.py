@@ -11,7 +11,7 @@ import signal
 from codecs import BOM_UTF8
 
 from ._header import LIMITS
-from .library import HEADER, MOST_MISS, TYPE_CHECKING, UNIT, Refused, functions
+from .library import HEADER, MOST_MISS, SIGNALS, TYPE_CHECKING, UNIT, Refused, functions
 
 if TYPE_CHECKING:
     from typing import Any, Callable, Dict, Iterator, List, NoReturn, Optional, Sequence, Tuple
@@ -122,7 +122,7 @@ def _refusal(data: bytes, length: int) -> Tuple[int, int]:
 
 def read_file(name: str) -> Tuple[bytes, int]:
     """A file's bytes, as many as a mesh may have, and its length."""
-    file = os.open(name, os.O_RDONLY | os.O_CLOEXEC)
+    file = os.open(name, os.O_RDONLY)
     try:
         data = os.read(file, LONGEST_FILE + 1)
         return data, len(data) if len(data) <= LONGEST_FILE else max(len(data), os.fstat(file).st_size)
@@ -131,44 +131,47 @@ def read_file(name: str) -> Tuple[bytes, int]:
 
 
 def chunks_of(names: Sequence[str], jobs: int, meanwhile: Callable[[], None] = lambda: None) -> Iterator[Found]:
-    """What the files show, chunk by chunk in the order of the names, on so many processors. `meanwhile` is called once, where there are
-    several when these are at work."""
+    """What the files show, chunk by chunk in the order of the names, on so many processors: this process works, and further ones do.
+    `meanwhile` is called once, when the further ones are at work."""
     size = LEAST_CHUNK
     while size < MOST_CHUNK and 16 * jobs * size <= len(names):
         size *= 2
     chunks = [names[at: at + size] for at in range(0, len(names), size)]
-    if min(jobs, len(chunks)) <= 1:
-        meanwhile()
-        yield from map(report_on, chunks)
-        return
     workers: Dict[int, int] = {}
     """The process at the other end of each pipe."""
     ready: Dict[int, Found] = {}
+    # the numbers of the chunks in a file without a name: the processes read it at a common place, so that each number is read once
+    numbers = os.memfd_create("chunks")
     try:
-        _start(chunks, min(jobs, len(chunks)), workers)
+        os.write(numbers, b"".join(number.to_bytes(NUMBER_BYTES, "little") for number in range(len(chunks))))
+        os.lseek(numbers, 0, os.SEEK_SET)
+        _start(chunks, min(jobs, len(chunks)) - 1, numbers, workers)
         meanwhile()
         for number in range(len(chunks)):
             while number not in ready:
-                for pipe in select.select(list(workers), [], [])[0]:
+                own = os.read(numbers, NUMBER_BYTES)
+                if own:
+                    chunk = int.from_bytes(own, "little")
+                    ready[chunk] = report_on(chunks[chunk])
+                elif not workers:
+                    raise Lost
+                for pipe in select.select(list(workers), [], [], 0 if own else None)[0]:
                     _take(pipe, workers, ready)
             yield ready.pop(number)
     finally:
+        os.close(numbers)
         for pipe, process in workers.items():
             os.kill(process, signal.SIGKILL)
             os.waitpid(process, 0)
             os.close(pipe)
 
 
-def _start(chunks: Sequence[Sequence[str]], jobs: int, workers: Dict[int, int]) -> None:
+def _start(chunks: Sequence[Sequence[str]], count: int, numbers: int, workers: Dict[int, int]) -> None:
     """Starts processes that report on chunks. multiprocessing would do, and takes as long to import as hundreds of files."""
-    # the numbers of the chunks in a file without a name: the processes read it at a common place, so that each number is read once
-    numbers = os.memfd_create("chunks")
-    os.write(numbers, b"".join(number.to_bytes(NUMBER_BYTES, "little") for number in range(len(chunks))))
-    os.lseek(numbers, 0, os.SEEK_SET)
-    # an interrupt goes to all processes of a terminal; it is for the first one, which only adds, to end the others
-    held = signal.pthread_sigmask(signal.SIG_BLOCK, (signal.SIGINT, signal.SIGTERM))
+    # an interrupt goes to all processes of a terminal, as its end does; it is for the first one to end the others
+    held = signal.pthread_sigmask(signal.SIG_BLOCK, SIGNALS)
     try:
-        for _ in range(jobs):
+        for _ in range(count):
             ours, theirs = os.pipe()
             process = os.fork()
             if process == 0:
@@ -177,23 +180,23 @@ def _start(chunks: Sequence[Sequence[str]], jobs: int, workers: Dict[int, int]) 
             workers[ours] = process
     finally:
         signal.pthread_sigmask(signal.SIG_SETMASK, held)
-        os.close(numbers)
 
 
 def _work(chunks: Sequence[Sequence[str]], numbers: int, pipe: int) -> NoReturn:
     """What a process does: reports on chunk after chunk, and writes what it found."""
     status = 1
     try:
-        signal.signal(signal.SIGINT, signal.SIG_IGN)
+        for number in (signal.SIGINT, signal.SIGHUP):
+            signal.signal(number, signal.SIG_IGN)
         signal.signal(signal.SIGTERM, signal.SIG_DFL)
-        signal.pthread_sigmask(signal.SIG_UNBLOCK, (signal.SIGINT, signal.SIGTERM))
+        signal.pthread_sigmask(signal.SIG_UNBLOCK, SIGNALS)
         with open(pipe, "wb") as out:
-            number = os.read(numbers, NUMBER_BYTES)
-            while number:
-                found = marshal.dumps(vars(report_on(chunks[int.from_bytes(number, "little")])))
-                out.write(number + len(found).to_bytes(NUMBER_BYTES, "little") + found)
+            chunk = os.read(numbers, NUMBER_BYTES)
+            while chunk:
+                found = marshal.dumps(vars(report_on(chunks[int.from_bytes(chunk, "little")])))
+                out.write(chunk + len(found).to_bytes(NUMBER_BYTES, "little") + found)
                 out.flush()
-                number = os.read(numbers, NUMBER_BYTES)
+                chunk = os.read(numbers, NUMBER_BYTES)
         status = 0
     except BrokenPipeError:
         pass  # the first process has ended
@@ -206,12 +209,12 @@ def _work(chunks: Sequence[Sequence[str]], numbers: int, pipe: int) -> NoReturn:
 
 
 def _take(pipe: int, workers: Dict[int, int], ready: Dict[int, Found]) -> None:
-    """Takes what a process has written of a chunk; or its end, which is in order when nothing is left to do."""
+    """Takes what a process has written of a chunk; or its end, which is in order when nothing was left for it to do."""
     head = os.read(pipe, 2 * NUMBER_BYTES)
     if not head:
         status = os.waitpid(workers.pop(pipe), 0)[1]
         os.close(pipe)
-        if status or not workers:
+        if status:
             raise Lost
         return
     length = int.from_bytes(head[NUMBER_BYTES:], "little")

@@ -152,7 +152,7 @@ def test_names(room):  # noqa: F811
 
 
 @pytest.mark.parametrize("jobs", ["1", "2"])
-@pytest.mark.parametrize("kind, status", [(signal.SIGINT, 130), (signal.SIGTERM, 143)])
+@pytest.mark.parametrize("kind, status", [(signal.SIGINT, 130), (signal.SIGTERM, 143), (signal.SIGHUP, 129)])
 def test_an_interrupt_prints_the_page_so_far(room, jobs, kind, status):  # noqa: F811
     (room / "year").mkdir()
     one = room / "one.dms"
@@ -166,7 +166,7 @@ def test_an_interrupt_prints_the_page_so_far(room, jobs, kind, status):  # noqa:
     Path("names").write_text("\n".join(names))
     time.sleep(1.5)
     # as a terminal does: to all processes of the run
-    os.killpg(process.pid, kind) if kind == signal.SIGINT else process.send_signal(kind)
+    os.killpg(process.pid, kind) if kind != signal.SIGTERM else process.send_signal(kind)
     out, err = process.communicate(timeout=60)
     assert process.returncode == status
     told = json.loads(out)
@@ -182,7 +182,7 @@ def test_a_process_that_is_killed_ends_the_run(room):  # noqa: F811
     one.write_bytes(mahunopi.encode(whole(*round_torus(16, 32), 10_000)))
     for number in range(20_000):
         os.link(one, f"year/{number:04}.dms")
-    process = subprocess.Popen([*COMMAND, "report", "year", "--jobs", "2"], stdout=subprocess.PIPE, stderr=subprocess.PIPE)
+    process = subprocess.Popen([*COMMAND, "report", "year", "--jobs", "3"], stdout=subprocess.PIPE, stderr=subprocess.PIPE)
     children = Path(f"/proc/{process.pid}/task/{process.pid}/children")
     for _ in range(300):
         if len(children.read_text().split()) == 2:
