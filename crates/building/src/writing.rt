@@ -38,7 +38,7 @@ pub fn fill_range(
     requires points { ⌜ (pointRow * length (now corners) ≤ length (now points)) × SmallPoints (now points) ⌝ }
     ensures { λ _. ⌜ NetsDrawn (meshOf (now (coordinates .entry)) (now (sides .entry)) (now (corners .entry)) (now (sharpness .entry))) (now (table .entry)) (now (points .exit)) first count ⌝ }
 {
-    let start = face_start(table, first);
+    let start = walk::face_start(table, first);
     let end = face_end(table, first + count - 1);
     let mut marked = [0u8; MOST_VERTICES];
     refine::mark_vertices(corners, start, end - start, &mut marked);
@@ -53,29 +53,12 @@ pub fn fill_range(
     );
 }
 
-// The first corner of a corner's face: there the previous corner is not the one before it in the list.
-fn face_start(table: &[u16], c: usize) -> usize
-    requires { ⌜ InFace (now table) c ⌝ }
-    ensures { λ r. ⌜ ((sides : List ℕ) → WalksFaces sides (now (table .entry)) → c < sumOf sides → r ≡ firstOf sides c) ⌝ }
-{
-    let mut start = c;
-    loop {
-        let at = Walker { corner: start };
-        let back = at.previous(table);
-        if start < back.corner {
-            break;
-        }
-        start = back.corner;
-    }
-    start
-}
-
 // The corner after the last one of a corner's face.
 fn face_end(table: &[u16], c: usize) -> usize
     requires { ⌜ InFace (now table) c ⌝ }
     ensures { λ r. ⌜ ((sides : List ℕ) → WalksFaces sides (now (table .entry)) → c < sumOf sides → r ≡ firstOf sides c + sidesOf sides c) ⌝ }
 {
-    let start = face_start(table, c);
+    let start = walk::face_start(table, c);
     let at = Walker { corner: start };
     start + at.sides(table)
 }

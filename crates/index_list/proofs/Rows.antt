@@ -13,8 +13,7 @@ use Rattle.paper.specs.Mesh.{Mesh}
 use Rattle.paper.specs.Corners.{startOf}
 use Rattle.paper.specs.Net.{Side, side0, side1, side2, side3}
 use Rattle.paper.specs.Sampling.{sideAt}
-use Rattle.paper.specs.Triangles.{begin, turn, rowSegments, endNumber, curveNumber, pointNumber, level, segments}
-use Rattle.paper.specs.Triangles.{groups, pointGroups, pointsBefore, numberIn}
+use Rattle.paper.specs.Triangles.{begin, turn, rowSegments, endNumber, curveNumber, pointNumber, level, segments, groups, pointGroups, pointsBefore, numberIn}
 use Rattle.mesh.proofs.Faces.{start-zero}
 use Rattle.closing.proofs.Cases.{test-equal, number-back}
 use Rattle.strips.specs.declared.NumberedRow.{NumberedRow}

@@ -162,6 +162,10 @@ module _ (sides : List ℕ) (c : ℕ) (h : c < sumOf sides) where
   pub first-previous : firstOf sides (previous sides c) ≡ firstOf sides c
   first-previous = first-same sides c h (previous sides c) (previous-within .0) (previous-within .1)
 
+  -- the previous corner is not lower only at the first
+  pub first-here : c ≤ previous sides c → c ≡ firstOf sides c
+  first-here l = by-previous sides c (λ z e. omega (arith, low, z)) (λ n e. absurd (omega (arith, low, n)))
+
   pub sides-previous : sidesOf sides (previous sides c) ≡ sidesOf sides c
   sides-previous = sides-same sides c h (previous sides c) (previous-within .0) (previous-within .1)
 

@@ -2,10 +2,9 @@
 use mathlib.Core.Path.{_≡_}
 use mathlib.Core.List.{List}
 use Prim.Native.Nat.{ℕ, _≤_, _<_}
-use lib.ListN.{length, getD}
+use lib.ListN.{length}
 use Rattle.paper.specs.Mesh.{mostCorners}
-use Rattle.paper.specs.Corners.{next}
-use Rattle.paper.specs.Links.{vertexOf, link}
+use Rattle.paper.specs.Links.{vertexOf}
 
 -- the rows of the short tables, and of the longer ones of a large mesh
 abbrev pub smallMesh : ℕ
@@ -22,11 +21,3 @@ TableRows count r =
 -- the vertex of every corner has a place in a table of n entries
 abbrev pub Named : List ℕ → ℕ → Type 0
 Named corners n = (c : ℕ) → c < length corners → vertexOf corners c < n
-
--- the next corner of each corner below `end`
-unfoldable pub NextsTo : List ℕ → List ℕ → ℕ → Type 0
-NextsTo sides nexts end = (c : ℕ) → c < end → getD nexts c 0 ≡ next sides c
-
--- the link of each corner
-unfoldable pub LinkTable : List ℕ → List ℕ → List ℕ → Type 0
-LinkTable sides corners links = (c : ℕ) → c < length corners → getD links c 0 ≡ link sides corners c

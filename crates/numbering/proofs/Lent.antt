@@ -12,8 +12,7 @@ use Rattle.paper.specs.Corners.{startOf}
 use Rattle.paper.specs.Links.{vertexOf, names, lowest}
 use Rattle.paper.specs.Net.{Side, side0, side1, side2, side3}
 use Rattle.paper.specs.Borders.{beside}
-use Rattle.paper.specs.Triangles.{groups, level, segments, vertexOwner, edgeOwner, faceOwner}
-use Rattle.paper.specs.Triangles.{groupSize, pointGroups, pointsBefore, trianglesBefore, numberIn}
+use Rattle.paper.specs.Triangles.{groups, level, segments, vertexOwner, edgeOwner, faceOwner, groupSize, pointGroups, pointsBefore, trianglesBefore, numberIn}
 use Rattle.mesh.proofs.Scans.{first-le}
 use Rattle.mesh.proofs.Accepted.{sound-of, closed-of, few-corners}
 use Rattle.mesh.proofs.Faces.{first-from}

@@ -1,24 +1,21 @@
 -- Laws of the functions over the table of corners: where steps lead, the owners of a corner's ends, the larger level, the lowest corners.
 use mathlib.Core.Path.{_≡_, sym, ap, _∙_}
-use mathlib.Core.Logic.{⊎-elim}
 use mathlib.Core.List.{List}
 use Prim.Native.Nat.{ℕ, _+_, _*_, _≤_, _<_}
 use native.Mathlib.Omega.{arith}
-use native.Mathlib.Nat.{eq-zero-or-pos}
 use lib.ListN.{length, getD, set}
 use lib.Seq.{getD-set-same, getD-set-other}
 use borrow.Author.Tests.{lt-ltb, le-ltb, eq-eqb, ne-eqb}
 use Rattle.paper.specs.Mesh.{Mesh, cornerCount}
-use Rattle.paper.specs.Corners.{sumOf, firstOf, positionOf, next, previous}
+use Rattle.paper.specs.Corners.{sumOf, firstOf, next, previous}
 use Rattle.paper.specs.Links.{vertexOf, link, reverse, names, lowest}
 use Rattle.paper.specs.Refined.{cornersOf}
 use Rattle.paper.specs.Net.{Side}
 use Rattle.paper.specs.Borders.{beside}
 use Rattle.paper.specs.Triangles.{level, segments, edgeOwner, faceOwner}
-use Rattle.walk.specs.Table.{rowLength, toNext, toPrevious, toLink, Led}
+use Rattle.walk.specs.Table.{rowLength, toNext, toPrevious, toLink, Column, Led}
 use Rattle.mesh.specs.Tables.{Named}
 use Rattle.mesh.proofs.Scans.{first-at}
-use Rattle.mesh.proofs.Faces.{first-from, previous-inner, first-previous}
 use Rattle.mesh.proofs.Accepted.{sound-of, closed-of}
 use Rattle.mesh.proofs.Theorems.{manifold}
 use Rattle.numbering.specs.Meshed.{Here, Lowests}
@@ -74,21 +71,12 @@ module _ (M : Mesh) (table : List ℕ) (c d e : ℕ) (h : Here M table c) (a : L
   edge-that l = rw (← to-reverse, le-ltb c e l)
 
 -- ---- the face
-module _ (M : Mesh) (table : List ℕ) (c d : ℕ) (h : Here M table c) (a : Led table toPrevious (λ K. K .previous) c d) where
-  in-sum : c < sumOf (M .sides)
-  in-sum = omega (arith, closed-of M (sound-of M (h .accepted)) .sums, h .below)
-
-  pub face-back : faceOwner M d ≡ faceOwner M c
-  unfolding faceOwner
-  face-back = ap (firstOf (M .sides)) (to-previous M table c h d a) ∙ first-previous (M .sides) c in-sum
-
-  pub face-this : c ≤ d → c ≡ faceOwner M c
-  unfolding faceOwner
-  face-this l =
-      let f = first-from (M .sides) c in-sum in
-      ⊎-elim (λ e. omega arith)
-      (λ x. let p = previous-inner (M .sides) c (λ e. omega arith) in absurd (omega (arith, to-previous M table c h d a)))
-      (eq-zero-or-pos (positionOf (M .sides) c))
+pub face-first : (M : Mesh) (table : List ℕ) (c d : ℕ) → Here M table c
+    → ((sides : List ℕ) → Column table toPrevious (previous sides) (sumOf sides) → c < sumOf sides → d ≡ firstOf sides c) → d ≡ faceOwner M c
+unfolding faceOwner
+face-first M table c d h e =
+    let sums = closed-of M (sound-of M (h .accepted)) .sums in
+    e (M .sides) (λ x l. h .tabled .previouses x (omega (arith, sums))) (omega (arith, sums, h .below))
 
 -- ---- the larger level
 module _ (M : Mesh) (levels : List ℕ) (c : ℕ) (s : Side) (d n m : ℕ) (e : d ≡ beside M c s) (p : n ≡ level levels c) (q : m ≡ level levels d) where

@@ -89,21 +89,12 @@ fn edge_owner(table: &[u16], c: usize) -> usize
     d
 }
 
-// The corner that has the point of its face: corners of a face follow each other, so the first is the one that the previous one is not before.
+// The corner that has the point of its face.
 fn face_owner(table: &[u16], c: usize) -> usize
     requires { ⌜ Place (now table) c ⌝ }
     ensures { λ r. ⌜ ((M : Mesh) → Here M (now (table .entry)) c → r ≡ faceOwner M c) ⌝ }
 {
-    let mut d = c;
-    loop {
-        let here = Walker { corner: d };
-        let back = here.previous(table);
-        let e = back.corner;
-        if d <= e {
-            return d;
-        }
-        d = e;
-    }
+    walk::face_start(table, c)
 }
 
 // The lowest corner of each vertex: the corners are read from the last to the first.

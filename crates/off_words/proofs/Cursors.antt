@@ -45,9 +45,6 @@ run-on text from at w e j a b =
     (ways (ltb j at))
 
 -- ---- moving on
-pub before-start : (text : List ℕ) → Before text 0 (record { at = 0; word = 0 })
-before-start text = record { inside = omega arith; early = omega arith; number = refl; here = refl }
-
 -- to a place before the same word
 pub before-on : (text : List ℕ) (n : ℕ) (c r : Cursor) (to words : ℕ) → Before text n c → c .at < to → to ≤ length text
     → wordsOf (drop (c .at) text) ≡ wordsOf (drop to text)

@@ -121,12 +121,6 @@ some-piece (b ∷ text) =
     (ways (ends b))
 
 -- ---- a run of bytes in a text
-plus-zero : (n : ℕ) → n + 0 ≡ n
-plus-zero n = omega arith
-
-plus-suc : (n k : ℕ) → n + suc k ≡ suc n + k
-plus-suc n k = omega arith
-
 -- what stands at a place that is not inside a word
 pub piece-at : (text : List ℕ) (at : ℕ) → at ≤ length text → (at < length text → ends (getD text at 0) ≡ true)
     → Piece (drop at text) [] (wordsOf (drop at text))

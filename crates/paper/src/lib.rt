@@ -28,9 +28,6 @@ pub const MOST_PAIRS: usize = SHARPNESS_PER_CORNER * MOST_CORNERS;
 // What stands for 1 in the cosine table.
 pub const UNIT: i64 = 1073741824;
 
-// A tick is 1/256 of a grid step.
-pub const TICKS_PER_STEP: i64 = 256;
-
 // The numbers that building writes for a corner: x, y, z of each of its 41 points.
 pub const NUMBERS_PER_CORNER: usize = 123;
 

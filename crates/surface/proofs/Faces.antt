@@ -56,19 +56,6 @@ pub weight-period : (m k : ℕ) → weight m (k + m) ≡ weight m k
 unfolding weight
 weight-period m k = cc (period m k, ap (cosine m) (let z : k + m + (m - 1) ≡ k + (m - 1) + m = omega arith in z), period m (k + (m - 1)))
 
--- the paper's own numbering: the sum over j of V[j] · (3·2^30 + 2C(m,k) + 2C(m,k-1)) with k = j - i, read modulo m
-pub toward-by-place : (p : ℕ → ℤ) (m i : ℕ) → i ≤ m → Cyclic p m
-    → toward rounded p m i ≡ round (sum (λ j. p j *ℤ weight m (j + (m - i))) m) (pos (3 * unit) *ℤ pos m)
-toward-by-place p m i l cyc =
-    toward-is p m i
-    ∙ ap (λ (z : ℤ). round z (pos (3 * unit) *ℤ pos m))
-    (sum-same (λ k. p (i + k) *ℤ weight m k) (λ k. p (k + i) *ℤ weight m (k + i + (m - i))) m
-    (λ k h. cc (ap p (let z : i + k ≡ k + i = omega arith in z), ap (weight m) (let z : k + i + (m - i) ≡ k + m = omega arith in z), weight-period m k))
-    ∙ cycle (λ j. p j *ℤ weight m (j + (m - i))) m (λ j. cc (cyc j, ap (weight m) (later j), weight-period m (j + (m - i)))) i)
-  where
-    later : (j : ℕ) → j + m + (m - i) ≡ j + (m - i) + m
-    later j = omega arith
-
 combine : (f g p q r : ℕ → ℤ) (a b c : ℤ) (n : ℕ) → ((k : ℕ) → r k ≡ a *ℤ (f k +ℤ g k) -ℤ b *ℤ p k -ℤ c *ℤ q k)
     → sum r n ≡ a *ℤ (sum f n +ℤ sum g n) -ℤ b *ℤ sum p n -ℤ c *ℤ sum q n
 unfolding sumBy

@@ -3,29 +3,19 @@
 use mathlib.Core.Path.{_≡_, refl, _∙_}
 use mathlib.Core.Bool.{Bool, true, false}
 use mathlib.Core.List.{List}
-use Prim.Native.Nat.{ℕ, zero, suc, _+_, _*_, _<_, _≤_}
+use Prim.Native.Nat.{ℕ, zero, suc, _+_, _*_, _<_}
 use native.Mathlib.Omega.{arith}
 use lib.Dec.{eqb}
 use lib.ListN.{length, getD, set, replicate}
 use lib.Seq.{getD-set-same, getD-set-other}
 use borrow.Author.Tests.{eqb-true, eqb-false}
 use Rattle.paper.specs.Refined.{Corners}
-use Rattle.walk.specs.Table.{rowLength, entry, Column, KeptBut, Blank, Tabled, tabled, Led}
+use Rattle.walk.specs.Table.{rowLength, entry, KeptBut, Blank, Tabled, Led}
 
 -- what is read is where the step leads, if the column holds that step
 pub led : (table : List ℕ) (k : ℕ) (step : Corners → ℕ → ℕ) (c d : ℕ)
     → ((K : Corners) → Tabled K table → c < K .count → entry table k c ≡ step K c) → d ≡ entry table k c → Led table k step c d
 led table k step c d column e = record { read = e; leads = λ K T l. e ∙ column K T l }
-
-pub tabled-own : (n : ℕ) (table : List ℕ) → rowLength * n ≤ length table → Tabled (tabled n table) table
-tabled-own n table long = record {
-  long = long;
-  nexts = λ c l. refl;
-  previouses = λ c l. refl;
-  links = λ c l. refl;
-  sides = λ c l. refl;
-  valences = λ c l. refl;
-}
 
 -- ---- tables of rows of r numbers, whose places are apart: those of one column by their row, others by their column
 pub record PlacesApart (r : ℕ) : Type 0 where
@@ -62,11 +52,6 @@ module _ (table : List ℕ) (k i x : ℕ) where
 
   pub kept-put : k < rowLength → KeptBut k table (set table (rowLength * i + k) x)
   kept-put = row-kept rowLength corner-rows table k i x
-
-  -- one row more
-  pub column-put : (f : ℕ → ℕ) → rowLength * i + k < length table → x ≡ f i → Column table k f i
-      → Column (set table (rowLength * i + k) x) k f (i + 1)
-  column-put f h e g c l = put (λ y. y ≡ f c) c h (λ q. rw q e) (λ n. g c (omega (arith, n)))
 
 pub blank : (n : ℕ) → Blank (replicate n 0)
 blank zero i = refl

@@ -2,9 +2,11 @@
 // walker. It steps by the table of corners, which has a row for each corner: its next, previous and linked corner, the sides of its face and the corners of
 // its vertex.
 ghost use mathlib.Core.Path.{_≡_};
-ghost use Prim.Native.Nat.{_+_, _*_, _<_};
+ghost use mathlib.Core.List.{List};
+ghost use Prim.Native.Nat.{ℕ, _+_, _*_, _<_};
 ghost use lib.ListN.{length};
-ghost use Rattle.walk.specs.Table.{rowLength, toNext, toPrevious, toLink, sidesHere, valenceHere, entry, Led};
+ghost use Rattle.paper.specs.Corners.{sumOf, firstOf, previous};
+ghost use Rattle.walk.specs.Table.{rowLength, toNext, toPrevious, toLink, sidesHere, valenceHere, entry, Column, Led};
 
 // The numbers in a row, and where each stands.
 pub const ROW: usize = 5;
@@ -84,4 +86,21 @@ fn read(table: &[u16], corner: usize, column: usize) -> usize
     ensures { λ r. ⌜ r ≡ entry (now (table .entry)) column corner ⌝ }
 {
     table[ROW * corner + column] as usize
+}
+
+// The first corner of a corner's face. Corners of a face follow each other, so only there the previous corner is not lower.
+pub fn face_start(table: &[u16], c: usize) -> usize
+    requires { ⌜ rowLength * c + toPrevious < length (now table) ⌝ }
+    ensures { λ r. ⌜ ((sides : List ℕ) → Column (now (table .entry)) toPrevious (previous sides) (sumOf sides) → c < sumOf sides → r ≡ firstOf sides c) ⌝ }
+{
+    let mut d = c;
+    loop {
+        let here = Walker { corner: d };
+        let back = here.previous(table);
+        let e = back.corner;
+        if d <= e {
+            return d;
+        }
+        d = e;
+    }
 }

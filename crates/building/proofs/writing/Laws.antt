@@ -4,13 +4,13 @@ use mathlib.Core.Logic.{⊎-elim}
 use mathlib.Core.List.{List}
 use Prim.Native.Nat.{ℕ, zero, suc, _+_, _-_, _*_, _/_, _%_, _<_, _≤_}
 use native.Mathlib.Omega.{arith}
-use lib.Dec.{ltb, eqb, lit≤}
-use borrow.Author.Tests.{ltb-true, ltb-false, eqb-true, eqb-false}
+use lib.Dec.{ltb, lit≤}
+use borrow.Author.Tests.{ltb-true, ltb-false}
 use lib.ListN.{length, getD, replicate, length-replicate}
 use lib.Seq.{ext-getD}
 use lib.IntN.{ℤ, pos}
 use Rattle.paper.specs.Mesh.{Mesh, faceCount, cornerCount, mostVertices}
-use Rattle.paper.specs.Corners.{sumOf, faceOf, firstOf, sidesOf, positionOf, previous}
+use Rattle.paper.specs.Corners.{sumOf, faceOf, firstOf, sidesOf, previous}
 use Rattle.paper.specs.Links.{vertexOf}
 use Rattle.paper.specs.Faults.{Accepted}
 use Rattle.paper.specs.Numbers.{rounded}
@@ -19,9 +19,9 @@ use Rattle.paper.specs.Net.{ring, net, netPoints}
 use Rattle.paper.specs.Calls.{perCorner, numberAt, nets}
 use Rattle.mesh.specs.Tables.{Named}
 use Rattle.mesh.proofs.Accepted.{sound-of, few-vertices}
-use Rattle.mesh.proofs.Faces.{held, first-from, first-to, first-ends, first-same, sides-same, previous-first, previous-inner}
+use Rattle.mesh.proofs.Faces.{first-from, first-to, first-ends, first-same, sides-same, previous-inner}
 use Rattle.mesh.proofs.Links.{values-length, values-at}
-use Rattle.mesh.proofs.Scans.{ways, compared}
+use Rattle.mesh.proofs.Scans.{ways}
 use Rattle.surface.specs.Points.{pointRow}
 use Rattle.surface.proofs.Hull.{corners-sound}
 use Rattle.surface.proofs.Rings.{ring-in}
@@ -29,7 +29,7 @@ use Rattle.surface.proofs.RingFaces.{MeetsFace, ring-seen}
 use Rattle.surface.proofs.Agree.{net-same}
 use Rattle.walk.specs.Table.{toNext, toPrevious, entry, Tabled}
 use Rattle.refine.specs.Marks.{NamedIn, Marked}
-use Rattle.refine.specs.sums.Sources.{FacesWithin, PointsPut}
+use Rattle.refine.specs.sums.Sources.{PointsPut}
 use Rattle.refine.specs.corners.Mean.{MarkedPointed}
 use Rattle.refine.proofs.Accepted.{vertex-in, faces-of, refinable-of, table-agrees, table-sound}
 use Rattle.refine.proofs.Points.{put-choice}
@@ -134,32 +134,6 @@ module _ (M : Mesh) (accepted : Accepted M) where
         few-vertices (length (M .coordinates)) (faceCount M)
             (cornerCount M) (sound-of M accepted .four),
       )
-
--- ---- the walk back to the first corner of c's face, at its corner d
-pub sides-some : (sides : List ℕ) → FacesWithin sides → (c : ℕ) → c < sumOf sides → 1 < sidesOf sides c
-unfolding sidesOf
-sides-some sides F c h = omega (arith, F .least (faceOf sides c) (held sides c h .exists))
-
-module _ (sides : List ℕ) (c d : ℕ) (h : c < sumOf sides) (a : firstOf sides c ≤ d) (b : d ≤ c) where
-  same-face : (firstOf sides d ≡ firstOf sides c) × (sidesOf sides d ≡ sidesOf sides c)
-  same-face =
-      let t = first-to sides c h in (first-same sides c h d a (omega arith), sides-same sides c h d a (omega arith))
-
-  pub walk-back : previous sides d ≤ d → 1 < sidesOf sides c → (firstOf sides c ≤ previous sides d) × (previous sides d < d)
-  walk-back l s =
-      ⊎-elim
-      (λ (e : d ≡ firstOf sides c). absurd (omega (arith, previous-first sides d (let q : positionOf sides d ≡ 0 = omega (arith, same-face) in q), same-face)))
-      (λ o. let n : firstOf sides c < d = ⊎-elim (λ (k : d < firstOf sides c). absurd (omega arith)) (λ (k : firstOf sides c < d). k) o in
-      let p = previous-inner sides d (λ q. omega (arith, same-face)) in
-      (omega arith, omega arith))
-      (compared d (firstOf sides c))
-
-  pub walk-start : d < previous sides d → d ≡ firstOf sides c
-  walk-start l =
-      ⊎-elim
-      (λ k. omega (arith, eqb-true (positionOf sides d) 0 k, same-face))
-      (λ k. absurd (omega (arith, previous-inner sides d (eqb-false _ _ k))))
-      (ways (eqb (positionOf sides d) 0))
 
 -- ---- the faces of the range: their corners are one range too
 module _ (sides : List ℕ) (first last c d : ℕ) (a : first ≤ c) (b : c ≤ last) (l : last < sumOf sides) (h : d < sumOf sides)

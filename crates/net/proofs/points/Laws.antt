@@ -16,7 +16,7 @@ use Rattle.paper.specs.Net.{side0, side1, side2, side3, net, netPoints, rows, b
 use Rattle.net.specs.declared.sides.NetSides.{NetSides}
 use Rattle.net.specs.sides.Values.{FourSides, FourSized}
 use Rattle.net.specs.declared.rows.RowValues.{RowValues}
-use Rattle.net.specs.rows.SideRows.{RowsOf, AllRows, FourRowsSized, IsAGrid, IsBGrid, Square}
+use Rattle.net.specs.rows.SideRows.{RowsOf, AllRows, IsAGrid, IsBGrid, Square}
 use Rattle.net.proofs.rows.Laws.{plain, value-is}
 use Rattle.net.specs.points.Placed.{PointsPlaced}
 
@@ -108,9 +108,6 @@ grid-end old new from g n i l p = subst (λ (h : List (List ℤ)). PointsPlaced 
 module _ (K : RefinedMesh rounded) (c : ℕ) (n : NetSides) (f : FourSides K c n) (z : FourSized n) (r0 r1 r2 r3 : RowValues)
     (o0 : RowsOf (n .side0) (n .side3) (n .side1) (n .side2) r0) (o1 : RowsOf (n .side1) (n .side2) (n .side0) (n .side3) r1)
     (o2 : RowsOf (n .side2) (n .side1) (n .side3) (n .side0) r2) (o3 : RowsOf (n .side3) (n .side0) (n .side2) (n .side1) r3) where
-  pub all-sized : FourRowsSized r0 r1 r2 r3
-  all-sized = record { rows0 = o0 .sized; rows1 = o1 .sized; rows2 = o2 .sized; rows3 = o3 .sized }
-
   all-rows : AllRows K c r0 r1 r2 r3
   all-rows =
       let i0 = f .side0 in

@@ -3,7 +3,6 @@ use mathlib.Core.Path.{_≡_}
 use mathlib.Core.List.{List}
 use Prim.Native.Nat.{ℕ, _+_, _<_}
 use native.Mathlib.Omega.{arith}
-use borrow.Author.Needs.{needs}
 use denote.Ref.{now}
 use Rattle.paper.specs.Corners.{sumOf, firstOf, sidesOf}
 use Rattle.mesh.proofs.Faces.{first-from, first-to, first-ends, sides-same}
@@ -16,7 +15,7 @@ below : (c : tie.After-face-start) → let w = c .before .before .pre in c .face
 below c =
     let s = c .before .before in
     let w = s .pre in
-    omega (arith, c .face-start .ensures (w .sides) (w .rounds) (w .here), first-from (w .sides) (s .args .c) (w .here), w .here)
+    omega (arith, c .face-start .ensures (w .sides) (w .rounds .previouses) (w .here), first-from (w .sides) (s .args .c) (w .here), w .here)
 
 -- by any list of sides that the table is of
 ends : (c : tie.After-sides) (sides : List ℕ) → WalksFaces sides (now (c .before .before .before .args .table)) → let s = c .before .before .before in
@@ -24,10 +23,13 @@ ends : (c : tie.After-sides) (sides : List ℕ) → WalksFaces sides (now (c .be
 ends c sides r h =
     let d = c .before .before .before .args .c in
     let at = c .before .face-start .result in
-    let e : at ≡ firstOf sides d = c .before .face-start .ensures sides r h in
+    let e : at ≡ firstOf sides d = c .before .face-start .ensures sides (r .previouses) h in
     let a = first-from sides d h in
     let b = first-to sides d h in
     omega (arith, e, c .sides .ensures .read, r .counts at (omega arith), sides-same sides d h at (omega arith) (omega arith))
+
+face-start-requires : tie.Need-face-start-requires
+face-start-requires c κs = let s : tie.Start = search in omega (arith, s .pre .here, s .pre .rounds .long)
 
 sides-requires : tie.Need-sides-requires
 sides-requires c κs = omega (arith, below c, c .before .before .pre .rounds .long)
@@ -39,4 +41,4 @@ add-result c =
     omega (arith, ends c (w .sides) (w .rounds) (w .here), first-ends (w .sides) (s .args .c) (w .here), w .rounds .faces .few)
 
 pub face-end-spec : {M : Type 1} → statement M
-face-end-spec = tie.close (tie.spec (λ c κs. search needs) sides-requires add-result (λ c. ends c))
+face-end-spec = tie.close (tie.spec face-start-requires sides-requires add-result (λ c. ends c))

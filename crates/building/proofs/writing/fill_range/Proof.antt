@@ -38,7 +38,7 @@ module _ (c : tie.After-face-end) where
 
   -- where they start and end
   at-first : c .before .face-start .result ≡ firstOf (now (t .args .sides)) (t .args .first)
-  at-first = c .before .face-start .ensures (now (t .args .sides)) (rounds t) (ends t .0)
+  at-first = c .before .face-start .ensures (now (t .args .sides)) (rounds t .previouses) (ends t .0)
 
   at-end : let last = t .args .first + t .args .count - 1 in
       c .face-end .result ≡ firstOf (now (t .args .sides)) last + sidesOf (now (t .args .sides)) last
@@ -59,7 +59,7 @@ module _ (c : tie.After-face-end) where
   at-last = omega (arith, at-end, whole .0)
 
 face-start-requires : tie.Need-face-start-requires
-face-start-requires c κs = let s : tie.Start = search in record { sides = now (s .args .sides); rounds = rounds s; here = ends s .0 }
+face-start-requires c κs = let s : tie.Start = search in omega (arith, ends s .0, rounds s .long)
 
 face-end-requires : tie.Need-face-end-requires
 face-end-requires c κs = let s : tie.Start = search in record { sides = now (s .args .sides); rounds = rounds s; here = ends s .1 }

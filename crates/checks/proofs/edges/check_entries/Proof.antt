@@ -1,7 +1,7 @@
 -- Checks 10 and 11 meet their contract: where no entry is as high as one of a corner at fault, and after both, the entries are the links.
 use mathlib.Core.Path.{_∙_, sym, ap}
 use Rattle.paper.specs.Faults.{stated}
-use Rattle.checks.proofs.edges.Laws.{repeats-refused, edges-checked, edges-passed}
+use Rattle.checks.proofs.edges.Faults.{repeats-refused, edges-checked, edges-passed}
 use borrow.Author.Needs.{needs}
 use Rattle.checks.proofs.edges.check_entries.Tie as tie
 

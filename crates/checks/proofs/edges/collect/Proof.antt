@@ -8,7 +8,7 @@ use Rattle.paper.specs.Mesh.{mostCorners}
 use Rattle.walk.specs.Table.{rowLength, valenceHere, entry}
 use Rattle.checks.specs.columns.Chain.{earlierOf, lastOf}
 use Rattle.checks.proofs.columns.Chains.{On, on-head, on-next, on-falls, at-in, at-vertex, chained-own}
-use Rattle.checks.proofs.edges.Laws.{CollectedFrom, collected-none, collected-more, collected-all, chain-on, searchable-on, marked-on, entry-back}
+use Rattle.checks.proofs.edges.Collecting.{CollectedFrom, collected-none, collected-more, collected-all, chain-on, searchable-on, marked-on, entry-back}
 use native.Mathlib.Omega.{arith}
 use borrow.Author.Needs.{needs}
 use Rattle.checks.proofs.edges.collect.Tie as tie

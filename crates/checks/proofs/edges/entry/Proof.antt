@@ -9,7 +9,7 @@ use Rattle.paper.specs.Links.{vertexOf}
 use Rattle.walk.specs.Table.{toNext, entry}
 use Rattle.checks.specs.columns.Vertices.{vertexRow, leavingHere, arrivingHere, noted, HasRow}
 use Rattle.checks.specs.edges.Entries.{repeated, alone, to, EntryFor}
-use Rattle.checks.proofs.edges.Laws.{entry-again, entry-single, entry-joined}
+use Rattle.checks.proofs.edges.Faults.{entry-again, entry-single, entry-joined}
 use native.Mathlib.Omega.{arith}
 use borrow.Author.Needs.{needs}
 use Rattle.checks.proofs.edges.entry.Tie as tie

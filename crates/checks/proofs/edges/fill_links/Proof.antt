@@ -4,8 +4,9 @@ use Prim.Native.Nat.{_≤_, _-_}
 use lib.ListN.{length}
 use denote.Ref.{now}
 use Rattle.checks.specs.edges.Entries.{Searchable, ChainsFrom, HeadsFrom, BothKeyed, FacesKept}
-use Rattle.checks.proofs.edges.Laws.{EntriesBelow, ValencesBelow, CountedBelow, keyed-clear, searchable-on, both-keyed-on, faces-same, faces-then}
-use Rattle.checks.proofs.edges.Laws.{below-none, valences-none, counted-none, below-more, valences-more, chains-more, heads-more, counted-more, found}
+use Rattle.checks.proofs.edges.Marks.{keyed-clear}
+use Rattle.checks.proofs.edges.Collecting.{EntriesBelow, ValencesBelow, CountedBelow, searchable-on, both-keyed-on, faces-same, faces-then}
+use Rattle.checks.proofs.edges.Collecting.{below-none, valences-none, counted-none, below-more, valences-more, chains-more, heads-more, counted-more, found}
 use native.Mathlib.Omega.{arith}
 use borrow.Author.Needs.{needs}
 use Rattle.checks.proofs.edges.fill_links.Tie as tie

@@ -11,7 +11,7 @@ use Rattle.checks.specs.columns.Chain.{earlierOf, lastOf}
 use Rattle.checks.proofs.columns.Chains.{On, on-head, on-next, on-falls, chained-own}
 use Rattle.checks.proofs.columns.Chains.{CornersPassed, passed-none, passed-few, passed-more, passed-count, passed-lowest}
 use Rattle.checks.specs.edges.Entries.{to, from, MarkedFrom}
-use Rattle.checks.proofs.edges.Laws.{chain-here, marked-none, marked-more, RowsKept, rows-more, noted-marks, noted-at, noted-rest}
+use Rattle.checks.proofs.edges.Marks.{chain-here, marked-none, marked-more, RowsKept, rows-more, noted-marks, noted-at, noted-rest}
 use native.Mathlib.Omega.{arith}
 use borrow.Author.Needs.{needs}
 use Rattle.checks.proofs.edges.mark.Tie as tie
