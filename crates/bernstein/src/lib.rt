@@ -252,7 +252,7 @@ pub fn start(p: Matrix5, n: usize) -> Matrix5
 }
 
 // The same of any polynomial: of each row its value and its differences at 0.
-fn states(c: Matrix5) -> Matrix5
+pub fn states(c: Matrix5) -> Matrix5
     requires { ⌜ AllSized (2 ^ 54) c ⌝ }
     ensures { λ r. ⌜ r ≡ statesOf c 0 ⌝ }
 {

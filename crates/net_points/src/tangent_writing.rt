@@ -1,41 +1,34 @@
-// The tangents of a corner's own points, out of the net's 123 numbers: six numbers for each point, in the order of the points. The derivatives of a
-// side are taken once for each number of parts, those of a row once for the row, and their values at each place.
+// The tangents of a corner's own points, out of the net's 123 numbers: six numbers for each point, in the order of the points. They go by forward
+// differences, along a row and from row to row, in lanes: each of the six numbers of each of the four sides has a lane, and all lanes are stepped alike.
 use crate::writing::Shape;
+use crate::writing::turn_points;
 use bernstein::Matrix5;
 use bernstein::Vector5;
-use sampling::points::control_points;
 ghost use mathlib.Core.Path.{_≡_};
-ghost use mathlib.Core.List.{_++_};
-ghost use Prim.Native.Nat.{_+_, _-_, _*_, _/_, _%_, _^_, _≤_, _<_};
-ghost use lib.ListN.{length, getD};
-ghost use lib.IntN.{pos};
+ghost use mathlib.Core.List.{List};
+ghost use Prim.Native.Nat.{ℕ, _+_, _-_, _*_, _^_, _≤_, _<_};
+ghost use lib.ListN.{length, getD, set};
+ghost use lib.IntN.{ℤ, pos, natAbs};
 ghost use Rattle.paper.specs.Faults.{sound};
-ghost use Rattle.paper.specs.Floats.{netVerdict, axes};
+ghost use Rattle.paper.specs.Floats.{netVerdict};
 ghost use Rattle.strips.specs.PointRows.{Fills};
-ghost use Rattle.bernstein.specs.Sums.{Tapered, AllTapered};
+ghost use Rattle.bernstein.specs.declared.Matrix5.{Matrix5};
+ghost use Rattle.bernstein.specs.declared.Vector5.{Vector5};
+ghost use Rattle.bernstein.specs.Sums.{Sized, AllSized, AllTapered};
 ghost use Rattle.net_points.specs.writing.Shapes.{Shapely, shapeSize};
-ghost use Rattle.net_points.specs.tangent_writing.Paired.{Sloped, SideSloped, Tapering, RowTapering, rowsAt, sixAt, tailAt, placesNumber, partNumber, RingsPaired, NetPaired};
-ghost use Rattle.net_points.specs.tangent_writing.Paired.{truncatedOf, truncatedRowOf};
+ghost use Rattle.net_points.specs.tangent_writing.Lanes.{lessOf, minusOf, tailwardOf, centrewardOf, laneOf, forwardOf, LanePut, Lanes, Ready, LanesFilled};
+ghost use Rattle.net_points.specs.tangent_writing.Lanes.{PairFilled, Small, Added, Run, CubicRows, Running, rowsAt, runNumber};
+ghost use Rattle.net_points.specs.tangent_writing.Paired.{partNumber, RingPaired, RingsPaired, NetPaired};
 
-// The derivatives of a side: on x, y and z towards the tail, then on x, y and z towards the centre.
-pub struct Slopes {
-    pub x: Matrix5,
-    pub y: Matrix5,
-    pub z: Matrix5,
-    pub u: Matrix5,
-    pub v: Matrix5,
-    pub w: Matrix5,
-}
+// The lanes: six for each side, on x, y and z towards the tail, then on x, y and z towards the centre.
+const LANES: usize = 24;
 
-// The same for one row.
-pub struct RowSlopes {
-    pub x: Vector5,
-    pub y: Vector5,
-    pub z: Vector5,
-    pub u: Vector5,
-    pub v: Vector5,
-    pub w: Vector5,
-}
+// A lane's numbers, at the first place of a row: the value and its first to third difference along the row; the first difference from row to row of the
+// first three of these; the second difference of the first two; and the third of the value.
+const TABLE: usize = 10 * LANES;
+
+// The numbers of a side's lanes that step along a row.
+const RUN: usize = 24;
 
 // The tangents of a corner's own points, from `at` on; the border of side 2 has `third` parts.
 pub fn put_pairs(numbers: &[i32], shape: Shape, third: usize, out: &mut [i64], at: usize)
@@ -49,15 +42,24 @@ pub fn put_pairs(numbers: &[i32], shape: Shape, third: usize, out: &mut [i64], a
     let to_second = to_first + 6 * (shape.first - 1);
     let to_rings = to_second + 6 * (shape.second - 1);
     let n = shape.level;
-    let a = side_slopes(numbers, 0, n);
-    let b = side_slopes(numbers, 1, n);
-    let c = side_slopes(numbers, 2, n);
-    put_part(numbers, a, n, 0, shape.first, 0, shape.vertex, out, at);
-    put_part(numbers, b, n, 1, shape.second, 0, shape.edge, out, to_edge);
-    put_part(numbers, c, n, 2, third, 0, shape.face, out, to_face);
+    let mut table = [0i64; TABLE];
+    fill_lanes(numbers, n, 0, 12, &mut table);
+    put_part(numbers, &table, n, 0, shape.first, 0, shape.vertex, out, at);
     put_part(
         numbers,
-        a,
+        &table,
+        n,
+        1,
+        shape.second,
+        0,
+        shape.edge,
+        out,
+        to_edge,
+    );
+    put_part(numbers, &table, n, 2, third, 0, shape.face, out, to_face);
+    put_part(
+        numbers,
+        &table,
         n,
         0,
         shape.first,
@@ -68,7 +70,7 @@ pub fn put_pairs(numbers: &[i32], shape: Shape, third: usize, out: &mut [i64], a
     );
     put_part(
         numbers,
-        b,
+        &table,
         n,
         1,
         shape.second,
@@ -77,13 +79,13 @@ pub fn put_pairs(numbers: &[i32], shape: Shape, third: usize, out: &mut [i64], a
         out,
         to_second,
     );
-    put_rings(numbers, a, b, c, n, out, to_rings);
+    put_rings(&mut table, n, out, to_rings);
 }
 
-// Those at `count` places of a side's border in n parts, from place `first` on; m has the side's derivatives in `level` parts.
+// Those at `count` places of a side's border in n parts, from place `first` on; the table is the one in `level` parts.
 fn put_part(
     numbers: &[i32],
-    m: Slopes,
+    table: &[i64],
     level: usize,
     side: usize,
     n: usize,
@@ -92,87 +94,163 @@ fn put_part(
     out: &mut [i64],
     at: usize,
 )
-    requires net { ⌜ (netVerdict (now numbers) ≡ sound) × (side ≤ 3) × SideSloped (now numbers) side level m ⌝ }
-    requires parts { ⌜ (1 ≤ n) × (n ≤ 16) × (first + count ≤ n) × (at + 6 * count ≤ length (now out)) ⌝ }
+    requires net { ⌜ (netVerdict (now numbers) ≡ sound) × (side ≤ 3) × Lanes (laneOf (now numbers) level) 0 24 0 (now table) ⌝ }
+    requires parts { ⌜ (1 ≤ n) × (n ≤ 16) × (first ≤ 1) × (first + count ≤ n) × (at + 6 * count ≤ length (now out)) ⌝ }
     ensures { λ _. ⌜ Fills (partNumber (now (numbers .entry)) side n 0 first) at (6 * count) (now (out .entry)) (now (out .exit)) ⌝ }
 {
     if 0 < count {
-        let b = in_parts(numbers, m, level, side, n);
-        let r = row_slopes(b, 0);
-        put_places(r, side, n, 0, first, count, out, at);
+        if n == level {
+            put_places(table, 6 * side, first, count, out, at);
+            return;
+        }
+        let mut own = [0i64; TABLE];
+        fill_lanes(numbers, n, 3 * side, 3, &mut own);
+        put_places(&own, 6 * side, first, count, out, at);
     }
 }
 
-// Those of the rings of a net with level n, and of its centre; a, b and c have the derivatives of sides 0, 1 and 2.
-fn put_rings(numbers: &[i32], a: Slopes, b: Slopes, c: Slopes, n: usize, out: &mut [i64], at: usize)
-    requires net { ⌜ (netVerdict (now numbers) ≡ sound) × (1 ≤ n) × (n ≤ 16) × (at + 6 * (2 * (n * (n - 1)) + 1) ≤ length (now out)) ⌝ }
-    requires sides { ⌜ SideSloped (now numbers) 0 n a × SideSloped (now numbers) 1 n b × SideSloped (now numbers) 2 n c ⌝ }
-    ensures { λ _. ⌜ RingsPaired (now (numbers .entry)) n at (now (out .entry)) (now (out .exit)) ⌝ }
+// Those of the rings of a net with level n, and of its centre; the table is that of row 0.
+fn put_rings(table: &mut [i64], n: usize, out: &mut [i64], at: usize)
+    requires { ⌜ Ready 0 24 0 (now table) × (1 ≤ n) × (n ≤ 16) × (at + 6 * (2 * (n * (n - 1)) + 1) ≤ length (now out)) ⌝ }
+    ensures { λ _. ⌜ ((numbers : List ℤ) → Lanes (laneOf numbers n) 0 24 0 (now (table .entry)) → RingsPaired numbers n at (now (out .entry)) (now (out .exit))) ⌝ }
 {
-    let d = side_slopes(numbers, 3, n);
     let mut to = at;
     let mut k = 0;
     while k + 1 < n {
         let w = n - k - 1;
-        let r0 = row_slopes(a, k + 1);
-        put_places(r0, 0, n, k + 1, 0, w, out, to);
-        let r1 = row_slopes(b, k + 1);
-        put_places(r1, 1, n, k + 1, 0, w, out, to + 6 * w);
-        let r2 = row_slopes(c, k + 1);
-        put_places(r2, 2, n, k + 1, 0, w, out, to + 12 * w);
-        let r3 = row_slopes(d, k + 1);
-        put_places(r3, 3, n, k + 1, 0, w, out, to + 18 * w);
+        next_row(table);
+        put_ring(table, w, out, to);
         to += 24 * w;
         k += 1;
     }
-    let last = row_slopes(a, n);
-    put_places(last, 0, n, n, 0, 1, out, to);
+    next_row(table);
+    put_places(table, 0, 0, 1, out, to);
 }
 
-// The derivatives of a side in n parts.
-fn side_slopes(numbers: &[i32], side: usize, n: usize) -> Slopes
-    requires { ⌜ (netVerdict (now numbers) ≡ sound) × (side ≤ 3) × (n ≤ 16) ⌝ }
-    ensures { λ r. ⌜ Tapering r × Sloped (now (numbers .entry)) side n r ⌝ }
+// Those of a ring: w places of each side's row.
+fn put_ring(table: &[i64], w: usize, out: &mut [i64], at: usize)
+    requires { ⌜ ((k : ℕ) × Ready 0 24 k (now table)) × (w ≤ 16) × (at + 24 * w ≤ length (now out)) ⌝ }
+    ensures { λ _. ⌜ ((numbers : List ℤ) (n k : ℕ) → Lanes (laneOf numbers n) 0 24 k (now (table .entry)) → k + w ≤ n → RingPaired numbers n k w at (now (out .entry)) (now (out .exit))) ⌝ }
 {
-    let a = bernstein::polynomial(control_points(numbers, side, 0), n);
-    let b = bernstein::polynomial(control_points(numbers, side, 1), n);
-    let c = bernstein::polynomial(control_points(numbers, side, 2), n);
-    let x = bernstein::derivatives::along(a);
-    let y = bernstein::derivatives::along(b);
-    let z = bernstein::derivatives::along(c);
-    let u = bernstein::derivatives::inward(a);
-    let v = bernstein::derivatives::inward(b);
-    let w = bernstein::derivatives::inward(c);
-    Slopes {
-        x: x,
-        y: y,
-        z: z,
-        u: u,
-        v: v,
-        w: w,
+    let mut to = at;
+    let mut side = 0;
+    while side < 4 {
+        put_places(table, 6 * side, 0, w, out, to);
+        to += 6 * w;
+        side += 1;
     }
 }
 
-// The same, where it may have been taken in `level` parts already.
-fn in_parts(numbers: &[i32], m: Slopes, level: usize, side: usize, n: usize) -> Slopes
-    requires { ⌜ (netVerdict (now numbers) ≡ sound) × (side ≤ 3) × (n ≤ 16) × SideSloped (now numbers) side level m ⌝ }
-    ensures { λ r. ⌜ Tapering r × Sloped (now (numbers .entry)) side n r ⌝ }
+// The lanes of `count` pairs of a side and an axis, from pair `from` on: a net has twelve, side by side.
+fn fill_lanes(numbers: &[i32], n: usize, from: usize, count: usize, table: &mut [i64])
+    requires { ⌜ (netVerdict (now numbers) ≡ sound) × (n ≤ 16) × (from + count ≤ 12) × (length (now table) ≡ 240) ⌝ }
+    ensures { λ _. ⌜ LanesFilled (laneOf (now (numbers .entry)) n) from (from + count) (now (table .exit)) ⌝ }
 {
-    if n == level {
-        return m;
+    let mut i = 0;
+    while i < count {
+        fill_pair(numbers, n, from + i, table);
+        i += 1;
     }
-    side_slopes(numbers, side, n)
 }
 
-// A polynomial without its terms of degree four and more. The derivatives have none; the compiler sees the zeros and leaves their products out.
-fn truncated(c: Matrix5) -> Matrix5
+// The two lanes of one pair, at row 0: the derivatives of its polynomial, by their differences.
+fn fill_pair(numbers: &[i32], n: usize, pair: usize, table: &mut [i64])
+    requires { ⌜ (netVerdict (now numbers) ≡ sound) × (n ≤ 16) × (pair < 12) × (length (now table) ≡ 240) ⌝ }
+    ensures { λ _. ⌜ PairFilled (laneOf (now (numbers .entry)) n) pair (now (table .entry)) (now (table .exit)) ⌝ }
+{
+    let side = pair / 3;
+    let axis = pair % 3;
+    let lane = 6 * side + axis;
+    let c = bernstein::polynomial(turn_points(numbers, side, axis), n);
+    let a = forward(tailward(c, side));
+    put_lane(table, lane, bernstein::states(a));
+    let b = forward(centreward(c, side));
+    put_lane(table, lane + 3, bernstein::states(b));
+}
+
+// The derivative towards the tail. On sides 1 and 3 the control points are in turn, so that j runs from the tail.
+fn tailward(c: Matrix5, side: usize) -> Matrix5
     requires { ⌜ AllTapered c ⌝ }
-    ensures { λ r. ⌜ r ≡ truncatedOf c ⌝ }
+    ensures { λ r. ⌜ r ≡ tailwardOf side c ⌝ }
+{
+    let a = bernstein::derivatives::along(c);
+    if side % 2 == 1 {
+        let z = Vector5 {
+            a: 0,
+            b: 0,
+            c: 0,
+            d: 0,
+            e: 0,
+        };
+        return minus(
+            Matrix5 {
+                r0: z,
+                r1: z,
+                r2: z,
+                r3: z,
+                r4: z,
+            },
+            a,
+        );
+    }
+    a
+}
+
+// The derivative towards the centre, likewise.
+fn centreward(c: Matrix5, side: usize) -> Matrix5
+    requires { ⌜ AllTapered c ⌝ }
+    ensures { λ r. ⌜ r ≡ centrewardOf side c ⌝ }
+{
+    let b = bernstein::derivatives::inward(c);
+    if side % 2 == 1 {
+        return minus(b, bernstein::derivatives::along(c));
+    }
+    b
+}
+
+// A polynomial less another.
+fn minus(p: Matrix5, q: Matrix5) -> Matrix5
+    requires { ⌜ AllSized (2 ^ 54) p × AllSized (2 ^ 54) q ⌝ }
+    ensures { λ r. ⌜ r ≡ minusOf p q ⌝ }
+{
+    let r0 = less(p.r0, q.r0);
+    let r1 = less(p.r1, q.r1);
+    let r2 = less(p.r2, q.r2);
+    let r3 = less(p.r3, q.r3);
+    let r4 = less(p.r4, q.r4);
+    Matrix5 {
+        r0: r0,
+        r1: r1,
+        r2: r2,
+        r3: r3,
+        r4: r4,
+    }
+}
+
+// One row of it.
+fn less(u: Vector5, v: Vector5) -> Vector5
+    requires { ⌜ Sized (2 ^ 54) u × Sized (2 ^ 54) v ⌝ }
+    ensures { λ r. ⌜ r ≡ lessOf u v ⌝ }
+{
+    Vector5 {
+        a: u.a - v.a,
+        b: u.b - v.b,
+        c: u.c - v.c,
+        d: u.d - v.d,
+        e: u.e - v.e,
+    }
+}
+
+// For a polynomial of degree three the value and the differences along a row at its first place, as polynomials in k.
+fn forward(c: Matrix5) -> Matrix5
+    requires { ⌜ AllTapered c ⌝ }
+    ensures { λ r. ⌜ r ≡ forwardOf c ⌝ }
 {
     let r0 = c.r0;
     let r1 = c.r1;
     let r2 = c.r2;
     let r3 = c.r3;
+    let last = 6 * r3.a;
     Matrix5 {
         r0: Vector5 {
             a: r0.a,
@@ -182,21 +260,21 @@ fn truncated(c: Matrix5) -> Matrix5
             e: 0,
         },
         r1: Vector5 {
-            a: r1.a,
-            b: r1.b,
+            a: r1.a + r2.a + r3.a,
+            b: r1.b + r2.b,
             c: r1.c,
             d: 0,
             e: 0,
         },
         r2: Vector5 {
-            a: r2.a,
-            b: r2.b,
+            a: 2 * r2.a + last,
+            b: 2 * r2.b,
             c: 0,
             d: 0,
             e: 0,
         },
         r3: Vector5 {
-            a: r3.a,
+            a: last,
             b: 0,
             c: 0,
             d: 0,
@@ -212,98 +290,104 @@ fn truncated(c: Matrix5) -> Matrix5
     }
 }
 
-// The same of a row's polynomial.
-fn truncated_row(v: Vector5) -> Vector5
-    requires { ⌜ Tapered (5 * 2 ^ 34) v ⌝ }
-    ensures { λ r. ⌜ r ≡ truncatedRowOf v ⌝ }
+// A lane's ten numbers, to their places in the table.
+fn put_lane(table: &mut [i64], lane: usize, m: Matrix5)
+    requires { ⌜ (length (now table) ≡ 240) × (lane < 24) × AllSized (2 ^ 60) m ⌝ }
+    ensures { λ _. ⌜ LanePut lane m (now (table .entry)) (now (table .exit)) ⌝ }
 {
-    Vector5 {
-        a: v.a,
-        b: v.b,
-        c: v.c,
-        d: v.d,
-        e: 0,
+    let r0 = m.r0;
+    let r1 = m.r1;
+    let r2 = m.r2;
+    let r3 = m.r3;
+    put(table, lane, r0.a);
+    put(table, 24 + lane, r1.a);
+    put(table, 48 + lane, r2.a);
+    put(table, 72 + lane, r3.a);
+    put(table, 96 + lane, r0.b);
+    put(table, 120 + lane, r1.b);
+    put(table, 144 + lane, r2.b);
+    put(table, 168 + lane, r0.c);
+    put(table, 192 + lane, r1.c);
+    put(table, 216 + lane, r0.d);
+}
+
+// A number, to its place.
+fn put(list: &mut [i64], i: usize, x: i64)
+    requires { ⌜ i < length (now list) ⌝ }
+    ensures { λ _. ⌜ now (list .exit) ≡ set (now (list .entry)) i x ⌝ }
+{
+    list[i] = x;
+}
+
+// The table at the next row.
+fn next_row(table: &mut [i64])
+    requires { ⌜ Small (now table) ⌝ }
+    ensures { λ _. ⌜ ((F : ℕ → Matrix5) (k : ℕ) → Lanes F 0 24 k (now (table .entry)) → k < 16 → Lanes F 0 24 (k + 1) (now (table .exit))) ⌝ }
+{
+    add_ahead(table, 0, 72, 96);
+    add_ahead(table, 96, 144, 72);
+    add_ahead(table, 168, 192, 48);
+}
+
+// To each number from `at` up to `to` the one `gap` places on is added.
+fn add_ahead(list: &mut [i64], at: usize, to: usize, gap: usize)
+    requires { ⌜ (at ≤ to) × (0 < gap) × (to + gap ≤ length (now list)) ⌝ }
+    requires sizes { ⌜ ((i : ℕ) → at ≤ i → i < to → (natAbs (getD (now list) i (pos 0)) ≤ 2 ^ 60) × (natAbs (getD (now list) (i + gap) (pos 0)) ≤ 2 ^ 60)) ⌝ }
+    ensures { λ _. ⌜ Added at to gap (now (list .entry)) (now (list .exit)) ⌝ }
+{
+    let mut i = at;
+    while i < to {
+        list[i] = list[i] + list[i + gap];
+        i += 1;
     }
 }
 
-// Those of row k.
-fn row_slopes(m: Slopes, k: usize) -> RowSlopes
-    requires { ⌜ Tapering m × (k ≤ 16) ⌝ }
-    ensures { λ r. ⌜ RowTapering r × (r ≡ rowsAt m k) ⌝ }
+// The tangents at `count` places of a row, from place `first` on; a side's lanes start with `lane`.
+fn put_places(table: &[i64], lane: usize, first: usize, count: usize, out: &mut [i64], at: usize)
+    requires row { ⌜ ((k : ℕ) × Ready lane (lane + 6) k (now table)) × (lane ≤ 18) ⌝ }
+    requires places { ⌜ (first ≤ 1) × (first + count ≤ 17) × (at + 6 * count ≤ length (now out)) ⌝ }
+    ensures { λ _. ⌜ ((F : ℕ → Matrix5) (k : ℕ) → Lanes F lane (lane + 6) k (now (table .entry)) → Fills (runNumber (rowsAt F lane k) first) at (6 * count) (now (out .entry)) (now (out .exit))) ⌝ }
 {
-    let x = bernstein::row_in(truncated(m.x), k);
-    let y = bernstein::row_in(truncated(m.y), k);
-    let z = bernstein::row_in(truncated(m.z), k);
-    let u = bernstein::row_in(truncated(m.u), k);
-    let v = bernstein::row_in(truncated(m.v), k);
-    let w = bernstein::row_in(truncated(m.w), k);
-    RowSlopes {
-        x: x,
-        y: y,
-        z: z,
-        u: u,
-        v: v,
-        w: w,
-    }
-}
-
-// The tangents at `count` places of row k of a side in n parts, from place `first` on.
-fn put_places(
-    r: RowSlopes,
-    side: usize,
-    n: usize,
-    k: usize,
-    first: usize,
-    count: usize,
-    out: &mut [i64],
-    at: usize,
-)
-    requires row { ⌜ RowTapering r × (side ≤ 3) × (n ≤ 16) ⌝ }
-    requires places { ⌜ (k + first + count ≤ n + 1) × (at + 6 * count ≤ length (now out)) ⌝ }
-    ensures { λ _. ⌜ Fills (placesNumber r side n k first) at (6 * count) (now (out .entry)) (now (out .exit)) ⌝ }
-{
+    let mut run = [0i64; RUN];
+    start_run(table, lane, first, &mut run);
     let mut j = 0;
     while j < count {
-        let t = tail(side, n, k, first + j);
-        put_pair(r, t, out, at + 6 * j);
+        copy_six(&run, 0, out, at + 6 * j);
+        step_run(&mut run);
         j += 1;
     }
 }
 
-// The tail's weight at place j of row k: on sides 1 and 3 the places run from the tail.
-fn tail(side: usize, n: usize, k: usize, j: usize) -> usize
-    requires { ⌜ (k + j ≤ n) × (n ≤ 16) ⌝ }
-    ensures { λ r. ⌜ (r ≡ tailAt side n k j) × (r ≤ 16) ⌝ }
+// The numbers that step along a row, at place `first`.
+fn start_run(table: &[i64], lane: usize, first: usize, run: &mut [i64])
+    requires { ⌜ ((k : ℕ) × Ready lane (lane + 6) k (now table)) × (lane ≤ 18) × (first ≤ 1) × (length (now run) ≡ 24) ⌝ }
+    ensures { λ _. ⌜ ((F : ℕ → Matrix5) (k : ℕ) → Lanes F lane (lane + 6) k (now (table .entry)) → Run (rowsAt F lane k) first (now (run .exit))) ⌝ }
 {
-    if side % 2 == 1 {
-        return n - k - j;
+    copy_six(table, lane, run, 0);
+    copy_six(table, lane + 24, run, 6);
+    copy_six(table, lane + 48, run, 12);
+    copy_six(table, lane + 72, run, 18);
+    if first == 1 {
+        step_run(run);
     }
-    j
 }
 
-// Both tangents where the tail has the weight t.
-fn put_pair(r: RowSlopes, t: usize, out: &mut [i64], at: usize)
-    requires { ⌜ RowTapering r × (t ≤ 16) × (at + 6 ≤ length (now out)) ⌝ }
-    ensures { λ _. ⌜ Fills (λ e. getD (sixAt r t) e (pos 0)) at 6 (now (out .entry)) (now (out .exit)) ⌝ }
+// The same at the next place.
+fn step_run(run: &mut [i64])
+    requires { ⌜ Running (now run) ⌝ }
+    ensures { λ _. ⌜ ((g : ℕ → Vector5) (j : ℕ) → CubicRows g → Run g j (now (run .entry)) → Run g (j + 1) (now (run .exit))) ⌝ }
 {
-    let a = bernstein::value_at(truncated_row(r.x), t);
-    let b = bernstein::value_at(truncated_row(r.y), t);
-    let c = bernstein::value_at(truncated_row(r.z), t);
-    let d = bernstein::value_at(truncated_row(r.u), t);
-    let e = bernstein::value_at(truncated_row(r.v), t);
-    let f = bernstein::value_at(truncated_row(r.w), t);
-    put_six(out, at, a, b, c, d, e, f);
+    add_ahead(run, 0, 18, 6);
 }
 
-// Six numbers, one after the other.
-fn put_six(out: &mut [i64], at: usize, a: i64, b: i64, c: i64, d: i64, e: i64, f: i64)
-    requires { ⌜ at + 6 ≤ length (now out) ⌝ }
-    ensures { λ _. ⌜ Fills (λ x. getD (axes a b c ++ axes d e f) x (pos 0)) at 6 (now (out .entry)) (now (out .exit)) ⌝ }
+// Six numbers of a list, one after the other.
+fn copy_six(list: &[i64], from: usize, out: &mut [i64], at: usize)
+    requires { ⌜ (from + 6 ≤ length (now list)) × (at + 6 ≤ length (now out)) ⌝ }
+    ensures { λ _. ⌜ Fills (λ e. getD (now (list .entry)) (from + e) (pos 0)) at 6 (now (out .entry)) (now (out .exit)) ⌝ }
 {
-    out[at] = a;
-    out[at + 1] = b;
-    out[at + 2] = c;
-    out[at + 3] = d;
-    out[at + 4] = e;
-    out[at + 5] = f;
+    let mut e = 0;
+    while e < 6 {
+        out[at + e] = list[from + e];
+        e += 1;
+    }
 }

@@ -1,17 +1,21 @@
--- The derivatives of a polynomial of degree four have no terms of degree four, nor have their rows.
+-- The lanes' polynomials are of degree three and taper, and so do their rows.
 use mathlib.Core.Path.{_≡_, refl, sym, ap, _∙_, subst}
-use Prim.Native.Nat.{ℕ, _*_, _^_, _≤_}
+use mathlib.Core.Bool.{Bool, true, false}
+use Prim.Native.Nat.{ℕ, _%_, _*_, _^_, _≤_}
 use native.Mathlib.Omega.{arith}
-use lib.IntN.{ℤ, pos, _+ℤ_, _*ℤ_}
+use lib.Dec.{eqb, lit≤}
+use lib.IntN.{ℤ, pos, natAbs, _+ℤ_, _-ℤ_, _*ℤ_}
+use Rattle.numbers.proofs.Diff.{as-diff, diff}
 use Rattle.numbers.proofs.Poly.{over, poly}
 use Rattle.bernstein.specs.declared.Matrix5.{Matrix5}
 use Rattle.bernstein.specs.declared.Vector5.{Vector5}
-use Rattle.bernstein.specs.Sums.{Tapered, AllTapered, vector5, slopesOf, columnsOf, weightedOf, weightsOf, scaledOf, polynomialOf, rowOf, polynomialAt}
+use Rattle.bernstein.specs.Sums.{Tapered, AllTapered, AllSized, slopesOf, columnsOf, weightedOf, weightsOf, scaledOf, polynomialOf, rowOf, polynomialAt}
 use Rattle.bernstein.specs.Tangents.{timesOf, alongOf, slopeOf, inwardOf}
 use Rattle.bernstein.proofs.Identity.{vector5-same}
-use Rattle.bernstein.proofs.Laws.{row-tapers}
-use Rattle.bernstein.proofs.Tapering.{along-tapers, inward-tapers}
-use Rattle.net_points.specs.tangent_writing.Paired.{truncatedOf, truncatedRowOf, CubicTapered, CubicRow}
+use Rattle.bernstein.proofs.Laws.{polynomial-tapers, row-tapers}
+use Rattle.bernstein.proofs.Tapering.{HalfTapered, along-halves, inward-halves, along-tapers, inward-tapers}
+use Rattle.net_points.specs.writing.Laid.{pickMatrix}
+use Rattle.net_points.specs.tangent_writing.Lanes.{lessOf, minusOf, nothing, tailwardOf, centrewardOf, truncatedOf, CubicTapered, CubicRow}
 
 matrix-same : {p q r s t p′ q′ r′ s′ t′ : Vector5} → p ≡ p′ → q ≡ q′ → r ≡ r′ → s ≡ s′ → t ≡ t′
     → (let z : Matrix5 = record { r0 = p; r1 = q; r2 = r; r3 = s; r4 = t } in z) ≡ record { r0 = p′; r1 = q′; r2 = r′; r3 = s′; r4 = t′ }
@@ -22,9 +26,6 @@ none = over 1 _ λ ρ. simp (poly, ρ) (omega arith)
 
 none-of : (m x : ℤ) → pos 0 ≡ m *ℤ (x *ℤ pos 0)
 none-of = over 2 _ λ ρ. simp (poly, ρ) (omega arith)
-
-nothing : (x : ℤ) → pos 0 ≡ pos 0 +ℤ x *ℤ (pos 0 +ℤ x *ℤ (pos 0 +ℤ x *ℤ (pos 0 +ℤ x *ℤ pos 0)))
-nothing = over 1 _ λ ρ. simp (poly, ρ) (omega arith)
 
 module _ (p : Matrix5) (n : ℤ) where
   abbrev g : Matrix5
@@ -45,45 +46,91 @@ module _ (p : Matrix5) (n : ℤ) where
       (vector5-same refl (none-of (pos 2) (g .r3 .c)) (none-of (pos 3) (g .r3 .d)) (none-of (pos 4) (g .r3 .e)) refl)
       (vector5-same (none (g .r4 .b)) (none-of (pos 2) (g .r4 .c)) (none-of (pos 3) (g .r4 .d)) (none-of (pos 4) (g .r4 .e)) refl)
 
-  -- with their sizes
-  pub along-in : (c d : Matrix5) → AllTapered c → c ≡ polynomialOf p n → d ≡ alongOf c → CubicTapered d
-  along-in c d h e i =
-      subst (λ (m : Matrix5). CubicTapered m) (sym i) (record {
-        tapers = along-tapers c h;
-        cubic = subst (λ (m : Matrix5). truncatedOf (alongOf m) ≡ alongOf m) (sym e) along-cubic;
-      })
+-- ---- a polynomial less another
+minus-cubic : (p q : Matrix5) → truncatedOf p ≡ p → truncatedOf q ≡ q → truncatedOf (minusOf p q) ≡ minusOf p q
+unfolding truncatedOf minusOf lessOf
+minus-cubic p q e f = λ z. minusOf (e z) (f z)
 
-  pub inward-in : (c d : Matrix5) → AllTapered c → c ≡ polynomialOf p n → d ≡ inwardOf c → CubicTapered d
-  inward-in c d h e i =
-      subst (λ (m : Matrix5). CubicTapered m) (sym i) (record {
-        tapers = inward-tapers c h;
-        cubic = subst (λ (m : Matrix5). truncatedOf (inwardOf m) ≡ inwardOf m) (sym e) inward-cubic;
-      })
+nothing-cubic : truncatedOf nothing ≡ nothing
+unfolding truncatedOf
+nothing-cubic = refl
 
--- what is truncated stays as it is
-pub still : (c d : Matrix5) → CubicTapered c → d ≡ truncatedOf c → AllTapered d
-still c d h e = subst (λ (m : Matrix5). AllTapered m) (sym (e ∙ h .cubic)) (h .tapers)
+less-size : (x y : ℤ) (m r : ℕ) → 2 * m ≤ r → natAbs x ≤ m → natAbs y ≤ m → natAbs (x -ℤ y) ≤ r
+less-size x y m r = as-diff x λ p n e. as-diff y λ q o f. simp (diff, e, f) (λ l g h. omega arith)
 
-pub row-still : (v d : Vector5) → CubicRow v → d ≡ truncatedRowOf v → Tapered (5 * 2 ^ 34) d
-row-still v d h e = subst (λ (q : Vector5). Tapered (5 * 2 ^ 34) q) (sym (e ∙ h .cubic)) (h .tapers)
+less-tapers : (u v : Vector5) (A B : ℕ) → 2 * A ≤ B → Tapered A u → Tapered A v → Tapered B (lessOf u v)
+unfolding lessOf
+less-tapers u v A B l h k = (
+  less-size (u .a) (v .a) (65536 * A) (65536 * B) (omega arith) (h .0) (k .0),
+  less-size (u .b) (v .b) (4096 * A) (4096 * B) (omega arith) (h .1) (k .1),
+  less-size (u .c) (v .c) (256 * A) (256 * B) (omega arith) (h .2) (k .2),
+  less-size (u .d) (v .d) (16 * A) (16 * B) (omega arith) (h .3) (k .3),
+  less-size (u .e) (v .e) A B (omega arith) (h .4) (k .4),
+)
 
-pub value-still : (v d : Vector5) (t : ℕ) (z : ℤ) → CubicRow v → d ≡ truncatedRowOf v → z ≡ polynomialAt d t → z ≡ polynomialAt v t
-value-still v d t z h e q = q ∙ ap (λ (x : Vector5). polynomialAt x t) (e ∙ h .cubic)
+minus-tapers : (p q : Matrix5) → HalfTapered p → HalfTapered q → AllTapered (minusOf p q)
+unfolding minusOf
+minus-tapers p q h k = record {
+  t0 = less-tapers (p .r0) (q .r0) (2 ^ 33) (2 ^ 34) (lit≤ tt) (h .0) (k .0);
+  t1 = less-tapers (p .r1) (q .r1) (2 ^ 29) (2 ^ 30) (lit≤ tt) (h .1) (k .1);
+  t2 = less-tapers (p .r2) (q .r2) (2 ^ 25) (2 ^ 26) (lit≤ tt) (h .2) (k .2);
+  t3 = less-tapers (p .r3) (q .r3) (2 ^ 21) (2 ^ 22) (lit≤ tt) (h .3) (k .3);
+  t4 = less-tapers (p .r4) (q .r4) (2 ^ 17) (2 ^ 18) (lit≤ tt) (h .4) (k .4);
+}
 
--- a row of them
-module _ (c : Matrix5) (k : ℕ) (l : k ≤ 16) (h : CubicTapered c) where
-  truncated-row : truncatedRowOf (rowOf (truncatedOf c) k) ≡ rowOf (truncatedOf c) k
-  unfolding truncatedRowOf rowOf truncatedOf polynomialAt
-  truncated-row = vector5-same refl refl refl refl (nothing (pos k))
+nothing-halves : HalfTapered nothing
+nothing-halves = (
+  (lit≤ tt, lit≤ tt, lit≤ tt, lit≤ tt, lit≤ tt),
+  (lit≤ tt, lit≤ tt, lit≤ tt, lit≤ tt, lit≤ tt),
+  (lit≤ tt, lit≤ tt, lit≤ tt, lit≤ tt, lit≤ tt),
+  (lit≤ tt, lit≤ tt, lit≤ tt, lit≤ tt, lit≤ tt),
+  (lit≤ tt, lit≤ tt, lit≤ tt, lit≤ tt, lit≤ tt),
+)
 
-  row-cubic : CubicRow (rowOf c k)
-  row-cubic = record {
-    tapers = row-tapers c k l (h .tapers);
-    cubic = subst (λ (m : Matrix5). truncatedRowOf (rowOf m k) ≡ rowOf m k) (h .cubic) truncated-row;
-  }
+-- ---- the derivatives in turn
+pick-smooth : (b : Bool) (p q : Matrix5) → CubicTapered p → CubicTapered q → CubicTapered (pickMatrix b p q)
+pick-smooth true p q h k = h
+pick-smooth false p q h k = k
 
-  pub row-is : (d : Matrix5) (r : Vector5) → d ≡ truncatedOf c → r ≡ rowOf d k → r ≡ rowOf c k
-  row-is d r e q = q ∙ ap (λ (m : Matrix5). rowOf m k) (e ∙ h .cubic)
+module _ (p : Matrix5) (n side : ℕ) (h : AllSized (2 ^ 27) p) (l : n ≤ 16) where
+  abbrev c : Matrix5
+  c = polynomialOf p (pos n)
 
-  pub row-in : (d : Matrix5) (r : Vector5) → d ≡ truncatedOf c → r ≡ rowOf d k → CubicRow r
-  row-in d r e q = subst (λ (v : Vector5). CubicRow v) (sym (row-is d r e q)) row-cubic
+  pub polynomial-tapering : AllTapered c
+  polynomial-tapering = polynomial-tapers p n h l
+
+  along-smooth : CubicTapered (alongOf c)
+  along-smooth = record { tapers = along-tapers c polynomial-tapering; cubic = along-cubic p (pos n) }
+
+  inward-smooth : CubicTapered (inwardOf c)
+  inward-smooth = record { tapers = inward-tapers c polynomial-tapering; cubic = inward-cubic p (pos n) }
+
+  pub tailward-smooth : CubicTapered (tailwardOf side c)
+  unfolding tailwardOf
+  tailward-smooth =
+      pick-smooth (eqb (side % 2) 1) (minusOf nothing (alongOf c)) (alongOf c) (record {
+        tapers = minus-tapers nothing (alongOf c) nothing-halves (along-halves c polynomial-tapering);
+        cubic = minus-cubic nothing (alongOf c) nothing-cubic (along-cubic p (pos n));
+      }) along-smooth
+
+  pub centreward-smooth : CubicTapered (centrewardOf side c)
+  unfolding centrewardOf
+  centreward-smooth =
+      pick-smooth (eqb (side % 2) 1) (minusOf (inwardOf c) (alongOf c)) (inwardOf c) (record {
+        tapers = minus-tapers (inwardOf c) (alongOf c) (inward-halves c polynomial-tapering) (along-halves c polynomial-tapering);
+        cubic = minus-cubic (inwardOf c) (alongOf c) (inward-cubic p (pos n)) (along-cubic p (pos n));
+      }) inward-smooth
+
+-- ---- a row of them
+nothing-at : (x : ℤ) → pos 0 +ℤ x *ℤ (pos 0 +ℤ x *ℤ (pos 0 +ℤ x *ℤ (pos 0 +ℤ x *ℤ pos 0))) ≡ pos 0
+nothing-at = over 1 _ λ ρ. simp (poly, ρ) (omega arith)
+
+truncated-row : (c : Matrix5) (k : ℕ) → rowOf (truncatedOf c) k .e ≡ pos 0
+unfolding rowOf truncatedOf polynomialAt
+truncated-row c k = nothing-at (pos k)
+
+pub row-cubic : (c : Matrix5) (k : ℕ) → k ≤ 16 → CubicTapered c → CubicRow (rowOf c k)
+row-cubic c k l h = record {
+  tapers = row-tapers c k l (h .tapers);
+  cubic = subst (λ (m : Matrix5). rowOf m k .e ≡ pos 0) (h .cubic) (truncated-row c k);
+}

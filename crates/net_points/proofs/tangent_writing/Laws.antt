@@ -1,41 +1,44 @@
--- Laws of tangents that are written point by point: six stores, the places of a row, the rings, and all groups of a corner.
+-- Laws of tangents that are written point by point: stores and copies, the table's lanes one after the other, the rings, and all groups of a corner.
 use mathlib.Core.Path.{_≡_, refl, sym, ap, _∙_, subst}
-use mathlib.Core.List.{List, _++_}
+use mathlib.Core.Bool.{Bool, true, false}
+use mathlib.Core.Logic.{⊎-elim}
+use mathlib.Core.List.{List}
 use Prim.Native.Nat.{ℕ, zero, suc, _+_, _-_, _*_, _/_, _%_, _^_, _≤_, _<_}
-use native.Mathlib.Nat.{zero-div, zero-mod}
 use native.Mathlib.Omega.{arith}
-use lib.Dec.{eqb}
-use borrow.Author.Tests.{eq-eqb, ne-eqb}
-use lib.Dec.{lit≤}
+use lib.Dec.{eqb, ltb, lit≤}
+use borrow.Author.Tests.{eqb-true, eqb-false, ltb-true, ltb-false}
 use lib.ListN.{length, getD, set, length-set}
-use lib.IntN.{ℤ, pos, natAbs}
-use Rattle.paper.specs.Scan.{pickN}
-use Rattle.paper.specs.Net.{Side, side0, side1, side2, side3}
-use Rattle.paper.specs.Floats.{axes}
-use Rattle.paper.specs.Sampling.{weights, sideAt}
-use Rattle.paper.specs.Triangles.{groups, turnWeights}
+use lib.Seq.{getD-set-same, getD-set-other}
+use lib.IntN.{ℤ, pos, natAbs, _+ℤ_}
+use mir.Syntax.{w64}
+use mir.Val.{SFits}
+use mir.Facts.{toZ-ofZ}
+use Rattle.paper.specs.Faults.{sound}
+use Rattle.paper.specs.Net.{side0}
+use Rattle.paper.specs.Floats.{netVerdict}
+use Rattle.paper.specs.Sampling.{sideAt}
+use Rattle.paper.specs.Triangles.{turnWeights}
 use Rattle.paper.specs.Tangents.{tangentPair}
-use Rattle.mesh.proofs.Fills.{filled-step}
+use Rattle.mesh.proofs.Fills.{filled-none, filled-step}
+use Rattle.mesh.proofs.Scans.{ways}
 use Rattle.bernstein.specs.declared.Matrix5.{Matrix5}
 use Rattle.bernstein.specs.declared.Vector5.{Vector5}
-use Rattle.bernstein.specs.Sums.{Tapered, rowOf, polynomialAt}
-use Rattle.bernstein.proofs.Laws.{bits, sized-bits, value-size}
-use Rattle.sampling.proofs.TangentLaws.{along-value, inward-value, pair-is}
-use Rattle.net_points.specs.declared.writing.Shape.{Shape}
-use Rattle.net_points.specs.declared.tangent_writing.Slopes.{Slopes}
-use Rattle.net_points.specs.declared.tangent_writing.RowSlopes.{RowSlopes}
+use Rattle.bernstein.specs.Sums.{polynomialOf, polynomialAt, statesOf}
+use Rattle.numbers.proofs.Laws.{abs-add-le}
+use Rattle.bernstein.proofs.Laws.{bits, size-fits, sized-bits}
 use Rattle.strips.specs.PointRows.{FilledTo, Fills}
-use Rattle.net_points.specs.writing.Laid.{ringAt}
-use Rattle.net_points.specs.writing.Shapes.{Shapely, shapeGroup, shapeRings, shapeStart, shapeSize}
-use Rattle.net_points.specs.tangent_writing.Paired.{Sloped, RowTapering, rowsAt, sixAt, tailAt, placesNumber, partNumber, RingPairs, CentrePair, RingsPaired}
-use Rattle.net_points.specs.tangent_writing.Paired.{shapePair, PairAim, NetPaired}
+use Rattle.net_points.specs.writing.Laid.{pickMatrix, turnedOf, ringAt}
+use Rattle.net_points.specs.tangent_writing.Lanes.{tailwardOf, centrewardOf, laneOf, forwardOf, laneNumber, LanePut, Lanes, LanesFilled}
+use Rattle.net_points.specs.tangent_writing.Lanes.{PairFilled, Added, Run, rowsAt, runNumber, pairOf}
+use Rattle.net_points.specs.tangent_writing.Paired.{partNumber, RingAim, RingPairs, CentrePair}
 use Rattle.strips.proofs.Rowed.{fills-more}
-use Rattle.closing.proofs.Listed.{ring-side, ring-rest}
+use Rattle.net_points.proofs.writing.Fill.{filled-at}
 use Rattle.net_points.proofs.writing.Laws.{ring-room}
-use Rattle.net_points.proofs.writing.Groups.{ring-size, centre-size, centre-start}
+use Rattle.net_points.proofs.tangent_writing.Lanes.{lanes-start, run-value}
+use Rattle.net_points.proofs.tangent_writing.Values.{lane-is, lane-smooth, run-part}
 
--- ---- six stores
-put-one : (f : ℕ → ℤ) (old : List ℤ) (i j : ℕ) (out : List ℤ) (x : ℤ) → i < length out → i + 1 ≡ j → FilledTo f old i out → x ≡ f i
+-- ---- a store
+pub put-one : (f : ℕ → ℤ) (old : List ℤ) (i j : ℕ) (out : List ℤ) (x : ℤ) → i < length out → i + 1 ≡ j → FilledTo f old i out → x ≡ f i
     → FilledTo f old j (set out i x)
 put-one f old i j out x h k e q =
     subst (λ (n : ℕ). FilledTo f old n (set out i x)) k (record {
@@ -43,91 +46,184 @@ put-one f old i j out x h k e q =
       holds = filled-step f old i out x (pos 0) (omega (arith, e .long)) (e .holds) q;
     })
 
-pub fills-six : (at : ℕ) (a b c d e g : ℤ) (out : List ℤ) → at + 6 ≤ length out
-    → Fills (λ x. getD (axes a b c ++ axes d e g) x (pos 0)) at 6 out (set (set (set (set (set (set out at a) (at + 1) b) (at + 2) c) (at + 3) d) (at + 4) e) (at + 5) g)
-fills-six at a b c d e g out h f old filled values =
-    let s0 = put-one f old at (at + 1) out a (omega arith) refl filled (sym (values 0 (omega arith)) ∙ ap f (let z : at + 0 ≡ at = omega arith in z)) in
-    let s1 = put-one f old (at + 1) (at + 2) _ b (simp length-set (omega arith)) (omega arith) s0 (sym (values 1 (omega arith))) in
-    let s2 = put-one f old (at + 2) (at + 3) _ c (simp length-set (omega arith)) (omega arith) s1 (sym (values 2 (omega arith))) in
-    let s3 = put-one f old (at + 3) (at + 4) _ d (simp length-set (omega arith)) (omega arith) s2 (sym (values 3 (omega arith))) in
-    let s4 = put-one f old (at + 4) (at + 5) _ e (simp length-set (omega arith)) (omega arith) s3 (sym (values 4 (omega arith))) in
-    put-one f old (at + 5) (at + 6) _ g (simp length-set (omega arith)) (omega arith) s4 (sym (values 5 (omega arith)))
-
 pub fills-same : (g h : ℕ → ℤ) (at n : ℕ) (first last : List ℤ) → ((x : ℕ) → x < n → g x ≡ h x) → Fills g at n first last → Fills h at n first last
 fills-same g h at n first last same a f old e values = a f old e (λ x l. values x l ∙ sym (same x l))
 
--- what a pair's six numbers are, by their bits
-module _ (r : RowSlopes) (t : ℕ) (h : RowTapering r) (l : t ≤ 16) where
-  bit : (v : Vector5) (z : ℤ) → Tapered (5 * 2 ^ 34) v → z ≡ polynomialAt v t → bits z ≡ polynomialAt v t
-  bit v z w q =
-      sized-bits z (5 * (65536 * (5 * 2 ^ 34))) (subst (λ (y : ℤ). natAbs y ≤ 5 * (65536 * (5 * 2 ^ 34))) (sym q) (value-size v t (5 * 2 ^ 34) l w)) (lit≤ tt) ∙ q
+-- one more number of a copy
+pub copy-step : (g : ℕ → ℤ) (at e to : ℕ) (first mid : List ℤ) (x : ℤ) → to ≡ at + e → at + e < length mid → x ≡ g e → Fills g at e first mid
+    → Fills g at (e + 1) first (set mid to x)
+copy-step g at e to first mid x q h v a f old filled values =
+    put-one f old to (at + (e + 1)) mid x (omega arith) (omega arith)
+    (subst (λ (i : ℕ). FilledTo f old i mid) (sym q) (a f old filled (λ y l. values y (omega arith)))) (v ∙ sym (values e (omega arith)) ∙ ap f (sym q))
 
-  six-values : (a b c d e g : ℤ) → a ≡ polynomialAt (r .x) t → b ≡ polynomialAt (r .y) t → c ≡ polynomialAt (r .z) t → d ≡ polynomialAt (r .u) t → e ≡ polynomialAt (r .v) t
-      → g ≡ polynomialAt (r .w) t → axes (bits a) (bits b) (bits c) ++ axes (bits d) (bits e) (bits g) ≡ sixAt r t
-  six-values a b c d e g p q s u v w =
-      rw (bit (r .x) a (h .0 .tapers) p, bit (r .y) b (h .1 .tapers) q, bit (r .z) c (h .2 .tapers) s, bit (r .u) d (h .3 .tapers) u, bit (r .v) e (h .4 .tapers) v, bit (r .w) g (h .5 .tapers) w)
+-- four copies of six
+four-copies : (table : List ℤ) (lane : ℕ) (old a b c d : List ℤ) → length old ≡ 24 → Fills (λ e. getD table (lane + e) (pos 0)) 0 6 old a
+    → Fills (λ e. getD table (lane + 24 + e) (pos 0)) 6 6 a b → Fills (λ e. getD table (lane + 48 + e) (pos 0)) 12 6 b c
+    → Fills (λ e. getD table (lane + 72 + e) (pos 0)) 18 6 c d
+    → (length d ≡ 24) × ((p e : ℕ) → p < 4 → e < 6 → getD d (6 * p + e) (pos 0) ≡ getD table (24 * p + (lane + e)) (pos 0))
+four-copies table lane old a b c d n f0 f1 f2 f3 = (
+  filled .long ∙ n,
+  λ p e l h.
+      ap (λ (x : List ℤ). getD x (6 * p + e) (pos 0)) (filled .holds) ∙ filled-at g old 24 (6 * p + e) (omega arith)
+      ∙ ap (λ (i : ℕ). getD table i (pos 0)) (let q : lane + 24 * ((6 * p + e) / 6) + (6 * p + e) % 6 ≡ 24 * p + (lane + e) = omega arith in q),
+)
+  where
+    g : ℕ → ℤ
+    g y = getD table (lane + 24 * (y / 6) + y % 6) (pos 0)
 
-  pub six-put : (a b c d e g : ℤ) → a ≡ polynomialAt (r .x) t → b ≡ polynomialAt (r .y) t → c ≡ polynomialAt (r .z) t → d ≡ polynomialAt (r .u) t → e ≡ polynomialAt (r .v) t
-      → g ≡ polynomialAt (r .w) t → (at : ℕ) (old out : List ℤ)
-      → Fills (λ x. getD (axes (bits a) (bits b) (bits c) ++ axes (bits d) (bits e) (bits g)) x (pos 0)) at 6 old out
-      → Fills (λ x. getD (sixAt r t) x (pos 0)) at 6 old out
-  six-put a b c d e g p q s u v w at old out k =
-      subst (λ (l : List ℤ). Fills (λ x. getD l x (pos 0)) at 6 old out) (six-values a b c d e g p q s u v w) k
+    filled : FilledTo g old 24 d
+    filled =
+        f3 g old
+        (f2 g old
+        (f1 g old
+        (f0 g old (record { long = refl; holds = filled-none g old }) (λ x b. ap (λ (i : ℕ). getD table i (pos 0)) (omega arith)))
+        (λ x b. ap (λ (i : ℕ). getD table i (pos 0)) (omega arith)))
+        (λ x b. ap (λ (i : ℕ). getD table i (pos 0)) (omega arith)))
+        (λ x b. ap (λ (i : ℕ). getD table i (pos 0)) (omega arith))
+
+pub copies-run : (F : ℕ → Matrix5) (k : ℕ) (table : List ℤ) (lane : ℕ) (old a b c d : List ℤ) → length old ≡ 24 → Fills (λ e. getD table (lane + e) (pos 0)) 0 6 old a
+    → Fills (λ e. getD table (lane + 24 + e) (pos 0)) 6 6 a b → Fills (λ e. getD table (lane + 48 + e) (pos 0)) 12 6 b c
+    → Fills (λ e. getD table (lane + 72 + e) (pos 0)) 18 6 c d → Lanes F lane (lane + 6) k table → Run (rowsAt F lane k) 0 d
+copies-run F k table lane old a b c d n f0 f1 f2 f3 l =
+    lanes-start F lane k table d l (four-copies table lane old a b c d n f0 f1 f2 f3 .0) (four-copies table lane old a b c d n f0 f1 f2 f3 .1)
+
+-- at the same row, and at the same place
+pub lanes-at : (F : ℕ → Matrix5) (from to i k : ℕ) (table : List ℤ) → i ≡ k → Lanes F from to i table → Lanes F from to k table
+lanes-at F from to i k table e l = subst (λ (x : ℕ). Lanes F from to x table) e l
+
+pub run-at : (g : ℕ → Vector5) (i j : ℕ) (run : List ℤ) → i ≡ j → Run g i run → Run g j run
+run-at g i j run e r = subst (λ (x : ℕ). Run g x run) e r
 
 -- ---- the places of a row
-pub tail-odd : (side n k j : ℕ) → side % 2 ≡ 1 → n - k - j ≡ tailAt side n k j
-tail-odd side n k j e = rw (eq-eqb (side % 2) 1 e)
+pub places-step : (g : ℕ → Vector5) (first j at to : ℕ) (run old mid out : List ℤ) → Run g (first + j) run → to ≡ at + 6 * j
+    → Fills (runNumber g first) at (6 * j) old mid → Fills (λ e. getD run (0 + e) (pos 0)) to 6 mid out → Fills (runNumber g first) at (6 * (j + 1)) old out
+places-step g first j at to run old mid out r q a b =
+    subst (λ (x : ℕ). Fills (runNumber g first) at x old out) (let z : 6 * j + 6 ≡ 6 * (j + 1) = omega arith in z)
+    (fills-more (runNumber g first) (λ e. getD run (0 + e) (pos 0)) at (6 * j) to 6 old mid out q a b (λ x l. run-value g (first + j) run r x l ∙ same x l))
+  where
+    same : (x : ℕ) → x < 6 → polynomialAt (g x) (first + j) ≡ runNumber g first (6 * j + x)
+    same x l =
+        let d : j ≡ (6 * j + x) / 6 = omega arith in let m : x ≡ (6 * j + x) % 6 = omega arith in
+        λ z. polynomialAt (g (m z)) (first + d z)
 
-pub tail-even : (side n k j : ℕ) → (side % 2 ≡ 1 → ⊥) → j ≡ tailAt side n k j
-tail-even side n k j e = rw (ne-eqb (side % 2) 1 e)
+pub run-fills : (numbers : List ℤ) (n k side first count at : ℕ) (old out : List ℤ) → side ≤ 3 → k + first + count ≤ n + 1
+    → Fills (runNumber (rowsAt (laneOf numbers n) (6 * side) k) first) at (6 * count) old out → Fills (partNumber numbers side n k first) at (6 * count) old out
+run-fills numbers n k side first count at old out h l a = fills-same _ _ at (6 * count) old out (run-part numbers n k side first count h l) a
 
-module _ (r : RowSlopes) (side n k first : ℕ) where
-  six-place : (j x t : ℕ) → x < 6 → t ≡ tailAt side n k (first + j) → getD (sixAt r t) x (pos 0) ≡ placesNumber r side n k first (6 * j + x)
-  unfolding placesNumber
-  six-place j x t l e =
-      let d : (6 * j + x) / 6 ≡ j = omega arith in
-      let m : (6 * j + x) % 6 ≡ x = omega arith in
-      ap (λ (y : ℕ). getD (sixAt r y) x (pos 0)) e ∙ (λ z. getD (sixAt r (tailAt side n k (first + sym d z))) (sym m z) (pos 0))
+-- ---- sums that are stored
+module _ (x y : ℤ) (f : natAbs x ≤ 2 ^ 60) (g : natAbs y ≤ 2 ^ 60) where
+  fit : SFits w64 (x +ℤ y)
+  fit = size-fits (x +ℤ y) (let h = abs-add-le x y (2 ^ 60) (2 ^ 60) f g in omega arith)
 
-  pub places-step : (j t at to : ℕ) (old mid out : List ℤ) → t ≡ tailAt side n k (first + j) → to ≡ at + 6 * j
-      → Fills (placesNumber r side n k first) at (6 * j) old mid → Fills (λ e. getD (sixAt r t) e (pos 0)) to 6 mid out
-      → Fills (placesNumber r side n k first) at (6 * (j + 1)) old out
-  places-step j t at to old mid out e q a b =
-      subst (λ (x : ℕ). Fills (placesNumber r side n k first) at x old out) (let z : 6 * j + 6 ≡ 6 * (j + 1) = omega arith in z)
-      (fills-more (placesNumber r side n k first) (λ e. getD (sixAt r t) e (pos 0)) at (6 * j) to 6 old mid out q a b (λ x l. six-place j x t l e))
+  pub sum-fits : SFits w64 (bits x +ℤ bits y)
+  sum-fits = rw (sized-bits x (2 ^ 60) f (lit≤ tt), sized-bits y (2 ^ 60) g (lit≤ tt)) fit
 
--- by the net's numbers
-module _ (numbers : List ℤ) (side n k : ℕ) (m : Slopes) (s : Sloped numbers side n m) where
-  by : (d c : Matrix5) (t : ℕ) → d ≡ c → polynomialAt (rowOf d k) t ≡ polynomialAt (rowOf c k) t
-  by d c t e = ap (λ (q : Matrix5). polynomialAt (rowOf q k) t) e
+  pub sum-bits : bits (bits x +ℤ bits y) ≡ x +ℤ y
+  sum-bits = rw (sized-bits x (2 ^ 60) f (lit≤ tt), sized-bits y (2 ^ 60) g (lit≤ tt)) (toZ-ofZ fit)
 
-  six-is : (i t : ℕ) → i + t + k ≡ n → sixAt (rowsAt m k) t ≡ tangentPair numbers (sideAt side) (weights i t k n)
-  six-is i t q =
-      pair-is numbers (sideAt side) (weights i t k n) _ _ _ _ _ _ (by (m .x) _ t (s .on-x) ∙ along-value numbers side 0 i t k n q)
-      (by (m .y) _ t (s .on-y) ∙ along-value numbers side 1 i t k n q) (by (m .z) _ t (s .on-z) ∙ along-value numbers side 2 i t k n q)
-      (by (m .u) _ t (s .on-u) ∙ inward-value numbers side 0 i t k n q) (by (m .v) _ t (s .on-v) ∙ inward-value numbers side 1 i t k n q)
-      (by (m .w) _ t (s .on-w) ∙ inward-value numbers side 2 i t k n q)
+pub added-step : (at i gap : ℕ) (old list : List ℤ) (v : ℤ) → at ≤ i → 0 < gap → i < length list → Added at i gap old list
+    → v ≡ getD list i (pos 0) +ℤ getD list (i + gap) (pos 0) → Added at (i + 1) gap old (set list i v)
+added-step at i gap old list v h g l a e = record {
+  sums = λ x b c. ⊎-elim
+      (λ t. let z : x ≡ i = eqb-true x i t in
+      rw z (getD-set-same list i v (pos 0) l ∙ e ∙ (λ w. a .after i (omega arith) w +ℤ a .after (i + gap) (omega arith) w)))
+      (λ t. let o = eqb-false x i t in getD-set-other list i x v (pos 0) o ∙ a .sums x b (omega (arith, o))) (ways (eqb x i));
+  before = λ x b. getD-set-other list i x v (pos 0) (λ z. omega arith) ∙ a .before x b;
+  after = λ x b. getD-set-other list i x v (pos 0) (λ z. omega arith) ∙ a .after x (omega arith);
+}
 
-place-weights : (side n k j : ℕ) → side ≤ 3 → k + j ≤ n
-    → (i : ℕ) × (t : ℕ) × (i + t + k ≡ n) × (t ≡ tailAt side n k j) × (weights i t k n ≡ turnWeights (sideAt side) n k j)
-place-weights zero n k j h l = (n - k - j, j, omega arith, refl, refl)
-place-weights (suc zero) n k j h l = (j, n - k - j, omega arith, refl, refl)
-place-weights (suc (suc zero)) n k j h l = (n - k - j, j, omega arith, refl, refl)
-place-weights (suc (suc (suc zero))) n k j h l = (j, n - k - j, omega arith, refl, refl)
-place-weights (suc (suc (suc (suc s)))) n k j h l = absurd (omega arith)
+-- ---- a lane's numbers, one after the other: the first s of f stand there
+pub record LaneTo (f : ℕ → ℤ) (lane s : ℕ) (old mid : List ℤ) : Type 0 where
+  pub long : length mid ≡ 240
+  pub there : (r : ℕ) → r < s → getD mid (24 * r + lane) (pos 0) ≡ f r
+  pub others : (r z : ℕ) → z < 24 → (z ≡ lane → ⊥) → getD mid (24 * r + z) (pos 0) ≡ getD old (24 * r + z) (pos 0)
 
-module _ (numbers : List ℤ) (side n k : ℕ) (m : Slopes) (s : Sloped numbers side n m) (h : side ≤ 3) (first count : ℕ) (l : k + first + count ≤ n + 1) where
-  places-are : (x : ℕ) → x < 6 * count → placesNumber (rowsAt m k) side n k first x ≡ partNumber numbers side n k first x
-  unfolding placesNumber partNumber
-  places-are x b =
-      let w = place-weights side n k (first + x / 6) h (omega arith) in
-      ap (λ (q : List ℤ). getD q (x % 6) (pos 0))
-      (ap (λ (t : ℕ). sixAt (rowsAt m k) t) (sym (w .3)) ∙ six-is numbers side n k m s (w .0) (w .1) (w .2) ∙ ap (λ v. tangentPair numbers (sideAt side) v) (w .4))
+pub lane-none : (f : ℕ → ℤ) (lane : ℕ) (old : List ℤ) → length old ≡ 240 → LaneTo f lane 0 old old
+lane-none f lane old h = record { long = h; there = λ r l. absurd (omega arith); others = λ r z l o. refl }
 
-  pub places-part : (r : RowSlopes) → r ≡ rowsAt m k → (at : ℕ) (old out : List ℤ) → Fills (placesNumber r side n k first) at (6 * count) old out
-      → Fills (partNumber numbers side n k first) at (6 * count) old out
-  places-part r e at old out a =
-      fills-same _ _ at (6 * count) old out (λ x b. ap (λ (q : RowSlopes). placesNumber q side n k first x) e ∙ places-are x b) a
+pub lane-step : (f : ℕ → ℤ) (lane s i : ℕ) (v : ℤ) (old mid new : List ℤ) → lane < 24 → s < 10 → i ≡ 24 * s + lane → new ≡ set mid i v → v ≡ f s → LaneTo f lane s old mid
+    → LaneTo f lane (s + 1) old new
+lane-step f lane s i v old mid new a b q n e m =
+    subst (λ (l : List ℤ). LaneTo f lane (s + 1) old l) (sym n) (record {
+      long = simp length-set (m .long);
+      there = λ r l. ⊎-elim
+          (λ t. let z : r ≡ s = eqb-true r s t in
+          rw z (ap (λ (x : ℕ). getD (set mid i v) x (pos 0)) (sym q) ∙ getD-set-same mid i v (pos 0) (omega (arith, m .long)) ∙ e))
+          (λ t. let o = eqb-false r s t in getD-set-other mid i (24 * r + lane) v (pos 0) (λ w. omega (arith, o)) ∙ m .there r (omega (arith, o)))
+          (ways (eqb r s));
+      others = λ r z l o. getD-set-other mid i (24 * r + z) v (pos 0) (λ w. omega (arith, o)) ∙ m .others r z l o;
+    })
+
+pub lane-put : (lane : ℕ) (m : Matrix5) (old new : List ℤ) → LaneTo (laneNumber m) lane 10 old new → LanePut lane m old new
+lane-put lane m old new l = record { there = l .there; others = l .others }
+
+-- both lanes of a pair
+module _ (numbers : List ℤ) (n pair side axis lane : ℕ) (few : pair < 12) (side-is : side ≡ pair / 3) (axis-is : axis ≡ pair % 3) (lane-at : lane ≡ 6 * side + axis)
+    (old mid new : List ℤ) where
+  abbrev c : Matrix5
+  c = polynomialOf (turnedOf numbers side axis) (pos n)
+
+  module _ (p : LanePut lane (statesOf (forwardOf (tailwardOf side c)) 0) old mid) (q : LanePut (lane + 3) (statesOf (forwardOf (centrewardOf side c)) 0) mid new) where
+    abbrev Number : ℕ → ℕ → ℤ
+    Number s y = laneNumber (statesOf (forwardOf (laneOf numbers n y)) 0) s
+
+    lane-of : (y : ℕ) → pairOf y ≡ pair → y < 24 → laneOf numbers n y ≡ pickMatrix (ltb (y % 6) 3) (tailwardOf side c) (centrewardOf side c)
+    lane-of y e h = lane-is numbers n y side axis (y % 6) (omega (arith, e, side-is)) (omega (arith, e, axis-is)) refl
+
+    by : (s y : ℕ) (m : Matrix5) → laneOf numbers n y ≡ m → laneNumber (statesOf (forwardOf m) 0) s ≡ Number s y
+    by s y m e = ap (λ (d : Matrix5). laneNumber (statesOf (forwardOf d) 0) s) (sym e)
+
+    first : (s y : ℕ) → s < 10 → y < 24 → pairOf y ≡ pair → ltb (y % 6) 3 ≡ true → getD new (24 * s + y) (pos 0) ≡ Number s y
+    first s y h i e t =
+        let b = ltb-true (y % 6) 3 t in
+        let z : y ≡ lane = omega (arith, e, side-is, axis-is, lane-at, b) in
+        q .others s y i (λ w. omega arith) ∙ ap (λ (x : ℕ). getD mid (24 * s + x) (pos 0)) z ∙ p .there s h
+        ∙ by s y (tailwardOf side c) (lane-of y e i ∙ ap (λ (x : Bool). pickMatrix x (tailwardOf side c) (centrewardOf side c)) t)
+
+    second : (s y : ℕ) → s < 10 → y < 24 → pairOf y ≡ pair → ltb (y % 6) 3 ≡ false → getD new (24 * s + y) (pos 0) ≡ Number s y
+    second s y h i e t =
+        let b = ltb-false (y % 6) 3 t in
+        let z : y ≡ lane + 3 = omega (arith, e, side-is, axis-is, lane-at, b) in
+        ap (λ (x : ℕ). getD new (24 * s + x) (pos 0)) z ∙ q .there s h
+        ∙ by s y (centrewardOf side c) (lane-of y e i ∙ ap (λ (x : Bool). pickMatrix x (tailwardOf side c) (centrewardOf side c)) t)
+
+    pub pair-filled : PairFilled (laneOf numbers n) pair old new
+    pair-filled = record {
+      there = record {
+        filled = λ s y h i a b. let e : pairOf y ≡ pair = omega arith in ⊎-elim (λ t. first s y h i e t) (λ t. second s y h i e t) (ways (ltb (y % 6) 3));
+      };
+      others = λ s y i o.
+          q .others s y i (λ w. o (omega (arith, w, side-is, axis-is, lane-at))) ∙ p .others s y i (λ w. o (omega (arith, w, side-is, axis-is, lane-at)));
+    }
+
+pub put-as : (lane : ℕ) (m d : Matrix5) (old new : List ℤ) → m ≡ d → LanePut lane m old new → LanePut lane d old new
+put-as lane m d old new e p = subst (λ (x : Matrix5). LanePut lane x old new) e p
+
+pub pairs-step : (F : ℕ → Matrix5) (from l : ℕ) (old new : List ℤ) (to : ℕ) → l + 1 ≡ to → LanesFilled F from l old → PairFilled F l old new → LanesFilled F from to new
+pairs-step F from l old new to e a b = record {
+  filled = λ s y h i j k. ⊎-elim
+      (λ t. let z : pairOf y ≡ l = eqb-true (pairOf y) l t in b .there .filled s y h i (omega (arith, z)) (omega (arith, z)))
+      (λ t. let o = eqb-false (pairOf y) l t in b .others s y i o ∙ a .filled s y h i j (omega (arith, o))) (ways (eqb (pairOf y) l));
+}
+
+lanes-filled : (numbers : List ℤ) → netVerdict numbers ≡ sound → (n from to first last : ℕ) (table : List ℤ) → n ≤ 16 → last ≤ 24
+    → ((y : ℕ) → first ≤ y → y < last → (from ≤ pairOf y) × (pairOf y < to)) → LanesFilled (laneOf numbers n) from to table → length table ≡ 240
+    → Lanes (laneOf numbers n) first last 0 table
+lanes-filled numbers e n from to first last table few most in-pairs l long = record {
+  long = long;
+  few = omega arith;
+  smooth = λ y a b. lane-smooth numbers e n few y (omega arith);
+  holds = λ s y h a b. l .filled s y h (omega arith) (in-pairs y a b .0) (in-pairs y a b .1);
+}
+
+pub side-lanes : (numbers : List ℤ) → netVerdict numbers ≡ sound → (n side : ℕ) (table : List ℤ) → n ≤ 16 → side ≤ 3
+    → LanesFilled (laneOf numbers n) (3 * side) (3 * side + 3) table → length table ≡ 240 → Lanes (laneOf numbers n) (6 * side) (6 * side + 6) 0 table
+side-lanes numbers e n side table few h l long =
+    lanes-filled numbers e n (3 * side) (3 * side + 3) (6 * side) (6 * side + 6) table few (omega arith) (λ y a b. (omega arith, omega arith)) l long
+
+pub all-lanes : (numbers : List ℤ) → netVerdict numbers ≡ sound → (n : ℕ) (table : List ℤ) → n ≤ 16 → LanesFilled (laneOf numbers n) 0 12 table → length table ≡ 240
+    → Lanes (laneOf numbers n) 0 24 0 table
+all-lanes numbers e n table few l long = lanes-filled numbers e n 0 12 0 24 table few (omega arith) (λ y a b. (omega arith, omega arith)) l long
 
 -- ---- a part, for a list that is to hold certain numbers
 pub part-filled : (numbers : List ℤ) (side n k first count at : ℕ) (old out before : List ℤ) (f : ℕ → ℤ) → Fills (partNumber numbers side n k first) at (6 * count) old out
@@ -139,37 +235,34 @@ part-filled numbers side n k first count at old out before f a e values =
     a f before e (λ x l.
     ap f (let z : at + x ≡ at + 6 * (x / 6) + x % 6 = omega arith in z) ∙ values (x / 6) (x % 6) (omega arith) (omega arith))
 
+-- ---- one more side of a ring
+pub sides-room : (side w : ℕ) → side < 4 → side * w + w ≤ 4 * w
+sides-room zero w h = omega arith
+sides-room (suc zero) w h = omega arith
+sides-room (suc (suc zero)) w h = omega arith
+sides-room (suc (suc (suc zero))) w h = omega arith
+sides-room (suc (suc (suc (suc s)))) w h = absurd (omega arith)
+
+pub side-step : (numbers : List ℤ) (n k w at side to : ℕ) (f : ℕ → ℤ) (old mid out : List ℤ) → side < 4 → to ≡ at + 6 * (side * w) → RingAim numbers n k w at f
+    → FilledTo f old to mid → Fills (partNumber numbers side n k 0) to (6 * w) mid out → FilledTo f old (to + 6 * w) out
+side-step numbers n k w at side to f old mid out h q aim e a =
+    part-filled numbers side n k 0 w to mid out old f a e
+    (λ j x l b. ap f (let z : to + 6 * j + x ≡ at + 6 * (side * w) + 6 * j + x = omega arith in z) ∙ aim side j x h l b)
+
 -- ---- one more ring
-module _ (numbers : List ℤ) (n at k w to : ℕ) (h : k + 1 < n) (w-is : w ≡ n - k - 1) (f : ℕ → ℤ) (before : List ℤ) (aim : RingPairs numbers n at f)
-    (there : to ≡ at + 6 * (2 * (k * (2 * n - k - 1)))) where
-  spot : (side j e : ℕ) → to + 6 * side * w + 6 * j + e ≡ at + 6 * ringAt n side k j + e
-  spot side j e = line (2 * (k * (2 * n - k - 1))) there ∙ ap (λ (x : ℕ). at + 6 * (2 * (k * (2 * n - k - 1)) + side * x + j) + e) (let z : w ≡ n - suc k = omega arith in z)
-    where
-      line : (r : ℕ) → to ≡ at + 6 * r → to + 6 * side * w + 6 * j + e ≡ at + 6 * (r + side * w + j) + e
-      line r q = omega arith
+pub ring-aim : (numbers : List ℤ) (n at k w to : ℕ) → k + 1 < n → w ≡ n - k - 1 → (f : ℕ → ℤ) → RingPairs numbers n at f → to ≡ at + 6 * (2 * (k * (2 * n - k - 1)))
+    → RingAim numbers n (k + 1) w to f
+ring-aim numbers n at k w to h w-is f aim there side j e s l b =
+    ap f (spot side j e) ∙ aim side k j e s (omega arith) b
+    ∙ (let p : suc k ≡ k + 1 = omega arith in let q : j ≡ 0 + j = omega arith in λ z. getD (tangentPair numbers (sideAt side) (turnWeights (sideAt side) n (p z) (q z))) e (pos 0))
+  where
+    line : (side j e r : ℕ) → to ≡ at + 6 * r → to + 6 * (side * w) + 6 * j + e ≡ at + 6 * (r + side * w + j) + e
+    line side j e r q = omega arith
 
-  ring-values : (side j e : ℕ) → side < 4 → j < w → e < 6
-      → f (to + 6 * side * w + 6 * j + e) ≡ getD (tangentPair numbers (sideAt side) (turnWeights (sideAt side) n (k + 1) (0 + j))) e (pos 0)
-  ring-values side j e s l b =
-      ap f (spot side j e) ∙ aim side k j e s (omega arith) b
-      ∙ (let p : suc k ≡ k + 1 = omega arith in let q : j ≡ 0 + j = omega arith in λ z. getD (tangentPair numbers (sideAt side) (turnWeights (sideAt side) n (p z) (q z))) e (pos 0))
-
-  pub ring-step : (a b c d e : List ℤ) → FilledTo f before to a → Fills (partNumber numbers 0 n (k + 1) 0) to (6 * w) a b
-      → Fills (partNumber numbers 1 n (k + 1) 0) (to + 6 * w) (6 * w) b c → Fills (partNumber numbers 2 n (k + 1) 0) (to + 12 * w) (6 * w) c d
-      → Fills (partNumber numbers 3 n (k + 1) 0) (to + 18 * w) (6 * w) d e
-      → FilledTo f before (to + 24 * w) e
-  ring-step a b c d e q p0 p1 p2 p3 =
-      let r0 = part-filled numbers 0 n (k + 1) 0 w to a b before f p0 q
-      (λ j x l m. ap f (let z : to + 6 * j + x ≡ to + 6 * 0 * w + 6 * j + x = omega arith in z) ∙ ring-values 0 j x (omega arith) l m) in
-      let r1 = part-filled numbers 1 n (k + 1) 0 w (to + 6 * w) b c before f p1 r0
-      (λ j x l m. ap f (let z : to + 6 * w + 6 * j + x ≡ to + 6 * 1 * w + 6 * j + x = omega arith in z) ∙ ring-values 1 j x (omega arith) l m) in
-      let r2 = part-filled numbers 2 n (k + 1) 0 w (to + 12 * w) c d before f p2
-      (subst (λ (i : ℕ). FilledTo f before i c) (let z : to + 6 * w + 6 * w ≡ to + 12 * w = omega arith in z) r1)
-      (λ j x l m. ap f (let z : to + 12 * w + 6 * j + x ≡ to + 6 * 2 * w + 6 * j + x = omega arith in z) ∙ ring-values 2 j x (omega arith) l m) in
-      let r3 = part-filled numbers 3 n (k + 1) 0 w (to + 18 * w) d e before f p3
-      (subst (λ (i : ℕ). FilledTo f before i d) (let z : to + 12 * w + 6 * w ≡ to + 18 * w = omega arith in z) r2)
-      (λ j x l m. ap f (let z : to + 18 * w + 6 * j + x ≡ to + 6 * 3 * w + 6 * j + x = omega arith in z) ∙ ring-values 3 j x (omega arith) l m) in
-      subst (λ (i : ℕ). FilledTo f before i e) (let z : to + 18 * w + 6 * w ≡ to + 24 * w = omega arith in z) r3
+    spot : (side j e : ℕ) → to + 6 * (side * w) + 6 * j + e ≡ at + 6 * ringAt n side k j + e
+    spot side j e =
+        line side j e (2 * (k * (2 * n - k - 1))) there
+        ∙ ap (λ (x : ℕ). at + 6 * (2 * (k * (2 * n - k - 1)) + side * x + j) + e) (let z : w ≡ n - suc k = omega arith in z)
 
 -- a ring stays within the room
 pub ring-fits : (n k w to at len : ℕ) → k + 1 < n → w ≡ n - k - 1 → to ≡ at + 6 * (2 * (k * (2 * n - k - 1))) → at + 6 * (2 * (n * (n - 1)) + 1) ≤ len

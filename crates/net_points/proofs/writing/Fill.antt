@@ -18,7 +18,7 @@ use Rattle.net_points.specs.writing.Laid.{Reaches}
 
 -- ---- a list that is filled, number by number
 module _ (f : ℕ → ℤ) (old : List ℤ) (i : ℕ) where
-  filled-at : (t : ℕ) → t < i → getD (valuesFrom f 0 i ++ drop i old) t (pos 0) ≡ f t
+  pub filled-at : (t : ℕ) → t < i → getD (valuesFrom f 0 i ++ drop i old) t (pos 0) ≡ f t
   filled-at t h =
       List·getD-append (valuesFrom f 0 i) (drop i old) (pos 0) t (omega (arith, values-length f 0 i))
       ∙ values-at f (pos 0) 0 i t h ∙ ap f (let z : 0 + t ≡ t = omega arith in z)

@@ -1,11 +1,12 @@
 -- Laws of numbers that are written here and there, of control points in turn, and of the places of rings.
 use mathlib.Core.Path.{_≡_, refl, sym, ap, _∙_, subst}
+use mathlib.Core.Bool.{Bool, true, false}
 use mathlib.Core.Logic.{_⊎_, inl, inr, ⊎-elim}
 use mathlib.Core.List.{List}
 use Prim.Native.Nat.{ℕ, zero, suc, _+_, _-_, _*_, _/_, _%_, _^_, _≤_, _<_}
 use native.Mathlib.Omega.{arith}
 use lib.Dec.{ltb, eqb}
-use borrow.Author.Tests.{ltb-true, ltb-false, eqb-true, eqb-false}
+use borrow.Author.Tests.{ltb-true, ltb-false, eqb-true, eqb-false, eq-eqb, ne-eqb}
 use lib.ListN.{length, getD, set, length-set}
 use lib.Seq.{getD-set-same, getD-set-other}
 use lib.IntN.{ℤ, pos, natAbs, _+ℤ_, _*ℤ_}
@@ -22,9 +23,9 @@ use Rattle.bernstein.specs.Sums.{vector5, linear, quadratic, cubic, quartic, qu
 use Rattle.sampling.specs.Grid.{Sampleable, RowSampleable, RowPut}
 use Rattle.bernstein.proofs.Sum.{bernstein-is}
 use Rattle.bernstein.proofs.Laws.{polynomial-tapers}
-use Rattle.sampling.proofs.Laws.{points-sampleable}
+use Rattle.sampling.proofs.Laws.{points-sized, points-sampleable}
 use Rattle.sampling.proofs.Lists.{row-sampleable, row-part}
-use Rattle.net_points.specs.writing.Laid.{Reaches, reversedOf, InTurn, PointPlace}
+use Rattle.net_points.specs.writing.Laid.{Reaches, reversedOf, pickMatrix, turnedOf, InTurn, PointPlace}
 
 -- ---- numbers written here and there
 module _ {f : ℕ → ℤ} {S : ℕ → Type 0} where
@@ -86,13 +87,13 @@ module _ {e : Vector5} {n first count from : ℕ} {old new : List ℤ} (r : RowP
   }
 
 -- ---- rows from their other ends: head and tail change places
-linear-back : (a b x y : ℤ) → linear b a x y ≡ linear a b y x
+pub linear-back : (a b x y : ℤ) → linear b a x y ≡ linear a b y x
 linear-back = over 4 _ λ ρ. simp (poly, ρ) (omega arith)
 
-quadratic-back : (a b c x y : ℤ) → quadratic c b a x y ≡ quadratic a b c y x
+pub quadratic-back : (a b c x y : ℤ) → quadratic c b a x y ≡ quadratic a b c y x
 quadratic-back = over 5 _ λ ρ. simp (poly, ρ) (omega arith)
 
-cubic-back : (a b c d x y : ℤ) → cubic d c b a x y ≡ cubic a b c d y x
+pub cubic-back : (a b c d x y : ℤ) → cubic d c b a x y ≡ cubic a b c d y x
 cubic-back = over 6 _ λ ρ. simp (poly, ρ) (omega arith)
 
 quartic-back : (a b c d e x y : ℤ) → quartic (vector5 e d c b a) x y ≡ quartic (vector5 a b c d e) y x
@@ -119,6 +120,19 @@ sampleable-back p n s = record {
       subst (λ (z : ℤ). natAbs z ≤ 2 ^ 27 * n ^ 4) (sym (sum-back p (pos i) (pos j) (pos k))) (s .small j i k (let q : j + i + k ≡ n = omega arith in q));
 }
 
+-- ---- the weights at a place, by the side's number
+pub even-weights : (side n k j : ℕ) → side ≤ 3 → (side % 2 ≡ 1 → ⊥) → turnWeights (sideAt side) n k j ≡ weights (n - k - j) j k n
+even-weights zero n k j h o = refl
+even-weights (suc zero) n k j h o = absurd (o refl)
+even-weights (suc (suc zero)) n k j h o = refl
+even-weights (suc (suc (suc s))) n k j h o = absurd (o (let z : suc (suc (suc s)) % 2 ≡ 1 = omega arith in z))
+
+pub odd-weights : (side n k j : ℕ) → side ≤ 3 → side % 2 ≡ 1 → turnWeights (sideAt side) n k j ≡ weights j (n - k - j) k n
+odd-weights zero n k j h o = absurd (omega arith)
+odd-weights (suc zero) n k j h o = refl
+odd-weights (suc (suc zero)) n k j h o = absurd (omega arith)
+odd-weights (suc (suc (suc s))) n k j h o = refl
+
 -- ---- the control points of a side in turn
 module _ (numbers : List ℤ) (e : netVerdict numbers ≡ sound) (side axis : ℕ) (a : axis < 3) where
   abbrev controls : Matrix5
@@ -128,34 +142,37 @@ module _ (numbers : List ℤ) (e : netVerdict numbers ≡ sound) (side axis : �
   unfolding sampleAt
   sum-sample i j k n = ap (λ (z : ℤ). round z (pos (n ^ 4))) (sym (bernstein-is (onAxis numbers axis) (sideAt side) i j k))
 
-  even-weights : (side n k j : ℕ) → side ≤ 3 → (side % 2 ≡ 1 → ⊥) → turnWeights (sideAt side) n k j ≡ weights (n - k - j) j k n
-  even-weights zero n k j h o = refl
-  even-weights (suc zero) n k j h o = absurd (o refl)
-  even-weights (suc (suc zero)) n k j h o = refl
-  even-weights (suc (suc (suc s))) n k j h o = absurd (o (let z : suc (suc (suc s)) % 2 ≡ 1 = omega arith in z))
-
-  odd-weights : (side n k j : ℕ) → side ≤ 3 → side % 2 ≡ 1 → turnWeights (sideAt side) n k j ≡ weights j (n - k - j) k n
-  odd-weights zero n k j h o = absurd (omega arith)
-  odd-weights (suc zero) n k j h o = refl
-  odd-weights (suc (suc zero)) n k j h o = absurd (omega arith)
-  odd-weights (suc (suc (suc s))) n k j h o = refl
-
   pub turn-even : side ≤ 3 → (side % 2 ≡ 1 → ⊥) → (p : Matrix5) → p ≡ controls → InTurn numbers side axis p
+  unfolding turnedOf
   turn-even h o p q =
       subst (λ (r : Matrix5). InTurn numbers side axis r) (sym q) (record {
+        points = rw (ne-eqb (side % 2) 1 o);
         sampleable = λ n l f. points-sampleable numbers e side axis a n l f;
         samples = λ n k j l.
             sum-sample (n - k - j) j k n ∙ ap (λ w. sampleAt numbers (sideAt side) w axis) (sym (even-weights side n k j h o));
       })
 
   pub turn-odd : side ≤ 3 → side % 2 ≡ 1 → (p r : Matrix5) → p ≡ controls → r ≡ reversedOf p → InTurn numbers side axis r
+  unfolding turnedOf
   turn-odd h o p r q t =
       subst (λ (r : Matrix5). InTurn numbers side axis r) (sym (t ∙ ap reversedOf q)) (record {
+        points = rw (eq-eqb (side % 2) 1 o);
         sampleable = λ n l f. sampleable-back controls n (points-sampleable numbers e side axis a n l f);
         samples = λ n k j l.
             ap (λ (z : ℤ). round z (pos (n ^ 4))) (sum-back controls (pos (n - k - j)) (pos j) (pos k))
             ∙ sum-sample j (n - k - j) k n ∙ ap (λ w. sampleAt numbers (sideAt side) w axis) (sym (odd-weights side n k j h o));
       })
+
+pub turned-size : (numbers : List ℤ) → netVerdict numbers ≡ sound → (side axis : ℕ) → axis < 3 → AllSized (2 ^ 27) (turnedOf numbers side axis)
+unfolding turnedOf
+turned-size numbers e side axis a = picked (eqb (side % 2) 1)
+  where
+    controls-sized : AllSized (2 ^ 27) (rowsOf (control (onAxis numbers axis) (sideAt side)))
+    controls-sized = points-sized numbers e side axis a
+
+    picked : (b : Bool) → AllSized (2 ^ 27) (let p = rowsOf (control (onAxis numbers axis) (sideAt side)) in pickMatrix b (reversedOf p) p)
+    picked true = sized-back (2 ^ 27) _ (omega arith) controls-sized
+    picked false = controls-sized
 
 -- ---- what can be put of a border's row, and of a ring's
 pub curve-sampleable : (p : Matrix5) (m : ℕ) → Sampleable p m → (e : Vector5) → e ≡ rowOf (polynomialOf p (pos m)) 0 → RowSampleable e m 1 (m - 1)

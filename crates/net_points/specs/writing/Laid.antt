@@ -1,15 +1,17 @@
 -- Numbers that are written here and there into a list, of which each place is to hold a certain one; and the control points of a side in turn.
 use mathlib.Core.Path.{_≡_}
 use mathlib.Core.Logic.{_⊎_}
+use mathlib.Core.Bool.{Bool, true, false}
 use mathlib.Core.List.{List}
-use Prim.Native.Nat.{ℕ, suc, _+_, _-_, _*_, _^_, _≤_, _<_}
+use Prim.Native.Nat.{ℕ, suc, _+_, _-_, _*_, _%_, _^_, _≤_, _<_}
+use lib.Dec.{eqb}
 use lib.ListN.{length, getD}
 use lib.IntN.{ℤ, pos}
 use Rattle.paper.specs.Numbers.{round}
-use Rattle.paper.specs.Sampling.{onAxis, sampleAt, sideAt}
+use Rattle.paper.specs.Sampling.{control, onAxis, sampleAt, sideAt}
 use Rattle.paper.specs.Triangles.{turnWeights}
 use Rattle.bernstein.specs.declared.Matrix5.{Matrix5}
-use Rattle.bernstein.specs.Sums.{vector5, quarticSum}
+use Rattle.bernstein.specs.Sums.{vector5, rowsOf, quarticSum}
 use Rattle.sampling.specs.Grid.{Sampleable}
 
 -- ---- f says what each place is to hold. No place has changed but to hold that, and those of S do hold it
@@ -28,8 +30,16 @@ reversedOf p = record {
   r4 = vector5 (p .r4 .a) (pos 0) (pos 0) (pos 0) (pos 0);
 }
 
+abbrev pub pickMatrix : Bool → Matrix5 → Matrix5 → Matrix5
+pickMatrix true p q = p
+pickMatrix false p q = q
+
+unfoldable pub turnedOf : List ℤ → ℕ → ℕ → Matrix5
+turnedOf numbers side axis = let p = rowsOf (control (onAxis numbers axis) (sideAt side)) in pickMatrix (eqb (side % 2) 1) (reversedOf p) p
+
 -- their sums are the side's samples at the places of its rows
 pub record InTurn (numbers : List ℤ) (side axis : ℕ) (p : Matrix5) : Type 0 where
+  pub points : p ≡ turnedOf numbers side axis
   pub sampleable : (n : ℕ) → 1 ≤ n → n ≤ 16 → Sampleable p n
   pub samples : (n k j : ℕ) → k + j ≤ n
       → round (quarticSum p (pos (n - k - j)) (pos j) (pos k)) (pos (n ^ 4)) ≡ sampleAt numbers (sideAt side) (turnWeights (sideAt side) n k j) axis

@@ -1,77 +1,115 @@
--- `put_places` meets its contract: before each turn the tangents at the places before are written.
+-- `put_places` meets its contract: before each turn the tangents at the places before are written, and the numbers are those of this place.
 use mathlib.Core.Path.{_≡_, refl, sym, ap, _∙_, subst}
 use mathlib.Core.List.{List}
 use Prim.Native.Nat.{ℕ, _+_, _-_, _*_, _≤_, _<_}
 use native.Mathlib.Omega.{arith}
 use borrow.Author.Needs.{needs}
 use lib.ListN.{length}
+use lib.IntN.{ℤ}
 use denote.Ref.{now}
+use Rattle.bernstein.specs.declared.Matrix5.{Matrix5}
 use Rattle.strips.specs.PointRows.{Fills}
-use Rattle.net_points.specs.tangent_writing.Paired.{placesNumber}
+use Rattle.net_points.specs.tangent_writing.Lanes.{Lanes, Run, rowsAt, runNumber}
 use Rattle.strips.proofs.Rowed.{fills-none}
-use Rattle.net_points.proofs.tangent_writing.Laws.{places-step}
+use Rattle.net_points.proofs.tangent_writing.Lanes.{lanes-cubic}
+use Rattle.net_points.proofs.tangent_writing.Laws.{run-at, places-step}
 use Rattle.net_points.proofs.tangent_writing.put_places.Statement.{statement}
 use Rattle.net_points.proofs.tangent_writing.put_places.Tie as tie
 
 abbrev Inv-loop : tie.InvT-loop
-Inv-loop r side n k first count out₀ at j₀ out j =
-    (j ≤ count) × (length out ≡ length out₀) × Fills (placesNumber r side n k first) at (6 * j) out₀ out
+Inv-loop table lane first count out₀ at run₀ j₀ out run j =
+    (j ≤ count) × (length out ≡ length out₀)
+    × ((F : ℕ → Matrix5) (k : ℕ) → Lanes F lane (lane + 6) k table
+    → Run (rowsAt F lane k) (first + j) run × Fills (runNumber (rowsAt F lane k) first) at (6 * j) out₀ out)
 
 abbrev μ-loop : tie.MeasureT-loop
-μ-loop r side n k first count out₀ at j₀ out j = count - j
+μ-loop table lane first count out₀ at run₀ j₀ out run j = count - j
+
+start-run-requires : tie.Need-start-run-requires Inv-loop μ-loop
+start-run-requires c κs = let s : tie.Start Inv-loop μ-loop = search in (s .pre .0 .0, s .pre .0 .1, s .pre .1 .0, refl)
 
 loop-holds : tie.Need-loop-holds Inv-loop μ-loop
-loop-holds c = (omega arith, refl, fills-none _ _ _)
+loop-holds c =
+    let s : tie.Start Inv-loop μ-loop = search in
+    let p : tie.After-start-run Inv-loop μ-loop = search in (
+      omega arith,
+      refl,
+      λ F k l. (
+        run-at (rowsAt F (s .args .lane) k) (s .args .first) (s .args .first + 0) _ (omega arith) (p .start-run .ensures F k l),
+        fills-none _ _ _,
+      ),
+    )
 
 -- in the loop
 module _ (t : tie.In-loop Inv-loop μ-loop) where
-  below : t .before .loop .j < t .before .before .args .count
+  abbrev s : tie.Start Inv-loop μ-loop
+  s = search
+
+  below : t .before .loop .j < s .args .count
   below = t .loop-test .taken
 
-add-tail : tie.Need-add-tail Inv-loop μ-loop
-add-tail c = let s : tie.Start Inv-loop μ-loop = search in let t : tie.In-loop Inv-loop μ-loop = search in record { fits = omega (arith, below t, s .pre .0 .2, s .pre .1 .0) }
+  here : Run (rowsAt (s .pre .0 .0 .1 .polynomials) (s .args .lane) (s .pre .0 .0 .0)) (s .args .first + t .before .loop .j) (t .before .loop .run)
+  here = t .before .loop .inv .2 (s .pre .0 .0 .1 .polynomials) (s .pre .0 .0 .0) (s .pre .0 .0 .1 .lanes) .0
 
-tail-requires : tie.Need-tail-requires Inv-loop μ-loop
-tail-requires c κs =
-    let s : tie.Start Inv-loop μ-loop = search in let t : tie.In-loop Inv-loop μ-loop = search in (omega (arith, below t, s .pre .1 .0), s .pre .0 .2)
+slice-aggregate-copy-six : tie.Need-slice-aggregate-copy-six Inv-loop μ-loop
+slice-aggregate-copy-six c = let t : tie.In-loop Inv-loop μ-loop = search in omega (arith, here t .long)
 
-mul-put-pair : tie.Need-mul-put-pair Inv-loop μ-loop
-mul-put-pair c = let s : tie.Start Inv-loop μ-loop = search in let t : tie.In-loop Inv-loop μ-loop = search in record { fits = omega (arith, below t, s .pre .0 .2, s .pre .1 .0) }
+slice-aggregate-step-run : tie.Need-slice-aggregate-step-run Inv-loop μ-loop
+slice-aggregate-step-run c = let t : tie.In-loop Inv-loop μ-loop = search in omega (arith, here t .long)
 
-add-put-pair : tie.Need-add-put-pair Inv-loop μ-loop
-add-put-pair c = let s : tie.Start Inv-loop μ-loop = search in let t : tie.In-loop Inv-loop μ-loop = search in record { fits = omega (arith, below t, s .pre .1 .1, s .good) }
+mul-copy-six : tie.Need-mul-copy-six Inv-loop μ-loop
+mul-copy-six c = let t : tie.In-loop Inv-loop μ-loop = search in record { fits = omega (arith, below t, s t .pre .1 .1) }
 
-put-pair-requires : tie.Need-put-pair-requires Inv-loop μ-loop
-put-pair-requires c κs =
-    let s : tie.Start Inv-loop μ-loop = search in
+add-copy-six : tie.Need-add-copy-six Inv-loop μ-loop
+add-copy-six c = let t : tie.In-loop Inv-loop μ-loop = search in record { fits = omega (arith, below t, s t .pre .1 .2, s t .good) }
+
+copy-six-requires : tie.Need-copy-six-requires Inv-loop μ-loop
+copy-six-requires c κs =
+    let t : tie.In-loop Inv-loop μ-loop = search in (omega (arith, here t .long), omega (arith, below t, s t .pre .1 .2, t .before .loop .inv .1))
+
+step-run-requires : tie.Need-step-run-requires Inv-loop μ-loop
+step-run-requires c κs =
     let t : tie.In-loop Inv-loop μ-loop = search in
-    let w : tie.After-tail Inv-loop μ-loop = search in
-    (s .pre .0 .0, w .tail .ensures .1, omega (arith, below t, s .pre .1 .1, t .before .loop .inv .1))
+    let r = s t .pre .0 .0 in
+    record {
+      polynomials = rowsAt (r .1 .polynomials) (s t .args .lane) (r .0);
+      place = s t .args .first + t .before .loop .j;
+      few = omega (arith, below t, s t .pre .1 .1);
+      cubic = lanes-cubic (r .1 .polynomials) (s t .args .lane) (r .0) (now (s t .args .table)) (r .1 .lanes);
+      steps = here t;
+    }
 
 loop-again : tie.Need-loop-again Inv-loop μ-loop
 loop-again c =
-    let s : tie.Start Inv-loop μ-loop = search in
     let t : tie.In-loop Inv-loop μ-loop = search in
-    let w : tie.After-tail Inv-loop μ-loop = search in
-    let p : tie.After-put-pair Inv-loop μ-loop = search in
-    let l = t .before .loop in (
+    let p : tie.After-copy-six Inv-loop μ-loop = search in
+    let q : tie.After-step-run Inv-loop μ-loop = search in
+    let l = t .before .loop in
+    let lane = s t .args .lane in
+    let first = s t .args .first in (
       omega (arith, below t),
-      omega (arith, p .put-pair .kept, l .inv .1),
-      places-step (s .args .r) (s .args .side) (s .args .n) (s .args .k) (s .args .first) (l .j) (w .tail .result) (s .args .at) _ (now (s .args .out)) (l .out) _
-          (w .tail .ensures .0) refl (l .inv .2) (p .put-pair .ensures),
+      omega (arith, p .copy-six .kept, l .inv .1),
+      λ F k h.
+          let g = rowsAt F lane k in
+          let i = l .inv .2 F k h in (
+            run-at g (first + l .j + 1) (first + (l .j + 1)) _ (omega arith)
+                (q .step-run .ensures g (first + l .j) (lanes-cubic F lane k (now (s t .args .table)) h) (i .0)),
+            places-step g first (l .j) (s t .args .at) _ (l .run) (now (s t .args .out)) (l .out) _ (i .0) refl (i .1) (p .copy-six .ensures),
+          ),
     )
 
 same-length : tie.Need-same-length Inv-loop μ-loop
-same-length c = c .before .loop .inv .1
+same-length c = let e : tie.At-loop Inv-loop μ-loop = search in e .loop .inv .1
 
 returns : tie.Need-returns Inv-loop μ-loop
 returns c =
     let s : tie.Start Inv-loop μ-loop = search in
-    let l = c .before .loop in
-    subst (λ (x : ℕ). Fills (placesNumber (s .args .r) (s .args .side) (s .args .n) (s .args .k) (s .args .first)) (s .args .at) (6 * x) (now (s .args .out)) (l .out))
-    (omega (arith, l .inv .0)) (l .inv .2)
+    let e : tie.At-loop Inv-loop μ-loop = search in
+    λ F k l.
+    subst (λ (x : ℕ). Fills (runNumber (rowsAt F (s .args .lane) k) (s .args .first)) (s .args .at) (6 * x) (now (s .args .out)) (e .loop .out))
+    (omega (arith, e .loop .inv .0)) (e .loop .inv .2 F k l .1)
 
 pub put-places-spec : {M : Type 1} → statement M
 put-places-spec =
-    tie.close (tie.spec Inv-loop μ-loop loop-holds add-tail tail-requires mul-put-pair add-put-pair put-pair-requires (λ c. search needs) (λ c. search needs)
-    loop-again same-length returns)
+    tie.close (tie.spec Inv-loop μ-loop (λ c. search needs) start-run-requires loop-holds slice-aggregate-copy-six mul-copy-six add-copy-six copy-six-requires
+    slice-aggregate-step-run step-run-requires (λ c. search needs) (λ c. search needs) loop-again same-length returns)
