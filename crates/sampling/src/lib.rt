@@ -217,7 +217,7 @@ pub fn row_at(p: Matrix5, k: usize, n: usize) -> Vector5
 }
 
 // A polynomial in the second weight alone, for the third weight k.
-pub fn row_in(c: Matrix5, k: usize) -> Vector5
+fn row_in(c: Matrix5, k: usize) -> Vector5
     requires { ⌜ AllTapered c × (k ≤ 16) ⌝ }
     ensures { λ r. ⌜ r ≡ rowOf c k ⌝ }
 {
@@ -250,7 +250,7 @@ fn state_at(e: Vector5, j: usize) -> Vector5
 }
 
 // Its value at j, from the highest power down.
-pub fn value_at(e: Vector5, j: usize) -> i64
+fn value_at(e: Vector5, j: usize) -> i64
     requires { ⌜ Tapered (5 * 2 ^ 34) e × (j ≤ 16) ⌝ }
     ensures { λ r. ⌜ r ≡ polynomialAt e j ⌝ }
 {
