@@ -20,14 +20,12 @@ ghost use Rattle.net_points.specs.tangent_writing.Lanes.{lessOf, minusOf
 ghost use Rattle.net_points.specs.tangent_writing.Lanes.{PairFilled, Small, Added, Run, CubicRows, Running, rowsAt, runNumber};
 ghost use Rattle.net_points.specs.tangent_writing.Paired.{partNumber, RingPaired, RingsPaired, NetPaired};
 
-// The lanes: six for each side, on x, y and z towards the tail, then on x, y and z towards the centre.
-const LANES: usize = 24;
+// The table has 24 lanes, six for each side: on x, y and z towards the tail, then on x, y and z towards the centre. A lane has ten numbers, at the first
+// place of a row: the value and its first to third difference along the row; the first difference from row to row of the first three of these; the
+// second difference of the first two; and the third of the value. Number s of lane y stands at place 24 s + y.
+const TABLE: usize = 240;
 
-// A lane's numbers, at the first place of a row: the value and its first to third difference along the row; the first difference from row to row of the
-// first three of these; the second difference of the first two; and the third of the value.
-const TABLE: usize = 10 * LANES;
-
-// The numbers of a side's lanes that step along a row.
+// The numbers of a side's six lanes that step along a row: the values, then each of their three differences.
 const RUN: usize = 24;
 
 // The tangents of a corner's own points, from `at` on; the border of side 2 has `third` parts.
@@ -94,7 +92,7 @@ fn put_part(
     out: &mut [i64],
     at: usize,
 )
-    requires net { ⌜ (netVerdict (now numbers) ≡ sound) × (side ≤ 3) × Lanes (laneOf (now numbers) level) 0 24 0 (now table) ⌝ }
+    requires net { ⌜ (netVerdict (now numbers) ≡ sound) × (side ≤ 3) × (level ≤ 16) × LanesFilled (laneOf (now numbers) level) 0 12 (now table) × (length (now table) ≡ 240) ⌝ }
     requires parts { ⌜ (1 ≤ n) × (n ≤ 16) × (first ≤ 1) × (first + count ≤ n) × (at + 6 * count ≤ length (now out)) ⌝ }
     ensures { λ _. ⌜ Fills (partNumber (now (numbers .entry)) side n 0 first) at (6 * count) (now (out .entry)) (now (out .exit)) ⌝ }
 {

@@ -221,10 +221,10 @@ lanes-filled numbers e n from to first last table few most in-pairs l long = rec
   holds = λ s y h a b. l .filled s y h (omega arith) (in-pairs y a b .0) (in-pairs y a b .1);
 }
 
-pub side-lanes : (numbers : List ℤ) → netVerdict numbers ≡ sound → (n side : ℕ) (table : List ℤ) → n ≤ 16 → side ≤ 3
-    → LanesFilled (laneOf numbers n) (3 * side) (3 * side + 3) table → length table ≡ 240 → Lanes (laneOf numbers n) (6 * side) (6 * side + 6) 0 table
-side-lanes numbers e n side table few h l long =
-    lanes-filled numbers e n (3 * side) (3 * side + 3) (6 * side) (6 * side + 6) table few (omega arith) (λ y a b. (omega arith, omega arith)) l long
+pub side-lanes : (numbers : List ℤ) → netVerdict numbers ≡ sound → (n side from to : ℕ) (table : List ℤ) → n ≤ 16 → side ≤ 3 → from ≤ 3 * side → 3 * side + 3 ≤ to
+    → LanesFilled (laneOf numbers n) from to table → length table ≡ 240 → Lanes (laneOf numbers n) (6 * side) (6 * side + 6) 0 table
+side-lanes numbers e n side from to table few h a b l long =
+    lanes-filled numbers e n from to (6 * side) (6 * side + 6) table few (omega arith) (λ y c d. (omega arith, omega arith)) l long
 
 pub all-lanes : (numbers : List ℤ) → netVerdict numbers ≡ sound → (n : ℕ) (table : List ℤ) → n ≤ 16 → LanesFilled (laneOf numbers n) 0 12 table → length table ≡ 240
     → Lanes (laneOf numbers n) 0 24 0 table
