@@ -7,27 +7,25 @@ use bernstein::Vector5;
 ghost use mathlib.Core.Path.{_≡_};
 ghost use mathlib.Core.List.{List};
 ghost use Prim.Native.Nat.{ℕ, _+_, _-_, _*_, _^_, _≤_, _<_};
-ghost use lib.ListN.{length, getD, set};
+ghost use lib.ListN.{length, getD};
 ghost use lib.IntN.{ℤ, pos, natAbs};
 ghost use Rattle.paper.specs.Faults.{sound};
 ghost use Rattle.paper.specs.Floats.{netVerdict};
 ghost use Rattle.strips.specs.PointRows.{Fills};
 ghost use Rattle.bernstein.specs.declared.Matrix5.{Matrix5};
 ghost use Rattle.bernstein.specs.declared.Vector5.{Vector5};
-ghost use Rattle.bernstein.specs.Sums.{Sized, AllSized, AllTapered};
+ghost use Rattle.bernstein.specs.Sums.{Sized, AllSized, AllTapered, statesOf};
 ghost use Rattle.net_points.specs.writing.Shapes.{Shapely, shapeSize};
 ghost use Rattle.net_points.specs.tangent_writing.Lanes.{lessOf, minusOf, tailwardOf, centrewardOf, laneOf, forwardOf, LanePut, Lanes, Ready, LanesFilled};
 ghost use Rattle.net_points.specs.tangent_writing.Lanes.{PairFilled, Small, Added, Run, CubicRows, Running, rowsAt, runNumber};
 ghost use Rattle.net_points.specs.tangent_writing.Paired.{partNumber, RingPaired, RingsPaired, NetPaired};
 
-// The lanes: six for each side, on x, y and z towards the tail, then on x, y and z towards the centre.
-const LANES: usize = 24;
+// The table has 24 lanes, six for each side: on x, y and z towards the tail, then on x, y and z towards the centre. A lane has ten numbers, at the first
+// place of a row: the value and its first to third difference along the row; the first difference from row to row of the first three of these; the
+// second difference of the first two; and the third of the value. Number s of lane y stands at place 24 s + y.
+const TABLE: usize = 240;
 
-// A lane's numbers, at the first place of a row: the value and its first to third difference along the row; the first difference from row to row of the
-// first three of these; the second difference of the first two; and the third of the value.
-const TABLE: usize = 10 * LANES;
-
-// The numbers of a side's lanes that step along a row.
+// The numbers of a side's six lanes that step along a row: the values, then each of their three differences.
 const RUN: usize = 24;
 
 // The tangents of a corner's own points, from `at` on; the border of side 2 has `third` parts.
@@ -94,7 +92,7 @@ fn put_part(
     out: &mut [i64],
     at: usize,
 )
-    requires net { ⌜ (netVerdict (now numbers) ≡ sound) × (side ≤ 3) × Lanes (laneOf (now numbers) level) 0 24 0 (now table) ⌝ }
+    requires net { ⌜ (netVerdict (now numbers) ≡ sound) × (side ≤ 3) × (level ≤ 16) × LanesFilled (laneOf (now numbers) level) 0 12 (now table) × (length (now table) ≡ 240) ⌝ }
     requires parts { ⌜ (1 ≤ n) × (n ≤ 16) × (first ≤ 1) × (first + count ≤ n) × (at + 6 * count ≤ length (now out)) ⌝ }
     ensures { λ _. ⌜ Fills (partNumber (now (numbers .entry)) side n 0 first) at (6 * count) (now (out .entry)) (now (out .exit)) ⌝ }
 {
@@ -162,10 +160,10 @@ fn fill_pair(numbers: &[i32], n: usize, pair: usize, table: &mut [i64])
     let axis = pair % 3;
     let lane = 6 * side + axis;
     let c = bernstein::polynomial(turn_points(numbers, side, axis), n);
-    let a = forward(tailward(c, side));
-    put_lane(table, lane, bernstein::states(a));
-    let b = forward(centreward(c, side));
-    put_lane(table, lane + 3, bernstein::states(b));
+    let a = lane_numbers(tailward(c, side));
+    put_lane(table, lane, a);
+    let b = lane_numbers(centreward(c, side));
+    put_lane(table, lane + 3, b);
 }
 
 // The derivative towards the tail. On sides 1 and 3 the control points are in turn, so that j runs from the tail.
@@ -290,7 +288,15 @@ fn forward(c: Matrix5) -> Matrix5
     }
 }
 
-// A lane's ten numbers, to their places in the table.
+// A lane's ten numbers at row 0.
+fn lane_numbers(c: Matrix5) -> Matrix5
+    requires { ⌜ AllTapered c ⌝ }
+    ensures { λ r. ⌜ r ≡ statesOf (forwardOf c) 0 ⌝ }
+{
+    bernstein::states(forward(c))
+}
+
+// Those, to their places in the table.
 fn put_lane(table: &mut [i64], lane: usize, m: Matrix5)
     requires { ⌜ (length (now table) ≡ 240) × (lane < 24) × AllSized (2 ^ 60) m ⌝ }
     ensures { λ _. ⌜ LanePut lane m (now (table .entry)) (now (table .exit)) ⌝ }
@@ -299,24 +305,12 @@ fn put_lane(table: &mut [i64], lane: usize, m: Matrix5)
     let r1 = m.r1;
     let r2 = m.r2;
     let r3 = m.r3;
-    put(table, lane, r0.a);
-    put(table, 24 + lane, r1.a);
-    put(table, 48 + lane, r2.a);
-    put(table, 72 + lane, r3.a);
-    put(table, 96 + lane, r0.b);
-    put(table, 120 + lane, r1.b);
-    put(table, 144 + lane, r2.b);
-    put(table, 168 + lane, r0.c);
-    put(table, 192 + lane, r1.c);
-    put(table, 216 + lane, r0.d);
-}
-
-// A number, to its place.
-fn put(list: &mut [i64], i: usize, x: i64)
-    requires { ⌜ i < length (now list) ⌝ }
-    ensures { λ _. ⌜ now (list .exit) ≡ set (now (list .entry)) i x ⌝ }
-{
-    list[i] = x;
+    let ten = [r0.a, r1.a, r2.a, r3.a, r0.b, r1.b, r2.b, r0.c, r1.c, r0.d];
+    let mut s = 0;
+    while s < 10 {
+        table[24 * s + lane] = ten[s];
+        s += 1;
+    }
 }
 
 // The table at the next row.

@@ -55,7 +55,7 @@ nothing-cubic : truncatedOf nothing ≡ nothing
 unfolding truncatedOf
 nothing-cubic = refl
 
-less-size : (x y : ℤ) (m r : ℕ) → 2 * m ≤ r → natAbs x ≤ m → natAbs y ≤ m → natAbs (x -ℤ y) ≤ r
+pub less-size : (x y : ℤ) (m r : ℕ) → 2 * m ≤ r → natAbs x ≤ m → natAbs y ≤ m → natAbs (x -ℤ y) ≤ r
 less-size x y m r = as-diff x λ p n e. as-diff y λ q o f. simp (diff, e, f) (λ l g h. omega arith)
 
 less-tapers : (u v : Vector5) (A B : ℕ) → 2 * A ≤ B → Tapered A u → Tapered A v → Tapered B (lessOf u v)
@@ -92,34 +92,31 @@ pick-smooth : (b : Bool) (p q : Matrix5) → CubicTapered p → CubicTapered q �
 pick-smooth true p q h k = h
 pick-smooth false p q h k = k
 
-module _ (p : Matrix5) (n side : ℕ) (h : AllSized (2 ^ 27) p) (l : n ≤ 16) where
-  abbrev c : Matrix5
-  c = polynomialOf p (pos n)
-
+module _ (p c : Matrix5) (n side : ℕ) (h : AllSized (2 ^ 27) p) (l : n ≤ 16) (e : c ≡ polynomialOf p (pos n)) where
   pub polynomial-tapering : AllTapered c
-  polynomial-tapering = polynomial-tapers p n h l
+  polynomial-tapering = rw e (polynomial-tapers p n h l)
 
-  along-smooth : CubicTapered (alongOf c)
-  along-smooth = record { tapers = along-tapers c polynomial-tapering; cubic = along-cubic p (pos n) }
+  along-is-cubic : truncatedOf (alongOf c) ≡ alongOf c
+  along-is-cubic = rw e (along-cubic p (pos n))
 
-  inward-smooth : CubicTapered (inwardOf c)
-  inward-smooth = record { tapers = inward-tapers c polynomial-tapering; cubic = inward-cubic p (pos n) }
+  inward-is-cubic : truncatedOf (inwardOf c) ≡ inwardOf c
+  inward-is-cubic = rw e (inward-cubic p (pos n))
 
   pub tailward-smooth : CubicTapered (tailwardOf side c)
   unfolding tailwardOf
   tailward-smooth =
       pick-smooth (eqb (side % 2) 1) (minusOf nothing (alongOf c)) (alongOf c) (record {
         tapers = minus-tapers nothing (alongOf c) nothing-halves (along-halves c polynomial-tapering);
-        cubic = minus-cubic nothing (alongOf c) nothing-cubic (along-cubic p (pos n));
-      }) along-smooth
+        cubic = minus-cubic nothing (alongOf c) nothing-cubic along-is-cubic;
+      }) (record { tapers = along-tapers c polynomial-tapering; cubic = along-is-cubic })
 
   pub centreward-smooth : CubicTapered (centrewardOf side c)
   unfolding centrewardOf
   centreward-smooth =
       pick-smooth (eqb (side % 2) 1) (minusOf (inwardOf c) (alongOf c)) (inwardOf c) (record {
         tapers = minus-tapers (inwardOf c) (alongOf c) (inward-halves c polynomial-tapering) (along-halves c polynomial-tapering);
-        cubic = minus-cubic (inwardOf c) (alongOf c) (inward-cubic p (pos n)) (along-cubic p (pos n));
-      }) inward-smooth
+        cubic = minus-cubic (inwardOf c) (alongOf c) inward-is-cubic along-is-cubic;
+      }) (record { tapers = inward-tapers c polynomial-tapering; cubic = inward-is-cubic })
 
 -- ---- a row of them
 nothing-at : (x : ℤ) → pos 0 +ℤ x *ℤ (pos 0 +ℤ x *ℤ (pos 0 +ℤ x *ℤ (pos 0 +ℤ x *ℤ pos 0))) ≡ pos 0

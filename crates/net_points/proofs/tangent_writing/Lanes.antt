@@ -21,11 +21,11 @@ module _ (c : Matrix5) (t : AllTapered c) where
   sum2 : (x y : ℤ) (m n r : ℕ) → natAbs x ≤ m → natAbs y ≤ n → m + n ≤ r → natAbs (x +ℤ y) ≤ r
   sum2 x y m n r f g h = omega (arith, abs-add-le x y m n f g)
 
-  pub forward0 : Tapered (2 ^ 34) (forwardOf c .r0)
+  forward0 : Tapered (2 ^ 34) (forwardOf c .r0)
   unfolding forwardOf
   forward0 = (t .t0 .0, t .t0 .1, t .t0 .2, t .t0 .3, lit≤ tt)
 
-  pub forward1 : Tapered (2 ^ 34) (forwardOf c .r1)
+  forward1 : Tapered (2 ^ 34) (forwardOf c .r1)
   unfolding forwardOf
   forward1 = (
     sum2 (c .r1 .a +ℤ c .r2 .a) (c .r3 .a) (65536 * 2 ^ 30 + 65536 * 2 ^ 26) (65536 * 2 ^ 22) _ (abs-add-le (c .r1 .a) (c .r2 .a) _ _ (t .t1 .0) (t .t2 .0)) (t .t3 .0) (lit≤ tt),
@@ -35,7 +35,7 @@ module _ (c : Matrix5) (t : AllTapered c) where
     lit≤ tt,
   )
 
-  pub forward2 : Tapered (2 ^ 34) (forwardOf c .r2)
+  forward2 : Tapered (2 ^ 34) (forwardOf c .r2)
   unfolding forwardOf
   forward2 = (
     sum2 (pos 2 *ℤ c .r2 .a) (pos 6 *ℤ c .r3 .a) (2 * (65536 * 2 ^ 26)) (6 * (65536 * 2 ^ 22)) _
@@ -46,11 +46,11 @@ module _ (c : Matrix5) (t : AllTapered c) where
     lit≤ tt,
   )
 
-  pub forward3 : Tapered (2 ^ 34) (forwardOf c .r3)
+  forward3 : Tapered (2 ^ 34) (forwardOf c .r3)
   unfolding forwardOf
   forward3 = (omega (arith, abs-mul-le (pos 6) (c .r3 .a) 6 (65536 * 2 ^ 22) (lit≤ tt) (t .t3 .0)), lit≤ tt, lit≤ tt, lit≤ tt, lit≤ tt)
 
-  pub forward4 : Tapered (2 ^ 34) (forwardOf c .r4)
+  forward4 : Tapered (2 ^ 34) (forwardOf c .r4)
   unfolding forwardOf
   forward4 = (lit≤ tt, lit≤ tt, lit≤ tt, lit≤ tt, lit≤ tt)
 

@@ -9,7 +9,7 @@ use lib.Dec.{eqb, ltb, lit≤}
 use borrow.Author.Tests.{eqb-true, eqb-false, ltb-true, ltb-false}
 use lib.ListN.{length, getD, set, length-set}
 use lib.Seq.{getD-set-same, getD-set-other}
-use lib.IntN.{ℤ, pos, natAbs, _+ℤ_}
+use lib.IntN.{ℤ, pos, natAbs, _+ℤ_, _-ℤ_}
 use mir.Syntax.{w64}
 use mir.Val.{SFits}
 use mir.Facts.{toZ-ofZ}
@@ -28,12 +28,13 @@ use Rattle.numbers.proofs.Laws.{abs-add-le}
 use Rattle.bernstein.proofs.Laws.{bits, size-fits, sized-bits}
 use Rattle.strips.specs.PointRows.{FilledTo, Fills}
 use Rattle.net_points.specs.writing.Laid.{pickMatrix, turnedOf, ringAt}
-use Rattle.net_points.specs.tangent_writing.Lanes.{tailwardOf, centrewardOf, laneOf, forwardOf, laneNumber, LanePut, Lanes, LanesFilled}
+use Rattle.net_points.specs.tangent_writing.Lanes.{tailwardOf, centrewardOf, laneOf, forwardOf, tenOf, laneNumber, LanePut, Lanes, LanesFilled}
 use Rattle.net_points.specs.tangent_writing.Lanes.{PairFilled, Added, Run, rowsAt, runNumber, pairOf}
 use Rattle.net_points.specs.tangent_writing.Paired.{partNumber, RingAim, RingPairs, CentrePair}
 use Rattle.strips.proofs.Rowed.{fills-more}
 use Rattle.net_points.proofs.writing.Fill.{filled-at}
 use Rattle.net_points.proofs.writing.Laws.{ring-room}
+use Rattle.net_points.proofs.tangent_writing.Cubic.{less-size}
 use Rattle.net_points.proofs.tangent_writing.Lanes.{lanes-start, run-value}
 use Rattle.net_points.proofs.tangent_writing.Values.{lane-is, lane-smooth, run-part}
 
@@ -110,7 +111,7 @@ pub run-fills : (numbers : List ℤ) (n k side first count at : ℕ) (old out : 
     → Fills (runNumber (rowsAt (laneOf numbers n) (6 * side) k) first) at (6 * count) old out → Fills (partNumber numbers side n k first) at (6 * count) old out
 run-fills numbers n k side first count at old out h l a = fills-same _ _ at (6 * count) old out (run-part numbers n k side first count h l) a
 
--- ---- sums that are stored
+-- ---- sums and differences that are stored
 module _ (x y : ℤ) (f : natAbs x ≤ 2 ^ 60) (g : natAbs y ≤ 2 ^ 60) where
   fit : SFits w64 (x +ℤ y)
   fit = size-fits (x +ℤ y) (let h = abs-add-le x y (2 ^ 60) (2 ^ 60) f g in omega arith)
@@ -120,6 +121,16 @@ module _ (x y : ℤ) (f : natAbs x ≤ 2 ^ 60) (g : natAbs y ≤ 2 ^ 60) where
 
   pub sum-bits : bits (bits x +ℤ bits y) ≡ x +ℤ y
   sum-bits = rw (sized-bits x (2 ^ 60) f (lit≤ tt), sized-bits y (2 ^ 60) g (lit≤ tt)) (toZ-ofZ fit)
+
+module _ (x y : ℤ) (f : natAbs x ≤ 2 ^ 54) (g : natAbs y ≤ 2 ^ 54) where
+  differs : SFits w64 (x -ℤ y)
+  differs = size-fits (x -ℤ y) (less-size x y (2 ^ 54) (2 ^ 62) (lit≤ tt) f g)
+
+  pub difference-fits : SFits w64 (bits x -ℤ bits y)
+  difference-fits = rw (sized-bits x (2 ^ 54) f (lit≤ tt), sized-bits y (2 ^ 54) g (lit≤ tt)) differs
+
+  pub difference-bits : bits (bits x -ℤ bits y) ≡ x -ℤ y
+  difference-bits = rw (sized-bits x (2 ^ 54) f (lit≤ tt), sized-bits y (2 ^ 54) g (lit≤ tt)) (toZ-ofZ differs)
 
 pub added-step : (at i gap : ℕ) (old list : List ℤ) (v : ℤ) → at ≤ i → 0 < gap → i < length list → Added at i gap old list
     → v ≡ getD list i (pos 0) +ℤ getD list (i + gap) (pos 0) → Added at (i + 1) gap old (set list i v)
@@ -132,72 +143,66 @@ added-step at i gap old list v h g l a e = record {
   after = λ x b. getD-set-other list i x v (pos 0) (λ z. omega arith) ∙ a .after x (omega arith);
 }
 
--- ---- a lane's numbers, one after the other: the first s of f stand there
-pub record LaneTo (f : ℕ → ℤ) (lane s : ℕ) (old mid : List ℤ) : Type 0 where
+-- ---- a lane's ten numbers, one after the other: the first s of them stand there
+pub record LaneTo (ten : List ℤ) (lane s : ℕ) (old mid : List ℤ) : Type 0 where
   pub long : length mid ≡ 240
-  pub there : (r : ℕ) → r < s → getD mid (24 * r + lane) (pos 0) ≡ f r
+  pub there : (r : ℕ) → r < s → getD mid (24 * r + lane) (pos 0) ≡ getD ten r (pos 0)
   pub others : (r z : ℕ) → z < 24 → (z ≡ lane → ⊥) → getD mid (24 * r + z) (pos 0) ≡ getD old (24 * r + z) (pos 0)
 
-pub lane-none : (f : ℕ → ℤ) (lane : ℕ) (old : List ℤ) → length old ≡ 240 → LaneTo f lane 0 old old
-lane-none f lane old h = record { long = h; there = λ r l. absurd (omega arith); others = λ r z l o. refl }
+pub lane-none : (ten : List ℤ) (lane : ℕ) (old : List ℤ) → length old ≡ 240 → LaneTo ten lane 0 old old
+lane-none ten lane old h = record { long = h; there = λ r l. absurd (omega arith); others = λ r z l o. refl }
 
-pub lane-step : (f : ℕ → ℤ) (lane s i : ℕ) (v : ℤ) (old mid new : List ℤ) → lane < 24 → s < 10 → i ≡ 24 * s + lane → new ≡ set mid i v → v ≡ f s → LaneTo f lane s old mid
-    → LaneTo f lane (s + 1) old new
-lane-step f lane s i v old mid new a b q n e m =
-    subst (λ (l : List ℤ). LaneTo f lane (s + 1) old l) (sym n) (record {
-      long = simp length-set (m .long);
-      there = λ r l. ⊎-elim
-          (λ t. let z : r ≡ s = eqb-true r s t in
-          rw z (ap (λ (x : ℕ). getD (set mid i v) x (pos 0)) (sym q) ∙ getD-set-same mid i v (pos 0) (omega (arith, m .long)) ∙ e))
-          (λ t. let o = eqb-false r s t in getD-set-other mid i (24 * r + lane) v (pos 0) (λ w. omega (arith, o)) ∙ m .there r (omega (arith, o)))
-          (ways (eqb r s));
-      others = λ r z l o. getD-set-other mid i (24 * r + z) v (pos 0) (λ w. omega (arith, o)) ∙ m .others r z l o;
-    })
+pub lane-step : (ten : List ℤ) (lane s : ℕ) (v : ℤ) (old mid : List ℤ) → lane < 24 → s < 10 → v ≡ getD ten s (pos 0) → LaneTo ten lane s old mid
+    → LaneTo ten lane (s + 1) old (set mid (24 * s + lane) v)
+lane-step ten lane s v old mid a b e m = record {
+  long = simp length-set (m .long);
+  there = λ r l. ⊎-elim (λ t. let z : r ≡ s = eqb-true r s t in rw z (getD-set-same mid (24 * s + lane) v (pos 0) (omega (arith, m .long)) ∙ e))
+      (λ t. let o = eqb-false r s t in getD-set-other mid (24 * s + lane) (24 * r + lane) v (pos 0) (λ w. omega (arith, o)) ∙ m .there r (omega (arith, o))) (ways (eqb r s));
+  others = λ r z l o. getD-set-other mid (24 * s + lane) (24 * r + z) v (pos 0) (λ w. omega (arith, o)) ∙ m .others r z l o;
+}
 
-pub lane-put : (lane : ℕ) (m : Matrix5) (old new : List ℤ) → LaneTo (laneNumber m) lane 10 old new → LanePut lane m old new
-lane-put lane m old new l = record { there = l .there; others = l .others }
+pub lane-put : (ten : List ℤ) (lane s : ℕ) (m : Matrix5) (old new : List ℤ) → s ≡ 10 → ten ≡ tenOf m → LaneTo ten lane s old new → LanePut lane m old new
+lane-put ten lane s m old new q e l = record {
+  there = λ r b. l .there r (omega arith) ∙ ap (λ (x : List ℤ). getD x r (pos 0)) e;
+  others = l .others;
+}
 
--- both lanes of a pair
-module _ (numbers : List ℤ) (n pair side axis lane : ℕ) (few : pair < 12) (side-is : side ≡ pair / 3) (axis-is : axis ≡ pair % 3) (lane-at : lane ≡ 6 * side + axis)
-    (old mid new : List ℤ) where
-  abbrev c : Matrix5
-  c = polynomialOf (turnedOf numbers side axis) (pos n)
+-- both lanes of a pair, out of its polynomial
+module _ (numbers : List ℤ) (n pair : ℕ) (few : pair < 12) (old mid new : List ℤ) (c a b : Matrix5) where
+  abbrev side : ℕ
+  side = pair / 3
 
-  module _ (p : LanePut lane (statesOf (forwardOf (tailwardOf side c)) 0) old mid) (q : LanePut (lane + 3) (statesOf (forwardOf (centrewardOf side c)) 0) mid new) where
-    abbrev Number : ℕ → ℕ → ℤ
-    Number s y = laneNumber (statesOf (forwardOf (laneOf numbers n y)) 0) s
+  abbrev lane : ℕ
+  lane = 6 * side + pair % 3
 
+  module _ (is-c : c ≡ polynomialOf (turnedOf numbers side (pair % 3)) (pos n)) (is-a : a ≡ statesOf (forwardOf (tailwardOf side c)) 0)
+      (is-b : b ≡ statesOf (forwardOf (centrewardOf side c)) 0) (p : LanePut lane a old mid) (q : LanePut (lane + 3) b mid new) where
     lane-of : (y : ℕ) → pairOf y ≡ pair → y < 24 → laneOf numbers n y ≡ pickMatrix (ltb (y % 6) 3) (tailwardOf side c) (centrewardOf side c)
-    lane-of y e h = lane-is numbers n y side axis (y % 6) (omega (arith, e, side-is)) (omega (arith, e, axis-is)) refl
+    lane-of y e h =
+        lane-is numbers n y side (pair % 3) (y % 6) (omega (arith, e)) (omega (arith, e)) refl
+        ∙ (λ z. pickMatrix (ltb (y % 6) 3) (tailwardOf side (sym is-c z)) (centrewardOf side (sym is-c z)))
 
-    by : (s y : ℕ) (m : Matrix5) → laneOf numbers n y ≡ m → laneNumber (statesOf (forwardOf m) 0) s ≡ Number s y
-    by s y m e = ap (λ (d : Matrix5). laneNumber (statesOf (forwardOf d) 0) s) (sym e)
+    by : (s y : ℕ) (m d : Matrix5) → laneOf numbers n y ≡ d → m ≡ statesOf (forwardOf d) 0 → laneNumber m s ≡ laneNumber (statesOf (forwardOf (laneOf numbers n y)) 0) s
+    by s y m d e f = ap (λ (x : Matrix5). laneNumber x s) (f ∙ ap (λ (x : Matrix5). statesOf (forwardOf x) 0) (sym e))
 
-    first : (s y : ℕ) → s < 10 → y < 24 → pairOf y ≡ pair → ltb (y % 6) 3 ≡ true → getD new (24 * s + y) (pos 0) ≡ Number s y
-    first s y h i e t =
-        let b = ltb-true (y % 6) 3 t in
-        let z : y ≡ lane = omega (arith, e, side-is, axis-is, lane-at, b) in
-        q .others s y i (λ w. omega arith) ∙ ap (λ (x : ℕ). getD mid (24 * s + x) (pos 0)) z ∙ p .there s h
-        ∙ by s y (tailwardOf side c) (lane-of y e i ∙ ap (λ (x : Bool). pickMatrix x (tailwardOf side c) (centrewardOf side c)) t)
+    abbrev picked : Bool → Matrix5
+    picked x = pickMatrix x (tailwardOf side c) (centrewardOf side c)
 
-    second : (s y : ℕ) → s < 10 → y < 24 → pairOf y ≡ pair → ltb (y % 6) 3 ≡ false → getD new (24 * s + y) (pos 0) ≡ Number s y
-    second s y h i e t =
-        let b = ltb-false (y % 6) 3 t in
-        let z : y ≡ lane + 3 = omega (arith, e, side-is, axis-is, lane-at, b) in
-        ap (λ (x : ℕ). getD new (24 * s + x) (pos 0)) z ∙ q .there s h
-        ∙ by s y (centrewardOf side c) (lane-of y e i ∙ ap (λ (x : Bool). pickMatrix x (tailwardOf side c) (centrewardOf side c)) t)
+    there : (s y : ℕ) → s < 10 → y < 24 → pairOf y ≡ pair → getD new (24 * s + y) (pos 0) ≡ laneNumber (statesOf (forwardOf (laneOf numbers n y)) 0) s
+    there s y h i e =
+        ⊎-elim
+        (λ t.
+        let z : y ≡ lane = omega (arith, e, ltb-true (y % 6) 3 t) in
+        q .others s y i (λ w. omega arith) ∙ ap (λ (x : ℕ). getD mid (24 * s + x) (pos 0)) z ∙ p .there s h ∙ by s y a (tailwardOf side c) (lane-of y e i ∙ ap picked t) is-a)
+        (λ t.
+        let z : y ≡ lane + 3 = omega (arith, e, ltb-false (y % 6) 3 t) in
+        ap (λ (x : ℕ). getD new (24 * s + x) (pos 0)) z ∙ q .there s h ∙ by s y b (centrewardOf side c) (lane-of y e i ∙ ap picked t) is-b) (ways (ltb (y % 6) 3))
 
     pub pair-filled : PairFilled (laneOf numbers n) pair old new
     pair-filled = record {
-      there = record {
-        filled = λ s y h i a b. let e : pairOf y ≡ pair = omega arith in ⊎-elim (λ t. first s y h i e t) (λ t. second s y h i e t) (ways (ltb (y % 6) 3));
-      };
-      others = λ s y i o.
-          q .others s y i (λ w. o (omega (arith, w, side-is, axis-is, lane-at))) ∙ p .others s y i (λ w. o (omega (arith, w, side-is, axis-is, lane-at)));
+      there = record { filled = λ s y h i a b. there s y h i (omega arith) };
+      others = λ s y i o. q .others s y i (λ w. o (omega (arith, w))) ∙ p .others s y i (λ w. o (omega (arith, w)));
     }
-
-pub put-as : (lane : ℕ) (m d : Matrix5) (old new : List ℤ) → m ≡ d → LanePut lane m old new → LanePut lane d old new
-put-as lane m d old new e p = subst (λ (x : Matrix5). LanePut lane x old new) e p
 
 pub pairs-step : (F : ℕ → Matrix5) (from l : ℕ) (old new : List ℤ) (to : ℕ) → l + 1 ≡ to → LanesFilled F from l old → PairFilled F l old new → LanesFilled F from to new
 pairs-step F from l old new to e a b = record {
@@ -216,10 +221,10 @@ lanes-filled numbers e n from to first last table few most in-pairs l long = rec
   holds = λ s y h a b. l .filled s y h (omega arith) (in-pairs y a b .0) (in-pairs y a b .1);
 }
 
-pub side-lanes : (numbers : List ℤ) → netVerdict numbers ≡ sound → (n side : ℕ) (table : List ℤ) → n ≤ 16 → side ≤ 3
-    → LanesFilled (laneOf numbers n) (3 * side) (3 * side + 3) table → length table ≡ 240 → Lanes (laneOf numbers n) (6 * side) (6 * side + 6) 0 table
-side-lanes numbers e n side table few h l long =
-    lanes-filled numbers e n (3 * side) (3 * side + 3) (6 * side) (6 * side + 6) table few (omega arith) (λ y a b. (omega arith, omega arith)) l long
+pub side-lanes : (numbers : List ℤ) → netVerdict numbers ≡ sound → (n side from to : ℕ) (table : List ℤ) → n ≤ 16 → side ≤ 3 → from ≤ 3 * side → 3 * side + 3 ≤ to
+    → LanesFilled (laneOf numbers n) from to table → length table ≡ 240 → Lanes (laneOf numbers n) (6 * side) (6 * side + 6) 0 table
+side-lanes numbers e n side from to table few h a b l long =
+    lanes-filled numbers e n from to (6 * side) (6 * side + 6) table few (omega arith) (λ y c d. (omega arith, omega arith)) l long
 
 pub all-lanes : (numbers : List ℤ) → netVerdict numbers ≡ sound → (n : ℕ) (table : List ℤ) → n ≤ 16 → LanesFilled (laneOf numbers n) 0 12 table → length table ≡ 240
     → Lanes (laneOf numbers n) 0 24 0 table

@@ -193,8 +193,8 @@ module _ (numbers : List ℤ) (e : netVerdict numbers ≡ sound) (n : ℕ) (few 
   sized = turned-size numbers e (y / 6) (y % 3) (omega arith)
 
   picked : (b : Bool) → CubicTapered (let c = polynomialOf (turnedOf numbers (y / 6) (y % 3)) (pos n) in pickMatrix b (tailwardOf (y / 6) c) (centrewardOf (y / 6) c))
-  picked true = tailward-smooth (turnedOf numbers (y / 6) (y % 3)) n (y / 6) sized few
-  picked false = centreward-smooth (turnedOf numbers (y / 6) (y % 3)) n (y / 6) sized few
+  picked true = tailward-smooth (turnedOf numbers (y / 6) (y % 3)) _ n (y / 6) sized few refl
+  picked false = centreward-smooth (turnedOf numbers (y / 6) (y % 3)) _ n (y / 6) sized few refl
 
   pub lane-smooth : CubicTapered (laneOf numbers n y)
   unfolding laneOf

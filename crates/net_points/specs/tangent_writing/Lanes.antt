@@ -74,9 +74,11 @@ forwardOf c = record {
 }
 
 -- ---- the table: number s of lane y stands at place 24 s + y
+abbrev pub tenOf : Matrix5 → List ℤ
+tenOf m = m .r0 .a ∷ m .r1 .a ∷ m .r2 .a ∷ m .r3 .a ∷ m .r0 .b ∷ m .r1 .b ∷ m .r2 .b ∷ m .r0 .c ∷ m .r1 .c ∷ m .r0 .d ∷ []
+
 abbrev pub laneNumber : Matrix5 → ℕ → ℤ
-laneNumber m s =
-    getD (m .r0 .a ∷ m .r1 .a ∷ m .r2 .a ∷ m .r3 .a ∷ m .r0 .b ∷ m .r1 .b ∷ m .r2 .b ∷ m .r0 .c ∷ m .r1 .c ∷ m .r0 .d ∷ []) s (pos 0)
+laneNumber m s = getD (tenOf m) s (pos 0)
 
 pub record LanePut (y : ℕ) (m : Matrix5) (old new : List ℤ) : Type 0 where
   pub there : (s : ℕ) → s < 10 → getD new (24 * s + y) (pos 0) ≡ laneNumber m s

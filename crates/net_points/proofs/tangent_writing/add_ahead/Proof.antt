@@ -50,34 +50,6 @@ module _ (t : tie.In-loop Inv-loop μ-loop) where
   room : i + s .args .gap < length l
   room = omega (arith, below, t .before .loop .inv .2, s .pre .0 .2)
 
-mul-list : tie.Need-mul-list Inv-loop μ-loop
-mul-list c = search needs
-
-slice-copy-out-list : tie.Need-slice-copy-out-list Inv-loop μ-loop
-slice-copy-out-list c =
-    let s : tie.Start Inv-loop μ-loop = search in let t : tie.In-loop Inv-loop μ-loop = search in omega (arith, t .loop-test .taken, t .before .loop .inv .2, s .pre .0 .2)
-
-add-list : tie.Need-add-list Inv-loop μ-loop
-add-list c =
-    let s : tie.Start Inv-loop μ-loop = search in let t : tie.In-loop Inv-loop μ-loop = search in record { fits = omega (arith, t .loop-test .taken, s .good, s .pre .0 .2) }
-
-mul-list-2 : tie.Need-mul-list-2 Inv-loop μ-loop
-mul-list-2 c = search needs
-
-slice-copy-out-list-2 : tie.Need-slice-copy-out-list-2 Inv-loop μ-loop
-slice-copy-out-list-2 c =
-    let s : tie.Start Inv-loop μ-loop = search in let t : tie.In-loop Inv-loop μ-loop = search in omega (arith, t .loop-test .taken, t .before .loop .inv .2, s .pre .0 .2)
-
-add-list-2 : tie.Need-add-list-2 Inv-loop μ-loop
-add-list-2 c = let t : tie.In-loop Inv-loop μ-loop = search in sum-fits (getD (l t) (i t) (pos 0)) (getD (l t) (i t + s t .args .gap) (pos 0)) (here t) (ahead t)
-
-mul-t15 : tie.Need-mul-t15 Inv-loop μ-loop
-mul-t15 c = search needs
-
-slice-set-from-list : tie.Need-slice-set-from-list Inv-loop μ-loop
-slice-set-from-list c =
-    let s : tie.Start Inv-loop μ-loop = search in let t : tie.In-loop Inv-loop μ-loop = search in omega (arith, t .loop-test .taken, t .before .loop .inv .2, s .pre .0 .2)
-
 loop-again : tie.Need-loop-again Inv-loop μ-loop
 loop-again c =
     let t : tie.In-loop Inv-loop μ-loop = search in
@@ -99,5 +71,8 @@ returns c =
 
 pub add-ahead-spec : {M : Type 1} → statement M
 add-ahead-spec =
-    tie.close (tie.spec Inv-loop μ-loop loop-holds mul-list slice-copy-out-list add-list mul-list-2 slice-copy-out-list-2 add-list-2 mul-t15 slice-set-from-list
-    (λ c. search needs) (λ c. search needs) loop-again same-length returns)
+    tie.close (tie.spec Inv-loop μ-loop loop-holds (λ c. search needs) (λ c. let t : tie.In-loop Inv-loop μ-loop = search in omega (arith, room t))
+    (λ c. let t : tie.In-loop Inv-loop μ-loop = search in record { fits = omega (arith, below t, s t .good, s t .pre .0 .2) }) (λ c. search needs)
+    (λ c. let t : tie.In-loop Inv-loop μ-loop = search in room t)
+    (λ c. let t : tie.In-loop Inv-loop μ-loop = search in sum-fits (getD (l t) (i t) (pos 0)) (getD (l t) (i t + s t .args .gap) (pos 0)) (here t) (ahead t)) (λ c. search needs)
+    (λ c. let t : tie.In-loop Inv-loop μ-loop = search in omega (arith, room t)) (λ c. search needs) (λ c. search needs) loop-again same-length returns)

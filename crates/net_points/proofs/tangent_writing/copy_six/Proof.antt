@@ -31,24 +31,6 @@ module _ (t : tie.In-loop Inv-loop μ-loop) where
   below : t .before .loop .e < 6
   below = t .loop-test .taken
 
-add-out : tie.Need-add-out Inv-loop μ-loop
-add-out c = let t : tie.In-loop Inv-loop μ-loop = search in record { fits = omega (arith, below t, s t .pre .0, s t .good) }
-
-mul-out : tie.Need-mul-out Inv-loop μ-loop
-mul-out c = let t : tie.In-loop Inv-loop μ-loop = search in search needs
-
-shared-slice-copy-out-out : tie.Need-shared-slice-copy-out-out Inv-loop μ-loop
-shared-slice-copy-out-out c = let t : tie.In-loop Inv-loop μ-loop = search in omega (arith, below t, s t .pre .0)
-
-add-t11 : tie.Need-add-t11 Inv-loop μ-loop
-add-t11 c = let t : tie.In-loop Inv-loop μ-loop = search in record { fits = omega (arith, below t, s t .pre .1, s t .good) }
-
-mul-t12 : tie.Need-mul-t12 Inv-loop μ-loop
-mul-t12 c = let t : tie.In-loop Inv-loop μ-loop = search in search needs
-
-slice-set-from-out : tie.Need-slice-set-from-out Inv-loop μ-loop
-slice-set-from-out c = let t : tie.In-loop Inv-loop μ-loop = search in omega (arith, below t, s t .pre .1, t .before .loop .inv .1)
-
 loop-again : tie.Need-loop-again Inv-loop μ-loop
 loop-again c =
     let t : tie.In-loop Inv-loop μ-loop = search in
@@ -70,5 +52,8 @@ returns c =
 
 pub copy-six-spec : {M : Type 1} → statement M
 copy-six-spec =
-    tie.close (tie.spec Inv-loop μ-loop loop-holds add-out mul-out shared-slice-copy-out-out add-t11 mul-t12 slice-set-from-out (λ c. search needs) (λ c. search needs)
+    tie.close (tie.spec Inv-loop μ-loop loop-holds (λ c. let t : tie.In-loop Inv-loop μ-loop = search in record { fits = omega (arith, below t, s t .pre .0, s t .good) }) (λ c. search needs)
+    (λ c. let t : tie.In-loop Inv-loop μ-loop = search in omega (arith, below t, s t .pre .0))
+    (λ c. let t : tie.In-loop Inv-loop μ-loop = search in record { fits = omega (arith, below t, s t .pre .1, s t .good) }) (λ c. search needs)
+    (λ c. let t : tie.In-loop Inv-loop μ-loop = search in omega (arith, below t, s t .pre .1, t .before .loop .inv .1)) (λ c. search needs) (λ c. search needs)
     loop-again same-length returns)

@@ -34,7 +34,7 @@ put-part-requires c κs =
     let f : tie.After-fill-lanes = search in
     let s = start f in
     let k = s .pre .0 .1 in (
-      (s .pre .0 .0, lit≤ tt, all-lanes (now (s .args .numbers)) (s .pre .0 .0) (s .args .shape .level) _ (s .pre .0 .1 .few-level) (f .fill-lanes .ensures) (omega (arith, f .fill-lanes .kept))),
+      (s .pre .0 .0, lit≤ tt, k .few-level, f .fill-lanes .ensures, omega (arith, f .fill-lanes .kept)),
       (k .some-first, k .few-first, lit≤ tt, omega (arith, k .some-first, k .vertex), omega (arith, s .pre .1)),
     )
 
@@ -44,7 +44,7 @@ put-part-requires-2 c κs =
     let f = table p1 in
     let s = start f in
     let k = s .pre .0 .1 in (
-      (s .pre .0 .0, lit≤ tt, all-lanes (now (s .args .numbers)) (s .pre .0 .0) (s .args .shape .level) _ (s .pre .0 .1 .few-level) (f .fill-lanes .ensures) (omega (arith, f .fill-lanes .kept))),
+      (s .pre .0 .0, lit≤ tt, k .few-level, f .fill-lanes .ensures, omega (arith, f .fill-lanes .kept)),
       (k .some-second, k .few-second, lit≤ tt, omega (arith, k .some-second, k .edge), omega (arith, s .pre .1, p1 .put-part .kept)),
     )
 
@@ -55,7 +55,7 @@ put-part-requires-3 c κs =
     let f = table p1 in
     let s = start f in
     let k = s .pre .0 .1 in (
-      (s .pre .0 .0, lit≤ tt, all-lanes (now (s .args .numbers)) (s .pre .0 .0) (s .args .shape .level) _ (s .pre .0 .1 .few-level) (f .fill-lanes .ensures) (omega (arith, f .fill-lanes .kept))),
+      (s .pre .0 .0, lit≤ tt, k .few-level, f .fill-lanes .ensures, omega (arith, f .fill-lanes .kept)),
       (s .pre .0 .2, s .pre .0 .3, lit≤ tt, omega (arith, s .pre .0 .2, k .face), omega (arith, s .pre .1, p1 .put-part .kept, p2 .put-part2 .kept)),
     )
 
@@ -75,7 +75,7 @@ put-part-requires-4 c κs =
     let f = table p1 in
     let s = start f in
     let k = s .pre .0 .1 in (
-      (s .pre .0 .0, lit≤ tt, all-lanes (now (s .args .numbers)) (s .pre .0 .0) (s .args .shape .level) _ (s .pre .0 .1 .few-level) (f .fill-lanes .ensures) (omega (arith, f .fill-lanes .kept))),
+      (s .pre .0 .0, lit≤ tt, k .few-level, f .fill-lanes .ensures, omega (arith, f .fill-lanes .kept)),
       (k .some-first, k .few-first, lit≤ tt, omega (arith, k .some-first), omega (arith, k .some-first, k .some-second, s .pre .1, p1 .put-part .kept, p2 .put-part2 .kept, p3 .put-part3 .kept)),
     )
 
@@ -97,7 +97,7 @@ put-part-requires-5 c κs =
     let f = table p1 in
     let s = start f in
     let k = s .pre .0 .1 in (
-      (s .pre .0 .0, lit≤ tt, all-lanes (now (s .args .numbers)) (s .pre .0 .0) (s .args .shape .level) _ (s .pre .0 .1 .few-level) (f .fill-lanes .ensures) (omega (arith, f .fill-lanes .kept))),
+      (s .pre .0 .0, lit≤ tt, k .few-level, f .fill-lanes .ensures, omega (arith, f .fill-lanes .kept)),
       (k .some-second, k .few-second, lit≤ tt, omega (arith, k .some-second), omega (arith, k .some-first, k .some-second, s .pre .1, p1 .put-part .kept, p2 .put-part2 .kept, p3 .put-part3 .kept, p4 .put-part4 .kept)),
     )
 

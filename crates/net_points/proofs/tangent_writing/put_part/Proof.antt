@@ -7,10 +7,9 @@ use lib.Dec.{lit≤}
 use lib.ListN.{length}
 use denote.Ref.{now}
 use Rattle.strips.specs.PointRows.{Fills}
-use Rattle.net_points.specs.tangent_writing.Lanes.{laneOf, Lanes, Ready}
+use Rattle.net_points.specs.tangent_writing.Lanes.{laneOf, Lanes}
 use Rattle.net_points.specs.tangent_writing.Paired.{partNumber}
 use Rattle.strips.proofs.Rowed.{fills-none}
-use Rattle.net_points.proofs.tangent_writing.Lanes.{lanes-part}
 use Rattle.net_points.proofs.tangent_writing.Laws.{side-lanes, run-fills}
 use Rattle.net_points.proofs.tangent_writing.put_part.Statement.{statement}
 use Rattle.net_points.proofs.tangent_writing.put_part.Tie as tie
@@ -22,8 +21,8 @@ module _ (s : tie.Start) where
 
   at-hand : (n : ℕ) → n ≡ s .args .level → Lanes (laneOf (now (s .args .numbers)) n) lane (lane + 6) 0 (now (s .args .table))
   at-hand n e =
-      subst (λ (x : ℕ). Lanes (laneOf (now (s .args .numbers)) x) lane (lane + 6) 0 (now (s .args .table))) (sym e)
-      (lanes-part (laneOf (now (s .args .numbers)) (s .args .level)) 0 24 lane (lane + 6) 0 (now (s .args .table)) (omega arith) (omega (arith, s .pre .0 .1)) (s .pre .0 .2))
+      let k = s .pre .0 in
+      rw e (side-lanes (now (s .args .numbers)) (k .0) (s .args .level) (s .args .side) 0 12 (now (s .args .table)) (k .2) (k .1) (omega arith) (omega (arith, k .1)) (k .3) (k .4))
 
 put-places-requires : tie.Need-put-places-requires
 put-places-requires c κs =
@@ -43,7 +42,7 @@ put-places-requires-2 : tie.Need-put-places-requires-2
 put-places-requires-2 c κs =
     let s : tie.Start = search in
     let f : tie.After-fill-lanes = search in
-    let own = side-lanes (now (s .args .numbers)) (s .pre .0 .0) (s .args .n) (s .args .side) _ (s .pre .1 .1) (s .pre .0 .1) (f .fill-lanes .ensures) (omega (arith, f .fill-lanes .kept)) in (
+    let own = side-lanes (now (s .args .numbers)) (s .pre .0 .0) (s .args .n) (s .args .side) (3 * s .args .side) (3 * s .args .side + 3) _ (s .pre .1 .1) (s .pre .0 .1) (omega arith) (omega arith) (f .fill-lanes .ensures) (omega (arith, f .fill-lanes .kept)) in (
       ((0, record { polynomials = laneOf (now (s .args .numbers)) (s .args .n); lanes = own }), omega (arith, s .pre .0 .1)),
       (s .pre .1 .2, omega (arith, s .pre .1 .1, s .pre .1 .3), s .pre .1 .4),
     )
@@ -53,7 +52,7 @@ returns-2 c =
     let s : tie.Start = search in
     let f : tie.After-fill-lanes = search in
     let p : tie.After-put-places2 = search in
-    let own = side-lanes (now (s .args .numbers)) (s .pre .0 .0) (s .args .n) (s .args .side) _ (s .pre .1 .1) (s .pre .0 .1) (f .fill-lanes .ensures) (omega (arith, f .fill-lanes .kept)) in
+    let own = side-lanes (now (s .args .numbers)) (s .pre .0 .0) (s .args .n) (s .args .side) (3 * s .args .side) (3 * s .args .side + 3) _ (s .pre .1 .1) (s .pre .0 .1) (omega arith) (omega arith) (f .fill-lanes .ensures) (omega (arith, f .fill-lanes .kept)) in
     run-fills (now (s .args .numbers)) (s .args .n) 0 (s .args .side) (s .args .first) (s .args .count) (s .args .at) (now (s .args .out)) _ (s .pre .0 .1) (omega (arith, s .pre .1 .3))
     (p .put-places2 .ensures (laneOf (now (s .args .numbers)) (s .args .n)) 0 own)
 
