@@ -133,10 +133,14 @@ def read_file(name: str) -> Tuple[bytes, int]:
 def chunks_of(names: Sequence[str], jobs: int, meanwhile: Callable[[], None] = lambda: None) -> Iterator[Found]:
     """What the files show, chunk by chunk in the order of the names, on so many processors: this process works, and further ones do.
     `meanwhile` is called once, when the further ones are at work."""
-    size = LEAST_CHUNK
-    while size < MOST_CHUNK and 16 * jobs * size <= len(names):
-        size *= 2
-    chunks = [names[at: at + size] for at in range(0, len(names), size)]
+    # chunks become smaller towards the end, so that all processors come to it at nearly the same time
+    chunks: List[Sequence[str]] = []
+    at, size = 0, MOST_CHUNK
+    while at < len(names):
+        while size > LEAST_CHUNK and 2 * jobs * size > len(names) - at:
+            size //= 2
+        chunks.append(names[at: at + size])
+        at += size
     workers: Dict[int, int] = {}
     """The process at the other end of each pipe."""
     ready: Dict[int, Found] = {}
