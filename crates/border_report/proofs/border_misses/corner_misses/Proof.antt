@@ -30,7 +30,7 @@ module _ (g : tie.After-rings-at) where
   abbrev here : ℕ
   here = start .args .start + start .args .j
 
-  abbrev first-in : start .args .start < start .args .n
+  first-in : start .args .start < start .args .n
   first-in = omega arith
 
   place : iterate (start .args .j) (entry (now (start .args .table)) toNext) (start .args .start) ≡ here
