@@ -54,7 +54,7 @@ pub fn decode(
 }
 
 // A refusal of decoding.
-fn refused(number: u8, place: usize) -> Decoded
+pub fn refused(number: u8, place: usize) -> Decoded
     ensures { λ r. ⌜ (r .answer ≡ Answer.Refused number place) × (r .coordinates ≡ 0) × (r .sides ≡ 0) × (r .corners ≡ 0) × (r .sharpness ≡ 0) ⌝ }
 {
     Decoded {

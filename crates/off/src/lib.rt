@@ -1,10 +1,9 @@
 // L6, reading OFF files: check 24, then 25, 26 and 4 to 13 (`checking`), and the four lists, the last of them 8 and 8 throughout. The
 // lists are read into own ones, and copied to the lent ones when every check has passed.
-pub mod checking;
-pub mod lists;
+mod checking;
 
 use crate::checking::read_checked;
-use crate::checking::refused;
+use dms::refused;
 use off_words::Cursor;
 use paper::Answer;
 use paper::Decoded;

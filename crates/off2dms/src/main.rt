@@ -141,7 +141,7 @@ fn read_drawn(text: &[u8], c: Cursor)
     let mut coordinates = [0i32; MOST_NUMBERS];
     let mut sides = [0u8; MOST_FACES];
     let mut corners = [0u16; MOST_CORNERS];
-    let d = off::checking::read_words(text, c, &mut coordinates, &mut sides, &mut corners);
+    let d = off_lists::read_words(text, c, &mut coordinates, &mut sides, &mut corners);
     let answer = check_counts(d);
     let n = least(d.coordinates, MOST_NUMBERS);
     let f = least(d.sides, MOST_FACES);

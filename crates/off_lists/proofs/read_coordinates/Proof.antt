@@ -3,12 +3,12 @@ use borrow.Author.Tests.{not-true, not-false}
 use mir.Syntax.{w32}
 use mir.ValLaws.{toZ-ofZ}
 use Rattle.off_words.proofs.Cursors.{own}
-use Rattle.off.proofs.lists.Readings.{coordinate-bad, coordinate-step, Reading, reading-none, reading-stop, reading-all}
+use Rattle.off_lists.proofs.Readings.{coordinate-bad, coordinate-step, Reading, reading-none, reading-stop, reading-all}
 use Prim.Native.Nat.{_≤_, _-_}
 use Rattle.paper.specs.Off.{coordinate, wordsOf, valueAt}
 use native.Mathlib.Omega.{arith}
 use borrow.Author.Needs.{needs}
-use Rattle.off.proofs.lists.read_coordinates.Tie as tie
+use Rattle.off_lists.proofs.read_coordinates.Tie as tie
 
 abbrev Inv-loop : tie.InvT-loop
 Inv-loop text count list₀ next₀ i₀ list next i = (i ≤ count) × Reading text coordinate (valueAt (wordsOf text) coordinate)
@@ -37,7 +37,7 @@ returns-2 : tie.Need-returns-2 Inv-loop μ-loop
 returns-2 c =
     let l = c .before .loop in reading-all _ coordinate _ _ _ 0 _ (l .list) (l .i) (l .next) (l .inv .1) (omega arith)
 
-pub read-coordinates-spec : {M : Type 1} → Rattle.off.proofs.lists.read_coordinates.Statement.statement M
+pub read-coordinates-spec : {M : Type 1} → Rattle.off_lists.proofs.read_coordinates.Statement.statement M
 read-coordinates-spec =
     tie.close (tie.spec Inv-loop μ-loop (λ c. search (needs, reading-none)) number-requires (λ c. search needs)
     (λ c. search (needs, reading-stop, coordinate-bad, not-true)) (λ c κs. search needs) (λ c. search needs) (λ c. search needs) loop-again

@@ -1,7 +1,7 @@
 -- An entry past the end is not kept.
 use lib.Seq.{set-out}
 use borrow.Author.Needs.{needs}
-use Rattle.off.proofs.lists.put_coordinate.Tie as tie
+use Rattle.off_lists.proofs.put_coordinate.Tie as tie
 
-pub put-coordinate-spec : {M : Type 1} → Rattle.off.proofs.lists.put_coordinate.Statement.statement M
+pub put-coordinate-spec : {M : Type 1} → Rattle.off_lists.proofs.put_coordinate.Statement.statement M
 put-coordinate-spec = tie.close (tie.spec (λ c. search needs) (λ c. search needs) (λ c. search needs) (λ c. search needs) (λ c. search (needs, set-out)))

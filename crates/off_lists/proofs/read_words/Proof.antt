@@ -3,9 +3,9 @@ use mathlib.Core.Path.{_≡_, sym, _∙_}
 use mathlib.Core.Bool.{true}
 use borrow.Author.Tests.{not-true, not-false}
 use Rattle.off_words.proofs.Cursors.{own}
-use Rattle.off.proofs.checking.Parts.{header-refused, vertices-refused, faces-refused, more-refused, words-done}
+use Rattle.off_lists.proofs.Parts.{header-refused, vertices-refused, faces-refused, more-refused, words-done}
 use borrow.Author.Needs.{needs}
-use Rattle.off.proofs.checking.read_words.Tie as tie
+use Rattle.off_lists.proofs.read_words.Tie as tie
 
 -- the header is read; then the coordinates are, then the faces
 module _ (e : tie.Else1) where
@@ -64,7 +64,7 @@ returns-5 c =
     words-done _ _ (at-header e .read-header .ensures) _ _ _ (good e) _ _ (at-coordinates x .read-coordinates .ensures) (fine x) _ _ _
     (at-faces f .read-faces .ensures) (whole f) (sym (w .has-word .ensures) ∙ c .if4 .left)
 
-pub read-words-spec : {M : Type 1} → Rattle.off.proofs.checking.read_words.Statement.statement M
+pub read-words-spec : {M : Type 1} → Rattle.off_lists.proofs.read_words.Statement.statement M
 read-words-spec =
     tie.close (tie.spec (λ c κs. search needs) (λ c κs. search needs) (λ c. search (needs, header-refused, not-true)) (λ c. search needs)
     read-coordinates-requires (λ c κs. search needs) (λ c. search needs) (λ c. search (needs, vertices-refused, good, not-true)) read-faces-requires

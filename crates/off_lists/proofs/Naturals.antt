@@ -15,11 +15,11 @@ use Rattle.paper.specs.Off.{wordsOf, isNumber, valueOf, upTo, listCount, allowe
 use Rattle.off_words.specs.Cursor.{Before, NumberRead}
 use Rattle.off_words.specs.declared.Cursor.{Cursor}
 use Rattle.off_words.specs.declared.Number.{Number}
-use Rattle.off.specs.lists.Reading.{NaturalRead, HeaderRead}
-use Rattle.off.specs.declared.lists.Natural.{Natural}
-use Rattle.off.specs.declared.lists.Header.{Header}
-use Rattle.off.proofs.lists.Bad.{no-number, serves, not-allowed, natural-is, below-zero, too-large, within-is, first-bad, second-bad, third-bad}
-use Rattle.off.proofs.lists.Bad.{none-bad}
+use Rattle.off_lists.specs.Reading.{NaturalRead, HeaderRead}
+use Rattle.off_lists.specs.declared.Natural.{Natural}
+use Rattle.off_lists.specs.declared.Header.{Header}
+use Rattle.off_lists.proofs.Bad.{no-number, serves, not-allowed, natural-is, below-zero, too-large, within-is, first-bad, second-bad, third-bad}
+use Rattle.off_lists.proofs.Bad.{none-bad}
 
 module _ (text : List ℕ) (n most : ℕ) (m : Number) (e : NumberRead text n m) where
   none : (r : Natural) → r .ok ≡ false → r .value ≡ 0 → bad (wordsOf text) (upTo most) n ≡ true → NaturalRead text n most r

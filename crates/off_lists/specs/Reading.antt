@@ -4,17 +4,21 @@ use mathlib.Core.Bool.{Bool, true, not}
 use mathlib.Core.List.{List, _++_}
 use Prim.Native.Nat.{ℕ, _+_, _≤_}
 use lib.ListN.{length, take}
+use lib.IntN.{ℤ}
+use Rattle.paper.specs.Mesh.{Mesh, plainList}
 use Rattle.paper.specs.Scan.{valuesFrom}
-use Rattle.paper.specs.Faults.{Verdict, _orElse_, single}
+use Rattle.paper.specs.Faults.{Verdict, _orElse_, single, stated}
+use Rattle.paper.specs.declared.Answer.the-variants.{Done}
+use Rattle.paper.specs.declared.Decoded.{Decoded}
 use Rattle.paper.specs.Off.{Kind, upTo, listCount, sideCount, vertexNumber, wordsOf, bad, naturalAt, vertices, faces, sidesAt, faceAfter}
-use Rattle.paper.specs.Off.{endFrom, badFrom, badFaces, sidesFrom, cornersFrom}
+use Rattle.paper.specs.Off.{endFrom, badFrom, badFaces, sidesFrom, cornersFrom, wordsEnd, neededVerdict, wordsMesh, fault26}
 use Rattle.off_words.specs.Cursor.{Before}
 use Rattle.off_words.specs.declared.Cursor.{Cursor}
-use Rattle.off.specs.declared.lists.Natural.{Natural}
-use Rattle.off.specs.declared.lists.Progress.{Progress}
-use Rattle.off.specs.declared.lists.Header.{Header}
-use Rattle.off.specs.declared.lists.ReadFace.{ReadFace}
-use Rattle.off.specs.declared.lists.ReadFaces.{ReadFaces}
+use Rattle.off_lists.specs.declared.Natural.{Natural}
+use Rattle.off_lists.specs.declared.Progress.{Progress}
+use Rattle.off_lists.specs.declared.Header.{Header}
+use Rattle.off_lists.specs.declared.ReadFace.{ReadFace}
+use Rattle.off_lists.specs.declared.ReadFaces.{ReadFaces}
 
 -- word n as a number from 0 to a largest, and then a cursor before the next word
 pub record NaturalRead (text : List ℕ) (n most : ℕ) (r : Natural) : Type 0 where
@@ -64,3 +68,21 @@ pub record FacesRead (text : List ℕ) (p n : ℕ) (sides corners : List ℕ) (r
   pub corners-same : r .ok ≡ true → length corners' ≡ length corners
   pub sides-hold : r .ok ≡ true → n ≤ length sides → take n sides' ≡ sidesFrom (wordsOf text) p n
   pub corners-hold : r .ok ≡ true → r .corners ≤ length corners → take (r .corners) corners' ≡ cornersFrom (wordsOf text) p n
+
+-- ---- three lists of M have these lengths, and stand in the beginnings of own ones where these have room; the fourth is 8 and 8 throughout
+pub record Lists (M : Mesh) (r : Decoded) (coordinates : List ℤ) (sides corners : List ℕ) : Type 0 where
+  pub coordinates-count : r .coordinates ≡ length (M .coordinates)
+  pub sides-count : r .sides ≡ length (M .sides)
+  pub corners-count : r .corners ≡ length (M .corners)
+  pub coordinates-hold : r .coordinates ≤ length coordinates → take (r .coordinates) coordinates ≡ M .coordinates
+  pub sides-hold : r .sides ≤ length sides → take (r .sides) sides ≡ M .sides
+  pub corners-hold : r .corners ≤ length corners → take (r .corners) corners ≡ M .corners
+  pub plain-pairs : M .sharpness ≡ plainList (length (M .corners))
+
+-- 25 and 26
+unfoldable pub readVerdict : List (List ℕ) → Verdict
+readVerdict words = neededVerdict words orElse single 26 (fault26 words) (wordsEnd words)
+
+pub record WordsRead (text : List ℕ) (r : Decoded) (coordinates : List ℤ) (sides corners : List ℕ) : Type 0 where
+  pub answers : stated (r .answer) ≡ readVerdict (wordsOf text)
+  pub lists : r .answer ≡ Done → Lists (wordsMesh (wordsOf text)) r coordinates sides corners

@@ -1,7 +1,7 @@
 -- A row of words read into an own list: what the loops keep, and what they end with.
 use mathlib.Core.Path.{_≡_, refl, sym, ap, _∙_}
 use mathlib.Core.Bool.{true, false}
-use mathlib.Core.List.{List, [], _∷_, _++_, append-nil, append-assoc}
+use mathlib.Core.List.{List, [], append-nil, append-assoc}
 use Prim.Native.Nat.{ℕ, suc, _+_, _-_, _<_}
 use native.Mathlib.Omega.{arith}
 use native.Mathlib.Numerals.{add-one}
@@ -12,14 +12,14 @@ use Rattle.mesh.proofs.Fills.{values-snoc}
 use Rattle.mesh.proofs.Verdicts.{single-hit, single-miss}
 use Rattle.paper.specs.Scan.{valuesFrom}
 use Rattle.paper.specs.Faults.{fault}
-use Rattle.paper.specs.Off.{Kind, coordinate, vertexNumber, wordsOf, isNumber, valueOf, bad, valueAt, naturalAt, badFrom}
+use Rattle.paper.specs.Off.{Kind, coordinate, vertexNumber, wordsOf, isNumber, bad, valueAt, naturalAt, badFrom}
 use Rattle.off_words.specs.Cursor.{Before, NumberRead}
 use Rattle.off_words.specs.declared.Number.{Number}
 use Rattle.off_words.specs.declared.Cursor.{Cursor}
-use Rattle.off.specs.lists.Reading.{Stored, ListRead, NaturalRead}
-use Rattle.off.specs.declared.lists.Natural.{Natural}
-use Rattle.off.proofs.lists.Bad.{no-number, serves, value-is, left-stop, left-step, left-none, never}
-use Rattle.off.proofs.lists.Naturals.{natural-good, natural-bad, natural-at}
+use Rattle.off_lists.specs.Reading.{Stored, ListRead, NaturalRead}
+use Rattle.off_lists.specs.declared.Natural.{Natural}
+use Rattle.off_lists.proofs.Bad.{no-number, serves, value-is, left-stop, left-step, left-none, never}
+use Rattle.off_lists.proofs.Naturals.{natural-good, natural-bad, natural-at}
 
 module _ {A : Type 0} (f : ℕ → A) (p at : ℕ) (old : List A) where
   pub stored-none : Stored f p 0 at old old

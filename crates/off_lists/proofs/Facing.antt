@@ -2,7 +2,7 @@
 use mathlib.Core.Path.{_≡_, refl, sym, ap, _∙_, subst}
 use mathlib.Core.Bool.{true, false, not}
 use mathlib.Core.List.{List, [], _∷_, _++_, append-nil, append-assoc}
-use Prim.Native.Nat.{ℕ, suc, _+_, _-_, _*_, _<_, _≤_}
+use Prim.Native.Nat.{ℕ, _+_, _-_, _*_, _<_, _≤_}
 use native.Mathlib.Omega.{arith}
 use native.Mathlib.Numerals.{add-one}
 use lib.ListN.{length, take, set, length-set, length-append}
@@ -10,15 +10,15 @@ use lib.Seq.{append-snoc, take-suc-set}
 use Rattle.mesh.proofs.Verdicts.{single-hit, single-miss, orElse-fault, orElse-sound, orElse-assoc}
 use Rattle.mesh.proofs.Links.{values-length}
 use Rattle.paper.specs.Scan.{valuesFrom}
-use Rattle.paper.specs.Off.{wordsOf, sideCount, vertexNumber, naturalAt, sidesAt, faceAfter, endFrom, badFrom, badFaces, sidesFrom, cornersFrom}
+use Rattle.paper.specs.Off.{wordsOf, sideCount, vertexNumber, naturalAt, sidesAt, faceAfter, endFrom, badFaces, sidesFrom, cornersFrom}
 use Rattle.off_words.specs.Cursor.{Before}
 use Rattle.off_words.specs.declared.Cursor.{Cursor}
-use Rattle.off.specs.lists.Reading.{NaturalRead, Stored, ListRead, FaceRead, FacesRead}
-use Rattle.off.specs.declared.lists.Natural.{Natural}
-use Rattle.off.specs.declared.lists.Progress.{Progress}
-use Rattle.off.specs.declared.lists.ReadFace.{ReadFace}
-use Rattle.off.proofs.lists.Bad.{one-bad, one-good, suc-left, never}
-use Rattle.off.proofs.lists.Naturals.{natural-good, natural-bad}
+use Rattle.off_lists.specs.Reading.{NaturalRead, Stored, ListRead, FaceRead, FacesRead}
+use Rattle.off_lists.specs.declared.Natural.{Natural}
+use Rattle.off_lists.specs.declared.Progress.{Progress}
+use Rattle.off_lists.specs.declared.ReadFace.{ReadFace}
+use Rattle.off_lists.proofs.Bad.{one-bad, one-good, suc-left, never}
+use Rattle.off_lists.proofs.Naturals.{natural-good, natural-bad}
 
 -- ---- one face
 module _ (text : List ℕ) (c : Cursor) (face at : ℕ) (sides corners sides' corners' : List ℕ) (m : Natural) (e : NaturalRead text (c .word) 255 m) where

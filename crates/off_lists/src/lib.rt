@@ -1,13 +1,57 @@
-// The words of an OFF text, read in their order into own lists. A word that is missing or no number of its kind ends the reading before it.
-// Numbers past the end of an own list are read and not kept: how many there are is all that 4 asks.
+// The words of an OFF text after the mark, read in their order into own lists, with checks 25 and 26. The text is read once, each word's number taken from
+// its bytes when its end is found. A word that is missing or no number of its kind ends the reading before it. Numbers past the end of an own list are read
+// and not kept: how many there are is all that 4 asks.
+use dms::refused;
 use off_words::Cursor;
+use paper::Answer;
+use paper::Decoded;
 ghost use mathlib.Core.Path.{_≡_};
 ghost use mathlib.Core.Bool.{false};
 ghost use Prim.Native.Nat.{_+_, _*_, _<_, _≤_};
-ghost use lib.ListN.{length, set};
+ghost use lib.ListN.{set};
 ghost use Rattle.paper.specs.Off.{coordinate, vertexNumber, wordsOf, valueAt, naturalAt};
 ghost use Rattle.off_words.specs.Cursor.{Before};
-ghost use Rattle.off.specs.lists.Reading.{NaturalRead, HeaderRead, ListRead, FaceRead, FacesRead};
+ghost use Rattle.off_lists.specs.Reading.{NaturalRead, HeaderRead, ListRead, FaceRead, FacesRead, WordsRead};
+
+// Checks 25 and 26, with the lists in own ones as far as these reach. What these hold after the lists, or beside a refusal, is free: no caller reads it.
+// The fourth length is told with the fourth list, after the last check.
+pub fn read_words(
+    text: &[u8],
+    c: Cursor,
+    coordinates: &mut [i32],
+    sides: &mut [u8],
+    corners: &mut [u16],
+) -> Decoded
+    requires { ⌜ Before (now text) 1 c ⌝ }
+    ensures { λ r. ⌜ WordsRead (now (text .entry)) r (now (coordinates .exit)) (now (sides .exit)) (now (corners .exit)) ⌝ }
+{
+    let header = read_header(text, c);
+    let vertices_start = header.next;
+    if !header.ok {
+        return refused(25, vertices_start.word);
+    }
+    let count = 3 * header.vertices;
+    let vertices = read_coordinates(text, vertices_start, count, coordinates);
+    let faces_start = vertices.next;
+    if !vertices.ok {
+        return refused(25, faces_start.word);
+    }
+    let faces = read_faces(text, faces_start, header.faces, sides, corners);
+    let end = faces.next;
+    if !faces.ok {
+        return refused(25, end.word);
+    }
+    if end.has_word(text) {
+        return refused(26, end.word);
+    }
+    Decoded {
+        answer: Answer::Done,
+        coordinates: count,
+        sides: header.faces,
+        corners: faces.corners,
+        sharpness: 0,
+    }
+}
 
 // The largest count and vertex number, and the largest side count.
 const MOST_COUNT: usize = 65535;
@@ -85,7 +129,7 @@ fn no_natural(c: Cursor) -> Natural
 }
 
 // The counts of vertices, faces and edges. The edge count is checked as the others are, and not used.
-pub(crate) fn read_header(text: &[u8], c: Cursor) -> Header
+fn read_header(text: &[u8], c: Cursor) -> Header
     requires { ⌜ Before (now text) 1 c ⌝ }
     ensures { λ r. ⌜ HeaderRead (now (text .entry)) r ⌝ }
 {
@@ -149,7 +193,7 @@ fn put_corner(list: &mut [u16], i: usize, value: u16)
 }
 
 // So many coordinates.
-pub(crate) fn read_coordinates(text: &[u8], c: Cursor, count: usize, list: &mut [i32]) -> Progress
+fn read_coordinates(text: &[u8], c: Cursor, count: usize, list: &mut [i32]) -> Progress
     requires { ⌜ Before (now text) (c .word) c ⌝ }
     ensures { λ r. ⌜ ListRead (now (text .entry)) coordinate (valueAt (wordsOf (now (text .entry))) coordinate) (c .word) count 0 (now (list .entry)) (now (list .exit)) r ⌝ }
 {
@@ -230,7 +274,7 @@ fn read_face(
 }
 
 // So many faces.
-pub(crate) fn read_faces(
+fn read_faces(
     text: &[u8],
     c: Cursor,
     count: usize,

@@ -2,11 +2,11 @@
 use mathlib.Core.Path.{_≡_}
 use mathlib.Core.Bool.{true}
 use borrow.Author.Tests.{not-true, not-false}
-use Rattle.off.specs.lists.Reading.{NaturalRead}
+use Rattle.off_lists.specs.Reading.{NaturalRead}
 use Rattle.off_words.proofs.Cursors.{own}
-use Rattle.off.proofs.lists.Naturals.{natural-at, header-first, header-second, header-third, header-read}
+use Rattle.off_lists.proofs.Naturals.{natural-at, header-first, header-second, header-third, header-read}
 use borrow.Author.Needs.{needs}
-use Rattle.off.proofs.lists.read_header.Tie as tie
+use Rattle.off_lists.proofs.read_header.Tie as tie
 
 -- each count as it is read, and that it is one
 one : (v : tie.After-read-natural) → let s : tie.Start = search in NaturalRead (s .args .text .now) 1 65535 (v .read-natural .result)
@@ -41,7 +41,7 @@ returns-3 c =
     header-third _ (s .args .c) (s .pre) _ (one search) (good search) _ (two search) (fine search) _ (three search) (not-true _ (c .before .if3 .taken)) _
     (c .no-header3 .ensures)
 
-pub read-header-spec : {M : Type 1} → Rattle.off.proofs.lists.read_header.Statement.statement M
+pub read-header-spec : {M : Type 1} → Rattle.off_lists.proofs.read_header.Statement.statement M
 read-header-spec =
     tie.close (tie.spec (λ c κs. own _ _ _ (c .before .pre)) (λ c κs. search needs) (λ c. search (needs, header-first, one, not-true))
     read-natural-requires-2 (λ c κs. search needs) returns-2 read-natural-requires-3 (λ c κs. search needs) returns-3
