@@ -1,5 +1,4 @@
 -- The coefficients of the derivatives taper as those of the polynomial do.
-use mathlib.Core.Path.{_≡_}
 use Prim.Native.Nat.{ℕ, _*_, _^_, _≤_}
 use native.Mathlib.Omega.{arith}
 use lib.Dec.{lit≤}

@@ -16,8 +16,8 @@ ghost use Rattle.bernstein.specs.declared.Matrix5.{Matrix5};
 ghost use Rattle.bernstein.specs.declared.Vector5.{Vector5};
 ghost use Rattle.bernstein.specs.Sums.{Sized, AllSized, AllTapered, statesOf};
 ghost use Rattle.net_points.specs.writing.Shapes.{Shapely, shapeSize};
-ghost use Rattle.net_points.specs.tangent_writing.Lanes.{lessOf, minusOf, tailwardOf, centrewardOf, laneOf, forwardOf, LanePut, Lanes, Ready, LanesFilled};
-ghost use Rattle.net_points.specs.tangent_writing.Lanes.{PairFilled, Small, Added, Run, CubicRows, Running, rowsAt, runNumber};
+ghost use Rattle.net_points.specs.tangent_writing.Lanes.{lessOf, minusOf, tailwardOf, centrewardOf, laneOf, forwardOf, LanePut, Lanes, Laned, LanesFilled};
+ghost use Rattle.net_points.specs.tangent_writing.Lanes.{AxisFilled, Small, Added, SixStates, CubicRows, Stepping, rowsAt, valueNumber};
 ghost use Rattle.net_points.specs.tangent_writing.Paired.{partNumber, RingPaired, RingsPaired, NetPaired};
 
 // The table has 24 lanes, six for each side: on x, y and z towards the tail, then on x, y and z towards the centre. A lane has ten numbers, at the first
@@ -25,8 +25,8 @@ ghost use Rattle.net_points.specs.tangent_writing.Paired.{partNumber, Ri
 // second difference of the first two; and the third of the value. Number s of lane y stands at place 24 s + y.
 const TABLE: usize = 240;
 
-// The numbers of a side's six lanes that step along a row: the values, then each of their three differences.
-const RUN: usize = 24;
+// The states of a side's six lanes at a place of a row: six values, then six of each of their three differences.
+const STATES: usize = 24;
 
 // The tangents of a corner's own points, from `at` on; the border of side 2 has `third` parts.
 pub fn put_pairs(numbers: &[i32], shape: Shape, third: usize, out: &mut [i64], at: usize)
@@ -109,7 +109,7 @@ fn put_part(
 
 // Those of the rings of a net with level n, and of its centre; the table is that of row 0.
 fn put_rings(table: &mut [i64], n: usize, out: &mut [i64], at: usize)
-    requires { ⌜ Ready 0 24 0 (now table) × (1 ≤ n) × (n ≤ 16) × (at + 6 * (2 * (n * (n - 1)) + 1) ≤ length (now out)) ⌝ }
+    requires { ⌜ Laned 0 24 0 (now table) × (1 ≤ n) × (n ≤ 16) × (at + 6 * (2 * (n * (n - 1)) + 1) ≤ length (now out)) ⌝ }
     ensures { λ _. ⌜ ((numbers : List ℤ) → Lanes (laneOf numbers n) 0 24 0 (now (table .entry)) → RingsPaired numbers n at (now (out .entry)) (now (out .exit))) ⌝ }
 {
     let mut to = at;
@@ -127,7 +127,7 @@ fn put_rings(table: &mut [i64], n: usize, out: &mut [i64], at: usize)
 
 // Those of a ring: w places of each side's row.
 fn put_ring(table: &[i64], w: usize, out: &mut [i64], at: usize)
-    requires { ⌜ ((k : ℕ) × Ready 0 24 k (now table)) × (w ≤ 16) × (at + 24 * w ≤ length (now out)) ⌝ }
+    requires { ⌜ ((k : ℕ) × Laned 0 24 k (now table)) × (w ≤ 16) × (at + 24 * w ≤ length (now out)) ⌝ }
     ensures { λ _. ⌜ ((numbers : List ℤ) (n k : ℕ) → Lanes (laneOf numbers n) 0 24 k (now (table .entry)) → k + w ≤ n → RingPaired numbers n k w at (now (out .entry)) (now (out .exit))) ⌝ }
 {
     let mut to = at;
@@ -139,34 +139,34 @@ fn put_ring(table: &[i64], w: usize, out: &mut [i64], at: usize)
     }
 }
 
-// The lanes of `count` pairs of a side and an axis, from pair `from` on: a net has twelve, side by side.
+// The lanes of `count` axes, from axis `from` on. A net has twelve axes, three for each side; an axis has two lanes.
 fn fill_lanes(numbers: &[i32], n: usize, from: usize, count: usize, table: &mut [i64])
     requires { ⌜ (netVerdict (now numbers) ≡ sound) × (n ≤ 16) × (from + count ≤ 12) × (length (now table) ≡ 240) ⌝ }
     ensures { λ _. ⌜ LanesFilled (laneOf (now (numbers .entry)) n) from (from + count) (now (table .exit)) ⌝ }
 {
     let mut i = 0;
     while i < count {
-        fill_pair(numbers, n, from + i, table);
+        fill_axis(numbers, n, from + i, table);
         i += 1;
     }
 }
 
-// The two lanes of one pair, at row 0: the derivatives of its polynomial, by their differences.
-fn fill_pair(numbers: &[i32], n: usize, pair: usize, table: &mut [i64])
-    requires { ⌜ (netVerdict (now numbers) ≡ sound) × (n ≤ 16) × (pair < 12) × (length (now table) ≡ 240) ⌝ }
-    ensures { λ _. ⌜ PairFilled (laneOf (now (numbers .entry)) n) pair (now (table .entry)) (now (table .exit)) ⌝ }
+// The two lanes of one axis, at row 0: the derivatives of its polynomial, by their differences.
+fn fill_axis(numbers: &[i32], n: usize, axis: usize, table: &mut [i64])
+    requires { ⌜ (netVerdict (now numbers) ≡ sound) × (n ≤ 16) × (axis < 12) × (length (now table) ≡ 240) ⌝ }
+    ensures { λ _. ⌜ AxisFilled (laneOf (now (numbers .entry)) n) axis (now (table .entry)) (now (table .exit)) ⌝ }
 {
-    let side = pair / 3;
-    let axis = pair % 3;
-    let lane = 6 * side + axis;
-    let c = bernstein::polynomial(turn_points(numbers, side, axis), n);
+    let side = axis / 3;
+    let own = axis % 3;
+    let lane = 6 * side + own;
+    let c = bernstein::polynomial(turn_points(numbers, side, own), n);
     let a = lane_numbers(tailward(c, side));
     put_lane(table, lane, a);
     let b = lane_numbers(centreward(c, side));
     put_lane(table, lane + 3, b);
 }
 
-// The derivative towards the tail. On sides 1 and 3 the control points are in turn, so that j runs from the tail.
+// The derivative towards the tail. On sides 1 and 3 the places of a row run from the tail: there j is the head's weight, and the tail's falls as j rises.
 fn tailward(c: Matrix5, side: usize) -> Matrix5
     requires { ⌜ AllTapered c ⌝ }
     ensures { λ r. ⌜ r ≡ tailwardOf side c ⌝ }
@@ -206,7 +206,7 @@ fn centreward(c: Matrix5, side: usize) -> Matrix5
     b
 }
 
-// A polynomial less another.
+// A matrix less another.
 fn minus(p: Matrix5, q: Matrix5) -> Matrix5
     requires { ⌜ AllSized (2 ^ 54) p × AllSized (2 ^ 54) q ⌝ }
     ensures { λ r. ⌜ r ≡ minusOf p q ⌝ }
@@ -336,42 +336,42 @@ fn add_ahead(list: &mut [i64], at: usize, to: usize, gap: usize)
     }
 }
 
-// The tangents at `count` places of a row, from place `first` on; a side's lanes start with `lane`.
+// The tangents at `count` places of a row, from place `first` on, by the six lanes from `lane` on.
 fn put_places(table: &[i64], lane: usize, first: usize, count: usize, out: &mut [i64], at: usize)
-    requires row { ⌜ ((k : ℕ) × Ready lane (lane + 6) k (now table)) × (lane ≤ 18) ⌝ }
+    requires row { ⌜ ((k : ℕ) × Laned lane (lane + 6) k (now table)) × (lane ≤ 18) ⌝ }
     requires places { ⌜ (first ≤ 1) × (first + count ≤ 17) × (at + 6 * count ≤ length (now out)) ⌝ }
-    ensures { λ _. ⌜ ((F : ℕ → Matrix5) (k : ℕ) → Lanes F lane (lane + 6) k (now (table .entry)) → Fills (runNumber (rowsAt F lane k) first) at (6 * count) (now (out .entry)) (now (out .exit))) ⌝ }
+    ensures { λ _. ⌜ ((F : ℕ → Matrix5) (k : ℕ) → Lanes F lane (lane + 6) k (now (table .entry)) → Fills (valueNumber (rowsAt F lane k) first) at (6 * count) (now (out .entry)) (now (out .exit))) ⌝ }
 {
-    let mut run = [0i64; RUN];
-    start_run(table, lane, first, &mut run);
+    let mut states = [0i64; STATES];
+    first_states(table, lane, first, &mut states);
     let mut j = 0;
     while j < count {
-        copy_six(&run, 0, out, at + 6 * j);
-        step_run(&mut run);
+        copy_six(&states, 0, out, at + 6 * j);
+        next_states(&mut states);
         j += 1;
     }
 }
 
-// The numbers that step along a row, at place `first`.
-fn start_run(table: &[i64], lane: usize, first: usize, run: &mut [i64])
-    requires { ⌜ ((k : ℕ) × Ready lane (lane + 6) k (now table)) × (lane ≤ 18) × (first ≤ 1) × (length (now run) ≡ 24) ⌝ }
-    ensures { λ _. ⌜ ((F : ℕ → Matrix5) (k : ℕ) → Lanes F lane (lane + 6) k (now (table .entry)) → Run (rowsAt F lane k) first (now (run .exit))) ⌝ }
+// The states at place `first`.
+fn first_states(table: &[i64], lane: usize, first: usize, states: &mut [i64])
+    requires { ⌜ ((k : ℕ) × Laned lane (lane + 6) k (now table)) × (lane ≤ 18) × (first ≤ 1) × (length (now states) ≡ 24) ⌝ }
+    ensures { λ _. ⌜ ((F : ℕ → Matrix5) (k : ℕ) → Lanes F lane (lane + 6) k (now (table .entry)) → SixStates (rowsAt F lane k) first (now (states .exit))) ⌝ }
 {
-    copy_six(table, lane, run, 0);
-    copy_six(table, lane + 24, run, 6);
-    copy_six(table, lane + 48, run, 12);
-    copy_six(table, lane + 72, run, 18);
+    copy_six(table, lane, states, 0);
+    copy_six(table, lane + 24, states, 6);
+    copy_six(table, lane + 48, states, 12);
+    copy_six(table, lane + 72, states, 18);
     if first == 1 {
-        step_run(run);
+        next_states(states);
     }
 }
 
-// The same at the next place.
-fn step_run(run: &mut [i64])
-    requires { ⌜ Running (now run) ⌝ }
-    ensures { λ _. ⌜ ((g : ℕ → Vector5) (j : ℕ) → CubicRows g → Run g j (now (run .entry)) → Run g (j + 1) (now (run .exit))) ⌝ }
+// The states at the next place.
+fn next_states(states: &mut [i64])
+    requires { ⌜ Stepping (now states) ⌝ }
+    ensures { λ _. ⌜ ((g : ℕ → Vector5) (j : ℕ) → CubicRows g → SixStates g j (now (states .entry)) → SixStates g (j + 1) (now (states .exit))) ⌝ }
 {
-    add_ahead(run, 0, 18, 6);
+    add_ahead(states, 0, 18, 6);
 }
 
 // Six numbers of a list, one after the other.

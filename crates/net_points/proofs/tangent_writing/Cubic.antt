@@ -1,5 +1,5 @@
 -- The lanes' polynomials are of degree three and taper, and so do their rows.
-use mathlib.Core.Path.{_≡_, refl, sym, ap, _∙_, subst}
+use mathlib.Core.Path.{_≡_, refl, subst}
 use mathlib.Core.Bool.{Bool, true, false}
 use Prim.Native.Nat.{ℕ, _%_, _*_, _^_, _≤_}
 use native.Mathlib.Omega.{arith}
@@ -15,7 +15,7 @@ use Rattle.bernstein.proofs.Identity.{vector5-same}
 use Rattle.bernstein.proofs.Laws.{polynomial-tapers, row-tapers}
 use Rattle.bernstein.proofs.Tapering.{HalfTapered, along-halves, inward-halves, along-tapers, inward-tapers}
 use Rattle.net_points.specs.writing.Laid.{pickMatrix}
-use Rattle.net_points.specs.tangent_writing.Lanes.{lessOf, minusOf, nothing, tailwardOf, centrewardOf, truncatedOf, CubicTapered, CubicRow}
+use Rattle.net_points.specs.tangent_writing.Lanes.{lessOf, minusOf, zeroMatrix, tailwardOf, centrewardOf, truncatedOf, CubicTapered, CubicRow}
 
 matrix-same : {p q r s t p′ q′ r′ s′ t′ : Vector5} → p ≡ p′ → q ≡ q′ → r ≡ r′ → s ≡ s′ → t ≡ t′
     → (let z : Matrix5 = record { r0 = p; r1 = q; r2 = r; r3 = s; r4 = t } in z) ≡ record { r0 = p′; r1 = q′; r2 = r′; r3 = s′; r4 = t′ }
@@ -46,14 +46,14 @@ module _ (p : Matrix5) (n : ℤ) where
       (vector5-same refl (none-of (pos 2) (g .r3 .c)) (none-of (pos 3) (g .r3 .d)) (none-of (pos 4) (g .r3 .e)) refl)
       (vector5-same (none (g .r4 .b)) (none-of (pos 2) (g .r4 .c)) (none-of (pos 3) (g .r4 .d)) (none-of (pos 4) (g .r4 .e)) refl)
 
--- ---- a polynomial less another
+-- ---- a matrix less another
 minus-cubic : (p q : Matrix5) → truncatedOf p ≡ p → truncatedOf q ≡ q → truncatedOf (minusOf p q) ≡ minusOf p q
 unfolding truncatedOf minusOf lessOf
 minus-cubic p q e f = λ z. minusOf (e z) (f z)
 
-nothing-cubic : truncatedOf nothing ≡ nothing
+zero-cubic : truncatedOf zeroMatrix ≡ zeroMatrix
 unfolding truncatedOf
-nothing-cubic = refl
+zero-cubic = refl
 
 pub less-size : (x y : ℤ) (m r : ℕ) → 2 * m ≤ r → natAbs x ≤ m → natAbs y ≤ m → natAbs (x -ℤ y) ≤ r
 less-size x y m r = as-diff x λ p n e. as-diff y λ q o f. simp (diff, e, f) (λ l g h. omega arith)
@@ -78,8 +78,8 @@ minus-tapers p q h k = record {
   t4 = less-tapers (p .r4) (q .r4) (2 ^ 17) (2 ^ 18) (lit≤ tt) (h .4) (k .4);
 }
 
-nothing-halves : HalfTapered nothing
-nothing-halves = (
+zero-halves : HalfTapered zeroMatrix
+zero-halves = (
   (lit≤ tt, lit≤ tt, lit≤ tt, lit≤ tt, lit≤ tt),
   (lit≤ tt, lit≤ tt, lit≤ tt, lit≤ tt, lit≤ tt),
   (lit≤ tt, lit≤ tt, lit≤ tt, lit≤ tt, lit≤ tt),
@@ -105,9 +105,9 @@ module _ (p c : Matrix5) (n side : ℕ) (h : AllSized (2 ^ 27) p) (l : n ≤ 16)
   pub tailward-smooth : CubicTapered (tailwardOf side c)
   unfolding tailwardOf
   tailward-smooth =
-      pick-smooth (eqb (side % 2) 1) (minusOf nothing (alongOf c)) (alongOf c) (record {
-        tapers = minus-tapers nothing (alongOf c) nothing-halves (along-halves c polynomial-tapering);
-        cubic = minus-cubic nothing (alongOf c) nothing-cubic along-is-cubic;
+      pick-smooth (eqb (side % 2) 1) (minusOf zeroMatrix (alongOf c)) (alongOf c) (record {
+        tapers = minus-tapers zeroMatrix (alongOf c) zero-halves (along-halves c polynomial-tapering);
+        cubic = minus-cubic zeroMatrix (alongOf c) zero-cubic along-is-cubic;
       }) (record { tapers = along-tapers c polynomial-tapering; cubic = along-is-cubic })
 
   pub centreward-smooth : CubicTapered (centrewardOf side c)
@@ -119,12 +119,15 @@ module _ (p c : Matrix5) (n side : ℕ) (h : AllSized (2 ^ 27) p) (l : n ≤ 16)
       }) (record { tapers = inward-tapers c polynomial-tapering; cubic = inward-is-cubic })
 
 -- ---- a row of them
-nothing-at : (x : ℤ) → pos 0 +ℤ x *ℤ (pos 0 +ℤ x *ℤ (pos 0 +ℤ x *ℤ (pos 0 +ℤ x *ℤ pos 0))) ≡ pos 0
-nothing-at = over 1 _ λ ρ. simp (poly, ρ) (omega arith)
+abbrev pub value : ℤ → ℤ → ℤ → ℤ → ℤ → ℤ → ℤ
+value a b c d e x = a +ℤ x *ℤ (b +ℤ x *ℤ (c +ℤ x *ℤ (d +ℤ x *ℤ e)))
+
+zero-at : (x : ℤ) → value (pos 0) (pos 0) (pos 0) (pos 0) (pos 0) x ≡ pos 0
+zero-at = over 1 _ λ ρ. simp (poly, ρ) (omega arith)
 
 truncated-row : (c : Matrix5) (k : ℕ) → rowOf (truncatedOf c) k .e ≡ pos 0
 unfolding rowOf truncatedOf polynomialAt
-truncated-row c k = nothing-at (pos k)
+truncated-row c k = zero-at (pos k)
 
 pub row-cubic : (c : Matrix5) (k : ℕ) → k ≤ 16 → CubicTapered c → CubicRow (rowOf c k)
 row-cubic c k l h = record {

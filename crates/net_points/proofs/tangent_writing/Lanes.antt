@@ -1,7 +1,7 @@
 -- The table's lanes: their sizes, their numbers at the next row, and the row of a side's lanes, place by place.
-use mathlib.Core.Path.{_≡_, refl, sym, ap, _∙_, subst}
+use mathlib.Core.Path.{_≡_, sym, ap, _∙_, subst}
 use mathlib.Core.List.{List}
-use Prim.Native.Nat.{ℕ, zero, suc, _+_, _-_, _*_, _/_, _%_, _^_, _≤_, _<_}
+use Prim.Native.Nat.{ℕ, zero, suc, _+_, _*_, _/_, _%_, _^_, _≤_, _<_}
 use native.Mathlib.Omega.{arith}
 use lib.Dec.{lit<, lit≤}
 use lib.ListN.{length, getD}
@@ -10,11 +10,11 @@ use Rattle.numbers.proofs.Laws.{abs-mul-le, abs-add-le}
 use Rattle.numbers.proofs.Poly.{over, poly}
 use Rattle.bernstein.specs.declared.Matrix5.{Matrix5}
 use Rattle.bernstein.specs.declared.Vector5.{Vector5}
-use Rattle.bernstein.specs.Sums.{Sized, AllSized, Tapered, AllTapered, vector5, rowOf, polynomialAt, stateOf, statesOf, stepOf, stepsOf, firstsOf}
+use Rattle.bernstein.specs.Sums.{Sized, AllSized, Tapered, AllTapered, rowOf, polynomialAt, stateOf, statesOf, stepOf, stepsOf, firstsOf}
 use Rattle.bernstein.proofs.Identity.{vector5-same, state-step, states-step, firsts-row}
 use Rattle.bernstein.proofs.Laws.{tapered-size, state-size}
-use Rattle.net_points.specs.tangent_writing.Lanes.{truncatedOf, CubicTapered, CubicRow, forwardOf, laneNumber, Lanes, Small, Added, runState, Run, CubicRows, rowsAt}
-use Rattle.net_points.proofs.tangent_writing.Cubic.{row-cubic}
+use Rattle.net_points.specs.tangent_writing.Lanes.{truncatedOf, CubicTapered, forwardOf, laneNumber, Lanes, Small, Added, stateNumber, SixStates, CubicRows, rowsAt}
+use Rattle.net_points.proofs.tangent_writing.Cubic.{value, row-cubic}
 
 -- ---- sizes
 module _ (c : Matrix5) (t : AllTapered c) where
@@ -199,9 +199,6 @@ module _ (F : ℕ → Matrix5) (k : ℕ) (t t1 t2 t3 : List ℤ) (l : Lanes F 0 
   next-lanes m e = record { long = e; few = omega arith; smooth = l .smooth; holds = λ s y b f h. stepped y h s b }
 
 -- ---- the first place of a row
-abbrev value : ℤ → ℤ → ℤ → ℤ → ℤ → ℤ → ℤ
-value a b c d e x = a +ℤ x *ℤ (b +ℤ x *ℤ (c +ℤ x *ℤ (d +ℤ x *ℤ e)))
-
 abbrev void : ℤ → ℤ
 void x = value (pos 0) (pos 0) (pos 0) (pos 0) (pos 0) x
 
@@ -239,7 +236,7 @@ forward-row c k h = forward-truncated c k ∙ ap (λ (m : Matrix5). stateOf (row
 starts : (c : Matrix5) (k : ℕ) → CubicTapered c → firstsOf (statesOf (forwardOf c) k) ≡ stateOf (rowOf c k) 0
 starts c k h = firsts-row (forwardOf c) k ∙ forward-row c k h
 
-start-number : (c : Matrix5) (k : ℕ) → CubicTapered c → (p : ℕ) → p < 4 → laneNumber (statesOf (forwardOf c) k) p ≡ runState (stateOf (rowOf c k) 0) p
+start-number : (c : Matrix5) (k : ℕ) → CubicTapered c → (p : ℕ) → p < 4 → laneNumber (statesOf (forwardOf c) k) p ≡ stateNumber (stateOf (rowOf c k) 0) p
 unfolding firstsOf
 start-number c k h zero l = ap (λ (v : Vector5). v .a) (starts c k h)
 start-number c k h (suc zero) l = ap (λ (v : Vector5). v .b) (starts c k h)
@@ -247,9 +244,9 @@ start-number c k h (suc (suc zero)) l = ap (λ (v : Vector5). v .c) (starts c k 
 start-number c k h (suc (suc (suc zero))) l = ap (λ (v : Vector5). v .d) (starts c k h)
 start-number c k h (suc (suc (suc (suc p)))) l = absurd (omega arith)
 
-pub lanes-start : (F : ℕ → Matrix5) (lane k : ℕ) (table run : List ℤ) → Lanes F lane (lane + 6) k table → length run ≡ 24
-    → ((p e : ℕ) → p < 4 → e < 6 → getD run (6 * p + e) (pos 0) ≡ getD table (24 * p + (lane + e)) (pos 0)) → Run (rowsAt F lane k) 0 run
-lanes-start F lane k table run l n same = record {
+pub lanes-start : (F : ℕ → Matrix5) (lane k : ℕ) (table states : List ℤ) → Lanes F lane (lane + 6) k table → length states ≡ 24
+    → ((p e : ℕ) → p < 4 → e < 6 → getD states (6 * p + e) (pos 0) ≡ getD table (24 * p + (lane + e)) (pos 0)) → SixStates (rowsAt F lane k) 0 states
+lanes-start F lane k table states l n same = record {
   long = n;
   holds = λ p e a b.
       same p e a b ∙ l .holds p (lane + e) (omega arith) (omega arith) (omega arith)
@@ -269,21 +266,21 @@ lanes-part F from to first last k table a b l = record {
 }
 
 -- ---- the next place
-run-size : (v : Vector5) → Sized (2 ^ 60) v → (p : ℕ) → p < 4 → natAbs (runState v p) ≤ 2 ^ 60
-run-size v h zero l = h .0
-run-size v h (suc zero) l = h .1
-run-size v h (suc (suc zero)) l = h .2
-run-size v h (suc (suc (suc zero))) l = h .3
-run-size v h (suc (suc (suc (suc p)))) l = absurd (omega arith)
+number-within : (v : Vector5) → Sized (2 ^ 60) v → (p : ℕ) → p < 4 → natAbs (stateNumber v p) ≤ 2 ^ 60
+number-within v h zero l = h .0
+number-within v h (suc zero) l = h .1
+number-within v h (suc (suc zero)) l = h .2
+number-within v h (suc (suc (suc zero))) l = h .3
+number-within v h (suc (suc (suc (suc p)))) l = absurd (omega arith)
 
-module _ (g : ℕ → Vector5) (j : ℕ) (run : List ℤ) (cubic : CubicRows g) (r : Run g j run) where
-  pub run-small : j ≤ 16 → (i : ℕ) → i < 24 → natAbs (getD run i (pos 0)) ≤ 2 ^ 60
-  run-small few i h =
+module _ (g : ℕ → Vector5) (j : ℕ) (states : List ℤ) (cubic : CubicRows g) (r : SixStates g j states) where
+  pub states-small : j ≤ 16 → (i : ℕ) → i < 24 → natAbs (getD states i (pos 0)) ≤ 2 ^ 60
+  states-small few i h =
       let q : i ≡ 6 * (i / 6) + i % 6 = omega arith in
-      subst (λ (z : ℤ). natAbs z ≤ 2 ^ 60) (sym (ap (λ (x : ℕ). getD run x (pos 0)) q ∙ r .holds (i / 6) (i % 6) (omega arith) (omega arith)))
-      (run-size (stateOf (g (i % 6)) j) (state-size (g (i % 6)) j (5 * 2 ^ 34) few (cubic (i % 6) (omega arith) .tapers) (lit≤ tt)) (i / 6) (omega arith))
+      subst (λ (z : ℤ). natAbs z ≤ 2 ^ 60) (sym (ap (λ (x : ℕ). getD states x (pos 0)) q ∙ r .holds (i / 6) (i % 6) (omega arith) (omega arith)))
+      (number-within (stateOf (g (i % 6)) j) (state-size (g (i % 6)) j (5 * 2 ^ 34) few (cubic (i % 6) (omega arith) .tapers) (lit≤ tt)) (i / 6) (omega arith))
 
-  step-number : (e : ℕ) → e < 6 → (p : ℕ) → p < 3 → runState (stateOf (g e) (j + 1)) p ≡ runState (stateOf (g e) j) p +ℤ runState (stateOf (g e) j) (p + 1)
+  step-number : (e : ℕ) → e < 6 → (p : ℕ) → p < 3 → stateNumber (stateOf (g e) (j + 1)) p ≡ stateNumber (stateOf (g e) j) p +ℤ stateNumber (stateOf (g e) j) (p + 1)
   unfolding stepOf
   step-number e h zero l = ap (λ (v : Vector5). v .a) (sym (state-step (g e) j))
   step-number e h (suc zero) l = ap (λ (v : Vector5). v .b) (sym (state-step (g e) j))
@@ -294,24 +291,24 @@ module _ (g : ℕ → Vector5) (j : ℕ) (run : List ℤ) (cubic : CubicRows g) 
   unfolding stepOf stateOf
   last-number e h = ap (λ (v : Vector5). v .d) (sym (state-step (g e) j)) ∙ (λ z. stateOf (g e) j .d +ℤ pos 24 *ℤ cubic e h .cubic z) ∙ still4 (stateOf (g e) j .d)
 
-  module _ (new : List ℤ) (a : Added 0 18 6 run new) where
-    summed : (p e : ℕ) → p < 3 → e < 6 → getD new (6 * p + e) (pos 0) ≡ runState (stateOf (g e) (j + 1)) p
+  module _ (new : List ℤ) (a : Added 0 18 6 states new) where
+    summed : (p e : ℕ) → p < 3 → e < 6 → getD new (6 * p + e) (pos 0) ≡ stateNumber (stateOf (g e) (j + 1)) p
     summed p e l h =
         a .sums (6 * p + e) (omega arith) (omega arith)
-        ∙ (λ z. r .holds p e (omega arith) h z +ℤ (ap (λ (x : ℕ). getD run x (pos 0)) (let q : 6 * p + e + 6 ≡ 6 * (p + 1) + e = omega arith in q) ∙ r .holds (p + 1) e (omega arith) h) z)
+        ∙ (λ z. r .holds p e (omega arith) h z +ℤ (ap (λ (x : ℕ). getD states x (pos 0)) (let q : 6 * p + e + 6 ≡ 6 * (p + 1) + e = omega arith in q) ∙ r .holds (p + 1) e (omega arith) h) z)
         ∙ sym (step-number e h p l)
 
-    number : (p e : ℕ) → p < 4 → e < 6 → getD new (6 * p + e) (pos 0) ≡ runState (stateOf (g e) (j + 1)) p
+    number : (p e : ℕ) → p < 4 → e < 6 → getD new (6 * p + e) (pos 0) ≡ stateNumber (stateOf (g e) (j + 1)) p
     number zero e l h = summed 0 e (lit< tt) h
     number (suc zero) e l h = summed 1 e (lit< tt) h
     number (suc (suc zero)) e l h = summed 2 e (lit< tt) h
     number (suc (suc (suc zero))) e l h = a .after (6 * 3 + e) (omega arith) ∙ r .holds 3 e (lit< tt) h ∙ sym (last-number e h)
     number (suc (suc (suc (suc p)))) e l h = absurd (omega arith)
 
-    pub run-next : length new ≡ 24 → Run g (j + 1) new
-    run-next n = record { long = n; holds = number }
+    pub states-next : length new ≡ 24 → SixStates g (j + 1) new
+    states-next n = record { long = n; holds = number }
 
 -- the values there
-pub run-value : (g : ℕ → Vector5) (j : ℕ) (run : List ℤ) → Run g j run → (e : ℕ) → e < 6 → getD run (0 + e) (pos 0) ≡ polynomialAt (g e) j
+pub states-value : (g : ℕ → Vector5) (j : ℕ) (states : List ℤ) → SixStates g j states → (e : ℕ) → e < 6 → getD states (0 + e) (pos 0) ≡ polynomialAt (g e) j
 unfolding stateOf
-run-value g j run r e h = ap (λ (x : ℕ). getD run x (pos 0)) (let q : 0 + e ≡ 6 * 0 + e = omega arith in q) ∙ r .holds 0 e (lit< tt) h
+states-value g j states r e h = ap (λ (x : ℕ). getD states x (pos 0)) (let q : 0 + e ≡ 6 * 0 + e = omega arith in q) ∙ r .holds 0 e (lit< tt) h

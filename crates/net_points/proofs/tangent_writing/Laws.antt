@@ -1,6 +1,6 @@
 -- Laws of tangents that are written point by point: stores and copies, the table's lanes one after the other, the rings, and all groups of a corner.
 use mathlib.Core.Path.{_≡_, refl, sym, ap, _∙_, subst}
-use mathlib.Core.Bool.{Bool, true, false}
+use mathlib.Core.Bool.{Bool}
 use mathlib.Core.Logic.{⊎-elim}
 use mathlib.Core.List.{List}
 use Prim.Native.Nat.{ℕ, zero, suc, _+_, _-_, _*_, _/_, _%_, _^_, _≤_, _<_}
@@ -29,14 +29,14 @@ use Rattle.bernstein.proofs.Laws.{bits, size-fits, sized-bits}
 use Rattle.strips.specs.PointRows.{FilledTo, Fills}
 use Rattle.net_points.specs.writing.Laid.{pickMatrix, turnedOf, ringAt}
 use Rattle.net_points.specs.tangent_writing.Lanes.{tailwardOf, centrewardOf, laneOf, forwardOf, tenOf, laneNumber, LanePut, Lanes, LanesFilled}
-use Rattle.net_points.specs.tangent_writing.Lanes.{PairFilled, Added, Run, rowsAt, runNumber, pairOf}
+use Rattle.net_points.specs.tangent_writing.Lanes.{AxisFilled, Added, SixStates, rowsAt, valueNumber, axisOf}
 use Rattle.net_points.specs.tangent_writing.Paired.{partNumber, RingAim, RingPairs, CentrePair}
 use Rattle.strips.proofs.Rowed.{fills-more}
 use Rattle.net_points.proofs.writing.Fill.{filled-at}
 use Rattle.net_points.proofs.writing.Laws.{ring-room}
 use Rattle.net_points.proofs.tangent_writing.Cubic.{less-size}
-use Rattle.net_points.proofs.tangent_writing.Lanes.{lanes-start, run-value}
-use Rattle.net_points.proofs.tangent_writing.Values.{lane-is, lane-smooth, run-part}
+use Rattle.net_points.proofs.tangent_writing.Lanes.{lanes-start, states-value}
+use Rattle.net_points.proofs.tangent_writing.Values.{lane-is, lane-smooth, values-part}
 
 -- ---- a store
 pub put-one : (f : ℕ → ℤ) (old : List ℤ) (i j : ℕ) (out : List ℤ) (x : ℤ) → i < length out → i + 1 ≡ j → FilledTo f old i out → x ≡ f i
@@ -82,34 +82,34 @@ four-copies table lane old a b c d n f0 f1 f2 f3 = (
         (λ x b. ap (λ (i : ℕ). getD table i (pos 0)) (omega arith)))
         (λ x b. ap (λ (i : ℕ). getD table i (pos 0)) (omega arith))
 
-pub copies-run : (F : ℕ → Matrix5) (k : ℕ) (table : List ℤ) (lane : ℕ) (old a b c d : List ℤ) → length old ≡ 24 → Fills (λ e. getD table (lane + e) (pos 0)) 0 6 old a
+pub copies-states : (F : ℕ → Matrix5) (k : ℕ) (table : List ℤ) (lane : ℕ) (old a b c d : List ℤ) → length old ≡ 24 → Fills (λ e. getD table (lane + e) (pos 0)) 0 6 old a
     → Fills (λ e. getD table (lane + 24 + e) (pos 0)) 6 6 a b → Fills (λ e. getD table (lane + 48 + e) (pos 0)) 12 6 b c
-    → Fills (λ e. getD table (lane + 72 + e) (pos 0)) 18 6 c d → Lanes F lane (lane + 6) k table → Run (rowsAt F lane k) 0 d
-copies-run F k table lane old a b c d n f0 f1 f2 f3 l =
+    → Fills (λ e. getD table (lane + 72 + e) (pos 0)) 18 6 c d → Lanes F lane (lane + 6) k table → SixStates (rowsAt F lane k) 0 d
+copies-states F k table lane old a b c d n f0 f1 f2 f3 l =
     lanes-start F lane k table d l (four-copies table lane old a b c d n f0 f1 f2 f3 .0) (four-copies table lane old a b c d n f0 f1 f2 f3 .1)
 
 -- at the same row, and at the same place
 pub lanes-at : (F : ℕ → Matrix5) (from to i k : ℕ) (table : List ℤ) → i ≡ k → Lanes F from to i table → Lanes F from to k table
 lanes-at F from to i k table e l = subst (λ (x : ℕ). Lanes F from to x table) e l
 
-pub run-at : (g : ℕ → Vector5) (i j : ℕ) (run : List ℤ) → i ≡ j → Run g i run → Run g j run
-run-at g i j run e r = subst (λ (x : ℕ). Run g x run) e r
+pub states-at : (g : ℕ → Vector5) (i j : ℕ) (states : List ℤ) → i ≡ j → SixStates g i states → SixStates g j states
+states-at g i j states e r = subst (λ (x : ℕ). SixStates g x states) e r
 
 -- ---- the places of a row
-pub places-step : (g : ℕ → Vector5) (first j at to : ℕ) (run old mid out : List ℤ) → Run g (first + j) run → to ≡ at + 6 * j
-    → Fills (runNumber g first) at (6 * j) old mid → Fills (λ e. getD run (0 + e) (pos 0)) to 6 mid out → Fills (runNumber g first) at (6 * (j + 1)) old out
-places-step g first j at to run old mid out r q a b =
-    subst (λ (x : ℕ). Fills (runNumber g first) at x old out) (let z : 6 * j + 6 ≡ 6 * (j + 1) = omega arith in z)
-    (fills-more (runNumber g first) (λ e. getD run (0 + e) (pos 0)) at (6 * j) to 6 old mid out q a b (λ x l. run-value g (first + j) run r x l ∙ same x l))
+pub places-step : (g : ℕ → Vector5) (first j at to : ℕ) (states old mid out : List ℤ) → SixStates g (first + j) states → to ≡ at + 6 * j
+    → Fills (valueNumber g first) at (6 * j) old mid → Fills (λ e. getD states (0 + e) (pos 0)) to 6 mid out → Fills (valueNumber g first) at (6 * (j + 1)) old out
+places-step g first j at to states old mid out r q a b =
+    subst (λ (x : ℕ). Fills (valueNumber g first) at x old out) (let z : 6 * j + 6 ≡ 6 * (j + 1) = omega arith in z)
+    (fills-more (valueNumber g first) (λ e. getD states (0 + e) (pos 0)) at (6 * j) to 6 old mid out q a b (λ x l. states-value g (first + j) states r x l ∙ same x l))
   where
-    same : (x : ℕ) → x < 6 → polynomialAt (g x) (first + j) ≡ runNumber g first (6 * j + x)
+    same : (x : ℕ) → x < 6 → polynomialAt (g x) (first + j) ≡ valueNumber g first (6 * j + x)
     same x l =
         let d : j ≡ (6 * j + x) / 6 = omega arith in let m : x ≡ (6 * j + x) % 6 = omega arith in
         λ z. polynomialAt (g (m z)) (first + d z)
 
-pub run-fills : (numbers : List ℤ) (n k side first count at : ℕ) (old out : List ℤ) → side ≤ 3 → k + first + count ≤ n + 1
-    → Fills (runNumber (rowsAt (laneOf numbers n) (6 * side) k) first) at (6 * count) old out → Fills (partNumber numbers side n k first) at (6 * count) old out
-run-fills numbers n k side first count at old out h l a = fills-same _ _ at (6 * count) old out (run-part numbers n k side first count h l) a
+pub values-fill : (numbers : List ℤ) (n k side first count at : ℕ) (old out : List ℤ) → side ≤ 3 → k + first + count ≤ n + 1
+    → Fills (valueNumber (rowsAt (laneOf numbers n) (6 * side) k) first) at (6 * count) old out → Fills (partNumber numbers side n k first) at (6 * count) old out
+values-fill numbers n k side first count at old out h l a = fills-same _ _ at (6 * count) old out (values-part numbers n k side first count h l) a
 
 -- ---- sums and differences that are stored
 module _ (x y : ℤ) (f : natAbs x ≤ 2 ^ 60) (g : natAbs y ≤ 2 ^ 60) where
@@ -167,19 +167,19 @@ lane-put ten lane s m old new q e l = record {
   others = l .others;
 }
 
--- both lanes of a pair, out of its polynomial
-module _ (numbers : List ℤ) (n pair : ℕ) (few : pair < 12) (old mid new : List ℤ) (c a b : Matrix5) where
+-- both lanes of a axis, out of its polynomial
+module _ (numbers : List ℤ) (n axis : ℕ) (few : axis < 12) (old mid new : List ℤ) (c a b : Matrix5) where
   abbrev side : ℕ
-  side = pair / 3
+  side = axis / 3
 
   abbrev lane : ℕ
-  lane = 6 * side + pair % 3
+  lane = 6 * side + axis % 3
 
-  module _ (is-c : c ≡ polynomialOf (turnedOf numbers side (pair % 3)) (pos n)) (is-a : a ≡ statesOf (forwardOf (tailwardOf side c)) 0)
+  module _ (is-c : c ≡ polynomialOf (turnedOf numbers side (axis % 3)) (pos n)) (is-a : a ≡ statesOf (forwardOf (tailwardOf side c)) 0)
       (is-b : b ≡ statesOf (forwardOf (centrewardOf side c)) 0) (p : LanePut lane a old mid) (q : LanePut (lane + 3) b mid new) where
-    lane-of : (y : ℕ) → pairOf y ≡ pair → y < 24 → laneOf numbers n y ≡ pickMatrix (ltb (y % 6) 3) (tailwardOf side c) (centrewardOf side c)
+    lane-of : (y : ℕ) → axisOf y ≡ axis → y < 24 → laneOf numbers n y ≡ pickMatrix (ltb (y % 6) 3) (tailwardOf side c) (centrewardOf side c)
     lane-of y e h =
-        lane-is numbers n y side (pair % 3) (y % 6) (omega (arith, e)) (omega (arith, e)) refl
+        lane-is numbers n y side (axis % 3) (y % 6) (omega (arith, e)) (omega (arith, e)) refl
         ∙ (λ z. pickMatrix (ltb (y % 6) 3) (tailwardOf side (sym is-c z)) (centrewardOf side (sym is-c z)))
 
     by : (s y : ℕ) (m d : Matrix5) → laneOf numbers n y ≡ d → m ≡ statesOf (forwardOf d) 0 → laneNumber m s ≡ laneNumber (statesOf (forwardOf (laneOf numbers n y)) 0) s
@@ -188,7 +188,7 @@ module _ (numbers : List ℤ) (n pair : ℕ) (few : pair < 12) (old mid new : Li
     abbrev picked : Bool → Matrix5
     picked x = pickMatrix x (tailwardOf side c) (centrewardOf side c)
 
-    there : (s y : ℕ) → s < 10 → y < 24 → pairOf y ≡ pair → getD new (24 * s + y) (pos 0) ≡ laneNumber (statesOf (forwardOf (laneOf numbers n y)) 0) s
+    there : (s y : ℕ) → s < 10 → y < 24 → axisOf y ≡ axis → getD new (24 * s + y) (pos 0) ≡ laneNumber (statesOf (forwardOf (laneOf numbers n y)) 0) s
     there s y h i e =
         ⊎-elim
         (λ t.
@@ -198,27 +198,27 @@ module _ (numbers : List ℤ) (n pair : ℕ) (few : pair < 12) (old mid new : Li
         let z : y ≡ lane + 3 = omega (arith, e, ltb-false (y % 6) 3 t) in
         ap (λ (x : ℕ). getD new (24 * s + x) (pos 0)) z ∙ q .there s h ∙ by s y b (centrewardOf side c) (lane-of y e i ∙ ap picked t) is-b) (ways (ltb (y % 6) 3))
 
-    pub pair-filled : PairFilled (laneOf numbers n) pair old new
-    pair-filled = record {
+    pub axis-filled : AxisFilled (laneOf numbers n) axis old new
+    axis-filled = record {
       there = record { filled = λ s y h i a b. there s y h i (omega arith) };
       others = λ s y i o. q .others s y i (λ w. o (omega (arith, w))) ∙ p .others s y i (λ w. o (omega (arith, w)));
     }
 
-pub pairs-step : (F : ℕ → Matrix5) (from l : ℕ) (old new : List ℤ) (to : ℕ) → l + 1 ≡ to → LanesFilled F from l old → PairFilled F l old new → LanesFilled F from to new
-pairs-step F from l old new to e a b = record {
+pub axes-step : (F : ℕ → Matrix5) (from l : ℕ) (old new : List ℤ) (to : ℕ) → l + 1 ≡ to → LanesFilled F from l old → AxisFilled F l old new → LanesFilled F from to new
+axes-step F from l old new to e a b = record {
   filled = λ s y h i j k. ⊎-elim
-      (λ t. let z : pairOf y ≡ l = eqb-true (pairOf y) l t in b .there .filled s y h i (omega (arith, z)) (omega (arith, z)))
-      (λ t. let o = eqb-false (pairOf y) l t in b .others s y i o ∙ a .filled s y h i j (omega (arith, o))) (ways (eqb (pairOf y) l));
+      (λ t. let z : axisOf y ≡ l = eqb-true (axisOf y) l t in b .there .filled s y h i (omega (arith, z)) (omega (arith, z)))
+      (λ t. let o = eqb-false (axisOf y) l t in b .others s y i o ∙ a .filled s y h i j (omega (arith, o))) (ways (eqb (axisOf y) l));
 }
 
 lanes-filled : (numbers : List ℤ) → netVerdict numbers ≡ sound → (n from to first last : ℕ) (table : List ℤ) → n ≤ 16 → last ≤ 24
-    → ((y : ℕ) → first ≤ y → y < last → (from ≤ pairOf y) × (pairOf y < to)) → LanesFilled (laneOf numbers n) from to table → length table ≡ 240
+    → ((y : ℕ) → first ≤ y → y < last → (from ≤ axisOf y) × (axisOf y < to)) → LanesFilled (laneOf numbers n) from to table → length table ≡ 240
     → Lanes (laneOf numbers n) first last 0 table
-lanes-filled numbers e n from to first last table few most in-pairs l long = record {
+lanes-filled numbers e n from to first last table few most in-axes l long = record {
   long = long;
   few = omega arith;
   smooth = λ y a b. lane-smooth numbers e n few y (omega arith);
-  holds = λ s y h a b. l .filled s y h (omega arith) (in-pairs y a b .0) (in-pairs y a b .1);
+  holds = λ s y h a b. l .filled s y h (omega arith) (in-axes y a b .0) (in-axes y a b .1);
 }
 
 pub side-lanes : (numbers : List ℤ) → netVerdict numbers ≡ sound → (n side from to : ℕ) (table : List ℤ) → n ≤ 16 → side ≤ 3 → from ≤ 3 * side → 3 * side + 3 ≤ to

@@ -10,7 +10,7 @@ use lib.ListN.{getD}
 use lib.IntN.{ℤ, pos, _+ℤ_, _-ℤ_, _*ℤ_}
 use Rattle.paper.specs.Faults.{sound}
 use Rattle.paper.specs.Floats.{netVerdict}
-use Rattle.paper.specs.Sampling.{control, onAxis, weights, sideAt}
+use Rattle.paper.specs.Sampling.{control, onAxis, sideAt}
 use Rattle.paper.specs.Triangles.{turnWeights}
 use Rattle.paper.specs.Tangents.{tangentAlong, tangentInward, tangentPair}
 use Rattle.numbers.proofs.Poly.{over, poly}
@@ -22,10 +22,10 @@ use Rattle.bernstein.proofs.Identity.{vector5-same}
 use Rattle.bernstein.proofs.Derivative.{along-is, inward-is, along-sum, inward-sum}
 use Rattle.sampling.proofs.TangentLaws.{along-value, inward-value}
 use Rattle.net_points.specs.writing.Laid.{pickMatrix, reversedOf, turnedOf}
-use Rattle.net_points.specs.tangent_writing.Lanes.{lessOf, minusOf, nothing, tailwardOf, centrewardOf, laneOf, CubicTapered, rowsAt, runNumber}
+use Rattle.net_points.specs.tangent_writing.Lanes.{lessOf, minusOf, zeroMatrix, tailwardOf, centrewardOf, laneOf, CubicTapered, rowsAt, valueNumber}
 use Rattle.net_points.specs.tangent_writing.Paired.{partNumber}
 use Rattle.net_points.proofs.writing.Laws.{even-weights, odd-weights, turned-size}
-use Rattle.net_points.proofs.tangent_writing.Cubic.{tailward-smooth, centreward-smooth}
+use Rattle.net_points.proofs.tangent_writing.Cubic.{value, tailward-smooth, centreward-smooth}
 
 -- ---- rows from their other ends: the sums of their differences
 along-back : (a b c d e f g h i l m n o p i′ j k : ℤ)
@@ -55,9 +55,6 @@ inward-reversed p i j k =
     inward-back (p .r0 .a) (p .r0 .b) (p .r0 .c) (p .r0 .d) (p .r0 .e) (p .r1 .a) (p .r1 .b) (p .r1 .c) (p .r1 .d) (p .r2 .a) (p .r2 .b) (p .r2 .c) (p .r3 .a) (p .r3 .b) (p .r4 .a) i j k
 
 -- ---- the value of a polynomial less another
-abbrev value : ℤ → ℤ → ℤ → ℤ → ℤ → ℤ → ℤ
-value a b c d e x = a +ℤ x *ℤ (b +ℤ x *ℤ (c +ℤ x *ℤ (d +ℤ x *ℤ e)))
-
 less-at : (a b c d e f g h i l x : ℤ) → value (a -ℤ f) (b -ℤ g) (c -ℤ h) (d -ℤ i) (e -ℤ l) x ≡ value a b c d e x -ℤ value f g h i l x
 less-at = over 11 _ λ ρ. simp (poly, ρ) (omega arith)
 
@@ -76,9 +73,9 @@ minus-value p q k j = ap (λ (v : Vector5). polynomialAt v j) (minus-row p q k) 
 void-at : (x y : ℤ) → (let z : ℤ = value (pos 0) (pos 0) (pos 0) (pos 0) (pos 0) x in value z z z z z y) ≡ pos 0
 void-at = over 2 _ λ ρ. simp (poly, ρ) (omega arith)
 
-nothing-value : (k j : ℕ) → polynomialAt (rowOf nothing k) j ≡ pos 0
+zero-value : (k j : ℕ) → polynomialAt (rowOf zeroMatrix k) j ≡ pos 0
 unfolding polynomialAt rowOf
-nothing-value k j = void-at (pos k) (pos j)
+zero-value k j = void-at (pos k) (pos j)
 
 turned-about : (z : ℤ) → pos 0 -ℤ pos 4 *ℤ (pos 0 -ℤ z) ≡ pos 4 *ℤ z
 turned-about = over 1 _ λ ρ. simp (poly, ρ) (omega arith)
@@ -115,11 +112,11 @@ module _ (numbers : List ℤ) (side axis n k j : ℕ) (h : side ≤ 3) (l : k + 
   centre-even : (side % 2 ≡ 1 → ⊥) → At (inwardOf (in-parts points)) ≡ tangentInward numbers (sideAt side) (turnWeights (sideAt side) n k j) axis
   centre-even o = inward-value numbers side axis i j k n sum ∙ ap (λ w. tangentInward numbers (sideAt side) w axis) (sym (even-weights side n k j h o))
 
-  tail-odd : side % 2 ≡ 1 → At (minusOf nothing (alongOf (in-parts (reversedOf points)))) ≡ tangentAlong numbers (sideAt side) (turnWeights (sideAt side) n k j) axis
+  tail-odd : side % 2 ≡ 1 → At (minusOf zeroMatrix (alongOf (in-parts (reversedOf points)))) ≡ tangentAlong numbers (sideAt side) (turnWeights (sideAt side) n k j) axis
   unfolding tangentAlong
   tail-odd o =
-      minus-value nothing (alongOf (in-parts (reversedOf points))) k j
-      ∙ (λ z. nothing-value k j z -ℤ (along-at (reversedOf points) ∙ ap (λ (x : ℤ). pos 4 *ℤ x) (along-reversed points (pos i) (pos j) (pos k))) z)
+      minus-value zeroMatrix (alongOf (in-parts (reversedOf points))) k j
+      ∙ (λ z. zero-value k j z -ℤ (along-at (reversedOf points) ∙ ap (λ (x : ℤ). pos 4 *ℤ x) (along-reversed points (pos i) (pos j) (pos k))) z)
       ∙ turned-about (cubicSum (alongRows points) (pos j) (pos i) (pos k))
       ∙ ap (λ (x : ℤ). pos 4 *ℤ x) (sym (along-sum (onAxis numbers axis) (sideAt side) j i k))
       ∙ ap (λ w. tangentAlong numbers (sideAt side) w axis) (sym (odd-weights side n k j h o))
@@ -135,7 +132,7 @@ module _ (numbers : List ℤ) (side axis n k j : ℕ) (h : side ≤ 3) (l : k + 
       ∙ ap (λ w. tangentInward numbers (sideAt side) w axis) (sym (odd-weights side n k j h o))
 
   tail-picked : (b : Bool) → (b ≡ true → side % 2 ≡ 1) → (b ≡ false → side % 2 ≡ 1 → ⊥)
-      → At (pickMatrix b (minusOf nothing (alongOf (in-parts (pickMatrix b (reversedOf points) points)))) (alongOf (in-parts (pickMatrix b (reversedOf points) points))))
+      → At (pickMatrix b (minusOf zeroMatrix (alongOf (in-parts (pickMatrix b (reversedOf points) points)))) (alongOf (in-parts (pickMatrix b (reversedOf points) points))))
       ≡ tangentAlong numbers (sideAt side) (turnWeights (sideAt side) n k j) axis
   tail-picked true f g = tail-odd (f refl)
   tail-picked false f g = tail-even (g refl)
@@ -182,10 +179,10 @@ module _ (numbers : List ℤ) (n k j side : ℕ) (h : side ≤ 3) (l : k + j ≤
   lane-value (suc (suc (suc (suc (suc (suc e)))))) b = absurd (omega arith)
 
 -- at the places of a row
-pub run-part : (numbers : List ℤ) (n k side first count : ℕ) → side ≤ 3 → k + first + count ≤ n + 1 → (x : ℕ) → x < 6 * count
-    → runNumber (rowsAt (laneOf numbers n) (6 * side) k) first x ≡ partNumber numbers side n k first x
+pub values-part : (numbers : List ℤ) (n k side first count : ℕ) → side ≤ 3 → k + first + count ≤ n + 1 → (x : ℕ) → x < 6 * count
+    → valueNumber (rowsAt (laneOf numbers n) (6 * side) k) first x ≡ partNumber numbers side n k first x
 unfolding partNumber
-run-part numbers n k side first count h l x b = lane-value numbers n k (first + x / 6) side h (omega arith) (x % 6) (omega arith)
+values-part numbers n k side first count h l x b = lane-value numbers n k (first + x / 6) side h (omega arith) (x % 6) (omega arith)
 
 -- of degree three, and tapering
 module _ (numbers : List ℤ) (e : netVerdict numbers ≡ sound) (n : ℕ) (few : n ≤ 16) (y : ℕ) (h : y < 24) where

@@ -1,20 +1,18 @@
 -- The lanes of a table: each of a tangent pair's six numbers on each of the four sides has one, with the ten differences by which it goes from place to place and
 -- from row to row.
 use mathlib.Core.Path.{_≡_}
-use mathlib.Core.Bool.{Bool, true, false}
 use mathlib.Core.List.{List, [], _∷_}
 use Prim.Native.Nat.{ℕ, _+_, _*_, _/_, _%_, _^_, _≤_, _<_}
 use lib.Dec.{eqb, ltb}
 use lib.ListN.{length, getD}
 use lib.IntN.{ℤ, pos, natAbs, _+ℤ_, _-ℤ_, _*ℤ_}
-use Rattle.paper.specs.Sampling.{control, onAxis, sideAt}
 use Rattle.bernstein.specs.declared.Matrix5.{Matrix5}
 use Rattle.bernstein.specs.declared.Vector5.{Vector5}
-use Rattle.bernstein.specs.Sums.{Tapered, AllTapered, vector5, rowsOf, polynomialOf, rowOf, polynomialAt, stateOf, statesOf}
+use Rattle.bernstein.specs.Sums.{Tapered, AllTapered, vector5, polynomialOf, rowOf, polynomialAt, stateOf, statesOf}
 use Rattle.bernstein.specs.Tangents.{alongOf, inwardOf}
 use Rattle.net_points.specs.writing.Laid.{pickMatrix, turnedOf}
 
--- ---- a polynomial less another
+-- ---- a matrix less another
 unfoldable pub lessOf : Vector5 → Vector5 → Vector5
 lessOf u v = vector5 (u .a -ℤ v .a) (u .b -ℤ v .b) (u .c -ℤ v .c) (u .d -ℤ v .d) (u .e -ℤ v .e)
 
@@ -27,15 +25,15 @@ minusOf p q = record {
   r4 = lessOf (p .r4) (q .r4);
 }
 
-abbrev pub zeros : Vector5
-zeros = vector5 (pos 0) (pos 0) (pos 0) (pos 0) (pos 0)
+abbrev pub zeroVector : Vector5
+zeroVector = vector5 (pos 0) (pos 0) (pos 0) (pos 0) (pos 0)
 
-abbrev pub nothing : Matrix5
-nothing = record { r0 = zeros; r1 = zeros; r2 = zeros; r3 = zeros; r4 = zeros }
+abbrev pub zeroMatrix : Matrix5
+zeroMatrix = record { r0 = zeroVector; r1 = zeroVector; r2 = zeroVector; r3 = zeroVector; r4 = zeroVector }
 
 -- ---- the derivatives of a polynomial in turn, towards the tail and towards the centre: where j is the head's weight, the tail's falls as j rises
 unfoldable pub tailwardOf : ℕ → Matrix5 → Matrix5
-tailwardOf side c = pickMatrix (eqb (side % 2) 1) (minusOf nothing (alongOf c)) (alongOf c)
+tailwardOf side c = pickMatrix (eqb (side % 2) 1) (minusOf zeroMatrix (alongOf c)) (alongOf c)
 
 unfoldable pub centrewardOf : ℕ → Matrix5 → Matrix5
 centrewardOf side c = pickMatrix (eqb (side % 2) 1) (minusOf (inwardOf c) (alongOf c)) (inwardOf c)
@@ -52,7 +50,7 @@ truncatedOf c = record {
   r1 = vector5 (c .r1 .a) (c .r1 .b) (c .r1 .c) (pos 0) (pos 0);
   r2 = vector5 (c .r2 .a) (c .r2 .b) (pos 0) (pos 0) (pos 0);
   r3 = vector5 (c .r3 .a) (pos 0) (pos 0) (pos 0) (pos 0);
-  r4 = zeros;
+  r4 = zeroVector;
 }
 
 pub record CubicTapered (c : Matrix5) : Type 0 where
@@ -70,7 +68,7 @@ forwardOf c = record {
   r1 = vector5 (c .r1 .a +ℤ c .r2 .a +ℤ c .r3 .a) (c .r1 .b +ℤ c .r2 .b) (c .r1 .c) (pos 0) (pos 0);
   r2 = vector5 (pos 2 *ℤ c .r2 .a +ℤ pos 6 *ℤ c .r3 .a) (pos 2 *ℤ c .r2 .b) (pos 0) (pos 0) (pos 0);
   r3 = vector5 (pos 6 *ℤ c .r3 .a) (pos 0) (pos 0) (pos 0) (pos 0);
-  r4 = zeros;
+  r4 = zeroVector;
 }
 
 -- ---- the table: number s of lane y stands at place 24 s + y
@@ -92,20 +90,20 @@ pub record Lanes (F : ℕ → Matrix5) (from to k : ℕ) (table : List ℤ) : Ty
   pub holds : (s y : ℕ) → s < 10 → from ≤ y → y < to → getD table (24 * s + y) (pos 0) ≡ laneNumber (statesOf (forwardOf (F y)) k) s
 
 -- those of some polynomials
-pub record Ready (from to k : ℕ) (table : List ℤ) : Type 0 where
+pub record Laned (from to k : ℕ) (table : List ℤ) : Type 0 where
   pub polynomials : ℕ → Matrix5
   pub lanes : Lanes polynomials from to k table
 
--- pair 3 side + axis has two lanes
-abbrev pub pairOf : ℕ → ℕ
-pairOf y = 3 * (y / 6) + y % 3
+-- the axis of lane y: a net has twelve, three for each side, with two lanes each
+abbrev pub axisOf : ℕ → ℕ
+axisOf y = 3 * (y / 6) + y % 3
 
 pub record LanesFilled (F : ℕ → Matrix5) (from to : ℕ) (table : List ℤ) : Type 0 where
-  pub filled : (s y : ℕ) → s < 10 → y < 24 → from ≤ pairOf y → pairOf y < to → getD table (24 * s + y) (pos 0) ≡ laneNumber (statesOf (forwardOf (F y)) 0) s
+  pub filled : (s y : ℕ) → s < 10 → y < 24 → from ≤ axisOf y → axisOf y < to → getD table (24 * s + y) (pos 0) ≡ laneNumber (statesOf (forwardOf (F y)) 0) s
 
-pub record PairFilled (F : ℕ → Matrix5) (pair : ℕ) (old new : List ℤ) : Type 0 where
+pub record AxisFilled (F : ℕ → Matrix5) (pair : ℕ) (old new : List ℤ) : Type 0 where
   pub there : LanesFilled F pair (pair + 1) new
-  pub others : (s y : ℕ) → y < 24 → (pairOf y ≡ pair → ⊥) → getD new (24 * s + y) (pos 0) ≡ getD old (24 * s + y) (pos 0)
+  pub others : (s y : ℕ) → y < 24 → (axisOf y ≡ pair → ⊥) → getD new (24 * s + y) (pos 0) ≡ getD old (24 * s + y) (pos 0)
 
 -- sums of its numbers fit
 abbrev pub Small : List ℤ → Type 0
@@ -117,28 +115,28 @@ pub record Added (at to gap : ℕ) (old new : List ℤ) : Type 0 where
   pub before : (i : ℕ) → i < at → getD new i (pos 0) ≡ getD old i (pos 0)
   pub after : (i : ℕ) → to ≤ i → getD new i (pos 0) ≡ getD old i (pos 0)
 
--- ---- a side's lanes along a row: of polynomials g the values at place j, six of them, then the first, second and third differences
-abbrev pub runState : Vector5 → ℕ → ℤ
-runState v p = getD (v .a ∷ v .b ∷ v .c ∷ v .d ∷ []) p (pos 0)
+-- ---- the states of six polynomials g at place j: the values, then the first, second and third differences
+abbrev pub stateNumber : Vector5 → ℕ → ℤ
+stateNumber v p = getD (v .a ∷ v .b ∷ v .c ∷ v .d ∷ []) p (pos 0)
 
-pub record Run (g : ℕ → Vector5) (j : ℕ) (run : List ℤ) : Type 0 where
-  pub long : length run ≡ 24
-  pub holds : (p e : ℕ) → p < 4 → e < 6 → getD run (6 * p + e) (pos 0) ≡ runState (stateOf (g e) j) p
+pub record SixStates (g : ℕ → Vector5) (j : ℕ) (states : List ℤ) : Type 0 where
+  pub long : length states ≡ 24
+  pub holds : (p e : ℕ) → p < 4 → e < 6 → getD states (6 * p + e) (pos 0) ≡ stateNumber (stateOf (g e) j) p
 
 abbrev pub CubicRows : (ℕ → Vector5) → Type 0
 CubicRows g = (e : ℕ) → e < 6 → CubicRow (g e)
 
-pub record Running (run : List ℤ) : Type 0 where
+pub record Stepping (states : List ℤ) : Type 0 where
   pub polynomials : ℕ → Vector5
   pub place : ℕ
   pub few : place ≤ 16
   pub cubic : CubicRows polynomials
-  pub steps : Run polynomials place run
+  pub steps : SixStates polynomials place states
 
 -- the polynomials of the six lanes from `lane` on, at row k
 abbrev pub rowsAt : (ℕ → Matrix5) → ℕ → ℕ → ℕ → Vector5
 rowsAt F lane k e = rowOf (F (lane + e)) k
 
 -- number x of the values at places from `first` on, six for each
-abbrev pub runNumber : (ℕ → Vector5) → ℕ → ℕ → ℤ
-runNumber g first x = polynomialAt (g (x % 6)) (first + x / 6)
+abbrev pub valueNumber : (ℕ → Vector5) → ℕ → ℕ → ℤ
+valueNumber g first x = polynomialAt (g (x % 6)) (first + x / 6)

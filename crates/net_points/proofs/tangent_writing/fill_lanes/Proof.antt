@@ -1,14 +1,12 @@
--- `fill_lanes` meets its contract: before each turn the lanes of the pairs before are filled.
-use mathlib.Core.Path.{_≡_, refl, sym, ap, _∙_, subst}
-use mathlib.Core.List.{List}
+-- `fill_lanes` meets its contract: before each turn the lanes of the axes before are filled.
+use mathlib.Core.Path.{_≡_, refl, subst}
 use Prim.Native.Nat.{ℕ, _+_, _-_, _≤_, _<_}
 use native.Mathlib.Omega.{arith}
 use borrow.Author.Needs.{needs}
 use lib.ListN.{length}
-use lib.IntN.{ℤ}
 use denote.Ref.{now}
 use Rattle.net_points.specs.tangent_writing.Lanes.{laneOf, LanesFilled}
-use Rattle.net_points.proofs.tangent_writing.Laws.{pairs-step}
+use Rattle.net_points.proofs.tangent_writing.Laws.{axes-step}
 use Rattle.net_points.proofs.tangent_writing.fill_lanes.Statement.{statement}
 use Rattle.net_points.proofs.tangent_writing.fill_lanes.Tie as tie
 
@@ -29,19 +27,19 @@ module _ (t : tie.In-loop Inv-loop μ-loop) where
   below : t .before .loop .i < s .args .count
   below = t .loop-test .taken
 
-fill-pair-requires : tie.Need-fill-pair-requires Inv-loop μ-loop
-fill-pair-requires c κs =
+fill-axis-requires : tie.Need-fill-axis-requires Inv-loop μ-loop
+fill-axis-requires c κs =
     let t : tie.In-loop Inv-loop μ-loop = search in
     (s t .pre .0, s t .pre .1, omega (arith, below t, s t .pre .2), omega (arith, t .before .loop .inv .1, s t .pre .3))
 
 loop-again : tie.Need-loop-again Inv-loop μ-loop
 loop-again c =
     let t : tie.In-loop Inv-loop μ-loop = search in
-    let p : tie.After-fill-pair Inv-loop μ-loop = search in
+    let p : tie.After-fill-axis Inv-loop μ-loop = search in
     let l = t .before .loop in (
       omega (arith, below t),
-      omega (arith, p .fill-pair .kept, l .inv .1),
-      pairs-step (laneOf (now (s t .args .numbers)) (s t .args .n)) (s t .args .from) (s t .args .from + l .i) (l .table) _ (s t .args .from + (l .i + 1)) (omega arith) (l .inv .2) (p .fill-pair .ensures),
+      omega (arith, p .fill-axis .kept, l .inv .1),
+      axes-step (laneOf (now (s t .args .numbers)) (s t .args .n)) (s t .args .from) (s t .args .from + l .i) (l .table) _ (s t .args .from + (l .i + 1)) (omega arith) (l .inv .2) (p .fill-axis .ensures),
     )
 
 same-length : tie.Need-same-length Inv-loop μ-loop
@@ -55,5 +53,5 @@ returns c =
 
 pub fill-lanes-spec : {M : Type 1} → statement M
 fill-lanes-spec =
-    tie.close (tie.spec Inv-loop μ-loop loop-holds (λ c. let t : tie.In-loop Inv-loop μ-loop = search in record { fits = omega (arith, below t, s t .pre .2) }) fill-pair-requires
+    tie.close (tie.spec Inv-loop μ-loop loop-holds (λ c. let t : tie.In-loop Inv-loop μ-loop = search in record { fits = omega (arith, below t, s t .pre .2) }) fill-axis-requires
     (λ c. search needs) (λ c. search needs) loop-again same-length returns)

@@ -1,5 +1,5 @@
 -- `lane_numbers` meets its contract: the polynomials in k taper.
-use mathlib.Core.Path.{_≡_, ap, _∙_}
+use mathlib.Core.Path.{ap, _∙_}
 use Rattle.bernstein.specs.declared.Matrix5.{Matrix5}
 use Rattle.bernstein.specs.Sums.{statesOf}
 use Rattle.net_points.proofs.tangent_writing.Lanes.{forward-size}

@@ -1,6 +1,4 @@
 -- `less` meets its contract: the differences fit.
-use Prim.Native.Nat.{_^_, _≤_}
-use lib.Dec.{lit≤}
 use Rattle.bernstein.proofs.Identity.{vector5-same}
 use Rattle.net_points.specs.tangent_writing.Lanes.{lessOf}
 use Rattle.net_points.proofs.tangent_writing.Laws.{difference-fits, difference-bits}

@@ -1,12 +1,10 @@
 -- `next_row` meets its contract: three sums.
 use mathlib.Core.Path.{_≡_, sym, _∙_, subst}
-use mathlib.Core.List.{List}
-use Prim.Native.Nat.{ℕ, _+_, _^_, _≤_, _<_}
+use Prim.Native.Nat.{_+_, _^_, _≤_}
 use native.Mathlib.Omega.{arith}
 use borrow.Author.Needs.{needs}
 use lib.Dec.{lit<, lit≤}
-use lib.ListN.{getD}
-use lib.IntN.{ℤ, pos, natAbs}
+use lib.IntN.{ℤ, natAbs}
 use denote.Ref.{now}
 use Rattle.net_points.proofs.tangent_writing.Lanes.{next-lanes}
 use Rattle.net_points.proofs.tangent_writing.next_row.Statement.{statement}

@@ -1,5 +1,4 @@
 -- `put_pairs` meets its contract: the groups, one after the other.
-use Prim.Native.Nat.{ℕ, _+_, _*_, _≤_}
 use native.Mathlib.Omega.{arith}
 use borrow.Author.Needs.{needs}
 use lib.Dec.{lit≤}

@@ -1,16 +1,14 @@
 -- `put_part` meets its contract: the places of the border's row, by the table at hand or by one of its own, or none.
-use mathlib.Core.Path.{_≡_, refl, sym, subst}
-use Prim.Native.Nat.{ℕ, _+_, _*_, _≤_}
+use mathlib.Core.Path.{_≡_, refl, subst}
+use Prim.Native.Nat.{ℕ, _+_, _*_}
 use native.Mathlib.Omega.{arith}
 use borrow.Author.Needs.{needs}
-use lib.Dec.{lit≤}
-use lib.ListN.{length}
 use denote.Ref.{now}
 use Rattle.strips.specs.PointRows.{Fills}
 use Rattle.net_points.specs.tangent_writing.Lanes.{laneOf, Lanes}
 use Rattle.net_points.specs.tangent_writing.Paired.{partNumber}
 use Rattle.strips.proofs.Rowed.{fills-none}
-use Rattle.net_points.proofs.tangent_writing.Laws.{side-lanes, run-fills}
+use Rattle.net_points.proofs.tangent_writing.Laws.{side-lanes, values-fill}
 use Rattle.net_points.proofs.tangent_writing.put_part.Statement.{statement}
 use Rattle.net_points.proofs.tangent_writing.put_part.Tie as tie
 
@@ -35,7 +33,7 @@ returns : tie.Need-returns
 returns c =
     let s : tie.Start = search in
     let p : tie.After-put-places = search in
-    run-fills (now (s .args .numbers)) (s .args .n) 0 (s .args .side) (s .args .first) (s .args .count) (s .args .at) (now (s .args .out)) _ (s .pre .0 .1) (omega (arith, s .pre .1 .3))
+    values-fill (now (s .args .numbers)) (s .args .n) 0 (s .args .side) (s .args .first) (s .args .count) (s .args .at) (now (s .args .out)) _ (s .pre .0 .1) (omega (arith, s .pre .1 .3))
     (p .put-places .ensures (laneOf (now (s .args .numbers)) (s .args .n)) 0 (at-hand s (s .args .n) (omega arith)))
 
 put-places-requires-2 : tie.Need-put-places-requires-2
@@ -53,7 +51,7 @@ returns-2 c =
     let f : tie.After-fill-lanes = search in
     let p : tie.After-put-places2 = search in
     let own = side-lanes (now (s .args .numbers)) (s .pre .0 .0) (s .args .n) (s .args .side) (3 * s .args .side) (3 * s .args .side + 3) _ (s .pre .1 .1) (s .pre .0 .1) (omega arith) (omega arith) (f .fill-lanes .ensures) (omega (arith, f .fill-lanes .kept)) in
-    run-fills (now (s .args .numbers)) (s .args .n) 0 (s .args .side) (s .args .first) (s .args .count) (s .args .at) (now (s .args .out)) _ (s .pre .0 .1) (omega (arith, s .pre .1 .3))
+    values-fill (now (s .args .numbers)) (s .args .n) 0 (s .args .side) (s .args .first) (s .args .count) (s .args .at) (now (s .args .out)) _ (s .pre .0 .1) (omega (arith, s .pre .1 .3))
     (p .put-places2 .ensures (laneOf (now (s .args .numbers)) (s .args .n)) 0 own)
 
 returns-3 : tie.Need-returns-3

@@ -1,5 +1,5 @@
 -- `put_ring` meets its contract: before each turn the sides before are written.
-use mathlib.Core.Path.{_≡_, refl, sym, ap, _∙_, subst}
+use mathlib.Core.Path.{_≡_, refl, ap, _∙_, subst}
 use mathlib.Core.List.{List}
 use Prim.Native.Nat.{ℕ, _+_, _-_, _*_, _≤_, _<_}
 use native.Mathlib.Omega.{arith}
@@ -9,10 +9,10 @@ use lib.ListN.{length}
 use lib.IntN.{ℤ}
 use denote.Ref.{now}
 use Rattle.strips.specs.PointRows.{FilledTo}
-use Rattle.net_points.specs.tangent_writing.Lanes.{laneOf, Lanes, Ready}
+use Rattle.net_points.specs.tangent_writing.Lanes.{laneOf, Lanes, Laned}
 use Rattle.net_points.specs.tangent_writing.Paired.{RingAim}
 use Rattle.net_points.proofs.tangent_writing.Lanes.{lanes-part}
-use Rattle.net_points.proofs.tangent_writing.Laws.{sides-room, side-step, run-fills}
+use Rattle.net_points.proofs.tangent_writing.Laws.{sides-room, side-step, values-fill}
 use Rattle.net_points.proofs.tangent_writing.put_ring.Statement.{statement}
 use Rattle.net_points.proofs.tangent_writing.put_ring.Tie as tie
 
@@ -46,7 +46,7 @@ put-places-requires : tie.Need-put-places-requires Inv-loop μ-loop
 put-places-requires c κs =
     let t : tie.In-loop Inv-loop μ-loop = search in
     let r = s t .pre .0 in
-    let ready : Ready (6 * side t) (6 * side t + 6) (r .0) (now (s t .args .table)) = record {
+    let ready : Laned (6 * side t) (6 * side t + 6) (r .0) (now (s t .args .table)) = record {
       polynomials = r .1 .polynomials;
       lanes = lanes-part (r .1 .polynomials) 0 24 (6 * side t) (6 * side t + 6) (r .0) (now (s t .args .table)) (omega arith) (omega (arith, below t)) (r .1 .lanes);
     } in
@@ -69,7 +69,7 @@ loop-again c =
       omega (arith, l .inv .2),
       λ numbers n k h b f old q aim.
           side-step numbers n k (s t .args .w) (s t .args .at) (side t) (l .to) f old (l .out) _ (below t) (l .inv .2) aim (l .inv .3 numbers n k h b f old q aim)
-          (run-fills numbers n k (side t) 0 (s t .args .w) (l .to) (l .out) _ (omega (arith, below t)) (omega arith)
+          (values-fill numbers n k (side t) 0 (s t .args .w) (l .to) (l .out) _ (omega (arith, below t)) (omega arith)
           (p .put-places .ensures (laneOf numbers n) k (lanes-part (laneOf numbers n) 0 24 (6 * side t) (6 * side t + 6) k table (omega arith) (omega (arith, below t)) h))),
     )
 

@@ -1,5 +1,5 @@
 -- `put_rings` meets its contract: before each turn the rings before are written, and the centre comes last.
-use mathlib.Core.Path.{_≡_, refl, sym, ap, _∙_, subst}
+use mathlib.Core.Path.{_≡_, refl}
 use mathlib.Core.List.{List}
 use Prim.Native.Nat.{ℕ, _+_, _-_, _*_, _≤_, _<_}
 use native.Mathlib.Omega.{arith}
@@ -10,10 +10,10 @@ use lib.IntN.{ℤ}
 use denote.Ref.{now}
 use Rattle.bernstein.specs.declared.Matrix5.{Matrix5}
 use Rattle.strips.specs.PointRows.{FilledTo}
-use Rattle.net_points.specs.tangent_writing.Lanes.{laneOf, Lanes, Ready}
+use Rattle.net_points.specs.tangent_writing.Lanes.{laneOf, Lanes}
 use Rattle.net_points.specs.tangent_writing.Paired.{RingPairs}
 use Rattle.net_points.proofs.tangent_writing.Lanes.{table-small, lanes-part}
-use Rattle.net_points.proofs.tangent_writing.Laws.{lanes-at, run-fills, ring-aim, ring-fits, ring-next, last-fits, rings-end}
+use Rattle.net_points.proofs.tangent_writing.Laws.{lanes-at, values-fill, ring-aim, ring-fits, ring-next, last-fits, rings-end}
 use Rattle.net_points.proofs.tangent_writing.put_rings.Statement.{statement}
 use Rattle.net_points.proofs.tangent_writing.put_rings.Tie as tie
 
@@ -156,7 +156,7 @@ returns c =
     λ numbers h f old filled aim centre.
     let lanes = p .next-row2 .ensures (laneOf numbers n) (l .k) (l .inv .4 (laneOf numbers n) h) (below-last o) in
     rings-end numbers n (v o .args .at) (l .k) (l .to) (v o .pre .1) (o .loop-test .left) (l .inv .0) (l .inv .2) f old (l .out) _ centre (l .inv .5 numbers h f old filled aim)
-    (run-fills numbers n n 0 0 1 (l .to) (l .out) _ (lit≤ tt) (omega arith)
+    (values-fill numbers n n 0 0 1 (l .to) (l .out) _ (lit≤ tt) (omega arith)
     (q .put-places .ensures (laneOf numbers n) n (lanes-at (laneOf numbers n) 0 6 (l .k + 1) n _ end (lanes-part (laneOf numbers n) 0 24 0 6 (l .k + 1) _ (lit≤ tt) (lit≤ tt) lanes))))
 
 pub put-rings-spec : {M : Type 1} → statement M

@@ -1,15 +1,14 @@
--- `tailward` meets its contract: on sides 1 and 3 nothing less the derivative.
-use mathlib.Core.Path.{_≡_, refl, sym, ap, _∙_, subst}
+-- `tailward` meets its contract: on sides 1 and 3 zeroMatrix less the derivative.
+use mathlib.Core.Path.{sym, ap, _∙_, subst}
 use Prim.Native.Nat.{_%_, _^_}
 use native.Mathlib.Omega.{arith}
 use borrow.Author.Needs.{needs}
 use borrow.Author.Tests.{eq-eqb, ne-eqb}
-use lib.Dec.{lit≤}
 use Rattle.bernstein.specs.declared.Matrix5.{Matrix5}
 use Rattle.bernstein.specs.Sums.{AllSized}
 use Rattle.bernstein.specs.Tangents.{alongOf}
 use Rattle.bernstein.proofs.Tapering.{along-tapers, tapered-sized}
-use Rattle.net_points.specs.tangent_writing.Lanes.{minusOf, nothing, tailwardOf}
+use Rattle.net_points.specs.tangent_writing.Lanes.{minusOf, zeroMatrix, tailwardOf}
 use Rattle.net_points.proofs.tangent_writing.tailward.Statement.{statement}
 use Rattle.net_points.proofs.tangent_writing.tailward.Tie as tie
 
@@ -27,7 +26,7 @@ returns c =
     let s : tie.Start = search in
     let a : tie.After-along = search in
     let m : tie.After-minus = search in
-    rw (eq-eqb (s .args .side % 2) 1 (omega arith)) (m .minus .ensures ∙ ap (λ (d : Matrix5). minusOf nothing d) (a .along .ensures))
+    rw (eq-eqb (s .args .side % 2) 1 (omega arith)) (m .minus .ensures ∙ ap (λ (d : Matrix5). minusOf zeroMatrix d) (a .along .ensures))
 
 returns-2 : tie.Need-returns-2
 unfolding tailwardOf

@@ -1,6 +1,6 @@
--- `fill_pair` meets its contract: both derivatives are of degree three and taper, so their differences fit.
-use mathlib.Core.Path.{_≡_, refl, sym, ap, _∙_}
-use Prim.Native.Nat.{ℕ, _+_, _*_, _/_, _%_, _^_, _≤_, _<_}
+-- `fill_axis` meets its contract: both derivatives are of degree three and taper, so their differences fit.
+use mathlib.Core.Path.{_≡_, ap, _∙_}
+use Prim.Native.Nat.{ℕ, _/_, _%_, _^_}
 use native.Mathlib.Omega.{arith}
 use borrow.Author.Needs.{needs}
 use lib.Dec.{lit≤}
@@ -13,20 +13,20 @@ use Rattle.net_points.specs.tangent_writing.Lanes.{tailwardOf, centrewar
 use Rattle.net_points.proofs.writing.Laws.{turned-size}
 use Rattle.net_points.proofs.tangent_writing.Cubic.{polynomial-tapering, tailward-smooth, centreward-smooth}
 use Rattle.net_points.proofs.tangent_writing.Lanes.{lane-sizes}
-use Rattle.net_points.proofs.tangent_writing.Laws.{pair-filled}
-use Rattle.net_points.proofs.tangent_writing.fill_pair.Statement.{statement}
-use Rattle.net_points.proofs.tangent_writing.fill_pair.Tie as tie
+use Rattle.net_points.proofs.tangent_writing.Laws.{axis-filled}
+use Rattle.net_points.proofs.tangent_writing.fill_axis.Statement.{statement}
+use Rattle.net_points.proofs.tangent_writing.fill_axis.Tie as tie
 
 -- the control points in turn
 module _ (s : tie.Start) where
   abbrev side : ℕ
-  side = s .args .pair / 3
+  side = s .args .axis / 3
 
   abbrev points : Matrix5
-  points = turnedOf (now (s .args .numbers)) side (s .args .pair % 3)
+  points = turnedOf (now (s .args .numbers)) side (s .args .axis % 3)
 
   sized : AllSized (2 ^ 27) points
-  sized = turned-size (now (s .args .numbers)) (s .pre .0) side (s .args .pair % 3) (omega arith)
+  sized = turned-size (now (s .args .numbers)) (s .pre .0) side (s .args .axis % 3) (omega arith)
 
 -- their polynomial
 module _ (q : tie.After-polynomial) where
@@ -113,10 +113,10 @@ returns c =
     let r : tie.After-put-lane2 = search in
     let q = origin (earlier l) in
     let s = start q in
-    pair-filled (now (s .args .numbers)) (s .args .n) (s .args .pair) (s .pre .2) (now (s .args .table)) _ _ _ _ _ (is-c q) (is-first (earlier l)) (is-second l) (p .put-lane .ensures)
+    axis-filled (now (s .args .numbers)) (s .args .n) (s .args .axis) (s .pre .2) (now (s .args .table)) _ _ _ _ _ (is-c q) (is-first (earlier l)) (is-second l) (p .put-lane .ensures)
     (r .put-lane2 .ensures)
 
-pub fill-pair-spec : {M : Type 1} → statement M
-fill-pair-spec =
+pub fill-axis-spec : {M : Type 1} → statement M
+fill-axis-spec =
     tie.close (tie.spec (λ c. search needs) (λ c. search needs) (λ c κs. search needs) polynomial-requires (λ c κs. let q : tie.After-polynomial = search in tapers q) lane-numbers-requires
     put-lane-requires centreward-requires lane-numbers-requires-2 add-put-lane put-lane-requires-2 (λ c. search needs) returns)
