@@ -23,14 +23,11 @@ OUTER = [[3 * point for point in side[:5]] for side in CONTROL]
 INNER = [[3 * point for point in side[5:9]] for side in CONTROL]
 
 
-def _cosine(m: int, k: int) -> int:
-    """2^30 cos(2 pi k / m). No value is near a half, so that a double decides each (.ci/cosines.sh)."""
-    return round(UNIT * math.cos(2 * math.pi * k / m))
-
-
+# 2^30 cos(2 pi k / m), row by row. No value is near a half, so that a double decides each (.ci/cosines.sh).
+ROWS = [[round(UNIT * math.cos(2 * math.pi * k / m)) for k in range(m)] for m in range(MAX_SIDES + 1)]
 # For a ring of m points: the cosine of its step, and the weights of its points towards the side from the first to the second, 0 behind the last
-COSINES = [_cosine(max(m, MIN_SIDES), 1) for m in range(MAX_SIDES + 1)]
-WEIGHTS = [3 * UNIT + 2 * _cosine(m, k) + 2 * _cosine(m, (k - 1) % m) if k < m else 0 for m in range(MAX_SIDES + 1) for k in range(MAX_SIDES)]
+COSINES = [ROWS[max(m, MIN_SIDES)][1] for m in range(MAX_SIDES + 1)]
+WEIGHTS = [3 * UNIT + 2 * row[k] + 2 * row[k - 1] if k < m else 0 for m, row in enumerate(ROWS) for k in range(MAX_SIDES)]
 
 
 class Borders:

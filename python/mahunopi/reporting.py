@@ -85,7 +85,9 @@ def report_on(names: Sequence[str]) -> Found:
     found = Found()
     add, place = functions["report"], ctypes.c_uint64()
     lent = ctypes.byref(place)
-    largest = [0] * CONDITIONS
+    # as bytes, which are compared without being made numbers
+    misses = memoryview(page).cast("B")[FIRST_MISS * ctypes.sizeof(ctypes.c_uint64):]
+    largest = bytes(misses)
     corners = 0
     for at, name in enumerate(names):
         try:
@@ -100,12 +102,11 @@ def report_on(names: Sequence[str]) -> Found:
             found.refused.append((at, *_refusal(data, length)))
             continue
         corners = page[CORNERS]
-        misses = page[FIRST_MISS:]
         if misses != largest:
-            for condition, miss in enumerate(misses):
-                if miss > largest[condition]:
+            for condition, miss in enumerate(page[FIRST_MISS:]):
+                if miss > found.largest[condition][0]:
                     found.largest[condition] = (miss, at)
-            largest = misses
+            largest = bytes(misses)
     found.pages, found.names = [list(page)], len(names)
     return found
 
