@@ -291,7 +291,7 @@ fn forward(c: Matrix5) -> Matrix5
 // A lane's ten numbers at row 0.
 fn lane_numbers(c: Matrix5) -> Matrix5
     requires { ⌜ AllTapered c ⌝ }
-    ensures { λ r. ⌜ r ≡ statesOf (forwardOf c) 0 ⌝ }
+    ensures { λ r. ⌜ (r ≡ statesOf (forwardOf c) 0) × AllSized (2 ^ 60) r ⌝ }
 {
     bernstein::states(forward(c))
 }

@@ -3,7 +3,6 @@ use mathlib.Core.Path.{_≡_, ap, _∙_}
 use Prim.Native.Nat.{ℕ, _/_, _%_, _^_}
 use native.Mathlib.Omega.{arith}
 use borrow.Author.Needs.{needs}
-use lib.Dec.{lit≤}
 use lib.IntN.{pos}
 use denote.Ref.{now}
 use Rattle.bernstein.specs.declared.Matrix5.{Matrix5}
@@ -12,7 +11,6 @@ use Rattle.net_points.specs.writing.Laid.{turnedOf}
 use Rattle.net_points.specs.tangent_writing.Lanes.{tailwardOf, centrewardOf, forwardOf, CubicTapered}
 use Rattle.net_points.proofs.writing.Laws.{turned-size}
 use Rattle.net_points.proofs.tangent_writing.Cubic.{polynomial-tapering, tailward-smooth, centreward-smooth}
-use Rattle.net_points.proofs.tangent_writing.Lanes.{lane-sizes}
 use Rattle.net_points.proofs.tangent_writing.Laws.{axis-filled}
 use Rattle.net_points.proofs.tangent_writing.fill_axis.Statement.{statement}
 use Rattle.net_points.proofs.tangent_writing.fill_axis.Tie as tie
@@ -60,7 +58,7 @@ module _ (l : tie.After-lane-numbers) where
   along = search
 
   is-first : l .lane-numbers .result ≡ statesOf (forwardOf (tailwardOf (side (start origin)) (c origin))) 0
-  is-first = l .lane-numbers .ensures ∙ ap (λ (m : Matrix5). statesOf (forwardOf m) 0) (along .tailward .ensures)
+  is-first = l .lane-numbers .ensures .0 ∙ ap (λ (m : Matrix5). statesOf (forwardOf m) 0) (along .tailward .ensures)
 
 -- the second
 module _ (l : tie.After-lane-numbers2) where
@@ -71,7 +69,7 @@ module _ (l : tie.After-lane-numbers2) where
   inward = search
 
   is-second : l .lane-numbers2 .result ≡ statesOf (forwardOf (centrewardOf (side (start (origin earlier))) (c (origin earlier)))) 0
-  is-second = l .lane-numbers2 .ensures ∙ ap (λ (m : Matrix5). statesOf (forwardOf m) 0) (inward .centreward .ensures)
+  is-second = l .lane-numbers2 .ensures .0 ∙ ap (λ (m : Matrix5). statesOf (forwardOf m) 0) (inward .centreward .ensures)
 
 polynomial-requires : tie.Need-polynomial-requires
 polynomial-requires c κs = let s : tie.Start = search in let t : tie.After-turn-points = search in (rw (t .turn-points .ensures .points) (sized s), s .pre .1)
@@ -82,9 +80,8 @@ lane-numbers-requires c κs = let q : tie.After-polynomial = search in let t : t
 put-lane-requires : tie.Need-put-lane-requires
 put-lane-requires c κs =
     let l : tie.After-lane-numbers = search in
-    let q = origin l in
-    let s = start q in
-    (s .pre .3, omega (arith, s .pre .2), rw (is-first l) (lane-sizes (tailwardOf (side s) (q .polynomial .result)) (tail q .tapers) 0 (lit≤ tt)))
+    let s = start (origin l) in
+    (s .pre .3, omega (arith, s .pre .2), l .lane-numbers .ensures .1)
 
 centreward-requires : tie.Need-centreward-requires
 centreward-requires c κs = let l : tie.After-lane-numbers = search in tapers (origin l)
@@ -99,12 +96,8 @@ put-lane-requires-2 : tie.Need-put-lane-requires-2
 put-lane-requires-2 c κs =
     let l : tie.After-lane-numbers2 = search in
     let p : tie.After-put-lane = search in
-    let q = origin (earlier l) in
-    let s = start q in (
-      omega (arith, s .pre .3, p .put-lane .kept),
-      omega (arith, s .pre .2),
-      rw (is-second l) (lane-sizes (centrewardOf (side s) (q .polynomial .result)) (centre q .tapers) 0 (lit≤ tt)),
-    )
+    let s = start (origin (earlier l)) in
+    (omega (arith, s .pre .3, p .put-lane .kept), omega (arith, s .pre .2), search needs)
 
 returns : tie.Need-returns
 returns c =
