@@ -1,5 +1,4 @@
 // Linking: fills a lent link table, or answers why the mesh is turned down and leaves the table as it was.
-use mesh::LARGE_MESH;
 use mesh::SMALL_MESH;
 use paper::Answer;
 use paper::MOST_CORNERS;
@@ -10,7 +9,6 @@ ghost use Prim.Native.Nat.{ℕ, _*_, _≤_, _<_};
 ghost use lib.ListN.{length, getD};
 ghost use Rattle.paper.specs.Mesh.{mostCorners, meshOf};
 ghost use Rattle.paper.specs.Calls.{Linked};
-ghost use Rattle.mesh.specs.Tables.{smallMesh, largeMesh};
 ghost use Rattle.walk.specs.Table.{rowLength, toLink, entry};
 ghost use Rattle.checks.specs.Checked.{RowsFor};
 
@@ -24,60 +22,16 @@ pub fn link(
 ) -> Answer
     ensures { λ r. ⌜ Linked (meshOf (now (coordinates .entry)) (now (sides .entry)) (now (corners .entry)) (now (sharpness .entry))) (now (links .entry)) r (now (links .exit)) ⌝ }
 {
-    let rows = mesh::table_rows(corners.len());
-    if rows == SMALL_MESH {
-        link_small(coordinates, sides, corners, sharpness, links)
-    } else if rows == LARGE_MESH {
-        link_large(coordinates, sides, corners, sharpness, links)
+    if mesh::table_rows(corners.len()) == SMALL_MESH {
+        let mut table = [0u16; ROW * SMALL_MESH];
+        link_over(coordinates, sides, corners, sharpness, &mut table, links)
     } else {
-        link_largest(coordinates, sides, corners, sharpness, links)
+        let mut table = [0u16; ROW * MOST_CORNERS];
+        link_over(coordinates, sides, corners, sharpness, &mut table, links)
     }
 }
 
-// The same with a table of each length. The three functions are put in line by the compiler: only then do the tables share their place. Side by side
-// they took more of the stack, every page of which a call touches first, and linking a cube took 1.2 times as long.
-fn link_small(
-    coordinates: &[i32],
-    sides: &[u8],
-    corners: &[u16],
-    sharpness: &[u8],
-    links: &mut [u16],
-) -> Answer
-    requires { ⌜ (length (now corners) ≤ mostCorners → length (now corners) ≤ smallMesh) ⌝ }
-    ensures { λ r. ⌜ Linked (meshOf (now (coordinates .entry)) (now (sides .entry)) (now (corners .entry)) (now (sharpness .entry))) (now (links .entry)) r (now (links .exit)) ⌝ }
-{
-    let mut table = [0u16; ROW * SMALL_MESH];
-    link_over(coordinates, sides, corners, sharpness, &mut table, links)
-}
-
-fn link_large(
-    coordinates: &[i32],
-    sides: &[u8],
-    corners: &[u16],
-    sharpness: &[u8],
-    links: &mut [u16],
-) -> Answer
-    requires { ⌜ (length (now corners) ≤ mostCorners → length (now corners) ≤ largeMesh) ⌝ }
-    ensures { λ r. ⌜ Linked (meshOf (now (coordinates .entry)) (now (sides .entry)) (now (corners .entry)) (now (sharpness .entry))) (now (links .entry)) r (now (links .exit)) ⌝ }
-{
-    let mut table = [0u16; ROW * LARGE_MESH];
-    link_over(coordinates, sides, corners, sharpness, &mut table, links)
-}
-
-fn link_largest(
-    coordinates: &[i32],
-    sides: &[u8],
-    corners: &[u16],
-    sharpness: &[u8],
-    links: &mut [u16],
-) -> Answer
-    ensures { λ r. ⌜ Linked (meshOf (now (coordinates .entry)) (now (sides .entry)) (now (corners .entry)) (now (sharpness .entry))) (now (links .entry)) r (now (links .exit)) ⌝ }
-{
-    let mut table = [0u16; ROW * MOST_CORNERS];
-    link_over(coordinates, sides, corners, sharpness, &mut table, links)
-}
-
-// The same over a lent table: the checks fill it, and the links are copied once they have passed.
+// The same over a table of its own: the checks fill it, and the links are copied once they have passed.
 fn link_over(
     coordinates: &[i32],
     sides: &[u8],
