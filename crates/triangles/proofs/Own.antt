@@ -175,10 +175,6 @@ module _ (M : Mesh) (levels : List ℕ) (ok : Accepted M) (leveled : Leveled M l
   net = nets M c 1
 
   module _ (axis : ℕ) where
-    head-is : (t : Side) (m : ℕ) → m ≡ segments M levels c t → 1 ≤ m
-        → sampleAt net t (weights m 0 0 m) axis ≡ sampleAt net t (weights (segments M levels c t) 0 0 (segments M levels c t)) axis
-    head-is t m e b = ap (λ (x : ℕ). sampleAt net t (weights x 0 0 x) axis) e
-
     number-is : (g place : ℕ) → ownNumber M levels c g place axis ≡ shapeNumber net s g place axis
     unfolding ownNumber owned shapeNumber
     number-is zero place =
