@@ -313,7 +313,7 @@ fn put_lane(table: &mut [i64], lane: usize, m: Matrix5)
     }
 }
 
-// The table at the next row.
+// The table at the next row: in each lane numbers 4 to 6 are added to 0 to 2, then 7 and 8 to 4 and 5, then 9 to 7.
 fn next_row(table: &mut [i64])
     requires { ⌜ Small (now table) ⌝ }
     ensures { λ _. ⌜ ((F : ℕ → Matrix5) (k : ℕ) → Lanes F 0 24 k (now (table .entry)) → k < 16 → Lanes F 0 24 (k + 1) (now (table .exit))) ⌝ }
