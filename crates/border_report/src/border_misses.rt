@@ -18,8 +18,8 @@ ghost use Rattle.paper.specs.Report.{conditions, largestBelow};
 ghost use Rattle.numbers.specs.Stored.{stored};
 ghost use Rattle.surface.specs.Sizes.{WrittenSize};
 ghost use Rattle.walk.specs.Table.{toNext, toLink, entry};
-ghost use Rattle.net.specs.sides.Drawn.{drawn, Drawn};
-ghost use Rattle.net.specs.sides.Values.{SideSized};
+ghost use Rattle.net_rows.specs.sides.Values.{SideSized};
+ghost use Rattle.net.specs.Drawn.{drawn, Drawn};
 ghost use Rattle.net.specs.stencil.Taken.{Run, FaceTaken};
 ghost use Rattle.building.specs.writing.Written.{Faced, NetsWritten};
 ghost use Rattle.pages.specs.four.Four.{inMisses};
@@ -137,7 +137,7 @@ fn corner_misses(
 
 // The same on one axis, from the sides there.
 fn axis_misses(
-    sides: net::sides::NetSides,
+    sides: net_rows::sides::NetSides,
     axis: usize,
     face: &[i32],
     here: usize,

@@ -1,6 +1,6 @@
 // L14: by how much the four conditions across a side are missed, on one axis, from the side's values and the points of three rows: the outer row and
 // the a row of the side, and the a row of the neighbour's side. Each miss is a whole number over 2^30, its sign dropped.
-use net::sides::SideValues;
+use net_rows::sides::SideValues;
 use pages::four::Misses;
 use paper::UNIT;
 ghost use mathlib.Core.Path.{_≡_};
@@ -9,7 +9,7 @@ ghost use lib.IntN.{pos, natAbs, _+ℤ_, _-ℤ_, _*ℤ_};
 ghost use Rattle.paper.specs.Borders.{one};
 ghost use Rattle.paper.specs.Report.{conditions, condition};
 ghost use Rattle.surface.specs.Sizes.{ValueSize, WrittenSize, CosineSize};
-ghost use Rattle.net.specs.sides.Values.{SideSized};
+ghost use Rattle.net_rows.specs.sides.Values.{SideSized};
 ghost use Rattle.pages.specs.four.Four.{inMisses};
 ghost use Rattle.border_report.specs.misses.Row.{inRow, SmallRow};
 

@@ -18,7 +18,7 @@ ghost use Rattle.numbers.specs.Stored.{stored};
 ghost use Rattle.surface.specs.Points.{pointRow};
 ghost use Rattle.walk.specs.Table.{Tabled};
 ghost use Rattle.refine.specs.sums.Sources.{SmallPoints};
-ghost use Rattle.net.specs.sides.Drawn.{drawn, Drawn};
+ghost use Rattle.net.specs.Drawn.{drawn, Drawn};
 ghost use Rattle.building.specs.writing.Written.{WalksFaces, InFace, Faced, NetsDrawn, NetsWritten};
 
 // The refined points of which the nets of `count` corners from `first` on are made: those of the corners at the vertices of the range's faces.

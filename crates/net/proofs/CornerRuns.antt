@@ -21,14 +21,14 @@ use Rattle.surface.proofs.Rings.{iterate-first, iterate-in}
 use Rattle.surface.proofs.Border.{border}
 use Rattle.surface.proofs.Sizes.{H-size, X-size, C-cosine}
 use Rattle.walk.specs.Table.{toNext, toPrevious, entry}
+use Rattle.net_rows.specs.sides.Values.{FaceSized}
+use Rattle.net_rows.proofs.sides.Laws.{as-face}
 use Rattle.net.specs.declared.lanes.Rings.{Rings}
-use Rattle.net.specs.sides.Drawn.{drawn, Drawn}
-use Rattle.net.specs.sides.Values.{FaceSized}
+use Rattle.net.specs.Drawn.{drawn, Drawn}
 use Rattle.net.specs.stencil.Taken.{Run, Quiet, FaceTaken, CornerTaken}
 use Rattle.net.specs.lanes.Lanes.{rowsFace, RingsAt, LaneReady, LaneHas, LaneFilled}
 use Rattle.net.specs.copy.Copy.{PointsCopied}
 use Rattle.net.specs.Put.{RunPut}
-use Rattle.net.proofs.sides.Laws.{as-face}
 use Rattle.net.proofs.stencil.Rings.{step-more, around-in, face-behind, place-in}
 
 -- ---- the rows of the face, as they are kept from corner to corner

@@ -1,7 +1,5 @@
 pub mod Put
-pub mod sides
-pub mod rows
+pub mod Drawn
 pub mod stencil
-pub mod points
 pub mod lanes
 pub mod copy

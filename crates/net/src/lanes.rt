@@ -1,9 +1,9 @@
 // The nets in the lanes: a lane is one place of each row. One loop over the four lanes makes the net of each from the rows that it has; the compiler
 // turns it into steps on four numbers at once. The points stand in rows of four too.
-use crate::sides::FaceValues;
 use crate::stencil::FACE;
 use crate::stencil::VERTEX;
 use faces::point;
+use net_rows::sides::FaceValues;
 ghost use mathlib.Core.Path.{_≡_};
 ghost use Prim.Native.Nat.{ℕ, _+_, _*_, _<_};
 ghost use lib.ListN.{length};
@@ -30,13 +30,13 @@ fn ring_face(stencil: &[i32], k: usize, i: usize, j: usize) -> FaceValues
 }
 
 // The four sides in lane k.
-pub fn lane_sides(stencil: &[i32], k: usize, rings: Rings) -> crate::sides::NetSides
+pub fn lane_sides(stencil: &[i32], k: usize, rings: Rings) -> net_rows::sides::NetSides
     requires { ⌜ LaneReady (now stencil) k rings ⌝ }
     ensures { λ r. ⌜ LaneMade (now (stencil .entry)) k rings r ⌝ }
 {
     let vertex = ring_face(stencil, k, VERTEX, VERTEX + 1);
     let face = ring_face(stencil, k, FACE, FACE + 1 + rings.place);
-    crate::sides::sides_of(stencil, k, vertex, face, rings.vertex, rings.face)
+    net_rows::sides::sides_of(stencil, k, vertex, face, rings.vertex, rings.face)
 }
 
 // The loop over the lanes.
@@ -47,7 +47,7 @@ pub(crate) fn fill_lanes(stencil: &[i32], rings: Rings, lanes: &mut [i32])
     let mut k: usize = 0;
     while k < 4 {
         let four = lane_sides(stencil, k, rings);
-        crate::points::put_lane(four, lanes, k);
+        net_rows::points::put_lane(four, lanes, k);
         k += 1;
     }
 }

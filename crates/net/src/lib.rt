@@ -2,9 +2,6 @@
 // the lanes, to the corners' parts of the output.
 pub mod copy;
 pub mod lanes;
-pub mod points;
-pub mod rows;
-pub mod sides;
 pub mod stencil;
 
 use crate::lanes::Rings;
@@ -16,7 +13,7 @@ ghost use Prim.Native.Nat.{_+_, _*_, _≤_, _<_};
 ghost use lib.ListN.{length};
 ghost use Rattle.paper.specs.Calls.{perCorner};
 ghost use Rattle.numbers.specs.Stored.{stored};
-ghost use Rattle.net.specs.sides.Drawn.{drawn, Drawn, CornerIn};
+ghost use Rattle.net.specs.Drawn.{drawn, Drawn, CornerIn};
 ghost use Rattle.net.specs.stencil.Taken.{Run, Quiet};
 ghost use Rattle.net.specs.lanes.Lanes.{RingsAt};
 ghost use Rattle.net.specs.Put.{RunPut};

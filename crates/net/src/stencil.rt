@@ -16,8 +16,8 @@ ghost use Rattle.paper.specs.Mesh.{mostSides};
 ghost use Rattle.numbers.specs.Stored.{stored};
 ghost use Rattle.surface.specs.Points.{pointRow};
 ghost use Rattle.walk.specs.Table.{toLink, sidesHere, entry, tabled};
-ghost use Rattle.net.specs.sides.Drawn.{drawn, Drawn, CornerIn};
-ghost use Rattle.net.specs.sides.Values.{cornersAround};
+ghost use Rattle.net_rows.specs.sides.Values.{cornersAround};
+ghost use Rattle.net.specs.Drawn.{drawn, Drawn, CornerIn};
 ghost use Rattle.net.specs.copy.Copy.{PointPut};
 ghost use Rattle.net.specs.stencil.Taken.{FaceTaken, VertexTaken, CornerTaken, WholeTaken};
 

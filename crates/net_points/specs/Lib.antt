@@ -1,2 +1,1 @@
 pub mod writing
-pub mod tangent_writing

@@ -1,3 +1,2 @@
-// What a corner has of its own, out of its net's 123 numbers: its points, and the tangents there. No mesh is needed for that.
-pub mod tangent_writing;
+// The points that a corner has of its own, out of its net's 123 numbers. No mesh is needed for that.
 pub mod writing;

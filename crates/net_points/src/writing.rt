@@ -128,7 +128,7 @@ fn reversed(p: Matrix5) -> Matrix5
 }
 
 // The control points of a side on an axis, each row in turn.
-pub(crate) fn turn_points(numbers: &[i32], side: usize, axis: usize) -> Matrix5
+pub fn turn_points(numbers: &[i32], side: usize, axis: usize) -> Matrix5
     requires { ⌜ (netVerdict (now numbers) ≡ sound) × (side ≤ 3) × (axis < 3) ⌝ }
     ensures { λ r. ⌜ InTurn (now (numbers .entry)) side axis r ⌝ }
 {

@@ -158,6 +158,6 @@ pub(crate) fn put_tangents(
     let shape = crate::shape_of(corners, low, table, levels, c);
     let third = numbering::segments_at(table, levels, c, 2);
     let all = crate::size(shape);
-    net_points::tangent_writing::put_pairs(numbers, shape, third, out, at);
+    net_tangents::put_pairs(numbers, shape, third, out, at);
     at + 6 * all
 }

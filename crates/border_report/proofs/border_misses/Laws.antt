@@ -20,9 +20,9 @@ use Rattle.mesh.proofs.Scans.{ways}
 use Rattle.mesh.proofs.Faces.{first-from, first-to, first-ends, first-same, sides-same, previous-first}
 use Rattle.surface.proofs.Sizes.{net-size}
 use Rattle.walk.specs.Table.{toNext, toPrevious, sidesHere, entry}
-use Rattle.net.specs.sides.Drawn.{drawn, Drawn}
-use Rattle.net.specs.sides.Values.{IsSide}
-use Rattle.net.specs.declared.sides.SideValues.{SideValues}
+use Rattle.net_rows.specs.sides.Values.{IsSide}
+use Rattle.net_rows.specs.declared.sides.SideValues.{SideValues}
+use Rattle.net.specs.Drawn.{drawn, Drawn}
 use Rattle.building.specs.writing.Written.{Faced, NetsWritten}
 use Rattle.building.proofs.writing.Laws.{run-of}
 use Rattle.border_report.specs.border_misses.Held.{pointIn, NetHeld, NetHeldAll, WholeFace, fourOf, netPoint, netMiss, cornerMiss}

@@ -29,7 +29,7 @@ use Rattle.refine.proofs.Accepted.{vertex-in, table-agrees, table-sound}
 use Rattle.borders.proofs.Ranges.{ranges}
 use Rattle.borders.proofs.Theorem.{same-outer, same-a}
 use Rattle.borders.proofs.Written.{written-is}
-use Rattle.net.specs.sides.Drawn.{drawn, Drawn}
+use Rattle.net.specs.Drawn.{drawn, Drawn}
 use Rattle.border_report.specs.border_misses.Held.{netPoint, netMiss, cornerMiss}
 use Rattle.border_report.proofs.page_laws.Largest.{largest-same}
 

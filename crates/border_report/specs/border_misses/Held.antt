@@ -12,9 +12,9 @@ use Rattle.paper.specs.Report.{conditions, condition, largestBelow}
 use Rattle.surface.specs.Points.{pointRow}
 use Rattle.surface.specs.Sizes.{WrittenSize}
 use Rattle.walk.specs.Table.{toNext, entry}
+use Rattle.net_rows.specs.declared.sides.NetSides.{NetSides}
+use Rattle.net_rows.specs.sides.Values.{FourSides}
 use Rattle.net.specs.stencil.Taken.{Run}
-use Rattle.net.specs.declared.sides.NetSides.{NetSides}
-use Rattle.net.specs.sides.Values.{FourSides}
 use Rattle.pages.specs.declared.four.Misses.{Misses}
 use Rattle.pages.specs.four.Four.{inMisses}
 

@@ -33,7 +33,7 @@ use Rattle.refine.specs.sums.Sources.{PointsPut}
 use Rattle.refine.specs.corners.Mean.{MarkedPointed}
 use Rattle.refine.proofs.Accepted.{vertex-in, faces-of, refinable-of, table-agrees, table-sound}
 use Rattle.refine.proofs.Points.{put-choice}
-use Rattle.net.specs.sides.Drawn.{drawn, Drawn}
+use Rattle.net.specs.Drawn.{drawn, Drawn}
 use Rattle.net.specs.stencil.Taken.{Run, Quiet}
 use Rattle.net.specs.Put.{RunPut}
 use Rattle.building.specs.writing.Written.{WalksFaces, Faced, NetsDrawn, NetsWritten}

@@ -11,7 +11,7 @@ use Rattle.paper.specs.Refined.{RefinedMesh, refinedOf}
 use Rattle.paper.specs.Net.{net, netPoints}
 use Rattle.paper.specs.Calls.{perCorner}
 use Rattle.walk.specs.Table.{rowLength, toPrevious, sidesHere, Column}
-use Rattle.net.specs.sides.Drawn.{drawn, Drawn}
+use Rattle.net.specs.Drawn.{drawn, Drawn}
 use Rattle.refine.specs.sums.Sources.{FacesWithin}
 
 -- the table leads from each corner to the previous one of its face, and has the sides of the face

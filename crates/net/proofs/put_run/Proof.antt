@@ -9,7 +9,7 @@ use lib.IntN.{ℤ}
 use Rattle.paper.specs.Scan.{iterate}
 use Rattle.paper.specs.Mesh.{mostSides}
 use Rattle.walk.specs.Table.{toNext, entry}
-use Rattle.net.specs.sides.Drawn.{drawn, Drawn}
+use Rattle.net.specs.Drawn.{drawn, Drawn}
 use Rattle.net.specs.stencil.Taken.{Quiet, FaceTaken}
 use Rattle.net.specs.Put.{RunPut}
 use Rattle.net.proofs.CornerRuns.{face-held, face-kept, run-place, lane-has, ready, run-none, run-more}

@@ -23,8 +23,8 @@ use Rattle.surface.proofs.Rings.{iterate-in, iterate-round}
 use Rattle.surface.proofs.Border.{border}
 use Rattle.walk.specs.Table.{rowLength, toNext, toPrevious, toLink, sidesHere, valenceHere, entry, tabled}
 use Rattle.faces.specs.Ring.{around, ReadableOn, Readable, Ring, IsCentre, IsToward, ThreeRing, FourRing, ThreeCentre, ThreeToward, FourCentre, FourToward}
-use Rattle.net.specs.sides.Drawn.{drawn, Drawn}
-use Rattle.net.specs.sides.Values.{cornersAround}
+use Rattle.net_rows.specs.sides.Values.{cornersAround}
+use Rattle.net.specs.Drawn.{drawn, Drawn}
 
 -- ---- one step more
 pub step-more : (step : ℕ → ℕ) (j c d : ℕ) → d ≡ iterate j step c → step d ≡ iterate (j + 1) step c

@@ -17,8 +17,8 @@ use Rattle.surface.specs.Sizes.{RefinedSize}
 use Rattle.faces.specs.declared.FacePoint.{FacePoint}
 use Rattle.faces.specs.Ring.{OnAxes}
 use Rattle.walk.specs.Table.{tabled}
-use Rattle.net.specs.sides.Drawn.{drawn, Drawn}
-use Rattle.net.specs.sides.Values.{cornersAround}
+use Rattle.net_rows.specs.sides.Values.{cornersAround}
+use Rattle.net.specs.Drawn.{drawn, Drawn}
 use Rattle.net.specs.copy.Copy.{PointPut}
 use Rattle.net.specs.stencil.Taken.{Quiet, FaceTaken, VertexTaken, WholeTaken, CornerTaken}
 use Rattle.net.proofs.stencil.Rings.{around-in}

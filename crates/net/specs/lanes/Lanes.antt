@@ -12,10 +12,10 @@ use Rattle.paper.specs.Net.{net, netPoints}
 use Rattle.surface.specs.Points.{pointAt}
 use Rattle.surface.specs.Sizes.{RefinedSize, CosineSize}
 use Rattle.walk.specs.Table.{sidesHere, valenceHere, entry}
-use Rattle.net.specs.declared.sides.FaceValues.{FaceValues}
-use Rattle.net.specs.declared.sides.NetSides.{NetSides}
+use Rattle.net_rows.specs.declared.sides.FaceValues.{FaceValues}
+use Rattle.net_rows.specs.declared.sides.NetSides.{NetSides}
+use Rattle.net_rows.specs.sides.Values.{FaceSized, FourSized, FourSides, Around, AtVertex, AtFace}
 use Rattle.net.specs.declared.lanes.Rings.{Rings}
-use Rattle.net.specs.sides.Values.{FaceSized, FourSized, FourSides, Around, AtVertex, AtFace}
 
 -- the face of a ring in lane k: its centre in row i, its points behind and ahead from row j on
 abbrev pub rowsFace : List ℤ → ℕ → ℕ → ℕ → FaceValues

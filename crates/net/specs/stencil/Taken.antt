@@ -13,7 +13,7 @@ use Rattle.paper.specs.Net.{side0, side1, side3, H, X}
 use Rattle.surface.specs.Points.{pointRow, pointAt}
 use Rattle.surface.specs.Sizes.{RefinedSize}
 use Rattle.walk.specs.Table.{toNext, entry}
-use Rattle.net.specs.sides.Values.{cornersAround}
+use Rattle.net_rows.specs.sides.Values.{cornersAround}
 
 -- the numbers that are not used are no larger than others: the lanes reckon with them too
 abbrev pub Quiet : List ℤ → Type 0

@@ -15,7 +15,7 @@ use Rattle.paper.specs.File.{begins}
 use Rattle.paper.specs.Triangles.{pointsBefore, coordinateAt}
 use Rattle.paper.specs.Tangents.{tangentAt}
 use Rattle.closing.proofs.Calls.{points-between}
-use Rattle.net.specs.sides.Drawn.{drawn}
+use Rattle.net.specs.Drawn.{drawn}
 use Rattle.building.specs.writing.Written.{NetsDrawn, NetsWritten}
 use Rattle.building.proofs.writing.Laws.{drawn-written}
 use Rattle.strips.specs.PointRows.{Stands}

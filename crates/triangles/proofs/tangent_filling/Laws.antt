@@ -29,7 +29,7 @@ use Rattle.net_points.specs.declared.writing.Shape.{Shape}
 use Rattle.strips.specs.PointRows.{FilledTo, Fills}
 use Rattle.triangles.specs.Owned.{ShapeOf}
 use Rattle.net_points.specs.writing.Shapes.{shapeGroup, shapeStart, shapeSize}
-use Rattle.net_points.specs.tangent_writing.Paired.{shapePair, PairAim, NetPaired}
+use Rattle.net_tangents.specs.Paired.{shapePair, PairAim, NetPaired}
 use Rattle.triangles.specs.tangent_filling.Paired.{tangentsBefore, TangentsPut, PairsFilled}
 use Rattle.triangles.proofs.Own.{in-group, all-is, place-below}
 use Rattle.strips.proofs.Stood.{filled-list}

@@ -10,7 +10,7 @@ use Rattle.paper.specs.Scan.{iterate}
 use Rattle.paper.specs.Numbers.{rounded}
 use Rattle.paper.specs.Refined.{RefinedMesh}
 use Rattle.walk.specs.Table.{toNext, entry}
-use Rattle.net.specs.sides.Drawn.{drawn}
+use Rattle.net.specs.Drawn.{drawn}
 use Rattle.net.specs.lanes.Lanes.{LaneReady, LaneHas}
 use Rattle.net.proofs.CornerRuns.{run-place, lane-has, ready-axis}
 use Rattle.border_report.proofs.border_misses.Laws.{corner-is}

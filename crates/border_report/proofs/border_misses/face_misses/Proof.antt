@@ -15,7 +15,7 @@ use Rattle.paper.specs.Refined.{RefinedMesh}
 use Rattle.paper.specs.Calls.{perCorner}
 use Rattle.paper.specs.Report.{conditions, largestBelow}
 use Rattle.walk.specs.Table.{toNext, entry}
-use Rattle.net.specs.sides.Drawn.{drawn}
+use Rattle.net.specs.Drawn.{drawn}
 use Rattle.net.specs.stencil.Taken.{Run, FaceTaken}
 use Rattle.net.proofs.CornerRuns.{face-held, face-kept}
 use Rattle.pages.specs.four.Four.{inMisses}

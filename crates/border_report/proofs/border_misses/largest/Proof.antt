@@ -8,7 +8,7 @@ use denote.Ref.{now}
 use Rattle.paper.specs.Corners.{firstOf}
 use Rattle.paper.specs.Report.{conditions, largestBelow}
 use Rattle.mesh.proofs.Faces.{first-from}
-use Rattle.net.specs.sides.Drawn.{drawn}
+use Rattle.net.specs.Drawn.{drawn}
 use Rattle.building.specs.writing.Written.{Faced}
 use Rattle.pages.specs.four.Four.{inMisses}
 use Rattle.border_report.specs.border_misses.Held.{WholeFace, cornerMiss}

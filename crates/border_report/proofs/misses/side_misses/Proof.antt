@@ -13,7 +13,7 @@ use Rattle.numbers.proofs.Machine.{abs-fits}
 use Rattle.numbers.proofs.Poly.{over, poly}
 use Rattle.paper.specs.Borders.{one}
 use Rattle.surface.specs.Sizes.{ValueSize, WrittenSize, CosineSize}
-use Rattle.net.specs.declared.sides.SideValues.{SideValues}
+use Rattle.net_rows.specs.declared.sides.SideValues.{SideValues}
 use Rattle.border_report.proofs.misses.side_misses.Tie as tie
 
 -- ---- what is copied from a field is the field's number

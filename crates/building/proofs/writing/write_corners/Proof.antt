@@ -9,7 +9,7 @@ use Rattle.paper.specs.Corners.{sumOf, firstOf, sidesOf}
 use Rattle.paper.specs.Mesh.{mostSides}
 use Rattle.paper.specs.Calls.{perCorner}
 use Rattle.mesh.proofs.Faces.{first-to, first-ends}
-use Rattle.net.specs.sides.Drawn.{drawn}
+use Rattle.net.specs.Drawn.{drawn}
 use Rattle.net.specs.stencil.Taken.{Run, Quiet}
 use Rattle.building.specs.writing.Written.{NetsWritten}
 use Rattle.building.proofs.writing.Laws.{written-none, written-run, run-of, quiet-zeros}

@@ -2,7 +2,7 @@
 use mathlib.Core.Path.{refl}
 use native.Mathlib.Omega.{arith}
 use borrow.Author.Needs.{needs}
-use Rattle.net.proofs.rows.Laws.{row, row-is}
+use Rattle.net_rows.proofs.rows.Laws.{row, row-is}
 use Rattle.net.proofs.lanes.lane_sides.Tie as tie
 
 sides-of-requires : tie.Need-sides-of-requires

@@ -6,7 +6,7 @@ use native.Mathlib.Omega.{arith}
 use borrow.Author.Needs.{needs}
 use lib.Dec.{lit<}
 use Rattle.paper.specs.Mesh.{mostSides}
-use Rattle.net.specs.sides.Drawn.{drawn}
+use Rattle.net.specs.Drawn.{drawn}
 use Rattle.net.specs.stencil.Taken.{FaceTaken}
 use Rattle.net.proofs.stencil.Taken.{row-at, face-none, face-more, face-end}
 use Rattle.net.proofs.stencil.Rings.{row-in, readable, Quad, quad-more, quad-start, quad-in, quad-X, quad-H}

@@ -12,7 +12,7 @@ use Rattle.paper.specs.Mesh.{mostSides}
 use Rattle.paper.specs.Net.{side1, X}
 use Rattle.numbers.specs.Units.{Reciprocal}
 use Rattle.walk.specs.Table.{toNext, toPrevious, sidesHere, entry}
-use Rattle.net.specs.sides.Drawn.{drawn, Drawn}
+use Rattle.net.specs.Drawn.{drawn, Drawn}
 use Rattle.net.specs.stencil.Taken.{FaceTaken}
 use Rattle.net.proofs.stencil.Taken.{row-at, face-none, face-more, face-end}
 use Rattle.net.proofs.stencil.Rings.{step-more, Divisor, divisor, row-in, face-ring, face-H, face-X, walked-in, sides-along}

@@ -9,7 +9,7 @@ use mir.Facts.{toZ-ofZ}
 use Rattle.numbers.specs.Units.{Reciprocal}
 use Rattle.walk.specs.Table.{valenceHere, entry}
 use Rattle.faces.specs.Ring.{Readable}
-use Rattle.net.specs.sides.Drawn.{Drawn}
+use Rattle.net.specs.Drawn.{Drawn}
 use Rattle.net.proofs.stencil.Taken.{row-at, vertex-taken}
 use Rattle.net.proofs.stencil.Rings.{Divisor, divisor, row-in, readable, vertex-ring, valence-before, vertex-H, vertex-X, ring-behind}
 use Rattle.net.proofs.stencil.Rings.{three-H, three-behind, three-ahead, four-H, four-behind, four-ahead}
