@@ -1,10 +1,10 @@
 -- A number is taken less the number three places before.
 use mathlib.Core.Path.{sym, _∙_}
 use denote.Ref.{now}
-use Rattle.rearrange.proofs.differences.Deltas.{read-bits, delta-of, delta-later}
+use Rattle.planes.proofs.differences.Deltas.{read-bits, delta-of, delta-later}
 use native.Mathlib.Omega.{arith}
 use borrow.Author.Needs.{needs}
-use Rattle.rearrange.proofs.differences.delta_at.Tie as tie
+use Rattle.planes.proofs.differences.delta_at.Tie as tie
 
 returns : tie.Need-returns
 returns c =
@@ -17,7 +17,7 @@ returns c =
     let y = b .bits2 .ensures ∙ read-bits l _ (record { sfits = b .before .bits-arg2 .given }) in
     c .difference .ensures ∙ delta-of l i x y ∙ sym (delta-later l i (omega arith))
 
-pub delta-at-spec : {M : Type 1} → Rattle.rearrange.proofs.differences.delta_at.Statement.statement M
+pub delta-at-spec : {M : Type 1} → Rattle.planes.proofs.differences.delta_at.Statement.statement M
 delta-at-spec =
     tie.close (tie.spec (λ c. search needs) (λ c. search needs) (λ c κs. search needs) (λ c. search needs) (λ c. search needs) (λ c. search needs)
     (λ c κs. search needs) (λ c κs. search needs) returns)

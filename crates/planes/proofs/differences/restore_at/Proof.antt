@@ -5,7 +5,7 @@ use mir.Syntax.{w32}
 use mir.ValLaws.{toZ-ofZ}
 use native.Mathlib.Omega.{arith}
 use borrow.Author.Needs.{needs}
-use Rattle.rearrange.proofs.differences.restore_at.Tie as tie
+use Rattle.planes.proofs.differences.restore_at.Tie as tie
 
 returns : tie.Need-returns
 returns c =
@@ -18,7 +18,7 @@ returns c =
       holds = rw (toZ-ofZ w32 (c .signed .result) (record { sfits = c .signed .ok }), c .signed .ensures);
     }
 
-pub restore-at-spec : {M : Type 1} → Rattle.rearrange.proofs.differences.restore_at.Statement.statement M
+pub restore-at-spec : {M : Type 1} → Rattle.planes.proofs.differences.restore_at.Statement.statement M
 restore-at-spec =
     tie.close (tie.spec (λ c κs. search needs) (λ c κs. search needs) (λ c κs. search needs) (λ c. search needs) (λ c. search needs) (λ c. search needs)
     returns)

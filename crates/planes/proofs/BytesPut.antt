@@ -8,7 +8,7 @@ use native.Mathlib.Omega.{arith}
 use lib.ListN.{length, getD, set, length-set}
 use lib.Seq.{getD-set-same, getD-set-other}
 use Rattle.mesh.proofs.Scans.{compared}
-use Rattle.rearrange.specs.planes.Planes.{fourSet}
+use Rattle.planes.specs.Planes.{fourSet}
 
 -- the first w values of f, from a place on
 pub record BytesPut (f : ℕ → ℕ) (w at : ℕ) (old out : List ℕ) : Type 0 where

@@ -1,14 +1,16 @@
-// Four numbers at a time in the four planes of a coordinate list's differences (L11). Four differences are taken before their bytes are stored,
-// plane by plane: the compiler then works on all four at once and has not to see that numbers and planes lie apart, which costs short lists
-// more than the work.
+// The four planes of a coordinate list's differences (L11): bytes stored in them, and differences taken four at a time. Four differences are
+// taken before their bytes are stored, plane by plane: the compiler then works on all four at once and has not to see that numbers and planes
+// lie apart, which costs short lists more than the work.
+pub mod differences;
+
 use crate::differences::delta_at;
 ghost use mathlib.Core.Path.{_≡_};
 ghost use Prim.Native.Nat.{_+_, _*_, _%_, _<_, _≤_};
 ghost use lib.ListN.{length};
-ghost use Rattle.rearrange.specs.planes.Planes.{Planed, fourSet};
+ghost use Rattle.planes.specs.Planes.{Planed, fourSet};
 
 // The four numbers from a position on.
-pub(crate) fn put_four(numbers: &[i32], bytes: &mut [u8], i: usize)
+pub fn put_four(numbers: &[i32], bytes: &mut [u8], i: usize)
     requires { ⌜ (3 ≤ i) × (i + 4 ≤ length (now numbers)) × Planed (now numbers) i (now bytes) ⌝ }
     ensures { λ _. ⌜ Planed (now (numbers .entry)) (i + 4) (now (bytes .exit)) ⌝ }
 {
@@ -40,7 +42,7 @@ pub(crate) fn put_four(numbers: &[i32], bytes: &mut [u8], i: usize)
 }
 
 // The lowest bytes of four numbers, the first at a place and each `step` places after the one before.
-pub(crate) fn put(bytes: &mut [u8], step: usize, at: usize, a: u32, b: u32, c: u32, d: u32)
+pub fn put(bytes: &mut [u8], step: usize, at: usize, a: u32, b: u32, c: u32, d: u32)
     requires { ⌜ 3 * step + at < length (now bytes) ⌝ }
     ensures { λ _. ⌜ now (bytes .exit) ≡ fourSet (now (bytes .entry)) step at (a % 256) (b % 256) (c % 256) (d % 256) ⌝ }
 {

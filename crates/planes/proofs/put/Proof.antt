@@ -1,10 +1,10 @@
 -- `put` meets its contract, store by store.
 use mathlib.Core.Path.{refl}
 use lib.ListN.{length-set}
-use Rattle.rearrange.specs.planes.Planes.{fourSet}
+use Rattle.planes.specs.Planes.{fourSet}
 use native.Mathlib.Omega.{arith}
 use borrow.Author.Needs.{needs}
-use Rattle.rearrange.proofs.planes.put.Tie as tie
+use Rattle.planes.proofs.put.Tie as tie
 
 slice-write-bytes-2 : tie.Need-slice-write-bytes-2
 slice-write-bytes-2 c = simp length-set (omega arith)
@@ -19,7 +19,7 @@ returns : tie.Need-returns
 unfolding fourSet
 returns c = refl
 
-pub put-spec : {M : Type 1} → Rattle.rearrange.proofs.planes.put.Statement.statement M
+pub put-spec : {M : Type 1} → Rattle.planes.proofs.put.Statement.statement M
 put-spec =
     tie.close (tie.spec (λ c. search needs) (λ c. search needs) (λ c. search needs) (λ c. search needs) slice-write-bytes-2 (λ c. search needs)
     (λ c. search needs) (λ c. search needs) slice-write-bytes-3 (λ c. search needs) (λ c. search needs) (λ c. search needs) slice-write-bytes-4

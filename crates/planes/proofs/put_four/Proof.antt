@@ -1,8 +1,8 @@
 -- Four numbers more in each plane.
 use denote.Ref.{now}
-use Rattle.rearrange.proofs.planes.Planes.{planed-four}
+use Rattle.planes.proofs.Planes.{planed-four}
 use borrow.Author.Needs.{needs}
-use Rattle.rearrange.proofs.planes.put_four.Tie as tie
+use Rattle.planes.proofs.put_four.Tie as tie
 
 returns : tie.Need-returns
 returns c =
@@ -19,7 +19,7 @@ returns c =
     (d4 .delta-at4 .ensures) _ _ _ _ _ (s .pre .1) (s .pre .2) (r1 .put .ensures) (r2 .put2 .ensures) (r3 .put3 .ensures)
     (r4 .put4 .ensures)
 
-pub put-four-spec : {M : Type 1} → Rattle.rearrange.proofs.planes.put_four.Statement.statement M
+pub put-four-spec : {M : Type 1} → Rattle.planes.proofs.put_four.Statement.statement M
 put-four-spec =
     tie.close (tie.spec (λ c κs. search needs) (λ c. search needs) (λ c κs. search needs) (λ c. search needs) (λ c κs. search needs) (λ c. search needs)
     (λ c κs. search needs) (λ c κs. search needs) (λ c. search needs) (λ c κs. search needs) (λ c. search needs) (λ c. search needs) (λ c κs. search needs)

@@ -10,9 +10,9 @@ use lib.ListN.{length, getD}
 use lib.IntN.{ℤ}
 use Rattle.mesh.proofs.Scans.{ways}
 use Rattle.paper.specs.Archive.{byteOf}
-use Rattle.rearrange.specs.differences.Deltas.{deltaAt}
-use Rattle.rearrange.specs.planes.Planes.{Planed, fourSet}
-use Rattle.rearrange.proofs.planes.BytesPut.{BytesPut, run-row, lowest-byte}
+use Rattle.planes.specs.differences.Deltas.{deltaAt}
+use Rattle.planes.specs.Planes.{Planed, fourSet}
+use Rattle.planes.proofs.BytesPut.{BytesPut, run-row, lowest-byte}
 
 module _ (numbers : List ℤ) where
   abbrev m : ℕ

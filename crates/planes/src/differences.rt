@@ -5,10 +5,10 @@ ghost use mathlib.Core.Path.{_≡_};
 ghost use Prim.Native.Nat.{_+_, _-_, _*_, _%_, _^_, _<_, _≤_};
 ghost use lib.ListN.{length};
 ghost use Rattle.paper.specs.Archive.{storedAt};
-ghost use Rattle.rearrange.specs.differences.Deltas.{deltaAt, OneRestored};
+ghost use Rattle.planes.specs.differences.Deltas.{deltaAt, OneRestored};
 
 // The difference at a position after the first vertex.
-pub(crate) fn delta_at(numbers: &[i32], i: usize) -> u32
+pub fn delta_at(numbers: &[i32], i: usize) -> u32
     requires { ⌜ (3 ≤ i) × (i < length (now numbers)) ⌝ }
     ensures { λ r. ⌜ r ≡ deltaAt (now (numbers .entry)) i ⌝ }
 {
@@ -27,7 +27,7 @@ fn difference(a: u32, b: u32) -> u32
 }
 
 // Restores the number at a position, from the sum on its axis of the vertex before; answers the new sum.
-pub(crate) fn restore_at(bytes: &[u8], n: usize, numbers: &mut [i32], i: usize, before: u32) -> u32
+pub fn restore_at(bytes: &[u8], n: usize, numbers: &mut [i32], i: usize, before: u32) -> u32
     requires { ⌜ (i < n) × (length (now numbers) ≡ n) × (length (now bytes) ≡ 4 * n) ⌝ }
     ensures { λ r. ⌜ OneRestored (now (bytes .entry)) n (now (numbers .entry)) i before r (now (numbers .exit)) ⌝ }
 {

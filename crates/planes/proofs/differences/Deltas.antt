@@ -10,8 +10,8 @@ use mir.Syntax.{w32}
 use mir.Val.{ofZ, toZ, SFits}
 use mir.ValLaws.{toZ-ofZ}
 use Rattle.paper.specs.Archive.{bitsAt, delta}
-use Rattle.rearrange.proofs.laws.Words.{third, rest}
-use Rattle.rearrange.specs.differences.Deltas.{deltaAt}
+use Rattle.planes.proofs.differences.Positions.{third, rest}
+use Rattle.planes.specs.differences.Deltas.{deltaAt}
 
 module _ (numbers : List ℤ) where
   number-at : (v a i : ℕ) → 3 * v + a ≡ i → bitsAt numbers v a ≡ ofZ w32 (getD numbers i (pos 0))
