@@ -24,7 +24,7 @@ ghost use Rattle.paper.specs.Faults.{sound, verdict};
 ghost use Rattle.paper.specs.File.{fileMesh, fileVerdict};
 ghost use Rattle.paper.specs.Report.{added, pageVerdict, offered, ReportedTo};
 ghost use Rattle.surface.specs.Points.{pointRow};
-ghost use Rattle.refine.specs.sums.Sources.{SmallPoints};
+ghost use Rattle.corner_points.specs.RefinedPoints.{SmallPoints};
 ghost use Rattle.dms.specs.header.ListsWithin.{ListsWithin};
 ghost use Rattle.dms.specs.lists.Room.{Room};
 ghost use Rattle.checks.specs.Checked.{RowsFor};

@@ -12,8 +12,8 @@ use Rattle.paper.specs.declared.Answer.the-variants.{Done, Refused}
 use Rattle.mesh.proofs.Accepted.{sound-of, few-corners}
 use Rattle.mesh.proofs.Verdicts.{orElse-fault, past}
 use Rattle.surface.specs.Points.{pointRow}
-use Rattle.refine.specs.sums.Sources.{SmallPoints}
-use Rattle.refine.proofs.sums.Laws.{small-zeros}
+use Rattle.corner_points.specs.RefinedPoints.{SmallPoints}
+use Rattle.refine.proofs.Points.{small-zeros}
 use Rattle.checks.specs.Request.{linksFaults, rangeFaults}
 use Rattle.checks.proofs.requests.Laws.{verdict-is}
 

@@ -13,7 +13,7 @@ ghost use lib.ListN.{length};
 ghost use Rattle.paper.specs.Mesh.{mostCorners, meshOf};
 ghost use Rattle.paper.specs.Calls.{Built};
 ghost use Rattle.surface.specs.Points.{pointRow};
-ghost use Rattle.refine.specs.sums.Sources.{SmallPoints};
+ghost use Rattle.corner_points.specs.RefinedPoints.{SmallPoints};
 ghost use Rattle.checks.specs.Checked.{RowsFor};
 
 // What is asked for: `count` corners from `first` on.

@@ -17,7 +17,7 @@ ghost use Rattle.paper.specs.Calls.{perCorner};
 ghost use Rattle.numbers.specs.Stored.{stored};
 ghost use Rattle.surface.specs.Points.{pointRow};
 ghost use Rattle.walk.specs.Table.{Tabled};
-ghost use Rattle.refine.specs.sums.Sources.{SmallPoints};
+ghost use Rattle.corner_points.specs.RefinedPoints.{SmallPoints};
 ghost use Rattle.net.specs.Drawn.{drawn, Drawn};
 ghost use Rattle.building.specs.writing.Written.{WalksFaces, InFace, Faced, NetsDrawn, NetsWritten};
 

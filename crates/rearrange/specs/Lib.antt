@@ -1,4 +1,2 @@
-pub mod differences
-pub mod planes
 pub mod restoring
 pub mod four_bytes

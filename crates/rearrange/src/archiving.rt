@@ -1,13 +1,13 @@
 // The planes of a coordinate list's differences (L11): the first vertex, then four numbers at a time, then the rest.
-use crate::differences::delta_at;
-use crate::planes::put;
-use crate::planes::put_four;
 use dms::lists::bits;
+use planes::differences::delta_at;
+use planes::put;
+use planes::put_four;
 ghost use mathlib.Core.Path.{_≡_};
 ghost use Prim.Native.Nat.{_+_, _-_, _*_, _%_, _<_, _≤_};
 ghost use lib.ListN.{length};
 ghost use Rattle.paper.specs.Archive.{archived};
-ghost use Rattle.rearrange.specs.planes.Planes.{Planed, spread};
+ghost use Rattle.planes.specs.Planes.{Planed, spread};
 
 // Puts the bytes of every difference into the four planes, each as long as the number list. For one vertex the compiler knows all places.
 pub(crate) fn fill_planes(numbers: &[i32], bytes: &mut [u8])

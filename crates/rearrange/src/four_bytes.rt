@@ -30,7 +30,7 @@ pub fn write_numbers(numbers: &[i32], bytes: &mut [u8])
     let mut i = 0;
     while i < numbers.len() {
         let d = dms::lists::bits(numbers[i]);
-        crate::planes::put(bytes, 1, 4 * i, d, d / 256, d / 65536, d / 16777216);
+        planes::put(bytes, 1, 4 * i, d, d / 256, d / 65536, d / 16777216);
         i += 1;
     }
 }

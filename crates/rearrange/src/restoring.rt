@@ -1,5 +1,5 @@
 // The numbers whose differences stand in four planes (L11).
-use crate::differences::restore_at;
+use planes::differences::restore_at;
 ghost use mathlib.Core.Path.{_≡_};
 ghost use Prim.Native.Nat.{_*_, _%_};
 ghost use lib.ListN.{length};

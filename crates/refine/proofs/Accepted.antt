@@ -13,7 +13,8 @@ use Rattle.surface.specs.Sound.{Sound, Agree}
 use Rattle.surface.proofs.Hull.{coordinate-size, corners-sound}
 use Rattle.surface.proofs.Agree.{sound-same}
 use Rattle.walk.specs.Table.{Tabled, tabled}
-use Rattle.refine.specs.sums.Sources.{FacesWithin, Refinable}
+use Rattle.face_sums.specs.Sums.{FacesWithin}
+use Rattle.refine.specs.Sources.{Refinable}
 
 module _ (M : Mesh) (a : Accepted M) where
   pub faces-of : FacesWithin (M .sides)

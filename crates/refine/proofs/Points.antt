@@ -1,18 +1,18 @@
--- The table of refined points: other values or another choice that are the same, one choice after the other, and one corner.
+-- The table of refined points: other values or another choice that are the same, one choice after the other, and zeros.
 use mathlib.Core.Path.{_≡_, refl, _∙_, sym, subst}
 use mathlib.Core.Logic.{⊎-elim}
 use mathlib.Core.List.{List}
-use Prim.Native.Nat.{ℕ, _+_, _*_, _^_, _<_, _≤_}
+use Prim.Native.Nat.{ℕ, _+_, _*_, _<_, _≤_}
 use native.Mathlib.Omega.{arith}
 use lib.Dec.{ltb}
-use lib.ListN.{length, length-set}
+use lib.ListN.{replicate, getD-replicate, length-replicate, List·getD-eq-default}
 use borrow.Author.Tests.{ltb-true, ltb-false}
-use lib.IntN.{ℤ, natAbs}
+use lib.IntN.{ℤ, pos}
 use Rattle.mesh.proofs.Scans.{ways}
 use Rattle.surface.specs.Points.{pointRow}
-use Rattle.refine.specs.Marks.{AtMark, MarkedIn}
-use Rattle.refine.specs.sums.Sources.{SmallPoints, PointsPut}
-use Rattle.refine.proofs.sums.Laws.{three, three-at, three-beside, three-small}
+use Rattle.face_sums.specs.Marks.{AtMark}
+use Rattle.corner_points.specs.RefinedPoints.{SmallPoints, PointsPut}
+use Rattle.refine.specs.Marks.{MarkedIn}
 
 -- the same choice, with values that are the same there
 pub put-value : {v w : ℕ → ℕ → ℤ} {P : ℕ → Type 0} {old new : List ℤ} → ((axis c : ℕ) → axis < 3 → P c → v axis c ≡ w axis c)
@@ -54,18 +54,7 @@ module _ {value : ℕ → ℕ → ℤ} (corners marked : List ℕ) (start mid en
     small = q .small;
   }
 
--- one corner: three numbers at its row
-module _ {value : ℕ → ℕ → ℤ} (c : ℕ) (old : List ℤ) (x y z : ℤ) (room : pointRow * c + 3 ≤ length old) where
-  pub put-one : x ≡ value 0 c → y ≡ value 1 c → z ≡ value 2 c → ((axis : ℕ) → axis < 3 → natAbs (value axis c) ≤ 2 ^ 24) → SmallPoints old
-      → PointsPut value (λ d. d ≡ c) old (three old (pointRow * c) x y z)
-  put-one ex ey ez size h = record {
-    points-are = λ axis d a e. rw e (three-at old (pointRow * c) x y z room (λ k. value k c) ex ey ez axis a);
-    others = λ i n. three-beside old (pointRow * c) x y z room i (λ axis a e. n axis c a refl e);
-    same = simp length-set;
-    small = three-small old (pointRow * c) x y z room (2 ^ 24) (rw ex (size 0 (omega arith))) (rw ey (size 1 (omega arith))) (rw ez (size 2 (omega arith))) h;
-  }
-
--- that, as the range of one corner; and where its vertex is not marked
+-- one corner, as a range; and where its vertex is not marked
 module _ {value : ℕ → ℕ → ℤ} (corners marked : List ℕ) (c : ℕ) where
   pub put-marked : {old new : List ℤ} → AtMark corners marked c → PointsPut value (λ d. d ≡ c) old new
       → PointsPut value (MarkedIn corners marked c (c + 1)) old new
@@ -74,3 +63,11 @@ module _ {value : ℕ → ℕ → ℤ} (corners marked : List ℕ) (c : ℕ) whe
   pub put-passed : (points : List ℤ) → (AtMark corners marked c → ⊥) → SmallPoints points → PointsPut value (MarkedIn corners marked c (c + 1)) points points
   put-passed points never =
       put-none points (λ d r. never (subst (AtMark corners marked) (let e : d ≡ c = omega (arith, r .0, r .1) in e) (r .2)))
+
+-- zeros
+pub small-zeros : (n : ℕ) → SmallPoints (replicate n (pos 0))
+small-zeros n c =
+    ⊎-elim
+    (λ b. rw (getD-replicate n c (pos 0) (pos 0) (ltb-true c n b)) (omega arith))
+    (λ b. rw (List·getD-eq-default (replicate n (pos 0)) (pos 0) {n = c} (omega (arith, length-replicate {A = ℤ} n (pos 0), ltb-false c n b))) (omega arith))
+    (ways (ltb c n))

@@ -1,22 +1,10 @@
--- Marks of vertices: those that a range of corners names, and the faces that are needed where a vertex is marked.
+-- Marks of vertices: those that a range of corners names, and the corners of a range whose vertices are marked.
 use mathlib.Core.Path.{_≡_}
 use mathlib.Core.List.{List}
 use Prim.Native.Nat.{ℕ, _+_, _<_, _≤_}
 use lib.ListN.{length, getD}
-use Rattle.paper.specs.Corners.{startOf}
 use Rattle.paper.specs.Links.{vertexOf}
-
--- P holds of a number from `start` to before `end`
-pub record SomeIn (P : ℕ → Type 0) (start end : ℕ) : Type 0 where
-  pub at : ℕ
-  pub from : start ≤ at
-  pub to : at < end
-  pub holds : P at
-
--- the number r is not zero exactly when A holds
-pub record Tells (r : ℕ) (A : Type 0) : Type 0 where
-  pub yes : A → 0 < r
-  pub only : 0 < r → A
+use Rattle.face_sums.specs.Marks.{SomeIn, Tells, AtMark}
 
 -- u is the vertex of one of `count` corners from `first` on
 abbrev pub NamedIn : List ℕ → ℕ → ℕ → ℕ → Type 0
@@ -26,14 +14,6 @@ NamedIn corners first count u = SomeIn (λ c. vertexOf corners c ≡ u) first (f
 abbrev pub Marked : List ℕ → ℕ → ℕ → List ℕ → Type 0
 Marked corners first count marked = (u : ℕ) → u < length marked → Tells (getD marked u 0) (NamedIn corners first count u)
 
--- the vertex of corner c is marked
-abbrev pub AtMark : List ℕ → List ℕ → ℕ → Type 0
-AtMark corners marked c = 0 < getD marked (vertexOf corners c) 0
-
--- the same of a corner from `start` to before `end`
+-- the vertex of corner c is marked, and c is from `start` to before `end`
 abbrev pub MarkedIn : List ℕ → List ℕ → ℕ → ℕ → ℕ → Type 0
 MarkedIn corners marked start end c = (start ≤ c) × (c < end) × AtMark corners marked c
-
--- face f is needed: it has a corner whose vertex is marked
-abbrev pub Needed : List ℕ → List ℕ → List ℕ → ℕ → Type 0
-Needed sides corners marked f = SomeIn (AtMark corners marked) (startOf sides f) (startOf sides f + getD sides f 0)

@@ -1,12 +1,9 @@
 // The refined points of the corners at the vertices that are marked: a row for each corner. The sums of their faces are formed first, once for each
 // face, and put into a table; the loop over the corners takes them from there.
-pub mod corners;
-pub mod sums;
-
-use crate::corners::FaceSums;
-use crate::corners::fill_corner;
-use crate::corners::read_face;
-use crate::sums::fill_sums;
+use corner_points::FaceSums;
+use corner_points::fill_corner;
+use corner_points::read_face;
+use face_sums::fill_sums;
 use mesh::SMALL_MESH;
 use paper::MOST_CORNERS;
 use paper::MOST_FACES;
@@ -19,8 +16,11 @@ ghost use Rattle.mesh.specs.Tables.{Named};
 ghost use Rattle.surface.specs.Points.{pointRow};
 ghost use Rattle.walk.specs.Table.{Tabled};
 ghost use Rattle.refine.specs.Marks.{Marked};
-ghost use Rattle.refine.specs.sums.Sources.{sumRow, Refinable, SmallPoints, Covered, SumsFit};
-ghost use Rattle.refine.specs.corners.Mean.{CornerLists, FaceKnown, FacePointed, TablePointed, MarkedPointed};
+ghost use Rattle.face_sums.specs.Sums.{sumRow};
+ghost use Rattle.corner_points.specs.RefinedPoints.{SmallPoints};
+ghost use Rattle.refine.specs.Sources.{Refinable, Covered, SumsFit};
+ghost use Rattle.corner_points.specs.Mean.{CornerLists, FaceKnown};
+ghost use Rattle.refine.specs.Pointed.{FacePointed, TablePointed, MarkedPointed};
 
 // Marks the vertices of `count` corners from `first` on, in a table of zeros.
 pub fn mark_vertices(corners: &[u16], first: usize, count: usize, marked: &mut [u8])

@@ -25,7 +25,7 @@ use Rattle.mesh.proofs.Faces.{OfFace, held, face-at, start-ends}
 use Rattle.mesh.proofs.Links.{values-length, values-at}
 use Rattle.mesh.proofs.Verdicts.{orElse-fault, orElse-sound, single-hit, single-miss}
 use Rattle.mesh.proofs.Accepted.{sound-of, few-vertices, sums-of}
-use Rattle.refine.specs.sums.Sources.{FacesWithin}
+use Rattle.face_sums.specs.Sums.{FacesWithin}
 use Rattle.refine.proofs.Accepted.{faces-of, vertex-in}
 use Rattle.touching.specs.Sharing.{among, AllMarked, FaceMarked, inFace, SharingMarked}
 

@@ -10,7 +10,7 @@ ghost use Rattle.paper.specs.Mesh.{meshOf, mostVertices};
 ghost use Rattle.paper.specs.Corners.{sumOf};
 ghost use Rattle.paper.specs.Links.{vertexOf};
 ghost use Rattle.mesh.specs.Tables.{Named};
-ghost use Rattle.refine.specs.sums.Sources.{FacesWithin};
+ghost use Rattle.face_sums.specs.Sums.{FacesWithin};
 ghost use Rattle.paper.specs.Preview.{touchMarks, Touched};
 ghost use Rattle.touching.specs.Sharing.{among, AllMarked, FaceMarked, SharingMarked};
 

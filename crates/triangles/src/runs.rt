@@ -14,7 +14,7 @@ ghost use Rattle.paper.specs.Floats.{netVerdict};
 ghost use Rattle.paper.specs.Calls.{nets};
 ghost use Rattle.numbers.specs.Stored.{stored};
 ghost use Rattle.surface.specs.Points.{pointRow};
-ghost use Rattle.refine.specs.sums.Sources.{SmallPoints};
+ghost use Rattle.corner_points.specs.RefinedPoints.{SmallPoints};
 ghost use Rattle.building.specs.writing.Written.{NetsDrawn};
 ghost use Rattle.strips.specs.PointRows.{Stands};
 ghost use Rattle.numbering.specs.Meshed.{Given, Of};

@@ -10,7 +10,7 @@ use Rattle.paper.specs.Scan.{firstBelow, someBelow}
 use Rattle.mesh.proofs.Scans.{clash, some-true, some-false, some-below, some-passes, none}
 use Rattle.mesh.proofs.Ranges.{or-left, or-right}
 use Rattle.mesh.proofs.ByCases.{by-order, false-of}
-use Rattle.turning.proofs.Pairs.{Paired}
+use Rattle.partners.proofs.Pairs.{Paired}
 
 abbrev pub alike : (ℕ → ℕ → Bool) → (ℕ → ℕ → Bool) → ℕ → ℕ → Bool
 alike same rev c d = same c d || rev c d
@@ -25,10 +25,6 @@ pub record Moved (m : ℕ) (same rev same' rev' : ℕ → ℕ → Bool) (move : 
   pub unlike-self : (c : ℕ) → unlike c c ≡ false
   pub same-moved : (c d : ℕ) → c < m → d < m → same' (move c) (move d) ≡ cond (unlike c d) (rev c d) (same c d)
   pub rev-moved : (c d : ℕ) → c < m → d < m → rev' (move c) (move d) ≡ cond (unlike c d) (same c d) (rev c d)
-
-pub either : (a b : Bool) → a || b ≡ true → (a ≡ true) ⊎ (b ≡ true)
-either true b e = inl refl
-either false b e = inr e
 
 -- one of two is what a choice of them is, and the other what the opposite choice is
 cond-left : (x a b : Bool) → cond x a b ≡ true → a || b ≡ true

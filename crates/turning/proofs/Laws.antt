@@ -15,12 +15,13 @@ use Rattle.mesh.proofs.Verdicts.{sound-left, sound-right, single-sound, lowest-
 use Rattle.mesh.proofs.Accepted.{few-vertices, few-faces, few-corners, named-of}
 use Rattle.walk.specs.Table.{rowLength}
 use Rattle.checks.specs.columns.Filled.{FacesFilled}
-use Rattle.turning.specs.States.{turnsBy}
+use Rattle.reversing.specs.States.{turnsBy}
 use Rattle.turning.proofs.Theorem.{listed-of}
 use Rattle.turning.proofs.Theorems.{long-of}
-use Rattle.turning.proofs.Models.{corners-same, pairs-same, faces-same}
-use Rattle.turning.specs.reversing.Written.{Written}
-use Rattle.turning.specs.choosing.Choice.{ListsPass, Nexted, Chosen}
+use Rattle.reversing.proofs.Models.{corners-same, pairs-same, faces-same}
+use Rattle.reversing.specs.Written.{Written}
+use Rattle.partners.specs.Lists.{ListsPass, Nexted}
+use Rattle.turning.specs.choosing.Choice.{Chosen}
 use Rattle.turning.specs.Chosen.{ChosenFor}
 
 -- lists that pass 4 to 9

@@ -15,7 +15,7 @@ use Rattle.paper.specs.Turning.{facesOf, turnsOf, turnedFaces}
 use Rattle.paper.specs.Claims.{ListingRises}
 use Rattle.mesh.proofs.Scans.{clash, some-true, some-false}
 use Rattle.mesh.proofs.ByCases.{by-test, by-equal, beyond}
-use Rattle.turning.proofs.Models.{faces-hit, faces-miss, faces-none}
+use Rattle.reversing.proofs.Models.{faces-hit, faces-miss, faces-none}
 
 module _ (t : ℕ → Bool) where
   -- what holds of the faces from `at` on among `left`

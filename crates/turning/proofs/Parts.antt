@@ -8,7 +8,8 @@ use Prim.Native.Nat.{ℕ, _<_}
 use lib.ListN.{length}
 use Rattle.paper.specs.Corners.{faceOf}
 use Rattle.mesh.proofs.Scans.{clash}
-use Rattle.turning.specs.Constraints.{partner, MeetsAt, ClosedIn, JoinedIn}
+use Rattle.partners.specs.Partner.{partner}
+use Rattle.turning.specs.Constraints.{MeetsAt, ClosedIn, JoinedIn}
 use Rattle.mesh.proofs.ByCases.{true-of, true-both}
 
 -- laws of unlike

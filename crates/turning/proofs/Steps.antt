@@ -15,7 +15,7 @@ use Rattle.mesh.proofs.Ranges.{or-left, or-right}
 use Rattle.mesh.proofs.Scans.{clash, and-true, and-left, and-right, some-true, some-below, some-passes, none}
 use Rattle.mesh.proofs.Rings.{count-hit, count-miss, count-le}
 use Rattle.mesh.proofs.ByCases.{by-test, by-equal, true-of}
-use Rattle.turning.proofs.Edges.{either}
+use Rattle.partners.proofs.SharedEdges.{either}
 
 -- counts of two tests, one within the other
 module _ (g h : ℕ → Bool) (inside : (j : ℕ) → g j ≡ true → h j ≡ true) where

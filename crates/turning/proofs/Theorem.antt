@@ -18,16 +18,19 @@ use Rattle.mesh.proofs.Accepted.{sides-within, sums-of}
 use Rattle.mesh.proofs.Scans.{clash, and-true, and-left, and-right, first-le, first-at, first-passes, first-fails, some-false, none}
 use Rattle.paper.specs.Turning.{says, firstChoice, turnedCorners, sharesEdge, fault34, connected, lowestOfPart, faulty, serves, servesPart}
 use Rattle.paper.specs.Turning.{fault35, keepsLowest, chosen, turnsOf, turnFaults, inSteps}
-use Rattle.turning.specs.Constraints.{FacesListed, partner, label, MeetsAt, ClosedIn, JoinedIn, MeetsPart}
-use Rattle.mesh.proofs.Ranges.{or-left, or-right, or-none, none-left, none-right}
+use Rattle.partners.specs.Lists.{FacesListed}
+use Rattle.partners.specs.Partner.{partner}
+use Rattle.turning.specs.Constraints.{label, MeetsAt, ClosedIn, JoinedIn, MeetsPart}
+use Rattle.mesh.proofs.Ranges.{or-none, none-left, none-right}
 use Rattle.mesh.proofs.ByCases.{true-of, false-of, true-both}
 use Rattle.turning.proofs.Steps.{sharing, Stepped, from-face, last-step, adjoins, here, still-joins}
 use Rattle.turning.proofs.Choices.{some-choice, first-choice, choice-of, choice-long, choice-says}
 use Rattle.turning.proofs.Parts.{joined-across, joined-back, choices-same, glued, glued-meets, glued-keeps}
-use Rattle.turning.proofs.Pairs.{Paired, paired, counted}
-use Rattle.turning.proofs.Edges.{alike, either, met-of-reverse, reverse-of-met, unrepeated-of-met, paired-of-served}
-use Rattle.turning.proofs.TurnedFace.{moved, length-turned, moved-in, moved-twice, face-moved, face-in, sided, moves, reverses-same, same-back}
-use Rattle.turning.proofs.TurnedFace.{reverse-back}
+use Rattle.partners.proofs.Pairs.{Paired, paired, counted}
+use Rattle.turning.proofs.Edges.{alike, met-of-reverse, reverse-of-met, unrepeated-of-met, paired-of-served}
+use Rattle.partners.proofs.SharedEdges.{reverses-same, same-back, shares-self, shares-back}
+use Rattle.reversing.proofs.TurnedFace.{moved, length-turned, moved-in, moved-twice, face-moved}
+use Rattle.turning.proofs.TurnedEdges.{face-in, sided, moves}
 
 and-false : (a b : Bool) → (a ≡ true → b ≡ true → ⊥) → a && b ≡ false
 and-false true true n = absurd (n refl refl)
@@ -35,16 +38,6 @@ and-false true false n = refl
 and-false false b n = refl
 
 module _ {sides corners : List ℕ} (k : FacesListed sides corners) where
-  pub shares-self : (c : ℕ) → sharesEdge sides corners c c ≡ true
-  unfolding sharesEdge
-  shares-self c = or-left _ _ (sided k .self c)
-
-  pub shares-back : (c d : ℕ) → sharesEdge sides corners c d ≡ true → sharesEdge sides corners d c ≡ true
-  unfolding sharesEdge
-  shares-back c d p =
-      ⊎-elim (λ e. or-left _ _ (same-back sides corners c d e)) (λ e. or-right (sameEdge sides corners d c) _ (reverse-back sides corners c d e))
-      (either (sameEdge sides corners c d) _ p)
-
   -- a choice that serves leaves every edge in two faces
   module _ (t : ℕ → Bool) (s : serves sides corners t ≡ true) where
     served : (c : ℕ) → c < length corners → faulty sides corners t c ≡ false
@@ -64,7 +57,7 @@ module _ {sides corners : List ℕ} (k : FacesListed sides corners) where
     pub two-of-served : (c : ℕ) → c < length corners → fault34 sides corners c ≡ false
     unfolding fault34 sharesEdge
     two-of-served c h =
-        ap not (eq-eqb _ 2 (counted (length corners) (alike (sameEdge sides corners) (reverseEdge sides corners) c) c h (shares-self c) _
+        ap not (eq-eqb _ 2 (counted (length corners) (alike (sameEdge sides corners) (reverseEdge sides corners) c) c h (shares-self sides corners c) _
         (paired-of-served (sided k) (moves k t) ten eleven
         (reverses-same sides (turnedCorners sides corners t)) (same-back sides (turnedCorners sides corners t)) c h)))
 
@@ -72,7 +65,7 @@ module _ {sides corners : List ℕ} (k : FacesListed sides corners) where
   module _ (two : (c : ℕ) → c < length corners → fault34 sides corners c ≡ false) where
     pub partnered : (c : ℕ) → c < length corners → Paired (length corners) (sharesEdge sides corners c) c (partner sides corners c)
     unfolding fault34 partner
-    partnered c h = paired (length corners) (sharesEdge sides corners c) c h (shares-self c) (eqb-true _ _ (not-false _ (two c h)))
+    partnered c h = paired (length corners) (sharesEdge sides corners c) c h (shares-self sides corners c) (eqb-true _ _ (not-false _ (two c h)))
 
     pub partner-in : (c : ℕ) → c < length corners → partner sides corners c < length corners
     partner-in c h = partnered c h .inside
@@ -80,7 +73,7 @@ module _ {sides corners : List ℕ} (k : FacesListed sides corners) where
     pub partner-partner : (c : ℕ) → c < length corners → partner sides corners (partner sides corners c) ≡ c
     partner-partner c h =
         ⊎-elim (λ z. absurd (partnered c h .apart (sym z))) sym
-        (partnered (partner sides corners c) (partner-in c h) .only c h (shares-back c (partner sides corners c) (partnered c h .passes)))
+        (partnered (partner sides corners c) (partner-in c h) .only c h (shares-back sides corners c (partner sides corners c) (partnered c h .passes)))
 
     -- a corner of the turned lists has no fault of 10 and 11 exactly when the constraint of its edge is met
     module _ (t : ℕ → Bool) (c : ℕ) (h : c < length corners) where
@@ -143,7 +136,7 @@ module _ {sides corners : List ℕ} (k : FacesListed sides corners) where
         let p = partnered c h .passes in
         true-both _ _
         (λ e. still-joins sides corners f _ _ (face-in k c h) (face-in k _ l) e (adjoins sides corners c _ h l p))
-        (λ e. still-joins sides corners f _ _ (face-in k _ l) (face-in k c h) e (adjoins sides corners _ c l h (shares-back c _ p)))
+        (λ e. still-joins sides corners f _ _ (face-in k _ l) (face-in k c h) e (adjoins sides corners _ c l h (shares-back sides corners c _ p)))
 
     pub joined-connected : (f g : ℕ) → JoinedIn sides corners f g → connected sides corners f g ≡ true
     joined-connected f g j = j (connected sides corners f) (connected-closed f) (unfold connected in here sides corners f (length sides))

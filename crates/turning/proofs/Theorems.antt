@@ -18,9 +18,9 @@ use Rattle.mesh.proofs.Ranges.{or-none, none-left, none-right}
 use Rattle.mesh.proofs.Scans.{some-false, none}
 use Rattle.mesh.proofs.Verdicts.{sound-left, sound-right, single-sound, single-miss, lowest-sound, lowest-none, orElse-sound, unsound}
 use Rattle.mesh.proofs.Accepted.{sharp-length}
-use Rattle.turning.proofs.TurnedFace.{length-turned}
-use Rattle.turning.proofs.Models.{corners-twice, pairs-twice, corners-same, pairs-same, noFace, corners-untouched, pairs-untouched, faces-same}
-use Rattle.turning.proofs.Models.{no-faces}
+use Rattle.reversing.proofs.TurnedFace.{length-turned}
+use Rattle.reversing.proofs.Models.{corners-twice, pairs-twice, corners-same, pairs-same, noFace, corners-untouched, pairs-untouched, faces-same}
+use Rattle.reversing.proofs.Models.{no-faces}
 use Rattle.turning.proofs.Steps.{none-later}
 use Rattle.turning.proofs.Theorem.{listed-of, complete}
 

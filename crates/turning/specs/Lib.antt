@@ -1,9 +1,6 @@
 pub mod Constraints
-pub mod States
 pub mod Chosen
-pub mod partners
 pub mod starts
 pub mod visiting
 pub mod spreading
-pub mod reversing
 pub mod choosing

@@ -3,12 +3,12 @@
 use paper::Answer;
 use paper::MOST_CORNERS;
 use paper::MOST_FACES;
-use paper::MOST_VERTICES;
+use partners::find_partners;
 ghost use Prim.Native.Nat.{_≤_};
 ghost use lib.ListN.{length};
 ghost use Rattle.walk.specs.Table.{Blank};
-ghost use Rattle.turning.specs.partners.Keys.{Afters, PartnersOver};
-ghost use Rattle.turning.specs.choosing.Choice.{ListsPass, Nexted, EdgeEnds, Chosen};
+ghost use Rattle.partners.specs.Lists.{ListsPass, Nexted};
+ghost use Rattle.turning.specs.choosing.Choice.{Chosen};
 
 // Checks 34 and 35, and the state of every face.
 pub(crate) fn find_turns(
@@ -40,40 +40,4 @@ pub(crate) fn find_turns(
         states,
         &mut queue,
     )
-}
-
-// Check 34, and the partner of every corner.
-fn find_partners(
-    vertices: usize,
-    sides: &[u8],
-    corners: &[u16],
-    table: &[u16],
-    partners: &mut [u16],
-) -> Answer
-    requires lists { ⌜ ListsPass vertices (now sides) (now corners) × Nexted (now sides) (now corners) (now table) ⌝ }
-    requires room { ⌜ (length (now corners) ≤ length (now partners)) × Blank (now partners) ⌝ }
-    ensures { λ r. ⌜ PartnersOver (now (sides .entry)) (now (corners .entry)) r (now (partners .exit)) ⌝ }
-{
-    let n = corners.len();
-    let mut lows = [0u16; MOST_CORNERS];
-    let mut highs = [0u16; MOST_CORNERS];
-    crate::partners::fill_keys(corners, table, &mut lows, &mut highs);
-    let low = &lows[..n];
-    let high = &highs[..n];
-    let mut afters = [0u16; MOST_CORNERS];
-    fill_afters(low, high, vertices, &mut afters);
-    crate::partners::pair(low, high, &afters, partners)
-}
-
-// The next corner with the same ends, of every corner.
-fn fill_afters(lows: &[u16], highs: &[u16], vertices: usize, afters: &mut [u16])
-    requires ends { ⌜ EdgeEnds vertices (now lows) (now highs) ⌝ }
-    requires room { ⌜ length (now lows) ≤ length (now afters) ⌝ }
-    ensures { λ _. ⌜ Afters (now (lows .entry)) (now (highs .entry)) (now (afters .exit)) ⌝ }
-{
-    let mut earliers = [0u16; MOST_CORNERS];
-    let mut heads = [0u16; MOST_VERTICES];
-    crate::partners::fill_earliers(lows, vertices, &mut earliers, &mut heads);
-    let mut table = [0u16; MOST_VERTICES];
-    crate::partners::fill_afters(lows, highs, &earliers, &heads, vertices, &mut table, afters)
 }

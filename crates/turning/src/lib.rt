@@ -1,11 +1,8 @@
 // L13, faces drawn the wrong way round: checks 36, 4 to 9 with 27 and 28, 34 and 35; then the turned model in the lent lists, and the turned faces
 // at the beginning of the lent listing. Nothing is written before the last check has passed.
 pub mod choosing;
-pub mod partners;
-pub mod reversing;
 pub mod spreading;
 pub mod starts;
-pub mod states;
 pub mod visiting;
 
 use checks::columns::VERTEX_ROW;
@@ -46,8 +43,8 @@ pub fn turn(
             turned: 0,
         };
     }
-    crate::reversing::turn_sharpness(sides, &states, sharpness);
-    let turned = crate::reversing::turn_faces(sides, &states, corners, listing);
+    reversing::turn_sharpness(sides, &states, sharpness);
+    let turned = reversing::turn_faces(sides, &states, corners, listing);
     Turned {
         answer: Answer::Done,
         turned: turned,

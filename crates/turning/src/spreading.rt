@@ -1,10 +1,10 @@
 // Turns spread over the faces of a model: from the lowest face of each part, which is kept, over shared edges, until a face is asked to
 // be both kept and turned, or every face of the part has its turn.
-use crate::states::KEPT;
-use crate::states::UNSEEN;
 use crate::visiting::Reach;
 use crate::visiting::visit;
 use paper::Answer;
+use reversing::states::KEPT;
+use reversing::states::UNSEEN;
 ghost use mathlib.Core.Path.{_≡_};
 ghost use Prim.Native.Nat.{_+_, _≤_, _<_};
 ghost use lib.ListN.{length, getD};

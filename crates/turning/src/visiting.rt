@@ -1,6 +1,6 @@
 // One face of a model that is turned: the faces across its edges get their states, or one of them is asked to be both kept and turned.
-use crate::states::UNSEEN;
-use crate::states::across;
+use reversing::states::UNSEEN;
+use reversing::states::across;
 ghost use mathlib.Core.Path.{_≡_};
 ghost use Prim.Native.Nat.{_<_};
 ghost use lib.ListN.{length};

@@ -24,7 +24,7 @@ use Rattle.surface.proofs.Rings.{ring-in, neighbour-in}
 use Rattle.surface.proofs.Agree.{neighbour-same, H-same, T-same, X-same, Y-same, C-same, net-same}
 use Rattle.walk.specs.Table.{Tabled, tabled}
 use Rattle.mesh.specs.Tables.{Named}
-use Rattle.refine.specs.corners.Mean.{MarkedPointed}
+use Rattle.refine.specs.Pointed.{MarkedPointed}
 use Rattle.refine.proofs.Accepted.{vertex-in, table-agrees, table-sound}
 use Rattle.borders.proofs.Ranges.{ranges}
 use Rattle.borders.proofs.Theorem.{same-outer, same-a}

@@ -6,7 +6,7 @@ use Rattle.paper.specs.Mesh.{mostCorners}
 use Rattle.mesh.specs.Tables.{smallMesh}
 use Rattle.mesh.proofs.Tables.{rows-suffice}
 use Rattle.surface.specs.Points.{pointRow}
-use Rattle.refine.proofs.sums.Laws.{small-zeros}
+use Rattle.refine.proofs.Points.{small-zeros}
 use Rattle.checks.proofs.Laws.{rows-for}
 use Rattle.border_report.proofs.Laws.{point-room}
 use native.Mathlib.Omega.{arith}

@@ -29,8 +29,8 @@ use Rattle.surface.proofs.RingFaces.{MeetsFace, ring-seen}
 use Rattle.surface.proofs.Agree.{net-same}
 use Rattle.walk.specs.Table.{toNext, toPrevious, entry, Tabled}
 use Rattle.refine.specs.Marks.{NamedIn, Marked}
-use Rattle.refine.specs.sums.Sources.{PointsPut}
-use Rattle.refine.specs.corners.Mean.{MarkedPointed}
+use Rattle.corner_points.specs.RefinedPoints.{PointsPut}
+use Rattle.refine.specs.Pointed.{MarkedPointed}
 use Rattle.refine.proofs.Accepted.{vertex-in, faces-of, refinable-of, table-agrees, table-sound}
 use Rattle.refine.proofs.Points.{put-choice}
 use Rattle.net.specs.Drawn.{drawn, Drawn}

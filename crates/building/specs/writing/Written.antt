@@ -12,7 +12,7 @@ use Rattle.paper.specs.Net.{net, netPoints}
 use Rattle.paper.specs.Calls.{perCorner}
 use Rattle.walk.specs.Table.{rowLength, toPrevious, sidesHere, Column}
 use Rattle.net.specs.Drawn.{drawn, Drawn}
-use Rattle.refine.specs.sums.Sources.{FacesWithin}
+use Rattle.face_sums.specs.Sums.{FacesWithin}
 
 -- the table leads from each corner to the previous one of its face, and has the sides of the face
 pub record WalksFaces (sides table : List ℕ) : Type 0 where

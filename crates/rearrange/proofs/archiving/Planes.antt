@@ -7,10 +7,10 @@ use lib.ListN.{length, set}
 use lib.IntN.{ℤ}
 use Rattle.paper.specs.Archive.{archived}
 use Rattle.rearrange.proofs.laws.Planes.{first-plane, second-plane, third-plane, last-plane, archived-length, same-planes}
-use Rattle.rearrange.specs.differences.Deltas.{deltaAt}
-use Rattle.rearrange.specs.planes.Planes.{Planed, fourSet, spread}
-use Rattle.rearrange.proofs.planes.BytesPut.{run-one, lowest-byte}
-use Rattle.rearrange.proofs.planes.Planes.{Bytes, planed-runs, byte-here}
+use Rattle.planes.specs.differences.Deltas.{deltaAt}
+use Rattle.planes.specs.Planes.{Planed, fourSet, spread}
+use Rattle.planes.proofs.BytesPut.{run-one, lowest-byte}
+use Rattle.planes.proofs.Planes.{Bytes, planed-runs, byte-here}
 
 module _ (numbers : List ℤ) where
   abbrev m : ℕ

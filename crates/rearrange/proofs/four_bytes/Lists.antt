@@ -11,8 +11,8 @@ use mir.Val.{ofZ}
 use Rattle.paper.specs.File.{wordAt}
 use Rattle.mesh.proofs.Scans.{compared}
 use Rattle.rearrange.proofs.laws.Words.{four-bytes}
-use Rattle.rearrange.specs.planes.Planes.{spread}
-use Rattle.rearrange.proofs.planes.BytesPut.{BytesPut, run-row, lowest-byte}
+use Rattle.planes.specs.Planes.{spread}
+use Rattle.planes.proofs.BytesPut.{BytesPut, run-row, lowest-byte}
 use Rattle.rearrange.specs.four_bytes.Words.{NumbersStored}
 
 module _ (l : List ℕ) (at d : ℕ) (room : at + 3 < length l) (h : d < 2 ^ 32) where

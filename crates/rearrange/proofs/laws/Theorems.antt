@@ -19,7 +19,8 @@ use Rattle.mesh.proofs.Links.{values-length, values-at}
 use Rattle.mesh.proofs.Verdicts.{unsound}
 use Rattle.paper.specs.Archive.{bitsAt, delta, archived, storedAt, sumAt, restoredAt, restored, archiveVerdict, Archived, Restored, All32Bit, AllBytes}
 use Rattle.paper.specs.Claims.{NumbersReturn, BytesReturn}
-use Rattle.rearrange.proofs.laws.Words.{four-bytes, byte0, byte1, byte2, byte3, added, taken-back, third, rest}
+use Rattle.planes.proofs.differences.Positions.{third, rest}
+use Rattle.rearrange.proofs.laws.Words.{four-bytes, byte0, byte1, byte2, byte3, added, taken-back}
 use Rattle.rearrange.proofs.laws.Lengths.{passes, thirds, four-times}
 use Rattle.rearrange.proofs.laws.Planes.{first-plane, second-plane, third-plane, last-plane, archived-length, same-planes}
 

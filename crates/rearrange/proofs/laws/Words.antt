@@ -56,10 +56,3 @@ taken-back s d h k =
     mod-add-mod (s + d) (2 ^ 32) (2 ^ 32 - s)
     ∙ ap (λ (x : ℕ). x % 2 ^ 32) (let q : s + d + (2 ^ 32 - s) ≡ d + 2 ^ 32 = omega arith in q)
     ∙ add-mod-right d (2 ^ 32) ∙ mod-eq-of-lt k
-
--- ---- a position as vertex and axis
-pub third : (v a : ℕ) → a < 3 → (3 * v + a) / 3 ≡ v
-third v a h = div-eq-of-lt-le 3 (omega arith) (omega arith)
-
-pub rest : (v a : ℕ) → a < 3 → (3 * v + a) % 3 ≡ a
-rest v a h = omega (arith, div-add-mod (3 * v + a) 3, third v a h)

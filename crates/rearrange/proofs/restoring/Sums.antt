@@ -11,9 +11,9 @@ use mir.Syntax.{w32}
 use mir.Val.{toZ}
 use Rattle.mesh.proofs.Fills.{Filled, filled-step, filled-whole}
 use Rattle.paper.specs.Archive.{storedAt, sumAt, restoredAt, restored}
-use Rattle.rearrange.specs.differences.Deltas.{OneRestored}
+use Rattle.planes.specs.differences.Deltas.{OneRestored}
 use Rattle.rearrange.specs.restoring.Sums.{sumBefore}
-use Rattle.rearrange.proofs.laws.Words.{third, rest}
+use Rattle.planes.proofs.differences.Positions.{third, rest}
 
 module _ (bytes : List ℕ) (n : ℕ) where
   pub before-first : (a : ℕ) → sumBefore bytes n 0 a ≡ 0
@@ -43,12 +43,29 @@ module _ (bytes : List ℕ) (n : ℕ) where
           t .sums ∙ ap (λ (k : ℕ). (k + storedAt bytes n i) % 2 ^ 32) e ∙ ap (λ (k : ℕ). (sumBefore bytes n v a + storedAt bytes n k) % 2 ^ 32) q
           ∙ sum-step v a (rw q at (t .small))
 
-      pub one-next : r ≡ sumBefore bytes n (v + 1) a
+      one-next : r ≡ sumBefore bytes n (v + 1) a
       one-next = one-sum ∙ sym (before-next v a)
 
-      pub one-fills : (old : List ℤ) (j : ℕ) → i < length old → i + 1 ≡ j → Filled (restoredAt bytes n) old i l → Filled (restoredAt bytes n) old j out
+      one-fills : (old : List ℤ) (j : ℕ) → i < length old → i + 1 ≡ j → Filled (restoredAt bytes n) old i l → Filled (restoredAt bytes n) old j out
       one-fills old j at k f =
           rw (t .holds, ← k) (filled-step (restoredAt bytes n) old i l (toZ w32 r) (pos 0) at f (ap (toZ w32) one-sum ∙ number-is))
+
+  -- the three numbers of vertex v
+  module _ (v : ℕ) (old l o1 o2 out : List ℤ) (x y z r1 r2 r3 : ℕ) (x-is : x ≡ sumBefore bytes n v 0) (y-is : y ≡ sumBefore bytes n v 1)
+      (z-is : z ≡ sumBefore bytes n v 2) (t1 : OneRestored bytes n l (3 * v) x r1 o1) (t2 : OneRestored bytes n o1 (3 * v + 1) y r2 o2)
+      (t3 : OneRestored bytes n o2 (3 * v + 2) z r3 out) where
+    pub vertex-next : (r1 ≡ sumBefore bytes n (v + 1) 0) × (r2 ≡ sumBefore bytes n (v + 1) 1) × (r3 ≡ sumBefore bytes n (v + 1) 2)
+    vertex-next = (
+      one-next v 0 (3 * v) (omega arith) (omega arith) l o1 x r1 x-is t1,
+      one-next v 1 (3 * v + 1) (omega arith) refl o1 o2 y r2 y-is t2,
+      one-next v 2 (3 * v + 2) (omega arith) refl o2 out z r3 z-is t3,
+    )
+
+    pub vertex-fills : 3 * v + 2 < length old → Filled (restoredAt bytes n) old (3 * v) l → Filled (restoredAt bytes n) old (3 * (v + 1)) out
+    vertex-fills h f =
+        one-fills v 2 (3 * v + 2) (omega arith) refl o2 out z r3 z-is t3 old (3 * (v + 1)) h (omega arith)
+        (one-fills v 1 (3 * v + 1) (omega arith) refl o1 o2 y r2 y-is t2 old (3 * v + 2) (omega arith) (omega arith)
+        (one-fills v 0 (3 * v) (omega arith) (omega arith) l o1 x r1 x-is t1 old (3 * v + 1) (omega arith) refl f))
 
 -- a list keeps its length
 pub one-length : (bytes : List ℕ) (n : ℕ) (l out : List ℤ) (i sum r m : ℕ) → OneRestored bytes n l i sum r out → length l ≡ m → length out ≡ m

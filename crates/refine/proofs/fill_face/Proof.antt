@@ -7,7 +7,8 @@ use borrow.Author.Needs.{needs}
 use lib.Dec.{lit<}
 use lib.ListN.{length}
 use denote.Ref.{now}
-use Rattle.refine.specs.corners.Mean.{Known, totalOn, FacePointed}
+use Rattle.corner_points.specs.Mean.{Known, totalOn}
+use Rattle.refine.specs.Pointed.{FacePointed}
 use Rattle.refine.proofs.Points.{put-none, put-more, put-marked, put-passed}
 use Rattle.refine.proofs.fill_face.Statement.{statement}
 use Rattle.refine.proofs.fill_face.Tie as tie

@@ -10,10 +10,10 @@ use denote.Ref.{now}
 use Rattle.paper.specs.Mesh.{Mesh, meshOf}
 use Rattle.paper.specs.Corners.{startOf}
 use Rattle.mesh.proofs.Faces.{start-zero, start-next, start-ends, start-all, face-at}
-use Rattle.refine.specs.Marks.{AtMark}
-use Rattle.refine.specs.corners.Mean.{TablePointed}
+use Rattle.face_sums.specs.Marks.{AtMark}
+use Rattle.refine.specs.Pointed.{TablePointed}
 use Rattle.refine.proofs.Points.{put-none, put-more}
-use Rattle.refine.proofs.corners.Laws.{face-known, face-put, lists-of}
+use Rattle.refine.proofs.Laws.{face-known, face-put, lists-of}
 use Rattle.refine.proofs.fill_faces.Statement.{statement}
 use Rattle.refine.proofs.fill_faces.Tie as tie
 

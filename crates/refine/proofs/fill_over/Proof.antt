@@ -4,7 +4,7 @@ use borrow.Author.Needs.{needs}
 use denote.Ref.{now}
 use Rattle.paper.specs.Mesh.{Mesh, meshOf}
 use Rattle.refine.proofs.Points.{put-value}
-use Rattle.refine.proofs.corners.Laws.{covered-of, fits-of, table-point}
+use Rattle.refine.proofs.Laws.{covered-of, fits-of, table-point}
 use Rattle.refine.proofs.fill_over.Statement.{statement}
 use Rattle.refine.proofs.fill_over.Tie as tie
 

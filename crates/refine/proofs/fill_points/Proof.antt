@@ -8,8 +8,8 @@ use denote.Ref.{now}
 use Rattle.paper.specs.Mesh.{mostCorners, mostFaces}
 use Rattle.mesh.specs.Tables.{smallMesh}
 use Rattle.mesh.proofs.Tables.{rows-suffice}
-use Rattle.refine.specs.sums.Sources.{sumRow}
-use Rattle.refine.proofs.sums.Laws.{sums-fit}
+use Rattle.face_sums.specs.Sums.{sumRow}
+use Rattle.face_sums.proofs.Laws.{sums-fit}
 use Rattle.refine.proofs.fill_points.Statement.{statement}
 use Rattle.refine.proofs.fill_points.Tie as tie
 

@@ -17,16 +17,18 @@ use Rattle.mesh.proofs.Rings.{count-le, count-none}
 use Rattle.walk.specs.Table.{Blank}
 use Rattle.paper.specs.Turning.{says, fault34, connected, lowestOfPart, fault35, chosen}
 use Rattle.mesh.proofs.ByCases.{by-equal, by-less, by-order, true-both}
-use Rattle.turning.proofs.Stores.{put}
-use Rattle.turning.specs.Constraints.{FacesListed, partner, JoinedIn, MeetsPart, ClosedIn}
+use Rattle.partners.proofs.Stores.{put}
+use Rattle.partners.specs.Lists.{FacesListed}
+use Rattle.partners.specs.Partner.{partner}
+use Rattle.turning.specs.Constraints.{JoinedIn, MeetsPart, ClosedIn}
 use Rattle.turning.proofs.Parts.{joined-back}
-use Rattle.turning.proofs.TurnedFace.{face-in}
+use Rattle.turning.proofs.TurnedEdges.{face-in}
 use Rattle.turning.proofs.Theorem.{partner-in, partner-partner, no-35-of-meets, is-35, chosen-is, low-in, low-joined, joined-connected}
 use Rattle.turning.specs.visiting.Visit.{Seen, seen, Settled, AllSettled, Round, Queued, Visiting, Unturnable}
 use Rattle.turning.proofs.visiting.Laws.{seen-grown, grown-set, unseen-before, seen-of, of-seen, tail-below, queued-more, settled-grown, forced-self}
 use Rattle.turning.proofs.visiting.Laws.{round-none, round-more}
 use Rattle.turning.specs.spreading.Spread.{RoundDone}
-use Rattle.turning.specs.States.{turnsBy}
+use Rattle.reversing.specs.States.{turnsBy}
 
 -- a round from r: the faces of the queue before `head` are settled
 pub record Rounding (sides corners : List ℕ) (r from : ℕ) (old states queue : List ℕ) (head tail : ℕ) : Type 0 where

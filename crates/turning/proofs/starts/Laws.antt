@@ -8,7 +8,7 @@ use lib.Seq.{getD-set-other}
 use Rattle.paper.specs.Corners.{startOf}
 use Rattle.mesh.proofs.Faces.{face-at, start-zero, start-next}
 use Rattle.mesh.proofs.ByCases.{by-less}
-use Rattle.turning.proofs.Stores.{put}
+use Rattle.partners.proofs.Stores.{put}
 use Rattle.turning.specs.starts.Starts.{StartsTo, FaceNumbered}
 
 -- the table of the faces' first corners, and of the corners' faces

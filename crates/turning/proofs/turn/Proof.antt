@@ -7,7 +7,7 @@ use borrow.Author.Needs.{needs}
 use Rattle.paper.specs.Mesh.{Mesh, meshOf, vertexCount}
 use Rattle.paper.specs.Faults.{sound, listFaults, stated}
 use Rattle.paper.specs.declared.Answer.{Answer}
-use Rattle.turning.specs.choosing.Choice.{ListsPass}
+use Rattle.partners.specs.Lists.{ListsPass}
 use Rattle.walk.proofs.Table.{blank}
 use Rattle.turning.proofs.Theorems.{long-of}
 use Rattle.turning.proofs.Laws.{lists-pass, turned-refused, length-refused, verdict-is, passes, turned-done}

@@ -19,13 +19,15 @@ use Rattle.mesh.proofs.Faces.{held, face-at, start-ends}
 use Rattle.mesh.proofs.Rings.{count-less, count-le}
 use Rattle.paper.specs.Turning.{says, sharesEdge, fault34}
 use Rattle.mesh.proofs.ByCases.{by-equal, less-one, true-both}
-use Rattle.turning.proofs.Stores.{put}
-use Rattle.turning.proofs.Edges.{either}
-use Rattle.turning.specs.Constraints.{FacesListed, partner, label}
+use Rattle.partners.proofs.Stores.{put}
+use Rattle.partners.proofs.SharedEdges.{either, same-ends, reverse-ends}
+use Rattle.partners.specs.Lists.{FacesListed}
+use Rattle.partners.specs.Partner.{partner}
+use Rattle.turning.specs.Constraints.{label}
 use Rattle.turning.proofs.Parts.{xor-none, xor-undo, xor-move, xor-assoc, xor-cancel, joined-across}
-use Rattle.turning.proofs.TurnedFace.{same-ends, reverse-ends, ends-apart, face-in}
+use Rattle.turning.proofs.TurnedEdges.{ends-apart, face-in}
 use Rattle.turning.proofs.Theorem.{partnered, partner-in, partner-partner}
-use Rattle.turning.specs.States.{turnsBy, stateAcross}
+use Rattle.reversing.specs.States.{turnsBy, stateAcross}
 use Rattle.turning.specs.visiting.Visit.{Seen, seen, Spreadable, Grown, Settled, AllSettled, Forced, Round, Queued, Visiting, Unturnable}
 
 -- states: 1 and 2

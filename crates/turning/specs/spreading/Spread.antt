@@ -6,7 +6,7 @@ use lib.ListN.{length, getD}
 use Rattle.paper.specs.Turning.{fault35, chosen, says}
 use Rattle.paper.specs.Faults.{sound, lowestOf, stated}
 use Rattle.paper.specs.declared.Answer.{Answer}
-use Rattle.turning.specs.States.{turnsBy}
+use Rattle.reversing.specs.States.{turnsBy}
 use Rattle.turning.specs.visiting.Visit.{AllSettled, Round, Queued, Unturnable}
 use Rattle.turning.specs.declared.visiting.Reach.{Reach}
 use Rattle.turning.specs.declared.visiting.Reach.the-variants.{To, Clash}

@@ -9,8 +9,10 @@ use Rattle.paper.specs.Mesh.{mostFaces, mostCorners}
 use Rattle.paper.specs.Scan.{countBelow}
 use Rattle.paper.specs.Corners.{faceOf, startOf}
 use Rattle.paper.specs.Turning.{fault34}
-use Rattle.turning.specs.States.{turnsBy}
-use Rattle.turning.specs.Constraints.{FacesListed, partner, MeetsAt, JoinedIn, MeetsPart}
+use Rattle.reversing.specs.States.{turnsBy}
+use Rattle.partners.specs.Lists.{FacesListed}
+use Rattle.partners.specs.Partner.{partner}
+use Rattle.turning.specs.Constraints.{MeetsAt, JoinedIn, MeetsPart}
 use Rattle.turning.specs.declared.visiting.Reach.{Reach}
 use Rattle.turning.specs.declared.visiting.Reach.the-variants.{To, Clash}
 

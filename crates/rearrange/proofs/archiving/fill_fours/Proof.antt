@@ -5,7 +5,7 @@ use native.Mathlib.Nat.{div-add-mod, mod-lt}
 use native.Mathlib.Omega.{arith}
 use lib.ListN.{length}
 use denote.Ref.{now}
-use Rattle.rearrange.specs.planes.Planes.{Planed}
+use Rattle.planes.specs.Planes.{Planed}
 use borrow.Author.Needs.{needs}
 use Rattle.rearrange.proofs.archiving.fill_fours.Tie as tie
 

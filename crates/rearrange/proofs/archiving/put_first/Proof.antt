@@ -1,7 +1,7 @@
 -- The numbers of the first vertex are their own differences.
 use mathlib.Core.Path.{sym, _∙_}
 use denote.Ref.{now}
-use Rattle.rearrange.proofs.differences.Deltas.{read-bits, delta-first}
+use Rattle.planes.proofs.differences.Deltas.{read-bits, delta-first}
 use Rattle.rearrange.proofs.archiving.Planes.{planed-none, planed-one}
 use native.Mathlib.Omega.{arith}
 use borrow.Author.Needs.{needs}

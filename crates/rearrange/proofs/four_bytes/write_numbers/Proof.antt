@@ -4,7 +4,7 @@ use Prim.Native.Nat.{ℕ, _+_, _-_, _≤_}
 use lib.ListN.{length}
 use denote.Ref.{now}
 use Rattle.rearrange.specs.four_bytes.Words.{NumbersStored}
-use Rattle.rearrange.proofs.differences.Deltas.{read-bits}
+use Rattle.planes.proofs.differences.Deltas.{read-bits}
 use Rattle.rearrange.proofs.four_bytes.Lists.{worded-none, worded-step}
 use native.Mathlib.Omega.{arith}
 use borrow.Author.Needs.{needs}

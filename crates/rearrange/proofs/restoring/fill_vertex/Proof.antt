@@ -4,7 +4,7 @@ use Prim.Native.Nat.{ℕ}
 use denote.Ref.{now}
 use Rattle.mesh.proofs.Fills.{Filled, filled-none}
 use Rattle.paper.specs.Archive.{restoredAt}
-use Rattle.rearrange.proofs.restoring.Sums.{before-first, one-fills, restored-all}
+use Rattle.rearrange.proofs.restoring.Sums.{before-first, vertex-fills, restored-all}
 use native.Mathlib.Omega.{arith}
 use borrow.Author.Needs.{needs}
 use Rattle.rearrange.proofs.restoring.fill_vertex.Tie as tie
@@ -23,13 +23,9 @@ returns c =
     let o1 = r1 .last .1 .1 .0 in
     let o2 = r2 .last .1 .1 .0 in
     let o3 = r3 .last .1 .1 .0 in
-    let f1 = one-fills b 3 0 0 0 (omega arith) (omega arith) old o1 0 (r1 .result) (sym (before-first b 3 0)) (r1 .ensures)
-    old 1 (omega (arith, s .pre .0)) (omega arith) (filled-none (restoredAt b 3) old) in
-    let f2 = one-fills b 3 0 1 1 (omega arith) (omega arith) o1 o2 0 (r2 .result) (sym (before-first b 3 1)) (r2 .ensures)
-    old 2 (omega (arith, s .pre .0)) (omega arith) f1 in
-    let f3 = one-fills b 3 0 2 2 (omega arith) (omega arith) o2 o3 0 (r3 .result) (sym (before-first b 3 2)) (r3 .ensures)
-    old 3 (omega (arith, s .pre .0)) (omega arith) f2 in
-    restored-all b old o3 3 (sym (s .pre .0)) (subst (λ (n : ℕ). Filled (restoredAt b n) old 3 o3) (sym (s .pre .0)) f3)
+    let h = vertex-fills b 3 0 old old o1 o2 o3 0 0 0 _ _ _ (sym (before-first b 3 0)) (sym (before-first b 3 1)) (sym (before-first b 3 2))
+    (r1 .ensures) (r2 .ensures) (r3 .ensures) (omega (arith, s .pre .0)) (filled-none (restoredAt b 3) old) in
+    restored-all b old o3 3 (sym (s .pre .0)) (subst (λ (n : ℕ). Filled (restoredAt b n) old 3 o3) (sym (s .pre .0)) h)
 
 pub fill-vertex-spec : {M : Type 1} → Rattle.rearrange.proofs.restoring.fill_vertex.Statement.statement M
 fill-vertex-spec = tie.close (tie.spec (λ c κs. search needs) (λ c κs. search needs) (λ c κs. search needs) (λ c. search needs) returns)

@@ -1,0 +1,2 @@
+pub mod RefinedPoints
+pub mod Mean

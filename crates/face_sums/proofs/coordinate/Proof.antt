@@ -1,0 +1,40 @@
+-- The vertex of a corner meets its contract: the coordinate is in the list, and fits.
+use mathlib.Core.Path.{refl}
+use Prim.Native.Nat.{_^_}
+use native.Mathlib.Omega.{arith}
+use borrow.Author.Needs.{needs}
+use lib.Dec.{lit<}
+use denote.Ref.{now}
+use mir.Syntax.{w32}
+use mir.Facts.{toZ-ofZ}
+use Rattle.numbers.proofs.Machine.{abs-fits}
+use Rattle.face_sums.proofs.Laws.{place-in, steps-size}
+use Rattle.face_sums.proofs.coordinate.Statement.{statement}
+use Rattle.face_sums.proofs.coordinate.Tie as tie
+
+cast-v : tie.Need-cast-v
+cast-v c = omega (arith, c .shared-slice-known .given (c .before .args .c))
+
+mul-result : tie.Need-mul-result
+mul-result c = omega (arith, c .shared-slice-known .given (c .before .args .c))
+
+add-result : tie.Need-add-result
+add-result c = omega (arith, c .shared-slice-known .given (c .before .args .c), c .before .pre .1 .0)
+
+mul-result-2 : tie.Need-mul-result-2
+mul-result-2 c = omega (arith, c .shared-slice-known .given (c .before .args .c), c .before .pre .1 .0)
+
+shared-slice-copy-out-result : tie.Need-shared-slice-copy-out-result
+shared-slice-copy-out-result c =
+    let s = c .before in
+    place-in (now (s .args .coordinates)) (now (s .args .corners)) (s .pre .0) (s .args .axis) (s .args .c) (s .pre .1 .0) (s .pre .1 .1)
+
+returns : tie.Need-returns
+returns c =
+    let s = c .before .before in
+    let k = steps-size (now (s .args .coordinates)) (now (s .args .corners)) (s .pre .0) (s .args .axis) (s .args .c) (s .pre .1 .0) (s .pre .1 .1) in
+    rw (toZ-ofZ (abs-fits w32 _ (2 ^ 16) k (lit< tt))) refl
+
+pub coordinate-spec : {M : Type 1} → statement M
+coordinate-spec =
+    tie.close (tie.spec (λ c. search needs) (λ c. search needs) cast-v mul-result add-result mul-result-2 shared-slice-copy-out-result returns)

@@ -1,0 +1,2 @@
+pub mod differences
+pub mod Planes
