@@ -2,7 +2,7 @@
 use crate::differences::delta_at;
 use crate::planes::put;
 use crate::planes::put_four;
-use dms::lists::bits;
+use dms_lists::lists::bits;
 ghost use mathlib.Core.Path.{_≡_};
 ghost use Prim.Native.Nat.{_+_, _-_, _*_, _%_, _<_, _≤_};
 ghost use lib.ListN.{length};
