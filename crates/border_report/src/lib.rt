@@ -25,8 +25,8 @@ ghost use Rattle.paper.specs.File.{fileMesh, fileVerdict};
 ghost use Rattle.paper.specs.Report.{added, pageVerdict, offered, ReportedTo};
 ghost use Rattle.surface.specs.Points.{pointRow};
 ghost use Rattle.corner_points.specs.RefinedPoints.{SmallPoints};
-ghost use Rattle.dms.specs.header.ListsWithin.{ListsWithin};
-ghost use Rattle.dms.specs.lists.Room.{Room};
+ghost use Rattle.dms_lists.specs.header.ListsWithin.{ListsWithin};
+ghost use Rattle.dms_lists.specs.lists.Room.{Room};
 ghost use Rattle.checks.specs.Checked.{RowsFor};
 
 // The page after one file more, from the bytes read and the length counted, or the page as it was.
@@ -53,7 +53,7 @@ fn with_file(file: &[u8], counted: usize, page: Page) -> Page
     requires { ⌜ pageVerdict page ≡ sound ⌝ }
     ensures { λ r. ⌜ r ≡ added page (fileMesh (now (file .entry))) (fileVerdict (now (file .entry)) counted) ⌝ }
 {
-    let header = dms::header::check_header(file, counted);
+    let header = dms_lists::header::check_header(file, counted);
     if let Answer::Refused(number, place) = header {
         return pages::refuse(page, number);
     }
@@ -65,9 +65,9 @@ fn with_lists(file: &[u8], page: Page) -> Page
     requires { ⌜ ListsWithin (now file) × (pageVerdict page ≡ sound) ⌝ }
     ensures { λ r. ⌜ r ≡ added page (fileMesh (now (file .entry))) (verdict (fileMesh (now (file .entry)))) ⌝ }
 {
-    let vertices = dms::header::vertex_count(file);
-    let faces = dms::header::face_count(file);
-    let count = dms::header::corner_count(file);
+    let vertices = dms_lists::header::vertex_count(file);
+    let faces = dms_lists::header::face_count(file);
+    let count = dms_lists::header::corner_count(file);
     if mesh::table_rows(vertices + faces + count) == SMALL_MESH {
         let mut coordinates = [0i32; 3 * SMALL_MESH];
         let mut sides = [0u8; SMALL_MESH];
@@ -109,10 +109,10 @@ fn with_copies(
     requires room { ⌜ Room (now file) (length (now coordinates)) (length (now sides)) (length (now corners)) (length (now sharpness)) ⌝ }
     ensures { λ r. ⌜ r ≡ added page (fileMesh (now (file .entry))) (verdict (fileMesh (now (file .entry)))) ⌝ }
 {
-    dms::lists::read_lists(file, coordinates, sides, corners, sharpness);
-    let numbers = 3 * dms::header::vertex_count(file);
-    let faces = dms::header::face_count(file);
-    let count = dms::header::corner_count(file);
+    dms_lists::lists::read_lists(file, coordinates, sides, corners, sharpness);
+    let numbers = 3 * dms_lists::header::vertex_count(file);
+    let faces = dms_lists::header::face_count(file);
+    let count = dms_lists::header::corner_count(file);
     with_mesh(
         &coordinates[..numbers],
         &sides[..faces],

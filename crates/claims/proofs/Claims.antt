@@ -14,7 +14,7 @@ use Rattle.floats.proofs.Theorems.{far-pairs, float-sums, one-answer}
 use Rattle.floats.proofs.nets.Nets.{nets-pass}
 use Rattle.nesting.proofs.Theorems.{chains-decide, each-chain, listing-ordered, one-listing}
 use Rattle.irregular.proofs.Theorems.{lines-agree}
-use Rattle.dms.proofs.Theorems.{version-one}
+use Rattle.dms_lists.proofs.Theorems.{version-one}
 use Rattle.claims.proofs.Plain.{plain-passes}
 use Rattle.rearrange.proofs.laws.Theorems.{numbers-return, bytes-return}
 use Rattle.off_examples.proofs.Theorems.{no-six, missing-word, whole-text}

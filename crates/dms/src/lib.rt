@@ -1,11 +1,11 @@
 // The mesh file DMS as a whole: the bytes read, and the length counted, give its counts, or its lists, or why it is turned down.
 // A file is checked by 1 to 13 and 28 in local copies of its lists, before anything is written to a lent space.
-pub mod header;
-pub mod lists;
-pub mod surveying;
-
-use crate::surveying::none;
-use crate::surveying::survey_mesh;
+use dms_lists::header::check_header;
+use dms_lists::header::corner_count;
+use dms_lists::header::face_count;
+use dms_lists::header::vertex_count;
+use dms_lists::lists::read_lists;
+use dms_lists::refused;
 use mesh::least;
 use paper::Answer;
 use paper::Decoded;
@@ -15,13 +15,15 @@ use paper::MOST_NUMBERS;
 use paper::MOST_PAIRS;
 use paper::NO_ROOM;
 use paper::Summary;
+use surveying::no_counts;
+use surveying::survey_mesh;
 ghost use mathlib.Core.Path.{_≡_};
 ghost use Prim.Native.Nat.{ℕ, _<_, _≤_};
 ghost use lib.ListN.{length};
 ghost use Rattle.paper.specs.Mesh.{meshOf};
 ghost use Rattle.paper.specs.Faults.{sound, verdict, stated};
 ghost use Rattle.paper.specs.File.{headerLength, headerVerdict, fileMesh, fileOf, Surveyed, FileSurveyed, roomVerdict, DecodedTo};
-ghost use Rattle.dms.specs.header.ListsWithin.{ListsWithin};
+ghost use Rattle.dms_lists.specs.header.ListsWithin.{ListsWithin};
 
 // The counts of the file, from the bytes read and the length counted.
 pub fn survey(bytes: &[u8], counted: usize) -> Summary
@@ -53,28 +55,15 @@ pub fn decode(
     )
 }
 
-// A refusal of decoding.
-pub fn refused(number: u8, place: usize) -> Decoded
-    ensures { λ r. ⌜ (r .answer ≡ Answer.Refused number place) × (r .coordinates ≡ 0) × (r .sides ≡ 0) × (r .corners ≡ 0) × (r .sharpness ≡ 0) ⌝ }
-{
-    Decoded {
-        answer: Answer::Refused(number, place),
-        coordinates: 0,
-        sides: 0,
-        corners: 0,
-        sharpness: 0,
-    }
-}
-
 // The same as `survey`, of the file itself.
 fn survey_file(file: &[u8], counted: usize) -> Summary
     ensures { λ r. ⌜ FileSurveyed (now (file .entry)) counted r ⌝ }
 {
-    let header = crate::header::check_header(file, counted);
+    let header = check_header(file, counted);
     if let Answer::Refused(number, place) = header {
         return Summary {
             answer: Answer::Refused(number, place),
-            counts: none(),
+            counts: no_counts(),
         };
     }
     survey_lists(file)
@@ -89,16 +78,16 @@ fn survey_lists(file: &[u8]) -> Summary
     let mut sides = [0u8; MOST_FACES];
     let mut corners = [0u16; MOST_CORNERS];
     let mut sharpness = [0u8; MOST_PAIRS];
-    crate::lists::read_lists(
+    read_lists(
         file,
         &mut coordinates,
         &mut sides,
         &mut corners,
         &mut sharpness,
     );
-    let numbers = 3 * crate::header::vertex_count(file);
-    let faces = crate::header::face_count(file);
-    let count = crate::header::corner_count(file);
+    let numbers = 3 * vertex_count(file);
+    let faces = face_count(file);
+    let count = corner_count(file);
     survey_mesh(
         &coordinates[..numbers],
         &sides[..faces],
@@ -118,7 +107,7 @@ fn decode_file(
 ) -> Decoded
     ensures { λ r. ⌜ DecodedTo (now (file .entry)) counted (meshOf (now (coordinates .entry)) (now (sides .entry)) (now (corners .entry)) (now (sharpness .entry))) r (meshOf (now (coordinates .exit)) (now (sides .exit)) (now (corners .exit)) (now (sharpness .exit))) ⌝ }
 {
-    let header = crate::header::check_header(file, counted);
+    let header = check_header(file, counted);
     if let Answer::Refused(number, place) = header {
         return refused(number, place);
     }
@@ -140,10 +129,10 @@ fn decode_lists(
     let mut counts = [0u8; MOST_FACES];
     let mut names = [0u16; MOST_CORNERS];
     let mut pairs = [0u8; MOST_PAIRS];
-    crate::lists::read_lists(file, &mut numbers, &mut counts, &mut names, &mut pairs);
-    let n = 3 * crate::header::vertex_count(file);
-    let f = crate::header::face_count(file);
-    let k = crate::header::corner_count(file);
+    read_lists(file, &mut numbers, &mut counts, &mut names, &mut pairs);
+    let n = 3 * vertex_count(file);
+    let f = face_count(file);
+    let k = corner_count(file);
     let p = 2 * k;
     let own_numbers = &numbers[..n];
     let own_counts = &counts[..f];
@@ -187,15 +176,15 @@ fn check_room(
     requires { ⌜ headerLength ≤ length (now file) ⌝ }
     ensures { λ r. ⌜ stated r ≡ roomVerdict (now (file .entry)) coordinates sides corners sharpness ⌝ }
 {
-    let numbers = 3 * crate::header::vertex_count(file);
+    let numbers = 3 * vertex_count(file);
     if coordinates < numbers {
         return Answer::Refused(NO_ROOM, numbers);
     }
-    let faces = crate::header::face_count(file);
+    let faces = face_count(file);
     if sides < faces {
         return Answer::Refused(NO_ROOM, faces);
     }
-    let count = crate::header::corner_count(file);
+    let count = corner_count(file);
     if corners < count {
         return Answer::Refused(NO_ROOM, count);
     }

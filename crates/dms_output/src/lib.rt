@@ -7,7 +7,7 @@ ghost use mir.Val.{ofZ};
 ghost use Rattle.paper.specs.Mesh.{meshOf};
 ghost use Rattle.streams.specs.text.Text.{Put};
 ghost use Rattle.dms_output.specs.Bytes.{halfBytes, wordBytes, coordinateBytes, cornerBytes, headerBytes, listBytes, fileBytes, TellsPlain, ShortestPut};
-use dms::lists::bits;
+use dms_lists::lists::bits;
 use paper::PLAIN;
 use streams::output::say_up_to;
 use streams::text::put_byte;

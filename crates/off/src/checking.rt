@@ -1,5 +1,5 @@
 // The lists of an OFF text, with checks 25, 26 and then 4 to 13.
-use dms::refused;
+use dms_lists::refused;
 use off_words::Cursor;
 use paper::Answer;
 use paper::Decoded;

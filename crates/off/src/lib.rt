@@ -3,7 +3,7 @@
 mod checking;
 
 use crate::checking::read_checked;
-use dms::refused;
+use dms_lists::refused;
 use off_words::Cursor;
 use paper::Answer;
 use paper::Decoded;
@@ -96,7 +96,7 @@ fn read_through(
     mesh::copy_bytes(&sizes[..f], sides);
     mesh::copy_halves(&names[..k], corners);
     let pairs = 2 * k;
-    dms::lists::fill_plain(pairs, sharpness);
+    dms_lists::lists::fill_plain(pairs, sharpness);
     Decoded {
         answer: Answer::Done,
         coordinates: n,

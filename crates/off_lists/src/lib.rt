@@ -1,7 +1,7 @@
 // The words of an OFF text after the mark, read in their order into own lists, with checks 25 and 26. The text is read once, each word's number taken from
 // its bytes when its end is found. A word that is missing or no number of its kind ends the reading before it. Numbers past the end of an own list are read
 // and not kept: how many there are is all that 4 asks.
-use dms::refused;
+use dms_lists::refused;
 use off_words::Cursor;
 use paper::Answer;
 use paper::Decoded;

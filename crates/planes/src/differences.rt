@@ -1,6 +1,6 @@
 // One number of a coordinate list (L11): its difference from the same axis of the vertex before, and the number restored from a difference.
-use dms::lists::bits;
-use dms::lists::signed;
+use dms_lists::lists::bits;
+use dms_lists::lists::signed;
 ghost use mathlib.Core.Path.{_≡_};
 ghost use Prim.Native.Nat.{_+_, _-_, _*_, _%_, _^_, _<_, _≤_};
 ghost use lib.ListN.{length};

@@ -51,7 +51,7 @@ fn count_on(fd: i32, held: &[u8], size: usize) -> Got
     let mut counted = held.len();
     let mut ok = true;
     if size <= counted {
-        let most = dms::header::expected_length(held) + 1;
+        let most = dms_lists::header::expected_length(held) + 1;
         while counted < most {
             let got = skip(fd, most - counted);
             let more = got.count;

@@ -1,5 +1,5 @@
 // The planes of a coordinate list's differences (L11): the first vertex, then four numbers at a time, then the rest.
-use dms::lists::bits;
+use dms_lists::lists::bits;
 use planes::differences::delta_at;
 use planes::put;
 use planes::put_four;

@@ -17,7 +17,7 @@ pub fn read_numbers(bytes: &[u8], numbers: &mut [i32])
 {
     let mut i = 0;
     while i < numbers.len() {
-        numbers[i] = dms::lists::coordinate(bytes, 4 * i);
+        numbers[i] = dms_lists::lists::coordinate(bytes, 4 * i);
         i += 1;
     }
 }
@@ -29,7 +29,7 @@ pub fn write_numbers(numbers: &[i32], bytes: &mut [u8])
 {
     let mut i = 0;
     while i < numbers.len() {
-        let d = dms::lists::bits(numbers[i]);
+        let d = dms_lists::lists::bits(numbers[i]);
         planes::put(bytes, 1, 4 * i, d, d / 256, d / 65536, d / 16777216);
         i += 1;
     }

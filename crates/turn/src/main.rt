@@ -18,7 +18,7 @@ use streams::output::complain_up_to;
 use streams::output::say_up_to;
 ghost use Prim.Native.Nat.{_≤_};
 ghost use lib.ListN.{length};
-ghost use Rattle.dms.specs.header.ListsWithin.{ListsWithin};
+ghost use Rattle.dms_lists.specs.header.ListsWithin.{ListsWithin};
 
 // Room for a line for each face, its number of at most four digits.
 const LINES_ROOM: usize = 5 * MOST_FACES;
@@ -43,7 +43,7 @@ fn turn_input() {
 
 // Checks what the header says: 1 to 3, and 4.
 fn turn_file(file: &[u8], counted: usize) {
-    let header = dms::header::check_header(file, counted);
+    let header = dms_lists::header::check_header(file, counted);
     if let Answer::Refused(number, place) = header {
         complain_refusal(number, place);
         return;
@@ -59,17 +59,17 @@ fn turn_lists(file: &[u8])
     let mut sides = [0u8; MOST_FACES];
     let mut corners = [0u16; MOST_CORNERS];
     let mut sharpness = [0u8; MOST_PAIRS];
-    dms::lists::read_lists(
+    dms_lists::lists::read_lists(
         file,
         &mut coordinates,
         &mut sides,
         &mut corners,
         &mut sharpness,
     );
-    let sharp = dms::header::is_sharp(file);
-    let numbers = least(3 * dms::header::vertex_count(file), MOST_NUMBERS);
-    let faces = least(dms::header::face_count(file), MOST_FACES);
-    let count = least(dms::header::corner_count(file), MOST_CORNERS);
+    let sharp = dms_lists::header::is_sharp(file);
+    let numbers = least(3 * dms_lists::header::vertex_count(file), MOST_NUMBERS);
+    let faces = least(dms_lists::header::face_count(file), MOST_FACES);
+    let count = least(dms_lists::header::corner_count(file), MOST_CORNERS);
     let pairs = 2 * count;
     turn_mesh(
         sharp,

@@ -4,7 +4,7 @@ use denote.Ref.{now}
 use Rattle.paper.specs.Mesh.{Mesh, meshOf}
 use Rattle.paper.specs.Faults.{verdict, stated, Accepted}
 use Rattle.mesh.proofs.Verdicts.{passed}
-use Rattle.dms.proofs.surveying.Surveys.{limits}
+use Rattle.building.proofs.Laws.{few}
 use Rattle.border_report.proofs.Laws.{refused-added, accepted-added}
 use borrow.Author.Needs.{needs}
 use Rattle.border_report.proofs.over.Tie as tie
@@ -30,13 +30,12 @@ largest-requires : tie.Need-largest-requires
 largest-requires c κs =
     let t = c .before .before in
     let s = start t in
-    let few = limits (mesh s) (accepts t) .1 .1 in
-    (accepts t, (t .before .before .before .before .check-within .ensures .tabled (accepts t), (s .pre .1 .1 .0 few, s .pre .1 .1 .1)))
+    (accepts t, (t .before .before .before .before .check-within .ensures .tabled (accepts t), (s .pre .1 .1 .0 (few (mesh s) (accepts t)), s .pre .1 .1 .1)))
 
 accept-requires : tie.Need-accept-requires
 accept-requires c κs =
     let t = c .before .before .before .before in
-    (start t .pre .0, limits (mesh (start t)) (accepts t) .1 .1)
+    (start t .pre .0, few (mesh (start t)) (accepts t))
 
 returns-2 : tie.Need-returns-2
 returns-2 c =

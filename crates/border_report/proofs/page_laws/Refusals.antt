@@ -16,7 +16,7 @@ use Rattle.paper.specs.File.{fileMesh, lengthVerdict, headerVerdict, fileVerdic
 use Rattle.paper.proofs.Below.{below-at}
 use Rattle.mesh.proofs.Scans.{compared}
 use Rattle.mesh.proofs.Verdicts.{single-miss}
-use Rattle.dms.proofs.lists.Lists.{file-corners, file-sharpness}
+use Rattle.dms_lists.proofs.lists.Lists.{file-corners, file-sharpness}
 use Rattle.paper.specs.declared.Page.{Page}
 use Rattle.paper.specs.Report.{pageWith, lineNumbers, lines, added, meshIn, zeroPage, run, AtLine, oneMore}
 use Rattle.paper.specs.Claims.{RefusedAdds}

@@ -19,7 +19,7 @@ use Rattle.paper.specs.declared.Answer.{Answer}
 use Rattle.paper.specs.declared.Answer.the-variants.{Done, Refused}
 use Rattle.mesh.proofs.Links.{values-length}
 use Rattle.mesh.proofs.Verdicts.{orElse-sound, single-miss, sound-right, unsound}
-use Rattle.dms.proofs.surveying.Surveys.{limits}
+use Rattle.building.proofs.Laws.{few}
 use Rattle.paper.specs.declared.Page.{Page}
 use Rattle.paper.specs.Report.{pageWith, lineNumbers, lines, conditions, zeroPage, borderCount, largestMiss, added, mostMeshes, mostOnPage}
 use Rattle.paper.specs.Report.{someAbove, fault38, pageVerdict, Offered, meshIn, verdictIn, pageAfter, run, ifAccepted, total, largest, isUnder}
@@ -95,8 +95,8 @@ within-added P n M sound ok w =
     let a = ok refl in
     record {
       meshes-are = ap (λ (k : ℕ). k + 1) (w .meshes-are);
-      corners-within = omega (arith, w .corners-within, limits M a .1 .1);
-      borders-within = omega (arith, w .borders-within, limits M a .1 .1);
+      corners-within = omega (arith, w .corners-within, few M a);
+      borders-within = omega (arith, w .borders-within, few M a);
       refusals-long = w .refusals-long;
       refusals-within = λ l h. omega (arith, w .refusals-within l h);
       misses-long = values-length _ 0 conditions;

@@ -7,7 +7,7 @@ use Rattle.paper.specs.Faults.{stated}
 use Rattle.paper.specs.File.{fileMesh, fileVerdict}
 use Rattle.paper.specs.Report.{added, offered}
 use Rattle.mesh.proofs.Verdicts.{passed}
-use Rattle.dms.proofs.Files.{held-bytes}
+use Rattle.dms_lists.proofs.Reading.{held-bytes}
 use Rattle.border_report.proofs.Laws.{refused-report, done-report}
 use borrow.Author.Needs.{needs}
 use Rattle.border_report.proofs.report.Tie as tie

@@ -3,7 +3,7 @@ use denote.Ref.{now}
 use Rattle.paper.specs.Faults.{verdict}
 use Rattle.paper.specs.File.{fileMesh, fileVerdict}
 use Rattle.mesh.proofs.Verdicts.{passed, stop, orElse-sound}
-use Rattle.dms.proofs.header.Headers.{header-within}
+use Rattle.dms_lists.proofs.header.Headers.{header-within}
 use Rattle.border_report.proofs.Laws.{refused-added}
 use borrow.Author.Needs.{needs}
 use Rattle.border_report.proofs.with_file.Tie as tie

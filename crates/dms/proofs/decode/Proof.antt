@@ -2,7 +2,8 @@
 use mathlib.Core.Path.{sym}
 use lib.Seq.{length-take-le}
 use borrow.Author.Needs.{needs}
-use Rattle.dms.proofs.Files.{held-bytes, decode-held}
+use Rattle.dms_lists.proofs.Reading.{held-bytes}
+use Rattle.dms.proofs.Files.{decode-held}
 use Rattle.dms.proofs.decode.Tie as tie
 
 slice-aggregate-decode-file : tie.Need-slice-aggregate-decode-file

@@ -5,7 +5,7 @@ use denote.Ref.{now}
 use Rattle.paper.specs.Mesh.{meshOf}
 use Rattle.mesh.proofs.Verdicts.{passed}
 use Rattle.paper.specs.Faults.{stated}
-use Rattle.dms.proofs.header.Headers.{header-within}
+use Rattle.dms_lists.proofs.header.Headers.{header-within}
 use Rattle.dms.proofs.Files.{refused-decode, header-decides}
 use Rattle.dms.proofs.decode_file.Tie as tie
 

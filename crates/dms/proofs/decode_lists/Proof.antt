@@ -10,9 +10,10 @@ use Rattle.paper.specs.Mesh.{Mesh, meshOf}
 use Rattle.paper.specs.Faults.{sound, verdict, stated}
 use Rattle.paper.specs.File.{verticesIn, facesIn, cornersIn, fileMesh, roomVerdict}
 use Rattle.mesh.proofs.Verdicts.{passed, stop, past}
-use Rattle.dms.specs.lists.Room.{Room}
-use Rattle.dms.proofs.lists.Lists.{read-length, file-coordinates, file-faces, file-corners, file-sharpness}
-use Rattle.dms.proofs.Files.{mesh-read, room-of, refused-decode, done-decode, lists-decide, lists-copied}
+use Rattle.dms_lists.specs.lists.Room.{Room}
+use Rattle.dms_lists.proofs.lists.Lists.{read-length, file-coordinates, file-faces, file-corners, file-sharpness}
+use Rattle.dms_lists.proofs.Reading.{mesh-read}
+use Rattle.dms.proofs.Files.{room-of, refused-decode, done-decode, lists-decide, lists-copied}
 use Rattle.dms.proofs.decode_lists.Tie as tie
 
 abbrev lent : tie.Start → Mesh

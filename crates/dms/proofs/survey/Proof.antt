@@ -5,7 +5,7 @@ use Prim.Native.Nat.{ℕ}
 use lib.Seq.{length-take-le}
 use borrow.Author.Needs.{needs}
 use Rattle.paper.specs.File.{FileSurveyed}
-use Rattle.dms.proofs.Files.{held-bytes}
+use Rattle.dms_lists.proofs.Reading.{held-bytes}
 use Rattle.dms.proofs.survey.Tie as tie
 
 slice-aggregate-survey-file : tie.Need-slice-aggregate-survey-file

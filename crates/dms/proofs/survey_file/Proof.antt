@@ -3,8 +3,8 @@ use borrow.Author.Needs.{needs}
 use Rattle.paper.specs.Faults.{verdict}
 use Rattle.paper.specs.File.{fileMesh, fileVerdict}
 use Rattle.mesh.proofs.Verdicts.{passed, stop}
-use Rattle.dms.proofs.header.Headers.{header-within}
-use Rattle.dms.proofs.surveying.Surveys.{refused-survey}
+use Rattle.dms_lists.proofs.header.Headers.{header-within}
+use Rattle.surveying.proofs.Surveys.{refused-survey}
 use Rattle.dms.proofs.Files.{later-survey}
 use Rattle.dms.proofs.survey_file.Tie as tie
 
@@ -14,7 +14,7 @@ returns c =
     let s : tie.Start = search in
     let M = fileMesh (s .args .file .now) in
     refused-survey M _ _ _ _ (stop _ (c .before .before .before .before .check-header .ensures) _ _ (c .before .before .header .given .1) (verdict M))
-    (c .none .ensures)
+    (c .no-counts .ensures)
 
 survey-lists-requires : tie.Need-survey-lists-requires
 survey-lists-requires c κs =

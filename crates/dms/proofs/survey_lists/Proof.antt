@@ -4,7 +4,7 @@ use borrow.Author.Needs.{needs}
 use Rattle.paper.specs.Mesh.{Mesh}
 use Rattle.paper.specs.Faults.{verdict}
 use Rattle.paper.specs.File.{Surveyed}
-use Rattle.dms.proofs.Files.{mesh-read, coordinates-long, sides-long, corners-long, sharpness-long}
+use Rattle.dms_lists.proofs.Reading.{mesh-read, coordinates-long, sides-long, corners-long, sharpness-long}
 use Rattle.dms.proofs.survey_lists.Tie as tie
 
 returns : tie.Need-returns

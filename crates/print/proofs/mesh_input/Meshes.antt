@@ -16,8 +16,8 @@ use Rattle.paper.specs.declared.Answer.the-variants.{Done, Refused}
 use Rattle.paper.specs.declared.Decoded.{Decoded}
 use Rattle.mesh.proofs.Scans.{ways}
 use Rattle.mesh.proofs.Verdicts.{passed, sound-left, sound-right}
-use Rattle.dms.proofs.surveying.Surveys.{limits}
-use Rattle.dms.proofs.lists.Lists.{file-coordinates, file-faces, file-corners, file-sharpness}
+use Rattle.surveying.proofs.Surveys.{limits}
+use Rattle.dms_lists.proofs.lists.Lists.{file-coordinates, file-faces, file-corners, file-sharpness}
 use Rattle.print.specs.mesh_input.Fitting.{Fitting, NoMesh, Decodes, FileRead, MeshRead}
 use Rattle.print.specs.declared.mesh_input.MeshLengths.{MeshLengths}
 

@@ -1,7 +1,7 @@
 -- A header that passes gives lists that lie within the file.
 use borrow.Author.Needs.{needs}
 use Rattle.mesh.proofs.Verdicts.{passed}
-use Rattle.dms.proofs.header.Headers.{header-within}
+use Rattle.dms_lists.proofs.header.Headers.{header-within}
 use Rattle.turn.proofs.turn_file.Tie as tie
 
 turn-lists-requires : tie.Need-turn-lists-requires

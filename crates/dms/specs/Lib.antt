@@ -1,3 +1,0 @@
-pub mod header
-pub mod lists
-pub mod surveying
