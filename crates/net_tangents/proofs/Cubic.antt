@@ -17,7 +17,7 @@ use Rattle.bernstein.proofs.Tapering.{HalfTapered, along-halves, inward-halves,
 use Rattle.net_points.specs.writing.Laid.{pickMatrix}
 use Rattle.net_tangents.specs.Lanes.{lessOf, minusOf, zeroMatrix, tailwardOf, centrewardOf, truncatedOf, CubicTapered, CubicRow}
 
-matrix-same : {p q r s t p′ q′ r′ s′ t′ : Vector5} → p ≡ p′ → q ≡ q′ → r ≡ r′ → s ≡ s′ → t ≡ t′
+pub matrix-same : {p q r s t p′ q′ r′ s′ t′ : Vector5} → p ≡ p′ → q ≡ q′ → r ≡ r′ → s ≡ s′ → t ≡ t′
     → (let z : Matrix5 = record { r0 = p; r1 = q; r2 = r; r3 = s; r4 = t } in z) ≡ record { r0 = p′; r1 = q′; r2 = r′; r3 = s′; r4 = t′ }
 matrix-same a b c d e = λ z. record { r0 = a z; r1 = b z; r2 = c z; r3 = d z; r4 = e z }
 

@@ -4,62 +4,37 @@ use mathlib.Core.List.{List}
 use Prim.Native.Nat.{ℕ, zero, suc, _+_, _-_, _*_, _/_, _%_, _≤_, _<_}
 use native.Mathlib.Nat.{zero-div, zero-mod}
 use native.Mathlib.Omega.{arith}
+use lib.Dec.{lit<}
 use lib.ListN.{getD}
 use lib.IntN.{ℤ, pos}
 use Rattle.paper.specs.Net.{side0}
 use Rattle.paper.specs.Sampling.{sideAt}
-use Rattle.paper.specs.Triangles.{turnWeights}
+use Rattle.paper.specs.Triangles.{groups, turnWeights}
 use Rattle.paper.specs.Tangents.{tangentPair}
 use Rattle.net_points.specs.declared.writing.Shape.{Shape}
 use Rattle.strips.specs.PointRows.{FilledTo, Fills}
 use Rattle.net_points.specs.writing.Shapes.{Shapely, shapeGroup, shapeRings, shapeStart, shapeSize}
+use Rattle.net_points.proofs.writing.Laws.{sides-room}
 use Rattle.net_points.proofs.writing.Groups.{ring-size, centre-size, centre-start}
 use Rattle.net_tangents.specs.Paired.{partNumber, RingPairs, CentrePair, RingsPaired, shapePair, PairAim, NetPaired}
 use Rattle.closing.proofs.Listed.{ring-side, ring-rest}
 use Rattle.net_tangents.proofs.Laws.{part-filled}
 
 module _ (numbers : List ℤ) (s : Shape) (ok : Shapely s) (third at : ℕ) (f : ℕ → ℤ) (aim : PairAim numbers s third at f) where
-  abbrev Part : ℕ → ℕ → ℕ → ℕ → ℕ → Type 0
-  Part side n first count to =
-      (j e : ℕ) → j < count → e < 6 → f (to + 6 * j + e) ≡ getD (tangentPair numbers (sideAt side) (turnWeights (sideAt side) n 0 (first + j))) e (pos 0)
+  -- the tangents at place j of a side's border in n parts
+  abbrev borderPair : ℕ → ℕ → ℕ → List ℤ
+  borderPair side n j = tangentPair numbers (sideAt side) (turnWeights (sideAt side) n 0 j)
 
-  vertex-aim : Part 0 (s .first) 0 (s .vertex) at
-  unfolding shapeGroup shapeStart shapePair
-  vertex-aim j e l b =
-      let z : j ≡ 0 = omega (arith, ok .vertex) in
-      ap f (let q : at + 6 * j + e ≡ at + 6 * (0 + 0) + e = omega arith in q) ∙ aim 0 0 e (omega arith) (let q : 0 < s .vertex = omega arith in q) b
-      ∙ (let q : 0 ≡ 0 + j = omega arith in λ i. getD (tangentPair numbers (sideAt 0) (turnWeights (sideAt 0) (s .first) 0 (q i))) e (pos 0))
+  -- a group that is written as a part of a border
+  part-put : (g side n first to : ℕ) (old a b : List ℤ) → g < groups → to ≡ at + 6 * shapeStart s g
+      → ((j : ℕ) → j < shapeGroup s g → shapePair numbers s third g j ≡ borderPair side n (first + j)) → FilledTo f old to a
+      → Fills (partNumber numbers side n 0 first) to (6 * shapeGroup s g) a b → FilledTo f old (to + 6 * shapeGroup s g) b
+  part-put g side n first to old a b few there same q p =
+      part-filled numbers side n 0 first (shapeGroup s g) to a b old f p q (λ j e l h.
+      ap f (let z : to + 6 * j + e ≡ at + 6 * (shapeStart s g + j) + e = omega arith in z) ∙ aim g j e few l h ∙ ap (λ (l : List ℤ). getD l e (pos 0)) (same j l))
 
-  edge-aim : Part 1 (s .second) 0 (s .edge) (at + 6 * s .vertex)
-  unfolding shapeGroup shapeStart shapePair
-  edge-aim j e l b =
-      let z : j ≡ 0 = omega (arith, ok .edge) in
-      ap f (let q : at + 6 * s .vertex + 6 * j + e ≡ at + 6 * (s .vertex + 0) + e = omega arith in q)
-      ∙ aim 1 0 e (omega arith) (let q : 0 < s .edge = omega arith in q) b
-      ∙ (let q : 0 ≡ 0 + j = omega arith in λ i. getD (tangentPair numbers (sideAt 1) (turnWeights (sideAt 1) (s .second) 0 (q i))) e (pos 0))
-
-  face-aim : Part 2 third 0 (s .face) (at + 6 * s .vertex + 6 * s .edge)
-  unfolding shapeGroup shapeStart shapePair
-  face-aim j e l b =
-      let z : j ≡ 0 = omega (arith, ok .face) in
-      ap f (let q : at + 6 * s .vertex + 6 * s .edge + 6 * j + e ≡ at + 6 * (s .vertex + s .edge + 0) + e = omega arith in q)
-      ∙ aim 2 0 e (omega arith) (let q : 0 < s .face = omega arith in q) b
-      ∙ (let q : 0 ≡ 0 + j = omega arith in λ i. getD (tangentPair numbers (sideAt 2) (turnWeights (sideAt 2) third 0 (q i))) e (pos 0))
-
-  first-aim : Part 0 (s .first) 1 (s .first - 1) (at + 6 * s .vertex + 6 * s .edge + 6 * s .face)
-  unfolding shapeGroup shapeStart shapePair
-  first-aim j e l b =
-      ap f (let q : at + 6 * s .vertex + 6 * s .edge + 6 * s .face + 6 * j + e ≡ at + 6 * (s .vertex + s .edge + s .face + j) + e = omega arith in q)
-      ∙ aim 3 j e (omega arith) l b
-      ∙ (let q : j + 1 ≡ 1 + j = omega arith in λ i. getD (tangentPair numbers (sideAt 0) (turnWeights (sideAt 0) (s .first) 0 (q i))) e (pos 0))
-
-  second-aim : Part 1 (s .second) 1 (s .second - 1) (at + 6 * s .vertex + 6 * s .edge + 6 * s .face + 6 * (s .first - 1))
-  unfolding shapeGroup shapeStart shapePair
-  second-aim j e l b =
-      ap f (let q : at + 6 * s .vertex + 6 * s .edge + 6 * s .face + 6 * (s .first - 1) + 6 * j + e
-      ≡ at + 6 * (s .vertex + s .edge + s .face + (s .first - 1) + j) + e = omega arith in q)
-      ∙ aim 4 j e (omega arith) l b
-      ∙ (let q : j + 1 ≡ 1 + j = omega arith in λ i. getD (tangentPair numbers (sideAt 1) (turnWeights (sideAt 1) (s .second) 0 (q i))) e (pos 0))
+  alone : (m j : ℕ) → m ≤ 1 → j < m → 0 ≡ 0 + j
+  alone m j h l = omega arith
 
   abbrev ringsFrom : ℕ
   ringsFrom = at + 6 * s .vertex + 6 * s .edge + 6 * s .face + 6 * (s .first - 1) + 6 * (s .second - 1)
@@ -70,19 +45,12 @@ module _ (numbers : List ℤ) (s : Shape) (ok : Shapely s) (third at : ℕ) (f :
   rings-aim : RingPairs numbers (s .level) ringsFrom f
   unfolding shapeStart shapePair
   rings-aim side k j e l h b =
-      let few : side * (s .level - suc k) + j < 4 * (s .level - suc k) = inner side (s .level - suc k) l h in
+      let few : side * (s .level - suc k) + j < 4 * (s .level - suc k) = omega (arith, sides-room side (s .level - suc k) l) in
       ap f (ap (λ (x : ℕ). x + e) (sym (ring-place side (s .level - suc k) j (2 * (k * (2 * s .level - k - 1))))))
       ∙ aim (suc (suc (suc (suc (suc k))))) (side * (s .level - suc k) + j) e (omega (arith, ok .few-level))
       (let z = ring-size s k (omega arith) in let q : 4 * (s .level - suc k) ≡ 4 * (s .level - (k + 1)) = omega arith in omega arith) b
       ∙ (let p = ap sideAt (ring-side side (s .level - suc k) j h) in let q = ring-rest side (s .level - suc k) j h in
       λ z. getD (tangentPair numbers (p z) (turnWeights (p z) (s .level) (suc k) (q z))) e (pos 0))
-    where
-      inner : (side w : ℕ) → side < 4 → j < w → side * w + j < 4 * w
-      inner zero w l h = omega arith
-      inner (suc zero) w l h = omega arith
-      inner (suc (suc zero)) w l h = omega arith
-      inner (suc (suc (suc zero))) w l h = omega arith
-      inner (suc (suc (suc (suc side)))) w l h = absurd (omega arith)
 
   centre-pair : (k : ℕ) → suc k ≡ s .level → shapePair numbers s third (suc (suc (suc (suc (suc k))))) 0 ≡ tangentPair numbers side0 (turnWeights side0 (s .level) (s .level) 0)
   unfolding shapePair
@@ -116,10 +84,11 @@ module _ (numbers : List ℤ) (s : Shape) (ok : Shapely s) (third at : ℕ) (f :
       → Fills (partNumber numbers 0 (s .first) 0 1) (at + 6 * s .vertex + 6 * s .edge + 6 * s .face) (6 * (s .first - 1)) d e
       → Fills (partNumber numbers 1 (s .second) 0 1) (at + 6 * s .vertex + 6 * s .edge + 6 * s .face + 6 * (s .first - 1)) (6 * (s .second - 1)) e g
       → RingsPaired numbers (s .level) ringsFrom g h → FilledTo f old (at + 6 * shapeSize s) h
+  unfolding shapeGroup shapeStart shapePair
   net-paired old a b c d e g h q p0 p1 p2 p3 p4 p5 =
-      let r0 = part-filled numbers 0 (s .first) 0 0 (s .vertex) at a b old f p0 q vertex-aim in
-      let r1 = part-filled numbers 1 (s .second) 0 0 (s .edge) (at + 6 * s .vertex) b c old f p1 r0 edge-aim in
-      let r2 = part-filled numbers 2 third 0 0 (s .face) (at + 6 * s .vertex + 6 * s .edge) c d old f p2 r1 face-aim in
-      let r3 = part-filled numbers 0 (s .first) 0 1 (s .first - 1) (at + 6 * s .vertex + 6 * s .edge + 6 * s .face) d e old f p3 r2 first-aim in
-      let r4 = part-filled numbers 1 (s .second) 0 1 (s .second - 1) (at + 6 * s .vertex + 6 * s .edge + 6 * s .face + 6 * (s .first - 1)) e g old f p4 r3 second-aim in
+      let r0 = part-put 0 0 (s .first) 0 _ old a b (lit< tt) (omega arith) (λ j l. ap (borderPair 0 (s .first)) (alone (s .vertex) j (ok .vertex) l)) q p0 in
+      let r1 = part-put 1 1 (s .second) 0 _ old b c (lit< tt) (omega arith) (λ j l. ap (borderPair 1 (s .second)) (alone (s .edge) j (ok .edge) l)) r0 p1 in
+      let r2 = part-put 2 2 third 0 _ old c d (lit< tt) (omega arith) (λ j l. ap (borderPair 2 third) (alone (s .face) j (ok .face) l)) r1 p2 in
+      let r3 = part-put 3 0 (s .first) 1 _ old d e (lit< tt) (omega arith) (λ j l. ap (borderPair 0 (s .first)) (omega arith)) r2 p3 in
+      let r4 = part-put 4 1 (s .second) 1 _ old e g (lit< tt) (omega arith) (λ j l. ap (borderPair 1 (s .second)) (omega arith)) r3 p4 in
       subst (λ (x : ℕ). FilledTo f old x h) all-end (p5 f old r4 rings-aim centre-aim)

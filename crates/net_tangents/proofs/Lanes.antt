@@ -17,61 +17,48 @@ use Rattle.net_tangents.specs.Lanes.{truncatedOf, CubicTapered, forwardO
 use Rattle.net_tangents.proofs.Cubic.{value, row-cubic}
 
 -- ---- sizes
+abbrev RowsTaper : Matrix5 → Type 0
+RowsTaper m = Tapered (2 ^ 34) (m .r0) × Tapered (2 ^ 34) (m .r1) × Tapered (2 ^ 34) (m .r2) × Tapered (2 ^ 34) (m .r3) × Tapered (2 ^ 34) (m .r4)
+
 module _ (c : Matrix5) (t : AllTapered c) where
   sum2 : (x y : ℤ) (m n r : ℕ) → natAbs x ≤ m → natAbs y ≤ n → m + n ≤ r → natAbs (x +ℤ y) ≤ r
   sum2 x y m n r f g h = omega (arith, abs-add-le x y m n f g)
 
-  forward0 : Tapered (2 ^ 34) (forwardOf c .r0)
+  forward-tapers : RowsTaper (forwardOf c)
   unfolding forwardOf
-  forward0 = (t .t0 .0, t .t0 .1, t .t0 .2, t .t0 .3, lit≤ tt)
-
-  forward1 : Tapered (2 ^ 34) (forwardOf c .r1)
-  unfolding forwardOf
-  forward1 = (
-    sum2 (c .r1 .a +ℤ c .r2 .a) (c .r3 .a) (65536 * 2 ^ 30 + 65536 * 2 ^ 26) (65536 * 2 ^ 22) _ (abs-add-le (c .r1 .a) (c .r2 .a) _ _ (t .t1 .0) (t .t2 .0)) (t .t3 .0) (lit≤ tt),
-    sum2 (c .r1 .b) (c .r2 .b) (4096 * 2 ^ 30) (4096 * 2 ^ 26) _ (t .t1 .1) (t .t2 .1) (lit≤ tt),
-    omega (arith, t .t1 .2),
-    lit≤ tt,
-    lit≤ tt,
+  forward-tapers = (
+    (t .t0 .0, t .t0 .1, t .t0 .2, t .t0 .3, lit≤ tt),
+    (
+      sum2 (c .r1 .a +ℤ c .r2 .a) (c .r3 .a) (65536 * 2 ^ 30 + 65536 * 2 ^ 26) (65536 * 2 ^ 22) _ (abs-add-le (c .r1 .a) (c .r2 .a) _ _ (t .t1 .0) (t .t2 .0)) (t .t3 .0) (lit≤ tt),
+      sum2 (c .r1 .b) (c .r2 .b) (4096 * 2 ^ 30) (4096 * 2 ^ 26) _ (t .t1 .1) (t .t2 .1) (lit≤ tt),
+      omega (arith, t .t1 .2),
+      lit≤ tt,
+      lit≤ tt,
+    ),
+    (
+      sum2 (pos 2 *ℤ c .r2 .a) (pos 6 *ℤ c .r3 .a) (2 * (65536 * 2 ^ 26)) (6 * (65536 * 2 ^ 22)) _
+          (abs-mul-le (pos 2) (c .r2 .a) 2 (65536 * 2 ^ 26) (lit≤ tt) (t .t2 .0)) (abs-mul-le (pos 6) (c .r3 .a) 6 (65536 * 2 ^ 22) (lit≤ tt) (t .t3 .0)) (lit≤ tt),
+      omega (arith, abs-mul-le (pos 2) (c .r2 .b) 2 (4096 * 2 ^ 26) (lit≤ tt) (t .t2 .1)),
+      lit≤ tt,
+      lit≤ tt,
+      lit≤ tt,
+    ),
+    (omega (arith, abs-mul-le (pos 6) (c .r3 .a) 6 (65536 * 2 ^ 22) (lit≤ tt) (t .t3 .0)), lit≤ tt, lit≤ tt, lit≤ tt, lit≤ tt),
+    (lit≤ tt, lit≤ tt, lit≤ tt, lit≤ tt, lit≤ tt),
   )
-
-  forward2 : Tapered (2 ^ 34) (forwardOf c .r2)
-  unfolding forwardOf
-  forward2 = (
-    sum2 (pos 2 *ℤ c .r2 .a) (pos 6 *ℤ c .r3 .a) (2 * (65536 * 2 ^ 26)) (6 * (65536 * 2 ^ 22)) _
-        (abs-mul-le (pos 2) (c .r2 .a) 2 (65536 * 2 ^ 26) (lit≤ tt) (t .t2 .0)) (abs-mul-le (pos 6) (c .r3 .a) 6 (65536 * 2 ^ 22) (lit≤ tt) (t .t3 .0)) (lit≤ tt),
-    omega (arith, abs-mul-le (pos 2) (c .r2 .b) 2 (4096 * 2 ^ 26) (lit≤ tt) (t .t2 .1)),
-    lit≤ tt,
-    lit≤ tt,
-    lit≤ tt,
-  )
-
-  forward3 : Tapered (2 ^ 34) (forwardOf c .r3)
-  unfolding forwardOf
-  forward3 = (omega (arith, abs-mul-le (pos 6) (c .r3 .a) 6 (65536 * 2 ^ 22) (lit≤ tt) (t .t3 .0)), lit≤ tt, lit≤ tt, lit≤ tt, lit≤ tt)
-
-  forward4 : Tapered (2 ^ 34) (forwardOf c .r4)
-  unfolding forwardOf
-  forward4 = (lit≤ tt, lit≤ tt, lit≤ tt, lit≤ tt, lit≤ tt)
 
   pub forward-size : AllSized (2 ^ 54) (forwardOf c)
-  forward-size = (
-    tapered-size (forwardOf c .r0) (2 ^ 34) forward0 (lit≤ tt),
-    tapered-size (forwardOf c .r1) (2 ^ 34) forward1 (lit≤ tt),
-    tapered-size (forwardOf c .r2) (2 ^ 34) forward2 (lit≤ tt),
-    tapered-size (forwardOf c .r3) (2 ^ 34) forward3 (lit≤ tt),
-    tapered-size (forwardOf c .r4) (2 ^ 34) forward4 (lit≤ tt),
-  )
+  forward-size =
+      let h = forward-tapers in
+      let size : (v : Vector5) → Tapered (2 ^ 34) v → Sized (2 ^ 54) v = λ v h. tapered-size v (2 ^ 34) h (lit≤ tt) in
+      (size (forwardOf c .r0) (h .0), size (forwardOf c .r1) (h .1), size (forwardOf c .r2) (h .2), size (forwardOf c .r3) (h .3), size (forwardOf c .r4) (h .4))
 
   pub lane-sizes : (k : ℕ) → k ≤ 16 → AllSized (2 ^ 60) (statesOf (forwardOf c) k)
   unfolding statesOf
-  lane-sizes k l = (
-    state-size (forwardOf c .r0) k (2 ^ 34) l forward0 (lit≤ tt),
-    state-size (forwardOf c .r1) k (2 ^ 34) l forward1 (lit≤ tt),
-    state-size (forwardOf c .r2) k (2 ^ 34) l forward2 (lit≤ tt),
-    state-size (forwardOf c .r3) k (2 ^ 34) l forward3 (lit≤ tt),
-    state-size (forwardOf c .r4) k (2 ^ 34) l forward4 (lit≤ tt),
-  )
+  lane-sizes k l =
+      let h = forward-tapers in
+      let size : (v : Vector5) → Tapered (2 ^ 34) v → Sized (2 ^ 60) (stateOf v k) = λ v h. state-size v k (2 ^ 34) l h (lit≤ tt) in
+      (size (forwardOf c .r0) (h .0), size (forwardOf c .r1) (h .1), size (forwardOf c .r2) (h .2), size (forwardOf c .r3) (h .3), size (forwardOf c .r4) (h .4))
 
 number-size : (m : Matrix5) → AllSized (2 ^ 60) m → (s : ℕ) → s < 10 → natAbs (laneNumber m s) ≤ 2 ^ 60
 number-size m h zero l = h .0 .0

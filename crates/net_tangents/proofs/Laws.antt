@@ -29,7 +29,7 @@ use Rattle.bernstein.proofs.Laws.{bits, size-fits, sized-bits}
 use Rattle.strips.specs.PointRows.{FilledTo, Fills}
 use Rattle.net_points.specs.writing.Laid.{pickMatrix, turnedOf, ringAt}
 use Rattle.net_points.proofs.writing.Fill.{filled-at}
-use Rattle.net_points.proofs.writing.Laws.{ring-room}
+use Rattle.net_points.proofs.writing.Laws.{ring-room, rings-last}
 use Rattle.net_tangents.specs.Lanes.{tailwardOf, centrewardOf, laneOf, forwardOf, tenOf, laneNumber, LanePut, Lanes, LanesFilled}
 use Rattle.net_tangents.specs.Lanes.{AxisFilled, Added, SixStates, rowsAt, valueNumber, axisOf}
 use Rattle.net_tangents.specs.Paired.{partNumber, RingAim, RingPairs, CentrePair}
@@ -38,55 +38,35 @@ use Rattle.net_tangents.proofs.Cubic.{less-size}
 use Rattle.net_tangents.proofs.Lanes.{lanes-start, states-value}
 use Rattle.net_tangents.proofs.Values.{lane-is, lane-smooth, values-part}
 
--- ---- a store
-pub put-one : (f : ℕ → ℤ) (old : List ℤ) (i j : ℕ) (out : List ℤ) (x : ℤ) → i < length out → i + 1 ≡ j → FilledTo f old i out → x ≡ f i
-    → FilledTo f old j (set out i x)
-put-one f old i j out x h k e q =
-    subst (λ (n : ℕ). FilledTo f old n (set out i x)) k (record {
-      long = simp length-set (e .long);
-      holds = filled-step f old i out x (pos 0) (omega (arith, e .long)) (e .holds) q;
+-- ---- one more number of a copy
+pub copy-step : (g : ℕ → ℤ) (at e : ℕ) (first mid : List ℤ) (x : ℤ) → at + e < length mid → x ≡ g e → Fills g at e first mid → Fills g at (e + 1) first (set mid (at + e) x)
+copy-step g at e first mid x h v a f old filled values =
+    let q = a f old filled (λ y l. values y (omega arith)) in
+    subst (λ (n : ℕ). FilledTo f old n (set mid (at + e) x)) (let z : at + e + 1 ≡ at + (e + 1) = omega arith in z) (record {
+      long = simp length-set (q .long);
+      holds = filled-step f old (at + e) mid x (pos 0) (omega (arith, q .long)) (q .holds) (v ∙ sym (values e (omega arith)));
     })
 
-pub fills-same : (g h : ℕ → ℤ) (at n : ℕ) (first last : List ℤ) → ((x : ℕ) → x < n → g x ≡ h x) → Fills g at n first last → Fills h at n first last
-fills-same g h at n first last same a f old e values = a f old e (λ x l. values x l ∙ sym (same x l))
-
--- one more number of a copy
-pub copy-step : (g : ℕ → ℤ) (at e to : ℕ) (first mid : List ℤ) (x : ℤ) → to ≡ at + e → at + e < length mid → x ≡ g e → Fills g at e first mid
-    → Fills g at (e + 1) first (set mid to x)
-copy-step g at e to first mid x q h v a f old filled values =
-    put-one f old to (at + (e + 1)) mid x (omega arith) (omega arith)
-    (subst (λ (i : ℕ). FilledTo f old i mid) (sym q) (a f old filled (λ y l. values y (omega arith)))) (v ∙ sym (values e (omega arith)) ∙ ap f (sym q))
-
 -- four copies of six
-four-copies : (table : List ℤ) (lane : ℕ) (old a b c d : List ℤ) → length old ≡ 24 → Fills (λ e. getD table (lane + e) (pos 0)) 0 6 old a
-    → Fills (λ e. getD table (lane + 24 + e) (pos 0)) 6 6 a b → Fills (λ e. getD table (lane + 48 + e) (pos 0)) 12 6 b c
-    → Fills (λ e. getD table (lane + 72 + e) (pos 0)) 18 6 c d
-    → (length d ≡ 24) × ((p e : ℕ) → p < 4 → e < 6 → getD d (6 * p + e) (pos 0) ≡ getD table (24 * p + (lane + e)) (pos 0))
-four-copies table lane old a b c d n f0 f1 f2 f3 = (
-  filled .long ∙ n,
-  λ p e l h.
-      ap (λ (x : List ℤ). getD x (6 * p + e) (pos 0)) (filled .holds) ∙ filled-at g old 24 (6 * p + e) (omega arith)
-      ∙ ap (λ (i : ℕ). getD table i (pos 0)) (let q : lane + 24 * ((6 * p + e) / 6) + (6 * p + e) % 6 ≡ 24 * p + (lane + e) = omega arith in q),
-)
-  where
-    g : ℕ → ℤ
-    g y = getD table (lane + 24 * (y / 6) + y % 6) (pos 0)
+module _ (table : List ℤ) (lane : ℕ) (old a b c d : List ℤ) (n : length old ≡ 24) (f0 : Fills (λ e. getD table (lane + e) (pos 0)) 0 6 old a)
+    (f1 : Fills (λ e. getD table (lane + 24 + e) (pos 0)) 6 6 a b) (f2 : Fills (λ e. getD table (lane + 48 + e) (pos 0)) 12 6 b c)
+    (f3 : Fills (λ e. getD table (lane + 72 + e) (pos 0)) 18 6 c d) where
+  abbrev copied : ℕ → ℤ
+  copied y = getD table (lane + 24 * (y / 6) + y % 6) (pos 0)
 
-    filled : FilledTo g old 24 d
-    filled =
-        f3 g old
-        (f2 g old
-        (f1 g old
-        (f0 g old (record { long = refl; holds = filled-none g old }) (λ x b. ap (λ (i : ℕ). getD table i (pos 0)) (omega arith)))
-        (λ x b. ap (λ (i : ℕ). getD table i (pos 0)) (omega arith)))
-        (λ x b. ap (λ (i : ℕ). getD table i (pos 0)) (omega arith)))
-        (λ x b. ap (λ (i : ℕ). getD table i (pos 0)) (omega arith))
+  spot : (x y : ℕ) → x ≡ y → getD table x (pos 0) ≡ getD table y (pos 0)
+  spot x y e = ap (λ (i : ℕ). getD table i (pos 0)) e
 
-pub copies-states : (F : ℕ → Matrix5) (k : ℕ) (table : List ℤ) (lane : ℕ) (old a b c d : List ℤ) → length old ≡ 24 → Fills (λ e. getD table (lane + e) (pos 0)) 0 6 old a
-    → Fills (λ e. getD table (lane + 24 + e) (pos 0)) 6 6 a b → Fills (λ e. getD table (lane + 48 + e) (pos 0)) 12 6 b c
-    → Fills (λ e. getD table (lane + 72 + e) (pos 0)) 18 6 c d → Lanes F lane (lane + 6) k table → SixStates (rowsAt F lane k) 0 d
-copies-states F k table lane old a b c d n f0 f1 f2 f3 l =
-    lanes-start F lane k table d l (four-copies table lane old a b c d n f0 f1 f2 f3 .0) (four-copies table lane old a b c d n f0 f1 f2 f3 .1)
+  filled : FilledTo copied old 24 d
+  filled =
+      let r0 = f0 copied old (record { long = refl; holds = filled-none copied old }) (λ x b. spot _ _ (omega arith)) in
+      let r1 = f1 copied old r0 (λ x b. spot _ _ (omega arith)) in
+      f3 copied old (f2 copied old r1 (λ x b. spot _ _ (omega arith))) (λ x b. spot _ _ (omega arith))
+
+  pub copies-states : (F : ℕ → Matrix5) (k : ℕ) → Lanes F lane (lane + 6) k table → SixStates (rowsAt F lane k) 0 d
+  copies-states F k l =
+      lanes-start F lane k table d l (filled .long ∙ n) (λ p e a b.
+      ap (λ (x : List ℤ). getD x (6 * p + e) (pos 0)) (filled .holds) ∙ filled-at copied old 24 (6 * p + e) (omega arith) ∙ spot _ _ (omega arith))
 
 -- at the same row, and at the same place
 pub lanes-at : (F : ℕ → Matrix5) (from to i k : ℕ) (table : List ℤ) → i ≡ k → Lanes F from to i table → Lanes F from to k table
@@ -109,28 +89,20 @@ places-step g first j at to states old mid out r q a b =
 
 pub values-fill : (numbers : List ℤ) (n k side first count at : ℕ) (old out : List ℤ) → side ≤ 3 → k + first + count ≤ n + 1
     → Fills (valueNumber (rowsAt (laneOf numbers n) (6 * side) k) first) at (6 * count) old out → Fills (partNumber numbers side n k first) at (6 * count) old out
-values-fill numbers n k side first count at old out h l a = fills-same _ _ at (6 * count) old out (values-part numbers n k side first count h l) a
+values-fill numbers n k side first count at old out h l a f before e values = a f before e (λ x b. values x b ∙ sym (values-part numbers n k side first count h l x b))
 
--- ---- sums and differences that are stored
-module _ (x y : ℤ) (f : natAbs x ≤ 2 ^ 60) (g : natAbs y ≤ 2 ^ 60) where
-  fit : SFits w64 (x +ℤ y)
-  fit = size-fits (x +ℤ y) (let h = abs-add-le x y (2 ^ 60) (2 ^ 60) f g in omega arith)
+-- ---- sums and differences that are stored: they fit, and keep their values
+abbrev Stored : ℤ → ℤ → Type 0
+Stored z w = SFits w64 z × (bits z ≡ w)
 
-  pub sum-fits : SFits w64 (bits x +ℤ bits y)
-  sum-fits = rw (sized-bits x (2 ^ 60) f (lit≤ tt), sized-bits y (2 ^ 60) g (lit≤ tt)) fit
+stored : (op : ℤ → ℤ → ℤ) (x y : ℤ) (A : ℕ) → natAbs x ≤ A → natAbs y ≤ A → A ≤ 2 ^ 62 → natAbs (op x y) ≤ 2 ^ 62 → Stored (op (bits x) (bits y)) (op x y)
+stored op x y A f g few h = let fit = size-fits (op x y) h in rw (sized-bits x A f few, sized-bits y A g few) (fit, toZ-ofZ fit)
 
-  pub sum-bits : bits (bits x +ℤ bits y) ≡ x +ℤ y
-  sum-bits = rw (sized-bits x (2 ^ 60) f (lit≤ tt), sized-bits y (2 ^ 60) g (lit≤ tt)) (toZ-ofZ fit)
+pub sum-stored : (x y : ℤ) → natAbs x ≤ 2 ^ 60 → natAbs y ≤ 2 ^ 60 → Stored (bits x +ℤ bits y) (x +ℤ y)
+sum-stored x y f g = stored _+ℤ_ x y (2 ^ 60) f g (lit≤ tt) (let h = abs-add-le x y (2 ^ 60) (2 ^ 60) f g in omega arith)
 
-module _ (x y : ℤ) (f : natAbs x ≤ 2 ^ 54) (g : natAbs y ≤ 2 ^ 54) where
-  differs : SFits w64 (x -ℤ y)
-  differs = size-fits (x -ℤ y) (less-size x y (2 ^ 54) (2 ^ 62) (lit≤ tt) f g)
-
-  pub difference-fits : SFits w64 (bits x -ℤ bits y)
-  difference-fits = rw (sized-bits x (2 ^ 54) f (lit≤ tt), sized-bits y (2 ^ 54) g (lit≤ tt)) differs
-
-  pub difference-bits : bits (bits x -ℤ bits y) ≡ x -ℤ y
-  difference-bits = rw (sized-bits x (2 ^ 54) f (lit≤ tt), sized-bits y (2 ^ 54) g (lit≤ tt)) (toZ-ofZ differs)
+pub difference-stored : (x y : ℤ) → natAbs x ≤ 2 ^ 54 → natAbs y ≤ 2 ^ 54 → Stored (bits x -ℤ bits y) (x -ℤ y)
+difference-stored x y f g = stored _-ℤ_ x y (2 ^ 54) f g (lit≤ tt) (less-size x y (2 ^ 54) (2 ^ 62) (lit≤ tt) f g)
 
 pub added-step : (at i gap : ℕ) (old list : List ℤ) (v : ℤ) → at ≤ i → 0 < gap → i < length list → Added at i gap old list
     → v ≡ getD list i (pos 0) +ℤ getD list (i + gap) (pos 0) → Added at (i + 1) gap old (set list i v)
@@ -241,13 +213,6 @@ part-filled numbers side n k first count at old out before f a e values =
     ap f (let z : at + x ≡ at + 6 * (x / 6) + x % 6 = omega arith in z) ∙ values (x / 6) (x % 6) (omega arith) (omega arith))
 
 -- ---- one more side of a ring
-pub sides-room : (side w : ℕ) → side < 4 → side * w + w ≤ 4 * w
-sides-room zero w h = omega arith
-sides-room (suc zero) w h = omega arith
-sides-room (suc (suc zero)) w h = omega arith
-sides-room (suc (suc (suc zero))) w h = omega arith
-sides-room (suc (suc (suc (suc s)))) w h = absurd (omega arith)
-
 pub side-step : (numbers : List ℤ) (n k w at side to : ℕ) (f : ℕ → ℤ) (old mid out : List ℤ) → side < 4 → to ≡ at + 6 * (side * w) → RingAim numbers n k w at f
     → FilledTo f old to mid → Fills (partNumber numbers side n k 0) to (6 * w) mid out → FilledTo f old (to + 6 * w) out
 side-step numbers n k w at side to f old mid out h q aim e a =
@@ -292,41 +257,26 @@ ring-next n k w to at h e q = line (2 * (k * (2 * n - k - 1))) q ∙ ap (λ (x :
         let c : w ≡ v + 1 = omega arith in
         rw (a, b, c) (let z : 2 * (k * (k + 3 + 2 * v)) + 4 * (v + 1) ≡ 2 * ((k + 1) * (k + 2 + 2 * v)) = omega arith in z)
 
--- the centre's room
-pub last-fits : (n k to at len : ℕ) → 1 ≤ n → k + 1 ≤ n → n ≤ k + 1 → to ≡ at + 6 * (2 * (k * (2 * n - k - 1))) → at + 6 * (2 * (n * (n - 1)) + 1) ≤ len → to + 6 ≤ len
-last-fits n k to at len some a b q l = line (2 * (n * (n - 1))) (q ∙ ap (λ (x : ℕ). at + 6 * x) (shape k (omega arith))) l
-  where
-    line : (r : ℕ) → to ≡ at + 6 * r → at + 6 * (r + 1) ≤ len → to + 6 ≤ len
-    line r e h = omega arith
+-- ---- the centre after the last ring
+module _ (n k to at : ℕ) (e : k + 1 ≡ n) (there : to ≡ at + 6 * (2 * (k * (2 * n - k - 1)))) where
+  centre-at : to ≡ at + 6 * (2 * (n * (n - 1)))
+  centre-at = there ∙ ap (λ (x : ℕ). at + 6 * x) (rings-last n k e)
 
-    shape : (v : ℕ) → n ≡ v + 1 → 2 * (v * (2 * n - v - 1)) ≡ 2 * (n * (n - 1))
-    shape v e =
-        let b : 2 * n - v - 1 ≡ v + 1 = omega arith in
-        let c : n - 1 ≡ v = omega arith in
-        rw (b, c) (rw e (let z : 2 * (v * (v + 1)) ≡ 2 * ((v + 1) * v) = omega arith in z))
+  centre-end : (r : ℕ) → to ≡ at + 6 * r → at + 6 * (r + 1) ≡ to + 6
+  centre-end r q = omega arith
 
--- the centre after the last ring
-pub rings-end : (numbers : List ℤ) (n at k to : ℕ) → 1 ≤ n → n ≤ k + 1 → k + 1 ≤ n → to ≡ at + 6 * (2 * (k * (2 * n - k - 1))) → (f : ℕ → ℤ) (before mid out : List ℤ)
-    → CentrePair numbers n at f → FilledTo f before to mid → Fills (partNumber numbers 0 n n 0) to 6 mid out
-    → FilledTo f before (at + 6 * (2 * (n * (n - 1)) + 1)) out
-rings-end numbers n at k to some h l there f before mid out aim q p =
-    let e : k ≡ n - 1 = omega arith in
-    let d : 2 * (k * (2 * n - k - 1)) ≡ 2 * (n * (n - 1)) = shape (n - 1) (omega arith) e in
-    let t : to ≡ at + 6 * (2 * (n * (n - 1))) = there ∙ ap (λ (x : ℕ). at + 6 * x) d in
-    let r = part-filled numbers 0 n n 0 1 to mid out before f p q
-    (λ j x b m. ap f (let j0 : j ≡ 0 = omega arith in let z : to + 6 * j + x ≡ at + 6 * (2 * (n * (n - 1))) + x = moved (2 * (n * (n - 1))) j x t j0 in z) ∙ aim x m
-    ∙ (let j0 : 0 ≡ 0 + j = omega arith in λ z. getD (tangentPair numbers side0 (turnWeights side0 n n (j0 z))) x (pos 0))) in
-    subst (λ (i : ℕ). FilledTo f before i out) (last (2 * (n * (n - 1))) t) r
-  where
-    moved : (r j x : ℕ) → to ≡ at + 6 * r → j ≡ 0 → to + 6 * j + x ≡ at + 6 * r + x
-    moved r j x q z = omega arith
+  -- its room
+  pub last-fits : (len : ℕ) → at + 6 * (2 * (n * (n - 1)) + 1) ≤ len → to + 6 ≤ len
+  last-fits len l = subst (λ (x : ℕ). x ≤ len) (centre-end (2 * (n * (n - 1))) centre-at) l
 
-    last : (r : ℕ) → to ≡ at + 6 * r → to + 6 ≡ at + 6 * (r + 1)
-    last r q = omega arith
-
-    shape : (v : ℕ) → n ≡ v + 1 → k ≡ n - 1 → 2 * (k * (2 * n - k - 1)) ≡ 2 * (n * (n - 1))
-    shape v e q =
-        let a : k ≡ v = omega arith in
-        let b : 2 * n - k - 1 ≡ v + 1 = omega arith in
-        let c : n - 1 ≡ v = omega arith in
-        rw (b, c) (rw (a, e) (let z : 2 * (v * (v + 1)) ≡ 2 * ((v + 1) * v) = omega arith in z))
+  pub rings-end : (numbers : List ℤ) (f : ℕ → ℤ) (before mid out : List ℤ) → CentrePair numbers n at f → FilledTo f before to mid
+      → Fills (partNumber numbers 0 n n 0) to 6 mid out → FilledTo f before (at + 6 * (2 * (n * (n - 1)) + 1)) out
+  rings-end numbers f before mid out aim q p =
+      subst (λ (i : ℕ). FilledTo f before i out) (sym (centre-end (2 * (n * (n - 1))) centre-at))
+      (part-filled numbers 0 n n 0 1 to mid out before f p q (λ j x b m.
+      let z : j ≡ 0 = omega arith in
+      ap f (ap (λ (i : ℕ). i + 6 * j + x) centre-at ∙ ap (λ (i : ℕ). at + 6 * (2 * (n * (n - 1))) + 6 * i + x) z ∙ none (at + 6 * (2 * (n * (n - 1)))) x) ∙ aim x m
+      ∙ ap (λ (i : ℕ). getD (tangentPair numbers side0 (turnWeights side0 n n i)) x (pos 0)) (let w : 0 ≡ 0 + j = omega arith in w)))
+    where
+      none : (r x : ℕ) → r + 6 * 0 + x ≡ r + x
+      none r x = omega arith

@@ -16,7 +16,7 @@ use Rattle.net_points.specs.writing.Laid.{Reaches, EndAim, EndPlace, Cur
 use Rattle.net_points.specs.writing.Shapes.{Shapely, shapeGroup, shapeRings, shapeStart, shapeNumber, ShapeAim, ShapePlace}
 use Rattle.closing.proofs.Listed.{ring-side, ring-rest}
 use Rattle.closing.proofs.Samples.{centre-end}
-use Rattle.net_points.proofs.writing.Laws.{reaches-part, reaches-more}
+use Rattle.net_points.proofs.writing.Laws.{reaches-part, reaches-more, sides-room, rings-last}
 
 -- ---- the size of a ring
 module _ (s : Shape) (k : ℕ) where
@@ -35,9 +35,7 @@ module _ (s : Shape) (k : ℕ) where
   -- where the centre stands
   pub centre-start : k + 1 ≡ s .level → shapeStart s (suc (suc (suc (suc (suc k))))) ≡ shapeRings s + 2 * (s .level * (s .level - 1))
   unfolding shapeStart
-  centre-start e =
-      let a : 2 * s .level - k - 1 ≡ k + 1 = omega arith in let b : s .level - 1 ≡ k = omega arith in
-      rw (a, b) (rw (← e) (let z : shapeRings s + 2 * (k * (k + 1)) ≡ shapeRings s + 2 * ((k + 1) * k) = omega arith in z))
+  centre-start e = ap (λ (x : ℕ). shapeRings s + x) (rings-last (s .level) k e)
 
 -- ---- what the parts are to write
 module _ (numbers : List ℤ) (s : Shape) (ok : Shapely s) (at : ℕ) (f : ℕ → ℤ) (aim : ShapeAim numbers s at f) where
@@ -80,20 +78,12 @@ module _ (numbers : List ℤ) (s : Shape) (ok : Shapely s) (at : ℕ) (f : ℕ �
   pub rings-aim : RingsAim numbers (s .level) ringsFrom f
   unfolding shapeStart shapeNumber
   rings-aim side k j axis l h a =
-      let w = s .level - suc k in
-      let few : side * (s .level - suc k) + j < 4 * (s .level - suc k) = inner side (s .level - suc k) l h in
+      let few : side * (s .level - suc k) + j < 4 * (s .level - suc k) = omega (arith, sides-room side (s .level - suc k) l) in
       ap f (ap (λ (x : ℕ). x + axis) (sym (ring-place side k (s .level - suc k) j (2 * (k * (2 * s .level - k - 1))) refl)))
       ∙ aim (suc (suc (suc (suc (suc k))))) (side * (s .level - suc k) + j) axis (omega (arith, ok .few-level))
       (let z = ring-size s k (omega arith) in let q : 4 * (s .level - suc k) ≡ 4 * (s .level - (k + 1)) = omega arith in omega arith) a
       ∙ (let p = ap sideAt (ring-side side (s .level - suc k) j h) in let q = ring-rest side (s .level - suc k) j h in
       λ z. sampleAt numbers (p z) (turnWeights (p z) (s .level) (suc k) (q z)) axis)
-    where
-      inner : (side w : ℕ) → side < 4 → j < w → side * w + j < 4 * w
-      inner zero w l h = omega arith
-      inner (suc zero) w l h = omega arith
-      inner (suc (suc zero)) w l h = omega arith
-      inner (suc (suc (suc zero))) w l h = omega arith
-      inner (suc (suc (suc (suc side)))) w l h = absurd (omega arith)
 
   centre-number : (k axis : ℕ) → suc k ≡ s .level → shapeNumber numbers s (suc (suc (suc (suc (suc k))))) 0 axis ≡ onAxis numbers axis 12
   unfolding shapeNumber

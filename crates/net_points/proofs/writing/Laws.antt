@@ -4,6 +4,7 @@ use mathlib.Core.Bool.{Bool, true, false}
 use mathlib.Core.Logic.{_⊎_, inl, inr, ⊎-elim}
 use mathlib.Core.List.{List}
 use Prim.Native.Nat.{ℕ, zero, suc, _+_, _-_, _*_, _/_, _%_, _^_, _≤_, _<_}
+use native.Mathlib.Nat.{mul-le-mul-right}
 use native.Mathlib.Omega.{arith}
 use lib.Dec.{ltb, eqb}
 use borrow.Author.Tests.{ltb-true, ltb-false, eqb-true, eqb-false, eq-eqb, ne-eqb}
@@ -185,22 +186,22 @@ spoke-sampleable p n k w h q s e is =
     row-part (row-sampleable p n (suc k) (omega arith) s (polynomial-tapers p n (s .sized) (s .few)) e is) 0 w (omega arith) (omega arith)
 
 -- ---- the rings of a side
+-- the places of its row on one stay within the ring
+pub sides-room : (side w : ℕ) → side < 4 → side * w + w ≤ 4 * w
+sides-room side w h = let l : side ≤ 3 = omega arith in let m : side * w ≤ 3 * w = mul-le-mul-right w l in omega arith
+
 -- they stay within the rings' places
 pub ring-room : (n k side : ℕ) → k + 1 < n → side ≤ 3 → 2 * (k * (2 * n - k - 1)) + side * (n - k - 1) + (n - k - 1) ≤ 2 * (n * (n - 1))
 ring-room n k side h l = go (n - k - 2) (omega arith)
   where
-    sides : (w : ℕ) → side * w ≤ 3 * w
-    sides w = few side l
-      where
-        few : (side : ℕ) → side ≤ 3 → side * w ≤ 3 * w
-        few zero h = omega arith
-        few (suc zero) h = omega arith
-        few (suc (suc zero)) h = omega arith
-        few (suc (suc (suc zero))) h = omega arith
-        few (suc (suc (suc (suc s)))) h = absurd (omega arith)
-
     go : (v : ℕ) → n ≡ k + 2 + v → 2 * (k * (2 * n - k - 1)) + side * (n - k - 1) + (n - k - 1) ≤ 2 * (n * (n - 1))
     go v e =
         let a : 2 * n - k - 1 ≡ k + 3 + 2 * v = omega arith in let c : n - k - 1 ≡ v + 1 = omega arith in
         let d : n - 1 ≡ k + 1 + v = omega arith in
-        rw (a, c, d) (rw e (let s = sides (v + 1) in let z : 2 * (k * (k + 3 + 2 * v)) + side * (v + 1) + (v + 1) ≤ 2 * ((k + 2 + v) * (k + 1 + v)) = omega arith in z))
+        rw (a, c, d) (rw e (let s = sides-room side (v + 1) (omega arith) in let z : 2 * (k * (k + 3 + 2 * v)) + side * (v + 1) + (v + 1) ≤ 2 * ((k + 2 + v) * (k + 1 + v)) = omega arith in z))
+
+-- after the last of them the centre stands
+pub rings-last : (n k : ℕ) → k + 1 ≡ n → 2 * (k * (2 * n - k - 1)) ≡ 2 * (n * (n - 1))
+rings-last n k e =
+    let a : 2 * n - k - 1 ≡ k + 1 = omega arith in let b : n - 1 ≡ k = omega arith in
+    rw (a, b) (rw (← e) (let z : 2 * (k * (k + 1)) ≡ 2 * ((k + 1) * k) = omega arith in z))

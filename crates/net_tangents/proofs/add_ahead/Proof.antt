@@ -8,8 +8,7 @@ use lib.ListN.{length, getD, length-set}
 use lib.IntN.{ℤ, pos, natAbs}
 use denote.Ref.{now}
 use Rattle.net_tangents.specs.Lanes.{Added}
-use Rattle.net_tangents.proofs.Laws.{sum-fits, sum-bits, added-step}
-use Rattle.net_tangents.proofs.add_ahead.Statement.{statement}
+use Rattle.net_tangents.proofs.Laws.{sum-stored, added-step}
 use Rattle.net_tangents.proofs.add_ahead.Tie as tie
 
 abbrev Inv-loop : tie.InvT-loop
@@ -57,11 +56,8 @@ loop-again c =
       omega (arith, v .0),
       omega (arith, below t),
       rw length-set (v .2),
-      added-step (s t .args .at) (i t) (s t .args .gap) (now (s t .args .list)) (l t) _ (v .0) (s t .pre .0 .1) (omega (arith, room t)) (v .3) (sum-bits (getD (l t) (i t) (pos 0)) (getD (l t) (i t + s t .args .gap) (pos 0)) (here t) (ahead t)),
+      added-step (s t .args .at) (i t) (s t .args .gap) (now (s t .args .list)) (l t) _ (v .0) (s t .pre .0 .1) (omega (arith, room t)) (v .3) (sum-stored (getD (l t) (i t) (pos 0)) (getD (l t) (i t + s t .args .gap) (pos 0)) (here t) (ahead t) .1),
     )
-
-same-length : tie.Need-same-length Inv-loop μ-loop
-same-length c = let e : tie.At-loop Inv-loop μ-loop = search in e .loop .inv .2
 
 returns : tie.Need-returns Inv-loop μ-loop
 returns c =
@@ -69,10 +65,10 @@ returns c =
     let e : tie.At-loop Inv-loop μ-loop = search in
     subst (λ (x : ℕ). Added (s .args .at) x (s .args .gap) (now (s .args .list)) (e .loop .list)) (omega arith) (e .loop .inv .3)
 
-pub add-ahead-spec : {M : Type 1} → statement M
+pub add-ahead-spec : {M : Type 1} → Rattle.net_tangents.proofs.add_ahead.Statement.statement M
 add-ahead-spec =
     tie.close (tie.spec Inv-loop μ-loop loop-holds (λ c. search needs) (λ c. let t : tie.In-loop Inv-loop μ-loop = search in omega (arith, room t))
     (λ c. let t : tie.In-loop Inv-loop μ-loop = search in record { fits = omega (arith, below t, s t .good, s t .pre .0 .2) }) (λ c. search needs)
     (λ c. let t : tie.In-loop Inv-loop μ-loop = search in room t)
-    (λ c. let t : tie.In-loop Inv-loop μ-loop = search in sum-fits (getD (l t) (i t) (pos 0)) (getD (l t) (i t + s t .args .gap) (pos 0)) (here t) (ahead t)) (λ c. search needs)
-    (λ c. let t : tie.In-loop Inv-loop μ-loop = search in omega (arith, room t)) (λ c. search needs) (λ c. search needs) loop-again same-length returns)
+    (λ c. let t : tie.In-loop Inv-loop μ-loop = search in sum-stored (getD (l t) (i t) (pos 0)) (getD (l t) (i t + s t .args .gap) (pos 0)) (here t) (ahead t) .0) (λ c. search needs)
+    (λ c. let t : tie.In-loop Inv-loop μ-loop = search in omega (arith, room t)) (λ c. search needs) (λ c. search needs) loop-again (λ c. search needs) returns)

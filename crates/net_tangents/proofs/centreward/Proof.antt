@@ -8,7 +8,6 @@ use Rattle.bernstein.specs.Sums.{AllSized}
 use Rattle.bernstein.specs.Tangents.{alongOf, inwardOf}
 use Rattle.bernstein.proofs.Tapering.{along-tapers, inward-tapers, tapered-sized}
 use Rattle.net_tangents.specs.Lanes.{minusOf, centrewardOf}
-use Rattle.net_tangents.proofs.centreward.Statement.{statement}
 use Rattle.net_tangents.proofs.centreward.Tie as tie
 
 minus-requires : tie.Need-minus-requires
@@ -36,7 +35,7 @@ returns-2 c =
     let b : tie.After-inward = search in
     rw (ne-eqb (s .args .side % 2) 1 (c .if1 .left)) (b .inward .ensures)
 
-pub centreward-spec : {M : Type 1} → statement M
+pub centreward-spec : {M : Type 1} → Rattle.net_tangents.proofs.centreward.Statement.statement M
 centreward-spec =
     tie.close (tie.spec (λ c κs. let s : tie.Start = search in tapered-sized (s .args .c) (s .pre)) (λ c κs. let s : tie.Start = search in tapered-sized (s .args .c) (s .pre))
     minus-requires returns returns-2)

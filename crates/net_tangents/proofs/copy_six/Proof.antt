@@ -10,7 +10,6 @@ use denote.Ref.{now}
 use Rattle.strips.specs.PointRows.{Fills}
 use Rattle.strips.proofs.Rowed.{fills-none}
 use Rattle.net_tangents.proofs.Laws.{copy-step}
-use Rattle.net_tangents.proofs.copy_six.Statement.{statement}
 use Rattle.net_tangents.proofs.copy_six.Tie as tie
 
 abbrev Inv-loop : tie.InvT-loop
@@ -36,12 +35,9 @@ loop-again c =
     let v = t .before .loop .inv in (
       omega (arith, below t),
       rw length-set (v .1),
-      copy-step (λ x. getD (now (s t .args .list)) (s t .args .from + x) (pos 0)) (s t .args .at) (t .before .loop .e) (s t .args .at + t .before .loop .e) (now (s t .args .out)) (t .before .loop .out)
-          _ refl (omega (arith, below t, s t .pre .1, v .1)) (toZ-ofZ (record { sfits = c .out .given })) (v .2),
+      copy-step (λ x. getD (now (s t .args .list)) (s t .args .from + x) (pos 0)) (s t .args .at) (t .before .loop .e) (now (s t .args .out)) (t .before .loop .out)
+          _ (omega (arith, below t, s t .pre .1, v .1)) (toZ-ofZ (record { sfits = c .out .given })) (v .2),
     )
-
-same-length : tie.Need-same-length Inv-loop μ-loop
-same-length c = let e : tie.At-loop Inv-loop μ-loop = search in e .loop .inv .1
 
 returns : tie.Need-returns Inv-loop μ-loop
 returns c =
@@ -49,10 +45,10 @@ returns c =
     let e : tie.At-loop Inv-loop μ-loop = search in
     subst (λ (x : ℕ). Fills (λ x. getD (now (s .args .list)) (s .args .from + x) (pos 0)) (s .args .at) x (now (s .args .out)) (e .loop .out)) (omega (arith, e .loop .inv .0)) (e .loop .inv .2)
 
-pub copy-six-spec : {M : Type 1} → statement M
+pub copy-six-spec : {M : Type 1} → Rattle.net_tangents.proofs.copy_six.Statement.statement M
 copy-six-spec =
     tie.close (tie.spec Inv-loop μ-loop loop-holds (λ c. let t : tie.In-loop Inv-loop μ-loop = search in record { fits = omega (arith, below t, s t .pre .0, s t .good) }) (λ c. search needs)
     (λ c. let t : tie.In-loop Inv-loop μ-loop = search in omega (arith, below t, s t .pre .0))
     (λ c. let t : tie.In-loop Inv-loop μ-loop = search in record { fits = omega (arith, below t, s t .pre .1, s t .good) }) (λ c. search needs)
     (λ c. let t : tie.In-loop Inv-loop μ-loop = search in omega (arith, below t, s t .pre .1, t .before .loop .inv .1)) (λ c. search needs) (λ c. search needs)
-    loop-again same-length returns)
+    loop-again (λ c. search needs) returns)

@@ -12,7 +12,6 @@ use Rattle.net_points.proofs.writing.Laws.{turned-size}
 use Rattle.net_tangents.specs.Lanes.{tailwardOf, centrewardOf, forwardOf, CubicTapered}
 use Rattle.net_tangents.proofs.Cubic.{polynomial-tapering, tailward-smooth, centreward-smooth}
 use Rattle.net_tangents.proofs.Laws.{axis-filled}
-use Rattle.net_tangents.proofs.fill_axis.Statement.{statement}
 use Rattle.net_tangents.proofs.fill_axis.Tie as tie
 
 -- the control points in turn
@@ -77,12 +76,6 @@ polynomial-requires c κs = let s : tie.Start = search in let t : tie.After-turn
 lane-numbers-requires : tie.Need-lane-numbers-requires
 lane-numbers-requires c κs = let q : tie.After-polynomial = search in let t : tie.After-tailward = search in rw (t .tailward .ensures) (tail q .tapers)
 
-put-lane-requires : tie.Need-put-lane-requires
-put-lane-requires c κs =
-    let l : tie.After-lane-numbers = search in
-    let s = start (origin l) in
-    (s .pre .3, omega (arith, s .pre .2), l .lane-numbers .ensures .1)
-
 centreward-requires : tie.Need-centreward-requires
 centreward-requires c κs = let l : tie.After-lane-numbers = search in tapers (origin l)
 
@@ -109,7 +102,7 @@ returns c =
     axis-filled (now (s .args .numbers)) (s .args .n) (s .args .axis) (s .pre .2) (now (s .args .table)) _ _ _ _ _ (is-c q) (is-first (earlier l)) (is-second l) (p .put-lane .ensures)
     (r .put-lane2 .ensures)
 
-pub fill-axis-spec : {M : Type 1} → statement M
+pub fill-axis-spec : {M : Type 1} → Rattle.net_tangents.proofs.fill_axis.Statement.statement M
 fill-axis-spec =
     tie.close (tie.spec (λ c. search needs) (λ c. search needs) (λ c κs. search needs) polynomial-requires (λ c κs. let q : tie.After-polynomial = search in tapers q) lane-numbers-requires
-    put-lane-requires centreward-requires lane-numbers-requires-2 add-put-lane put-lane-requires-2 (λ c. search needs) returns)
+    (λ c κs. search needs) centreward-requires lane-numbers-requires-2 add-put-lane put-lane-requires-2 (λ c. search needs) returns)

@@ -7,7 +7,6 @@ use lib.ListN.{length}
 use denote.Ref.{now}
 use Rattle.net_tangents.specs.Lanes.{laneOf, LanesFilled}
 use Rattle.net_tangents.proofs.Laws.{axes-step}
-use Rattle.net_tangents.proofs.fill_lanes.Statement.{statement}
 use Rattle.net_tangents.proofs.fill_lanes.Tie as tie
 
 abbrev Inv-loop : tie.InvT-loop
@@ -27,11 +26,6 @@ module _ (t : tie.In-loop Inv-loop μ-loop) where
   below : t .before .loop .i < s .args .count
   below = t .loop-test .taken
 
-fill-axis-requires : tie.Need-fill-axis-requires Inv-loop μ-loop
-fill-axis-requires c κs =
-    let t : tie.In-loop Inv-loop μ-loop = search in
-    (s t .pre .0, s t .pre .1, omega (arith, below t, s t .pre .2), omega (arith, t .before .loop .inv .1, s t .pre .3))
-
 loop-again : tie.Need-loop-again Inv-loop μ-loop
 loop-again c =
     let t : tie.In-loop Inv-loop μ-loop = search in
@@ -42,16 +36,13 @@ loop-again c =
       axes-step (laneOf (now (s t .args .numbers)) (s t .args .n)) (s t .args .from) (s t .args .from + l .i) (l .table) _ (s t .args .from + (l .i + 1)) (omega arith) (l .inv .2) (p .fill-axis .ensures),
     )
 
-same-length : tie.Need-same-length Inv-loop μ-loop
-same-length c = let e : tie.At-loop Inv-loop μ-loop = search in e .loop .inv .1
-
 returns : tie.Need-returns Inv-loop μ-loop
 returns c =
     let s : tie.Start Inv-loop μ-loop = search in
     let e : tie.At-loop Inv-loop μ-loop = search in
     subst (λ (x : ℕ). LanesFilled (laneOf (now (s .args .numbers)) (s .args .n)) (s .args .from) (s .args .from + x) (e .loop .table)) (omega (arith, e .loop .inv .0)) (e .loop .inv .2)
 
-pub fill-lanes-spec : {M : Type 1} → statement M
+pub fill-lanes-spec : {M : Type 1} → Rattle.net_tangents.proofs.fill_lanes.Statement.statement M
 fill-lanes-spec =
-    tie.close (tie.spec Inv-loop μ-loop loop-holds (λ c. let t : tie.In-loop Inv-loop μ-loop = search in record { fits = omega (arith, below t, s t .pre .2) }) fill-axis-requires
-    (λ c. search needs) (λ c. search needs) loop-again same-length returns)
+    tie.close (tie.spec Inv-loop μ-loop loop-holds (λ c. let t : tie.In-loop Inv-loop μ-loop = search in record { fits = omega (arith, below t, s t .pre .2) }) (λ c κs. search needs)
+    (λ c. search needs) (λ c. search needs) loop-again (λ c. search needs) returns)

@@ -5,7 +5,6 @@ use Rattle.bernstein.specs.declared.Matrix5.{Matrix5}
 use Rattle.bernstein.specs.Sums.{statesOf}
 use Rattle.net_tangents.specs.Lanes.{forwardOf}
 use Rattle.net_tangents.proofs.Lanes.{forward-size, lane-sizes}
-use Rattle.net_tangents.proofs.lane_numbers.Statement.{statement}
 use Rattle.net_tangents.proofs.lane_numbers.Tie as tie
 
 states-requires : tie.Need-states-requires
@@ -24,5 +23,5 @@ module _ (t : tie.After-states) where
 returns : tie.Need-returns
 returns c = let t : tie.After-states = search in (is t, rw (is t) (lane-sizes (start t .args .c) (start t .pre) 0 (lit≤ tt)))
 
-pub lane-numbers-spec : {M : Type 1} → statement M
+pub lane-numbers-spec : {M : Type 1} → Rattle.net_tangents.proofs.lane_numbers.Statement.statement M
 lane-numbers-spec = tie.close (tie.spec (λ c κs. c .pre) states-requires returns)

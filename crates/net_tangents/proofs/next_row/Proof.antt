@@ -7,7 +7,6 @@ use lib.Dec.{lit<, lit≤}
 use lib.IntN.{ℤ, natAbs}
 use denote.Ref.{now}
 use Rattle.net_tangents.proofs.Lanes.{next-lanes}
-use Rattle.net_tangents.proofs.next_row.Statement.{statement}
 use Rattle.net_tangents.proofs.next_row.Tie as tie
 
 within : (x y : ℤ) → x ≡ y → natAbs y ≤ 2 ^ 60 → natAbs x ≤ 2 ^ 60
@@ -51,5 +50,5 @@ returns c =
     next-lanes F k (now (s .args .table)) _ _ _ l (p .add-ahead .ensures) (q .add-ahead2 .ensures) (r .add-ahead3 .ensures) b
     (omega (arith, s .pre .0, p .add-ahead .kept, q .add-ahead2 .kept, r .add-ahead3 .kept))
 
-pub next-row-spec : {M : Type 1} → statement M
+pub next-row-spec : {M : Type 1} → Rattle.net_tangents.proofs.next_row.Statement.statement M
 next-row-spec = tie.close (tie.spec add-ahead-requires add-ahead-requires-2 add-ahead-requires-3 (λ c. search needs) returns)

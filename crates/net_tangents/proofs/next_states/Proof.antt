@@ -5,7 +5,6 @@ use borrow.Author.Needs.{needs}
 use lib.Dec.{lit<, lit≤}
 use denote.Ref.{now}
 use Rattle.net_tangents.proofs.Lanes.{states-small, states-next}
-use Rattle.net_tangents.proofs.next_states.Statement.{statement}
 use Rattle.net_tangents.proofs.next_states.Tie as tie
 
 add-ahead-requires : tie.Need-add-ahead-requires
@@ -21,5 +20,5 @@ returns c =
     let p : tie.After-add-ahead = search in
     λ g j cubic r. states-next g j (now (s .args .states)) cubic r _ (p .add-ahead .ensures) (omega (arith, p .add-ahead .kept, r .long))
 
-pub next-states-spec : {M : Type 1} → statement M
+pub next-states-spec : {M : Type 1} → Rattle.net_tangents.proofs.next_states.Statement.statement M
 next-states-spec = tie.close (tie.spec add-ahead-requires (λ c. search needs) returns)

@@ -7,7 +7,6 @@ use mir.Facts.{toZ-ofZ}
 use denote.Ref.{now}
 use Rattle.bernstein.proofs.Laws.{fits}
 use Rattle.net_tangents.proofs.Laws.{LaneTo, lane-none, lane-step, lane-put}
-use Rattle.net_tangents.proofs.put_lane.Statement.{statement}
 use Rattle.net_tangents.proofs.put_lane.Tie as tie
 
 abbrev Inv-loop : tie.InvT-loop
@@ -33,9 +32,6 @@ loop-again c =
     let l = t .before .loop in
     (omega (arith, below t), lane-step _ (start t .args .lane) (l .s) _ _ (l .table) (start t .pre .1) (below t) (toZ-ofZ (record { sfits = c .table .given })) (l .inv .1))
 
-same-length : tie.Need-same-length Inv-loop μ-loop
-same-length c = let s : tie.Start Inv-loop μ-loop = search in let e : tie.At-loop Inv-loop μ-loop = search in omega (arith, s .pre .0, e .loop .inv .1 .long)
-
 returns : tie.Need-returns Inv-loop μ-loop
 returns c =
     let s : tie.Start Inv-loop μ-loop = search in
@@ -48,9 +44,9 @@ returns c =
     lane-put _ (s .args .lane) (e .loop .s) m (now (s .args .table)) (e .loop .table) (omega (arith, e .loop .inv .0))
     (simp (toZ-ofZ, k0 .0, k0 .1, k0 .2, k0 .3, k1 .0, k1 .1, k1 .2, k2 .0, k2 .1, k3 .0)) (e .loop .inv .1)
 
-pub put-lane-spec : {M : Type 1} → statement M
+pub put-lane-spec : {M : Type 1} → Rattle.net_tangents.proofs.put_lane.Statement.statement M
 put-lane-spec =
     tie.close (tie.spec Inv-loop μ-loop loop-holds (λ c. search needs) (λ c. let t : tie.In-loop Inv-loop μ-loop = search in below t) (λ c. search needs)
     (λ c. let t : tie.In-loop Inv-loop μ-loop = search in record { fits = omega (arith, below t, start t .pre .1) }) (λ c. search needs)
     (λ c. let t : tie.In-loop Inv-loop μ-loop = search in omega (arith, below t, start t .pre .1, t .before .loop .inv .1 .long)) (λ c. search needs) (λ c. search needs)
-    loop-again same-length returns)
+    loop-again (λ c. search needs) returns)

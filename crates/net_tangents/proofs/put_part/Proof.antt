@@ -9,7 +9,6 @@ use Rattle.net_tangents.specs.Lanes.{laneOf, Lanes}
 use Rattle.net_tangents.specs.Paired.{partNumber}
 use Rattle.strips.proofs.Rowed.{fills-none}
 use Rattle.net_tangents.proofs.Laws.{side-lanes, values-fill}
-use Rattle.net_tangents.proofs.put_part.Statement.{statement}
 use Rattle.net_tangents.proofs.put_part.Tie as tie
 
 -- the table at hand
@@ -60,7 +59,7 @@ returns-3 c =
     subst (λ (x : ℕ). Fills (partNumber (now (s .args .numbers)) (s .args .side) (s .args .n) 0 (s .args .first)) (s .args .at) x (now (s .args .out)) (now (s .args .out)))
     (let z : 0 ≡ 6 * s .args .count = omega arith in z) (fills-none _ (s .args .at) (now (s .args .out)))
 
-pub put-part-spec : {M : Type 1} → statement M
+pub put-part-spec : {M : Type 1} → Rattle.net_tangents.proofs.put_part.Statement.statement M
 put-part-spec =
     tie.close (tie.spec (λ c. search needs) put-places-requires (λ c. search needs) returns (λ c. search needs) (λ c. search needs) (λ c κs. search needs) (λ c. search needs)
     (λ c. search needs) put-places-requires-2 (λ c. search needs) returns-2 returns-3)

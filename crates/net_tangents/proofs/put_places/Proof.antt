@@ -11,7 +11,6 @@ use Rattle.net_tangents.specs.Lanes.{Lanes, SixStates, rowsAt, valueNumb
 use Rattle.strips.proofs.Rowed.{fills-none}
 use Rattle.net_tangents.proofs.Lanes.{lanes-cubic}
 use Rattle.net_tangents.proofs.Laws.{states-at, places-step}
-use Rattle.net_tangents.proofs.put_places.Statement.{statement}
 use Rattle.net_tangents.proofs.put_places.Tie as tie
 
 abbrev Inv-loop : tie.InvT-loop
@@ -22,9 +21,6 @@ Inv-loop table lane first count out₀ at run₀ j₀ out states j =
 
 abbrev μ-loop : tie.MeasureT-loop
 μ-loop table lane first count out₀ at run₀ j₀ out states j = count - j
-
-first-states-requires : tie.Need-first-states-requires Inv-loop μ-loop
-first-states-requires c κs = let s : tie.Start Inv-loop μ-loop = search in (s .pre .0 .0, s .pre .0 .1, s .pre .1 .0, refl)
 
 loop-holds : tie.Need-loop-holds Inv-loop μ-loop
 loop-holds c =
@@ -48,18 +44,6 @@ module _ (t : tie.In-loop Inv-loop μ-loop) where
 
   here : SixStates (rowsAt (s .pre .0 .0 .1 .polynomials) (s .args .lane) (s .pre .0 .0 .0)) (s .args .first + t .before .loop .j) (t .before .loop .states)
   here = t .before .loop .inv .2 (s .pre .0 .0 .1 .polynomials) (s .pre .0 .0 .0) (s .pre .0 .0 .1 .lanes) .0
-
-slice-aggregate-copy-six : tie.Need-slice-aggregate-copy-six Inv-loop μ-loop
-slice-aggregate-copy-six c = let t : tie.In-loop Inv-loop μ-loop = search in omega (arith, here t .long)
-
-slice-aggregate-next-states : tie.Need-slice-aggregate-next-states Inv-loop μ-loop
-slice-aggregate-next-states c = let t : tie.In-loop Inv-loop μ-loop = search in omega (arith, here t .long)
-
-mul-copy-six : tie.Need-mul-copy-six Inv-loop μ-loop
-mul-copy-six c = let t : tie.In-loop Inv-loop μ-loop = search in record { fits = omega (arith, below t, s t .pre .1 .1) }
-
-add-copy-six : tie.Need-add-copy-six Inv-loop μ-loop
-add-copy-six c = let t : tie.In-loop Inv-loop μ-loop = search in record { fits = omega (arith, below t, s t .pre .1 .2, s t .good) }
 
 copy-six-requires : tie.Need-copy-six-requires Inv-loop μ-loop
 copy-six-requires c κs =
@@ -96,9 +80,6 @@ loop-again c =
           ),
     )
 
-same-length : tie.Need-same-length Inv-loop μ-loop
-same-length c = let e : tie.At-loop Inv-loop μ-loop = search in e .loop .inv .1
-
 returns : tie.Need-returns Inv-loop μ-loop
 returns c =
     let s : tie.Start Inv-loop μ-loop = search in
@@ -107,7 +88,7 @@ returns c =
     subst (λ (x : ℕ). Fills (valueNumber (rowsAt F (s .args .lane) k) (s .args .first)) (s .args .at) (6 * x) (now (s .args .out)) (e .loop .out))
     (omega (arith, e .loop .inv .0)) (e .loop .inv .2 F k l .1)
 
-pub put-places-spec : {M : Type 1} → statement M
+pub put-places-spec : {M : Type 1} → Rattle.net_tangents.proofs.put_places.Statement.statement M
 put-places-spec =
-    tie.close (tie.spec Inv-loop μ-loop (λ c. search needs) first-states-requires loop-holds slice-aggregate-copy-six mul-copy-six add-copy-six copy-six-requires
-    slice-aggregate-next-states next-states-requires (λ c. search needs) (λ c. search needs) loop-again same-length returns)
+    tie.close (tie.spec Inv-loop μ-loop (λ c. search needs) (λ c κs. search needs) loop-holds (λ c. let t : tie.In-loop Inv-loop μ-loop = search in omega (arith, here t .long)) (λ c. search needs) (λ c. search needs) copy-six-requires
+    (λ c. let t : tie.In-loop Inv-loop μ-loop = search in omega (arith, here t .long)) next-states-requires (λ c. search needs) (λ c. search needs) loop-again (λ c. search needs) returns)

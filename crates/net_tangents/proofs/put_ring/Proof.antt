@@ -9,11 +9,11 @@ use lib.ListN.{length}
 use lib.IntN.{ℤ}
 use denote.Ref.{now}
 use Rattle.strips.specs.PointRows.{FilledTo}
+use Rattle.net_points.proofs.writing.Laws.{sides-room}
 use Rattle.net_tangents.specs.Lanes.{laneOf, Lanes, Laned}
 use Rattle.net_tangents.specs.Paired.{RingAim}
 use Rattle.net_tangents.proofs.Lanes.{lanes-part}
-use Rattle.net_tangents.proofs.Laws.{sides-room, side-step, values-fill}
-use Rattle.net_tangents.proofs.put_ring.Statement.{statement}
+use Rattle.net_tangents.proofs.Laws.{side-step, values-fill}
 use Rattle.net_tangents.proofs.put_ring.Tie as tie
 
 abbrev Inv-loop : tie.InvT-loop
@@ -24,9 +24,6 @@ Inv-loop table w out₀ at to₀ side₀ out to side =
 
 abbrev μ-loop : tie.MeasureT-loop
 μ-loop table w out₀ at to₀ side₀ out to side = 4 - side
-
-loop-holds : tie.Need-loop-holds Inv-loop μ-loop
-loop-holds c = (lit≤ tt, refl, omega arith, λ numbers n k l h f old q aim. q)
 
 -- in the loop
 module _ (t : tie.In-loop Inv-loop μ-loop) where
@@ -52,12 +49,6 @@ put-places-requires c κs =
     } in
     (((r .0, ready), omega (arith, below t)), (lit≤ tt, omega (arith, s t .pre .1), room t))
 
-mul-to : tie.Need-mul-to Inv-loop μ-loop
-mul-to c = let t : tie.In-loop Inv-loop μ-loop = search in record { fits = omega (arith, s t .pre .1) }
-
-add-to : tie.Need-add-to Inv-loop μ-loop
-add-to c = let t : tie.In-loop Inv-loop μ-loop = search in record { fits = omega (arith, room t, t .before .loop .inv .1, s t .good) }
-
 loop-again : tie.Need-loop-again Inv-loop μ-loop
 loop-again c =
     let t : tie.In-loop Inv-loop μ-loop = search in
@@ -73,9 +64,6 @@ loop-again c =
           (p .put-places .ensures (laneOf numbers n) k (lanes-part (laneOf numbers n) 0 24 (6 * side t) (6 * side t + 6) k table (omega arith) (omega (arith, below t)) h))),
     )
 
-same-length : tie.Need-same-length Inv-loop μ-loop
-same-length c = let e : tie.At-loop Inv-loop μ-loop = search in e .loop .inv .1
-
 returns : tie.Need-returns Inv-loop μ-loop
 returns c =
     let s : tie.Start Inv-loop μ-loop = search in
@@ -84,6 +72,6 @@ returns c =
     let ends : e .loop .to ≡ s .args .at + 24 * s .args .w = e .loop .inv .2 ∙ ap (λ (x : ℕ). s .args .at + 6 * (x * s .args .w)) four ∙ omega arith in
     λ numbers n k l h f old q aim. subst (λ (i : ℕ). FilledTo f old i (e .loop .out)) ends (e .loop .inv .3 numbers n k l h f old q aim)
 
-pub put-ring-spec : {M : Type 1} → statement M
+pub put-ring-spec : {M : Type 1} → Rattle.net_tangents.proofs.put_ring.Statement.statement M
 put-ring-spec =
-    tie.close (tie.spec Inv-loop μ-loop loop-holds (λ c. search needs) put-places-requires mul-to add-to (λ c. search needs) (λ c. search needs) loop-again same-length returns)
+    tie.close (tie.spec Inv-loop μ-loop (λ c. search needs) (λ c. search needs) put-places-requires (λ c. search needs) (λ c. let t : tie.In-loop Inv-loop μ-loop = search in record { fits = omega (arith, room t, t .before .loop .inv .1, s t .good) }) (λ c. search needs) (λ c. search needs) loop-again (λ c. search needs) returns)

@@ -14,7 +14,6 @@ use Rattle.net_tangents.specs.Lanes.{laneOf, Lanes}
 use Rattle.net_tangents.specs.Paired.{RingPairs}
 use Rattle.net_tangents.proofs.Lanes.{table-small, lanes-part}
 use Rattle.net_tangents.proofs.Laws.{lanes-at, values-fill, ring-aim, ring-fits, ring-next, last-fits, rings-end}
-use Rattle.net_tangents.proofs.put_rings.Statement.{statement}
 use Rattle.net_tangents.proofs.put_rings.Tie as tie
 
 abbrev Inv-loop : tie.InvT-loop
@@ -25,17 +24,6 @@ Inv-loop table₀ n out₀ at to₀ k₀ table out to k =
 
 abbrev μ-loop : tie.MeasureT-loop
 μ-loop table₀ n out₀ at to₀ k₀ table out to k = n - k
-
-loop-holds : tie.Need-loop-holds Inv-loop μ-loop
-loop-holds c =
-    let s : tie.Start Inv-loop μ-loop = search in (
-      s .pre .1,
-      refl,
-      (let z : s .args .at ≡ s .args .at + 6 * (2 * (0 * (2 * s .args .n - 0 - 1))) = omega arith in z),
-      refl,
-      λ F l. l,
-      λ numbers l f old q aim. q,
-    )
 
 -- the table before the loop's test
 module _ (e : tie.At-loop Inv-loop μ-loop) where
@@ -64,9 +52,6 @@ module _ (t : tie.In-loop Inv-loop μ-loop) where
       ring-fits (u .args .n) (t .before .loop .k) (u .args .n - t .before .loop .k - 1) (t .before .loop .to) (u .args .at) (length (now (u .args .out))) below refl
       (t .before .loop .inv .2) (u .pre .3)
 
-add-loop : tie.Need-add-loop Inv-loop μ-loop
-add-loop c = let s : tie.Start Inv-loop μ-loop = search in record { fits = omega (arith, c .loop .inv .0, s .pre .2) }
-
 next-row-requires : tie.Need-next-row-requires Inv-loop μ-loop
 next-row-requires c κs =
     let e : tie.At-loop Inv-loop μ-loop = search in table-small (polynomials e) (e .loop .k) (e .loop .table) (here e)
@@ -80,18 +65,6 @@ put-ring-requires c κs =
       omega (arith, few t),
       omega (arith, room t, e .loop .inv .1),
     )
-
-mul-to : tie.Need-mul-to Inv-loop μ-loop
-mul-to c = let t : tie.In-loop Inv-loop μ-loop = search in record { fits = omega (arith, few t) }
-
-add-to : tie.Need-add-to Inv-loop μ-loop
-add-to c = let t : tie.In-loop Inv-loop μ-loop = search in record { fits = omega (arith, room t, u t .good) }
-
-add-k : tie.Need-add-k Inv-loop μ-loop
-add-k c = let t : tie.In-loop Inv-loop μ-loop = search in record { fits = omega (arith, below t, few t) }
-
-loop-less : tie.Need-loop-less Inv-loop μ-loop
-loop-less c = let t : tie.In-loop Inv-loop μ-loop = search in omega (arith, below t)
 
 loop-again : tie.Need-loop-again Inv-loop μ-loop
 loop-again c =
@@ -116,10 +89,11 @@ module _ (o : tie.After-loop Inv-loop μ-loop) where
   abbrev v : tie.Start Inv-loop μ-loop
   v = s (o .before)
 
+  ends : o .before .loop .k + 1 ≡ v .args .n
+  ends = omega (arith, o .before .loop .inv .0, o .loop-test .left)
+
   last-room : o .before .loop .to + 6 ≤ length (o .before .loop .out)
-  last-room =
-      let l = o .before .loop in
-      last-fits (v .args .n) (l .k) (l .to) (v .args .at) (length (l .out)) (v .pre .1) (l .inv .0) (o .loop-test .left) (l .inv .2) (rw (l .inv .1) (v .pre .3))
+  last-room = let l = o .before .loop in last-fits (v .args .n) (l .k) (l .to) (v .args .at) ends (l .inv .2) (length (l .out)) (rw (l .inv .1) (v .pre .3))
 
   below-last : o .before .loop .k < 16
   below-last = omega (arith, o .before .loop .inv .0, v .pre .2)
@@ -138,13 +112,6 @@ put-places-requires c κs =
       (lit≤ tt, lit≤ tt, last-room o),
     )
 
-same-length : tie.Need-same-length Inv-loop μ-loop
-same-length c = let e : tie.At-loop Inv-loop μ-loop = search in let p : tie.After-next-row2 Inv-loop μ-loop = search in omega (arith, p .next-row2 .kept, e .loop .inv .3)
-
-same-length-2 : tie.Need-same-length-2 Inv-loop μ-loop
-same-length-2 c =
-    let e : tie.At-loop Inv-loop μ-loop = search in let p : tie.After-put-places Inv-loop μ-loop = search in omega (arith, p .put-places .kept, e .loop .inv .1)
-
 returns : tie.Need-returns Inv-loop μ-loop
 returns c =
     let o : tie.After-loop Inv-loop μ-loop = search in
@@ -152,14 +119,13 @@ returns c =
     let q : tie.After-put-places Inv-loop μ-loop = search in
     let l = o .before .loop in
     let n = v o .args .n in
-    let end : l .k + 1 ≡ n = omega (arith, l .inv .0, o .loop-test .left) in
     λ numbers h f old filled aim centre.
     let lanes = p .next-row2 .ensures (laneOf numbers n) (l .k) (l .inv .4 (laneOf numbers n) h) (below-last o) in
-    rings-end numbers n (v o .args .at) (l .k) (l .to) (v o .pre .1) (o .loop-test .left) (l .inv .0) (l .inv .2) f old (l .out) _ centre (l .inv .5 numbers h f old filled aim)
+    rings-end n (l .k) (l .to) (v o .args .at) (ends o) (l .inv .2) numbers f old (l .out) _ centre (l .inv .5 numbers h f old filled aim)
     (values-fill numbers n n 0 0 1 (l .to) (l .out) _ (lit≤ tt) (omega arith)
-    (q .put-places .ensures (laneOf numbers n) n (lanes-at (laneOf numbers n) 0 6 (l .k + 1) n _ end (lanes-part (laneOf numbers n) 0 24 0 6 (l .k + 1) _ (lit≤ tt) (lit≤ tt) lanes))))
+    (q .put-places .ensures (laneOf numbers n) n (lanes-at (laneOf numbers n) 0 6 (l .k + 1) n _ (ends o) (lanes-part (laneOf numbers n) 0 24 0 6 (l .k + 1) _ (lit≤ tt) (lit≤ tt) lanes))))
 
-pub put-rings-spec : {M : Type 1} → statement M
+pub put-rings-spec : {M : Type 1} → Rattle.net_tangents.proofs.put_rings.Statement.statement M
 put-rings-spec =
-    tie.close (tie.spec Inv-loop μ-loop loop-holds add-loop (λ c. search needs) (λ c. search needs) next-row-requires put-ring-requires mul-to add-to add-k loop-less loop-again
-    next-row-requires-2 put-places-requires same-length same-length-2 returns)
+    tie.close (tie.spec Inv-loop μ-loop (λ c. search needs) (λ c. search needs) (λ c. search needs) (λ c. search needs) next-row-requires put-ring-requires (λ c. search needs) (λ c. let t : tie.In-loop Inv-loop μ-loop = search in record { fits = omega (arith, room t, u t .good) }) (λ c. search needs) (λ c. search needs) loop-again
+    next-row-requires-2 put-places-requires (λ c. search needs) (λ c. search needs) returns)

@@ -9,7 +9,6 @@ use Rattle.bernstein.specs.Sums.{AllSized}
 use Rattle.bernstein.specs.Tangents.{alongOf}
 use Rattle.bernstein.proofs.Tapering.{along-tapers, tapered-sized}
 use Rattle.net_tangents.specs.Lanes.{minusOf, zeroMatrix, tailwardOf}
-use Rattle.net_tangents.proofs.tailward.Statement.{statement}
 use Rattle.net_tangents.proofs.tailward.Tie as tie
 
 minus-requires : tie.Need-minus-requires
@@ -35,5 +34,5 @@ returns-2 c =
     let a : tie.After-along = search in
     rw (ne-eqb (s .args .side % 2) 1 (c .if1 .left)) (a .along .ensures)
 
-pub tailward-spec : {M : Type 1} → statement M
+pub tailward-spec : {M : Type 1} → Rattle.net_tangents.proofs.tailward.Statement.statement M
 tailward-spec = tie.close (tie.spec (λ c κs. let s : tie.Start = search in tapered-sized (s .args .c) (s .pre)) minus-requires returns returns-2)

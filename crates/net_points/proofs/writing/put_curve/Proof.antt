@@ -1,11 +1,10 @@
--- `triangles::writing::put_curve` meets its contract, axis by axis.
+-- `net_points::writing::put_curve` meets its contract, axis by axis.
 use mathlib.Core.Path.{refl}
 use Prim.Native.Nat.{_+_}
 use native.Mathlib.Omega.{arith}
 use borrow.Author.Needs.{needs}
 use denote.Ref.{now}
 use Rattle.net_points.proofs.writing.Parts.{curve-row, curve-all}
-use Rattle.net_points.proofs.writing.put_curve.Statement.{statement}
 use Rattle.net_points.proofs.writing.put_curve.Tie as tie
 
 put-curve-on-requires : tie.Need-put-curve-on-requires
@@ -50,7 +49,7 @@ returns c =
     (curve-row (now (s .args .numbers)) (s .args .side) (s .args .m) (s .args .at) (s .pre .1 .0) f aim 2 (s .args .at + 2) (omega arith) refl _
     (r .turn-points3 .ensures) _ _ (u .put-curve-on3 .ensures))
 
-pub put-curve-spec : {M : Type 1} → statement M
+pub put-curve-spec : {M : Type 1} → Rattle.net_points.proofs.writing.put_curve.Statement.statement M
 put-curve-spec =
     tie.close (tie.spec (λ c κs. search needs) put-curve-on-requires (λ c κs. search needs) (λ c. search needs) put-curve-on-requires-2
     (λ c κs. search needs) add-put-curve-on-2 put-curve-on-requires-3 (λ c. search needs) returns)

@@ -1,7 +1,6 @@
--- `triangles::writing::put_curve_on` meets its contract: the row on the border from its second place on.
+-- `net_points::writing::put_curve_on` meets its contract: the row on the border from its second place on.
 use borrow.Author.Needs.{needs}
 use Rattle.net_points.proofs.writing.Laws.{curve-sampleable}
-use Rattle.net_points.proofs.writing.put_curve_on.Statement.{statement}
 use Rattle.net_points.proofs.writing.put_curve_on.Tie as tie
 
 put-row-requires : tie.Need-put-row-requires
@@ -15,5 +14,5 @@ returns c =
     let r : tie.After-row-at = search in
     rw (r .row-at .ensures) at (c .before .put-row .ensures)
 
-pub put-curve-on-spec : {M : Type 1} → statement M
+pub put-curve-on-spec : {M : Type 1} → Rattle.net_points.proofs.writing.put_curve_on.Statement.statement M
 put-curve-on-spec = tie.close (tie.spec (λ c κs. search needs) (λ c. search needs) put-row-requires (λ c. search needs) returns)

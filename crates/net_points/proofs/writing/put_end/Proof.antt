@@ -1,4 +1,4 @@
--- `triangles::writing::put_end` meets its contract: the point is put where it is the corner's own.
+-- `net_points::writing::put_end` meets its contract: the point is put where it is the corner's own.
 use mathlib.Core.Path.{_≡_, sym, ap, _∙_}
 use Prim.Native.Nat.{ℕ, _+_, _*_}
 use native.Mathlib.Omega.{arith}
@@ -9,7 +9,6 @@ use mir.Syntax.{w32}
 use mir.Val.{SFits}
 use mir.Facts.{toZ-ofZ}
 use Rattle.net_points.proofs.writing.Laws.{reaches-none, reaches-part}
-use Rattle.net_points.proofs.writing.put_end.Statement.{statement}
 use Rattle.net_points.proofs.writing.put_end.Tie as tie
 
 from-none : (x : ℕ) → x ≡ x + 0
@@ -33,7 +32,7 @@ returns c =
     (aim q 1 (omega arith) ∙ sym (toZ-ofZ fy)) (aim q 2 (omega arith) ∙ sym (toZ-ofZ fz)))
     (λ t p. p .1)
 
-pub put-end-spec : {M : Type 1} → statement M
+pub put-end-spec : {M : Type 1} → Rattle.net_points.proofs.writing.put_end.Statement.statement M
 put-end-spec =
     tie.close (tie.spec (λ c. search needs) (λ c. search needs) (λ c. search needs) (λ c. search needs) (λ c. search needs) (λ c. search needs)
     (λ c. search needs) (λ c. search needs) (λ c. search needs) (λ c. search needs) (λ c. search needs) (λ c κs. search needs) (λ c. search needs) returns

@@ -1,4 +1,4 @@
--- `triangles::writing::put_rings` meets its contract: the sides before are put.
+-- `net_points::writing::put_rings` meets its contract: the sides before are put.
 use mathlib.Core.Path.{_≡_, refl}
 use Prim.Native.Nat.{ℕ, _+_, _-_, _≤_}
 use native.Mathlib.Omega.{arith}
@@ -9,7 +9,6 @@ use lib.IntN.{ℤ}
 use Rattle.net_points.specs.writing.Laid.{Reaches, RingsAim, RingsPlace}
 use Rattle.net_points.proofs.writing.Laws.{reaches-none, reaches-part}
 use Rattle.net_points.proofs.writing.Parts.{spoke-aim, rings-step}
-use Rattle.net_points.proofs.writing.put_rings.Statement.{statement}
 use Rattle.net_points.proofs.writing.put_rings.Tie as tie
 
 abbrev Inv-loop : tie.InvT-loop
@@ -99,7 +98,7 @@ returns c =
     let l = c .before .loop in
     λ f aim. reaches-part (l .inv .2 f aim) (λ t s. (s .0, s .1, s .2, s .3, (let b = s .4 in omega arith), s .5, s .6, s .7))
 
-pub put-rings-spec : {M : Type 1} → statement M
+pub put-rings-spec : {M : Type 1} → Rattle.net_points.proofs.writing.put_rings.Statement.statement M
 put-rings-spec =
     tie.close (tie.spec Inv-loop μ-loop loop-holds (λ c κs. search needs) put-spokes-requires (λ c κs. search needs) add-put-spokes put-spokes-requires-2
     (λ c κs. search needs) add-put-spokes-2 put-spokes-requires-3 add-side loop-less loop-again (λ c. c .before .loop .inv .1) returns)

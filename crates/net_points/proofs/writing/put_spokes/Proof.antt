@@ -1,4 +1,4 @@
--- `triangles::writing::put_spokes` meets its contract: before ring k + 1 the states are those of row k, and the rows of the rings before it are put.
+-- `net_points::writing::put_spokes` meets its contract: before ring k + 1 the states are those of row k, and the rows of the rings before it are put.
 use mathlib.Core.Path.{_≡_, refl, sym, ap, _∙_, subst}
 use Prim.Native.Nat.{ℕ, suc, _+_, _-_, _*_, _^_, _≤_, _<_}
 use native.Mathlib.Omega.{arith}
@@ -15,7 +15,6 @@ use Rattle.net_points.specs.writing.Laid.{Reaches, SpokeAim, SpokePlace}
 use Rattle.closing.proofs.Counts.{most-inner}
 use Rattle.net_points.proofs.writing.Laws.{reaches-none, spoke-sampleable, ring-room}
 use Rattle.net_points.proofs.writing.Parts.{spokes-step, spokes-all}
-use Rattle.net_points.proofs.writing.put_spokes.Statement.{statement}
 use Rattle.net_points.proofs.writing.put_spokes.Tie as tie
 
 abbrev Inv-loop : tie.InvT-loop
@@ -79,15 +78,8 @@ loop-holds : tie.Need-loop-holds Inv-loop μ-loop
 loop-holds c =
     (omega (arith, c .before .pre .0 .some), refl, λ p h. (h, λ f aim. reaches-none (c .before .args .points .now) (λ t s. let b = s .2 in omega arith)))
 
-add-loop : tie.Need-add-loop Inv-loop μ-loop
-add-loop c = let s : tie.Start Inv-loop μ-loop = search in let f = s .pre .0 .few in search needs
-
 row-requires : tie.Need-row-requires Inv-loop μ-loop
 row-requires c κs = sized-next (c .before) (c .next .result) (c .next .ensures)
-
-rings-before-requires : tie.Need-rings-before-requires Inv-loop μ-loop
-rings-before-requires c κs =
-    let t : tie.In-loop Inv-loop μ-loop = search in let b = below t in let f = few t in (omega arith, f)
 
 mul-put-row : tie.Need-mul-put-row Inv-loop μ-loop
 mul-put-row c = let t : tie.In-loop Inv-loop μ-loop = search in let b = within t in let f = inner t in record { fits = omega arith }
@@ -123,12 +115,6 @@ put-row-requires c κs =
       place-room c,
     )
 
-add-k : tie.Need-add-k Inv-loop μ-loop
-add-k c = let t : tie.In-loop Inv-loop μ-loop = search in let b = below t in let f = few t in search needs
-
-loop-less : tie.Need-loop-less Inv-loop μ-loop
-loop-less c = let t : tie.In-loop Inv-loop μ-loop = search in let b = below t in omega arith
-
 loop-again : tie.Need-loop-again Inv-loop μ-loop
 loop-again c =
     let t : tie.In-loop Inv-loop μ-loop = search in
@@ -156,8 +142,8 @@ returns c =
     spokes-all f (s .args .side) (s .args .n) (s .args .at) (l .k) (s .args .points .now) (l .points) (omega arith)
     (l .inv .2 (s .args .p) (c .before .before .start .ensures) .1 f aim)
 
-pub put-spokes-spec : {M : Type 1} → statement M
+pub put-spokes-spec : {M : Type 1} → Rattle.net_points.proofs.writing.put_spokes.Statement.statement M
 put-spokes-spec =
-    tie.close (tie.spec Inv-loop μ-loop (λ c κs. (c .pre .0 .sized, c .pre .0 .few)) loop-holds add-loop (λ c κs. sized c) (λ c. search needs)
-    (λ c. search needs) row-requires rings-before-requires mul-put-row add-put-row mul-put-row-2 add-put-row-2 put-row-requires add-k loop-less loop-again
+    tie.close (tie.spec Inv-loop μ-loop (λ c κs. (c .pre .0 .sized, c .pre .0 .few)) loop-holds (λ c. search needs) (λ c κs. sized c) (λ c. search needs)
+    (λ c. search needs) row-requires (λ c κs. search needs) mul-put-row add-put-row mul-put-row-2 add-put-row-2 put-row-requires (λ c. search needs) (λ c. search needs) loop-again
     (λ c. c .before .loop .inv .1) returns)

@@ -1,4 +1,4 @@
--- `triangles::writing::turn_points` meets its contract: on sides 1 and 3 head and tail change places.
+-- `net_points::writing::turn_points` meets its contract: on sides 1 and 3 head and tail change places.
 use mathlib.Core.Path.{sym, subst}
 use Prim.Native.Nat.{_^_}
 use native.Mathlib.Omega.{arith}
@@ -8,7 +8,6 @@ use Rattle.bernstein.specs.declared.Matrix5.{Matrix5}
 use Rattle.bernstein.specs.Sums.{AllSized}
 use Rattle.sampling.proofs.Laws.{points-sized}
 use Rattle.net_points.proofs.writing.Laws.{turn-even, turn-odd}
-use Rattle.net_points.proofs.writing.turn_points.Statement.{statement}
 use Rattle.net_points.proofs.writing.turn_points.Tie as tie
 
 reversed-requires : tie.Need-reversed-requires
@@ -31,5 +30,5 @@ returns-2 c =
     let p : tie.After-control-points = search in
     turn-even (now (s .args .numbers)) (s .pre .0) (s .args .side) (s .args .axis) (s .pre .2) (s .pre .1) (c .if1 .left) _ (p .control-points .ensures)
 
-pub turn-points-spec : {M : Type 1} → statement M
+pub turn-points-spec : {M : Type 1} → Rattle.net_points.proofs.writing.turn_points.Statement.statement M
 turn-points-spec = tie.close (tie.spec (λ c κs. search needs) reversed-requires returns returns-2)
