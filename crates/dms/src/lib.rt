@@ -16,13 +16,13 @@ use paper::MOST_PAIRS;
 use paper::NO_ROOM;
 use paper::Summary;
 use surveying::no_counts;
-use surveying::survey_mesh;
+use surveying::survey_lists;
 ghost use mathlib.Core.Path.{_≡_};
 ghost use Prim.Native.Nat.{ℕ, _<_, _≤_};
 ghost use lib.ListN.{length};
 ghost use Rattle.paper.specs.Mesh.{meshOf};
-ghost use Rattle.paper.specs.Faults.{sound, verdict, stated};
-ghost use Rattle.paper.specs.File.{headerLength, headerVerdict, fileMesh, fileOf, Surveyed, FileSurveyed, roomVerdict, DecodedTo};
+ghost use Rattle.paper.specs.Faults.{sound, stated};
+ghost use Rattle.paper.specs.File.{headerLength, headerVerdict, fileOf, FileSurveyed, roomVerdict, DecodedTo};
 ghost use Rattle.dms_lists.specs.header.ListsWithin.{ListsWithin};
 
 // The counts of the file, from the bytes read and the length counted.
@@ -45,14 +45,12 @@ pub fn decode(
     ensures { λ r. ⌜ DecodedTo (fileOf (now (bytes .entry)) counted) counted (meshOf (now (coordinates .entry)) (now (sides .entry)) (now (corners .entry)) (now (sharpness .entry))) r (meshOf (now (coordinates .exit)) (now (sides .exit)) (now (corners .exit)) (now (sharpness .exit))) ⌝ }
 {
     let held = least(bytes.len(), counted);
-    decode_file(
-        &bytes[..held],
-        counted,
-        coordinates,
-        sides,
-        corners,
-        sharpness,
-    )
+    let file = &bytes[..held];
+    let header = check_header(file, counted);
+    if let Answer::Refused(number, place) = header {
+        return refused(number, place);
+    }
+    decode_lists(file, coordinates, sides, corners, sharpness)
 }
 
 // The same as `survey`, of the file itself.
@@ -69,52 +67,7 @@ fn survey_file(file: &[u8], counted: usize) -> Summary
     survey_lists(file)
 }
 
-// Checks 4 to 13 with 27 and 28, and the counts, of the lists of a file whose header passes.
-fn survey_lists(file: &[u8]) -> Summary
-    requires { ⌜ ListsWithin (now file) ⌝ }
-    ensures { λ r. ⌜ Surveyed (fileMesh (now (file .entry))) (verdict (fileMesh (now (file .entry)))) r ⌝ }
-{
-    let mut coordinates = [0i32; MOST_NUMBERS];
-    let mut sides = [0u8; MOST_FACES];
-    let mut corners = [0u16; MOST_CORNERS];
-    let mut sharpness = [0u8; MOST_PAIRS];
-    read_lists(
-        file,
-        &mut coordinates,
-        &mut sides,
-        &mut corners,
-        &mut sharpness,
-    );
-    let numbers = 3 * vertex_count(file);
-    let faces = face_count(file);
-    let count = corner_count(file);
-    survey_mesh(
-        &coordinates[..numbers],
-        &sides[..faces],
-        &corners[..count],
-        &sharpness[..2 * count],
-    )
-}
-
-// The same as `decode`, of the file itself.
-fn decode_file(
-    file: &[u8],
-    counted: usize,
-    coordinates: &mut [i32],
-    sides: &mut [u8],
-    corners: &mut [u16],
-    sharpness: &mut [u8],
-) -> Decoded
-    ensures { λ r. ⌜ DecodedTo (now (file .entry)) counted (meshOf (now (coordinates .entry)) (now (sides .entry)) (now (corners .entry)) (now (sharpness .entry))) r (meshOf (now (coordinates .exit)) (now (sides .exit)) (now (corners .exit)) (now (sharpness .exit))) ⌝ }
-{
-    let header = check_header(file, counted);
-    if let Answer::Refused(number, place) = header {
-        return refused(number, place);
-    }
-    decode_lists(file, coordinates, sides, corners, sharpness)
-}
-
-// The same of a file whose header passes, `counted` bytes long: its lists are read once, checked, and copied.
+// The same as `decode`, of a file whose header passes, `counted` bytes long: its lists are read once, checked, and copied.
 fn decode_lists(
     file: &[u8],
     coordinates: &mut [i32],

@@ -4,15 +4,14 @@ use mathlib.Core.List.{List}
 use Prim.Native.Nat.{ℕ, _*_}
 use native.Mathlib.Omega.{arith}
 use borrow.Author.Needs.{needs}
-use lib.ListN.{length}
+use lib.ListN.{length, take}
 use denote.Ref.{now}
 use Rattle.paper.specs.Mesh.{Mesh, meshOf}
 use Rattle.paper.specs.Faults.{sound, verdict, stated}
-use Rattle.paper.specs.File.{verticesIn, facesIn, cornersIn, fileMesh, roomVerdict}
+use Rattle.paper.specs.File.{verticesIn, cornersIn, fileMesh, roomVerdict}
 use Rattle.mesh.proofs.Verdicts.{passed, stop, past}
 use Rattle.dms_lists.specs.lists.Room.{Room}
-use Rattle.dms_lists.proofs.lists.Lists.{read-length, file-coordinates, file-faces, file-corners, file-sharpness}
-use Rattle.dms_lists.proofs.Reading.{mesh-read}
+use Rattle.dms_lists.proofs.Reading.{mesh-read, coordinates-long, sides-long, corners-long, sharpness-long}
 use Rattle.dms.proofs.Files.{room-of, refused-decode, done-decode, lists-decide, lists-copied}
 use Rattle.dms.proofs.decode_lists.Tie as tie
 
@@ -42,25 +41,23 @@ module _ (t : tie.After-corner-count) where
   p-is : 2 * t .corner-count .result ≡ 2 * cornersIn (file start)
   p-is = ap (λ (n : ℕ). 2 * n) (t .corner-count .ensures .0)
 
-slice-aggregate-own-numbers : tie.Need-slice-aggregate-own-numbers
-slice-aggregate-own-numbers c =
-    let t : tie.After-corner-count = search in
-    read-length _ (fileMesh (file (start t)) .coordinates) _ _ (n-is t ∙ file-coordinates (file (start t))) (own t .read-lists .ensures .coordinates-hold)
+  -- the own lists, and how long the parts of them are that were read
+  abbrev lists : Mesh
+  lists =
+      let l = own .read-lists .last .1 in
+      meshOf (l .0) (l .1 .0) (l .1 .1 .0) (l .1 .1 .1 .0)
 
-slice-aggregate-own-counts : tie.Need-slice-aggregate-own-counts
-slice-aggregate-own-counts c =
-    let t : tie.After-corner-count = search in
-    read-length _ (fileMesh (file (start t)) .sides) _ _ (faces t .face-count .ensures .0 ∙ file-faces (file (start t))) (own t .read-lists .ensures .sides-hold)
+  numbers-long : 3 * vertices .vertex-count .result ≡ length (take (3 * vertices .vertex-count .result) (lists .coordinates))
+  numbers-long = coordinates-long (file start) _ lists (own .read-lists .ensures) _ (vertices .vertex-count .ensures .0)
 
-slice-aggregate-own-names : tie.Need-slice-aggregate-own-names
-slice-aggregate-own-names c =
-    let t : tie.After-corner-count = search in
-    read-length _ (fileMesh (file (start t)) .corners) _ _ (t .corner-count .ensures .0 ∙ file-corners (file (start t))) (own t .read-lists .ensures .corners-hold)
+  counts-long : faces .face-count .result ≡ length (take (faces .face-count .result) (lists .sides))
+  counts-long = sides-long (file start) _ lists (own .read-lists .ensures) _ (faces .face-count .ensures .0)
 
-slice-aggregate-own-pairs : tie.Need-slice-aggregate-own-pairs
-slice-aggregate-own-pairs c =
-    let t : tie.After-corner-count = search in
-    read-length _ (fileMesh (file (start t)) .sharpness) _ _ (p-is t ∙ file-sharpness (file (start t))) (own t .read-lists .ensures .sharpness-hold)
+  names-long : t .corner-count .result ≡ length (take (t .corner-count .result) (lists .corners))
+  names-long = corners-long (file start) _ lists (own .read-lists .ensures) _ (t .corner-count .ensures .0)
+
+  pairs-long : 2 * t .corner-count .result ≡ length (take (2 * t .corner-count .result) (lists .sharpness))
+  pairs-long = sharpness-long (file start) _ lists (own .read-lists .ensures) _ (t .corner-count .ensures .0)
 
 -- after the checks of the mesh
 module _ (t : tie.After-check) where
@@ -70,7 +67,7 @@ module _ (t : tie.After-check) where
   checked : stated (t .check .result) ≡ verdict (fileMesh (file (start counted)))
   checked =
       t .check .ensures
-      ∙ ap verdict (mesh-read (file (start counted)) _ _ (own counted .read-lists .ensures) _ _ _ (vertices counted .vertex-count .ensures .0)
+      ∙ ap verdict (mesh-read (file (start counted)) _ (lists counted) (own counted .read-lists .ensures) _ _ _ (vertices counted .vertex-count .ensures .0)
       (faces counted .face-count .ensures .0) (counted .corner-count .ensures .0))
 
 module _ (t : tie.After-enum-told) where
@@ -115,46 +112,22 @@ returns-2 c counted h =
 copy-words-requires : tie.Need-copy-words-requires
 copy-words-requires c κs =
     let t : tie.After-enum-told2 = search in
-    let k = counts t in
-    omega (
-      arith,
-      room t .coordinates-fit,
-      n-is k,
-      read-length _ (fileMesh (file (start k)) .coordinates) _ _ (n-is k ∙ file-coordinates (file (start k))) (own k .read-lists .ensures .coordinates-hold),
-    )
+    omega (arith, room t .coordinates-fit, n-is (counts t), numbers-long (counts t))
 
 copy-bytes-requires : tie.Need-copy-bytes-requires
 copy-bytes-requires c κs =
     let t : tie.After-enum-told2 = search in
-    let k = counts t in
-    omega (
-      arith,
-      room t .sides-fit,
-      faces k .face-count .ensures .0,
-      read-length _ (fileMesh (file (start k)) .sides) _ _ (faces k .face-count .ensures .0 ∙ file-faces (file (start k))) (own k .read-lists .ensures .sides-hold),
-    )
+    omega (arith, room t .sides-fit, faces (counts t) .face-count .ensures .0, counts-long (counts t))
 
 copy-halves-requires : tie.Need-copy-halves-requires
 copy-halves-requires c κs =
     let t : tie.After-enum-told2 = search in
-    let k = counts t in
-    omega (
-      arith,
-      room t .corners-fit,
-      k .corner-count .ensures .0,
-      read-length _ (fileMesh (file (start k)) .corners) _ _ (k .corner-count .ensures .0 ∙ file-corners (file (start k))) (own k .read-lists .ensures .corners-hold),
-    )
+    omega (arith, room t .corners-fit, counts t .corner-count .ensures .0, names-long (counts t))
 
 copy-bytes-requires-2 : tie.Need-copy-bytes-requires-2
 copy-bytes-requires-2 c κs =
     let t : tie.After-enum-told2 = search in
-    let k = counts t in
-    omega (
-      arith,
-      room t .sharpness-fit,
-      p-is k,
-      read-length _ (fileMesh (file (start k)) .sharpness) _ _ (p-is k ∙ file-sharpness (file (start k))) (own k .read-lists .ensures .sharpness-hold),
-    )
+    omega (arith, room t .sharpness-fit, p-is (counts t), pairs-long (counts t))
 
 module _ (t : tie.After-copy-words) where
   abbrev granted : tie.After-enum-told2
@@ -172,15 +145,15 @@ returns-3 c counted h =
     let s = begin t in
     done-decode (file s) _ (lent s) _ _ _ _ _ (n-is k) (faces k .face-count .ensures .0) (k .corner-count .ensures .0) (p-is k)
     (lists-decide _ _ (lent s) h (past (mesh-sound t) _ (sym (room-sound u))))
-    (lists-copied (file s) _ _ _ _ _ _ (lent s) _ (n-is k) (faces k .face-count .ensures .0) (k .corner-count .ensures .0) (p-is k) (own k .read-lists .ensures)
+    (lists-copied (file s) _ _ _ _ _ (lists k) (lent s) _ (n-is k) (faces k .face-count .ensures .0) (k .corner-count .ensures .0) (p-is k) (own k .read-lists .ensures)
     (w .copy-words .ensures) (x .copy-bytes .ensures) (y .copy-halves .ensures) (z .copy-bytes2 .ensures))
 
 pub decode-lists-spec : {M : Type 1} → Rattle.dms.proofs.decode_lists.Statement.statement M
 decode-lists-spec =
     tie.close (tie.spec (λ c. search needs) (λ c. search needs) (λ c. search needs) (λ c. search needs) (λ c κs. search needs) (λ c κs. search needs)
     (λ c. search needs) (λ c κs. search needs) (λ c κs. search needs) (λ c. search needs)
-    (λ c. search needs) slice-aggregate-own-numbers (λ c. search needs) slice-aggregate-own-counts (λ c. search needs) slice-aggregate-own-names
-    (λ c. search needs) slice-aggregate-own-pairs (λ c κs. search needs) (λ c. search needs) (λ c κs. search needs) returns (λ c. search needs)
+    (λ c. search needs) (λ c. let t : tie.After-corner-count = search in numbers-long t) (λ c. search needs) (λ c. let t : tie.After-corner-count = search in counts-long t) (λ c. search needs) (λ c. let t : tie.After-corner-count = search in names-long t)
+    (λ c. search needs) (λ c. let t : tie.After-corner-count = search in pairs-long t) (λ c κs. search needs) (λ c. search needs) (λ c κs. search needs) returns (λ c. search needs)
     (λ c κs. search needs) (λ c. search needs) (λ c κs. search needs) returns-2 (λ c. search needs)
     copy-words-requires copy-bytes-requires copy-halves-requires copy-bytes-requires-2 (λ c. search needs) (λ c. search needs) (λ c. search needs)
     (λ c. search needs) returns-3)

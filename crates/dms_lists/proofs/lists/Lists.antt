@@ -1,6 +1,6 @@
 -- Numbers below zero by their bits; the lengths of a file's lists;
 -- the sharpness list of either version.
-use mathlib.Core.Path.{_≡_, refl, ap, _∙_, sym}
+use mathlib.Core.Path.{_≡_, refl, ap, sym}
 use mathlib.Core.Bool.{true, false}
 use mathlib.Core.List.{List}
 use Prim.Native.Nat.{ℕ, zero, suc, _*_}
@@ -20,12 +20,8 @@ minus-from-one zero = refl
 minus-from-one (suc n) = ap (λ (k : ℕ). negsuc (suc k)) (omega arith)
 
 -- what was read is found again in the beginning of the space
-module _ {A : Type 0} (n : ℕ) (new old out : List A) (q : n ≡ length new) (e : out ≡ begins new old) where
-  pub read-back : take n out ≡ new
-  read-back = rw e (take-at new (drop (length new) old) n (sym q))
-
-  pub read-length : n ≡ length (take n out)
-  read-length = q ∙ sym (ap length read-back)
+pub read-back : {A : Type 0} (n : ℕ) (new old out : List A) → n ≡ length new → out ≡ begins new old → take n out ≡ new
+read-back n new old out q e = rw e (take-at new (drop (length new) old) n (sym q))
 
 module _ (file : List ℕ) where
   pub file-coordinates : 3 * verticesIn file ≡ length (fileMesh file .coordinates)

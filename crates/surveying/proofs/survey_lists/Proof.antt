@@ -5,7 +5,7 @@ use Rattle.paper.specs.Mesh.{Mesh}
 use Rattle.paper.specs.Faults.{verdict}
 use Rattle.paper.specs.File.{Surveyed}
 use Rattle.dms_lists.proofs.Reading.{mesh-read, coordinates-long, sides-long, corners-long, sharpness-long}
-use Rattle.dms.proofs.survey_lists.Tie as tie
+use Rattle.surveying.proofs.survey_lists.Tie as tie
 
 returns : tie.Need-returns
 returns c =
@@ -16,7 +16,7 @@ returns c =
     let read = mesh-read _ _ _ (k .read-lists .ensures) _ _ _ (n .vertex-count .ensures .0) (f .face-count .ensures .0) (m .corner-count .ensures .0) in
     subst (λ (M : Mesh). Surveyed M (verdict M) (c .survey-mesh .result)) read (c .survey-mesh .ensures)
 
-pub survey-lists-spec : {M : Type 1} → Rattle.dms.proofs.survey_lists.Statement.statement M
+pub survey-lists-spec : {M : Type 1} → Rattle.surveying.proofs.survey_lists.Statement.statement M
 survey-lists-spec =
     tie.close (tie.spec (λ c. search needs) (λ c. search needs) (λ c. search needs) (λ c. search needs) (λ c κs. search needs) (λ c κs. search needs)
     (λ c. search needs) (λ c κs. search needs) (λ c κs. search needs) (λ c. search needs)
