@@ -35,7 +35,7 @@ module _ (s : tie.Start) where
   total-fits k l = let i = s .pre .1 .0 .1 k l in abs-fits w32 _ (2 ^ 20) (le-trans (i .total-size) (omega (arith, i .most))) (lit< tt)
 
 weigh-requires : tie.Need-weigh-requires
-weigh-requires c κs = let s = c .before .before .before .before .before in pair-of _ _ _ _ (s .pre .0) (s .args .c) (here s)
+weigh-requires c κs = let s : tie.Start = search in pair-of _ _ _ _ (s .pre .0) (s .args .c) (here s)
 
 -- with the weights and the corners around
 module _ (w : tie.After-weigh) where

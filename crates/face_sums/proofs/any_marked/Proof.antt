@@ -20,30 +20,30 @@ loop-holds : tie.Need-loop-holds Inv-loop μ-loop
 loop-holds c = (omega arith, tells-none _ _ _ _ (omega arith) refl)
 
 cast-u : tie.Need-cast-u Inv-loop μ-loop
-cast-u c = let l = c .before .before .loop in omega (arith, c .shared-slice-known .given (c .before .before .before .args .start + l .j))
+cast-u c = let l : tie.At-loop Inv-loop μ-loop = search in omega (arith, c .shared-slice-known .given (c .before .before .before .args .start + l .loop .j))
 
 shared-slice-read-if1 : tie.Need-shared-slice-read-if1 Inv-loop μ-loop
 shared-slice-read-if1 c =
-    let s = c .before .before .before .before in
-    let l = c .before .before .before .loop in
-    omega (arith, s .pre .0 (s .args .start + l .j) (omega (arith, s .pre .1)))
+    let s : tie.Start Inv-loop μ-loop = search in
+    let l : tie.At-loop Inv-loop μ-loop = search in
+    omega (arith, s .pre .0 (s .args .start + l .loop .j) (omega (arith, s .pre .1)))
 
 loop-again : tie.Need-loop-again Inv-loop μ-loop
 loop-again c =
-    let s = c .before .before .before .before .before in
-    let l = c .before .before .before .before .loop in
-    let at = s .args .start + l .j in
-    let more : s .args .start + (l .j + 1) ≡ at + 1 = omega arith in (
+    let s : tie.Start Inv-loop μ-loop = search in
+    let l : tie.At-loop Inv-loop μ-loop = search in
+    let at = s .args .start + l .loop .j in
+    let more : s .args .start + (l .loop .j + 1) ≡ at + 1 = omega arith in (
       omega arith,
       ⊎-elim
           (λ w. tells-set _ _ at _ more _ (omega (arith, w .1)) (omega arith) (omega (arith, w .0 .taken)))
-          (λ w. rw (w .1) (tells-passed _ _ at _ more _ (λ m. omega (arith, m, w .0 .left)) (l .inv .1)))
+          (λ w. rw (w .1) (tells-passed _ _ at _ more _ (λ m. omega (arith, m, w .0 .left)) (l .loop .inv .1)))
           (c .if1 .came),
     )
 
 returns : tie.Need-returns Inv-loop μ-loop
 returns c =
-    let s = c .before .before in
+    let s : tie.Start Inv-loop μ-loop = search in
     let l = c .before .loop in
     let e : l .j ≡ s .args .n = omega (arith, l .inv .0) in
     rw (← e) (l .inv .1)

@@ -31,7 +31,7 @@ shared-slice-copy-out-result c =
 
 returns : tie.Need-returns
 returns c =
-    let s = c .before .before in
+    let s : tie.Start = search in
     let k = steps-size (now (s .args .coordinates)) (now (s .args .corners)) (s .pre .0) (s .args .axis) (s .args .c) (s .pre .1 .0) (s .pre .1 .1) in
     rw (toZ-ofZ (abs-fits w32 _ (2 ^ 16) k (lit< tt))) refl
 

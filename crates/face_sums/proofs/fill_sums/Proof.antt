@@ -98,7 +98,7 @@ loop-again c =
 
 returns : tie.Need-returns Inv-loop μ-loop
 returns c =
-    let s = c .before .before .before .before .before .before in
+    let s : tie.Start Inv-loop μ-loop = search in
     let l = c .before .loop in
     let e : l .f ≡ length (now (s .args .sides)) = omega (arith, l .inv .0) in
     subst (λ (k : ℕ). SumsAre (plainMesh (now (s .args .coordinates)) (now (s .args .sides)) (now (s .args .corners))) (now (s .args .marked)) k (l .wanted)

@@ -57,7 +57,7 @@ loop-again c = (search needs, on-x (c .before .before) .is, on-y (c .before) .is
 
 returns : tie.Need-returns Inv-loop μ-loop
 returns c =
-    let s = c .before .before .before in
+    let s : tie.Start Inv-loop μ-loop = search in
     let l = c .before .loop in
     let e : l .j ≡ s .args .n = omega (arith, l .inv .0) in
     let S = stepSum (now (s .args .coordinates)) (now (s .args .corners)) (s .args .start) in

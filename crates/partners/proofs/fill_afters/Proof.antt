@@ -16,15 +16,15 @@ fill-earliers-requires c κs = let s : tie.Start = search in
 
 follow-all-requires : tie.Need-follow-all-requires
 follow-all-requires c κs = let s : tie.Start = search in
-    let v = c .before .before .before .before .before .before .fill-earliers in (
+    let v : tie.After-fill-earliers = search in (
       record {
         small = s .pre .0 .few-corners;
         highs-long = s .pre .0 .highs-long;
         lows-in = s .pre .0 .lows-in;
         highs-in = s .pre .0 .highs-in;
-        earliers-long = omega (arith, v .kept .1 .1 .0, s .pre .0 .few-corners);
-        heads-long = omega (arith, v .kept .1 .1 .1 .0, s .pre .0 .few-vertices);
-        chained = v .ensures;
+        earliers-long = omega (arith, v .fill-earliers .kept .1 .1 .0, s .pre .0 .few-corners);
+        heads-long = omega (arith, v .fill-earliers .kept .1 .1 .1 .0, s .pre .0 .few-vertices);
+        chained = v .fill-earliers .ensures;
       },
       (omega (arith, s .pre .0 .few-vertices), blank 2048, s .pre .1),
     )

@@ -11,7 +11,7 @@ returns : tie.Need-returns
 returns c = let s = c .before in rw (eq-eqb (s .args .e) 0 (c .if1 .taken))
 
 cast-v : tie.Need-cast-v
-cast-v c = let s = c .before .before in omega (arith, c .shared-slice-known .given (s .args .e - 1))
+cast-v c = let s : tie.Start = search in omega (arith, c .shared-slice-known .given (s .args .e - 1))
 
 returns-2 : tie.Need-returns-2
 returns-2 c = let s : tie.Start = search in

@@ -6,7 +6,7 @@ use Rattle.planes.proofs.put_four.Tie as tie
 
 returns : tie.Need-returns
 returns c =
-    let r4 = c .before .before in
+    let r4 : tie.After-put4 = search in
     let r3 = r4 .before .before .before .before in
     let r2 = r3 .before .before .before .before in
     let r1 = r2 .before .before .before .before in

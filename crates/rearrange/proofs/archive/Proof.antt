@@ -11,9 +11,9 @@ use Rattle.rearrange.proofs.archive.Tie as tie
 returns : tie.Need-returns
 returns c =
     let s : tie.Start = search in
-    let a = c .before .before .before .check-lengths in
+    let a : tie.After-check-lengths = search in
     let r = c .before .a .given in
-    archive-refused (now (s .args .numbers)) (now (s .args .bytes)) (r .0 .0) (r .0 .1 .0) (ap stated (sym (r .1)) ∙ a .ensures)
+    archive-refused (now (s .args .numbers)) (now (s .args .bytes)) (r .0 .0) (r .0 .1 .0) (ap stated (sym (r .1)) ∙ a .check-lengths .ensures)
 
 fill-planes-requires : tie.Need-fill-planes-requires
 fill-planes-requires c κs =
@@ -23,7 +23,7 @@ fill-planes-requires c κs =
 
 returns-2 : tie.Need-returns-2
 returns-2 c =
-    let f = c .before .before in
+    let f : tie.After-fill-planes = search in
     let t = f .before .before in
     let s : tie.Start = search in
     let e = passed (t .before .before .check-lengths .result) (t .before .before .check-lengths .ensures) (t .enum-told .given .1) in

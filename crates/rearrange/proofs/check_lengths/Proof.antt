@@ -10,7 +10,7 @@ returns c = let s = c .before in sym (refused30 (s .args .numbers) (s .args .byt
 
 returns-2 : tie.Need-returns-2
 returns-2 c =
-    let s = c .before .before in
+    let s : tie.Start = search in
     let n = s .args .numbers in
     let m = s .args .bytes in
     sym (refused31 n m (c .before .if1 .left) (λ e. c .if2 .taken (rest-four n m e)))

@@ -11,9 +11,9 @@ use Rattle.rearrange.proofs.restore.Tie as tie
 returns : tie.Need-returns
 returns c =
     let s : tie.Start = search in
-    let a = c .before .before .before .check-lengths in
+    let a : tie.After-check-lengths = search in
     let r = c .before .a .given in
-    restore-refused (now (s .args .bytes)) (now (s .args .numbers)) (r .0 .0) (r .0 .1 .0) (ap stated (sym (r .1)) ∙ a .ensures)
+    restore-refused (now (s .args .bytes)) (now (s .args .numbers)) (r .0 .0) (r .0 .1 .0) (ap stated (sym (r .1)) ∙ a .check-lengths .ensures)
 
 fill-numbers-requires : tie.Need-fill-numbers-requires
 fill-numbers-requires c κs =

@@ -61,8 +61,8 @@ fill-corner-requires c κs =
 
 loop-again : tie.Need-loop-again Inv-loop μ-loop
 loop-again c =
-    let l = c .before .before .before .before .loop in
-    (omega (arith, l .inv .0), omega (arith, c .if2 .left), turn (c .before))
+    let l : tie.At-loop Inv-loop μ-loop = search in
+    (omega (arith, l .loop .inv .0), omega (arith, c .if2 .left), turn (c .before))
 
 returns : tie.Need-returns Inv-loop μ-loop
 returns c =

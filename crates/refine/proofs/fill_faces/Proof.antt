@@ -62,7 +62,7 @@ module _ (i : tie.In-loop Inv-loop μ-loop) where
 
 loop-holds : tie.Need-loop-holds Inv-loop μ-loop
 loop-holds c =
-    let s = c .before .before .before .before .before .before in
+    let s : tie.Start Inv-loop μ-loop = search in
     (omega arith, sym (start-zero _), put-none _ (λ d m. omega (arith, m .1, start-zero (now (s .args .sides)))) (s .pre .1 .1 .1 .1 .1))
 
 fill-face-requires : tie.Need-fill-face-requires Inv-loop μ-loop
@@ -98,7 +98,7 @@ loop-again c =
 
 returns : tie.Need-returns Inv-loop μ-loop
 returns c =
-    let s = c .before .before .before .before .before .before .before .before in
+    let s : tie.Start Inv-loop μ-loop = search in
     let l = c .before .loop in
     let e : startOf (now (s .args .sides)) (l .f) ≡ length (now (s .args .corners)) = start-all (now (s .args .sides)) (l .f) (c .loop-test .left)
     ∙ s .pre .0 .sums in

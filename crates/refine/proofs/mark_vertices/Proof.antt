@@ -21,27 +21,27 @@ loop-holds : tie.Need-loop-holds Inv-loop μ-loop
 loop-holds c = (omega arith, refl, marked-none (now (c .args .corners)) (now (c .args .marked)) (c .args .first) (c .pre .0 .1))
 
 cast-u : tie.Need-cast-u Inv-loop μ-loop
-cast-u c = let l = c .before .before .loop in omega (arith, c .shared-slice-known .given (c .before .before .before .args .first + l .k))
+cast-u c = let l : tie.At-loop Inv-loop μ-loop = search in omega (arith, c .shared-slice-known .given (c .before .before .before .args .first + l .loop .k))
 
 slice-write-marked : tie.Need-slice-write-marked Inv-loop μ-loop
 slice-write-marked c =
-    let s = c .before .before .before in
-    let l = c .before .before .loop in
-    omega (arith, l .inv .1, s .pre .0 .0 (s .args .first + l .k) (omega (arith, s .pre .1)))
+    let s : tie.Start Inv-loop μ-loop = search in
+    let l : tie.At-loop Inv-loop μ-loop = search in
+    omega (arith, l .loop .inv .1, s .pre .0 .0 (s .args .first + l .loop .k) (omega (arith, s .pre .1)))
 
 loop-again : tie.Need-loop-again Inv-loop μ-loop
 loop-again c =
-    let s = c .before .before .before in
-    let l = c .before .before .loop in (
+    let s : tie.Start Inv-loop μ-loop = search in
+    let l : tie.At-loop Inv-loop μ-loop = search in (
       omega arith,
-      simp length-set (l .inv .1),
-      marked-set (now (s .args .corners)) (l .marked) (s .args .first) (l .k) (l .inv .2)
-          (omega (arith, l .inv .1, s .pre .0 .0 (s .args .first + l .k) (omega (arith, s .pre .1)))),
+      simp length-set (l .loop .inv .1),
+      marked-set (now (s .args .corners)) (l .loop .marked) (s .args .first) (l .loop .k) (l .loop .inv .2)
+          (omega (arith, l .loop .inv .1, s .pre .0 .0 (s .args .first + l .loop .k) (omega (arith, s .pre .1)))),
     )
 
 returns : tie.Need-returns Inv-loop μ-loop
 returns c =
-    let s = c .before .before in
+    let s : tie.Start Inv-loop μ-loop = search in
     let l = c .before .loop in
     let e : l .k ≡ s .args .count = omega (arith, l .inv .0) in
     rw (← e) (l .inv .2)

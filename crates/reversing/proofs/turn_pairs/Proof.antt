@@ -6,8 +6,8 @@ use Rattle.reversing.proofs.turn_pairs.Tie as tie
 
 returns : tie.Need-returns
 returns c = let s : tie.Start = search in
-    let v = c .before .before .before .before .before .before .reverse-bytes in let w = c .before .before .reverse-bytes2 in
-    pairs-turned (s .args .start) (s .args .end) (now (s .args .pairs)) (v .last .0) (w .last .0) (s .pre .0) (v .ensures) (w .ensures)
+    let v : tie.After-reverse-bytes = search in let w : tie.After-reverse-bytes2 = search in
+    pairs-turned (s .args .start) (s .args .end) (now (s .args .pairs)) (v .reverse-bytes .last .0) (w .reverse-bytes2 .last .0) (s .pre .0) (v .reverse-bytes .ensures) (w .reverse-bytes2 .ensures)
 
 pub turn-pairs-spec : {M : Type 1} → Rattle.reversing.proofs.turn_pairs.Statement.statement M
 turn-pairs-spec =

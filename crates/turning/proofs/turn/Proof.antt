@@ -62,8 +62,9 @@ turn-sharpness-requires c κs =
 
 turn-faces-requires : tie.Need-turn-faces-requires
 turn-faces-requires c κs =
+    let e : tie.After-enum-told = search in
     let a : tie.After-choose = search in
-    let z = passed a (c .before .before .before .before .before .before .before .before .enum-told .given .1) in
+    let z = passed a (e .enum-told .given .1) in
     record {
       few-faces = z .few-faces;
       few-corners = z .few-corners;

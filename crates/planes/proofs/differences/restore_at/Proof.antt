@@ -9,12 +9,12 @@ use Rattle.planes.proofs.differences.restore_at.Tie as tie
 
 returns : tie.Need-returns
 returns c =
-    let d = c .before .before .stored in
+    let d : tie.After-stored = search in
     let w = c .before .wrapping-add-u32 in
     let s : tie.Start = search in
     record {
-      small = omega (arith, d .ok, d .ensures);
-      sums = w .ensures ∙ ap (λ (k : ℕ). (s .args .before + k) % 2 ^ 32) (d .ensures);
+      small = omega (arith, d .stored .ok, d .stored .ensures);
+      sums = w .ensures ∙ ap (λ (k : ℕ). (s .args .before + k) % 2 ^ 32) (d .stored .ensures);
       holds = rw (toZ-ofZ w32 (c .signed .result) (record { sfits = c .signed .ok }), c .signed .ensures);
     }
 

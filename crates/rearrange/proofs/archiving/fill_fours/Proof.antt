@@ -25,13 +25,13 @@ loop-holds : tie.Need-loop-holds Inv-loop μ-loop
 loop-holds c = let s = c .before in (omega arith, s .pre .0, refl, s .pre .1)
 
 put-four-requires : tie.Need-put-four-requires Inv-loop μ-loop
-put-four-requires c κs = let l = c .before .before .loop in (l .inv .0, omega arith, l .inv .3)
+put-four-requires c κs = let l : tie.At-loop Inv-loop μ-loop = search in (l .loop .inv .0, omega arith, l .loop .inv .3)
 
 loop-again : tie.Need-loop-again Inv-loop μ-loop
 loop-again c =
-    let l = c .before .before .before .before .before .loop in
-    let i = l .i in
-    (omega (arith, l .inv .0), omega arith, more i (l .inv .0) (l .inv .2), c .before .before .put-four .ensures)
+    let l : tie.At-loop Inv-loop μ-loop = search in
+    let i = l .loop .i in
+    (omega (arith, l .loop .inv .0), omega arith, more i (l .loop .inv .0) (l .loop .inv .2), c .before .before .put-four .ensures)
 
 returns : tie.Need-returns Inv-loop μ-loop
 returns c =

@@ -7,13 +7,13 @@ use Rattle.rearrange.proofs.archiving.fill_planes.Tie as tie
 
 returns : tie.Need-returns
 returns c =
-    let s = c .before .before in
+    let s : tie.Start = search in
     let list = now (s .args .numbers) in
     planed-all list 0 (now (s .args .bytes)) (omega arith) (planed-none list (now (s .args .bytes)) (s .pre .1))
 
 returns-2 : tie.Need-returns-2
 returns-2 c =
-    let p = c .before .before in
+    let p : tie.After-put-first = search in
     planed-all (now (p .before .before .before .before .before .args .numbers)) 3 _ (omega arith) (p .put-first .ensures)
 
 pub fill-planes-spec : {M : Type 1} → Rattle.rearrange.proofs.archiving.fill_planes.Statement.statement M

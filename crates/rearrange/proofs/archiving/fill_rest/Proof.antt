@@ -40,17 +40,17 @@ loop-holds c =
 put-next-requires : tie.Need-put-next-requires Inv-loop μ-loop
 put-next-requires c κs =
     let s : tie.Start Inv-loop μ-loop = search in
-    let l = c .before .before .loop in
+    let l : tie.At-loop Inv-loop μ-loop = search in
     let r = few (length (now (s .args .numbers))) in
-    (omega (arith, s .pre .0, r), omega (arith, s .pre .0, r), l .inv .1)
+    (omega (arith, s .pre .0, r), omega (arith, s .pre .0, r), l .loop .inv .1)
 
 loop-again : tie.Need-loop-again Inv-loop μ-loop
 loop-again c =
     let s : tie.Start Inv-loop μ-loop = search in
     let list = now (s .args .numbers) in
     let k = c .before .before .before .before .before .loop .k in
-    let p = c .before .before .put-next in
-    (omega arith, subst (λ (i : ℕ). Planed list i (p .last .1 .0)) (plus-one (length list - (length list - 3) % 4) k) (p .ensures))
+    let p : tie.After-put-next Inv-loop μ-loop = search in
+    (omega arith, subst (λ (i : ℕ). Planed list i (p .put-next .last .1 .0)) (plus-one (length list - (length list - 3) % 4) k) (p .put-next .ensures))
 
 returns : tie.Need-returns Inv-loop μ-loop
 returns c =

@@ -9,7 +9,7 @@ use Rattle.rearrange.proofs.archiving.put_first.Tie as tie
 
 returns : tie.Need-returns
 returns c =
-    let p3 = c .before .before in
+    let p3 : tie.After-put-number3 = search in
     let p2 = p3 .before .before .before .before .before .before in
     let p1 = p2 .before .before .before .before .before .before in
     let s : tie.Start = search in

@@ -8,7 +8,7 @@ use Rattle.rearrange.proofs.archiving.put_next.Tie as tie
 
 returns : tie.Need-returns
 returns c =
-    let p = c .before .before in
+    let p : tie.After-put-number = search in
     let s : tie.Start = search in
     let d = p .before .delta-at in
     planed-one (now (s .args .numbers)) _ (s .args .i) (d .result) _ _ refl (s .pre .1) (d .ensures) (s .pre .2) (p .put-number .ensures)

@@ -25,10 +25,10 @@ loop-again : tie.Need-loop-again Inv-loop μ-loop
 loop-again c =
     let s : tie.Start Inv-loop μ-loop = search in
     let f = numberIn (now (s .args .bytes)) in
-    let l = c .before .before .loop in (
+    let l : tie.At-loop Inv-loop μ-loop = search in (
       search needs,
-      rw length-set (l .inv .1),
-      filled-step f (now (s .args .numbers)) (l .i) (l .numbers) _ (pos 0) (omega arith) (l .inv .2)
+      rw length-set (l .loop .inv .1),
+      filled-step f (now (s .args .numbers)) (l .loop .i) (l .loop .numbers) _ (pos 0) (omega arith) (l .loop .inv .2)
           (toZ-ofZ w32 (c .coordinate .result) (record { sfits = c .coordinate .ok }) ∙ c .coordinate .ensures),
     )
 

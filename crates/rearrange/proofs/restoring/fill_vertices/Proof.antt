@@ -119,13 +119,13 @@ loop-again c =
     let b = now (s .args .bytes) in
     let old = now (s .args .numbers) in
     let l = i .before .loop in
-    let r1 = c .before .before .before .before .before .before .before .restore-at in
-    let r2 = c .before .before .before .before .restore-at2 in
+    let r1 : tie.After-restore-at Inv-loop μ-loop = search in
+    let r2 : tie.After-restore-at2 Inv-loop μ-loop = search in
     let r3 = c .before .restore-at3 in
-    let filled = vertex-fills b (length old) (l .v) old (l .numbers) (r1 .last .1 .1 .0) (r2 .last .1 .1 .0) (r3 .last .1 .1 .0) (l .x) (l .y) (l .z)
-    (r1 .result) (r2 .result) (r3 .result) (l .inv .3) (l .inv .4) (l .inv .5) (r1 .ensures) (r2 .ensures) (r3 .ensures) (last i) (l .inv .2) in
-    let next = vertex-next b (length old) (l .v) old (l .numbers) (r1 .last .1 .1 .0) (r2 .last .1 .1 .0) (r3 .last .1 .1 .0) (l .x) (l .y) (l .z)
-    (r1 .result) (r2 .result) (r3 .result) (l .inv .3) (l .inv .4) (l .inv .5) (r1 .ensures) (r2 .ensures) (r3 .ensures) in
+    let filled = vertex-fills b (length old) (l .v) old (l .numbers) (r1 .restore-at .last .1 .1 .0) (r2 .restore-at2 .last .1 .1 .0) (r3 .last .1 .1 .0) (l .x) (l .y) (l .z)
+    (r1 .restore-at .result) (r2 .restore-at2 .result) (r3 .result) (l .inv .3) (l .inv .4) (l .inv .5) (r1 .restore-at .ensures) (r2 .restore-at2 .ensures) (r3 .ensures) (last i) (l .inv .2) in
+    let next = vertex-next b (length old) (l .v) old (l .numbers) (r1 .restore-at .last .1 .1 .0) (r2 .restore-at2 .last .1 .1 .0) (r3 .last .1 .1 .0) (l .x) (l .y) (l .z)
+    (r1 .restore-at .result) (r2 .restore-at2 .result) (r3 .result) (l .inv .3) (l .inv .4) (l .inv .5) (r1 .restore-at .ensures) (r2 .restore-at2 .ensures) (r3 .ensures) in
     (one-more (l .v) (length old) (i .loop-test .taken), length3 (c .before), filled, next .0, next .1, next .2)
 
 same-length : tie.Need-same-length Inv-loop μ-loop

@@ -19,11 +19,12 @@ returns c =
 
 spread-requires : tie.Need-spread-requires
 spread-requires c κs =
+    let en : tie.After-enum-told = search in
     let s : tie.Start = search in
     let v : tie.After-find-partners = search in
     let w : tie.After-fill-starts = search in
     let lists = s .pre .0 .0 in
-    let e = c .before .before .before .before .before .before .before .before .before .before .enum-told .given .1 in (
+    let e = en .enum-told .given .1 in (
       spreadable-of (v .find-partners .ensures) e lists (w .fill-starts .ensures)
           (omega (arith, v .find-partners .kept .1 .1 .1 .1 .0, lists .few-corners)) (omega (arith, w .fill-starts .kept .1 .0, lists .few-corners))
           (omega (arith, w .fill-starts .kept .1 .1 .0, lists .few-faces)),
@@ -32,9 +33,10 @@ spread-requires c κs =
 
 returns-2 : tie.Need-returns-2
 returns-2 c =
+    let e : tie.After-enum-told = search in
     let v : tie.After-find-partners = search in
     chosen-spread (v .find-partners .ensures)
-    (c .before .before .before .before .before .before .before .before .before .before .before .before .before .before .enum-told .given .1)
+    (e .enum-told .given .1)
     (c .before .before .before .spread .ensures)
 
 pub find-turns-spec : {M : Type 1} → Rattle.turning.proofs.choosing.find_turns.Statement.statement M

@@ -47,11 +47,11 @@ loop-again c =
     let i : tie.In-loop Inv-loop μ-loop = search in
     let l = i .before .loop in
     let k = inside i in
-    let v = c .before .before .fill-face in (
-      started-step (k .0) (k .4) (l .inv .1) (l .inv .0) (v .ensures),
+    let v : tie.After-fill-face Inv-loop μ-loop = search in (
+      started-step (k .0) (k .4) (l .inv .1) (l .inv .0) (v .fill-face .ensures),
       omega (arith, start-next (now (s .args .sides)) (l .f) (k .0), l .inv .1),
       omega (arith, k),
-      v .kept .0 ∙ l .inv .3,
+      v .fill-face .kept .0 ∙ l .inv .3,
       simp length-set (l .inv .4),
     )
 
