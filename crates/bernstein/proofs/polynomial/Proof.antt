@@ -18,7 +18,7 @@ module _ (c : tie.After-columns) where
 
 scaled-requires : tie.Need-scaled-requires
 scaled-requires c κs =
-    let t = c .before .before in
+    let t : tie.After-columns = search in
     let s = t .before .before in (
       subst (λ (r : Matrix5). AllSized (2 ^ 35) r) (sym (c .before .slopes2 .ensures)) (slopes-size (t .columns .result) (2 ^ 31) (turned t)),
       subst (λ (r : Matrix5). AllSized (2 ^ 16) r) (sym (c .weights .ensures)) (weights-size (s .args .p) (s .args .n) (s .pre .0) (s .pre .1)),

@@ -34,8 +34,8 @@ ahead-requires c κs = tapered-size (c .args .e) (5 * 2 ^ 34) (c .pre .0) (lit�
 
 loop-again : tie.Need-loop-again Inv-loop μ-loop
 loop-again c =
-    let l = c .before .before .loop in
-    (omega arith, λ e h. c .step .ensures ∙ ap stepOf (l .inv .1 e h) ∙ state-step e (l .x))
+    let l : tie.At-loop Inv-loop μ-loop = search in
+    (omega arith, λ e h. c .step .ensures ∙ ap stepOf (l .loop .inv .1 e h) ∙ state-step e (l .loop .x))
 
 returns : tie.Need-returns Inv-loop μ-loop
 returns c =

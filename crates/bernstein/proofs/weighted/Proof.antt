@@ -32,7 +32,7 @@ module _ (s : tie.Start) where
 
 mul-t3 : tie.Need-mul-t3
 mul-t3 c =
-    let s = c .before .before .before .before in
+    let s : tie.Start = search in
     let k = fits (s .args .v) (2 ^ 35) (s .pre .0) (lit≤ tt) in
     let m = fits (s .args .w) (2 ^ 16) (s .pre .1) (lit≤ tt) in
     let p = products s in
@@ -40,7 +40,7 @@ mul-t3 c =
 
 mul-t4 : tie.Need-mul-t4
 mul-t4 c =
-    let s = c .before .before .before .before .before .before .before .before in
+    let s : tie.Start = search in
     let k = fits (s .args .v) (2 ^ 35) (s .pre .0) (lit≤ tt) in
     let m = fits (s .args .w) (2 ^ 16) (s .pre .1) (lit≤ tt) in
     let p = products s in
@@ -48,7 +48,7 @@ mul-t4 c =
 
 mul-t5 : tie.Need-mul-t5
 mul-t5 c =
-    let s = c .before .before .before .before .before .before .before .before .before .before .before .before in
+    let s : tie.Start = search in
     let k = fits (s .args .v) (2 ^ 35) (s .pre .0) (lit≤ tt) in
     let m = fits (s .args .w) (2 ^ 16) (s .pre .1) (lit≤ tt) in
     let p = products s in

@@ -21,10 +21,11 @@ accepts t = let a = t .before .before .before .before .check-within in passed (a
 
 returns : tie.Need-returns
 returns c =
-    let s = c .before .before .before .before .before .before .before .before .before .before .before .before in
+    let ch : tie.After-check-within = search in
+    let s : tie.Start = search in
     let a = c .before .before .a .given in
     refused-added (s .args .page) (mesh s) (verdict (mesh s)) (c .refuse .result) _ (a .0 .1 .0) (c .refuse .ensures)
-    (sym (ap stated (a .1)) ∙ c .before .before .before .before .before .before .check-within .ensures .answers)
+    (sym (ap stated (a .1)) ∙ ch .check-within .ensures .answers)
 
 largest-requires : tie.Need-largest-requires
 largest-requires c κs =

@@ -14,26 +14,28 @@ use Rattle.border_report.proofs.report.Tie as tie
 
 returns : tie.Need-returns
 returns c =
-    let s = c .before .before .before .before .before in
+    let s : tie.Start = search in
     refused-report (s .args .page) (offered (s .args .bytes .now) (s .args .counted)) _ _
     (sym (ap stated (c .before .a .given .1)) ∙ c .before .before .before .check .ensures)
 
 slice-aggregate-with-file : tie.Need-slice-aggregate-with-file
-slice-aggregate-with-file c = sym (length-take-le _ (c .before .before .before .before .before .before .args .bytes .now) (c .before .least .ensures .0))
+slice-aggregate-with-file c =
+    let s : tie.Start = search in
+    sym (length-take-le _ (s .args .bytes .now) (c .before .least .ensures .0))
 
 with-file-requires : tie.Need-with-file-requires
 with-file-requires c κs = passed _ (c .before .before .before .before .check .ensures) (c .before .before .enum-told .given .1)
 
 returns-2 : tie.Need-returns-2
 returns-2 c =
-    let s = c .before .before .before .before .before .before .before in
-    let l = c .before .before .least in
+    let s : tie.Start = search in
+    let l : tie.After-least = search in
     let P = s .args .page in
     let k = s .args .counted in
     done-report P (offered (s .args .bytes .now) k) (c .with-file .result) (passed _ (c .before .before .before .before .before .check .ensures) (c
     .before .before .before .enum-told .given .1))
     (c .with-file .ensures
-    ∙ ap (λ (file : List ℕ). added P (fileMesh file) (fileVerdict file k)) (held-bytes (s .args .bytes .now) _ k (l .ensures .1 .0) (l .ensures .1 .1)))
+    ∙ ap (λ (file : List ℕ). added P (fileMesh file) (fileVerdict file k)) (held-bytes (s .args .bytes .now) _ k (l .least .ensures .1 .0) (l .least .ensures .1 .1)))
 
 pub report-spec : {M : Type 1} → Rattle.border_report.proofs.report.Statement.statement M
 report-spec =

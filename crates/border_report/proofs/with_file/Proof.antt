@@ -19,7 +19,7 @@ returns c =
 
 with-lists-requires : tie.Need-with-lists-requires
 with-lists-requires c κs =
-    let s = c .before .before .before .before in (
+    let s : tie.Start = search in (
       header-within (now (s .args .file)) (s .args .counted) (passed _ (c .before .before .check-header .ensures) (c .enum-told .given .1)),
       s .pre,
     )

@@ -20,8 +20,8 @@ returns c = plain-not (c .before .before .before .before .args .sharpness .now) 
 
 loop-again : tie.Need-loop-again Inv-loop μ-loop
 loop-again c =
-    let l = c .before .before .before .loop in
-    (omega arith, plain-step (c .before .before .before .before .args .sharpness .now) (l .i) (l .inv .1) (omega arith))
+    let l : tie.At-loop Inv-loop μ-loop = search in
+    (omega arith, plain-step (c .before .before .before .before .args .sharpness .now) (l .loop .i) (l .loop .inv .1) (omega arith))
 
 returns-2 : tie.Need-returns-2 Inv-loop μ-loop
 returns-2 c = plain-whole (c .before .before .args .sharpness .now) (c .before .loop .i) (omega arith) (c .before .loop .inv .1)

@@ -29,14 +29,15 @@ shared-slice-copy-out-put-coordinate c = search needs
 
 loop-again : tie.Need-loop-again Inv-loop μ-loop
 loop-again c =
-    let list = c .before .before .before .before .before .before .before .before .args .coordinates .now in
-    let l = c .before .before .before .before .before .before .loop in
-    let p = c .before .before .put-coordinate in (
+    let s : tie.Start Inv-loop μ-loop = search in
+    let list = s .args .coordinates .now in
+    let l : tie.At-loop Inv-loop μ-loop = search in
+    let p : tie.After-put-coordinate Inv-loop μ-loop = search in (
       omega arith,
-      p .kept .0 ∙ l .inv .1,
-      put-same (next-coordinate list (l .i)) (put-then (l .inv .1) (l .inv .2)
-          (put-same (ap wordBytes (toZ-ofZ w32 (getD list (l .i) (pos 0)) (record { sfits = c .before .before .before .put-coordinate-arg2 .given })))
-          (p .ensures))),
+      p .put-coordinate .kept .0 ∙ l .loop .inv .1,
+      put-same (next-coordinate list (l .loop .i)) (put-then (l .loop .inv .1) (l .loop .inv .2)
+          (put-same (ap wordBytes (toZ-ofZ w32 (getD list (l .loop .i) (pos 0)) (record { sfits = c .before .before .before .put-coordinate-arg2 .given })))
+          (p .put-coordinate .ensures))),
     )
 
 same-length : tie.Need-same-length Inv-loop μ-loop

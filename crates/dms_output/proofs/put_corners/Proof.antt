@@ -25,12 +25,13 @@ cast-put-half c = omega (arith, c .shared-slice-known2 .given (c .before .before
 
 loop-again : tie.Need-loop-again Inv-loop μ-loop
 loop-again c =
-    let list = c .before .before .before .before .before .before .before .before .before .args .corners .now in
-    let l = c .before .before .before .before .before .before .loop in
-    let p = c .before .before .put-half in (
+    let s : tie.Start Inv-loop μ-loop = search in
+    let list = s .args .corners .now in
+    let l : tie.At-loop Inv-loop μ-loop = search in
+    let p : tie.After-put-half Inv-loop μ-loop = search in (
       omega arith,
-      p .kept .0 ∙ l .inv .1,
-      put-same (next-corner list (l .c)) (put-then (l .inv .1) (l .inv .2) (p .ensures)),
+      p .put-half .kept .0 ∙ l .loop .inv .1,
+      put-same (next-corner list (l .loop .c)) (put-then (l .loop .inv .1) (l .loop .inv .2) (p .put-half .ensures)),
     )
 
 same-length : tie.Need-same-length Inv-loop μ-loop

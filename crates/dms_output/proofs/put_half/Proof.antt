@@ -4,8 +4,10 @@ use borrow.Author.Needs.{needs}
 use Rattle.dms_output.proofs.put_half.Tie as tie
 
 returns : tie.Need-returns
-returns c = put-then (c .before .before .before .before .before .before .put-byte .kept .0)
-    (c .before .before .before .before .before .before .put-byte .ensures) (c .before .before .put-byte2 .ensures)
+returns c =
+    let p : tie.After-put-byte = search in
+    put-then (p .put-byte .kept .0)
+    (p .put-byte .ensures) (c .before .before .put-byte2 .ensures)
 
 pub put-half-spec : {M : Type 1} → Rattle.dms_output.proofs.put_half.Statement.statement M
 put-half-spec = tie.close (tie.spec (λ c. search needs) (λ c κs. search needs) (λ c. search needs) (λ c κs. search needs) (λ c. search needs) returns)

@@ -5,11 +5,14 @@ use Rattle.dms_output.proofs.put_lists.Tie as tie
 
 returns : tie.Need-returns
 returns c =
-    put-then (c .before .before .before .before .before .before .before .before .before .before .before .before .before .before .put-header .kept
-    .0) (c .before .before .before .before .before .before .before .before .before .before .before .before .before .before .put-header .ensures)
-    (put-then (c .before .before .before .before .before .before .before .before .before .before .put-coordinates .kept .0)
-    (c .before .before .before .before .before .before .before .before .before .before .put-coordinates .ensures)
-    (put-then (c .before .before .before .before .before .before .put-word .kept .0) (c .before .before .before .before .before .before .put-word .ensures)
+    let p' : tie.After-put-word = search in
+    let pu : tie.After-put-coordinates = search in
+    let p : tie.After-put-header = search in
+    put-then (p .put-header .kept
+    .0) (p .put-header .ensures)
+    (put-then (pu .put-coordinates .kept .0)
+    (pu .put-coordinates .ensures)
+    (put-then (p' .put-word .kept .0) (p' .put-word .ensures)
     (c .before .before .put-corners .ensures)))
 
 pub put-lists-spec : {M : Type 1} → Rattle.dms_output.proofs.put_lists.Statement.statement M

@@ -8,11 +8,11 @@ use Rattle.faces.proofs.four_mean.Tie as tie
 
 mean-requires : tie.Need-mean-requires
 mean-requires d κs =
-    let k = d .before .before .before .before .pre in (
-      read _ _ (d .before .before .before .point .ensures) (k .0 .1) .1,
-      read _ _ (d .before .before .point2 .ensures) (k .1 .1) .1,
-      read _ _ (d .before .point3 .ensures) (k .2 .1) .1,
-      read _ _ (d .point4 .ensures) (k .3 .1) .1,
+    let k : tie.Start = search in (
+      read _ _ (d .before .before .before .point .ensures) (k .pre .0 .1) .1,
+      read _ _ (d .before .before .point2 .ensures) (k .pre .1 .1) .1,
+      read _ _ (d .before .point3 .ensures) (k .pre .2 .1) .1,
+      read _ _ (d .point4 .ensures) (k .pre .3 .1) .1,
     )
 
 returns : tie.Need-returns

@@ -31,7 +31,7 @@ shared-slice-copy-out-result-2 c = omega (arith, c .before .pre .1, is-long _ (n
 
 sub-result : tie.Need-sub-result
 sub-result c =
-    let s = c .before .before in
+    let s : tie.Start = search in
     less-fits (there s) (here s) (small s (3 * s .args .point + s .args .axis) (omega (arith, at-most s, s .pre .1)))
     (small s (s .args .axis) (omega (arith, s .pre .1)))
 

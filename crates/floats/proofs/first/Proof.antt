@@ -4,10 +4,10 @@ use Rattle.floats.proofs.Laws.{near-in, near-first, multiple-narrows, f
 use Rattle.floats.proofs.first.Tie as tie
 
 int-to-float-result : tie.Need-int-to-float-result
-int-to-float-result c = let s = c .before .before in near-in (s .args .d) (s .pre .0) (s .args .near) (s .pre .1) (c .before .if1 .taken)
+int-to-float-result c = let s : tie.Start = search in near-in (s .args .d) (s .pre .0) (s .args .near) (s .pre .1) (c .before .if1 .taken)
 
 returns : tie.Need-returns
-returns c = let s = c .before .before in near-first (s .args .d) (s .pre .0) (s .args .near) (s .pre .1) (c .before .if1 .taken)
+returns c = let s : tie.Start = search in near-first (s .args .d) (s .pre .0) (s .args .near) (s .pre .1) (c .before .if1 .taken)
 
 float-to-float-result : tie.Need-float-to-float-result
 float-to-float-result c =

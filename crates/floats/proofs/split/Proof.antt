@@ -30,7 +30,7 @@ returns-2 : tie.Need-returns-2
 returns-2 c =
     let s : tie.Start = search in
     let n : tie.After-is-near = search in
-    let f = c .before .before .before in
+    let f : tie.Else1 = search in
     far-split (s .args .x) (s .args .y) (s .args .z) (s .pre .0) (s .pre .1) (s .pre .2) (n .is-near .ensures)
     (f .before .before .before .first .ensures) (f .before .before .first2 .ensures)
     (f .before .first3 .ensures) (c .before .before .second .ensures) (c .before .second2 .ensures) (c .second3 .ensures) (f .if1 .left)

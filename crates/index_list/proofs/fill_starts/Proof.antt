@@ -22,20 +22,20 @@ loop-holds c = (omega arith, refl, omega arith, λ M o. (points-zero M _, λ e h
 
 loop-again : tie.Need-loop-again Inv-loop μ-loop
 loop-again c =
-    let l = c .before .before .loop in let s = c .before .before .before .before .before .before .before .before in (
+    let l : tie.At-loop Inv-loop μ-loop = search in let s : tie.Start Inv-loop μ-loop = search in (
       omega arith,
-      simp length-set (l .inv .1),
+      simp length-set (l .loop .inv .1),
       omega (arith, c .points-of .ensures .0),
       λ M o.
-          let i = l .inv .3 M o in (
+          let i = l .loop .inv .3 M o in (
             omega (arith, c .points-of .ensures .1 M o),
-            starts-step (pointsBefore M (s .args .levels .now)) (l .starts) (l .c) (l .sum) (omega arith) (sym (i .0)) (i .1),
+            starts-step (pointsBefore M (s .args .levels .now)) (l .loop .starts) (l .loop .c) (l .loop .sum) (omega arith) (sym (i .0)) (i .1),
           ),
     )
 
 returns : tie.Need-returns Inv-loop μ-loop
 returns c =
-    let l = c .before .loop in let s = c .before .before .before .before .before .before .before in
+    let l = c .before .loop in let s : tie.Start Inv-loop μ-loop = search in
     λ M o. record { of = o; long = omega (arith, o .many, l .inv .1, s .pre .1); starts-are = λ e h. l .inv .3 M o .1 e (omega (arith, o .many)) }
 
 pub fill-starts-spec : {M : Type 1} → statement M

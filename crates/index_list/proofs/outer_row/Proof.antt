@@ -12,14 +12,14 @@ use Rattle.index_list.proofs.outer_row.Statement.{statement}
 use Rattle.index_list.proofs.outer_row.Tie as tie
 
 end-number-requires-2 : tie.Need-end-number-requires-2
-end-number-requires-2 c κs = let s = c .before .before .before .before .before .before .before in (s .pre .0, s .pre .1, ⊎-elim (λ w. omega arith) (λ w. omega arith) (c .if1 .came))
+end-number-requires-2 c κs = let s : tie.Start = search in (s .pre .0, s .pre .1, ⊎-elim (λ w. omega arith) (λ w. omega arith) (c .if1 .came))
 
 segments-at-requires : tie.Need-segments-at-requires
-segments-at-requires c κs = let s = c .before .before .before .before .before .before .before .before .before in (wide-of (given-of (s .pre .0)) (s .args .c) (s .pre .1), s .pre .2)
+segments-at-requires c κs = let s : tie.Start = search in (wide-of (given-of (s .pre .0)) (s .args .c) (s .pre .1), s .pre .2)
 
 returns : tie.Need-returns
 returns c =
-    let s = c .before .before .before .before .before .before .before .before .before .before in
+    let s : tie.Start = search in
     let t : sideAt (c .before .before .before .if1 .after) ≡ turn (sideAt (s .args .side)) =
     ⊎-elim (λ w. ap sideAt (w .1) ∙ turn-next (s .args .side) (w .0 .taken)) (λ w. ap sideAt (w .1) ∙ turn-last (s .args .side) (w .0 .left)) (c .before .before .before .if1 .came) in (
       record { parts = c .segments-at .ensures .1; base = omega (arith, c .segments-at .ensures .1, c .before .curve-start .ensures .0) },

@@ -20,21 +20,21 @@ abbrev μ-loop : tie.MeasureT-loop
 
 put-side-requires : tie.Need-put-side-requires Inv-loop μ-loop
 put-side-requires c κs =
-    let l = c .before .before .loop in let s = c .before .before .before .before .before .before .before .before .before in (
+    let l : tie.At-loop Inv-loop μ-loop = search in let s : tie.Start Inv-loop μ-loop = search in (
       (s .pre .0 .0, s .pre .0 .1, omega arith),
-      λ M t. corner-room M t (s .args .c) (s .pre .0 .1) (l .side) (s .args .at) (l .to) _ (s .args .out .now) (l .out) (omega arith) (l .inv .2 M t) (let r = s .pre .1 M t in omega (arith, l .inv .1)),
+      λ M t. corner-room M t (s .args .c) (s .pre .0 .1) (l .loop .side) (s .args .at) (l .loop .to) _ (s .args .out .now) (l .loop .out) (omega arith) (l .loop .inv .2 M t) (let r = s .pre .1 M t in omega (arith, l .loop .inv .1)),
     )
 
 loop-again : tie.Need-loop-again Inv-loop μ-loop
 loop-again c =
-    let l = c .before .before .before .before .before .loop in let s = c .before .before .before .before .before .before .before .before .before .before .before .before in (
+    let l : tie.At-loop Inv-loop μ-loop = search in let s : tie.Start Inv-loop μ-loop = search in (
       omega arith,
       omega (arith, c .before .before .put-side .kept),
-      λ M t. corner-step M t (s .args .c) (s .pre .0 .1) (l .side) (s .args .at) (l .to) _ (s .args .out .now) (l .out) _ (omega arith) (l .inv .2 M t) (c .before .before .put-side .ensures M t),
+      λ M t. corner-step M t (s .args .c) (s .pre .0 .1) (l .loop .side) (s .args .at) (l .loop .to) _ (s .args .out .now) (l .loop .out) _ (omega arith) (l .loop .inv .2 M t) (c .before .before .put-side .ensures M t),
     )
 
 returns : tie.Need-returns Inv-loop μ-loop
-returns c = let l = c .before .loop in let s = c .before .before .before .before .before .before .before .before in λ M t. corner-end M t (s .args .c) (s .pre .0 .1) (l .side) (s .args .at) (l .to) (s .args .out .now) (l .out) (omega arith) (l .inv .2 M t)
+returns c = let l = c .before .loop in let s : tie.Start Inv-loop μ-loop = search in λ M t. corner-end M t (s .args .c) (s .pre .0 .1) (l .side) (s .args .at) (l .to) (s .args .out .now) (l .out) (omega arith) (l .inv .2 M t)
 
 pub put-corner-spec : {M : Type 1} → statement M
 put-corner-spec =

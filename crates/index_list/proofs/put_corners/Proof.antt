@@ -20,25 +20,25 @@ abbrev μ-loop : tie.MeasureT-loop
 μ-loop corners low table levels starts first count out₀ to₀ c₀ out to c = count - c
 
 loop-holds : tie.Need-loop-holds Inv-loop μ-loop
-loop-holds c = let s = c .before .before .before .before .before .before in (omega arith, refl, λ M t. put-none _ _ _ _ _ (ap (trianglesBefore M _) (let z : s .args .first ≡ s .args .first + 0 = omega arith in z)))
+loop-holds c = let s : tie.Start Inv-loop μ-loop = search in (omega arith, refl, λ M t. put-none _ _ _ _ _ (ap (trianglesBefore M _) (let z : s .args .first ≡ s .args .first + 0 = omega arith in z)))
 
 put-corner-requires : tie.Need-put-corner-requires Inv-loop μ-loop
 put-corner-requires c κs =
-    let l = c .before .before .loop in let s = c .before .before .before .before .before .before .before .before .before in (
+    let l : tie.At-loop Inv-loop μ-loop = search in let s : tie.Start Inv-loop μ-loop = search in (
       (s .pre .0 .0, omega arith),
-      λ M t. corners-room M t (s .args .first) (s .args .count) (s .pre .0 .1) (l .c) (l .to) _ (s .args .out .now) (l .out) (omega arith) (l .inv .2 M t) (let r = s .pre .1 M t in omega (arith, l .inv .1)),
+      λ M t. corners-room M t (s .args .first) (s .args .count) (s .pre .0 .1) (l .loop .c) (l .loop .to) _ (s .args .out .now) (l .loop .out) (omega arith) (l .loop .inv .2 M t) (let r = s .pre .1 M t in omega (arith, l .loop .inv .1)),
     )
 
 loop-again : tie.Need-loop-again Inv-loop μ-loop
 loop-again c =
-    let l = c .before .before .before .before .before .loop in let s = c .before .before .before .before .before .before .before .before .before .before .before .before in (
+    let l : tie.At-loop Inv-loop μ-loop = search in let s : tie.Start Inv-loop μ-loop = search in (
       omega arith,
       omega (arith, c .before .before .put-corner .kept),
-      λ M t. corners-step M t (s .args .first) (s .args .count) (s .pre .0 .1) (l .c) (l .to) _ (s .args .out .now) (l .out) _ (omega arith) (l .inv .2 M t) (c .before .before .put-corner .ensures M t),
+      λ M t. corners-step M t (s .args .first) (s .args .count) (s .pre .0 .1) (l .loop .c) (l .loop .to) _ (s .args .out .now) (l .loop .out) _ (omega arith) (l .loop .inv .2 M t) (c .before .before .put-corner .ensures M t),
     )
 
 returns : tie.Need-returns Inv-loop μ-loop
-returns c = let l = c .before .loop in let s = c .before .before .before .before .before .before .before .before in λ M t. corners-end M t (s .args .first) (s .args .count) (s .pre .0 .1) (l .c) (l .to) (s .args .out .now) (l .out) (omega arith) (l .inv .2 M t)
+returns c = let l = c .before .loop in let s : tie.Start Inv-loop μ-loop = search in λ M t. corners-end M t (s .args .first) (s .args .count) (s .pre .0 .1) (l .c) (l .to) (s .args .out .now) (l .out) (omega arith) (l .inv .2 M t)
 
 pub put-corners-spec : {M : Type 1} → statement M
 put-corners-spec =

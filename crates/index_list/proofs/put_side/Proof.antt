@@ -16,7 +16,7 @@ abbrev μ-loop : tie.MeasureT-loop
 
 loop-holds : tie.Need-loop-holds Inv-loop μ-loop
 loop-holds c =
-    let s = c .before .before .before .before .before .before .before .before .before in record {
+    let s : tie.Start Inv-loop μ-loop = search in record {
       starting = s .pre .0 .0;
       corner = s .pre .0 .1;
       sides = s .pre .0 .2;
@@ -32,21 +32,25 @@ loop-holds c =
     }
 
 put-strip-requires : tie.Need-put-strip-requires Inv-loop μ-loop
-put-strip-requires c κs = (turn-strip (c .before .before .before .before .loop .inv) (c .before .before .before .loop-test .taken) _ (c .before .before .before .before .before .before .before .level-at .result - c .before .before .before .before .loop .k - 1) _ (c .before .before .rings-before .ensures .0) refl (c .before .ring-row .ensures .1) (c .before .ring-row .ensures .0) (c .before .ring-row .ensures .2), turn-room (c .before .before .before .before .loop .inv) (c .before .before .before .loop-test .taken) _ (c .before .before .before .before .before .before .before .level-at .result - c .before .before .before .before .loop .k - 1) _ (c .before .before .rings-before .ensures .0) refl (c .before .ring-row .ensures .1) (c .before .ring-row .ensures .0) (c .before .ring-row .ensures .2))
+put-strip-requires c κs =
+    let l : tie.After-level-at Inv-loop μ-loop = search in
+    (turn-strip (c .before .before .before .before .loop .inv) (c .before .before .before .loop-test .taken) _ (l .level-at .result - c .before .before .before .before .loop .k - 1) _ (c .before .before .rings-before .ensures .0) refl (c .before .ring-row .ensures .1) (c .before .ring-row .ensures .0) (c .before .ring-row .ensures .2), turn-room (c .before .before .before .before .loop .inv) (c .before .before .before .loop-test .taken) _ (l .level-at .result - c .before .before .before .before .loop .k - 1) _ (c .before .before .rings-before .ensures .0) refl (c .before .ring-row .ensures .1) (c .before .ring-row .ensures .0) (c .before .ring-row .ensures .2))
 
 add-to : tie.Need-add-to Inv-loop μ-loop
-add-to c = let l = c .before .before .before .before .before .before .before .loop in omega (arith, l .inv .small .parts, l .inv .level-most)
+add-to c = let l : tie.At-loop Inv-loop μ-loop = search in omega (arith, l .loop .inv .small .parts, l .loop .inv .level-most)
 
 mul-to : tie.Need-mul-to Inv-loop μ-loop
-mul-to c = let l = c .before .before .before .before .before .before .before .loop in omega (arith, l .inv .small .parts, l .inv .level-most)
+mul-to c = let l : tie.At-loop Inv-loop μ-loop = search in omega (arith, l .loop .inv .small .parts, l .loop .inv .level-most)
 
 add-to-2 : tie.Need-add-to-2 Inv-loop μ-loop
 add-to-2 c = let l = c .before .before .before .before .before .before .before .loop in omega (arith, turn-room (c .before .before .before .before .before .before .before .loop .inv) (c .before .before .before .before .before .before .loop-test .taken) _ (c .before .before .before .before .before .before .before .before .before .before .level-at .result - c .before .before .before .before .before .before .before .loop .k - 1) _ (c .before .before .before .before .before .rings-before .ensures .0) refl (c .before .before .before .before .ring-row .ensures .1) (c .before .before .before .before .ring-row .ensures .0) (c .before .before .before .before .ring-row .ensures .2), c .before .before .before .before .ring-row .ensures .1, l .inv .long, c .before .before .before .before .before .before .before .before .before .before .before .before .before .before .before .before .before .good .1 .1 .1 .1 .1 .1 .1 .0 .0)
 
 loop-again : tie.Need-loop-again Inv-loop μ-loop
 loop-again c =
-    let l = c .before .before .before .before .before .before .before .loop in
-    turn-step (c .before .before .before .before .before .before .before .loop .inv) (c .before .before .before .before .before .before .loop-test .taken) _ (c .before .before .before .before .before .before .before .before .before .before .level-at .result - c .before .before .before .before .before .before .before .loop .k - 1) _ (c .before .before .before .before .before .rings-before .ensures .0) refl (c .before .before .before .before .ring-row .ensures .1) (c .before .before .before .before .ring-row .ensures .0) (c .before .before .before .before .ring-row .ensures .2) _ (omega (arith, c .before .before .put-strip .kept)) (c .before .before .put-strip .ensures) _ (omega (arith, c .before .before .before .before .ring-row .ensures .1))
+    let le : tie.After-level-at Inv-loop μ-loop = search in
+    let lo : tie.In-loop Inv-loop μ-loop = search in
+    let l : tie.At-loop Inv-loop μ-loop = search in
+    turn-step (l .loop .inv) (lo .loop-test .taken) _ (le .level-at .result - l .loop .k - 1) _ (c .before .before .before .before .before .rings-before .ensures .0) refl (c .before .before .before .before .ring-row .ensures .1) (c .before .before .before .before .ring-row .ensures .0) (c .before .before .before .before .ring-row .ensures .2) _ (omega (arith, c .before .before .put-strip .kept)) (c .before .before .put-strip .ensures) _ (omega (arith, c .before .before .before .before .ring-row .ensures .1))
 
 pub put-side-spec : {M : Type 1} → statement M
 put-side-spec =

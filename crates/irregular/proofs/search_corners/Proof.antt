@@ -5,7 +5,7 @@ use Rattle.irregular.proofs.search_corners.Tie as tie
 
 count-corners-requires : tie.Need-count-corners-requires
 count-corners-requires c κs =
-    let s = c .before .before in
+    let s : tie.Start = search in
     countable (s .args .corners .now) (s .args .count) (s .pre .0) (s .pre .1) (s .pre .2)
 
 pub search-corners-spec : {M : Type 1} → Rattle.irregular.proofs.search_corners.Statement.statement M

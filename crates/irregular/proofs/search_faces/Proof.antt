@@ -22,12 +22,12 @@ from-start i = (i, search)
 
 loop-again : tie.Need-loop-again Inv-loop μ-loop
 loop-again c =
-    let l = c .before .before .before .loop in
-    let further : l .f < l .lowest = omega arith in (
+    let l : tie.At-loop Inv-loop μ-loop = search in
+    let further : l .loop .f < l .loop .lowest = omega arith in (
       omega arith,
       ⊎-elim
-          (λ w. rw (w .1) (scan-hit (l .inv .1) further (face-odd _ (l .f) (w .0 .taken))))
-          (λ w. rw (w .1) (scan-miss (l .inv .1) further (face-square _ (l .f) (w .0 .left))))
+          (λ w. rw (w .1) (scan-hit (l .loop .inv .1) further (face-odd _ (l .loop .f) (w .0 .taken))))
+          (λ w. rw (w .1) (scan-miss (l .loop .inv .1) further (face-square _ (l .loop .f) (w .0 .left))))
           (c .if1 .came),
     )
 

@@ -21,12 +21,12 @@ from-start i = (i, search)
 loop-again : tie.Need-loop-again Inv-loop μ-loop
 loop-again c =
     let s : tie.Start Inv-loop μ-loop = search in
-    let l = c .before .before .before .loop in
-    let count-is = s .pre .2 .count-is (l .u) in
-    let further : l .u < l .lowest = omega arith in
+    let l : tie.At-loop Inv-loop μ-loop = search in
+    let count-is = s .pre .2 .count-is (l .loop .u) in
+    let further : l .loop .u < l .loop .lowest = omega arith in
     ⊎-elim
-    (λ w. rw (w .1) (scan-hit (l .inv) further (vertex-odd _ (l .u) _ count-is (w .0 .taken))))
-    (λ w. rw (w .1) (scan-miss (l .inv) further (vertex-square _ (l .u) _ count-is (w .0 .left))))
+    (λ w. rw (w .1) (scan-hit (l .loop .inv) further (vertex-odd _ (l .loop .u) _ count-is (w .0 .taken))))
+    (λ w. rw (w .1) (scan-miss (l .loop .inv) further (vertex-square _ (l .loop .u) _ count-is (w .0 .left))))
     (c .if1 .came)
 
 pub search-vertices-spec : {M : Type 1} → Rattle.irregular.proofs.search_vertices.Statement.statement M

@@ -19,12 +19,12 @@ loop-holds c = (omega arith, refl, copied-none _ _)
 
 loop-again : tie.Need-loop-again Inv-loop μ-loop
 loop-again c =
-    let s : tie.Start Inv-loop μ-loop = search in let l = c .before .before .loop in
-    (search needs, simp length-set (l .inv .1), copied-step (now (s .args .table)) (l .links) (l .c) (omega arith) (l .inv .2))
+    let s : tie.Start Inv-loop μ-loop = search in let l : tie.At-loop Inv-loop μ-loop = search in
+    (search needs, simp length-set (l .loop .inv .1), copied-step (now (s .args .table)) (l .loop .links) (l .loop .c) (omega arith) (l .loop .inv .2))
 
 returns : tie.Need-returns Inv-loop μ-loop
 returns c =
-    let s = c .before .before in let l = c .before .loop in
+    let s : tie.Start Inv-loop μ-loop = search in let l = c .before .loop in
     copied-all (now (s .args .table)) (l .links) (l .c) (length (now (s .args .links))) (omega arith) (l .inv .2)
 
 pub copy-spec : {M : Type 1} → Rattle.linking.proofs.copy.Statement.statement M

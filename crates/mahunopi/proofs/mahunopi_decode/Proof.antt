@@ -5,13 +5,15 @@ use Rattle.mahunopi.proofs.mahunopi_decode.Tie as tie
 
 returns : tie.Need-returns
 returns c =
+    let de : tie.After-decode = search in
     let a = c .before .before .before .a .given in
-    let d = c .before .before .before .before .before .before .before .before .before .before .before .before .decode .ensures in
+    let d = de .decode .ensures in
     decode-refused _ _ _ _ _ _ _ _ _ _ _ _ _ d (a .0 .0) (a .0 .1 .0) _ _ (a .1) (c .tell .ensures)
 
 returns-2 : tie.Need-returns-2
 returns-2 c =
-    let d = c .before .before .before .before .before .before .before .before .before .decode .ensures in
+    let de : tie.After-decode = search in
+    let d = de .decode .ensures in
     decode-done _ _ _ _ _ _ _ _ _ _ _ _ _ d (c .enum-told .given .1)
 
 pub mahunopi-decode-spec : {M : Type 1} → Rattle.mahunopi.proofs.mahunopi_decode.Statement.statement M

@@ -6,21 +6,21 @@ use Rattle.mahunopi.proofs.mahunopi_floats.Tie as tie
 
 returns : tie.Need-returns
 returns c =
-    let k = c .before .before .before in
+    let k : tie.After-point = search in
     let s = k .before in
     let a = c .before .a .given in
     floats-near _ _ (k .point .result) (k .point .ensures) (now (s .args .floats)) (now (s .args .pairs)) (now (s .args .place)) (a .0 .0) (a .1)
 
 returns-2 : tie.Need-returns-2
 returns-2 c =
-    let k = c .before .before .before in
+    let k : tie.After-point = search in
     let s = k .before in
     let a = c .before .a2 .given in
     floats-far _ _ (k .point .result) (k .point .ensures) (now (s .args .floats)) (now (s .args .pairs)) (now (s .args .place)) (a .0 .0) (a .0 .1 .0) (a .1)
 
 returns-3 : tie.Need-returns-3
 returns-3 c =
-    let k = c .before .before .before .before .before in
+    let k : tie.After-point = search in
     let s = k .before in
     let a = c .before .before .before .a3 .given in
     floats-refused _ _ (k .point .result) (k .point .ensures) (now (s .args .floats)) (now (s .args .pairs)) (now (s .args .place)) (a .0 .0) (a .0 .1 .0) _ _

@@ -7,7 +7,7 @@ use Rattle.mahunopi.proofs.mahunopi_irregular.Tie as tie
 
 returns : tie.Need-returns
 returns c =
-    let k = c .before .before .before in
+    let k : tie.After-search = search in
     let s : tie.Start = search in
     let a = c .before .a .given in
     irregular-face _ (k .search .result) (k .search .ensures) (finding (now (s .args .kind)) (now (s .args .number)) (now (s .args .read)))
@@ -15,7 +15,7 @@ returns c =
 
 returns-2 : tie.Need-returns-2
 returns-2 c =
-    let k = c .before .before .before in
+    let k : tie.After-search = search in
     let s : tie.Start = search in
     let a = c .before .a2 .given in
     irregular-vertex _ (k .search .result) (k .search .ensures) (finding (now (s .args .kind)) (now (s .args .number)) (now (s .args .read)))
@@ -23,7 +23,7 @@ returns-2 c =
 
 returns-3 : tie.Need-returns-3
 returns-3 c =
-    let k = c .before .before .before in
+    let k : tie.After-search = search in
     let s : tie.Start = search in
     let a = c .before .a3 .given in
     irregular-none _ (k .search .result) (k .search .ensures) (finding (now (s .args .kind)) (now (s .args .number)) (now (s .args .read)))
@@ -31,7 +31,7 @@ returns-3 c =
 
 returns-4 : tie.Need-returns-4
 returns-4 c =
-    let k = c .before .before .before .before .before in
+    let k : tie.After-search = search in
     let s : tie.Start = search in
     let a = c .before .before .before .a4 .given in
     irregular-refused _ (k .search .result) (k .search .ensures) (finding (now (s .args .kind)) (now (s .args .number)) (now (s .args .read)))

@@ -10,26 +10,27 @@ use Rattle.mahunopi.proofs.mahunopi_merge.Tie as tie
 
 returns : tie.Need-returns
 returns c =
+    let re : tie.After-read2 = search in
     let s : tie.Start = search in
-    let r = c .before .before .before .before .before .merge in
+    let r : tie.After-merge = search in
     let a = c .before .before .before .a .given in
     let old = now (s .args .page) in
     let other = now (s .args .other) in
-    let first = subst (λ (P : Page). MergedTo P (c .before .before .before .before .before .before .read2 .result) (r .result)) (c .before .before
-    .before .before .before .before .before .read .ensures) (r .ensures) in
-    merge-refused other old (r .result) (now (s .args .place))
-    (subst (λ (Q : Page). MergedTo (pageIn old) Q (r .result)) (c .before .before .before .before .before .before .read2 .ensures) first) (a .0 .0)
+    let first = subst (λ (P : Page). MergedTo P (re .read2 .result) (r .merge .result)) (c .before .before
+    .before .before .before .before .before .read .ensures) (r .merge .ensures) in
+    merge-refused other old (r .merge .result) (now (s .args .place))
+    (subst (λ (Q : Page). MergedTo (pageIn old) Q (r .merge .result)) (re .read2 .ensures) first) (a .0 .0)
     (a .0 .1 .0) _ _ (a .1) (c .tell .ensures)
 
 returns-2 : tie.Need-returns-2
 returns-2 c =
     let s : tie.Start = search in
-    let r = c .before .before .before .before .merge in
+    let r : tie.After-merge = search in
     let old = now (s .args .page) in
     let other = now (s .args .other) in
-    let first = subst (λ (P : Page). MergedTo P (c .before .before .before .before .before .read2 .result) (r .result)) (c .before .before .before
-    .before .before .before .read .ensures) (r .ensures) in
-    merge-done other old (r .result) (now (s .args .place)) (subst (λ (Q : Page). MergedTo (pageIn old) Q (r .result)) (c .before .before .before
+    let first = subst (λ (P : Page). MergedTo P (c .before .before .before .before .before .read2 .result) (r .merge .result)) (c .before .before .before
+    .before .before .before .read .ensures) (r .merge .ensures) in
+    merge-done other old (r .merge .result) (now (s .args .place)) (subst (λ (Q : Page). MergedTo (pageIn old) Q (r .merge .result)) (c .before .before .before
     .before .before .read2 .ensures) first)
     (c .numbers .result) (c .before .before .enum-told .given .1) (c .numbers .ensures)
 

@@ -5,13 +5,15 @@ use Rattle.mahunopi.proofs.mahunopi_off.Tie as tie
 
 returns : tie.Need-returns
 returns c =
+    let r : tie.After-read = search in
     let a = c .before .before .before .a .given in
-    let d = c .before .before .before .before .before .before .before .before .before .before .before .before .read .ensures in
+    let d = r .read .ensures in
     off-refused _ _ _ _ _ _ d (a .0 .0) (a .0 .1 .0) _ _ (a .1) (c .tell .ensures)
 
 returns-2 : tie.Need-returns-2
 returns-2 c =
-    let d = c .before .before .before .before .before .before .before .before .before .read .ensures in
+    let r : tie.After-read = search in
+    let d = r .read .ensures in
     off-done _ _ _ _ _ _ d (c .enum-told .given .1)
 
 pub mahunopi-off-spec : {M : Type 1} → Rattle.mahunopi.proofs.mahunopi_off.Statement.statement M

@@ -9,21 +9,22 @@ use Rattle.mahunopi.proofs.mahunopi_report.Tie as tie
 
 returns : tie.Need-returns
 returns c =
+    let re : tie.After-read = search in
     let s : tie.Start = search in
-    let r = c .before .before .before .before .before .report in
+    let r : tie.After-report = search in
     let a = c .before .before .before .a .given in
     let F = offered (now (s .args .bytes)) (s .args .length) in
-    report-refused F (now (s .args .page)) (r .result) (now (s .args .place))
-    (subst (λ (P : Page). ReportedTo P F (r .result)) (c .before .before .before .before .before .before .read .ensures) (r .ensures)) (a .0 .0) (a
+    report-refused F (now (s .args .page)) (r .report .result) (now (s .args .place))
+    (subst (λ (P : Page). ReportedTo P F (r .report .result)) (re .read .ensures) (r .report .ensures)) (a .0 .0) (a
     .0 .1 .0) _ _ (a .1) (c .tell .ensures)
 
 returns-2 : tie.Need-returns-2
 returns-2 c =
     let s : tie.Start = search in
-    let r = c .before .before .before .before .report in
+    let r : tie.After-report = search in
     let F = offered (now (s .args .bytes)) (s .args .length) in
-    report-done F (now (s .args .page)) (r .result) (now (s .args .place))
-    (subst (λ (P : Page). ReportedTo P F (r .result)) (c .before .before .before .before .before .read .ensures) (r .ensures)) (c .numbers .result)
+    report-done F (now (s .args .page)) (r .report .result) (now (s .args .place))
+    (subst (λ (P : Page). ReportedTo P F (r .report .result)) (c .before .before .before .before .before .read .ensures) (r .report .ensures)) (c .numbers .result)
     (c .before .before .enum-told .given .1)
     (c .numbers .ensures)
 

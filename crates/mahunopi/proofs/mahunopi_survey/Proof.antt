@@ -13,7 +13,7 @@ returns c =
 
 returns-2 : tie.Need-returns-2
 returns-2 c =
-    let t = c .before .before in
+    let t : tie.Then1 = search in
     survey-no-room _ _ _ _ _ (t .before .before .before .before .survey .ensures) (t .before .before .enum-told .given .1) _ _
     (sym (t .before .too-short .ensures) ∙ t .if1 .taken) (c .tell2 .ensures)
 
@@ -30,7 +30,7 @@ tell-counts-requires c κs =
 
 returns-3 : tie.Need-returns-3
 returns-3 c =
-    let s = c .before .before .before .before .before .before .before .before .before .before .before in
+    let s : tie.Else1 = search in
     survey-done _ _ _ _ _ (s .before .before .before .before .survey .ensures) (s .before .before .enum-told .given .1)
     (sym (s .before .too-short .ensures) ∙ s .if1 .left) _ (c .before .before .before .before .tell-counts .ensures)
 

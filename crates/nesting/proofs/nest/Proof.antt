@@ -11,10 +11,10 @@ use Rattle.nesting.proofs.nest.Tie as tie
 
 returns : tie.Need-returns
 returns c =
-    let a = c .before .before .before .check-lengths in
+    let a : tie.After-check-lengths = search in
     let s : tie.Start = search in
     let r = c .before .a21 .given in
-    nest-refused (now (s .args .holders)) (now (s .args .listing)) (r .0 .0) (r .0 .1 .0) (stop (a .result) (a .ensures) (r .0 .0) (r .0 .1 .0) (r .1) _)
+    nest-refused (now (s .args .holders)) (now (s .args .listing)) (r .0 .0) (r .0 .1 .0) (stop (a .check-lengths .result) (a .check-lengths .ensures) (r .0 .0) (r .0 .1 .0) (r .1) _)
 
 -- past check 21, and past check 22
 past21 : (t : tie.After-enum-told) → let s : tie.Start = search in
@@ -28,10 +28,10 @@ past22 t = let a : tie.After-check-holders = search in passed (a .check-holders 
 returns-2 : tie.Need-returns-2
 returns-2 c =
     let s : tie.Start = search in
-    let a = c .before .before .before .check-holders in
+    let a : tie.After-check-holders = search in
     let r = c .before .a22 .given in
     nest-refused (now (s .args .holders)) (now (s .args .listing)) (r .0 .0) (r .0 .1 .0)
-    (past (past21 search) _ (stop (a .result) (a .ensures) (r .0 .0) (r .0 .1 .0) (r .1) _))
+    (past (past21 search) _ (stop (a .check-holders .result) (a .check-holders .ensures) (r .0 .0) (r .0 .1 .0) (r .1) _))
 
 list-requires : tie.Need-list-requires
 list-requires c κs =

@@ -6,7 +6,7 @@ use Rattle.numbering.proofs.edge_owner.Statement.{statement}
 use Rattle.numbering.proofs.edge_owner.Tie as tie
 
 previous-requires : tie.Need-previous-requires
-previous-requires c κs = let p = c .before .before .pre in row-in (p .mesh) _ _ (here-link (p .mesh) _ _ (p .here) _ (c .linked .ensures)) 1 (lit< tt)
+previous-requires c κs = let p : tie.Start = search in row-in (p .pre .mesh) _ _ (here-link (p .pre .mesh) _ _ (p .pre .here) _ (c .linked .ensures)) 1 (lit< tt)
 
 returns : tie.Need-returns
 returns c = λ M h. edge-this M _ _ _ _ h (c .before .before .linked .ensures) (c .before .previous .ensures) (c .if1 .taken)

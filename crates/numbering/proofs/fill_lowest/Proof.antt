@@ -15,24 +15,24 @@ abbrev μ-loop : tie.MeasureT-loop
 μ-loop corners low₀ c₀ low c = c
 
 mul-low : tie.Need-mul-low Inv-loop μ-loop
-mul-low c = let l = c .before .before .before .loop in let s = c .before .before .before .before .before .before in omega (arith, c .wide .ensures, s .pre .0 (l .c - 1) (omega arith), l .inv .1, s .good .1 .0 .1)
+mul-low c = let l : tie.At-loop Inv-loop μ-loop = search in let s = c .before .before .before .before .before .before in omega (arith, c .wide .ensures, s .pre .0 (l .loop .c - 1) (omega arith), l .loop .inv .1, s .good .1 .0 .1)
 
 slice-write-low : tie.Need-slice-write-low Inv-loop μ-loop
-slice-write-low c = let l = c .before .before .before .loop in let s = c .before .before .before .before .before .before in omega (arith, c .wide .ensures, s .pre .0 (l .c - 1) (omega arith), l .inv .1)
+slice-write-low c = let l : tie.At-loop Inv-loop μ-loop = search in let s : tie.Start Inv-loop μ-loop = search in omega (arith, c .wide .ensures, s .pre .0 (l .loop .c - 1) (omega arith), l .loop .inv .1)
 
 loop-again : tie.Need-loop-again Inv-loop μ-loop
 loop-again c =
-    let l = c .before .before .before .loop in let s = c .before .before .before .before .before .before in (
+    let l : tie.At-loop Inv-loop μ-loop = search in let s : tie.Start Inv-loop μ-loop = search in (
       omega arith,
-      simp length-set (l .inv .1),
-      low-step (s .args .corners .now) (l .low) (l .c - 1) (c .wide .result) (c .wide .ensures)
-          (omega (arith, c .wide .ensures, s .pre .0 (l .c - 1) (omega arith), l .inv .1))
-          (λ e a b. subst (λ (x : ℕ). Low (s .args .corners .now) (l .low) x e) (let z : l .c ≡ l .c - 1 + 1 = omega arith in z) (l .inv .2 e (omega arith) b)),
+      simp length-set (l .loop .inv .1),
+      low-step (s .args .corners .now) (l .loop .low) (l .loop .c - 1) (c .wide .result) (c .wide .ensures)
+          (omega (arith, c .wide .ensures, s .pre .0 (l .loop .c - 1) (omega arith), l .loop .inv .1))
+          (λ e a b. subst (λ (x : ℕ). Low (s .args .corners .now) (l .loop .low) x e) (let z : l .loop .c ≡ l .loop .c - 1 + 1 = omega arith in z) (l .loop .inv .2 e (omega arith) b)),
     )
 
 returns : tie.Need-returns Inv-loop μ-loop
 returns c =
-    let l = c .before .loop in let s = c .before .before .before .before in
+    let l = c .before .loop in let s : tie.Start Inv-loop μ-loop = search in
     lows-of (s .args .corners .now) (l .low) (λ e h. omega (arith, s .pre .0 e h, l .inv .1))
     (λ e a b. subst (λ (x : ℕ). Low (s .args .corners .now) (l .low) x e) (let z : l .c ≡ 0 = omega arith in z) (l .inv .2 e (omega arith) b))
 

@@ -15,40 +15,41 @@ wide s = wide-of (s .pre .0) (s .args .c) (s .pre .1)
 
 returns : tie.Need-returns
 returns c =
-    let s = c .before .before .before .before .before in (
+    let s : tie.Start = search in (
       omega arith,
       λ M o. ap (groupStart M (s .args .levels .now) (s .args .c)) (c .if1 .taken) ∙ offset0 M o (s .args .c) (s .pre .1),
     )
 
 own-vertex-requires : tie.Need-own-vertex-requires
-own-vertex-requires c κs = let s = c .before .before .before .before .before in (s .pre .0 .is .lows, given-corner (s .pre .0) (s .args .c) (s .pre .1))
+own-vertex-requires c κs = let s : tie.Start = search in (s .pre .0 .is .lows, given-corner (s .pre .0) (s .args .c) (s .pre .1))
 
 returns-2 : tie.Need-returns-2
 returns-2 c =
-    let s = c .before .before .before .before .before .before .before in (
+    let s : tie.Start = search in (
       omega arith,
       λ M o. ap (groupStart M (s .args .levels .now) (s .args .c)) (c .if2 .taken) ∙ offset1 M o (s .args .c) (s .pre .1) _ (c .before .own-vertex .ensures .1),
     )
 
 returns-3 : tie.Need-returns-3
 returns-3 c =
-    let s = c .before .before .before .before .before .before .before .before .before in (
+    let s : tie.Start = search in (
       omega arith,
       λ M o. ap (groupStart M (s .args .levels .now) (s .args .c)) (c .if3 .taken) ∙ offset2 M o (s .args .c) (s .pre .1) _ (c .before .before .before .own-vertex .ensures .1) _ (c .before .own-edge .ensures .1 M (here-of M o (s .args .c) (s .pre .1))),
     )
 
 returns-4 : tie.Need-returns-4
 returns-4 c =
-    let s = c .before .before .before .before .before .before .before .before .before .before .before in (
+    let s : tie.Start = search in (
       omega arith,
       λ M o. ap (groupStart M (s .args .levels .now) (s .args .c)) (c .if4 .taken) ∙ offset3 M o (s .args .c) (s .pre .1) _ (c .before .before .before .before .before .own-vertex .ensures .1) _ (c .before .before .before .own-edge .ensures .1 M (here-of M o (s .args .c) (s .pre .1))) _ (c .before .own-face .ensures .1 M (here-of M o (s .args .c) (s .pre .1))),
     )
 
 returns-5 : tie.Need-returns-5
 returns-5 c =
-    let s = c .before .before .before .before .before .before .before .before .before .before .before .before .before in (
+    let ow : tie.After-own-vertex = search in
+    let s : tie.Start = search in (
       omega arith,
-      λ M o. ap (groupStart M (s .args .levels .now) (s .args .c)) (c .if5 .taken) ∙ offset4 M o (s .args .c) (s .pre .1) _ (c .before .before .before .before .before .before .before .own-vertex .ensures .1) _ (c .before .before .before .before .before .own-edge .ensures .1 M (here-of M o (s .args .c) (s .pre .1))) _ (c .before .before .before .own-face .ensures .1 M (here-of M o (s .args .c) (s .pre .1))) _ (c .before .segments-at .ensures .2 M (here-of M o (s .args .c) (s .pre .1))),
+      λ M o. ap (groupStart M (s .args .levels .now) (s .args .c)) (c .if5 .taken) ∙ offset4 M o (s .args .c) (s .pre .1) _ (ow .own-vertex .ensures .1) _ (c .before .before .before .before .before .own-edge .ensures .1 M (here-of M o (s .args .c) (s .pre .1))) _ (c .before .before .before .own-face .ensures .1 M (here-of M o (s .args .c) (s .pre .1))) _ (c .before .segments-at .ensures .2 M (here-of M o (s .args .c) (s .pre .1))),
     )
 
 returns-6 : tie.Need-returns-6

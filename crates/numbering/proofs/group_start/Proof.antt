@@ -7,14 +7,14 @@ use Rattle.numbering.proofs.group_start.Statement.{statement}
 use Rattle.numbering.proofs.group_start.Tie as tie
 
 group-offset-requires : tie.Need-group-offset-requires
-group-offset-requires c κs = let s = c .before .before .before .before .before in (given-of (s .pre .0), s .pre .1, s .pre .2)
+group-offset-requires c κs = let s : tie.Start = search in (given-of (s .pre .0), s .pre .1, s .pre .2)
 
 add-result : tie.Need-add-result
-add-result c = let s = c .before .before .before .before .before .before .before in omega (arith, start-few (s .pre .0 .mesh) (s .pre .0 .is) (s .args .c) (s .pre .1), c .before .group-offset .ensures .0)
+add-result c = let s : tie.Start = search in omega (arith, start-few (s .pre .0 .mesh) (s .pre .0 .is) (s .args .c) (s .pre .1), c .before .group-offset .ensures .0)
 
 returns : tie.Need-returns
 returns c =
-    let s = c .before .before .before .before .before .before .before in (
+    let s : tie.Start = search in (
       omega (arith, start-few (s .pre .0 .mesh) (s .pre .0 .is) (s .args .c) (s .pre .1), c .before .group-offset .ensures .0),
       λ M t. group-at M t (s .args .c) (s .pre .1) (s .args .g) _ _ (c .before .group-offset .ensures .1 M (t .of)) refl,
     )

@@ -23,13 +23,13 @@ number-requires c κs = own _ _ _ (c .before .loop .inv .1 .before)
 loop-again : tie.Need-loop-again Inv-loop μ-loop
 loop-again c =
     let s : tie.Start Inv-loop μ-loop = search in
-    let l = c .before .before .before .before .before .before .before .before .before .loop in
-    let n = c .before .before .before .before .before .before .before .number in
+    let l : tie.At-loop Inv-loop μ-loop = search in
+    let n : tie.After-number Inv-loop μ-loop = search in
     let ok = not-false _ (c .before .before .before .before .before .if1 .left) in
-    let z = toZ-ofZ w32 (n .result .value) (record { sfits = c .before .before .before .struct-told .given .1 .0 .1 }) in (
+    let z = toZ-ofZ w32 (n .number .result .value) (record { sfits = c .before .before .before .struct-told .given .1 .0 .1 }) in (
       search needs,
-      coordinate-step _ (s .args .c .word) (s .args .count) (s .args .list .now) (l .list) (l .i) (l .next) (l .inv .1) (search needs)
-          (n .result) (n .ensures) ok _ z _
+      coordinate-step _ (s .args .c .word) (s .args .count) (s .args .list .now) (l .loop .list) (l .loop .i) (l .loop .next) (l .loop .inv .1) (search needs)
+          (n .number .result) (n .number .ensures) ok _ z _
           (c .before .before .put-coordinate .ensures),
     )
 

@@ -8,11 +8,12 @@ use Rattle.off_lists.proofs.read_face.Tie as tie
 
 read-corners-requires : tie.Need-read-corners-requires
 read-corners-requires c κs =
+    let i : tie.Else1 = search in
     let s : tie.Start = search in
-    let n = c .before .before .before .before .before .before .before .before .before .read-natural in (
-      own _ _ _ (n .ensures .next (not-false _ (c .before .before .before .before .before .before .before .if1 .left))),
+    let n : tie.After-read-natural = search in (
+      own _ _ _ (n .read-natural .ensures .next (not-false _ (i .if1 .left))),
       omega
-          (arith, s .pre .1, n .ensures .within),
+          (arith, s .pre .1, n .read-natural .ensures .within),
     )
 
 pub read-face-spec : {M : Type 1} → Rattle.off_lists.proofs.read_face.Statement.statement M

@@ -9,9 +9,9 @@ use Rattle.off_lists.proofs.read_natural.Tie as tie
 
 cast-size : tie.Need-cast-size
 cast-size c =
-    let m = c .before .before .before .before .number in
-    let z = toZ-ofZ w32 (m .result .value) (record { sfits = c .before .struct-told .given .1 .0 .1 }) in
-    rw z (from-zero (m .result .value) (record { sfits = c .before .struct-told .given .1 .0 .1 }) (rw z at (c .if2 .left)))
+    let m : tie.After-number = search in
+    let z = toZ-ofZ w32 (m .number .result .value) (record { sfits = c .before .struct-told .given .1 .0 .1 }) in
+    rw z (from-zero (m .number .result .value) (record { sfits = c .before .struct-told .given .1 .0 .1 }) (rw z at (c .if2 .left)))
 
 pub read-natural-spec : {M : Type 1} → Rattle.off_lists.proofs.read_natural.Statement.statement M
 read-natural-spec =

@@ -17,13 +17,13 @@ abbrev μ-loop : tie.MeasureT-loop
 
 returns : tie.Need-returns Inv-loop μ-loop
 returns c =
-    let l = c .before .before .before .loop in
-    (l .inv .0, l .inv .1, l .inv .2 ∙ comment-feed _ (l .at) (search needs) (omega (arith, c .if1 .taken)))
+    let l : tie.At-loop Inv-loop μ-loop = search in
+    (l .loop .inv .0, l .loop .inv .1, l .loop .inv .2 ∙ comment-feed _ (l .loop .at) (search needs) (omega (arith, c .if1 .taken)))
 
 loop-again : tie.Need-loop-again Inv-loop μ-loop
 loop-again c =
-    let l = c .before .before .before .loop in
-    (omega arith, search needs, l .inv .2 ∙ comment-next _ (l .at) (search needs) (ne-eqb _ _ (c .if1 .left)))
+    let l : tie.At-loop Inv-loop μ-loop = search in
+    (omega arith, search needs, l .loop .inv .2 ∙ comment-next _ (l .loop .at) (search needs) (ne-eqb _ _ (c .if1 .left)))
 
 returns-2 : tie.Need-returns-2 Inv-loop μ-loop
 returns-2 c =

@@ -12,10 +12,10 @@ to-word-requires c κs = own _ _ _ (c .start .ensures)
 
 returns : tie.Need-returns
 returns c =
-    let e = c .before .before .before .word-end in
-    let t = c .before .before .before .before .to-word in
-    let a = same-at _ _ _ _ (c .before .before .before .before .before .start .ensures .number) (t .ensures) in
-    let w = word-here _ _ (t .result) (e .result) a (e .ensures) in
+    let e : tie.After-word-end = search in
+    let t : tie.After-to-word = search in
+    let a = same-at _ _ _ _ (c .before .before .before .before .before .start .ensures .number) (t .to-word .ensures) in
+    let w = word-here _ _ (t .to-word .result) (e .word-end .result) a (e .word-end .ensures) in
     record {
       ok = sym (ap isOff w ∙ sym (c .before .is-off .ensures) ∙ not-true _ (c .if1 .taken));
       next = λ z. absurd (clash z refl);

@@ -20,16 +20,17 @@ loop-holds c = (omega arith, omega arith, λ j a b. absurd (omega arith))
 
 returns : tie.Need-returns Inv-loop μ-loop
 returns c =
-    let l = c .before .before .before .before .loop in
-    record { forward = l .inv .0; inside = l .inv .1; whole = l .inv .2; stops = λ h. sym (c .before .ends-word .ensures) ∙ c .if1 .taken }
+    let l : tie.At-loop Inv-loop μ-loop = search in
+    record { forward = l .loop .inv .0; inside = l .loop .inv .1; whole = l .loop .inv .2; stops = λ h. sym (c .before .ends-word .ensures) ∙ c .if1 .taken }
 
 loop-again : tie.Need-loop-again Inv-loop μ-loop
 loop-again c =
-    let l = c .before .before .before .before .loop in (
+    let s : tie.Start Inv-loop μ-loop = search in
+    let l : tie.At-loop Inv-loop μ-loop = search in (
       omega arith,
       search needs,
-      run-on (c .before .before .before .before .before .before .args .text .now)
-          (c .before .before .before .before .before .before .args .from) (l .at) (l .inv .2) (sym (c .before .ends-word .ensures) ∙ c .if1 .left),
+      run-on (s .args .text .now)
+          (s .args .from) (l .loop .at) (l .loop .inv .2) (sym (c .before .ends-word .ensures) ∙ c .if1 .left),
     )
 
 returns-2 : tie.Need-returns-2 Inv-loop μ-loop

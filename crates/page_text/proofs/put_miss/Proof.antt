@@ -8,7 +8,7 @@ use Rattle.page_text.proofs.put_miss.Tie as tie
 
 returns : tie.Need-returns
 returns c =
-    let at1 = c .before .before .before .before .before .before .before in
+    let at1 : tie.After-put-ticks = search in
     let t = at1 .put-ticks in
     let at2 = at1 .before .before .before .before in
     let v = at2 .put-word2 in

@@ -10,7 +10,7 @@ use Rattle.page_text.proofs.put_ticks.Tie as tie
 
 returns : tie.Need-returns
 returns c =
-    let at1 = c .before .before .before .before .before .before in
+    let at1 : tie.After-put-digit2 = search in
     let e = at1 .put-digit2 in
     let at2 = at1 .before .before .before .before in
     let d = at2 .put-digit in

@@ -5,26 +5,26 @@ use borrow.Author.Needs.{needs}
 use Rattle.pages.proofs.check_merge.Tie as tie
 
 returns : tie.Need-returns
-returns c = let a = c .before .before .args in many-both (a .page) (a .other) (search needs)
+returns c = let a : tie.Start = search in many-both (a .args .page) (a .args .other) (search needs)
 
 returns-2 : tie.Need-returns-2
-returns-2 c = let a = c .before .before .before .before .args in many-both (a .page) (a .other) (search needs)
+returns-2 c = let a : tie.Start = search in many-both (a .args .page) (a .args .other) (search needs)
 
 returns-4 : tie.Need-returns-4
 returns-4 c =
-    let a = c .before .before .before .before .before .before .before .before .before .args in
-    large-first (a .page) (a .other) (search needs) (sym (c .if4 .taken) ∙ c .before .is-above .ensures)
+    let a : tie.Start = search in
+    large-first (a .args .page) (a .args .other) (search needs) (sym (c .if4 .taken) ∙ c .before .is-above .ensures)
 
 returns-5 : tie.Need-returns-5
 returns-5 c =
-    let a = c .before .before .before .before .before .before .before .before .before .before .before .args in
-    large-second (a .page) (a .other) (search needs) (sym (c .before .before .if4 .left) ∙ c .before .before .before .is-above .ensures)
+    let a : tie.Start = search in
+    large-second (a .args .page) (a .args .other) (search needs) (sym (c .before .before .if4 .left) ∙ c .before .before .before .is-above .ensures)
     (sym (c .if5 .taken) ∙ c .before .is-above2 .ensures)
 
 returns-6 : tie.Need-returns-6
 returns-6 c =
-    let a = c .before .before .before .before .before .before .before .before .before .before .before .args in
-    both-pass (a .page) (a .other) (search needs) (sym (c .before .before .if4 .left) ∙ c .before .before .before .is-above .ensures)
+    let a : tie.Start = search in
+    both-pass (a .args .page) (a .args .other) (search needs) (sym (c .before .before .if4 .left) ∙ c .before .before .before .is-above .ensures)
     (sym (c .if5 .left) ∙ c .before .is-above2 .ensures)
 
 pub check-merge-spec : {M : Type 1} → Rattle.pages.proofs.check_merge.Statement.statement M

@@ -8,17 +8,21 @@ returns : tie.Need-returns
 returns c = above-meshes (c .before .before .before .before .args .page) (search needs)
 
 returns-2 : tie.Need-returns-2
-returns-2 c = above-corners (c .before .before .before .before .before .before .args .page) (search needs) (search needs)
+returns-2 c =
+    let s : tie.Start = search in
+    above-corners (s .args .page) (search needs) (search needs)
 
 returns-4 : tie.Need-returns-4
 returns-4 c =
-    above-refusals (c .before .before .before .before .before .before .before .before .before .before .before .args .page) (search needs) (search
+    let s : tie.Start = search in
+    above-refusals (s .args .page) (search needs) (search
     needs) (search needs) (sym (c .if4 .taken) ∙ c .before .some-above .ensures)
 
 returns-5 : tie.Need-returns-5
 returns-5 c =
+    let s : tie.Start = search in
     c .some-above2 .ensures
-    ∙ above-misses (c .before .before .before .before .before .before .before .before .before .before .before .before .before .args .page) (search
+    ∙ above-misses (s .args .page) (search
     needs) (search needs) (search needs)
     (sym (c .before .before .if4 .left) ∙ c .before .before .before .some-above .ensures)
 

@@ -8,8 +8,8 @@ use Rattle.pages.proofs.merge.Tie as tie
 
 returns : tie.Need-returns
 returns c =
-    let a = c .before .before .before .before .args in
-    refused-merge (a .page) (a .other) _ _ (sym (ap stated (c .before .a .given .1)) ∙ c .before .before .before .check-merge .ensures)
+    let a : tie.Start = search in
+    refused-merge (a .args .page) (a .args .other) _ _ (sym (ap stated (c .before .a .given .1)) ∙ c .before .before .before .check-merge .ensures)
 
 sum-pages-requires : tie.Need-sum-pages-requires
 sum-pages-requires c κs = passed (c .before .before .check-merge .result) (c .before .before .check-merge .ensures) (c .enum-told .given .1)

@@ -22,10 +22,10 @@ add-new c = omega (arith, c .before .before .before .pre (c .before .before .loo
 
 loop-again : tie.Need-loop-again Inv-loop μ-loop
 loop-again c =
-    let l = c .before .before .loop in (
+    let l : tie.At-loop Inv-loop μ-loop = search in (
       search needs,
-      filled-step _ (replicate lines 0) (l .l) (l .new) _ 0 (search needs) (l .inv .1) (ap (λ (n : ℕ). getD (c .before .before .before
-          .args .t1) (l .l) 0 + n) (c .under .ensures .0)),
+      filled-step _ (replicate lines 0) (l .loop .l) (l .loop .new) _ 0 (search needs) (l .loop .inv .1) (ap (λ (n : ℕ). getD (c .before .before .before
+          .args .t1) (l .loop .l) 0 + n) (c .under .ensures .0)),
     )
 
 returns : tie.Need-returns Inv-loop μ-loop

@@ -16,13 +16,13 @@ abbrev μ-loop : tie.MeasureT-loop
 
 returns : tie.Need-returns Inv-loop μ-loop
 returns c =
-    let l = c .before .before .before .loop in
-    sym (l .inv .1 ∙ some-here (c .before .before .before .before .args .numbers .now) (l .i) (search needs) (search needs))
+    let l : tie.At-loop Inv-loop μ-loop = search in
+    sym (l .loop .inv .1 ∙ some-here (c .before .before .before .before .args .numbers .now) (l .loop .i) (search needs) (search needs))
 
 loop-again : tie.Need-loop-again Inv-loop μ-loop
 loop-again c =
-    let l = c .before .before .before .loop in
-    (search needs, l .inv .1 ∙ some-later (c .before .before .before .before .args .numbers .now) (l .i) (search needs) (search needs))
+    let l : tie.At-loop Inv-loop μ-loop = search in
+    (search needs, l .loop .inv .1 ∙ some-later (c .before .before .before .before .args .numbers .now) (l .loop .i) (search needs) (search needs))
 
 returns-2 : tie.Need-returns-2 Inv-loop μ-loop
 returns-2 c = let l = c .before .loop in sym (l .inv .1 ∙ some-end (c .before .before .args .numbers .now) (l .i) (omega arith))

@@ -9,13 +9,13 @@ use Rattle.pages.proofs.under.Tie as tie
 
 returns : tie.Need-returns
 returns c =
-    let s = c .before .before in
+    let s : tie.Start = search in
     let e = sym (c .before .number-of .ensures) ∙ c .if1 .taken in
     (rw (eq-eqb (getD lineNumbers (s .args .l) 0) (s .args .number) e), omega arith)
 
 returns-2 : tie.Need-returns-2
 returns-2 c =
-    let s = c .before .before in
+    let s : tie.Start = search in
     let n : getD lineNumbers (s .args .l) 0 ≡ s .args .number → ⊥ = λ e. c .if1 .left (c .before .number-of .ensures ∙ e) in
     (rw (ne-eqb (getD lineNumbers (s .args .l) 0) (s .args .number) n), omega arith)
 

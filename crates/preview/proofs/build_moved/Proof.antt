@@ -17,12 +17,12 @@ slice-aggregate-build c =
 returns : tie.Need-returns
 returns c =
     let s : tie.Start = search in
-    let k = c .before .before .before .before .before .copy-moved in
+    let k : tie.After-copy-moved = search in
     subst
     (λ (l : List ℤ). Built (meshOf l (now (s .args .sides)) (now (s .args .corners)) (now (s .args .sharpness))) (now (s .args .links))
     (s .args .range .first) (s .args .range .count)
     (now (s .args .out)) (c .before .build .result) (c .before .build .last .1 .1 .1 .1 .1 .1 .1 .0))
-    (moved-back (now (s .args .coordinates)) (s .args .to) (now (s .args .copy)) (k .last .1 .1 .0) (k .ensures)) (c .before .build .ensures)
+    (moved-back (now (s .args .coordinates)) (s .args .to) (now (s .args .copy)) (k .copy-moved .last .1 .1 .0) (k .copy-moved .ensures)) (c .before .build .ensures)
 
 pub build-moved-spec : {M : Type 1} → Rattle.preview.proofs.build_moved.Statement.statement M
 build-moved-spec =

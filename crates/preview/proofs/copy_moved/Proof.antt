@@ -14,13 +14,15 @@ use Rattle.preview.proofs.copy_moved.Tie as tie
 
 slice-set-from-y : tie.Need-slice-set-from-y
 slice-set-from-y c =
-    let m = c .before .before .before .before .before .before .before .args .to in
+    let s : tie.Start = search in
+    let m = s .args .to in
     let h : 3 * m .vertex + 1 < length (c .before .before .before .before .before .copy-words .last .1 .0) = search needs in
     simp length-set h
 
 slice-set-from-z : tie.Need-slice-set-from-z
 slice-set-from-z c =
-    let m = c .before .before .before .before .before .before .before .args .to in
+    let s : tie.Start = search in
+    let m = s .args .to in
     let h : 3 * m .vertex + 2 < length (c .before .before .before .before .before .copy-words .last .1 .0) = search needs in
     simp length-set h
 

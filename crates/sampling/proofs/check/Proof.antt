@@ -21,10 +21,10 @@ module _ (t : tie.After-enum-told) where
 returns : tie.Need-returns
 returns c =
     let a = c .before .a .given in
-    let k = c .before .before .before .check in
-    let s = c .before .before .before .before in
+    let k : tie.After-check = search in
+    let s : tie.Start = search in
     net-refused (now (s .args .numbers)) (s .args .side) (weights (s .args .i) (s .args .j) (s .args .k) (s .args .n)) (a .0 .0) (a .0 .1 .0)
-    (sym (sym (ap stated (a .1)) ∙ k .ensures ∙ first-point (now (s .args .numbers))))
+    (sym (sym (ap stated (a .1)) ∙ k .check .ensures ∙ first-point (now (s .args .numbers))))
 
 returns-2 : tie.Need-returns-2
 returns-2 c =

@@ -17,17 +17,17 @@ returns c =
 
 returns-2 : tie.Need-returns-2
 returns-2 c =
-    let s = c .before .before .before in
+    let s : tie.Start = search in
     parts-differ (s .args .i) (s .args .j) (s .args .k) (s .args .n) (λ e. omega arith)
 
 returns-3 : tie.Need-returns-3
 returns-3 c =
-    let s = c .before .before .before .before in
+    let s : tie.Start = search in
     parts-differ (s .args .i) (s .args .j) (s .args .k) (s .args .n) (λ e. omega arith)
 
 returns-4 : tie.Need-returns-4
 returns-4 c =
-    let s = c .before .before .before .before in
+    let s : tie.Start = search in
     parts-decide (s .args .i) (s .args .j) (s .args .k) (s .args .n) (c .before .before .before .if1 .left)
     (ltb-false 16 (s .args .n) (c .before .before .if2 .left)) (c .before .if3 .left) (c .if4 .left)
 

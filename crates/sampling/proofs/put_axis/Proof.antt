@@ -93,7 +93,7 @@ loop-again : tie.Need-loop-again Inv-loop μ-loop
 loop-again a =
     let t = a .before .before .before .before .before in
     let l = t .before .loop in
-    let r = a .before .before .before .before in
+    let r : tie.After-row Inv-loop μ-loop = search in
     let s = p t in
     let place : l .at + 3 * (n t - l .k + 1) ≡ 3 * samplesBefore (n t) (l .k + 1) + s .args .axis =
     place-next (s .args .p) (n t) (s .args .axis) (l .k) (l .at) (s .args .points .now) (l .points) _ (below t) (s .pre .1) (l .inv .1) (inv t .1)
@@ -115,7 +115,7 @@ same-length a = a .before .loop .inv .2 _ (a .before .before .start .ensures) .1
 returns : tie.Need-returns Inv-loop μ-loop
 returns a =
     let l = a .before .loop in
-    let s = a .before .before .before in
+    let s : tie.Start Inv-loop μ-loop = search in
     subst (λ (x : ℕ). RowsPut (s .args .p) (s .args .n) (s .args .axis) x (s .args .points .now) (l .points)) (omega (arith, l .inv .0))
     (l .inv .2 (s .args .p) (a .before .before .start .ensures) .1)
 

@@ -98,7 +98,7 @@ same-length c = c .before .loop .inv .1 _ (c .before .before .state-at .ensures)
 returns : tie.Need-returns Inv-loop μ-loop
 returns c =
     let l = c .before .loop in
-    let s = c .before .before .before in
+    let s : tie.Start Inv-loop μ-loop = search in
     subst (λ (x : ℕ). RowPut (s .args .e) (s .args .n) (s .args .first) x (s .args .from) (s .args .points .now) (l .points)) (omega (arith, l .inv .0))
     (l .inv .1 (s .args .e) (c .before .before .state-at .ensures) .1)
 

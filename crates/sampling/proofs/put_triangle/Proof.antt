@@ -19,7 +19,7 @@ moved {p} {q} {n} {axis} {rows} {old} {new} e r = subst (λ (x : Matrix5). RowsP
 
 put-axis-requires : tie.Need-put-axis-requires
 put-axis-requires c κs =
-    let s = c .before .before in (
+    let s : tie.Start = search in (
       subst (λ (p : Matrix5). Sampleable p (s .args .n)) (sym (c .before .control-points .ensures))
           (points-sampleable (now (s .args .numbers)) (s .pre .0 .0) (s .args .side) 0 (lit< tt) (s .args .n) (s .pre .1 .0) (s .pre .1 .1)),
       lit< tt,
@@ -28,7 +28,7 @@ put-axis-requires c κs =
 
 put-axis-requires-2 : tie.Need-put-axis-requires-2
 put-axis-requires-2 c κs =
-    let s = c .before .before .before .before .before .before in (
+    let s : tie.Start = search in (
       subst (λ (p : Matrix5). Sampleable p (s .args .n)) (sym (c .before .control-points2 .ensures))
           (points-sampleable (now (s .args .numbers)) (s .pre .0 .0) (s .args .side) 1 (lit< tt) (s .args .n) (s .pre .1 .0) (s .pre .1 .1)),
       lit< tt,
@@ -37,7 +37,8 @@ put-axis-requires-2 c κs =
 
 put-axis-requires-3 : tie.Need-put-axis-requires-3
 put-axis-requires-3 c κs =
-    let s = c .before .before .before .before .before .before .before .before .before .before in (
+    let pu : tie.After-put-axis = search in
+    let s : tie.Start = search in (
       subst (λ (p : Matrix5). Sampleable p (s .args .n)) (sym (c .before .control-points3 .ensures))
           (points-sampleable (now (s .args .numbers)) (s .pre .0 .0) (s .args .side) 2 (lit< tt) (s .args .n) (s .pre .1 .0) (s .pre .1 .1)),
       lit< tt,
@@ -46,18 +47,21 @@ put-axis-requires-3 c κs =
         count-is (s .args .n),
         s .pre .1 .2,
         c .before .before .before .put-axis2 .ensures .same,
-        c .before .before .before .before .before .before .before .put-axis .ensures .same,
+        pu .put-axis .ensures .same,
       ),
     )
 
 returns : tie.Need-returns
 returns c =
-    let s = c .before .before .before .before .before .before .before .before .before .before .before .before in
+    let c' : tie.After-control-points2 = search in
+    let p : tie.After-put-axis = search in
+    let co : tie.After-control-points = search in
+    let s : tie.Start = search in
     let n = s .args .n in
     triangle-put (now (s .args .numbers)) (s .pre .0 .0) (s .args .side) n (s .pre .1 .0) (s .pre .1 .1) (now (s .args .points)) _ _ _
-    (moved (c .before .before .before .before .before .before .before .before .before .before .before .control-points .ensures)
-    (c .before .before .before .before .before .before .before .before .before .put-axis .ensures))
-    (moved (c .before .before .before .before .before .before .before .control-points2 .ensures)
+    (moved (co .control-points .ensures)
+    (p .put-axis .ensures))
+    (moved (c' .control-points2 .ensures)
     (c .before .before .before .before .before .put-axis2 .ensures))
     (moved (c .before .before .before .control-points3 .ensures) (c .before .put-axis3 .ensures)) (s .pre .1 .2)
 

@@ -40,10 +40,10 @@ module _ (t : tie.After-enum-told) where
 returns : tie.Need-returns
 returns c =
     let a = c .before .a .given in
-    let k = c .before .before .before .check in
-    let s = c .before .before .before .before in
+    let k : tie.After-check = search in
+    let s : tie.Start = search in
     sample-refused (now (s .args .numbers)) (s .args .side) (weights (s .args .i) (s .args .j) (s .args .k) (s .args .n)) (now (s .args .point))
-    (k .result) (k .ensures) (a .0 .0) (a .0 .1 .0) (a .1)
+    (k .check .result) (k .check .ensures) (a .0 .0) (a .0 .1 .0) (a .1)
 
 sample-on-requires : tie.Need-sample-on-requires
 sample-on-requires t κs = ((net t, low t, lit< tt), (some t, few t, omega (arith, sums t)))

@@ -17,7 +17,7 @@ row-at-requires c κs =
 
 value-at-requires : tie.Need-value-at-requires
 value-at-requires c κs =
-    let s = c .before .before in (
+    let s : tie.Start = search in (
       r-tapers (now (s .args .numbers)) (s .pre .0 .0) (s .args .side) (s .args .axis) (s .pre .0 .2) (s .args .j) (s .args .k) (s .args .n) (s .pre .1 .0)
           (s .pre .1 .1) (s .pre .1 .2) _ (c .before .control-points .ensures) _ (c .row-at .ensures),
       omega (arith, s .pre .1 .1, s .pre .1 .2),
@@ -25,7 +25,7 @@ value-at-requires c κs =
 
 rounded-requires : tie.Need-rounded-requires
 rounded-requires c κs =
-    let s = c .before .before .before in (
+    let s : tie.Start = search in (
       s .pre .1 .0,
       s .pre .1 .1,
       v-small (now (s .args .numbers)) (s .pre .0 .0) (s .args .side) (s .args .axis) (s .pre .0 .2) (s .args .j) (s .args .k) (s .args .n) (s .pre .1 .0)
@@ -34,7 +34,7 @@ rounded-requires c κs =
 
 returns : tie.Need-returns
 returns c =
-    let s = c .before .before .before .before in
+    let s : tie.Start = search in
     v-sample (now (s .args .numbers)) (s .pre .0 .0) (s .args .side) (s .args .axis) (s .pre .0 .2) (s .args .j) (s .args .k) (s .args .n) (s .pre .1 .0)
     (s .pre .1 .1) (s .pre .1 .2) _ (c .before .before .before .control-points .ensures) _ (c .before .before .row-at .ensures) _
     (c .before .value-at .ensures) (c .rounded .result) (search needs) (c .rounded .ensures)

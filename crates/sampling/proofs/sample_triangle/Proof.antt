@@ -26,9 +26,9 @@ few t = few-parts (now (s t .args .numbers)) (s t .args .side) (s t .args .n) 0 
 returns : tie.Need-returns
 returns c =
     let a = c .before .a .given in
-    let k = c .before .before .before .check in
-    let s = c .before .before .before .before in
-    triangle-refused (now (s .args .numbers)) (s .args .side) (s .args .n) (now (s .args .points)) (k .result) (k .ensures) (a .0 .0) (a .0 .1 .0) (a .1)
+    let k : tie.After-check = search in
+    let s : tie.Start = search in
+    triangle-refused (now (s .args .numbers)) (s .args .side) (s .args .n) (now (s .args .points)) (k .check .result) (k .check .ensures) (a .0 .0) (a .0 .1 .0) (a .1)
 
 add-needed : tie.Need-add-needed
 add-needed t = let h = few t in search needs

@@ -8,13 +8,13 @@ returns : tie.Need-returns
 returns c = number-first (c .before .args .row) (c .before .args .j) (c .if1 .taken)
 
 returns-2 : tie.Need-returns-2
-returns-2 c = let s = c .before .before in number-last (s .args .row) (s .args .j) (c .before .if1 .left) (c .if2 .taken)
+returns-2 c = let s : tie.Start = search in number-last (s .args .row) (s .args .j) (c .before .if1 .left) (c .if2 .taken)
 
 returns-3 : tie.Need-returns-3
-returns-3 c = let s = c .before .before .before .before in number-up (s .args .row) (s .args .j) (c .before .before .before .if1 .left) (c .before .before .if2 .left) (c .before .if3 .taken)
+returns-3 c = let s : tie.Start = search in number-up (s .args .row) (s .args .j) (c .before .before .before .if1 .left) (c .before .before .if2 .left) (c .before .if3 .taken)
 
 returns-4 : tie.Need-returns-4
-returns-4 c = let s = c .before .before .before .before in number-down (s .args .row) (s .args .j) (c .before .before .before .if1 .left) (c .before .before .if2 .left) (c .before .if3 .left)
+returns-4 c = let s : tie.Start = search in number-down (s .args .row) (s .args .j) (c .before .before .before .if1 .left) (c .before .before .if2 .left) (c .before .if3 .left)
 
 pub number-spec : {M : Type 1} → statement M
 number-spec =

@@ -18,21 +18,23 @@ abbrev μ-loop : tie.MeasureT-loop
 
 loop-again : tie.Need-loop-again Inv-loop μ-loop
 loop-again c =
-    let s = c .before .before .before .before .before .before .before .before .before .before .before .before in let l = c .before .before .before .before .before .before .before .before .before .loop in
+    let nu : tie.After-number2 Inv-loop μ-loop = search in
+    let n : tie.After-number Inv-loop μ-loop = search in
+    let s : tie.Start Inv-loop μ-loop = search in let l : tie.At-loop Inv-loop μ-loop = search in
     let g = stripNumber (sideAt (s .args .side)) (s .args .lower) (s .args .upper) in (
       refl,
       refl,
       omega arith,
       omega (arith, c .before .before .put-three .kept .0),
-      fills-as g (s .args .at) (3 * l .t + 3) (3 * (l .t + 1)) _ _ (omega arith)
-          (fills-more g (three (c .before .before .before .before .before .before .before .number .result) (c .before .before .before .before .before .before .number2 .result) (c .before .before .before .before .number3 .result)) (s .args .at) (3 * l .t) (s .args .at + 3 * l .t) 3 _ _ _ refl
-          (l .inv .4) (c .before .before .put-three .ensures)
-          (over-three (sideAt (s .args .side)) (s .args .lower) (s .args .upper) (l .t) _ _ _ (omega arith) (c .before .before .before .before .before .before .before .number .ensures) (c .before .before .before .before .before .before .number2 .ensures)
+      fills-as g (s .args .at) (3 * l .loop .t + 3) (3 * (l .loop .t + 1)) _ _ (omega arith)
+          (fills-more g (three (n .number .result) (nu .number2 .result) (c .before .before .before .before .number3 .result)) (s .args .at) (3 * l .loop .t) (s .args .at + 3 * l .loop .t) 3 _ _ _ refl
+          (l .loop .inv .4) (c .before .before .put-three .ensures)
+          (over-three (sideAt (s .args .side)) (s .args .lower) (s .args .upper) (l .loop .t) _ _ _ (omega arith) (n .number .ensures) (nu .number2 .ensures)
           (c .before .before .before .before .number3 .ensures ∙ ap (rowNumber (s .args .upper)) (c .before .before .before .before .before .over .ensures .0)))),
     )
 
 returns : tie.Need-returns Inv-loop μ-loop
-returns c = let l = c .before .loop in let s = c .before .before .before .before in fills-as (stripNumber (sideAt (s .args .side)) (s .args .lower) (s .args .upper)) (s .args .at) (3 * l .t) (3 * s .args .lower .parts) _ _ (omega arith) (l .inv .4)
+returns c = let l = c .before .loop in let s : tie.Start Inv-loop μ-loop = search in fills-as (stripNumber (sideAt (s .args .side)) (s .args .lower) (s .args .upper)) (s .args .at) (3 * l .t) (3 * s .args .lower .parts) _ _ (omega arith) (l .inv .4)
 
 pub put-over-spec : {M : Type 1} → statement M
 put-over-spec =

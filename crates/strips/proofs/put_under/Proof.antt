@@ -18,21 +18,23 @@ abbrev μ-loop : tie.MeasureT-loop
 
 loop-again : tie.Need-loop-again Inv-loop μ-loop
 loop-again c =
-    let s = c .before .before .before .before .before .before .before .before .before .before .before in let l = c .before .before .before .before .before .before .before .before .before .loop in
+    let nu : tie.After-number2 Inv-loop μ-loop = search in
+    let n : tie.After-number Inv-loop μ-loop = search in
+    let s : tie.Start Inv-loop μ-loop = search in let l : tie.At-loop Inv-loop μ-loop = search in
     let g : ℕ → ℕ = λ x. stripNumber (sideAt (s .args .side)) (s .args .lower) (s .args .upper) (3 * s .args .lower .parts + x) in (
       refl,
       refl,
       omega arith,
       omega (arith, c .before .before .put-three .kept .0),
-      fills-as g (s .args .at) (3 * l .i + 3) (3 * (l .i + 1)) _ _ (omega arith)
-          (fills-more g (three (c .before .before .before .before .before .before .before .number .result) (c .before .before .before .before .before .before .number2 .result) (c .before .before .before .before .number3 .result)) (s .args .at) (3 * l .i) (s .args .at + 3 * l .i) 3 _ _ _ refl
-          (l .inv .4) (c .before .before .put-three .ensures)
-          (under-three (sideAt (s .args .side)) (s .args .lower) (s .args .upper) (l .i) _ _ _ (c .before .before .before .before .before .before .before .number .ensures) (c .before .before .before .before .before .before .number2 .ensures)
+      fills-as g (s .args .at) (3 * l .loop .i + 3) (3 * (l .loop .i + 1)) _ _ (omega arith)
+          (fills-more g (three (n .number .result) (nu .number2 .result) (c .before .before .before .before .number3 .result)) (s .args .at) (3 * l .loop .i) (s .args .at + 3 * l .loop .i) 3 _ _ _ refl
+          (l .loop .inv .4) (c .before .before .put-three .ensures)
+          (under-three (sideAt (s .args .side)) (s .args .lower) (s .args .upper) (l .loop .i) _ _ _ (n .number .ensures) (nu .number2 .ensures)
           (c .before .before .before .before .number3 .ensures ∙ ap (rowNumber (s .args .lower)) (c .before .before .before .before .before .under .ensures .0)))),
     )
 
 returns : tie.Need-returns Inv-loop μ-loop
-returns c = let l = c .before .loop in let s = c .before .before .before in fills-as (λ x. stripNumber (sideAt (s .args .side)) (s .args .lower) (s .args .upper) (3 * s .args .lower .parts + x)) (s .args .at) (3 * l .i) (3 * s .args .upper .parts) _ _ (omega arith) (l .inv .4)
+returns c = let l = c .before .loop in let s : tie.Start Inv-loop μ-loop = search in fills-as (λ x. stripNumber (sideAt (s .args .side)) (s .args .lower) (s .args .upper) (3 * s .args .lower .parts + x)) (s .args .at) (3 * l .i) (3 * s .args .upper .parts) _ _ (omega arith) (l .inv .4)
 
 pub put-under-spec : {M : Type 1} → statement M
 put-under-spec =

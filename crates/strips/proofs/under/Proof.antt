@@ -8,10 +8,10 @@ use Rattle.strips.proofs.under.Statement.{statement}
 use Rattle.strips.proofs.under.Tie as tie
 
 returns : tie.Need-returns
-returns c = let s = c .before .before in (c .step .ensures .0 ∙ foot-even (s .args .p) (s .args .u) (s .args .i) (omega arith) (omega arith) (s .args .side) (s .pre .0) (c .before .if1 .taken), c .step .ensures .1)
+returns c = let s : tie.Start = search in (c .step .ensures .0 ∙ foot-even (s .args .p) (s .args .u) (s .args .i) (omega arith) (omega arith) (s .args .side) (s .pre .0) (c .before .if1 .taken), c .step .ensures .1)
 
 returns-2 : tie.Need-returns-2
-returns-2 c = let s = c .before .before in (ap (λ (x : ℕ). s .args .p - x) (c .step2 .ensures .0) ∙ foot-odd (s .args .p) (s .args .u) (s .args .i) (omega arith) (omega arith) (s .args .side) (s .pre .0) (c .before .if1 .left), omega (arith, step-some (s .args .p) (s .args .u) (s .args .u - 2 - s .args .i) (omega arith) (omega arith)))
+returns-2 c = let s : tie.Start = search in (ap (λ (x : ℕ). s .args .p - x) (c .step2 .ensures .0) ∙ foot-odd (s .args .p) (s .args .u) (s .args .i) (omega arith) (omega arith) (s .args .side) (s .pre .0) (c .before .if1 .left), omega (arith, step-some (s .args .p) (s .args .u) (s .args .u - 2 - s .args .i) (omega arith) (omega arith)))
 
 pub under-spec : {M : Type 1} → statement M
 under-spec =

@@ -15,7 +15,7 @@ abbrev μ-loop : tie.MeasureT-loop
 μ-loop corners vertex start n found₀ j₀ found j = n - j
 
 cast-u : tie.Need-cast-u Inv-loop μ-loop
-cast-u c = let l = c .before .before .loop in omega (arith, c .shared-slice-known .given (c .before .before .before .args .start + l .j))
+cast-u c = let l : tie.At-loop Inv-loop μ-loop = search in omega (arith, c .shared-slice-known .given (c .before .before .before .args .start + l .loop .j))
 
 loop-again : tie.Need-loop-again Inv-loop μ-loop
 loop-again c =
@@ -26,7 +26,7 @@ loop-again c =
 
 returns : tie.Need-returns Inv-loop μ-loop
 returns c =
-    let s = c .before .before in
+    let s : tie.Start Inv-loop μ-loop = search in
     let l = c .before .loop in
     let e : l .j ≡ s .args .n = omega (arith, l .inv .0) in
     rw (← e) (l .inv .1)

@@ -23,9 +23,9 @@ returns : tie.Need-returns
 returns c =
     let s : tie.Start = search in
     let v : tie.After-mark-vertices = search in
-    let k = c .before .before .mark-corners in
-    marks-are (now (s .args .sides)) (now (s .args .corners)) (s .args .vertex) (s .pre .0 .1) (v .mark-vertices .last .1 .1 .1 .0) (k .last .1 .1 .0)
-    (v .mark-vertices .ensures) (named v) (k .kept .1 .1 .0 ∙ s .pre .1 .1) (k .ensures)
+    let k : tie.After-mark-corners = search in
+    marks-are (now (s .args .sides)) (now (s .args .corners)) (s .args .vertex) (s .pre .0 .1) (v .mark-vertices .last .1 .1 .1 .0) (k .mark-corners .last .1 .1 .0)
+    (v .mark-vertices .ensures) (named v) (k .mark-corners .kept .1 .1 .0 ∙ s .pre .1 .1) (k .mark-corners .ensures)
 
 pub mark-spec : {M : Type 1} → Rattle.touching.proofs.mark.Statement.statement M
 mark-spec = tie.close (tie.spec (λ c. search needs) (λ c κs. search needs) (λ c. search needs) mark-corners-requires (λ c. search needs) returns)

@@ -20,7 +20,7 @@ loop-holds : tie.Need-loop-holds Inv-loop μ-loop
 loop-holds c = (omega arith, refl, all-none (now (c .args .corners)) (c .args .start) (now (c .args .sharing)))
 
 cast-u : tie.Need-cast-u Inv-loop μ-loop
-cast-u c = let l = c .before .before .loop in omega (arith, c .shared-slice-known .given (c .before .before .before .args .start + l .j))
+cast-u c = let l : tie.At-loop Inv-loop μ-loop = search in omega (arith, c .shared-slice-known .given (c .before .before .before .args .start + l .loop .j))
 
 -- In the loop: the corner's vertex has its mark.
 inside : (i : tie.In-loop Inv-loop μ-loop) → let s : tie.Start Inv-loop μ-loop = search in
@@ -38,7 +38,7 @@ loop-again c =
 
 returns : tie.Need-returns Inv-loop μ-loop
 returns c =
-    let s = c .before .before in
+    let s : tie.Start Inv-loop μ-loop = search in
     let l = c .before .loop in
     let e : l .j ≡ s .args .n = omega (arith, l .inv .0) in
     rw (← e) (l .inv .2)

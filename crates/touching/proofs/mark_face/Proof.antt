@@ -7,7 +7,7 @@ use Rattle.touching.proofs.mark_face.Tie as tie
 
 returns : tie.Need-returns
 returns c =
-    let k = c .before .before .before .before in
+    let k : tie.Then1 = search in
     let s : tie.Start = search in
     face-has (now (s .args .corners)) (s .args .vertex) (s .args .start) (s .args .n) (now (s .args .sharing)) (c .before .before .mark-all .last .1 .1 .1 .0)
     (sym (k .before .has-vertex .ensures) ∙ k .if1 .taken) (c .before .before .mark-all .ensures)

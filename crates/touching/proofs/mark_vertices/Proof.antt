@@ -49,13 +49,13 @@ loop-again c =
     let s : tie.Start Inv-loop μ-loop = search in
     let i : tie.In-loop Inv-loop μ-loop = search in
     let l = i .before .loop in
-    let k = c .before .before .mark-face in
-    let kept = k .kept .1 .1 .1 .1 .0 in (
+    let k : tie.After-mark-face Inv-loop μ-loop = search in
+    let kept = k .mark-face .kept .1 .1 .1 .1 .0 in (
       omega arith,
       omega (arith, start-next (now (s .args .sides)) (l .f) (i .loop-test .taken), l .inv .1),
       kept ∙ l .inv .2,
-      sharing-step (now (s .args .sides)) (now (s .args .corners)) (s .args .vertex) (l .f) (l .sharing) (k .last .1 .1 .1 .1 .0) kept (l .inv .3)
-          (rw (← l .inv .1) (k .ensures)),
+      sharing-step (now (s .args .sides)) (now (s .args .corners)) (s .args .vertex) (l .f) (l .sharing) (k .mark-face .last .1 .1 .1 .1 .0) kept (l .inv .3)
+          (rw (← l .inv .1) (k .mark-face .ensures)),
     )
 
 returns : tie.Need-returns Inv-loop μ-loop

@@ -11,14 +11,18 @@ both : {a b x y : ℕ} → a ≡ x → b ≡ y → max a b ≡ max x y
 both e f = rw (e, f)
 
 row-requires-5 : tie.Need-row-requires-5
-row-requires-5 c κs = let p = c .before .before .before .before .before .before .before .pre .1 in ((p .1, p .0), (lit< tt, lit< tt, lit< tt, lit< tt))
+row-requires-5 c κs =
+    let s : tie.Start = search in
+    let p = s .pre .1 in ((p .1, p .0), (lit< tt, lit< tt, lit< tt, lit< tt))
 
 row-requires-6 : tie.Need-row-requires-6
-row-requires-6 c κs = let p = c .before .before .before .before .before .before .before .before .pre .1 in ((p .3, p .0), (lit< tt, lit< tt, lit< tt, lit< tt))
+row-requires-6 c κs =
+    let s : tie.Start = search in
+    let p = s .pre .1 in ((p .3, p .0), (lit< tt, lit< tt, lit< tt, lit< tt))
 
 side-misses-requires-2 : tie.Need-side-misses-requires-2
 side-misses-requires-2 c κs =
-    let s = c .before .before .before .before .before .before .before .before .before in
+    let s : tie.Start = search in
     (s .pre .0 .1, c .before .before .row4 .ensures .1, c .before .row5 .ensures .1, c .row6 .ensures .1)
 
 returns : tie.Need-returns

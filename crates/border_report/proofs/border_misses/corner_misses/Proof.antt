@@ -73,7 +73,7 @@ axis-misses-requires-3 c κs =
 
 returns : tie.Need-returns
 returns c =
-    let x = c .before .before .before .before in
+    let x : tie.After-axis-misses = search in
     let z = x .before in
     let y = z .before .before in
     let l = y .before .before in

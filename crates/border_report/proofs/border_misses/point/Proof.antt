@@ -15,7 +15,7 @@ inside c = omega (arith, c .pre .0 .long, c .pre .1, c .pre .2)
 returns : tie.Need-returns
 returns c =
     let f : SFits w64 (c .wide .result) = search needs in
-    let s = c .before .before in
+    let s : tie.Start = search in
     let a = s .args in
     let g : SFits w32 (pointIn (a .net .now) (a .at) (a .axis) (a .k)) = search needs in
     let e = toZ-ofZ f ∙ c .wide .ensures ∙ toZ-ofZ g in

@@ -13,13 +13,13 @@ mesh s = meshOf (now (s .args .coordinates)) (now (s .args .sides)) (now (s .arg
 
 fill-points-requires : tie.Need-fill-points-requires
 fill-points-requires c κs =
-    let s = c .before .before .before .before .before .before in
+    let s : tie.Start = search in
     let M = mesh s in
     (refinable-of M (s .pre .0), (s .pre .1 .0, (ones-named M (s .pre .0), s .pre .1 .1)))
 
 largest-requires : tie.Need-largest-requires
 largest-requires c κs =
-    let s = c .before .before .before .before .before .before .before .before .before in
+    let s : tie.Start = search in
     let t = now (s .args .table) in (
       drawn-all (mesh s) (s .pre .0) t (now (s .args .points)) _ (s .pre .1 .0) (s .pre .1 .1 .0) (c .before .before .fill-points .ensures),
       faced-of (mesh s) (s .pre .0) t (s .pre .1 .0),
@@ -27,7 +27,7 @@ largest-requires c κs =
 
 returns : tie.Need-returns
 returns c j few =
-    let s = c .before .before .before .before .before .before .before .before .before .before in
+    let s : tie.Start = search in
     c .largest .ensures j few
     ∙ largest-is (mesh s) (s .pre .0) (now (s .args .table)) (now (s .args .points)) _ (s .pre .1 .0) (s .pre .1 .1 .0)
     (c .before .before .before .fill-points .ensures) j few

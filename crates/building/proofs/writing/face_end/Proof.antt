@@ -36,7 +36,7 @@ sides-requires c κs = omega (arith, below c, c .before .before .pre .rounds .lo
 
 add-result : tie.Need-add-result
 add-result c =
-    let s = c .before .before .before in
+    let s : tie.Start = search in
     let w = s .pre in
     omega (arith, ends c (w .sides) (w .rounds) (w .here), first-ends (w .sides) (s .args .c) (w .here), w .rounds .faces .few)
 

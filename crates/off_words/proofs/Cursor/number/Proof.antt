@@ -11,9 +11,9 @@ use Rattle.off_words.proofs.Cursor.number.Tie as tie
 
 returns : tie.Need-returns
 returns c =
-    let e = c .before .before .before .word-end in
-    let t = c .before .before .before .before .to-word in
-    let w = word-here _ _ (t .result) (e .result) (t .ensures) (e .ensures) in
+    let e : tie.After-word-end = search in
+    let t : tie.After-to-word = search in
+    let w = word-here _ _ (t .to-word .result) (e .word-end .result) (t .to-word .ensures) (e .word-end .ensures) in
     record {
       ok = sym (ap isNumber w ∙ sym (c .before .is-number .ensures) ∙ not-true _ (c .if1 .taken));
       value = λ z. absurd (clash z refl);

@@ -6,7 +6,7 @@ use Rattle.off_words.proofs.Cursor.past_separator.Tie as tie
 
 returns : tie.Need-returns
 returns c =
-    let s = c .before .before in
+    let s : tie.Start = search in
     let self = s .args .self in (
       omega (arith, c .moved .ensures .0),
       before-on _ _ self _ _ _ (s .pre .2) (omega arith) (omega arith)

@@ -17,30 +17,32 @@ abbrev μ-loop : tie.MeasureT-loop
 
 past-comment-requires : tie.Need-past-comment-requires Inv-loop μ-loop
 past-comment-requires c κs =
-    let l = c .before .before .before .loop in
-    let e = l .inv .0 in
-    (search needs, rw e (c .if1 .taken), own _ _ _ (l .inv .1))
+    let l : tie.At-loop Inv-loop μ-loop = search in
+    let e = l .loop .inv .0 in
+    (search needs, rw e (c .if1 .taken), own _ _ _ (l .loop .inv .1))
 
 returns : tie.Need-returns Inv-loop μ-loop
 returns c =
-    let l = c .before .before .before .before .before .loop in
-    let e = l .inv .0 in
+    let l : tie.At-loop Inv-loop μ-loop = search in
+    let e = l .loop .inv .0 in
     record {
-      before = l .inv .1;
+      before = l .loop .inv .1;
       first = λ h. rw e (ends-none _ (sym (c .before .separates .ensures) ∙ not-true _ (c .if2 .taken)) (c .before .before .if1 .left));
     }
 
 past-separator-requires : tie.Need-past-separator-requires Inv-loop μ-loop
 past-separator-requires c κs =
-    let l = c .before .before .before .before .before .loop in
-    let e = l .inv .0 in
-    (search needs, rw e (sym (c .before .separates .ensures) ∙ not-false _ (c .if2 .left)), own _ _ _ (l .inv .1))
+    let l : tie.At-loop Inv-loop μ-loop = search in
+    let e = l .loop .inv .0 in
+    (search needs, rw e (sym (c .before .separates .ensures) ∙ not-false _ (c .if2 .left)), own _ _ _ (l .loop .inv .1))
 
 loop-again : tie.Need-loop-again Inv-loop μ-loop
 loop-again c = search (needs, same _ _ _ _ ((c .before .before .before .before .loop) .inv .1 .number) (c .past-comment .ensures .1))
 
 loop-again-2 : tie.Need-loop-again-2 Inv-loop μ-loop
-loop-again-2 c = search (needs, same _ _ _ _ ((c .before .before .before .before .before .before .loop) .inv .1 .number) (c .past-separator .ensures .1))
+loop-again-2 c =
+    let l : tie.At-loop Inv-loop μ-loop = search in
+    search (needs, same _ _ _ _ (l .loop .inv .1 .number) (c .past-separator .ensures .1))
 
 returns-2 : tie.Need-returns-2 Inv-loop μ-loop
 returns-2 c =

@@ -17,13 +17,13 @@ abbrev μ-loop : tie.MeasureT-loop
 
 returns : tie.Need-returns Inv-loop μ-loop
 returns c =
-    let l = c .before .before .before .before .loop in
-    all-stop _ (l .i) (search needs) (sym (c .before .is-digit .ensures) ∙ not-true _ (c .if1 .taken)) ∙ sym (l .inv .1)
+    let l : tie.At-loop Inv-loop μ-loop = search in
+    all-stop _ (l .loop .i) (search needs) (sym (c .before .is-digit .ensures) ∙ not-true _ (c .if1 .taken)) ∙ sym (l .loop .inv .1)
 
 loop-again : tie.Need-loop-again Inv-loop μ-loop
 loop-again c =
-    let l = c .before .before .before .before .loop in
-    (search needs, l .inv .1 ∙ all-on _ (l .i) (search needs) (sym (c .before .is-digit .ensures) ∙ not-false _ (c .if1 .left)))
+    let l : tie.At-loop Inv-loop μ-loop = search in
+    (search needs, l .loop .inv .1 ∙ all-on _ (l .loop .i) (search needs) (sym (c .before .is-digit .ensures) ∙ not-false _ (c .if1 .left)))
 
 returns-2 : tie.Need-returns-2 Inv-loop μ-loop
 returns-2 c =

@@ -17,29 +17,29 @@ abbrev μ-loop : tie.MeasureT-loop
 μ-loop word from n₀ i₀ n i = length word - i
 
 loop-holds : tie.Need-loop-holds Inv-loop μ-loop
-loop-holds c = search (needs, tens-start ((c .before) .args .from - (c .before) .args .from) (omega arith))
+loop-holds c = search (needs, tens-start (c .before .args .from - (c .before) .args .from) (omega arith))
 
 with-digit-requires : tie.Need-with-digit-requires Inv-loop μ-loop
 with-digit-requires c κs =
     let s : tie.Start Inv-loop μ-loop = search in
-    let l = c .before .before .loop in
-    let h : l .i < length (s .args .word .now) = search needs in
-    let d = digit-here (s .args .word .now) (l .i) h (l .inv .2) in
-    (below-eight (l .n) (l .i - s .args .from) (l .inv .4) (omega (arith, s .pre .1)), d .0, d .1)
+    let l : tie.At-loop Inv-loop μ-loop = search in
+    let h : l .loop .i < length (s .args .word .now) = search needs in
+    let d = digit-here (s .args .word .now) (l .loop .i) h (l .loop .inv .2) in
+    (below-eight (l .loop .n) (l .loop .i - s .args .from) (l .loop .inv .4) (omega (arith, s .pre .1)), d .0, d .1)
 
 loop-again : tie.Need-loop-again Inv-loop μ-loop
 loop-again c =
     let s : tie.Start Inv-loop μ-loop = search in
-    let l = c .before .before .before .loop in
+    let l : tie.At-loop Inv-loop μ-loop = search in
     let w = s .args .word .now in
-    let h : l .i < length w = search needs in
-    let d = digit-here w (l .i) h (l .inv .2) in
+    let h : l .loop .i < length w = search needs in
+    let d = digit-here w (l .loop .i) h (l .loop .inv .2) in
     let e = c .with-digit .ensures in (
       omega arith,
       omega arith,
-      digits-on w (l .i) h (l .inv .2),
-      l .inv .3 ∙ decimal-on w (l .i) h (l .n) ∙ ap (λ (k : ℕ). valueAfter k (drop (l .i + 1) w)) (sym e),
-      rw e (tens-on (l .n) (l .i - s .args .from) (l .i + 1 - s .args .from) (getD w (l .i) 0 - 48) (l .inv .4) (omega (arith, d .1)) (omega arith)),
+      digits-on w (l .loop .i) h (l .loop .inv .2),
+      l .loop .inv .3 ∙ decimal-on w (l .loop .i) h (l .loop .n) ∙ ap (λ (k : ℕ). valueAfter k (drop (l .loop .i + 1) w)) (sym e),
+      rw e (tens-on (l .loop .n) (l .loop .i - s .args .from) (l .loop .i + 1 - s .args .from) (getD w (l .loop .i) 0 - 48) (l .loop .inv .4) (omega (arith, d .1)) (omega arith)),
     )
 
 returns : tie.Need-returns Inv-loop μ-loop

@@ -10,7 +10,7 @@ use Rattle.off_words.proofs.digits.value.Tie as tie
 
 returns : tie.Need-returns
 returns c =
-    let d = c .before .before in
+    let d : tie.After-decimal = search in
     let s = d .before .digits-start in
     toZ-ofZ w32 (c .negative .result) (record { sfits = c .negative .ok }) ∙ c .negative .ensures
     ∙ negative-is _ (s .result) (s .ensures) (eq-eqb _ _ (c .before .if1 .taken)) _ (d .decimal .ensures .0)

@@ -16,7 +16,7 @@ abbrev μ-loop : tie.MeasureT-loop
 
 returns : tie.Need-returns Inv-loop μ-loop
 returns c =
-    let s = c .before .before in
+    let s : tie.Start Inv-loop μ-loop = search in
     let l = c .before .loop in
     page-numbers (s .args .page) (s .pre .0) (s .pre .1) (l .i) (l .new) (omega arith) (l .inv .1)
 

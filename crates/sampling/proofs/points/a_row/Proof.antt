@@ -11,7 +11,7 @@ use Rattle.sampling.proofs.points.a_row.Tie as tie
 
 returns : tie.Need-returns
 returns c =
-    let s = c .before .before .before .before in
+    let s : tie.Start = search in
     vector5-same
     (by-bits (c .before .before .before .a-point .result) _ (c .before .before .before .a-point .ensures)
     ∙ sym (a-place (onAxis (now (s .args .numbers)) (s .args .axis)) (s .args .side) 0 (lit≤ tt)))

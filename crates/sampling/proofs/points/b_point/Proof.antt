@@ -11,7 +11,7 @@ use Rattle.sampling.proofs.points.b_point.Tie as tie
 
 returns : tie.Need-returns
 returns c =
-    let s = c .before .before in
+    let s : tie.Start = search in
     let b = sized-bits (c .number .result) _ (c .number .ensures .1) (lit≤ tt) in (
       b ∙ c .number .ensures .0 ∙ ap (λ (t : ℕ). onAxis (now (s .args .numbers)) (s .args .axis) t) (c .before .b-place .ensures .0),
       rw b (c .number .ensures .1),

@@ -17,7 +17,7 @@ rows-same e f g h i = cc
 
 returns : tie.Need-returns
 returns c =
-    let s = c .before .before .before .before .before .before in
+    let s : tie.Start = search in
     let p = onAxis (now (s .args .numbers)) (s .args .axis) in
     rows-same (c .before .before .before .before .before .outer-row .ensures) (c .before .before .before .before .a-row .ensures)
     (c .before .before .before .inner-row .ensures)

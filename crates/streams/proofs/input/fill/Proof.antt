@@ -24,9 +24,10 @@ loop-less c =
 
 loop-again : tie.Need-loop-again Inv-loop μ-loop
 loop-again c =
+    let l : tie.At-loop Inv-loop μ-loop = search in
     let k = c .before .before .before .read-at .kept .1 .0 in
     let e = c .before .before .before .read-at .ensures in
-    (omega arith, k ∙ c .before .before .before .before .before .before .loop .inv .1)
+    (omega arith, k ∙ l .loop .inv .1)
 
 same-length : tie.Need-same-length Inv-loop μ-loop
 same-length c = c .before .loop .inv .1
@@ -35,14 +36,16 @@ returns : tie.Need-returns Inv-loop μ-loop
 returns c = let h = c .before .loop .inv .0 in (h, sym (length-take-le _ _ h))
 
 same-length-2 : tie.Need-same-length-2 Inv-loop μ-loop
-same-length-2 c = c .before .before .before .read-at .kept .1 .0 ∙ c .before .before .before .before .before .before .loop .inv .1
+same-length-2 c =
+    let l : tie.At-loop Inv-loop μ-loop = search in
+    c .before .before .before .read-at .kept .1 .0 ∙ l .loop .inv .1
 
 returns-2 : tie.Need-returns-2 Inv-loop μ-loop
 returns-2 c =
-    let l = c .before .before .before .before .before .before .loop in
-    let h : l .done ≤ length (c .before .before .before .read-at .last .1 .0) = subst (λ (n : ℕ). l .done ≤ n)
-    (sym (c .before .before .before .read-at .kept .1 .0)) (l .inv .0) in
-    (h, sym (length-take-le (l .done) (c .before .before .before .read-at .last .1 .0) h))
+    let l : tie.At-loop Inv-loop μ-loop = search in
+    let h : l .loop .done ≤ length (c .before .before .before .read-at .last .1 .0) = subst (λ (n : ℕ). l .loop .done ≤ n)
+    (sym (c .before .before .before .read-at .kept .1 .0)) (l .loop .inv .0) in
+    (h, sym (length-take-le (l .loop .done) (c .before .before .before .read-at .last .1 .0) h))
 
 pub fill-spec : {M : Type 1} → Rattle.streams.proofs.input.fill.Statement.statement M
 fill-spec =

@@ -8,9 +8,9 @@ use Rattle.streams.proofs.text.put_number.Tie as tie
 returns : tie.Need-returns
 returns c =
     let s : tie.Start = search in
-    let d = c .before .before .before .before .before .decimal in
-    let f = d .ensures .1 .0 in
-    put-same (d .ensures .1 .1 ∙ digits-decimal (d .result) 20 (s .args .n) f (twenty-digits (s .args .n) (d .result) (s .fits .n) f))
+    let d : tie.After-decimal = search in
+    let f = d .decimal .ensures .1 .0 in
+    put-same (d .decimal .ensures .1 .1 ∙ digits-decimal (d .decimal .result) 20 (s .args .n) f (twenty-digits (s .args .n) (d .decimal .result) (s .fits .n) f))
     (c .before .before .put-word .ensures)
 
 pub put-number-spec : {M : Type 1} → Rattle.streams.proofs.text.put_number.Statement.statement M

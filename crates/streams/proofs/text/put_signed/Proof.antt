@@ -14,12 +14,14 @@ use Rattle.streams.proofs.text.put_signed.Tie as tie
 
 returns : tie.Need-returns
 returns c =
+    let p : tie.After-put-byte = search in
+    let i : tie.Then1 = search in
     let s : tie.Start = search in
     put-same
     (ap (λ (n : ℕ). 45 ∷ decimal n) (c .before .before .before .size .ensures ∙ ap natAbs (exact w32 (s .args .z) (s .fits .z))) ∙ signed-below (s .args .z)
-    (simp (toZ-ofZ, s .fits .z) at (c .before .before .before .before .before .before .before .before .before .if1 .taken)))
-    (put-then (c .before .before .before .before .before .before .before .put-byte .kept .0)
-    (c .before .before .before .before .before .before .before .put-byte .ensures) (c .before .before .put-number .ensures))
+    (simp (toZ-ofZ, s .fits .z) at (i .if1 .taken)))
+    (put-then (p .put-byte .kept .0)
+    (p .put-byte .ensures) (c .before .before .put-number .ensures))
 
 returns-2 : tie.Need-returns-2
 returns-2 c =

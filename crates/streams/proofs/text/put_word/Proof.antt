@@ -19,11 +19,12 @@ loop-holds c = (search needs, refl, put-none _ _)
 
 loop-again : tie.Need-loop-again Inv-loop μ-loop
 loop-again c =
-    let l = c .before .before .before .before .before .before .loop in (
+    let s : tie.Start Inv-loop μ-loop = search in
+    let l : tie.At-loop Inv-loop μ-loop = search in (
       search needs,
-      c .before .before .put-byte .kept .0 ∙ l .inv .1,
+      c .before .before .put-byte .kept .0 ∙ l .loop .inv .1,
       put-next
-          (c .before .before .before .before .before .before .before .before .before .args .word .now) (l .i) (omega arith) (l .inv .1) (l .inv .2)
+          (s .args .word .now) (l .loop .i) (omega arith) (l .loop .inv .1) (l .loop .inv .2)
           (c .before .before .put-byte .ensures),
     )
 
