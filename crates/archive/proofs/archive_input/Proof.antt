@@ -5,10 +5,6 @@ use native.Mathlib.Omega.{arith}
 use borrow.Author.Needs.{needs}
 use Rattle.archive.proofs.archive_input.Tie as tie
 
-slice-aggregate-archive-numbers-2 : tie.Need-slice-aggregate-archive-numbers-2
-slice-aggregate-archive-numbers-2 c =
-    let l : tie.After-least = search in simp length-take (omega (arith, l .least .ensures))
-
 archive-numbers-requires : tie.Need-archive-numbers-requires
 archive-numbers-requires c κs =
     let l : tie.After-least = search in
@@ -18,5 +14,6 @@ archive-numbers-requires c κs =
 pub archive-input-spec : {M : Type 1} → Rattle.archive.proofs.archive_input.Statement.statement M
 archive-input-spec =
     tie.close (tie.spec (λ c. search needs) (λ c κs. search needs) (λ c. search needs) (λ c κs. search needs) (λ c. search needs) (λ c. search needs)
-    (λ c κs. search needs) (λ c. search needs) (λ c. search needs) (λ c. search needs) slice-aggregate-archive-numbers-2 archive-numbers-requires
-    (λ c. search needs) (λ c. search needs) (λ c. search needs) (λ c. search needs) (λ c. search needs))
+    (λ c κs. search needs) (λ c. search needs) (λ c. search needs) (λ c. search needs)
+    (λ c. let l : tie.After-least = search in simp length-take (omega (arith, l .least .ensures))) archive-numbers-requires (λ c. search needs)
+    (λ c. search needs) (λ c. search needs) (λ c. search needs) (λ c. search needs))

@@ -23,15 +23,6 @@ fits = over 5 _ λ ρ. simp (poly, ρ) (omega arith)
 facts : (s : tie.Start) → Fine (s .args .f .a) (s .args .f .b) (s .args .f .c) (s .args .f .d) (s .args .f .e)
 facts s = fits (s .args .f .a) (s .args .f .b) (s .args .f .c) (s .args .f .d) (s .args .f .e) (s .pre .0) (s .pre .1) (s .pre .2) (s .pre .3) (s .pre .4)
 
-add-t3 : tie.Need-add-t3
-add-t3 c = search (toZ-ofZ, facts (c .before .before .before .before))
-
-add-t4 : tie.Need-add-t4
-add-t4 c = search (toZ-ofZ, facts (c .before .before .before .before .before .before))
-
-mul-t5 : tie.Need-mul-t5
-mul-t5 c = search (toZ-ofZ, facts (c .before .before .before .before .before .before .before .before))
-
 mul-t6 : tie.Need-mul-t6
 mul-t6 c = search (toZ-ofZ, facts (c .before .before .before .before .before .before .before .before .before .before))
 
@@ -65,5 +56,7 @@ returns c =
 
 pub ahead-spec : {M : Type 1} → statement M
 ahead-spec =
-    tie.close (tie.spec (λ c. search (toZ-ofZ, facts (c .before .before))) add-t3 add-t4 mul-t5 mul-t6 add-t7 mul-t8 add-t9 mul-t10 mul-t11 add-t12 mul-t13
-    returns)
+    tie.close (tie.spec (λ c. search (toZ-ofZ, facts (c .before .before))) (λ c. search (toZ-ofZ, facts (c .before .before .before .before)))
+    (λ c. search (toZ-ofZ, facts (c .before .before .before .before .before .before)))
+    (λ c. search (toZ-ofZ, facts (c .before .before .before .before .before .before .before .before))) mul-t6 add-t7 mul-t8 add-t9 mul-t10 mul-t11
+    add-t12 mul-t13 returns)

@@ -23,33 +23,6 @@ fits = over 5 _ λ ρ. simp poly (omega arith)
 facts : (s : tie.Start) → Fine (s .args .v .a) (s .args .v .b) (s .args .v .c) (s .args .v .d) (s .args .v .e)
 facts s = fits (s .args .v .a) (s .args .v .b) (s .args .v .c) (s .args .v .d) (s .args .v .e) (s .pre .0) (s .pre .1) (s .pre .2) (s .pre .3) (s .pre .4)
 
-sub-bc : tie.Need-sub-bc
-sub-bc c = search (toZ-ofZ, facts (c .before .before .before .before))
-
-sub-cd : tie.Need-sub-cd
-sub-cd c = search (toZ-ofZ, facts (c .before .before .before .before .before .before))
-
-sub-de : tie.Need-sub-de
-sub-de c = search (toZ-ofZ, facts (c .before .before .before .before .before .before .before .before))
-
-sub-ac : tie.Need-sub-ac
-sub-ac c = search (toZ-ofZ, facts (c .before .before .before .before .before .before .before .before))
-
-sub-bd : tie.Need-sub-bd
-sub-bd c = search (toZ-ofZ, facts (c .before .before .before .before .before .before .before .before))
-
-sub-ce : tie.Need-sub-ce
-sub-ce c = search (toZ-ofZ, facts (c .before .before .before .before .before .before .before .before))
-
-sub-ad : tie.Need-sub-ad
-sub-ad c = search (toZ-ofZ, facts (c .before .before .before .before .before .before .before .before))
-
-sub-be : tie.Need-sub-be
-sub-be c = search (toZ-ofZ, facts (c .before .before .before .before .before .before .before .before))
-
-sub-t11 : tie.Need-sub-t11
-sub-t11 c = search (toZ-ofZ, facts (c .before .before .before .before .before .before .before .before))
-
 returns : tie.Need-returns
 unfolding differencesOf
 returns c =
@@ -58,4 +31,12 @@ returns c =
 
 pub differences-spec : {M : Type 1} → statement M
 differences-spec =
-    tie.close (tie.spec (λ c. search (toZ-ofZ, facts (c .before .before))) sub-bc sub-cd sub-de sub-ac sub-bd sub-ce sub-ad sub-be sub-t11 returns)
+    tie.close (tie.spec (λ c. search (toZ-ofZ, facts (c .before .before))) (λ c. search (toZ-ofZ, facts (c .before .before .before .before)))
+    (λ c. search (toZ-ofZ, facts (c .before .before .before .before .before .before)))
+    (λ c. search (toZ-ofZ, facts (c .before .before .before .before .before .before .before .before)))
+    (λ c. search (toZ-ofZ, facts (c .before .before .before .before .before .before .before .before)))
+    (λ c. search (toZ-ofZ, facts (c .before .before .before .before .before .before .before .before)))
+    (λ c. search (toZ-ofZ, facts (c .before .before .before .before .before .before .before .before)))
+    (λ c. search (toZ-ofZ, facts (c .before .before .before .before .before .before .before .before)))
+    (λ c. search (toZ-ofZ, facts (c .before .before .before .before .before .before .before .before)))
+    (λ c. search (toZ-ofZ, facts (c .before .before .before .before .before .before .before .before))) returns)

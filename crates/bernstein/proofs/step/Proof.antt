@@ -20,15 +20,6 @@ fits = over 5 _ λ ρ. simp poly (omega arith)
 facts : (s : tie.Start) → Fine (s .args .g .a) (s .args .g .b) (s .args .g .c) (s .args .g .d) (s .args .g .e)
 facts s = fits (s .args .g .a) (s .args .g .b) (s .args .g .c) (s .args .g .d) (s .args .g .e) (s .pre .0) (s .pre .1) (s .pre .2) (s .pre .3) (s .pre .4)
 
-add-t3 : tie.Need-add-t3
-add-t3 c = search (toZ-ofZ, facts (c .before .before .before .before))
-
-add-t4 : tie.Need-add-t4
-add-t4 c = search (toZ-ofZ, facts (c .before .before .before .before .before .before))
-
-add-t5 : tie.Need-add-t5
-add-t5 c = search (toZ-ofZ, facts (c .before .before .before .before .before .before .before .before))
-
 returns : tie.Need-returns
 unfolding stepOf
 returns c =
@@ -36,4 +27,7 @@ returns c =
     simp (toZ-ofZ, k .0, k .1, k .2, k .3, k .4, k .5, k .6, k .7, k .8)
 
 pub step-spec : {M : Type 1} → statement M
-step-spec = tie.close (tie.spec (λ c. search (toZ-ofZ, facts (c .before .before))) add-t3 add-t4 add-t5 returns)
+step-spec =
+    tie.close (tie.spec (λ c. search (toZ-ofZ, facts (c .before .before))) (λ c. search (toZ-ofZ, facts (c .before .before .before .before)))
+    (λ c. search (toZ-ofZ, facts (c .before .before .before .before .before .before)))
+    (λ c. search (toZ-ofZ, facts (c .before .before .before .before .before .before .before .before))) returns)

@@ -20,9 +20,6 @@ abbrev μ-loop : tie.MeasureT-loop
 loop-holds : tie.Need-loop-holds Inv-loop μ-loop
 loop-holds c = (omega arith, refl, put-same (no-corners _) (put-none _ _))
 
-cast-put-half : tie.Need-cast-put-half Inv-loop μ-loop
-cast-put-half c = omega (arith, c .shared-slice-known2 .given (c .before .before .before .loop .c))
-
 loop-again : tie.Need-loop-again Inv-loop μ-loop
 loop-again c =
     let s : tie.Start Inv-loop μ-loop = search in
@@ -46,5 +43,6 @@ returns c =
 
 pub put-corners-spec : {M : Type 1} → Rattle.dms_output.proofs.put_corners.Statement.statement M
 put-corners-spec =
-    tie.close (tie.spec Inv-loop μ-loop loop-holds (λ c. search needs) (λ c. search needs) cast-put-half (λ c κs. search needs) (λ c. search needs)
+    tie.close (tie.spec Inv-loop μ-loop loop-holds (λ c. search needs) (λ c. search needs)
+    (λ c. omega (arith, c .shared-slice-known2 .given (c .before .before .before .loop .c))) (λ c κs. search needs) (λ c. search needs)
     (λ c. search needs) loop-again same-length returns)

@@ -12,18 +12,6 @@ use Rattle.face_sums.proofs.Laws.{place-in, steps-size}
 use Rattle.face_sums.proofs.coordinate.Statement.{statement}
 use Rattle.face_sums.proofs.coordinate.Tie as tie
 
-cast-v : tie.Need-cast-v
-cast-v c = omega (arith, c .shared-slice-known .given (c .before .args .c))
-
-mul-result : tie.Need-mul-result
-mul-result c = omega (arith, c .shared-slice-known .given (c .before .args .c))
-
-add-result : tie.Need-add-result
-add-result c = omega (arith, c .shared-slice-known .given (c .before .args .c), c .before .pre .1 .0)
-
-mul-result-2 : tie.Need-mul-result-2
-mul-result-2 c = omega (arith, c .shared-slice-known .given (c .before .args .c), c .before .pre .1 .0)
-
 shared-slice-copy-out-result : tie.Need-shared-slice-copy-out-result
 shared-slice-copy-out-result c =
     let s = c .before in
@@ -37,4 +25,7 @@ returns c =
 
 pub coordinate-spec : {M : Type 1} → statement M
 coordinate-spec =
-    tie.close (tie.spec (λ c. search needs) (λ c. search needs) cast-v mul-result add-result mul-result-2 shared-slice-copy-out-result returns)
+    tie.close (tie.spec (λ c. search needs) (λ c. search needs) (λ c. omega (arith, c .shared-slice-known .given (c .before .args .c)))
+    (λ c. omega (arith, c .shared-slice-known .given (c .before .args .c)))
+    (λ c. omega (arith, c .shared-slice-known .given (c .before .args .c), c .before .pre .1 .0))
+    (λ c. omega (arith, c .shared-slice-known .given (c .before .args .c), c .before .pre .1 .0)) shared-slice-copy-out-result returns)

@@ -45,9 +45,6 @@ add-j c =
     let t : tie.In-loop Inv-loop μ-loop = search in
     omega (arith, t .loop-test .taken, s .pre .0 .most)
 
-loop-less : tie.Need-loop-less Inv-loop μ-loop
-loop-less c = let t : tie.In-loop Inv-loop μ-loop = search in omega (arith, t .loop-test .taken)
-
 loop-again : tie.Need-loop-again Inv-loop μ-loop
 loop-again c =
     let s : tie.Start Inv-loop μ-loop = search in
@@ -82,5 +79,5 @@ returns c =
 
 pub ring-centre-spec : {M : Type 1} → Rattle.faces.proofs.ring_centre.Statement.statement M
 ring-centre-spec =
-    tie.close (tie.spec Inv-loop μ-loop loop-holds add-point-requires add-point-requires-2 add-point-requires-3 by-requires add-j loop-less loop-again
-    quotient-requires returns)
+    tie.close (tie.spec Inv-loop μ-loop loop-holds add-point-requires add-point-requires-2 add-point-requires-3 by-requires add-j
+    (λ c. let t : tie.In-loop Inv-loop μ-loop = search in omega (arith, t .loop-test .taken)) loop-again quotient-requires returns)

@@ -29,9 +29,6 @@ module _ (s : tie.Start Inv-loop μ-loop) where
   small : (k : ℕ) → natAbs (weight (s .args .m) k) ≤ 7 * unit
   small = weights-small (s .args .m) (s .pre .0 .least) (s .pre .0 .most)
 
-sub-cosine : tie.Need-sub-cosine Inv-loop μ-loop
-sub-cosine c = let s : tie.Start Inv-loop μ-loop = search in omega (arith, s .pre .0 .least)
-
 cosine-requires : tie.Need-cosine-requires Inv-loop μ-loop
 cosine-requires c κs =
     let s : tie.Start Inv-loop μ-loop = search in
@@ -101,9 +98,6 @@ add-j c =
     let t : tie.In-loop Inv-loop μ-loop = search in
     omega (arith, t .loop-test .taken, s .pre .0 .most)
 
-loop-less : tie.Need-loop-less Inv-loop μ-loop
-loop-less c = let t : tie.In-loop Inv-loop μ-loop = search in omega (arith, t .loop-test .taken)
-
 loop-again : tie.Need-loop-again Inv-loop μ-loop
 loop-again c =
     let s : tie.Start Inv-loop μ-loop = search in
@@ -143,5 +137,6 @@ returns c =
 
 pub ring-toward-spec : {M : Type 1} → Rattle.faces.proofs.ring_toward.Statement.statement M
 ring-toward-spec =
-    tie.close (tie.spec Inv-loop μ-loop sub-cosine cosine-requires loop-holds cosine-requires-2 weigh-requires add-point-requires add-point-requires-2
-    add-point-requires-3 by-requires add-j loop-less loop-again quotient-requires returns)
+    tie.close (tie.spec Inv-loop μ-loop (λ c. let s : tie.Start Inv-loop μ-loop = search in omega (arith, s .pre .0 .least)) cosine-requires loop-holds
+    cosine-requires-2 weigh-requires add-point-requires add-point-requires-2 add-point-requires-3 by-requires add-j
+    (λ c. let t : tie.In-loop Inv-loop μ-loop = search in omega (arith, t .loop-test .taken)) loop-again quotient-requires returns)

@@ -23,12 +23,6 @@ module _ (s : tie.Start) where
   small : (i : ℕ) → i < 123 → natAbs (getD (now (s .args .numbers)) i (pos 0)) ≤ 2 ^ 27
   small = number-le _ (net-sound _ _ (s .pre .0))
 
-shared-slice-copy-out-result : tie.Need-shared-slice-copy-out-result
-shared-slice-copy-out-result c = omega (arith, at-most c, c .pre .1, is-long _ (net-sound _ _ (c .pre .0)))
-
-shared-slice-copy-out-result-2 : tie.Need-shared-slice-copy-out-result-2
-shared-slice-copy-out-result-2 c = omega (arith, c .before .pre .1, is-long _ (net-sound _ _ (c .before .pre .0)))
-
 sub-result : tie.Need-sub-result
 sub-result c =
     let s : tie.Start = search in
@@ -46,5 +40,5 @@ returns c =
 pub difference-spec : {M : Type 1} → Rattle.floats.proofs.difference.Statement.statement M
 difference-spec =
     tie.close (tie.spec (λ c. record { fits = omega (arith, at-most c) }) (λ c. record { fits = omega (arith, at-most c, c .pre .1) })
-    (λ c. record { fits = omega (arith, at-most c, c .pre .1) }) shared-slice-copy-out-result (λ c. search needs) shared-slice-copy-out-result-2 sub-result
-    returns)
+    (λ c. record { fits = omega (arith, at-most c, c .pre .1) }) (λ c. omega (arith, at-most c, c .pre .1, is-long _ (net-sound _ _ (c .pre .0))))
+    (λ c. search needs) (λ c. omega (arith, c .before .pre .1, is-long _ (net-sound _ _ (c .before .pre .0)))) sub-result returns)

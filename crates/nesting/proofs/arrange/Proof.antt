@@ -31,9 +31,6 @@ returns c =
     let i : tie.In-loop Inv-loop μ-loop = search in
     filled (i .before .loop .inv .3) (s .pre .few) (s .pre .held) (λ z. omega (arith, told (c .before), c .if1 .taken))
 
-cast-order : tie.Need-cast-order Inv-loop μ-loop
-cast-order c = let s : tie.Start Inv-loop μ-loop = search in omega (arith, s .pre .few, c .if1 .left)
-
 loop-again : tie.Need-loop-again Inv-loop μ-loop
 loop-again c =
     let s : tie.Start Inv-loop μ-loop = search in
@@ -53,5 +50,6 @@ returns-2 c =
 pub arrange-spec : {M : Type 1} → Rattle.nesting.proofs.arrange.Statement.statement M
 arrange-spec =
     tie.close (tie.spec Inv-loop μ-loop (λ c. (omega arith, refl, refl, filling-none _ _ _ (c .before .before .before .pre .blank)))
-    (λ c κs. search needs) (search needs) (search needs) returns cast-order (search needs) (search needs) (search needs) (search needs) (search needs)
-    loop-again (search needs) (search needs) returns-2)
+    (λ c κs. search needs) (search needs) (search needs) returns
+    (λ c. let s : tie.Start Inv-loop μ-loop = search in omega (arith, s .pre .few, c .if1 .left)) (search needs) (search needs) (search needs)
+    (search needs) (search needs) loop-again (search needs) (search needs) returns-2)

@@ -20,9 +20,6 @@ Inv-loop holders b₀ b = (b ≤ length holders) × ((j : ℕ) → j < b → fau
 abbrev μ-loop : tie.MeasureT-loop
 μ-loop holders b₀ b = length holders - b
 
-cast-if1 : tie.Need-cast-if1 Inv-loop μ-loop
-cast-if1 c = omega (arith, c .shared-slice-known .given (c .before .before .loop .b))
-
 returns : tie.Need-returns Inv-loop μ-loop
 returns c =
     let i : tie.In-loop Inv-loop μ-loop = search in
@@ -43,5 +40,6 @@ loop-again c =
 
 pub check-holders-spec : {M : Type 1} → Rattle.nesting.proofs.check_holders.Statement.statement M
 check-holders-spec =
-    tie.close (tie.spec Inv-loop μ-loop (λ c. (omega arith, λ j h. absurd (omega arith))) (search needs) (search needs) cast-if1 returns (search needs)
-    (search needs) loop-again (λ c. sym (lowest-none 22 _ _ (λ j h. c .before .loop .inv .1 j (omega arith)))))
+    tie.close (tie.spec Inv-loop μ-loop (λ c. (omega arith, λ j h. absurd (omega arith))) (search needs) (search needs)
+    (λ c. omega (arith, c .shared-slice-known .given (c .before .before .loop .b))) returns (search needs) (search needs) loop-again
+    (λ c. sym (lowest-none 22 _ _ (λ j h. c .before .loop .inv .1 j (omega arith)))))

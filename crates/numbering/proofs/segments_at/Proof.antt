@@ -9,9 +9,6 @@ use Rattle.numbering.proofs.segments_at.Tie as tie
 beside-requires : tie.Need-beside-requires
 beside-requires c κs = let s : tie.Start = search in (record { mesh = s .pre .0 .mesh; here = s .pre .0 .here }, s .pre .1)
 
-level-at-requires : tie.Need-level-at-requires
-level-at-requires c κs = let s : tie.Start = search in let p = s .pre .0 in omega (arith, p .many, p .here .below)
-
 level-at-requires-2 : tie.Need-level-at-requires-2
 level-at-requires-2 c κs = let s : tie.Start = search in let p = s .pre .0 in omega (arith, p .many, c .before .beside .ensures (p .mesh) (p .here), beside-below (p .mesh) (p .here .accepted) (s .args .c) (p .here .below) (sideAt (s .args .side)))
 
@@ -34,4 +31,6 @@ returns-2 c =
     )
 
 pub segments-at-spec : {M : Type 1} → statement M
-segments-at-spec = tie.close (tie.spec beside-requires level-at-requires level-at-requires-2 returns returns-2)
+segments-at-spec =
+    tie.close (tie.spec beside-requires (λ c κs. let s : tie.Start = search in let p = s .pre .0 in omega (arith, p .many, p .here .below))
+    level-at-requires-2 returns returns-2)

@@ -48,13 +48,11 @@ module _ (t : tie.After-enum-told) where
         taken-fits _ _ (s .args .corners .now) (corners-fit d _ _ _ own four) (corners-fit d _ _ _ (s .pre .2) four),
       )
 
-fill-plain-requires : tie.Need-fill-plain-requires
-fill-plain-requires c κs = let s : tie.Start = search in omega (arith, few search, s .pre .3)
-
 pub read-through-spec : {M : Type 1} → Rattle.off.proofs.read_through.Statement.statement M
 read-through-spec =
     tie.close (tie.spec (λ c κs. search needs) (λ c. search needs) (λ c κs. search needs) (λ c. search needs) (λ c. search needs) (λ c. search needs)
     (λ c. search (needs, copied-none)) (λ c. search needs) (λ c. fits (search) .0) (λ c. taken _ _ (fits (search) .0)) (λ c κs. fits (search) .3)
     (λ c. fits (search) .1) (λ c. taken _ _ (fits (search) .1)) (λ c κs. fits (search) .4) (λ c. fits (search) .2) (λ c. taken _ _ (fits (search) .2))
-    (λ c κs. fits (search) .5) (λ c. omega (arith, few search)) fill-plain-requires (λ c. search needs) (λ c. search needs) (λ c. search needs)
-    (λ c. search needs) (λ c. search needs) (λ c. search needs) (λ c. search needs) (λ c. search (needs, copied-all, own)))
+    (λ c κs. fits (search) .5) (λ c. omega (arith, few search)) (λ c κs. let s : tie.Start = search in omega (arith, few search, s .pre .3))
+    (λ c. search needs) (λ c. search needs) (λ c. search needs) (λ c. search needs) (λ c. search needs) (λ c. search needs) (λ c. search needs)
+    (λ c. search (needs, copied-all, own)))

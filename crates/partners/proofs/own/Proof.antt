@@ -10,9 +10,6 @@ use Rattle.partners.proofs.own.Tie as tie
 returns : tie.Need-returns
 returns c = let s = c .before in rw (eq-eqb (s .args .e) 0 (c .if1 .taken))
 
-cast-v : tie.Need-cast-v
-cast-v c = let s : tie.Start = search in omega (arith, c .shared-slice-known .given (s .args .e - 1))
-
 returns-2 : tie.Need-returns-2
 returns-2 c = let s : tie.Start = search in
     rw (ne-eqb (s .args .e) 0 (c .before .before .if1 .left), eq-eqb (getD (now (s .args .lows)) (s .args .e - 1) 0) (s .args .u) (c .if2 .taken))
@@ -22,4 +19,6 @@ returns-3 c = let s : tie.Start = search in
     rw (ne-eqb (s .args .e) 0 (c .before .before .if1 .left), ne-eqb (getD (now (s .args .lows)) (s .args .e - 1) 0) (s .args .u) (c .if2 .left))
 
 pub own-spec : {M : Type 1} → Rattle.partners.proofs.own.Statement.statement M
-own-spec = tie.close (tie.spec returns (λ c. search needs) (λ c. search needs) (λ c. search needs) (λ c. search needs) cast-v returns-2 returns-3)
+own-spec =
+    tie.close (tie.spec returns (λ c. search needs) (λ c. search needs) (λ c. search needs) (λ c. search needs)
+    (λ c. let s : tie.Start = search in omega (arith, c .shared-slice-known .given (s .args .e - 1))) returns-2 returns-3)

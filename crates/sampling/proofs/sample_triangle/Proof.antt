@@ -30,18 +30,6 @@ returns c =
     let s : tie.Start = search in
     triangle-refused (now (s .args .numbers)) (s .args .side) (s .args .n) (now (s .args .points)) (k .check .result) (k .check .ensures) (a .0 .0) (a .0 .1 .0) (a .1)
 
-add-needed : tie.Need-add-needed
-add-needed t = let h = few t in search needs
-
-add-needed-2 : tie.Need-add-needed-2
-add-needed-2 t = let h = few t in search needs
-
-mul-needed : tie.Need-mul-needed
-mul-needed t = record { fits = omega (arith, few-samples (s t .args .n) (few t)) }
-
-mul-needed-2 : tie.Need-mul-needed-2
-mul-needed-2 t = record { fits = omega (arith, few-samples (s t .args .n) (few t)) }
-
 returns-2 : tie.Need-returns-2
 returns-2 c =
     let t = c .before in
@@ -70,5 +58,6 @@ returns-3 c =
 
 pub sample-triangle-spec : {M : Type 1} → statement M
 sample-triangle-spec =
-    tie.close (tie.spec (λ c κs. search needs) (λ c. search needs) returns (λ c. search needs) add-needed add-needed-2 mul-needed mul-needed-2 returns-2
-    put-triangle-requires (λ c. search needs) returns-3)
+    tie.close (tie.spec (λ c κs. search needs) (λ c. search needs) returns (λ c. search needs) (λ t. let h = few t in search needs)
+    (λ t. let h = few t in search needs) (λ t. record { fits = omega (arith, few-samples (s t .args .n) (few t)) })
+    (λ t. record { fits = omega (arith, few-samples (s t .args .n) (few t)) }) returns-2 put-triangle-requires (λ c. search needs) returns-3)

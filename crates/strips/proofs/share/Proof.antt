@@ -7,11 +7,10 @@ use borrow.Author.Needs.{needs}
 use Rattle.strips.proofs.share.Statement.{statement}
 use Rattle.strips.proofs.share.Tie as tie
 
-mul-result-2 : tie.Need-mul-result-2
-mul-result-2 c = omega (arith, times-few (2 * c .args .j + 1) (c .args .u) (omega arith) (omega arith))
-
 returns : tie.Need-returns
 returns c = (refl, share-less (c .args .p) (c .args .u) (c .args .j) (omega arith) (omega arith) (omega arith))
 
 pub share-spec : {M : Type 1} → statement M
-share-spec = tie.close (tie.spec (λ c. search needs) (λ c. search needs) mul-result-2 (λ c. search needs) (λ c. search needs) returns)
+share-spec =
+    tie.close (tie.spec (λ c. search needs) (λ c. search needs)
+    (λ c. omega (arith, times-few (2 * c .args .j + 1) (c .args .u) (omega arith) (omega arith))) (λ c. search needs) (λ c. search needs) returns)

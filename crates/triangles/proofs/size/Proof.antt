@@ -10,12 +10,6 @@ use Rattle.triangles.proofs.size.Tie as tie
 inner : (s : tie.Start) → s .args .shape .level * (s .args .shape .level - 1) ≤ 240
 inner s = most-inner (s .args .shape .level) (s .pre .few-level)
 
-mul-result : tie.Need-mul-result
-mul-result c = let s : tie.Start = search in record { fits = omega (arith, inner s) }
-
-mul-result-2 : tie.Need-mul-result-2
-mul-result-2 c = let s : tie.Start = search in record { fits = omega (arith, inner s) }
-
 add-result-3 : tie.Need-add-result-3
 add-result-3 c =
     let s : tie.Start = search in
@@ -34,4 +28,5 @@ returns c =
 pub size-spec : {M : Type 1} → statement M
 size-spec =
     tie.close (tie.spec (λ c. search needs) (λ c. search needs) (λ c. search needs) (λ c. search needs) (λ c. search needs) (λ c. search needs)
-    (λ c. search needs) mul-result mul-result-2 add-result-3 add-result-4 returns)
+    (λ c. search needs) (λ c. let s : tie.Start = search in record { fits = omega (arith, inner s) })
+    (λ c. let s : tie.Start = search in record { fits = omega (arith, inner s) }) add-result-3 add-result-4 returns)

@@ -19,18 +19,6 @@ fits = over 4 _ λ ρ. simp (poly, ρ) (omega arith)
 facts : (s : tie.Start) → Fine (s .args .f .b) (s .args .f .c) (s .args .f .d) (s .args .f .e)
 facts s = fits (s .args .f .b) (s .args .f .c) (s .args .f .d) (s .args .f .e) (s .pre .1) (s .pre .2) (s .pre .3) (s .pre .4)
 
-mul-t2 : tie.Need-mul-t2
-mul-t2 c =
-    let s : tie.Start = search in search (toZ-ofZ, facts s)
-
-mul-t3 : tie.Need-mul-t3
-mul-t3 c =
-    let s : tie.Start = search in search (toZ-ofZ, facts s)
-
-mul-t4 : tie.Need-mul-t4
-mul-t4 c =
-    let s : tie.Start = search in search (toZ-ofZ, facts s)
-
 returns : tie.Need-returns
 unfolding slopeOf
 returns c =
@@ -39,4 +27,5 @@ returns c =
     simp (toZ-ofZ, k .0, k .1, k .2, k .3, k .4, k .5, k .6)
 
 pub slope-spec : {M : Type 1} → statement M
-slope-spec = tie.close (tie.spec mul-t2 mul-t3 mul-t4 returns)
+slope-spec =
+    tie.close (tie.spec (λ c. search (toZ-ofZ, facts search)) (λ c. search (toZ-ofZ, facts search)) (λ c. search (toZ-ofZ, facts search)) returns)

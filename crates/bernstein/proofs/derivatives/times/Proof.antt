@@ -38,36 +38,6 @@ module _ (s : tie.Start) where
         product (s .args .m) (s .args .v .e) (s .pre .1) (s .pre .0 .4),
       )
 
-mul-t3 : tie.Need-mul-t3
-mul-t3 c =
-    let s : tie.Start = search in
-    let k = facts s in
-    simp (toZ-ofZ, k .0, k .1) (k .6)
-
-mul-t4 : tie.Need-mul-t4
-mul-t4 c =
-    let s : tie.Start = search in
-    let k = facts s in
-    simp (toZ-ofZ, k .0, k .2) (k .7)
-
-mul-t5 : tie.Need-mul-t5
-mul-t5 c =
-    let s : tie.Start = search in
-    let k = facts s in
-    simp (toZ-ofZ, k .0, k .3) (k .8)
-
-mul-t6 : tie.Need-mul-t6
-mul-t6 c =
-    let s : tie.Start = search in
-    let k = facts s in
-    simp (toZ-ofZ, k .0, k .4) (k .9)
-
-mul-t7 : tie.Need-mul-t7
-mul-t7 c =
-    let s : tie.Start = search in
-    let k = facts s in
-    simp (toZ-ofZ, k .0, k .5) (k .10)
-
 returns : tie.Need-returns
 unfolding timesOf
 returns c =
@@ -76,4 +46,9 @@ returns c =
     simp (toZ-ofZ, k .0, k .1, k .2, k .3, k .4, k .5, k .6, k .7, k .8, k .9, k .10)
 
 pub times-spec : {M : Type 1} → statement M
-times-spec = tie.close (tie.spec mul-t3 mul-t4 mul-t5 mul-t6 mul-t7 returns)
+times-spec =
+    tie.close (tie.spec (λ c. let s : tie.Start = search in let k = facts s in simp (toZ-ofZ, k .0, k .1) (k .6))
+    (λ c. let s : tie.Start = search in let k = facts s in simp (toZ-ofZ, k .0, k .2) (k .7))
+    (λ c. let s : tie.Start = search in let k = facts s in simp (toZ-ofZ, k .0, k .3) (k .8))
+    (λ c. let s : tie.Start = search in let k = facts s in simp (toZ-ofZ, k .0, k .4) (k .9))
+    (λ c. let s : tie.Start = search in let k = facts s in simp (toZ-ofZ, k .0, k .5) (k .10)) returns)

@@ -79,9 +79,6 @@ module _ (l : tie.In-loop Inv-loop μ-loop) where
   held : (q : ℕ) → q < begin .args .k → NetHeldAll mesh (begin .args .start + q) (now (begin .args .face)) (perCorner * q)
   held = held-of _ _ _ (begin .pre .0 .0) _ _ (begin .pre .1 .0 .within) _ (begin .pre .1 .1 .0 .0) (begin .pre .1 .1 .0 .1)
 
-linked-requires : tie.Need-linked-requires Inv-loop μ-loop
-linked-requires c κs = omega (arith, corner-in c, begin c .pre .0 .0 .table-long)
-
 -- its link
 module _ (a : tie.After-linked Inv-loop μ-loop) where
   link-in : a .linked .result .corner < begin (a .before) .args .n
@@ -166,9 +163,11 @@ returns c i few =
 
 pub face-misses-spec : {M : Type 1} → Rattle.border_report.proofs.border_misses.face_misses.Statement.statement M
 face-misses-spec =
-    tie.close (tie.spec Inv-loop μ-loop (λ c. search needs) take-face-requires loop-holds (λ c. search (needs, corner-in c)) linked-requires
+    tie.close (tie.spec Inv-loop μ-loop (λ c. search needs) take-face-requires loop-holds (λ c. search (needs, corner-in c))
+    (λ c κs. omega (arith, corner-in c, begin c .pre .0 .0 .table-long))
     (λ c. let l : tie.In-loop Inv-loop μ-loop = search in sym (l .before .loop .inv .1)) write-corners-requires
-    (λ c. let l : tie.In-loop Inv-loop μ-loop = search in search (needs, few l)) (λ c. let l : tie.In-loop Inv-loop μ-loop = search in search (needs, few l))
+    (λ c. let l : tie.In-loop Inv-loop μ-loop = search in search (needs, few l))
+    (λ c. let l : tie.In-loop Inv-loop μ-loop = search in search (needs, few l))
     (λ c. let f : tie.Joined1 Inv-loop μ-loop = search in search (needs, few-next f))
     (λ c. let w : tie.After-write-corners Inv-loop μ-loop = search in let l : tie.In-loop Inv-loop μ-loop = search in sym (w .write-corners .kept .1 .1 .1 .1 .1 .1 .0 ∙ l .before .loop .inv .1))
     (λ c. let l : tie.In-loop Inv-loop μ-loop = search in sym (l .before .loop .inv .2 .0)) corner-misses-requires (λ c κs. search needs)

@@ -25,20 +25,10 @@ fits = over 3 _ λ ρ. simp (poly, ρ) (omega arith)
 facts : (s : tie.Start) → Fine (s .args .b) (s .args .a) (s .args .other)
 facts s = fits (s .args .b) (s .args .a) (s .args .other) (s .pre)
 
-add-result : tie.Need-add-result
-add-result c = search (needs, facts c)
-
-mul-result : tie.Need-mul-result
-mul-result c = search (needs, facts c)
-
-sub-result : tie.Need-sub-result
-sub-result c = search (needs, facts c)
-
-mul-result-2 : tie.Need-mul-result-2
-mul-result-2 c = search (needs, facts c)
-
 returns : tie.Need-returns
 returns c = let k = facts c in simp (toZ-ofZ, c .fits .b, c .fits .a, c .fits .other, k .0, k .1, k .2, k .3) (refl, k .4)
 
 pub bend-spec : {M : Type 1} → Rattle.border_report.proofs.misses.bend.Statement.statement M
-bend-spec = tie.close (tie.spec add-result mul-result sub-result mul-result-2 returns)
+bend-spec =
+    tie.close (tie.spec (λ c. search (needs, facts c)) (λ c. search (needs, facts c)) (λ c. search (needs, facts c)) (λ c. search (needs, facts c))
+    returns)

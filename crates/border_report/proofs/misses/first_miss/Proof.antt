@@ -26,12 +26,6 @@ leans c = search needs
 facts : (c : tie.After-lean) → Fine (c .before .args .bent) (c .lean .result)
 facts c = fits (c .before .args .bent) (c .lean .result) (c .before .pre .3) (c .lean .ensures .1)
 
-mul-magnitude : tie.Need-mul-magnitude
-mul-magnitude c = simp (toZ-ofZ, leans c) (facts c .0)
-
-magnitude-requires : tie.Need-magnitude-requires
-magnitude-requires c κs = let k = facts c in simp (toZ-ofZ, c .before .fits .bent, leans c, k .0, k .1) (k .2)
-
 returns : tie.Need-returns
 returns c =
     let l = c .before in
@@ -42,4 +36,6 @@ returns c =
     (simp (toZ-ofZ, s .fits .c, s .fits .h, s .fits .x) at (l .lean .ensures .0)))
 
 pub first-miss-spec : {M : Type 1} → Rattle.border_report.proofs.misses.first_miss.Statement.statement M
-first-miss-spec = tie.close (tie.spec (λ c κs. search needs) mul-magnitude (λ c. search (toZ-ofZ, facts c)) magnitude-requires returns)
+first-miss-spec =
+    tie.close (tie.spec (λ c κs. search needs) (λ c. simp (toZ-ofZ, leans c) (facts c .0)) (λ c. search (toZ-ofZ, facts c))
+    (λ c κs. let k = facts c in simp (toZ-ofZ, c .before .fits .bent, leans c, k .0, k .1) (k .2)) returns)

@@ -23,9 +23,6 @@ fits = over 3 _ λ ρ. simp (poly, ρ) (omega arith)
 facts : (s : tie.Start) → Fine (s .args .bent) (s .args .t) (s .args .y)
 facts s = fits (s .args .bent) (s .args .t) (s .args .y) (s .pre .2) (s .pre .0) (s .pre .1)
 
-sub-magnitude : tie.Need-sub-magnitude
-sub-magnitude c = simp (toZ-ofZ, c .fits .t, c .fits .y) (facts c .0)
-
 magnitude-requires : tie.Need-magnitude-requires
 magnitude-requires c κs = let k = facts c in simp (toZ-ofZ, c .fits .bent, c .fits .t, c .fits .y, k .0, k .1, k .2) (k .3)
 
@@ -36,4 +33,6 @@ returns c =
     simp (toZ-ofZ, s .fits .bent, s .fits .t, s .fits .y, k .0, k .1, k .2) at (c .magnitude .ensures)
 
 pub fourth-miss-spec : {M : Type 1} → Rattle.border_report.proofs.misses.fourth_miss.Statement.statement M
-fourth-miss-spec = tie.close (tie.spec sub-magnitude (λ c. search (toZ-ofZ, facts c)) (λ c. search (toZ-ofZ, facts c)) magnitude-requires returns)
+fourth-miss-spec =
+    tie.close (tie.spec (λ c. simp (toZ-ofZ, c .fits .t, c .fits .y) (facts c .0)) (λ c. search (toZ-ofZ, facts c)) (λ c. search (toZ-ofZ, facts c))
+    magnitude-requires returns)

@@ -30,12 +30,6 @@ product s = let k = facts s in abs-mul-le (one +ℤ s .args .c) (s .args .v -ℤ
 product-fits : (s : tie.Start) → SFits w64 ((one +ℤ s .args .c) *ℤ (s .args .v -ℤ s .args .u))
 product-fits s = abs-fits w64 _ (2 ^ 57) (product s) (lit< tt)
 
-add-result : tie.Need-add-result
-add-result c = search (needs, facts c)
-
-sub-result : tie.Need-sub-result
-sub-result c = search (needs, facts c)
-
 mul-result : tie.Need-mul-result
 mul-result c = let k = facts c in simp (toZ-ofZ, c .fits .c, c .fits .u, c .fits .v, k .0, k .1) (record { sfits = product-fits c .sfits })
 
@@ -43,4 +37,4 @@ returns : tie.Need-returns
 returns c = let k = facts c in simp (toZ-ofZ, c .fits .c, c .fits .u, c .fits .v, k .0, k .1, product-fits c) (refl, product c)
 
 pub lean-spec : {M : Type 1} → Rattle.border_report.proofs.misses.lean.Statement.statement M
-lean-spec = tie.close (tie.spec add-result sub-result mul-result returns)
+lean-spec = tie.close (tie.spec (λ c. search (needs, facts c)) (λ c. search (needs, facts c)) mul-result returns)

@@ -34,12 +34,6 @@ facts c =
     let s = c .before in
     fits (s .args .bent) (c .lean .result) (s .args .h) (s .args .x) (s .pre .4) (c .lean .ensures .1) (s .pre .1) (s .pre .2)
 
-mul-magnitude : tie.Need-mul-magnitude
-mul-magnitude c = simp (toZ-ofZ, leans c) (facts c .0)
-
-sub-magnitude-2 : tie.Need-sub-magnitude-2
-sub-magnitude-2 c = simp (toZ-ofZ, c .before .fits .x, c .before .fits .h) (facts c .2)
-
 sub-magnitude-3 : tie.Need-sub-magnitude-3
 sub-magnitude-3 c =
     let k = facts c in
@@ -64,5 +58,6 @@ returns c =
 
 pub second-miss-spec : {M : Type 1} → Rattle.border_report.proofs.misses.second_miss.Statement.statement M
 second-miss-spec =
-    tie.close (tie.spec (λ c κs. search needs) mul-magnitude (λ c. search (toZ-ofZ, facts c)) sub-magnitude-2 (λ c. search (toZ-ofZ, facts c))
-    sub-magnitude-3 magnitude-requires returns)
+    tie.close (tie.spec (λ c κs. search needs) (λ c. simp (toZ-ofZ, leans c) (facts c .0)) (λ c. search (toZ-ofZ, facts c))
+    (λ c. simp (toZ-ofZ, c .before .fits .x, c .before .fits .h) (facts c .2)) (λ c. search (toZ-ofZ, facts c)) sub-magnitude-3 magnitude-requires
+    returns)

@@ -33,12 +33,6 @@ facts c =
     let s = c .before in
     fits (s .args .bent) (c .lean .result) (s .args .x) (s .args .y) (s .pre .4) (c .lean .ensures .1) (s .pre .2) (s .pre .3)
 
-sub-magnitude : tie.Need-sub-magnitude
-sub-magnitude c = simp (toZ-ofZ, c .before .fits .bent, leans c) (facts c .0)
-
-sub-magnitude-2 : tie.Need-sub-magnitude-2
-sub-magnitude-2 c = simp (toZ-ofZ, c .before .fits .x, c .before .fits .y) (facts c .1)
-
 sub-magnitude-3 : tie.Need-sub-magnitude-3
 sub-magnitude-3 c =
     let k = facts c in
@@ -63,4 +57,6 @@ returns c =
 
 pub third-miss-spec : {M : Type 1} → Rattle.border_report.proofs.misses.third_miss.Statement.statement M
 third-miss-spec =
-    tie.close (tie.spec (λ c κs. search needs) sub-magnitude sub-magnitude-2 (λ c. search (toZ-ofZ, facts c)) sub-magnitude-3 magnitude-requires returns)
+    tie.close (tie.spec (λ c κs. search needs) (λ c. simp (toZ-ofZ, c .before .fits .bent, leans c) (facts c .0))
+    (λ c. simp (toZ-ofZ, c .before .fits .x, c .before .fits .y) (facts c .1)) (λ c. search (toZ-ofZ, facts c)) sub-magnitude-3 magnitude-requires
+    returns)

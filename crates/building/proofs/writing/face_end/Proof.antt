@@ -28,12 +28,6 @@ ends c sides r h =
     let b = first-to sides d h in
     omega (arith, e, c .sides .ensures .read, r .counts at (omega arith), sides-same sides d h at (omega arith) (omega arith))
 
-face-start-requires : tie.Need-face-start-requires
-face-start-requires c κs = let s : tie.Start = search in omega (arith, s .pre .here, s .pre .rounds .long)
-
-sides-requires : tie.Need-sides-requires
-sides-requires c κs = omega (arith, below c, c .before .before .pre .rounds .long)
-
 add-result : tie.Need-add-result
 add-result c =
     let s : tie.Start = search in
@@ -41,4 +35,6 @@ add-result c =
     omega (arith, ends c (w .sides) (w .rounds) (w .here), first-ends (w .sides) (s .args .c) (w .here), w .rounds .faces .few)
 
 pub face-end-spec : {M : Type 1} → statement M
-face-end-spec = tie.close (tie.spec face-start-requires sides-requires add-result (λ c. ends c))
+face-end-spec =
+    tie.close (tie.spec (λ c κs. let s : tie.Start = search in omega (arith, s .pre .here, s .pre .rounds .long))
+    (λ c κs. omega (arith, below c, c .before .before .pre .rounds .long)) add-result (λ c. ends c))

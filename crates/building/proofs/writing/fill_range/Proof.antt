@@ -58,9 +58,6 @@ module _ (c : tie.After-face-end) where
       ≡ firstOf (now (t .args .sides)) last + sidesOf (now (t .args .sides)) last
   at-last = omega (arith, at-end, whole .0)
 
-face-start-requires : tie.Need-face-start-requires
-face-start-requires c κs = let s : tie.Start = search in omega (arith, ends s .0, rounds s .long)
-
 face-end-requires : tie.Need-face-end-requires
 face-end-requires c κs = let s : tie.Start = search in record { sides = now (s .args .sides); rounds = rounds s; here = ends s .1 }
 
@@ -103,5 +100,5 @@ returns c =
 
 pub fill-range-spec : {M : Type 1} → statement M
 fill-range-spec =
-    tie.close (tie.spec face-start-requires (λ c. search needs) (λ c. search needs) face-end-requires sub-mark-vertices (λ c. search needs)
-    mark-vertices-requires (λ c. search needs) fill-points-requires (λ c. search needs) returns)
+    tie.close (tie.spec (λ c κs. let s : tie.Start = search in omega (arith, ends s .0, rounds s .long)) (λ c. search needs) (λ c. search needs)
+    face-end-requires sub-mark-vertices (λ c. search needs) mark-vertices-requires (λ c. search needs) fill-points-requires (λ c. search needs) returns)

@@ -79,12 +79,6 @@ module _ (r : tie.After-least Inv-loop μ-loop) where
         run-of _ _ _ (s .pre .0 .0) (s .pre .0 .1) _ _ (corner-in l) (omega (arith, b .0, p .0, end-is ends)),
       )
 
-sub-least : tie.Need-sub-least Inv-loop μ-loop
-sub-least c = let p = past c in omega (arith, p .0)
-
-sub-least-2 : tie.Need-sub-least-2 Inv-loop μ-loop
-sub-least-2 c = omega (arith, below (turn c))
-
 put-run-requires : tie.Need-put-run-requires Inv-loop μ-loop
 put-run-requires c κs =
     let r : tie.After-least Inv-loop μ-loop = search in
@@ -101,11 +95,6 @@ add-k c =
     let r : tie.After-least Inv-loop μ-loop = search in
     let s = start (turn (ends r)) in
     omega (arith, run-is r .1, s .fits .count)
-
-loop-less : tie.Need-loop-less Inv-loop μ-loop
-loop-less c =
-    let r : tie.After-least Inv-loop μ-loop = search in
-    omega (arith, run-is r .0, run-is r .1)
 
 loop-again : tie.Need-loop-again Inv-loop μ-loop
 loop-again c =
@@ -130,7 +119,8 @@ returns c =
 
 pub write-corners-spec : {M : Type 1} → statement M
 write-corners-spec =
-    tie.close (tie.spec Inv-loop μ-loop loop-holds (λ c. search needs) face-end-requires sub-least sub-least-2 (λ c κs. search needs) (λ c. search needs)
+    tie.close (tie.spec Inv-loop μ-loop loop-holds (λ c. search needs) face-end-requires (λ c. let p = past c in omega (arith, p .0))
+    (λ c. omega (arith, below (turn c))) (λ c κs. search needs) (λ c. search needs)
     (λ c. let l : tie.In-loop Inv-loop μ-loop = search in sym (l .before .loop .inv .3))
-    (λ c. let l : tie.In-loop Inv-loop μ-loop = search in sym (l .before .loop .inv .4)) put-run-requires add-k loop-less loop-again
-    (λ c. c .before .loop .inv .1) returns)
+    (λ c. let l : tie.In-loop Inv-loop μ-loop = search in sym (l .before .loop .inv .4)) put-run-requires add-k
+    (λ c. let r : tie.After-least Inv-loop μ-loop = search in omega (arith, run-is r .0, run-is r .1)) loop-again (λ c. c .before .loop .inv .1) returns)

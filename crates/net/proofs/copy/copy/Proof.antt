@@ -42,9 +42,6 @@ loop-again c =
           (c .before .copy-run .ensures) (omega arith)),
     )
 
-same-length : tie.Need-same-length Inv-loop μ-loop
-same-length c = search (needs, c .before .before .before .before .before .before .before .loop .inv .1 .same)
-
 returns : tie.Need-returns Inv-loop μ-loop
 returns c =
     let l = c .before .before .before .before .before .before .before .loop in
@@ -61,9 +58,8 @@ returns c =
 pub copy-spec : {M : Type 1} → Rattle.net.proofs.copy.copy.Statement.statement M
 copy-spec =
     tie.close (tie.spec Inv-loop μ-loop loop-holds (λ c. search needs) copy-run-requires (λ c. search needs) (λ c. search needs) loop-again
-    (λ c. let s = c .before .before in search (needs, s .pre .0))
-    (λ c. let s = c .before .before .before in search (needs, s .pre .0))
+    (λ c. let s = c .before .before in search (needs, s .pre .0)) (λ c. let s = c .before .before .before in search (needs, s .pre .0))
     (λ c. let s = c .before .before .before .before in search (needs, s .pre .0))
     (λ c. let s = c .before .before .before .before .before .before in search (needs, s .pre .1))
     (λ c κs. let l = c .before .before .before .before .before in omega (arith, l .before .pre .1, l .loop .inv .1 .same))
-    same-length returns)
+    (λ c. search (needs, c .before .before .before .before .before .before .before .loop .inv .1 .same)) returns)

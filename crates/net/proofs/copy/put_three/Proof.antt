@@ -6,12 +6,6 @@ use mir.Facts.{toZ-ofZ}
 use Rattle.net.proofs.copy.Copies.{three-put}
 use Rattle.net.proofs.copy.put_three.Tie as tie
 
-slice-set-from-y : tie.Need-slice-set-from-y
-slice-set-from-y c = simp length-set (omega (arith, c .pre))
-
-slice-set-from-z : tie.Need-slice-set-from-z
-slice-set-from-z c = simp length-set (omega (arith, c .pre))
-
 returns : tie.Need-returns
 returns c =
     rw (toZ-ofZ (c .fits .x), toZ-ofZ (c .fits .y), toZ-ofZ (c .fits .z)) (three-put (c .args .x) (c .args .y) (c .args .z) (c .args .to) (c .args .out
@@ -19,5 +13,5 @@ returns c =
 
 pub put-three-spec : {M : Type 1} → Rattle.net.proofs.copy.put_three.Statement.statement M
 put-three-spec =
-    tie.close (tie.spec (λ c. search needs) (λ c. search needs) (λ c. search needs) (λ c. search needs) slice-set-from-y (λ c. search needs)
-    (λ c. search needs) slice-set-from-z (λ c. search needs) returns)
+    tie.close (tie.spec (λ c. search needs) (λ c. search needs) (λ c. search needs) (λ c. search needs) (λ c. simp length-set (omega (arith, c .pre)))
+    (λ c. search needs) (λ c. search needs) (λ c. simp length-set (omega (arith, c .pre))) (λ c. search needs) returns)

@@ -16,9 +16,6 @@ Inv-loop word from n₀ i₀ n i =
 abbrev μ-loop : tie.MeasureT-loop
 μ-loop word from n₀ i₀ n i = length word - i
 
-loop-holds : tie.Need-loop-holds Inv-loop μ-loop
-loop-holds c = search (needs, tens-start (c .before .args .from - (c .before) .args .from) (omega arith))
-
 with-digit-requires : tie.Need-with-digit-requires Inv-loop μ-loop
 with-digit-requires c κs =
     let s : tie.Start Inv-loop μ-loop = search in
@@ -52,4 +49,5 @@ returns c =
 
 pub decimal-spec : {M : Type 1} → Rattle.off_words.proofs.digits.decimal.Statement.statement M
 decimal-spec =
-    tie.close (tie.spec Inv-loop μ-loop loop-holds (λ c. search needs) with-digit-requires (λ c. search needs) (λ c. search needs) loop-again returns)
+    tie.close (tie.spec Inv-loop μ-loop (λ c. search (needs, tens-start (c .before .args .from - (c .before) .args .from) (omega arith)))
+    (λ c. search needs) with-digit-requires (λ c. search needs) (λ c. search needs) loop-again returns)

@@ -15,9 +15,6 @@ abbrev μ-loop : tie.MeasureT-loop
 loop-holds : tie.Need-loop-holds Inv-loop μ-loop
 loop-holds c = (omega arith, λ l. absurd (omega arith))
 
-loop-less : tie.Need-loop-less Inv-loop μ-loop
-loop-less c = let e = c .before .skip .ensures in omega arith
-
 loop-again : tie.Need-loop-again Inv-loop μ-loop
 loop-again c = let e = c .before .skip .ensures in let h = c .before .before .before .loop .inv .0 in (omega arith, λ l. omega arith)
 
@@ -37,5 +34,5 @@ returns-3 c = measured-short _ _
 
 pub count-on-spec : {M : Type 1} → Rattle.print.proofs.file_input.count_on.Statement.statement M
 count-on-spec =
-    tie.close (tie.spec Inv-loop μ-loop (λ c κs. search needs) (λ c. search needs) loop-holds (λ c. search needs) (λ c κs. search needs) (λ c. search needs)
-    loop-less loop-again returns returns-2 returns-3)
+    tie.close (tie.spec Inv-loop μ-loop (λ c κs. search needs) (λ c. search needs) loop-holds (λ c. search needs) (λ c κs. search needs)
+    (λ c. search needs) (λ c. let e = c .before .skip .ensures in omega arith) loop-again returns returns-2 returns-3)

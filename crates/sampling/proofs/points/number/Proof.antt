@@ -7,9 +7,6 @@ use Rattle.sampling.proofs.points.Laws.{number-fits, number-is, number-
 use Rattle.sampling.proofs.points.number.Statement.{statement}
 use Rattle.sampling.proofs.points.number.Tie as tie
 
-shared-slice-copy-out-z : tie.Need-shared-slice-copy-out-z
-shared-slice-copy-out-z c = omega (arith, is-long _ (c .pre .0), c .pre .1, c .pre .2)
-
 cast-result : tie.Need-cast-result
 cast-result c =
     let s = c .before in
@@ -22,4 +19,6 @@ returns c =
     (e, rw e (number-size (now (s .args .numbers)) (s .pre .0) (s .args .point) (s .args .axis) (s .pre .1) (s .pre .2)))
 
 pub number-spec : {M : Type 1} → statement M
-number-spec = tie.close (tie.spec (λ c. search needs) (λ c. search needs) (λ c. search needs) shared-slice-copy-out-z cast-result returns)
+number-spec =
+    tie.close (tie.spec (λ c. search needs) (λ c. search needs) (λ c. search needs) (λ c. omega (arith, is-long _ (c .pre .0), c .pre .1, c .pre .2))
+    cast-result returns)

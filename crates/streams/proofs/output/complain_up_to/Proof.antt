@@ -4,8 +4,7 @@ use borrow.Author.Needs.{needs}
 use native.Mathlib.Omega.{arith}
 use Rattle.streams.proofs.output.complain_up_to.Tie as tie
 
-slice-aggregate-complain : tie.Need-slice-aggregate-complain
-slice-aggregate-complain c = let h = c .before .if1 .taken in simp length-take (omega arith)
-
 pub complain-up-to-spec : {M : Type 1} → Rattle.streams.proofs.output.complain_up_to.Statement.statement M
-complain-up-to-spec = tie.close (tie.spec slice-aggregate-complain (λ c κs. search needs) (λ c. search needs) (λ c. search needs))
+complain-up-to-spec =
+    tie.close (tie.spec (λ c. let h = c .before .if1 .taken in simp length-take (omega arith)) (λ c κs. search needs) (λ c. search needs)
+    (λ c. search needs))

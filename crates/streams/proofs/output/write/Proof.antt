@@ -11,13 +11,7 @@ Inv-loop fd bytes done₀ done = done ≤ length bytes
 abbrev μ-loop : tie.MeasureT-loop
 μ-loop fd bytes done₀ done = length bytes - done
 
-loop-less : tie.Need-loop-less Inv-loop μ-loop
-loop-less c = let e = c .before .write-from .ensures in omega arith
-
-loop-again : tie.Need-loop-again Inv-loop μ-loop
-loop-again c = let e = c .before .write-from .ensures in omega arith
-
 pub write-spec : {M : Type 1} → Rattle.streams.proofs.output.write.Statement.statement M
 write-spec =
-    tie.close (tie.spec Inv-loop μ-loop (λ c. omega arith) (λ c κs. search needs) (λ c. search needs) (λ c. search needs) loop-less loop-again
-    (λ c. search needs))
+    tie.close (tie.spec Inv-loop μ-loop (λ c. omega arith) (λ c κs. search needs) (λ c. search needs) (λ c. search needs)
+    (λ c. let e = c .before .write-from .ensures in omega arith) (λ c. let e = c .before .write-from .ensures in omega arith) (λ c. search needs))

@@ -4,9 +4,6 @@ use mir.Facts.{toZ-ofZ, sfits-widen}
 use Rattle.streams.proofs.text.Decimals.{negated, plain, negated-size}
 use Rattle.streams.proofs.text.size.Tie as tie
 
-cast-wide : tie.Need-cast-wide
-cast-wide c = simp (toZ-ofZ, c .fits .z) (sfits-widen {w = w32} {w′ = w64} tt (c .fits .z))
-
 sub-result : tie.Need-sub-result
 sub-result c =
     let s = c .before in
@@ -41,4 +38,6 @@ returns-2 c =
     simp (toZ-ofZ, s .fits .z, f)
 
 pub size-spec : {M : Type 1} → Rattle.streams.proofs.text.size.Statement.statement M
-size-spec = tie.close (tie.spec cast-wide sub-result cast-result returns cast-result-2 returns-2)
+size-spec =
+    tie.close (tie.spec (λ c. simp (toZ-ofZ, c .fits .z) (sfits-widen {w = w32} {w′ = w64} tt (c .fits .z))) sub-result cast-result returns
+    cast-result-2 returns-2)

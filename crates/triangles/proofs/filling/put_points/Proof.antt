@@ -35,9 +35,6 @@ put-net-requires c κs =
     let h : tie.After-shape-of = search in
     (s .pre .0 .2, h .shape-of .ensures .0, room-of s (h .shape-of .result) (h .shape-of .ensures .1))
 
-mul-result : tie.Need-mul-result
-mul-result c = let z : tie.After-size = search in record { fits = omega (arith, z .size .ensures .1) }
-
 add-result : tie.Need-add-result
 add-result c =
     let s : tie.Start = search in
@@ -66,4 +63,5 @@ returns c =
 
 pub put-points-spec : {M : Type 1} → statement M
 put-points-spec =
-    tie.close (tie.spec (λ c κs. search needs) (λ c κs. c .shape-of .ensures .0) put-net-requires mul-result add-result (λ c. search needs) returns)
+    tie.close (tie.spec (λ c κs. search needs) (λ c κs. c .shape-of .ensures .0) put-net-requires
+    (λ c. let z : tie.After-size = search in record { fits = omega (arith, z .size .ensures .1) }) add-result (λ c. search needs) returns)

@@ -49,9 +49,6 @@ module _ (p : tie.After-points-in) where
   many : p .points-in .result ≤ 600 * 8192
   many = omega (arith, p .points-in .ensures .1, start .pre .1 .1, few start)
 
-mul-needed : tie.Need-mul-needed
-mul-needed c = let p : tie.After-points-in = search in record { fits = omega (arith, many p) }
-
 returns : tie.Need-returns
 returns c =
     let p : tie.After-points-in = search in
@@ -75,5 +72,6 @@ returns-2 c =
 
 pub fill-spec : {M : Type 1} → statement M
 fill-spec =
-    tie.close (tie.spec (λ c. search needs) fill-lowest-requires (λ c. search needs) points-in-requires mul-needed returns (λ c. search needs)
-    fill-pairs-requires (λ c. search needs) returns-2)
+    tie.close (tie.spec (λ c. search needs) fill-lowest-requires (λ c. search needs) points-in-requires
+    (λ c. let p : tie.After-points-in = search in record { fits = omega (arith, many p) }) returns (λ c. search needs) fill-pairs-requires
+    (λ c. search needs) returns-2)

@@ -39,9 +39,6 @@ put-pairs-requires c κs =
       room-of s (h .shape-of .result) (h .shape-of .ensures .1),
     )
 
-mul-result : tie.Need-mul-result
-mul-result c = let z : tie.After-size = search in record { fits = omega (arith, z .size .ensures .1) }
-
 add-result : tie.Need-add-result
 add-result c =
     let s : tie.Start = search in
@@ -70,4 +67,6 @@ returns c =
 
 pub put-tangents-spec : {M : Type 1} → statement M
 put-tangents-spec =
-    tie.close (tie.spec (λ c κs. search needs) segments-at-requires (λ c κs. let h : tie.After-shape-of = search in h .shape-of .ensures .0) put-pairs-requires mul-result add-result (λ c. search needs) returns)
+    tie.close (tie.spec (λ c κs. search needs) segments-at-requires (λ c κs. let h : tie.After-shape-of = search in h .shape-of .ensures .0)
+    put-pairs-requires (λ c. let z : tie.After-size = search in record { fits = omega (arith, z .size .ensures .1) }) add-result (λ c. search needs)
+    returns)
