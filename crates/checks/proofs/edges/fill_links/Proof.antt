@@ -39,36 +39,37 @@ loop-holds c =
 
 mark-requires : tie.Need-mark-requires Inv-loop μ-loop
 mark-requires c κs =
-    let l = c .before .before .before .before .loop in let s : tie.Start Inv-loop μ-loop = search in
+    let l : tie.At-loop Inv-loop μ-loop = search in let s : tie.Start Inv-loop μ-loop = search in
     let taken = c .before .before .before .loop-test .taken in
-    ((l .inv .3, omega (arith, s .pre .1 .0 .1, l .inv .2, taken), l .inv .5), (l .inv .10 (l .u) (omega arith), l .inv .4))
+    ((l .loop .inv .3, omega (arith, s .pre .1 .0 .1, l .loop .inv .2, taken), l .loop .inv .5), (l .loop .inv .10 (l .loop .u) (omega arith), l .loop .inv .4))
 
 collect-requires : tie.Need-collect-requires Inv-loop μ-loop
 collect-requires c κs =
-    let m = c .before .before .before .before .mark in
-    let l = c .before .before .before .before .before .before .before .before .before .loop in
-    let k = searchable-on _ (l .table) (l .table) (faces-same (l .table)) (l .vertices) _ refl (m .kept .1 .1 .1 .1 .0) (l .inv .3) in
-    ((k, l .inv .5, l .inv .10 (l .u) (omega arith)), (m .ensures .0, m .ensures .1 .0 .0))
+    let m : tie.After-mark Inv-loop μ-loop = search in
+    let l : tie.At-loop Inv-loop μ-loop = search in
+    let k = searchable-on _ (l .loop .table) (l .loop .table) (faces-same (l .loop .table)) (l .loop .vertices) _ refl (m .mark .kept .1 .1 .1 .1 .0) (l .loop .inv .3) in
+    ((k, l .loop .inv .5, l .loop .inv .10 (l .loop .u) (omega arith)), (m .mark .ensures .0, m .mark .ensures .1 .0 .0))
 
 loop-again : tie.Need-loop-again Inv-loop μ-loop
 loop-again c =
-    let k = c .before .before .collect in
-    let m = c .before .before .before .before .before .before .before .mark in
-    let taken = c .before .before .before .before .before .before .before .before .before .before .before .loop-test .taken in
-    let t = c .before .before .before .before .before .before .before .before .before .before .before .before in
+    let lo : tie.In-loop Inv-loop μ-loop = search in
+    let k : tie.After-collect Inv-loop μ-loop = search in
+    let m : tie.After-mark Inv-loop μ-loop = search in
+    let taken = lo .loop-test .taken in
+    let t : tie.At-loop Inv-loop μ-loop = search in
     let l = t .loop in let s : tie.Start Inv-loop μ-loop = search in
-    let e = k .ensures .faces in (
+    let e = k .collect .ensures .faces in (
       omega (arith, taken),
-      k .kept .1 .1 .1 .1 .1 .0 ∙ l .inv .1,
-      m .kept .1 .1 .1 .1 .0 ∙ l .inv .2,
-      searchable-on _ (l .table) _ e (l .vertices) _ (k .kept .1 .1 .1 .1 .1 .0) (m .kept .1 .1 .1 .1 .0) (l .inv .3),
-      both-keyed-on _ (l .table) _ e _ (m .ensures .0 .keyed),
-      chains-more _ (l .table) _ (l .u) (k .ensures) (l .inv .5),
-      below-more _ (l .table) _ (l .u) (k .ensures) (l .inv .6),
-      valences-more _ (l .table) _ (l .u) (k .ensures) (l .inv .7),
+      k .collect .kept .1 .1 .1 .1 .1 .0 ∙ l .inv .1,
+      m .mark .kept .1 .1 .1 .1 .0 ∙ l .inv .2,
+      searchable-on _ (l .table) _ e (l .vertices) _ (k .collect .kept .1 .1 .1 .1 .1 .0) (m .mark .kept .1 .1 .1 .1 .0) (l .inv .3),
+      both-keyed-on _ (l .table) _ e _ (m .mark .ensures .0 .keyed),
+      chains-more _ (l .table) _ (l .u) (k .collect .ensures) (l .inv .5),
+      below-more _ (l .table) _ (l .u) (k .collect .ensures) (l .inv .6),
+      valences-more _ (l .table) _ (l .u) (k .collect .ensures) (l .inv .7),
       faces-then _ (l .table) _ e (l .inv .8),
-      counted-more _ (l .vertices) _ (l .u) (m .ensures .1 .0 .1) (m .ensures .1 .1) (l .inv .9),
-      heads-more (now (s .args .corners)) (l .vertices) _ (l .u) (m .ensures .1 .1) (l .inv .10),
+      counted-more _ (l .vertices) _ (l .u) (m .mark .ensures .1 .0 .1) (m .mark .ensures .1 .1) (l .inv .9),
+      heads-more (now (s .args .corners)) (l .vertices) _ (l .u) (m .mark .ensures .1 .1) (l .inv .10),
     )
 
 returns : tie.Need-returns Inv-loop μ-loop

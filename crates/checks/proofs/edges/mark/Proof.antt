@@ -113,12 +113,12 @@ loop-again c =
 
 slice-write-vertices-4 : tie.Need-slice-write-vertices-4 Inv-loop μ-loop
 slice-write-vertices-4 c =
-    let l = c .before .loop in let s = c .before .before in
+    let l = c .before .loop in let s : tie.Start Inv-loop μ-loop = search in
     simp length-set (omega (arith, s .pre .0 .1, l .inv .1))
 
 returns : tie.Need-returns Inv-loop μ-loop
 returns c =
-    let l = c .before .loop in let s = c .before .before in
+    let l = c .before .loop in let s : tie.Start Inv-loop μ-loop = search in
     let cs = now (s .args .corners) in let u = s .args .u in
     let z : l .at ≡ 0 = search needs in
     let r : HasRow (l .vertices) u = omega (arith, s .pre .0 .1, l .inv .1) in

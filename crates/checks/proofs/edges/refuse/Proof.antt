@@ -19,17 +19,17 @@ abbrev μ-loop : tie.MeasureT-loop
 
 returns : tie.Need-returns Inv-loop μ-loop
 returns c =
-    let s : tie.Start Inv-loop μ-loop = search in let l = c .before .before .before .loop in
-    sym (lowest-hit (s .args .number) (s .args .count) (has (now (s .args .table)) (s .args .x)) (l .c) (search needs) (eq-eqb _ _ (c .if1 .taken)) (l .inv .1))
+    let s : tie.Start Inv-loop μ-loop = search in let l : tie.At-loop Inv-loop μ-loop = search in
+    sym (lowest-hit (s .args .number) (s .args .count) (has (now (s .args .table)) (s .args .x)) (l .loop .c) (search needs) (eq-eqb _ _ (c .if1 .taken)) (l .loop .inv .1))
 
 loop-again : tie.Need-loop-again Inv-loop μ-loop
 loop-again c =
-    let s : tie.Start Inv-loop μ-loop = search in let l = c .before .before .before .loop in
-    (search needs, fails-step (has (now (s .args .table)) (s .args .x)) (l .c) (l .inv .1) (ne-eqb _ _ (c .if1 .left)))
+    let s : tie.Start Inv-loop μ-loop = search in let l : tie.At-loop Inv-loop μ-loop = search in
+    (search needs, fails-step (has (now (s .args .table)) (s .args .x)) (l .loop .c) (l .loop .inv .1) (ne-eqb _ _ (c .if1 .left)))
 
 returns-2 : tie.Need-returns-2 Inv-loop μ-loop
 returns-2 c =
-    let s = c .before .before in let l = c .before .loop in
+    let s : tie.Start Inv-loop μ-loop = search in let l = c .before .loop in
     sym (lowest-none (s .args .number) (s .args .count) (has (now (s .args .table)) (s .args .x)) (λ j h. l .inv .1 j (omega arith)))
 
 pub refuse-spec : {M : Type 1} → Rattle.checks.proofs.edges.refuse.Statement.statement M

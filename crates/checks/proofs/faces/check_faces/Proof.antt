@@ -134,7 +134,7 @@ loop2-again c =
     let i = in-face j in
     let l = j .before .loop2 in
     let f = i .before .loop .f in
-    let k = c .before .before .put-corner in
+    let k : tie.After-put-corner Inv-loop2 μ-loop2 Inv-loop μ-loop = search in
     let taken = j .loop2-test .taken in
     let b : l .c < sumOf (sides i) = omega (arith, within i, here j) in
     let n = getD (sides i) f 0 in
@@ -143,8 +143,8 @@ loop2-again c =
     let r : rowLength * sumOf (sides i) ≤ length (l .table) = omega (arith, within i, long j) in
     let t = rowFilled (l .table) (l .c) (l .before) n in
     let x = noted (l .vertices) lastHere (getD (corners i) (l .c) 0) in
-    let e = ap (λ (y : List ℕ). set y (rowLength * l .c + valenceHere) x) (sym (k .ensures)) in
-    let size : length t ≡ length (l .table) = sym (ap length (k .ensures)) ∙ k .kept .0 in
+    let e = ap (λ (y : List ℕ). set y (rowLength * l .c + valenceHere) x) (sym (k .put-corner .ensures)) in
+    let size : length t ≡ length (l .table) = sym (ap length (k .put-corner .ensures)) ∙ k .put-corner .kept .0 in
     let q = passed-kept (sides i) (corners i) (l .table) t (l .vertices) (l .c)
     (faces-chains (sides i) (l .table) (l .c) (l .before) n b (l .inv .9 .0) p m r) (l .inv .8) in (
       l .inv .0,
@@ -153,7 +153,7 @@ loop2-again c =
       l .inv .3,
       omega (arith, l .inv .4),
       omega (arith, taken),
-      simp length-set (k .kept .0 ∙ l .inv .6),
+      simp length-set (k .put-corner .kept .0 ∙ l .inv .6),
       simp length-set (l .inv .7),
       subst (λ (y : List ℕ). FacesPassed (sides i) (corners i) y (set (l .vertices) (vertexRow * getD (corners i) (l .c) 0 + lastHere) (l .c + 1)) (l .c + 1)) e
           (passed-step (sides i) (corners i) t (l .vertices) f (l .c) (i .before .loop .start) (l .inv .0) (l .inv .1) (l .inv .4)

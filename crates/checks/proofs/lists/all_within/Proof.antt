@@ -21,12 +21,12 @@ abbrev μ-loop : tie.MeasureT-loop
 loop-again : tie.Need-loop-again Inv-loop μ-loop
 loop-again c =
     let s : tie.Start Inv-loop μ-loop = search in
-    let l = c .before .before .before .loop in
+    let l : tie.At-loop Inv-loop μ-loop = search in
     let xs = now (s .args .coordinates) in (
       search needs,
       λ e. ⊎-elim
           (λ w. absurd (clash e (w .1)))
-          (λ w. fails-step (fault7 xs) (l .i) (l .inv .1 (sym (w .2) ∙ e)) (between xs (l .i) (c .before .z .given) (w .0 .left) (w .1 .left)))
+          (λ w. fails-step (fault7 xs) (l .loop .i) (l .loop .inv .1 (sym (w .2) ∙ e)) (between xs (l .loop .i) (c .before .z .given) (w .0 .left) (w .1 .left)))
           (c .if1 .came),
     )
 

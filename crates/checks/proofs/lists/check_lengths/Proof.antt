@@ -26,14 +26,16 @@ returns-3 c =
 
 returns-4 : tie.Need-returns-4
 returns-4 c =
-    let n = c .before .before .before .before .before .before .args .corners in
+    let s : tie.Start = search in
+    let n = s .args .corners in
     sym (single-hit 4 0 (corners-out _ _ _
     (⊎-elim (λ w. outside-low 1 mostCorners n (w .taken)) (λ w. outside-high 1 mostCorners n (ltb-true mostCorners n (w .1 .taken))) (c .if6 .came))))
 
 returns-5 : tie.Need-returns-5
 returns-5 c =
+    let i : tie.Else1 = search in
     let s : tie.Start = search in
-    sym (single-miss 4 0 (lengths-fit (s .args .coordinates) (s .args .faces) (s .args .corners) (c .before .before .before .before .before .before .if1 .left)
+    sym (single-miss 4 0 (lengths-fit (s .args .coordinates) (s .args .faces) (s .args .corners) (i .if1 .left)
     (inside 1 mostVertices _ (c .before .before .before .before .before .if2 .left) (ltb-false _ _ (c .before .before .before .before .if3 .left)))
     (inside 1 mostFaces _ (c .before .before .before .if4 .left) (ltb-false _ _ (c .before .before .if5 .left)))
     (inside 1 mostCorners _ (c .before .if6 .left) (ltb-false _ _ (c .if7 .left)))))

@@ -17,22 +17,22 @@ abbrev μ-loop : tie.MeasureT-loop
 μ-loop sides corners total₀ f₀ total f = length sides - f
 
 loop-again : tie.Need-loop-again Inv-loop μ-loop
-loop-again c = let s : tie.Start Inv-loop μ-loop = search in let l = c .before .before .loop in (
+loop-again c = let s : tie.Start Inv-loop μ-loop = search in let l : tie.At-loop Inv-loop μ-loop = search in (
   search needs,
-  omega (arith, start-next (now (s .args .sides)) (l .f) (search needs), l .inv .1),
+  omega (arith, start-next (now (s .args .sides)) (l .loop .f) (search needs), l .loop .inv .1),
   omega
-      (arith, c .shared-slice-known .given (l .f), l .inv .2),
+      (arith, c .shared-slice-known .given (l .loop .f), l .loop .inv .2),
 )
 
 returns : tie.Need-returns Inv-loop μ-loop
-returns c = let s : tie.Start Inv-loop μ-loop = search in let l = c .before .before .loop in
+returns c = let s : tie.Start Inv-loop μ-loop = search in let l : tie.At-loop Inv-loop μ-loop = search in
     let xs = now (s .args .sides) in
-    sum-differs xs (s .args .corners) (l .total) (l .inv .1 ∙ start-all xs (l .f) (c .before .loop-test .left)) (c .if1 .taken)
+    sum-differs xs (s .args .corners) (l .loop .total) (l .loop .inv .1 ∙ start-all xs (l .loop .f) (c .before .loop-test .left)) (c .if1 .taken)
 
 returns-2 : tie.Need-returns-2 Inv-loop μ-loop
-returns-2 c = let s : tie.Start Inv-loop μ-loop = search in let l = c .before .before .loop in
+returns-2 c = let s : tie.Start Inv-loop μ-loop = search in let l : tie.At-loop Inv-loop μ-loop = search in
     let xs = now (s .args .sides) in
-    sum-fits xs (s .args .corners) (l .total) (l .inv .1 ∙ start-all xs (l .f) (c .before .loop-test .left)) (c .if1 .left)
+    sum-fits xs (s .args .corners) (l .loop .total) (l .loop .inv .1 ∙ start-all xs (l .loop .f) (c .before .loop-test .left)) (c .if1 .left)
 
 pub check-sum-spec : {M : Type 1} → Rattle.checks.proofs.lists.check_sum.Statement.statement M
 check-sum-spec =

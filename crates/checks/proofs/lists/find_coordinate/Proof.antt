@@ -20,16 +20,16 @@ abbrev μ-loop : tie.MeasureT-loop
 μ-loop coordinates i₀ i = length coordinates - i
 
 returns : tie.Need-returns Inv-loop μ-loop
-returns c = let s : tie.Start Inv-loop μ-loop = search in let l = c .before .before .before .loop in
+returns c = let s : tie.Start Inv-loop μ-loop = search in let l : tie.At-loop Inv-loop μ-loop = search in
     let xs = now (s .args .coordinates) in
-    sym (lowest-hit 7 (length xs) (fault7 xs) (l .i) (search needs)
-    (⊎-elim (λ w. below xs (l .i) (c .before .z .given) (w .taken)) (λ w. above xs (l .i) (c .before .z .given) (w .1 .taken)) (c .if1 .came))
-    (l .inv .1))
+    sym (lowest-hit 7 (length xs) (fault7 xs) (l .loop .i) (search needs)
+    (⊎-elim (λ w. below xs (l .loop .i) (c .before .z .given) (w .taken)) (λ w. above xs (l .loop .i) (c .before .z .given) (w .1 .taken)) (c .if1 .came))
+    (l .loop .inv .1))
 
 loop-again : tie.Need-loop-again Inv-loop μ-loop
-loop-again c = let s : tie.Start Inv-loop μ-loop = search in let l = c .before .before .before .before .loop in
+loop-again c = let s : tie.Start Inv-loop μ-loop = search in let l : tie.At-loop Inv-loop μ-loop = search in
     let xs = now (s .args .coordinates) in
-    (search needs, fails-step (fault7 xs) (l .i) (l .inv .1) (between xs (l .i) (c .before .before .z .given) (c .before .if1 .left) (c .if2 .left)))
+    (search needs, fails-step (fault7 xs) (l .loop .i) (l .loop .inv .1) (between xs (l .loop .i) (c .before .before .z .given) (c .before .if1 .left) (c .if2 .left)))
 
 returns-2 : tie.Need-returns-2 Inv-loop μ-loop
 returns-2 c = let l = c .before .loop in sym (lowest-none 7 _ (fault7 (now (c .before .before .args .coordinates))) (λ j h. l .inv .1 j (omega arith)))

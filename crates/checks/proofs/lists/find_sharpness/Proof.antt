@@ -19,14 +19,14 @@ abbrev μ-loop : tie.MeasureT-loop
 μ-loop sharpness i₀ i = length sharpness - i
 
 returns : tie.Need-returns Inv-loop μ-loop
-returns c = let s : tie.Start Inv-loop μ-loop = search in let l = c .before .before .before .loop in
+returns c = let s : tie.Start Inv-loop μ-loop = search in let l : tie.At-loop Inv-loop μ-loop = search in
     let xs = now (s .args .sharpness) in
-    sym (lowest-hit 28 (length xs) (fault28 xs) (l .i) (search needs) (too-sharp xs (l .i) (search needs) (c .if1 .taken)) (l .inv .1))
+    sym (lowest-hit 28 (length xs) (fault28 xs) (l .loop .i) (search needs) (too-sharp xs (l .loop .i) (search needs) (c .if1 .taken)) (l .loop .inv .1))
 
 loop-again : tie.Need-loop-again Inv-loop μ-loop
-loop-again c = let s : tie.Start Inv-loop μ-loop = search in let l = c .before .before .before .loop in
+loop-again c = let s : tie.Start Inv-loop μ-loop = search in let l : tie.At-loop Inv-loop μ-loop = search in
     let xs = now (s .args .sharpness) in
-    (search needs, fails-step (fault28 xs) (l .i) (l .inv .1) (not-too-sharp xs (l .i) (search needs) (c .if1 .left)))
+    (search needs, fails-step (fault28 xs) (l .loop .i) (l .loop .inv .1) (not-too-sharp xs (l .loop .i) (search needs) (c .if1 .left)))
 
 returns-2 : tie.Need-returns-2 Inv-loop μ-loop
 returns-2 c = let l = c .before .loop in sym (lowest-none 28 _ (fault28 (now (c .before .before .args .sharpness))) (λ j h. l .inv .1 j (omega arith)))

@@ -15,14 +15,14 @@ returns c =
 
 returns-2 : tie.Need-returns-2
 returns-2 c =
-    let s = c .before .before .before .args in
-    sym (single-hit 16 _ (⊎-elim (λ w. range-past (s .corners) (s .first) (s .count) (omega (arith, ltb-true)))
-    (λ w. range-past (s .corners) (s .first) (s .count) (omega (arith, ltb-true))) (c .if3 .came)))
+    let s : tie.Start = search in
+    sym (single-hit 16 _ (⊎-elim (λ w. range-past (s .args .corners) (s .args .first) (s .args .count) (omega (arith, ltb-true)))
+    (λ w. range-past (s .args .corners) (s .args .first) (s .args .count) (omega (arith, ltb-true))) (c .if3 .came)))
 
 returns-3 : tie.Need-returns-3
 returns-3 c =
-    let s = c .before .before .before .before .args in
-    sym (single-miss 16 _ (range-fits (s .corners) (s .first) (s .count) (omega (arith, ltb-false)) (omega (arith, ltb-false))))
+    let s : tie.Start = search in
+    sym (single-miss 16 _ (range-fits (s .args .corners) (s .args .first) (s .args .count) (omega (arith, ltb-false)) (omega (arith, ltb-false))))
 
 pub check-range-spec : {M : Type 1} → Rattle.checks.proofs.requests.check_range.Statement.statement M
 check-range-spec =

@@ -22,21 +22,21 @@ abbrev μ-loop : tie.MeasureT-loop
 returns : tie.Need-returns Inv-loop μ-loop
 returns c =
     let s : tie.Start Inv-loop μ-loop = search in
-    let l = c .before .before .before .before .loop in
-    λ M e t. let h : l .c < cornerCount M = omega arith in
-    sym (lowest-hit 15 (cornerCount M) (fault15 M (now (s .args .links))) (l .c) h
-    (links-differ M (now (s .args .table)) (now (s .args .links)) t (l .c) h (c .if1 .taken))
-    (λ j k. links-agree M (now (s .args .table)) (now (s .args .links)) t j (omega arith) (l .inv .1 j k)))
+    let l : tie.At-loop Inv-loop μ-loop = search in
+    λ M e t. let h : l .loop .c < cornerCount M = omega arith in
+    sym (lowest-hit 15 (cornerCount M) (fault15 M (now (s .args .links))) (l .loop .c) h
+    (links-differ M (now (s .args .table)) (now (s .args .links)) t (l .loop .c) h (c .if1 .taken))
+    (λ j k. links-agree M (now (s .args .table)) (now (s .args .links)) t j (omega arith) (l .loop .inv .1 j k)))
 
 loop-again : tie.Need-loop-again Inv-loop μ-loop
 loop-again c =
     let s : tie.Start Inv-loop μ-loop = search in
-    let l = c .before .before .before .before .loop in
-    (search needs, below-more (λ j. getD (now (s .args .links)) j 0 ≡ entry (now (s .args .table)) toLink j) (l .c) (l .inv .1) (c .if1 .left))
+    let l : tie.At-loop Inv-loop μ-loop = search in
+    (search needs, below-more (λ j. getD (now (s .args .links)) j 0 ≡ entry (now (s .args .table)) toLink j) (l .loop .c) (l .loop .inv .1) (c .if1 .left))
 
 returns-2 : tie.Need-returns-2 Inv-loop μ-loop
 returns-2 c =
-    let s = c .before .before in
+    let s : tie.Start Inv-loop μ-loop = search in
     let l = c .before .loop in
     λ M e t. sym (lowest-none 15 (cornerCount M) (fault15 M (now (s .args .links)))
     (λ j k. links-agree M (now (s .args .table)) (now (s .args .links)) t j k (l .inv .1 j (omega arith))))

@@ -15,24 +15,24 @@ abbrev μ-loop : tie.MeasureT-loop
 
 ring-requires : tie.Need-ring-requires Inv-loop μ-loop
 ring-requires c κs =
-    let s : tie.Start Inv-loop μ-loop = search in let l = c .before .before .before .loop in
-    let h : l .u < s .args .count = search needs in
-    let i = lowest-in (now (s .args .corners)) (l .u) (s .pre .1 .1 (l .u) h) in
-    (omega (arith, i, s .pre .0 .2 .lowest-is (l .u) i), s .pre .1 .0)
+    let s : tie.Start Inv-loop μ-loop = search in let l : tie.At-loop Inv-loop μ-loop = search in
+    let h : l .loop .u < s .args .count = search needs in
+    let i = lowest-in (now (s .args .corners)) (l .loop .u) (s .pre .1 .1 (l .loop .u) h) in
+    (omega (arith, i, s .pre .0 .2 .lowest-is (l .loop .u) i), s .pre .1 .0)
 
 returns : tie.Need-returns Inv-loop μ-loop
 returns c =
-    let s : tie.Start Inv-loop μ-loop = search in let l = c .before .before .before .before .before .loop in
-    let h : l .u < s .args .count = search needs in
-    whole-torn (now (s .args .corners)) (now (s .args .table)) (l .u) (s .args .count) (l .inv .1) (s .pre .1 .1) h (now (s .args .vertices)) (s .pre .0 .2)
+    let s : tie.Start Inv-loop μ-loop = search in let l : tie.At-loop Inv-loop μ-loop = search in
+    let h : l .loop .u < s .args .count = search needs in
+    whole-torn (now (s .args .corners)) (now (s .args .table)) (l .loop .u) (s .args .count) (l .loop .inv .1) (s .pre .1 .1) h (now (s .args .vertices)) (s .pre .0 .2)
     (c .before .ring .result) (c .before .ring .ensures) (c .if1 .taken)
 
 loop-again : tie.Need-loop-again Inv-loop μ-loop
 loop-again c =
-    let s : tie.Start Inv-loop μ-loop = search in let l = c .before .before .before .before .before .loop in
-    let h : l .u < s .args .count = search needs in (
+    let s : tie.Start Inv-loop μ-loop = search in let l : tie.At-loop Inv-loop μ-loop = search in
+    let h : l .loop .u < s .args .count = search needs in (
       search needs,
-      whole-more (now (s .args .corners)) (now (s .args .table)) (l .u) (s .args .count) (l .inv .1) (s .pre .1 .1) h (now (s .args .vertices)) (s .pre .0 .2)
+      whole-more (now (s .args .corners)) (now (s .args .table)) (l .loop .u) (s .args .count) (l .loop .inv .1) (s .pre .1 .1) h (now (s .args .vertices)) (s .pre .0 .2)
           (c .before .ring .result) (c .before .ring .ensures) (c .if1 .left),
     )
 

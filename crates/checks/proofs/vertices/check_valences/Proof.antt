@@ -49,7 +49,7 @@ loop-again c =
 
 returns-2 : tie.Need-returns-2 Inv-loop μ-loop
 returns-2 c =
-    let s = c .before .before in let l = c .before .loop in
+    let s : tie.Start Inv-loop μ-loop = search in let l = c .before .loop in
     sym (lowest-none 12 (s .args .count) (fault12 (now (s .args .corners))) (λ j h. l .inv .1 j (omega arith)))
 
 pub check-valences-spec : {M : Type 1} → Rattle.checks.proofs.vertices.check_valences.Statement.statement M

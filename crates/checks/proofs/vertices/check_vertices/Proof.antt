@@ -18,8 +18,8 @@ module _ (t : tie.After-enum-told) where
 returns : tie.Need-returns
 returns c =
     let s : tie.Start = search in
-    let a = c .before .before .before .check-valences in let k = c .before .a12 .given in
-    valences-refused (now (s .args .corners)) (s .args .count) (now (s .args .table)) (a .result) (k .0 .0) (k .0 .1 .0) (k .1) (a .ensures)
+    let a : tie.After-check-valences = search in let k = c .before .a12 .given in
+    valences-refused (now (s .args .corners)) (s .args .count) (now (s .args .table)) (a .check-valences .result) (k .0 .0) (k .0 .1 .0) (k .1) (a .check-valences .ensures)
 
 check-rings-requires : tie.Need-check-rings-requires
 check-rings-requires c κs =

@@ -18,9 +18,9 @@ linked-requires c κs = let s : tie.Start Inv-loop μ-loop = search in let l = c
 
 loop-again : tie.Need-loop-again Inv-loop μ-loop
 loop-again c =
-    let s : tie.Start Inv-loop μ-loop = search in let l = c .before .before .before .loop in
-    around-next (entry (now (s .args .table)) toLink) (s .args .count) (s .args .start) (s .args .bound) (l .left) (l .len) (l .w .corner) (l .inv)
-    (search needs) (c .before .linked .result .corner) (c .before .linked .ensures .read) (s .pre .1 .links-in (l .w .corner) (l .inv .within)) (c .if2 .left)
+    let s : tie.Start Inv-loop μ-loop = search in let l : tie.At-loop Inv-loop μ-loop = search in
+    around-next (entry (now (s .args .table)) toLink) (s .args .count) (s .args .start) (s .args .bound) (l .loop .left) (l .loop .len) (l .loop .w .corner) (l .loop .inv)
+    (search needs) (c .before .linked .result .corner) (c .before .linked .ensures .read) (s .pre .1 .links-in (l .loop .w .corner) (l .loop .inv .within)) (c .if2 .left)
 
 returns : tie.Need-returns Inv-loop μ-loop
 returns c =
@@ -29,8 +29,8 @@ returns c =
 
 returns-2 : tie.Need-returns-2 Inv-loop μ-loop
 returns-2 c =
-    let s : tie.Start Inv-loop μ-loop = search in let l = c .before .before .before .loop in
-    ring-back (entry (now (s .args .table)) toLink) (s .args .count) (s .args .start) (s .args .bound) (l .left) (l .len) (l .w .corner) (l .inv)
+    let s : tie.Start Inv-loop μ-loop = search in let l : tie.At-loop Inv-loop μ-loop = search in
+    ring-back (entry (now (s .args .table)) toLink) (s .args .count) (s .args .start) (s .args .bound) (l .loop .left) (l .loop .len) (l .loop .w .corner) (l .loop .inv)
     (search needs) (c .before .linked .result .corner) (c .before .linked .ensures .read) (c .if2 .taken)
 
 pub ring-spec : {M : Type 1} → Rattle.checks.proofs.vertices.ring.Statement.statement M
