@@ -1,7 +1,7 @@
 -- What each part of `put_pairs` is to write, and that the parts are all of them.
-use mathlib.Core.Path.{_≡_, refl, sym, ap, _∙_, subst}
+use mathlib.Core.Path.{_≡_, sym, ap, _∙_, subst}
 use mathlib.Core.List.{List}
-use Prim.Native.Nat.{ℕ, zero, suc, _+_, _-_, _*_, _/_, _%_, _≤_, _<_}
+use Prim.Native.Nat.{ℕ, suc, _+_, _-_, _*_, _≤_, _<_}
 use native.Mathlib.Nat.{zero-div, zero-mod}
 use native.Mathlib.Omega.{arith}
 use lib.Dec.{lit<}
@@ -16,7 +16,7 @@ use Rattle.strips.specs.PointRows.{FilledTo, Fills}
 use Rattle.net_points.specs.writing.Shapes.{Shapely, shapeGroup, shapeRings, shapeStart, shapeSize}
 use Rattle.net_points.proofs.writing.Laws.{sides-room}
 use Rattle.net_points.proofs.writing.Groups.{ring-size, centre-size, centre-start}
-use Rattle.net_tangents.specs.Paired.{partNumber, RingPairs, CentrePair, RingsPaired, shapePair, PairAim, NetPaired}
+use Rattle.net_tangents.specs.Paired.{partNumber, RingPairs, CentrePair, RingsPaired, shapePair, PairAim}
 use Rattle.closing.proofs.Listed.{ring-side, ring-rest}
 use Rattle.net_tangents.proofs.Laws.{part-filled}
 

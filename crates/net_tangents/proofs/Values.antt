@@ -56,7 +56,7 @@ inward-reversed p i j k =
 
 -- ---- the value of a polynomial less another
 less-at : (a b c d e f g h i l x : ℤ) → value (a -ℤ f) (b -ℤ g) (c -ℤ h) (d -ℤ i) (e -ℤ l) x ≡ value a b c d e x -ℤ value f g h i l x
-less-at = over 11 _ λ ρ. simp (poly, ρ) (omega arith)
+less-at = over 11 _ λ ρ. simp poly (omega arith)
 
 less-value : (u v : Vector5) (x : ℕ) → polynomialAt (lessOf u v) x ≡ polynomialAt u x -ℤ polynomialAt v x
 unfolding lessOf polynomialAt

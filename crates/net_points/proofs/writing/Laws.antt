@@ -89,7 +89,7 @@ module _ {e : Vector5} {n first count from : ℕ} {old new : List ℤ} (r : RowP
 
 -- ---- rows from their other ends: head and tail change places
 pub linear-back : (a b x y : ℤ) → linear b a x y ≡ linear a b y x
-linear-back = over 4 _ λ ρ. simp (poly, ρ) (omega arith)
+linear-back = over 4 _ λ ρ. simp poly (omega arith)
 
 pub quadratic-back : (a b c x y : ℤ) → quadratic c b a x y ≡ quadratic a b c y x
 quadratic-back = over 5 _ λ ρ. simp (poly, ρ) (omega arith)

@@ -70,5 +70,6 @@ add-ahead-spec =
     tie.close (tie.spec Inv-loop μ-loop loop-holds (λ c. search needs) (λ c. let t : tie.In-loop Inv-loop μ-loop = search in omega (arith, room t))
     (λ c. let t : tie.In-loop Inv-loop μ-loop = search in record { fits = omega (arith, below t, s t .good, s t .pre .0 .2) }) (λ c. search needs)
     (λ c. let t : tie.In-loop Inv-loop μ-loop = search in room t)
-    (λ c. let t : tie.In-loop Inv-loop μ-loop = search in sum-stored (getD (l t) (i t) (pos 0)) (getD (l t) (i t + s t .args .gap) (pos 0)) (here t) (ahead t) .0) (λ c. search needs)
-    (λ c. let t : tie.In-loop Inv-loop μ-loop = search in omega (arith, room t)) (λ c. search needs) (λ c. search needs) loop-again (λ c. search needs) returns)
+    (λ c. let t : tie.In-loop Inv-loop μ-loop = search in sum-stored (getD (l t) (i t) (pos 0)) (getD (l t) (i t + s t .args .gap) (pos 0)) (here t) (ahead t) .0)
+    (λ c. search needs) (λ c. let t : tie.In-loop Inv-loop μ-loop = search in omega (arith, room t)) (λ c. search needs) (λ c. search needs) loop-again
+    (λ c. search needs) returns)

@@ -37,5 +37,5 @@ returns-2 c =
 
 pub centreward-spec : {M : Type 1} → Rattle.net_tangents.proofs.centreward.Statement.statement M
 centreward-spec =
-    tie.close (tie.spec (λ c κs. let s : tie.Start = search in tapered-sized (s .args .c) (s .pre)) (λ c κs. let s : tie.Start = search in tapered-sized (s .args .c) (s .pre))
-    minus-requires returns returns-2)
+    tie.close (tie.spec (λ c κs. let s : tie.Start = search in tapered-sized (s .args .c) (s .pre))
+    (λ c κs. let s : tie.Start = search in tapered-sized (s .args .c) (s .pre)) minus-requires returns returns-2)

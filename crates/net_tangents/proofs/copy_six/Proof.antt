@@ -47,8 +47,9 @@ returns c =
 
 pub copy-six-spec : {M : Type 1} → Rattle.net_tangents.proofs.copy_six.Statement.statement M
 copy-six-spec =
-    tie.close (tie.spec Inv-loop μ-loop loop-holds (λ c. let t : tie.In-loop Inv-loop μ-loop = search in record { fits = omega (arith, below t, s t .pre .0, s t .good) }) (λ c. search needs)
+    tie.close (tie.spec Inv-loop μ-loop loop-holds
+    (λ c. let t : tie.In-loop Inv-loop μ-loop = search in record { fits = omega (arith, below t, s t .pre .0, s t .good) }) (λ c. search needs)
     (λ c. let t : tie.In-loop Inv-loop μ-loop = search in omega (arith, below t, s t .pre .0))
     (λ c. let t : tie.In-loop Inv-loop μ-loop = search in record { fits = omega (arith, below t, s t .pre .1, s t .good) }) (λ c. search needs)
-    (λ c. let t : tie.In-loop Inv-loop μ-loop = search in omega (arith, below t, s t .pre .1, t .before .loop .inv .1)) (λ c. search needs) (λ c. search needs)
-    loop-again (λ c. search needs) returns)
+    (λ c. let t : tie.In-loop Inv-loop μ-loop = search in omega (arith, below t, s t .pre .1, t .before .loop .inv .1)) (λ c. search needs)
+    (λ c. search needs) loop-again (λ c. search needs) returns)

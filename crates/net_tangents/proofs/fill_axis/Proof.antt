@@ -104,5 +104,6 @@ returns c =
 
 pub fill-axis-spec : {M : Type 1} → Rattle.net_tangents.proofs.fill_axis.Statement.statement M
 fill-axis-spec =
-    tie.close (tie.spec (λ c. search needs) (λ c. search needs) (λ c κs. search needs) polynomial-requires (λ c κs. let q : tie.After-polynomial = search in tapers q) lane-numbers-requires
-    (λ c κs. search needs) centreward-requires lane-numbers-requires-2 add-put-lane put-lane-requires-2 (λ c. search needs) returns)
+    tie.close (tie.spec (λ c. search needs) (λ c. search needs) (λ c κs. search needs) polynomial-requires
+    (λ c κs. let q : tie.After-polynomial = search in tapers q) lane-numbers-requires (λ c κs. search needs) centreward-requires lane-numbers-requires-2
+    add-put-lane put-lane-requires-2 (λ c. search needs) returns)

@@ -44,5 +44,6 @@ returns c =
 
 pub fill-lanes-spec : {M : Type 1} → Rattle.net_tangents.proofs.fill_lanes.Statement.statement M
 fill-lanes-spec =
-    tie.close (tie.spec Inv-loop μ-loop loop-holds (λ c. let t : tie.In-loop Inv-loop μ-loop = search in record { fits = omega (arith, below t, s t .pre .2) }) (λ c κs. search needs)
-    (λ c. search needs) (λ c. search needs) loop-again (λ c. search needs) returns)
+    tie.close (tie.spec Inv-loop μ-loop loop-holds
+    (λ c. let t : tie.In-loop Inv-loop μ-loop = search in record { fits = omega (arith, below t, s t .pre .2) }) (λ c κs. search needs) (λ c. search needs)
+    (λ c. search needs) loop-again (λ c. search needs) returns)

@@ -52,5 +52,5 @@ returns-2 c =
 
 pub first-states-spec : {M : Type 1} → Rattle.net_tangents.proofs.first_states.Statement.statement M
 first-states-spec =
-    tie.close (tie.spec (λ c κs. search needs) (λ c. search needs) (λ c κs. search needs) (λ c. search needs) (λ c κs. search needs) (λ c. search needs) (λ c κs. search needs)
-    next-states-requires (λ c. search needs) returns (λ c. search needs) returns-2)
+    tie.close (tie.spec (λ c κs. search needs) (λ c. search needs) (λ c κs. search needs) (λ c. search needs) (λ c κs. search needs) (λ c. search needs)
+    (λ c κs. search needs) next-states-requires (λ c. search needs) returns (λ c. search needs) returns-2)

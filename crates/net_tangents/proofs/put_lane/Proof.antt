@@ -48,5 +48,5 @@ pub put-lane-spec : {M : Type 1} → Rattle.net_tangents.proofs.put_lan
 put-lane-spec =
     tie.close (tie.spec Inv-loop μ-loop loop-holds (λ c. search needs) (λ c. let t : tie.In-loop Inv-loop μ-loop = search in below t) (λ c. search needs)
     (λ c. let t : tie.In-loop Inv-loop μ-loop = search in record { fits = omega (arith, below t, start t .pre .1) }) (λ c. search needs)
-    (λ c. let t : tie.In-loop Inv-loop μ-loop = search in omega (arith, below t, start t .pre .1, t .before .loop .inv .1 .long)) (λ c. search needs) (λ c. search needs)
-    loop-again (λ c. search needs) returns)
+    (λ c. let t : tie.In-loop Inv-loop μ-loop = search in omega (arith, below t, start t .pre .1, t .before .loop .inv .1 .long)) (λ c. search needs)
+    (λ c. search needs) loop-again (λ c. search needs) returns)

@@ -110,6 +110,8 @@ returns c =
 
 pub put-pairs-spec : {M : Type 1} → Rattle.net_tangents.proofs.put_pairs.Statement.statement M
 put-pairs-spec =
-    tie.close (tie.spec (λ c. search needs) (λ c. search needs) (λ c. search needs) (λ c. search needs) (λ c. search needs) (λ c. search needs) (λ c. search needs) (λ c. search needs) (λ c. search needs) (λ c. search needs) (λ c. search needs) (λ c. search needs) (λ c. search needs) (λ c κs. search needs) (λ c. search needs)
-    put-part-requires (λ c. search needs) put-part-requires-2 (λ c. search needs) put-part-requires-3 (λ c. search needs) sub-put-part put-part-requires-4 (λ c. search needs)
-    sub-put-part-2 put-part-requires-5 slice-aggregate-put-rings put-rings-requires same-length returns)
+    tie.close (tie.spec (λ c. search needs) (λ c. search needs) (λ c. search needs) (λ c. search needs) (λ c. search needs) (λ c. search needs)
+    (λ c. search needs) (λ c. search needs) (λ c. search needs) (λ c. search needs) (λ c. search needs) (λ c. search needs) (λ c. search needs)
+    (λ c κs. search needs) (λ c. search needs) put-part-requires (λ c. search needs) put-part-requires-2 (λ c. search needs) put-part-requires-3
+    (λ c. search needs) sub-put-part put-part-requires-4 (λ c. search needs) sub-put-part-2 put-part-requires-5 slice-aggregate-put-rings put-rings-requires
+    same-length returns)

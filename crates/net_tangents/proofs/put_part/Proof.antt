@@ -61,5 +61,5 @@ returns-3 c =
 
 pub put-part-spec : {M : Type 1} → Rattle.net_tangents.proofs.put_part.Statement.statement M
 put-part-spec =
-    tie.close (tie.spec (λ c. search needs) put-places-requires (λ c. search needs) returns (λ c. search needs) (λ c. search needs) (λ c κs. search needs) (λ c. search needs)
-    (λ c. search needs) put-places-requires-2 (λ c. search needs) returns-2 returns-3)
+    tie.close (tie.spec (λ c. search needs) put-places-requires (λ c. search needs) returns (λ c. search needs) (λ c. search needs) (λ c κs. search needs)
+    (λ c. search needs) (λ c. search needs) put-places-requires-2 (λ c. search needs) returns-2 returns-3)

@@ -90,5 +90,7 @@ returns c =
 
 pub put-places-spec : {M : Type 1} → Rattle.net_tangents.proofs.put_places.Statement.statement M
 put-places-spec =
-    tie.close (tie.spec Inv-loop μ-loop (λ c. search needs) (λ c κs. search needs) loop-holds (λ c. let t : tie.In-loop Inv-loop μ-loop = search in omega (arith, here t .long)) (λ c. search needs) (λ c. search needs) copy-six-requires
-    (λ c. let t : tie.In-loop Inv-loop μ-loop = search in omega (arith, here t .long)) next-states-requires (λ c. search needs) (λ c. search needs) loop-again (λ c. search needs) returns)
+    tie.close (tie.spec Inv-loop μ-loop (λ c. search needs) (λ c κs. search needs) loop-holds
+    (λ c. let t : tie.In-loop Inv-loop μ-loop = search in omega (arith, here t .long)) (λ c. search needs) (λ c. search needs) copy-six-requires
+    (λ c. let t : tie.In-loop Inv-loop μ-loop = search in omega (arith, here t .long)) next-states-requires (λ c. search needs) (λ c. search needs)
+    loop-again (λ c. search needs) returns)

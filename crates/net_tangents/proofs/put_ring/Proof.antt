@@ -1,5 +1,5 @@
 -- `put_ring` meets its contract: before each turn the sides before are written.
-use mathlib.Core.Path.{_≡_, refl, ap, _∙_, subst}
+use mathlib.Core.Path.{_≡_, ap, _∙_, subst}
 use mathlib.Core.List.{List}
 use Prim.Native.Nat.{ℕ, _+_, _-_, _*_, _≤_, _<_}
 use native.Mathlib.Omega.{arith}
@@ -74,4 +74,6 @@ returns c =
 
 pub put-ring-spec : {M : Type 1} → Rattle.net_tangents.proofs.put_ring.Statement.statement M
 put-ring-spec =
-    tie.close (tie.spec Inv-loop μ-loop (λ c. search needs) (λ c. search needs) put-places-requires (λ c. search needs) (λ c. let t : tie.In-loop Inv-loop μ-loop = search in record { fits = omega (arith, room t, t .before .loop .inv .1, s t .good) }) (λ c. search needs) (λ c. search needs) loop-again (λ c. search needs) returns)
+    tie.close (tie.spec Inv-loop μ-loop (λ c. search needs) (λ c. search needs) put-places-requires (λ c. search needs)
+    (λ c. let t : tie.In-loop Inv-loop μ-loop = search in record { fits = omega (arith, room t, t .before .loop .inv .1, s t .good) }) (λ c. search needs)
+    (λ c. search needs) loop-again (λ c. search needs) returns)

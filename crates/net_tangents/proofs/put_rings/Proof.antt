@@ -127,5 +127,6 @@ returns c =
 
 pub put-rings-spec : {M : Type 1} → Rattle.net_tangents.proofs.put_rings.Statement.statement M
 put-rings-spec =
-    tie.close (tie.spec Inv-loop μ-loop (λ c. search needs) (λ c. search needs) (λ c. search needs) (λ c. search needs) next-row-requires put-ring-requires (λ c. search needs) (λ c. let t : tie.In-loop Inv-loop μ-loop = search in record { fits = omega (arith, room t, u t .good) }) (λ c. search needs) (λ c. search needs) loop-again
-    next-row-requires-2 put-places-requires (λ c. search needs) (λ c. search needs) returns)
+    tie.close (tie.spec Inv-loop μ-loop (λ c. search needs) (λ c. search needs) (λ c. search needs) (λ c. search needs) next-row-requires put-ring-requires
+    (λ c. search needs) (λ c. let t : tie.In-loop Inv-loop μ-loop = search in record { fits = omega (arith, room t, u t .good) }) (λ c. search needs)
+    (λ c. search needs) loop-again next-row-requires-2 put-places-requires (λ c. search needs) (λ c. search needs) returns)

@@ -145,5 +145,5 @@ returns c =
 pub put-spokes-spec : {M : Type 1} → Rattle.net_points.proofs.writing.put_spokes.Statement.statement M
 put-spokes-spec =
     tie.close (tie.spec Inv-loop μ-loop (λ c κs. (c .pre .0 .sized, c .pre .0 .few)) loop-holds (λ c. search needs) (λ c κs. sized c) (λ c. search needs)
-    (λ c. search needs) row-requires (λ c κs. search needs) mul-put-row add-put-row mul-put-row-2 add-put-row-2 put-row-requires (λ c. search needs) (λ c. search needs) loop-again
-    (λ c. c .before .loop .inv .1) returns)
+    (λ c. search needs) row-requires (λ c κs. search needs) mul-put-row add-put-row mul-put-row-2 add-put-row-2 put-row-requires (λ c. search needs)
+    (λ c. search needs) loop-again (λ c. c .before .loop .inv .1) returns)
