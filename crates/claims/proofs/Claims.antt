@@ -21,7 +21,8 @@ use Rattle.off_examples.proofs.Theorems.{no-six, missing-word, whole-text}
 use Rattle.preview.proofs.Theorems.{as-building, previews-build, previews-from-c}
 use Rattle.touching.proofs.Untouched.{untouched}
 use Rattle.sampling.proofs.Theorems.{samples-close, rays-agree, sample-ends, samples-between, triangles-sample}
-use Rattle.closing.proofs.Calls.{surface-closes, points-used, points-sample, plain-strips, ranges-join, counts-serve}
+use Rattle.strips.proofs.Strips.{plain-strips}
+use Rattle.closing.proofs.Calls.{surface-closes, points-used, points-sample, ranges-join, counts-serve}
 use Rattle.closing.proofs.FromC.{triangles-from-c, counts-from-c, tangents-from-c}
 use Rattle.closing.proofs.TangentSizes.{tangents-within}
 use Rattle.sampling.proofs.TangentLaws.{tangents-close}

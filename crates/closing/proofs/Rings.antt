@@ -7,9 +7,13 @@ use lib.Dec.{eqb}
 use borrow.Author.Tests.{eq-eqb}
 use Rattle.paper.specs.Scan.{pickN}
 use Rattle.paper.specs.Net.{Side, side0, side1, side2, side3}
-use Rattle.paper.specs.Sampling.{sideNumber}
+use Rattle.paper.specs.Sampling.{sideAt, sideNumber}
 use Rattle.paper.specs.Triangles.{turn}
-use Rattle.closing.proofs.Cases.{pick-equal, side-three, same-side, ring-side, ring-rest}
+use Rattle.sampling.proofs.Theorems.{side-back}
+use Rattle.strips.proofs.Cases.{pick-equal, side-three, ring-side, ring-rest}
+
+pub same-side : (s t : Side) → sideNumber s ≡ sideNumber t → s ≡ t
+same-side s t e = sym (side-back s) ∙ ap sideAt e ∙ side-back t
 
 abbrev pub ringPlace : Side → ℕ → ℕ → ℕ
 ringPlace s w j = pickN (eqb (sideNumber s * w + j) (4 * w)) 0 (sideNumber s * w + j)

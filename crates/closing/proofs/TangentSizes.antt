@@ -33,7 +33,7 @@ use Rattle.mesh.proofs.Links.{values-length, values-at}
 use Rattle.floats.proofs.nets.Nets.{nets-pass}
 use Rattle.borders.proofs.Ranges.{ranges}
 use Rattle.sampling.proofs.TangentSizes.{pair-within, sampled-within}
-use Rattle.closing.proofs.Cases.{pick-less, pick-equal}
+use Rattle.strips.proofs.Cases.{pick-less, pick-equal}
 use Rattle.closing.proofs.Shared.{beside-below}
 use Rattle.closing.proofs.Partners.{Leveled}
 use Rattle.closing.proofs.Used.{exists, within}

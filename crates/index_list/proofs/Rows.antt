@@ -15,7 +15,7 @@ use Rattle.paper.specs.Net.{Side, side0, side1, side2, side3}
 use Rattle.paper.specs.Sampling.{sideAt}
 use Rattle.paper.specs.Triangles.{begin, turn, rowSegments, endNumber, curveNumber, pointNumber, level, segments, groups, pointGroups, pointsBefore, numberIn}
 use Rattle.mesh.proofs.Faces.{start-zero}
-use Rattle.closing.proofs.Cases.{test-equal, number-back}
+use Rattle.strips.proofs.Cases.{test-equal, number-back}
 use Rattle.strips.specs.declared.NumberedRow.{NumberedRow}
 use Rattle.strips.specs.PointRows.{rowNumber, ringPlace}
 use Rattle.numbering.specs.Meshed.{groupStart, curveStart}

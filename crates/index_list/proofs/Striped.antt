@@ -12,9 +12,9 @@ use Rattle.paper.specs.Triangles.{trianglesBefore}
 use Rattle.strips.specs.declared.NumberedRow.{NumberedRow}
 use Rattle.strips.specs.PointRows.{overNumber, underNumber, stripNumber}
 use Rattle.index_list.specs.Rows.{RowOf, sideStart}
-use Rattle.closing.proofs.Cases.{test-less, number-back}
+use Rattle.strips.proofs.Cases.{test-less, number-back}
 use Rattle.closing.proofs.Calls.{start-rises}
-use Rattle.closing.proofs.Strips.{apex-rises, foot-at}
+use Rattle.strips.proofs.Strips.{apex-rises, foot-at}
 use Rattle.closing.proofs.Partners.{Leveled, Triangle, row-wide, row-later, lower-is, upper-is}
 use Rattle.closing.proofs.Places.{stripAt, size-some, index-is}
 use Rattle.closing.proofs.Counts.{strip-step}

@@ -13,7 +13,7 @@ use Rattle.strips.specs.declared.NumberedRow.{NumberedRow}
 use Rattle.strips.specs.PointRows.{rowNumber, RowFits, Strip, stripNumber, ringPlace, Fills}
 use Rattle.numbering.specs.Meshed.{Of, PointsStarted, Starting, groupStart}
 use Rattle.index_list.specs.Rows.{RowOf, sideStart, TrianglesPut}
-use Rattle.closing.proofs.Cases.{number-back}
+use Rattle.strips.proofs.Cases.{number-back}
 use Rattle.closing.proofs.Places.{stripAt}
 use Rattle.closing.proofs.Counts.{ringsBefore, ring-start, none-more}
 use Rattle.numbering.proofs.Lent.{below-of}

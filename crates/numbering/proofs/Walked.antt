@@ -19,7 +19,7 @@ use Rattle.mesh.proofs.Scans.{first-at}
 use Rattle.mesh.proofs.Accepted.{sound-of, closed-of}
 use Rattle.mesh.proofs.Theorems.{manifold}
 use Rattle.numbering.specs.Meshed.{Here, Lowests}
-use Rattle.closing.proofs.Cases.{test-equal}
+use Rattle.strips.proofs.Cases.{test-equal}
 use Rattle.closing.proofs.Shared.{reverse-is}
 
 -- ---- steps

@@ -1,3 +1,5 @@
+pub mod Cases
+pub mod Strips
 pub mod Rowed
 pub mod Plains
 pub mod Stood

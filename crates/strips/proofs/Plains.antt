@@ -6,7 +6,7 @@ use Rattle.paper.specs.Net.{Side}
 use Rattle.paper.specs.Triangles.{apex, foot}
 use Rattle.strips.specs.declared.NumberedRow.{NumberedRow}
 use Rattle.strips.specs.PointRows.{rowNumber, Strip, RisingRow, PlainStrip, stripNumber, three}
-use Rattle.closing.proofs.Calls.{plain-strips}
+use Rattle.strips.proofs.Strips.{plain-strips}
 use Rattle.strips.proofs.Rowed.{number-first, number-last, number-up, over-three, under-three}
 
 rising-number : (r : NumberedRow) → RisingRow r → (j : ℕ) → j < r .parts → r .first + j ≡ rowNumber r j

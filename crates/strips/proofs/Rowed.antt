@@ -16,8 +16,8 @@ use Rattle.paper.specs.Triangles.{apex, foot}
 use Rattle.mesh.proofs.Fills.{filled-step}
 use Rattle.strips.specs.declared.NumberedRow.{NumberedRow}
 use Rattle.strips.specs.PointRows.{rowNumber, overNumber, underNumber, stripNumber, FilledTo, Fills, three}
-use Rattle.closing.proofs.Cases.{test-equal, by-last}
-use Rattle.closing.proofs.Strips.{apex-rises, foot-head, foot-tail, stepAt, foot-at}
+use Rattle.strips.proofs.Cases.{test-equal, by-last}
+use Rattle.strips.proofs.Strips.{apex-rises, foot-head, foot-tail, stepAt, foot-at}
 
 -- ---- the number at a place
 module _ (r : NumberedRow) (j : ℕ) where

@@ -1,5 +1,5 @@
 -- The cases that the proofs go by: the two ways of a test with what each tells, the four sides by their numbers, places counted by sides.
-use mathlib.Core.Path.{_≡_, refl, sym, ap, _∙_}
+use mathlib.Core.Path.{_≡_, refl, _∙_}
 use mathlib.Core.Bool.{true, false}
 use mathlib.Core.Logic.{⊎-elim}
 use Prim.Native.Nat.{ℕ, zero, suc, _+_, _*_, _/_, _%_, _≤_, _<_}
@@ -12,7 +12,6 @@ use Rattle.paper.specs.Net.{Side, side0, side1, side2, side3}
 use Rattle.paper.specs.Sampling.{sideAt, sideNumber}
 use Rattle.paper.specs.Triangles.{turn}
 use Rattle.mesh.proofs.Scans.{ways}
-use Rattle.sampling.proofs.Theorems.{side-back}
 
 -- ---- tests
 module _ {G : Type 0} (a b : ℕ) where
@@ -45,9 +44,6 @@ number-back zero h = refl
 number-back (suc zero) h = refl
 number-back (suc (suc zero)) h = refl
 number-back (suc (suc (suc n))) h = omega arith
-
-pub same-side : (s t : Side) → sideNumber s ≡ sideNumber t → s ≡ t
-same-side s t e = sym (side-back s) ∙ ap sideAt e ∙ side-back t
 
 -- the side before
 abbrev pub back : Side → Side
