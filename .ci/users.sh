@@ -1,6 +1,6 @@
 #!/bin/sh
 # The library as its users take it: the header as C11 and as C++17, the C examples, the sample meshes, the Rust tests, the Python package.
-# C and Rust run beside Python. Needs target/staticlib/libmahunopi.a (`rt staticlib mahunopi`; MAHUNOPI_LIB names another directory that has
+# C and Rust run beside two parts of the Python tests. Needs target/staticlib/libmahunopi.a (`.ci/staticlib`; MAHUNOPI_LIB names another directory that has
 # it) and what .ci/install installs. Prints a line for each check and last `users: N passed, M failed`, where every Rust test
 # and every Python test counts; the status is 0 when none failed.
 set -u
@@ -80,10 +80,10 @@ vectors() {
     [ "$found" -ge 40 ]
 }
 
-# Archiving takes four numbers at once: the bytes of four are packed by `packuswb`, which nothing else in the library has either.
+# Archiving takes four numbers at once: the bytes of four are packed by `pshufb`, which nothing else in the library has either.
 packed() {
-    found=$(objdump -d "$library/libmahunopi.a" | grep -c packuswb)
-    echo "packuswb: $found, expected 4 or more"
+    found=$(objdump -d "$library/libmahunopi.a" | grep -c pshufb)
+    echo "pshufb: $found, expected 4 or more"
     [ "$found" -ge 4 ]
 }
 
@@ -113,29 +113,29 @@ rust_tests() {
     fi
 }
 
-# Every test that pytest runs counts as one; what does not even start counts as one that fails.
+# python_tests PART FILES..: every test that pytest runs counts as one; what does not even start counts as one that fails. The counts go to a file.
 python_tests() {
-    python/make-library >"$work/pytest" 2>&1 &&
-        PYTHONDONTWRITEBYTECODE=1 /usr/bin/python3 -m pytest -q -rs -p no:cacheprovider python/tests >"$work/pytest" 2>&1
+    part=$1
+    shift
+    PYTHONDONTWRITEBYTECODE=1 /usr/bin/python3 -m pytest -q -rs -p no:cacheprovider "$@" >"$work/pytest.$part" 2>&1
     status=$?
-    sed -n 's/^SKIPPED/users: Python tests: skipped/p' "$work/pytest"
-    last=$(tail -n 1 "$work/pytest")
+    sed -n 's/^SKIPPED/users: Python tests: skipped/p' "$work/pytest.$part"
+    last=$(tail -n 1 "$work/pytest.$part")
     run=$(echo "$last" | sed -n 's/.*\b\([0-9][0-9]*\) passed.*/\1/p')
     wrong=$(echo "$last" | grep -o '[0-9]* \(failed\|error\)' | awk '{ sum += $1 } END { print sum + 0 }')
     if [ $status -ne 0 ] && [ "$wrong" -eq 0 ] || [ -z "$run" ] && [ "$wrong" -eq 0 ]; then
         wrong=1
     fi
-    passed=$((passed + ${run:-0}))
-    failed=$((failed + wrong))
     if [ "$wrong" -eq 0 ]; then
-        echo "users: Python tests: $run passed"
+        echo "users: Python tests, $part: $run passed"
     else
-        echo "users: Python tests: ${run:-0} passed, $wrong FAILED"
-        sed 's/^/    /' "$work/pytest"
+        echo "users: Python tests, $part: ${run:-0} passed, $wrong FAILED"
+        sed 's/^/    /' "$work/pytest.$part"
     fi
+    echo "${run:-0} $wrong" >"$work/counts.$part"
 }
 
-# C and Rust, in a process of its own: its counts go to a file
+# C and Rust; the counts go to a file
 native() {
     # shellcheck disable=SC2086
     {
@@ -152,22 +152,35 @@ native() {
     rust_tests
     check 'example draw in C++17 and in Rust print the same' draw
     check 'Rust wrapper and its examples without warnings' documented
-    echo "$passed $failed" >"$work/counts"
+    echo "$passed $failed" >"$work/counts.native"
 }
 
-# Python stays in front: a shell has what runs beside it ignore the interrupts that the Python tests send.
-(native) >"$work/native" 2>&1 &
-python_tests >"$work/python"
+# Side by side: C and Rust, and the Python tests in two parts that take about as long. A shell has what runs beside it ignore interrupts, which
+# python/tests/conftest.py undoes.
+first='' others=''
+for file in python/tests/test_*.py; do
+    case ${file##*/} in
+    test_command.py | test_first_use.py | test_report.py) first="$first $file" ;;
+    *) others="$others $file" ;;
+    esac
+done
+python/make-library || echo "users: the library for Python was not made"
+native >"$work/native" 2>&1 &
+# shellcheck disable=SC2086
+python_tests first $first >"$work/first" 2>&1 &
+# shellcheck disable=SC2086
+python_tests others $others >"$work/others" 2>&1 &
 wait
-cat "$work/native"
-counts='0 1'
-if [ -s "$work/counts" ]; then
-    read -r counts <"$work/counts"
-else
-    echo "users: C and Rust ended early: FAILED"
-fi
-passed=$((passed + ${counts% *}))
-failed=$((failed + ${counts#* }))
-cat "$work/python"
+for part in native first others; do
+    counts='0 1'
+    cat "$work/$part"
+    if [ -s "$work/counts.$part" ]; then
+        read -r counts <"$work/counts.$part"
+    else
+        echo "users: $part ended early: FAILED"
+    fi
+    passed=$((passed + ${counts% *}))
+    failed=$((failed + ${counts#* }))
+done
 echo "users: $passed passed, $failed failed"
 [ "$failed" -eq 0 ]

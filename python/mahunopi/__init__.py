@@ -51,7 +51,7 @@ from __future__ import annotations
 try:
     from ._header import __version__
 except ModuleNotFoundError as _error:
-    raise ImportError("the package is not complete: run `rt staticlib mahunopi`, then python/make-library") from _error
+    raise ImportError("the package is not complete: run `.ci/staticlib`, then python/make-library") from _error
 from .library import TYPE_CHECKING, Refused
 
 if TYPE_CHECKING:

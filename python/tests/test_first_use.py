@@ -14,23 +14,15 @@ import pytest
 ROOT = Path(__file__).resolve().parents[2]
 LIBRARY = Path(os.environ.get("MAHUNOPI_LIB") or ROOT / "target/staticlib") / "libmahunopi.a"
 RT = """#!/bin/sh
-# rt check CRATE.. and rt staticlib mahunopi, as far as their lines and files go
-echo "$*" >>target/asked
-case $1 in
-check)
-    shift
-    sleep 0.6
-    for crate in "$@"; do
-        echo "library std: modules loaded=0 checked=0"
-        echo "rt: $crate proved (1 s)"
-        sleep 0.05
-    done ;;
-staticlib)
-    [ ! -e fails ] || { echo "rt: mahunopi NOT PROVED (exit 1, 2 s)"; exit 1; }
-    sed -n 's/(1 s)/(unchanged since it was last proved)/p' target/log/first-use.txt
-    sleep 0.6
-    mkdir -p target/staticlib && cp "$LIBRARY" target/staticlib/ ;;
-esac
+# rt lib, in a crate's folder, as far as its files go
+crate=${PWD##*/}
+echo "$* $crate" >>../../target/asked
+[ ! -e ../../fails ] || { echo "that is no proof"; exit 1; }
+sleep 0.05
+if [ "$crate" = mahunopi_c ]; then
+    sleep 1
+    mkdir -p out && cp "$LIBRARY" out/libmahunopi_c.a
+fi
 """
 
 
@@ -45,6 +37,8 @@ def clone(tmp_path, monkeypatch):
         if name and (ROOT / name).is_file() and not name.startswith(("crates/", "rust/", "docs/")):
             (there / name).parent.mkdir(parents=True, exist_ok=True)
             shutil.copy2(ROOT / name, there / name)
+    for crate in crates():
+        (there / "crates" / crate).mkdir(parents=True)
     assert not (there / "python/mahunopi/libmahunopi.so").exists()
     tools = tmp_path / "tools"
     tools.mkdir()
@@ -64,8 +58,8 @@ def run(clone, *words, **more):
 
 def crates():
     """The crates that the library is made of."""
-    uses = dict(re.findall(r"(?m)^([a-z0-9_]+):(.*)$", (ROOT / "crates.txt").read_text()))
-    found, waiting = set(), ["mahunopi"]
+    uses = dict(re.findall(r"(?m)^([a-z0-9_]+)(?: staticlib)?:(.*)$", (ROOT / "crates.txt").read_text()))
+    found, waiting = set(), ["mahunopi_c"]
     while waiting:
         name = waiting.pop()
         if name in uses and name not in found:
@@ -80,8 +74,8 @@ def test_the_first_command_of_the_readme(clone):
     assert status == 0 and re.fullmatch(r"torus\.html: [\d,]+ bytes, to be opened in a browser\n", out)
     assert re.fullmatch(rf"mahunopi: proving {len(crates())} crates, once \.\.\nmahunopi: {len(crates())} crates proved in \d+ s\n", err)
     asked = (clone / "target/asked").read_text().split("\n")
-    assert set(asked[0].split()[1:]) == crates() - {"mahunopi"} and asked[1:] == ["staticlib mahunopi", ""]
-    assert (clone / "target/log/first-use.txt").read_text().count("proved (1 s)") == len(crates()) - 1
+    assert sorted(asked) == sorted(["", *(f"lib {crate}" for crate in crates())]) and asked[-2:] == ["lib mahunopi_c", ""]
+    assert (clone / "target/log/first-use.txt").read_text().count("== ") == len(crates())
     times = []
     for _ in range(5):
         began = time.monotonic()
@@ -91,7 +85,7 @@ def test_the_first_command_of_the_readme(clone):
     # a library that was built anew is taken
     later = time.time() + 5
     os.utime(clone / "target/staticlib/libmahunopi.a", (later, later))
-    assert run(clone, "--version")[0] == 0 and (clone / "target/asked").read_text().count("\n") == 2
+    assert run(clone, "--version")[0] == 0 and (clone / "target/asked").read_text().count("lib mahunopi_c") == 1
 
 
 def test_a_library_that_is_older_than_its_sources_is_built_anew(clone, tmp_path):
@@ -99,7 +93,7 @@ def test_a_library_that_is_older_than_its_sources_is_built_anew(clone, tmp_path)
     (tmp_path / "tools/rt").write_text(re.sub("sleep [0-9.]+", ":", RT))
     source, program = clone / "crates/mesh/src/lib.rt", clone / "crates/report/src/main.rt"
     for path in (source, program):
-        path.parent.mkdir(parents=True)
+        path.parent.mkdir(parents=True, exist_ok=True)
         path.write_text("first")
     assert run(clone, "--version")[0] == 0
     asked = clone / "target/asked"
@@ -107,7 +101,7 @@ def test_a_library_that_is_older_than_its_sources_is_built_anew(clone, tmp_path)
     def later(path, text, seconds):
         path.write_text(text)
         os.utime(path, (time.time() + seconds,) * 2)
-        return run(clone, "--version"), asked.read_text().count("staticlib")
+        return run(clone, "--version"), asked.read_text().count("lib mahunopi_c")
 
     # a program's source, and the same text at another time
     for path, text in ((program, "second"), (source, "first")):
@@ -115,7 +109,7 @@ def test_a_library_that_is_older_than_its_sources_is_built_anew(clone, tmp_path)
         assert (status, err, built) == (0, "", 1)
     (status, _, err), built = later(source, "second", 0)
     assert status == 0 and err.startswith("mahunopi: the library is older than its sources\nmahunopi: proving ") and built == 2
-    assert run(clone, "--version")[::2] == (0, "") and asked.read_text().count("staticlib") == 2
+    assert run(clone, "--version")[::2] == (0, "") and asked.read_text().count("lib mahunopi_c") == 2
     # where it was built by hand, times tell
     (clone / "target/staticlib/made-from").unlink()
     assert later(source, "second", 0)[1] == 3
@@ -147,7 +141,7 @@ def test_one_line_of_progress_on_a_terminal(clone):
 @pytest.mark.parametrize("number", [signal.SIGINT, signal.SIGTERM, signal.SIGHUP])
 def test_an_interrupt_ends_the_prover(clone, tmp_path, number):
     slow = tmp_path / "tools/rt"
-    slow.write_text("#!/bin/sh\necho $$ >target/prover\nsleep 300\n")
+    slow.write_text("#!/bin/sh\necho $$ >../../target/prover\nsleep 300\n")
     process = subprocess.Popen([clone / "mahunopi", "--version"], stderr=subprocess.PIPE, start_new_session=True)
     prover = clone / "target/prover"
     for _ in range(600):
@@ -169,7 +163,7 @@ def test_what_stands_in_the_way_is_said(clone, tmp_path):
     (clone / "fails").touch()
     status, out, err = run(clone, "--version")
     assert (status, out) == (2, "") and err.split("\n")[1:] == [
-        "rt: mahunopi NOT PROVED (exit 1, 2 s)", "mahunopi: that failed; what the prover said is in target/log/first-use.txt", ""]
+        "rt: paper NOT PROVED", "mahunopi: that failed; what the prover said is in target/log/first-use.txt", ""]
     # a path with neither rt nor apt-get nor a C compiler
     poor = tmp_path / "poor"
     poor.mkdir()
@@ -234,4 +228,4 @@ def test_a_library_that_is_older_than_the_header_is_said(clone):
     text = header.read_text()
     header.write_text(text.replace("uint32_t mahunopi_merge(", "uint32_t mahunopi_later(\n    uint64_t *place);\nuint32_t mahunopi_merge("))
     status, out, err = run(clone, "--version")
-    assert (status, out) == (2, "") and err.endswith("is older than the header, it has no mahunopi_later: run `rt staticlib mahunopi`\n")
+    assert (status, out) == (2, "") and err.endswith("is older than the header, it has no mahunopi_later: run `.ci/staticlib`\n")

@@ -14,7 +14,8 @@ import pytest
 
 ROOT = Path(__file__).resolve().parents[2]
 NOTES = ROOT / "docs/landings"
-PAGES = [ROOT / "README.md", ROOT / "CHANGES.md", *sorted((ROOT / "docs").glob("*.md")), ROOT / "meshes/README.md", ROOT / "rust/README.md"]
+# docs/PORT.md tells the move from an older Rattle, in the names of both
+PAGES = [ROOT / "README.md", ROOT / "CHANGES.md", *sorted(page for page in (ROOT / "docs").glob("*.md") if page.name != "PORT.md"), ROOT / "meshes/README.md", ROOT / "rust/README.md"]
 LIMITS = {"README.md": 800, "docs/DECISIONS.md": 3000}
 NOTE_LIMIT = 300
 SECONDS = 300
@@ -23,7 +24,7 @@ PROGRAM_LINES = 10
 UNCLEAR = ["gone over", "said of", "asked besides", "the fringe"]
 # in code font, and no name of ours: what programs read and write, letters, words of the languages, programs that come with the machine
 TEXTS = set("""sun page refused merge as-drawn OFF DMS NAME PREFIX K c e s rt python3 gzip xz .dms ? # requires ensures pub as if match usize Result""".split())
-RT = {"check", "prove", "dev", "staticlib", "try", "must-fail", "ci", "goals", "mir", "fmt", "doc", "version", "selftest"}
+RT = {"check", "ci", "must-fail", "lib", "run", "test", "try", "tidy", "all", "fmt", "doc", "version", "selftest"}
 
 
 def text_of(page):
@@ -57,7 +58,7 @@ def files():
 
 @pytest.fixture(scope="module")
 def crates():
-    return dict(re.findall(r"(?m)^([a-z0-9_]+):(.*)$", (ROOT / "crates.txt").read_text()))
+    return dict(re.findall(r"(?m)^([a-z0-9_]+)(?: staticlib)?:(.*)$", (ROOT / "crates.txt").read_text()))
 
 
 def declared(path, text):
@@ -288,7 +289,7 @@ def test_programs_run_with_the_stack_that_the_page_says(tmp_path):
     assert sorted(programs) == sorted(named), "docs/PROGRAMS.md: the tables differ"
     for program, size in programs.items():
         if not (ROOT / "target/bin" / program).exists():
-            pytest.skip(f"target/bin/{program} is not built (rt check {program})")
+            pytest.skip(f"target/bin/{program} is not built (.ci/programs {program})")
         done = subprocess.run(["sh", "-c", f"ulimit -s {size.replace(',', '')} && exec {ROOT / 'target/bin' / program}"], cwd=tmp_path,
                               input=given.get(program, file), capture_output=True, timeout=SECONDS, check=False)
         assert done.returncode == 0 and done.stdout and not done.stderr, f"{program} with {size} KB: {done.returncode} {done.stderr[:200]}"
@@ -336,6 +337,10 @@ def test_the_commands_of_the_readme(command, checkout, crates, commands):
         if shutil.which("rt"):
             told = subprocess.run(["rt", "help"], capture_output=True, text=True, timeout=SECONDS, check=False)
             assert f"  rt {rest[0]} " in told.stdout + told.stderr
+        return
+    if first == "cd":
+        # in a crate's folder, the kit's check
+        assert rest[1:] == ["&&", "rt", "check"] and rest[0].removeprefix("crates/") in crates
         return
     if first.startswith(".ci/"):
         # the gate itself runs this test

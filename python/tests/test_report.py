@@ -151,6 +151,21 @@ def test_names(room):  # noqa: F811
     assert run("report", "--names", "nothing")[::2] == (2, "nothing: No such file or directory\n")
 
 
+def wait_for_work(group, seconds):
+    """waits until the processes of a group have used so many seconds of processor, however busy the machine is"""
+    used, tick = 0, os.sysconf("SC_CLK_TCK")
+    while used < seconds * tick:
+        time.sleep(0.05)
+        used = 0
+        for entry in Path("/proc").glob("[0-9]*/stat"):
+            try:
+                fields = entry.read_text().rsplit(")", 1)[1].split()
+            except OSError:
+                continue
+            if int(fields[2]) == group:
+                used += int(fields[11]) + int(fields[12])
+
+
 @pytest.mark.parametrize("jobs", ["1", "2"])
 @pytest.mark.parametrize("kind, status", [(signal.SIGINT, 130), (signal.SIGTERM, 143), (signal.SIGHUP, 129)])
 def test_an_interrupt_prints_the_page_so_far(room, jobs, kind, status):  # noqa: F811
@@ -164,7 +179,7 @@ def test_an_interrupt_prints_the_page_so_far(room, jobs, kind, status):  # noqa:
     process = subprocess.Popen([*COMMAND, "report", "--names", "names", "--jobs", jobs, "--json"], stdout=subprocess.PIPE,
                                stderr=subprocess.PIPE, start_new_session=True)
     Path("names").write_text("\n".join(names))
-    time.sleep(1.5)
+    wait_for_work(process.pid, 1.0)
     # as a terminal does: to all processes of the run
     os.killpg(process.pid, kind) if kind != signal.SIGTERM else process.send_signal(kind)
     out, err = process.communicate(timeout=60)

@@ -1,4 +1,4 @@
-//! Finds the proved library, libmahunopi.a in the directory that MAHUNOPI_LIB names, or where `rt staticlib mahunopi`
+//! Finds the proved library, libmahunopi.a in the directory that MAHUNOPI_LIB names, or where `.ci/staticlib`
 //! writes it; and makes the table of refusals from the comments of include/mahunopi.h, the one source of their words.
 
 use std::fmt::Write;
@@ -14,7 +14,7 @@ fn main() {
     println!("cargo:rerun-if-changed={}", archive.display());
     if !archive.is_file() {
         eprintln!(
-            "{} is not there: run `rt staticlib mahunopi` in the repository's root, or set MAHUNOPI_LIB to the \
+            "{} is not there: run `.ci/staticlib` in the repository's root, or set MAHUNOPI_LIB to the \
                    directory that has it",
             archive.display()
         );

@@ -38,6 +38,10 @@ pub all_at : (d : List ℕ) (l : List ℤ) (r : List Fraction) → AllClose d l 
 all_at [] [] [] none j = close_whole (pos 0)
 all_at (e ∷ d) (z ∷ l) (q ∷ r) (h then t) zero = h
 all_at (e ∷ d) (z ∷ l) (q ∷ r) (h then t) (suc j) = all_at d l r t j
+all_at [] [] (q ∷ r) x3 j = elim x3 [ ]
+all_at [] (z ∷ l) r x3 j = elim x3 [ ]
+all_at (e ∷ d) [] r x3 j = elim x3 [ ]
+all_at (e ∷ d) (z ∷ l) [] x5 j = elim x5 [ ]
 
 -- ---- a corner's net, over refined points off by 50
 module _ (G : Corners) (ok : Sound G) (v : ℕ → ℤ) (q : ℕ → Fraction) (close : (c : ℕ) → c < G.count → Close 50 (v c) (q c)) (c : ℕ) (here : c < G.count) where

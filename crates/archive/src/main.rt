@@ -1,52 +1,52 @@
+#![tactic(auto)]
 // Rearranges the coordinate list on standard input for the archive: four-byte numbers, low byte first, become the bytes of their
 // differences, plane by plane, on standard output. The second plane comes after the last number's lowest byte, so the whole list is held,
 // and there is a longest list. What is turned down gets a line on standard error and nothing on standard output.
 ghost use Rattle.std.specs.Prelude.{◌*◌, ◌≤◌, length};
 
-use libc::STDIN_FILENO;
 use mesh::least;
 use paper::Answer;
 use rearrange::four_bytes::{LONGEST_BYTES, LONGEST_LIST};
 
-fn main() {
-    if 1 < os::arg_count() {
-        streams::output::complain(b"usage: archive < FILE > FILE\n");
+fn main(rt: HostRuntime) {
+    if 1 < streams::arguments::count(rt) {
+        streams::output::complain(rt, b"usage: archive < FILE > FILE\n");
         return;
     }
     let mut bytes = [0u8; LONGEST_BYTES + 1];
     let mut numbers = [0i32; LONGEST_LIST];
-    run(&mut bytes, &mut numbers);
+    run(rt, &mut bytes, &mut numbers);
 }
 
 // The lists go on as slices: of their zeros, too many for a proof to count, only the types tell the lengths.
-fn run(bytes: &mut [u8; LONGEST_BYTES + 1], numbers: &mut [i32; LONGEST_LIST]) {
-    archive_input(bytes, numbers);
+fn run(rt: HostRuntime, bytes: &mut [u8; LONGEST_BYTES + 1], numbers: &mut [i32; LONGEST_LIST]) {
+    archive_input(rt, bytes, numbers);
 }
 
 // Reads the bytes, one more than the longest list has, so that a longer one is noticed, and lends a number for each four of them.
-fn archive_input(bytes: &mut [u8], numbers: &mut [i32]) {
-    let got = streams::input::read_up_to(STDIN_FILENO, b"standard input", bytes);
+fn archive_input(rt: HostRuntime, bytes: &mut [u8], numbers: &mut [i32]) {
+    let got = streams::input::read_up_to(rt, &mut rt.stdin(), b"standard input", bytes);
     let held = got.count;
     if LONGEST_BYTES < held {
-        streams::output::complain(b"standard input: more than 1572864 bytes\n");
+        streams::output::complain(rt, b"standard input: more than 1572864 bytes\n");
         return;
     }
     if got.ok {
         let n = least(held / 4, numbers.len());
-        archive_numbers(&mut bytes[..held], &mut numbers[..n]);
+        archive_numbers(rt, &mut bytes[..held], &mut numbers[..n]);
     }
 }
 
 // Reads the numbers, and writes the bytes of their differences in the place of theirs.
-fn archive_numbers(bytes: &mut [u8], numbers: &mut [i32])
+fn archive_numbers(rt: HostRuntime, bytes: &mut [u8], numbers: &mut [i32])
     requires { 4 * length numbers.old ≤ length bytes.old }
 {
     rearrange::four_bytes::read_numbers(bytes, numbers);
     let answer = rearrange::archive(numbers, bytes);
     match answer {
-        Answer::Refused(number, place) => print::complain_refusal(number, place),
+        Answer::Refused(number, place) => lines::complain_refusal(rt, number, place),
         Answer::Done => {
-            streams::output::say(bytes);
+            streams::output::say(rt, bytes);
         }
     }
 }

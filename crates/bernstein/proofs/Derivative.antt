@@ -3,16 +3,15 @@ use mathlib.Core.Path.{◌≡◌, refl, sym, ap, ◌∙◌}
 use Prim.Native.Nat.{ℕ, ◌+◌, ◌-◌, ◌*◌, ◌/◌, ◌^◌}
 use native.Mathlib.Omega.{arith}
 use lib.IntN.{ℤ, pos, ◌+ℤ◌, ◌-ℤ◌, ◌*ℤ◌}
-use Rattle.paper.specs.Numbers.{sum, sum_by}
+use Rattle.paper.specs.Numbers.{sum_by}
 use Rattle.paper.specs.Net.{Side}
 use Rattle.paper.specs.Sampling.{control, factorial}
 use Rattle.paper.specs.Tangents as tangents
 use Rattle.numbers.proofs.Poly.{over, poly}
 use Rattle.numbers.proofs.Laws.{zero_add}
 use Rattle.numbers.proofs.Sum.{sum_same}
-use Rattle.bernstein.specs.declared.Vector5.{Vector5}
 use Rattle.bernstein.specs.declared.Matrix5.{Matrix5}
-use Rattle.bernstein.specs.Sums.{vector5, linear, quadratic, cubic, rows_of, differences_of, slopes_of, columns_of, weighted_of, scaled_of, weights_of}
+use Rattle.bernstein.specs.Sums.{linear, quadratic, cubic, rows_of, differences_of, slopes_of, columns_of, weighted_of, scaled_of, weights_of}
 use Rattle.bernstein.specs.Sums.{polynomial_of, polynomial_at, row_of}
 use Rattle.bernstein.specs.Tangents.{along_rows, inward_rows, cubic_sum, times_of, along_of, slope_of, inward_of}
 use Rattle.bernstein.proofs.Identity.{linear_turn, quadratic_turn, cubic_turn, weigh1}

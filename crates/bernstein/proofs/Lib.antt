@@ -3,3 +3,4 @@ pub mod Identity
 pub mod Sum
 pub mod Derivative
 pub mod Tapering
+pub mod Samples

@@ -1,6 +1,6 @@
 -- The quartic Bernstein sum as the code has it: over whole numbers, then as a polynomial in the second and third weight whose coefficients come from
 -- differences of the control points, then by steps of differences from one weight to the next.
-use Rattle.std.specs.Prelude.{◌≡◌, ℕ, ◌+◌, ◌*◌, ◌^◌, ◌≤◌, ℤ, pos, nat_abs, ◌+ℤ◌, ◌-ℤ◌, ◌*ℤ◌}
+use Rattle.std.specs.Prelude.{ℕ, ◌+◌, ◌*◌, ◌^◌, ◌≤◌, ℤ, pos, nat_abs, ◌+ℤ◌, ◌-ℤ◌, ◌*ℤ◌}
 use Rattle.bernstein.specs.declared.Vector5.{Vector5}
 use Rattle.bernstein.specs.declared.Matrix5.{Matrix5}
 

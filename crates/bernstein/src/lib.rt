@@ -1,3 +1,4 @@
+#![tactic(auto)]
 // The quartic Bernstein sum on a grid of weights, exact: as a polynomial in the second and third weight, whose coefficients are differences of the
 // control points; and from one weight to the next by four sums (forward differences). Then one rounding.
 pub mod derivatives;
@@ -11,7 +12,7 @@ use numbers::rounding;
 
 // A vector of five whole numbers. It has a row of control points, with zeros after them; or the coefficients of a polynomial of degree four, by
 // rising powers; or the value of such a polynomial at a place and its first to fourth difference there.
-#[derive(Drop)]
+#[derive(Clone, Copy)]
 pub struct Vector5 {
     pub a: i64,
     pub b: i64,
@@ -22,7 +23,7 @@ pub struct Vector5 {
 
 // A matrix of five by five whole numbers, in rows. It has a triangle's control points; or the coefficients of a polynomial in two variables; or for each
 // row of these its value and its differences.
-#[derive(Drop)]
+#[derive(Clone, Copy)]
 pub struct Matrix5 {
     pub r0: Vector5,
     pub r1: Vector5,

@@ -1,3 +1,4 @@
+#![tactic(auto)]
 // L14, the yearly border report: a call takes a page with one file and returns the next page. The file is checked as behind `inspect`, in local copies of
 // its lists; of an accepted mesh the misses are taken over a table of its corners and one of its refined points.
 pub mod border_misses;

@@ -1,1 +1,3 @@
-// Demand 3: what holds across the borders of an accepted mesh. Crate paper states it, proofs/ has the theorem. There is no code.
+#![tactic(auto)]
+// Demand 3: what holds across the borders of an accepted mesh; and L1: every quad-net that building writes passes 18 and 19. Crate paper states both,
+// proofs/ has the theorems. There is no code.

@@ -1,3 +1,4 @@
+#![tactic(auto)]
 // Builds the cube of 01 and a tetrahedron, and prints what 01's checked examples print: points of the cube's corner 0, what building
 // refuses, and whether a mesh built in one call and built corner by corner, so that every border lies between two calls, gives the
 // same numbers. The cube is soft (8 and 8 throughout) and then crisp (16 and 16), and the tetrahedron has corners of all sorts.
@@ -17,12 +18,12 @@ const CORNERS: [u16; 24] = [
     0, 1, 2, 3, 4, 7, 6, 5, 1, 0, 4, 5, 2, 1, 5, 6, 3, 2, 6, 7, 0, 3, 7, 4,
 ];
 
-fn main() {
-    cube();
-    tetrahedron();
+fn main(rt: HostRuntime) {
+    cube(rt);
+    tetrahedron(rt);
 }
 
-fn cube() {
+fn cube(rt: HostRuntime) {
     let coordinates = COORDINATES;
     let sides = SIDES;
     let corners = CORNERS;
@@ -30,6 +31,7 @@ fn cube() {
     let crisp = [16u8; 48];
     let mut links = [0u16; 24];
     link(
+        rt,
         b"cube, link",
         &coordinates,
         &sides,
@@ -38,6 +40,7 @@ fn cube() {
         &mut links,
     );
     cube_points(
+        rt,
         b"cube, build",
         &coordinates,
         &sides,
@@ -46,6 +49,7 @@ fn cube() {
         &links,
     );
     cube_points(
+        rt,
         b"crisp cube, build",
         &coordinates,
         &sides,
@@ -53,12 +57,13 @@ fn cube() {
         &crisp,
         &links,
     );
-    refusals(&coordinates, &sides, &corners, &soft, &links);
-    sharpness_refusals(&coordinates, &sides, &corners, &links);
+    refusals(rt, &coordinates, &sides, &corners, &soft, &links);
+    sharpness_refusals(rt, &coordinates, &sides, &corners, &links);
 }
 
 // The cube built as a whole, and its corner 0.
 fn cube_points(
+    rt: HostRuntime,
     what: &[u8],
     coordinates: &[i32],
     sides: &[u8],
@@ -68,6 +73,7 @@ fn cube_points(
 ) {
     let mut whole = [0i32; 2952];
     build(
+        rt,
         what,
         coordinates,
         sides,
@@ -78,11 +84,11 @@ fn cube_points(
         24,
         &mut whole,
     );
-    points(&whole);
-    corner_by_corner(coordinates, sides, corners, sharpness, links, &whole);
+    points(rt, &whole);
+    corner_by_corner(rt, coordinates, sides, corners, sharpness, links, &whole);
 }
 
-fn tetrahedron() {
+fn tetrahedron(rt: HostRuntime) {
     let coordinates = [7i32, 1, 0, -5, 9, 2, -6, -8, 3, 1, 2, 11];
     let sides = [3u8, 3, 3, 3];
     let corners = [0u16, 1, 2, 0, 2, 3, 0, 3, 1, 1, 3, 2];
@@ -92,6 +98,7 @@ fn tetrahedron() {
     let mut links = [0u16; 12];
     let mut whole = [0i32; 1476];
     link(
+        rt,
         b"tetrahedron, link",
         &coordinates,
         &sides,
@@ -100,6 +107,7 @@ fn tetrahedron() {
         &mut links,
     );
     build(
+        rt,
         b"tetrahedron, build",
         &coordinates,
         &sides,
@@ -110,27 +118,43 @@ fn tetrahedron() {
         12,
         &mut whole,
     );
-    corner_by_corner(&coordinates, &sides, &corners, &sharpness, &links, &whole);
+    corner_by_corner(
+        rt,
+        &coordinates,
+        &sides,
+        &corners,
+        &sharpness,
+        &links,
+        &whole,
+    );
 }
 
 // Points of corner 0 that 01 prints.
-fn points(whole: &[i32; 2952]) {
-    point(b"b00", whole, 0);
-    point(b"b01", whole, 1);
-    point(b"b02", whole, 2);
-    point(b"b03", whole, 3);
-    point(b"b04", whole, 4);
-    point(b"b44", whole, 24);
-    point(b"a00", whole, 25);
-    point(b"a01", whole, 26);
+fn points(rt: HostRuntime, whole: &[i32; 2952]) {
+    point(rt, b"b00", whole, 0);
+    point(rt, b"b01", whole, 1);
+    point(rt, b"b02", whole, 2);
+    point(rt, b"b03", whole, 3);
+    point(rt, b"b04", whole, 4);
+    point(rt, b"b44", whole, 24);
+    point(rt, b"a00", whole, 25);
+    point(rt, b"a01", whole, 26);
 }
 
 // 14 to 17, also where the end of the range would wrap.
-fn refusals(coordinates: &[i32], sides: &[u8], corners: &[u16], sharpness: &[u8], links: &[u16]) {
+fn refusals(
+    rt: HostRuntime,
+    coordinates: &[i32],
+    sides: &[u8],
+    corners: &[u16],
+    sharpness: &[u8],
+    links: &[u16],
+) {
     let short = [0u16; 23];
     let other = [0u16; 24];
     let far = 18446744073709551615;
     attempt(
+        rt,
         b"short table",
         coordinates,
         sides,
@@ -141,6 +165,7 @@ fn refusals(coordinates: &[i32], sides: &[u8], corners: &[u16], sharpness: &[u8]
         1,
     );
     attempt(
+        rt,
         b"other links",
         coordinates,
         sides,
@@ -151,6 +176,7 @@ fn refusals(coordinates: &[i32], sides: &[u8], corners: &[u16], sharpness: &[u8]
         1,
     );
     attempt(
+        rt,
         b"no count",
         coordinates,
         sides,
@@ -161,6 +187,7 @@ fn refusals(coordinates: &[i32], sides: &[u8], corners: &[u16], sharpness: &[u8]
         0,
     );
     attempt(
+        rt,
         b"past the end",
         coordinates,
         sides,
@@ -171,6 +198,7 @@ fn refusals(coordinates: &[i32], sides: &[u8], corners: &[u16], sharpness: &[u8]
         1,
     );
     attempt(
+        rt,
         b"far past the end",
         coordinates,
         sides,
@@ -181,6 +209,7 @@ fn refusals(coordinates: &[i32], sides: &[u8], corners: &[u16], sharpness: &[u8]
         1,
     );
     attempt(
+        rt,
         b"count that wraps",
         coordinates,
         sides,
@@ -191,6 +220,7 @@ fn refusals(coordinates: &[i32], sides: &[u8], corners: &[u16], sharpness: &[u8]
         far,
     );
     attempt(
+        rt,
         b"long range",
         coordinates,
         sides,
@@ -201,6 +231,7 @@ fn refusals(coordinates: &[i32], sides: &[u8], corners: &[u16], sharpness: &[u8]
         2,
     );
     attempt(
+        rt,
         b"last corner",
         coordinates,
         sides,
@@ -213,10 +244,17 @@ fn refusals(coordinates: &[i32], sides: &[u8], corners: &[u16], sharpness: &[u8]
 }
 
 // 27 and 28.
-fn sharpness_refusals(coordinates: &[i32], sides: &[u8], corners: &[u16], links: &[u16]) {
+fn sharpness_refusals(
+    rt: HostRuntime,
+    coordinates: &[i32],
+    sides: &[u8],
+    corners: &[u16],
+    links: &[u16],
+) {
     let short = [8u8; 47];
     let mut sharp = [8u8; 48];
     attempt(
+        rt,
         b"short sharpness",
         coordinates,
         sides,
@@ -228,6 +266,7 @@ fn sharpness_refusals(coordinates: &[i32], sides: &[u8], corners: &[u16], links:
     );
     sharp[31] = 17;
     attempt(
+        rt,
         b"sharpness 17",
         coordinates,
         sides,
@@ -241,6 +280,7 @@ fn sharpness_refusals(coordinates: &[i32], sides: &[u8], corners: &[u16], links:
 
 // Building into room for one corner.
 fn attempt(
+    rt: HostRuntime,
     what: &[u8],
     coordinates: &[i32],
     sides: &[u8],
@@ -252,6 +292,7 @@ fn attempt(
 ) {
     let mut output = [7i32; 123];
     build(
+        rt,
         what,
         coordinates,
         sides,
@@ -266,6 +307,7 @@ fn attempt(
 
 // A call of linking, and its line.
 fn link(
+    rt: HostRuntime,
     what: &[u8],
     coordinates: &[i32],
     sides: &[u8],
@@ -274,6 +316,7 @@ fn link(
     links: &mut [u16],
 ) {
     say(
+        rt,
         what,
         linking::link(coordinates, sides, corners, sharpness, links),
     );
@@ -281,6 +324,7 @@ fn link(
 
 // A call of building, and its line.
 fn build(
+    rt: HostRuntime,
     what: &[u8],
     coordinates: &[i32],
     sides: &[u8],
@@ -292,6 +336,7 @@ fn build(
     output: &mut [i32],
 ) {
     say(
+        rt,
         what,
         building::build(
             coordinates,
@@ -308,6 +353,7 @@ fn build(
 
 // Each corner by a call of its own, compared with the whole.
 fn corner_by_corner(
+    rt: HostRuntime,
     coordinates: &[i32],
     sides: &[u8],
     corners: &[u16],
@@ -319,12 +365,12 @@ fn corner_by_corner(
     while c < 24 {
         if c < corners.len() {
             if !agrees(coordinates, sides, corners, sharpness, links, whole, c) {
-                streams::output::say(b"a corner built by itself differs\n");
+                streams::output::say(rt, b"a corner built by itself differs\n");
             }
         }
         c += 1;
     }
-    streams::output::say(b"compared corner by corner\n");
+    streams::output::say(rt, b"compared corner by corner\n");
 }
 
 fn agrees(
@@ -387,23 +433,23 @@ fn same(whole: &[i32], from: usize, one: &[i32; 123]) -> bool
 }
 
 // A line: what was called, and its answer.
-fn say(what: &[u8], answer: Answer) {
+fn say(rt: HostRuntime, what: &[u8], answer: Answer) {
     let mut line = [0u8; 64];
     let name = put_word(&mut line, 0, what);
     let colon = put_word(&mut line, name, b": ");
     let end = put_answer(&mut line, colon, answer);
-    say_up_to(&line, end);
+    say_up_to(rt, &line, end);
 }
 
 fn put_answer(line: &mut [u8], at: usize, answer: Answer) -> usize {
     match answer {
         Answer::Done => put_word(line, at, b"done\n"),
-        Answer::Refused(number, place) => print::lines::put_refusal(line, at, number, place),
+        Answer::Refused(number, place) => lines::put_refusal(line, at, number, place),
     }
 }
 
 // A line: a name and the point with this number.
-fn point(name: &[u8], numbers: &[i32; 2952], k: usize)
+fn point(rt: HostRuntime, name: &[u8], numbers: &[i32; 2952], k: usize)
     requires { k < 41 }
 {
     let mut line = [0u8; 64];
@@ -412,5 +458,5 @@ fn point(name: &[u8], numbers: &[i32; 2952], k: usize)
     let x = put_entry(&mut line, space, numbers[3 * k], b' ');
     let y = put_entry(&mut line, x, numbers[3 * k + 1], b' ');
     let z = put_entry(&mut line, y, numbers[3 * k + 2], b'\n');
-    say_up_to(&line, z);
+    say_up_to(rt, &line, z);
 }

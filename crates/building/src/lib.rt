@@ -1,3 +1,4 @@
+#![tactic(auto)]
 // Building: writes the control points of a range of corners, or answers why the call is refused and leaves the output as it was.
 pub mod writing;
 

@@ -1,31 +1,33 @@
 -- What each passed check gives to the later ones: rooms, sums and names for filling the tables, unique edges with reverses for the links;
 -- and how the answers make up the verdict.
-use mathlib.Core.Path.{◌≡◌, ap, ◌∙◌, sym}
-use mathlib.Core.Bool.{false}
+use mathlib.Core.Path.{◌≡◌, ◌∙◌, sym}
 use mathlib.Core.List.{List}
 use Prim.Native.Nat.{ℕ, ◌*◌, ◌≤◌}
 use native.Mathlib.Omega.{arith}
 use lib.ListN.{length, replicate, length-replicate}
-use Rattle.paper.specs.Mesh.{Mesh, vertex_count, face_count, corner_count, most_vertices, most_corners}
+use Rattle.paper.specs.Mesh.{Mesh, vertex_count, corner_count, most_vertices, most_corners}
 use Rattle.paper.specs.Links.{link}
 use Rattle.paper.specs.Refined.{corners_of}
-use Rattle.paper.specs.Faults.{Verdict, sound, fault, ◌or_else◌, lowest_of, fault4, fault5, fault8, fault10, fault11, fault12, fault13, list_faults}
+use Rattle.paper.specs.Faults.{Verdict, sound, fault, ◌or_else◌, lowest_of, fault8, fault10, fault11, fault12, fault13, list_faults}
 use Rattle.paper.specs.Faults.{link_faults, verdict, stated}
 use Rattle.paper.specs.declared.Answer.{Answer}
 use Rattle.paper.specs.declared.Answer.TheVariants.{Refused}
 use Rattle.mesh.specs.Closed.{Closed}
 use Rattle.mesh.proofs.Faces.{next_below, previous_below}
 use Rattle.mesh.proofs.Links.{link_in}
-use Rattle.mesh.proofs.Verdicts.{sound_left, sound_right, single_sound, lowest_sound, or_else_fault, or_else_sound, or_else_assoc, unsound}
-use Rattle.mesh.proofs.Accepted.{few_vertices, few_corners, sides_within, sums_of, named_of}
+use Rattle.mesh.proofs.Verdicts.{sound_left, sound_right, lowest_sound, or_else_fault, or_else_sound, or_else_assoc, unsound}
+use Rattle.mesh.proofs.Accepted.{named_of}
 use Rattle.walk.specs.Table.{row_length, to_link, Column, Tabled}
 use Rattle.walk.proofs.Table.{blank}
+use Rattle.list_checks.specs.Entries.{Listed}
+use Rattle.list_checks.proofs.Entries.{then_nine}
+use Rattle.list_checks.proofs.Entries as entry-laws
 use Rattle.checks.specs.columns.Vertices.{vertex_row, Rowed}
 use Rattle.checks.specs.columns.Chain.{EarliersTo, EarliersFrom, LastsTo, Ready}
 use Rattle.checks.specs.columns.Filled.{FacesFilled, CornersCounted}
 use Rattle.checks.specs.edges.Entries.{Entries, Valences, Searchable, ChainsFrom, HeadsFrom, StepsBelong, EntriesFound}
 use Rattle.checks.specs.vertices.Ring.{Linking}
-use Rattle.checks.specs.Checked.{RowsFor, RoomFor, Checked, ListsChecked, Listed}
+use Rattle.checks.specs.Checked.{RowsFor, RoomFor, Checked, ListsChecked}
 
 -- a table of p rows, and beside it one of q rows for the vertices, of zeros
 pub rows_for : (n p : ℕ) → (n ≤ most_corners → n ≤ p) → RowsFor n (replicate (row_length * p) 0)
@@ -46,28 +48,12 @@ pub rowed : (M : Mesh) (vertices : List ℕ) → vertex_count M ≤ most_vertice
 rowed M vertices l r e c h =
     omega (arith, r l, named_of (vertex_count M) M.corners c (lowest_sound 8 (corner_count M) (fault8 (vertex_count M) M.corners) e c h))
 
--- two checks, one after the other
-pub joined : {a b v w : Verdict} → a ≡ v → b ≡ w → a or_else b ≡ v or_else w
-joined {a = a} {w = w} e f = ap (λ (x : Verdict). a or_else x) f ∙ ap (λ (x : Verdict). x or_else w) e
-
 pub lists_refused : (M : Mesh) (table vertices : List ℕ) (k p : ℕ) → fault k p ≡ list_faults M → ListsChecked M (Refused k p) table vertices
 lists_refused M table vertices k p e = record { answers = e; ready = unsound k p; faced = unsound k p }
 
 -- after 4 to 9 with 27 and 28
 pub listed : (M : Mesh) → list_faults M ≡ sound → Listed M
-unfolding list_faults
-listed M e4 =
-    let e5 = sound_right _ _ (sound_right _ _ e4) in
-    let e6 = sound_right _ _ e5 in
-    let e8 = sound_right _ _ (sound_right _ _ e6) in
-    let b : fault4 (length M.coordinates) (face_count M) (corner_count M) ≡ false = single_sound _ _ _ (sound_left _ _ e4) in
-    record {
-      few = few_vertices (length M.coordinates) (face_count M) (corner_count M) b;
-      small = few_corners (length M.coordinates) (face_count M) (corner_count M) b;
-      sums = sums_of M.sides (corner_count M) (single_sound _ _ _ (sound_left _ _ e6));
-      sided = λ f l. (sides_within M.sides f (lowest_sound 5 (face_count M) (fault5 M.sides) (sound_left _ _ e5) f l)).0;
-      named = λ c l. named_of (vertex_count M) M.corners c (lowest_sound 8 (corner_count M) (fault8 (vertex_count M) M.corners) (sound_left _ _ e8) c l);
-    }
+listed M e = entry-laws.listed M (sound_left _ _ (then_nine M ∙ e))
 
 module _ (M : Mesh) (g : Listed M) where
   pub rows : (vertices : List ℕ) → vertex_row * vertex_count M ≤ length vertices → Rowed M.corners vertices

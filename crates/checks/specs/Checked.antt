@@ -1,11 +1,9 @@
 -- What the shared check of 4 to 13 with 27 and 28 asks and answers, and what its tables hold.
-use Rattle.std.specs.Prelude.{◌≡◌, List, ℕ, ◌*◌, ◌<◌, ◌≤◌, length, get_or}
-use Rattle.paper.specs.Mesh.{least_sides, most_vertices, most_corners, Mesh, vertex_count, face_count, corner_count}
-use Rattle.paper.specs.Corners.{sum_of}
+use Rattle.std.specs.Prelude.{◌≡◌, List, ℕ, ◌*◌, ◌≤◌, length}
+use Rattle.paper.specs.Mesh.{most_vertices, most_corners, Mesh, vertex_count, corner_count}
 use Rattle.paper.specs.Faults.{sound, list_faults, verdict, Accepted, stated}
 use Rattle.paper.specs.Refined.{corners_of}
 use Rattle.paper.specs.declared.Answer.{Answer}
-use Rattle.mesh.specs.Tables.{Named}
 use Rattle.walk.specs.Table.{row_length, Blank, Tabled}
 use Rattle.checks.specs.columns.Vertices.{vertex_row}
 use Rattle.checks.specs.columns.Chain.{Ready}
@@ -31,11 +29,3 @@ pub record ListsChecked (M : Mesh) (r : Answer) (table vertices : List ℕ) : Ty
   pub answers : stated r ≡ list_faults M
   pub ready : stated r ≡ sound → Ready M.corners table vertices
   pub faced : stated r ≡ sound → FacesFilled M.sides table
-
--- what they say of the lists
-pub record Listed (M : Mesh) : Type 0 where
-  pub few : vertex_count M ≤ most_vertices
-  pub small : corner_count M ≤ most_corners
-  pub sums : sum_of M.sides ≡ corner_count M
-  pub sided : (f : ℕ) → f < face_count M → least_sides ≤ get_or M.sides f 0
-  pub named : Named M.corners (vertex_count M)

@@ -1,15 +1,15 @@
+#![tactic(auto)]
 // The checks that the file, linking and building share: 4 to 13 of a mesh with 27 and 28, and 14 to 17 of the rest of a request (`requests`).
 // Each number is tried over the whole input before the next.
 pub mod columns;
 pub mod edges;
 pub mod faces;
-pub mod lists;
 pub mod requests;
 pub mod vertices;
 
 ghost use Rattle.std.specs.Prelude.{◌≡◌, length};
 ghost use Rattle.paper.specs.Mesh.{mesh_of};
-ghost use Rattle.paper.specs.Faults.{◌or_else◌, verdict, stated};
+ghost use Rattle.paper.specs.Faults.{verdict, stated};
 ghost use Rattle.checks.specs.Checked.{RowsFor, RoomFor, Checked, ListsChecked};
 
 use crate::columns::VERTEX_ROW;
@@ -88,41 +88,9 @@ pub fn check_lists(
     requires { RoomFor (mesh_of coordinates.now sides.now corners.now sharpness.now) table.old vertices.old }
     ensures { ListsChecked (mesh_of coordinates.now sides.now corners.now sharpness.now) result table.new vertices.new }
 {
-    let a4 = crate::lists::check_lengths(coordinates.len(), sides.len(), corners.len());
-    if let Answer::Refused(k, p) = a4 {
-        return Answer::Refused(k, p);
-    }
-    let a27 = crate::lists::check_pairs(sharpness.len(), corners.len());
-    if let Answer::Refused(k, p) = a27 {
-        return Answer::Refused(k, p);
-    }
-    let a5 = crate::lists::check_sides(sides);
-    if let Answer::Refused(k, p) = a5 {
-        return Answer::Refused(k, p);
-    }
-    let a6 = crate::lists::check_sum(sides, corners.len());
-    if let Answer::Refused(k, p) = a6 {
-        return Answer::Refused(k, p);
-    }
-    let a7 = crate::lists::check_coordinates(coordinates);
-    if let Answer::Refused(k, p) = a7 {
-        return Answer::Refused(k, p);
-    }
-    let a8 = crate::lists::check_names(coordinates.len() / 3, corners);
-    let a28 = crate::lists::check_sharpness(sharpness);
-    let entries = first_of(a8, a28);
-    if let Answer::Refused(k, p) = entries {
+    let a = list_checks::check(coordinates, sides, corners, sharpness);
+    if let Answer::Refused(k, p) = a {
         return Answer::Refused(k, p);
     }
     crate::faces::check_faces(sides, corners, table, vertices)
-}
-
-// The first refusal of two checks.
-fn first_of(first: Answer, second: Answer) -> Answer
-    ensures { stated result ≡ stated first or_else stated second }
-{
-    if let Answer::Refused(k, p) = first {
-        return Answer::Refused(k, p);
-    }
-    second
 }

@@ -11,7 +11,7 @@ use Rattle.accuracy.proofs.Theorem.{accuracy}
 use Rattle.mirror.proofs.Theorem.{mirrors}
 use Rattle.paper.proofs.Claim.{examples}
 use Rattle.floats.proofs.Theorems.{far_pairs, float_sums, one_answer}
-use Rattle.floats.proofs.nets.Nets.{nets_pass}
+use Rattle.borders.proofs.Nets.{nets_pass}
 use Rattle.nesting.proofs.Theorems.{chains_decide, each_chain, listing_ordered, one_listing}
 use Rattle.irregular.proofs.Theorems.{lines_agree}
 use Rattle.dms_lists.proofs.Theorems.{version_one}
@@ -24,7 +24,7 @@ use Rattle.sampling.proofs.Theorems.{samples_close, rays_agree, sample_ends, sam
 use Rattle.strips.proofs.Strips.{plain_strips}
 use Rattle.closing.proofs.Calls.{surface_closes, points_used, points_sample, ranges_join, counts_serve}
 use Rattle.closing.proofs.FromC.{triangles_from_c, counts_from_c, tangents_from_c}
-use Rattle.closing.proofs.TangentSizes.{tangents_within}
+use Rattle.net_tangents.proofs.Sizes.{tangents_within}
 use Rattle.sampling.proofs.TangentLaws.{tangents_close}
 use Rattle.turning.proofs.Theorems.{turned_passes, turns_decide, one_choice, turned_twice, turned_back, nothing_turned, none_farther}
 use Rattle.turning.proofs.Listing.{listing_rises}

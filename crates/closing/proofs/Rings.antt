@@ -9,7 +9,7 @@ use Rattle.paper.specs.Scan.{pick_n}
 use Rattle.paper.specs.Net.{Side, side0, side1, side2, side3}
 use Rattle.paper.specs.Sampling.{side_at, side_number}
 use Rattle.paper.specs.Triangles.{turn}
-use Rattle.sampling.proofs.Theorems.{side_back}
+use Rattle.bernstein.proofs.Samples.{side_back}
 use Rattle.strips.proofs.Cases.{pick_equal, side_three, ring_side, ring_rest}
 
 pub same_side : (s t : Side) → side_number s ≡ side_number t → s ≡ t

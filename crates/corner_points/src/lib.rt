@@ -1,3 +1,4 @@
+#![tactic(auto)]
 // The refined point of one corner, on the three axes: from the sum of its face, the vertices of three corners, and the weights of its sharpness.
 // It is computed in grid steps, and 32 bits hold every number on the way.
 ghost use Rattle.std.specs.Prelude.{◌≡◌, ◌+◌, ◌*◌, ◌≤◌, ◌<◌, length, get_or};
@@ -17,7 +18,7 @@ use walk::Walker;
 const PER_SIDE: i32 = 2;
 
 // What the corners of a face share: its sides with the reciprocal of V's divisor, and Σ in grid steps.
-#[derive(Drop)]
+#[derive(Clone, Copy)]
 pub struct FaceSums {
     pub sides: u8,
     pub reciprocal: u64,
@@ -27,7 +28,7 @@ pub struct FaceSums {
 }
 
 // A corner with the previous and the next corner of its face.
-#[derive(Drop)]
+#[derive(Clone, Copy)]
 struct ThreeCorners {
     before: usize,
     here: usize,
@@ -35,7 +36,7 @@ struct ThreeCorners {
 }
 
 // What Σ and the vertices of the three corners are multiplied with; the four sum to 512.
-#[derive(Drop)]
+#[derive(Clone, Copy)]
 struct CornerWeights {
     face: u32,
     before: u32,
@@ -77,6 +78,7 @@ pub fn fill_corner(
 {
     let at = Walker { corner: c };
     let p = at.previous(table);
+    let at = Walker { corner: c };
     let q = at.next(table);
     let w = weigh(sharpness, c);
     let around = ThreeCorners {

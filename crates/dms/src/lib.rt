@@ -1,3 +1,4 @@
+#![tactic(auto)]
 // The mesh file DMS as a whole: the bytes read, and the length counted, give its counts, or its lists, or why it is turned down.
 // A file is checked by 1 to 13 and 28 in local copies of its lists, before anything is written to a lent space.
 ghost use Rattle.std.specs.Prelude.{◌≡◌, ℕ, ◌<◌, ◌≤◌, length};

@@ -122,7 +122,7 @@ fn check_counts(file: &[u8]) -> Answer
     requires { header_length ≤ length file.now }
     ensures { stated result ≡ counts_verdict file.now }
 {
-    checks::lists::check_lengths(3 * vertex_count(file), face_count(file), corner_count(file))
+    list_checks::check_lengths(3 * vertex_count(file), face_count(file), corner_count(file))
 }
 
 // Checks 1, 2 and 3 of a file of `counted` bytes.

@@ -1,3 +1,4 @@
+#![tactic(auto)]
 // The bytes of a mesh file, put into a lent buffer: of version 2, which has a sharpness list, or of version 1, which reads as 8 and 8 throughout.
 ghost use Rattle.std.specs.Prelude.{◌≡◌, ◌/◌, length};
 ghost use Rattle.std.specs.Int.{w32};
@@ -15,10 +16,16 @@ use streams::text::{put_byte, put_word};
 pub const BUFFER: usize = 61451;
 
 // Writes the file to standard output, as `put_shortest` puts it, and answers whether it was written.
-pub fn say_file(coordinates: &[i32], sides: &[u8], corners: &[u16], sharpness: &[u8]) -> bool {
+pub fn say_file(
+    rt: HostRuntime,
+    coordinates: &[i32],
+    sides: &[u8],
+    corners: &[u16],
+    sharpness: &[u8],
+) -> bool {
     let mut file = [0u8; BUFFER];
     let end = put_shortest(&mut file, coordinates, sides, corners, sharpness);
-    say_up_to(&file, end)
+    say_up_to(rt, &file, end)
 }
 
 // The bytes of the file, as far as the buffer reaches: of version 1 where the sharpness is 8 throughout, else of version 2.

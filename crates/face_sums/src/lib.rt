@@ -1,3 +1,4 @@
+#![tactic(auto)]
 // The sums of the faces that are needed, once for each face, in a table with a row for each face; and a vertex on an axis.
 ghost use Rattle.std.specs.Prelude.{◌≡◌, ◌+◌, ◌*◌, ◌≤◌, ◌<◌, length};
 ghost use Rattle.paper.specs.Mesh.{most_sides, plain_mesh};

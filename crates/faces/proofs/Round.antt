@@ -10,8 +10,8 @@ use lib.Dec.{lit<, lit≤}
 use lib.IntN.{ℤ, pos, neg_ℤ, nat_abs, ◌+ℤ◌, ◌*ℤ◌}
 use lib.Signed.{◌≤ℤ◌, ◌<ℤ◌, lt_z_yes}
 use mir.Syntax.{w64}
-use mir.Val.{of_z, to_z}
-use mir.Facts.{to_z-of_z}
+use mir.Val.{Fits, of_z, to_z}
+use mir.Facts.{to_z-of_z, of_z-to_z}
 use Rattle.paper.specs.Scan.{iterate}
 use Rattle.paper.specs.Mesh.{least_sides, most_sides}
 use Rattle.paper.specs.Numbers.{sum, rounded, round}
@@ -78,6 +78,12 @@ pub record RingTurn (points : List ℤ) (table : List ℕ) (column c m : ℕ) (g
   pub sum_x : to_z w64 x ≡ weighted g (around points 0 table column c) j
   pub sum_y : to_z w64 y ≡ weighted g (around points 1 table column c) j
   pub sum_z : to_z w64 z ≡ weighted g (around points 2 table column c) j
+
+-- a sum that the loop holds, by its bits
+pub by_bits : {points : List ℤ} {table : List ℕ} {column c m : ℕ} {g : ℕ → ℤ} {j d x y z : ℕ} → Fits w64 x → Fits w64 y → Fits w64 z
+    → RingTurn points table column c m g j d (of_z w64 (to_z w64 x)) (of_z w64 (to_z w64 y)) (of_z w64 (to_z w64 z))
+    → RingTurn points table column c m g j d x y z
+by_bits fx fy fz t = rw (of_z-to_z fx, of_z-to_z fy, of_z-to_z fz) at t
 
 module _ (points : List ℤ) (table : List ℕ) (column c m : ℕ) (g : ℕ → ℤ) where
   pub turn_first : RingTurn points table column c m g 0 c 0 0 0

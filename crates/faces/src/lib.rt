@@ -1,3 +1,4 @@
+#![tactic(auto)]
 // Face points: the centre of a refined face and its points towards its sides. The face of a vertex and the face of a mesh face are rings, gone
 // round by a column of the table of corners; rings of three and of four are given by their corners in turn.
 pub mod formulas;

@@ -1,21 +1,26 @@
+#![tactic(auto)]
 // Prints what `inspect` prints for each file of data/ that an argument names, after the file's name.
-fn show(i: usize) {
-    let mut path = io::buffer();
-    let n = os::arg(i, &mut path);
-    let fd = os::open_read(&path[..n]);
-    if fd < 0 {
-        os::fail(&path[..n]);
+use streams::arguments;
+use streams::input::open;
+use streams::output::say;
+
+// Room for a path.
+const PATH: usize = 4096;
+
+fn show(rt: HostRuntime, i: usize) {
+    let mut path = [0u8; PATH];
+    let n = arguments::get(rt, i, &mut path).count;
+    let Some(mut file) = open(rt, &path[..n]) else {
         return;
-    }
-    streams::output::say(&path[..n]);
-    streams::output::say(b": ");
-    print::inspect(fd, &path[..n]);
-    libc::close(fd);
+    };
+    say(rt, &path[..n]);
+    say(rt, b": ");
+    print::inspect(rt, &mut file, &path[..n]);
 }
 
-fn main() {
-    let n = os::arg_count();
+fn main(rt: HostRuntime) {
+    let n = arguments::count(rt);
     for i in 1..n {
-        show(i);
+        show(rt, i);
     }
 }

@@ -25,8 +25,8 @@ use Rattle.mesh.proofs.Verdicts.{sound_left, sound_right, single_sound, lowest_s
 use Rattle.mesh.proofs.Fills.{filled_step, filled_all}
 use Rattle.floats.specs.Exact.{FloatOf, first_part, second_part, FloatsFilled, SixPut, NetPut, six_set}
 use Rattle.floats.proofs.Exact.{whole_carried, float_of, first_carried, first_size, second_size}
-use Rattle.floats.proofs.Laws.{bits, d_bits, in_float, near_all, plain_test, number_le, point_sound, apart}
-use Rattle.floats.proofs.nets.Nets.{passes}
+use Rattle.mesh.proofs.NetLists.{passes}
+use Rattle.floats.proofs.Laws.{bits, d_bits, in_float_lem, near_all, plain_test, number_le, point_sound, apart}
 
 -- ---- six floats
 -- a float of a whole number is the number's
@@ -37,7 +37,7 @@ pub none_float : FloatOf (pos 0) (of_int binary32 (pos 0))
 none_float = float_of (pos 0) (whole_carried binary32 (pos 0) (lit≤ tt)) (omega arith)
 
 pub none_in : T (in_float binary32 (pos 0))
-none_in = in_float (pos 0) (lit≤ tt)
+none_in = in_float_lem (pos 0) (lit≤ tt)
 
 pub none_rest : (b : Bool) (d : ℤ) → b ≡ true → FloatOf (second_part b d) (of_int binary32 (pos 0))
 none_rest b d e = rw e none_float

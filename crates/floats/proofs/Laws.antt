@@ -165,10 +165,10 @@ shift_size : (z : ℤ) → nat_abs z ≤ 2 ^ 28 → nat_abs (shr_z z 4096) ≤ 2
 shift_size (pos a) h = le_trans (div-le_self a 4096) h
 shift_size (negsuc a) h = omega (arith, div-le_self a 4096)
 
-pub in_float : (z : ℤ) → nat_abs z ≤ 2 ^ 24 → T (in_float binary32 z)
+pub in_float_lem : (z : ℤ) → nat_abs z ≤ 2 ^ 24 → T (in_float binary32 z)
 unfolding in_float
-in_float (pos n) h = le→leb n (2 ^ 24) h
-in_float (negsuc n) h = lt→ltb n (2 ^ 24) h
+in_float_lem (pos n) h = le→leb n (2 ^ 24) h
+in_float_lem (negsuc n) h = lt→ltb n (2 ^ 24) h
 
 module _ (d : ℤ) (h : nat_abs d ≤ 2 ^ 28) where
   pub d_bits : to_z w32 (of_z w32 d) ≡ d
@@ -188,7 +188,7 @@ module _ (d : ℤ) (h : nat_abs d ≤ 2 ^ 28) where
 
   -- near: the difference itself
   pub near_in : (b : Bool) → (b ≡ true → nat_abs d ≤ 2 ^ 24) → b ≡ true → T (in_float binary32 (to_z w32 (of_z w32 d)))
-  near_in b k e = rw d_bits (in_float d (k e))
+  near_in b k e = rw d_bits (in_float_lem d (k e))
 
   pub near_first : (b : Bool) → (b ≡ true → nat_abs d ≤ 2 ^ 24) → b ≡ true → FloatOf (first_part b d) (of_int binary32 (to_z w32 (of_z w32 d)))
   near_first b k e = rw (e, d_bits) (float_of d (whole_carried binary32 d (k e)) (omega arith))
@@ -216,7 +216,7 @@ module _ (d : ℤ) (h : nat_abs d ≤ 2 ^ 28) where
     rest_is = to_z-of_z w32 _ rest_fits ∙ rw (d_bits, multiple_bits)
 
     pub rest_in : T (in_float binary32 (to_z w32 (of_z w32 (to_z w32 (of_z w32 d) -ℤ to_z w32 (of_z w32 m)))))
-    rest_in = rw rest_is (in_float (far_second d) (omega (arith, second_size d)))
+    rest_in = rw rest_is (in_float_lem (far_second d) (omega (arith, second_size d)))
 
     pub rest_float : FloatOf (far_second d) (of_int binary32 (to_z w32 (of_z w32 (to_z w32 (of_z w32 d) -ℤ to_z w32 (of_z w32 m)))))
     rest_float =

@@ -1,7 +1,6 @@
+#![tactic(auto)]
 // L1: one control point of a quad-net as its difference from b00, in floats, and all points of a list of quad-nets. The checks, then the three
 // differences of each point, then their floats. Every cast is one that loses nothing, and no other operation on floats is used.
-pub mod nets;
-
 ghost use Rattle.std.specs.Prelude.{◌≡◌, true, not, ◌||◌, ◌+◌, ◌*◌, ◌%◌, ◌≤◌, ◌<◌, ◌^◌, ltb, eqb, length, nat_abs};
 ghost use Rattle.paper.specs.Faults.{sound, stated, single, lowest_of};
 ghost use Rattle.paper.specs.Mesh.{most_corners};

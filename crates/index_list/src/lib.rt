@@ -1,3 +1,4 @@
+#![tactic(auto)]
 // The triangles of paper/specs/Triangles.antt as a list of point numbers: the rows of a net's sides, the strips between them, side by side and corner by
 // corner.
 ghost use Rattle.std.specs.Prelude.{◌≡◌, ◌+◌, ◌-◌, ◌*◌, ◌<◌, ◌≤◌, length};
@@ -46,7 +47,7 @@ fn outer_row(
     }
     let last = numbering::end_number(corners, low, table, levels, starts, c, after);
     let base = numbering::curve_start(corners, low, table, levels, starts, c, side);
-    let parts = numbering::segments_at(table, levels, c, side);
+    let parts = owners::segments_at(table, levels, c, side);
     NumberedRow {
         first: first,
         last: last,
@@ -72,7 +73,7 @@ fn put_side(
     requires room { (M : Mesh) → PointsStarted M corners.now low.now table.now levels.now starts.now → at + 3 * (side_start M levels.now c (side + 1) - side_start M levels.now c side) ≤ length out.old }
     ensures { (M : Mesh) → PointsStarted M corners.now low.now table.now levels.now starts.now → TrianglesPut M levels.now (side_start M levels.now c side) (side_start M levels.now c (side + 1)) at result out.old out.new }
 {
-    let n = numbering::level_at(levels, c);
+    let n = owners::level_at(levels, c);
     let five = numbering::group_start(corners, low, table, levels, starts, c, 5);
     let mut lower = outer_row(corners, low, table, levels, starts, c, side);
     let mut to = at;

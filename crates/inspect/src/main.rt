@@ -1,8 +1,9 @@
+#![tactic(auto)]
 // Prints what the mesh file on standard input says: its counts, or why it is turned down.
-fn main() {
-    if 1 < os::arg_count() {
-        streams::output::complain(b"usage: inspect < FILE\n");
+fn main(rt: HostRuntime) {
+    if 1 < streams::arguments::count(rt) {
+        streams::output::complain(rt, b"usage: inspect < FILE\n");
         return;
     }
-    print::inspect(libc::STDIN_FILENO, b"standard input");
+    print::inspect(rt, &mut rt.stdin(), b"standard input");
 }

@@ -1,3 +1,4 @@
+#![tactic(auto)]
 // L7, is it all squares? Checks 4 to 13 with 27 and 28; then the lowest face that has not four sides, else the lowest vertex that has not four corners,
 // else none. Each search stops at the first that it finds, and that of the faces counts the side counts that it reads.
 ghost use Rattle.std.specs.Prelude.{◌≡◌, ◌*◌, ◌≤◌, length};

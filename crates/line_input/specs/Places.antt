@@ -1,4 +1,4 @@
--- Where a line lies, and what of the buffer it shows. Which bytes a call of C gives is free: of those that were read nothing is said.
+-- Where a line lies, and what of the buffer it shows. Which bytes the system gives is free: of those that were read nothing is said.
 use Rattle.std.specs.Prelude.{◌≡◌, ◌⊎◌, Bool, true, false, List, ℕ, ◌+◌, ◌<◌, ◌≤◌, length, get_or}
 use Rattle.line_input.specs.declared.Held.{Held}
 use Rattle.line_input.specs.declared.Line.{Line}

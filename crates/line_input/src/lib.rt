@@ -1,9 +1,11 @@
-// The lines that a descriptor gives, one after the other, in a lent buffer. Which bytes a call of C gives is free; that none of them is lost, and where
-// each line ends, is stated.
+#![tactic(auto)]
+// The lines that a reader gives, one after the other, in a lent buffer. Which bytes the system gives is free; that none of them is lost, and where each
+// line ends, is stated.
 ghost use Rattle.std.specs.Prelude.{◌+◌, ◌≤◌, length};
 ghost use Rattle.line_input.specs.Places.{LineOf, NoLine, FirstFeed, MovedDown, LineRead, NextLine};
 
-use streams::output::complain;
+use std::io::Read;
+use streams::output::{complain, fail};
 
 // What is held of the input: the buffer's bytes from here to there are read and not yet taken.
 #[derive(Drop)]
@@ -31,7 +33,13 @@ pub fn nothing() -> Held
 
 // The next line. Where what is held has no whole one, it is moved to the buffer's beginning and the rest of the buffer is read. A line that the buffer
 // does not hold is a failure, and said on standard error, as every other is.
-pub fn next_line(fd: i32, name: &[u8], buffer: &mut [u8], held: Held) -> Line
+pub fn next_line<R: Read>(
+    rt: HostRuntime,
+    from: &mut R,
+    name: &[u8],
+    buffer: &mut [u8],
+    held: Held,
+) -> Line
     requires { (held.at ≤ held.end) × (held.end ≤ length buffer.old) }
     ensures { NextLine buffer.old held result buffer.new }
 {
@@ -43,17 +51,23 @@ pub fn next_line(fd: i32, name: &[u8], buffer: &mut [u8], held: Held) -> Line
     }
     let kept = end - at;
     move_down(buffer, at, kept);
-    read_line(fd, name, buffer, kept)
+    read_line(rt, from, name, buffer, kept)
 }
 
 // Reads on after the bytes that were kept, and takes the first line.
-fn read_line(fd: i32, name: &[u8], buffer: &mut [u8], kept: usize) -> Line
+fn read_line<R: Read>(
+    rt: HostRuntime,
+    from: &mut R,
+    name: &[u8],
+    buffer: &mut [u8],
+    kept: usize,
+) -> Line
     requires { kept ≤ length buffer.old }
     ensures { LineRead buffer.old kept result buffer.new }
 {
-    let got = streams::input::fill(fd, &mut buffer[kept..]);
+    let got = streams::input::fill(from, &mut buffer[kept..]);
     if !got.ok {
-        os::fail(name);
+        fail(rt, name, got.code);
         return no_line(false);
     }
     let end = kept + got.count;
@@ -65,8 +79,8 @@ fn read_line(fd: i32, name: &[u8], buffer: &mut [u8], kept: usize) -> Line
         return no_line(true);
     }
     if end == buffer.len() {
-        complain(name);
-        complain(b": a line is too long\n");
+        complain(rt, name);
+        complain(rt, b": a line is too long\n");
         return no_line(false);
     }
     line_of(0, end, end, end)

@@ -1,3 +1,4 @@
+#![tactic(auto)]
 // Linking: fills a lent link table, or answers why the mesh is turned down and leaves the table as it was.
 ghost use Rattle.std.specs.Prelude.{◌≡◌, ℕ, ◌*◌, ◌≤◌, ◌<◌, length, get_or};
 ghost use Rattle.paper.specs.Mesh.{most_corners, mesh_of};

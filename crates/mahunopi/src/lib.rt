@@ -1,4 +1,5 @@
-// The C face of the library: `rt staticlib mahunopi` makes libmahunopi.a of it, and include/mahunopi.h declares it. Each function
+#![tactic(auto)]
+// The C face of the library, which crate mahunopi_c exports and include/mahunopi.h declares. Each function
 // wraps one of Rattle's and says the same: 0 for done, else 01's number, with the place behind `place`.
 ghost use Rattle.std.specs.Prelude.{◌≡◌, ◌||◌, ◌+◌, ltb, length};
 ghost use Rattle.paper.specs.Mesh.{mesh_of, four, most_sides};
@@ -18,8 +19,7 @@ use paper::{Answer, FloatPoint, Irregular, Move, NO_ROOM, NUMBERS, NUMBERS_ON_PA
 use telling::{tell, tell_counts};
 
 // Linking.
-#[unsafe(no_mangle)]
-pub extern "C" fn mahunopi_link(
+pub fn mahunopi_link(
     coordinates: &[i32],
     sides: &[u8],
     corners: &[u16],
@@ -34,8 +34,7 @@ pub extern "C" fn mahunopi_link(
 }
 
 // Building.
-#[unsafe(no_mangle)]
-pub extern "C" fn mahunopi_build(
+pub fn mahunopi_build(
     coordinates: &[i32],
     sides: &[u8],
     corners: &[u16],
@@ -62,8 +61,7 @@ pub extern "C" fn mahunopi_build(
 }
 
 // Reading a file's lists into the beginnings of lent ones. The four lengths are left alone beside a refusal.
-#[unsafe(no_mangle)]
-pub extern "C" fn mahunopi_decode(
+pub fn mahunopi_decode(
     bytes: &[u8],
     length: u64,
     coordinates: &mut [i32],
@@ -99,8 +97,7 @@ pub extern "C" fn mahunopi_decode(
 
 // The counts of a file: vertices, faces and corners; and into the beginnings of two lent lists, for each m from 0 to the most sides,
 // the vertices with m corners and the faces with m sides. All of them are left alone beside a refusal.
-#[unsafe(no_mangle)]
-pub extern "C" fn mahunopi_survey(
+pub fn mahunopi_survey(
     bytes: &[u8],
     length: u64,
     vertices: &mut u64,
@@ -126,8 +123,7 @@ pub extern "C" fn mahunopi_survey(
 }
 
 // One control point in floats. A near point fills the first three floats, a far one all six.
-#[unsafe(no_mangle)]
-pub extern "C" fn mahunopi_floats(
+pub fn mahunopi_floats(
     numbers: &[i32],
     point: usize,
     floats: &mut [f32; 6],
@@ -160,8 +156,7 @@ pub extern "C" fn mahunopi_floats(
 }
 
 // All control points of a list of quad-nets in floats, into the beginning of a lent list.
-#[unsafe(no_mangle)]
-pub extern "C" fn mahunopi_floats_all(numbers: &[i32], floats: &mut [f32], place: &mut u64) -> u32
+pub fn mahunopi_floats_all(numbers: &[i32], floats: &mut [f32], place: &mut u64) -> u32
     ensures { FloatsAllCall numbers.now floats.old place.old result place.new floats.new }
 {
     let a = floats::all_points(numbers, floats);
@@ -169,8 +164,7 @@ pub extern "C" fn mahunopi_floats_all(numbers: &[i32], floats: &mut [f32], place
 }
 
 // Listing nested grids.
-#[unsafe(no_mangle)]
-pub extern "C" fn mahunopi_nest(holders: &[u16], listing: &mut [u16], place: &mut u64) -> u32
+pub fn mahunopi_nest(holders: &[u16], listing: &mut [u16], place: &mut u64) -> u32
     ensures { NestCall holders.now listing.old place.old result place.new listing.new }
 {
     let a = nesting::nest(holders, listing);
@@ -178,8 +172,7 @@ pub extern "C" fn mahunopi_nest(holders: &[u16], listing: &mut [u16], place: &mu
 }
 
 // The lowest face that has not four sides, else the lowest vertex that has not four corners, else none.
-#[unsafe(no_mangle)]
-pub extern "C" fn mahunopi_irregular(
+pub fn mahunopi_irregular(
     coordinates: &[i32],
     sides: &[u8],
     corners: &[u16],
@@ -216,8 +209,7 @@ pub extern "C" fn mahunopi_irregular(
 }
 
 // Coordinates rearranged for the archive.
-#[unsafe(no_mangle)]
-pub extern "C" fn mahunopi_archive(numbers: &[i32], bytes: &mut [u8], place: &mut u64) -> u32
+pub fn mahunopi_archive(numbers: &[i32], bytes: &mut [u8], place: &mut u64) -> u32
     ensures { ArchiveCall numbers.now bytes.old place.old result place.new bytes.new }
 {
     let a = rearrange::archive(numbers, bytes);
@@ -225,8 +217,7 @@ pub extern "C" fn mahunopi_archive(numbers: &[i32], bytes: &mut [u8], place: &mu
 }
 
 // And back.
-#[unsafe(no_mangle)]
-pub extern "C" fn mahunopi_restore(bytes: &[u8], numbers: &mut [i32], place: &mut u64) -> u32
+pub fn mahunopi_restore(bytes: &[u8], numbers: &mut [i32], place: &mut u64) -> u32
     ensures { RestoreCall bytes.now numbers.old place.old result place.new numbers.new }
 {
     let a = rearrange::restore(bytes, numbers);
@@ -234,8 +225,7 @@ pub extern "C" fn mahunopi_restore(bytes: &[u8], numbers: &mut [i32], place: &mu
 }
 
 // Reading an OFF text's lists into the beginnings of lent ones. The four lengths are left alone beside a refusal.
-#[unsafe(no_mangle)]
-pub extern "C" fn mahunopi_off(
+pub fn mahunopi_off(
     text: &[u8],
     coordinates: &mut [i32],
     sides: &mut [u8],
@@ -262,8 +252,7 @@ pub extern "C" fn mahunopi_off(
 }
 
 // Trying a vertex before moving it: what building answers and writes with the vertex moved.
-#[unsafe(no_mangle)]
-pub extern "C" fn mahunopi_preview(
+pub fn mahunopi_preview(
     coordinates: &[i32],
     sides: &[u8],
     corners: &[u16],
@@ -301,8 +290,7 @@ pub extern "C" fn mahunopi_preview(
 }
 
 // The corners that a vertex can change: 1 in the mark of each, 0 in the others.
-#[unsafe(no_mangle)]
-pub extern "C" fn mahunopi_touched(
+pub fn mahunopi_touched(
     coordinates: &[i32],
     sides: &[u8],
     corners: &[u16],
@@ -318,8 +306,7 @@ pub extern "C" fn mahunopi_touched(
 }
 
 // One sample of a triangle.
-#[unsafe(no_mangle)]
-pub extern "C" fn mahunopi_sample(
+pub fn mahunopi_sample(
     numbers: &[i32],
     side: usize,
     i: usize,
@@ -336,8 +323,7 @@ pub extern "C" fn mahunopi_sample(
 }
 
 // All samples of a triangle, into the beginning of a lent list.
-#[unsafe(no_mangle)]
-pub extern "C" fn mahunopi_sample_triangle(
+pub fn mahunopi_sample_triangle(
     numbers: &[i32],
     side: usize,
     n: usize,
@@ -351,8 +337,7 @@ pub extern "C" fn mahunopi_sample_triangle(
 }
 
 // How many numbers of points and of triangles a range of corners has. Both counts are left alone beside a refusal.
-#[unsafe(no_mangle)]
-pub extern "C" fn mahunopi_count_triangles(
+pub fn mahunopi_count_triangles(
     coordinates: &[i32],
     sides: &[u8],
     corners: &[u16],
@@ -387,8 +372,7 @@ pub extern "C" fn mahunopi_count_triangles(
 }
 
 // The points and the triangles of a range of corners, into the beginnings of two lent lists. Both counts are left alone beside a refusal.
-#[unsafe(no_mangle)]
-pub extern "C" fn mahunopi_triangles(
+pub fn mahunopi_triangles(
     coordinates: &[i32],
     sides: &[u8],
     corners: &[u16],
@@ -427,8 +411,7 @@ pub extern "C" fn mahunopi_triangles(
 }
 
 // The tangents of the points of a range of corners, into the beginning of a lent list. The length is left alone beside a refusal.
-#[unsafe(no_mangle)]
-pub extern "C" fn mahunopi_tangents(
+pub fn mahunopi_tangents(
     coordinates: &[i32],
     sides: &[u8],
     corners: &[u16],
@@ -463,8 +446,7 @@ pub extern "C" fn mahunopi_tangents(
 }
 
 // The tangents at one sample of a triangle.
-#[unsafe(no_mangle)]
-pub extern "C" fn mahunopi_tangents_at(
+pub fn mahunopi_tangents_at(
     numbers: &[i32],
     side: usize,
     i: usize,
@@ -481,8 +463,7 @@ pub extern "C" fn mahunopi_tangents_at(
 }
 
 // Turning faces that are drawn the wrong way round.
-#[unsafe(no_mangle)]
-pub extern "C" fn mahunopi_turn(
+pub fn mahunopi_turn(
     coordinates: &[i32],
     sides: &[u8],
     corners: &mut [u16],
@@ -503,8 +484,7 @@ pub extern "C" fn mahunopi_turn(
 }
 
 // One file more on the page of a border report, which is left alone beside a refusal.
-#[unsafe(no_mangle)]
-pub extern "C" fn mahunopi_report(
+pub fn mahunopi_report(
     bytes: &[u8],
     length: u64,
     page: &mut [u64; NUMBERS_ON_PAGE],
@@ -512,35 +492,34 @@ pub extern "C" fn mahunopi_report(
 ) -> u32
     ensures { ReportCall (offered bytes.now length) page.old place.old result place.new page.new }
 {
-    let before = pages::page_numbers::read(page);
+    let before = page_numbers::read(page);
     let reported = border_report::report(bytes, length as usize, before);
     let a = reported.answer;
     if let Answer::Refused(number, at) = a {
         return tell(Answer::Refused(number, at), place);
     }
     let after = reported.page;
-    *page = pages::page_numbers::numbers(after);
+    *page = page_numbers::numbers(after);
     0
 }
 
 // Two pages as one, in the second, which is left alone beside a refusal.
-#[unsafe(no_mangle)]
-pub extern "C" fn mahunopi_merge(
+pub fn mahunopi_merge(
     other: &[u64; NUMBERS_ON_PAGE],
     page: &mut [u64; NUMBERS_ON_PAGE],
     place: &mut u64,
 ) -> u32
     ensures { MergeCall other.now page.old place.old result place.new page.new }
 {
-    let before = pages::page_numbers::read(page);
-    let more = pages::page_numbers::read(other);
+    let before = page_numbers::read(page);
+    let more = page_numbers::read(other);
     let reported = pages::merge(before, more);
     let a = reported.answer;
     if let Answer::Refused(number, at) = a {
         return tell(Answer::Refused(number, at), place);
     }
     let after = reported.page;
-    *page = pages::page_numbers::numbers(after);
+    *page = page_numbers::numbers(after);
     0
 }
 

@@ -1,3 +1,4 @@
+#![tactic(auto)]
 // Meshes: what holds of every accepted mesh, for the crates that check, link and build one; how long the tables of a call are; a list copied.
 ghost use Rattle.std.specs.Prelude.{◌≡◌, ◌≤◌, ◌<◌, length};
 ghost use Rattle.paper.specs.File.{begins};

@@ -1,19 +1,22 @@
+#![tactic(auto)]
 // Runs linking on the meshes of standard input and prints a line for each. An input line has a name, a colon, and then coordinates, side
 // counts, corner list, sharpness list and the link table's length, parted by slashes; `0*24` stands for twenty-four zeros.
 // An output line has the name and `done` with a sum over the link table, or `refused` with number and place; a table that a refusal did
 // not keep would show as `changed`.
 ghost use Rattle.std.specs.Prelude.{◌≤◌};
 
-use libc::{STDIN_FILENO, STDOUT_FILENO};
 use mesh::{least, wide};
 use paper::Answer;
 use std::num::wrapping_add_u64;
+use streams::input::fill as read_full;
+use streams::output::{say, say_up_to};
+use streams::text::put_number;
 
 // More entries than any list has.
 const ROOM: usize = 16400;
 
 // What is read of a line so far.
-#[derive(Drop)]
+#[derive(Clone, Copy)]
 struct CaseLine {
     start: usize,
     colon: usize,
@@ -31,15 +34,16 @@ struct CaseLine {
     repeated: usize,
 }
 
-fn main() {
+fn main(rt: HostRuntime) {
     let mut text = [0u8; 65536];
     let mut coordinates = [0i32; ROOM];
     let mut sides = [0u8; ROOM];
     let mut corners = [0u16; ROOM];
     let mut sharpness = [0u8; ROOM];
     let mut links = [0u16; ROOM];
-    let n = io::read_full(STDIN_FILENO, &mut text);
+    let n = read_full(&mut rt.stdin(), &mut text).count;
     lines(
+        rt,
         &text[..n],
         &mut coordinates,
         &mut sides,
@@ -51,6 +55,7 @@ fn main() {
 
 // Byte by byte.
 fn lines(
+    rt: HostRuntime,
     text: &[u8],
     coordinates: &mut [i32; ROOM],
     sides: &mut [u8; ROOM],
@@ -64,7 +69,16 @@ fn lines(
         let b = text[i];
         if b == b'\n' {
             line = put(line, coordinates, sides, corners, sharpness);
-            run(text, line, coordinates, sides, corners, sharpness, links);
+            run(
+                rt,
+                text,
+                line,
+                coordinates,
+                sides,
+                corners,
+                sharpness,
+                links,
+            );
             line = fresh(i + 1);
         } else {
             if b == b' ' {
@@ -222,6 +236,7 @@ fn put_corners(list: &mut [u16; ROOM], at: usize, value: usize, times: usize) ->
 
 // One case, and its line.
 fn run(
+    rt: HostRuntime,
     text: &[u8],
     line: CaseLine,
     coordinates: &[i32; ROOM],
@@ -234,23 +249,23 @@ fn run(
     let before = sum(links);
     let a = call(coordinates, sides, corners, sharpness, links, line);
     let after = sum(links);
-    name(text, line.start, line.colon);
+    name(rt, text, line.start, line.colon);
     match a {
         Answer::Done => {
-            words(b": done ");
-            number(after);
+            words(rt, b": done ");
+            number(rt, after);
         }
         Answer::Refused(k, p) => {
-            words(b": refused ");
-            number(k as u64);
-            words(b" ");
-            number(p as u64);
+            words(rt, b": refused ");
+            number(rt, k as u64);
+            words(rt, b" ");
+            number(rt, p as u64);
             if after != before {
-                words(b" changed");
+                words(rt, b" changed");
             }
         }
     }
-    words(b"\n");
+    words(rt, b"\n");
 }
 
 // Linking, on the beginnings of the lists.
@@ -276,10 +291,10 @@ fn call(
     )
 }
 
-fn name(text: &[u8], start: usize, end: usize) {
+fn name(rt: HostRuntime, text: &[u8], start: usize, end: usize) {
     let e = least(end, text.len());
     let s = least(start, e);
-    words(&text[s..e]);
+    words(rt, &text[s..e]);
 }
 
 // Gives the table the contents that a refusal must keep.
@@ -304,10 +319,12 @@ fn sum(table: &[u16; ROOM]) -> u64 {
     total
 }
 
-fn words(s: &[u8]) {
-    io::write_all(STDOUT_FILENO, s);
+fn words(rt: HostRuntime, s: &[u8]) {
+    say(rt, s);
 }
 
-fn number(n: u64) {
-    io::print_decimal(STDOUT_FILENO, n);
+fn number(rt: HostRuntime, n: u64) {
+    let mut digits = [0u8; 20];
+    let end = put_number(&mut digits, 0, n);
+    say_up_to(rt, &digits, end);
 }

@@ -1,12 +1,12 @@
+#![tactic(auto)]
 // Prints the listing of the nesting table on standard input, one body a line, then the wall drawing as a picture: each body under
 // the one it hangs in, indented by its depth. The table has a line for each body: the number of its holder, or `sun`. A table that is
 // turned down gets the line `refused`, with number and place; a line that is neither is named on standard error, and nothing is printed.
 ghost use Rattle.std.specs.Prelude.{◌≤◌, ◌<◌, length};
 
-use libc::STDIN_FILENO;
+use lines::put_ended;
 use mesh::{least, wide};
 use paper::{Answer, MOST_BODIES, SUN};
-use print::lines::put_ended;
 use streams::output::{complain, complain_up_to, say_up_to};
 use streams::text::{put_number, put_word};
 
@@ -32,28 +32,28 @@ enum Table {
     BadLine(usize),
 }
 
-fn main() {
-    if 1 < os::arg_count() {
-        complain(b"usage: nest < TABLE\n");
+fn main(rt: HostRuntime) {
+    if 1 < streams::arguments::count(rt) {
+        complain(rt, b"usage: nest < TABLE\n");
         return;
     }
     let mut bytes = [0u8; BUFFER];
-    let read = streams::input::read_up_to(STDIN_FILENO, b"standard input", &mut bytes);
+    let read = streams::input::read_up_to(rt, &mut rt.stdin(), b"standard input", &mut bytes);
     let held = read.count;
     if read.ok {
-        print_text(&bytes[..held]);
+        print_text(rt, &bytes[..held]);
     }
 }
 
 // Reads the table, and prints it.
-fn print_text(text: &[u8]) {
+fn print_text(rt: HostRuntime, text: &[u8]) {
     let mut holders = [0u16; ROOM];
     let t = read_table(text, &mut holders);
     match t {
-        Table::BadLine(line) => complain_line(line),
+        Table::BadLine(line) => complain_line(rt, line),
         Table::Bodies(count) => {
             let n = least(count, ROOM);
-            print_table(&holders[..n]);
+            print_table(rt, &holders[..n]);
         }
     }
 }
@@ -131,38 +131,38 @@ fn appended(value: usize, byte: u8) -> usize {
 }
 
 // The line of the text that is neither.
-fn complain_line(line: usize) {
+fn complain_line(rt: HostRuntime, line: usize) {
     let mut said = [0u8; 96];
     let word = put_word(&mut said, 0, b"standard input: line ");
     let number = put_number(&mut said, word, line as u64);
     let end = put_word(&mut said, number, b" is neither a body's number nor sun\n");
-    complain_up_to(&said, end);
+    complain_up_to(rt, &said, end);
 }
 
 // Lends a listing of the table's length.
-fn print_table(holders: &[u16]) {
+fn print_table(rt: HostRuntime, holders: &[u16]) {
     let mut listing = [0u16; ROOM];
     let n = least(holders.len(), ROOM);
-    print_nested(holders, &mut listing[..n]);
+    print_nested(rt, holders, &mut listing[..n]);
 }
 
 // The listing and the picture, or the refusal.
-fn print_nested(holders: &[u16], listing: &mut [u16]) {
+fn print_nested(rt: HostRuntime, holders: &[u16], listing: &mut [u16]) {
     let answer = nesting::nest(holders, listing);
     match answer {
         Answer::Refused(number, place) => {
-            print::say_refusal(number, place);
+            lines::say_refusal(rt, number, place);
         }
-        Answer::Done => print_lines(holders, listing),
+        Answer::Done => print_lines(rt, holders, listing),
     }
 }
 
 // The listing and the picture, in one write.
-fn print_lines(holders: &[u16], listing: &[u16]) {
+fn print_lines(rt: HostRuntime, holders: &[u16], listing: &[u16]) {
     let mut lines = [0u8; LINES_ROOM];
     let first = put_listing(&mut lines, listing);
     let end = put_picture(&mut lines, first, holders);
-    say_up_to(&lines, end);
+    say_up_to(rt, &lines, end);
 }
 
 // The bodies in their order, one a line.

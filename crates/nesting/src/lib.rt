@@ -1,3 +1,4 @@
+#![tactic(auto)]
 // L4, the nested grids as a table: checks 21 to 23, and the listing in which every body stands after the one it hangs in.
 // The bodies are listed one after the other, the lowest that may come next each time. Where none may, those left over are
 // the ones whose chain does not end at the Sun. Each place costs one look at every body.

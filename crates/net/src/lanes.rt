@@ -9,7 +9,7 @@ use faces::point;
 use net_rows::sides::FaceValues;
 
 // What a net is made from beside the rows: C of the vertex's and of the face's ring, and the place of the corner in the run.
-#[derive(Drop)]
+#[derive(Clone, Copy)]
 pub struct Rings {
     pub vertex: i64,
     pub face: i64,

@@ -1,3 +1,4 @@
+#![tactic(auto)]
 // The quad-nets of a run of corners of one face: their 41 control points on the three axes, from the rows of four numbers that they are made from, by
 // the lanes, to the corners' parts of the output.
 pub mod copy;
@@ -60,6 +61,7 @@ pub fn rings_at(table: &[u16], rows: &cosines::Rows, count: usize, c: usize, r: 
 {
     let here = Walker { corner: c };
     let m = here.valence(table);
+    let here = Walker { corner: c };
     let n = here.sides(table);
     Rings {
         vertex: cosines::cosine(rows, m, 1),

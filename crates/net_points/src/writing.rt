@@ -9,11 +9,11 @@ ghost use Rattle.net_points.specs.writing.Laid.{Reaches, reversed_of, InTurn, Po
 ghost use Rattle.net_points.specs.writing.Shapes.{Shapely, shape_size, ShapeAim, ShapePlace};
 
 use bernstein::{Matrix5, Vector5};
-use sampling::points::control_points;
+use control_points::control_points;
 
 // Which points a corner has of its own: 1 or 0 for the ends of its vertex, its leaving edge and its face; the parts of the borders of sides 0 and 1;
 // and its level.
-#[derive(Drop)]
+#[derive(Clone, Copy)]
 pub struct Shape {
     pub vertex: usize,
     pub edge: usize,

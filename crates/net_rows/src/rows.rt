@@ -8,7 +8,7 @@ use crate::sides::SideValues;
 use faces::formulas::{half, middle, quarter, second, third};
 
 // What the grids take of a side: the points of its outer row between the ends, of its a row, and the middle of the next row.
-#[derive(Drop)]
+#[derive(Clone, Copy)]
 pub struct RowValues {
     pub outer1: i32,
     pub outer2: i32,

@@ -17,7 +17,7 @@ pub struct FaceValues {
 }
 
 // H, T, X, Y, N and C of a side.
-#[derive(Drop)]
+#[derive(Clone, Copy)]
 pub struct SideValues {
     pub head: i32,
     pub tail: i32,

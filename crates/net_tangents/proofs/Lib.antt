@@ -3,3 +3,4 @@ pub mod Lanes
 pub mod Values
 pub mod Laws
 pub mod Groups
+pub mod Sizes

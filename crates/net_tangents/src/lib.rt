@@ -1,3 +1,4 @@
+#![tactic(auto)]
 // The tangents of a corner's own points, out of the net's 123 numbers: six numbers for each point, in the order of the points. They go by forward
 // differences, along a row and from row to row, in lanes: each of the six numbers of each of the four sides has a lane, and all lanes are stepped alike.
 ghost use Rattle.std.specs.Prelude.{◌≡◌, List, ℕ, ◌+◌, ◌-◌, ◌*◌, ◌^◌, ◌≤◌, ◌<◌, length, get_or, ℤ, pos, nat_abs};

@@ -5,7 +5,7 @@ use Prim.Native.Nat.{ℕ, ◌+◌, ◌-◌, ◌*◌, ◌≤◌, ◌<◌}
 use native.Mathlib.Omega.{arith}
 use lib.Dec.{eqb}
 use lib.ListN.{length, get_or}
-use borrow.Author.Tests.{eq-eqb, ne_eqb}
+use borrow.Author.Tests.{eq-eqb}
 use Rattle.paper.specs.Scan.{pick_n}
 use Rattle.paper.specs.Mesh.{Mesh, corner_count, most_corners}
 use Rattle.paper.specs.Corners.{start_of}
@@ -16,9 +16,10 @@ use Rattle.paper.specs.Triangles.{groups, level, segments, vertex_owner, edge_ow
 use Rattle.mesh.proofs.Scans.{first_le}
 use Rattle.mesh.proofs.Accepted.{sound_of, closed_of, few_corners}
 use Rattle.mesh.proofs.Faces.{first_from_lem}
-use Rattle.numbering.specs.Meshed.{Here, Place, Wide, Of, Given, PointsStarted, Starting, group_start}
+use Rattle.owners.specs.Corners.{Here, Place, Wide}
+use Rattle.owners.proofs.Neighbours.{beside_below, edge_lower}
+use Rattle.numbering.specs.Meshed.{Of, Given, PointsStarted, Starting, group_start}
 use Rattle.closing.proofs.Spots.{own_curve0, own_curve1}
-use Rattle.closing.proofs.Shared.{beside_below, edge_lower}
 use Rattle.closing.proofs.Counts.{group_step, rings_all, points_few, triangles_more, most_inner}
 
 -- ---- what the functions ask
@@ -60,13 +61,6 @@ level_bounds g c h n e = (rw e (inner_few g c h), omega (arith, level_some g c h
 
 pub given_of : {corners low table levels starts : List ℕ} → Starting corners low table levels starts → Given corners low table levels
 given_of s = record { mesh = s.mesh; is = s.is.of }
-
--- ---- one or none
-pub one_of : (c d e : ℕ) → d ≡ e → c ≡ d → 1 ≡ pick_n (eqb c e) 1 0
-one_of c d e p q = rw (eq-eqb c e (q ∙ p))
-
-pub none_of : (c d e : ℕ) → d ≡ e → (c ≡ d → ⊥) → 0 ≡ pick_n (eqb c e) 1 0
-none_of c d e p n = rw (ne_eqb c e (λ q. n (q ∙ sym p)))
 
 -- ---- where the groups start
 module _ {corners low table levels : List ℕ} (M : Mesh) (o : Of M corners low table levels) (c : ℕ) (h : c < length levels) where

@@ -1,3 +1,4 @@
+#![tactic(auto)]
 // L6, reading OFF files: check 24, then 25, 26 and 4 to 13 (`checking`), and the four lists, the last of them 8 and 8 throughout. The
 // lists are read into own ones, and copied to the lent ones when every check has passed.
 mod checking;

@@ -1,14 +1,14 @@
+#![tactic(auto)]
 // Writes the mesh of the OFF text on standard input as a .dms file on standard output. A text that is turned down gets the line `refused`,
 // with number and place, on standard error, and nothing on standard output; so does one that is longer than 1 MiB, with another line. With the
 // argument `as-drawn` the lists are written as the text has them, checked by 24, 25, 26 and 4 alone, for `turn` to check the rest.
 ghost use Rattle.std.specs.Prelude.{◌≤◌};
 ghost use Rattle.off_words.specs.Cursor.{Before};
 
-use libc::STDIN_FILENO;
+use lines::complain_refusal;
 use mesh::least;
 use off_words::Cursor;
 use paper::{Answer, Decoded, MOST_CORNERS, MOST_FACES, MOST_NUMBERS, MOST_PAIRS};
-use print::complain_refusal;
 use streams::output::complain;
 
 // The longest text. The buffer has a byte more, which a longer text fills.
@@ -24,23 +24,23 @@ enum Asked {
     Unknown,
 }
 
-fn main() {
-    let a = read_arguments();
+fn main(rt: HostRuntime) {
+    let a = read_arguments(rt);
     match a {
-        Asked::Unknown => complain(b"usage: off2dms [as-drawn] < TEXT > FILE\n"),
-        Asked::AsDrawn => read_text(true),
-        Asked::Checked => read_text(false),
+        Asked::Unknown => complain(rt, b"usage: off2dms [as-drawn] < TEXT > FILE\n"),
+        Asked::AsDrawn => read_text(rt, true),
+        Asked::Checked => read_text(rt, false),
     }
 }
 
 // What the arguments ask.
-fn read_arguments() -> Asked {
-    if os::arg_count() < 2 {
+fn read_arguments(rt: HostRuntime) -> Asked {
+    if streams::arguments::count(rt) < 2 {
         return Asked::Checked;
     }
     let mut word = [0u8; 9];
-    let held = os::arg(1, &mut word);
-    if os::arg_count() == 2 && same(&word[..held], b"as-drawn") {
+    let held = streams::arguments::get(rt, 1, &mut word).count;
+    if streams::arguments::count(rt) == 2 && same(&word[..held], b"as-drawn") {
         return Asked::AsDrawn;
     }
     Asked::Unknown
@@ -61,36 +61,36 @@ fn same(a: &[u8], b: &[u8]) -> bool {
     true
 }
 
-fn read_text(drawn: bool) {
+fn read_text(rt: HostRuntime, drawn: bool) {
     let mut text = [0u8; BUFFER];
-    run(&mut text, drawn);
+    run(rt, &mut text, drawn);
 }
 
 // The buffer goes on as a slice: of its zeros, too many for a proof to count, only the type tells the length.
-fn run(text: &mut [u8; BUFFER], drawn: bool) {
-    read_and_convert(text, drawn);
+fn run(rt: HostRuntime, text: &mut [u8; BUFFER], drawn: bool) {
+    read_and_convert(rt, text, drawn);
 }
 
 // Reads the text into the buffer, and writes the file.
-fn read_and_convert(text: &mut [u8], drawn: bool) {
-    let read = streams::input::read_up_to(STDIN_FILENO, b"standard input", text);
+fn read_and_convert(rt: HostRuntime, text: &mut [u8], drawn: bool) {
+    let read = streams::input::read_up_to(rt, &mut rt.stdin(), b"standard input", text);
     let held = read.count;
     if !read.ok {
         return;
     }
     if MOST_BYTES < held {
-        complain(b"standard input: longer than 1048576 bytes\n");
+        complain(rt, b"standard input: longer than 1048576 bytes\n");
         return;
     }
     if drawn {
-        convert_drawn(&text[..held]);
+        convert_drawn(rt, &text[..held]);
     } else {
-        convert(&text[..held]);
+        convert(rt, &text[..held]);
     }
 }
 
 // Reads the text, and writes the file when every check has passed.
-fn convert(text: &[u8]) {
+fn convert(rt: HostRuntime, text: &[u8]) {
     let mut coordinates = [0i32; MOST_NUMBERS];
     let mut sides = [0u8; MOST_FACES];
     let mut corners = [0u16; MOST_CORNERS];
@@ -108,9 +108,10 @@ fn convert(text: &[u8]) {
     let k = least(d.corners, MOST_CORNERS);
     let p = least(d.sharpness, MOST_PAIRS);
     match answer {
-        Answer::Refused(number, place) => complain_refusal(number, place),
+        Answer::Refused(number, place) => complain_refusal(rt, number, place),
         Answer::Done => {
             dms_output::say_file(
+                rt,
                 &coordinates[..n],
                 &sides[..f],
                 &corners[..k],
@@ -121,32 +122,32 @@ fn convert(text: &[u8]) {
 }
 
 // Check 24, and then the lists as they are drawn.
-fn convert_drawn(text: &[u8]) {
+fn convert_drawn(rt: HostRuntime, text: &[u8]) {
     let mark = off_words::read_mark(text);
     if mark.ok {
-        read_drawn(text, mark.next);
+        read_drawn(rt, text, mark.next);
     } else {
-        complain_refusal(24, 0);
+        complain_refusal(rt, 24, 0);
     }
 }
 
 // Reads the words from the first count on, and writes the file when they and the counts pass. An empty sharpness list is 8 throughout, so that
 // the file is of version 1.
-fn read_drawn(text: &[u8], c: Cursor)
+fn read_drawn(rt: HostRuntime, text: &[u8], c: Cursor)
     requires { Before text.now 1 c }
 {
     let mut coordinates = [0i32; MOST_NUMBERS];
     let mut sides = [0u8; MOST_FACES];
     let mut corners = [0u16; MOST_CORNERS];
     let d = off_lists::read_words(text, c, &mut coordinates, &mut sides, &mut corners);
-    let answer = check_counts(d);
     let n = least(d.coordinates, MOST_NUMBERS);
     let f = least(d.sides, MOST_FACES);
     let k = least(d.corners, MOST_CORNERS);
+    let answer = check_counts(d);
     match answer {
-        Answer::Refused(number, place) => complain_refusal(number, place),
+        Answer::Refused(number, place) => complain_refusal(rt, number, place),
         Answer::Done => {
-            dms_output::say_file(&coordinates[..n], &sides[..f], &corners[..k], b"");
+            dms_output::say_file(rt, &coordinates[..n], &sides[..f], &corners[..k], b"");
         }
     }
 }
@@ -157,5 +158,5 @@ fn check_counts(d: Decoded) -> Answer {
     if let Answer::Refused(number, place) = answer {
         return Answer::Refused(number, place);
     }
-    checks::lists::check_lengths(d.coordinates, d.sides, d.corners)
+    list_checks::check_lengths(d.coordinates, d.sides, d.corners)
 }

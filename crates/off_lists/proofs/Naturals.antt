@@ -11,7 +11,7 @@ use borrow.Author.Tests.{not-true, not-false}
 use Rattle.mesh.proofs.Scans.{clash}
 use Rattle.mesh.proofs.Verdicts.{single_hit, single_miss}
 use Rattle.paper.specs.Faults.{fault}
-use Rattle.paper.specs.Off.{words_of, is_number, value_of, up_to, list_count, allowed, bad, vertices, faces, bad_from}
+use Rattle.paper.specs.Off.{words_of, is_number, value_of, up_to, list_count, allowed, bad, bad_from}
 use Rattle.off_words.specs.Cursor.{Before, NumberRead}
 use Rattle.off_words.specs.declared.Cursor.{Cursor}
 use Rattle.off_words.specs.declared.Number.{Number}

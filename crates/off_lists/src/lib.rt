@@ -1,3 +1,4 @@
+#![tactic(auto)]
 // The words of an OFF text after the mark, read in their order into own lists, with checks 25 and 26. The text is read once, each word's number taken from
 // its bytes when its end is found. A word that is missing or no number of its kind ends the reading before it. Numbers past the end of an own list are read
 // and not kept: how many there are is all that 4 asks.

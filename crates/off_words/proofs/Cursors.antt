@@ -149,11 +149,11 @@ module _ (text : List ℕ) (n : ℕ) (c : Cursor) (to : ℕ) (a : At text n c) (
 -- a word that is a number, or OFF, is there
 pub number_there : (word : List ℕ) → is_number word ≡ true → word ≡ [] → ⊥
 unfolding is_number
-number_there word e q = clash (sym (ap is_number q) ∙ e) refl
+number_there w e q = clash (sym (ap is_number q) ∙ e) refl
 
 pub off_there : (word : List ℕ) → is_off word ≡ true → word ≡ [] → ⊥
 unfolding is_off
-off_there word e q = clash (sym (ap is_off q) ∙ e) refl
+off_there w e q = clash (sym (ap is_off q) ∙ e) refl
 
 -- ---- whether a word is left
 some_word : (b : ℕ) (text : List ℕ) → ends b ≡ false → 0 < length (words_of (b ∷ text))

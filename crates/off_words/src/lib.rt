@@ -1,3 +1,4 @@
+#![tactic(auto)]
 // The words of an OFF text, one after the other: a cursor goes by value, and each step answers where it then stands. Words are parted by
 // separators and comments; a word's bytes are looked at once for its end, and once more, at most ten of them, for its number (`digits`).
 mod digits;
@@ -7,7 +8,7 @@ ghost use Rattle.paper.specs.Off.{separates as Off·separates, words_of, is_off}
 ghost use Rattle.off_words.specs.Cursor.{ends, comment_words, Before, At, WordSpan, NumberRead, MarkRead};
 
 // A place in the text, and the number of the word that comes there or after it.
-#[derive(Drop)]
+#[derive(Clone, Copy)]
 pub struct Cursor {
     pub at: usize,
     pub word: usize,

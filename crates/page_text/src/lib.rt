@@ -1,3 +1,4 @@
+#![tactic(auto)]
 // A page of the border report as text: a line in words for each of its 21 numbers, and last the line `page` with the numbers themselves, which is read
 // back. Numbers are decimal; misses are in ticks, with three decimals, halves up.
 ghost use Rattle.std.specs.Prelude.{◌≡◌, false, ◌+◌, ◌*◌, ◌-◌, ◌≤◌, ◌<◌, length};

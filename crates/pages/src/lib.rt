@@ -1,6 +1,6 @@
+#![tactic(auto)]
 // Pages of the border report (L14): checks 37 and 38, what a file adds to a page, and two pages as one. Nothing here knows a mesh or a file.
 pub mod four;
-pub mod page_numbers;
 
 ghost use Rattle.std.specs.Prelude.{◌≡◌, ℕ, ◌+◌, ◌*◌, ◌<◌, ◌≤◌, max, eqb, get_or};
 ghost use Rattle.paper.specs.Scan.{pick_n, values_from};

@@ -1,3 +1,4 @@
+#![tactic(auto)]
 // What the definitions of specs/ need of the code: the limits that 01 sets, and what the functions answer.
 
 // The limits, for code; specs/Mesh.antt has the same numbers for the definitions.
@@ -138,7 +139,7 @@ pub const CONDITIONS: usize = 4;
 pub const NUMBERS_ON_PAGE: usize = 3 + LINES + CONDITIONS;
 
 // A page of the border report (L14): meshes offered, corners built, borders met; refusals under 1 to 13 and 28; the largest misses over 2^30.
-#[derive(Drop)]
+#[derive(Clone, Copy)]
 pub struct Page {
     pub meshes: u64,
     pub corners: u64,

@@ -1,3 +1,4 @@
+#![tactic(auto)]
 // Check 34, and for each corner its partner: the other corner that shares its edge, direction ignored.
 // Corners are linked by the lower end of their edges, in falling chains. A walk over a chain finds for each corner the next higher one with
 // the same ends; an edge is in two faces where its lowest corner has such a corner, and that one has none.

@@ -1,3 +1,4 @@
+#![tactic(auto)]
 // The four planes of a coordinate list's differences (L11): bytes stored in them, and differences taken four at a time. Four differences are
 // taken before their bytes are stored, plane by plane: the compiler then works on all four at once and has not to see that numbers and planes
 // lie apart, which costs short lists more than the work.

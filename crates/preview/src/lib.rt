@@ -1,3 +1,4 @@
+#![tactic(auto)]
 // L9, try a vertex before moving it: check 29, then building on a copy of the coordinate list in which the vertex has its new place.
 ghost use Rattle.std.specs.Prelude.{◌≡◌, ◌/◌, ◌<◌, ◌≤◌, length};
 ghost use Rattle.paper.specs.Mesh.{mesh_of};

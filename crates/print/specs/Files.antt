@@ -3,7 +3,7 @@ use Rattle.std.specs.Prelude.{◌≡◌, List, ℕ}
 use Rattle.paper.specs.File.{FileSurveyed}
 use Rattle.paper.specs.declared.Answer.{Answer}
 use Rattle.paper.specs.declared.Summary.{Summary}
-use Rattle.print.specs.Lines.{summary_lines}
+use Rattle.lines.specs.Lines.{summary_lines}
 
 -- these lines are what is printed of the file, and this is the answer that they say
 pub record Printed (file : List ℕ) (counted : ℕ) (answer : Answer) (lines : List ℕ) : Type 0 where

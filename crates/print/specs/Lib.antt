@@ -1,5 +1,3 @@
-pub mod Lines
 pub mod Files
 pub mod file_input
 pub mod mesh_input
-pub mod words

@@ -1,17 +1,17 @@
-// What the programs print: lines in a lent buffer, with the bytes that they then hold stated; and what `inspect` does with a file.
+#![tactic(auto)]
+// Files as the programs read them, a mesh of such a file, and what `inspect` does with a file.
 pub mod file_input;
-pub mod lines;
 pub mod mesh_input;
-mod words;
 
-ghost use Rattle.std.specs.Prelude.{take};
+ghost use Rattle.std.specs.Prelude.{◌≡◌, take};
 ghost use Rattle.io.specs.Counts.{IsPrefixLen};
 ghost use Rattle.paper.specs.File.{file_of};
 ghost use Rattle.print.specs.Files.{Printed};
 
 use crate::file_input::{BUFFER, read_file};
-use lines::ANSWER;
+use lines::{ANSWER, complain_refusal};
 use paper::Answer;
+use std::io::Read;
 use streams::output;
 
 // What is printed of a file: where its lines end, and the answer that they say.
@@ -27,7 +27,7 @@ pub(crate) fn report(bytes: &[u8], counted: usize, lines: &mut [u8; ANSWER]) -> 
     ensures printed { Printed (file_of bytes.now counted) counted result.answer (take result.end lines.new) }
 {
     let summary = dms::survey(bytes, counted);
-    let answer = summary.answer;
+    let answer = copy_of(&summary.answer);
     let end = lines::put_summary(lines, summary);
     FileLines {
         end: end,
@@ -35,40 +35,34 @@ pub(crate) fn report(bytes: &[u8], counted: usize, lines: &mut [u8; ANSWER]) -> 
     }
 }
 
-// Reads the file on a descriptor and prints its lines, or on standard error why it could not be read. A refusal is said there in words too.
-pub fn inspect(fd: i32, name: &[u8]) {
+// The same answer again.
+fn copy_of(answer: &Answer) -> Answer
+    ensures { result ≡ answer.now }
+{
+    match answer {
+        Answer::Done => Answer::Done,
+        Answer::Refused(number, place) => Answer::Refused(*number, *place),
+    }
+}
+
+// Reads the file that a reader gives and prints its lines, or on standard error why it could not be read. A refusal is said there in words too.
+pub fn inspect<R: Read>(rt: HostRuntime, from: &mut R, name: &[u8]) {
     let mut buffer = [0u8; BUFFER];
-    let read = read_file(fd, name, &mut buffer);
+    let read = read_file(rt, from, name, &mut buffer);
     let held = read.held;
     if read.ok {
-        print_report(&buffer[..held], read.counted);
+        print_report(rt, &buffer[..held], read.counted);
     }
 }
 
 // Prints the lines of a file.
-fn print_report(bytes: &[u8], counted: usize) {
+fn print_report(rt: HostRuntime, bytes: &[u8], counted: usize) {
     let mut lines = [0u8; ANSWER];
     let printed = report(bytes, counted, &mut lines);
     let end = printed.end;
     let answer = printed.answer;
-    output::say(&lines[..end]);
+    output::say(rt, &lines[..end]);
     if let Answer::Refused(number, place) = answer {
-        complain_refusal(number, place);
+        complain_refusal(rt, number, place);
     }
-}
-
-// Prints the line of a refusal, and says it in words on standard error. Answers whether the line was written.
-pub fn say_refusal(number: u8, place: usize) -> bool {
-    let mut line = [0u8; 64];
-    let end = lines::put_refusal(&mut line, 0, number, place);
-    let ok = output::say_up_to(&line, end);
-    complain_refusal(number, place);
-    ok
-}
-
-// Says a refusal in words on standard error.
-pub fn complain_refusal(number: u8, place: usize) {
-    let mut line = [0u8; words::ROOM];
-    let end = words::put_worded(&mut line, number, place);
-    output::complain_up_to(&line, end);
 }

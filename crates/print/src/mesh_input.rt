@@ -1,13 +1,12 @@
-// The mesh file on standard input, read into lent lists; or the line that says why it is turned down. Which bytes a call of C gives is free: the
+// The mesh file on standard input, read into lent lists; or the line that says why it is turned down. Which bytes the system gives is free: the
 // lists are stated to be those of some file.
 ghost use Rattle.std.specs.Prelude.{◌≡◌, ◌≤◌};
 ghost use Rattle.paper.specs.Mesh.{mesh_of};
 ghost use Rattle.print.specs.mesh_input.Fitting.{NoMesh, FileRead, MeshRead};
 
 use crate::file_input::{BUFFER, read_file};
-use crate::{complain_refusal, say_refusal};
 use dms::decode;
-use libc::STDIN_FILENO;
+use lines::{complain_refusal, say_refusal};
 use mesh::least;
 use paper::{Answer, MOST_CORNERS, MOST_FACES, MOST_NUMBERS, MOST_PAIRS};
 
@@ -23,6 +22,7 @@ pub struct MeshLengths {
 
 // Reads the file into the lists. The line of a refusal goes to standard output, or aside, to standard error.
 pub fn read_mesh(
+    rt: HostRuntime,
     coordinates: &mut [i32],
     sides: &mut [u8],
     corners: &mut [u16],
@@ -32,10 +32,11 @@ pub fn read_mesh(
     ensures { MeshRead (mesh_of coordinates.old sides.old corners.old sharpness.old) result (mesh_of coordinates.new sides.new corners.new sharpness.new) }
 {
     let mut bytes = [0u8; BUFFER];
-    let read = read_file(STDIN_FILENO, b"standard input", &mut bytes);
+    let read = read_file(rt, &mut rt.stdin(), b"standard input", &mut bytes);
     let held = read.held;
     if read.ok {
         return decode_lists(
+            rt,
             &bytes[..held],
             read.counted,
             coordinates,
@@ -50,6 +51,7 @@ pub fn read_mesh(
 
 // The lists of the file, or the line.
 fn decode_lists(
+    rt: HostRuntime,
     bytes: &[u8],
     counted: usize,
     coordinates: &mut [i32],
@@ -63,7 +65,7 @@ fn decode_lists(
     let d = decode(bytes, counted, coordinates, sides, corners, sharpness);
     let answer = d.answer;
     if let Answer::Refused(number, place) = answer {
-        tell(number, place, aside);
+        tell(rt, number, place, aside);
         return no_mesh();
     }
     MeshLengths {
@@ -76,11 +78,11 @@ fn decode_lists(
 }
 
 // The line of a refusal.
-fn tell(number: u8, place: usize, aside: bool) {
+fn tell(rt: HostRuntime, number: u8, place: usize, aside: bool) {
     if aside {
-        complain_refusal(number, place);
+        complain_refusal(rt, number, place);
     } else {
-        say_refusal(number, place);
+        say_refusal(rt, number, place);
     }
 }
 

@@ -1,3 +1,4 @@
+#![tactic(auto)]
 // L11, coordinates rearranged for the archive, and back: checks 30 and 31 of the two lengths, then one pass over the numbers. Lists may
 // have any length: no length is multiplied before it is known to be a quarter of the other.
 pub mod archiving;

@@ -1,3 +1,4 @@
+#![tactic(auto)]
 // The refined points of the corners at the vertices that are marked: a row for each corner. The sums of their faces are formed first, once for each
 // face, and put into a table; the loop over the corners takes them from there.
 ghost use Rattle.std.specs.Prelude.{◌≡◌, ◌+◌, ◌*◌, ◌≤◌, length, replicate};

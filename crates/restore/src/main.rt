@@ -1,50 +1,50 @@
+#![tactic(auto)]
 // Restores a coordinate list from the archive: the bytes on standard input, as `archive` writes them, become four-byte numbers, low byte
 // first, on standard output. Every number has a byte in each quarter of the input, so the whole of it is held, and there is a longest
 // list. What is turned down gets a line on standard error and nothing on standard output.
 ghost use Rattle.std.specs.Prelude.{◌≤◌};
 
-use libc::STDIN_FILENO;
 use mesh::least;
 use paper::Answer;
 use rearrange::four_bytes::{LONGEST_BYTES, LONGEST_LIST};
 
-fn main() {
-    if 1 < os::arg_count() {
-        streams::output::complain(b"usage: restore < FILE > FILE\n");
+fn main(rt: HostRuntime) {
+    if 1 < streams::arguments::count(rt) {
+        streams::output::complain(rt, b"usage: restore < FILE > FILE\n");
         return;
     }
     let mut bytes = [0u8; LONGEST_BYTES + 1];
     let mut numbers = [0i32; LONGEST_LIST];
-    run(&mut bytes, &mut numbers);
+    run(rt, &mut bytes, &mut numbers);
 }
 
 // The lists go on as slices: of their zeros, too many for a proof to count, only the types tell the lengths.
-fn run(bytes: &mut [u8; LONGEST_BYTES + 1], numbers: &mut [i32; LONGEST_LIST]) {
-    restore_input(bytes, numbers);
+fn run(rt: HostRuntime, bytes: &mut [u8; LONGEST_BYTES + 1], numbers: &mut [i32; LONGEST_LIST]) {
+    restore_input(rt, bytes, numbers);
 }
 
 // Reads the bytes, one more than the longest list has, so that a longer one is noticed, and lends a number for each four of them.
-fn restore_input(bytes: &mut [u8], numbers: &mut [i32]) {
-    let got = streams::input::read_up_to(STDIN_FILENO, b"standard input", bytes);
+fn restore_input(rt: HostRuntime, bytes: &mut [u8], numbers: &mut [i32]) {
+    let got = streams::input::read_up_to(rt, &mut rt.stdin(), b"standard input", bytes);
     let held = got.count;
     if LONGEST_BYTES < held {
-        streams::output::complain(b"standard input: more than 1572864 bytes\n");
+        streams::output::complain(rt, b"standard input: more than 1572864 bytes\n");
         return;
     }
     if got.ok {
         let n = least(held / 4, numbers.len());
-        restore_numbers(&mut bytes[..held], &mut numbers[..n]);
+        restore_numbers(rt, &mut bytes[..held], &mut numbers[..n]);
     }
 }
 
 // Restores the numbers, and writes their bytes in the place of the archive's.
-fn restore_numbers(bytes: &mut [u8], numbers: &mut [i32]) {
+fn restore_numbers(rt: HostRuntime, bytes: &mut [u8], numbers: &mut [i32]) {
     let answer = rearrange::restore(bytes, numbers);
     match answer {
-        Answer::Refused(number, place) => print::complain_refusal(number, place),
+        Answer::Refused(number, place) => lines::complain_refusal(rt, number, place),
         Answer::Done => {
             rearrange::four_bytes::write_numbers(numbers, bytes);
-            streams::output::say(bytes);
+            streams::output::say(rt, bytes);
         }
     }
 }

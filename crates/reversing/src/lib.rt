@@ -1,3 +1,4 @@
+#![tactic(auto)]
 // Turned faces written in place: the corners of each turned face after its first one reversed, its sharpness pairs reversed and each exchanged,
 // and the turned faces listed in rising order.
 pub mod states;

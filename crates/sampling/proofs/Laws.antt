@@ -8,8 +8,7 @@ use native.Mathlib.Omega.{arith}
 use borrow.Author.Tests.{ltb-false, lt-ltb, le-ltb, eqb-true, eqb-false, eq-eqb, ne_eqb, not-false}
 use lib.Dec.{ltb, eqb, lit≤}
 use lib.ListN.{length, set}
-use lib.IntN.{ℤ, pos, neg_ℤ, nat_abs}
-use lib.Signed.{◌≤ℤ◌}
+use lib.IntN.{ℤ, pos, nat_abs}
 use mir.Syntax.{w32}
 use mir.Val.{SFits, to_z, of_z}
 use mir.ValLaws.{to_z-of_z}
@@ -22,7 +21,6 @@ use Rattle.paper.specs.declared.Answer.{Answer}
 use Rattle.paper.specs.declared.Answer.TheVariants.{Done, Refused}
 use Rattle.paper.specs.Sampling.{control, Weights, weights, on_axis, bernstein_sum, sample_at, sample_point, fault32, most_parts, fault33, sample_verdict, side_at}
 use Rattle.paper.specs.Sampling.{Sampled, sample_count, triangle_samples, triangle_verdict, TriangleSampled}
-use Rattle.numbers.proofs.Diff.{as_diff, diff}
 use Rattle.mesh.proofs.Ranges.{or_left, or_right, none_left, none_right, inside, at_least, at_most}
 use Rattle.mesh.proofs.Verdicts.{sound_left, sound_right, single_sound, single_miss, single_hit, or_else_fault, or_else_sound, stop, past}
 use Rattle.bernstein.specs.declared.Vector5.{Vector5}
@@ -31,8 +29,8 @@ use Rattle.bernstein.specs.Sums.{AllSized, Tapered, AllTapered, rows_of, polynom
 use Rattle.bernstein.proofs.Laws.{bits, sized_bits, abs_bounds, polynomial_tapers, row_tapers, value_size}
 use Rattle.bernstein.proofs.Identity.{polynomial_sum}
 use Rattle.bernstein.proofs.Sum.{bernstein_is, sum_size}
-use Rattle.sampling.specs.points.Places.{b_place, a_place}
-use Rattle.sampling.proofs.points.Laws.{outer_place, a_place_lem, inner_place, inner_a_place, number_size}
+use Rattle.control_points.specs.Places.{b_place, a_place}
+use Rattle.control_points.proofs.Laws.{outer_place, a_place_lem, inner_place, inner_a_place, number_size}
 use Rattle.sampling.specs.Grid.{Sampleable}
 use Rattle.sampling.proofs.Lists.{row_value}
 

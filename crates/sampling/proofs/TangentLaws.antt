@@ -28,7 +28,8 @@ use Rattle.sampling.specs.Grid.{TangentOn}
 use Rattle.bernstein.proofs.Laws.{bits, sized_bits, polynomial_tapers, row_tapers, value_size}
 use Rattle.bernstein.proofs.Tapering.{along_tapers, inward_tapers}
 use Rattle.sampling.proofs.Laws.{points_sized}
-use Rattle.sampling.proofs.Theorems.{same_answer, verdict_is, side_back, outer_at, net_passes}
+use Rattle.bernstein.proofs.Samples.{side_back}
+use Rattle.sampling.proofs.Theorems.{same_answer, verdict_is, outer_at, net_passes}
 
 -- ---- the values of the derivatives
 module _ (numbers : List ℤ) (side axis : ℕ) where

@@ -9,7 +9,6 @@ use lib.ListN.{get_or}
 use lib.IntN.{ℤ, pos, neg_ℤ, nat_abs, ◌+ℤ◌, ◌-ℤ◌, ◌*ℤ◌}
 use lib.Signed.{◌≤ℤ◌}
 use Rattle.paper.specs.Faults.{sound}
-use Rattle.paper.specs.Numbers.{sum_by}
 use Rattle.paper.specs.Net.{Side}
 use Rattle.paper.specs.Floats.{net_verdict}
 use Rattle.paper.specs.declared.Answer.TheVariants.{Done}
@@ -24,7 +23,7 @@ use Rattle.bernstein.proofs.Laws.{abs_bounds, bounds_abs}
 use Rattle.bernstein.proofs.Sum.{power, power_is, sum_le, less, more}
 use Rattle.bernstein.proofs.Derivative.{sum_is}
 use Rattle.sampling.proofs.Laws.{net_passed, few_parts, parts_sum, control_size}
-use Rattle.sampling.proofs.Theorems.{side_back}
+use Rattle.bernstein.proofs.Samples.{side_back}
 
 -- ---- the cubic sum of numbers within B: the weights are not negative, and sum to N^3
 cubes_le : (D E : ℕ → ℕ → ℤ) (i j k : ℕ) → ((n m : ℕ) → n + m ≤ 3 → D n m ≤ℤ E n m) → paper.cubic_bernstein_sum D i j k ≤ℤ paper.cubic_bernstein_sum E i j k

@@ -3,14 +3,13 @@ use mathlib.Core.Path.{◌≡◌, refl, sym, ap, ◌∙◌, subst}
 use mathlib.Core.Bool.{false, not}
 use mathlib.Core.List.{List, [], ◌++◌, append_assoc, append-nil}
 use Prim.Native.Nat.{ℕ, zero, suc, ◌+◌, ◌-◌, ◌*◌, ◌^◌, ◌≤◌, ◌<◌}
-use native.Mathlib.Nat.{one-le-pow}
 use native.Mathlib.Omega.{arith}
 use borrow.Author.Tests.{eq-eqb}
 use lib.Dec.{eqb}
 use lib.ListN.{length, get_or, take, drop, length-append}
 use lib.Seq.{get_or-take, get_or-drop, drop-append_seam}
 use lib.IntN.{ℤ, pos, ◌*ℤ◌}
-use lib.Signed.{◌≤ℤ◌, ◌<ℤ◌}
+use lib.Signed.{◌≤ℤ◌}
 use Rattle.paper.specs.Faults.{Verdict, sound, ◌or_else◌, single, outside, stated, kept}
 use Rattle.paper.specs.Numbers.{round}
 use Rattle.paper.specs.Mesh.{Mesh}
@@ -24,15 +23,14 @@ use Rattle.paper.specs.declared.Answer.TheVariants.{Done, Refused}
 use Rattle.paper.specs.Sampling.{control, Weights, weights, on_axis, bernstein_sum, sample_at, sample_point, fault32, most_parts, fault33, sample_verdict, side_at}
 use Rattle.paper.specs.Sampling.{Sampled, row_samples, first_rows, triangle_samples, side_number, net_in, Alike, control_point, Leaves, Between, row_start}
 use Rattle.paper.specs.Claims.{SamplesClose, RaysAgree, SampleEnds, SamplesBetween, TrianglesSample}
-use Rattle.numbers.proofs.Diff.{diff}
 use Rattle.mesh.proofs.Ranges.{inside, or_none}
 use Rattle.mesh.proofs.Verdicts.{or_else_sound, single_miss, sound_left}
-use Rattle.floats.proofs.nets.Nets.{nets_pass}
+use Rattle.borders.proofs.Nets.{nets_pass}
 use Rattle.borders.proofs.Theorem.{demand3}
 use Rattle.bernstein.specs.Sums.{rows_of}
 use Rattle.bernstein.proofs.Laws.{round_between}
-use Rattle.bernstein.proofs.Sum.{bernstein_is, sum_from, sum_to, on_side, from_head, from_tail, head_alone, tail_alone, centre_alone}
-use Rattle.bernstein.proofs.Sum.{round_multiple}
+use Rattle.bernstein.proofs.Sum.{bernstein_is, sum_from, sum_to, head_alone, tail_alone, centre_alone}
+use Rattle.bernstein.proofs.Samples.{side_back, side_number_lem, head_number, tail_number, positive, multiple_number}
 use Rattle.sampling.specs.Grid.{samples_before}
 use Rattle.sampling.proofs.Laws.{some_parts, few_parts, parts_sum, net_passed, side_passed, all_passed, triangle_chain}
 use Rattle.sampling.proofs.Lists.{row_start_lem, below_or_last}
@@ -43,12 +41,6 @@ same_answer Done Done e = refl
 same_answer Done (Refused k p) e = let z : ◌≡◌ {A = ℕ} 0 1 = cc in absurd (omega arith)
 same_answer (Refused k p) Done e = let z : ◌≡◌ {A = ℕ} 0 1 = cc in absurd (omega arith)
 same_answer (Refused k p) (Refused k' p') e = let f : k ≡ k' = cc in let g : p ≡ p' = cc in cc
-
-pub side_back : (s : Side) → side_at (side_number s) ≡ s
-side_back side0 = refl
-side_back side1 = refl
-side_back side2 = refl
-side_back side3 = refl
 
 no_fault32 : (s : Side) → fault32 (side_number s) ≡ false
 unfolding fault32
@@ -86,13 +78,6 @@ unfolding sample_point
 same_point net other s t w h = rw (h 0 (omega arith), h 1 (omega arith), h 2 (omega arith))
 
 -- ---- closing
--- the sum on a side is that of its outer row
-side_sum : (p q : ℕ → ℤ) (s t : Side) (i j : ℕ) → ((m : ℕ) → m < 5 → outer_row p s m ≡ outer_row q t m) → bernstein_sum p s i j 0 ≡ bernstein_sum q t i j 0
-side_sum p q s t i j h =
-    bernstein_is p s i j 0 ∙ on_side (rows_of (control p s)) (pos i) (pos j)
-    ∙ cc (h 0 (omega arith), h 1 (omega arith), h 2 (omega arith), h 3 (omega arith), h 4 (omega arith))
-    ∙ sym (bernstein_is q t i j 0 ∙ on_side (rows_of (control q t)) (pos i) (pos j))
-
 -- the numbers of a corner in an output
 module _ (O : Output) (c axis : ℕ) (a : axis < 3) where
   net_at_lem : (k : ℕ) → k < 41 → on_axis (net_in O c) axis k ≡ written O axis c k
@@ -111,11 +96,6 @@ module _ (O : Output) (c axis : ℕ) (a : axis < 3) where
 pub net_passes : (M : Mesh) (O : Output) → Wrote M O → (c : ℕ) → Holds O c → net_verdict (net_in O c) ≡ sound
 net_passes M O w c h = nets_pass M w.links O.first O.count w.old O.numbers w.call (c - O.first) (omega (arith, h.0, h.1))
 
-pub side_number_lem : (net other : List ℤ) (s t : Side) (i j N axis : ℕ) → ((m : ℕ) → m < 5 → outer_row (on_axis net axis) s m ≡ outer_row (on_axis other axis) t m)
-    → sample_at net s (weights i j 0 N) axis ≡ sample_at other t (weights i j 0 N) axis
-unfolding sample_at
-side_number_lem net other s t i j N axis h = ap (λ (z : ℤ). round z (pos (N ^ 4))) (side_sum (on_axis net axis) (on_axis other axis) s t i j h)
-
 pub samples_close : SamplesClose
 samples_close M A B wA wB c s hA hB i j N =
     let d = beside M c s in
@@ -125,42 +105,7 @@ samples_close M A B wA wB c s hA hB i j N =
     (λ axis a. side_number_lem (net_in A c) (net_in B d) s (across s) i j N axis
     (λ m l. outer_at A c axis a s m l ∙ (demand3 M A B wA wB c s hA hB axis a).curve m l ∙ sym (outer_at B d axis a (across s) m l))))
 
--- ---- the rays: the first points of the rows are those of the other side at the head, the last ones those of the other side at the tail
-module _ (p : ℕ → ℤ) where
-  head_row : (s : Side) → (control p s 0 0 ≡ control p (at_head s) 0 0) × (control p s 1 0 ≡ control p (at_head s) 1 0)
-      × (control p s 2 0 ≡ control p (at_head s) 2 0) × (control p s 3 0 ≡ control p (at_head s) 3 0)
-  head_row side0 = (refl, refl, refl, refl)
-  head_row side1 = (refl, refl, refl, refl)
-  head_row side2 = (refl, refl, refl, refl)
-  head_row side3 = (refl, refl, refl, refl)
-
-  tail_row : (s : Side) → (control p s 0 4 ≡ control p (at_tail s) 0 4) × (control p s 1 3 ≡ control p (at_tail s) 1 3)
-      × (control p s 2 2 ≡ control p (at_tail s) 2 2) × (control p s 3 1 ≡ control p (at_tail s) 3 1)
-  tail_row side0 = (refl, refl, refl, refl)
-  tail_row side1 = (refl, refl, refl, refl)
-  tail_row side2 = (refl, refl, refl, refl)
-  tail_row side3 = (refl, refl, refl, refl)
-
-  head_ray : (s : Side) (i k : ℕ) → bernstein_sum p s i 0 k ≡ bernstein_sum p (at_head s) i 0 k
-  head_ray s i k =
-      let h = head_row s in
-      bernstein_is p s i 0 k ∙ from_head (rows_of (control p s)) (pos i) (pos k) ∙ cc (h.0, h.1, h.2, h.3)
-      ∙ sym (bernstein_is p (at_head s) i 0 k ∙ from_head (rows_of (control p (at_head s))) (pos i) (pos k))
-
-  tail_ray : (s : Side) (j k : ℕ) → bernstein_sum p s 0 j k ≡ bernstein_sum p (at_tail s) 0 j k
-  tail_ray s j k =
-      let h = tail_row s in
-      bernstein_is p s 0 j k ∙ from_tail (rows_of (control p s)) (pos j) (pos k) ∙ cc (h.0, h.1, h.2, h.3)
-      ∙ sym (bernstein_is p (at_tail s) 0 j k ∙ from_tail (rows_of (control p (at_tail s))) (pos j) (pos k))
-
-pub head_number : (numbers : List ℤ) (s : Side) (i k N axis : ℕ) → sample_at numbers s (weights i 0 k N) axis ≡ sample_at numbers (at_head s) (weights i 0 k N) axis
-unfolding sample_at
-head_number numbers s i k N axis = ap (λ (z : ℤ). round z (pos (N ^ 4))) (head_ray (on_axis numbers axis) s i k)
-
-pub tail_number : (numbers : List ℤ) (s : Side) (j k N axis : ℕ) → sample_at numbers s (weights 0 j k N) axis ≡ sample_at numbers (at_tail s) (weights 0 j k N) axis
-unfolding sample_at
-tail_number numbers s j k N axis = ap (λ (z : ℤ). round z (pos (N ^ 4))) (tail_ray (on_axis numbers axis) s j k)
-
+-- ---- the rays
 pub rays_agree : RaysAgree
 rays_agree numbers s i j k N = (
   alike numbers numbers s (at_head s) (weights i 0 k N) refl
@@ -170,19 +115,15 @@ rays_agree numbers s i j k N = (
 )
 
 -- ---- the ends
-positive : (N : ℕ) → 1 ≤ N → pos 0 <ℤ pos (N ^ 4)
-positive N h = let one = one-le-pow 4 N h in simp diff (omega arith)
-
 -- a sample whose sums are the multiple by N^4 of numbers is these numbers
 module _ (numbers : List ℤ) (s : Side) (i j k N n q : ℕ) (h : (p : ℕ → ℤ) → bernstein_sum p s i j k ≡ pos (N ^ 4) *ℤ control p s n q) where
-  pub multiple_number : 1 ≤ N → (axis : ℕ) → sample_at numbers s (weights i j k N) axis ≡ control (on_axis numbers axis) s n q
-  unfolding sample_at
-  multiple_number some axis =
-      ap (λ (z : ℤ). round z (pos (N ^ 4))) (h (on_axis numbers axis)) ∙ round_multiple (pos (N ^ 4)) (control (on_axis numbers axis) s n q) (positive N some)
-
   multiple_point : 1 ≤ N → sample_point numbers s (weights i j k N) ≡ control_point numbers s n q
   unfolding sample_point
-  multiple_point some = rw (multiple_number some 0, multiple_number some 1, multiple_number some 2)
+  multiple_point some = rw (
+    multiple_number numbers s i j k N n q h some 0,
+    multiple_number numbers s i j k N n q h some 1,
+    multiple_number numbers s i j k N n q h some 2,
+  )
 
   multiple : Leaves numbers s (weights i j k N) (control_point numbers s n q)
   multiple old out c =

@@ -1,7 +1,6 @@
+#![tactic(auto)]
 // L12: the point of one of a quad-net's four triangles at weights i/n, j/n, k/n. Checks 18, 19, 32 and 33, then one sample, or all samples of the
 // triangle into a lent list. Nothing is written before the last check has passed.
-pub mod points;
-
 ghost use Rattle.std.specs.Prelude.{◌≡◌, ℕ, ◌+◌, ◌*◌, ◌≤◌, ◌<◌, length, not, ◌++◌};
 ghost use Rattle.paper.specs.Faults.{sound, stated};
 ghost use Rattle.paper.specs.File.{begins};
@@ -12,8 +11,8 @@ ghost use Rattle.paper.specs.Tangents.{TangentsSampled};
 ghost use Rattle.bernstein.specs.Sums.{AllTapered, row_of, polynomial_at};
 ghost use Rattle.sampling.specs.Grid.{samples_before, Sampleable, RowSampleable, RowPut, RowsPut, TangentOn};
 
-use crate::points::control_points;
 use bernstein::{Matrix5, Vector5};
+use control_points::control_points;
 use paper::{Answer, MOST_PARTS, NO_ROOM};
 
 // The two tangents at a sample, on one axis.

@@ -1,3 +1,4 @@
+#![tactic(auto)]
 // Rows of a net's points by number, and the triangles of the strip between two rows, as paper/specs/Triangles.antt joins them. No mesh is needed for that:
 // a row is given by the numbers of its first and its last point and of those between.
 ghost use Rattle.std.specs.Prelude.{◌≡◌, true, ℕ, ◌+◌, ◌-◌, ◌*◌, ◌/◌, ◌<◌, ◌≤◌, length};
@@ -6,7 +7,7 @@ ghost use Rattle.paper.specs.Triangles.{apex, foot};
 ghost use Rattle.strips.specs.PointRows.{row_number, RowFits, Strip, RisingRow, PlainStrip, strip_number, ring_place, Fills, three};
 
 // A row of a net's points: the numbers of its first and its last, and of those between, which rise or fall by one; and its segments.
-#[derive(Drop)]
+#[derive(Clone, Copy)]
 pub struct NumberedRow {
     pub first: u32,
     pub last: u32,

@@ -1,3 +1,4 @@
+#![tactic(auto)]
 // A mesh surveyed, as the lists of a DMS file hold it: checks 4 to 13 with 27 and 28, and the counts that `inspect` prints.
 mod counting;
 

@@ -1,3 +1,4 @@
+#![tactic(auto)]
 // What C is told: of an answer, and of counts.
 ghost use Rattle.std.specs.Prelude.{◌≡◌, ◌≤◌, length};
 ghost use Rattle.paper.specs.Faults.{stated};

@@ -1,3 +1,4 @@
+#![tactic(auto)]
 // L9, for dragging: marks the corners whose quad-nets a vertex can change, in one pass over the faces and one over the corners.
 ghost use Rattle.std.specs.Prelude.{◌≡◌, ℕ, ◌+◌, ◌<◌, ◌≤◌, length, get_or, replicate};
 ghost use Rattle.paper.specs.Mesh.{mesh_of, most_vertices};

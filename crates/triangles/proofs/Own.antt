@@ -26,7 +26,7 @@ use Rattle.paper.specs.Triangles.{coordinate_at, points_before}
 use Rattle.mesh.proofs.Scans.{ways}
 use Rattle.mesh.proofs.Links.{values_length, values_at}
 use Rattle.borders.proofs.Ranges.{ranges}
-use Rattle.floats.proofs.nets.Nets.{nets_pass}
+use Rattle.borders.proofs.Nets.{nets_pass}
 use Rattle.mesh.proofs.Faces.{OfFace, held, start_next, start_all}
 use Rattle.net_points.specs.declared.writing.Shape.{Shape}
 use Rattle.strips.specs.PointRows.{Fills}

@@ -33,7 +33,7 @@ pub(crate) fn fill(
     ensures { TrianglesFilled (mesh_of coordinates.now sides.now corners.now sharpness.now) levels.now first count points.old triangles.old result points.new triangles.new }
 {
     let mut low = [0u16; MOST_VERTICES];
-    numbering::fill_lowest(corners, &mut low);
+    owners::fill_lowest(corners, &mut low);
     let counted = crate::count_within(corners, &low, table, levels, first, count);
     let a = crate::check_room(
         counted.points,

@@ -31,7 +31,7 @@ pub(crate) fn fill(
     ensures { PairsFilled (mesh_of coordinates.now sides.now corners.now sharpness.now) levels.now first count out.old result out.new }
 {
     let mut low = [0u16; MOST_VERTICES];
-    numbering::fill_lowest(corners, &mut low);
+    owners::fill_lowest(corners, &mut low);
     let points = numbering::points_in(corners, &low, table, levels, first, count);
     let needed = 6 * points;
     if out.len() < needed {
@@ -150,7 +150,7 @@ pub(crate) fn put_tangents(
     ensures tangents { (M : Mesh) → Of M corners.now low.now table.now levels.now → numbers.now ≡ nets M c 1 → TangentsPut M levels.now (tangents_before M levels.now c) (tangents_before M levels.now (c + 1)) at result out.old out.new }
 {
     let shape = crate::shape_of(corners, low, table, levels, c);
-    let third = numbering::segments_at(table, levels, c, 2);
+    let third = owners::segments_at(table, levels, c, 2);
     let all = crate::size(shape);
     net_tangents::put_pairs(numbers, shape, third, out, at);
     at + 6 * all

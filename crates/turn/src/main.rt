@@ -1,50 +1,49 @@
+#![tactic(auto)]
 // Turns the faces of the mesh file on standard input that are drawn the wrong way round: the turned file, of the version that the input has, goes to
 // standard output, and the turned faces to standard error, one number a line. A file that is turned down gets the line `refused`, with number and
 // place, on standard error, and nothing on standard output.
 ghost use Rattle.std.specs.Prelude.{◌≤◌, length};
 ghost use Rattle.dms_lists.specs.header.ListsWithin.{ListsWithin};
 
-use libc::STDIN_FILENO;
+use lines::{complain_refusal, put_ended};
 use mesh::{least, wide};
 use paper::{Answer, MOST_CORNERS, MOST_FACES, MOST_NUMBERS, MOST_PAIRS};
-use print::complain_refusal;
 use print::file_input::{BUFFER, read_file};
-use print::lines::put_ended;
 use streams::output::{complain, complain_up_to, say_up_to};
 
 // Room for a line for each face, its number of at most four digits.
 const LINES_ROOM: usize = 5 * MOST_FACES;
 
-fn main() {
-    if 1 < os::arg_count() {
-        complain(b"usage: turn < FILE > FILE\n");
+fn main(rt: HostRuntime) {
+    if 1 < streams::arguments::count(rt) {
+        complain(rt, b"usage: turn < FILE > FILE\n");
         return;
     }
-    turn_input();
+    turn_input(rt);
 }
 
 // Reads the file.
-fn turn_input() {
+fn turn_input(rt: HostRuntime) {
     let mut bytes = [0u8; BUFFER];
-    let read = read_file(STDIN_FILENO, b"standard input", &mut bytes);
+    let read = read_file(rt, &mut rt.stdin(), b"standard input", &mut bytes);
     let held = read.held;
     if read.ok {
-        turn_file(&bytes[..held], read.counted);
+        turn_file(rt, &bytes[..held], read.counted);
     }
 }
 
 // Checks what the header says: 1 to 3, and 4.
-fn turn_file(file: &[u8], counted: usize) {
+fn turn_file(rt: HostRuntime, file: &[u8], counted: usize) {
     let header = dms_lists::header::check_header(file, counted);
     if let Answer::Refused(number, place) = header {
-        complain_refusal(number, place);
+        complain_refusal(rt, number, place);
         return;
     }
-    turn_lists(file);
+    turn_lists(rt, file);
 }
 
 // Reads the lists of a file whose header passes.
-fn turn_lists(file: &[u8])
+fn turn_lists(rt: HostRuntime, file: &[u8])
     requires { ListsWithin file.now }
 {
     let mut coordinates = [0i32; MOST_NUMBERS];
@@ -64,6 +63,7 @@ fn turn_lists(file: &[u8])
     let count = least(dms_lists::header::corner_count(file), MOST_CORNERS);
     let pairs = 2 * count;
     turn_mesh(
+        rt,
         sharp,
         &coordinates[..numbers],
         &sides[..faces],
@@ -74,6 +74,7 @@ fn turn_lists(file: &[u8])
 
 // Lends a listing with an entry for each face.
 fn turn_mesh(
+    rt: HostRuntime,
     sharp: bool,
     coordinates: &[i32],
     sides: &[u8],
@@ -83,6 +84,7 @@ fn turn_mesh(
     let mut listing = [0u16; MOST_FACES];
     let faces = least(sides.len(), MOST_FACES);
     turn_faces(
+        rt,
         sharp,
         coordinates,
         sides,
@@ -94,6 +96,7 @@ fn turn_mesh(
 
 // Turns the faces, and writes the file and the listing when every check has passed.
 fn turn_faces(
+    rt: HostRuntime,
     sharp: bool,
     coordinates: &[i32],
     sides: &[u8],
@@ -104,16 +107,17 @@ fn turn_faces(
     let t = turning::turn(coordinates, sides, corners, sharpness, listing);
     let answer = t.answer;
     if let Answer::Refused(number, place) = answer {
-        complain_refusal(number, place);
+        complain_refusal(rt, number, place);
         return;
     }
-    if say_turned(sharp, coordinates, sides, corners, sharpness) {
-        complain_listing(listing, t.turned);
+    if say_turned(rt, sharp, coordinates, sides, corners, sharpness) {
+        complain_listing(rt, listing, t.turned);
     }
 }
 
 // Writes the file to standard output, and answers whether it was written.
 fn say_turned(
+    rt: HostRuntime,
     sharp: bool,
     coordinates: &[i32],
     sides: &[u8],
@@ -122,15 +126,15 @@ fn say_turned(
 ) -> bool {
     let mut file = [0u8; BUFFER];
     let end = dms_output::put_file(&mut file, sharp, coordinates, sides, corners, sharpness);
-    say_up_to(&file, end)
+    say_up_to(rt, &file, end)
 }
 
 // Writes the beginning of the listing to standard error, one number a line.
-fn complain_listing(listing: &[u16], turned: usize) {
+fn complain_listing(rt: HostRuntime, listing: &[u16], turned: usize) {
     let mut lines = [0u8; LINES_ROOM];
     let count = least(turned, listing.len());
     let end = put_listing(&mut lines, listing, count);
-    complain_up_to(&lines, end);
+    complain_up_to(rt, &lines, end);
 }
 
 // The lines of so many entries.

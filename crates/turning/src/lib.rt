@@ -1,3 +1,4 @@
+#![tactic(auto)]
 // L13, faces drawn the wrong way round: checks 36, 4 to 9 with 27 and 28, 34 and 35; then the turned model in the lent lists, and the turned faces
 // at the beginning of the lent listing. Nothing is written before the last check has passed.
 pub mod choosing;

@@ -1,3 +1,4 @@
+#![tactic(auto)]
 // 01's walk: "A walk moves from a corner to the next one, the previous one or the linked one." Here it is a walker by value whose methods return the moved
 // walker. It steps by the table of corners, which has a row for each corner: its next, previous and linked corner, the sides of its face and the corners of
 // its vertex.

@@ -7,6 +7,11 @@ mod report;
 mod triangles;
 mod turning;
 
+use std::num::NonZeroUsize;
+use std::ops::Range;
+use std::sync::Mutex;
+use std::{env, panic, thread};
+
 use mahunopi::{raw, MeshRef};
 use reference::{Counts, FloatPoint, Irregular, Lengths, Lists, Refusal, LENT_TOO_SHORT, MOST};
 use shapes::{Random, Tables};
@@ -474,19 +479,41 @@ pub fn sample_triangle(
 /// Runs a check for each case number, and says which one failed. MAHUNOPI_CASES in the environment multiplies the
 /// number of cases; MAHUNOPI_CASE runs one alone.
 pub fn each_case(cases: u64, seed: u64, mut check: impl FnMut(u64, &mut Random)) {
-    let number = |name: &str| std::env::var(name).ok().map(|text| text.parse::<u64>().expect("a whole number"));
-    let times = number("MAHUNOPI_CASES").unwrap_or(1);
-    let range = match number("MAHUNOPI_CASE") {
-        Some(case) => case..case + 1,
-        None => 0..cases * times,
-    };
-    for case in range {
-        // what a case draws depends on its number alone
-        let mut random = Random::new(seed.wrapping_mul(0x1_0000_0001).wrapping_add(case << 20));
-        let run = std::panic::AssertUnwindSafe(|| check(case, &mut random));
-        if let Err(failure) = std::panic::catch_unwind(run) {
-            eprintln!("case {case} failed; MAHUNOPI_CASE={case} runs it alone");
-            std::panic::resume_unwind(failure);
+    for case in case_numbers(cases) {
+        one_case(case, seed, &mut check);
+    }
+}
+
+/// The same on all cores, for a check that keeps nothing from case to case.
+pub fn each_case_apart(cases: u64, seed: u64, check: impl Fn(u64, &mut Random) + Sync) {
+    let numbers = Mutex::new(case_numbers(cases));
+    // a case that fails leaves the others to end: nobody holds the lock while a case runs
+    let next = || numbers.lock().expect("a lock that no case holds").next();
+    thread::scope(|scope| {
+        for _ in 0..thread::available_parallelism().map_or(1, NonZeroUsize::get) {
+            scope.spawn(|| {
+                while let Some(case) = next() {
+                    one_case(case, seed, &check);
+                }
+            });
         }
+    });
+}
+
+fn case_numbers(cases: u64) -> Range<u64> {
+    let number = |name: &str| env::var(name).ok().map(|text| text.parse::<u64>().expect("a whole number"));
+    match number("MAHUNOPI_CASE") {
+        Some(case) => case..case + 1,
+        None => 0..cases * number("MAHUNOPI_CASES").unwrap_or(1),
+    }
+}
+
+fn one_case(case: u64, seed: u64, mut check: impl FnMut(u64, &mut Random)) {
+    // what a case draws depends on its number alone
+    let mut random = Random::new(seed.wrapping_mul(0x1_0000_0001).wrapping_add(case << 20));
+    let run = panic::AssertUnwindSafe(|| check(case, &mut random));
+    if let Err(failure) = panic::catch_unwind(run) {
+        eprintln!("case {case} failed; MAHUNOPI_CASE={case} runs it alone");
+        panic::resume_unwind(failure);
     }
 }

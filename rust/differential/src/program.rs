@@ -1,4 +1,4 @@
-//! Runs of the programs that `rt ci` leaves in target/bin; MAHUNOPI_BIN names another directory that has them. And what
+//! Runs of the programs that `.ci/programs` leaves in target/bin; MAHUNOPI_BIN names another directory that has them. And what
 //! they say of a refusal, in the words of include/mahunopi.h.
 
 use std::io::Write;

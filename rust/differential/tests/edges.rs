@@ -95,7 +95,7 @@ fn arguments_too_many() {
 /// The table of the programs has the header's words, row by row; 39, 40 and 255 are refusals of C's calls alone.
 #[test]
 fn words_of_the_header() {
-    let source = Path::new(env!("CARGO_MANIFEST_DIR")).join("../../crates/print/src/words.rt");
+    let source = Path::new(env!("CARGO_MANIFEST_DIR")).join("../../crates/lines/src/words.rt");
     let source = std::fs::read_to_string(source).expect("the table's source");
     let mut rows = refusals();
     assert_eq!(rows.pop().map(|row| row.0), Some(255));

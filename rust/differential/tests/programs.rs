@@ -1,4 +1,4 @@
-//! The programs `inspect`, `patches` and `squares`, as `rt ci` leaves them in target/bin, against what the independent
+//! The programs `inspect`, `patches` and `squares`, as `.ci/programs` leaves them in target/bin, against what the independent
 //! implementation prints; what they refuse they say in words on standard error too. MAHUNOPI_BIN names another directory
 //! that has them. A program whose crate is not in the repository is passed over.
 

@@ -5,7 +5,7 @@
 use std::collections::{BTreeMap, HashMap, HashSet};
 use std::num::NonZeroUsize;
 
-use differential::{count_triangles, each_case, lists, mesh, tangents, triangles, Corners};
+use differential::{count_triangles, each_case, each_case_apart, lists, mesh, tangents, triangles, Corners};
 use reference::{links_of, MOST_PARTS};
 use shapes::{damage, random_tables, Random, Tables, DAMAGES};
 
@@ -52,7 +52,7 @@ fn whole(tables: &Tables, links: &[u16], levels: &[u8], random: &mut Random) -> 
 /// Thousands of small meshes: all corners, and a range of them.
 #[test]
 fn as_the_reference() {
-    each_case(3_000, 0x7419_0011, |_, random| {
+    each_case_apart(3_000, 0x7419_0011, |_, random| {
         let (tables, links, levels) = random_mesh(96, random);
         let all = whole(&tables, &links, &levels, random);
         let corners = tables.corners.len();
@@ -90,7 +90,7 @@ fn closed_used_and_of_the_same_shape() {
 
 #[test]
 fn any_cut_into_ranges_gives_the_same() {
-    each_case(200, 0x7419_0013, |_, random| {
+    each_case_apart(200, 0x7419_0013, |_, random| {
         let (tables, links, levels) = random_mesh(300, random);
         let corners = tables.corners.len();
         let all = mahunopi::triangles(mesh(&tables), &links, &levels).unwrap();

@@ -1,6 +1,6 @@
 -- A file that is decoded leaves its lists, within the limits, and one that is refused leaves nothing.
 use mathlib.Core.Path.{◌≡◌, refl, sym, ap, ◌∙◌}
-use mathlib.Core.Bool.{true, false, true≢false}
+use mathlib.Core.Bool.{true, true≢false}
 use mathlib.Core.List.{List, []}
 use mathlib.Core.Logic.{⊎_elim}
 use Prim.Native.Nat.{ℕ, ◌*◌, ◌≤◌, ◌<◌}
@@ -10,15 +10,15 @@ use lib.ListN.{length}
 use borrow.Author.Tests.{ltb-true, ltb-false}
 use lib.IntN.{ℤ}
 use Rattle.paper.specs.Mesh.{Mesh, mesh_of, most_vertices, most_faces, most_corners}
-use Rattle.paper.specs.Faults.{Verdict, sound, fault, Accepted, stated, kept}
+use Rattle.paper.specs.Faults.{Verdict, fault, Accepted, stated, kept}
 use Rattle.paper.specs.File.{file_of, file_mesh, header_verdict, file_verdict, decode_verdict, begins, DecodedTo}
 use Rattle.paper.specs.declared.Answer.TheVariants.{Done, Refused}
 use Rattle.paper.specs.declared.Decoded.{Decoded}
 use Rattle.mesh.proofs.Scans.{ways}
 use Rattle.mesh.proofs.Verdicts.{passed, sound_left, sound_right}
 use Rattle.surveying.proofs.Surveys.{limits}
-use Rattle.dms_lists.proofs.lists.Lists.{file_coordinates, file_faces, file_corners, file_sharpness}
-use Rattle.print.specs.mesh_input.Fitting.{Fitting, NoMesh, Decodes, FileRead, MeshRead}
+use Rattle.dms_lists.proofs.lists.Lists.{file_coordinates, file_corners, file_sharpness}
+use Rattle.print.specs.mesh_input.Fitting.{NoMesh, FileRead, MeshRead}
 use Rattle.print.specs.declared.mesh_input.MeshLengths.{MeshLengths}
 
 same_lists : (M N : Mesh) → M.coordinates ≡ N.coordinates → M.sides ≡ N.sides → M.corners ≡ N.corners → M.sharpness ≡ N.sharpness → M ≡ N

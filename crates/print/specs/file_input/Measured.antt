@@ -1,4 +1,4 @@
--- A file read from a descriptor: the bytes held, and the length counted.
+-- A file read from a reader: the bytes held, and the length counted.
 use Rattle.std.specs.Prelude.{◌≡◌, List, ℕ, ◌+◌, ◌≤◌, ◌<◌, length}
 use Rattle.paper.specs.File.{expected_length}
 

@@ -34,7 +34,7 @@ pub record FileRead (bytes : List ℕ) (counted : ℕ) (lent : Mesh) (r : MeshLe
   pub found : r.ok ≡ true → Decodes bytes counted lent r left
   pub none : r.ok ≡ false → left ≡ lent
 
--- bytes that a call of C gave, which are free, were decoded into lent lists
+-- bytes that the system gave, which are free, were decoded into lent lists
 pub record MeshRead (lent : Mesh) (r : MeshLengths) (left : Mesh) : Type 0 where
   pub bytes : List ℕ
   pub counted : ℕ

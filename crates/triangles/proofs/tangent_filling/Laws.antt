@@ -11,13 +11,12 @@ use Rattle.paper.specs.Mesh.{Mesh, corner_count}
 use Rattle.paper.specs.Scan.{values_from}
 use Rattle.paper.specs.Corners.{start_of, first_of, position_of}
 use Rattle.paper.specs.Net.{Side, side0, side1, side2}
-use Rattle.paper.specs.Faults.{sound, fault, single, stated, kept, Accepted}
+use Rattle.paper.specs.Faults.{sound, fault, single, Accepted}
 use Rattle.paper.specs.Calls.{nets}
 use Rattle.paper.specs.File.{no_room, begins}
 use Rattle.paper.specs.Sampling.{side_at}
 use Rattle.paper.specs.Triangles.{groups, level, segments, point_groups, turn_weights, owned, points_before, level_verdict}
 use Rattle.paper.specs.Tangents.{tangent_pair, tangent_number, own_tangent, tangent_at, tangent_list, tangent_verdict, TangentsFilled}
-use Rattle.paper.specs.declared.Answer.{Answer}
 use Rattle.paper.specs.declared.Answer.TheVariants.{Done, Refused}
 use Rattle.paper.specs.declared.Tangents.{Tangents}
 use Rattle.mesh.proofs.Links.{values_length}
@@ -26,9 +25,9 @@ use Rattle.closing.proofs.Partners.{Leveled}
 use Rattle.closing.proofs.Numbered.{In, group_is, number_is}
 use Rattle.closing.proofs.Calls.{points_between}
 use Rattle.net_points.specs.declared.writing.Shape.{Shape}
-use Rattle.strips.specs.PointRows.{FilledTo, Fills}
+use Rattle.strips.specs.PointRows.{Fills}
 use Rattle.triangles.specs.Owned.{ShapeOf}
-use Rattle.net_points.specs.writing.Shapes.{shape_group, shape_start, shape_size}
+use Rattle.net_points.specs.writing.Shapes.{shape_start, shape_size}
 use Rattle.net_tangents.specs.Paired.{shape_pair, PairAim, NetPaired}
 use Rattle.triangles.specs.tangent_filling.Paired.{tangents_before, TangentsPut, PairsFilled}
 use Rattle.triangles.proofs.Own.{in_group, all_is, place_below}

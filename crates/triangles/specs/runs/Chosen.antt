@@ -1,5 +1,5 @@
 -- The numbers that corners have of their own in lists of two kinds: those of the points, or, where `paired` says so, those of the tangents.
-use Rattle.std.specs.Prelude.{◌≡◌, Bool, true, false, cond, List, ℕ, ℤ}
+use Rattle.std.specs.Prelude.{Bool, cond, List, ℕ, ℤ}
 use Rattle.paper.specs.Mesh.{Mesh}
 use Rattle.paper.specs.Scan.{pick_n}
 use Rattle.paper.specs.Triangles.{points_before, coordinate_at, point_list}

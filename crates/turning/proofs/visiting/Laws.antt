@@ -17,7 +17,7 @@ use Rattle.paper.specs.Links.{vertex_of, same_edge, reverse_edge}
 use Rattle.mesh.proofs.Scans.{clash}
 use Rattle.mesh.proofs.Faces.{held, face_at, start_ends}
 use Rattle.mesh.proofs.Rings.{count_less, count_le}
-use Rattle.paper.specs.Turning.{says, shares_edge, fault34}
+use Rattle.paper.specs.Turning.{shares_edge, fault34}
 use Rattle.mesh.proofs.ByCases.{by_equal, less_one, true_both}
 use Rattle.partners.proofs.Stores.{put}
 use Rattle.partners.proofs.SharedEdges.{either, same_ends, reverse_ends}

@@ -1,0 +1,25 @@
+-- `faces::four_weighted` meets its contract: the points are read, and the formula answers for every ring of them.
+use borrow.Author.Rules.{rules}
+use mir.Syntax.{w32}
+use mir.Val.{SFits}
+use mir.Facts.{to_z-of_z}
+use Rattle.faces.proofs.Few.{read, four_toward}
+use Rattle.faces.proofs.four_weighted.Goals as goal
+
+pub toward-requires : goal.toward-requires
+toward-requires d = (
+  (read _ _ d.point.ensures d.requires.0.1).1,
+  (read _ _ d.point-2.ensures d.requires.1.1).1,
+  (read _ _ d.point-3.ensures d.requires.2.1).1,
+  (read _ _ d.point-4.ensures d.requires.3.1).1,
+)
+
+pub returns : goal.returns
+returns c =
+    let k = c.requires in
+    let v = (read _ _ c.point.ensures k.0.1).0 in
+    let w = (read _ _ c.point-2.ensures k.1.1).0 in
+    let x = (read _ _ c.point-3.ensures k.2.1).0 in
+    let y = (read _ _ c.point-4.ensures k.3.1).0 in
+    let f : SFits w32 c.toward.result = search rules in
+    rw (to_z-of_z f) (four_toward _ _ _ _ _ (rw (v, w, x, y) at c.toward.ensures))

@@ -1,0 +1,10 @@
+-- One turn for each byte; whatever the value, one step more keeps it a number.
+use Prim.Native.Nat.{◌-◌}
+use lib.ListN.{length}
+use Rattle.nest.proofs.read_digits.Given as goal
+
+abbrev pub invariant-loop-i : goal.invariant-loop-i
+invariant-loop-i l = Unit {0}
+
+abbrev pub decreases-loop-i : goal.decreases-loop-i
+decreases-loop-i l = length l.line - l.i

@@ -1,0 +1,9 @@
+-- `rounding::sign` meets its contract: of a number of 64 bits a shift by 63 leaves the sign.
+use mathlib.Core.Path.{refl}
+use mir.Syntax.{w64}
+use mir.Facts.{to_z-of_z}
+use Rattle.numbers.proofs.Nearest.{sign_fits, shift_sign}
+use Rattle.numbers.proofs.rounding.sign.Goals as goal
+
+pub returns : goal.returns
+returns c = rw (to_z-of_z c.ranges.n, shift_sign w64 c.args.n c.ranges.n, to_z-of_z (sign_fits w64 c.args.n)) refl

@@ -1,0 +1,6 @@
+-- `walk::Walker::next` meets its contract: the column of the table that it reads.
+use Rattle.walk.proofs.Table.{led}
+use Rattle.walk.proofs.Walker.next.Goals as goal
+
+pub returns : goal.returns
+returns c = led _ _ _ _ _ (λ K T l. T.nexts _ l) c.read-to.ensures
