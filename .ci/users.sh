@@ -80,10 +80,10 @@ vectors() {
     [ "$found" -ge 40 ]
 }
 
-# Archiving takes four numbers at once: the bytes of four are packed by `pshufb`, which nothing else in the library has either.
+# Archiving takes four numbers at once: the bytes of four are packed by `packuswb`, which nothing else in the library has either.
 packed() {
-    found=$(objdump -d "$library/libmahunopi.a" | grep -c pshufb)
-    echo "pshufb: $found, expected 4 or more"
+    found=$(objdump -d "$library/libmahunopi.a" | grep -c packuswb)
+    echo "packuswb: $found, expected 4 or more"
     [ "$found" -ge 4 ]
 }
 
@@ -164,7 +164,8 @@ for file in python/tests/test_*.py; do
     *) others="$others $file" ;;
     esac
 done
-python/make-library || echo "users: the library for Python was not made"
+made=0
+python/make-library || made=1
 native >"$work/native" 2>&1 &
 # shellcheck disable=SC2086
 python_tests first $first >"$work/first" 2>&1 &
@@ -182,5 +183,9 @@ for part in native first others; do
     passed=$((passed + ${counts% *}))
     failed=$((failed + ${counts#* }))
 done
+if [ "$made" -ne 0 ]; then
+    echo "users: the library for Python was not made: FAILED"
+    failed=$((failed + 1))
+fi
 echo "users: $passed passed, $failed failed"
 [ "$failed" -eq 0 ]

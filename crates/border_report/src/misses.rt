@@ -20,7 +20,7 @@ const THREE: i64 = 3 * UNIT;
 const FOUR: i64 = 4 * UNIT;
 
 // Four points of a row, at the places that the conditions name.
-#[derive(Drop)]
+#[derive(Clone, Copy)]
 pub struct FourPoints {
     pub p0: i64,
     pub p1: i64,

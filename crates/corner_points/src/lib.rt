@@ -78,7 +78,6 @@ pub fn fill_corner(
 {
     let at = Walker { corner: c };
     let p = at.previous(table);
-    let at = Walker { corner: c };
     let q = at.next(table);
     let w = weigh(sharpness, c);
     let around = ThreeCorners {

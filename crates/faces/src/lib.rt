@@ -23,7 +23,7 @@ use walk::Walker;
 const WEIGHTS: i64 = 3 * UNIT;
 
 // A point of a refined face, on the three axes.
-#[derive(Drop)]
+#[derive(Clone, Copy)]
 pub struct FacePoint {
     pub x: i32,
     pub y: i32,

@@ -8,14 +8,14 @@ use std::io::Read;
 use streams::output::{complain, fail};
 
 // What is held of the input: the buffer's bytes from here to there are read and not yet taken.
-#[derive(Drop)]
+#[derive(Clone, Copy)]
 pub struct Held {
     pub at: usize,
     pub end: usize,
 }
 
 // The next line, if there is one, without its line feed, and what is held after it; `ok` says whether reading went well.
-#[derive(Drop)]
+#[derive(Clone, Copy)]
 pub struct Line {
     pub ok: bool,
     pub found: bool,

@@ -61,7 +61,6 @@ pub fn rings_at(table: &[u16], rows: &cosines::Rows, count: usize, c: usize, r: 
 {
     let here = Walker { corner: c };
     let m = here.valence(table);
-    let here = Walker { corner: c };
     let n = here.sides(table);
     Rings {
         vertex: cosines::cosine(rows, m, 1),

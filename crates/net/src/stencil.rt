@@ -62,15 +62,10 @@ fn take_quad(points: &[i32], table: &[u16], count: usize, c: usize, run: usize, 
     requires room { (length stencil.old ≡ 128) × (run ≤ most_sides) }
     ensures { FaceTaken (drawn count table.now points.now) c (run + 1) stencil.old stencil.new }
 {
-    let here = Walker { corner: c };
-    let mut before = here.previous(table);
-    let here = Walker { corner: c };
-    let mut next = here.next(table);
-    let after = Walker {
-        corner: next.corner,
-    };
-    let mut far = after.next(table);
     let mut here = Walker { corner: c };
+    let mut before = here.previous(table);
+    let mut next = here.next(table);
+    let mut far = next.next(table);
     let centre = faces::four_centre(points, c, next.corner, far.corner, before.corner);
     take_row(centre, stencil, FACE);
     let mut r = 0;
@@ -160,21 +155,13 @@ fn corners_around(table: &[u16], count: usize, c: usize) -> [usize; AROUND]
     requires { CornerIn count table.now c }
     ensures { result ≡ corners_around (tabled count table.now) c }
 {
-    let next = Walker { corner: c }.next(table);
-    let link = Walker { corner: c }.linked(table);
-    let far = Walker {
-        corner: link.corner,
-    }
-    .previous(table);
-    let previous = Walker { corner: c }.previous(table);
-    let opposite = Walker {
-        corner: previous.corner,
-    }
-    .linked(table);
-    let across = Walker {
-        corner: opposite.corner,
-    }
-    .previous(table);
+    let here = Walker { corner: c };
+    let next = here.next(table);
+    let link = here.linked(table);
+    let far = link.previous(table);
+    let previous = here.previous(table);
+    let opposite = previous.linked(table);
+    let across = opposite.previous(table);
     [
         c,
         next.corner,

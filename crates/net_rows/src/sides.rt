@@ -9,7 +9,7 @@ use faces::formulas::{inner, mean, toward};
 use faces::point;
 
 // A refined face at one of its corners: its centre, and its points towards the side that leaves the corner and the one before.
-#[derive(Drop)]
+#[derive(Clone, Copy)]
 pub struct FaceValues {
     pub centre: i32,
     pub ahead: i32,
@@ -27,7 +27,7 @@ pub struct SideValues {
     pub cosine: i64,
 }
 
-#[derive(Drop)]
+#[derive(Clone, Copy)]
 pub struct NetSides {
     pub side0: SideValues,
     pub side1: SideValues,

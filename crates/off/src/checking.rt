@@ -22,10 +22,11 @@ pub(crate) fn read_checked(
     ensures { TextChecked text.now result coordinates.new sides.new corners.new }
 {
     let d = off_lists::read_words(text, c, coordinates, sides, corners);
-    if let Answer::Refused(number, place) = d.answer {
+    let answer = d.answer;
+    if let Answer::Refused(number, place) = answer {
         return refused(number, place);
     }
-    let checked = check(&d, coordinates, sides, corners);
+    let checked = check(d, coordinates, sides, corners);
     if let Answer::Refused(number, place) = checked {
         return refused(number, place);
     }
@@ -33,9 +34,9 @@ pub(crate) fn read_checked(
 }
 
 // Checks 4 to 13, of lists of these lengths in own ones: first 4, by the lengths alone, as not all need have room.
-fn check(d: &Decoded, coordinates: &[i32], sides: &[u8], corners: &[u16]) -> Answer
+fn check(d: Decoded, coordinates: &[i32], sides: &[u8], corners: &[u16]) -> Answer
     requires { OwnRoom coordinates.now sides.now corners.now }
-    ensures { (M : Mesh) → Lists M d.now coordinates.now sides.now corners.now → stated result ≡ verdict M }
+    ensures { (M : Mesh) → Lists M d coordinates.now sides.now corners.now → stated result ≡ verdict M }
 {
     let n = d.coordinates;
     let f = d.sides;

@@ -140,10 +140,10 @@ fn read_drawn(rt: HostRuntime, text: &[u8], c: Cursor)
     let mut sides = [0u8; MOST_FACES];
     let mut corners = [0u16; MOST_CORNERS];
     let d = off_lists::read_words(text, c, &mut coordinates, &mut sides, &mut corners);
+    let answer = check_counts(d);
     let n = least(d.coordinates, MOST_NUMBERS);
     let f = least(d.sides, MOST_FACES);
     let k = least(d.corners, MOST_CORNERS);
-    let answer = check_counts(d);
     match answer {
         Answer::Refused(number, place) => complain_refusal(rt, number, place),
         Answer::Done => {

@@ -57,7 +57,7 @@ const MOST_COUNT: usize = 65535;
 const MOST_SIDE_COUNT: usize = 255;
 
 // A word as a number from 0 on, if it is one.
-#[derive(Drop)]
+#[derive(Clone, Copy)]
 pub struct Natural {
     pub ok: bool,
     pub value: usize,
@@ -65,14 +65,14 @@ pub struct Natural {
 }
 
 // Whether all words that were asked are there and serve, and a cursor after them, or before the first that does not.
-#[derive(Drop)]
+#[derive(Clone, Copy)]
 pub struct Progress {
     pub ok: bool,
     pub next: Cursor,
 }
 
 // The same, with the counts of vertices and faces.
-#[derive(Drop)]
+#[derive(Clone, Copy)]
 pub struct Header {
     pub ok: bool,
     pub next: Cursor,
@@ -81,7 +81,7 @@ pub struct Header {
 }
 
 // The same, with the side count of a face.
-#[derive(Drop)]
+#[derive(Clone, Copy)]
 pub struct ReadFace {
     pub ok: bool,
     pub next: Cursor,
@@ -89,7 +89,7 @@ pub struct ReadFace {
 }
 
 // The same, with the corners of all faces.
-#[derive(Drop)]
+#[derive(Clone, Copy)]
 pub struct ReadFaces {
     pub ok: bool,
     pub next: Cursor,

@@ -15,7 +15,7 @@ pub struct Cursor {
 }
 
 // A word as a number, if it is one, and a cursor before the next word.
-#[derive(Drop)]
+#[derive(Clone, Copy)]
 pub struct Number {
     pub ok: bool,
     pub value: i32,
@@ -23,7 +23,7 @@ pub struct Number {
 }
 
 // Whether the first word is OFF, and then a cursor before the next word.
-#[derive(Drop)]
+#[derive(Clone, Copy)]
 pub struct Mark {
     pub ok: bool,
     pub next: Cursor,

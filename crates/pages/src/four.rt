@@ -3,7 +3,7 @@ ghost use Rattle.std.specs.Prelude.{◌≡◌, ℕ, max};
 ghost use Rattle.pages.specs.four.Four.{in_misses};
 
 // A number for each of the four conditions.
-#[derive(Drop)]
+#[derive(Clone, Copy)]
 pub struct Misses {
     pub first: u64,
     pub second: u64,

@@ -41,7 +41,7 @@ pub const SUN: u16 = 65535;
 pub const MOST_PARTS: usize = 16;
 
 // What a check, linking and building answer: done, or refused with 01's number and place.
-#[derive(Drop)]
+#[derive(Clone, Copy)]
 pub enum Answer {
     Done,
     Refused(u8, usize),
@@ -56,7 +56,7 @@ pub const NO_VERTEX: u8 = 29;
 pub const NUMBERS: usize = MOST_SIDES + 1;
 
 // A mesh's vertices, faces and corners; and for each m how many vertices have m corners and how many faces m sides.
-#[derive(Drop)]
+#[derive(Clone, Copy)]
 pub struct Counts {
     pub vertices: usize,
     pub faces: usize,
@@ -66,14 +66,14 @@ pub struct Counts {
 }
 
 // What `survey` answers: done or refused, and the counts, all zero beside a refusal.
-#[derive(Drop)]
+#[derive(Clone, Copy)]
 pub struct Summary {
     pub answer: Answer,
     pub counts: Counts,
 }
 
 // What `dms::decode` and `off::read` answer: done or refused, and the lengths of the four lists, zero beside a refusal.
-#[derive(Drop)]
+#[derive(Clone, Copy)]
 pub struct Decoded {
     pub answer: Answer,
     pub coordinates: usize,
@@ -83,7 +83,7 @@ pub struct Decoded {
 }
 
 // One point's three floats, which travel together.
-#[derive(Drop)]
+#[derive(Clone, Copy)]
 pub struct Floats {
     pub x: f32,
     pub y: f32,
@@ -92,7 +92,7 @@ pub struct Floats {
 
 // What `floats::point` answers: a near point; a far one, with the first floats of its pairs and the second ones; or refused with 02's
 // number and place.
-#[derive(Drop)]
+#[derive(Clone, Copy)]
 pub enum FloatPoint {
     Near(Floats),
     Far(Floats, Floats),
@@ -101,7 +101,7 @@ pub enum FloatPoint {
 
 // What `irregular::search` answers: the lowest face that has not four sides, else the lowest vertex that has not four corners, else none,
 // each with the number of side counts that the search read; or refused with 01's number and place.
-#[derive(Drop)]
+#[derive(Clone, Copy)]
 pub enum Irregular {
     Face(usize, usize),
     Vertex(usize, usize),
@@ -110,7 +110,7 @@ pub enum Irregular {
 }
 
 // A vertex, and the three coordinates that it is to have.
-#[derive(Drop)]
+#[derive(Clone, Copy)]
 pub struct Move {
     pub vertex: usize,
     pub x: i32,
@@ -119,7 +119,7 @@ pub struct Move {
 }
 
 // What `turning::turn` answers: done or refused, and how many faces were turned, 0 beside a refusal.
-#[derive(Drop)]
+#[derive(Clone, Copy)]
 pub struct Turned {
     pub answer: Answer,
     pub turned: usize,
@@ -149,14 +149,14 @@ pub struct Page {
 }
 
 // What `border_report::report` and `pages::merge` answer: done or refused, and the next page, or the page as it was.
-#[derive(Drop)]
+#[derive(Clone, Copy)]
 pub struct Reported {
     pub answer: Answer,
     pub page: Page,
 }
 
 // What the call for triangles answers: done or refused, and how many numbers of points and of triangles there are, 0 beside a refusal.
-#[derive(Drop)]
+#[derive(Clone, Copy)]
 pub struct Triangles {
     pub answer: Answer,
     pub points: usize,
@@ -164,7 +164,7 @@ pub struct Triangles {
 }
 
 // What the call for tangents answers: done or refused, and how many numbers there are, 0 beside a refusal.
-#[derive(Drop)]
+#[derive(Clone, Copy)]
 pub struct Tangents {
     pub answer: Answer,
     pub numbers: usize,

@@ -16,7 +16,7 @@ pub const BUFFER: usize = 61451;
 const SPILL: usize = 4096;
 
 // What was read: whether reading went well, how many bytes are held, and how many were counted.
-#[derive(Drop)]
+#[derive(Clone, Copy)]
 pub struct Input {
     pub ok: bool,
     pub held: usize,

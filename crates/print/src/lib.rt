@@ -3,7 +3,7 @@
 pub mod file_input;
 pub mod mesh_input;
 
-ghost use Rattle.std.specs.Prelude.{◌≡◌, take};
+ghost use Rattle.std.specs.Prelude.{take};
 ghost use Rattle.io.specs.Counts.{IsPrefixLen};
 ghost use Rattle.paper.specs.File.{file_of};
 ghost use Rattle.print.specs.Files.{Printed};
@@ -27,21 +27,11 @@ pub(crate) fn report(bytes: &[u8], counted: usize, lines: &mut [u8; ANSWER]) -> 
     ensures printed { Printed (file_of bytes.now counted) counted result.answer (take result.end lines.new) }
 {
     let summary = dms::survey(bytes, counted);
-    let answer = copy_of(&summary.answer);
+    let answer = summary.answer;
     let end = lines::put_summary(lines, summary);
     FileLines {
         end: end,
         answer: answer,
-    }
-}
-
-// The same answer again.
-fn copy_of(answer: &Answer) -> Answer
-    ensures { result ≡ answer.now }
-{
-    match answer {
-        Answer::Done => Answer::Done,
-        Answer::Refused(number, place) => Answer::Refused(*number, *place),
     }
 }
 

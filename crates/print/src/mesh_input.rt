@@ -11,7 +11,7 @@ use mesh::least;
 use paper::{Answer, MOST_CORNERS, MOST_FACES, MOST_NUMBERS, MOST_PAIRS};
 
 // The lengths of a mesh's lists, if there is a mesh.
-#[derive(Drop)]
+#[derive(Clone, Copy)]
 pub struct MeshLengths {
     pub ok: bool,
     pub numbers: usize,

@@ -11,7 +11,7 @@ use std::io::Read;
 const NO_TEXT: i32 = 84;
 
 // Whether reading or writing went well, a number of bytes, and, where it did not, the system's number for why.
-#[derive(Drop)]
+#[derive(Clone, Copy)]
 pub struct Got {
     pub ok: bool,
     pub count: usize,

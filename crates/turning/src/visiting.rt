@@ -5,7 +5,7 @@ ghost use Rattle.turning.specs.visiting.Visit.{Seen, Spreadable, Queued, Visited
 use reversing::states::{UNSEEN, across};
 
 // How far the queue reaches, or that a face is asked to be both kept and turned.
-#[derive(Drop)]
+#[derive(Clone, Copy)]
 pub enum Reach {
     To(usize),
     Clash,

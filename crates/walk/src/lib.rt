@@ -20,7 +20,7 @@ pub const SIDES: usize = 3;
 pub const VALENCE: usize = 4;
 
 // A walker stands at a corner.
-#[derive(Drop)]
+#[derive(Clone, Copy)]
 pub struct Walker {
     pub corner: usize,
 }

@@ -1,4 +1,4 @@
--- `pages::page_numbers::number_at` meets its contract: three numbers, then the refusals, then the misses.
+-- `page_numbers::number_at` meets its contract: three numbers, then the refusals, then the misses.
 use Rattle.page_numbers.proofs.Laws.{number_line, number_miss}
 use borrow.Author.Rules.{rules}
 use Rattle.page_numbers.proofs.number_at.Goals as goal

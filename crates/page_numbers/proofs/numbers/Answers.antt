@@ -1,4 +1,4 @@
--- `pages::page_numbers::numbers` meets its contract: the numbers before `i` are written.
+-- `page_numbers::numbers` meets its contract: the numbers before `i` are written.
 use Rattle.mesh.proofs.Fills.{filled_none, filled_step}
 use Rattle.page_numbers.proofs.Laws.{page_numbers}
 use native.Mathlib.Omega.{arith}

@@ -1,4 +1,4 @@
--- `pages::page_numbers::numbers` meets its contract: the numbers before `i` are written.
+-- `page_numbers::numbers` meets its contract: the numbers before `i` are written.
 use Prim.Native.Nat.{◌-◌, ◌≤◌}
 use lib.ListN.{get_or, replicate}
 use Rattle.mesh.proofs.Fills.{Filled}

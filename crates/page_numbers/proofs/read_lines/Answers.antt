@@ -1,4 +1,4 @@
--- `pages::page_numbers::read_lines` meets its contract: the lines before `l` are read.
+-- `page_numbers::read_lines` meets its contract: the lines before `l` are read.
 use Rattle.mesh.proofs.Fills.{filled_none, filled_step, filled_whole}
 use native.Mathlib.Omega.{arith}
 use borrow.Author.Rules.{rules}

@@ -1,4 +1,4 @@
--- `pages::page_numbers::read_lines` meets its contract: the lines before `l` are read.
+-- `page_numbers::read_lines` meets its contract: the lines before `l` are read.
 use Prim.Native.Nat.{◌+◌, ◌-◌, ◌≤◌}
 use lib.ListN.{get_or, replicate}
 use Rattle.mesh.proofs.Fills.{Filled}

@@ -1,4 +1,4 @@
--- `pages::page_numbers::read_misses` meets its contract: the misses before `j` are read.
+-- `page_numbers::read_misses` meets its contract: the misses before `j` are read.
 use Rattle.mesh.proofs.Fills.{filled_none, filled_step, filled_whole}
 use native.Mathlib.Omega.{arith}
 use borrow.Author.Rules.{rules}

@@ -1,4 +1,4 @@
--- `pages::page_numbers::read_misses` meets its contract: the misses before `j` are read.
+-- `page_numbers::read_misses` meets its contract: the misses before `j` are read.
 use Prim.Native.Nat.{◌+◌, ◌-◌, ◌≤◌}
 use lib.ListN.{get_or, replicate}
 use Rattle.mesh.proofs.Fills.{Filled}

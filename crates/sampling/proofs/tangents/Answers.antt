@@ -42,15 +42,15 @@ returns-in-Refused c =
 
 pub tangents_on-x-requires : goal.tangents_on-x-requires
 tangents_on-x-requires t =
-    record { net = (net (search), low (search), lit< tt); parts = (some (search), few (search), omega (arith, sums (search))) }
+    record { net = (net (search), omega (arith, low (search)), lit< tt); parts = (some (search), few (search), omega (arith, sums (search))) }
 
 pub tangents_on-y-requires : goal.tangents_on-y-requires
 tangents_on-y-requires c =
-    record { net = (net (search), low (search), lit< tt); parts = (some (search), few (search), omega (arith, sums (search))) }
+    record { net = (net (search), omega (arith, low (search)), lit< tt); parts = (some (search), few (search), omega (arith, sums (search))) }
 
 pub tangents_on-z-requires : goal.tangents_on-z-requires
 tangents_on-z-requires c =
-    record { net = (net (search), low (search), lit< tt); parts = (some (search), few (search), omega (arith, sums (search))) }
+    record { net = (net (search), omega (arith, low (search)), lit< tt); parts = (some (search), few (search), omega (arith, sums (search))) }
 
 pub returns : goal.returns
 returns c =

@@ -12,24 +12,24 @@ returns-in-Refused c = search (rules, check_four)
 pub slice_bounds-check_plain-end : goal.slice_bounds-check_plain-end
 slice_bounds-check_plain-end c =
     let four = single_sound 4 _ 0 (passed _ c.check_lengths-lengths.ensures c.in_default.is) in
-    sym (length-take-le _ _ (coordinates_fit c.args.d.now _ _ _ c.requires four))
+    sym (length-take-le _ _ (coordinates_fit c.args.d _ _ _ c.requires four))
 
 pub slice_bounds-check_plain-end-2 : goal.slice_bounds-check_plain-end-2
 slice_bounds-check_plain-end-2 c =
     let four = single_sound 4 _ 0 (passed _ c.check_lengths-lengths.ensures c.in_default.is) in
-    sym (length-take-le _ _ (sides_fit c.args.d.now _ _ _ c.requires four))
+    sym (length-take-le _ _ (sides_fit c.args.d _ _ _ c.requires four))
 
 pub slice_bounds-check_plain-end-3 : goal.slice_bounds-check_plain-end-3
 slice_bounds-check_plain-end-3 c =
     let four = single_sound 4 _ 0 (passed _ c.check_lengths-lengths.ensures c.in_default.is) in
-    sym (length-take-le _ _ (corners_fit c.args.d.now _ _ _ c.requires four))
+    sym (length-take-le _ _ (corners_fit c.args.d _ _ _ c.requires four))
 
 pub check_plain-requires : goal.check_plain-requires
 check_plain-requires c =
     let four = single_sound 4 _ 0 (passed _ c.check_lengths-lengths.ensures c.in_default.is) in
-    corners_few c.args.d.now _ _ _ c.requires four
+    corners_few c.args.d _ _ _ c.requires four
 
 pub returns : goal.returns
 returns c =
     let four = single_sound 4 _ 0 (passed _ c.check_lengths-lengths.ensures c.in_default.is) in
-    check_all c.args.d.now _ _ _ c.requires four _ c.check_plain.ensures
+    check_all c.args.d _ _ _ c.requires four _ c.check_plain.ensures
