@@ -9,9 +9,10 @@ import html
 
 import pytest
 
+from conftest import SECONDS
+
 FLAGS = ["--headless=new", "--no-sandbox", "--use-angle=swiftshader", "--enable-unsafe-swiftshader", "--disable-dev-shm-usage",
          "--hide-scrollbars"]
-SECONDS = 120
 # what the page complains about, from its first line on
 EARS = """<script>window.faults = [];
 addEventListener("error", (event) => faults.push(String(event.message)));

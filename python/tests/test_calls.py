@@ -791,7 +791,8 @@ def test_every_call_on_threads():
 
 
 def test_calls_release_the_lock():
-    """While a long call runs, another thread goes on: it notes the time in the first half of most calls."""
+    """While a long call runs, another thread goes on: it notes the time in the first half of many calls. On a busy machine that may be few of a round,
+    and then there is another round. With the lock held it is hardly a call of any round."""
     numbers = np.zeros(9_000_000, np.int32)
     data = np.zeros(4 * numbers.size, np.uint8)
     seen, stop = [], threading.Event()
@@ -805,12 +806,17 @@ def test_calls_release_the_lock():
     thread.start()
     within = 0
     try:
-        for _ in range(40):
-            before = time.perf_counter()
-            mahunopi.archive(numbers, out=data)
-            # a thread that had to wait for the call notes nothing before its end
-            half = (before + time.perf_counter()) / 2
-            within += any(before < at < half for at in list(seen))
+        for _ in range(50):
+            within = 0
+            seen.clear()
+            for _ in range(40):
+                before = time.perf_counter()
+                mahunopi.archive(numbers, out=data)
+                # a thread that had to wait for the call notes nothing before its end
+                half = (before + time.perf_counter()) / 2
+                within += any(before < at < half for at in list(seen))
+            if within > 10:
+                break
     finally:
         stop.set()
         thread.join()

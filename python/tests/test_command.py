@@ -1,7 +1,6 @@
 """The command by status, lines and files."""
 
 import os
-import pty
 import re
 import signal
 import subprocess
@@ -11,6 +10,7 @@ from pathlib import Path
 import pytest
 
 import mahunopi
+from conftest import SECONDS, Terminal, opened, started, wait_until
 from mahunopi.command import main
 from mahunopi.shape import Shape
 from mahunopi.surface import sizes
@@ -32,7 +32,7 @@ def room(tmp_path, monkeypatch):
 
 def run(*words, given=None, **more):
     """Status, standard output and standard error."""
-    done = subprocess.run([*COMMAND, *words], input=given, capture_output=True, timeout=60, **more)
+    done = subprocess.run([*COMMAND, *words], input=given, capture_output=True, timeout=SECONDS, **more)
     return done.returncode, done.stdout, os.fsdecode(done.stderr)
 
 
@@ -276,7 +276,7 @@ def test_examples_of_the_help_work(room):
         example = said.decode().split("example:\n  ")[1]
         assert (status, err) == (0, "") and " ".join(["mahunopi", *words]) in example
         path = f"{room}/bin:{os.environ['PATH']}"
-        done = subprocess.run(["sh", "-c", example], env={**os.environ, "PATH": path}, capture_output=True, timeout=60)
+        done = subprocess.run(["sh", "-c", example], env={**os.environ, "PATH": path}, capture_output=True, timeout=SECONDS)
         assert (done.returncode, done.stderr) == (0, b"") and done.stdout, example
 
 
@@ -296,7 +296,7 @@ def test_streams_that_fail(room):
             ("--version > /dev/full", 2, "standard output: No space left on device\n"),
             ("turn cube.dms -o nowhere/a.dms", 2, "nowhere/a.dms: No such file or directory\n"),
             ("turn cube.dms -o /dev/full", 2, "/dev/full: No space left on device\n")]:
-        done = subprocess.run(["sh", "-c", f"{COMMAND[0]} {words}"], capture_output=True, timeout=60)
+        done = subprocess.run(["sh", "-c", f"{COMMAND[0]} {words}"], capture_output=True, timeout=SECONDS)
         assert done.returncode == status, words
         assert done.stderr.decode() == err, words
     assert sorted(os.listdir()) == ["cube.dms", "x"]
@@ -307,21 +307,32 @@ def test_broken_pipes(room):
     (room / "cube.off").write_bytes(off(CUBE_POINTS, CUBE_FACES))
     for words in (["info"] + ["cube.dms"] * 500, ["turn", "cube.dms"], ["import", "cube.off"],
                   ["triangles", "--level", "16", "cube.dms", "--format", "obj"], ["--help"], ["--version"]):
-        done = subprocess.Popen([*COMMAND, *words], stdout=subprocess.PIPE, stderr=subprocess.PIPE)
-        done.stdout.close()
-        assert done.stderr.read() == b"" and done.wait(60) == 141
-        done.stderr.close()
+        # nobody reads from the start, however quick the command is
+        ours, theirs = os.pipe()
+        os.close(ours)
+        done = subprocess.run([*COMMAND, *words], stdout=theirs, stderr=subprocess.PIPE, timeout=SECONDS)
+        os.close(theirs)
+        assert done.stderr == b"" and done.returncode == 141
+
+
+def state(process):
+    """What a process does, by the system's letter: it sleeps (S), is stopped (T), has ended (Z)."""
+    try:
+        return Path(f"/proc/{process.pid}/stat").read_text().rsplit(")", 1)[1].split()[0]
+    except OSError:
+        return "Z"
 
 
 @pytest.mark.parametrize("number, status", [(signal.SIGINT, 130), (signal.SIGTERM, 143), (signal.SIGHUP, 129)])
 def test_interrupts(room, number, status):
     """Ended while it waits for its input: quietly, and no file is left."""
     os.mkfifo(room / "pipe.dms")
-    done = subprocess.Popen([*COMMAND, "turn", "pipe.dms", "-o", "made.dms"], stdout=subprocess.PIPE, stderr=subprocess.PIPE)
-    with open(room / "pipe.dms", "wb"):  # opens when the command does
-        time.sleep(0.2)
-        done.send_signal(number)
-        out, err = done.communicate(timeout=60)
+    with started([*COMMAND, "turn", "pipe.dms", "-o", "made.dms"], stdout=subprocess.PIPE, stderr=subprocess.PIPE) as done:
+        with opened(room / "pipe.dms", done):
+            # it has the pipe, and what it sleeps for is the input
+            wait_until(lambda: state(done) == "S", done)
+            done.send_signal(number)
+            out, err = done.communicate(timeout=SECONDS)
     assert (done.returncode, out, err) == (status, b"", b"") and os.listdir() == ["pipe.dms"]
 
 
@@ -333,7 +344,7 @@ def test_interrupts_at_the_start(room, number, status):
         done = subprocess.Popen([*COMMAND, "info", "cube.dms"], stdout=subprocess.PIPE, stderr=subprocess.PIPE)
         time.sleep(delay)
         done.send_signal(number)
-        _, err = done.communicate(timeout=60)
+        _, err = done.communicate(timeout=SECONDS)
         assert done.returncode in (status, -number, 0) and err == b""
 
 
@@ -341,13 +352,23 @@ def test_interrupts_at_the_start(room, number, status):
 def test_interrupts_while_writing(room, number, status):
     """Ended while a file is written: what was there stays, and nothing lies beside it."""
     (room / "torus.dms").write_bytes(mahunopi.encode(mesh_of(*round_torus(16, 16))))
-    (room / "made.obj").write_bytes(b"before")
-    done = subprocess.Popen([*COMMAND, "triangles", "--level", "16", "torus.dms", "-o", "made.obj"], stdout=subprocess.PIPE, stderr=subprocess.PIPE)
-    while not any(name.startswith(".made.obj.") for name in os.listdir()):
-        assert done.poll() is None
-        time.sleep(0.005)
-    done.send_signal(number)
-    out, err = done.communicate(timeout=60)
+    writes = lambda: any(name.startswith(".made.obj.") for name in os.listdir())
+    for _ in range(20):
+        (room / "made.obj").write_bytes(b"before")
+        words = [*COMMAND, "triangles", "--level", "16", "torus.dms", "-o", "made.obj"]
+        with started(words, stdout=subprocess.PIPE, stderr=subprocess.PIPE) as done:
+            wait_until(lambda: writes() or state(done) == "Z")
+            # it is stopped, so that it still writes when the signal comes
+            done.send_signal(signal.SIGSTOP)
+            wait_until(lambda: state(done) in "TZ")
+            in_time = writes()
+            done.send_signal(number)
+            done.send_signal(signal.SIGCONT)
+            out, err = done.communicate(timeout=SECONDS)
+        if in_time:
+            break
+        # all was written before it was stopped: once more
+        assert done.returncode in (status, 0) and err == b""
     assert (done.returncode, out, err) == (status, b"", b"") and (room / "made.obj").read_bytes() == b"before"
     assert sorted(os.listdir()) == ["made.obj", "torus.dms"]
 
@@ -398,14 +419,11 @@ def test_input_and_output_may_be_one_file(room):
 def test_a_terminal(room):
     """A bar for several files on a terminal, and no binary file there."""
     (room / "cube.dms").write_bytes(mahunopi.encode(cube()))
-    ours, theirs = pty.openpty()
-    try:
-        done = subprocess.run([*COMMAND, "info", "cube.dms", "cube.dms", "none.dms"], stdout=subprocess.PIPE, stderr=theirs, timeout=60)
-        shown = os.read(ours, 100_000).decode()
+    with Terminal() as terminal:
+        done = subprocess.run([*COMMAND, "info", "cube.dms", "cube.dms", "none.dms"], stdout=subprocess.PIPE, stderr=terminal.theirs, timeout=SECONDS)
         assert done.returncode == 2 and done.stdout.count(b"cube.dms: ") == 2
+        shown = terminal.whole()
         assert "0/3" in shown and "none.dms: No such file or directory" in shown
-        done = subprocess.run([*COMMAND, "turn", "cube.dms"], stdout=theirs, stderr=subprocess.PIPE, timeout=60)
+    with Terminal() as terminal:
+        done = subprocess.run([*COMMAND, "turn", "cube.dms"], stdout=terminal.theirs, stderr=subprocess.PIPE, timeout=SECONDS)
         assert (done.returncode, done.stderr) == (2, b"mahunopi turn: standard output is a terminal, name a file by -o\n")
-    finally:
-        os.close(ours)
-        os.close(theirs)

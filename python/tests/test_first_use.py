@@ -1,8 +1,8 @@
 """./mahunopi in a fresh copy of the repository: its first use and later ones. A stand-in for rt proves nothing and takes no time."""
 
 import os
-import pty
 import re
+import resource
 import shutil
 import signal
 import subprocess
@@ -11,16 +11,20 @@ from pathlib import Path
 
 import pytest
 
+from conftest import SECONDS, Terminal, started, wait_until
+
 ROOT = Path(__file__).resolve().parents[2]
 LIBRARY = Path(os.environ.get("MAHUNOPI_LIB") or ROOT / "target/staticlib") / "libmahunopi.a"
+# what rt is asked for last: the static library, for every x86-64 processor
+BUILT = "lib --cpu=x86-64 mahunopi_c"
 RT = """#!/bin/sh
 # rt lib, in a crate's folder, as far as its files go
 crate=${PWD##*/}
 echo "$* $crate" >>../../target/asked
 [ ! -e ../../fails ] || { echo "that is no proof"; exit 1; }
-sleep 0.05
+# a test may hold it at a crate
+while [ -e "../../hold-$crate" ]; do sleep 0.05; done
 if [ "$crate" = mahunopi_c ]; then
-    sleep 1
     mkdir -p out && cp "$LIBRARY" out/libmahunopi_c.a
 fi
 """
@@ -52,8 +56,14 @@ def clone(tmp_path, monkeypatch):
 
 
 def run(clone, *words, **more):
-    done = subprocess.run([clone / "mahunopi", *words], capture_output=True, text=True, timeout=120, check=False, **more)
+    done = subprocess.run([clone / "mahunopi", *words], capture_output=True, text=True, timeout=SECONDS, check=False, **more)
     return done.returncode, done.stdout, done.stderr
+
+
+def processor_time():
+    """What the programs that have ended so far took of the processors, in seconds."""
+    used = resource.getrusage(resource.RUSAGE_CHILDREN)
+    return used.ru_utime + used.ru_stime
 
 
 def crates():
@@ -74,23 +84,23 @@ def test_the_first_command_of_the_readme(clone):
     assert status == 0 and re.fullmatch(r"torus\.html: [\d,]+ bytes, to be opened in a browser\n", out)
     assert re.fullmatch(rf"mahunopi: proving {len(crates())} crates, once \.\.\nmahunopi: {len(crates())} crates proved in \d+ s\n", err)
     asked = (clone / "target/asked").read_text().split("\n")
-    assert sorted(asked) == sorted(["", *(f"lib {crate}" for crate in crates())]) and asked[-2:] == ["lib mahunopi_c", ""]
+    assert sorted(asked) == sorted(["", BUILT, *(f"lib {crate}" for crate in crates() - {"mahunopi_c"})]) and asked[-2:] == [BUILT, ""]
     assert (clone / "target/log/first-use.txt").read_text().count("== ") == len(crates())
     times = []
     for _ in range(5):
-        began = time.monotonic()
+        began = processor_time()
         assert run(clone, "info", clone / "meshes/cube.dms")[::2] == (0, "")
-        times.append(time.monotonic() - began)
+        times.append(processor_time() - began)
     assert min(times) < 1, times
+    assert (clone / "target/asked").read_text().split("\n") == asked
     # a library that was built anew is taken
     later = time.time() + 5
     os.utime(clone / "target/staticlib/libmahunopi.a", (later, later))
-    assert run(clone, "--version")[0] == 0 and (clone / "target/asked").read_text().count("lib mahunopi_c") == 1
+    assert run(clone, "--version")[0] == 0 and (clone / "target/asked").read_text().count("\n") == len(crates())
 
 
-def test_a_library_that_is_older_than_its_sources_is_built_anew(clone, tmp_path):
+def test_a_library_that_is_older_than_its_sources_is_built_anew(clone):
     """As after a pull: other text in a crate that the library is made from; not what only bears another time."""
-    (tmp_path / "tools/rt").write_text(re.sub("sleep [0-9.]+", ":", RT))
     source, program = clone / "crates/mesh/src/lib.rt", clone / "crates/report/src/main.rt"
     for path in (source, program):
         path.parent.mkdir(parents=True, exist_ok=True)
@@ -101,7 +111,7 @@ def test_a_library_that_is_older_than_its_sources_is_built_anew(clone, tmp_path)
     def later(path, text, seconds):
         path.write_text(text)
         os.utime(path, (time.time() + seconds,) * 2)
-        return run(clone, "--version"), asked.read_text().count("lib mahunopi_c")
+        return run(clone, "--version"), asked.read_text().count(BUILT)
 
     # a program's source, and the same text at another time
     for path, text in ((program, "second"), (source, "first")):
@@ -109,7 +119,7 @@ def test_a_library_that_is_older_than_its_sources_is_built_anew(clone, tmp_path)
         assert (status, err, built) == (0, "", 1)
     (status, _, err), built = later(source, "second", 0)
     assert status == 0 and err.startswith("mahunopi: the library is older than its sources\nmahunopi: proving ") and built == 2
-    assert run(clone, "--version")[::2] == (0, "") and asked.read_text().count("lib mahunopi_c") == 2
+    assert run(clone, "--version")[::2] == (0, "") and asked.read_text().count(BUILT) == 2
     # where it was built by hand, times tell
     (clone / "target/staticlib/made-from").unlink()
     assert later(source, "second", 0)[1] == 3
@@ -123,17 +133,30 @@ def test_a_library_that_is_older_than_its_sources_is_built_anew(clone, tmp_path)
 
 
 def test_one_line_of_progress_on_a_terminal(clone):
-    ours, theirs = pty.openpty()
-    try:
-        done = subprocess.run([clone / "mahunopi", "turn", "-"], input=(ROOT / "meshes/cube.dms").read_bytes(), stdout=subprocess.PIPE, stderr=theirs,
-                              timeout=60, check=False)
-        shown = os.read(ours, 100_000).decode()
-    finally:
-        os.close(ours)
-        os.close(theirs)
-    # what was piped in is for the command
-    assert done.returncode == 0 and done.stdout == (ROOT / "meshes/cube.dms").read_bytes()
     count = len(crates())
+    # the prover waits at the first and at the last crate until that is shown
+    held = {1: clone / "hold-paper", count: clone / "hold-mahunopi_c"}
+    for hold in held.values():
+        hold.touch()
+    cube = (ROOT / "meshes/cube.dms").read_bytes()
+    ours, theirs = os.pipe()
+    os.write(theirs, cube)
+    os.close(theirs)
+    try:
+        words = [clone / "mahunopi", "turn", "-"]
+        with Terminal() as terminal, started(words, stdin=ours, stdout=subprocess.PIPE, stderr=terminal.theirs) as process:
+            os.close(ours)
+            terminal.leave()
+            for number, hold in held.items():
+                terminal.until(f"proving {number} of {count} crates")
+                hold.unlink()
+            out, _ = process.communicate(timeout=SECONDS)
+            shown = terminal.whole()
+    finally:
+        for hold in held.values():
+            hold.unlink(missing_ok=True)
+    # what was piped in is for the command
+    assert process.returncode == 0 and out == cube
     assert f"mahunopi: proving 1 of {count} crates .." in shown and f"\rmahunopi: proving {count} of {count} crates .." in shown
     assert f"proving {count + 1} of" not in shown and shown.split("\r\033[K")[0].count("\n") == 0 and f"mahunopi: {count} crates proved in" in shown
 
@@ -141,22 +164,21 @@ def test_one_line_of_progress_on_a_terminal(clone):
 @pytest.mark.parametrize("number", [signal.SIGINT, signal.SIGTERM, signal.SIGHUP])
 def test_an_interrupt_ends_the_prover(clone, tmp_path, number):
     slow = tmp_path / "tools/rt"
-    slow.write_text("#!/bin/sh\necho $$ >../../target/prover\nsleep 300\n")
-    process = subprocess.Popen([clone / "mahunopi", "--version"], stderr=subprocess.PIPE, start_new_session=True)
-    prover = clone / "target/prover"
-    for _ in range(600):
-        if prover.exists() and prover.read_text().strip():
-            break
-        time.sleep(0.1)
-    os.killpg(process.pid, number)
-    process.communicate(timeout=60)
-    assert process.returncode in (128 + number, -number)
-    for _ in range(100):
-        if not Path(f"/proc/{prover.read_text().strip()}").exists():
-            break
-        time.sleep(0.1)
-    else:
-        raise AssertionError("the prover still runs")
+    slow.write_text("#!/bin/sh\necho $$ >>../../target/prover\nwhile [ -e ../../hold ]; do sleep 0.1; done\n")
+    hold, prover, said = clone / "hold", clone / "target/prover", tmp_path / "said"
+    hold.touch()
+    try:
+        with open(said, "wb") as file, started([clone / "mahunopi", "--version"], stderr=file) as process:
+            pid = wait_until(lambda: prover.exists() and prover.read_text().strip(), process)
+            # before this line the prover runs, and an interrupt is not waited for yet
+            wait_until(lambda: said.read_text() == f"mahunopi: proving {len(crates())} crates, once ..\n", process)
+            os.killpg(process.pid, number)
+            process.communicate(timeout=SECONDS)
+        assert process.returncode in (128 + number, -number)
+        wait_until(lambda: not Path(f"/proc/{pid}").exists())
+    finally:
+        # what was not interrupted ends too
+        hold.unlink()
 
 
 def test_what_stands_in_the_way_is_said(clone, tmp_path):

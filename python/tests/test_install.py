@@ -9,6 +9,7 @@ from pathlib import Path
 import pytest
 
 import mahunopi
+from conftest import SECONDS
 from mahunopi.shape import Shape
 from shapes import size_at
 
@@ -26,7 +27,7 @@ target_link_libraries(draw mahunopi::shared)
 
 
 def run(*words, **more):
-    done = subprocess.run(list(map(str, words)), capture_output=True, text=True, timeout=120, check=False, **more)
+    done = subprocess.run(list(map(str, words)), capture_output=True, text=True, timeout=SECONDS, check=False, **more)
     assert done.returncode == 0, f"{words}: {done.returncode}\n{done.stdout}{done.stderr}"
     return done.stdout
 

@@ -12,13 +12,14 @@ from pathlib import Path
 
 import pytest
 
+from conftest import SECONDS
+
 ROOT = Path(__file__).resolve().parents[2]
 NOTES = ROOT / "docs/landings"
 # docs/PORT.md tells the move from an older Rattle, in the names of both
 PAGES = [ROOT / "README.md", ROOT / "CHANGES.md", *sorted(page for page in (ROOT / "docs").glob("*.md") if page.name != "PORT.md"), ROOT / "meshes/README.md", ROOT / "rust/README.md"]
 LIMITS = {"README.md": 800, "docs/DECISIONS.md": 3000}
 NOTE_LIMIT = 300
-SECONDS = 300
 PROGRAM_LINES = 10
 # what three readers from outside had to ask about
 UNCLEAR = ["gone over", "said of", "asked besides", "the fringe"]

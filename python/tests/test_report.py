@@ -1,20 +1,20 @@
 """`mahunopi report`: any number of files, on any number of processors, and what comes in its way."""
 
+import contextlib
 import json
 import os
-import pty
 import re
 import signal
 import subprocess
-import time
 from pathlib import Path
 
 import numpy as np
 import pytest
 
 import mahunopi
+from conftest import SECONDS, Terminal, opened, started
 from mahunopi.borders import misses
-from mahunopi.reporting import where
+from mahunopi.reporting import MOST_CHUNK, where
 from shapes import cube, mesh_of, prism, round_torus
 from test_command import COMMAND, room, run  # noqa: F401
 
@@ -151,61 +151,77 @@ def test_names(room):  # noqa: F811
     assert run("report", "--names", "nothing")[::2] == (2, "nothing: No such file or directory\n")
 
 
-def wait_for_work(group, seconds):
-    """waits until the processes of a group have used so many seconds of processor, however busy the machine is"""
-    used, tick = 0, os.sysconf("SC_CLK_TCK")
-    while used < seconds * tick:
-        time.sleep(0.05)
-        used = 0
-        for entry in Path("/proc").glob("[0-9]*/stat"):
-            try:
-                fields = entry.read_text().rsplit(")", 1)[1].split()
-            except OSError:
-                continue
-            if int(fields[2]) == group:
-                used += int(fields[11]) + int(fields[12])
+def many_files(pipes):
+    """20,000 files of one mesh, by their names. Those of some places are named pipes: who reads one waits until it is written and closed."""
+    Path("year").mkdir()
+    Path("one.dms").write_bytes(mahunopi.encode(whole(*round_torus(16, 32), 10_000)))
+    names = [f"year/{number:04}.dms" for number in range(20_000)]
+    for number, name in enumerate(names):
+        os.mkfifo(name) if number in pipes else os.link("one.dms", name)
+    return names
+
+
+def interrupt(process, kind):
+    """As a terminal does: to all processes of the run."""
+    os.killpg(process.pid, kind) if kind != signal.SIGTERM else process.send_signal(kind)
+
+
+INTERRUPTS = pytest.mark.parametrize("kind, status", [(signal.SIGINT, 130), (signal.SIGTERM, 143), (signal.SIGHUP, 129)])
 
 
 @pytest.mark.parametrize("jobs", ["1", "2"])
-@pytest.mark.parametrize("kind, status", [(signal.SIGINT, 130), (signal.SIGTERM, 143), (signal.SIGHUP, 129)])
+@INTERRUPTS
 def test_an_interrupt_prints_the_page_so_far(room, jobs, kind, status):  # noqa: F811
-    (room / "year").mkdir()
-    one = room / "one.dms"
-    one.write_bytes(mahunopi.encode(whole(*round_torus(16, 32), 10_000)))
-    names = [f"year/{number:04}.dms" for number in range(20_000)]
-    for name in names:
-        os.link(one, name)
+    # nobody writes the last file, so that the report does not come to its end before the interrupt
+    names = many_files([19_999])
     os.mkfifo("names")
-    process = subprocess.Popen([*COMMAND, "report", "--names", "names", "--jobs", jobs, "--json"], stdout=subprocess.PIPE,
-                               stderr=subprocess.PIPE, start_new_session=True)
-    Path("names").write_text("\n".join(names))
-    wait_for_work(process.pid, 1.0)
-    # as a terminal does: to all processes of the run
-    os.killpg(process.pid, kind) if kind != signal.SIGTERM else process.send_signal(kind)
-    out, err = process.communicate(timeout=60)
+    words = [*COMMAND, "report", "--names", "names", "--jobs", jobs, "--json"]
+    with Terminal() as terminal, started(words, stdout=subprocess.PIPE, stderr=terminal.theirs) as process:
+        terminal.leave()
+        with opened("names", process) as file:
+            file.write("\n".join(names).encode())
+        # the bar counts files that are on the page
+        terminal.until(r"[1-9]\d*/20000")
+        interrupt(process, kind)
+        out, _ = process.communicate(timeout=SECONDS)
+        *bars, note, end = terminal.whole().split("\r")
     assert process.returncode == status
     told = json.loads(out)
     assert not told["finished"] and told["names"] == 20_000
     reported = told["reported"]
     assert 0 < reported < 20_000 and told["meshes"] == reported and told["corners"] == 2_048 * reported
-    assert err.decode() == f"mahunopi report: interrupted; this is the page of the first {reported:,} of 20,000 files\n"
+    assert note + end == f"mahunopi report: interrupted; this is the page of the first {reported:,} of 20,000 files\n"
+    # before it there is nothing but the bar, which is gone
+    assert all(re.fullmatch(r" *\d+%.*\b\d+/20000 \[.*\] *| *", bar) for bar in bars) and not bars[-1].strip()
+
+
+@INTERRUPTS
+def test_an_interrupt_where_there_is_no_terminal(room, kind, status):  # noqa: F811
+    """One process waits in the third chunk of files, so that two are on the page."""
+    pipe = many_files([2 * MOST_CHUNK + 1])[2 * MOST_CHUNK + 1]
+    with started([*COMMAND, "report", "year", "--jobs", "1", "--json"], stdout=subprocess.PIPE, stderr=subprocess.PIPE) as process:
+        with opened(pipe, process):
+            interrupt(process, kind)
+            out, err = process.communicate(timeout=SECONDS)
+    assert process.returncode == status
+    told = json.loads(out)
+    assert not told["finished"] and told["names"] == 20_000
+    assert told["reported"] == told["meshes"] == 2 * MOST_CHUNK and told["corners"] == 2_048 * 2 * MOST_CHUNK
+    assert err.decode() == f"mahunopi report: interrupted; this is the page of the first {2 * MOST_CHUNK:,} of 20,000 files\n"
 
 
 def test_a_process_that_is_killed_ends_the_run(room):  # noqa: F811
-    (room / "year").mkdir()
-    one = room / "one.dms"
-    one.write_bytes(mahunopi.encode(whole(*round_torus(16, 32), 10_000)))
-    for number in range(20_000):
-        os.link(one, f"year/{number:04}.dms")
-    process = subprocess.Popen([*COMMAND, "report", "year", "--jobs", "3"], stdout=subprocess.PIPE, stderr=subprocess.PIPE)
-    children = Path(f"/proc/{process.pid}/task/{process.pid}/children")
-    for _ in range(300):
-        if len(children.read_text().split()) == 2:
-            break
-        time.sleep(0.1)
-    time.sleep(0.5)
-    os.kill(int(children.read_text().split()[0]), signal.SIGKILL)
-    out, err = process.communicate(timeout=60)
+    # nobody has written the last files of three chunks, so that each of the three processes waits in one of these
+    places = [chunk * MOST_CHUNK - 1 for chunk in (3, 4, 5)]
+    names = many_files(places)
+    with started([*COMMAND, "report", "year", "--jobs", "3"], stdout=subprocess.PIPE, stderr=subprocess.PIPE) as process:
+        with contextlib.ExitStack() as files:
+            for place in places:
+                files.enter_context(opened(names[place], process))
+            children = Path(f"/proc/{process.pid}/task/{process.pid}/children").read_text().split()
+            assert len(children) == 2
+            os.kill(int(children[0]), signal.SIGKILL)
+        out, err = process.communicate(timeout=SECONDS)
     assert process.returncode == 2 and out.startswith(b"meshes offered: ")
     assert re.fullmatch(r"mahunopi report: a process was ended from outside; this is the page of the first [\d,]+ of 20,000 files\n", err.decode())
 
@@ -213,11 +229,7 @@ def test_a_process_that_is_killed_ends_the_run(room):  # noqa: F811
 def test_progress_on_a_terminal(room):  # noqa: F811
     (room / "a.dms").write_bytes(mahunopi.encode(cube()))
     (room / "b.dms").write_bytes(mahunopi.encode(cube()))
-    ours, theirs = pty.openpty()
-    try:
-        done = subprocess.run([*COMMAND, "report", "."], stdout=subprocess.PIPE, stderr=theirs, timeout=60, check=False)
-        shown = os.read(ours, 100_000).decode()
-        assert done.returncode == 0 and done.stdout.startswith(b"meshes offered: 2\n") and re.search("0/2", shown)
-    finally:
-        os.close(ours)
-        os.close(theirs)
+    with Terminal() as terminal:
+        done = subprocess.run([*COMMAND, "report", "."], stdout=subprocess.PIPE, stderr=terminal.theirs, timeout=SECONDS, check=False)
+        shown = terminal.whole()
+    assert done.returncode == 0 and done.stdout.startswith(b"meshes offered: 2\n") and re.search("0/2", shown)
