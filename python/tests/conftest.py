@@ -1,5 +1,5 @@
 """What all tests share: where modules are looked for, which signals are heard, and how a test waits for a program that it started. No verdict depends
-on a time: a test waits for what is to come, however long that takes on a slow or busy machine."""
+on how long a test waits: it waits for what is to come, however long that takes on a slow or busy machine."""
 
 import contextlib
 import os
