@@ -1,5 +1,6 @@
 """The command by status, lines and files."""
 
+import contextlib
 import os
 import re
 import signal
@@ -352,7 +353,13 @@ def test_interrupts_at_the_start(room, number, status):
 def test_interrupts_while_writing(room, number, status):
     """Ended while a file is written: what was there stays, and nothing lies beside it."""
     (room / "torus.dms").write_bytes(mahunopi.encode(mesh_of(*round_torus(16, 16))))
-    writes = lambda: any(name.startswith(".made.obj.") for name in os.listdir())
+
+    def writes():
+        """whether bytes of the new file are there, and the file not yet in its place"""
+        with contextlib.suppress(FileNotFoundError):
+            return any(os.path.getsize(name) for name in os.listdir() if name.startswith(".made.obj."))
+        return False
+
     for _ in range(20):
         (room / "made.obj").write_bytes(b"before")
         words = [*COMMAND, "triangles", "--level", "16", "torus.dms", "-o", "made.obj"]
