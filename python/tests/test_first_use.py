@@ -169,13 +169,13 @@ def test_an_interrupt_ends_the_prover(clone, tmp_path, number):
     hold.touch()
     try:
         with open(said, "wb") as file, started([clone / "mahunopi", "--version"], stderr=file) as process:
-            pid = wait_until(lambda: prover.exists() and prover.read_text().strip(), process)
+            wait_until(lambda: prover.exists() and prover.read_text().endswith("\n"), process)
             # before this line the prover runs, and an interrupt is not waited for yet
             wait_until(lambda: said.read_text() == f"mahunopi: proving {len(crates())} crates, once ..\n", process)
             os.killpg(process.pid, number)
             process.communicate(timeout=SECONDS)
         assert process.returncode in (128 + number, -number)
-        wait_until(lambda: not Path(f"/proc/{pid}").exists())
+        wait_until(lambda: not any(Path(f"/proc/{pid}").exists() for pid in prover.read_text().split()))
     finally:
         # what was not interrupted ends too
         hold.unlink()
